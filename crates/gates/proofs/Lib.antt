@@ -1,0 +1,4 @@
+pub mod Every
+pub mod Expressions
+pub mod Patterns
+pub mod Ranges

@@ -1,0 +1,3 @@
+pub mod Expression
+pub mod Cell
+pub mod Table

@@ -1,0 +1,67 @@
+-- What a readable file holds: the parsed stage and the parsed reference, as views of the file through the places of its commands.
+use Prim.Native.Nat.{ℕ, _+_}
+use mathlib.Core.Bool.{Bool, true, false}
+use mathlib.Core.List.{List, map}
+use Rattle.gates.specs.Cell.{kindOf}
+use Rattle.gates.specs.declared.Kind.{Kind}
+use Rattle.gates.specs.declared.Kind.the-variants.{Hold, Unknown}
+use Rattle.netlist.specs.declared.File.{File}
+use Rattle.netlist.specs.declared.File.the-variants as file
+use Rattle.netlist.specs.Bytes.{byte, operand, operands}
+use Rattle.netlist.specs.Commands.{needed}
+
+-- a circuit with gates G and outputs O
+pub record Circuit (G O : Type 0) : Type 0 where
+  pub inputs : ℕ
+  pub gates : List G
+  pub outputs : List O
+
+-- a gate command's kind or operation, and the operands that it needs
+pub record Coded : Type 0 where
+  pub code : ℕ
+  pub operands : List ℕ
+
+abbrev pub codedAt : File → List ℕ → ℕ → Coded
+codedAt f s p = record { code = byte s (p + 1); operands = operands s (p + 2) (needed f (byte s (p + 1))) }
+
+-- ---- stages
+
+-- a gate of a stage: its cell, 1 to 27; whether it has hold; and the nets at the pins that it has, from A on
+pub record Gate : Type 0 where
+  pub cell : ℕ
+  pub hold : Bool
+  pub pins : List ℕ
+
+-- an output of a stage: two nets
+pub record Pair : Type 0 where
+  pub rail0 : ℕ
+  pub rail1 : ℕ
+
+abbrev pub Stage : Type 0
+Stage = Circuit Gate Pair
+
+abbrev pub cellOf : Kind → ℕ
+cellOf (Hold cell pins) = cell
+cellOf Unknown = 0
+
+abbrev pub holdOf : Kind → Bool
+holdOf (Hold cell pins) = true
+holdOf Unknown = false
+
+abbrev pub gateOf : Coded → Gate
+gateOf c = record { cell = cellOf (kindOf (c .code)); hold = holdOf (kindOf (c .code)); pins = c .operands }
+
+abbrev pub pairAt : List ℕ → ℕ → Pair
+pairAt s p = record { rail0 = operand s (p + 1); rail1 = operand s (p + 3) }
+
+unfoldable pub stageOf : List ℕ → ℕ → List ℕ → List ℕ → Stage
+stageOf s n gates outputs = record { inputs = n; gates = map (λ p. gateOf (codedAt file.Stage s p)) gates; outputs = map (pairAt s) outputs }
+
+-- ---- references
+
+-- a gate of a reference is its operation, 1 to 6, with one or two signals; an output is a signal
+abbrev pub Reference : Type 0
+Reference = Circuit Coded ℕ
+
+unfoldable pub referenceOf : List ℕ → ℕ → List ℕ → List ℕ → Reference
+referenceOf s n gates outputs = record { inputs = n; gates = map (codedAt file.Reference s) gates; outputs = map (λ p. operand s (p + 1)) outputs }

@@ -1,0 +1,123 @@
+-- Writing a file: the commands of a content, in any order of gates and outputs; and which contents fit a file.
+use Prim.Native.Nat.{ℕ, zero, suc, _+_, _*_, _/_, _%_, _≤_, _<_}
+use mathlib.Core.Path.{_≡_}
+use mathlib.Core.Bool.{Bool, true}
+use mathlib.Core.List.{List, [], _∷_, _++_, map}
+use lib.ListN.{length}
+use Rattle.netlist.specs.declared.File.{File}
+use Rattle.netlist.specs.declared.File.the-variants as file
+use Rattle.netlist.specs.declared.Sort.the-variants as sort
+use Rattle.netlist.specs.declared.Limits.{Limits}
+use Rattle.netlist.specs.Bytes.{absent}
+use Rattle.netlist.specs.Commands.{operandCount, width, needed}
+use Rattle.netlist.specs.Reading.{roleOf, names}
+use Rattle.netlist.specs.Content.{Circuit, Coded, Gate, Pair, Stage, Reference}
+
+-- ---- items
+
+-- a gate or an output command
+pub data Item : Type 0 where
+  gate : Coded → Item
+  output : List ℕ → Item
+
+-- the gates and the outputs among some items, in their order
+abbrev pub gatesIn : List Item → List Coded
+gatesIn [] = []
+gatesIn (gate c ∷ items) = c ∷ gatesIn items
+gatesIn (output vs ∷ items) = gatesIn items
+
+abbrev pub outputsIn : List Item → List (List ℕ)
+outputsIn [] = []
+outputsIn (gate c ∷ items) = outputsIn items
+outputsIn (output vs ∷ items) = vs ∷ outputsIn items
+
+-- their places, where the first item stands at a place
+abbrev pub gatePlaces : File → ℕ → List Item → List ℕ
+gatePlaces f at [] = []
+gatePlaces f at (gate c ∷ items) = at ∷ gatePlaces f (at + width f sort.Gate) items
+gatePlaces f at (output vs ∷ items) = gatePlaces f (at + width f sort.Output) items
+
+abbrev pub outputPlaces : File → ℕ → List Item → List ℕ
+outputPlaces f at [] = []
+outputPlaces f at (gate c ∷ items) = outputPlaces f (at + width f sort.Gate) items
+outputPlaces f at (output vs ∷ items) = at ∷ outputPlaces f (at + width f sort.Output) items
+
+-- ---- bytes
+
+-- k operands, FFFF where there is none
+abbrev pub writeOperands : ℕ → List ℕ → List ℕ
+writeOperands zero vs = []
+writeOperands (suc k) [] = 0xFF ∷ 0xFF ∷ writeOperands k []
+writeOperands (suc k) (v ∷ vs) = v % 256 ∷ v / 256 ∷ writeOperands k vs
+
+abbrev pub gateByte : File → ℕ
+gateByte file.Stage = 0x02
+gateByte file.Reference = 0x11
+
+abbrev pub outputByte : File → ℕ
+outputByte file.Stage = 0x03
+outputByte file.Reference = 0x12
+
+abbrev pub writeItem : File → Item → List ℕ
+writeItem f (gate c) = gateByte f ∷ c .code ∷ writeOperands (operandCount f sort.Gate) (c .operands)
+writeItem f (output vs) = outputByte f ∷ writeOperands (operandCount f sort.Output) vs
+
+abbrev pub writeItems : File → List Item → List ℕ
+writeItems f [] = []
+writeItems f (i ∷ items) = writeItem f i ++ writeItems f items
+
+-- inputs, the items, end
+unfoldable pub writeFile : File → ℕ → List Item → List ℕ
+writeFile f n items = 0x01 ∷ n ∷ writeItems f items ++ (0x00 ∷ [])
+
+-- ---- contents that fit
+
+abbrev pub All : {X : Type 0} → (X → Type 0) → List X → Type 0
+All P [] = Unit {0}
+All P (x ∷ xs) = P x × All P xs
+
+-- with n inputs and g gates in all: a gate after k gates, and an output, that the reader takes
+pub record GateFits (f : File) (n g k : ℕ) (c : Coded) : Type 0 where
+  pub code-byte : c .code < 256
+  pub known : 1 ≤ needed f (c .code)
+  pub whole : length (c .operands) ≡ needed f (c .code)
+  pub used : All (λ v. v < absent) (c .operands)
+  pub named : All (λ v. names (roleOf f sort.Gate k) n g v ≡ true) (c .operands)
+
+pub record OutputFits (f : File) (n g k : ℕ) (vs : List ℕ) : Type 0 where
+  pub whole : length vs ≡ operandCount f sort.Output
+  pub u16s : All (λ v. v < 65536) vs
+  pub named : All (λ v. names (roleOf f sort.Output k) n g v ≡ true) vs
+
+abbrev pub ItemsFit : File → ℕ → ℕ → ℕ → List Item → Type 0
+ItemsFit f n g k [] = Unit {0}
+ItemsFit f n g k (gate c ∷ items) = GateFits f n g k c × ItemsFit f n g (suc k) items
+ItemsFit f n g k (output vs ∷ items) = OutputFits f n g k vs × ItemsFit f n g k items
+
+pub record FileFits (f : File) (most : Limits) (n : ℕ) (items : List Item) : Type 0 where
+  pub inputs-in : (1 ≤ n) × (n ≤ most .inputs)
+  pub inputs-byte : n < 256
+  pub gates-in : length (gatesIn items) ≤ most .gates
+  pub outputs-in : (1 ≤ length (outputsIn items)) × (length (outputsIn items) ≤ most .outputs)
+  pub items-fit : ItemsFit f n (length (gatesIn items)) 0 items
+
+-- ---- stages and references, gates before outputs
+
+-- a gate as its command has it: the kinds of the cells with hold are the cells' numbers
+abbrev pub codedGate : Gate → Coded
+codedGate g = record { code = g .cell; operands = g .pins }
+
+abbrev pub pairOperands : Pair → List ℕ
+pairOperands p = p .rail0 ∷ p .rail1 ∷ []
+
+abbrev pub stageItems : Stage → List Item
+stageItems c = map (λ g. gate (codedGate g)) (c .gates) ++ map (λ p. output (pairOperands p)) (c .outputs)
+
+abbrev pub referenceItems : Reference → List Item
+referenceItems c = map gate (c .gates) ++ map (λ v. output (v ∷ [])) (c .outputs)
+
+unfoldable pub writeStage : Stage → List ℕ
+writeStage c = writeFile file.Stage (c .inputs) (stageItems c)
+
+unfoldable pub writeReference : Reference → List ℕ
+writeReference c = writeFile file.Reference (c .inputs) (referenceItems c)

@@ -1,0 +1,61 @@
+// The stage and reference files: the types of what stands in them. What they mean is said in specs/.
+
+// Which of the two files is read.
+pub enum File {
+    Stage,
+    Reference,
+}
+
+// What a command byte calls for.
+pub enum Sort {
+    End,
+    Inputs,
+    Gate,
+    Output,
+    Unknown,
+}
+
+// The most inputs, gates and outputs that a file may have.
+pub struct Limits {
+    pub inputs: usize,
+    pub gates: usize,
+    pub outputs: usize,
+}
+
+// A position in a file.
+pub struct Cursor {
+    pub at: usize,
+}
+
+// What stands before a position: the count of the inputs command, and how many gates and outputs.
+pub struct Counts {
+    pub inputs: usize,
+    pub gates: usize,
+    pub outputs: usize,
+}
+
+// What stands at a position: a command, with the position after it, or the refusal that ends the reading.
+pub enum Next {
+    Command(Sort, Cursor),
+    Refused { number: u8, at: usize },
+}
+
+// What an operand has to name: a net of the stage, a signal of the reference that is an input or one of its first gates,
+// or any signal of the reference.
+pub enum Role {
+    Net,
+    Earlier(usize),
+    Signal,
+}
+
+// A place or an index, if there is one.
+pub enum Found {
+    At(usize),
+    Nothing,
+}
+
+// How the reading of a file ends: with its counts, or refused.
+pub enum Outcome {
+    Whole(Counts),
+    Refused { number: u8, at: usize },
+}

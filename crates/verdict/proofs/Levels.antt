@@ -1,0 +1,110 @@
+-- Lists of levels: which are 0 and 1, which lie below which, and how many are high.
+-- Assumes nothing.
+use Prim.Native.Nat.{ℕ, zero, suc, _+_, _≤_, _<_}
+use native.Mathlib.Omega.{arith}
+use native.Mathlib.Decide.{ℕ-discrete}
+use mathlib.Core.Path.{_≡_, refl, sym, ap, ap₂, _∙_}
+use mathlib.Core.Bool.{Bool, true, false}
+use mathlib.Core.Logic.{_⊎_, inl, inr}
+use mathlib.Core.List.{List, [], _∷_, _++_}
+use lib.ListN.{length, getD, set, replicate}
+use lib.Dec.{ltb}
+use borrow.Author.Tests.{lt-ltb, ltb-true}
+use Rattle.verdict.specs.Rows.{high}
+
+-- n values, each 0 or 1
+abbrev pub Bits : ℕ → List ℕ → Type 0
+Bits zero [] = Unit {0}
+Bits zero (x ∷ xs) = ⊥
+Bits (suc n) [] = ⊥
+Bits (suc n) (x ∷ xs) = (x ≤ 1) × Bits n xs
+
+-- as long as the other, and nowhere above it
+abbrev pub Below : List ℕ → List ℕ → Type 0
+Below [] [] = Unit {0}
+Below [] (y ∷ ys) = ⊥
+Below (x ∷ xs) [] = ⊥
+Below (x ∷ xs) (y ∷ ys) = (x ≤ y) × Below xs ys
+
+abbrev pub sum : List ℕ → ℕ
+sum [] = 0
+sum (x ∷ xs) = x + sum xs
+
+-- ---- below
+
+pub below-refl : (u : List ℕ) → Below u u
+below-refl [] = tt
+below-refl (x ∷ u) = (omega arith, below-refl u)
+
+pub below-trans : (u v w : List ℕ) → Below u v → Below v w → Below u w
+below-trans [] [] [] p q = tt
+below-trans (x ∷ u) (y ∷ v) (z ∷ w) p q = (omega (arith, p .0, q .0), below-trans u v w (p .1) (q .1))
+
+pub below-get : (u v : List ℕ) → Below u v → (k : ℕ) → getD u k 0 ≤ getD v k 0
+below-get [] [] p k = omega arith
+below-get (x ∷ u) (y ∷ v) p zero = p .0
+below-get (x ∷ u) (y ∷ v) p (suc k) = below-get u v (p .1) k
+
+pub below-++ : (w x u v : List ℕ) → Below w x → Below u v → Below (w ++ u) (x ++ v)
+below-++ [] [] u v p q = q
+below-++ (a ∷ w) (b ∷ x) u v p q = (p .0, below-++ w x u v (p .1) q)
+
+pub below-set : (u v : List ℕ) → Below u v → (k x : ℕ) → Below (set u k x) (set v k x)
+below-set [] [] p k x = tt
+below-set (a ∷ u) (b ∷ v) p zero x = (omega arith, p .1)
+below-set (a ∷ u) (b ∷ v) p (suc k) x = (p .0, below-set u v (p .1) k x)
+
+-- levels below others are those, or fewer of them are high
+pub below-split : (u v : List ℕ) → Below u v → (u ≡ v) ⊎ (sum u < sum v)
+below-split [] [] p = inl refl
+below-split (x ∷ u) (y ∷ v) p = go (ℕ-discrete x y) (below-split u v (p .1))
+  where
+    go : Dec (x ≡ y) → (u ≡ v) ⊎ (sum u < sum v) → (x ∷ u ≡ y ∷ v) ⊎ (x + sum u < y + sum v)
+    go (yes e) (inl f) = inl (ap₂ {C = List ℕ} (λ a b. a ∷ b) e f)
+    go (yes e) (inr h) = inr (omega arith)
+    go (no d) (inl f) = inr (omega (arith, p .0, d, ap sum f))
+    go (no d) (inr h) = inr (omega (arith, p .0, d))
+
+-- what is high below is high
+pub high-mono : (u v : List ℕ) → ((k : ℕ) → getD u k 0 ≤ getD v k 0) → (p : ℕ) → high u p ≡ true → high v p ≡ true
+high-mono u v h p e = lt-ltb 0 (getD v p 0) (omega (arith, h p, ltb-true 0 (getD u p 0) e))
+
+-- ---- bits
+
+pub low-bits : (n : ℕ) → Bits n (replicate n 0)
+low-bits zero = tt
+low-bits (suc n) = (omega arith, low-bits n)
+
+pub low-below : (n : ℕ) (v : List ℕ) → Bits n v → Below (replicate n 0) v
+low-below zero [] b = tt
+low-below (suc n) (x ∷ v) b = (omega arith, low-below n v (b .1))
+
+pub bits-length : (n : ℕ) (v : List ℕ) → Bits n v → length v ≡ n
+bits-length zero [] b = refl
+bits-length (suc n) (x ∷ v) b = ap suc (bits-length n v (b .1))
+
+pub bits-sum : (n : ℕ) (v : List ℕ) → Bits n v → sum v ≤ n
+bits-sum zero [] b = omega arith
+bits-sum (suc n) (x ∷ v) b = omega (arith, b .0, bits-sum n v (b .1))
+
+pub bits-get : (n : ℕ) (v : List ℕ) → Bits n v → (k : ℕ) → getD v k 0 ≤ 1
+bits-get zero [] p k = omega arith
+bits-get (suc n) (x ∷ v) p zero = p .0
+bits-get (suc n) (x ∷ v) p (suc k) = bits-get n v (p .1) k
+
+pub bits-set : (n : ℕ) (v : List ℕ) → Bits n v → (k x : ℕ) → x ≤ 1 → Bits n (set v k x)
+bits-set zero [] p k x h = tt
+bits-set (suc n) (a ∷ v) p zero x h = (h, p .1)
+bits-set (suc n) (a ∷ v) p (suc k) x h = (p .0, bits-set n v (p .1) k x h)
+
+-- setting a level to 1 does not lower it
+pub below-raise : (n : ℕ) (v : List ℕ) → Bits n v → (k : ℕ) → Below v (set v k 1)
+below-raise zero [] b k = tt
+below-raise (suc n) (x ∷ v) b zero = (b .0, below-refl v)
+below-raise (suc n) (x ∷ v) b (suc k) = (omega arith, below-raise n v (b .1) k)
+
+-- and stays below what is high there
+pub raise-below : (u v : List ℕ) → Below u v → (k : ℕ) → 1 ≤ getD v k 0 → Below (set u k 1) v
+raise-below [] [] p k h = tt
+raise-below (x ∷ u) (y ∷ v) p zero h = (h, p .1)
+raise-below (x ∷ u) (y ∷ v) p (suc k) h = (p .0, raise-below u v (p .1) k h)

@@ -1,0 +1,6 @@
+pub mod Levels
+pub mod Rounds
+pub mod Gates
+pub mod Reaching
+pub mod Settling
+pub mod Least

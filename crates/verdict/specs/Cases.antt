@@ -1,0 +1,212 @@
+-- The twelve marked cases of the paper, the examples of its table, and cases that show which fault is named, computed from the
+-- definitions alone.
+use Prim.Native.Nat.{ℕ, zero, suc, _+_, _*_}
+use mathlib.Core.Path.{_≡_, refl}
+use mathlib.Core.List.{List, [], _∷_, _++_, map}
+use Rattle.gates.specs.Cell as c
+use Rattle.netlist.specs.Bytes as b
+use Rattle.netlist.specs.Commands as k
+use Rattle.netlist.specs.Reading as r
+use Rattle.netlist.specs.Content as t
+use Rattle.verdict.specs.declared.Verdict.{Verdict}
+use Rattle.verdict.specs.Rows as o
+use Rattle.verdict.specs.Loops as l
+use Rattle.verdict.specs.Answers as a
+use Rattle.verdict.specs.Checks as h
+use Rattle.verdict.specs.Checks.{verdict}
+use Rattle.verdict.specs.Verdicts as v
+use Rattle.verdict.specs.Verdicts.{verdictOn, settledRow, RowAnswer, answerWith}
+
+-- ---- files
+
+-- an operand that is not used
+abbrev FFFF : List ℕ
+FFFF = 255 ∷ 255 ∷ []
+
+-- 2. the wire, and the reference that is a wire
+wire : List ℕ
+wire = 1 ∷ 1 ∷ 3 ∷ 0 ∷ 0 ∷ 1 ∷ 0 ∷ 0 ∷ []
+
+wireReference : List ℕ
+wireReference = 1 ∷ 1 ∷ 0x12 ∷ 0 ∷ 0 ∷ 0 ∷ []
+
+-- 1. the whole case
+wholeStage : List ℕ
+wholeStage = 1 ∷ 2 ∷ 2 ∷ 2 ∷ 1 ∷ 0 ∷ 3 ∷ 0 ∷ 255 ∷ 255 ∷ 255 ∷ 255 ∷ 2 ∷ 0x1A ∷ 0 ∷ 0 ∷ 2 ∷ 0 ∷ 1 ∷ 0 ∷ 3 ∷ 0 ∷ 3 ∷ 5 ∷ 0 ∷ 4 ∷ 0 ∷ 0 ∷ []
+
+andReference : List ℕ
+andReference = 1 ∷ 2 ∷ 0x11 ∷ 2 ∷ 0 ∷ 0 ∷ 1 ∷ 0 ∷ 0x12 ∷ 2 ∷ 0 ∷ 0 ∷ []
+
+-- 3. the wire's rails swapped
+swapped : List ℕ
+swapped = 1 ∷ 1 ∷ 3 ∷ 1 ∷ 0 ∷ 0 ∷ 0 ∷ 0 ∷ []
+
+notReference : List ℕ
+notReference = 1 ∷ 1 ∷ 0x11 ∷ 1 ∷ 0 ∷ 0 ∷ 255 ∷ 255 ∷ 0x12 ∷ 1 ∷ 0 ∷ 0 ∷ []
+
+-- 6. two-input AND with rail 0 TH12(0, 2), rail 1 TH22(1, 3)
+earlyAnd : List ℕ
+earlyAnd = 1 ∷ 2 ∷ 2 ∷ 1 ∷ 0 ∷ 0 ∷ 2 ∷ 0 ∷ FFFF ++ FFFF ++ (2 ∷ 2 ∷ 1 ∷ 0 ∷ 3 ∷ 0 ∷ FFFF ++ FFFF ++ (3 ∷ 4 ∷ 0 ∷ 5 ∷ 0 ∷ 0 ∷ []))
+
+-- n = 10, ten wires: the outputs of a stage from input i on, and of a reference
+wires : ℕ → ℕ → List ℕ
+wires i zero = 0 ∷ []
+wires i (suc m) = 3 ∷ (2 * i) ∷ 0 ∷ (2 * i + 1) ∷ 0 ∷ wires (suc i) m
+
+wireSignals : ℕ → ℕ → List ℕ
+wireSignals i zero = 0 ∷ []
+wireSignals i (suc m) = 0x12 ∷ i ∷ 0 ∷ wireSignals (suc i) m
+
+-- m outputs on the wire's nets
+outputs : ℕ → List ℕ
+outputs zero = 0 ∷ []
+outputs (suc m) = 3 ∷ 0 ∷ 0 ∷ 1 ∷ 0 ∷ outputs m
+
+-- ---- the twelve cases
+
+pub record Case : Type 0 where
+  pub stage : List ℕ
+  pub reference : List ℕ
+  pub expected : Verdict
+
+abbrev case : List ℕ → List ℕ → Verdict → Case
+case stage reference expected = record { stage = stage; reference = reference; expected = expected }
+
+pub twelve : List Case
+twelve =
+    -- 1. the whole case
+    case wholeStage andReference (verdict 0 0 0 0) ∷
+    -- 2. wire against wire
+    case wire wireReference (verdict 0 0 0 0) ∷
+    -- 3. its rails swapped
+    case swapped wireReference (verdict 13 1 0 0) ∷
+    -- 4. swapped against NOT
+    case swapped notReference (verdict 0 0 0 0) ∷
+    -- 5. both rails of the output on net 0
+    case (1 ∷ 1 ∷ 3 ∷ 0 ∷ 0 ∷ 0 ∷ 0 ∷ 0 ∷ []) wireReference (verdict 13 1 0 0) ∷
+    -- 6. AND that does not wait for both inputs
+    case earlyAnd andReference (verdict 14 1 0 0) ∷
+    -- 7. two inputs, input 0 wired out
+    case (1 ∷ 2 ∷ 3 ∷ 0 ∷ 0 ∷ 1 ∷ 0 ∷ 0 ∷ []) (1 ∷ 2 ∷ 0x12 ∷ 0 ∷ 0 ∷ 0 ∷ []) (verdict 14 1 1 0) ∷
+    -- 8. wire plus TH12(0, 1) feeding nothing
+    case (1 ∷ 1 ∷ 2 ∷ 1 ∷ 0 ∷ 0 ∷ 1 ∷ 0 ∷ FFFF ++ FFFF ++ (3 ∷ 0 ∷ 0 ∷ 1 ∷ 0 ∷ 0 ∷ [])) wireReference (verdict 15 1 0 0) ∷
+    -- 9. wire plus TH12(2, 0), pin A on its own net
+    case (1 ∷ 1 ∷ 2 ∷ 1 ∷ 2 ∷ 0 ∷ 0 ∷ 0 ∷ FFFF ++ FFFF ++ (3 ∷ 0 ∷ 0 ∷ 1 ∷ 0 ∷ 0 ∷ [])) wireReference (verdict 12 1 0 0) ∷
+    -- 10. both files empty
+    case [] [] (verdict 1 1 0 0) ∷
+    -- 11. n = 10, ten wires against ten wires
+    case (1 ∷ 10 ∷ wires 0 10) (1 ∷ 10 ∷ wireSignals 0 10) (verdict 0 0 0 0) ∷
+    -- 12. n = 11
+    case (1 ∷ 11 ∷ []) wireReference (verdict 3 1 1 0) ∷
+    []
+
+-- ---- the examples of the table, for 1 to 12
+
+pub examples : List Case
+examples =
+    -- empty stage; then a reference that ends in a command
+    case [] wireReference (verdict 1 1 0 0) ∷
+    case wire (1 ∷ 1 ∷ 0x12 ∷ 0 ∷ []) (verdict 1 2 4 0) ∷
+    case (2 ∷ []) wireReference (verdict 2 1 0 0) ∷
+    case (1 ∷ 0x0B ∷ []) wireReference (verdict 3 1 1 0) ∷
+    case (1 ∷ 1 ∷ 2 ∷ 0x1C ∷ 0 ∷ 0 ∷ 1 ∷ 0 ∷ FFFF ++ FFFF) wireReference (verdict 4 1 3 0) ∷
+    case (1 ∷ 1 ∷ 2 ∷ 2 ∷ 0 ∷ 0 ∷ FFFF ++ FFFF ++ FFFF) wireReference (verdict 5 1 6 0) ∷
+    -- one input, then 17 outputs
+    case (1 ∷ 1 ∷ outputs 17) wireReference (verdict 6 1 82 0) ∷
+    case (1 ∷ 1 ∷ 3 ∷ 0 ∷ 0 ∷ 1 ∷ 0 ∷ 0 ∷ 0 ∷ []) wireReference (verdict 7 1 8 0) ∷
+    case (1 ∷ 1 ∷ 0 ∷ []) wireReference (verdict 8 1 2 0) ∷
+    case (1 ∷ 1 ∷ 3 ∷ 0 ∷ 0 ∷ 2 ∷ 0 ∷ 0 ∷ []) wireReference (verdict 9 1 5 0) ∷
+    -- in a reference, a gate that names itself, and one that names a later gate
+    case wire (1 ∷ 1 ∷ 0x11 ∷ 2 ∷ 0 ∷ 0 ∷ 1 ∷ 0 ∷ 0x12 ∷ 0 ∷ 0 ∷ 0 ∷ []) (verdict 9 2 6 0) ∷
+    case wire (1 ∷ 1 ∷ 0x11 ∷ 1 ∷ 2 ∷ 0 ∷ 255 ∷ 255 ∷ 0x11 ∷ 1 ∷ 0 ∷ 0 ∷ 255 ∷ 255 ∷ 0x12 ∷ 0 ∷ 0 ∷ 0 ∷ []) (verdict 9 2 4 0) ∷
+    -- 1 input against 2, 1 output against 3
+    case wire (1 ∷ 2 ∷ 0x12 ∷ 0 ∷ 0 ∷ 0 ∷ []) (verdict 10 0 1 2) ∷
+    case wire (1 ∷ 1 ∷ 0x12 ∷ 0 ∷ 0 ∷ 0x12 ∷ 0 ∷ 0 ∷ 0x12 ∷ 0 ∷ 0 ∷ 0 ∷ []) (verdict 11 0 1 3) ∷
+    -- a stage whose output stands before its gates, the first of which has its pins on a later gate
+    case (1 ∷ 1 ∷ 3 ∷ 2 ∷ 0 ∷ 3 ∷ 0 ∷ 2 ∷ 1 ∷ 4 ∷ 0 ∷ 4 ∷ 0 ∷ FFFF ++ FFFF ++ (2 ∷ 1 ∷ 1 ∷ 0 ∷ 1 ∷ 0 ∷ FFFF ++ FFFF ++ (2 ∷ 1 ∷ 0 ∷ 0 ∷ 0 ∷ 0 ∷ FFFF ++ FFFF ++ (0 ∷ [])))) wireReference (verdict 0 0 0 0) ∷
+    []
+
+-- ---- which check, word and index is named
+
+-- a gate with two pins, below net 256
+abbrev twoPins : ℕ → ℕ → ℕ → List ℕ → List ℕ
+twoPins kind a b rest = 2 ∷ kind ∷ a ∷ 0 ∷ b ∷ 0 ∷ FFFF ++ FFFF ++ rest
+
+abbrev pair : ℕ → ℕ → List ℕ → List ℕ
+pair rail0 rail1 rest = 3 ∷ rail0 ∷ 0 ∷ rail1 ∷ 0 ∷ rest
+
+-- the reference of n inputs that has input 0 as each of m outputs
+firstInput : ℕ → ℕ → List ℕ
+firstInput n m = 1 ∷ n ∷ go m
+  where
+    go : ℕ → List ℕ
+    go zero = 0 ∷ []
+    go (suc m) = 0x12 ∷ 0 ∷ 0 ∷ go m
+
+pub ordered : List Case
+ordered =
+    -- two faults at once: the earlier check is named
+    case [] [] (verdict 1 1 0 0) ∷
+    case wire (firstInput 2 3) (verdict 10 0 1 2) ∷
+    case (1 ∷ 1 ∷ twoPins 1 2 0 (pair 0 1 (0 ∷ []))) (firstInput 1 3) (verdict 11 0 1 3) ∷
+    case (1 ∷ 1 ∷ twoPins 1 2 0 (pair 1 0 (0 ∷ []))) wireReference (verdict 12 1 0 0) ∷
+    case (1 ∷ 2 ∷ pair 1 0 (0 ∷ [])) (firstInput 2 1) (verdict 13 1 0 0) ∷
+    case (1 ∷ 2 ∷ twoPins 1 0 1 (pair 0 1 (0 ∷ []))) (firstInput 2 1) (verdict 14 1 1 0) ∷
+    -- the least gate on a loop: gate 0 leads to the loop of gates 1 and 2 and is not on it
+    case (1 ∷ 1 ∷ twoPins 1 3 0 (twoPins 1 4 0 (twoPins 1 3 0 (pair 0 1 (0 ∷ []))))) wireReference (verdict 12 1 1 0) ∷
+    -- a wire against AND: right in word 0, wrong from word 1 on
+    case (1 ∷ 2 ∷ pair 0 1 (0 ∷ [])) andReference (verdict 13 1 0 1) ∷
+    -- two outputs, the second wrong in word 0, the first from word 1 on
+    case (1 ∷ 2 ∷ pair 0 1 (pair 1 0 (0 ∷ []))) (1 ∷ 2 ∷ 0x11 ∷ 2 ∷ 0 ∷ 0 ∷ 1 ∷ 0 ∷ 0x12 ∷ 2 ∷ 0 ∷ 0x12 ∷ 2 ∷ 0 ∷ 0 ∷ []) (verdict 13 1 1 0) ∷
+    -- OR whose rail 1 does not wait for both inputs: word 1 does without input 1
+    case (1 ∷ 2 ∷ twoPins 2 0 2 (twoPins 1 1 3 (pair 4 5 (0 ∷ [])))) (1 ∷ 2 ∷ 0x11 ∷ 3 ∷ 0 ∷ 0 ∷ 1 ∷ 0 ∷ 0x12 ∷ 2 ∷ 0 ∷ 0 ∷ []) (verdict 14 1 1 1) ∷
+    -- two wires, and TH22(1, 3) that feeds nothing and rises in word 3 only
+    case (1 ∷ 2 ∷ twoPins 2 1 3 (pair 0 1 (pair 2 3 (0 ∷ [])))) (1 ∷ 2 ∷ 0x12 ∷ 0 ∷ 0 ∷ 0x12 ∷ 1 ∷ 0 ∷ 0 ∷ []) (verdict 15 1 0 3) ∷
+    -- the same with TH22(0, 1), which rises in no word
+    case (1 ∷ 2 ∷ twoPins 2 0 1 (pair 0 1 (pair 2 3 (0 ∷ [])))) (1 ∷ 2 ∷ 0x12 ∷ 0 ∷ 0 ∷ 0x12 ∷ 1 ∷ 0 ∷ 0 ∷ []) (verdict 0 0 0 0) ∷
+    []
+
+abbrev judged : List Case → List Verdict
+judged cases = map (λ (x : Case). verdictOn (x .stage) (x .reference)) cases
+
+abbrev expected : List Case → List Verdict
+expected cases = map (λ (x : Case). x .expected) cases
+
+pub twelve-cases : judged twelve ≡ expected twelve
+unfolding twelve wire wireReference wholeStage andReference swapped notReference earlyAnd wires wireSignals c.cells c.cellAt c.pinCount c.setExpression c.kindOf b.operand b.operands k.sortOf k.operandCount k.operandsFrom k.width k.pinsNeeded k.needed k.stray k.inputsAt k.misfit k.misfitFrom k.unlessMisfit k.gateAt k.outputAt k.wholeAt k.nextAt r.roleOf r.names r.nameless r.orLater r.namelessIn r.namelessFrom r.unlessNameless r.finish r.onCommand r.onNext r.countsOf r.readFrom r.readFile t.stageOf t.referenceOf o.bitsOf o.railsOf o.withNull o.isSet o.rounds o.settledLevels o.levelsHolding o.allData l.isFed l.reachedFrom l.reachesItself a.operate a.evaluate a.answer h.least h.numbers h.words h.atFault h.sweep h.unequal h.looped h.wrongPair h.wrongOutput h.missingInput h.unobservedGate h.checks v.firstFault v.judgeReference v.judgeStage v.verdictWithin
+twelve-cases = refl
+
+pub table-examples : judged examples ≡ expected examples
+unfolding examples outputs wire wireReference c.cells c.cellAt c.pinCount c.setExpression c.kindOf b.operand b.operands k.sortOf k.operandCount k.operandsFrom k.width k.pinsNeeded k.needed k.stray k.inputsAt k.misfit k.misfitFrom k.unlessMisfit k.gateAt k.outputAt k.wholeAt k.nextAt r.roleOf r.names r.nameless r.orLater r.namelessIn r.namelessFrom r.unlessNameless r.finish r.onCommand r.onNext r.countsOf r.readFrom r.readFile t.stageOf t.referenceOf o.bitsOf o.railsOf o.withNull o.isSet o.rounds o.settledLevels o.levelsHolding o.allData l.isFed l.reachedFrom l.reachesItself a.operate a.evaluate a.answer h.least h.numbers h.words h.atFault h.sweep h.unequal h.looped h.wrongPair h.wrongOutput h.missingInput h.unobservedGate h.checks v.firstFault v.judgeReference v.judgeStage v.verdictWithin
+table-examples = refl
+
+pub named-first : judged ordered ≡ expected ordered
+unfolding ordered firstInput wire wireReference andReference c.cells c.cellAt c.pinCount c.setExpression c.kindOf b.operand b.operands k.sortOf k.operandCount k.operandsFrom k.width k.pinsNeeded k.needed k.stray k.inputsAt k.misfit k.misfitFrom k.unlessMisfit k.gateAt k.outputAt k.wholeAt k.nextAt r.roleOf r.names r.nameless r.orLater r.namelessIn r.namelessFrom r.unlessNameless r.finish r.onCommand r.onNext r.countsOf r.readFrom r.readFile t.stageOf t.referenceOf o.bitsOf o.railsOf o.withNull o.isSet o.rounds o.settledLevels o.levelsHolding o.allData l.isFed l.reachedFrom l.reachesItself a.operate a.evaluate a.answer h.least h.numbers h.words h.atFault h.sweep h.unequal h.looped h.wrongPair h.wrongOutput h.missingInput h.unobservedGate h.checks v.firstFault v.judgeReference v.judgeStage v.verdictWithin
+named-first = refl
+
+-- ---- the settled-row call
+
+pub record RowCase : Type 0 where
+  pub stage : List ℕ
+  pub row : List ℕ
+  pub expected : RowAnswer
+
+abbrev rowCase : List ℕ → List ℕ → RowAnswer → RowCase
+rowCase stage row expected = record { stage = stage; row = row; expected = expected }
+
+pub rowExamples : List RowCase
+rowExamples =
+    rowCase [] (7 ∷ []) (answerWith (verdict 1 1 0 0) (7 ∷ [])) ∷
+    -- a loop comes before a row of the wrong length
+    rowCase (1 ∷ 1 ∷ 2 ∷ 1 ∷ 2 ∷ 0 ∷ 0 ∷ 0 ∷ FFFF ++ FFFF ++ (3 ∷ 0 ∷ 0 ∷ 1 ∷ 0 ∷ 0 ∷ [])) [] (answerWith (verdict 12 1 0 0) []) ∷
+    rowCase wire (1 ∷ 0 ∷ 0 ∷ []) (answerWith (verdict 16 3 3 0) (1 ∷ 0 ∷ 0 ∷ [])) ∷
+    rowCase wire (1 ∷ 1 ∷ []) (answerWith (verdict 17 3 0 0) (1 ∷ 1 ∷ [])) ∷
+    rowCase wire (0 ∷ 2 ∷ []) (answerWith (verdict 17 3 0 0) (0 ∷ 2 ∷ [])) ∷
+    -- old gate bytes are ignored; then with input 1 NULL
+    rowCase wholeStage (0 ∷ 1 ∷ 0 ∷ 1 ∷ 9 ∷ 9 ∷ []) (answerWith (verdict 0 0 0 0) (0 ∷ 1 ∷ 0 ∷ 1 ∷ 1 ∷ 0 ∷ [])) ∷
+    rowCase wholeStage (1 ∷ 0 ∷ 0 ∷ 0 ∷ 9 ∷ 9 ∷ []) (answerWith (verdict 0 0 0 0) (1 ∷ 0 ∷ 0 ∷ 0 ∷ 0 ∷ 0 ∷ [])) ∷
+    []
+
+pub row-cases : map (λ (x : RowCase). settledRow (x .stage) (x .row)) rowExamples ≡ map (λ (x : RowCase). x .expected) rowExamples
+unfolding rowExamples wire wholeStage c.cells c.cellAt c.pinCount c.setExpression c.kindOf b.operand b.operands k.sortOf k.operandCount k.operandsFrom k.width k.pinsNeeded k.needed k.stray k.inputsAt k.misfit k.misfitFrom k.unlessMisfit k.gateAt k.outputAt k.wholeAt k.nextAt r.roleOf r.names r.nameless r.orLater r.namelessIn r.namelessFrom r.unlessNameless r.finish r.onCommand r.onNext r.countsOf r.readFrom r.readFile t.stageOf o.isSet o.rounds o.settledLevels l.isFed l.reachedFrom l.reachesItself h.least h.atFault h.looped v.illegalInput v.settleLegal v.settleLoopFree v.settleReading v.settledRowWithin
+row-cases = refl

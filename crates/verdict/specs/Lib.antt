@@ -1,0 +1,6 @@
+pub mod Rows
+pub mod Loops
+pub mod Answers
+pub mod Checks
+pub mod Verdicts
+pub mod Cases

@@ -1,0 +1,103 @@
+-- The nets of a stage as a row of levels, 1 for high and 0 for low: input words, settled rows, and what an output pair holds.
+use Prim.Native.Nat.{ℕ, zero, suc, _+_, _*_, _-_, _/_, _%_}
+use mathlib.Core.Bool.{Bool, true, false, cond}
+use mathlib.Core.Path.{_≡_}
+use mathlib.Core.List.{List, [], _∷_, _++_, map}
+use lib.ListN.{length, getD, set, replicate}
+use lib.Dec.{eqb, ltb}
+use Rattle.gates.specs.Expression.{holds}
+use Rattle.gates.specs.Cell.{setExpression, bit}
+use Rattle.netlist.specs.Content.{Gate, Pair}
+
+-- a net is high in a row: its level is not 0; what is past the row's end is low
+abbrev pub high : List ℕ → ℕ → Bool
+high row net = ltb 0 (getD row net 0)
+
+-- ---- input words
+
+-- bit i of word w is input i: the bits of n inputs
+unfoldable pub bitsOf : ℕ → ℕ → List ℕ
+bitsOf zero w = []
+bitsOf (suc n) w = w % 2 ∷ bitsOf n (w / 2)
+
+-- the input rails that spell some bits: rail 0 is high for 0, rail 1 for 1
+unfoldable pub railsOf : List ℕ → List ℕ
+railsOf [] = []
+railsOf (b ∷ bits) = (1 - b) ∷ b ∷ railsOf bits
+
+-- the same rails with input i NULL, which is both of its rails low
+unfoldable pub withNull : ℕ → List ℕ → List ℕ
+withNull i [] = []
+withNull i (rail0 ∷ []) = rail0 ∷ []
+withNull zero (rail0 ∷ rail1 ∷ rails) = 0 ∷ 0 ∷ rails
+withNull (suc i) (rail0 ∷ rail1 ∷ rails) = rail0 ∷ rail1 ∷ withNull i rails
+
+-- ---- settled rows
+
+-- pin i of a gate is high; a pin that its kind lacks counts as low
+abbrev pub pinHigh : List ℕ → Gate → ℕ → Bool
+pinHigh row g i = getD (map (high row) (g .pins)) i false
+
+-- 1 where the gate's set expression holds in the row, else 0
+unfoldable pub isSet : List ℕ → Gate → ℕ
+isSet row g = bit (holds (setExpression (g .cell)) (pinHigh row g))
+
+-- Settled for given rails: each gate is high exactly if its set expression holds. The row is the rails, then the gates' levels.
+abbrev pub Settled : List Gate → List ℕ → List ℕ → Type 0
+Settled gates rails levels = map (isSet (rails ++ levels)) gates ≡ levels
+
+-- Settled with gate h held low: the same, except that gate h is low.
+abbrev pub SettledHolding : ℕ → List Gate → List ℕ → List ℕ → Type 0
+SettledHolding h gates rails levels = set (map (isSet (rails ++ levels)) gates) h 0 ≡ levels
+
+-- n levels that start low, after k rounds of a step
+unfoldable pub rounds : (List ℕ → List ℕ) → ℕ → ℕ → List ℕ
+rounds step n zero = replicate n 0
+rounds step n (suc k) = step (rounds step n k)
+
+-- The settled levels, computed: as many rounds as there are gates, each of which sets every gate by the levels before it. That a
+-- stage without loops has these settled levels and no others is a theorem.
+unfoldable pub settledLevels : List Gate → List ℕ → List ℕ
+settledLevels gates rails = rounds (λ levels. map (isSet (rails ++ levels)) gates) (length gates) (length gates)
+
+unfoldable pub levelsHolding : ℕ → List Gate → List ℕ → List ℕ
+levelsHolding h gates rails = rounds (λ levels. set (map (isSet (rails ++ levels)) gates) h 0) (length gates) (length gates)
+
+-- the settled row: the rails, then the settled levels; and with gate h held low
+abbrev pub settled : List Gate → List ℕ → List ℕ
+settled gates rails = rails ++ settledLevels gates rails
+
+abbrev pub settledHolding : ℕ → List Gate → List ℕ → List ℕ
+settledHolding h gates rails = rails ++ levelsHolding h gates rails
+
+-- ---- pairs
+
+-- what a pair of rails holds: NULL (both low), DATA0 (only rail 0 high), DATA1 (only rail 1 high), or neither (both high)
+pub data DualRail : Type 0 where
+  null data0 data1 both : DualRail
+
+abbrev pub dualRail : Bool → Bool → DualRail
+dualRail false false = null
+dualRail true false = data0
+dualRail false true = data1
+dualRail true true = both
+
+abbrev pub pairIn : List ℕ → Pair → DualRail
+pairIn row p = dualRail (high row (p .rail0)) (high row (p .rail1))
+
+abbrev pub isData : DualRail → Bool
+isData null = false
+isData data0 = true
+isData data1 = true
+isData both = false
+
+-- DATA1 is read as 1 and DATA0 as 0
+abbrev pub spells : DualRail → ℕ → Bool
+spells null value = false
+spells data0 value = eqb value 0
+spells data1 value = eqb value 1
+spells both value = false
+
+unfoldable pub allData : List ℕ → List Pair → Bool
+allData row [] = true
+allData row (p ∷ pairs) = let later = allData row pairs in cond (isData (pairIn row p)) later false

@@ -1,0 +1,15 @@
+// The verdict's type, and what one check finds. What they mean is said in specs/.
+
+// The four numbers of a verdict.
+pub struct Verdict {
+    pub number: u64,
+    pub file: u64,
+    pub at: u64,
+    pub word: u64,
+}
+
+// What a check finds: its least fault, or none.
+pub enum Finding {
+    Fault(Verdict),
+    Clear,
+}
