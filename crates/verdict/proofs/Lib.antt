@@ -4,3 +4,5 @@ pub mod Gates
 pub mod Reaching
 pub mod Settling
 pub mod Least
+pub mod Sweeps
+pub mod Because

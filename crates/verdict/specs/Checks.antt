@@ -1,6 +1,6 @@
 -- The checks 10 to 15: each finds its least fault, or none.
 use Prim.Native.Nat.{ℕ, zero, suc, _+_, _*_, _^_}
-use mathlib.Core.Bool.{Bool, true, false, cond, _&&_}
+use mathlib.Core.Bool.{Bool, true, false, cond, not}
 use mathlib.Core.List.{List, [], _∷_, _++_}
 use lib.ListN.{length, getD}
 use lib.Dec.{eqb}
@@ -55,19 +55,23 @@ looped s = atFault 12 0 (least (reachesItself (s .inputs) (s .gates)) 0 (length 
 
 -- ---- one word
 
+abbrev pub noPair : Pair
+noPair = record { rail0 = 0; rail1 = 0 }
+
+-- output j of a stage
+abbrev pub outputAt : Stage → ℕ → Pair
+outputAt s j = getD (s .outputs) j noPair
+
 -- the input rails of word w
 abbrev pub railsIn : Stage → ℕ → List ℕ
 railsIn s w = railsOf (bitsOf (s .inputs) w)
 
--- the least of some pairs, from pair j on, that does not spell its value
-unfoldable pub wrongPair : List ℕ → ℕ → List Pair → List ℕ → Found
-wrongPair row j [] values = Nothing
-wrongPair row j (p ∷ pairs) [] = Nothing
-wrongPair row j (p ∷ pairs) (v ∷ values) = let later = wrongPair row (suc j) pairs values in cond (spells (pairIn row p) v) later (At j)
-
 -- 13: the least output whose settled pair is not the reference's DATA
 unfoldable pub wrongOutput : Stage → Reference → ℕ → Found
-wrongOutput s r w = wrongPair (settled (s .gates) (railsIn s w)) 0 (s .outputs) (answer r (bitsOf (r .inputs) w))
+wrongOutput s r w =
+    let row = settled (s .gates) (railsIn s w) in
+    let values = answer r (bitsOf (r .inputs) w) in
+    least (λ j. not (spells (pairIn row (outputAt s j)) (getD values j 0))) 0 (length (s .outputs))
 
 -- 14: the least input with which NULL, and the others as in w, all settled outputs are DATA
 unfoldable pub missingInput : Stage → ℕ → Found

@@ -3,4 +3,5 @@ pub mod Loops
 pub mod Answers
 pub mod Checks
 pub mod Verdicts
+pub mod Faults
 pub mod Cases
