@@ -18,7 +18,7 @@ use Rattle.netlist.specs.Content.{Pair, Stage, Reference, stageOf, referenceOf}
 use Rattle.verdict.specs.declared.Verdict.{Verdict}
 use Rattle.verdict.specs.declared.Finding.{Finding}
 use Rattle.verdict.specs.declared.Finding.the-variants.{Fault, Clear}
-use Rattle.verdict.specs.Rows.{high, pairIn, isData, spells, allData, settled, settledHolding, withNull, bitsOf}
+use Rattle.verdict.specs.Rows.{high, pairIn, isData, spells, allData, settled, settledHolding, only, withNull, bitsOf}
 use Rattle.verdict.specs.Loops.{Reaches, reachesItself}
 use Rattle.verdict.specs.Answers.{answer}
 use Rattle.verdict.specs.Checks as c
@@ -106,12 +106,12 @@ module _ (s : Stage) (r : Reference) (w : ℕ) where
 
 module _ (s : Stage) (w : ℕ) where
   abbrev missingTest : ℕ → Bool
-  missingTest i = allData (settled (s .gates) (withNull i (railsIn s w))) (s .outputs)
+  missingTest i = allData (settled (s .gates) (withNull (only i) (railsIn s w))) (s .outputs)
 
   pub missing-means : Means missingTest (s .inputs) (IncompleteAt s w)
   missing-means = record {
-    passes = λ i h e. allData-out (settled (s .gates) (withNull i (railsIn s w))) (s .outputs) e;
-    occurs = λ i h f. allData-in (settled (s .gates) (withNull i (railsIn s w))) (s .outputs) f;
+    passes = λ i h e. allData-out (settled (s .gates) (withNull (only i) (railsIn s w))) (s .outputs) e;
+    occurs = λ i h f. allData-in (settled (s .gates) (withNull (only i) (railsIn s w))) (s .outputs) f;
   }
 
   abbrev unobservedTest : ℕ → Bool

@@ -6,3 +6,7 @@ pub mod Settling
 pub mod Least
 pub mod Sweeps
 pub mod Because
+pub mod Words
+pub mod Bridge
+pub mod Refusals
+pub mod Demands

@@ -10,7 +10,7 @@ use Rattle.netlist.specs.Content.{Pair, Stage, Reference}
 use Rattle.verdict.specs.declared.Verdict.{Verdict}
 use Rattle.verdict.specs.declared.Finding.{Finding}
 use Rattle.verdict.specs.declared.Finding.the-variants.{Fault, Clear}
-use Rattle.verdict.specs.Rows.{high, bitsOf, railsOf, withNull, settled, settledHolding, pairIn, spells, allData}
+use Rattle.verdict.specs.Rows.{high, bitsOf, railsOf, only, withNull, settled, settledHolding, pairIn, spells, allData}
 use Rattle.verdict.specs.Loops.{reachesItself}
 use Rattle.verdict.specs.Answers.{answer}
 
@@ -77,7 +77,7 @@ wrongOutput s r w =
 unfoldable pub missingInput : Stage → ℕ → Found
 missingInput s w =
     let rails = railsIn s w in
-    least (λ i. allData (settled (s .gates) (withNull i rails)) (s .outputs)) 0 (s .inputs)
+    least (λ i. allData (settled (s .gates) (withNull (only i) rails)) (s .outputs)) 0 (s .inputs)
 
 -- 15: the least gate that is high in w and with which held low all settled outputs are still DATA
 unfoldable pub unobservedGate : Stage → ℕ → Found

@@ -9,7 +9,7 @@ use Rattle.netlist.specs.declared.Limits.{Limits}
 use Rattle.netlist.specs.Reading.{Reading, refused, readable, readFile}
 use Rattle.netlist.specs.Content.{Stage, Reference, stageOf, referenceOf}
 use Rattle.verdict.specs.declared.Verdict.{Verdict}
-use Rattle.verdict.specs.Rows.{high, bitsOf, withNull, settled, settledHolding, pairIn, isData, spells}
+use Rattle.verdict.specs.Rows.{high, bitsOf, only, withNull, settled, settledHolding, pairIn, isData, spells}
 use Rattle.verdict.specs.Loops.{Reaches}
 use Rattle.verdict.specs.Answers.{answer}
 use Rattle.verdict.specs.Checks.{verdict, outputAt, railsIn}
@@ -30,7 +30,7 @@ WrongAt s r w j = ¬ (RightAt s r w j)
 
 -- 14 at input i: with w given and input i NULL, all settled outputs are DATA
 abbrev pub IncompleteAt : Stage → ℕ → ℕ → Type 0
-IncompleteAt s w i = AllData s (settled (s .gates) (withNull i (railsIn s w)))
+IncompleteAt s w i = AllData s (settled (s .gates) (withNull (only i) (railsIn s w)))
 
 -- 15 at gate g: it is high in w, and settled with it held low, all outputs are still DATA
 pub record UnobservableAt (s : Stage) (w g : ℕ) : Type 0 where

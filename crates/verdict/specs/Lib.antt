@@ -4,4 +4,6 @@ pub mod Answers
 pub mod Checks
 pub mod Verdicts
 pub mod Faults
+pub mod Nets
+pub mod Demands
 pub mod Cases

@@ -25,12 +25,17 @@ unfoldable pub railsOf : List ℕ → List ℕ
 railsOf [] = []
 railsOf (b ∷ bits) = (1 - b) ∷ b ∷ railsOf bits
 
--- the same rails with input i NULL, which is both of its rails low
-unfoldable pub withNull : ℕ → List ℕ → List ℕ
-withNull i [] = []
-withNull i (rail0 ∷ []) = rail0 ∷ []
-withNull zero (rail0 ∷ rail1 ∷ rails) = 0 ∷ 0 ∷ rails
-withNull (suc i) (rail0 ∷ rail1 ∷ rails) = rail0 ∷ rail1 ∷ withNull i rails
+-- the set of the one index i
+abbrev pub only : ℕ → ℕ → Bool
+only i k = eqb k i
+
+-- some rails with the inputs of a set NULL, which is both of their rails low
+unfoldable pub withNull : (ℕ → Bool) → List ℕ → List ℕ
+withNull missing [] = []
+withNull missing (rail0 ∷ []) = rail0 ∷ []
+withNull missing (rail0 ∷ rail1 ∷ rails) =
+    let others = withNull (λ i. missing (suc i)) rails in
+    cond (missing 0) (0 ∷ 0 ∷ others) (rail0 ∷ rail1 ∷ others)
 
 -- ---- settled rows
 

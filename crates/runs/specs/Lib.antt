@@ -1,0 +1,12 @@
+pub mod Row
+pub mod Net
+pub mod Settled
+pub mod Pair
+pub mod Stage
+pub mod Checks
+pub mod Complete
+pub mod Promise
+pub mod Witness
+pub mod Tight
+pub mod Acknowledged
+pub mod Exchange

@@ -1,0 +1,119 @@
+-- The rails of an input word: how many there are, that each input is DATA, and what taking inputs away leaves; and that answers are bits.
+-- Assumes nothing.
+use Prim.Native.Nat.{ℕ, zero, suc, _+_, _-_, _*_, _/_, _%_, _≤_, _<_, min, max}
+use native.Mathlib.Omega.{arith}
+use mathlib.Core.Path.{_≡_, refl, sym, ap, _∙_}
+use mathlib.Core.Bool.{Bool, true, false, cond, not, _&&_}
+use mathlib.Core.Logic.{_⊎_, inl, inr}
+use mathlib.Core.List.{List, [], _∷_, _++_, map}
+use lib.ListN.{length, getD, length-append, List·getD-append}
+use lib.Seq.{getD-append-add}
+use lib.Dec.{ltb}
+use native.Mathlib.Decide.{decLt}
+use borrow.Author.Tests.{lt-ltb, le-ltb}
+use Rattle.netlist.specs.Content.{Coded, Reference}
+use Rattle.verdict.specs.Rows.{high, bitsOf, railsOf, withNull}
+use Rattle.verdict.specs.Answers.{operate, valuesAt, evaluate, answer}
+
+-- ---- rails
+
+pub bits-of-length : (n w : ℕ) → length (bitsOf n w) ≡ n
+unfolding bitsOf
+bits-of-length zero w = refl
+bits-of-length (suc n) w = ap suc (bits-of-length n (w / 2))
+
+pub bits-of-bit : (n w i : ℕ) → getD (bitsOf n w) i 0 ≤ 1
+unfolding bitsOf
+bits-of-bit zero w i = omega arith
+bits-of-bit (suc n) w zero = omega arith
+bits-of-bit (suc n) w (suc i) = bits-of-bit n (w / 2) i
+
+pub rails-length : (bits : List ℕ) → length (railsOf bits) ≡ 2 * length bits
+unfolding railsOf
+rails-length [] = omega arith
+rails-length (b ∷ bits) = omega (arith, rails-length bits)
+
+-- rail 0 of input i is high where its bit is 0, rail 1 where it is 1
+pub rails-data : (bits : List ℕ) → ((i : ℕ) → getD bits i 0 ≤ 1) → (i : ℕ) → i < length bits → high (railsOf bits) (2 * i) ≡ not (high (railsOf bits) (2 * i + 1))
+unfolding railsOf
+rails-data [] h i l = absurd (omega arith)
+rails-data (b ∷ bits) h zero l = go (decLt 0 b)
+  where
+    go : Dec (0 < b) → ltb 0 (1 - b) ≡ not (ltb 0 b)
+    go (yes p) = rw (lt-ltb 0 b p, le-ltb 0 (1 - b) (omega (arith, h 0)))
+    go (no p) = rw (le-ltb 0 b (omega arith), lt-ltb 0 (1 - b) (omega arith))
+rails-data (b ∷ bits) h (suc i) l =
+    let e : 2 * suc i ≡ suc (suc (2 * i)) = omega arith in
+    let f : suc (suc (2 * i)) + 1 ≡ suc (suc (2 * i + 1)) = omega arith in
+    rw (e, f) (rails-data bits (λ k. h (suc k)) i (omega arith))
+
+pub null-length : (missing : ℕ → Bool) (n : ℕ) (rails : List ℕ) → length rails ≡ 2 * n → length (withNull missing rails) ≡ 2 * n
+unfolding withNull
+null-length missing n [] h = h
+null-length missing n (a ∷ []) h = h
+null-length missing zero (a ∷ b ∷ rails) h = absurd (omega arith)
+null-length missing (suc n) (a ∷ b ∷ rails) h = go (missing 0) (null-length (λ i. missing (suc i)) n rails (omega arith))
+  where
+    go : (m : Bool) → length (withNull (λ i. missing (suc i)) rails) ≡ 2 * n → length (cond m (0 ∷ 0 ∷ withNull (λ i. missing (suc i)) rails) (a ∷ b ∷ withNull (λ i. missing (suc i)) rails)) ≡ 2 * suc n
+    go true e = omega arith
+    go false e = omega arith
+
+-- a rail is high where it was and its input is not missing
+pub null-high : (missing : ℕ → Bool) (n : ℕ) (rails : List ℕ) → length rails ≡ 2 * n → (k : ℕ) → high (withNull missing rails) k ≡ (high rails k && not (missing (k / 2)))
+unfolding withNull
+null-high missing n [] h k = refl
+null-high missing n (a ∷ []) h k = absurd (omega arith)
+null-high missing zero (a ∷ b ∷ rails) h k = absurd (omega arith)
+null-high missing (suc n) (a ∷ b ∷ rails) h k = go (missing 0) refl k (null-high (λ i. missing (suc i)) n rails (omega arith))
+  where
+    and-false : (x : Bool) → (x && false) ≡ false
+    and-false true = refl
+    and-false false = refl
+
+    and-true : (x : Bool) → (x && true) ≡ x
+    and-true true = refl
+    and-true false = refl
+
+    go : (m : Bool) → missing 0 ≡ m → (k : ℕ) → ((j : ℕ) → high (withNull (λ i. missing (suc i)) rails) j ≡ (high rails j && not (missing (suc (j / 2)))))
+        → high (cond m (0 ∷ 0 ∷ withNull (λ i. missing (suc i)) rails) (a ∷ b ∷ withNull (λ i. missing (suc i)) rails)) k ≡ (high (a ∷ b ∷ rails) k && not (missing (k / 2)))
+    go true e zero f = sym (ap (λ (x : Bool). ltb 0 a && not x) e ∙ and-false (ltb 0 a))
+    go false e zero f = sym (ap (λ (x : Bool). ltb 0 a && not x) e ∙ and-true (ltb 0 a))
+    go true e (suc zero) f = sym (ap (λ (x : Bool). ltb 0 b && not x) e ∙ and-false (ltb 0 b))
+    go false e (suc zero) f = sym (ap (λ (x : Bool). ltb 0 b && not x) e ∙ and-true (ltb 0 b))
+    go true e (suc (suc k)) f = f k ∙ ap (λ (x : ℕ). high rails k && not (missing x)) (omega arith)
+    go false e (suc (suc k)) f = f k ∙ ap (λ (x : ℕ). high rails k && not (missing x)) (omega arith)
+
+-- ---- answers
+
+operate-bit : (op : ℕ) (values : List ℕ) → ((i : ℕ) → getD values i 0 ≤ 1) → operate op values ≤ 1
+unfolding operate
+operate-bit zero values h = omega arith
+operate-bit (suc zero) values h = omega arith
+operate-bit (suc (suc zero)) values h = omega (arith, h 0, h 1)
+operate-bit (suc (suc (suc zero))) values h = omega (arith, h 0, h 1)
+operate-bit (suc (suc (suc (suc zero)))) values h = omega arith
+operate-bit (suc (suc (suc (suc (suc zero))))) values h = omega arith
+operate-bit (suc (suc (suc (suc (suc (suc zero)))))) values h = omega arith
+operate-bit (suc (suc (suc (suc (suc (suc (suc op))))))) values h = omega arith
+
+valuesAt-bit : (values signals : List ℕ) → ((i : ℕ) → getD values i 0 ≤ 1) → (i : ℕ) → getD (valuesAt values signals) i 0 ≤ 1
+valuesAt-bit values [] h i = omega arith
+valuesAt-bit values (v ∷ signals) h zero = h v
+valuesAt-bit values (v ∷ signals) h (suc i) = valuesAt-bit values signals h i
+
+snoc-bit : (values : List ℕ) (x : ℕ) → x ≤ 1 → ((i : ℕ) → getD values i 0 ≤ 1) → (i : ℕ) → getD (values ++ (x ∷ [])) i 0 ≤ 1
+snoc-bit [] x hx h zero = hx
+snoc-bit [] x hx h (suc i) = omega arith
+snoc-bit (v ∷ values) x hx h zero = h 0
+snoc-bit (v ∷ values) x hx h (suc i) = snoc-bit values x hx (λ k. h (suc k)) i
+
+evaluate-bit : (values : List ℕ) (gates : List Coded) → ((i : ℕ) → getD values i 0 ≤ 1) → (i : ℕ) → getD (evaluate values gates) i 0 ≤ 1
+unfolding evaluate
+evaluate-bit values [] h = h
+evaluate-bit values (g ∷ gates) h =
+    evaluate-bit (values ++ (operate (g .code) (valuesAt values (g .operands)) ∷ [])) gates
+    (snoc-bit values (operate (g .code) (valuesAt values (g .operands))) (operate-bit (g .code) (valuesAt values (g .operands)) (valuesAt-bit values (g .operands) h)) h)
+
+pub answer-bit : (r : Reference) (bits : List ℕ) → ((i : ℕ) → getD bits i 0 ≤ 1) → (j : ℕ) → getD (answer r bits) j 0 ≤ 1
+unfolding answer
+answer-bit r bits h = valuesAt-bit (evaluate bits (r .gates)) (r .outputs) (evaluate-bit bits (r .gates) h)

@@ -1,0 +1,51 @@
+-- A stage, its rows and its words as the theory of runs sees them.
+use Prim.Native.Nat.{ℕ, _+_, _-_, _*_}
+use mathlib.Core.Bool.{Bool, true, false}
+use mathlib.Core.List.{List, [], map}
+use lib.ListN.{length, getD}
+use lib.Dec.{eqb}
+use Rattle.gates.specs.Expression.{holds}
+use Rattle.gates.specs.Cell.{setExpression}
+use Rattle.runs.specs.Row.{Row}
+use Rattle.runs.specs.Net.{Net}
+use Rattle.netlist.specs.Content.{Gate, Pair, Stage, Reference}
+use Rattle.verdict.specs.Rows.{high, bitsOf}
+use Rattle.verdict.specs.Answers.{answer}
+use Rattle.verdict.specs.Checks.{outputAt, railsIn}
+
+abbrev pub noGate : Gate
+noGate = record { cell = 0; hold = true; pins = [] }
+
+-- the gate that drives a net; gate k drives net 2n + k
+abbrev pub driver : Stage → ℕ → Gate
+driver s net = getD (s .gates) (net - 2 * s .inputs) noGate
+
+-- whether a gate's set expression holds in a row; a pin that its kind lacks counts as low
+abbrev pub setIn : Row → Gate → Bool
+setIn row g = holds (setExpression (g .cell)) (λ i. getD (map row (g .pins)) i false)
+
+abbrev pub railOf : Pair → Bool → ℕ
+railOf p false = p .rail0
+railOf p true = p .rail1
+
+abbrev pub netOf : Stage → Net
+netOf s = record {
+    inputs = s .inputs;
+    gates = length (s .gates);
+    outputs = length (s .outputs);
+    rail = λ j. railOf (outputAt s j);
+    pins = λ net. driver s net .pins;
+    fires = λ row net. setIn row (driver s net);
+    hold = λ net. driver s net .hold
+  }
+
+-- a list of levels as a row
+abbrev pub rowOf : List ℕ → Row
+rowOf levels net = high levels net
+
+-- the rails that word w calls for, and the reference's answer to it
+abbrev pub railsFor : Stage → ℕ → Row
+railsFor s w = rowOf (railsIn s w)
+
+abbrev pub answerBits : Reference → ℕ → ℕ → Bool
+answerBits r w j = eqb (getD (answer r (bitsOf (r .inputs) w)) j 0) 1
