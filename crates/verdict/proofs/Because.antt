@@ -126,11 +126,11 @@ module _ (s : Stage) (w : ℕ) where
 
 -- ---- loops
 
-data LoopOutcome (s : Stage) : Finding → Type 0 where
+pub data LoopOutcome (s : Stage) : Finding → Type 0 where
   found : {g : ℕ} → LeastLoop s g → LoopOutcome s (Fault (verdict 12 1 g 0))
   free : NoLoop s → LoopOutcome s Clear
 
-loop-outcome : (s : Stage) → LoopOutcome s (c.looped s)
+pub loop-outcome : (s : Stage) → LoopOutcome s (c.looped s)
 unfolding c.looped atFault
 loop-outcome s = go (least (reachesItself (s .inputs) (s .gates)) 0 (length (s .gates))) refl
   where

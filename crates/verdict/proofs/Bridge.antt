@@ -100,13 +100,13 @@ module _ (s : Stage) (free : LoopFree (s .inputs) (s .gates)) where
 
   abbrev pub stageIn : theory.Stage
   stageIn = record {
-      net = netOf s;
-      fires-mono = λ r t h k. holds-mono (setExpression (driver s k .cell)) (λ i. getD (map r (driver s k .pins)) i false) (λ i. getD (map t (driver s k .pins)) i false) (pins-mono r t h (driver s k .pins));
-      fires-local = λ r t k h. ap (λ (l : List Bool). holds (setExpression (driver s k .cell)) (λ i. getD l i false)) (pins-local r t (driver s k .pins) h);
-      fires-low = λ r k e. holds-low (setExpression (driver s k .cell)) (λ i. getD (map r (driver s k .pins)) i false) (pins-low r (driver s k .pins) e);
-      rank = rank;
-      rank-pins = rank-pins
-    }
+    net = netOf s;
+    fires-mono = λ r t h k. holds-mono (setExpression (driver s k .cell)) (λ i. getD (map r (driver s k .pins)) i false) (λ i. getD (map t (driver s k .pins)) i false) (pins-mono r t h (driver s k .pins));
+    fires-local = λ r t k h. ap (λ (l : List Bool). holds (setExpression (driver s k .cell)) (λ i. getD l i false)) (pins-local r t (driver s k .pins) h);
+    fires-low = λ r k e. holds-low (setExpression (driver s k .cell)) (λ i. getD (map r (driver s k .pins)) i false) (pins-low r (driver s k .pins) e);
+    rank = rank;
+    rank-pins = rank-pins;
+  }
 
 -- ---- settled rows
 
@@ -138,8 +138,8 @@ module _ (s : Stage) (wires : List ℕ) (long : length wires ≡ 2 * s .inputs) 
   settled-row = settled-by (netOf s) (rowOf wires) (rowOf (settled (s .gates) wires))
       (rail-high (settledLevels (s .gates) wires))
       (λ k is. gate-high (settledLevels (s .gates) wires) k (is .0)
-        ∙ ap (λ (l : List ℕ). high l (k - 2 * s .inputs)) (sym (settled-is (s .gates) wires))
-        ∙ set-at (settled (s .gates) wires) (s .gates) (k - 2 * s .inputs) (omega (arith, is .0, is .1)))
+      ∙ ap (λ (l : List ℕ). high l (k - 2 * s .inputs)) (sym (settled-is (s .gates) wires))
+      ∙ set-at (settled (s .gates) wires) (s .gates) (k - 2 * s .inputs) (omega (arith, is .0, is .1)))
       (past-low (settledLevels (s .gates) wires) (bits-length (length (s .gates)) (settledLevels (s .gates) wires) (settled-bits (s .gates) wires)))
 
   -- and with a gate held low

@@ -9,4 +9,5 @@ pub mod Because
 pub mod Words
 pub mod Bridge
 pub mod Refusals
+pub mod OneWord
 pub mod Demands

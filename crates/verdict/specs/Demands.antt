@@ -3,7 +3,7 @@ use Prim.Native.Nat.{ℕ, _+_, _*_, _^_, _<_}
 use mathlib.Core.Path.{_≡_}
 use mathlib.Core.Bool.{Bool, true}
 use mathlib.Core.List.{List}
-use lib.ListN.{length}
+use lib.ListN.{length, take}
 use Rattle.runs.specs.Row.{Row, low, after}
 use Rattle.runs.specs.Net.{railsOf, RiseList, RiseEnd, riseStep}
 use Rattle.runs.specs.Settled.{SettledKept}
@@ -116,3 +116,11 @@ pub record Demand3 (stageMost referenceMost : Limits) (stage reference : List �
 pub record GateRuleGives (s : Stage) (rails : List ℕ) (row : List ℕ) : Type 0 where
   pub goes-on : (l : List ℕ) → RiseList (netOf s) (rowOf rails) l → Goes-on (riseStep (netOf s) (rowOf rails)) low l
   pub end-is : (l : List ℕ) → RiseList (netOf s) (rowOf rails) l → RiseEnd (netOf s) (rowOf rails) l → after low l ≡ rowOf row
+
+-- what the settled-row call leaves of a row that it accepts: the file reads, the row has a byte for each net, and the row after the
+-- call is what the gate rule gives for the rails before it
+pub record RowGiven (most : Limits) (stage before after′ : List ℕ) : Type 0 where
+  pub circuit : Stage
+  pub circuit-is : StageIs most stage circuit
+  pub long : length before ≡ 2 * circuit .inputs + length (circuit .gates)
+  pub given : GateRuleGives circuit (take (2 * circuit .inputs) before) after′

@@ -30,14 +30,14 @@ railOf p true = p .rail1
 
 abbrev pub netOf : Stage → Net
 netOf s = record {
-    inputs = s .inputs;
-    gates = length (s .gates);
-    outputs = length (s .outputs);
-    rail = λ j. railOf (outputAt s j);
-    pins = λ net. driver s net .pins;
-    fires = λ row net. setIn row (driver s net);
-    hold = λ net. driver s net .hold
-  }
+  inputs = s .inputs;
+  gates = length (s .gates);
+  outputs = length (s .outputs);
+  rail = λ j. railOf (outputAt s j);
+  pins = λ net. driver s net .pins;
+  fires = λ row net. setIn row (driver s net);
+  hold = λ net. driver s net .hold;
+}
 
 -- a list of levels as a row
 abbrev pub rowOf : List ℕ → Row

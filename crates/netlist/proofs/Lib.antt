@@ -1,0 +1,13 @@
+pub mod Lists
+pub mod Operands
+pub mod Encoding
+pub mod OneCommand
+pub mod Laid
+pub mod Walk
+pub mod ReadBack
+pub mod Readable
+pub mod Formed
+pub mod GatesFirst
+pub mod Stages
+pub mod References
+pub mod Cut
