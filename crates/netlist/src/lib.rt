@@ -1,4 +1,8 @@
-// The stage and reference files: the types of what stands in them. What they mean is said in specs/.
+// The stage and reference files: what stands in them, and how they are read. What it means is said in specs/.
+ghost use mathlib.Core.Path.{_≡_};
+ghost use Prim.Native.Nat.{_+_, _<_};
+ghost use lib.ListN.{length};
+ghost use Rattle.netlist.specs.Bytes as bytes;
 
 // Which of the two files is read.
 pub enum File {
@@ -58,4 +62,12 @@ pub enum Found {
 pub enum Outcome {
     Whole(Counts),
     Refused { number: u8, at: usize },
+}
+
+// The u16 operand at a place, low byte first.
+pub fn operand(s: &[u8], at: usize) -> u16
+    requires { ⌜ at + 1 < length (now s) ⌝ }
+    ensures { λ r. ⌜ r ≡ bytes.operand (now (s .entry)) at ⌝ }
+{
+    s[at] as u16 + 256 * (s[at + 1] as u16)
 }
