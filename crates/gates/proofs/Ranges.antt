@@ -1,16 +1,17 @@
--- How many pins the cells of a range have.
+-- How many pins the cells of a range have, what a kind byte stands for, and that the count of high pins decides an unweighted cell.
 -- Assumes nothing.
 use Prim.Native.Nat.{ℕ, _+_, _-_, _^_, _≤_, _<_}
 use native.Mathlib.Omega.{arith}
-use mathlib.Core.Path.{_≡_, _∙_, ap, subst}
+use mathlib.Core.Path.{_≡_, refl, sym, _∙_, ap, subst}
 use native.Mathlib.Decide.{decLt}
 use mathlib.Core.Bool.{Bool, cond, _&&_}
 use lib.Dec.{T, eqb, eqb→eq, leb, leb→le}
-use borrow.Author.Tests.{le-leb, lt-leb}
-use Rattle.gates.specs.Cell.{cells, cellAt, pinCount, kindOf}
+use borrow.Author.Tests.{le-leb, lt-leb, ne-eqb}
+use Rattle.gates.specs.Cell.{cells, cellAt, pinCount, setBit, atLeast, threshold, kindOf}
 use Rattle.gates.specs.declared.Kind.{Kind}
 use Rattle.gates.specs.declared.Kind.the-variants.{Hold, Unknown}
 use Rattle.gates.proofs.Every.{every, every-at}
+use Rattle.gates.proofs.Patterns.{count-decides}
 
 -- every cell from `low` on, `n` of them, has k pins
 abbrev pub RangeHas : ℕ → ℕ → ℕ → Type 0
@@ -54,3 +55,18 @@ all-small = tt
 -- a pattern of a cell's pins is one of 16
 pub pattern-in : (c p : ℕ) → c ≤ 27 → p < 2 ^ pinCount c → p < 16
 pattern-in c p h fits = let l : 2 ^ pinCount c ≤ 16 = leb→le (2 ^ pinCount c) 16 (every-at (λ x. leb (2 ^ pinCount x) 16) 28 all-small c (omega arith)) in omega arith
+
+all-thresholds : T (every (λ c. eqb (threshold (12 + c)) 0) 16)
+unfolding threshold
+all-thresholds = tt
+
+-- "An unweighted THmn is set exactly if at least m of its pins are high."
+pub unweighted : (c p : ℕ) → c ≤ 27 → 1 ≤ threshold c → p < 2 ^ pinCount c → setBit c p ≡ atLeast (threshold c) p
+unweighted c p hi some fits = go (decLt c 12)
+  where
+    go : Dec (c < 12) → setBit c p ≡ atLeast (threshold c) p
+    go (yes h) = sym (count-decides c p (threshold c) refl (ne-eqb (threshold c) 0 (λ e. omega arith)) h (pattern-in c p hi fits) fits)
+    go (no h) =
+        let e : 12 + (c - 12) ≡ c = omega arith in
+        let z : threshold (12 + (c - 12)) ≡ 0 = eqb→eq (threshold (12 + (c - 12))) 0 (every-at (λ x. eqb (threshold (12 + x)) 0) 16 all-thresholds (c - 12) (omega arith)) in
+        absurd (omega (arith, ap threshold e))

@@ -50,7 +50,7 @@ cells =
     cell "TH24comp" 4 (A · C ∔ B · C ∔ A · D ∔ B · D) ∷
     []
 
--- what is asked of a number that is no cell
+-- a number outside 1 to 27: no name, no pins
 abbrev noCell : Cell
 noCell = cell "" 0 A
 

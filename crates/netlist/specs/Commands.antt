@@ -52,12 +52,13 @@ operandsFrom sort.Unknown = 0
 unfoldable pub width : File → Sort → ℕ
 width f c = operandsFrom c + 2 * operandCount f c
 
--- how many of a gate's operands its kind or operation needs, from the first on; 0 where there is no such kind or operation.
--- 1 NOT needs one, 2 AND, 3 OR, 4 XOR, 5 NAND and 6 NOR need two
+-- the pins of a kind; 0 for no kind
 unfoldable pub pinsNeeded : Kind → ℕ
 pinsNeeded (Hold cell pins) = pins
 pinsNeeded Unknown = 0
 
+-- how many of a gate's operands its kind or operation needs, from the first on; 0 where there is no such kind or operation.
+-- 1 NOT needs one, 2 AND, 3 OR, 4 XOR, 5 NAND and 6 NOR need two
 unfoldable pub needed : File → ℕ → ℕ
 needed Stage kind = pinsNeeded (kindOf kind)
 needed Reference operation = getD (0 ∷ 1 ∷ 2 ∷ 2 ∷ 2 ∷ 2 ∷ 2 ∷ []) operation 0

@@ -114,7 +114,7 @@ stageLimits = record { inputs = 10; gates = 128; outputs = 16 }
 abbrev pub referenceLimits : Limits
 referenceLimits = record { inputs = 10; gates = 256; outputs = 16 }
 
--- ---- a reading as the code answers it: the counts, with the places beside them
+-- ---- a reading as the code answers it: the refusal or the counts; the places go to a slice that the caller lends
 
 unfoldable pub outcomeOf : Reading → Outcome
 outcomeOf (refused number at) = outcome.Refused number at

@@ -5,7 +5,7 @@ use mathlib.Core.Bool.{Bool, true, false, not}
 use Prim.Native.Nat.{ℕ, _/_, _<_}
 use native.Mathlib.Omega.{arith}
 use Rattle.runs.specs.Row.{Row, _⊑_, _∖_, low, only}
-use Rattle.runs.specs.Net.{IsGate, AllHold, inputRail, mayFall, riseUp, railsOf}
+use Rattle.runs.specs.Net.{IsGate, AllHold, inputRail, mayFall, riseUp, railsOfInputs}
 use Rattle.runs.specs.Settled.{Settled, SettledKept}
 use Rattle.runs.specs.Pair.{AllData, AllNull, InputsData}
 use Rattle.runs.specs.Stage.{Stage, All}
@@ -13,7 +13,7 @@ use Rattle.runs.specs.Checks.{Passes, Fall-passes}
 use Rattle.runs.specs.Tight.{Released, Tight, Clear}
 use Rattle.runs.proofs.Test.{clash, not-true, of-not, and-left, and-right, eqb-same, eqb-eq}
 use Rattle.runs.proofs.Row.{∖-same}
-use Rattle.runs.proofs.Net.{Place, rail, gate, none, place, byNet-rail, byNet-gate, railsOf-in, hold-waits, All-map}
+use Rattle.runs.proofs.Net.{Place, rail, gate, none, place, byNet-rail, byNet-gate, railsOfInputs-in, hold-waits, All-map}
 use Rattle.runs.proofs.Pair.{data-high, input-one, reads-data, allNull-down}
 use Rattle.runs.proofs.Rise.{settled-one, settled-rail, settled-gate, settled-data, settled-inside}
 use Rattle.runs.proofs.Fall.{kept-one, kept-⊑, kept-released, kept-still, kept-exists, kept-⊑-released}
@@ -34,10 +34,10 @@ module _ (S : Stage) (c : Row) where
           g (t .0) (t .1) (allNull-down (S .net) (t .0) r (kept-⊑-released S c R rest X r (t .0) o f x (t .1)) n)
 
       keeps-none : (k : ℕ) → r k ≡ true → Place (S .net) k → ⊥
-      keeps-none k e (rail h) = blocked (railsOf (S .net) (only (k / 2))) (ok .complete R rest (k / 2) (omega arith)) on
+      keeps-none k e (rail h) = blocked (railsOfInputs (S .net) (only (k / 2))) (ok .complete R rest (k / 2) (omega arith)) on
         where
           -- the other rail of the input is low at rest
-          on : (m : ℕ) → railsOf (S .net) (only (k / 2)) m ≡ true → R m ≡ true → r m ≡ true
+          on : (m : ℕ) → railsOfInputs (S .net) (only (k / 2)) m ≡ true → R m ≡ true → r m ≡ true
           on m x v = rw (input-one (S .net) R (settled-data (S .net) c R rest word) k m h x (o k e) v) e
       keeps-none k e (gate h) = blocked (only k) (ok .observable R rest k h (o k e)) (λ m x v. rw (eqb-eq m k x) e)
       keeps-none k e (none h) = omega (arith, settled-inside (S .net) c R rest k (o k e))
@@ -47,10 +47,10 @@ module _ (S : Stage) (c : Row) where
 
     -- with an input kept DATA, not all outputs are NULL
     pub clear-late : Clear (S .net) c → (R : Row) → Settled (S .net) c R → (A : ℕ → Bool) (i : ℕ) → i < S .net .inputs → A i ≡ true → (r : Row)
-        → SettledKept (S .net) (railsOf (S .net) A) R r → ¬ (AllNull (S .net) r)
+        → SettledKept (S .net) (railsOfInputs (S .net) A) R r → ¬ (AllNull (S .net) r)
     clear-late t R rest A i h a r g =
         let b : (b : Bool) × (R (inputRail i b) ≡ true) = data-high R (inputRail i) (settled-data (S .net) c R rest word i h) in
-        clear-kept t R rest (railsOf (S .net) A) (inputRail i (b .0)) (railsOf-in (S .net) A i (b .0) h a) (b .1) r g
+        clear-kept t R rest (railsOfInputs (S .net) A) (inputRail i (b .0)) (railsOfInputs-in (S .net) A i (b .0) h a) (b .1) r g
 
     pub clear-fall-passes : Clear (S .net) c → Fall-passes (S .net) c
     clear-fall-passes t = record {
@@ -60,11 +60,11 @@ module _ (S : Stage) (c : Row) where
 
 -- One settled row of each sort is enough: a stage has no other.
 module _ (S : Stage) (c R : Row) (rest : Settled (S .net) c R) where
-  pub fall-passes-at : ((i : ℕ) → i < S .net .inputs → (r : Row) × SettledKept (S .net) (railsOf (S .net) (only i)) R r × (¬ (AllNull (S .net) r)))
+  pub fall-passes-at : ((i : ℕ) → i < S .net .inputs → (r : Row) × SettledKept (S .net) (railsOfInputs (S .net) (only i)) R r × (¬ (AllNull (S .net) r)))
       → ((g : ℕ) → IsGate (S .net) g → R g ≡ true → (r : Row) × SettledKept (S .net) (only g) R r × (¬ (AllNull (S .net) r)))
       → Fall-passes (S .net) c
   fall-passes-at f g = record {
-    complete = λ b rest′ i h r a. late (railsOf (S .net) (only i)) b (settled-one S c b R rest′ rest) r a (f i h);
+    complete = λ b rest′ i h r a. late (railsOfInputs (S .net) (only i)) b (settled-one S c b R rest′ rest) r a (f i h);
     observable = λ b rest′ n h u r a. late (only n) b (settled-one S c b R rest′ rest) r a (g n h (subst (λ (r : Row). r n ≡ true) (settled-one S c b R rest′ rest) u));
   }
     where

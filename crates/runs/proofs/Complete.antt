@@ -5,7 +5,7 @@ use mathlib.Core.Logic.{_↔_}
 use mathlib.Core.Bool.{Bool}
 use Prim.Native.Nat.{ℕ}
 use Rattle.runs.specs.Row.{Row, only}
-use Rattle.runs.specs.Net.{AllHold, railsOf}
+use Rattle.runs.specs.Net.{AllHold, railsOfInputs}
 use Rattle.runs.specs.Settled.{Settled, SettledHeld}
 use Rattle.runs.specs.Pair.{AllData, InputsData}
 use Rattle.runs.specs.Stage.{Stage}
@@ -32,8 +32,8 @@ module _ (S : Stage) (c : Row) (answer : ℕ → Bool) where
       right = t .right;
       complete = record {
         rise = λ A i h a r g.
-            let held : SettledHeld (S .net) c (railsOf (S .net) A) r = missing-held (S .net) c A r g in
-            held-null t (railsOf (S .net) A) r held (tight-missing S c answer word t A i h a r held);
+            let held : SettledHeld (S .net) c (railsOfInputs (S .net) A) r = missing-held (S .net) c A r g in
+            held-null t (railsOfInputs (S .net) A) r held (tight-missing S c answer word t A i h a r held);
         fall = λ R rest A i h a r kept. some-not-null (S .net) r (clear-late S c word f R rest A i h a r kept);
       };
       observable = record {

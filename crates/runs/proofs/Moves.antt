@@ -5,7 +5,7 @@ use mathlib.Core.Logic.{_⊎_, inl, inr}
 use mathlib.Core.Bool.{Bool, true, false, not, _&&_, _||_, Bool·not-not}
 use Prim.Native.Nat.{ℕ, _<_}
 use Rattle.runs.specs.Row.{Row, Rule, _⊑_, _∖_, low}
-use Rattle.runs.specs.Net.{Net, nets, IsGate, mayFall, byNet, riseUp, fallUp, fallDown, railsOf}
+use Rattle.runs.specs.Net.{Net, nets, IsGate, mayFall, byNet, riseUp, fallUp, fallDown, railsOfInputs}
 use Rattle.runs.specs.Settled.{Settled, SettledHeld, SettledKept}
 use Rattle.runs.specs.Stage.{Stage, All}
 use Rattle.runs.specs.Tight.{Released}
@@ -56,10 +56,10 @@ fallen-ranked S = record {
 
 -- ---- the rise: `Settled N c` is `SettledFrom (rise S c) low`, `SettledHeld N c X` that of `mask (rise S c) X`
 
-pub missing-held : (N : Net) (c : Row) (A : ℕ → Bool) (r : Row) → Settled N (c ∖ railsOf N A) r → SettledHeld N c (railsOf N A) r
+pub missing-held : (N : Net) (c : Row) (A : ℕ → Bool) (r : Row) → Settled N (c ∖ railsOfInputs N A) r → SettledHeld N c (railsOfInputs N A) r
 missing-held N c A r h k = h k ∙ riseUp-∖ N c A r k
 
-pub held-missing : (N : Net) (c : Row) (A : ℕ → Bool) (r : Row) → SettledHeld N c (railsOf N A) r → Settled N (c ∖ railsOf N A) r
+pub held-missing : (N : Net) (c : Row) (A : ℕ → Bool) (r : Row) → SettledHeld N c (railsOfInputs N A) r → Settled N (c ∖ railsOfInputs N A) r
 held-missing N c A r h k = h k ∙ sym (riseUp-∖ N c A r k)
 
 -- ---- the fall, upside down

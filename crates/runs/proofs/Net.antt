@@ -8,7 +8,7 @@ use Prim.Native.Nat.{ℕ, _+_, _*_, _/_, _%_, _≤_, _<_}
 use native.Mathlib.Omega.{arith}
 use lib.Dec.{ltb}
 use Rattle.runs.specs.Row.{Row, _⊑_, _∖_, low}
-use Rattle.runs.specs.Net.{Net, rails, nets, IsGate, inputRail, allLow, mayFall, byNet, riseUp, wordRails, railsOf}
+use Rattle.runs.specs.Net.{Net, rails, nets, IsGate, inputRail, allLow, mayFall, byNet, riseUp, wordRails, railsOfInputs}
 use Rattle.runs.specs.Stage.{Stage, All}
 use Rattle.runs.proofs.Test.{clash, true?, not-true, of-not, and-in, and-left, and-right, ltb-true, ltb-false, lt-ltb, le-ltb, same?}
 
@@ -89,15 +89,15 @@ pub inputRail-inside : (N : Net) (i : ℕ) (b : Bool) → i < N .inputs → inpu
 inputRail-inside N i false h = omega arith
 inputRail-inside N i true h = omega arith
 
-pub railsOf-in : (N : Net) (A : ℕ → Bool) (i : ℕ) (b : Bool) → i < N .inputs → A i ≡ true → railsOf N A (inputRail i b) ≡ true
-railsOf-in N A i b h a = and-in (ltb (inputRail i b) (rails N)) (A (inputRail i b / 2)) (lt-ltb (inputRail i b) (rails N) (inputRail-inside N i b h)) (rw (inputRail-half i b) a)
+pub railsOfInputs-in : (N : Net) (A : ℕ → Bool) (i : ℕ) (b : Bool) → i < N .inputs → A i ≡ true → railsOfInputs N A (inputRail i b) ≡ true
+railsOfInputs-in N A i b h a = and-in (ltb (inputRail i b) (rails N)) (A (inputRail i b / 2)) (lt-ltb (inputRail i b) (rails N) (inputRail-inside N i b h)) (rw (inputRail-half i b) a)
 
 -- only the rails of c matter
 pub riseUp-cong : (N : Net) (c d : Row) → ((k : ℕ) → k < rails N → c k ≡ d k) → riseUp N c ≡ riseUp N d
 riseUp-cong N c d h = fun-ext (λ r. fun-ext (λ k. byNet-both (λ a b. a ≡ b) N k (c k) (N .fires r k) (d k) (N .fires r k) (h k) (λ x. refl) (λ x. refl)))
 
 -- with the rails of A taken away, nets are settled as with these rails held low
-pub riseUp-∖ : (N : Net) (c : Row) (A : ℕ → Bool) (r : Row) (k : ℕ) → riseUp N (c ∖ railsOf N A) r k ≡ (riseUp N c r ∖ railsOf N A) k
+pub riseUp-∖ : (N : Net) (c : Row) (A : ℕ → Bool) (r : Row) (k : ℕ) → riseUp N (c ∖ railsOfInputs N A) r k ≡ (riseUp N c r ∖ railsOfInputs N A) k
 riseUp-∖ N c A r k = go (ltb k (rails N))
   where
     go : (b : Bool)

@@ -7,7 +7,7 @@ use Prim.Native.Nat.{ℕ, _+_, _*_, _/_, _<_}
 use native.Mathlib.Omega.{arith}
 use lib.Dec.{eqb, ltb}
 use Rattle.runs.specs.Row.{Row, _⊑_, only}
-use Rattle.runs.specs.Net.{Net, rails, inputRail, railsOf, wordRails}
+use Rattle.runs.specs.Net.{Net, rails, inputRail, railsOfInputs, wordRails}
 use Rattle.runs.specs.Pair.{DataOf, Data, Data0, Data1, Null, Both, AllData, AllNull, Reads, InputsData}
 use Rattle.runs.specs.Complete.{SomeNull, SomeNotNull}
 use Rattle.runs.proofs.Test.{clash, true?, not-true, not-false, of-not, and-right, or-left, or-right, eqb-eq, find}
@@ -83,7 +83,7 @@ inputsData-word N c h k d = go (rail-of-input k)
         at true = sym (wordRails-1 (λ i. c (2 * i + 1)) (k / 2))
 
 -- of the two rails of one input, where it is DATA, one is high
-pub input-one : (N : Net) (r : Row) → InputsData N r → (k m : ℕ) → k < rails N → railsOf N (only (k / 2)) m ≡ true → r k ≡ true → r m ≡ true → m ≡ k
+pub input-one : (N : Net) (r : Row) → InputsData N r → (k m : ℕ) → k < rails N → railsOfInputs N (only (k / 2)) m ≡ true → r k ≡ true → r m ≡ true → m ≡ k
 input-one N r h k m d x u v =
     let a : (b : Bool) × (k ≡ inputRail (k / 2) b) = rail-of-input k in
     let b : (b : Bool) × (m ≡ inputRail (m / 2) b) = rail-of-input m in

@@ -5,7 +5,7 @@ use mathlib.Core.Bool.{Bool, true, false}
 use Prim.Native.Nat.{ℕ, _/_, _<_}
 use native.Mathlib.Omega.{arith}
 use Rattle.runs.specs.Row.{Row, _⊑_, _∖_, only}
-use Rattle.runs.specs.Net.{IsGate, inputRail, railsOf}
+use Rattle.runs.specs.Net.{IsGate, inputRail, railsOfInputs}
 use Rattle.runs.specs.Settled.{Settled, SettledHeld}
 use Rattle.runs.specs.Pair.{AllData, Reads, InputsData}
 use Rattle.runs.specs.Stage.{Stage}
@@ -13,7 +13,7 @@ use Rattle.runs.specs.Checks.{Passes}
 use Rattle.runs.specs.Tight.{Supported, Tight}
 use Rattle.runs.proofs.Test.{clash, not-true, not-false, eqb-same, eqb-eq}
 use Rattle.runs.proofs.Row.{⊑-antisym}
-use Rattle.runs.proofs.Net.{Place, rail, gate, none, place, railsOf-in}
+use Rattle.runs.proofs.Net.{Place, rail, gate, none, place, railsOfInputs-in}
 use Rattle.runs.proofs.Pair.{data-high, input-one, allData-up}
 use Rattle.runs.proofs.Moves.{missing-held, held-missing}
 use Rattle.runs.proofs.Rise.{settled-one, held-one, settled-exists, settled-data, settled-inside, supported-⊑-settled, held-exists, held-supported, held-low, supported-⊑-held}
@@ -40,10 +40,10 @@ module _ (S : Stage) (c : Row) (answer : ℕ → Bool) where
           f (t .0) (t .1) (allData-up (S .net) r (t .0) R answer (ok .right R rest) above below d)
 
       lacks-none : (k : ℕ) → R k ≡ true → r k ≡ false → Place (S .net) k → ⊥
-      lacks-none k u z (rail h) = blocked (railsOf (S .net) (only (k / 2))) (λ a g. ok .complete (k / 2) (omega arith) a (held-missing (S .net) c (only (k / 2)) a g)) off
+      lacks-none k u z (rail h) = blocked (railsOfInputs (S .net) (only (k / 2))) (λ a g. ok .complete (k / 2) (omega arith) a (held-missing (S .net) c (only (k / 2)) a g)) off
         where
           -- the other rail of the input is low in R
-          off : (m : ℕ) → railsOf (S .net) (only (k / 2)) m ≡ true → r m ≡ false
+          off : (m : ℕ) → railsOfInputs (S .net) (only (k / 2)) m ≡ true → r m ≡ false
           off m x = not-true (r m) (λ v. clash v (rw (input-one (S .net) R (settled-data (S .net) c R rest word) k m h x u (supported-⊑-settled S c r R s rest m v)) z))
       lacks-none k u z (gate h) = blocked (only k) (ok .observable R rest k h u) (λ m x. rw (eqb-eq m k x) z)
       lacks-none k u z (none h) = omega (arith, settled-inside (S .net) c R rest k u)
@@ -56,11 +56,11 @@ module _ (S : Stage) (c : Row) (answer : ℕ → Bool) where
 
     -- with an input missing, not all outputs are DATA
     pub tight-missing : Tight (S .net) c answer → (A : ℕ → Bool) (i : ℕ) → i < S .net .inputs → A i ≡ true → (r : Row)
-        → SettledHeld (S .net) c (railsOf (S .net) A) r → ¬ (AllData (S .net) r)
+        → SettledHeld (S .net) c (railsOfInputs (S .net) A) r → ¬ (AllData (S .net) r)
     tight-missing t A i h a r g =
         let R : (R : Row) × Settled (S .net) c R = settled-exists S c in
         let b : (b : Bool) × (R .0 (inputRail i b) ≡ true) = data-high (R .0) (inputRail i) (settled-data (S .net) c (R .0) (R .1) word i h) in
-        tight-held t (R .0) (R .1) (railsOf (S .net) A) (inputRail i (b .0)) (railsOf-in (S .net) A i (b .0) h a) (b .1) r g
+        tight-held t (R .0) (R .1) (railsOfInputs (S .net) A) (inputRail i (b .0)) (railsOfInputs-in (S .net) A i (b .0) h a) (b .1) r g
 
     pub tight-passes : Tight (S .net) c answer → Passes (S .net) c answer
     tight-passes t = record {
@@ -72,12 +72,12 @@ module _ (S : Stage) (c : Row) (answer : ℕ → Bool) where
 -- One settled row of each sort is enough: a stage has no other.
 module _ (S : Stage) (c R : Row) (rest : Settled (S .net) c R) where
   pub passes-at : (answer : ℕ → Bool) → Reads (S .net) R answer
-      → ((i : ℕ) → i < S .net .inputs → (r : Row) × Settled (S .net) (c ∖ railsOf (S .net) (only i)) r × (¬ (AllData (S .net) r)))
+      → ((i : ℕ) → i < S .net .inputs → (r : Row) × Settled (S .net) (c ∖ railsOfInputs (S .net) (only i)) r × (¬ (AllData (S .net) r)))
       → ((g : ℕ) → IsGate (S .net) g → R g ≡ true → (r : Row) × SettledHeld (S .net) c (only g) r × (¬ (AllData (S .net) r)))
       → Passes (S .net) c answer
   passes-at answer reads f g = record {
     right = λ a h. subst (λ (r : Row). Reads (S .net) r answer) (settled-one S c R a rest h) reads;
-    complete = λ i h r a. subst (λ (r : Row). ¬ (AllData (S .net) r)) (settled-one S (c ∖ railsOf (S .net) (only i)) (f i h .0) r (f i h .1) a) (f i h .2);
+    complete = λ i h r a. subst (λ (r : Row). ¬ (AllData (S .net) r)) (settled-one S (c ∖ railsOfInputs (S .net) (only i)) (f i h .0) r (f i h .1) a) (f i h .2);
     observable = λ b rest′ n h u r a. still-not n r a (g n h (subst (λ (r : Row). r n ≡ true) (settled-one S c b R rest′ rest) u));
   }
     where

@@ -7,7 +7,7 @@ use mathlib.Core.List.{[], _∷_}
 use Prim.Native.Nat.{ℕ, _<_}
 use native.Mathlib.Omega.{arith}
 use Rattle.runs.specs.Row.{Row, _∖_, only}
-use Rattle.runs.specs.Net.{Net, inputRail, railsOf, wordRails}
+use Rattle.runs.specs.Net.{Net, inputRail, railsOfInputs, wordRails}
 use Rattle.runs.specs.Settled.{Settled}
 use Rattle.runs.specs.Pair.{AllData, Reads}
 use Rattle.runs.specs.Stage.{Stage}
@@ -15,7 +15,7 @@ use Rattle.runs.specs.Checks.{Passes}
 use Rattle.runs.specs.Promise.{Promise}
 use Rattle.runs.specs.Witness.{Unobservable}
 use Rattle.runs.proofs.Test.{eqb-same}
-use Rattle.runs.proofs.Net.{railsOf-in, wordRails-0, wordRails-1}
+use Rattle.runs.proofs.Net.{railsOfInputs-in, wordRails-0, wordRails-1}
 use Rattle.runs.proofs.Pair.{wordRails-data, null-not-data}
 use Rattle.runs.proofs.Moves.{missing-held}
 use Rattle.runs.proofs.Rise.{settled-rail, held-low}
@@ -50,14 +50,14 @@ module _ (w : ℕ → Bool) where
       shown true e = (at-1 ∙ e, at-0 ∙ ap not e)
       shown false e = (at-0 ∙ ap not e, at-1 ∙ e)
 
-  wire-complete : (i : ℕ) → i < 1 → (r : Row) → Settled wire (wordRails w ∖ railsOf wire (only i)) r → ¬ (AllData wire r)
+  wire-complete : (i : ℕ) → i < 1 → (r : Row) → Settled wire (wordRails w ∖ railsOfInputs wire (only i)) r → ¬ (AllData wire r)
   wire-complete i h r g d = null-not-data r (inputRail 0) (off false, off true) (d 0 (omega arith))
     where
       zero-is : only i 0 ≡ true
       zero-is = let e : i ≡ 0 = omega arith in rw e (eqb-same 0)
 
       off : (b : Bool) → r (inputRail 0 b) ≡ false
-      off b = held-low wire-stage (wordRails w) (railsOf wire (only i)) r (missing-held wire (wordRails w) (only i) r g) (inputRail 0 b) (railsOf-in wire (only i) 0 b (omega arith) zero-is)
+      off b = held-low wire-stage (wordRails w) (railsOfInputs wire (only i)) r (missing-held wire (wordRails w) (only i) r g) (inputRail 0 b) (railsOfInputs-in wire (only i) 0 b (omega arith) zero-is)
 
   wire-passes : Passes wire (wordRails w) (λ j. w 0)
   wire-passes = record { right = wire-right; complete = wire-complete; observable = λ R rest g h. absurd (omega arith) }

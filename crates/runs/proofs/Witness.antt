@@ -5,13 +5,13 @@ use mathlib.Core.Logic.{_⊎_, inl, inr, _≢_}
 use mathlib.Core.Bool.{Bool, true, false, not, _&&_, and-true}
 use Prim.Native.Nat.{ℕ, _<_}
 use Rattle.runs.specs.Row.{Row, _∖_, low, only, after, Reached}
-use Rattle.runs.specs.Net.{IsGate, inputRail, riseUp, railsOf, riseStep, fallStep}
+use Rattle.runs.specs.Net.{IsGate, inputRail, riseUp, railsOfInputs, riseStep, fallStep}
 use Rattle.runs.specs.Settled.{Settled, SettledHeld, SettledKept}
 use Rattle.runs.specs.Pair.{DataOf, AllData, AllNull, InputsData}
 use Rattle.runs.specs.Stage.{Stage}
 use Rattle.runs.specs.Witness.{Wrong, Incomplete, Unobservable, Null-outputs, Fall-incomplete, Fall-unobservable}
 use Rattle.runs.proofs.Test.{clash, not-false, same?, eqb-same, eqb-other}
-use Rattle.runs.proofs.Net.{byNet-gate, railsOf-in}
+use Rattle.runs.proofs.Net.{byNet-gate, railsOfInputs-in}
 use Rattle.runs.proofs.Moves.{missing-held}
 use Rattle.runs.proofs.Rise.{settled-one, settled-reached, settled-ended, settled-data, rise-end-is, held-reached, held-low}
 use Rattle.runs.proofs.Fall.{kept-reached, kept-still}
@@ -27,12 +27,12 @@ module _ (S : Stage) (c : Row) where
         wrong = λ l p e s. n (subst (λ (r : Row). DataOf r (S .net .rail j) (answer j)) (rise-end-is S c R rest l p e) s);
       }
 
-  pub incomplete : (i : ℕ) → i < S .net .inputs → (r : Row) → Settled (S .net) (c ∖ railsOf (S .net) (only i)) r → AllData (S .net) r
+  pub incomplete : (i : ℕ) → i < S .net .inputs → (r : Row) → Settled (S .net) (c ∖ railsOfInputs (S .net) (only i)) r → AllData (S .net) r
       → Incomplete (S .net) c i
   incomplete i h r g d =
-      let held : SettledHeld (S .net) c (railsOf (S .net) (only i)) r = missing-held (S .net) c (only i) r g in
-      let t : Reached (riseStep (S .net) c) low r = held-reached S c (railsOf (S .net) (only i)) r held in
-      let z : (b : Bool) → r (inputRail i b) ≡ false = λ b. held-low S c (railsOf (S .net) (only i)) r held (inputRail i b) (railsOf-in (S .net) (only i) i b h (eqb-same i)) in
+      let held : SettledHeld (S .net) c (railsOfInputs (S .net) (only i)) r = missing-held (S .net) c (only i) r g in
+      let t : Reached (riseStep (S .net) c) low r = held-reached S c (railsOfInputs (S .net) (only i)) r held in
+      let z : (b : Bool) → r (inputRail i b) ≡ false = λ b. held-low S c (railsOfInputs (S .net) (only i)) r held (inputRail i b) (railsOfInputs-in (S .net) (only i) i b h (eqb-same i)) in
       record { list = t .list; legal = t .legal; all-data = rw (t .arrives) d; null = rw (t .arrives) (z false, z true) }
 
   -- with a gate held low that is high at rest, its set expression still holds: else the row would be the rest
@@ -81,10 +81,10 @@ module _ (S : Stage) (c : Row) where
       }
 
   pub fall-incomplete : InputsData (S .net) c → (R : Row) → Settled (S .net) c R → (i : ℕ) → i < S .net .inputs → (r : Row)
-      → SettledKept (S .net) (railsOf (S .net) (only i)) R r → AllNull (S .net) r → Fall-incomplete (S .net) c i
+      → SettledKept (S .net) (railsOfInputs (S .net) (only i)) R r → AllNull (S .net) r → Fall-incomplete (S .net) c i
   fall-incomplete word R rest i h r kept n =
-      let t : Null-row r = null-row R rest (railsOf (S .net) (only i)) r kept n in
-      let same : (b : Bool) → r (inputRail i b) ≡ R (inputRail i b) = λ b. kept-still S (railsOf (S .net) (only i)) R r kept (inputRail i b) (railsOf-in (S .net) (only i) i b h (eqb-same i)) in
+      let t : Null-row r = null-row R rest (railsOfInputs (S .net) (only i)) r kept n in
+      let same : (b : Bool) → r (inputRail i b) ≡ R (inputRail i b) = λ b. kept-still S (railsOfInputs (S .net) (only i)) R r kept (inputRail i b) (railsOfInputs-in (S .net) (only i) i b h (eqb-same i)) in
       record { run = t .run; input-data = rw (t .row) (same false ∙ settled-data (S .net) c R rest word i h ∙ ap not (sym (same true))) }
 
   pub fall-unobservable : (R : Row) → Settled (S .net) c R → (g : ℕ) → IsGate (S .net) g → R g ≡ true → (r : Row)

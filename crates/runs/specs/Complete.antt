@@ -4,7 +4,7 @@ use mathlib.Core.Path.{_≡_}
 use mathlib.Core.Bool.{Bool, true}
 use Prim.Native.Nat.{ℕ, _<_}
 use Rattle.runs.specs.Row.{Row, only, _∖_}
-use Rattle.runs.specs.Net.{Net, IsGate, railsOf}
+use Rattle.runs.specs.Net.{Net, IsGate, railsOfInputs}
 use Rattle.runs.specs.Settled.{Settled, SettledHeld, SettledKept}
 use Rattle.runs.specs.Pair.{Null, Reads}
 
@@ -18,8 +18,8 @@ SomeNotNull N r = (j : ℕ) × (j < N .outputs) × (¬ (Null r (N .rail j)))
 -- Input-complete. Rise: with any non-empty set A of inputs missing, some output is still NULL. Fall: from the rest, with any non-empty
 -- set A of inputs still DATA and the others NULL, some output is not yet NULL.
 pub record Input-complete (N : Net) (c : Row) : Type 0 where
-  pub rise : (A : ℕ → Bool) (i : ℕ) → i < N .inputs → A i ≡ true → (r : Row) → Settled N (c ∖ railsOf N A) r → SomeNull N r
-  pub fall : (R : Row) → Settled N c R → (A : ℕ → Bool) (i : ℕ) → i < N .inputs → A i ≡ true → (r : Row) → SettledKept N (railsOf N A) R r
+  pub rise : (A : ℕ → Bool) (i : ℕ) → i < N .inputs → A i ≡ true → (r : Row) → Settled N (c ∖ railsOfInputs N A) r → SomeNull N r
+  pub fall : (R : Row) → Settled N c R → (A : ℕ → Bool) (i : ℕ) → i < N .inputs → A i ≡ true → (r : Row) → SettledKept N (railsOfInputs N A) R r
       → SomeNotNull N r
 
 -- Observable, of each gate that is high at rest. Rise: while it has not risen, some output is still NULL. Fall: while it has not fallen,

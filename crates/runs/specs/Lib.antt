@@ -1,3 +1,5 @@
+-- Promises of the papers rest on Row, Net, Settled, Pair, Complete, Promise and Witness. Stage is what the theory asks of a stage; Checks and
+-- Tight carry the argument; the falls of gates without hold, Acknowledged and Exchange are for later requests.
 pub mod Row
 pub mod Net
 pub mod Settled

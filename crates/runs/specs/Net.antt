@@ -101,5 +101,5 @@ abbrev pub wordRails : (ℕ → Bool) → Row
 wordRails w k = cond (eqb (k % 2) 1) (w (k / 2)) (not (w (k / 2)))
 
 -- The rails of a set A of inputs.
-abbrev pub railsOf : Net → (ℕ → Bool) → Row
-railsOf N A k = ltb k (rails N) && A (k / 2)
+abbrev pub railsOfInputs : Net → (ℕ → Bool) → Row
+railsOfInputs N A k = ltb k (rails N) && A (k / 2)

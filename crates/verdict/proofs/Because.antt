@@ -22,9 +22,9 @@ use Rattle.verdict.specs.Rows.{high, pairIn, isData, spells, allData, se
 use Rattle.verdict.specs.Loops.{Reaches, reachesItself}
 use Rattle.verdict.specs.Answers.{answer}
 use Rattle.verdict.specs.Checks as c
-use Rattle.verdict.specs.Checks.{verdict, least, numbers, words, sweep, atFault, unequal, noPair, outputAt, railsIn, wrongOutput, missingInput, unobservedGate, checks}
+use Rattle.verdict.specs.Checks.{verdict, least, numbers, words, sweep, atFault, unequal, noPair, outputPair, railsIn, wrongOutput, missingInput, unobservedGate, checks}
 use Rattle.verdict.specs.Verdicts.{firstFault, judgeReference, judgeStage, verdictWithin}
-use Rattle.verdict.specs.Faults.{AllData, RightAt, WrongAt, IncompleteAt, UnobservableAt, LeastCase, CountsMatch, NoLoop, LeastLoop, NeverWrong, NeverIncomplete, NeverUnobservable, Judged, inputs-differ, outputs-differ, looped, wrong, incomplete, unobservable, accepted, Because, stage-refused, reference-refused, both-read}
+use Rattle.verdict.specs.Faults.{AllData, RightAt, WrongAt, IncompleteAt, UnobservableAt, LeastCase, CountsMatch, WithoutLoop, LeastLoop, NeverWrong, NeverIncomplete, NeverUnobservable, Judged, inputs-differ, outputs-differ, looped, wrong, incomplete, unobservable, accepted, StageIs, ReferenceIs, Because, stage-refused, reference-refused, both-read}
 use Rattle.verdict.proofs.Least.{LeastAt, LeastSays, least-says}
 use Rattle.verdict.proofs.Sweeps.{SweptAt, Swept, at-word, nowhere, sweep-swept}
 use Rattle.verdict.proofs.Reaching.{reaches-sound, reaches-complete}
@@ -96,12 +96,12 @@ module _ (s : Stage) (number k : ℕ) (test : ℕ → ℕ → Bool) (F : ℕ →
 
 module _ (s : Stage) (r : Reference) (w : ℕ) where
   abbrev wrongTest : ℕ → Bool
-  wrongTest j = not (spells (pairIn (settled (s .gates) (railsIn s w)) (outputAt s j)) (getD (answer r (bitsOf (r .inputs) w)) j 0))
+  wrongTest j = not (spells (pairIn (settled (s .gates) (railsIn s w)) (outputPair s j)) (getD (answer r (bitsOf (r .inputs) w)) j 0))
 
   pub wrong-means : Means wrongTest (length (s .outputs)) (WrongAt s r w)
   wrong-means = record {
-    passes = λ j h e f. clash f (not-true (spells (pairIn (settled (s .gates) (railsIn s w)) (outputAt s j)) (getD (answer r (bitsOf (r .inputs) w)) j 0)) e);
-    occurs = λ j h f. ap not (not-both (spells (pairIn (settled (s .gates) (railsIn s w)) (outputAt s j)) (getD (answer r (bitsOf (r .inputs) w)) j 0)) f);
+    passes = λ j h e f. clash f (not-true (spells (pairIn (settled (s .gates) (railsIn s w)) (outputPair s j)) (getD (answer r (bitsOf (r .inputs) w)) j 0)) e);
+    occurs = λ j h f. ap not (not-both (spells (pairIn (settled (s .gates) (railsIn s w)) (outputPair s j)) (getD (answer r (bitsOf (r .inputs) w)) j 0)) f);
   }
 
 module _ (s : Stage) (w : ℕ) where
@@ -128,7 +128,7 @@ module _ (s : Stage) (w : ℕ) where
 
 pub data LoopOutcome (s : Stage) : Finding → Type 0 where
   found : {g : ℕ} → LeastLoop s g → LoopOutcome s (Fault (verdict 12 1 g 0))
-  free : NoLoop s → LoopOutcome s Clear
+  free : WithoutLoop s → LoopOutcome s Clear
 
 pub loop-outcome : (s : Stage) → LoopOutcome s (c.looped s)
 unfolding c.looped atFault
@@ -152,7 +152,7 @@ loop-outcome s = go (least (reachesItself (s .inputs) (s .gates)) 0 (length (s .
 -- ---- the checks in their order
 
 module _ (s : Stage) (r : Reference) where
-  after-loops : CountsMatch s r → NoLoop s
+  after-loops : CountsMatch s r → WithoutLoop s
       → {x13 x14 x15 : Finding}
       → Outcome s 13 (length (s .outputs)) (wrongTest s r) (WrongAt s r) (wrong-means s r) x13
       → Outcome s 14 (s .inputs) (missingTest s) (IncompleteAt s) (missing-means s) x14
@@ -184,6 +184,13 @@ module _ (s : Stage) (r : Reference) where
       inputs true p false q x = outputs-differ (eqb-true (s .inputs) (r .inputs) p) (eqb-false (length (s .outputs)) (length (r .outputs)) q)
       inputs true p true q x = loops (record { inputs = eqb-true (s .inputs) (r .inputs) p; outputs = eqb-true (length (s .outputs)) (length (r .outputs)) q }) x
 
+-- a readable file holds what is seen through its places
+pub stage-is : {most : Limits} {bytes : List ℕ} {n : ℕ} {gates outputs : List ℕ} → readFile file.Stage most bytes ≡ readable n gates outputs → StageIs most bytes (stageOf bytes n gates outputs)
+stage-is {n = n} {gates = gates} {outputs = outputs} e = record { inputs = n; gatePlaces = gates; outputPlaces = outputs; reads = e; content = refl }
+
+pub reference-is : {most : Limits} {bytes : List ℕ} {n : ℕ} {gates outputs : List ℕ} → readFile file.Reference most bytes ≡ readable n gates outputs → ReferenceIs most bytes (referenceOf bytes n gates outputs)
+reference-is {n = n} {gates = gates} {outputs = outputs} e = record { inputs = n; gatePlaces = gates; outputPlaces = outputs; reads = e; content = refl }
+
 -- every verdict on two files has its reason
 pub verdict-because : (stageMost referenceMost : Limits) (stage reference : List ℕ) → Because stageMost referenceMost stage reference (verdictWithin stageMost referenceMost stage reference)
 unfolding verdictWithin judgeStage judgeReference
@@ -192,5 +199,5 @@ verdict-because stageMost referenceMost stage reference = go (readFile file.Stag
     go : (x : Reading) → readFile file.Stage stageMost stage ≡ x → (y : Reading) → readFile file.Reference referenceMost reference ≡ y
         → Because stageMost referenceMost stage reference (judgeStage referenceMost stage reference x)
     go (refused number at) p y q = stage-refused p
-    go (readable n gates outputs) p (refused number at) q = rw q (reference-refused p q)
-    go (readable n gates outputs) p (readable m operations signals) q = rw q (both-read p q (judged (stageOf stage n gates outputs) (referenceOf reference m operations signals)))
+    go (readable n gates outputs) p (refused number at) q = rw q (reference-refused (stage-is p) q)
+    go (readable n gates outputs) p (readable m operations signals) q = rw q (both-read (stage-is p) (reference-is q) (judged (stageOf stage n gates outputs) (referenceOf reference m operations signals)))

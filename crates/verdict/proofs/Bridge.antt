@@ -17,7 +17,7 @@ use Rattle.gates.specs.Cell.{setExpression, bit}
 use Rattle.gates.proofs.Expressions.{holds-mono, holds-low}
 use Rattle.runs.specs.Row as run
 use Rattle.runs.specs.Row.{Row, _⊑_, _∖_}
-use Rattle.runs.specs.Net.{Net, rails, nets, IsGate, allLow, railsOf, inputRail}
+use Rattle.runs.specs.Net.{Net, rails, nets, IsGate, allLow, railsOfInputs, inputRail}
 use Rattle.runs.specs.Settled as runs
 use Rattle.runs.specs.Pair as pair
 use Rattle.runs.specs.Stage as theory
@@ -25,10 +25,10 @@ use Rattle.runs.specs.Stage.{All}
 use Rattle.runs.proofs.Rise.{settled-by, held-by, settled-cong}
 use Rattle.netlist.specs.Content.{Gate, Pair, Stage, Reference}
 use Rattle.verdict.specs.Rows.{high, only, withNull, isSet, Settled, SettledHolding, settledLevels, levelsHolding, settled, settledHolding, DualRail, null, data0, data1, both, dualRail, pairIn, isData, spells}
-use Rattle.verdict.specs.Loops.{In, pinsAt, Feeds}
+use Rattle.verdict.specs.Loops.{In, pinsAt, Feeds, LoopFree}
 use Rattle.verdict.specs.Nets.{noGate, driver, setIn, railOf, netOf, rowOf}
 use Rattle.verdict.proofs.Levels.{bits-length}
-use Rattle.verdict.proofs.Reaching.{LoopFree, rankOf, rank-rises}
+use Rattle.verdict.proofs.Reaching.{rankOf, rank-rises}
 use Rattle.verdict.proofs.Settling.{settled-bits, settled-is, holding-bits, holding-settled}
 use Rattle.verdict.proofs.Words.{null-length, null-high}
 
@@ -176,9 +176,9 @@ module _ (s : Stage) (wires : List ℕ) (long : length wires ≡ 2 * s .inputs) 
 
 -- with some inputs missing
 pub missing-row : (s : Stage) (wires : List ℕ) → length wires ≡ 2 * s .inputs → (missing : ℕ → Bool)
-    → runs.Settled (netOf s) (rowOf wires ∖ railsOf (netOf s) missing) (rowOf (settled (s .gates) (withNull missing wires)))
+    → runs.Settled (netOf s) (rowOf wires ∖ railsOfInputs (netOf s) missing) (rowOf (settled (s .gates) (withNull missing wires)))
 missing-row s wires long missing =
-    settled-cong (netOf s) (rowOf (withNull missing wires)) (rowOf wires ∖ railsOf (netOf s) missing)
+    settled-cong (netOf s) (rowOf (withNull missing wires)) (rowOf wires ∖ railsOfInputs (netOf s) missing)
     (λ k h. null-high missing (s .inputs) wires long k ∙ ap (λ (b : Bool). high wires k && not (b && missing (k / 2))) (sym (lt-ltb k (2 * s .inputs) h)))
     (rowOf (settled (s .gates) (withNull missing wires)))
     (settled-row s (withNull missing wires) (null-length missing (s .inputs) wires long))

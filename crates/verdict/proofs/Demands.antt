@@ -9,7 +9,7 @@ use mathlib.Core.List.{List, [], _∷_, _++_}
 use lib.ListN.{length, getD, take}
 use lib.Seq.{length-take-le}
 use lib.Dec.{eqb}
-use borrow.Author.Tests.{eqb-true}
+use borrow.Author.Tests.{eqb-true, eqb-false}
 use Rattle.runs.specs.Net.{IsGate, AllHold}
 use Rattle.runs.specs.Promise.{Promise}
 use Rattle.runs.proofs.Promise.{promise-not-wrong, promise-not-incomplete, promise-not-unobservable}
@@ -24,14 +24,16 @@ use Rattle.netlist.proofs.Stages.{CellFormed, StageFormed, stage-formed}
 use Rattle.verdict.specs.declared.Verdict.{Verdict}
 use Rattle.verdict.specs.declared.Finding.{Finding}
 use Rattle.verdict.specs.declared.Finding.the-variants.{Fault, Clear}
-use Rattle.verdict.specs.Loops.{reachesItself}
 use Rattle.verdict.specs.Checks.{verdict, least, checks}
-use Rattle.verdict.specs.Verdicts.{firstFault, judgeReference, judgeStage, verdictWithin, illegalInput, settleLegal, settleLoopFree, settleReading, settledRowWithin, answerWith}
-use Rattle.verdict.specs.Faults.{CountsMatch, NoLoop, NeverWrong, NeverIncomplete, NeverUnobservable, Judged, inputs-differ, outputs-differ, looped, wrong, incomplete, unobservable, accepted, Because, stage-refused, reference-refused, both-read}
+use Rattle.verdict.specs.Verdicts.{firstFault, judgeReference, judgeStage, verdictWithin, illegalInput, settleLegal, settleLoopFree, settleReading, settledRowWithin, RowAnswer, answerWith}
+use Rattle.verdict.specs.Faults.{CountsMatch, WithoutLoop, NeverWrong, NeverIncomplete, NeverUnobservable, Judged, inputs-differ, outputs-differ, looped, wrong, incomplete, unobservable, accepted, StageIs, ReferenceIs, Because, stage-refused, reference-refused, both-read, RowBecause, row-refused, row-looped, row-length, row-illegal, row-settled}
+use Rattle.verdict.specs.Rows.{settledLevels}
 use Rattle.verdict.specs.Nets.{noGate, driver, netOf}
-use Rattle.verdict.specs.Demands.{StageIs, ReferenceIs, Contents, Acceptable, KeptIn, Kept, Broken, WrongRuns, IncompleteRun, UnobservableRun, Demand3, GateRuleGives, RowGiven}
-use Rattle.verdict.proofs.Reaching.{LoopFree, reaches-sound}
-use Rattle.verdict.proofs.Because.{LoopOutcome, found, free, loop-outcome, judged, verdict-because}
+use Rattle.verdict.specs.Demands.{Contents, Acceptable, Demand2, KeptIn, Kept, Broken, WrongRuns, IncompleteRun, UnobservableRun, Demand3, GateRuleGives, RowGiven}
+use Rattle.verdict.proofs.Reaching.{noLoop-loopFree}
+use Rattle.verdict.proofs.Least.{LeastAt, least-says}
+use Rattle.verdict.proofs.Settling.{settled-is, settled-one}
+use Rattle.verdict.proofs.Because.{LoopOutcome, found, free, loop-outcome, judged, stage-is, verdict-because}
 use Rattle.verdict.proofs.Refusals.{refused-number}
 use Rattle.verdict.proofs.OneWord.{CleanIn, clean-acceptable, clean-kept, acceptable-clean, wrong-runs, incomplete-run, unobservable-run, gate-rule-gives}
 
@@ -40,13 +42,6 @@ clash p q = let z : _≡_ {A = ℕ} 0 1 = cc in omega arith
 
 -- ---- what a readable stage without loops has
 
-pub noLoop-free : (s : Stage) → NoLoop s → LoopFree (s .inputs) (s .gates)
-noLoop-free s h g hg = go (reachesItself (s .inputs) (s .gates) g) refl
-  where
-    go : (b : Bool) → reachesItself (s .inputs) (s .gates) g ≡ b → b ≡ false
-    go true e = absurd (h g hg (reaches-sound (s .inputs) (s .gates) g e))
-    go false e = refl
-
 gates-hold : (n : ℕ) (gates : List Gate) → All (CellFormed n) gates → (k : ℕ) → getD gates k noGate .hold ≡ true
 gates-hold n [] h k = refl
 gates-hold n (g ∷ gates) h zero = h .0 .holds
@@ -54,7 +49,7 @@ gates-hold n (g ∷ gates) h (suc k) = gates-hold n gates (h .1) k
 
 pub stage-holds : (most : Limits) (bytes : List ℕ) (s : Stage) → StageIs most bytes s → AllHold (netOf s)
 stage-holds most bytes s is k h =
-    let f : StageFormed most s = subst (StageFormed most) (is .content) (stage-formed most bytes (is .inputs) (is .gates) (is .outputs) (is .reads)) in
+    let f : StageFormed most s = subst (StageFormed most) (is .content) (stage-formed most bytes (is .inputs) (is .gatePlaces) (is .outputPlaces) (is .reads)) in
     gates-hold (2 * s .inputs + length (s .gates)) (s .gates) (f .gates-formed) (k - 2 * s .inputs)
 
 clean : (s : Stage) (r : Reference) → NeverWrong s r → NeverIncomplete s → NeverUnobservable s → (w : ℕ) → w < 2 ^ s .inputs → CleanIn s r w
@@ -68,14 +63,12 @@ module _ (stageMost referenceMost : Limits) (stage reference : List ℕ) where
   unfolding verdictWithin judgeStage judgeReference
   verdict-judged s r is ir =
       rw (is .reads, ir .reads)
-      (subst (λ (x : Stage). Judged s r (firstFault (checks x (referenceOf reference (ir .inputs) (ir .gates) (ir .outputs))))) (sym (is .content))
+      (subst (λ (x : Stage). Judged s r (firstFault (checks x (referenceOf reference (ir .inputs) (ir .gatePlaces) (ir .outputPlaces))))) (sym (is .content))
       (subst (λ (x : Reference). Judged s r (firstFault (checks s x))) (sym (ir .content)) (judged s r)))
 
-  -- Demand 2: "A readable, loop-free stage whose counts match is accepted exactly if, for every input word, its settled outputs spell the
-  -- reference's answer and it is input-complete and observable as NCL defines these."
-  pub demand-2 : (s : Stage) (r : Reference) → StageIs stageMost stage s → ReferenceIs referenceMost reference r → CountsMatch s r → NoLoop s
+  exactly : (s : Stage) (r : Reference) → StageIs stageMost stage s → ReferenceIs referenceMost reference r → CountsMatch s r → WithoutLoop s
       → (verdictWithin stageMost referenceMost stage reference ≡ verdict 0 0 0 0) ↔ Acceptable s r
-  demand-2 s r is ir match none =
+  exactly s r is ir match none =
       (λ e. acceptable e (verdict-judged s r is ir), λ a. only-accepted a (verdict-judged s r is ir))
     where
       acceptable : {v : Verdict} → v ≡ verdict 0 0 0 0 → Judged s r v → Acceptable s r
@@ -85,20 +78,20 @@ module _ (stageMost referenceMost : Limits) (stage reference : List ℕ) where
       acceptable e (wrong m l x) = absurd (let z = ap (λ (v : Verdict). v .number) e in omega arith)
       acceptable e (incomplete m l x y) = absurd (let z = ap (λ (v : Verdict). v .number) e in omega arith)
       acceptable e (unobservable m l x y t) = absurd (let z = ap (λ (v : Verdict). v .number) e in omega arith)
-      acceptable e (accepted m l x y t) = λ w h. clean-acceptable s w (noLoop-free s l) r (stage-holds stageMost stage s is) (clean s r x y t w h)
+      acceptable e (accepted m l x y t) = λ w h. clean-acceptable s w (noLoop-loopFree (s .inputs) (s .gates) l) r (stage-holds stageMost stage s is) (clean s r x y t w h)
 
       only-accepted : {v : Verdict} → Acceptable s r → Judged s r v → v ≡ verdict 0 0 0 0
       only-accepted a (inputs-differ d) = absurd (d (match .inputs))
       only-accepted a (outputs-differ d d′) = absurd (d′ (match .outputs))
       only-accepted a (looped m l) = absurd (none _ (l .gate-in) (l .loop))
-      only-accepted a (wrong {w = w} {j = j} m l x) = absurd (acceptable-clean s w (noLoop-free s l) r (a w (x .word-in)) .right j (x .index-in) (x .occurs))
-      only-accepted a (incomplete {w = w} {i = i} m l x y) = absurd (acceptable-clean s w (noLoop-free s l) r (a w (y .word-in)) .complete i (y .index-in) (y .occurs))
-      only-accepted a (unobservable {w = w} {g = g} m l x y t) = absurd (acceptable-clean s w (noLoop-free s l) r (a w (t .word-in)) .observable g (t .index-in) (t .occurs))
+      only-accepted a (wrong {w = w} {j = j} m l x) = absurd (acceptable-clean s w (noLoop-loopFree (s .inputs) (s .gates) l) r (a w (x .word-in)) .right j (x .index-in) (x .occurs))
+      only-accepted a (incomplete {w = w} {i = i} m l x y) = absurd (acceptable-clean s w (noLoop-loopFree (s .inputs) (s .gates) l) r (a w (y .word-in)) .complete i (y .index-in) (y .occurs))
+      only-accepted a (unobservable {w = w} {g = g} m l x y t) = absurd (acceptable-clean s w (noLoop-loopFree (s .inputs) (s .gates) l) r (a w (t .word-in)) .observable g (t .index-in) (t .occurs))
       only-accepted a (accepted m l x y t) = refl
 
-  -- "Otherwise the verdict names the earliest failing check and its least case."
-  pub demand-2-least : Because stageMost referenceMost stage reference (verdictWithin stageMost referenceMost stage reference)
-  demand-2-least = verdict-because stageMost referenceMost stage reference
+  -- Demand 2 holds of the verdict, whatever the two files hold.
+  pub demand-2 : Demand2 stageMost referenceMost stage reference (verdictWithin stageMost referenceMost stage reference)
+  demand-2 = record { exactly = exactly; least = verdict-because stageMost referenceMost stage reference }
 
   -- ---- demand 3
 
@@ -120,7 +113,7 @@ module _ (stageMost referenceMost : Limits) (stage reference : List ℕ) where
     judged-3 (wrong {w = w} {j = j} m l x) = record {
       accepted = λ e. absurd (omega arith);
       wrong = λ e.
-          let runs : WrongRuns s r w j = wrong-runs s w (noLoop-free s l) r j (x .occurs) in
+          let runs : WrongRuns s r w j = wrong-runs s w (noLoop-loopFree (s .inputs) (s .gates) l) r j (x .occurs) in
           record {
             contents = contents;
             word-in = x .word-in;
@@ -135,7 +128,7 @@ module _ (stageMost referenceMost : Limits) (stage reference : List ℕ) where
       accepted = λ e. absurd (omega arith);
       wrong = λ e. absurd (omega arith);
       incomplete = λ e.
-          let run : IncompleteRun s r w i = incomplete-run s w (noLoop-free s l) r i (y .index-in) (y .occurs) in
+          let run : IncompleteRun s r w i = incomplete-run s w (noLoop-loopFree (s .inputs) (s .gates) l) r i (y .index-in) (y .occurs) in
           record {
             contents = contents;
             word-in = y .word-in;
@@ -150,7 +143,7 @@ module _ (stageMost referenceMost : Limits) (stage reference : List ℕ) where
       wrong = λ e. absurd (omega arith);
       incomplete = λ e. absurd (omega arith);
       unobservable = λ e.
-          let run : UnobservableRun s r w g = unobservable-run s w (noLoop-free s l) r g (t .index-in) (t .occurs) in
+          let run : UnobservableRun s r w g = unobservable-run s w (noLoop-loopFree (s .inputs) (s .gates) l) r g (t .index-in) (t .occurs) in
           let net : IsGate (netOf s) (2 * s .inputs + g) = omega (arith, t .index-in) in
           record {
             contents = contents;
@@ -165,7 +158,7 @@ module _ (stageMost referenceMost : Limits) (stage reference : List ℕ) where
         refl,
         record {
           contents = contents;
-          kept = λ w h. clean-kept s w (noLoop-free s l) r (stage-holds stageMost stage s (contents .circuit-is)) (clean s r x y t w h);
+          kept = λ w h. clean-kept s w (noLoop-loopFree (s .inputs) (s .gates) l) r (stage-holds stageMost stage s (contents .circuit-is)) (clean s r x y t w h);
         },
       );
       wrong = λ e. absurd (omega arith);
@@ -184,46 +177,61 @@ module _ (stageMost referenceMost : Limits) (stage reference : List ℕ) where
       go (reference-refused {number = number} {at = at} e f) =
           let n = refused-number file.Reference referenceMost reference number at f in
           other _ (λ x. omega arith) (λ x. omega arith) (λ x. omega arith) (λ x. omega arith)
-      go (both-read {n = n} {m = m} {gates = gates} {outputs = outputs} {operations = operations} {signals = signals} e f j) =
-          judged-3 (
-          record {
-            circuit = stageOf stage n gates outputs;
-            function = referenceOf reference m operations signals;
-            circuit-is = record { inputs = n; gates = gates; outputs = outputs; reads = e; content = refl };
-            function-is = record { inputs = m; gates = operations; outputs = signals; reads = f; content = refl };
-          }
-          ) j
+      go (both-read {s = s} {r = r} is ir j) = judged-3 (record { circuit = s; function = r; circuit-is = is; function-is = ir }) j
 
 -- ---- the settled-row call
 
+abbrev Answered : Limits → List ℕ → List ℕ → RowAnswer → Type 0
+Answered most stage row a = RowBecause most stage row (a .verdict) (a .row)
+
+-- every answer of the settled-row call has its reason
+pub row-because : (most : Limits) (stage row : List ℕ) → RowBecause most stage row (settledRowWithin most stage row .verdict) (settledRowWithin most stage row .row)
+unfolding settledRowWithin settleReading settleLoopFree settleLegal
+row-because most stage row = go (readFile file.Stage most stage) refl
+  where
+    legal : (s : Stage) → StageIs most stage s → WithoutLoop s → length row ≡ 2 * s .inputs + length (s .gates) → (x : Found) → least (illegalInput row) 0 (s .inputs) ≡ x → Answered most stage row (settleLegal s row x)
+    legal s is l h (At i) e =
+        let a : LeastAt (illegalInput row) 0 (s .inputs) i = least-says (illegalInput row) 0 (s .inputs) (At i) e in
+        row-illegal {i = i} is l h (omega (arith, a .below)) (a .passes) (λ k hk t. clash t (a .none-before k (omega arith) hk))
+    legal s is l h Nothing e =
+        row-settled is l h (λ k hk t. clash t (least-says (illegalInput row) 0 (s .inputs) Nothing e k (omega arith) (omega arith))) (settled-is (s .gates) (take (2 * s .inputs) row))
+
+    long : (s : Stage) → StageIs most stage s → WithoutLoop s → (b : Bool) → eqb (length row) (2 * s .inputs + length (s .gates)) ≡ b
+        → Answered most stage row (cond b (settleLegal s row (least (illegalInput row) 0 (s .inputs))) (answerWith (verdict 16 3 (length row) 0) row))
+    long s is l true h = legal s is l (eqb-true (length row) (2 * s .inputs + length (s .gates)) h) (least (illegalInput row) 0 (s .inputs)) refl
+    long s is l false h = row-length is l (eqb-false (length row) (2 * s .inputs + length (s .gates)) h)
+
+    loops : (s : Stage) → StageIs most stage s → {x : Finding} → LoopOutcome s x → Answered most stage row (settleLoopFree s row x)
+    loops s is (found l) = row-looped is l
+    loops s is (free l) = long s is l (eqb (length row) (2 * s .inputs + length (s .gates))) refl
+
+    go : (x : Reading) → readFile file.Stage most stage ≡ x → Answered most stage row (settleReading stage row x)
+    go (refused number at) p = row-refused p
+    go (readable n gates outputs) p = loops (stageOf stage n gates outputs) (stage-is p) (loop-outcome (stageOf stage n gates outputs))
+
 -- "A settled row is what the gate rule gives": of every row that the call accepts
 pub settled-row-given : (most : Limits) (stage row : List ℕ) → settledRowWithin most stage row .verdict ≡ verdict 0 0 0 0 → RowGiven most stage row (settledRowWithin most stage row .row)
-unfolding settledRowWithin settleReading settleLoopFree settleLegal
-settled-row-given most stage row e₀ = go (readFile file.Stage most stage) refl e₀
+settled-row-given most stage row e₀ = go (row-because most stage row) e₀
   where
     number : {v : Verdict} → v ≡ verdict 0 0 0 0 → v .number ≡ 0
     number e = ap (λ (v : Verdict). v .number) e
 
-    legal : (s : Stage) → StageIs most stage s → NoLoop s → length row ≡ 2 * s .inputs + length (s .gates) → (x : Found)
-        → settleLegal s row x .verdict ≡ verdict 0 0 0 0 → RowGiven most stage row (settleLegal s row x .row)
-    legal s is l h (At i) e = absurd (omega (arith, number e))
-    legal s is l h Nothing e = record {
-      circuit = s;
-      circuit-is = is;
-      long = h;
-      given = gate-rule-gives s (noLoop-free s l) (take (2 * s .inputs) row) (length-take-le (2 * s .inputs) row (omega arith));
-    }
-
-    long : (s : Stage) → StageIs most stage s → NoLoop s → (b : Bool) → eqb (length row) (2 * s .inputs + length (s .gates)) ≡ b → (x : Found)
-        → cond b (settleLegal s row x) (answerWith (verdict 16 3 (length row) 0) row) .verdict ≡ verdict 0 0 0 0
-        → RowGiven most stage row (cond b (settleLegal s row x) (answerWith (verdict 16 3 (length row) 0) row) .row)
-    long s is l true h x e = legal s is l (eqb-true (length row) (2 * s .inputs + length (s .gates)) h) x e
-    long s is l false h x e = absurd (omega (arith, number e))
-
-    loops : (s : Stage) → StageIs most stage s → {x : Finding} → LoopOutcome s x → settleLoopFree s row x .verdict ≡ verdict 0 0 0 0 → RowGiven most stage row (settleLoopFree s row x .row)
-    loops s is (found l) e = absurd (omega (arith, number e))
-    loops s is (free l) e = long s is l (eqb (length row) (2 * s .inputs + length (s .gates))) refl (least (illegalInput row) 0 (s .inputs)) e
-
-    go : (x : Reading) → readFile file.Stage most stage ≡ x → settleReading stage row x .verdict ≡ verdict 0 0 0 0 → RowGiven most stage row (settleReading stage row x .row)
-    go (refused number′ at) p e = absurd (let n = refused-number file.Stage most stage number′ at p in omega (arith, number e))
-    go (readable n gates outputs) p e = loops (stageOf stage n gates outputs) (record { inputs = n; gates = gates; outputs = outputs; reads = p; content = refl }) (loop-outcome (stageOf stage n gates outputs)) e
+    go : {v : Verdict} {after : List ℕ} → RowBecause most stage row v after → v ≡ verdict 0 0 0 0 → RowGiven most stage row after
+    go (row-refused {number = k} {at = at} p) e = absurd (let n = refused-number file.Stage most stage k at p in omega (arith, number e))
+    go (row-looped is l) e = absurd (omega (arith, number e))
+    go (row-length is l d) e = absurd (omega (arith, number e))
+    go (row-illegal is l h a b d) e = absurd (omega (arith, number e))
+    go (row-settled {s = s} {levels = levels} is l h a settled-so) e =
+        let rails = take (2 * s .inputs) row in
+        let long : length rails ≡ 2 * s .inputs = length-take-le (2 * s .inputs) row (omega arith) in
+        let one : levels ≡ settledLevels (s .gates) rails = settled-one (s .gates) (s .inputs) l rails long levels settled-so in
+        record {
+          circuit = s;
+          circuit-is = is;
+          long = h;
+          levels = levels;
+          row-is = refl;
+          settled-so = settled-so;
+          only-so = λ v q. settled-one (s .gates) (s .inputs) l rails long v q ∙ sym one;
+          given = subst (λ (x : List ℕ). GateRuleGives s rails (rails ++ x)) (sym one) (gate-rule-gives s (noLoop-loopFree (s .inputs) (s .gates) l) rails long);
+        }

@@ -11,3 +11,4 @@ pub mod Bridge
 pub mod Refusals
 pub mod OneWord
 pub mod Demands
+pub mod Cut

@@ -12,27 +12,29 @@ use lib.Dec.{eqb}
 use borrow.Author.Tests.{eq-eqb}
 use Rattle.runs.specs.Row as run
 use Rattle.runs.specs.Row.{Row, low, after, _∖_}
-use Rattle.runs.specs.Net.{Net, IsGate, AllHold, railsOf, RiseList, RiseEnd}
+use Rattle.runs.specs.Net.{Net, IsGate, AllHold, railsOfInputs, inputRail, wordRails, RiseList, RiseEnd}
 use Rattle.runs.specs.Settled as runs
 use Rattle.runs.specs.Pair as pair
 use Rattle.runs.specs.Stage as theory
 use Rattle.runs.specs.Checks.{Passes}
-use Rattle.runs.specs.Complete.{Conforms}
+use Rattle.runs.specs.Complete.{Conforms, SomeNotNull}
 use Rattle.runs.specs.Promise.{Promise}
 use Rattle.runs.specs.Witness as witness
+use Rattle.runs.proofs.Pair.{wordRails-data}
 use Rattle.runs.proofs.Rise.{settled-one, held-one, rise-end-is, rise-goes-on}
+use Rattle.runs.proofs.Fall.{kept-exists}
 use Rattle.runs.proofs.Promise.{passes-promise, promise-not-wrong, promise-not-incomplete, promise-not-unobservable}
 use Rattle.runs.proofs.Complete.{hold-checks-conforms}
 use Rattle.runs.proofs.Witness as show
 use Rattle.netlist.specs.Content.{Gate, Pair, Stage, Reference}
 use Rattle.verdict.specs.Rows.{high, only, withNull, bitsOf, settled, settledHolding, DualRail, null, pairIn, isData, spells}
+use Rattle.verdict.specs.Loops.{LoopFree}
 use Rattle.verdict.specs.Answers.{answer}
-use Rattle.verdict.specs.Checks.{outputAt, railsIn}
+use Rattle.verdict.specs.Checks.{outputPair, railsIn}
 use Rattle.verdict.specs.Faults.{AllData, RightAt, WrongAt, IncompleteAt, UnobservableAt}
 use Rattle.verdict.specs.Nets.{noGate, driver, railOf, netOf, rowOf, railsFor, answerBits}
-use Rattle.verdict.specs.Demands.{SomeNull, AcceptableIn, KeptIn, WrongRuns, IncompleteRun, UnobservableRun, GateRuleGives}
-use Rattle.verdict.proofs.Reaching.{LoopFree}
-use Rattle.verdict.proofs.Words.{bits-of-length, bits-of-bit, rails-length, rails-data, answer-bit}
+use Rattle.verdict.specs.Demands.{SomeNull, NotNullKeeping, AcceptableIn, KeptIn, WrongRuns, IncompleteRun, UnobservableRun, GateRuleGives}
+use Rattle.verdict.proofs.Words.{bits-of-length, bits-of-bit, rails-length, rails-word, answer-bit}
 use Rattle.verdict.proofs.Bridge.{stageIn, settled-row, held-row, missing-row, data-in, data-out, null-out, spells-in, spells-out}
 
 clash : {b : Bool} → b ≡ true → b ≡ false → ⊥
@@ -62,16 +64,19 @@ module _ (s : Stage) (w : ℕ) where
   wires-length = rails-length (bitsOf (s .inputs) w) ∙ ap (λ (n : ℕ). 2 * n) (bits-of-length (s .inputs) w)
 
   pub wires-data : pair.InputsData (netOf s) (railsFor s w)
-  wires-data i h = rails-data (bitsOf (s .inputs) w) (bits-of-bit (s .inputs) w) i (omega (arith, bits-of-length (s .inputs) w))
+  wires-data i h = wire (inputRail i false) (omega arith) ∙ wordRails-data (netOf s) (high (bitsOf (s .inputs) w)) i h ∙ ap not (sym (wire (inputRail i true) (omega arith)))
+    where
+      wire : (k : ℕ) → k < 2 * s .inputs → high wires k ≡ wordRails (high (bitsOf (s .inputs) w)) k
+      wire k l = rails-word (bitsOf (s .inputs) w) (bits-of-bit (s .inputs) w) k (omega (arith, bits-of-length (s .inputs) w))
 
   rest-settled : runs.Settled (netOf s) (railsFor s w) rest
   rest-settled = settled-row s wires wires-length
 
   all-data-in : (row : List ℕ) → pair.AllData (netOf s) (rowOf row) → AllData s row
-  all-data-in row d j h = data-out row (outputAt s j) (d j h)
+  all-data-in row d j h = data-out row (outputPair s j) (d j h)
 
   all-data-out : (row : List ℕ) → AllData s row → pair.AllData (netOf s) (rowOf row)
-  all-data-out row d j h = data-in row (outputAt s j) (d j h)
+  all-data-out row d j h = data-in row (outputPair s j) (d j h)
 
   gate-net : (g : ℕ) → g < length (s .gates) → IsGate (netOf s) (2 * s .inputs + g)
   gate-net g h = omega arith
@@ -80,8 +85,8 @@ module _ (s : Stage) (w : ℕ) where
     abbrev S : theory.Stage
     S = stageIn s free
 
-    missing-settled : (missing : ℕ → Bool) (row : Row) → runs.Settled (netOf s) (railsFor s w ∖ railsOf (netOf s) missing) row → row ≡ rowOf (settled (s .gates) (withNull missing wires))
-    missing-settled missing row h = settled-one S (railsFor s w ∖ railsOf (netOf s) missing) row (rowOf (settled (s .gates) (withNull missing wires))) h (missing-row s wires wires-length missing)
+    missing-settled : (missing : ℕ → Bool) (row : Row) → runs.Settled (netOf s) (railsFor s w ∖ railsOfInputs (netOf s) missing) row → row ≡ rowOf (settled (s .gates) (withNull missing wires))
+    missing-settled missing row h = settled-one S (railsFor s w ∖ railsOfInputs (netOf s) missing) row (rowOf (settled (s .gates) (withNull missing wires))) h (missing-row s wires wires-length missing)
 
     held-settled : (g : ℕ) → g < length (s .gates) → (row : Row) → runs.SettledHeld (netOf s) (railsFor s w) (run.only (2 * s .inputs + g)) row → row ≡ rowOf (settledHolding g (s .gates) wires)
     held-settled g hg row h = held-one S (railsFor s w) (run.only (2 * s .inputs + g)) row (rowOf (settledHolding g (s .gates) wires)) h (held-row s wires wires-length g hg)
@@ -89,18 +94,24 @@ module _ (s : Stage) (w : ℕ) where
     rest-one : (R : Row) → runs.Settled (netOf s) (railsFor s w) R → R ≡ rest
     rest-one R h = settled-one S (railsFor s w) R rest h rest-settled
 
-    module _ (r : Reference) where
-      right-in : (j : ℕ) → RightAt s r w j → pair.DataOf rest (railOf (outputAt s j)) (answerBits r w j)
-      right-in j e = spells-in (settled (s .gates) wires) (outputAt s j) (getD (answer r (bitsOf (r .inputs) w)) j 0) e
+    -- there is a row settled by the fall rule with some nets kept
+    keeping : (kept : Row) → ((row : Row) → runs.SettledKept (netOf s) kept rest row → SomeNotNull (netOf s) row) → NotNullKeeping s w kept
+    keeping kept f =
+        let k : (row : Row) × runs.SettledKept (netOf s) kept rest row = kept-exists S (railsFor s w) rest rest-settled kept in
+        record { row = k .0; settled-so = k .1; not-null = f (k .0) (k .1) }
 
-      right-out : (j : ℕ) → pair.DataOf rest (railOf (outputAt s j)) (answerBits r w j) → RightAt s r w j
-      right-out j d = spells-out (settled (s .gates) wires) (outputAt s j) (getD (answer r (bitsOf (r .inputs) w)) j 0) (answer-bit r (bitsOf (r .inputs) w) (bits-of-bit (r .inputs) w) j) d
+    module _ (r : Reference) where
+      right-in : (j : ℕ) → RightAt s r w j → pair.DataOf rest (railOf (outputPair s j)) (answerBits r w j)
+      right-in j e = spells-in (settled (s .gates) wires) (outputPair s j) (getD (answer r (bitsOf (r .inputs) w)) j 0) e
+
+      right-out : (j : ℕ) → pair.DataOf rest (railOf (outputPair s j)) (answerBits r w j) → RightAt s r w j
+      right-out j d = spells-out (settled (s .gates) wires) (outputPair s j) (getD (answer r (bitsOf (r .inputs) w)) j 0) (answer-bit r (bitsOf (r .inputs) w) (bits-of-bit (r .inputs) w) j) d
 
       -- the checks find nothing in the word exactly if it passes in the theory of runs
       pub clean-passes : CleanIn s r w → Passes (netOf s) (railsFor s w) (answerBits r w)
       clean-passes c = record {
-        right = λ R h j hj. subst (λ (x : Row). pair.DataOf x (railOf (outputAt s j)) (answerBits r w j)) (sym (rest-one R h))
-            (right-in j (stable (spells (pairIn (settled (s .gates) wires) (outputAt s j)) (getD (answer r (bitsOf (r .inputs) w)) j 0)) (c .right j hj)));
+        right = λ R h j hj. subst (λ (x : Row). pair.DataOf x (railOf (outputPair s j)) (answerBits r w j)) (sym (rest-one R h))
+            (right-in j (stable (spells (pairIn (settled (s .gates) wires) (outputPair s j)) (getD (answer r (bitsOf (r .inputs) w)) j 0)) (c .right j hj)));
         complete = λ i hi row h d. c .complete i hi (all-data-in (settled (s .gates) (withNull (only i) wires)) (subst (λ (x : Row). pair.AllData (netOf s) x) (missing-settled (only i) row h) d));
         observable = λ R h k is u row held d. observable R h k is u row held d;
       }
@@ -136,12 +147,12 @@ module _ (s : Stage) (w : ℕ) where
               right = λ j h. right-out j (k .right rest rest-settled j h);
               complete = λ missing i h m.
                   let n = k .complete .rise missing i h m (rowOf (settled (s .gates) (withNull missing wires))) (missing-row s wires wires-length missing) in
-                  (n .0, n .1, null-out (settled (s .gates) (withNull missing wires)) (outputAt s (n .0)) (n .2));
-              complete-falling = λ still i h m. k .complete .fall rest rest-settled still i h m;
+                  (n .0, n .1, null-out (settled (s .gates) (withNull missing wires)) (outputPair s (n .0)) (n .2));
+              complete-falling = λ still i h m. keeping (railsOfInputs (netOf s) still) (k .complete .fall rest rest-settled still i h m);
               observable = λ g h u.
                   let n = k .observable .rise rest rest-settled (2 * s .inputs + g) (gate-net g h) u (rowOf (settledHolding g (s .gates) wires)) (held-row s wires wires-length g h) in
-                  (n .0, n .1, null-out (settledHolding g (s .gates) wires) (outputAt s (n .0)) (n .2));
-              observable-falling = λ g h u. k .observable .fall rest rest-settled (2 * s .inputs + g) (gate-net g h) u;
+                  (n .0, n .1, null-out (settledHolding g (s .gates) wires) (outputPair s (n .0)) (n .2));
+              observable-falling = λ g h u. keeping (only (2 * s .inputs + g)) (k .observable .fall rest rest-settled (2 * s .inputs + g) (gate-net g h) u);
             }
 
         -- ---- demand 3 in one word

@@ -15,7 +15,7 @@ use borrow.Author.Tests.{ltb-true, ltb-false, lt-ltb}
 use Rattle.gates.specs.Cell.{bit}
 use Rattle.netlist.specs.Content.{Gate}
 use Rattle.verdict.specs.Rows.{high, rounds}
-use Rattle.verdict.specs.Loops.{In, pinsAt, Feeds, Reaches, directly, onward, anyHigh, isFed, marked, reachedFrom, reachesItself}
+use Rattle.verdict.specs.Loops.{In, pinsAt, Feeds, Reaches, directly, onward, NoLoop, anyHigh, isFed, marked, reachedFrom, reachesItself, LoopFree}
 use Rattle.verdict.proofs.Levels.{Bits, Below, sum, below-refl, below-get, below-split, below-raise, raise-below, bits-length, bits-sum}
 use Rattle.verdict.proofs.Rounds.{rounds-bits, rounds-fixed, rounds-least}
 use Rattle.verdict.proofs.Gates.{isFed-rises, isFed-binary, map-bits, heldStep, held-bits, held-rises, fed-at, anyHigh-in, anyHigh-out}
@@ -124,11 +124,15 @@ module _ (n : ℕ) (gates : List Gate) where
 
   -- ---- no gate reaches itself
 
-  abbrev pub LoopFree : Type 0
-  LoopFree = (g : ℕ) → g < length gates → reachesItself n gates g ≡ false
+  pub noLoop-loopFree : NoLoop n gates → LoopFree n gates
+  noLoop-loopFree h g hg = go (reachesItself n gates g) refl
+    where
+      go : (b : Bool) → reachesItself n gates g ≡ b → b ≡ false
+      go true e = absurd (h g hg (reaches-sound g e))
+      go false e = refl
 
   -- a gate fed by gate j reaches fewer gates than j
-  pub feeds-less : LoopFree → (j k : ℕ) → j < length gates → k < length gates → Feeds n gates j k → sum (reachedFrom n gates k) < sum (reachedFrom n gates j)
+  pub feeds-less : LoopFree n gates → (j k : ℕ) → j < length gates → k < length gates → Feeds n gates j k → sum (reachedFrom n gates k) < sum (reachedFrom n gates j)
   unfolding reachesItself
   feeds-less free j k hj hk f = ⊎-elim (λ e. absurd (same e)) (λ h. h) (below-split (reachedFrom n gates k) (reachedFrom n gates j) below)
     where
@@ -152,7 +156,7 @@ module _ (n : ℕ) (gates : List Gate) where
   unfoldable pub rankOf : ℕ → ℕ
   rankOf k = suc (length gates) - sum (reachedFrom n gates k)
 
-  pub rank-rises : LoopFree → (j k : ℕ) → j < length gates → k < length gates → Feeds n gates j k → rankOf j < rankOf k
+  pub rank-rises : LoopFree n gates → (j k : ℕ) → j < length gates → k < length gates → Feeds n gates j k → rankOf j < rankOf k
   unfolding rankOf
   rank-rises free j k hj hk f = omega (arith, feeds-less free j k hj hk f, bits-sum (length gates) (reachedFrom n gates j) (reached-bits j))
 

@@ -11,11 +11,11 @@ use lib.Seq.{getD-set-same, getD-set-other, getD-append-add, set-out, ext-getD}
 use lib.Dec.{ltb}
 use Rattle.netlist.specs.Content.{Gate}
 use Rattle.verdict.specs.Rows.{high, isSet, Settled, SettledHolding, rounds, settledLevels, levelsHolding, settled, settledHolding}
-use Rattle.verdict.specs.Loops.{In, pinsAt, Feeds}
+use Rattle.verdict.specs.Loops.{In, pinsAt, Feeds, LoopFree, NoLoop}
 use Rattle.verdict.proofs.Levels.{Bits, Below, below-refl, below-++}
 use Rattle.verdict.proofs.Rounds.{rounds-bits, rounds-fixed, rounds-mono}
 use Rattle.verdict.proofs.Gates.{isSet-rises, isSet-binary, map-bits, map-rises, heldStep, held-bits, held-rises, set-local}
-use Rattle.verdict.proofs.Reaching.{LoopFree, rankOf, rank-rises, rank-bound}
+use Rattle.verdict.proofs.Reaching.{noLoop-loopFree, rankOf, rank-rises, rank-bound}
 
 -- ---- gate h held low; where h is no gate, none is held
 
@@ -120,9 +120,9 @@ module _ (gates : List Gate) where
   settled-grows rails rails′ p = below-++ rails rails′ (settledLevels gates rails) (settledLevels gates rails′) p (rounds-mono (λ v. map (isSet (rails ++ v)) gates) (λ v. map (isSet (rails′ ++ v)) gates) (plain-rises rails rails′ p) (length gates) (length gates))
 
   -- a stage without loops has exactly one settled row for given rails: the computed one; and exactly one with gate h held low
-  pub settled-one : (n : ℕ) → LoopFree n gates → (rails : List ℕ) → length rails ≡ 2 * n → (v : List ℕ) → Settled gates rails v → v ≡ settledLevels gates rails
-  settled-one n free rails long v s =
-      holding-one (length gates) gates n free rails long v (settledLevels gates rails) (unheld rails v ∙ s) (unheld rails (settledLevels gates rails) ∙ settled-is rails)
+  pub settled-one : (n : ℕ) → NoLoop n gates → (rails : List ℕ) → length rails ≡ 2 * n → (v : List ℕ) → Settled gates rails v → v ≡ settledLevels gates rails
+  settled-one n none rails long v s =
+      holding-one (length gates) gates n (noLoop-loopFree n gates none) rails long v (settledLevels gates rails) (unheld rails v ∙ s) (unheld rails (settledLevels gates rails) ∙ settled-is rails)
 
-  pub held-one : (h n : ℕ) → LoopFree n gates → (rails : List ℕ) → length rails ≡ 2 * n → (v : List ℕ) → SettledHolding h gates rails v → v ≡ levelsHolding h gates rails
-  held-one h n free rails long v s = holding-one h gates n free rails long v (levelsHolding h gates rails) s (holding-settled h gates rails)
+  pub held-one : (h n : ℕ) → NoLoop n gates → (rails : List ℕ) → length rails ≡ 2 * n → (v : List ℕ) → SettledHolding h gates rails v → v ≡ levelsHolding h gates rails
+  held-one h n none rails long v s = holding-one h gates n (noLoop-loopFree n gates none) rails long v (levelsHolding h gates rails) s (holding-settled h gates rails)

@@ -11,6 +11,7 @@ use lib.Seq.{getD-append-add}
 use lib.Dec.{ltb}
 use native.Mathlib.Decide.{decLt}
 use borrow.Author.Tests.{lt-ltb, le-ltb}
+use Rattle.runs.specs.Net.{wordRails}
 use Rattle.netlist.specs.Content.{Coded, Reference}
 use Rattle.verdict.specs.Rows.{high, bitsOf, railsOf, withNull}
 use Rattle.verdict.specs.Answers.{operate, valuesAt, evaluate, answer}
@@ -33,19 +34,20 @@ unfolding railsOf
 rails-length [] = omega arith
 rails-length (b ∷ bits) = omega (arith, rails-length bits)
 
--- rail 0 of input i is high where its bit is 0, rail 1 where it is 1
-pub rails-data : (bits : List ℕ) → ((i : ℕ) → getD bits i 0 ≤ 1) → (i : ℕ) → i < length bits → high (railsOf bits) (2 * i) ≡ not (high (railsOf bits) (2 * i + 1))
+-- the rails of some bits are those that a word calls for in the theory of runs
+pub rails-word : (bits : List ℕ) → ((i : ℕ) → getD bits i 0 ≤ 1) → (k : ℕ) → k < 2 * length bits → high (railsOf bits) k ≡ wordRails (high bits) k
 unfolding railsOf
-rails-data [] h i l = absurd (omega arith)
-rails-data (b ∷ bits) h zero l = go (decLt 0 b)
+rails-word [] h k l = absurd (omega arith)
+rails-word (b ∷ bits) h zero l = go (decLt 0 b)
   where
     go : Dec (0 < b) → ltb 0 (1 - b) ≡ not (ltb 0 b)
     go (yes p) = rw (lt-ltb 0 b p, le-ltb 0 (1 - b) (omega (arith, h 0)))
     go (no p) = rw (le-ltb 0 b (omega arith), lt-ltb 0 (1 - b) (omega arith))
-rails-data (b ∷ bits) h (suc i) l =
-    let e : 2 * suc i ≡ suc (suc (2 * i)) = omega arith in
-    let f : suc (suc (2 * i)) + 1 ≡ suc (suc (2 * i + 1)) = omega arith in
-    rw (e, f) (rails-data bits (λ k. h (suc k)) i (omega arith))
+rails-word (b ∷ bits) h (suc zero) l = refl
+rails-word (b ∷ bits) h (suc (suc k)) l =
+    let e : suc (suc k) % 2 ≡ k % 2 = omega arith in
+    let f : suc (suc k) / 2 ≡ suc (k / 2) = omega arith in
+    rw (e, f) (rails-word bits (λ i. h (suc i)) k (omega arith))
 
 pub null-length : (missing : ℕ → Bool) (n : ℕ) (rails : List ℕ) → length rails ≡ 2 * n → length (withNull missing rails) ≡ 2 * n
 unfolding withNull

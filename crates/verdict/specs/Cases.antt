@@ -21,7 +21,7 @@ use Rattle.verdict.specs.Verdicts.{verdictOn, settledRow, RowAnswer, ans
 
 -- an operand that is not used
 abbrev FFFF : List ℕ
-FFFF = 255 ∷ 255 ∷ []
+FFFF = 0xFF ∷ 0xFF ∷ []
 
 -- 2. the wire, and the reference that is a wire
 wire : List ℕ
@@ -32,7 +32,7 @@ wireReference = 1 ∷ 1 ∷ 0x12 ∷ 0 ∷ 0 ∷ 0 ∷ []
 
 -- 1. the whole case
 wholeStage : List ℕ
-wholeStage = 1 ∷ 2 ∷ 2 ∷ 2 ∷ 1 ∷ 0 ∷ 3 ∷ 0 ∷ 255 ∷ 255 ∷ 255 ∷ 255 ∷ 2 ∷ 0x1A ∷ 0 ∷ 0 ∷ 2 ∷ 0 ∷ 1 ∷ 0 ∷ 3 ∷ 0 ∷ 3 ∷ 5 ∷ 0 ∷ 4 ∷ 0 ∷ 0 ∷ []
+wholeStage = 1 ∷ 2 ∷ 2 ∷ 2 ∷ 1 ∷ 0 ∷ 3 ∷ 0 ∷ 0xFF ∷ 0xFF ∷ 0xFF ∷ 0xFF ∷ 2 ∷ 0x1A ∷ 0 ∷ 0 ∷ 2 ∷ 0 ∷ 1 ∷ 0 ∷ 3 ∷ 0 ∷ 3 ∷ 5 ∷ 0 ∷ 4 ∷ 0 ∷ 0 ∷ []
 
 andReference : List ℕ
 andReference = 1 ∷ 2 ∷ 0x11 ∷ 2 ∷ 0 ∷ 0 ∷ 1 ∷ 0 ∷ 0x12 ∷ 2 ∷ 0 ∷ 0 ∷ []
@@ -42,7 +42,7 @@ swapped : List ℕ
 swapped = 1 ∷ 1 ∷ 3 ∷ 1 ∷ 0 ∷ 0 ∷ 0 ∷ 0 ∷ []
 
 notReference : List ℕ
-notReference = 1 ∷ 1 ∷ 0x11 ∷ 1 ∷ 0 ∷ 0 ∷ 255 ∷ 255 ∷ 0x12 ∷ 1 ∷ 0 ∷ 0 ∷ []
+notReference = 1 ∷ 1 ∷ 0x11 ∷ 1 ∷ 0 ∷ 0 ∷ 0xFF ∷ 0xFF ∷ 0x12 ∷ 1 ∷ 0 ∷ 0 ∷ []
 
 -- 6. two-input AND with rail 0 TH12(0, 2), rail 1 TH22(1, 3)
 earlyAnd : List ℕ
@@ -95,12 +95,12 @@ twelve =
     -- 10. both files empty
     case [] [] (verdict 1 1 0 0) ∷
     -- 11. n = 10, ten wires against ten wires
-    case (1 ∷ 10 ∷ wires 0 10) (1 ∷ 10 ∷ wireSignals 0 10) (verdict 0 0 0 0) ∷
+    case (1 ∷ 0x0A ∷ wires 0 10) (1 ∷ 0x0A ∷ wireSignals 0 10) (verdict 0 0 0 0) ∷
     -- 12. n = 11
-    case (1 ∷ 11 ∷ []) wireReference (verdict 3 1 1 0) ∷
+    case (1 ∷ 0x0B ∷ []) wireReference (verdict 3 1 1 0) ∷
     []
 
--- ---- the examples of the table, for 1 to 12
+-- ---- the examples of the table, for 1 to 11, and more of the same numbers
 
 pub examples : List Case
 examples =
@@ -116,9 +116,20 @@ examples =
     case (1 ∷ 1 ∷ 3 ∷ 0 ∷ 0 ∷ 1 ∷ 0 ∷ 0 ∷ 0 ∷ []) wireReference (verdict 7 1 8 0) ∷
     case (1 ∷ 1 ∷ 0 ∷ []) wireReference (verdict 8 1 2 0) ∷
     case (1 ∷ 1 ∷ 3 ∷ 0 ∷ 0 ∷ 2 ∷ 0 ∷ 0 ∷ []) wireReference (verdict 9 1 5 0) ∷
+    -- no input; a command that is cut; 01 again
+    case (1 ∷ 0 ∷ []) wireReference (verdict 3 1 1 0) ∷
+    case (1 ∷ 1 ∷ 2 ∷ 0x1C ∷ []) wireReference (verdict 1 1 4 0) ∷
+    case (1 ∷ 1 ∷ 1 ∷ []) wireReference (verdict 2 1 2 0) ∷
+    -- no output and bytes after end: 8; an absent net and bytes after end: 7
+    case (1 ∷ 1 ∷ 0 ∷ 0 ∷ []) wireReference (verdict 8 1 2 0) ∷
+    case (1 ∷ 1 ∷ 3 ∷ 0 ∷ 0 ∷ 2 ∷ 0 ∷ 0 ∷ 0 ∷ []) wireReference (verdict 7 1 8 0) ∷
+    -- FFFF in an output, FFFE at a pin that is needed and at one that is not
+    case (1 ∷ 1 ∷ 3 ∷ FFFF ++ (1 ∷ 0 ∷ 0 ∷ [])) wireReference (verdict 9 1 3 0) ∷
+    case (1 ∷ 1 ∷ 2 ∷ 2 ∷ 0 ∷ 0 ∷ 0xFE ∷ FFFF ++ FFFF ++ (0xFF ∷ 3 ∷ 0 ∷ 0 ∷ 1 ∷ 0 ∷ 0 ∷ [])) wireReference (verdict 9 1 6 0) ∷
+    case (1 ∷ 1 ∷ 2 ∷ 1 ∷ 0 ∷ 0 ∷ 1 ∷ 0 ∷ 0xFE ∷ FFFF ++ (0xFF ∷ [])) wireReference (verdict 5 1 8 0) ∷
     -- in a reference, a gate that names itself, and one that names a later gate
     case wire (1 ∷ 1 ∷ 0x11 ∷ 2 ∷ 0 ∷ 0 ∷ 1 ∷ 0 ∷ 0x12 ∷ 0 ∷ 0 ∷ 0 ∷ []) (verdict 9 2 6 0) ∷
-    case wire (1 ∷ 1 ∷ 0x11 ∷ 1 ∷ 2 ∷ 0 ∷ 255 ∷ 255 ∷ 0x11 ∷ 1 ∷ 0 ∷ 0 ∷ 255 ∷ 255 ∷ 0x12 ∷ 0 ∷ 0 ∷ 0 ∷ []) (verdict 9 2 4 0) ∷
+    case wire (1 ∷ 1 ∷ 0x11 ∷ 1 ∷ 2 ∷ 0 ∷ 0xFF ∷ 0xFF ∷ 0x11 ∷ 1 ∷ 0 ∷ 0 ∷ 0xFF ∷ 0xFF ∷ 0x12 ∷ 0 ∷ 0 ∷ 0 ∷ []) (verdict 9 2 4 0) ∷
     -- 1 input against 2, 1 output against 3
     case wire (1 ∷ 2 ∷ 0x12 ∷ 0 ∷ 0 ∷ 0 ∷ []) (verdict 10 0 1 2) ∷
     case wire (1 ∷ 1 ∷ 0x12 ∷ 0 ∷ 0 ∷ 0x12 ∷ 0 ∷ 0 ∷ 0x12 ∷ 0 ∷ 0 ∷ 0 ∷ []) (verdict 11 0 1 3) ∷
@@ -152,14 +163,17 @@ ordered =
     case (1 ∷ 1 ∷ twoPins 1 2 0 (pair 1 0 (0 ∷ []))) wireReference (verdict 12 1 0 0) ∷
     case (1 ∷ 2 ∷ pair 1 0 (0 ∷ [])) (firstInput 2 1) (verdict 13 1 0 0) ∷
     case (1 ∷ 2 ∷ twoPins 1 0 1 (pair 0 1 (0 ∷ []))) (firstInput 2 1) (verdict 14 1 1 0) ∷
-    -- the least gate on a loop: gate 0 leads to the loop of gates 1 and 2 and is not on it
+    -- the least gate on a loop of gates 1 and 2: gate 0 is fed by the loop; gate 0 feeds the loop
     case (1 ∷ 1 ∷ twoPins 1 3 0 (twoPins 1 4 0 (twoPins 1 3 0 (pair 0 1 (0 ∷ []))))) wireReference (verdict 12 1 1 0) ∷
-    -- a wire against AND: right in word 0, wrong from word 1 on
+    case (1 ∷ 1 ∷ twoPins 1 0 1 (twoPins 1 2 4 (twoPins 1 3 0 (pair 0 1 (0 ∷ []))))) wireReference (verdict 12 1 1 0) ∷
+    -- a wire against AND: wrong in word 1
     case (1 ∷ 2 ∷ pair 0 1 (0 ∷ [])) andReference (verdict 13 1 0 1) ∷
-    -- two outputs, the second wrong in word 0, the first from word 1 on
+    -- two outputs against AND twice, the second wrong in word 0, the first in word 1
     case (1 ∷ 2 ∷ pair 0 1 (pair 1 0 (0 ∷ []))) (1 ∷ 2 ∷ 0x11 ∷ 2 ∷ 0 ∷ 0 ∷ 1 ∷ 0 ∷ 0x12 ∷ 2 ∷ 0 ∷ 0x12 ∷ 2 ∷ 0 ∷ 0 ∷ []) (verdict 13 1 1 0) ∷
     -- OR whose rail 1 does not wait for both inputs: word 1 does without input 1
     case (1 ∷ 2 ∷ twoPins 2 0 2 (twoPins 1 1 3 (pair 4 5 (0 ∷ [])))) (1 ∷ 2 ∷ 0x11 ∷ 3 ∷ 0 ∷ 0 ∷ 1 ∷ 0 ∷ 0x12 ∷ 2 ∷ 0 ∷ 0 ∷ []) (verdict 14 1 1 1) ∷
+    -- the same with TH22(0, 2) that feeds nothing: 14 in word 1 comes before 15 in word 0
+    case (1 ∷ 2 ∷ twoPins 2 0 2 (twoPins 1 1 3 (twoPins 2 0 2 (pair 4 5 (0 ∷ []))))) (1 ∷ 2 ∷ 0x11 ∷ 3 ∷ 0 ∷ 0 ∷ 1 ∷ 0 ∷ 0x12 ∷ 2 ∷ 0 ∷ 0 ∷ []) (verdict 14 1 1 1) ∷
     -- two wires, and TH22(1, 3) that feeds nothing and rises in word 3 only
     case (1 ∷ 2 ∷ twoPins 2 1 3 (pair 0 1 (pair 2 3 (0 ∷ [])))) (1 ∷ 2 ∷ 0x12 ∷ 0 ∷ 0 ∷ 0x12 ∷ 1 ∷ 0 ∷ 0 ∷ []) (verdict 15 1 0 3) ∷
     -- the same with TH22(0, 1), which rises in no word

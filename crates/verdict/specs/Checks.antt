@@ -33,7 +33,7 @@ numbers j (suc m) = j ∷ numbers (suc j) m
 unfoldable pub words : Stage → List ℕ
 words s = numbers 0 (2 ^ s .inputs)
 
--- the stage is at fault in word w, at the index found; if none was, what comes later
+-- the stage is at fault in word w (0 where the check has no word), at the index found; if none was, what comes later
 unfoldable pub atFault : ℕ → ℕ → Found → Finding → Finding
 atFault number w (At i) later = Fault (verdict number 1 i w)
 atFault number w Nothing later = later
@@ -59,8 +59,8 @@ abbrev pub noPair : Pair
 noPair = record { rail0 = 0; rail1 = 0 }
 
 -- output j of a stage
-abbrev pub outputAt : Stage → ℕ → Pair
-outputAt s j = getD (s .outputs) j noPair
+abbrev pub outputPair : Stage → ℕ → Pair
+outputPair s j = getD (s .outputs) j noPair
 
 -- the input rails of word w
 abbrev pub railsIn : Stage → ℕ → List ℕ
@@ -71,7 +71,7 @@ unfoldable pub wrongOutput : Stage → Reference → ℕ → Found
 wrongOutput s r w =
     let row = settled (s .gates) (railsIn s w) in
     let values = answer r (bitsOf (r .inputs) w) in
-    least (λ j. not (spells (pairIn row (outputAt s j)) (getD values j 0))) 0 (length (s .outputs))
+    least (λ j. not (spells (pairIn row (outputPair s j)) (getD values j 0))) 0 (length (s .outputs))
 
 -- 14: the least input with which NULL, and the others as in w, all settled outputs are DATA
 unfoldable pub missingInput : Stage → ℕ → Found

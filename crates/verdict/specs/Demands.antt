@@ -2,40 +2,24 @@
 use Prim.Native.Nat.{ℕ, _+_, _*_, _^_, _<_}
 use mathlib.Core.Path.{_≡_}
 use mathlib.Core.Bool.{Bool, true}
-use mathlib.Core.List.{List}
+use mathlib.Core.List.{List, _++_}
+use mathlib.Core.Logic.{_↔_}
 use lib.ListN.{length, take}
 use Rattle.runs.specs.Row.{Row, low, after}
-use Rattle.runs.specs.Net.{railsOf, RiseList, RiseEnd, riseStep}
+use Rattle.runs.specs.Net.{railsOfInputs, RiseList, RiseEnd, riseStep}
 use Rattle.runs.specs.Settled.{SettledKept}
 use Rattle.runs.specs.Complete.{SomeNotNull}
 use Rattle.runs.specs.Promise.{Goes-on, Promise}
 use Rattle.runs.specs.Witness.{Wrong, Incomplete, Unobservable}
-use Rattle.netlist.specs.declared.File.the-variants as file
 use Rattle.netlist.specs.declared.Limits.{Limits}
-use Rattle.netlist.specs.Reading.{readable, readFile}
-use Rattle.netlist.specs.Content.{Stage, Reference, stageOf, referenceOf}
+use Rattle.netlist.specs.Content.{Stage, Reference}
 use Rattle.verdict.specs.declared.Verdict.{Verdict}
-use Rattle.verdict.specs.Rows.{high, only, withNull, settled, settledHolding, pairIn, null}
-use Rattle.verdict.specs.Checks.{verdict, outputAt, railsIn}
-use Rattle.verdict.specs.Faults.{RightAt}
+use Rattle.verdict.specs.Rows.{high, only, withNull, Settled, settled, settledHolding, pairIn, null}
+use Rattle.verdict.specs.Checks.{verdict, outputPair, railsIn}
+use Rattle.verdict.specs.Faults.{RightAt, CountsMatch, WithoutLoop, StageIs, ReferenceIs, Because}
 use Rattle.verdict.specs.Nets.{netOf, rowOf, railsFor, answerBits}
 
--- ---- the two files and what they hold
-
--- a file reads, and s is the stage that it holds
-pub record StageIs (most : Limits) (bytes : List ℕ) (s : Stage) : Type 0 where
-  pub inputs : ℕ
-  pub gates : List ℕ
-  pub outputs : List ℕ
-  pub reads : readFile file.Stage most bytes ≡ readable inputs gates outputs
-  pub content : stageOf bytes inputs gates outputs ≡ s
-
-pub record ReferenceIs (most : Limits) (bytes : List ℕ) (r : Reference) : Type 0 where
-  pub inputs : ℕ
-  pub gates : List ℕ
-  pub outputs : List ℕ
-  pub reads : readFile file.Reference most bytes ≡ readable inputs gates outputs
-  pub content : referenceOf bytes inputs gates outputs ≡ r
+-- ---- the two files
 
 -- both files read, and hold this stage and this reference
 pub record Contents (stageMost referenceMost : Limits) (stage reference : List ℕ) : Type 0 where
@@ -48,7 +32,14 @@ pub record Contents (stageMost referenceMost : Limits) (stage reference : List �
 
 -- some output is NULL in a row
 abbrev pub SomeNull : Stage → List ℕ → Type 0
-SomeNull s row = (j : ℕ) × (j < length (s .outputs)) × (pairIn row (outputAt s j) ≡ null)
+SomeNull s row = (j : ℕ) × (j < length (s .outputs)) × (pairIn row (outputPair s j) ≡ null)
+
+-- from the settled row of word w, with the nets of a set kept and the others settled by the fall rule (a stage without loops has exactly
+-- one such row), some output is not NULL
+pub record NotNullKeeping (s : Stage) (w : ℕ) (kept : Row) : Type 0 where
+  pub row : Row
+  pub settled-so : SettledKept (netOf s) kept (rowOf (settled (s .gates) (railsIn s w))) row
+  pub not-null : SomeNotNull (netOf s) row
 
 -- What demand 2 asks of word w: "its settled outputs spell the reference's answer and it is input-complete and observable as NCL
 -- defines these". The second half of each definition speaks of the way back to NULL: from the settled row, with some inputs still
@@ -57,22 +48,26 @@ pub record AcceptableIn (s : Stage) (r : Reference) (w : ℕ) : Type 0 where
   pub right : (j : ℕ) → j < length (s .outputs) → RightAt s r w j
   -- with any non-empty set of inputs missing, some settled output is NULL
   pub complete : (missing : ℕ → Bool) (i : ℕ) → i < s .inputs → missing i ≡ true → SomeNull s (settled (s .gates) (withNull missing (railsIn s w)))
-  -- with any non-empty set of inputs still DATA, some output is not NULL
-  pub complete-falling : (still : ℕ → Bool) (i : ℕ) → i < s .inputs → still i ≡ true → (row : Row)
-      → SettledKept (netOf s) (railsOf (netOf s) still) (rowOf (settled (s .gates) (railsIn s w))) row → SomeNotNull (netOf s) row
+  -- with any non-empty set of inputs still DATA, the others fallen and the gates settled by the fall rule, some output is not NULL
+  pub complete-falling : (still : ℕ → Bool) (i : ℕ) → i < s .inputs → still i ≡ true → NotNullKeeping s w (railsOfInputs (netOf s) still)
   -- with a gate held low that is high in w, some settled output is NULL
   pub observable : (g : ℕ) → g < length (s .gates) → high (settled (s .gates) (railsIn s w)) (2 * s .inputs + g) ≡ true
       → SomeNull s (settledHolding g (s .gates) (railsIn s w))
-  -- with a gate kept high that is high in w, some output is not NULL
-  pub observable-falling : (g : ℕ) → g < length (s .gates) → high (settled (s .gates) (railsIn s w)) (2 * s .inputs + g) ≡ true → (row : Row)
-      → SettledKept (netOf s) (only (2 * s .inputs + g)) (rowOf (settled (s .gates) (railsIn s w))) row → SomeNotNull (netOf s) row
+  -- with a gate kept high that is high in w, all inputs fallen and the other gates settled by the fall rule, some output is not NULL
+  pub observable-falling : (g : ℕ) → g < length (s .gates) → high (settled (s .gates) (railsIn s w)) (2 * s .inputs + g) ≡ true → NotNullKeeping s w (only (2 * s .inputs + g))
 
 abbrev pub Acceptable : Stage → Reference → Type 0
 Acceptable s r = (w : ℕ) → w < 2 ^ s .inputs → AcceptableIn s r w
 
+-- What demand 2 says of a verdict on two files. "A readable, loop-free stage whose counts match is accepted exactly if" it is acceptable;
+-- "otherwise the verdict names the earliest failing check and its least case".
+pub record Demand2 (stageMost referenceMost : Limits) (stage reference : List ℕ) (v : Verdict) : Type 0 where
+  pub exactly : (s : Stage) (r : Reference) → StageIs stageMost stage s → ReferenceIs referenceMost reference r → CountsMatch s r → WithoutLoop s → (v ≡ verdict 0 0 0 0) ↔ Acceptable s r
+  pub least : Because stageMost referenceMost stage reference v
+
 -- ---- demand 3
 
--- the promise about every list of switchings of word w; and all ends of its rises are the settled row of w's rails
+-- the promise about every list of switchings of word w; and the paper's "rest": all ends of its rises are the settled row of w's rails
 pub record KeptIn (s : Stage) (r : Reference) (w : ℕ) : Type 0 where
   pub promise : Promise (netOf s) (railsFor s w) (answerBits r w)
   pub rest : (l : List ℕ) → RiseList (netOf s) (railsFor s w) l → RiseEnd (netOf s) (railsFor s w) l → after low l ≡ rowOf (settled (s .gates) (railsIn s w))
@@ -117,10 +112,14 @@ pub record GateRuleGives (s : Stage) (rails : List ℕ) (row : List ℕ) : Type 
   pub goes-on : (l : List ℕ) → RiseList (netOf s) (rowOf rails) l → Goes-on (riseStep (netOf s) (rowOf rails)) low l
   pub end-is : (l : List ℕ) → RiseList (netOf s) (rowOf rails) l → RiseEnd (netOf s) (rowOf rails) l → after low l ≡ rowOf row
 
--- what the settled-row call leaves of a row that it accepts: the file reads, the row has a byte for each net, and the row after the
--- call is what the gate rule gives for the rails before it
+-- what the settled-row call leaves of a row that it accepts: the file reads, the row has a byte for each net, the input bytes keep their
+-- values, the gates' bytes are settled for them and nothing else is, and the row is what the gate rule gives for these rails
 pub record RowGiven (most : Limits) (stage before after′ : List ℕ) : Type 0 where
   pub circuit : Stage
   pub circuit-is : StageIs most stage circuit
   pub long : length before ≡ 2 * circuit .inputs + length (circuit .gates)
+  pub levels : List ℕ
+  pub row-is : after′ ≡ take (2 * circuit .inputs) before ++ levels
+  pub settled-so : Settled (circuit .gates) (take (2 * circuit .inputs) before) levels
+  pub only-so : (v : List ℕ) → Settled (circuit .gates) (take (2 * circuit .inputs) before) v → v ≡ levels
   pub given : GateRuleGives circuit (take (2 * circuit .inputs) before) after′

@@ -26,6 +26,10 @@ pub data Reaches (n : ℕ) (gates : List Gate) (g : ℕ) : ℕ → Type 0 where
   directly : {k : ℕ} → Feeds n gates g k → Reaches n gates g k
   onward : {j k : ℕ} → Reaches n gates g j → Feeds n gates j k → Reaches n gates g k
 
+-- no gate reaches itself through pins
+abbrev pub NoLoop : ℕ → List Gate → Type 0
+NoLoop n gates = (g : ℕ) → g < length gates → ¬ (Reaches n gates g g)
+
 -- ---- the test
 
 abbrev pub anyHigh : List ℕ → List ℕ → Bool
@@ -47,3 +51,7 @@ reachedFrom n gates g = rounds (λ marks. set (map (isFed (marked n marks)) gate
 -- gate g reaches itself: gate g, or a gate that it reaches, is at a pin of g
 unfoldable pub reachesItself : ℕ → List Gate → ℕ → Bool
 reachesItself n gates g = high (map (isFed (marked n (reachedFrom n gates g))) gates) g
+
+-- no gate reaches itself, by the test; that this is `NoLoop` is a theorem
+abbrev pub LoopFree : ℕ → List Gate → Type 0
+LoopFree n gates = (g : ℕ) → g < length gates → reachesItself n gates g ≡ false

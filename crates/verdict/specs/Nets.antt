@@ -11,12 +11,12 @@ use Rattle.runs.specs.Net.{Net}
 use Rattle.netlist.specs.Content.{Gate, Pair, Stage, Reference}
 use Rattle.verdict.specs.Rows.{high, bitsOf}
 use Rattle.verdict.specs.Answers.{answer}
-use Rattle.verdict.specs.Checks.{outputAt, railsIn}
+use Rattle.verdict.specs.Checks.{outputPair, railsIn}
 
 abbrev pub noGate : Gate
 noGate = record { cell = 0; hold = true; pins = [] }
 
--- the gate that drives a net; gate k drives net 2n + k
+-- the gate that drives a net from 2n on: gate k drives net 2n + k. It is asked of no other net
 abbrev pub driver : Stage → ℕ → Gate
 driver s net = getD (s .gates) (net - 2 * s .inputs) noGate
 
@@ -33,7 +33,7 @@ netOf s = record {
   inputs = s .inputs;
   gates = length (s .gates);
   outputs = length (s .outputs);
-  rail = λ j. railOf (outputAt s j);
+  rail = λ j. railOf (outputPair s j);
   pins = λ net. driver s net .pins;
   fires = λ row net. setIn row (driver s net);
   hold = λ net. driver s net .hold;
