@@ -1,0 +1,97 @@
+// The check of a stage against a reference: the sweeps of 13, 14 and 15 over all words, and the verdict on two files.
+ghost use mathlib.Core.Path.{_≡_};
+ghost use mathlib.Core.List.{List, _∷_, []};
+ghost use Prim.Native.Nat.{ℕ, _+_, _*_, _≤_, _<_, min, max};
+ghost use lib.ListN.{length, getD, take};
+ghost use Rattle.netlist.specs.declared.File.the-variants as file;
+ghost use Rattle.netlist.specs.Content.{codedAt};
+ghost use Rattle.verdict.specs.Rows.{bitsOf, railsOf};
+ghost use Rattle.verdict.specs.Answers as answers;
+ghost use Rattle.checker.specs.Operations.{operationsAt, OperationThere, OperationsThere};
+
+// ---- words
+
+// The bits of word w: input i has bit i.
+fn word_bits(w: usize, bits: &mut [u8])
+    ensures { λ r. ⌜ now (bits .exit) ≡ bitsOf (length (now (bits .entry))) w ⌝ }
+{
+    let mut rest = w;
+    let mut i: usize = 0;
+    while i < bits.len() {
+        bits[i] = (rest % 2) as u8;
+        rest = rest / 2;
+        i += 1;
+    }
+}
+
+// The rails that spell some bits: rail 0 of an input is high for 0, rail 1 for 1.
+fn spell_rails(bits: &[u8], rails: &mut [u8])
+    requires { ⌜ (length (now rails) ≡ 2 * length (now bits)) × ((i : ℕ) → getD (now bits) i 0 ≤ 1) ⌝ }
+    ensures { λ r. ⌜ now (rails .exit) ≡ railsOf (now (bits .entry)) ⌝ }
+{
+    let mut i: usize = 0;
+    while i < bits.len() {
+        let b = bits[i];
+        rails[2 * i] = 1 - b;
+        rails[2 * i + 1] = b;
+        i += 1;
+    }
+}
+
+// ---- the reference's answer
+
+fn both(a: u8, b: u8) -> u8
+    ensures { λ r. ⌜ r ≡ min a b ⌝ }
+{
+    if a < b { a } else { b }
+}
+
+fn either(a: u8, b: u8) -> u8
+    ensures { λ r. ⌜ r ≡ max a b ⌝ }
+{
+    if a < b { b } else { a }
+}
+
+// An operation on two bits: 1 NOT, 2 AND, 3 OR, 4 XOR, 5 NAND, 6 NOR. NOT has only the first.
+fn operate(operation: u8, a: u8, b: u8) -> u8
+    requires { ⌜ (a ≤ 1) × (b ≤ 1) ⌝ }
+    ensures { λ r. ⌜ (r ≡ answers.operate operation (a ∷ b ∷ [])) × (r ≤ 1) ⌝ }
+{
+    match operation {
+        1 => 1 - a,
+        2 => both(a, b),
+        3 => either(a, b),
+        4 => (a + b) % 2,
+        5 => 1 - both(a, b),
+        6 => 1 - either(a, b),
+        _ => 0,
+    }
+}
+
+// The value of the gate at a place, from the values of the signals before it.
+fn gate_value(t: &[u8], place: usize, values: &[u8], known: usize) -> u8
+    requires { ⌜ (known ≤ length (now values)) × OperationThere (now t) known place × ((i : ℕ) → getD (now values) i 0 ≤ 1) ⌝ }
+    ensures { λ r. ⌜ (r ≡ answers.operate (codedAt file.Reference (now (t .entry)) place .code) (answers.valuesAt (take known (now (values .entry))) (codedAt file.Reference (now (t .entry)) place .operands))) × (r ≤ 1) ⌝ }
+{
+    let operation = t[place + 1];
+    let first = netlist::operand(t, place + 2) as usize;
+    let a = values[first];
+    if operation == 1 {
+        return 1 - a;
+    }
+    let second = netlist::operand(t, place + 4) as usize;
+    operate(operation, a, values[second])
+}
+
+// The values of all signals: the inputs' are there, and each gate's is written after those before it.
+fn evaluate(t: &[u8], places: &[u16], inputs: usize, count: usize, values: &mut [u8])
+    requires { ⌜ OperationsThere (now t) (now places) inputs count × (inputs + count ≤ length (now values)) × ((i : ℕ) → getD (now values) i 0 ≤ 1) ⌝ }
+    ensures { λ r. ⌜ (take (inputs + count) (now (values .exit)) ≡ answers.evaluate (take inputs (now (values .entry))) (operationsAt (now (t .entry)) (now (places .entry)) count)) × ((i : ℕ) → getD (now (values .exit)) i 0 ≤ 1) ⌝ }
+{
+    let mut k: usize = 0;
+    while k < count {
+        let place = places[k] as usize;
+        values[inputs + k] = gate_value(t, place, values, inputs + k);
+        k += 1;
+    }
+}
