@@ -1,3 +1,5 @@
 pub mod Spelling
 pub mod Operating
 pub mod Evaluating
+pub mod Seeking
+pub mod Pairs

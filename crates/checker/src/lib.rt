@@ -1,12 +1,15 @@
 // The check of a stage against a reference: the sweeps of 13, 14 and 15 over all words, and the verdict on two files.
+use netlist::Found;
 ghost use mathlib.Core.Path.{_≡_};
-ghost use mathlib.Core.List.{List, _∷_, []};
+ghost use mathlib.Core.List.{List, _∷_, [], _++_};
 ghost use Prim.Native.Nat.{ℕ, _+_, _*_, _≤_, _<_, min, max};
 ghost use lib.ListN.{length, getD, take};
 ghost use Rattle.netlist.specs.declared.File.the-variants as file;
-ghost use Rattle.netlist.specs.Content.{codedAt};
-ghost use Rattle.verdict.specs.Rows.{bitsOf, railsOf};
+ghost use Rattle.netlist.specs.Content.{codedAt, pairAt};
+ghost use Rattle.verdict.specs.Rows.{bitsOf, railsOf, pairIn, isData, spells};
+ghost use Rattle.verdict.specs.Checks.{least};
 ghost use Rattle.verdict.specs.Answers as answers;
+ghost use Rattle.checker.specs.Outputs.{OutputsThere, notData, SignalsThere, misread};
 ghost use Rattle.checker.specs.Operations.{operationsAt, OperationThere, OperationsThere};
 
 // ---- words
@@ -94,4 +97,74 @@ fn evaluate(t: &[u8], places: &[u16], inputs: usize, count: usize, values: &mut 
         values[inputs + k] = gate_value(t, place, values, inputs + k);
         k += 1;
     }
+}
+
+// ---- output pairs
+
+// Whether the output at a place is DATA: exactly one of its rails is high.
+fn is_data(s: &[u8], place: usize, rails: &[u8], levels: &[u8]) -> bool
+    requires { ⌜ place + 5 ≤ length (now s) ⌝ }
+    ensures { λ r. ⌜ r ≡ isData (pairIn (now (rails .entry) ++ now (levels .entry)) (pairAt (now (s .entry)) place)) ⌝ }
+{
+    let rail0 = settle::level(rails, levels, netlist::operand(s, place + 1));
+    let rail1 = settle::level(rails, levels, netlist::operand(s, place + 3));
+    rail0 != rail1
+}
+
+// Whether the output at a place is DATA1 for the value 1 and DATA0 for 0.
+fn reads_as(s: &[u8], place: usize, rails: &[u8], levels: &[u8], value: u8) -> bool
+    requires { ⌜ (place + 5 ≤ length (now s)) × (value ≤ 1) ⌝ }
+    ensures { λ r. ⌜ r ≡ spells (pairIn (now (rails .entry) ++ now (levels .entry)) (pairAt (now (s .entry)) place)) value ⌝ }
+{
+    let rail0 = settle::level(rails, levels, netlist::operand(s, place + 1));
+    let rail1 = settle::level(rails, levels, netlist::operand(s, place + 3));
+    if rail1 == value {
+        rail0 + value == 1
+    } else {
+        false
+    }
+}
+
+// The least output that is not DATA.
+fn first_not_data(s: &[u8], outputs: &[u16], rails: &[u8], levels: &[u8]) -> Found
+    requires { ⌜ OutputsThere (now s) (now outputs) ⌝ }
+    ensures { λ r. ⌜ r ≡ least (notData (now (s .entry)) (now (outputs .entry)) (now (rails .entry) ++ now (levels .entry))) 0 (length (now (outputs .entry))) ⌝ }
+{
+    let mut j: usize = 0;
+    while j < outputs.len() {
+        let place = outputs[j] as usize;
+        if is_data(s, place, rails, levels) {
+            j += 1;
+        } else {
+            return Found::At(j);
+        }
+    }
+    Found::Nothing
+}
+
+// The least output that does not read as the value of its signal in the reference.
+fn first_misread(
+    s: &[u8],
+    outputs: &[u16],
+    rails: &[u8],
+    levels: &[u8],
+    t: &[u8],
+    signals: &[u16],
+    values: &[u8],
+) -> Found
+    requires { ⌜ OutputsThere (now s) (now outputs) × SignalsThere (now t) (now signals) (length (now outputs)) (length (now values)) × ((i : ℕ) → getD (now values) i 0 ≤ 1) ⌝ }
+    ensures { λ r. ⌜ r ≡ least (misread (now (s .entry)) (now (outputs .entry)) (now (rails .entry) ++ now (levels .entry)) (now (t .entry)) (now (signals .entry)) (now (values .entry))) 0 (length (now (outputs .entry))) ⌝ }
+{
+    let mut j: usize = 0;
+    while j < outputs.len() {
+        let at = signals[j] as usize;
+        let signal = netlist::operand(t, at + 1) as usize;
+        let place = outputs[j] as usize;
+        if reads_as(s, place, rails, levels, values[signal]) {
+            j += 1;
+        } else {
+            return Found::At(j);
+        }
+    }
+    Found::Nothing
 }

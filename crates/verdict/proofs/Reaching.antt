@@ -124,6 +124,9 @@ module _ (n : ℕ) (gates : List Gate) where
 
   -- ---- no gate reaches itself
 
+  pub loopFree-noLoop : LoopFree n gates → NoLoop n gates
+  loopFree-noLoop free g hg r = let e = reaches-complete g hg r in let f = free g hg in let z : _≡_ {A = ℕ} 0 1 = cc in omega arith
+
   pub noLoop-loopFree : NoLoop n gates → LoopFree n gates
   noLoop-loopFree h g hg = go (reachesItself n gates g) refl
     where

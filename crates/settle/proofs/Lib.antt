@@ -1,0 +1,10 @@
+pub mod Pins
+pub mod Places
+pub mod Filling
+pub mod Feeding
+pub mod Sums
+pub mod Placing
+pub mod Ordering
+pub mod Settling
+pub mod Marking
+pub mod Searching

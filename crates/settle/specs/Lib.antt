@@ -1,0 +1,5 @@
+pub mod Pins
+pub mod Gates
+pub mod Order
+pub mod Marks
+pub mod Settling
