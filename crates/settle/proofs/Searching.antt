@@ -19,26 +19,6 @@ use Rattle.settle.specs.Marks.{LoopFound}
 use Rattle.settle.proofs.Places.{length-gatesAt}
 use Rattle.settle.proofs.Ordering.{order-no-loop}
 
-module _ (f : ℕ → Bool) (m j : ℕ) where
-  -- none before j passes, so the least is the least from j on
-  abbrev pub SoughtTo : Type 0
-  SoughtTo = least f 0 m ≡ least f j (m - j)
-
-  pub sought-on : j < m → SoughtTo → f j ≡ false → least f 0 m ≡ least f (j + 1) (m - (j + 1))
-  sought-on h s e =
-      let a : m - j ≡ suc (m - (j + 1)) = omega arith in
-      let b : suc j ≡ j + 1 = omega arith in
-      s ∙ ap (least f j) a ∙ least-later f j (m - (j + 1)) e ∙ ap (λ (i : ℕ). least f i (m - (j + 1))) b
-
-  pub sought-here : j < m → SoughtTo → f j ≡ true → At j ≡ least f 0 m
-  sought-here h s e =
-      let a : m - j ≡ suc (m - (j + 1)) = omega arith in
-      sym (s ∙ ap (least f j) a ∙ least-here f j (m - (j + 1)) e)
-
-  pub sought-none : m ≤ j → SoughtTo → Nothing ≡ least f 0 m
-  unfolding least
-  sought-none h s = let a : m - j ≡ 0 = omega arith in sym (s ∙ ap (least f j) a)
-
 -- where no number passes there is no least
 none-least : (f : ℕ → Bool) (j m : ℕ) → ((k : ℕ) → j ≤ k → k < j + m → f k ≡ false) → least f j m ≡ Nothing
 unfolding least

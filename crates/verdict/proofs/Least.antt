@@ -1,6 +1,6 @@
 -- What the least index and the first word of a sweep say of those before them.
 -- Assumes nothing.
-use Prim.Native.Nat.{ℕ, zero, suc, _+_, _≤_, _<_}
+use Prim.Native.Nat.{ℕ, zero, suc, _+_, _-_, _≤_, _<_}
 use native.Mathlib.Omega.{arith}
 use native.Mathlib.Decide.{ℕ-discrete}
 use mathlib.Core.Path.{_≡_, refl, sym, ap, _∙_}
@@ -16,6 +16,28 @@ least-here f j m e = rw e
 pub least-later : (f : ℕ → Bool) (j m : ℕ) → f j ≡ false → least f j (suc m) ≡ least f (suc j) m
 unfolding least
 least-later f j m e = rw e
+
+-- ---- a search from 0 on
+
+module _ (f : ℕ → Bool) (m j : ℕ) where
+  -- none before j passes, so the least is the least from j on
+  abbrev pub SoughtTo : Type 0
+  SoughtTo = least f 0 m ≡ least f j (m - j)
+
+  pub sought-on : j < m → SoughtTo → f j ≡ false → least f 0 m ≡ least f (j + 1) (m - (j + 1))
+  sought-on h s e =
+      let a : m - j ≡ suc (m - (j + 1)) = omega arith in
+      let b : suc j ≡ j + 1 = omega arith in
+      s ∙ ap (least f j) a ∙ least-later f j (m - (j + 1)) e ∙ ap (λ (i : ℕ). least f i (m - (j + 1))) b
+
+  pub sought-here : j < m → SoughtTo → f j ≡ true → At j ≡ least f 0 m
+  sought-here h s e =
+      let a : m - j ≡ suc (m - (j + 1)) = omega arith in
+      sym (s ∙ ap (least f j) a ∙ least-here f j (m - (j + 1)) e)
+
+  pub sought-none : m ≤ j → SoughtTo → Nothing ≡ least f 0 m
+  unfolding least
+  sought-none h s = let a : m - j ≡ 0 = omega arith in sym (s ∙ ap (least f j) a)
 
 -- what the test says of the numbers from j on, m of them
 pub record LeastAt (f : ℕ → Bool) (j m i : ℕ) : Type 0 where

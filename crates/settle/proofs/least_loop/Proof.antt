@@ -9,7 +9,7 @@ use denote.Ref.{now}
 use Rattle.verdict.specs.Loops.{reachesItself}
 use Rattle.settle.specs.Gates.{gatesAt}
 use Rattle.settle.proofs.Places.{there-still}
-use Rattle.settle.proofs.Searching.{SoughtTo, sought-on, sought-here, sought-none}
+use Rattle.verdict.proofs.Least.{SoughtTo, sought-on, sought-here, sought-none}
 use Rattle.settle.proofs.least_loop.Statement.{statement}
 use Rattle.settle.proofs.least_loop.Tie as tie
 use Rattle.settle.proofs.least_loop.Reads as reads

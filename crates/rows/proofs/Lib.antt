@@ -1,0 +1,3 @@
+pub mod Rails
+pub mod Illegal
+pub mod Cases

@@ -1,0 +1,33 @@
+-- The rails of a row, copied from the front; and a row whose part after its rails was settled.
+-- Assumes nothing.
+use Prim.Native.Nat.{ℕ, _+_, _-_, _≤_, _<_}
+use native.Mathlib.Omega.{arith}
+use native.Mathlib.Numerals.{add-one}
+use mathlib.Core.Path.{_≡_, sym, ap, subst, _∙_}
+use mathlib.Core.List.{List, [], _++_, append-nil}
+use lib.ListN.{length, getD, take, drop, set, length-drop}
+use lib.Seq.{take-suc, take-suc-set, take-all, drop-length}
+use Rattle.verdict.specs.Rows.{settled, settledLevels}
+use Rattle.settle.specs.Gates.{gatesAt}
+use Rattle.settle.specs.Settling.{Settleable}
+
+pub copy-more : (rails row : List ℕ) (i : ℕ) → i < length rails → i < length row → take i rails ≡ take i row → take (i + 1) (set rails i (getD row i 0)) ≡ take (i + 1) row
+copy-more rails row i h h′ e = simp (add-one, take-suc-set, take-suc row i 0, e)
+
+-- the part of a row from a position on is lent whole
+module _ (row : List ℕ) (first : ℕ) (h : first ≤ length row) where
+  none-left : drop (length row - first) (drop first row) ≡ []
+  none-left = ap (λ (k : ℕ). drop k (drop first row)) (sym (length-drop first row)) ∙ drop-length (drop first row)
+
+  pub part-length : length (take (length row - first) (drop first row)) ≡ length row - first
+  part-length = ap length (take-all (length row - first) (drop first row) (omega (arith, length-drop first row))) ∙ length-drop first row
+
+  module _ (s places : List ℕ) where
+    pub settleable-part : (order rails : List ℕ) → rails ≡ take first row → Settleable s places order (take first row) (length row - first) → Settleable s places order rails (length (take (length row - first) (drop first row)))
+    settleable-part order rails e r = subst (λ (k : ℕ). Settleable s places order rails k) (sym part-length) (subst (λ (l : List ℕ). Settleable s places order l (length row - first)) (sym e) r)
+
+    pub settled-part : (rails levels : List ℕ) → rails ≡ take first row → levels ≡ settledLevels (gatesAt s places (length (take (length row - first) (drop first row)))) rails
+        → take first row ++ (levels ++ drop (length row - first) (drop first row)) ≡ settled (gatesAt s places (length row - first)) (take first row)
+    settled-part rails levels e f =
+        let a : take first row ++ (levels ++ drop (length row - first) (drop first row)) ≡ take first row ++ levels = simp (none-left, append-nil) in
+        a ∙ ap (λ (l : List ℕ). take first row ++ l) (f ∙ ap (settledLevels (gatesAt s places (length (take (length row - first) (drop first row))))) e ∙ ap (λ (k : ℕ). settledLevels (gatesAt s places k) (take first row)) part-length)
