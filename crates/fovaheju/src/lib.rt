@@ -1,0 +1,13 @@
+// The public calls. Their contracts cite the definitions of crate `verdict` and ask nothing of the caller.
+use verdict::Verdict;
+ghost use mathlib.Core.Path.{_≡_};
+ghost use Rattle.verdict.specs.Verdicts.{settledRow};
+
+// The settled-row call: the verdict on a stage file and a lent row, one byte for each net. A refusal leaves the row as it was; else the
+// bytes of the inputs keep their values and those of the gates become their settled levels.
+pub fn settled_row(stage: &[u8], row: &mut [u8]) -> Verdict
+    ensures verdict { λ r. ⌜ r ≡ settledRow (now (stage .entry)) (now (row .entry)) .verdict ⌝ }
+    ensures row { λ r. ⌜ now (row .exit) ≡ settledRow (now (stage .entry)) (now (row .entry)) .row ⌝ }
+{
+    rows::settled_row(stage, row)
+}
