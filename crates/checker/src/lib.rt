@@ -6,11 +6,14 @@ ghost use Prim.Native.Nat.{ℕ, _+_, _*_, _≤_, _<_, min, max};
 ghost use lib.ListN.{length, getD, take};
 ghost use Rattle.netlist.specs.declared.File.the-variants as file;
 ghost use Rattle.netlist.specs.Content.{codedAt, pairAt};
-ghost use Rattle.verdict.specs.Rows.{bitsOf, railsOf, pairIn, isData, spells};
+ghost use Rattle.verdict.specs.Rows.{bitsOf, railsOf, only, withNull, pairIn, isData, spells, allData};
 ghost use Rattle.verdict.specs.Checks.{least};
 ghost use Rattle.verdict.specs.Answers as answers;
-ghost use Rattle.checker.specs.Outputs.{OutputsThere, notData, SignalsThere, misread};
+ghost use Rattle.settle.specs.Gates.{gatesAt};
+ghost use Rattle.settle.specs.Settling.{Settleable};
+ghost use Rattle.checker.specs.Outputs.{OutputsThere, pairsAt, notData, SignalsThere, misread};
 ghost use Rattle.checker.specs.Operations.{operationsAt, OperationThere, OperationsThere};
+ghost use Rattle.checker.specs.Words.{dataWithout};
 
 // ---- words
 
@@ -167,4 +170,58 @@ fn first_misread(
         }
     }
     Found::Nothing
+}
+
+// ---- one word
+
+// Each byte becomes that of the other slice.
+fn copy(from: &[u8], to: &mut [u8])
+    requires { ⌜ length (now to) ≡ length (now from) ⌝ }
+    ensures { λ r. ⌜ now (to .exit) ≡ now (from .entry) ⌝ }
+{
+    let mut i: usize = 0;
+    while i < from.len() {
+        to[i] = from[i];
+        i += 1;
+    }
+}
+
+// Input i becomes NULL: both of its rails are low.
+fn null_input(rails: &mut [u8], i: usize)
+    requires { ⌜ 2 * i + 1 < length (now rails) ⌝ }
+    ensures { λ r. ⌜ now (rails .exit) ≡ withNull (only i) (now (rails .entry)) ⌝ }
+{
+    rails[2 * i] = 0;
+    rails[2 * i + 1] = 0;
+}
+
+// Whether all outputs are DATA.
+fn all_data(s: &[u8], outputs: &[u16], rails: &[u8], levels: &[u8]) -> bool
+    requires { ⌜ OutputsThere (now s) (now outputs) ⌝ }
+    ensures { λ r. ⌜ r ≡ allData (now (rails .entry) ++ now (levels .entry)) (pairsAt (now (s .entry)) (now (outputs .entry))) ⌝ }
+{
+    match first_not_data(s, outputs, rails, levels) {
+        Found::At(_) => false,
+        Found::Nothing => true,
+    }
+}
+
+// 14 for one input: whether all outputs are DATA once the stage has settled with input i NULL and the others as in the word.
+fn complete_without(
+    s: &[u8],
+    places: &[u16],
+    order: &[u16],
+    outputs: &[u16],
+    rails: &[u8],
+    i: usize,
+    nulled: &mut [u8],
+    spare: &mut [u8],
+) -> bool
+    requires { ⌜ Settleable (now s) (now places) (now order) (now rails) (length (now spare)) × OutputsThere (now s) (now outputs) × (length (now nulled) ≡ length (now rails)) × (2 * i + 1 < length (now rails)) ⌝ }
+    ensures { λ r. ⌜ r ≡ dataWithout (gatesAt (now (s .entry)) (now (places .entry)) (length (now (spare .entry)))) (pairsAt (now (s .entry)) (now (outputs .entry))) (now (rails .entry)) i ⌝ }
+{
+    copy(rails, nulled);
+    null_input(nulled, i);
+    settle::settle(s, places, order, nulled, spare);
+    all_data(s, outputs, nulled, spare)
 }
