@@ -6,3 +6,4 @@ pub mod Pairs
 pub mod Copying
 pub mod Nulling
 pub mod AllData
+pub mod OneWord
