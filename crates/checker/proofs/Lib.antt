@@ -7,3 +7,4 @@ pub mod Copying
 pub mod Nulling
 pub mod AllData
 pub mod OneWord
+pub mod Inverting

@@ -12,7 +12,7 @@ null-input-requires : tie.Need-null-input-requires
 null-input-requires c κs = search needs
 
 settle-requires : tie.Need-settle-requires
-settle-requires c κs = settleable-alike _ _ _ _ _ _ (omega arith) (c .before .before .before .before .before .before .before .before .before .before .before .before .before .before .before .before .before .pre .0)
+settle-requires c κs = settleable-alike _ _ _ _ _ _ _ (omega arith) (omega arith) (c .before .before .before .before .before .before .before .before .before .before .before .before .before .before .before .before .before .pre .0)
 
 all-data-requires : tie.Need-all-data-requires
 all-data-requires c κs = search needs
