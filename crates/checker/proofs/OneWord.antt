@@ -1,15 +1,18 @@
--- The checks 14 and 15 in one word: what settling anew with an input NULL or with a gate held low says of that input or gate.
+-- The checks 14 and 15 in one word: what settling anew with an input NULL or with a gate held low says of that input or gate, and
+-- that a search over all inputs or gates is the check itself.
 -- Assumes nothing.
-use Prim.Native.Nat.{ℕ, zero, suc, _+_, _-_, _*_, _≤_, _<_}
+use Prim.Native.Nat.{ℕ, _+_, _*_, _≤_, _<_}
 use native.Mathlib.Omega.{arith}
-use mathlib.Core.Path.{_≡_, refl, sym, ap, ap₂, _∙_, subst}
+use mathlib.Core.Path.{_≡_, refl, sym, ap, _∙_, subst}
 use mathlib.Core.Bool.{Bool, true, false}
 use mathlib.Core.List.{List, _++_}
 use lib.ListN.{length, getD}
 use lib.Seq.{getD-append-add}
 use borrow.Author.Tests.{lt-ltb, le-ltb}
-use Rattle.netlist.specs.Content.{Gate, Pair}
-use Rattle.verdict.specs.Rows.{high, only, withNull, settledLevels, levelsHolding, settled, settledHolding, allData}
+use Rattle.netlist.specs.Content.{Gate, Pair, Stage}
+use Rattle.verdict.specs.Rows.{bitsOf, high, only, withNull, settledLevels, levelsHolding, settled, settledHolding, allData}
+use Rattle.verdict.specs.Checks.{least, railsIn, missingInput, unobservedGate}
+use Rattle.verdict.proofs.Words.{bits-of-length, rails-length}
 use Rattle.settle.specs.Gates.{gatesAt}
 use Rattle.settle.specs.Settling.{SettledBefore, Settleable}
 use Rattle.settle.proofs.Places.{length-gatesAt}
@@ -58,7 +61,7 @@ module _ (s places order rails position : List ℕ) (count g : ℕ) (st : Settle
   size : length gates ≡ count
   size = length-gatesAt s places count (st .there .enough)
 
-  pub before-gate : (levels : List ℕ) → levels ≡ settledLevels gates rails → SettledBefore (getD position g 0) g gates order rails levels
+  before-gate : (levels : List ℕ) → levels ≡ settledLevels gates rails → SettledBefore (getD position g 0) g gates order rails levels
   before-gate levels is =
       subst (SettledBefore (getD position g 0) g gates order rails) (holding-none gates rails ∙ sym is)
       (settled-before (st .inputs) g gates order rails (st .ordered) (st .both) (length gates) (getD position g 0) (omega (arith, size, at .within g hg))
@@ -68,7 +71,21 @@ module _ (s places order rails position : List ℕ) (count g : ℕ) (st : Settle
   -- what settling from g's place on asks for
   pub hold-ready : (levels spare : List ℕ) → levels ≡ settledLevels gates rails → spare ≡ levels → length spare ≡ count
       → Settleable s places order rails (length spare) × (getD position g 0 ≤ length spare) × SettledBefore (getD position g 0) g (gatesAt s places (length spare)) order rails spare
-  hold-ready levels spare is e l =
-      (settleable-alike s places order rails rails count (length spare) refl l st,
-       omega (arith, at .within g hg),
-       subst (λ (m : ℕ). SettledBefore (getD position g 0) g (gatesAt s places m) order rails spare) (sym l) (before-gate spare (e ∙ is)))
+  hold-ready levels spare is e l = (
+    settleable-alike s places order rails rails count (length spare) refl l st,
+    omega (arith, at .within g hg),
+    subst (λ (m : ℕ). SettledBefore (getD position g 0) g (gatesAt s places m) order rails spare) (sym l) (before-gate spare (e ∙ is)),
+  )
+
+-- ---- the searches are the checks' own
+
+module _ (s : Stage) (w : ℕ) where
+  pub missing-in : least (dataWithout (s .gates) (s .outputs) (railsIn s w)) 0 (s .inputs) ≡ missingInput s w
+  unfolding dataWithout missingInput
+  missing-in = refl
+
+  pub unobserved-in : least (unobserved (s .gates) (s .outputs) (railsIn s w)) 0 (length (s .gates)) ≡ unobservedGate s w
+  unfolding unobserved unobservedGate
+  unobserved-in =
+      ap (λ (first : ℕ). least (λ g. elim (high (settled (s .gates) (railsIn s w)) (first + g)) as (λ b. Bool) [ true ↦ allData (settledHolding g (s .gates) (railsIn s w)) (s .outputs) | false ↦ false ]) 0 (length (s .gates)))
+      (rails-length (bitsOf (s .inputs) w) ∙ ap (λ (n : ℕ). 2 * n) (bits-of-length (s .inputs) w))

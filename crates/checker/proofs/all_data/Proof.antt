@@ -1,4 +1,4 @@
--- `checker::all_data` meets its contract. Assumes nothing.
+-- `checker::all_data` meets its contract: all outputs are DATA exactly if no least one is found that is not. Assumes nothing.
 use Rattle.checker.proofs.AllData.{all-data, not-all-data}
 use denote.Ref.{now}
 use borrow.Author.Needs.{needs}

@@ -1,4 +1,4 @@
--- `checker::complete_without` meets its contract. Assumes nothing.
+-- `checker::complete_without` meets its contract: the rails with input i NULL are a copy that settles anew. Assumes nothing.
 use native.Mathlib.Omega.{arith}
 use Rattle.checker.proofs.OneWord.{settleable-alike, data-without}
 use borrow.Author.Needs.{needs}

@@ -1,4 +1,5 @@
--- `checker::unobserved_at` meets its contract. Assumes nothing.
+-- `checker::unobserved_at` meets its contract: no gate before g in the order is g, so those have the levels that they are to have with g
+-- held low. Assumes nothing.
 use native.Mathlib.Omega.{arith}
 use Rattle.checker.proofs.OneWord.{unobserved-low, unobserved-high, hold-ready}
 use borrow.Author.Needs.{needs}
