@@ -1,2 +1,4 @@
 pub mod Operations
 pub mod Outputs
+pub mod Words
+pub mod Positions

@@ -1,15 +1,19 @@
 -- The outputs of a stage and of a reference as their files have them: each is read at the place of its command.
 use Prim.Native.Nat.{ℕ, _+_, _≤_, _<_}
 use mathlib.Core.Bool.{Bool, not}
-use mathlib.Core.List.{List}
+use mathlib.Core.List.{List, map}
 use lib.ListN.{length, getD}
 use Rattle.netlist.specs.Bytes.{operand}
-use Rattle.netlist.specs.Content.{pairAt}
+use Rattle.netlist.specs.Content.{Pair, pairAt}
 use Rattle.verdict.specs.Rows.{pairIn, isData, spells}
 
 -- what reading a stage gives: the five bytes of each output command are in the file
 abbrev pub OutputsThere : List ℕ → List ℕ → Type 0
 OutputsThere s outputs = (j : ℕ) → j < length outputs → getD outputs j 0 + 5 ≤ length s
+
+-- the outputs whose commands stand at some places
+abbrev pub pairsAt : List ℕ → List ℕ → List Pair
+pairsAt s outputs = map (pairAt s) outputs
 
 -- output j is not DATA in a row
 abbrev pub notData : List ℕ → List ℕ → List ℕ → ℕ → Bool

@@ -6,11 +6,15 @@ ghost use Prim.Native.Nat.{ℕ, _+_, _*_, _≤_, _<_, min, max};
 ghost use lib.ListN.{length, getD, take};
 ghost use Rattle.netlist.specs.declared.File.the-variants as file;
 ghost use Rattle.netlist.specs.Content.{codedAt, pairAt};
-ghost use Rattle.verdict.specs.Rows.{bitsOf, railsOf, pairIn, isData, spells};
+ghost use Rattle.verdict.specs.Rows.{bitsOf, railsOf, only, withNull, settledLevels, pairIn, isData, spells, allData};
 ghost use Rattle.verdict.specs.Checks.{least};
 ghost use Rattle.verdict.specs.Answers as answers;
-ghost use Rattle.checker.specs.Outputs.{OutputsThere, notData, SignalsThere, misread};
+ghost use Rattle.settle.specs.Gates.{gatesAt};
+ghost use Rattle.settle.specs.Settling.{Settleable};
+ghost use Rattle.checker.specs.Outputs.{OutputsThere, pairsAt, notData, SignalsThere, misread};
 ghost use Rattle.checker.specs.Operations.{operationsAt, OperationThere, OperationsThere};
+ghost use Rattle.checker.specs.Words.{dataWithout, unobserved};
+ghost use Rattle.checker.specs.Positions.{EachOnce, PositionsIn};
 
 // ---- words
 
@@ -165,6 +169,146 @@ fn first_misread(
         } else {
             return Found::At(j);
         }
+    }
+    Found::Nothing
+}
+
+// ---- one word
+
+// Each byte becomes that of the other slice.
+fn copy(from: &[u8], to: &mut [u8])
+    requires { ⌜ length (now to) ≡ length (now from) ⌝ }
+    ensures { λ r. ⌜ now (to .exit) ≡ now (from .entry) ⌝ }
+{
+    let mut i: usize = 0;
+    while i < from.len() {
+        to[i] = from[i];
+        i += 1;
+    }
+}
+
+// Input i becomes NULL: both of its rails are low.
+fn null_input(rails: &mut [u8], i: usize)
+    requires { ⌜ 2 * i + 1 < length (now rails) ⌝ }
+    ensures { λ r. ⌜ now (rails .exit) ≡ withNull (only i) (now (rails .entry)) ⌝ }
+{
+    rails[2 * i] = 0;
+    rails[2 * i + 1] = 0;
+}
+
+// Whether all outputs are DATA.
+fn all_data(s: &[u8], outputs: &[u16], rails: &[u8], levels: &[u8]) -> bool
+    requires { ⌜ OutputsThere (now s) (now outputs) ⌝ }
+    ensures { λ r. ⌜ r ≡ allData (now (rails .entry) ++ now (levels .entry)) (pairsAt (now (s .entry)) (now (outputs .entry))) ⌝ }
+{
+    match first_not_data(s, outputs, rails, levels) {
+        Found::At(_) => false,
+        Found::Nothing => true,
+    }
+}
+
+// 14 for one input: whether all outputs are DATA once the stage has settled with input i NULL and the others as in the word.
+fn complete_without(
+    s: &[u8],
+    places: &[u16],
+    order: &[u16],
+    outputs: &[u16],
+    rails: &[u8],
+    i: usize,
+    nulled: &mut [u8],
+    spare: &mut [u8],
+) -> bool
+    requires { ⌜ Settleable (now s) (now places) (now order) (now rails) (length (now spare)) × OutputsThere (now s) (now outputs) × (length (now nulled) ≡ length (now rails)) × (2 * i + 1 < length (now rails)) ⌝ }
+    ensures { λ r. ⌜ r ≡ dataWithout (gatesAt (now (s .entry)) (now (places .entry)) (length (now (spare .entry)))) (pairsAt (now (s .entry)) (now (outputs .entry))) (now (rails .entry)) i ⌝ }
+{
+    copy(rails, nulled);
+    null_input(nulled, i);
+    settle::settle(s, places, order, nulled, spare);
+    all_data(s, outputs, nulled, spare)
+}
+
+// 14: the least input with which NULL, and the others as in the word, all outputs are DATA.
+fn missing_input(
+    s: &[u8],
+    places: &[u16],
+    order: &[u16],
+    outputs: &[u16],
+    rails: &[u8],
+    inputs: usize,
+    nulled: &mut [u8],
+    spare: &mut [u8],
+) -> Found
+    requires { ⌜ Settleable (now s) (now places) (now order) (now rails) (length (now spare)) × OutputsThere (now s) (now outputs) × (length (now nulled) ≡ length (now rails)) × (length (now rails) ≡ 2 * inputs) ⌝ }
+    ensures { λ r. ⌜ r ≡ least (dataWithout (gatesAt (now (s .entry)) (now (places .entry)) (length (now (spare .entry)))) (pairsAt (now (s .entry)) (now (outputs .entry))) (now (rails .entry))) 0 inputs ⌝ }
+{
+    let mut i: usize = 0;
+    while i < inputs {
+        if complete_without(s, places, order, outputs, rails, i, nulled, spare) {
+            return Found::At(i);
+        }
+        i += 1;
+    }
+    Found::Nothing
+}
+
+// The place of each gate in the order.
+fn invert(order: &[u16], position: &mut [u16])
+    requires { ⌜ EachOnce (now order) (length (now position)) ⌝ }
+    ensures { λ r. ⌜ PositionsIn (now (order .entry)) (now (position .exit)) (length (now (position .entry))) ⌝ }
+{
+    let mut i: usize = 0;
+    while i < position.len() {
+        let k = order[i] as usize;
+        position[k] = i as u16;
+        i += 1;
+    }
+}
+
+// 15 for one gate: whether it is high in the word and all outputs are still DATA once the stage has settled with it held low. Only
+// the gates from its place on are evaluated anew: those before it keep their levels.
+fn unobserved_at(
+    s: &[u8],
+    places: &[u16],
+    order: &[u16],
+    position: &[u16],
+    outputs: &[u16],
+    rails: &[u8],
+    levels: &[u8],
+    g: usize,
+    spare: &mut [u8],
+) -> bool
+    requires { ⌜ Settleable (now s) (now places) (now order) (now rails) (length (now levels)) × PositionsIn (now order) (now position) (length (now levels)) × OutputsThere (now s) (now outputs) × (now levels ≡ settledLevels (gatesAt (now s) (now places) (length (now levels))) (now rails)) × (length (now spare) ≡ length (now levels)) × (g < length (now levels)) ⌝ }
+    ensures { λ r. ⌜ r ≡ unobserved (gatesAt (now (s .entry)) (now (places .entry)) (length (now (levels .entry)))) (pairsAt (now (s .entry)) (now (outputs .entry))) (now (rails .entry)) g ⌝ }
+{
+    if levels[g] == 0 {
+        return false;
+    }
+    copy(levels, spare);
+    let start = position[g] as usize;
+    settle::settle_from(s, places, order, rails, spare, start, g);
+    all_data(s, outputs, rails, spare)
+}
+
+// 15: the least gate that is high in the word and with which held low all outputs are still DATA.
+fn unobserved_gate(
+    s: &[u8],
+    places: &[u16],
+    order: &[u16],
+    position: &[u16],
+    outputs: &[u16],
+    rails: &[u8],
+    levels: &[u8],
+    spare: &mut [u8],
+) -> Found
+    requires { ⌜ Settleable (now s) (now places) (now order) (now rails) (length (now levels)) × PositionsIn (now order) (now position) (length (now levels)) × OutputsThere (now s) (now outputs) × (now levels ≡ settledLevels (gatesAt (now s) (now places) (length (now levels))) (now rails)) × (length (now spare) ≡ length (now levels)) ⌝ }
+    ensures { λ r. ⌜ r ≡ least (unobserved (gatesAt (now (s .entry)) (now (places .entry)) (length (now (levels .entry)))) (pairsAt (now (s .entry)) (now (outputs .entry))) (now (rails .entry))) 0 (length (now (levels .entry))) ⌝ }
+{
+    let mut g: usize = 0;
+    while g < levels.len() {
+        if unobserved_at(s, places, order, position, outputs, rails, levels, g, spare) {
+            return Found::At(g);
+        }
+        g += 1;
     }
     Found::Nothing
 }
