@@ -1,10 +1,2 @@
-pub mod Spelling
-pub mod Operating
-pub mod Evaluating
-pub mod Seeking
-pub mod Pairs
-pub mod Copying
-pub mod Nulling
-pub mod AllData
 pub mod OneWord
-pub mod Inverting
+pub mod Sweeping

@@ -1,91 +1,117 @@
--- The checks 14 and 15 in one word: what settling anew with an input NULL or with a gate held low says of that input or gate, and
--- that a search over all inputs or gates is the check itself.
+-- One word of the sweeps: what each call in it asks for, and that what it finds is what the definition finds.
 -- Assumes nothing.
-use Prim.Native.Nat.{ℕ, _+_, _*_, _≤_, _<_}
+use Prim.Native.Nat.{ℕ, zero, suc, _+_, _-_, _*_, _/_, _%_, _≤_, _<_}
 use native.Mathlib.Omega.{arith}
-use mathlib.Core.Path.{_≡_, refl, sym, ap, _∙_, subst}
-use mathlib.Core.Bool.{Bool, true, false}
-use mathlib.Core.List.{List, _++_}
-use lib.ListN.{length, getD}
-use lib.Seq.{getD-append-add}
-use borrow.Author.Tests.{lt-ltb, le-ltb}
-use Rattle.netlist.specs.Content.{Gate, Pair, Stage}
-use Rattle.verdict.specs.Rows.{bitsOf, high, only, withNull, settledLevels, levelsHolding, settled, settledHolding, allData}
-use Rattle.verdict.specs.Checks.{least, railsIn, missingInput, unobservedGate}
-use Rattle.verdict.proofs.Words.{bits-of-length, rails-length}
+use mathlib.Core.Path.{_≡_, refl, sym, ap, subst, _∙_}
+use mathlib.Core.Bool.{Bool, not}
+use mathlib.Core.List.{List, [], _∷_, _++_, map}
+use lib.ListN.{length, getD, take, length-map}
+use lib.Seq.{take-all}
+use Rattle.netlist.specs.declared.Found.{Found}
+use Rattle.netlist.specs.Bytes.{operand}
+use Rattle.netlist.specs.Content.{Gate, Pair, pairAt}
+use Rattle.verdict.specs.Rows.{bitsOf, railsOf, settledLevels, pairIn, spells}
+use Rattle.verdict.specs.Answers.{answer, evaluate}
+use Rattle.verdict.specs.Checks.{least, noPair, wrongOutput, missingInput, unobservedGate}
+use Rattle.verdict.proofs.Words.{bits-of-length, bits-of-bit, rails-length}
 use Rattle.settle.specs.Gates.{gatesAt}
-use Rattle.settle.specs.Settling.{SettledBefore, Settleable}
+use Rattle.settle.specs.Settling.{Settleable}
 use Rattle.settle.proofs.Places.{length-gatesAt}
-use Rattle.settle.proofs.Settling.{holding-none, settled-before}
-use Rattle.checker.specs.Words.{dataWithout, unobserved}
-use Rattle.checker.specs.Positions.{PositionsIn}
+use Rattle.words.specs.Words.{dataWithout, unobserved}
+use Rattle.words.specs.Positions.{PositionsIn}
+use Rattle.words.specs.Operations.{operationsAt, OperationsThere}
+use Rattle.words.specs.Outputs.{OutputsThere, SignalsThere, misread, signalOf, pairsAt}
+use Rattle.words.proofs.OneWord.{missing-in, unobserved-in}
+use Rattle.checker.specs.Views.{stageAt, referenceAt, StageReady, ReferenceReady}
 
--- whether there is an order to settle in does not depend on the rails' levels, nor on which slice counts the gates
-pub settleable-alike : (s places order rails rails′ : List ℕ) (count m : ℕ) → length rails′ ≡ length rails → m ≡ count → Settleable s places order rails count → Settleable s places order rails′ m
-settleable-alike s places order rails rails′ count m e f h =
-    subst (Settleable s places order rails′) (sym f) (record { inputs = h .inputs; both = e ∙ h .both; there = h .there; ordered = h .ordered })
+-- the bits of a word do not depend on how many are asked for
+pub bits-prefix : (n m w : ℕ) → n ≤ m → take n (bitsOf m w) ≡ bitsOf n w
+unfolding bitsOf
+bits-prefix zero m w h = refl
+bits-prefix (suc n) zero w h = absurd (omega arith)
+bits-prefix (suc n) (suc m) w h = ap (λ (l : List ℕ). w % 2 ∷ l) (bits-prefix n m (w / 2) (omega arith))
 
--- ---- an input NULL
+-- what spelling asks for, and what it gives
+pub spell-ready : (n w : ℕ) (values rails : List ℕ) → values ≡ bitsOf (length values) w → n ≤ length values → length rails ≡ 2 * n → (length rails ≡ 2 * length (take n values)) × ((i : ℕ) → getD (take n values) i 0 ≤ 1)
+spell-ready n w values rails e h l =
+    let p : take n values ≡ bitsOf n w = ap (take n) e ∙ bits-prefix n (length values) w h in
+    (omega (arith, ap length p, bits-of-length n w), λ i. subst (λ (b : List ℕ). getD b i 0 ≤ 1) (sym p) (bits-of-bit n w i))
 
-pub data-without : (gates : List Gate) (pairs : List Pair) (rails copied nulled levels : List ℕ) (i : ℕ) (r : Bool) → copied ≡ rails → nulled ≡ withNull (only i) copied → levels ≡ settledLevels gates nulled → r ≡ allData (nulled ++ levels) pairs
-    → r ≡ dataWithout gates pairs rails i
-unfolding dataWithout
-data-without gates pairs rails copied nulled levels i r e f g h =
-    h ∙ ap (λ (l : List ℕ). allData (nulled ++ l) pairs) g ∙ ap (λ (x : List ℕ). allData (x ++ settledLevels gates x) pairs) (f ∙ ap (withNull (only i)) e)
+pub word-length : (n w : ℕ) → length (railsOf (bitsOf n w)) ≡ 2 * n
+word-length n w = rails-length (bitsOf n w) ∙ ap (λ (k : ℕ). 2 * k) (bits-of-length n w)
 
--- whichever slice counts the gates
-pub without-alike : (s places : List ℕ) (count m : ℕ) (pairs : List Pair) (rails : List ℕ) (i : ℕ) (r b : Bool) → m ≡ count → r ≡ dataWithout (gatesAt s places m) pairs rails i → r ≡ b → dataWithout (gatesAt s places count) pairs rails i ≡ b
-without-alike s places count m pairs rails i r b e h k = sym (h ∙ ap (λ (x : ℕ). dataWithout (gatesAt s places x) pairs rails i) e) ∙ k
+pub settle-ready : (s places order outputs : List ℕ) (n g w m : ℕ) (rails : List ℕ) → StageReady s places order outputs n g → rails ≡ railsOf (bitsOf n w) → m ≡ g → Settleable s places order rails m
+settle-ready s places order outputs n g w m rails r e f =
+    subst (Settleable s places order rails) (sym f) (record { inputs = n; both = ap length e ∙ word-length n w; there = r .there; ordered = r .ordered })
 
--- ---- a gate held low
+-- tests that agree have the same least number
+pub least-alike : (f g : ℕ → Bool) (j m : ℕ) → ((k : ℕ) → k < j + m → f k ≡ g k) → least f j m ≡ least g j m
+unfolding least
+least-alike f g j zero h = refl
+least-alike f g j (suc m) h = simp (h j (omega arith), least-alike f g (suc j) m (λ k l. h k (omega arith)))
 
-module _ (s places : List ℕ) (count : ℕ) (pairs : List Pair) (rails levels : List ℕ) (g : ℕ) (is : levels ≡ settledLevels (gatesAt s places count) rails) where
-  level-in : getD (settled (gatesAt s places count) rails) (length rails + g) 0 ≡ getD levels g 0
-  level-in = getD-append-add rails (settledLevels (gatesAt s places count) rails) g 0 ∙ sym (ap (λ (l : List ℕ). getD l g 0) is)
-
-  pub unobserved-low : getD levels g 0 ≡ 0 → false ≡ unobserved (gatesAt s places count) pairs rails g
-  unfolding unobserved
-  unobserved-low z = rw (le-ltb 0 (getD (settled (gatesAt s places count) rails) (length rails + g) 0) (omega (arith, level-in)), unobserved)
-
-  pub unobserved-high : (getD levels g 0 ≡ 0 → ⊥) → (m : ℕ) (held : List ℕ) (r : Bool) → m ≡ count → held ≡ levelsHolding g (gatesAt s places m) rails → r ≡ allData (rails ++ held) pairs → r ≡ unobserved (gatesAt s places count) pairs rails g
-  unfolding unobserved
-  unobserved-high d m held r c e h =
-      rw (lt-ltb 0 (getD (settled (gatesAt s places count) rails) (length rails + g) 0) (omega (arith, level-in, d)), unobserved)
-      (h ∙ ap (λ (l : List ℕ). allData (rails ++ l) pairs) (e ∙ ap (λ (x : ℕ). levelsHolding g (gatesAt s places x) rails) c))
-
--- The gates before gate g in the order are right with g held low as they are: none of them is g.
-module _ (s places order rails position : List ℕ) (count g : ℕ) (st : Settleable s places order rails count) (at : PositionsIn order position count) (hg : g < count) where
-  abbrev gates : List Gate
-  gates = gatesAt s places count
-
-  size : length gates ≡ count
-  size = length-gatesAt s places count (st .there .enough)
-
-  before-gate : (levels : List ℕ) → levels ≡ settledLevels gates rails → SettledBefore (getD position g 0) g gates order rails levels
-  before-gate levels is =
-      subst (SettledBefore (getD position g 0) g gates order rails) (holding-none gates rails ∙ sym is)
-      (settled-before (st .inputs) g gates order rails (st .ordered) (st .both) (length gates) (getD position g 0) (omega (arith, size, at .within g hg))
-      (λ i h e. omega (arith, st .ordered .once i (getD position g 0) (omega (arith, size, at .within g hg)) (omega (arith, size, at .within g hg)) (e ∙ sym (at .stands g hg))))
-      (λ i h e. omega (arith, st .ordered .gate i (omega (arith, size, at .within g hg)))))
-
-  -- what settling from g's place on asks for
-  pub hold-ready : (levels spare : List ℕ) → levels ≡ settledLevels gates rails → spare ≡ levels → length spare ≡ count
-      → Settleable s places order rails (length spare) × (getD position g 0 ≤ length spare) × SettledBefore (getD position g 0) g (gatesAt s places (length spare)) order rails spare
-  hold-ready levels spare is e l = (
-    settleable-alike s places order rails rails count (length spare) refl l st,
-    omega (arith, at .within g hg),
-    subst (λ (m : ℕ). SettledBefore (getD position g 0) g (gatesAt s places m) order rails spare) (sym l) (before-gate spare (e ∙ is)),
+module _ (t operations signals : List ℕ) (n known o : ℕ) (r : ReferenceReady t operations signals n known o) (values : List ℕ) (long : length values ≡ known) where
+  pub evaluate-ready : (w : ℕ) → values ≡ bitsOf known w → OperationsThere t operations n (length values - n) × (n + (length values - n) ≤ length values) × ((i : ℕ) → getD values i 0 ≤ 1)
+  evaluate-ready w e = (
+    subst (λ (k : ℕ). OperationsThere t operations n (k - n)) (sym long) (r .there),
+    omega (arith, r .inputs-known),
+    λ i. subst (λ (b : List ℕ). getD b i 0 ≤ 1) (sym e) (bits-of-bit known w i),
   )
 
--- ---- the searches are the checks' own
+pub signals-ready : (t operations signals : List ℕ) (n known o m : ℕ) → ReferenceReady t operations signals n known o → m ≡ known → SignalsThere t signals o m
+signals-ready t operations signals n known o m r e = subst (SignalsThere t signals o) (sym e) (r .signals-there)
 
-module _ (s : Stage) (w : ℕ) where
-  pub missing-in : least (dataWithout (s .gates) (s .outputs) (railsIn s w)) 0 (s .inputs) ≡ missingInput s w
-  unfolding dataWithout missingInput
-  missing-in = refl
+getD-at : {A B : Type 0} (f : A → B) (xs : List A) (j : ℕ) (d : A) (d′ : B) → j < length xs → getD (map f xs) j d′ ≡ f (getD xs j d)
+getD-at f [] j d d′ h = absurd (omega arith)
+getD-at f (x ∷ xs) zero d d′ h = refl
+getD-at f (x ∷ xs) (suc j) d d′ h = getD-at f xs j d d′ (omega arith)
 
-  pub unobserved-in : least (unobserved (s .gates) (s .outputs) (railsIn s w)) 0 (length (s .gates)) ≡ unobservedGate s w
-  unfolding unobserved unobservedGate
-  unobserved-in =
-      ap (λ (first : ℕ). least (λ g. elim (high (settled (s .gates) (railsIn s w)) (first + g)) as (λ b. Bool) [ true ↦ allData (settledHolding g (s .gates) (railsIn s w)) (s .outputs) | false ↦ false ]) 0 (length (s .gates)))
-      (rails-length (bitsOf (s .inputs) w) ∙ ap (λ (n : ℕ). 2 * n) (bits-of-length (s .inputs) w))
+-- 13
+module _ (s places outputs t operations signals : List ℕ) (n g known w : ℕ) (r : ReferenceReady t operations signals n known (length outputs)) where
+  pub wrong-in : (bits rails levels values : List ℕ) (found : Found) → bits ≡ bitsOf known w → rails ≡ railsOf (bitsOf n w) → levels ≡ settledLevels (gatesAt s places g) rails → length values ≡ known
+      → take (n + (length bits - n)) values ≡ evaluate (take n bits) (operationsAt t operations (length bits - n))
+      → found ≡ least (misread s outputs (rails ++ levels) t signals values) 0 (length outputs)
+      → found ≡ wrongOutput (stageAt s n places g outputs) (referenceAt t n operations (known - n) signals) w
+  unfolding wrongOutput answer
+  wrong-in bits rails levels values found eb er el lv ev ef =
+      let lb : length bits ≡ known = ap length eb ∙ bits-of-length known w in
+      let row : rails ++ levels ≡ railsOf (bitsOf n w) ++ settledLevels (gatesAt s places g) (railsOf (bitsOf n w)) = ap (λ (l : List ℕ). rails ++ l) el ∙ ap (λ (x : List ℕ). x ++ settledLevels (gatesAt s places g) x) er in
+      let all : n + (length bits - n) ≡ length values = omega (arith, r .inputs-known) in
+      let vs : values ≡ evaluate (bitsOf n w) (operationsAt t operations (known - n)) =
+          sym (take-all (n + (length bits - n)) values (omega (arith, all))) ∙ ev ∙ ap (λ (b : List ℕ). evaluate b (operationsAt t operations (length bits - n))) (ap (take n) eb ∙ bits-prefix n known w (r .inputs-known)) ∙ ap (λ (k : ℕ). evaluate (bitsOf n w) (operationsAt t operations (k - n))) lb in
+      ef ∙ least-alike (misread s outputs (rails ++ levels) t signals values) _ 0 (length outputs)
+      (λ j h.
+          ap (λ (x : List ℕ). not (spells (pairIn x (pairAt s (getD outputs j 0))) (getD values (signalOf t signals j) 0))) row
+          ∙ ap (λ (p : Pair). not (spells (pairIn (railsOf (bitsOf n w) ++ settledLevels (gatesAt s places g) (railsOf (bitsOf n w))) p) (getD values (signalOf t signals j) 0))) (sym (getD-at (pairAt s) outputs j 0 noPair (omega arith)))
+          ∙ ap (λ (v : ℕ). not (spells (pairIn (railsOf (bitsOf n w) ++ settledLevels (gatesAt s places g) (railsOf (bitsOf n w))) (getD (pairsAt s outputs) j noPair)) v))
+          (ap (λ (vals : List ℕ). getD vals (signalOf t signals j) 0) vs
+          ∙ sym (getD-at (λ (v : ℕ). getD (evaluate (bitsOf n w) (operationsAt t operations (known - n))) v 0) (map (λ p. operand t (p + 1)) signals) j 0 0 (omega (arith, length-map signals (λ p. operand t (p + 1)), r .as-many))
+          ∙ ap (λ (v : ℕ). getD (evaluate (bitsOf n w) (operationsAt t operations (known - n))) v 0) (getD-at (λ p. operand t (p + 1)) signals j 0 0 (omega (arith, r .as-many))))))
+      ∙ ap (least _ 0) (sym (length-map outputs (pairAt s)))
+
+-- 14 and 15
+module _ (s places order outputs : List ℕ) (n g w : ℕ) (ready : StageReady s places order outputs n g) (rails : List ℕ) (er : rails ≡ railsOf (bitsOf n w)) where
+  pub missing-ready : (nulled : ℕ) → nulled ≡ 2 * n → Settleable s places order rails g × OutputsThere s outputs × (nulled ≡ length rails) × (length rails ≡ 2 * n)
+  missing-ready nulled e =
+      let l : length rails ≡ 2 * n = ap length er ∙ word-length n w in
+      (settle-ready s places order outputs n g w g rails ready er refl, ready .outputs-there, omega arith, l)
+
+  pub missing-word : (found : Found) → found ≡ least (dataWithout (gatesAt s places g) (pairsAt s outputs) rails) 0 n → found ≡ missingInput (stageAt s n places g outputs) w
+  missing-word found e = e ∙ ap (λ (x : List ℕ). least (dataWithout (gatesAt s places g) (pairsAt s outputs) x) 0 n) er ∙ missing-in (stageAt s n places g outputs) w
+
+  pub unobserved-ready : (position levels : List ℕ) (spare : ℕ) → PositionsIn order position g → length levels ≡ g → levels ≡ settledLevels (gatesAt s places g) rails → spare ≡ g
+      → Settleable s places order rails (length levels) × PositionsIn order position (length levels) × OutputsThere s outputs × (levels ≡ settledLevels (gatesAt s places (length levels)) rails) × (spare ≡ length levels)
+  unobserved-ready position levels spare p k e f = (
+    settle-ready s places order outputs n g w (length levels) rails ready er k,
+    subst (PositionsIn order position) (sym k) p,
+    ready .outputs-there,
+    e ∙ ap (λ (m : ℕ). settledLevels (gatesAt s places m) rails) (sym k),
+    omega arith,
+  )
+
+  pub unobserved-word : (m : ℕ) (found : Found) → m ≡ g → found ≡ least (unobserved (gatesAt s places m) (pairsAt s outputs) rails) 0 m → found ≡ unobservedGate (stageAt s n places g outputs) w
+  unobserved-word m found k e =
+      e ∙ ap (λ (i : ℕ). least (unobserved (gatesAt s places i) (pairsAt s outputs) rails) 0 i) k
+      ∙ ap (least (unobserved (gatesAt s places g) (pairsAt s outputs) rails) 0) (sym (length-gatesAt s places g (ready .there .enough)))
+      ∙ ap (λ (x : List ℕ). least (unobserved (gatesAt s places g) (pairsAt s outputs) x) 0 (length (gatesAt s places g))) er
+      ∙ unobserved-in (stageAt s n places g outputs) w

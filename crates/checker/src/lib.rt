@@ -1,314 +1,252 @@
 // The check of a stage against a reference: the sweeps of 13, 14 and 15 over all words, and the verdict on two files.
 use netlist::Found;
+use verdict::Finding;
+use verdict::Verdict;
 ghost use mathlib.Core.Path.{_≡_};
-ghost use mathlib.Core.List.{List, _∷_, [], _++_};
-ghost use Prim.Native.Nat.{ℕ, _+_, _*_, _≤_, _<_, min, max};
-ghost use lib.ListN.{length, getD, take};
-ghost use Rattle.netlist.specs.declared.File.the-variants as file;
-ghost use Rattle.netlist.specs.Content.{codedAt, pairAt};
-ghost use Rattle.verdict.specs.Rows.{bitsOf, railsOf, only, withNull, settledLevels, pairIn, isData, spells, allData};
-ghost use Rattle.verdict.specs.Checks.{least};
-ghost use Rattle.verdict.specs.Answers as answers;
-ghost use Rattle.settle.specs.Gates.{gatesAt};
-ghost use Rattle.settle.specs.Settling.{Settleable};
-ghost use Rattle.checker.specs.Outputs.{OutputsThere, pairsAt, notData, SignalsThere, misread};
-ghost use Rattle.checker.specs.Operations.{operationsAt, OperationThere, OperationsThere};
-ghost use Rattle.checker.specs.Words.{dataWithout, unobserved};
-ghost use Rattle.checker.specs.Positions.{EachOnce, PositionsIn};
+ghost use mathlib.Core.List.{_∷_, []};
+ghost use Prim.Native.Nat.{ℕ, _+_, _*_, _-_, _^_, _≤_, _<_};
+ghost use lib.ListN.{length};
+ghost use Rattle.verdict.specs.Rows.{bitsOf, railsOf};
+ghost use Rattle.verdict.specs.Checks as checks;
+ghost use Rattle.words.specs.Positions.{PositionsIn};
+ghost use Rattle.verdict.specs.Verdicts as verdicts;
+ghost use Rattle.checker.specs.declared.Sweep.the-variants.{Wrong, Missing, Unobserved};
+ghost use Rattle.checker.specs.Views.{stageAt, referenceAt, StageReady, ReferenceReady, Ready};
+ghost use Rattle.checker.specs.Sweeps.{numberOf, finds, swept};
 
-// ---- words
-
-// The bits of word w: input i has bit i.
-fn word_bits(w: usize, bits: &mut [u8])
-    ensures { λ r. ⌜ now (bits .exit) ≡ bitsOf (length (now (bits .entry))) w ⌝ }
-{
-    let mut rest = w;
-    let mut i: usize = 0;
-    while i < bits.len() {
-        bits[i] = (rest % 2) as u8;
-        rest = rest / 2;
-        i += 1;
-    }
-}
-
-// The rails that spell some bits: rail 0 of an input is high for 0, rail 1 for 1.
-fn spell_rails(bits: &[u8], rails: &mut [u8])
-    requires { ⌜ (length (now rails) ≡ 2 * length (now bits)) × ((i : ℕ) → getD (now bits) i 0 ≤ 1) ⌝ }
-    ensures { λ r. ⌜ now (rails .exit) ≡ railsOf (now (bits .entry)) ⌝ }
-{
-    let mut i: usize = 0;
-    while i < bits.len() {
-        let b = bits[i];
-        rails[2 * i] = 1 - b;
-        rails[2 * i + 1] = b;
-        i += 1;
-    }
-}
-
-// ---- the reference's answer
-
-fn both(a: u8, b: u8) -> u8
-    ensures { λ r. ⌜ r ≡ min a b ⌝ }
-{
-    if a < b { a } else { b }
-}
-
-fn either(a: u8, b: u8) -> u8
-    ensures { λ r. ⌜ r ≡ max a b ⌝ }
-{
-    if a < b { b } else { a }
-}
-
-// An operation on two bits: 1 NOT, 2 AND, 3 OR, 4 XOR, 5 NAND, 6 NOR. NOT has only the first.
-fn operate(operation: u8, a: u8, b: u8) -> u8
-    requires { ⌜ (a ≤ 1) × (b ≤ 1) ⌝ }
-    ensures { λ r. ⌜ (r ≡ answers.operate operation (a ∷ b ∷ [])) × (r ≤ 1) ⌝ }
-{
-    match operation {
-        1 => 1 - a,
-        2 => both(a, b),
-        3 => either(a, b),
-        4 => (a + b) % 2,
-        5 => 1 - both(a, b),
-        6 => 1 - either(a, b),
-        _ => 0,
-    }
-}
-
-// The value of the gate at a place, from the values of the signals before it.
-fn gate_value(t: &[u8], place: usize, values: &[u8], known: usize) -> u8
-    requires { ⌜ (known ≤ length (now values)) × OperationThere (now t) known place × ((i : ℕ) → getD (now values) i 0 ≤ 1) ⌝ }
-    ensures { λ r. ⌜ (r ≡ answers.operate (codedAt file.Reference (now (t .entry)) place .code) (answers.valuesAt (take known (now (values .entry))) (codedAt file.Reference (now (t .entry)) place .operands))) × (r ≤ 1) ⌝ }
-{
-    let operation = t[place + 1];
-    let first = netlist::operand(t, place + 2) as usize;
-    let a = values[first];
-    if operation == 1 {
-        return 1 - a;
-    }
-    let second = netlist::operand(t, place + 4) as usize;
-    operate(operation, a, values[second])
-}
-
-// The values of all signals: the inputs' are there, and each gate's is written after those before it.
-fn evaluate(t: &[u8], places: &[u16], inputs: usize, count: usize, values: &mut [u8])
-    requires { ⌜ OperationsThere (now t) (now places) inputs count × (inputs + count ≤ length (now values)) × ((i : ℕ) → getD (now values) i 0 ≤ 1) ⌝ }
-    ensures { λ r. ⌜ (take (inputs + count) (now (values .exit)) ≡ answers.evaluate (take inputs (now (values .entry))) (operationsAt (now (t .entry)) (now (places .entry)) count)) × ((i : ℕ) → getD (now (values .exit)) i 0 ≤ 1) ⌝ }
-{
-    let mut k: usize = 0;
-    while k < count {
-        let place = places[k] as usize;
-        values[inputs + k] = gate_value(t, place, values, inputs + k);
-        k += 1;
-    }
-}
-
-// ---- output pairs
-
-// Whether the output at a place is DATA: exactly one of its rails is high.
-fn is_data(s: &[u8], place: usize, rails: &[u8], levels: &[u8]) -> bool
-    requires { ⌜ place + 5 ≤ length (now s) ⌝ }
-    ensures { λ r. ⌜ r ≡ isData (pairIn (now (rails .entry) ++ now (levels .entry)) (pairAt (now (s .entry)) place)) ⌝ }
-{
-    let rail0 = settle::level(rails, levels, netlist::operand(s, place + 1));
-    let rail1 = settle::level(rails, levels, netlist::operand(s, place + 3));
-    rail0 != rail1
-}
-
-// Whether the output at a place is DATA1 for the value 1 and DATA0 for 0.
-fn reads_as(s: &[u8], place: usize, rails: &[u8], levels: &[u8], value: u8) -> bool
-    requires { ⌜ (place + 5 ≤ length (now s)) × (value ≤ 1) ⌝ }
-    ensures { λ r. ⌜ r ≡ spells (pairIn (now (rails .entry) ++ now (levels .entry)) (pairAt (now (s .entry)) place)) value ⌝ }
-{
-    let rail0 = settle::level(rails, levels, netlist::operand(s, place + 1));
-    let rail1 = settle::level(rails, levels, netlist::operand(s, place + 3));
-    if rail1 == value {
-        rail0 + value == 1
-    } else {
-        false
-    }
-}
-
-// The least output that is not DATA.
-fn first_not_data(s: &[u8], outputs: &[u16], rails: &[u8], levels: &[u8]) -> Found
-    requires { ⌜ OutputsThere (now s) (now outputs) ⌝ }
-    ensures { λ r. ⌜ r ≡ least (notData (now (s .entry)) (now (outputs .entry)) (now (rails .entry) ++ now (levels .entry))) 0 (length (now (outputs .entry))) ⌝ }
-{
-    let mut j: usize = 0;
-    while j < outputs.len() {
-        let place = outputs[j] as usize;
-        if is_data(s, place, rails, levels) {
-            j += 1;
-        } else {
-            return Found::At(j);
-        }
-    }
-    Found::Nothing
-}
-
-// The least output that does not read as the value of its signal in the reference.
-fn first_misread(
-    s: &[u8],
-    outputs: &[u16],
-    rails: &[u8],
-    levels: &[u8],
-    t: &[u8],
-    signals: &[u16],
-    values: &[u8],
-) -> Found
-    requires { ⌜ OutputsThere (now s) (now outputs) × SignalsThere (now t) (now signals) (length (now outputs)) (length (now values)) × ((i : ℕ) → getD (now values) i 0 ≤ 1) ⌝ }
-    ensures { λ r. ⌜ r ≡ least (misread (now (s .entry)) (now (outputs .entry)) (now (rails .entry) ++ now (levels .entry)) (now (t .entry)) (now (signals .entry)) (now (values .entry))) 0 (length (now (outputs .entry))) ⌝ }
-{
-    let mut j: usize = 0;
-    while j < outputs.len() {
-        let at = signals[j] as usize;
-        let signal = netlist::operand(t, at + 1) as usize;
-        let place = outputs[j] as usize;
-        if reads_as(s, place, rails, levels, values[signal]) {
-            j += 1;
-        } else {
-            return Found::At(j);
-        }
-    }
-    Found::Nothing
+// The checks that go over all words: 13, 14 and 15.
+pub enum Sweep {
+    Wrong,
+    Missing,
+    Unobserved,
 }
 
 // ---- one word
 
-// Each byte becomes that of the other slice.
-fn copy(from: &[u8], to: &mut [u8])
-    requires { ⌜ length (now to) ≡ length (now from) ⌝ }
-    ensures { λ r. ⌜ now (to .exit) ≡ now (from .entry) ⌝ }
+// The bits of word w at the front of the reference's values, and the rails that spell them.
+fn set_word(w: usize, inputs: usize, values: &mut [u8], rails: &mut [u8])
+    requires { ⌜ (length (now rails) ≡ 2 * inputs) × (inputs ≤ length (now values)) ⌝ }
+    ensures { λ r. ⌜ (now (values .exit) ≡ bitsOf (length (now (values .entry))) w) × (now (rails .exit) ≡ railsOf (bitsOf inputs w)) ⌝ }
 {
-    let mut i: usize = 0;
-    while i < from.len() {
-        to[i] = from[i];
-        i += 1;
-    }
+    words::word_bits(w, values);
+    words::spell_rails(&values[..inputs], rails);
 }
 
-// Input i becomes NULL: both of its rails are low.
-fn null_input(rails: &mut [u8], i: usize)
-    requires { ⌜ 2 * i + 1 < length (now rails) ⌝ }
-    ensures { λ r. ⌜ now (rails .exit) ≡ withNull (only i) (now (rails .entry)) ⌝ }
-{
-    rails[2 * i] = 0;
-    rails[2 * i + 1] = 0;
-}
-
-// Whether all outputs are DATA.
-fn all_data(s: &[u8], outputs: &[u16], rails: &[u8], levels: &[u8]) -> bool
-    requires { ⌜ OutputsThere (now s) (now outputs) ⌝ }
-    ensures { λ r. ⌜ r ≡ allData (now (rails .entry) ++ now (levels .entry)) (pairsAt (now (s .entry)) (now (outputs .entry))) ⌝ }
-{
-    match first_not_data(s, outputs, rails, levels) {
-        Found::At(_) => false,
-        Found::Nothing => true,
-    }
-}
-
-// 14 for one input: whether all outputs are DATA once the stage has settled with input i NULL and the others as in the word.
-fn complete_without(
+// 13 in word w.
+fn wrong_output(
     s: &[u8],
     places: &[u16],
     order: &[u16],
     outputs: &[u16],
-    rails: &[u8],
-    i: usize,
-    nulled: &mut [u8],
-    spare: &mut [u8],
-) -> bool
-    requires { ⌜ Settleable (now s) (now places) (now order) (now rails) (length (now spare)) × OutputsThere (now s) (now outputs) × (length (now nulled) ≡ length (now rails)) × (2 * i + 1 < length (now rails)) ⌝ }
-    ensures { λ r. ⌜ r ≡ dataWithout (gatesAt (now (s .entry)) (now (places .entry)) (length (now (spare .entry)))) (pairsAt (now (s .entry)) (now (outputs .entry))) (now (rails .entry)) i ⌝ }
+    t: &[u8],
+    operations: &[u16],
+    signals: &[u16],
+    inputs: usize,
+    w: usize,
+    values: &mut [u8],
+    rails: &mut [u8],
+    levels: &mut [u8],
+) -> Found
+    requires { ⌜ StageReady (now s) (now places) (now order) (now outputs) inputs (length (now levels)) × ReferenceReady (now t) (now operations) (now signals) inputs (length (now values)) (length (now outputs)) × (length (now rails) ≡ 2 * inputs) ⌝ }
+    ensures { λ r. ⌜ r ≡ checks.wrongOutput (stageAt (now (s .entry)) inputs (now (places .entry)) (length (now (levels .entry))) (now (outputs .entry))) (referenceAt (now (t .entry)) inputs (now (operations .entry)) (length (now (values .entry)) - inputs) (now (signals .entry))) w ⌝ }
 {
-    copy(rails, nulled);
-    null_input(nulled, i);
-    settle::settle(s, places, order, nulled, spare);
-    all_data(s, outputs, nulled, spare)
+    set_word(w, inputs, values, rails);
+    settle::settle(s, places, order, rails, levels);
+    let count = values.len() - inputs;
+    words::evaluate(t, operations, inputs, count, values);
+    words::first_misread(s, outputs, rails, levels, t, signals, values)
 }
 
-// 14: the least input with which NULL, and the others as in the word, all outputs are DATA.
+// 14 in word w.
 fn missing_input(
     s: &[u8],
     places: &[u16],
     order: &[u16],
     outputs: &[u16],
-    rails: &[u8],
     inputs: usize,
+    w: usize,
+    values: &mut [u8],
+    rails: &mut [u8],
     nulled: &mut [u8],
     spare: &mut [u8],
 ) -> Found
-    requires { ⌜ Settleable (now s) (now places) (now order) (now rails) (length (now spare)) × OutputsThere (now s) (now outputs) × (length (now nulled) ≡ length (now rails)) × (length (now rails) ≡ 2 * inputs) ⌝ }
-    ensures { λ r. ⌜ r ≡ least (dataWithout (gatesAt (now (s .entry)) (now (places .entry)) (length (now (spare .entry)))) (pairsAt (now (s .entry)) (now (outputs .entry))) (now (rails .entry))) 0 inputs ⌝ }
+    requires { ⌜ StageReady (now s) (now places) (now order) (now outputs) inputs (length (now spare)) × (inputs ≤ length (now values)) × (length (now rails) ≡ 2 * inputs) × (length (now nulled) ≡ 2 * inputs) ⌝ }
+    ensures { λ r. ⌜ r ≡ checks.missingInput (stageAt (now (s .entry)) inputs (now (places .entry)) (length (now (spare .entry))) (now (outputs .entry))) w ⌝ }
 {
-    let mut i: usize = 0;
-    while i < inputs {
-        if complete_without(s, places, order, outputs, rails, i, nulled, spare) {
-            return Found::At(i);
-        }
-        i += 1;
-    }
-    Found::Nothing
+    set_word(w, inputs, values, rails);
+    words::missing_input(s, places, order, outputs, rails, inputs, nulled, spare)
 }
 
-// The place of each gate in the order.
-fn invert(order: &[u16], position: &mut [u16])
-    requires { ⌜ EachOnce (now order) (length (now position)) ⌝ }
-    ensures { λ r. ⌜ PositionsIn (now (order .entry)) (now (position .exit)) (length (now (position .entry))) ⌝ }
-{
-    let mut i: usize = 0;
-    while i < position.len() {
-        let k = order[i] as usize;
-        position[k] = i as u16;
-        i += 1;
-    }
-}
-
-// 15 for one gate: whether it is high in the word and all outputs are still DATA once the stage has settled with it held low. Only
-// the gates from its place on are evaluated anew: those before it keep their levels.
-fn unobserved_at(
-    s: &[u8],
-    places: &[u16],
-    order: &[u16],
-    position: &[u16],
-    outputs: &[u16],
-    rails: &[u8],
-    levels: &[u8],
-    g: usize,
-    spare: &mut [u8],
-) -> bool
-    requires { ⌜ Settleable (now s) (now places) (now order) (now rails) (length (now levels)) × PositionsIn (now order) (now position) (length (now levels)) × OutputsThere (now s) (now outputs) × (now levels ≡ settledLevels (gatesAt (now s) (now places) (length (now levels))) (now rails)) × (length (now spare) ≡ length (now levels)) × (g < length (now levels)) ⌝ }
-    ensures { λ r. ⌜ r ≡ unobserved (gatesAt (now (s .entry)) (now (places .entry)) (length (now (levels .entry)))) (pairsAt (now (s .entry)) (now (outputs .entry))) (now (rails .entry)) g ⌝ }
-{
-    if levels[g] == 0 {
-        return false;
-    }
-    copy(levels, spare);
-    let start = position[g] as usize;
-    settle::settle_from(s, places, order, rails, spare, start, g);
-    all_data(s, outputs, rails, spare)
-}
-
-// 15: the least gate that is high in the word and with which held low all outputs are still DATA.
+// 15 in word w.
 fn unobserved_gate(
     s: &[u8],
     places: &[u16],
     order: &[u16],
     position: &[u16],
     outputs: &[u16],
-    rails: &[u8],
-    levels: &[u8],
+    inputs: usize,
+    w: usize,
+    values: &mut [u8],
+    rails: &mut [u8],
+    levels: &mut [u8],
     spare: &mut [u8],
 ) -> Found
-    requires { ⌜ Settleable (now s) (now places) (now order) (now rails) (length (now levels)) × PositionsIn (now order) (now position) (length (now levels)) × OutputsThere (now s) (now outputs) × (now levels ≡ settledLevels (gatesAt (now s) (now places) (length (now levels))) (now rails)) × (length (now spare) ≡ length (now levels)) ⌝ }
-    ensures { λ r. ⌜ r ≡ least (unobserved (gatesAt (now (s .entry)) (now (places .entry)) (length (now (levels .entry)))) (pairsAt (now (s .entry)) (now (outputs .entry))) (now (rails .entry))) 0 (length (now (levels .entry))) ⌝ }
+    requires { ⌜ StageReady (now s) (now places) (now order) (now outputs) inputs (length (now levels)) × PositionsIn (now order) (now position) (length (now levels)) × (inputs ≤ length (now values)) × (length (now rails) ≡ 2 * inputs) × (length (now spare) ≡ length (now levels)) ⌝ }
+    ensures { λ r. ⌜ r ≡ checks.unobservedGate (stageAt (now (s .entry)) inputs (now (places .entry)) (length (now (levels .entry))) (now (outputs .entry))) w ⌝ }
 {
-    let mut g: usize = 0;
-    while g < levels.len() {
-        if unobserved_at(s, places, order, position, outputs, rails, levels, g, spare) {
-            return Found::At(g);
-        }
-        g += 1;
+    set_word(w, inputs, values, rails);
+    settle::settle(s, places, order, rails, levels);
+    words::unobserved_gate(s, places, order, position, outputs, rails, levels, spare)
+}
+
+// ---- all words
+
+// How many words so many inputs have.
+fn word_count(inputs: usize) -> usize
+    requires { ⌜ inputs ≤ 10 ⌝ }
+    ensures { λ r. ⌜ (r ≡ 2 ^ inputs) × (r ≤ 1024) ⌝ }
+{
+    let mut count: usize = 1;
+    let mut i: usize = 0;
+    while i < inputs {
+        count = 2 * count;
+        i += 1;
     }
-    Found::Nothing
+    count
+}
+
+// What one of the checks finds in word w.
+fn find(
+    which: Sweep,
+    s: &[u8],
+    places: &[u16],
+    order: &[u16],
+    position: &[u16],
+    outputs: &[u16],
+    t: &[u8],
+    operations: &[u16],
+    signals: &[u16],
+    inputs: usize,
+    w: usize,
+    values: &mut [u8],
+    rails: &mut [u8],
+    nulled: &mut [u8],
+    levels: &mut [u8],
+    spare: &mut [u8],
+) -> Found
+    requires { ⌜ Ready (now s) (now places) (now order) (now position) (now outputs) (now t) (now operations) (now signals) inputs (length (now values)) (length (now rails)) (length (now nulled)) (length (now levels)) (length (now spare)) ⌝ }
+    ensures { λ r. ⌜ r ≡ finds which (stageAt (now (s .entry)) inputs (now (places .entry)) (length (now (levels .entry))) (now (outputs .entry))) (referenceAt (now (t .entry)) inputs (now (operations .entry)) (length (now (values .entry)) - inputs) (now (signals .entry))) w ⌝ }
+{
+    match which {
+        Sweep::Wrong => wrong_output(
+            s, places, order, outputs, t, operations, signals, inputs, w, values, rails, levels,
+        ),
+        Sweep::Missing => missing_input(
+            s, places, order, outputs, inputs, w, values, rails, nulled, spare,
+        ),
+        Sweep::Unobserved => unobserved_gate(
+            s, places, order, position, outputs, inputs, w, values, rails, levels, spare,
+        ),
+    }
+}
+
+// The number of a check.
+fn number_of(which: Sweep) -> u64
+    ensures { λ r. ⌜ r ≡ numberOf which ⌝ }
+{
+    match which {
+        Sweep::Wrong => 13,
+        Sweep::Missing => 14,
+        Sweep::Unobserved => 15,
+    }
+}
+
+// What one of the checks finds in all words: the least word with a fault, and the least fault in it.
+fn sweep_words(
+    which: Sweep,
+    s: &[u8],
+    places: &[u16],
+    order: &[u16],
+    position: &[u16],
+    outputs: &[u16],
+    t: &[u8],
+    operations: &[u16],
+    signals: &[u16],
+    inputs: usize,
+    values: &mut [u8],
+    rails: &mut [u8],
+    nulled: &mut [u8],
+    levels: &mut [u8],
+    spare: &mut [u8],
+) -> Finding
+    requires { ⌜ Ready (now s) (now places) (now order) (now position) (now outputs) (now t) (now operations) (now signals) inputs (length (now values)) (length (now rails)) (length (now nulled)) (length (now levels)) (length (now spare)) ⌝ }
+    ensures { λ r. ⌜ r ≡ swept which (stageAt (now (s .entry)) inputs (now (places .entry)) (length (now (levels .entry))) (now (outputs .entry))) (referenceAt (now (t .entry)) inputs (now (operations .entry)) (length (now (values .entry)) - inputs) (now (signals .entry))) ⌝ }
+{
+    let number = number_of(which);
+    let count = word_count(inputs);
+    let mut w: usize = 0;
+    while w < count {
+        if let Found::At(i) = find(
+            which, s, places, order, position, outputs, t, operations, signals, inputs, w, values,
+            rails, nulled, levels, spare,
+        ) {
+            return Finding::Fault(Verdict {
+                number,
+                file: 1,
+                at: i as u64,
+                word: w as u64,
+            });
+        }
+        w += 1;
+    }
+    Finding::Clear
+}
+
+// 13, then 14, then 15.
+fn sweep_all(
+    s: &[u8],
+    places: &[u16],
+    order: &[u16],
+    position: &[u16],
+    outputs: &[u16],
+    t: &[u8],
+    operations: &[u16],
+    signals: &[u16],
+    inputs: usize,
+    values: &mut [u8],
+    rails: &mut [u8],
+    nulled: &mut [u8],
+    levels: &mut [u8],
+    spare: &mut [u8],
+) -> Verdict
+    requires { ⌜ Ready (now s) (now places) (now order) (now position) (now outputs) (now t) (now operations) (now signals) inputs (length (now values)) (length (now rails)) (length (now nulled)) (length (now levels)) (length (now spare)) ⌝ }
+    ensures { λ r. ⌜ r ≡ verdicts.firstFault (swept Wrong (stageAt (now (s .entry)) inputs (now (places .entry)) (length (now (levels .entry))) (now (outputs .entry))) (referenceAt (now (t .entry)) inputs (now (operations .entry)) (length (now (values .entry)) - inputs) (now (signals .entry))) ∷ swept Missing (stageAt (now (s .entry)) inputs (now (places .entry)) (length (now (levels .entry))) (now (outputs .entry))) (referenceAt (now (t .entry)) inputs (now (operations .entry)) (length (now (values .entry)) - inputs) (now (signals .entry))) ∷ swept Unobserved (stageAt (now (s .entry)) inputs (now (places .entry)) (length (now (levels .entry))) (now (outputs .entry))) (referenceAt (now (t .entry)) inputs (now (operations .entry)) (length (now (values .entry)) - inputs) (now (signals .entry))) ∷ []) ⌝ }
+{
+    if let Finding::Fault(v) = sweep_words(
+        Sweep::Wrong,
+        s, places, order, position, outputs, t, operations, signals, inputs, values, rails, nulled,
+        levels, spare,
+    ) {
+        return v;
+    }
+    if let Finding::Fault(v) = sweep_words(
+        Sweep::Missing,
+        s, places, order, position, outputs, t, operations, signals, inputs, values, rails, nulled,
+        levels, spare,
+    ) {
+        return v;
+    }
+    if let Finding::Fault(v) = sweep_words(
+        Sweep::Unobserved,
+        s, places, order, position, outputs, t, operations, signals, inputs, values, rails, nulled,
+        levels, spare,
+    ) {
+        return v;
+    }
+    Verdict {
+        number: 0,
+        file: 0,
+        at: 0,
+        word: 0,
+    }
 }

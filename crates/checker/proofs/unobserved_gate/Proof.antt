@@ -1,61 +1,45 @@
--- `checker::unobserved_gate` meets its contract. The loop's invariant: each gate before g is low, or some output is not DATA with it held low. Assumes nothing.
-use borrow.Author.Needs.{needs}
-use Prim.Native.Nat.{_-_}
-use mathlib.Core.Path.{_≡_, refl, sym, _∙_}
-use lib.ListN.{length}
+-- `checker::unobserved_gate` meets its contract. Assumes nothing.
+use mathlib.Core.Path.{refl}
 use native.Mathlib.Omega.{arith}
-use Rattle.settle.specs.Gates.{gatesAt}
-use Rattle.checker.specs.Outputs.{pairsAt}
-use Rattle.checker.specs.Words.{unobserved}
-use Rattle.checker.proofs.Seeking.{Sought, seek-start, seek-on, seek-found, seek-nothing}
+use denote.Ref.{now}
+use Rattle.checker.proofs.OneWord.{settle-ready, unobserved-ready, unobserved-word}
+use borrow.Author.Needs.{needs}
 use Rattle.checker.proofs.unobserved_gate.Statement.{statement}
 use Rattle.checker.proofs.unobserved_gate.Tie as tie
 
-abbrev Inv-loop : tie.InvT-loop
-Inv-loop s places order position outputs rails levels spare₀ g₀ spare g = (length spare ≡ length spare₀) × Sought (unobserved (gatesAt s places (length levels)) (pairsAt s outputs) rails) (length levels) g
+set-word-requires : tie.Need-set-word-requires
+set-word-requires c κs = search needs
 
-abbrev μ-loop : tie.MeasureT-loop
-μ-loop s places order position outputs rails levels spare₀ g₀ spare g = length levels - g
+settle-requires : tie.Need-settle-requires
+settle-requires c κs = let z = c .before .before .before .before .before .before .before .before .before .before .before .before .before .before .before .before .before .before in settle-ready (now (z .args .s)) (now (z .args .places)) (now (z .args .order)) (now (z .args .outputs)) (z .args .inputs) _ (z .args .w) _ _ (z .pre .0) (c .before .before .before .before .before .before .set-word .ensures .1) refl
 
-loop-holds : tie.Need-loop-holds Inv-loop μ-loop
-loop-holds c = (refl, seek-start _ _)
+unobserved-gate-requires : tie.Need-unobserved-gate-requires
+unobserved-gate-requires c κs = let z = c .before .before .before .before .before .before .before .before .before .before .before .before .before .before .before .before .before .before .before .before .before .before .before .before in let l = c .before .before .before .before .before .settle in unobserved-ready (now (z .args .s)) (now (z .args .places)) (now (z .args .order)) (now (z .args .outputs)) (z .args .inputs) _ (z .args .w) (z .pre .0) _ (c .before .before .before .before .before .before .before .before .before .before .before .before .set-word .ensures .1) (now (z .args .position)) _ _ (z .pre .1) (l .kept .1 .1 .1 .1 .0) (l .ensures) (z .pre .4)
 
-unobserved-at-requires : tie.Need-unobserved-at-requires Inv-loop μ-loop
-unobserved-at-requires c κs = let p = c .before .before .before .before .before .before .before .before .before .before .before .pre in (p .0, p .1, p .2, p .3, omega arith, omega arith)
-
-same-length : tie.Need-same-length Inv-loop μ-loop
+same-length : tie.Need-same-length
 same-length c = search needs
 
-returns : tie.Need-returns Inv-loop μ-loop
-returns c = seek-found _ _ _ (c .before .before .before .before .before .before .loop .inv .1) (omega arith) (sym (c .before .before .before .unobserved-at .ensures) ∙ c .if1 .taken)
-
-add-g : tie.Need-add-g Inv-loop μ-loop
-add-g c = search needs
-
-loop-less : tie.Need-loop-less Inv-loop μ-loop
-loop-less c = search needs
-
-loop-again : tie.Need-loop-again Inv-loop μ-loop
-loop-again c = (search needs, seek-on _ _ _ (c .before .before .before .before .before .before .loop .inv .1) (omega arith) (sym (c .before .before .before .unobserved-at .ensures) ∙ c .if1 .left))
-
-same-length-2 : tie.Need-same-length-2 Inv-loop μ-loop
+same-length-2 : tie.Need-same-length-2
 same-length-2 c = search needs
 
-returns-2 : tie.Need-returns-2 Inv-loop μ-loop
-returns-2 c = seek-nothing _ _ _ (c .before .loop .inv .1) (omega arith)
+same-length-3 : tie.Need-same-length-3
+same-length-3 c = search needs
+
+same-length-4 : tie.Need-same-length-4
+same-length-4 c = search needs
+
+returns : tie.Need-returns
+returns c = let z = c .before .before .before .before .before .before .before .before .before .before .before .before .before .before .before .before .before .before .before .before .before .before .before .before .before .before .before in unobserved-word (now (z .args .s)) (now (z .args .places)) (now (z .args .order)) (now (z .args .outputs)) (z .args .inputs) _ (z .args .w) (z .pre .0) _ (c .before .before .before .before .before .before .before .before .before .before .before .before .before .before .before .set-word .ensures .1) _ _ (c .before .before .before .before .before .before .before .before .settle .kept .1 .1 .1 .1 .0) (c .before .before .unobserved-gate .ensures)
 
 pub unobserved-gate-spec : {M : Type 1} → statement M
 unobserved-gate-spec =
     tie.close
     (tie.spec
-    Inv-loop
-    μ-loop
-    loop-holds
-    unobserved-at-requires
+    set-word-requires
+    settle-requires
+    unobserved-gate-requires
     same-length
-    returns
-    add-g
-    loop-less
-    loop-again
     same-length-2
-    returns-2)
+    same-length-3
+    same-length-4
+    returns)

@@ -1,0 +1,36 @@
+-- `checker::word_count` meets its contract. The loop's invariant: the count is 2 ^ i. Assumes nothing.
+use borrow.Author.Needs.{needs}
+use Prim.Native.Nat.{_-_, _*_, _^_, _≤_}
+use mathlib.Core.Path.{_≡_, refl, sym, ap, _∙_}
+use native.Mathlib.Omega.{arith}
+use Rattle.checker.proofs.Sweeping.{few-words, twice}
+use Rattle.checker.proofs.word_count.Statement.{statement}
+use Rattle.checker.proofs.word_count.Tie as tie
+
+abbrev Inv-loop : tie.InvT-loop
+Inv-loop inputs count₀ i₀ count i = (i ≤ inputs) × (count ≡ 2 ^ i)
+
+abbrev μ-loop : tie.MeasureT-loop
+μ-loop inputs count₀ i₀ count i = inputs - i
+
+loop-holds : tie.Need-loop-holds Inv-loop μ-loop
+loop-holds c = (omega arith, refl)
+
+mul-count : tie.Need-mul-count Inv-loop μ-loop
+mul-count c = let l = c .before .loop in omega (arith, l .inv .1, few-words (l .i) (omega (arith, l .inv .0, c .before .before .pre)))
+
+add-i : tie.Need-add-i Inv-loop μ-loop
+add-i c = search needs
+
+loop-less : tie.Need-loop-less Inv-loop μ-loop
+loop-less c = search needs
+
+loop-again : tie.Need-loop-again Inv-loop μ-loop
+loop-again c = let l = c .before .loop in (omega arith, ap (λ n. 2 * n) (l .inv .1) ∙ twice (l .i))
+
+returns : tie.Need-returns Inv-loop μ-loop
+returns c = let l = c .before .loop in let e : l .i ≡ c .before .before .args .inputs = omega (arith, l .inv .0) in (l .inv .1 ∙ ap (λ n. 2 ^ n) e, omega (arith, l .inv .1, few-words (l .i) (omega (arith, l .inv .0, c .before .before .pre))))
+
+pub word-count-spec : {M : Type 1} → statement M
+word-count-spec =
+    tie.close (tie.spec Inv-loop μ-loop loop-holds mul-count add-i loop-less loop-again returns)

@@ -1,0 +1,10 @@
+pub mod Spelling
+pub mod Operating
+pub mod Evaluating
+pub mod Seeking
+pub mod Pairs
+pub mod Copying
+pub mod Nulling
+pub mod AllData
+pub mod OneWord
+pub mod Inverting

@@ -1,0 +1,4 @@
+pub mod Operations
+pub mod Outputs
+pub mod Words
+pub mod Positions
