@@ -14,9 +14,9 @@ use Rattle.verdict.specs.declared.Finding.the-variants.{Fault, Clear}
 use Rattle.verdict.specs.declared.Verdict.{Verdict}
 use Rattle.verdict.specs.Checks.{verdict, numbers, words, atFault, sweep}
 use Rattle.verdict.specs.Verdicts.{firstFault, accepted}
-use Rattle.checker.specs.declared.Sweep.{Sweep}
-use Rattle.checker.specs.Views.{stageAt, referenceAt, Ready}
-use Rattle.checker.specs.Sweeps.{numberOf, finds, swept}
+use Rattle.sweeps.specs.declared.Sweep.{Sweep}
+use Rattle.sweeps.specs.Views.{stageAt, referenceAt, Ready}
+use Rattle.sweeps.specs.Sweeps.{numberOf, finds, swept}
 
 -- ten inputs have 1,024 words
 pub few-words : (i : ℕ) → i ≤ 10 → 2 ^ i ≤ 1024
@@ -70,15 +70,19 @@ module _ (which : Sweep) (s places outputs t operations signals : List ℕ) (n g
       let find = finds which (stageAt s n places g outputs) (referenceAt t n operations (known - n) signals) in
       e ∙ ap (λ (k : ℕ). sweep k find (numbers 0 count)) a ∙ ap (λ (k : ℕ). sweep (numberOf which) find (numbers 0 k)) b
 
+  pub swept-alike : (g′ known′ : ℕ) (f : Finding) → g′ ≡ g → known′ ≡ known → f ≡ swept which (stageAt s n places g′ outputs) (referenceAt t n operations (known′ - n) signals)
+      → f ≡ swept which (stageAt s n places g outputs) (referenceAt t n operations (known - n) signals)
+  swept-alike g′ known′ f a b e = e ∙ ap (λ (k : ℕ). swept which (stageAt s n places k outputs) (referenceAt t n operations (known′ - n) signals)) a ∙ ap (λ (k : ℕ). swept which (stageAt s n places g outputs) (referenceAt t n operations (k - n) signals)) b
+
 -- ---- the first fault of some findings
 
-pub fault-first : (f : Finding) (v : Verdict) (later : List Finding) → f ≡ Fault v → v ≡ firstFault (f ∷ later)
+pub fault-first : (g f : Finding) (v : Verdict) (later : List Finding) → f ≡ g → f ≡ Fault v → v ≡ firstFault (g ∷ later)
 unfolding firstFault
-fault-first f v later e = sym (ap (λ (x : Finding). firstFault (x ∷ later)) e)
+fault-first g f v later a b = sym (ap (λ (x : Finding). firstFault (x ∷ later)) (sym a ∙ b))
 
-pub clear-first : (f : Finding) (later : List Finding) (v : Verdict) → f ≡ Clear → v ≡ firstFault later → v ≡ firstFault (f ∷ later)
+pub clear-first : (g f : Finding) (later : List Finding) (v : Verdict) → f ≡ g → f ≡ Clear → v ≡ firstFault later → v ≡ firstFault (g ∷ later)
 unfolding firstFault
-clear-first f later v e q = q ∙ sym (ap (λ (x : Finding). firstFault (x ∷ later)) e)
+clear-first g f later v a b q = q ∙ sym (ap (λ (x : Finding). firstFault (x ∷ later)) (sym a ∙ b))
 
 pub none-first : accepted ≡ firstFault []
 unfolding firstFault

@@ -1,10 +1,10 @@
--- `checker::missing_input` meets its contract. Assumes nothing.
+-- `sweeps::missing_input` meets its contract. Assumes nothing.
 use native.Mathlib.Omega.{arith}
 use denote.Ref.{now}
-use Rattle.checker.proofs.OneWord.{missing-ready, missing-word}
+use Rattle.sweeps.proofs.OneWord.{missing-ready, missing-word}
 use borrow.Author.Needs.{needs}
-use Rattle.checker.proofs.missing_input.Statement.{statement}
-use Rattle.checker.proofs.missing_input.Tie as tie
+use Rattle.sweeps.proofs.missing_input.Statement.{statement}
+use Rattle.sweeps.proofs.missing_input.Tie as tie
 
 set-word-requires : tie.Need-set-word-requires
 set-word-requires c κs = search needs

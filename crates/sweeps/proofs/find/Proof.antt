@@ -1,16 +1,16 @@
--- `checker::find` meets its contract. Assumes nothing.
+-- `sweeps::find` meets its contract. Assumes nothing.
 use Prim.Native.Nat.{ℕ, _-_}
 use mathlib.Core.Path.{_≡_, sym, ap, subst, _∙_}
 use native.Mathlib.Omega.{arith}
 use lib.ListN.{length}
 use denote.Ref.{now}
 use Rattle.verdict.specs.Checks.{missingInput}
-use Rattle.checker.specs.declared.Sweep.{Sweep}
-use Rattle.checker.specs.Views.{stageAt, referenceAt, StageReady}
-use Rattle.checker.specs.Sweeps.{finds}
+use Rattle.sweeps.specs.declared.Sweep.{Sweep}
+use Rattle.sweeps.specs.Views.{stageAt, referenceAt, StageReady}
+use Rattle.sweeps.specs.Sweeps.{finds}
 use borrow.Author.Needs.{needs}
-use Rattle.checker.proofs.find.Statement.{statement}
-use Rattle.checker.proofs.find.Tie as tie
+use Rattle.sweeps.proofs.find.Statement.{statement}
+use Rattle.sweeps.proofs.find.Tie as tie
 
 enum-told : tie.Need-enum-told
 enum-told c = search needs

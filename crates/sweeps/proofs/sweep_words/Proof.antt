@@ -1,4 +1,4 @@
--- `checker::sweep_words` meets its contract. The loop's invariant: nothing is found in the words before w, and what is lent keeps its length.
+-- `sweeps::sweep_words` meets its contract. The loop's invariant: nothing is found in the words before w, and what is lent keeps its length.
 -- Assumes nothing.
 use borrow.Author.Needs.{needs}
 use Prim.Native.Nat.{ℕ, _-_}
@@ -6,11 +6,11 @@ use mathlib.Core.Path.{_≡_, refl, sym, ap, _∙_}
 use native.Mathlib.Omega.{arith}
 use lib.ListN.{length}
 use denote.Ref.{now}
-use Rattle.checker.specs.Views.{stageAt, referenceAt}
-use Rattle.checker.specs.Sweeps.{finds}
-use Rattle.checker.proofs.Sweeping.{SweptTo, swept-start, swept-on, swept-here, swept-none, ready-alike, find-alike, swept-words}
-use Rattle.checker.proofs.sweep_words.Statement.{statement}
-use Rattle.checker.proofs.sweep_words.Tie as tie
+use Rattle.sweeps.specs.Views.{stageAt, referenceAt}
+use Rattle.sweeps.specs.Sweeps.{finds}
+use Rattle.sweeps.proofs.Sweeping.{SweptTo, swept-start, swept-on, swept-here, swept-none, ready-alike, find-alike, swept-words}
+use Rattle.sweeps.proofs.sweep_words.Statement.{statement}
+use Rattle.sweeps.proofs.sweep_words.Tie as tie
 
 abbrev Inv-loop : tie.InvT-loop
 Inv-loop which s places order position outputs t operations signals inputs values₀ rails₀ nulled₀ levels₀ spare₀ number count w₀ values rails nulled levels spare w = (length values ≡ length values₀) × (length rails ≡ length rails₀) × (length nulled ≡ length nulled₀) × (length levels ≡ length levels₀) × (length spare ≡ length spare₀) × SweptTo number (finds which (stageAt s inputs places (length levels₀) outputs) (referenceAt t inputs operations (length values₀ - inputs) signals)) count w

@@ -4,8 +4,8 @@ use Rattle.netlist.specs.declared.Found.{Found}
 use Rattle.netlist.specs.Content.{Stage, Reference}
 use Rattle.verdict.specs.declared.Finding.{Finding}
 use Rattle.verdict.specs.Checks.{wrongOutput, missingInput, unobservedGate, sweep, words}
-use Rattle.checker.specs.declared.Sweep.{Sweep}
-use Rattle.checker.specs.declared.Sweep.the-variants.{Wrong, Missing, Unobserved}
+use Rattle.sweeps.specs.declared.Sweep.{Sweep}
+use Rattle.sweeps.specs.declared.Sweep.the-variants.{Wrong, Missing, Unobserved}
 
 -- its number
 abbrev pub numberOf : Sweep → ℕ

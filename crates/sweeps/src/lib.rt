@@ -1,4 +1,4 @@
-// The check of a stage against a reference: the sweeps of 13, 14 and 15 over all words, and the verdict on two files.
+// The sweeps of 13, 14 and 15 over all words of a stage and a reference that were read.
 use netlist::Found;
 use verdict::Finding;
 use verdict::Verdict;
@@ -10,9 +10,9 @@ ghost use Rattle.verdict.specs.Rows.{bitsOf, railsOf};
 ghost use Rattle.verdict.specs.Checks as checks;
 ghost use Rattle.words.specs.Positions.{PositionsIn};
 ghost use Rattle.verdict.specs.Verdicts as verdicts;
-ghost use Rattle.checker.specs.declared.Sweep.the-variants.{Wrong, Missing, Unobserved};
-ghost use Rattle.checker.specs.Views.{stageAt, referenceAt, StageReady, ReferenceReady, Ready};
-ghost use Rattle.checker.specs.Sweeps.{numberOf, finds, swept};
+ghost use Rattle.sweeps.specs.declared.Sweep.the-variants.{Wrong, Missing, Unobserved};
+ghost use Rattle.sweeps.specs.Views.{stageAt, referenceAt, StageReady, ReferenceReady, Ready};
+ghost use Rattle.sweeps.specs.Sweeps.{numberOf, finds, swept};
 
 // The checks that go over all words: 13, 14 and 15.
 pub enum Sweep {
@@ -139,13 +139,43 @@ fn find(
 {
     match which {
         Sweep::Wrong => wrong_output(
-            s, places, order, outputs, t, operations, signals, inputs, w, values, rails, levels,
+            s,
+            places,
+            order,
+            outputs,
+            t,
+            operations,
+            signals,
+            inputs,
+            w,
+            values,
+            rails,
+            levels,
         ),
         Sweep::Missing => missing_input(
-            s, places, order, outputs, inputs, w, values, rails, nulled, spare,
+            s,
+            places,
+            order,
+            outputs,
+            inputs,
+            w,
+            values,
+            rails,
+            nulled,
+            spare,
         ),
         Sweep::Unobserved => unobserved_gate(
-            s, places, order, position, outputs, inputs, w, values, rails, levels, spare,
+            s,
+            places,
+            order,
+            position,
+            outputs,
+            inputs,
+            w,
+            values,
+            rails,
+            levels,
+            spare,
         ),
     }
 }
@@ -187,8 +217,22 @@ fn sweep_words(
     let mut w: usize = 0;
     while w < count {
         if let Found::At(i) = find(
-            which, s, places, order, position, outputs, t, operations, signals, inputs, w, values,
-            rails, nulled, levels, spare,
+            which,
+            s,
+            places,
+            order,
+            position,
+            outputs,
+            t,
+            operations,
+            signals,
+            inputs,
+            w,
+            values,
+            rails,
+            nulled,
+            levels,
+            spare,
         ) {
             return Finding::Fault(Verdict {
                 number,
@@ -203,7 +247,7 @@ fn sweep_words(
 }
 
 // 13, then 14, then 15.
-fn sweep_all(
+pub fn sweep_all(
     s: &[u8],
     places: &[u16],
     order: &[u16],
@@ -224,22 +268,58 @@ fn sweep_all(
 {
     if let Finding::Fault(v) = sweep_words(
         Sweep::Wrong,
-        s, places, order, position, outputs, t, operations, signals, inputs, values, rails, nulled,
-        levels, spare,
+        s,
+        places,
+        order,
+        position,
+        outputs,
+        t,
+        operations,
+        signals,
+        inputs,
+        values,
+        rails,
+        nulled,
+        levels,
+        spare,
     ) {
         return v;
     }
     if let Finding::Fault(v) = sweep_words(
         Sweep::Missing,
-        s, places, order, position, outputs, t, operations, signals, inputs, values, rails, nulled,
-        levels, spare,
+        s,
+        places,
+        order,
+        position,
+        outputs,
+        t,
+        operations,
+        signals,
+        inputs,
+        values,
+        rails,
+        nulled,
+        levels,
+        spare,
     ) {
         return v;
     }
     if let Finding::Fault(v) = sweep_words(
         Sweep::Unobserved,
-        s, places, order, position, outputs, t, operations, signals, inputs, values, rails, nulled,
-        levels, spare,
+        s,
+        places,
+        order,
+        position,
+        outputs,
+        t,
+        operations,
+        signals,
+        inputs,
+        values,
+        rails,
+        nulled,
+        levels,
+        spare,
     ) {
         return v;
     }

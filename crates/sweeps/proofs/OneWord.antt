@@ -22,7 +22,7 @@ use Rattle.words.specs.Positions.{PositionsIn}
 use Rattle.words.specs.Operations.{operationsAt, OperationsThere}
 use Rattle.words.specs.Outputs.{OutputsThere, SignalsThere, misread, signalOf, pairsAt}
 use Rattle.words.proofs.OneWord.{missing-in, unobserved-in}
-use Rattle.checker.specs.Views.{stageAt, referenceAt, StageReady, ReferenceReady}
+use Rattle.sweeps.specs.Views.{stageAt, referenceAt, StageReady, ReferenceReady}
 
 -- the bits of a word do not depend on how many are asked for
 pub bits-prefix : (n m w : ℕ) → n ≤ m → take n (bitsOf m w) ≡ bitsOf n w
@@ -78,15 +78,15 @@ module _ (s places outputs t operations signals : List ℕ) (n g known w : ℕ) 
       let row : rails ++ levels ≡ railsOf (bitsOf n w) ++ settledLevels (gatesAt s places g) (railsOf (bitsOf n w)) = ap (λ (l : List ℕ). rails ++ l) el ∙ ap (λ (x : List ℕ). x ++ settledLevels (gatesAt s places g) x) er in
       let all : n + (length bits - n) ≡ length values = omega (arith, r .inputs-known) in
       let vs : values ≡ evaluate (bitsOf n w) (operationsAt t operations (known - n)) =
-          sym (take-all (n + (length bits - n)) values (omega (arith, all))) ∙ ev ∙ ap (λ (b : List ℕ). evaluate b (operationsAt t operations (length bits - n))) (ap (take n) eb ∙ bits-prefix n known w (r .inputs-known)) ∙ ap (λ (k : ℕ). evaluate (bitsOf n w) (operationsAt t operations (k - n))) lb in
+      sym (take-all (n + (length bits - n)) values (omega (arith, all))) ∙ ev ∙ ap (λ (b : List ℕ). evaluate b (operationsAt t operations (length bits - n))) (ap (take n) eb ∙ bits-prefix n known w (r .inputs-known)) ∙ ap (λ (k : ℕ). evaluate (bitsOf n w) (operationsAt t operations (k - n))) lb in
       ef ∙ least-alike (misread s outputs (rails ++ levels) t signals values) _ 0 (length outputs)
       (λ j h.
-          ap (λ (x : List ℕ). not (spells (pairIn x (pairAt s (getD outputs j 0))) (getD values (signalOf t signals j) 0))) row
-          ∙ ap (λ (p : Pair). not (spells (pairIn (railsOf (bitsOf n w) ++ settledLevels (gatesAt s places g) (railsOf (bitsOf n w))) p) (getD values (signalOf t signals j) 0))) (sym (getD-at (pairAt s) outputs j 0 noPair (omega arith)))
-          ∙ ap (λ (v : ℕ). not (spells (pairIn (railsOf (bitsOf n w) ++ settledLevels (gatesAt s places g) (railsOf (bitsOf n w))) (getD (pairsAt s outputs) j noPair)) v))
-          (ap (λ (vals : List ℕ). getD vals (signalOf t signals j) 0) vs
-          ∙ sym (getD-at (λ (v : ℕ). getD (evaluate (bitsOf n w) (operationsAt t operations (known - n))) v 0) (map (λ p. operand t (p + 1)) signals) j 0 0 (omega (arith, length-map signals (λ p. operand t (p + 1)), r .as-many))
-          ∙ ap (λ (v : ℕ). getD (evaluate (bitsOf n w) (operationsAt t operations (known - n))) v 0) (getD-at (λ p. operand t (p + 1)) signals j 0 0 (omega (arith, r .as-many))))))
+      ap (λ (x : List ℕ). not (spells (pairIn x (pairAt s (getD outputs j 0))) (getD values (signalOf t signals j) 0))) row
+      ∙ ap (λ (p : Pair). not (spells (pairIn (railsOf (bitsOf n w) ++ settledLevels (gatesAt s places g) (railsOf (bitsOf n w))) p) (getD values (signalOf t signals j) 0))) (sym (getD-at (pairAt s) outputs j 0 noPair (omega arith)))
+      ∙ ap (λ (v : ℕ). not (spells (pairIn (railsOf (bitsOf n w) ++ settledLevels (gatesAt s places g) (railsOf (bitsOf n w))) (getD (pairsAt s outputs) j noPair)) v))
+      (ap (λ (vals : List ℕ). getD vals (signalOf t signals j) 0) vs
+      ∙ sym (getD-at (λ (v : ℕ). getD (evaluate (bitsOf n w) (operationsAt t operations (known - n))) v 0) (map (λ p. operand t (p + 1)) signals) j 0 0 (omega (arith, length-map signals (λ p. operand t (p + 1)), r .as-many))
+      ∙ ap (λ (v : ℕ). getD (evaluate (bitsOf n w) (operationsAt t operations (known - n))) v 0) (getD-at (λ p. operand t (p + 1)) signals j 0 0 (omega (arith, r .as-many))))))
       ∙ ap (least _ 0) (sym (length-map outputs (pairAt s)))
 
 -- 14 and 15

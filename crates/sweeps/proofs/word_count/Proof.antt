@@ -1,11 +1,11 @@
--- `checker::word_count` meets its contract. The loop's invariant: the count is 2 ^ i. Assumes nothing.
+-- `sweeps::word_count` meets its contract. The loop's invariant: the count is 2 ^ i. Assumes nothing.
 use borrow.Author.Needs.{needs}
 use Prim.Native.Nat.{_-_, _*_, _^_, _≤_}
 use mathlib.Core.Path.{_≡_, refl, sym, ap, _∙_}
 use native.Mathlib.Omega.{arith}
-use Rattle.checker.proofs.Sweeping.{few-words, twice}
-use Rattle.checker.proofs.word_count.Statement.{statement}
-use Rattle.checker.proofs.word_count.Tie as tie
+use Rattle.sweeps.proofs.Sweeping.{few-words, twice}
+use Rattle.sweeps.proofs.word_count.Statement.{statement}
+use Rattle.sweeps.proofs.word_count.Tie as tie
 
 abbrev Inv-loop : tie.InvT-loop
 Inv-loop inputs count₀ i₀ count i = (i ≤ inputs) × (count ≡ 2 ^ i)
