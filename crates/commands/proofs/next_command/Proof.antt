@@ -1,10 +1,10 @@
--- `reader::next_command` meets its contract: the room is compared with what is left of the file. Assumes nothing.
+-- `commands::next_command` meets its contract: the room is compared with what is left of the file. Assumes nothing.
 use native.Mathlib.Omega.{arith}
 use mathlib.Core.Path.{sym, _∙_}
 use borrow.Author.Needs.{needs}
-use Rattle.reader.proofs.Position.{next-past, next-stray, next-cut, next-whole}
-use Rattle.reader.proofs.next_command.Statement.{statement}
-use Rattle.reader.proofs.next_command.Tie as tie
+use Rattle.commands.proofs.Position.{next-past, next-stray, next-cut, next-whole}
+use Rattle.commands.proofs.next_command.Statement.{statement}
+use Rattle.commands.proofs.next_command.Tie as tie
 
 returns : tie.Need-returns
 returns c = sym (next-past _ _ _ _ _ (c .if1 .taken))

@@ -1,10 +1,10 @@
--- `reader::gate_at` meets its contract: each answer is that of the tests that led to it. Assumes nothing.
+-- `commands::gate_at` meets its contract: each answer is that of the tests that led to it. Assumes nothing.
 use native.Mathlib.Omega.{arith}
 use borrow.Author.Tests.{le-leb, lt-leb, eq-eqb, ne-eqb}
 use borrow.Author.Needs.{needs}
 use Rattle.netlist.specs.Commands.{operandsFrom, width, unlessMisfit, gateAt}
-use Rattle.reader.proofs.gate_at.Statement.{statement}
-use Rattle.reader.proofs.gate_at.Tie as tie
+use Rattle.commands.proofs.gate_at.Statement.{statement}
+use Rattle.commands.proofs.gate_at.Tie as tie
 
 returns : tie.Need-returns
 unfolding gateAt

@@ -1,11 +1,11 @@
--- `reader::sort_of` meets its contract: each arm is an entry of the definition. Assumes nothing.
+-- `commands::sort_of` meets its contract: each arm is an entry of the definition. Assumes nothing.
 use native.Mathlib.Omega.{arith}
 use mathlib.Core.Path.{sym}
 use borrow.Author.Needs.{needs}
 use Rattle.netlist.specs.Commands.{sortOf}
-use Rattle.reader.proofs.ByteSorts.{stage-unknown, reference-unknown}
-use Rattle.reader.proofs.sort_of.Statement.{statement}
-use Rattle.reader.proofs.sort_of.Tie as tie
+use Rattle.commands.proofs.ByteSorts.{stage-unknown, reference-unknown}
+use Rattle.commands.proofs.sort_of.Statement.{statement}
+use Rattle.commands.proofs.sort_of.Tie as tie
 
 enum-told : tie.Need-enum-told
 enum-told c = search needs

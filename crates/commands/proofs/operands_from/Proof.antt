@@ -1,11 +1,11 @@
--- `reader::operands_from` meets its contract, by its arms. Assumes nothing.
+-- `commands::operands_from` meets its contract, by its arms. Assumes nothing.
 use mathlib.Core.Path.{_≡_, refl}
 use mathlib.Core.List.{[], _∷_}
 use borrow.Author.Needs.{needs}
 use Rattle.netlist.specs.Commands.{operandsFrom}
-use Rattle.reader.proofs.Arms.{arm}
-use Rattle.reader.proofs.operands_from.Statement.{statement}
-use Rattle.reader.proofs.operands_from.Tie as tie
+use Rattle.commands.proofs.Arms.{arm}
+use Rattle.commands.proofs.operands_from.Statement.{statement}
+use Rattle.commands.proofs.operands_from.Tie as tie
 
 enum-told : tie.Need-enum-told
 enum-told c = search needs

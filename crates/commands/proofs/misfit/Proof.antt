@@ -1,8 +1,8 @@
--- `reader::misfit` meets its contract. Assumes nothing.
+-- `commands::misfit` meets its contract. Assumes nothing.
 use borrow.Author.Tests.{lt-ltb, le-ltb}
 use Rattle.netlist.specs.Commands.{misfit}
-use Rattle.reader.proofs.misfit.Statement.{statement}
-use Rattle.reader.proofs.misfit.Tie as tie
+use Rattle.commands.proofs.misfit.Statement.{statement}
+use Rattle.commands.proofs.misfit.Tie as tie
 
 returns : tie.Need-returns
 unfolding misfit

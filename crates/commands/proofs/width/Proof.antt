@@ -1,10 +1,10 @@
--- `reader::width` meets its contract: a command has at most ten bytes. Assumes nothing.
+-- `commands::width` meets its contract: a command has at most ten bytes. Assumes nothing.
 use native.Mathlib.Omega.{arith}
 use borrow.Author.Needs.{needs}
 use Rattle.netlist.specs.Commands.{width}
-use Rattle.reader.proofs.ByteSorts.{from-few, count-few}
-use Rattle.reader.proofs.width.Statement.{statement}
-use Rattle.reader.proofs.width.Tie as tie
+use Rattle.commands.proofs.ByteSorts.{from-few, count-few}
+use Rattle.commands.proofs.width.Statement.{statement}
+use Rattle.commands.proofs.width.Tie as tie
 
 operands-from-requires : tie.Need-operands-from-requires
 operands-from-requires c κs = search needs

@@ -1,9 +1,9 @@
--- `reader::output_at` meets its contract. Assumes nothing.
+-- `commands::output_at` meets its contract. Assumes nothing.
 use borrow.Author.Tests.{le-leb, lt-leb}
 use borrow.Author.Needs.{needs}
 use Rattle.netlist.specs.Commands.{outputAt}
-use Rattle.reader.proofs.output_at.Statement.{statement}
-use Rattle.reader.proofs.output_at.Tie as tie
+use Rattle.commands.proofs.output_at.Statement.{statement}
+use Rattle.commands.proofs.output_at.Tie as tie
 
 returns : tie.Need-returns
 unfolding outputAt

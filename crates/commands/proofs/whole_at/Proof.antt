@@ -1,10 +1,10 @@
--- `reader::whole_at` meets its contract, by its arms. Assumes nothing.
+-- `commands::whole_at` meets its contract, by its arms. Assumes nothing.
 use native.Mathlib.Omega.{arith}
 use borrow.Author.Needs.{needs}
 use Rattle.netlist.specs.Commands.{wholeAt}
 use Rattle.netlist.proofs.Encoding.{width-inputs}
-use Rattle.reader.proofs.whole_at.Statement.{statement}
-use Rattle.reader.proofs.whole_at.Tie as tie
+use Rattle.commands.proofs.whole_at.Statement.{statement}
+use Rattle.commands.proofs.whole_at.Tie as tie
 
 enum-told : tie.Need-enum-told
 enum-told c = search needs

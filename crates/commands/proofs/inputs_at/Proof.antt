@@ -1,11 +1,11 @@
--- `reader::inputs_at` meets its contract: the count is a byte. Assumes nothing.
+-- `commands::inputs_at` meets its contract: the count is a byte. Assumes nothing.
 use Prim.Native.Nat.{_+_}
 use native.Mathlib.Omega.{arith}
 use borrow.Author.Tests.{le-leb, lt-leb}
 use borrow.Author.Needs.{needs}
 use Rattle.netlist.specs.Commands.{inputsAt}
-use Rattle.reader.proofs.inputs_at.Statement.{statement}
-use Rattle.reader.proofs.inputs_at.Tie as tie
+use Rattle.commands.proofs.inputs_at.Statement.{statement}
+use Rattle.commands.proofs.inputs_at.Tie as tie
 
 add-count : tie.Need-add-count
 add-count c = search needs

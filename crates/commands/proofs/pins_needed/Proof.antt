@@ -1,8 +1,8 @@
--- `reader::pins_needed` meets its contract, by its arms. Assumes nothing.
+-- `commands::pins_needed` meets its contract, by its arms. Assumes nothing.
 use borrow.Author.Needs.{needs}
 use Rattle.netlist.specs.Commands.{pinsNeeded}
-use Rattle.reader.proofs.pins_needed.Statement.{statement}
-use Rattle.reader.proofs.pins_needed.Tie as tie
+use Rattle.commands.proofs.pins_needed.Statement.{statement}
+use Rattle.commands.proofs.pins_needed.Tie as tie
 
 enum-known-kind : tie.Need-enum-known-kind
 enum-known-kind c = search needs

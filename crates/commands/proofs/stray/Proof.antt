@@ -1,12 +1,12 @@
--- `reader::stray` meets its contract, by its arms. Assumes nothing.
+-- `commands::stray` meets its contract, by its arms. Assumes nothing.
 use mathlib.Core.Path.{_≡_, refl}
 use mathlib.Core.List.{[], _∷_}
 use lib.Dec.{eqb}
 use borrow.Author.Needs.{needs}
 use Rattle.netlist.specs.Commands.{stray}
-use Rattle.reader.proofs.Arms.{arm}
-use Rattle.reader.proofs.stray.Statement.{statement}
-use Rattle.reader.proofs.stray.Tie as tie
+use Rattle.commands.proofs.Arms.{arm}
+use Rattle.commands.proofs.stray.Statement.{statement}
+use Rattle.commands.proofs.stray.Tie as tie
 
 enum-told : tie.Need-enum-told
 enum-told c = search needs

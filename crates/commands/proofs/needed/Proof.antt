@@ -1,12 +1,12 @@
--- `reader::needed` meets its contract: a kind of the stage by `gates::kind_of`, an operation of the reference by its range.
+-- `commands::needed` meets its contract: a kind of the stage by `gates::kind_of`, an operation of the reference by its range.
 -- Assumes nothing.
 use native.Mathlib.Omega.{arith}
 use mathlib.Core.Path.{sym}
 use borrow.Author.Needs.{needs}
 use Rattle.netlist.specs.Commands.{needed}
-use Rattle.reader.proofs.ByteSorts.{operation-two, operation-zero, operation-past}
-use Rattle.reader.proofs.needed.Statement.{statement}
-use Rattle.reader.proofs.needed.Tie as tie
+use Rattle.commands.proofs.ByteSorts.{operation-two, operation-zero, operation-past}
+use Rattle.commands.proofs.needed.Statement.{statement}
+use Rattle.commands.proofs.needed.Tie as tie
 
 enum-told : tie.Need-enum-told
 enum-told c = search needs

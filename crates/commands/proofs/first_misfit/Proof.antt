@@ -1,13 +1,13 @@
--- `reader::first_misfit` meets its contract. The loop's invariant: the operands before `i` fit, so the search goes on from `i`. Assumes nothing.
+-- `commands::first_misfit` meets its contract. The loop's invariant: the operands before `i` fit, so the search goes on from `i`. Assumes nothing.
 use Prim.Native.Nat.{_+_, _*_, _-_, _≤_}
 use native.Mathlib.Numerals.{unary-clauses}
 use native.Mathlib.Omega.{arith}
 use mathlib.Core.Path.{_≡_, sym, _∙_}
 use borrow.Author.Needs.{needs}
 use Rattle.netlist.specs.Commands.{misfitFrom}
-use Rattle.reader.proofs.Search.{misfit-found, misfit-passed, misfit-none}
-use Rattle.reader.proofs.first_misfit.Statement.{statement}
-use Rattle.reader.proofs.first_misfit.Tie as tie
+use Rattle.commands.proofs.Misfits.{misfit-found, misfit-passed, misfit-none}
+use Rattle.commands.proofs.first_misfit.Statement.{statement}
+use Rattle.commands.proofs.first_misfit.Tie as tie
 
 abbrev Inv-loop : tie.InvT-loop
 Inv-loop k s at m i₀ i = (i ≤ m) × (misfitFrom k 0 s at m ≡ misfitFrom k i s (at + 2 * i) (m - i))

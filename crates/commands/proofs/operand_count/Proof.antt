@@ -1,12 +1,12 @@
--- `reader::operand_count` meets its contract, by its arms. Assumes nothing.
+-- `commands::operand_count` meets its contract, by its arms. Assumes nothing.
 use mathlib.Core.Path.{_≡_, refl}
 use mathlib.Core.List.{[], _∷_}
 use borrow.Author.Needs.{needs}
 use Rattle.netlist.specs.declared.File.the-variants as file
 use Rattle.netlist.specs.Commands.{operandCount}
-use Rattle.reader.proofs.Arms.{arm}
-use Rattle.reader.proofs.operand_count.Statement.{statement}
-use Rattle.reader.proofs.operand_count.Tie as tie
+use Rattle.commands.proofs.Arms.{arm}
+use Rattle.commands.proofs.operand_count.Statement.{statement}
+use Rattle.commands.proofs.operand_count.Tie as tie
 
 enum-told : tie.Need-enum-told
 enum-told c = search needs
