@@ -1,4 +1,4 @@
--- The searches for 5 and 9 go on by one operand or one command at a time.
+-- The search for 9 goes on by one operand or one command at a time.
 -- Assumes nothing.
 use Prim.Native.Nat.{ℕ, zero, suc, _+_, _*_, _-_, _^_, _<_, _≤_}
 use native.Mathlib.Omega.{arith}
@@ -14,48 +14,26 @@ use Rattle.netlist.specs.declared.Role.{Role}
 use Rattle.netlist.specs.declared.Found.{Found}
 use Rattle.netlist.specs.declared.Found.the-variants.{At, Nothing}
 use Rattle.netlist.specs.Bytes.{byte, operand}
-use Rattle.netlist.specs.Commands.{sortOf, operandCount, operandsFrom, width, misfit, misfitFrom}
+use Rattle.netlist.specs.Commands.{sortOf, operandCount, operandsFrom, width}
 use Rattle.netlist.specs.Reading.{roleOf, names, nameless, orLater, namelessIn, namelessFrom}
 use Rattle.reader.specs.Reader.{CommandsFrom, Complete, nameable, naming, namelessAt}
 use Rattle.netlist.proofs.Encoding.{sort-end, width-end, needed-in}
-use Rattle.netlist.proofs.OneCommand.{clash}
+use Rattle.commands.proofs.Misfits.{one-less, next-place}
 
 -- ---- operand i of m operands from a place on, with the value v and the answer b of its test
 
-module _ (s : List ℕ) (at m i : ℕ) (more : i < m) (v : ℕ) (read : v ≡ operand s (at + 2 * i)) (b : Bool) where
-  one-less : m - i ≡ suc (m - (i + 1))
-  one-less = omega arith
+module _ (s : List ℕ) (at m i : ℕ) (more : i < m) (v : ℕ) (read : v ≡ operand s (at + 2 * i)) (b : Bool) (role : Role) (n g : ℕ) (test : b ≡ names role n g v) where
+  nameless-step : nameless role n g s (at + 2 * i) (m - i) ≡ cond b (nameless role n g s (at + 2 * (i + 1)) (m - (i + 1))) (At (at + 2 * i))
+  unfolding nameless
+  nameless-step = ap (λ (x : ℕ). nameless role n g s (at + 2 * i) x) (one-less m i more) ∙ rw (← read, ← test, next-place at i)
 
-  next-place : at + 2 * i + 2 ≡ at + 2 * (i + 1)
-  next-place = omega arith
+  pub nameless-found : b ≡ false → nameless role n g s (at + 2 * i) (m - i) ≡ At (at + 2 * i)
+  nameless-found e = nameless-step ∙ rw e
 
-  module _ (k : ℕ) (test : b ≡ misfit k i v) where
-    misfit-step : misfitFrom k i s (at + 2 * i) (m - i) ≡ cond b (At (at + 2 * i)) (misfitFrom k (i + 1) s (at + 2 * (i + 1)) (m - (i + 1)))
-    unfolding misfitFrom
-    misfit-step = ap (λ (x : ℕ). misfitFrom k i s (at + 2 * i) x) one-less ∙ rw (← read, ← test, next-place)
-
-    pub misfit-found : b ≡ true → misfitFrom k i s (at + 2 * i) (m - i) ≡ At (at + 2 * i)
-    misfit-found e = misfit-step ∙ rw e
-
-    pub misfit-passed : b ≡ false → misfitFrom k i s (at + 2 * i) (m - i) ≡ misfitFrom k (i + 1) s (at + 2 * (i + 1)) (m - (i + 1))
-    misfit-passed e = misfit-step ∙ rw e
-
-  module _ (role : Role) (n g : ℕ) (test : b ≡ names role n g v) where
-    nameless-step : nameless role n g s (at + 2 * i) (m - i) ≡ cond b (nameless role n g s (at + 2 * (i + 1)) (m - (i + 1))) (At (at + 2 * i))
-    unfolding nameless
-    nameless-step = ap (λ (x : ℕ). nameless role n g s (at + 2 * i) x) one-less ∙ rw (← read, ← test, next-place)
-
-    pub nameless-found : b ≡ false → nameless role n g s (at + 2 * i) (m - i) ≡ At (at + 2 * i)
-    nameless-found e = nameless-step ∙ rw e
-
-    pub nameless-passed : b ≡ true → nameless role n g s (at + 2 * i) (m - i) ≡ nameless role n g s (at + 2 * (i + 1)) (m - (i + 1))
-    nameless-passed e = nameless-step ∙ rw e
+  pub nameless-passed : b ≡ true → nameless role n g s (at + 2 * i) (m - i) ≡ nameless role n g s (at + 2 * (i + 1)) (m - (i + 1))
+  nameless-passed e = nameless-step ∙ rw e
 
 -- none are left
-pub misfit-none : (k i : ℕ) (s : List ℕ) (at m : ℕ) → m ≡ 0 → misfitFrom k i s at m ≡ Nothing
-unfolding misfitFrom
-misfit-none k i s at m e = rw e
-
 pub nameless-none : (role : Role) (n g : ℕ) (s : List ℕ) (at m : ℕ) → m ≡ 0 → nameless role n g s at m ≡ Nothing
 unfolding nameless
 nameless-none role n g s at m e = rw e

@@ -6,7 +6,7 @@ use mathlib.Core.Path.{_≡_, refl, sym, ap}
 use mathlib.Core.List.{[], _∷_}
 use lib.ListN.{length}
 use borrow.Author.Needs.{needs}
-use Rattle.reader.proofs.Arms.{arm}
+use Rattle.commands.proofs.Arms.{arm}
 use Rattle.reader.proofs.Search.{Searched, Followed, gatesAfter, followed-wide, search-starts, search-past, command-room, search-found, search-ends, search-goes}
 use Rattle.reader.proofs.find_nameless.Statement.{statement}
 use Rattle.reader.proofs.find_nameless.Tie as tie

@@ -6,7 +6,7 @@ use denote.Ref.{now}
 use borrow.Author.Needs.{needs}
 use Rattle.netlist.specs.Commands.{width, operandsFrom}
 use Rattle.reader.specs.Reader.{naming}
-use Rattle.reader.proofs.Arms.{arm}
+use Rattle.commands.proofs.Arms.{arm}
 use Rattle.reader.proofs.naming.Statement.{statement}
 use Rattle.reader.proofs.naming.Tie as tie
 

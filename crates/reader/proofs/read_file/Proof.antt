@@ -7,7 +7,7 @@ use lib.ListN.{length}
 use borrow.Author.Needs.{needs}
 use Rattle.netlist.specs.Reading.{outcomeOf}
 use Rattle.reader.specs.Reader.{IsRefusal, refusalOf}
-use Rattle.reader.proofs.Position.{next-past}
+use Rattle.commands.proofs.Position.{next-past}
 use Rattle.reader.proofs.WholeFile.{Walking, walk-starts, read-as, gates-length, outputs-length, walk-stops, walk-further, inputs-room, gate-room, output-room, walk-inputs, walk-gate, walk-output, walk-unknown, walk-ends, walk-complete, walk-placed, refused-placed}
 use Rattle.reader.proofs.read_file.Statement.{statement}
 use Rattle.reader.proofs.read_file.Tie as tie

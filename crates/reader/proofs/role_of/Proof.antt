@@ -5,7 +5,7 @@ use borrow.Author.Needs.{needs}
 use Rattle.netlist.specs.declared.File.the-variants as file
 use Rattle.netlist.specs.declared.Role.the-variants.{Signal}
 use Rattle.netlist.specs.Reading.{roleOf}
-use Rattle.reader.proofs.Arms.{arm}
+use Rattle.commands.proofs.Arms.{arm}
 use Rattle.reader.proofs.role_of.Statement.{statement}
 use Rattle.reader.proofs.role_of.Tie as tie
 

@@ -1,0 +1,4 @@
+pub mod ByteSorts
+pub mod Misfits
+pub mod Position
+pub mod Arms

@@ -1,0 +1,54 @@
+-- `commands::needed` meets its contract: a kind of the stage by `gates::kind_of`, an operation of the reference by its range.
+-- Assumes nothing.
+use native.Mathlib.Omega.{arith}
+use mathlib.Core.Path.{sym}
+use borrow.Author.Needs.{needs}
+use Rattle.netlist.specs.Commands.{needed}
+use Rattle.commands.proofs.ByteSorts.{operation-two, operation-zero, operation-past}
+use Rattle.commands.proofs.needed.Statement.{statement}
+use Rattle.commands.proofs.needed.Tie as tie
+
+enum-told : tie.Need-enum-told
+enum-told c = search needs
+
+kind-of-requires : tie.Need-kind-of-requires
+kind-of-requires c κs = search needs
+
+pins-needed-requires : tie.Need-pins-needed-requires
+pins-needed-requires c κs = search needs
+
+enum-told-2 : tie.Need-enum-told-2
+enum-told-2 c = search needs
+
+returns : tie.Need-returns
+unfolding needed
+returns c = rw (c .before .before .enum-told .given .1, ← c .before .kind-of .ensures) (c .pins-needed .ensures)
+
+returns-2 : tie.Need-returns-2
+unfolding needed
+returns-2 c = rw (c .before .enum-told2 .given .1, c .match2 .keys1)
+
+returns-3 : tie.Need-returns-3
+returns-3 c =
+    rw (c .before .before .before .enum-told2 .given .1) (sym (operation-two (c .before .before .before .before .before .args .code) (omega arith)
+    (omega arith)))
+
+returns-4 : tie.Need-returns-4
+returns-4 c = rw (c .before .before .enum-told2 .given .1) (sym (operation-zero (c .before .before .before .before .args .code) (omega arith)))
+
+returns-5 : tie.Need-returns-5
+returns-5 c = rw (c .before .before .before .enum-told2 .given .1) (sym (operation-past (c .before .before .before .before .before .args .code) (omega arith)))
+
+pub needed-spec : {M : Type 1} → statement M
+needed-spec =
+    tie.close
+    (tie.spec
+    enum-told
+    kind-of-requires
+    pins-needed-requires
+    enum-told-2
+    returns
+    returns-2
+    returns-3
+    returns-4
+    returns-5)
