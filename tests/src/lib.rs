@@ -1,5 +1,9 @@
 //! What the tests share: where the repository is, and the papers' set expressions read as text.
 
+pub mod files;
+pub mod judge;
+pub mod row_suite;
+
 use std::path::PathBuf;
 
 /// The repository's root folder.

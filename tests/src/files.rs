@@ -1,0 +1,205 @@
+//! Writing of stage and reference files, hexadecimal text, and the folders in
+//! which example pairs are stored.
+
+use crate::judge::{Boolean, Gate, Reference, Stage, Verdict, ABSENT, NOT};
+use std::fs;
+use std::io::{self, Read};
+use std::path::{Path, PathBuf};
+
+/// "At most 8,192 bytes of each."
+pub const MOST_BYTES_READ: u64 = 8_192;
+
+/// The two files that a verdict is given on.
+#[derive(Clone, PartialEq, Eq, Debug)]
+pub struct FilePair {
+    pub stage: Vec<u8>,
+    pub reference: Vec<u8>,
+}
+
+fn put_u16(bytes: &mut Vec<u8>, value: usize) {
+    let value = u16::try_from(value).expect("an operand is a u16");
+    bytes.extend(value.to_le_bytes());
+}
+
+/// The gate command of a stage file.
+pub fn stage_gate(gate: &Gate) -> Vec<u8> {
+    let mut bytes = vec![0x02, gate.kind as u8];
+    for pin in 0..4 {
+        put_u16(&mut bytes, gate.pins.get(pin).copied().unwrap_or(ABSENT));
+    }
+    bytes
+}
+
+/// The output command of a stage file.
+pub fn stage_output(rails: [usize; 2]) -> Vec<u8> {
+    let mut bytes = vec![0x03];
+    put_u16(&mut bytes, rails[0]);
+    put_u16(&mut bytes, rails[1]);
+    bytes
+}
+
+/// The gate command of a reference file.
+pub fn reference_gate(gate: &Boolean) -> Vec<u8> {
+    let mut bytes = vec![0x11, gate.operation as u8];
+    put_u16(&mut bytes, gate.operands[0]);
+    if gate.operation == NOT {
+        put_u16(&mut bytes, ABSENT);
+    } else {
+        put_u16(&mut bytes, gate.operands[1]);
+    }
+    bytes
+}
+
+/// The output command of a reference file.
+pub fn reference_output(signal: usize) -> Vec<u8> {
+    let mut bytes = vec![0x12];
+    put_u16(&mut bytes, signal);
+    bytes
+}
+
+/// The commands between inputs and end: gates first, then outputs.
+pub fn stage_commands(stage: &Stage) -> (Vec<Vec<u8>>, Vec<Vec<u8>>) {
+    (
+        stage.gates.iter().map(stage_gate).collect(),
+        stage
+            .outputs
+            .iter()
+            .map(|&rails| stage_output(rails))
+            .collect(),
+    )
+}
+
+pub fn reference_commands(reference: &Reference) -> (Vec<Vec<u8>>, Vec<Vec<u8>>) {
+    (
+        reference.gates.iter().map(reference_gate).collect(),
+        reference
+            .outputs
+            .iter()
+            .map(|&signal| reference_output(signal))
+            .collect(),
+    )
+}
+
+/// A whole file from its count of inputs and the commands between inputs and end.
+pub fn file_of(inputs: usize, commands: &[Vec<u8>]) -> Vec<u8> {
+    let mut bytes = vec![0x01, inputs as u8];
+    for command in commands {
+        bytes.extend(command);
+    }
+    bytes.push(0x00);
+    bytes
+}
+
+/// A stage file with all gates before all outputs.
+pub fn write_stage(stage: &Stage) -> Vec<u8> {
+    let (mut commands, outputs) = stage_commands(stage);
+    commands.extend(outputs);
+    file_of(stage.inputs, &commands)
+}
+
+/// A reference file with all gates before all outputs.
+pub fn write_reference(reference: &Reference) -> Vec<u8> {
+    let (mut commands, outputs) = reference_commands(reference);
+    commands.extend(outputs);
+    file_of(reference.inputs, &commands)
+}
+
+pub fn write_pair(stage: &Stage, reference: &Reference) -> FilePair {
+    FilePair {
+        stage: write_stage(stage),
+        reference: write_reference(reference),
+    }
+}
+
+/// Bytes as the papers print them: two capital digits each, single spaces.
+pub fn hex(bytes: &[u8]) -> String {
+    bytes
+        .iter()
+        .map(|byte| format!("{byte:02X}"))
+        .collect::<Vec<_>>()
+        .join(" ")
+}
+
+/// The bytes that such a text stands for; white space is free.
+pub fn unhex(text: &str) -> Vec<u8> {
+    let digits: String = text.split_whitespace().collect();
+    assert!(
+        digits.is_ascii() && digits.len().is_multiple_of(2),
+        "pairs of hexadecimal digits"
+    );
+    (0..digits.len() / 2)
+        .map(|i| u8::from_str_radix(&digits[2 * i..2 * i + 2], 16).expect("hexadecimal"))
+        .collect()
+}
+
+/// "The four numbers with single spaces and a newline."
+pub fn verdict_line(verdict: Verdict) -> String {
+    let [number, file, at, word] = verdict;
+    format!("{number} {file} {at} {word}\n")
+}
+
+pub fn verdict_from_line(line: &str) -> Option<Verdict> {
+    let numbers: Vec<u64> = line
+        .strip_suffix('\n')?
+        .split(' ')
+        .map(|number| number.parse().ok())
+        .collect::<Option<_>>()?;
+    let verdict = numbers.try_into().ok()?;
+    (verdict_line(verdict) == line).then_some(verdict)
+}
+
+/// A file as the program takes it: a missing file counts as empty, and at most
+/// 8,192 bytes are read.
+pub fn as_the_program_reads(path: &Path) -> io::Result<Vec<u8>> {
+    let mut bytes = Vec::new();
+    match fs::File::open(path) {
+        Ok(file) => {
+            file.take(MOST_BYTES_READ).read_to_end(&mut bytes)?;
+        }
+        Err(error) if error.kind() == io::ErrorKind::NotFound => {}
+        Err(error) => return Err(error),
+    }
+    Ok(bytes)
+}
+
+/// The folder of the stored example pairs.
+pub fn examples_folder() -> PathBuf {
+    Path::new(env!("CARGO_MANIFEST_DIR")).join("examples")
+}
+
+/// Stores a pair and its verdict as NAME/stage.ncl, reference.ncl and verdict.
+pub fn store_example(
+    folder: &Path,
+    name: &str,
+    pair: &FilePair,
+    verdict: Verdict,
+) -> io::Result<()> {
+    let folder = folder.join(name);
+    fs::create_dir_all(&folder)?;
+    fs::write(folder.join("stage.ncl"), &pair.stage)?;
+    fs::write(folder.join("reference.ncl"), &pair.reference)?;
+    fs::write(folder.join("verdict"), verdict_line(verdict))
+}
+
+/// The names of all stored pairs, in order.
+pub fn stored_examples(folder: &Path) -> io::Result<Vec<String>> {
+    let mut names = Vec::new();
+    for entry in fs::read_dir(folder)? {
+        let entry = entry?;
+        if entry.file_type()?.is_dir() {
+            names.push(entry.file_name().into_string().expect("a plain name"));
+        }
+    }
+    names.sort();
+    Ok(names)
+}
+
+pub fn load_example(folder: &Path, name: &str) -> io::Result<(FilePair, Verdict)> {
+    let folder = folder.join(name);
+    let stage = fs::read(folder.join("stage.ncl"))?;
+    let reference = fs::read(folder.join("reference.ncl"))?;
+    let line = fs::read_to_string(folder.join("verdict"))?;
+    let verdict = verdict_from_line(&line)
+        .ok_or_else(|| io::Error::new(io::ErrorKind::InvalidData, "four numbers expected"))?;
+    Ok((FilePair { stage, reference }, verdict))
+}

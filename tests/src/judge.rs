@@ -1,0 +1,596 @@
+//! The check of document 01 in the plainest way.
+//!
+//! Everything here follows the paper's sentences one by one and computes by
+//! definition: all words are swept, a row is settled by raising low gates until
+//! nothing changes, every input is left out once and every high gate is held low
+//! once. Nothing is done to be fast.
+
+use std::sync::LazyLock;
+
+/// "Four decimal numbers: number, file, at, word."
+pub type Verdict = [u64; 4];
+
+/// "Acceptance is 0 0 0 0."
+pub const ACCEPTED: Verdict = [0, 0, 0, 0];
+
+/// "File is 1 for stage, 2 for reference, 3 for a lent row or buffer, 0 for none."
+pub const STAGE: u64 = 1;
+pub const REFERENCE: u64 = 2;
+pub const ROW: u64 = 3;
+pub const NONE: u64 = 0;
+
+/// The operand that stands for an absent pin or operand.
+pub const ABSENT: usize = 0xFFFF;
+
+/// Name and set expression of the kinds 1 to 27, as the paper spells them.
+pub const KINDS: [(&str, &str); 27] = [
+    ("TH12", "A+B"),
+    ("TH22", "AB"),
+    ("TH13", "A+B+C"),
+    ("TH23", "AB+AC+BC"),
+    ("TH33", "ABC"),
+    ("TH23w2", "A+BC"),
+    ("TH33w2", "AB+AC"),
+    ("TH14", "A+B+C+D"),
+    ("TH24", "AB+AC+AD+BC+BD+CD"),
+    ("TH34", "ABC+ABD+ACD+BCD"),
+    ("TH44", "ABCD"),
+    ("TH24w2", "A+BC+BD+CD"),
+    ("TH34w2", "AB+AC+AD+BCD"),
+    ("TH44w2", "ABC+ABD+ACD"),
+    ("TH34w3", "A+BCD"),
+    ("TH44w3", "AB+AC+AD"),
+    ("TH24w22", "A+B+CD"),
+    ("TH34w22", "AB+AC+AD+BC+BD"),
+    ("TH44w22", "AB+ACD+BCD"),
+    ("TH54w22", "ABC+ABD"),
+    ("TH34w32", "A+BC+BD"),
+    ("TH54w32", "AB+ACD"),
+    ("TH44w322", "AB+AC+AD+BC"),
+    ("TH54w322", "AB+AC+BCD"),
+    ("THxor0", "AB+CD"),
+    ("THand0", "AB+BC+AD"),
+    ("TH24comp", "AC+BC+AD+BD"),
+];
+
+/// The pins that a kind has: the letters of its set expression, from A on.
+pub fn pin_count(kind: usize) -> usize {
+    let expression = KINDS[kind - 1].1;
+    ["A", "B", "C", "D"]
+        .iter()
+        .filter(|letter| expression.contains(*letter))
+        .count()
+}
+
+/// "A plus is OR, letters side by side are AND."
+pub fn expression_holds(expression: &str, high: [bool; 4]) -> bool {
+    expression.split('+').any(|product| {
+        product
+            .bytes()
+            .all(|letter| high[usize::from(letter - b'A')])
+    })
+}
+
+/// The value of each kind's set expression for each of the 16 patterns of pins; row
+/// k is kind k (there is no kind 0), bit 0 of a pattern is pin A.
+pub static SET: LazyLock<[[bool; 16]; 28]> = LazyLock::new(|| {
+    let mut table = [[false; 16]; 28];
+    for (row, (_, expression)) in table[1..].iter_mut().zip(KINDS) {
+        for (pattern, entry) in row.iter_mut().enumerate() {
+            let high = [0, 1, 2, 3].map(|pin| pattern >> pin & 1 == 1);
+            *entry = expression_holds(expression, high);
+        }
+    }
+    table
+});
+
+/// A gate of a stage: its kind and the nets on the pins that its kind has.
+#[derive(Clone, PartialEq, Eq, Debug)]
+pub struct Gate {
+    pub kind: usize,
+    pub pins: Vec<usize>,
+}
+
+/// A stage that has been read. Input i has nets 2i and 2i + 1, gate k drives net
+/// 2n + k, an output is its net for rail 0 and its net for rail 1.
+#[derive(Clone, PartialEq, Eq, Debug, Default)]
+pub struct Stage {
+    pub inputs: usize,
+    pub gates: Vec<Gate>,
+    pub outputs: Vec<[usize; 2]>,
+}
+
+impl Stage {
+    pub fn nets(&self) -> usize {
+        2 * self.inputs + self.gates.len()
+    }
+
+    pub fn net_of_gate(&self, gate: usize) -> usize {
+        2 * self.inputs + gate
+    }
+}
+
+/// A gate of a reference: its operation and its operands, one for NOT, else two.
+#[derive(Clone, PartialEq, Eq, Debug)]
+pub struct Boolean {
+    pub operation: usize,
+    pub operands: Vec<usize>,
+}
+
+pub const NOT: usize = 1;
+pub const AND: usize = 2;
+pub const OR: usize = 3;
+pub const XOR: usize = 4;
+pub const NAND: usize = 5;
+pub const NOR: usize = 6;
+
+/// A reference that has been read. Input i is signal i, gate k is signal n + k.
+#[derive(Clone, PartialEq, Eq, Debug, Default)]
+pub struct Reference {
+    pub inputs: usize,
+    pub gates: Vec<Boolean>,
+    pub outputs: Vec<usize>,
+}
+
+impl Reference {
+    pub fn signals(&self) -> usize {
+        self.inputs + self.gates.len()
+    }
+}
+
+/// Number and place (a byte offset) of a refusal 1 to 9.
+pub type Refusal = (u64, usize);
+
+/// "A u16 operand has its low byte first."
+fn u16_at(file: &[u8], at: usize) -> usize {
+    usize::from(file[at]) + 256 * usize::from(file[at + 1])
+}
+
+/// Reads a stage file, or says which refusal comes first and where.
+///
+/// "Within a command the order is 2, 1, then 6, then 3 or 4, then 5 by operand.
+/// At the end command: 8, 7, then 9."
+pub fn read_stage(file: &[u8]) -> Result<Stage, Refusal> {
+    let mut stage = Stage::default();
+    let mut first = true;
+    // Every operand that names a net: its place and the net, in file order.
+    let mut named: Vec<(usize, usize)> = Vec::new();
+    let mut place = 0;
+    loop {
+        // 1, the file ends before the end command.
+        if place == file.len() {
+            return Err((1, file.len()));
+        }
+        let command = file[place];
+        // 2, a command not in this file's list.
+        let operand_bytes = match command {
+            0x01 => 1,
+            0x02 => 1 + 4 * 2,
+            0x03 => 2 * 2,
+            0x00 => 0,
+            _ => return Err((2, place)),
+        };
+        // 2, the first command is not 01, or 01 comes again.
+        if first != (command == 0x01) {
+            return Err((2, place));
+        }
+        first = false;
+        // 1, the file ends in a command.
+        if file.len() - (place + 1) < operand_bytes {
+            return Err((1, file.len()));
+        }
+        match command {
+            0x01 => {
+                // 3, n is not 1 to 10.
+                let n = usize::from(file[place + 1]);
+                if !(1..=10).contains(&n) {
+                    return Err((3, place + 1));
+                }
+                stage.inputs = n;
+            }
+            0x02 => {
+                // 6, one gate too many: a stage has at most 128.
+                if stage.gates.len() == 128 {
+                    return Err((6, place));
+                }
+                // 4, the kind is unknown.
+                let kind = usize::from(file[place + 1]);
+                if !(1..=27).contains(&kind) {
+                    return Err((4, place + 1));
+                }
+                // 5, a pin that the kind has holds FFFF, or one it lacks does not.
+                let mut pins = Vec::new();
+                let count = pin_count(kind);
+                for pin in 0..4 {
+                    let at = place + 2 + 2 * pin;
+                    let net = u16_at(file, at);
+                    let needed = pin < count;
+                    if needed && net == ABSENT || !needed && net != ABSENT {
+                        return Err((5, at));
+                    }
+                    if needed {
+                        pins.push(net);
+                        named.push((at, net));
+                    }
+                }
+                stage.gates.push(Gate { kind, pins });
+            }
+            0x03 => {
+                // 6, one output too many: a stage has at most 16.
+                if stage.outputs.len() == 16 {
+                    return Err((6, place));
+                }
+                let rails = [u16_at(file, place + 1), u16_at(file, place + 3)];
+                named.push((place + 1, rails[0]));
+                named.push((place + 3, rails[1]));
+                stage.outputs.push(rails);
+            }
+            _ => {
+                // 8, no output.
+                if stage.outputs.is_empty() {
+                    return Err((8, place));
+                }
+                // 7, bytes after end.
+                if place + 1 < file.len() {
+                    return Err((7, place + 1));
+                }
+                // 9, a net that is absent, at the first such operand.
+                for (at, net) in named {
+                    if net >= stage.nets() {
+                        return Err((9, at));
+                    }
+                }
+                return Ok(stage);
+            }
+        }
+        place += 1 + operand_bytes;
+    }
+}
+
+/// Reads a reference file, or says which refusal comes first and where.
+pub fn read_reference(file: &[u8]) -> Result<Reference, Refusal> {
+    let mut reference = Reference::default();
+    let mut first = true;
+    // Every operand that names a signal, in file order: its place, the signal
+    // and, in a gate, that gate's number.
+    let mut named: Vec<(usize, usize, Option<usize>)> = Vec::new();
+    let mut place = 0;
+    loop {
+        // 1, the file ends before the end command.
+        if place == file.len() {
+            return Err((1, file.len()));
+        }
+        let command = file[place];
+        // 2, a command not in this file's list.
+        let operand_bytes = match command {
+            0x01 => 1,
+            0x11 => 1 + 2 * 2,
+            0x12 => 2,
+            0x00 => 0,
+            _ => return Err((2, place)),
+        };
+        // 2, the first command is not 01, or 01 comes again.
+        if first != (command == 0x01) {
+            return Err((2, place));
+        }
+        first = false;
+        // 1, the file ends in a command.
+        if file.len() - (place + 1) < operand_bytes {
+            return Err((1, file.len()));
+        }
+        match command {
+            0x01 => {
+                // 3, n is not 1 to 10.
+                let n = usize::from(file[place + 1]);
+                if !(1..=10).contains(&n) {
+                    return Err((3, place + 1));
+                }
+                reference.inputs = n;
+            }
+            0x11 => {
+                // 6, one gate too many: a reference has at most 256.
+                if reference.gates.len() == 256 {
+                    return Err((6, place));
+                }
+                // 4, the operation is unknown.
+                let operation = usize::from(file[place + 1]);
+                if !(NOT..=NOR).contains(&operation) {
+                    return Err((4, place + 1));
+                }
+                // 5, "NOT has FFFF as its second operand"; no other operand has.
+                let mut operands = Vec::new();
+                for operand in 0..2 {
+                    let at = place + 2 + 2 * operand;
+                    let signal = u16_at(file, at);
+                    let needed = operand == 0 || operation != NOT;
+                    if needed && signal == ABSENT || !needed && signal != ABSENT {
+                        return Err((5, at));
+                    }
+                    if needed {
+                        operands.push(signal);
+                        named.push((at, signal, Some(reference.gates.len())));
+                    }
+                }
+                reference.gates.push(Boolean {
+                    operation,
+                    operands,
+                });
+            }
+            0x12 => {
+                // 6, one output too many: a reference has at most 16.
+                if reference.outputs.len() == 16 {
+                    return Err((6, place));
+                }
+                let signal = u16_at(file, place + 1);
+                named.push((place + 1, signal, None));
+                reference.outputs.push(signal);
+            }
+            _ => {
+                // 8, no output.
+                if reference.outputs.is_empty() {
+                    return Err((8, place));
+                }
+                // 7, bytes after end.
+                if place + 1 < file.len() {
+                    return Err((7, place + 1));
+                }
+                // 9, a signal that is absent, or in a gate not earlier. Signals
+                // before gate k are those below n + k.
+                for (at, signal, gate) in named {
+                    let bound = match gate {
+                        Some(gate) => reference.inputs + gate,
+                        None => reference.signals(),
+                    };
+                    if signal >= bound {
+                        return Err((9, at));
+                    }
+                }
+                return Ok(reference);
+            }
+        }
+        place += 1 + operand_bytes;
+    }
+}
+
+/// Whether the set expression of a gate holds in a row.
+pub fn set_expression_holds(gate: &Gate, row: &[bool]) -> bool {
+    let mut pattern = 0;
+    let mut pin = 0;
+    while pin < gate.pins.len() {
+        if row[gate.pins[pin]] {
+            pattern |= 1 << pin;
+        }
+        pin += 1;
+    }
+    SET[gate.kind][pattern]
+}
+
+/// 12: the least gate that reaches itself through pins.
+pub fn least_gate_on_a_loop(stage: &Stage) -> Option<usize> {
+    (0..stage.gates.len()).find(|&gate| {
+        // All gates that this one reaches through one pin or more.
+        let mut reached = vec![false; stage.gates.len()];
+        let mut to_do = vec![gate];
+        while let Some(here) = to_do.pop() {
+            for &net in &stage.gates[here].pins {
+                if net >= 2 * stage.inputs && !reached[net - 2 * stage.inputs] {
+                    reached[net - 2 * stage.inputs] = true;
+                    to_do.push(net - 2 * stage.inputs);
+                }
+            }
+        }
+        reached[gate]
+    })
+}
+
+/// "Settled for given rails: each gate is high exactly if its set expression
+/// holds. Settled with g held low: the same, except that gate g is low."
+///
+/// From all gates low, low gates are raised until nothing changes, going over the
+/// gates in file order, then back, and so on. In a loop-free stage this gives the
+/// one settled row.
+pub fn settle(stage: &Stage, rails: &[bool], held_low: Option<usize>) -> Vec<bool> {
+    let mut row = rails.to_vec();
+    row.resize(stage.nets(), false);
+    let mut order: Vec<usize> = (0..stage.gates.len()).collect();
+    loop {
+        let mut changed = false;
+        for &k in &order {
+            let net = stage.net_of_gate(k);
+            if !row[net] && held_low != Some(k) && set_expression_holds(&stage.gates[k], &row) {
+                row[net] = true;
+                changed = true;
+            }
+        }
+        if !changed {
+            return row;
+        }
+        order.reverse();
+    }
+}
+
+/// Whether a row is settled, by the words of the definition.
+pub fn is_settled(stage: &Stage, row: &[bool], held_low: Option<usize>) -> bool {
+    stage.gates.iter().enumerate().all(|(k, gate)| {
+        let high = row[stage.net_of_gate(k)];
+        if held_low == Some(k) {
+            !high
+        } else {
+            high == set_expression_holds(gate, row)
+        }
+    })
+}
+
+/// The rails that a word calls for: "bit i is input i".
+pub fn rails_of_word(inputs: usize, word: u64) -> Vec<bool> {
+    let mut rails = Vec::new();
+    for input in 0..inputs {
+        let bit = word >> input & 1;
+        rails.push(bit == 0);
+        rails.push(bit == 1);
+    }
+    rails
+}
+
+/// "A pair is NULL (both rails low), DATA0 (only rail 0 high) or DATA1 (only rail
+/// 1 high)." A pair with both rails high is none of these.
+#[derive(Clone, Copy, PartialEq, Eq, Debug)]
+pub enum PairState {
+    Null,
+    Data(bool),
+    BothHigh,
+}
+
+pub fn pair_state(rail_0: bool, rail_1: bool) -> PairState {
+    match (rail_0, rail_1) {
+        (false, false) => PairState::Null,
+        (true, false) => PairState::Data(false),
+        (false, true) => PairState::Data(true),
+        (true, true) => PairState::BothHigh,
+    }
+}
+
+fn output_state(stage: &Stage, row: &[bool], output: usize) -> PairState {
+    let [rail_0, rail_1] = stage.outputs[output];
+    pair_state(row[rail_0], row[rail_1])
+}
+
+fn all_outputs_data(stage: &Stage, row: &[bool]) -> bool {
+    (0..stage.outputs.len())
+        .all(|output| matches!(output_state(stage, row, output), PairState::Data(_)))
+}
+
+/// "Signal i is bit i of w, each gate's signal is its operation on its operands'
+/// values, in file order, and output j answers its signal's value."
+pub fn answer(reference: &Reference, word: u64) -> Vec<bool> {
+    let mut signals: Vec<bool> = (0..reference.inputs).map(|i| word >> i & 1 == 1).collect();
+    for gate in &reference.gates {
+        let first = signals[gate.operands[0]];
+        let value = match gate.operation {
+            NOT => !first,
+            AND => first & signals[gate.operands[1]],
+            OR => first | signals[gate.operands[1]],
+            XOR => first ^ signals[gate.operands[1]],
+            NAND => !(first & signals[gate.operands[1]]),
+            NOR => !(first | signals[gate.operands[1]]),
+            _ => unreachable!("the reader knows no other operation"),
+        };
+        signals.push(value);
+    }
+    reference
+        .outputs
+        .iter()
+        .map(|&signal| signals[signal])
+        .collect()
+}
+
+/// The check of a stage file against a reference file.
+///
+/// "The stage is read first, then the reference, then 10 to 15 follow in order. A
+/// word or index named is the least: least word, then least index."
+pub fn check(stage_file: &[u8], reference_file: &[u8]) -> Verdict {
+    let stage = match read_stage(stage_file) {
+        Ok(stage) => stage,
+        Err((number, at)) => return [number, STAGE, at as u64, 0],
+    };
+    let reference = match read_reference(reference_file) {
+        Ok(reference) => reference,
+        Err((number, at)) => return [number, REFERENCE, at as u64, 0],
+    };
+    if stage.inputs != reference.inputs {
+        return [10, NONE, stage.inputs as u64, reference.inputs as u64];
+    }
+    if stage.outputs.len() != reference.outputs.len() {
+        return [
+            11,
+            NONE,
+            stage.outputs.len() as u64,
+            reference.outputs.len() as u64,
+        ];
+    }
+    if let Some(gate) = least_gate_on_a_loop(&stage) {
+        return [12, STAGE, gate as u64, 0];
+    }
+    check_circuits(&stage, &reference)
+}
+
+/// The checks 13 to 15 of a loop-free stage against a reference with as many
+/// inputs and outputs.
+pub fn check_circuits(stage: &Stage, reference: &Reference) -> Verdict {
+    let words = 1u64 << stage.inputs;
+
+    // 13: "settled output pair is not the reference's DATA".
+    for word in 0..words {
+        let row = settle(stage, &rails_of_word(stage.inputs, word), None);
+        let values = answer(reference, word);
+        for (output, &value) in values.iter().enumerate() {
+            if output_state(stage, &row, output) != PairState::Data(value) {
+                return [13, STAGE, output as u64, word];
+            }
+        }
+    }
+
+    // 14: "with w given and input i NULL, all settled outputs are DATA".
+    for word in 0..words {
+        for input in 0..stage.inputs {
+            let mut rails = rails_of_word(stage.inputs, word);
+            rails[2 * input] = false;
+            rails[2 * input + 1] = false;
+            let row = settle(stage, &rails, None);
+            if all_outputs_data(stage, &row) {
+                return [14, STAGE, input as u64, word];
+            }
+        }
+    }
+
+    // 15: "a gate high in w; settled with it held low, all outputs still DATA".
+    for word in 0..words {
+        let rails = rails_of_word(stage.inputs, word);
+        let row = settle(stage, &rails, None);
+        for gate in 0..stage.gates.len() {
+            if row[stage.net_of_gate(gate)] {
+                let held = settle(stage, &rails, Some(gate));
+                if all_outputs_data(stage, &held) {
+                    return [15, STAGE, gate as u64, word];
+                }
+            }
+        }
+    }
+
+    ACCEPTED
+}
+
+/// The settled-row call: "a stage file and a lent row, one byte per net. Its
+/// refusals are 1 to 9, 12, 16, 17, in that order; each leaves the row unchanged."
+pub fn settled_row(stage_file: &[u8], row: &mut [u8]) -> Verdict {
+    let stage = match read_stage(stage_file) {
+        Ok(stage) => stage,
+        Err((number, at)) => return [number, STAGE, at as u64, 0],
+    };
+    if let Some(gate) = least_gate_on_a_loop(&stage) {
+        return [12, STAGE, gate as u64, 0];
+    }
+    // 16, the row length is not 2n plus gates.
+    if row.len() != stage.nets() {
+        return [16, ROW, row.len() as u64, 0];
+    }
+    // 17, an input rail above 1, or both rails 1.
+    for input in 0..stage.inputs {
+        let (rail_0, rail_1) = (row[2 * input], row[2 * input + 1]);
+        if rail_0 > 1 || rail_1 > 1 || rail_0 == 1 && rail_1 == 1 {
+            return [17, ROW, input as u64, 0];
+        }
+    }
+    // "Input bytes keep their values, old gate bytes are ignored", gates are
+    // written as 1 for high and 0 for low.
+    let rails: Vec<bool> = row[..2 * stage.inputs]
+        .iter()
+        .map(|&byte| byte == 1)
+        .collect();
+    let settled = settle(&stage, &rails, None);
+    for gate in 0..stage.gates.len() {
+        let net = stage.net_of_gate(gate);
+        row[net] = u8::from(settled[net]);
+    }
+    ACCEPTED
+}
