@@ -164,7 +164,7 @@ pub fn as_the_program_reads(path: &Path) -> io::Result<Vec<u8>> {
 
 /// The folder of the stored example pairs.
 pub fn examples_folder() -> PathBuf {
-    Path::new(env!("CARGO_MANIFEST_DIR")).join("examples")
+    Path::new(env!("CARGO_MANIFEST_DIR")).join("../examples")
 }
 
 /// Stores a pair and its verdict as NAME/stage.ncl, reference.ncl and verdict.

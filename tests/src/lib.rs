@@ -1,6 +1,12 @@
-//! What the tests share: where the repository is, and the papers' set expressions read as text.
+//! What the tests share: a second, independent implementation of document 01, what is needed to try another one against it,
+//! where the repository is, and the papers' set expressions read as text.
 
+pub mod catalogue;
+pub mod circuits;
+pub mod compare;
+pub mod explore;
 pub mod files;
+pub mod generate;
 pub mod judge;
 pub mod row_suite;
 

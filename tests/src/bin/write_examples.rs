@@ -1,0 +1,27 @@
+//! Writes all example pairs with their verdicts into the folder examples/, or
+//! into the folder given, and prints a list of them.
+
+use fovaheju_tests::{catalogue, files, judge};
+use std::path::PathBuf;
+
+fn main() -> std::io::Result<()> {
+    let folder = std::env::args_os()
+        .nth(1)
+        .map_or_else(files::examples_folder, PathBuf::from);
+    for example in catalogue::examples() {
+        let verdict = judge::check(&example.pair.stage, &example.pair.reference);
+        files::store_example(&folder, &example.name, &example.pair, verdict)?;
+        let mark = if verdict[0] == example.number {
+            ""
+        } else {
+            "  NOT AS EXPECTED"
+        };
+        println!(
+            "{:28} {:14} {}{mark}",
+            example.name,
+            files::verdict_line(verdict).trim_end(),
+            example.about
+        );
+    }
+    Ok(())
+}

@@ -1,0 +1,922 @@
+//! Real netlists with their references, and faulty variants of several of them.
+//!
+//! Each entry says by which number it is expected to be refused (0 if accepted);
+//! file, place and word come from the judge and are stored with the pair.
+
+use crate::circuits::{
+    dual_rail, kind_named, multiplier, multiplier_reference, reordered, ripple_adder,
+    ripple_adder_reference, stage_from_netlist, Products, ReferenceBuilder, Signal, StageBuilder,
+};
+use crate::files::{unhex, write_pair, FilePair};
+use crate::judge::{Gate, Reference, Stage, AND, NAND, NOR, OR, XOR};
+
+/// One stored pair.
+pub struct Example {
+    pub name: String,
+    /// What it is, in a few words.
+    pub about: &'static str,
+    /// The number of its verdict, by design.
+    pub number: u64,
+    pub pair: FilePair,
+}
+
+/// The twelve marked cases of document 01: stage, reference, verdict.
+pub const MARKED: [(&str, &str, &str, [u64; 4]); 12] = [
+    (
+        "the whole case",
+        "01 02 02 02 01 00 03 00 FF FF FF FF 02 1A 00 00 02 00 01 00 03 00 03 05 00 04 00 00",
+        "01 02 11 02 00 00 01 00 12 02 00 00",
+        [0, 0, 0, 0],
+    ),
+    ("wire", "01 01 03 00 00 01 00 00", WIRE, [0, 0, 0, 0]),
+    (
+        "wire, rails swapped",
+        "01 01 03 01 00 00 00 00",
+        WIRE,
+        [13, 1, 0, 0],
+    ),
+    (
+        "wire, rails swapped, against NOT",
+        "01 01 03 01 00 00 00 00",
+        "01 01 11 01 00 00 FF FF 12 01 00 00",
+        [0, 0, 0, 0],
+    ),
+    (
+        "wire, both rails on net 0",
+        "01 01 03 00 00 00 00 00",
+        WIRE,
+        [13, 1, 0, 0],
+    ),
+    (
+        "AND by TH12 and TH22",
+        "01 02 02 01 00 00 02 00 FF FF FF FF 02 02 01 00 03 00 FF FF FF FF 03 04 00 05 00 00",
+        "01 02 11 02 00 00 01 00 12 02 00 00",
+        [14, 1, 0, 0],
+    ),
+    (
+        "two inputs, one wired out",
+        "01 02 03 00 00 01 00 00",
+        "01 02 12 00 00 00",
+        [14, 1, 1, 0],
+    ),
+    (
+        "wire and a gate that feeds nothing",
+        "01 01 02 01 00 00 01 00 FF FF FF FF 03 00 00 01 00 00",
+        WIRE,
+        [15, 1, 0, 0],
+    ),
+    (
+        "wire and a gate on its own net",
+        "01 01 02 01 02 00 00 00 FF FF FF FF 03 00 00 01 00 00",
+        WIRE,
+        [12, 1, 0, 0],
+    ),
+    ("both files empty", "", "", [1, 1, 0, 0]),
+    (
+        "ten wires",
+        "01 0A 03 00 00 01 00 03 02 00 03 00 03 04 00 05 00 03 06 00 07 00 03 08 00 09 00 \
+         03 0A 00 0B 00 03 0C 00 0D 00 03 0E 00 0F 00 03 10 00 11 00 03 12 00 13 00 00",
+        "01 0A 12 00 00 12 01 00 12 02 00 12 03 00 12 04 00 12 05 00 12 06 00 12 07 00 \
+         12 08 00 12 09 00 00",
+        [0, 0, 0, 0],
+    ),
+    (
+        "eleven inputs",
+        "01 0B 03 00 00 01 00 00",
+        WIRE,
+        [3, 1, 1, 0],
+    ),
+];
+
+const WIRE: &str = "01 01 12 00 00 00";
+
+/// Figure 12(a), which is Figure 19(a), of source document 001, from its line 3 on.
+const MULTIPLIER_3X3: &str = include_str!("netlists/multiplier-3x3.txt");
+
+/// Figure 15(a) of source document 001, from its line 3 on.
+const MAC_4_2X2: &str = include_str!("netlists/mac-4-2x2.txt");
+
+/// The multiplier of Figure 12(a): inputs xi0 to xi2, yi0 to yi2.
+pub fn multiplier_of_the_source() -> Stage {
+    stage_from_netlist(
+        &["xi0", "xi1", "xi2", "yi0", "yi1", "yi2"],
+        &["p0", "p1", "p2", "p3", "p4", "p5"],
+        MULTIPLIER_3X3,
+    )
+}
+
+/// The MAC of Figure 15(a), its four misprints mended and its loop cut: inputs
+/// xi0, xi1, yi0, yi1, acci0 to acci3, outputs p0 to p3.
+pub fn mac_of_the_source() -> Stage {
+    let mut mended = String::new();
+    for line in MAC_4_2X2.lines() {
+        // Lines 58 to 61 are the registers that close the loop from p to acci.
+        if line.contains("Reg_DATA") {
+            continue;
+        }
+        // Lines 43 to 46 drive accN_0, acciN_1 for accN_0, accN_1.
+        let mut line = line.to_string();
+        for bit in 0..4 {
+            let misprint = format!("acc{bit}_0,acci{bit}_1");
+            line = line.replace(&misprint, &format!("acc{bit}_0,acc{bit}_1"));
+        }
+        mended.push_str(&line);
+        mended.push('\n');
+    }
+    stage_from_netlist(
+        &[
+            "xi0", "xi1", "yi0", "yi1", "acci0", "acci1", "acci2", "acci3",
+        ],
+        &["p0", "p1", "p2", "p3"],
+        &mended,
+    )
+}
+
+/// acc + x * y modulo 16, with x and y of two bits.
+pub fn mac_reference() -> Reference {
+    let mut r = ReferenceBuilder::new(8);
+    let (x, y, acc) = ([0, 1], [2, 3], [4, 5, 6, 7]);
+    // The product.
+    let p0 = r.and(x[0], y[0]);
+    let (a, b) = (r.and(x[1], y[0]), r.and(x[0], y[1]));
+    let (p1, c) = r.half_adder(a, b);
+    let high = r.and(x[1], y[1]);
+    let (p2, p3) = r.half_adder(high, c);
+    // The sum.
+    let (s0, c) = r.half_adder(acc[0], p0);
+    let (s1, c) = r.full_adder(acc[1], p1, c);
+    let (s2, c) = r.full_adder(acc[2], p2, c);
+    let top = r.xor(acc[3], p3);
+    let s3 = r.xor(top, c);
+    for signal in [s0, s1, s2, s3] {
+        r.output(signal);
+    }
+    r.reference
+}
+
+/// A reference of one operation on two inputs.
+fn one_operation(operation: usize) -> Reference {
+    let mut r = ReferenceBuilder::new(2);
+    let signal = r.gate(operation, &[0, 1]);
+    r.output(signal);
+    r.reference
+}
+
+/// The parity of ten inputs, as a balanced tree.
+pub fn parity_reference() -> Reference {
+    let mut r = ReferenceBuilder::new(10);
+    let mut signals: Vec<usize> = (0..10).collect();
+    while signals.len() > 1 {
+        signals = signals
+            .chunks(2)
+            .map(|two| {
+                if two.len() == 2 {
+                    r.xor(two[0], two[1])
+                } else {
+                    two[0]
+                }
+            })
+            .collect();
+    }
+    r.output(signals[0]);
+    r.reference
+}
+
+/// Whether two addresses of five bits are equal.
+pub fn address_compare_reference() -> Reference {
+    let mut r = ReferenceBuilder::new(10);
+    let equal: Vec<usize> = (0..5)
+        .map(|bit| {
+            let differs = r.xor(bit, 5 + bit);
+            r.not(differs)
+        })
+        .collect();
+    let all = r.chain(AND, &equal);
+    r.output(all);
+    r.reference
+}
+
+/// Less, equal, greater for two numbers of four bits.
+pub fn comparator_reference() -> Reference {
+    let mut r = ReferenceBuilder::new(8);
+    let mut greater = None;
+    let mut equal = None;
+    for bit in (0..4).rev() {
+        let (a, b) = (bit, 4 + bit);
+        let not_b = r.not(b);
+        let here = r.and(a, not_b);
+        let differs = r.xor(a, b);
+        let same = r.not(differs);
+        (greater, equal) = match (greater, equal) {
+            (Some(greater), Some(equal)) => {
+                let only_here = r.and(equal, here);
+                (Some(r.or(greater, only_here)), Some(r.and(equal, same)))
+            }
+            _ => (Some(here), Some(same)),
+        };
+    }
+    let (greater, equal) = (greater.unwrap(), equal.unwrap());
+    let less = r.nor(greater, equal);
+    for signal in [less, equal, greater] {
+        r.output(signal);
+    }
+    r.reference
+}
+
+/// ISCAS-85 C17: inputs N1, N2, N3, N6, N7, outputs N22, N23.
+pub fn c17_reference() -> Reference {
+    let mut r = ReferenceBuilder::new(5);
+    let [n1, n2, n3, n6, n7] = [0, 1, 2, 3, 4];
+    let n10 = r.nand(n1, n3);
+    let n11 = r.nand(n3, n6);
+    let n16 = r.nand(n2, n11);
+    let n19 = r.nand(n11, n7);
+    let n22 = r.nand(n10, n16);
+    let n23 = r.nand(n16, n19);
+    r.output(n22);
+    r.output(n23);
+    r.reference
+}
+
+/// Values of the seven segments a to g for the hexadecimal digits.
+const SEGMENTS: [u8; 16] = [
+    0x3F, 0x06, 0x5B, 0x4F, 0x66, 0x6D, 0x7D, 0x07, 0x7F, 0x6F, 0x77, 0x7C, 0x39, 0x5E, 0x79, 0x71,
+];
+
+fn segment_values() -> Vec<Vec<bool>> {
+    (0..7)
+        .map(|segment| {
+            SEGMENTS
+                .iter()
+                .map(|digit| digit >> segment & 1 == 1)
+                .collect()
+        })
+        .collect()
+}
+
+fn reference_by_words(inputs: usize, outputs: &[Vec<bool>]) -> Reference {
+    let mut r = ReferenceBuilder::new(inputs);
+    let signals: Vec<usize> = outputs.iter().map(|values| r.by_words(values)).collect();
+    for signal in signals {
+        r.output(signal);
+    }
+    r.reference
+}
+
+/// The seven-segment digit with each word formed once.
+fn segment_reference() -> Reference {
+    let mut r = ReferenceBuilder::new(4);
+    let words: Vec<usize> = (0..16).map(|word| r.one_word(word)).collect();
+    for values in segment_values() {
+        let calling: Vec<usize> = (0..16).filter(|&w| values[w]).map(|w| words[w]).collect();
+        let signal = r.chain(OR, &calling);
+        r.output(signal);
+    }
+    r.reference
+}
+
+/// Ten inputs, 64 operations of two gates each, sixteen outputs.
+pub fn timing_network_reference() -> Reference {
+    let mut r = ReferenceBuilder::new(10);
+    let operations = [XOR, AND, XOR, OR, XOR, NAND, XOR, NOR];
+    for k in 0..64 {
+        // The oldest signal not yet used, so that every one leads to an output,
+        // and one a few places on.
+        let first = k;
+        let second = (k + 3 + 2 * (k % 3)).min(k + 9);
+        r.gate(operations[k % operations.len()], &[first, second]);
+    }
+    for signal in 74 - 16..74 {
+        r.output(signal);
+    }
+    r.reference
+}
+
+/// Ten inputs and a chain of 64 XORs, the inputs taken in turn.
+pub fn timing_chain_reference() -> Reference {
+    let mut r = ReferenceBuilder::new(10);
+    let mut signal = 0;
+    for k in 1..=64 {
+        signal = r.xor(signal, k % 10);
+    }
+    r.output(signal);
+    r.reference
+}
+
+/// A stage with its gates in reverse order.
+pub fn reversed(stage: &Stage) -> Stage {
+    let order: Vec<usize> = (0..stage.gates.len()).rev().collect();
+    reordered(stage, &order)
+}
+
+/// The binary number of a Gray code of six bits, highest bit last.
+fn gray_reference() -> Reference {
+    let mut r = ReferenceBuilder::new(6);
+    let mut signals = vec![5];
+    for bit in (0..5).rev() {
+        let above = *signals.last().unwrap();
+        signals.push(r.xor(bit, above));
+    }
+    for &signal in signals.iter().rev() {
+        r.output(signal);
+    }
+    r.reference
+}
+
+/// A multiplexer of four inputs and two select inputs.
+fn multiplexer_reference() -> Reference {
+    let mut r = ReferenceBuilder::new(6);
+    let (s0, s1) = (4, 5);
+    let (not_s0, not_s1) = (r.not(s0), r.not(s1));
+    let mut chosen = Vec::new();
+    for (input, [a, b]) in [[not_s0, not_s1], [s0, not_s1], [not_s0, s1], [s0, s1]]
+        .into_iter()
+        .enumerate()
+    {
+        let select = r.and(a, b);
+        chosen.push(r.and(input, select));
+    }
+    let output = r.chain(OR, &chosen);
+    r.output(output);
+    r.reference
+}
+
+/// The four code bits and three check bits of a Hamming code.
+fn hamming_reference() -> Reference {
+    let mut r = ReferenceBuilder::new(4);
+    let checks = [[0, 1, 3], [0, 2, 3], [1, 2, 3]].map(|bits| r.chain(XOR, &bits));
+    for signal in [0, 1, 2, 3].into_iter().chain(checks) {
+        r.output(signal);
+    }
+    r.reference
+}
+
+/// NAND of nine inputs as in Figure 20: two 4-input ANDs, a 2-input AND and a
+/// 2-input NAND, with or without input-complete 4-input ANDs.
+fn nand_9(complete: bool) -> Stage {
+    let mut s = StageBuilder::new(9);
+    let inputs = s.inputs();
+    let mut halves = Vec::new();
+    for four in [&inputs[0..4], &inputs[4..8]] {
+        halves.push(if complete {
+            let (low, high) = (s.and(four[0], four[1]), s.and(four[2], four[3]));
+            s.and(low, high)
+        } else {
+            let rail_1 = s.gate("TH44", &[0, 1, 2, 3].map(|i| four[i].rail_1));
+            let rail_0 = s.gate("TH14", &[0, 1, 2, 3].map(|i| four[i].rail_0));
+            Signal { rail_0, rail_1 }
+        });
+    }
+    let eight = s.and(halves[0], halves[1]);
+    let nine = s.and(eight, inputs[8]).inverted();
+    s.output(nine);
+    s.stage
+}
+
+fn nand_9_reference() -> Reference {
+    let mut r = ReferenceBuilder::new(9);
+    let all = r.chain(AND, &[0, 1, 2, 3, 4, 5, 6, 7, 8]);
+    let output = r.not(all);
+    r.output(output);
+    r.reference
+}
+
+/// All pairs that are stored under examples/.
+pub fn examples() -> Vec<Example> {
+    let mut list: Vec<Example> = Vec::new();
+    let mut add =
+        |name: &str, about: &'static str, number: u64, stage: &Stage, reference: &Reference| {
+            let pair = write_pair(stage, reference);
+            list.push(Example {
+                name: name.to_string(),
+                about,
+                number,
+                pair,
+            });
+        };
+
+    // Two-input functions.
+    for (name, operation) in [
+        ("and", AND),
+        ("or", OR),
+        ("xor", XOR),
+        ("nand", NAND),
+        ("nor", NOR),
+    ] {
+        let reference = one_operation(operation);
+        add(
+            name,
+            "two inputs, by the templates of M-107",
+            0,
+            &dual_rail(&reference),
+            &reference,
+        );
+    }
+    let [and, or, xor] = [AND, OR, XOR].map(one_operation);
+    let two_inputs = |build: &dyn Fn(&mut StageBuilder, Signal, Signal) -> Signal| {
+        let mut s = StageBuilder::new(2);
+        let (a, b) = (s.input(0), s.input(1));
+        let out = build(&mut s, a, b);
+        s.output(out);
+        s.stage
+    };
+    let incomplete_and = two_inputs(&|s, a, b| s.and_incomplete(a, b));
+    add(
+        "and-incomplete",
+        "Figure 6 of source document 001",
+        14,
+        &incomplete_and,
+        &and,
+    );
+    let incomplete_or = two_inputs(&|s, a, b| s.or_incomplete(a, b));
+    add(
+        "or-incomplete",
+        "OR with TH12 for rail 1",
+        14,
+        &incomplete_or,
+        &or,
+    );
+    let xor_of_two_comp = two_inputs(&|s, a, b| s.xor_of_two_comp(a, b));
+    add(
+        "xor-comp",
+        "XOR of two TH24comp, the sum of Figure 9",
+        0,
+        &xor_of_two_comp,
+        &xor,
+    );
+    let unobservable_xor = two_inputs(&|s, a, b| s.xor_unobservable(a, b));
+    add(
+        "xor-unobservable",
+        "Figure 8 of source document 001",
+        15,
+        &unobservable_xor,
+        &xor,
+    );
+    let swapped_and = two_inputs(&|s, a, b| s.and(a, b).inverted());
+    add(
+        "and-swapped",
+        "AND with the rails of its output swapped",
+        13,
+        &swapped_and,
+        &and,
+    );
+    let mut both_high = two_inputs(&|s, a, b| s.or(a, b));
+    both_high.gates[1] = Gate {
+        kind: kind_named("TH14"),
+        pins: vec![0, 1, 2, 3],
+    };
+    add(
+        "or-both-rails",
+        "OR whose rail 1 is high in word 0 too",
+        13,
+        &both_high,
+        &or,
+    );
+
+    // Adders.
+    let half = ripple_adder(1, false);
+    let half_reference = ripple_adder_reference(1, false);
+    add(
+        "half-adder",
+        "Figure 9 of source document 001",
+        0,
+        &half,
+        &half_reference,
+    );
+    let full = ripple_adder(1, true);
+    let full_reference = ripple_adder_reference(1, true);
+    add(
+        "full-adder",
+        "Figure 10 of source document 001",
+        0,
+        &full,
+        &full_reference,
+    );
+    let mut carry_only = full.clone();
+    carry_only.outputs.remove(0);
+    carry_only.gates.truncate(2);
+    let mut carry_reference = full_reference.clone();
+    carry_reference.outputs.remove(0);
+    add(
+        "majority",
+        "the carry of a full adder alone",
+        14,
+        &carry_only,
+        &carry_reference,
+    );
+    let mut wrong_weight = full.clone();
+    wrong_weight.gates[2].kind = kind_named("TH24");
+    add(
+        "full-adder-weight",
+        "rail 1 of the sum without its weight of two",
+        13,
+        &wrong_weight,
+        &full_reference,
+    );
+    let mut loop_in_adder = full.clone();
+    loop_in_adder.gates[1].pins[2] = loop_in_adder.net_of_gate(3);
+    add(
+        "full-adder-loop",
+        "a carry pin on the sum that it feeds",
+        12,
+        &loop_in_adder,
+        &full_reference,
+    );
+    for bits in 2..=5 {
+        let (stage, reference) = (
+            ripple_adder(bits, false),
+            ripple_adder_reference(bits, false),
+        );
+        add(
+            &format!("adder-{bits}"),
+            "ripple adder, half-adder first",
+            0,
+            &stage,
+            &reference,
+        );
+    }
+    for bits in 2..=4 {
+        let (stage, reference) = (ripple_adder(bits, true), ripple_adder_reference(bits, true));
+        add(
+            &format!("adder-{bits}-carry"),
+            "ripple adder with a carry in",
+            0,
+            &stage,
+            &reference,
+        );
+    }
+    let reference_5 = ripple_adder_reference(5, false);
+    add(
+        "adder-5-reversed",
+        "gates in reverse order, pins name later gates",
+        0,
+        &reversed(&ripple_adder(5, false)),
+        &reference_5,
+    );
+    let mut last_carry = ripple_adder(5, false);
+    let top = last_carry.gates.len();
+    last_carry.gates[top - 3].pins[2] = last_carry.gates[top - 3].pins[1];
+    add(
+        "adder-5-carry-pin",
+        "a pin of the last carry moved to its neighbour",
+        13,
+        &last_carry,
+        &reference_5,
+    );
+    let mut spare = ripple_adder(5, false);
+    let copy = spare.gates[4].clone();
+    spare.gates.push(copy);
+    add(
+        "adder-5-spare-gate",
+        "a carry gate twice, the second feeding nothing",
+        15,
+        &spare,
+        &reference_5,
+    );
+    let mut no_carry = ripple_adder(5, false);
+    no_carry.outputs.pop();
+    add(
+        "adder-5-no-carry-out",
+        "one output less than its reference",
+        11,
+        &no_carry,
+        &reference_5,
+    );
+    add(
+        "adder-4-against-5",
+        "fewer inputs than its reference",
+        10,
+        &ripple_adder(4, false),
+        &reference_5,
+    );
+
+    // Parity and comparing.
+    let parity = parity_reference();
+    let parity_stage = dual_rail(&parity);
+    add(
+        "parity-10",
+        "parity tree of ten inputs",
+        0,
+        &parity_stage,
+        &parity,
+    );
+    let mut parity_fault = parity_stage.clone();
+    parity_fault.gates[8].kind = kind_named("TH24");
+    add(
+        "parity-10-kind",
+        "a gate of the last input pair is TH24 in place of THxor0",
+        13,
+        &parity_fault,
+        &parity,
+    );
+    let compare = address_compare_reference();
+    let compare_stage = dual_rail(&compare);
+    add(
+        "address-compare-5",
+        "whether two addresses of five bits are equal",
+        0,
+        &compare_stage,
+        &compare,
+    );
+    let mut early = compare_stage.clone();
+    // The last AND's THand0 becomes TH12: unequal as soon as one side is.
+    let last = early.gates.last_mut().unwrap();
+    *last = Gate {
+        kind: kind_named("TH12"),
+        pins: last.pins[..2].to_vec(),
+    };
+    add(
+        "address-compare-5-early",
+        "says unequal before all bits are there",
+        14,
+        &early,
+        &compare,
+    );
+    let comparator = comparator_reference();
+    add(
+        "comparator-4",
+        "less, equal, greater for two numbers of four bits",
+        0,
+        &dual_rail(&comparator),
+        &comparator,
+    );
+    let mut swapped = dual_rail(&comparator);
+    swapped.outputs.swap(0, 2);
+    add(
+        "comparator-4-swapped",
+        "less and greater exchanged",
+        13,
+        &swapped,
+        &comparator,
+    );
+
+    // Multipliers.
+    let three = multiplier_reference(3, 3);
+    let source = multiplier_of_the_source();
+    add(
+        "multiplier-3x3-source",
+        "Figures 12 and 19 of source document 001, registers as wires",
+        0,
+        &source,
+        &three,
+    );
+    add(
+        "multiplier-3x3-reversed",
+        "the same with its gates in reverse order",
+        0,
+        &reversed(&source),
+        &three,
+    );
+    let mut incomplete = source.clone();
+    let x1y1 = incomplete
+        .gates
+        .iter()
+        .position(|gate| gate.kind == kind_named("THand0") && gate.pins == [8, 2, 9, 3]);
+    let x1y1 = x1y1.expect("line 12 of Figure 12(a)");
+    incomplete.gates[x1y1] = Gate {
+        kind: kind_named("TH12"),
+        pins: vec![8, 2],
+    };
+    add(
+        "multiplier-3x3-incomplete",
+        "the same with the incomplete AND for X1Y1",
+        14,
+        &incomplete,
+        &three,
+    );
+    let mut unobservable = StageBuilder {
+        stage: source.clone(),
+    };
+    // Lines 21 and 22, the sum of the first half-adder, by Figure 8.
+    let t0 = Signal {
+        rail_0: unobservable.stage.net_of_gate(3),
+        rail_1: unobservable.stage.net_of_gate(2),
+    };
+    let t1 = Signal {
+        rail_0: unobservable.stage.net_of_gate(7),
+        rail_1: unobservable.stage.net_of_gate(6),
+    };
+    let either_0 = unobservable.gate("TH12", &[t0.rail_0, t1.rail_0]);
+    let both_0 = unobservable.gate("TH22", &[t0.rail_0, t1.rail_0]);
+    let mut unobservable = unobservable.stage;
+    unobservable.gates[18] = Gate {
+        kind: kind_named("TH33w2"),
+        pins: vec![either_0, t0.rail_1, t1.rail_1],
+    };
+    unobservable.gates[19] = Gate {
+        kind: kind_named("TH23w2"),
+        pins: vec![both_0, t0.rail_1, t1.rail_1],
+    };
+    add(
+        "multiplier-3x3-unobservable",
+        "the same with the XOR of Figure 8 in its first half-adder",
+        15,
+        &unobservable,
+        &three,
+    );
+    let mut moved = source.clone();
+    moved.gates[38].pins[2] = moved.gates[38].pins[1];
+    add(
+        "multiplier-3x3-pin",
+        "the same with a pin of the last carry moved",
+        13,
+        &moved,
+        &three,
+    );
+    for (a, b) in [(2, 2), (4, 4), (2, 8), (3, 7), (4, 6)] {
+        let reference = multiplier_reference(a, b);
+        add(
+            &format!("multiplier-{a}x{b}"),
+            "half-adders and full adders, mixed ANDs",
+            0,
+            &multiplier(a, b, Products::Mixed),
+            &reference,
+        );
+    }
+    let reference_4x6 = multiplier_reference(4, 6);
+    add(
+        "multiplier-4x6-complete",
+        "with complete ANDs only",
+        0,
+        &multiplier(4, 6, Products::Complete),
+        &reference_4x6,
+    );
+    add(
+        "multiplier-5x5",
+        "its 130 gates are two too many",
+        6,
+        &multiplier(5, 5, Products::Mixed),
+        &multiplier_reference(5, 5),
+    );
+
+    // The multiply-accumulate unit.
+    let mac = mac_of_the_source();
+    add(
+        "mac-4-2x2-source",
+        "Figure 15 of source document 001, mended, registers as wires, loop cut",
+        14,
+        &mac,
+        &mac_reference(),
+    );
+    let mut complete = mac.clone();
+    complete.gates[6] = Gate {
+        kind: kind_named("THand0"),
+        pins: vec![6, 2, 7, 3],
+    };
+    add(
+        "mac-4-2x2-complete",
+        "the same with the complete AND for X1Y1",
+        0,
+        &complete,
+        &mac_reference(),
+    );
+
+    // Others.
+    let c17 = c17_reference();
+    add(
+        "c17",
+        "ISCAS-85 C17 by the templates of M-107",
+        0,
+        &dual_rail(&c17),
+        &c17,
+    );
+    let mut c17_fault = dual_rail(&c17);
+    c17_fault.gates[1] = Gate {
+        kind: kind_named("TH12"),
+        pins: vec![0, 4],
+    };
+    add(
+        "c17-incomplete",
+        "the same with the incomplete NAND for N10",
+        14,
+        &c17_fault,
+        &c17,
+    );
+    let segments = segment_values();
+    let mut digit = StageBuilder::new(4);
+    digit.sum_of_words(&segments);
+    let digit = digit.stage;
+    let segment_reference = segment_reference();
+    add(
+        "seven-segment",
+        "hexadecimal digit, one gate for each word",
+        0,
+        &digit,
+        &segment_reference,
+    );
+    let mut digit_fault = digit.clone();
+    digit_fault.gates[11].pins[3] = 6;
+    add(
+        "seven-segment-word",
+        "a pin of the gate of word 11 on the wrong rail",
+        13,
+        &digit_fault,
+        &segment_reference,
+    );
+    let constant = reference_by_words(2, &[vec![false; 4], vec![true, false, false, true]]);
+    let mut constant_stage = StageBuilder::new(2);
+    constant_stage.sum_of_words(&[vec![false; 4], vec![true, false, false, true]]);
+    add(
+        "constant-output",
+        "an output that is 0 in every word, its rail 1 never rises",
+        0,
+        &constant_stage.stage,
+        &constant,
+    );
+    let gray = gray_reference();
+    add(
+        "gray-6",
+        "Gray code to binary, six bits",
+        0,
+        &dual_rail(&gray),
+        &gray,
+    );
+    let multiplexer = multiplexer_reference();
+    add(
+        "multiplexer-4",
+        "four inputs, two select inputs",
+        0,
+        &dual_rail(&multiplexer),
+        &multiplexer,
+    );
+    let hamming = hamming_reference();
+    add(
+        "hamming-4",
+        "four wires and three check bits",
+        0,
+        &dual_rail(&hamming),
+        &hamming,
+    );
+    let nand = nand_9_reference();
+    add(
+        "nand-9",
+        "nine inputs, complete ANDs",
+        0,
+        &nand_9(true),
+        &nand,
+    );
+    add(
+        "nand-9-incomplete",
+        "Figure 20 of source document 001, held gates: incomplete by itself",
+        14,
+        &nand_9(false),
+        &nand,
+    );
+
+    // For timing.
+    let network = timing_network_reference();
+    let network_stage = dual_rail(&network);
+    add(
+        "timing-network",
+        "ten inputs, 128 gates, sixteen outputs",
+        0,
+        &network_stage,
+        &network,
+    );
+    let chain = timing_chain_reference();
+    let chain_stage = dual_rail(&chain);
+    add(
+        "timing-chain",
+        "ten inputs, a chain of 128 gates",
+        0,
+        &chain_stage,
+        &chain,
+    );
+    add(
+        "timing-chain-reversed",
+        "the same, each gate before the ones that feed it",
+        0,
+        &reversed(&chain_stage),
+        &chain,
+    );
+    // Output 15 is turned over in word 1023 only.
+    let mut r = ReferenceBuilder {
+        reference: network.clone(),
+    };
+    let all_high = r.one_word(1023);
+    let turned = r.xor(network.outputs[15], all_high);
+    let mut last_word = r.reference;
+    last_word.outputs[15] = turned;
+    add(
+        "timing-network-last-word",
+        "wrong in the last word only",
+        13,
+        &network_stage,
+        &last_word,
+    );
+
+    // The marked cases of document 01.
+    for (case, (about, stage, reference, verdict)) in MARKED.into_iter().enumerate() {
+        let pair = FilePair {
+            stage: unhex(stage),
+            reference: unhex(reference),
+        };
+        list.push(Example {
+            name: format!("marked-{:02}", case + 1),
+            about,
+            number: verdict[0],
+            pair,
+        });
+    }
+    list
+}

@@ -1,0 +1,296 @@
+//! Another implementation against the judge.
+//!
+//! The other side is given as plain functions, so that it may come from anywhere: a
+//! library with C functions needs two wrappers of a line each. A program is run as a
+//! program, in a folder that holds the two files.
+
+use crate::files::{hex, verdict_from_line, verdict_line, FilePair, MOST_BYTES_READ};
+use crate::generate::{pair, row_case, RowCase};
+use crate::judge::{self, Verdict};
+use std::fmt;
+use std::fs;
+use std::io;
+use std::path::Path;
+use std::process::Command;
+use std::time::Instant;
+
+/// The check of a stage file and a reference file.
+pub type Check = fn(&[u8], &[u8]) -> [u64; 4];
+
+/// The settled-row call: a stage file and a lent row.
+pub type SettledRow = fn(&[u8], &mut [u8]) -> [u64; 4];
+
+/// How often each verdict number came.
+pub type Histogram = [u64; 18];
+
+/// The first difference found.
+#[derive(Clone, PartialEq, Eq, Debug)]
+pub enum Difference {
+    Verdicts {
+        name: String,
+        pair: FilePair,
+        judge: Verdict,
+        other: Verdict,
+    },
+    Rows {
+        name: String,
+        case: RowCase,
+        judge: (Verdict, Vec<u8>),
+        other: (Verdict, Vec<u8>),
+    },
+    NoVerdict {
+        name: String,
+        pair: FilePair,
+        printed: String,
+    },
+}
+
+impl fmt::Display for Difference {
+    fn fmt(&self, f: &mut fmt::Formatter<'_>) -> fmt::Result {
+        let line = |verdict: Verdict| verdict_line(verdict).trim_end().to_string();
+        match self {
+            Difference::Verdicts {
+                name,
+                pair,
+                judge,
+                other,
+            } => {
+                writeln!(f, "{name}: judge {}, other {}", line(*judge), line(*other))?;
+                writeln!(f, "stage, {} bytes: {}", pair.stage.len(), hex(&pair.stage))?;
+                writeln!(
+                    f,
+                    "reference, {} bytes: {}",
+                    pair.reference.len(),
+                    hex(&pair.reference)
+                )
+            }
+            Difference::Rows {
+                name,
+                case,
+                judge,
+                other,
+            } => {
+                writeln!(
+                    f,
+                    "{name}: judge {}, other {}",
+                    line(judge.0),
+                    line(other.0)
+                )?;
+                writeln!(f, "stage, {} bytes: {}", case.stage.len(), hex(&case.stage))?;
+                writeln!(
+                    f,
+                    "row before, {} bytes: {}",
+                    case.row.len(),
+                    hex(&case.row)
+                )?;
+                writeln!(f, "row of the judge: {}", hex(&judge.1))?;
+                writeln!(f, "row of the other: {}", hex(&other.1))
+            }
+            Difference::NoVerdict {
+                name,
+                pair,
+                printed,
+            } => {
+                writeln!(f, "{name}: no verdict line but {printed:?}")?;
+                writeln!(f, "stage, {} bytes: {}", pair.stage.len(), hex(&pair.stage))?;
+                writeln!(
+                    f,
+                    "reference, {} bytes: {}",
+                    pair.reference.len(),
+                    hex(&pair.reference)
+                )
+            }
+        }
+    }
+}
+
+/// Compares the verdicts on one pair and gives the number they agree on.
+pub fn compare_pair(other: Check, name: &str, pair: &FilePair) -> Result<u64, Box<Difference>> {
+    let judged = judge::check(&pair.stage, &pair.reference);
+    let given = other(&pair.stage, &pair.reference);
+    if judged == given {
+        return Ok(judged[0]);
+    }
+    let (name, pair) = (name.to_string(), pair.clone());
+    Err(Box::new(Difference::Verdicts {
+        name,
+        pair,
+        judge: judged,
+        other: given,
+    }))
+}
+
+/// Compares the verdict and every byte of the row of one case.
+pub fn compare_row(other: SettledRow, name: &str, case: &RowCase) -> Result<u64, Box<Difference>> {
+    let (mut judged, mut given) = (case.row.clone(), case.row.clone());
+    let judged_verdict = judge::settled_row(&case.stage, &mut judged);
+    let given_verdict = other(&case.stage, &mut given);
+    if judged_verdict == given_verdict && judged == given {
+        return Ok(judged_verdict[0]);
+    }
+    Err(Box::new(Difference::Rows {
+        name: name.to_string(),
+        case: case.clone(),
+        judge: (judged_verdict, judged),
+        other: (given_verdict, given),
+    }))
+}
+
+/// A smaller pair on which the verdicts still differ: pieces of both files are left
+/// out as long as they do, large pieces first, then any of at most ten bytes (a gate
+/// command of a stage has ten). It stops after some seconds.
+pub fn shrink(other: Check, pair: &FilePair) -> FilePair {
+    let differ = |pair: &FilePair| {
+        other(&pair.stage, &pair.reference) != judge::check(&pair.stage, &pair.reference)
+    };
+    let mut small = pair.clone();
+    let mut piece = small.stage.len().max(small.reference.len());
+    let start = Instant::now();
+    while piece > 0 {
+        for in_stage in [true, false] {
+            let mut at = 0;
+            loop {
+                let mut attempt = small.clone();
+                let file = if in_stage {
+                    &mut attempt.stage
+                } else {
+                    &mut attempt.reference
+                };
+                if at >= file.len() || start.elapsed().as_secs() >= 5 {
+                    break;
+                }
+                let to = file.len().min(at + piece);
+                file.drain(at..to);
+                if differ(&attempt) {
+                    small = attempt;
+                } else {
+                    at += if piece > 10 { piece } else { 1 };
+                }
+            }
+        }
+        piece = if piece > 20 { piece / 2 } else { piece - 1 };
+    }
+    small
+}
+
+/// Compares the check on the first `count` pairs of a seed up to the first difference.
+pub fn first_difference(other: Check, seed: u64, count: u64) -> Result<Histogram, Box<Difference>> {
+    let mut histogram = Histogram::default();
+    for index in 0..count {
+        let generated = pair(seed, index);
+        let name = format!("pair {index} of seed {seed} ({})", generated.family);
+        let number = compare_pair(other, &name, &generated.pair)?;
+        histogram[number as usize] += 1;
+    }
+    Ok(histogram)
+}
+
+/// Compares the check on the first `count` pairs of a seed. The first difference is
+/// printed, as it is and with smaller files, and given back.
+pub fn compare_checks(other: Check, seed: u64, count: u64) -> Result<Histogram, Box<Difference>> {
+    first_difference(other, seed, count).inspect_err(|difference| {
+        println!("{difference}");
+        if let Difference::Verdicts { pair, .. } = &**difference {
+            let small = shrink(other, pair);
+            if let Err(smaller) = compare_pair(other, "the same, smaller", &small) {
+                println!("{smaller}");
+            }
+        }
+    })
+}
+
+/// Compares the settled-row call on the first `count` row cases of a seed. The first
+/// difference is printed and given back.
+pub fn compare_rows(
+    other: SettledRow,
+    seed: u64,
+    count: u64,
+) -> Result<Histogram, Box<Difference>> {
+    let mut histogram = Histogram::default();
+    for index in 0..count {
+        let name = format!("row case {index} of seed {seed}");
+        let number = compare_row(other, &name, &row_case(seed, index))
+            .inspect_err(|difference| println!("{difference}"))?;
+        histogram[number as usize] += 1;
+    }
+    Ok(histogram)
+}
+
+/// What a program prints for a pair of files in a folder that it runs in. An empty
+/// file is left out if `leave_out` says so: "a missing file counting as empty".
+pub fn run_program(
+    program: &Path,
+    folder: &Path,
+    pair: &FilePair,
+    leave_out: bool,
+) -> io::Result<String> {
+    for (name, bytes) in [
+        ("stage.ncl", &pair.stage),
+        ("reference.ncl", &pair.reference),
+    ] {
+        let path = folder.join(name);
+        if bytes.is_empty() && leave_out {
+            match fs::remove_file(&path) {
+                Err(error) if error.kind() != io::ErrorKind::NotFound => return Err(error),
+                _ => {}
+            }
+        } else {
+            fs::write(&path, bytes)?;
+        }
+    }
+    let output = Command::new(program).current_dir(folder).output()?;
+    Ok(String::from_utf8_lossy(&output.stdout).into_owned())
+}
+
+/// Compares a program that prints a verdict line with the judge, on the first `count`
+/// pairs of a seed. The judge takes the first 8,192 bytes of each file, as the
+/// program is to do. The first difference is printed and given back.
+pub fn compare_program(
+    program: &Path,
+    folder: &Path,
+    seed: u64,
+    count: u64,
+) -> io::Result<Result<Histogram, Box<Difference>>> {
+    let mut histogram = Histogram::default();
+    let cut = |file: &[u8]| file[..file.len().min(MOST_BYTES_READ as usize)].to_vec();
+    for index in 0..count {
+        let generated = pair(seed, index);
+        let name = format!("pair {index} of seed {seed} ({})", generated.family);
+        let printed = run_program(program, folder, &generated.pair, index % 2 == 0)?;
+        let judged = judge::check(&cut(&generated.pair.stage), &cut(&generated.pair.reference));
+        let pair = generated.pair;
+        let difference = match verdict_from_line(&printed) {
+            Some(other) if other == judged => {
+                histogram[judged[0] as usize] += 1;
+                continue;
+            }
+            Some(other) => Difference::Verdicts {
+                name,
+                pair,
+                judge: judged,
+                other,
+            },
+            None => Difference::NoVerdict {
+                name,
+                pair,
+                printed,
+            },
+        };
+        println!("{difference}");
+        return Ok(Err(Box::new(difference)));
+    }
+    Ok(Ok(histogram))
+}
+
+/// Seed and count for a test: a fixed seed, unless the environment names another.
+pub fn seed_and_count(count: u64) -> (u64, u64) {
+    let number = |name: &str| {
+        std::env::var(name)
+            .ok()
+            .map(|text| text.trim().parse().expect("a number"))
+    };
+    (
+        number("FOVAHEJU_SEED").unwrap_or(20_261_115),
+        number("FOVAHEJU_COUNT").unwrap_or(count),
+    )
+}

@@ -1,0 +1,112 @@
+//! The stored example pairs: their files are those described, and their verdicts those
+//! of the judge.
+
+use fovaheju_tests::catalogue::{
+    address_compare_reference, comparator_reference, examples, mac_of_the_source, mac_reference,
+    multiplier_of_the_source, parity_reference, MARKED,
+};
+use fovaheju_tests::circuits::{multiplier_reference, ripple_adder_reference};
+use fovaheju_tests::files::{examples_folder, load_example, stored_examples};
+use fovaheju_tests::judge::{answer, check};
+
+#[test]
+fn stored_files_and_verdicts() {
+    let folder = examples_folder();
+    let mut described = Vec::new();
+    for example in examples() {
+        let (pair, verdict) = load_example(&folder, &example.name).unwrap_or_else(|error| {
+            panic!(
+                "{}: {error}; the program write_examples stores it",
+                example.name
+            )
+        });
+        assert_eq!(pair, example.pair, "{}", example.name);
+        assert_eq!(verdict[0], example.number, "{}", example.name);
+        assert_eq!(
+            check(&pair.stage, &pair.reference),
+            verdict,
+            "{}",
+            example.name
+        );
+        described.push(example.name);
+    }
+    described.sort();
+    assert_eq!(stored_examples(&folder).unwrap(), described);
+}
+
+#[test]
+fn marked_cases_are_stored_with_the_papers_verdicts() {
+    for (case, (about, _, _, verdict)) in MARKED.into_iter().enumerate() {
+        let (_, stored) =
+            load_example(&examples_folder(), &format!("marked-{:02}", case + 1)).unwrap();
+        assert_eq!(stored, verdict, "{about}");
+    }
+}
+
+fn number(bits: &[bool]) -> u64 {
+    bits.iter()
+        .enumerate()
+        .map(|(place, &bit)| u64::from(bit) << place)
+        .sum()
+}
+
+/// The references compute what their names say.
+#[test]
+fn references_compute() {
+    for (a, b) in [
+        (1, 1),
+        (2, 2),
+        (3, 3),
+        (4, 4),
+        (2, 8),
+        (3, 7),
+        (4, 6),
+        (5, 5),
+    ] {
+        let reference = multiplier_reference(a, b);
+        for word in 0..1u64 << (a + b) {
+            let (x, y) = (word & ((1 << a) - 1), word >> a);
+            assert_eq!(number(&answer(&reference, word)), x * y);
+        }
+    }
+    for bits in 1..=5 {
+        for carry_in in [false, true] {
+            if 2 * bits + usize::from(carry_in) > 10 {
+                continue;
+            }
+            let reference = ripple_adder_reference(bits, carry_in);
+            for word in 0..1u64 << reference.inputs {
+                let mask = (1 << bits) - 1;
+                let sum = (word & mask) + (word >> bits & mask) + (word >> (2 * bits));
+                assert_eq!(number(&answer(&reference, word)), sum);
+            }
+        }
+    }
+    for word in 0..1024u64 {
+        assert_eq!(
+            answer(&parity_reference(), word),
+            [word.count_ones() % 2 == 1]
+        );
+        assert_eq!(
+            answer(&address_compare_reference(), word),
+            [word & 31 == word >> 5]
+        );
+    }
+    for word in 0..256u64 {
+        let (a, b) = (word & 15, word >> 4);
+        assert_eq!(
+            answer(&comparator_reference(), word),
+            [a < b, a == b, a > b]
+        );
+        let (x, y, acc) = (word & 3, word >> 2 & 3, word >> 4);
+        assert_eq!(number(&answer(&mac_reference(), word)), (acc + x * y) % 16);
+    }
+}
+
+/// The netlists of source document 001 have as many gates as lines.
+#[test]
+fn netlists_of_the_source() {
+    // Lines 3 to 44 of Figure 12(a), lines 3 to 38 of Figure 15(a).
+    assert_eq!(multiplier_of_the_source().gates.len(), 42);
+    assert_eq!(mac_of_the_source().gates.len(), 36);
+}
