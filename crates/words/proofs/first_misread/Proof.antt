@@ -10,18 +10,19 @@ use Rattle.verdict.specs.Rows.{pairIn, spells}
 use native.Mathlib.Omega.{arith}
 use borrow.Author.Needs.{needs}
 use Rattle.words.specs.Outputs.{misread}
-use Rattle.words.proofs.Seeking.{Sought, seek-start, seek-on, seek-found, seek-nothing}
+use Rattle.verdict.specs.Checks.{least}
+use Rattle.verdict.proofs.Least.{SoughtTo, sought-on, sought-here, sought-none}
 use Rattle.words.proofs.first_misread.Statement.{statement}
 use Rattle.words.proofs.first_misread.Tie as tie
 
 abbrev Inv-loop : tie.InvT-loop
-Inv-loop s outputs rails levels t signals values j₀ j = Sought (misread s outputs (rails ++ levels) t signals values) (length outputs) j
+Inv-loop s outputs rails levels t signals values j₀ j = SoughtTo (misread s outputs (rails ++ levels) t signals values) (length outputs) j
 
 abbrev μ-loop : tie.MeasureT-loop
 μ-loop s outputs rails levels t signals values j₀ j = length outputs - j
 
 loop-holds : tie.Need-loop-holds Inv-loop μ-loop
-loop-holds c = seek-start _ _
+loop-holds c = ap (least _ 0) (omega arith)
 
 mul-at : tie.Need-mul-at Inv-loop μ-loop
 mul-at c = search needs
@@ -66,16 +67,16 @@ loop-again : tie.Need-loop-again Inv-loop μ-loop
 loop-again c =
     let a = c .before .before .before .before .before .before .before .before .before .before .before .before .before .before .before .args in
     let e = ap (λ (x : ℕ). spells (pairIn (now (a .rails) ++ now (a .levels)) (pairAt (now (a .s)) (getD (now (a .outputs)) (c .before .before .before .before .before .before .before .loop .j) 0))) (getD (now (a .values)) x 0)) (c .before .before .before .before .operand .ensures) in
-    seek-on _ _ _ (c .before .before .before .before .before .before .before .loop .inv) (omega arith) (ap not (sym e ∙ sym (c .before .reads-as .ensures) ∙ c .if1 .taken))
+    sought-on _ _ _ (omega arith) (c .before .before .before .before .before .before .before .loop .inv) (ap not (sym e ∙ sym (c .before .reads-as .ensures) ∙ c .if1 .taken))
 
 returns : tie.Need-returns Inv-loop μ-loop
 returns c =
     let a = c .before .before .before .before .before .before .before .before .before .before .before .before .before .before .before .args in
     let e = ap (λ (x : ℕ). spells (pairIn (now (a .rails) ++ now (a .levels)) (pairAt (now (a .s)) (getD (now (a .outputs)) (c .before .before .before .before .before .before .before .loop .j) 0))) (getD (now (a .values)) x 0)) (c .before .before .before .before .operand .ensures) in
-    seek-found _ _ _ (c .before .before .before .before .before .before .before .loop .inv) (omega arith) (ap not (sym e ∙ sym (c .before .reads-as .ensures) ∙ c .if1 .left))
+    sought-here _ _ _ (omega arith) (c .before .before .before .before .before .before .before .loop .inv) (ap not (sym e ∙ sym (c .before .reads-as .ensures) ∙ c .if1 .left))
 
 returns-2 : tie.Need-returns-2 Inv-loop μ-loop
-returns-2 c = seek-nothing _ _ _ (c .before .loop .inv) (omega arith)
+returns-2 c = sought-none _ _ _ (omega arith) (c .before .loop .inv)
 
 pub first-misread-spec : {M : Type 1} → statement M
 first-misread-spec =

@@ -7,18 +7,19 @@ use lib.ListN.{length}
 use native.Mathlib.Omega.{arith}
 use borrow.Author.Needs.{needs}
 use Rattle.words.specs.Outputs.{notData}
-use Rattle.words.proofs.Seeking.{Sought, seek-start, seek-on, seek-found, seek-nothing}
+use Rattle.verdict.specs.Checks.{least}
+use Rattle.verdict.proofs.Least.{SoughtTo, sought-on, sought-here, sought-none}
 use Rattle.words.proofs.first_not_data.Statement.{statement}
 use Rattle.words.proofs.first_not_data.Tie as tie
 
 abbrev Inv-loop : tie.InvT-loop
-Inv-loop s outputs rails levels j₀ j = Sought (notData s outputs (rails ++ levels)) (length outputs) j
+Inv-loop s outputs rails levels j₀ j = SoughtTo (notData s outputs (rails ++ levels)) (length outputs) j
 
 abbrev μ-loop : tie.MeasureT-loop
 μ-loop s outputs rails levels j₀ j = length outputs - j
 
 loop-holds : tie.Need-loop-holds Inv-loop μ-loop
-loop-holds c = seek-start _ _
+loop-holds c = ap (least _ 0) (omega arith)
 
 mul-place : tie.Need-mul-place Inv-loop μ-loop
 mul-place c = search needs
@@ -39,13 +40,13 @@ loop-less : tie.Need-loop-less Inv-loop μ-loop
 loop-less c = search needs
 
 loop-again : tie.Need-loop-again Inv-loop μ-loop
-loop-again c = seek-on _ _ _ (c .before .before .before .before .loop .inv) (omega arith) (ap not (sym (c .before .is-data .ensures) ∙ c .if1 .taken))
+loop-again c = sought-on _ _ _ (omega arith) (c .before .before .before .before .loop .inv) (ap not (sym (c .before .is-data .ensures) ∙ c .if1 .taken))
 
 returns : tie.Need-returns Inv-loop μ-loop
-returns c = seek-found _ _ _ (c .before .before .before .before .loop .inv) (omega arith) (ap not (sym (c .before .is-data .ensures) ∙ c .if1 .left))
+returns c = sought-here _ _ _ (omega arith) (c .before .before .before .before .loop .inv) (ap not (sym (c .before .is-data .ensures) ∙ c .if1 .left))
 
 returns-2 : tie.Need-returns-2 Inv-loop μ-loop
-returns-2 c = seek-nothing _ _ _ (c .before .loop .inv) (omega arith)
+returns-2 c = sought-none _ _ _ (omega arith) (c .before .loop .inv)
 
 pub first-not-data-spec : {M : Type 1} → statement M
 first-not-data-spec =
