@@ -1,31 +1,11 @@
 // Makes the settled-row call on each case that data/ holds. Prints a line for each: the case, the verdict, and the bytes of the row after
 // the call. The cases, and the lines that an independent judge gives them, are written by tests/src/bin/row_suite.rs.
 use libc::STDOUT_FILENO;
-ghost use Rattle.io.specs.Counts.{Counts};
 
 const CASES: usize = 96;
 
-// Reads the start of a file. A missing one counts as empty.
-fn load(path: &[u8], buf: &mut [u8]) -> usize
-    ensures { λ r. ⌜ Counts r (now (buf .exit)) ⌝ }
-{
-    let fd = os::open_read(path);
-    if fd < 0 {
-        return 0;
-    }
-    let n = io::read_full(fd, buf);
-    libc::close(fd);
-    n
-}
-
-// A number after a space.
-fn print(n: u64) {
-    io::write_all(STDOUT_FILENO, b" ");
-    io::print_decimal(STDOUT_FILENO, n);
-}
-
 fn print_byte(byte: u8) {
-    print(byte as u64);
+    console::print_next(byte as u64);
 }
 
 fn print_bytes(row: &[u8]) {
@@ -38,10 +18,7 @@ fn print_bytes(row: &[u8]) {
 
 fn call(stage: &[u8], row: &mut [u8]) {
     let v = fovaheju::settled_row(stage, row);
-    print(v.number);
-    print(v.file);
-    print(v.at);
-    print(v.word);
+    console::print_verdict(v);
     io::write_all(STDOUT_FILENO, b":");
     print_bytes(row);
     io::write_all(STDOUT_FILENO, b"\n");
@@ -52,10 +29,10 @@ fn run(i: usize) {
     let tens = b'0' + (i / 10 % 10) as u8;
     let ones = b'0' + (i % 10) as u8;
     let mut stage = [0u8; 8192];
-    let stage_len = load(&[tens, ones, b'.', b'n', b'c', b'l'], &mut stage);
+    let stage_len = console::load(&[tens, ones, b'.', b'n', b'c', b'l'], &mut stage);
     let mut row = [0u8; 512];
-    let row_len = load(&[tens, ones, b'.', b'r', b'o', b'w'], &mut row);
-    io::write_all(STDOUT_FILENO, &[tens, ones]);
+    let row_len = console::load(&[tens, ones, b'.', b'r', b'o', b'w'], &mut row);
+    io::write_all(STDOUT_FILENO, &[tens, ones, b' ']);
     call(&stage[..stage_len], &mut row[..row_len]);
 }
 
