@@ -9,6 +9,7 @@ pub mod files;
 pub mod generate;
 pub mod judge;
 pub mod row_suite;
+pub mod suite;
 
 use std::path::PathBuf;
 

@@ -80,7 +80,7 @@ impl Cases {
     }
 }
 
-fn gate(kind: usize, pins: &[usize]) -> Vec<u8> {
+pub(crate) fn gate(kind: usize, pins: &[usize]) -> Vec<u8> {
     stage_gate(&Gate {
         kind,
         pins: pins.to_vec(),
@@ -94,11 +94,11 @@ fn raw_gate(kind: u8, operands: [u16; 4]) -> Vec<u8> {
     bytes
 }
 
-fn output(rail_0: usize, rail_1: usize) -> Vec<u8> {
+pub(crate) fn output(rail_0: usize, rail_1: usize) -> Vec<u8> {
     stage_output([rail_0, rail_1])
 }
 
-fn cut(mut file: Vec<u8>, length: usize) -> Vec<u8> {
+pub(crate) fn cut(mut file: Vec<u8>, length: usize) -> Vec<u8> {
     file.truncate(length);
     file
 }

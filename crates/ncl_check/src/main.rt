@@ -1,0 +1,11 @@
+// Reads stage.ncl and reference.ncl, at most 8,192 bytes of each, and prints the verdict: four numbers with single spaces and a newline.
+use libc::STDOUT_FILENO;
+
+fn main() {
+    let mut stage = [0u8; 8192];
+    let stage_len = console::load(b"stage.ncl", &mut stage);
+    let mut reference = [0u8; 8192];
+    let reference_len = console::load(b"reference.ncl", &mut reference);
+    console::print_verdict(fovaheju::check(&stage[..stage_len], &reference[..reference_len]));
+    io::write_all(STDOUT_FILENO, b"\n");
+}

@@ -1,0 +1,98 @@
+//! The stored cases of the programs `suite` and `ncl_check`: their files are those
+//! described, and the output that they are held to is the judge's.
+
+use fovaheju_tests::judge::check;
+use fovaheju_tests::suite::{cases, contents, contents_of_ncl_check, crate_folder};
+use std::collections::BTreeSet;
+use std::fs;
+use std::path::PathBuf;
+
+fn is_stored(program: &str, contents: Vec<(PathBuf, Vec<u8>)>) {
+    let folder = crate_folder(program);
+    let mut described = BTreeSet::new();
+    for (path, bytes) in contents {
+        let stored = fs::read(folder.join(&path)).unwrap_or_else(|error| {
+            panic!(
+                "{}: {error}; the program suite of the tests stores it",
+                path.display()
+            )
+        });
+        assert!(stored == bytes, "{} is not as described", path.display());
+        if let Ok(name) = path.strip_prefix("data") {
+            described.insert(name.to_path_buf());
+        }
+    }
+    let stored: BTreeSet<_> = fs::read_dir(folder.join("data"))
+        .unwrap()
+        .map(|entry| entry.unwrap().file_name().into())
+        .collect();
+    assert_eq!(stored, described);
+}
+
+#[test]
+fn stored_files_and_output() {
+    is_stored("suite", contents());
+    is_stored("ncl_check", contents_of_ncl_check());
+}
+
+/// The program has as many cases as there are here, and reads them whole.
+#[test]
+fn the_program_reads_all_cases() {
+    let cases = cases();
+    let source = fs::read_to_string(crate_folder("suite").join("src/main.rt")).unwrap();
+    let count = format!("const CASES: usize = {};", cases.len());
+    assert!(source.contains(&count), "main.rt has no line '{count}'");
+    assert!(cases.len() <= 1000);
+    for case in cases {
+        assert!(case.pair.stage.len() <= 8192, "{}", case.about);
+        assert!(case.pair.reference.len() <= 8192, "{}", case.about);
+    }
+}
+
+/// The judge's verdicts are those written by hand.
+#[test]
+fn verdicts() {
+    for case in cases() {
+        let verdict = check(&case.pair.stage, &case.pair.reference);
+        assert!(
+            case.known.agrees(verdict),
+            "{}: {verdict:?}, not {:?}",
+            case.about,
+            case.known
+        );
+    }
+}
+
+/// Each verdict has several cases, 1 to 9 in either file.
+#[test]
+fn what_the_cases_cover() {
+    let verdicts: Vec<_> = cases()
+        .iter()
+        .map(|case| check(&case.pair.stage, &case.pair.reference))
+        .collect();
+    let count = |number, file| {
+        let alike = verdicts.iter().filter(|v| v[0] == number && v[1] == file);
+        alike.count()
+    };
+    for number in 1..=9 {
+        for file in [1, 2] {
+            let count = count(number, file);
+            assert!(count >= 3, "{count} cases of {number} in file {file}");
+        }
+    }
+    for (number, file) in [(0, 0), (10, 0), (11, 0), (12, 1), (13, 1), (14, 1), (15, 1)] {
+        let count = count(number, file);
+        assert!(count >= 5, "{count} cases of {number}");
+    }
+    // Several words and places are named by each of 13, 14 and 15.
+    for number in 13..=15 {
+        for field in [2, 3] {
+            let named: BTreeSet<u64> = verdicts
+                .iter()
+                .filter(|verdict| verdict[0] == number)
+                .map(|verdict| verdict[field])
+                .collect();
+            assert!(named.len() >= 4, "{number}: {named:?}");
+        }
+    }
+}
