@@ -32,10 +32,10 @@ check-places-requires : tie.Need-check-places-requires
 check-places-requires c κs = let z = c .before .before .before .before .before .before .before .before .before in let r = c .before .before .before .before .before .read-file in let w = stage-whole (now (z .args .stage)) _ (now (z .args .reference)) (omega (arith, r .kept .1 .1 .1 .0)) _ (sym (c .before .before .counts .given .1) ∙ r .ensures .0) (r .ensures .1) in (w .room, w .there)
 
 returns : tie.Need-returns
-returns c = let z = c .before .before .before .before .before .before .before .before .before in let r = c .before .before .before .before .before .read-file in let e = c .answer .ensures ∙ sym (stage-refused (now (z .args .stage)) (now (z .args .reference)) _ _ (sym (c .before .before .number .given .1) ∙ r .ensures .0)) in ((e, on-demand-2 (now (z .args .stage)) (now (z .args .reference)) _ e), on-demand-3 (now (z .args .stage)) (now (z .args .reference)) _ e)
+returns c = let z = c .before .before .before .before .before .before .before .before .before in let r = c .before .before .before .before .before .read-file in let e = c .answer .ensures ∙ sym (stage-refused (now (z .args .stage)) (now (z .args .reference)) _ _ (sym (c .before .before .number .given .1) ∙ r .ensures .0)) in (e, (on-demand-2 (now (z .args .stage)) (now (z .args .reference)) _ e, on-demand-3 (now (z .args .stage)) (now (z .args .reference)) _ e))
 
 returns-2 : tie.Need-returns-2
-returns-2 c = let z = c .before .before .before .before .before .before .before .before .before .before in let r = c .before .before .before .before .before .before .read-file in let w = stage-whole (now (z .args .stage)) _ (now (z .args .reference)) (omega (arith, r .kept .1 .1 .1 .0)) _ (sym (c .before .before .before .counts .given .1) ∙ r .ensures .0) (r .ensures .1) in let e = c .check-places .ensures ∙ sym (w .same) in ((e, on-demand-2 (now (z .args .stage)) (now (z .args .reference)) _ e), on-demand-3 (now (z .args .stage)) (now (z .args .reference)) _ e)
+returns-2 c = let z = c .before .before .before .before .before .before .before .before .before .before in let r = c .before .before .before .before .before .before .read-file in let w = stage-whole (now (z .args .stage)) _ (now (z .args .reference)) (omega (arith, r .kept .1 .1 .1 .0)) _ (sym (c .before .before .before .counts .given .1) ∙ r .ensures .0) (r .ensures .1) in let e = c .check-places .ensures ∙ sym (w .same) in (e, (on-demand-2 (now (z .args .stage)) (now (z .args .reference)) _ e, on-demand-3 (now (z .args .stage)) (now (z .args .reference)) _ e))
 
 pub check-spec : {M : Type 1} → statement M
 check-spec =
