@@ -41,10 +41,7 @@ pub fn contents() -> Vec<(PathBuf, Vec<u8>)> {
     let mut list = Vec::new();
     let mut stdout = String::new();
     for (index, case) in cases().iter().enumerate() {
-        list.push((
-            format!("data/{index:03}.s").into(),
-            case.pair.stage.clone(),
-        ));
+        list.push((format!("data/{index:03}.s").into(), case.pair.stage.clone()));
         list.push((
             format!("data/{index:03}.r").into(),
             case.pair.reference.clone(),
@@ -211,7 +208,12 @@ fn table_of_verdicts(cases: &mut Cases) {
         8,
     );
     cases.stage("8: no output", &unhex("01 01 00"), 8, 2);
-    cases.stage("9: net 2 of a wire", &unhex("01 01 03 00 00 02 00 00"), 9, 5);
+    cases.stage(
+        "9: net 2 of a wire",
+        &unhex("01 01 03 00 00 02 00 00"),
+        9,
+        5,
+    );
     cases.add(
         "10: 1 against 2",
         &wire(),
@@ -395,7 +397,12 @@ fn refusals_of_the_reference(cases: &mut Cases) {
 /// Two faults in the reference: the first in the order of the paper is named.
 fn two_faults_in_the_reference(cases: &mut Cases) {
     cases.reference("2 before 1: inputs again, cut", &unhex("01 01 01"), 2, 2);
-    cases.reference("1 before 4: operation 0, cut", &unhex("01 01 11 00 00"), 1, 5);
+    cases.reference(
+        "1 before 4: operation 0, cut",
+        &unhex("01 01 11 00 00"),
+        1,
+        5,
+    );
     let mut outputs = vec![signal(0); 17];
     let file = cut(file_of(1, &outputs), 52);
     cases.reference("1 before 6: the 17th output, cut", &file, 1, 52);
@@ -661,8 +668,14 @@ fn wrong_outputs(cases: &mut Cases) {
 fn incomplete_stages(cases: &mut Cases) {
     let unread = |inputs: usize, wired: &[usize]| {
         (
-            file_of(inputs, &wired.iter().map(|&i| through(i)).collect::<Vec<_>>()),
-            file_of(inputs, &wired.iter().map(|&i| signal(i)).collect::<Vec<_>>()),
+            file_of(
+                inputs,
+                &wired.iter().map(|&i| through(i)).collect::<Vec<_>>(),
+            ),
+            file_of(
+                inputs,
+                &wired.iter().map(|&i| signal(i)).collect::<Vec<_>>(),
+            ),
         )
     };
     for (inputs, wired, least) in [
@@ -681,30 +694,35 @@ fn incomplete_stages(cases: &mut Cases) {
         &file_of(2, &[op(OR, &[0, 1]), signal(2)]),
         [14, STAGE, 1, 1],
     );
-    // Output 0 is input 0 or all others; it does not wait for input 0 where all others are 1.
-    let mut s = StageBuilder::new(10);
-    let inputs = s.inputs();
-    let low: Vec<usize> = (1..10).map(|i| inputs[i].rail_0).collect();
-    let some_low = s.any_of(&low).expect("nine nets");
-    let four = s.gate("TH44", &[1, 2, 3, 4].map(|i| inputs[i].rail_1));
-    let eight = s.gate("TH44", &[5, 6, 7, 8].map(|i| inputs[i].rail_1));
-    let nine = s.gate("TH33", &[four, eight, inputs[9].rail_1]);
-    let rail_0 = s.gate("TH22", &[inputs[0].rail_0, some_low]);
-    let rail_1 = s.gate("TH12", &[inputs[0].rail_1, nine]);
-    s.output(Signal { rail_0, rail_1 });
-    let mut r = ReferenceBuilder::new(10);
-    let all = r.chain(AND, &[1, 2, 3, 4, 5, 6, 7, 8, 9]);
-    let either = r.or(0, all);
-    r.output(either);
-    for (input, &wire) in inputs.iter().enumerate().skip(1) {
-        s.output(wire);
-        r.output(input);
+    // Output 0 is input i or all others together; it does not wait for input i where all others are 1.
+    for (n, i) in [(3, 1), (4, 0), (5, 4), (10, 0), (10, 9)] {
+        let mut s = StageBuilder::new(n);
+        let mut r = ReferenceBuilder::new(n);
+        let inputs = s.inputs();
+        let others: Vec<usize> = (0..n).filter(|&other| other != i).collect();
+        let low: Vec<usize> = others.iter().map(|&other| inputs[other].rail_0).collect();
+        let some_low = s.any_of(&low).expect("other inputs");
+        let mut all_high = inputs[others[0]].rail_1;
+        for &other in &others[1..] {
+            all_high = s.gate("TH22", &[all_high, inputs[other].rail_1]);
+        }
+        let rail_0 = s.gate("TH22", &[inputs[i].rail_0, some_low]);
+        let rail_1 = s.gate("TH12", &[inputs[i].rail_1, all_high]);
+        s.output(Signal { rail_0, rail_1 });
+        let all = r.chain(AND, &others);
+        let either = r.or(i, all);
+        r.output(either);
+        for other in others {
+            s.output(inputs[other]);
+            r.output(other);
+        }
+        let word = (1 << n) - 1 - (1 << i);
+        cases.push(
+            format!("14: of {n} inputs {i} counts for nothing where all others are 1"),
+            write_pair(&s.stage, &r.reference),
+            Known::Verdict([14, STAGE, i as u64, word]),
+        );
     }
-    cases.push(
-        "14: an input that counts for nothing in the words 1022 and 1023 only",
-        write_pair(&s.stage, &r.reference),
-        Known::Verdict([14, STAGE, 0, 1022]),
-    );
 }
 
 /// 15: the least word, then the least gate.
@@ -916,7 +934,9 @@ fn all_kinds(cases: &mut Cases) {
             Known::Verdict(ACCEPTED),
         );
         // The same with its least word of value 1 taken for 0 by the reference.
-        let least = (0..1 << n).find(|&word| value(word)).expect("all pins high");
+        let least = (0..1 << n)
+            .find(|&word| value(word))
+            .expect("all pins high");
         let mut r = ReferenceBuilder::new(n);
         let values: Vec<bool> = (0..1 << n).map(|w| value(w) && w != least).collect();
         let function = r.by_words(&values);
@@ -936,7 +956,13 @@ fn all_kinds(cases: &mut Cases) {
 fn generated(cases: &mut Cases) {
     for index in 0..160 {
         let generated = generate::pair(2026, index);
-        if generated.pair.stage.len().max(generated.pair.reference.len()) <= 8192 {
+        if generated
+            .pair
+            .stage
+            .len()
+            .max(generated.pair.reference.len())
+            <= 8192
+        {
             cases.push(
                 format!("generated, {}, number {index}", generated.family),
                 generated.pair,
