@@ -192,7 +192,18 @@ fn judge_places(
 {
     let from: usize = 256;
     let end = from + count;
-    judge(s, places, outputs, inputs, gates, t, operations, &operations[from..end], m, k)
+    judge(
+        s,
+        places,
+        outputs,
+        inputs,
+        gates,
+        t,
+        operations,
+        &operations[from..end],
+        m,
+        k,
+    )
 }
 
 // A stage that was read, and a reference file: its refusal is of file 2.
