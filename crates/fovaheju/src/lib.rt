@@ -1,7 +1,18 @@
 // The public calls. Their contracts cite the definitions of crate `verdict` and ask nothing of the caller.
 use verdict::Verdict;
 ghost use mathlib.Core.Path.{_≡_};
-ghost use Rattle.verdict.specs.Verdicts.{settledRow};
+ghost use Rattle.netlist.specs.Reading.{stageLimits, referenceLimits};
+ghost use Rattle.verdict.specs.Verdicts.{verdictOn, settledRow};
+ghost use Rattle.verdict.specs.Demands.{Demand2, Demand3};
+
+// The check of a stage file against a reference file. The verdict is the one that the definitions give, and demands 2 and 3 hold of it.
+pub fn check(stage: &[u8], reference: &[u8]) -> Verdict
+    ensures verdict { λ r. ⌜ r ≡ verdictOn (now (stage .entry)) (now (reference .entry)) ⌝ }
+    ensures demand2 { λ r. ⌜ Demand2 stageLimits referenceLimits (now (stage .entry)) (now (reference .entry)) r ⌝ }
+    ensures runs { λ r. ⌜ Demand3 stageLimits referenceLimits (now (stage .entry)) (now (reference .entry)) r ⌝ }
+{
+    checker::check(stage, reference)
+}
 
 // The settled-row call: the verdict on a stage file and a lent row, one byte for each net. A refusal leaves the row as it was; else the
 // bytes of the inputs keep their values and those of the gates become their settled levels.

@@ -1,0 +1,42 @@
+-- What reading the two files gives, what is lent for the checks, and the checks from 12 on.
+use Prim.Native.Nat.{ℕ, _+_, _*_, _≤_}
+use mathlib.Core.Path.{_≡_}
+use mathlib.Core.List.{List, [], _∷_}
+use lib.ListN.{length}
+use Rattle.netlist.specs.Content.{Stage, Reference}
+use Rattle.verdict.specs.declared.Finding.{Finding}
+use Rattle.verdict.specs.Checks.{looped}
+use Rattle.settle.specs.Gates.{GatesThere}
+use Rattle.words.specs.Outputs.{OutputsThere, SignalsThere}
+use Rattle.words.specs.Operations.{OperationsThere}
+use Rattle.sweeps.specs.declared.Sweep.the-variants.{Wrong, Missing, Unobserved}
+use Rattle.sweeps.specs.Sweeps.{swept}
+
+-- a stage that was read, with n inputs and g gates: they are within the limits, and the gates and the outputs are there
+pub record StageThere (s places outputs : List ℕ) (n g : ℕ) : Type 0 where
+  pub few : n ≤ 10
+  pub gates-few : g ≤ 128
+  pub there : GatesThere s places g
+  pub outputs-there : OutputsThere s outputs
+
+-- a reference that was read, with m inputs and k gates: they are within the limits, and the gates and the outputs are there
+pub record ReferenceThere (t operations signals : List ℕ) (m k : ℕ) : Type 0 where
+  pub few : m ≤ 10
+  pub gates-few : k ≤ 256
+  pub there : OperationsThere t operations m k
+  pub signals-there : SignalsThere t signals (length signals) (m + k)
+
+-- the lengths of what is lent for n inputs and g gates: both rails of each input twice, and a place and a level of each gate
+pub record Lent (n g rails nulled spare position : ℕ) : Type 0 where
+  pub rails-long : rails ≡ 2 * n
+  pub nulled-long : nulled ≡ 2 * n
+  pub spare-long : spare ≡ g
+  pub position-long : position ≡ g
+
+-- 13, then 14, then 15
+abbrev pub sweeps : Stage → Reference → List Finding
+sweeps s r = swept Wrong s r ∷ swept Missing s r ∷ swept Unobserved s r ∷ []
+
+-- 12, and then these
+abbrev pub circuitChecks : Stage → Reference → List Finding
+circuitChecks s r = looped s ∷ sweeps s r
