@@ -77,11 +77,10 @@ pub fn table() -> [[u8; 16]; 27]
 }
 
 // The table's entry of a cell at a pattern.
-fn entry(cell: u8, pattern: u8) -> u8
-    requires { ⌜ (1 ≤ cell) × (cell ≤ 27) × (pattern < 16) ⌝ }
+fn entry(entries: &[[u8; 16]; 27], cell: u8, pattern: u8) -> u8
+    requires { ⌜ GateTable (now entries) × (1 ≤ cell) × (cell ≤ 27) × (pattern < 16) ⌝ }
     ensures { λ r. ⌜ r ≡ setBit cell pattern ⌝ }
 {
-    let entries = table();
     let row = (cell - 1) as usize;
     let i = pattern as usize;
     entries[row][i]
@@ -98,9 +97,10 @@ fn at_least(m: u8, pattern: u8) -> u8
     }
 }
 
-// 1 where the pattern sets the cell, else 0: by the count of its high pins for the unweighted THmn, by the table for the others.
-pub fn sets(cell: u8, pattern: u8) -> u8
-    requires { ⌜ (1 ≤ cell) × (cell ≤ 27) × (pattern < 2 ^ pinCount cell) ⌝ }
+// 1 where the pattern sets the cell, else 0: by the count of its high pins for the unweighted THmn, by the table for the others. A
+// caller makes the table once and lends it, since each use of the constant writes all of it anew.
+pub fn sets(entries: &[[u8; 16]; 27], cell: u8, pattern: u8) -> u8
+    requires { ⌜ GateTable (now entries) × (1 ≤ cell) × (cell ≤ 27) × (pattern < 2 ^ pinCount cell) ⌝ }
     ensures { λ r. ⌜ r ≡ setBit cell pattern ⌝ }
 {
     match cell {
@@ -108,7 +108,7 @@ pub fn sets(cell: u8, pattern: u8) -> u8
         2 | 4 | 9 => at_least(2, pattern),
         5 | 10 => at_least(3, pattern),
         11 => at_least(4, pattern),
-        _ => entry(cell, pattern),
+        _ => entry(entries, cell, pattern),
     }
 }
 

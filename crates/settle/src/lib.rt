@@ -10,6 +10,7 @@ ghost use Prim.Native.Nat.{ℕ, _+_, _*_, _^_, _≤_, _<_};
 ghost use lib.ListN.{length, getD, set, replicate};
 ghost use lib.Dec.{ltb};
 ghost use Rattle.gates.specs.Cell.{bit};
+ghost use Rattle.gates.specs.Table.{GateTable};
 ghost use Rattle.netlist.specs.Bytes.{operands};
 ghost use Rattle.verdict.specs.Rows.{high, isSet, settledLevels, levelsHolding};
 ghost use Rattle.verdict.specs.Loops.{marked, anyHigh, reachesItself};
@@ -64,27 +65,35 @@ fn pattern(s: &[u8], at: usize, pins: u8, rails: &[u8], levels: &[u8]) -> u8
 }
 
 // 1 where the set expression of the gate at a place holds, else 0.
-fn evaluate(s: &[u8], place: usize, rails: &[u8], levels: &[u8]) -> u8
-    requires { ⌜ place + 10 ≤ length (now s) ⌝ }
+fn evaluate(entries: &[[u8; 16]; 27], s: &[u8], place: usize, rails: &[u8], levels: &[u8]) -> u8
+    requires { ⌜ GateTable (now entries) × (place + 10 ≤ length (now s)) ⌝ }
     ensures { λ r. ⌜ r ≡ isSet (now (rails .entry) ++ now (levels .entry)) (gateAt (now (s .entry)) place) ⌝ }
 {
     let kind = gates::kind_of(s[place + 1]);
     match kind {
-        Kind::Hold { cell, pins } => gates::sets(cell, pattern(s, place + 2, pins, rails, levels)),
+        Kind::Hold { cell, pins } => gates::sets(entries, cell, pattern(s, place + 2, pins, rails, levels)),
         Kind::Unknown => 0,
     }
 }
 
 // The level that gate k is to have: low where it is held, else by its set expression.
-fn level_holding(s: &[u8], places: &[u16], rails: &[u8], levels: &[u8], held: usize, k: usize) -> u8
-    requires { ⌜ GatesThere (now s) (now places) (length (now levels)) × (k < length (now levels)) ⌝ }
+fn level_holding(
+    entries: &[[u8; 16]; 27],
+    s: &[u8],
+    places: &[u16],
+    rails: &[u8],
+    levels: &[u8],
+    held: usize,
+    k: usize,
+) -> u8
+    requires { ⌜ GateTable (now entries) × GatesThere (now s) (now places) (length (now levels)) × (k < length (now levels)) ⌝ }
     ensures { λ r. ⌜ r ≡ levelHolding held (gatesAt (now (s .entry)) (now (places .entry)) (length (now (levels .entry)))) (now (rails .entry) ++ now (levels .entry)) k ⌝ }
 {
     if k == held {
         return 0;
     }
     let place = places[k] as usize;
-    evaluate(s, place, rails, levels)
+    evaluate(entries, s, place, rails, levels)
 }
 
 // ---- settling
@@ -103,10 +112,11 @@ pub fn settle_from(
     requires { ⌜ Settleable (now s) (now places) (now order) (now rails) (length (now levels)) × (start ≤ length (now levels)) × SettledBefore start held (gatesAt (now s) (now places) (length (now levels))) (now order) (now rails) (now levels) ⌝ }
     ensures { λ r. ⌜ now (levels .exit) ≡ levelsHolding held (gatesAt (now (s .entry)) (now (places .entry)) (length (now (levels .entry)))) (now (rails .entry)) ⌝ }
 {
+    let entries = gates::table();
     let mut i = start;
     while i < levels.len() {
         let k = order[i] as usize;
-        levels[k] = level_holding(s, places, rails, levels, held, k);
+        levels[k] = level_holding(&entries, s, places, rails, levels, held, k);
         i += 1;
     }
 }

@@ -1,11 +1,8 @@
--- `gates::entry` meets its contract: the table's rows are what `table` promises of them. Assumes nothing.
+-- `gates::entry` meets its contract: the table's rows are what is promised of them. Assumes nothing.
 use native.Mathlib.Omega.{arith}
 use borrow.Author.Needs.{needs}
 use Rattle.gates.proofs.entry.Statement.{statement}
 use Rattle.gates.proofs.entry.Tie as tie
-
-table-requires : tie.Need-table-requires
-table-requires c κs = search needs
 
 sub-row : tie.Need-sub-row
 sub-row c = search needs
@@ -23,9 +20,9 @@ index-2-result : tie.Need-index-2-result
 index-2-result c = search needs
 
 returns : tie.Need-returns
-returns c = c .before .table .ensures .row (c .before .before .args .cell) (c .before .before .args .pattern) (omega arith) (omega arith) (omega arith)
+returns c = c .before .pre .0 .row (c .before .args .cell) (c .before .args .pattern) (omega arith) (omega arith) (omega arith)
 
 pub entry-spec : {M : Type 1} → statement M
 entry-spec =
     tie.close
-    (tie.spec table-requires sub-row cast-row mul-result index-1-result index-2-result returns)
+    (tie.spec sub-row cast-row mul-result index-1-result index-2-result returns)

@@ -30,37 +30,37 @@ at-least-requires-4 : tie.Need-at-least-requires-4
 at-least-requires-4 c κs = search needs
 
 entry-requires : tie.Need-entry-requires
-entry-requires c κs = (omega arith, omega arith, pattern-in (c .before .args .cell) _ (omega arith) (c .before .pre .2))
+entry-requires c κs = (c .before .pre .0, omega arith, omega arith, pattern-in (c .before .args .cell) _ (omega arith) (c .before .pre .3))
 
 returns : tie.Need-returns
 unfolding threshold
 returns c =
     let a = c .before .before in
-    ⊎-elim (λ e. counted 1 1 refl refl (lit< tt) _ _ _ e (a .pre .1) (a .pre .2) (c .at-least .ensures))
-    (⊎-elim (λ e. counted 3 1 refl refl (lit< tt) _ _ _ e (a .pre .1) (a .pre .2) (c .at-least .ensures))
-    (λ e. counted 8 1 refl refl (lit< tt) _ _ _ e (a .pre .1) (a .pre .2) (c .at-least .ensures)))
+    ⊎-elim (λ e. counted 1 1 refl refl (lit< tt) _ _ _ e (a .pre .2) (a .pre .3) (c .at-least .ensures))
+    (⊎-elim (λ e. counted 3 1 refl refl (lit< tt) _ _ _ e (a .pre .2) (a .pre .3) (c .at-least .ensures))
+    (λ e. counted 8 1 refl refl (lit< tt) _ _ _ e (a .pre .2) (a .pre .3) (c .at-least .ensures)))
     (c .before .match .keys1)
 
 returns-2 : tie.Need-returns-2
 unfolding threshold
 returns-2 c =
     let a = c .before .before in
-    ⊎-elim (λ e. counted 2 2 refl refl (lit< tt) _ _ _ e (a .pre .1) (a .pre .2) (c .at-least2 .ensures))
-    (⊎-elim (λ e. counted 4 2 refl refl (lit< tt) _ _ _ e (a .pre .1) (a .pre .2) (c .at-least2 .ensures))
-    (λ e. counted 9 2 refl refl (lit< tt) _ _ _ e (a .pre .1) (a .pre .2) (c .at-least2 .ensures)))
+    ⊎-elim (λ e. counted 2 2 refl refl (lit< tt) _ _ _ e (a .pre .2) (a .pre .3) (c .at-least2 .ensures))
+    (⊎-elim (λ e. counted 4 2 refl refl (lit< tt) _ _ _ e (a .pre .2) (a .pre .3) (c .at-least2 .ensures))
+    (λ e. counted 9 2 refl refl (lit< tt) _ _ _ e (a .pre .2) (a .pre .3) (c .at-least2 .ensures)))
     (c .before .match .keys2)
 
 returns-3 : tie.Need-returns-3
 unfolding threshold
 returns-3 c =
     let a = c .before .before in
-    ⊎-elim (λ e. counted 5 3 refl refl (lit< tt) _ _ _ e (a .pre .1) (a .pre .2) (c .at-least3 .ensures))
-    (λ e. counted 10 3 refl refl (lit< tt) _ _ _ e (a .pre .1) (a .pre .2) (c .at-least3 .ensures))
+    ⊎-elim (λ e. counted 5 3 refl refl (lit< tt) _ _ _ e (a .pre .2) (a .pre .3) (c .at-least3 .ensures))
+    (λ e. counted 10 3 refl refl (lit< tt) _ _ _ e (a .pre .2) (a .pre .3) (c .at-least3 .ensures))
     (c .before .match .keys3)
 
 returns-4 : tie.Need-returns-4
 unfolding threshold
-returns-4 c = let a = c .before .before in counted 11 4 refl refl (lit< tt) _ _ _ (c .before .match .keys4) (a .pre .1) (a .pre .2) (c .at-least4 .ensures)
+returns-4 c = let a = c .before .before in counted 11 4 refl refl (lit< tt) _ _ _ (c .before .match .keys4) (a .pre .2) (a .pre .3) (c .at-least4 .ensures)
 
 returns-5 : tie.Need-returns-5
 returns-5 c = search needs

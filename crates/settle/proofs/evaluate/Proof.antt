@@ -31,7 +31,7 @@ pattern-requires : tie.Need-pattern-requires
 pattern-requires c κs = let k = kind-hold _ _ _ (sym (c .before .kind .given .1) ∙ c .before .before .before .kind-of .ensures) in (omega arith, k .two, k .four)
 
 sets-requires : tie.Need-sets-requires
-sets-requires c κs = let k = kind-hold _ _ _ (sym (c .before .before .kind .given .1) ∙ c .before .before .before .before .kind-of .ensures) in (k .low, k .high, rw (k .count) (c .pattern .ensures .1))
+sets-requires c κs = let k = kind-hold _ _ _ (sym (c .before .before .kind .given .1) ∙ c .before .before .before .before .kind-of .ensures) in (c .before .before .before .before .before .before .before .before .before .pre .0, k .low, k .high, rw (k .count) (c .pattern .ensures .1))
 
 enum-told : tie.Need-enum-told
 enum-told c = search needs

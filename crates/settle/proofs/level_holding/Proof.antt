@@ -10,7 +10,7 @@ use Rattle.settle.proofs.level_holding.Lts as lts
 use Rattle.settle.proofs.evaluate.Reads as evaluate-reads
 
 returns : tie.Need-returns
-returns c = let z = c .before .before .before .before .before in held-at (now (z .args .s)) (now (z .args .places)) _ (z .pre .0) _ _ _ (z .pre .1) (c .if1 .taken)
+returns c = let z = c .before .before .before .before .before in held-at (now (z .args .s)) (now (z .args .places)) _ (z .pre .1) _ _ _ (z .pre .2) (c .if1 .taken)
 
 mul-place : tie.Need-mul-place
 mul-place c = omega arith
@@ -22,10 +22,10 @@ cast-place : tie.Need-cast-place
 cast-place c = omega (arith, c .shared-slice-known5 .given (c .before .before .before .before .before .before .args .k))
 
 evaluate-requires : tie.Need-evaluate-requires
-evaluate-requires c κs = let z = c .before .before .before .before .before .before in z .pre .0 .room (z .args .k) (z .pre .1)
+evaluate-requires c κs = let z = c .before .before .before .before .before .before in (z .pre .0, z .pre .1 .room (z .args .k) (z .pre .2))
 
 returns-2 : tie.Need-returns-2
-returns-2 c = let z = c .before .before .before .before .before .before .before in set-at (now (z .args .s)) (now (z .args .places)) _ (z .pre .0) _ _ _ (z .pre .1) (c .before .before .if1 .left) _ (c .evaluate .ensures)
+returns-2 c = let z = c .before .before .before .before .before .before .before in set-at (now (z .args .s)) (now (z .args .places)) _ (z .pre .1) _ _ _ (z .pre .2) (c .before .before .if1 .left) _ (c .evaluate .ensures)
 
 pub level-holding-spec : {M : Type 1} → statement M
 level-holding-spec =
