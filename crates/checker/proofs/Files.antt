@@ -21,7 +21,7 @@ use Rattle.verdict.specs.Checks.{verdict, checks}
 use Rattle.verdict.specs.Verdicts.{firstFault, judgeReference, judgeStage, verdictWithin, verdictOn}
 use Rattle.verdict.specs.Demands.{Demand2, Demand3}
 use Rattle.verdict.proofs.Demands.{demand-2, demand-3}
-use Rattle.reader.specs.Reader.{Placed}
+use Rattle.files.specs.Files.{Placed}
 use Rattle.settle.specs.Gates.{gatesAt, GatesThere}
 use Rattle.words.specs.Operations.{operationsAt, OperationThere, OperationsThere}
 use Rattle.words.specs.Outputs.{SignalsThere}

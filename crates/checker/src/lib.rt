@@ -224,7 +224,7 @@ fn check_reference(
         gates: 256,
         outputs: 16,
     };
-    match reader::read_file(File::Reference, most, reference, &mut operations) {
+    match files::read_file(File::Reference, most, reference, &mut operations) {
         Outcome::Refused { number, at } => answer(number as u64, 2, at, 0),
         Outcome::Whole(counts) => judge_places(
             s,
@@ -270,7 +270,7 @@ pub fn check(stage: &[u8], reference: &[u8]) -> Verdict
         gates: 128,
         outputs: 16,
     };
-    match reader::read_file(File::Stage, most, stage, &mut places) {
+    match files::read_file(File::Stage, most, stage, &mut places) {
         Outcome::Refused { number, at } => answer(number as u64, 1, at, 0),
         Outcome::Whole(counts) => check_places(
             stage,

@@ -28,7 +28,7 @@ use Rattle.verdict.specs.Rows.{settled}
 use Rattle.verdict.specs.Loops.{reachesItself}
 use Rattle.verdict.specs.Checks.{verdict, least, looped, atFault}
 use Rattle.verdict.specs.Verdicts.{RowAnswer, answerWith, accepted, illegalInput, settleLegal, settleLoopFree, settleReading, settledRow, settledRowWithin}
-use Rattle.reader.specs.Reader.{Placed}
+use Rattle.files.specs.Files.{Placed}
 use Rattle.settle.specs.Gates.{gatesAt, GatesThere}
 use Rattle.settle.specs.Order.{TopologicalOrder}
 use Rattle.settle.specs.Marks.{LoopFound}

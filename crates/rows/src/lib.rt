@@ -113,7 +113,7 @@ pub fn settled_row(stage: &[u8], row: &mut [u8]) -> Verdict
         gates: 128,
         outputs: 16,
     };
-    match reader::read_file(File::Stage, most, stage, &mut places) {
+    match files::read_file(File::Stage, most, stage, &mut places) {
         Outcome::Refused { number, at } => answer(number as u64, 1, at),
         Outcome::Whole(counts) => settle_stage(stage, &places, counts.inputs, counts.gates, row),
     }

@@ -71,7 +71,11 @@ fn evaluate(entries: &[[u8; 16]; 27], s: &[u8], place: usize, rails: &[u8], leve
 {
     let kind = gates::kind_of(s[place + 1]);
     match kind {
-        Kind::Hold { cell, pins } => gates::sets(entries, cell, pattern(s, place + 2, pins, rails, levels)),
+        Kind::Hold { cell, pins } => gates::sets(
+            entries,
+            cell,
+            pattern(s, place + 2, pins, rails, levels),
+        ),
         Kind::Unknown => 0,
     }
 }

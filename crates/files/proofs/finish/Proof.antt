@@ -1,10 +1,10 @@
--- `reader::finish` meets its contract: 8, 7, then 9. Assumes nothing.
+-- `files::finish` meets its contract: 8, 7, then 9. Assumes nothing.
 use mathlib.Core.Path.{sym, ap, _∙_}
 use borrow.Author.Needs.{needs}
 use Rattle.netlist.specs.Reading.{countsOf, outcomeOf}
-use Rattle.reader.proofs.WholeFile.{finish-8, finish-7, finish-9, finish-readable}
-use Rattle.reader.proofs.finish.Statement.{statement}
-use Rattle.reader.proofs.finish.Tie as tie
+use Rattle.files.proofs.WholeFile.{finish-8, finish-7, finish-9, finish-readable}
+use Rattle.files.proofs.finish.Statement.{statement}
+use Rattle.files.proofs.finish.Tie as tie
 
 returns : tie.Need-returns
 unfolding outcomeOf

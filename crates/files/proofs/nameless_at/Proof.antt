@@ -1,13 +1,13 @@
--- `reader::nameless_at` meets its contract: the operands that have to name something are among the command's. Assumes nothing.
+-- `files::nameless_at` meets its contract: the operands that have to name something are among the command's. Assumes nothing.
 use native.Mathlib.Omega.{arith}
 use mathlib.Core.Path.{_∙_}
 use denote.Ref.{now}
 use borrow.Author.Needs.{needs}
 use Rattle.netlist.specs.Commands.{width}
-use Rattle.reader.specs.Reader.{namelessAt}
-use Rattle.reader.proofs.Search.{nameable-fits, naming-in}
-use Rattle.reader.proofs.nameless_at.Statement.{statement}
-use Rattle.reader.proofs.nameless_at.Tie as tie
+use Rattle.files.specs.Files.{namelessAt}
+use Rattle.files.proofs.Search.{nameable-fits, naming-in}
+use Rattle.files.proofs.nameless_at.Statement.{statement}
+use Rattle.files.proofs.nameless_at.Tie as tie
 
 role-of-requires : tie.Need-role-of-requires
 role-of-requires c κs = search needs

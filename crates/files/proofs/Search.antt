@@ -16,7 +16,7 @@ use Rattle.netlist.specs.declared.Found.the-variants.{At, Nothing}
 use Rattle.netlist.specs.Bytes.{byte, operand}
 use Rattle.netlist.specs.Commands.{sortOf, operandCount, operandsFrom, width}
 use Rattle.netlist.specs.Reading.{roleOf, names, nameless, orLater, namelessIn, namelessFrom}
-use Rattle.reader.specs.Reader.{CommandsFrom, Complete, nameable, naming, namelessAt}
+use Rattle.files.specs.Files.{CommandsFrom, Complete, nameable, naming, namelessAt}
 use Rattle.netlist.proofs.Encoding.{sort-end, width-end, needed-in}
 use Rattle.commands.proofs.Misfits.{one-less, next-place}
 

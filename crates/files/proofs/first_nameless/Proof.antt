@@ -1,13 +1,13 @@
--- `reader::first_nameless` meets its contract. The loop's invariant: the operands before `j` name something, so the search goes on
+-- `files::first_nameless` meets its contract. The loop's invariant: the operands before `j` name something, so the search goes on
 -- from `j`. Assumes nothing.
 use Prim.Native.Nat.{_+_, _*_, _-_, _≤_}
 use native.Mathlib.Numerals.{unary-clauses}
 use native.Mathlib.Omega.{arith}
 use mathlib.Core.Path.{_≡_, sym, _∙_}
 use Rattle.netlist.specs.Reading.{nameless}
-use Rattle.reader.proofs.Search.{nameless-found, nameless-passed, nameless-none}
-use Rattle.reader.proofs.first_nameless.Statement.{statement}
-use Rattle.reader.proofs.first_nameless.Tie as tie
+use Rattle.files.proofs.Search.{nameless-found, nameless-passed, nameless-none}
+use Rattle.files.proofs.first_nameless.Statement.{statement}
+use Rattle.files.proofs.first_nameless.Tie as tie
 
 abbrev Inv-loop : tie.InvT-loop
 Inv-loop role n g s at m j₀ j = (j ≤ m) × (nameless role n g s at m ≡ nameless role n g s (at + 2 * j) (m - j))

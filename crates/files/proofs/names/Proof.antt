@@ -1,10 +1,10 @@
--- `reader::names` meets its contract: what is required says that the sums fit. Assumes nothing.
+-- `files::names` meets its contract: what is required says that the sums fit. Assumes nothing.
 use native.Mathlib.Omega.{arith}
 use borrow.Author.Needs.{needs}
 use Rattle.netlist.specs.Reading.{names}
-use Rattle.reader.specs.Reader.{nameable}
-use Rattle.reader.proofs.names.Statement.{statement}
-use Rattle.reader.proofs.names.Tie as tie
+use Rattle.files.specs.Files.{nameable}
+use Rattle.files.proofs.names.Statement.{statement}
+use Rattle.files.proofs.names.Tie as tie
 
 enum-told : tie.Need-enum-told
 enum-told c = search needs

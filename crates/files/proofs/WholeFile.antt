@@ -25,7 +25,7 @@ use Rattle.netlist.specs.declared.Found.the-variants.{At, Nothing}
 use Rattle.netlist.specs.Bytes.{byte}
 use Rattle.netlist.specs.Commands.{sortOf, operandCount, operandsFrom, width, stray, nextAt}
 use Rattle.netlist.specs.Reading.{namelessFrom, Reading, refused, readable, unlessNameless, finish, onCommand, onNext, countsOf, readFrom, readFile}
-use Rattle.reader.specs.Reader.{CommandsFrom, Complete, Placed}
+use Rattle.files.specs.Files.{CommandsFrom, Complete, Placed}
 use Rattle.netlist.proofs.Encoding.{width-some, width-inputs}
 use Rattle.netlist.proofs.OneCommand.{There, next-there}
 

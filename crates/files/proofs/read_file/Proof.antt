@@ -1,4 +1,4 @@
--- `reader::read_file` meets its contract. The loop's invariant, `Walking`: the reading goes on from the position with the places that
+-- `files::read_file` meets its contract. The loop's invariant, `Walking`: the reading goes on from the position with the places that
 -- stand in the lent slice. Assumes nothing.
 use Prim.Native.Nat.{_+_, _-_}
 use native.Mathlib.Omega.{arith}
@@ -6,11 +6,11 @@ use mathlib.Core.Path.{refl, sym, ap, _∙_}
 use lib.ListN.{length}
 use borrow.Author.Needs.{needs}
 use Rattle.netlist.specs.Reading.{outcomeOf}
-use Rattle.reader.specs.Reader.{IsRefusal, refusalOf}
+use Rattle.files.specs.Files.{IsRefusal, refusalOf}
 use Rattle.commands.proofs.Position.{next-past}
-use Rattle.reader.proofs.WholeFile.{Walking, walk-starts, read-as, gates-length, outputs-length, walk-stops, walk-further, inputs-room, gate-room, output-room, walk-inputs, walk-gate, walk-output, walk-unknown, walk-ends, walk-complete, walk-placed, refused-placed}
-use Rattle.reader.proofs.read_file.Statement.{statement}
-use Rattle.reader.proofs.read_file.Tie as tie
+use Rattle.files.proofs.WholeFile.{Walking, walk-starts, read-as, gates-length, outputs-length, walk-stops, walk-further, inputs-room, gate-room, output-room, walk-inputs, walk-gate, walk-output, walk-unknown, walk-ends, walk-complete, walk-placed, refused-placed}
+use Rattle.files.proofs.read_file.Statement.{statement}
+use Rattle.files.proofs.read_file.Tie as tie
 
 abbrev Inv-loop : tie.InvT-loop
 Inv-loop file most s places₀ first-output at₀ inputs₀ gates₀ outputs₀ places at inputs gates outputs = Walking file most s (length places₀) places at inputs gates outputs
@@ -21,8 +21,8 @@ abbrev μ-loop : tie.MeasureT-loop
 loop-holds : tie.Need-loop-holds Inv-loop μ-loop
 loop-holds c = walk-starts _ _ _ _
 
-next-command-requires : tie.Need-next-command-requires Inv-loop μ-loop
-next-command-requires c κs = search needs
+take-next-requires : tie.Need-take-next-requires Inv-loop μ-loop
+take-next-requires c κs = search needs
 
 enum-known-next : tie.Need-enum-known-next Inv-loop μ-loop
 enum-known-next c = search needs
@@ -41,7 +41,7 @@ returns : tie.Need-returns Inv-loop μ-loop
 unfolding refusalOf outcomeOf
 returns c =
     let e = walk-stops (c .before .before .before .before .before .before .before .before .pre .2) (c .before .before .before .before .before .loop .inv)
-    (c .before .before .before .next-command .ensures) _ _ (c .before .enum-told .given .1) in (
+    (c .before .before .before .take-next .ensures) _ _ (c .before .enum-told .given .1) in (
       c .refusal .ensures ∙ ap refusalOf (c .before .enum-told .given .1)
           ∙ sym (ap outcomeOf e),
       refused-placed _ _ _ _ _ e,
@@ -58,7 +58,7 @@ shared-slice-read-inputs c =
     omega (
       arith,
       inputs-room (c .before .before .before .before .before .before .before .before .before .before .before .pre .2) (c .before .before .before .before .before .before .before .before .loop .inv)
-          (c .before .before .before .before .before .before .next-command .ensures) (read-as (c .before .before .before .before .next .given .1) (c .before .enum-told2 .given .1)),
+          (c .before .before .before .before .before .before .take-next .ensures) (read-as (c .before .before .before .before .next .given .1) (c .before .enum-told2 .given .1)),
     )
 
 cast-inputs : tie.Need-cast-inputs Inv-loop μ-loop
@@ -79,7 +79,7 @@ slice-write-places c =
     omega (
       arith,
       gate-room (c .before .before .before .before .before .before .before .before .before .before .pre .2) (c .before .before .before .before .before .before .before .loop .inv)
-          (c .before .before .before .before .before .next-command .ensures) (read-as (c .before .before .before .next .given .1) (c .enum-told3 .given .1)),
+          (c .before .before .before .before .before .take-next .ensures) (read-as (c .before .before .before .next .given .1) (c .enum-told3 .given .1)),
       c .before .before .before .before .before .before .before .loop .inv,
       c .before .before .before .before .before .before .before .before .before .before .pre,
     )
@@ -105,7 +105,7 @@ slice-write-places-2 c =
     omega (
       arith,
       output-room (c .before .before .before .before .before .before .before .before .before .before .pre .2) (c .before .before .before .before .before .before .before .loop .inv)
-          (c .before .before .before .before .before .next-command .ensures) (read-as (c .before .before .before .next .given .1) (c .enum-told4 .given .1)),
+          (c .before .before .before .before .before .take-next .ensures) (read-as (c .before .before .before .next .given .1) (c .enum-told4 .given .1)),
       c .before .before .before .before .before .before .before .loop .inv,
       c .before .before .before .before .before .before .before .before .before .before .pre,
     )
@@ -124,7 +124,7 @@ finish-requires c κs = (
       (arith, c .before .before .before .before .before .before .before .loop .inv, c .before .before .before .before .before .before .before .before .before .before .pre),
   walk-complete
       (c .before .before .before .before .before .before .before .before .before .before .pre .2) (c .before .before .before .before .before .before .before .loop .inv)
-      (c .before .before .before .before .before .next-command .ensures) (read-as (c .before .before .before .next .given .1) (c .enum-told5 .given .1)),
+      (c .before .before .before .before .before .take-next .ensures) (read-as (c .before .before .before .next .given .1) (c .enum-told5 .given .1)),
 )
 
 same-length-2 : tie.Need-same-length-2 Inv-loop μ-loop
@@ -136,10 +136,10 @@ returns-2 c = (
   c .finish .ensures _ _ (gates-length (c .before .before .before .before .before .before .before .before .before .before .before .pre .2) (c .before .before .before .before .before .before .before .before .loop .inv))
       (outputs-length (c .before .before .before .before .before .before .before .before .before .before .before .pre .2) (c .before .before .before .before .before .before .before .before .loop .inv))
       ∙ sym (ap outcomeOf (walk-ends (c .before .before .before .before .before .before .before .before .before .before .before .pre .2) (c .before .before .before .before .before .before .before .before .loop .inv)
-      (c .before .before .before .before .before .before .next-command .ensures) (read-as (c .before .before .before .before .next .given .1) (c .before .enum-told5 .given .1)))),
+      (c .before .before .before .before .before .before .take-next .ensures) (read-as (c .before .before .before .before .next .given .1) (c .before .enum-told5 .given .1)))),
   walk-placed
       (c .before .before .before .before .before .before .before .before .before .before .before .pre .2) (c .before .before .before .before .before .before .before .before .loop .inv)
-      (c .before .before .before .before .before .before .next-command .ensures) (read-as (c .before .before .before .before .next .given .1) (c .before .enum-told5 .given .1)),
+      (c .before .before .before .before .before .before .take-next .ensures) (read-as (c .before .before .before .before .next .given .1) (c .before .enum-told5 .given .1)),
 )
 
 enum-told-6 : tie.Need-enum-told-6 Inv-loop μ-loop
@@ -152,7 +152,7 @@ returns-3 : tie.Need-returns-3 Inv-loop μ-loop
 unfolding outcomeOf
 returns-3 c =
     let e = walk-unknown (c .before .before .before .before .before .before .before .before .before .before .pre .2) (c .before .before .before .before .before .before .before .loop .inv)
-    (c .before .before .before .before .before .next-command .ensures) (read-as (c .before .before .before .next .given .1) (c .enum-told6 .given .1)) in
+    (c .before .before .before .before .before .take-next .ensures) (read-as (c .before .before .before .next .given .1) (c .enum-told6 .given .1)) in
     (sym (ap outcomeOf e), refused-placed _ _ _ _ _ e)
 
 loop-less : tie.Need-loop-less Inv-loop μ-loop
@@ -160,13 +160,13 @@ loop-less c =
     omega (
       arith,
       walk-further (c .before .before .before .before .before .before .before .before .before .before .before .pre .2) (c .before .before .before .before .before .before .before .before .loop .inv)
-          (c .before .before .before .before .before .before .next-command .ensures) (c .before .before .before .before .next .given .1),
+          (c .before .before .before .before .before .before .take-next .ensures) (c .before .before .before .before .next .given .1),
     )
 
 loop-again : tie.Need-loop-again Inv-loop μ-loop
 loop-again c =
     walk-inputs (c .before .before .before .before .before .before .before .before .before .before .before .pre .2) (c .before .before .before .before .before .before .before .before .loop .inv)
-    (c .before .before .before .before .before .before .next-command .ensures) (read-as (c .before .before .before .before .next .given .1) (c .before .enum-told2 .given .1))
+    (c .before .before .before .before .before .before .take-next .ensures) (read-as (c .before .before .before .before .next .given .1) (c .before .enum-told2 .given .1))
     (omega (arith, c .shared-slice-known2 .given (c .before .before .before .before .before .before .before .before .loop .at + 1)))
 
 loop-less-2 : tie.Need-loop-less-2 Inv-loop μ-loop
@@ -174,26 +174,26 @@ loop-less-2 c =
     omega (
       arith,
       walk-further (c .before .before .before .before .before .before .before .before .before .before .pre .2) (c .before .before .before .before .before .before .before .loop .inv)
-          (c .before .before .before .before .before .next-command .ensures) (c .before .before .before .next .given .1),
+          (c .before .before .before .before .before .take-next .ensures) (c .before .before .before .next .given .1),
     )
 
 loop-again-2 : tie.Need-loop-again-2 Inv-loop μ-loop
 loop-again-2 c =
     walk-gate (c .before .before .before .before .before .before .before .before .before .before .pre .2) (c .before .before .before .before .before .before .before .loop .inv)
-    (c .before .before .before .before .before .next-command .ensures) (read-as (c .before .before .before .next .given .1) (c .enum-told3 .given .1))
+    (c .before .before .before .before .before .take-next .ensures) (read-as (c .before .before .before .next .given .1) (c .enum-told3 .given .1))
 
 loop-less-3 : tie.Need-loop-less-3 Inv-loop μ-loop
 loop-less-3 c =
     omega (
       arith,
       walk-further (c .before .before .before .before .before .before .before .before .before .before .pre .2) (c .before .before .before .before .before .before .before .loop .inv)
-          (c .before .before .before .before .before .next-command .ensures) (c .before .before .before .next .given .1),
+          (c .before .before .before .before .before .take-next .ensures) (c .before .before .before .next .given .1),
     )
 
 loop-again-3 : tie.Need-loop-again-3 Inv-loop μ-loop
 loop-again-3 c =
     walk-output (c .before .before .before .before .before .before .before .before .before .before .pre .2) (c .before .before .before .before .before .before .before .loop .inv)
-    (c .before .before .before .before .before .next-command .ensures) (read-as (c .before .before .before .next .given .1) (c .enum-told4 .given .1))
+    (c .before .before .before .before .before .take-next .ensures) (read-as (c .before .before .before .next .given .1) (c .enum-told4 .given .1))
 
 same-length-4 : tie.Need-same-length-4 Inv-loop μ-loop
 same-length-4 c = search needs
@@ -211,7 +211,7 @@ read-file-spec =
     Inv-loop
     μ-loop
     loop-holds
-    next-command-requires
+    take-next-requires
     enum-known-next
     enum-told
     refusal-requires

@@ -1,4 +1,4 @@
--- `reader::find_nameless` meets its contract. The loop's invariant, `Searched`: every operand before the position names something, so
+-- `files::find_nameless` meets its contract. The loop's invariant, `Searched`: every operand before the position names something, so
 -- the search goes on from there, over whole commands. Assumes nothing.
 use Prim.Native.Nat.{_-_}
 use native.Mathlib.Omega.{arith}
@@ -7,9 +7,9 @@ use mathlib.Core.List.{[], _∷_}
 use lib.ListN.{length}
 use borrow.Author.Needs.{needs}
 use Rattle.commands.proofs.Arms.{arm}
-use Rattle.reader.proofs.Search.{Searched, Followed, gatesAfter, followed-wide, search-starts, search-past, command-room, search-found, search-ends, search-goes}
-use Rattle.reader.proofs.find_nameless.Statement.{statement}
-use Rattle.reader.proofs.find_nameless.Tie as tie
+use Rattle.files.proofs.Search.{Searched, Followed, gatesAfter, followed-wide, search-starts, search-past, command-room, search-found, search-ends, search-goes}
+use Rattle.files.proofs.find_nameless.Statement.{statement}
+use Rattle.files.proofs.find_nameless.Tie as tie
 
 abbrev Inv-loop : tie.InvT-loop
 Inv-loop file n g s at₀ k₀ at k = Searched file n g s at k

@@ -1,14 +1,14 @@
--- `reader::naming` meets its contract: a gate command has its kind or operation. Assumes nothing.
+-- `files::naming` meets its contract: a gate command has its kind or operation. Assumes nothing.
 use native.Mathlib.Omega.{arith}
 use mathlib.Core.Path.{_≡_, refl}
 use mathlib.Core.List.{[], _∷_}
 use denote.Ref.{now}
 use borrow.Author.Needs.{needs}
 use Rattle.netlist.specs.Commands.{width, operandsFrom}
-use Rattle.reader.specs.Reader.{naming}
+use Rattle.files.specs.Files.{naming}
 use Rattle.commands.proofs.Arms.{arm}
-use Rattle.reader.proofs.naming.Statement.{statement}
-use Rattle.reader.proofs.naming.Tie as tie
+use Rattle.files.proofs.naming.Statement.{statement}
+use Rattle.files.proofs.naming.Tie as tie
 
 enum-told : tie.Need-enum-told
 enum-told c = search needs

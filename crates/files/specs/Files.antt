@@ -1,4 +1,4 @@
--- What the reader's functions ask of one another beside the reading itself, and what a readable file leaves in the lent places.
+-- What the functions that read a whole file ask of one another beside the reading itself, and what a readable file leaves in the lent places.
 use Prim.Native.Nat.{ℕ, _+_, _*_, _<_, _≤_}
 use mathlib.Core.Path.{_≡_}
 use mathlib.Core.List.{List, [], _∷_}

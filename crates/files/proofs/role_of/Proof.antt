@@ -1,4 +1,4 @@
--- `reader::role_of` meets its contract, by its arms. Assumes nothing.
+-- `files::role_of` meets its contract, by its arms. Assumes nothing.
 use mathlib.Core.Path.{_≡_, refl}
 use mathlib.Core.List.{[], _∷_}
 use borrow.Author.Needs.{needs}
@@ -6,8 +6,8 @@ use Rattle.netlist.specs.declared.File.the-variants as file
 use Rattle.netlist.specs.declared.Role.the-variants.{Signal}
 use Rattle.netlist.specs.Reading.{roleOf}
 use Rattle.commands.proofs.Arms.{arm}
-use Rattle.reader.proofs.role_of.Statement.{statement}
-use Rattle.reader.proofs.role_of.Tie as tie
+use Rattle.files.proofs.role_of.Statement.{statement}
+use Rattle.files.proofs.role_of.Tie as tie
 
 enum-told : tie.Need-enum-told
 enum-told c = search needs

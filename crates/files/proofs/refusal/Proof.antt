@@ -1,8 +1,8 @@
--- `reader::refusal` meets its contract, by its arms. Assumes nothing.
+-- `files::refusal` meets its contract, by its arms. Assumes nothing.
 use borrow.Author.Needs.{needs}
-use Rattle.reader.specs.Reader.{refusalOf}
-use Rattle.reader.proofs.refusal.Statement.{statement}
-use Rattle.reader.proofs.refusal.Tie as tie
+use Rattle.files.specs.Files.{refusalOf}
+use Rattle.files.proofs.refusal.Statement.{statement}
+use Rattle.files.proofs.refusal.Tie as tie
 
 enum-known-next : tie.Need-enum-known-next
 enum-known-next c = search needs
