@@ -22,9 +22,10 @@ use Rattle.words.specs.Operations.{OperationsThere}
 use Rattle.words.specs.Outputs.{SignalsThere}
 use Rattle.words.specs.Positions.{EachOnce, PositionsIn}
 use Rattle.words.proofs.Inverting.{each-once}
+use Rattle.sweeps.specs.Sweeps.{sweptInOrder}
 use Rattle.sweeps.specs.Views.{stageAt, referenceAt, StageReady, ReferenceReady, Ready}
 use Rattle.sweeps.proofs.Sweeping.{fault-first, clear-first}
-use Rattle.checker.specs.Circuits.{StageThere, ReferenceThere, Lent, sweeps, circuitChecks}
+use Rattle.checker.specs.Circuits.{StageThere, ReferenceThere, Lent, circuitChecks}
 
 -- ---- the sweeps in an order
 
@@ -60,9 +61,9 @@ module _ (s places outputs order : List ℕ) (n g : ℕ) (loop : Found) (found :
     pub stage-ready : StageThere s places outputs n g → StageReady s places order outputs n g′
     stage-ready t = subst (StageReady s places order outputs n) (sym same) (record { few = t .few; there = t .there; ordered = found .ordered none; outputs-there = t .outputs-there })
 
-    pub is-swept : (r : Reference) (v : Verdict) → v ≡ firstFault (sweeps (stageAt s n places g′ outputs) r) → v ≡ firstFault (circuitChecks (stageAt s n places g outputs) r)
+    pub is-swept : (r : Reference) (v : Verdict) → v ≡ firstFault (sweptInOrder (stageAt s n places g′ outputs) r) → v ≡ firstFault (circuitChecks (stageAt s n places g outputs) r)
     unfolding atFault
-    is-swept r v q = clear-first _ _ _ v refl (loop-says Nothing none) (q ∙ ap (λ (k : ℕ). firstFault (sweeps (stageAt s n places k outputs) r)) same)
+    is-swept r v q = clear-first _ _ _ v refl (loop-says Nothing none) (q ∙ ap (λ (k : ℕ). firstFault (sweptInOrder (stageAt s n places k outputs) r)) same)
 
 pub lent-alike : (n g g′ rails nulled spare position : ℕ) → g′ ≡ g → Lent n g rails nulled spare position → Lent n g′ rails nulled spare position
 lent-alike n g g′ rails nulled spare position e l = subst (λ (k : ℕ). Lent n k rails nulled spare position) (sym e) l

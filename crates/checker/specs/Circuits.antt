@@ -1,7 +1,7 @@
 -- What reading the two files gives, what is lent for the checks, and the checks from 12 on.
 use Prim.Native.Nat.{ℕ, _+_, _*_, _≤_}
 use mathlib.Core.Path.{_≡_}
-use mathlib.Core.List.{List, [], _∷_}
+use mathlib.Core.List.{List, _∷_}
 use lib.ListN.{length}
 use Rattle.netlist.specs.Content.{Stage, Reference}
 use Rattle.verdict.specs.declared.Finding.{Finding}
@@ -9,8 +9,7 @@ use Rattle.verdict.specs.Checks.{looped}
 use Rattle.settle.specs.Gates.{GatesThere}
 use Rattle.words.specs.Outputs.{OutputsThere, SignalsThere}
 use Rattle.words.specs.Operations.{OperationsThere}
-use Rattle.sweeps.specs.declared.Sweep.the-variants.{Wrong, Missing, Unobserved}
-use Rattle.sweeps.specs.Sweeps.{swept}
+use Rattle.sweeps.specs.Sweeps.{sweptInOrder}
 
 -- a stage that was read, with n inputs and g gates: they are within the limits, and the gates and the outputs are there
 pub record StageThere (s places outputs : List ℕ) (n g : ℕ) : Type 0 where
@@ -33,10 +32,6 @@ pub record Lent (n g rails nulled spare position : ℕ) : Type 0 where
   pub spare-long : spare ≡ g
   pub position-long : position ≡ g
 
--- 13, then 14, then 15
-abbrev pub sweeps : Stage → Reference → List Finding
-sweeps s r = swept Wrong s r ∷ swept Missing s r ∷ swept Unobserved s r ∷ []
-
--- 12, and then these
+-- 12, and then 13, 14 and 15
 abbrev pub circuitChecks : Stage → Reference → List Finding
-circuitChecks s r = looped s ∷ sweeps s r
+circuitChecks s r = looped s ∷ sweptInOrder s r

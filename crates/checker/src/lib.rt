@@ -12,8 +12,9 @@ ghost use Rattle.netlist.specs.Reading as reading;
 ghost use Rattle.verdict.specs.Checks as checks;
 ghost use Rattle.verdict.specs.Verdicts as verdicts;
 ghost use Rattle.verdict.specs.Demands.{Demand2, Demand3};
+ghost use Rattle.sweeps.specs.Sweeps.{sweptInOrder};
 ghost use Rattle.sweeps.specs.Views.{stageAt, referenceAt, StageReady, ReferenceReady};
-ghost use Rattle.checker.specs.Circuits.{StageThere, ReferenceThere, Lent, sweeps, circuitChecks};
+ghost use Rattle.checker.specs.Circuits.{StageThere, ReferenceThere, Lent, circuitChecks};
 
 // The four numbers of a verdict.
 fn answer(number: u64, file: u64, at: usize, word: usize) -> Verdict
@@ -45,7 +46,7 @@ fn sweep_in_order(
     spare: &mut [u8],
 ) -> Verdict
     requires { ⌜ StageReady (now s) (now places) (now order) (now outputs) inputs (length (now levels)) × ReferenceReady (now t) (now operations) (now signals) inputs (length (now values)) (length (now outputs)) × Lent inputs (length (now levels)) (length (now rails)) (length (now nulled)) (length (now spare)) (length (now position)) ⌝ }
-    ensures { λ r. ⌜ r ≡ verdicts.firstFault (sweeps (stageAt (now (s .entry)) inputs (now (places .entry)) (length (now (levels .entry))) (now (outputs .entry))) (referenceAt (now (t .entry)) inputs (now (operations .entry)) (length (now (values .entry)) - inputs) (now (signals .entry)))) ⌝ }
+    ensures { λ r. ⌜ r ≡ verdicts.firstFault (sweptInOrder (stageAt (now (s .entry)) inputs (now (places .entry)) (length (now (levels .entry))) (now (outputs .entry))) (referenceAt (now (t .entry)) inputs (now (operations .entry)) (length (now (values .entry)) - inputs) (now (signals .entry)))) ⌝ }
 {
     words::invert(order, position);
     sweeps::sweep_all(

@@ -1,5 +1,6 @@
 -- The checks that go over all words, by one name for each.
 use Prim.Native.Nat.{ℕ}
+use mathlib.Core.List.{List, [], _∷_}
 use Rattle.netlist.specs.declared.Found.{Found}
 use Rattle.netlist.specs.Content.{Stage, Reference}
 use Rattle.verdict.specs.declared.Finding.{Finding}
@@ -22,3 +23,7 @@ finds Unobserved s r w = unobservedGate s w
 -- what it finds in all words
 abbrev pub swept : Sweep → Stage → Reference → Finding
 swept which s r = sweep (numberOf which) (finds which s r) (words s)
+
+-- 13, then 14, then 15
+abbrev pub sweptInOrder : Stage → Reference → List Finding
+sweptInOrder s r = swept Wrong s r ∷ swept Missing s r ∷ swept Unobserved s r ∷ []

@@ -3,16 +3,14 @@ use netlist::Found;
 use verdict::Finding;
 use verdict::Verdict;
 ghost use mathlib.Core.Path.{_≡_};
-ghost use mathlib.Core.List.{_∷_, []};
 ghost use Prim.Native.Nat.{ℕ, _+_, _*_, _-_, _^_, _≤_, _<_};
 ghost use lib.ListN.{length};
 ghost use Rattle.verdict.specs.Rows.{bitsOf, railsOf};
 ghost use Rattle.verdict.specs.Checks as checks;
 ghost use Rattle.words.specs.Positions.{PositionsIn};
 ghost use Rattle.verdict.specs.Verdicts as verdicts;
-ghost use Rattle.sweeps.specs.declared.Sweep.the-variants.{Wrong, Missing, Unobserved};
 ghost use Rattle.sweeps.specs.Views.{stageAt, referenceAt, StageReady, ReferenceReady, Ready};
-ghost use Rattle.sweeps.specs.Sweeps.{numberOf, finds, swept};
+ghost use Rattle.sweeps.specs.Sweeps.{numberOf, finds, swept, sweptInOrder};
 
 // The checks that go over all words: 13, 14 and 15.
 pub enum Sweep {
@@ -264,7 +262,7 @@ pub fn sweep_all(
     spare: &mut [u8],
 ) -> Verdict
     requires { ⌜ Ready (now s) (now places) (now order) (now position) (now outputs) (now t) (now operations) (now signals) inputs (length (now values)) (length (now rails)) (length (now nulled)) (length (now levels)) (length (now spare)) ⌝ }
-    ensures { λ r. ⌜ r ≡ verdicts.firstFault (swept Wrong (stageAt (now (s .entry)) inputs (now (places .entry)) (length (now (levels .entry))) (now (outputs .entry))) (referenceAt (now (t .entry)) inputs (now (operations .entry)) (length (now (values .entry)) - inputs) (now (signals .entry))) ∷ swept Missing (stageAt (now (s .entry)) inputs (now (places .entry)) (length (now (levels .entry))) (now (outputs .entry))) (referenceAt (now (t .entry)) inputs (now (operations .entry)) (length (now (values .entry)) - inputs) (now (signals .entry))) ∷ swept Unobserved (stageAt (now (s .entry)) inputs (now (places .entry)) (length (now (levels .entry))) (now (outputs .entry))) (referenceAt (now (t .entry)) inputs (now (operations .entry)) (length (now (values .entry)) - inputs) (now (signals .entry))) ∷ []) ⌝ }
+    ensures { λ r. ⌜ r ≡ verdicts.firstFault (sweptInOrder (stageAt (now (s .entry)) inputs (now (places .entry)) (length (now (levels .entry))) (now (outputs .entry))) (referenceAt (now (t .entry)) inputs (now (operations .entry)) (length (now (values .entry)) - inputs) (now (signals .entry)))) ⌝ }
 {
     if let Finding::Fault(v) = sweep_words(
         Sweep::Wrong,

@@ -6,4 +6,3 @@ pub mod Verdicts
 pub mod Faults
 pub mod Nets
 pub mod Demands
-pub mod Cases

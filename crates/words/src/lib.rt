@@ -208,7 +208,7 @@ fn all_data(s: &[u8], outputs: &[u16], rails: &[u8], levels: &[u8]) -> bool
 }
 
 // 14 for one input: whether all outputs are DATA once the stage has settled with input i NULL and the others as in the word.
-fn complete_without(
+fn data_without(
     s: &[u8],
     places: &[u16],
     order: &[u16],
@@ -243,7 +243,7 @@ pub fn missing_input(
 {
     let mut i: usize = 0;
     while i < inputs {
-        if complete_without(s, places, order, outputs, rails, i, nulled, spare) {
+        if data_without(s, places, order, outputs, rails, i, nulled, spare) {
             return Found::At(i);
         }
         i += 1;

@@ -22,8 +22,8 @@ abbrev μ-loop : tie.MeasureT-loop
 loop-holds : tie.Need-loop-holds Inv-loop μ-loop
 loop-holds c = (refl, refl, ap (least _ 0) (omega arith))
 
-complete-without-requires : tie.Need-complete-without-requires Inv-loop μ-loop
-complete-without-requires c κs =
+data-without-requires : tie.Need-data-without-requires Inv-loop μ-loop
+data-without-requires c κs =
     let p = c .before .before .before .before .before .before .before .before .before .before .before .pre in
     let l = c .before .before .before .loop in
     (settleable-alike _ _ _ _ _ _ _ refl (l .inv .1) (p .0), p .1, omega arith, omega arith)
@@ -35,7 +35,7 @@ same-length-2 : tie.Need-same-length-2 Inv-loop μ-loop
 same-length-2 c = search needs
 
 returns : tie.Need-returns Inv-loop μ-loop
-returns c = sought-here _ _ _ (omega arith) (c .before .before .before .before .before .before .before .before .before .loop .inv .2) (without-alike _ _ _ _ _ _ _ _ _ (c .before .before .before .before .before .before .before .before .before .loop .inv .1) (c .before .before .before .before .before .complete-without .ensures) (c .if1 .taken))
+returns c = sought-here _ _ _ (omega arith) (c .before .before .before .before .before .before .before .before .before .loop .inv .2) (without-alike _ _ _ _ _ _ _ _ _ (c .before .before .before .before .before .before .before .before .before .loop .inv .1) (c .before .before .before .before .before .data-without .ensures) (c .if1 .taken))
 
 add-i : tie.Need-add-i Inv-loop μ-loop
 add-i c = search needs
@@ -44,7 +44,7 @@ loop-less : tie.Need-loop-less Inv-loop μ-loop
 loop-less c = search needs
 
 loop-again : tie.Need-loop-again Inv-loop μ-loop
-loop-again c = (search needs, search needs, sought-on _ _ _ (omega arith) (c .before .before .before .before .before .before .before .before .before .loop .inv .2) (without-alike _ _ _ _ _ _ _ _ _ (c .before .before .before .before .before .before .before .before .before .loop .inv .1) (c .before .before .before .before .before .complete-without .ensures) (c .if1 .left)))
+loop-again c = (search needs, search needs, sought-on _ _ _ (omega arith) (c .before .before .before .before .before .before .before .before .before .loop .inv .2) (without-alike _ _ _ _ _ _ _ _ _ (c .before .before .before .before .before .before .before .before .before .loop .inv .1) (c .before .before .before .before .before .data-without .ensures) (c .if1 .left)))
 
 same-length-3 : tie.Need-same-length-3 Inv-loop μ-loop
 same-length-3 c = search needs
@@ -62,7 +62,7 @@ missing-input-spec =
     Inv-loop
     μ-loop
     loop-holds
-    complete-without-requires
+    data-without-requires
     same-length
     same-length-2
     returns

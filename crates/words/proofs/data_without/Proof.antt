@@ -1,9 +1,9 @@
--- `words::complete_without` meets its contract: the rails with input i NULL are a copy that settles anew. Assumes nothing.
+-- `words::data_without` meets its contract: the rails with input i NULL are a copy that settles anew. Assumes nothing.
 use native.Mathlib.Omega.{arith}
 use Rattle.words.proofs.OneWord.{settleable-alike, data-without}
 use borrow.Author.Needs.{needs}
-use Rattle.words.proofs.complete_without.Statement.{statement}
-use Rattle.words.proofs.complete_without.Tie as tie
+use Rattle.words.proofs.data_without.Statement.{statement}
+use Rattle.words.proofs.data_without.Tie as tie
 
 copy-requires : tie.Need-copy-requires
 copy-requires c κs = search needs
@@ -26,8 +26,8 @@ same-length-2 c = search needs
 returns : tie.Need-returns
 returns c = data-without _ _ _ _ _ _ _ _ (c .before .before .before .before .before .before .before .before .before .before .before .before .before .before .copy .ensures) (c .before .before .before .before .before .before .before .before .before .before .null-input .ensures) (c .before .before .before .before .before .settle .ensures) (c .all-data .ensures)
 
-pub complete-without-spec : {M : Type 1} → statement M
-complete-without-spec =
+pub data-without-spec : {M : Type 1} → statement M
+data-without-spec =
     tie.close
     (tie.spec
     copy-requires

@@ -180,6 +180,55 @@ ordered =
     case (1 ∷ 2 ∷ twoPins 2 0 1 (pair 0 1 (pair 2 3 (0 ∷ [])))) (1 ∷ 2 ∷ 0x12 ∷ 0 ∷ 0 ∷ 0x12 ∷ 1 ∷ 0 ∷ 0 ∷ []) (verdict 0 0 0 0) ∷
     []
 
+-- ---- which of 1 to 9 is named, and where
+
+-- m gates TH12(0, 1)
+gates : ℕ → List ℕ → List ℕ
+gates zero rest = rest
+gates (suc m) rest = twoPins 1 0 1 (gates m rest)
+
+-- m inverters on input 0
+inverters : ℕ → List ℕ → List ℕ
+inverters zero rest = rest
+inverters (suc m) rest = 0x11 ∷ 1 ∷ 0 ∷ 0 ∷ FFFF ++ inverters m rest
+
+pub refused : List Case
+refused =
+    -- the 129th gate of a stage and the 257th of a reference, whose kind and operation do not exist either
+    case (1 ∷ 1 ∷ gates 128 (2 ∷ 0x1C ∷ FFFF ++ FFFF ++ FFFF ++ FFFF)) wireReference (verdict 6 1 1282 0) ∷
+    case wire (1 ∷ 1 ∷ inverters 256 (0x11 ∷ 7 ∷ FFFF ++ FFFF)) (verdict 6 2 1538 0) ∷
+    -- 128 gates and 256 gates are no fault
+    case (1 ∷ 1 ∷ gates 128 []) wireReference (verdict 1 1 1282 0) ∷
+    case wire (1 ∷ 1 ∷ inverters 256 []) (verdict 1 2 1538 0) ∷
+    -- a kind that does not exist, with all pins absent: 4
+    case (1 ∷ 1 ∷ 2 ∷ 0 ∷ FFFF ++ FFFF ++ FFFF ++ FFFF) wireReference (verdict 4 1 3 0) ∷
+    -- two pins that are needed and absent: the first
+    case (1 ∷ 1 ∷ 2 ∷ 2 ∷ FFFF ++ FFFF ++ FFFF ++ FFFF) wireReference (verdict 5 1 4 0) ∷
+    -- two nets that do not exist: the first; in the order of the bytes, whether it stands in an output or in a gate
+    case (1 ∷ 1 ∷ pair 9 9 (0 ∷ [])) wireReference (verdict 9 1 3 0) ∷
+    case (1 ∷ 1 ∷ pair 9 1 (twoPins 1 9 0 (0 ∷ []))) wireReference (verdict 9 1 3 0) ∷
+    case (1 ∷ 1 ∷ twoPins 1 9 0 (pair 9 1 (0 ∷ []))) wireReference (verdict 9 1 4 0) ∷
+    -- a stage that cannot be read comes before a reference that cannot
+    case (1 ∷ 1 ∷ pair 0 2 (0 ∷ [])) [] (verdict 9 1 5 0) ∷
+    -- references: 2, for a command before the inputs and for one of a stage; 3; 4; 5, for NOT with two operands and AND with one; 6; 7; 8
+    case wire (0x12 ∷ 0 ∷ 0 ∷ 0 ∷ []) (verdict 2 2 0 0) ∷
+    case wire (1 ∷ 1 ∷ 2 ∷ []) (verdict 2 2 2 0) ∷
+    case wire (1 ∷ 0 ∷ []) (verdict 3 2 1 0) ∷
+    case wire (1 ∷ 0x0B ∷ []) (verdict 3 2 1 0) ∷
+    case wire (1 ∷ 1 ∷ 0x11 ∷ 0 ∷ 0 ∷ 0 ∷ 0 ∷ 0 ∷ []) (verdict 4 2 3 0) ∷
+    case wire (1 ∷ 1 ∷ 0x11 ∷ 7 ∷ 0 ∷ 0 ∷ 0 ∷ 0 ∷ []) (verdict 4 2 3 0) ∷
+    case wire (1 ∷ 1 ∷ 0x11 ∷ 1 ∷ 0 ∷ 0 ∷ 0 ∷ 0 ∷ []) (verdict 5 2 6 0) ∷
+    case wire (1 ∷ 1 ∷ 0x11 ∷ 2 ∷ 0 ∷ 0 ∷ FFFF) (verdict 5 2 6 0) ∷
+    case wire (firstInput 1 17) (verdict 6 2 50 0) ∷
+    case wire (1 ∷ 1 ∷ 0x12 ∷ 0 ∷ 0 ∷ 0 ∷ 0 ∷ []) (verdict 7 2 6 0) ∷
+    case wire (1 ∷ 1 ∷ 0 ∷ []) (verdict 8 2 2 0) ∷
+    -- a command that is cut, whatever its operation
+    case wire (1 ∷ 1 ∷ 0x11 ∷ 7 ∷ 0 ∷ []) (verdict 1 2 5 0) ∷
+    -- an output of a reference that names nothing; one that stands before the gate that it names is no fault
+    case wire (1 ∷ 1 ∷ 0x12 ∷ FFFF ++ (0 ∷ [])) (verdict 9 2 3 0) ∷
+    case swapped (1 ∷ 1 ∷ 0x12 ∷ 1 ∷ 0 ∷ inverters 1 (0 ∷ [])) (verdict 0 0 0 0) ∷
+    []
+
 abbrev judged : List Case → List Verdict
 judged cases = map (λ (x : Case). verdictOn (x .stage) (x .reference)) cases
 
@@ -197,6 +246,10 @@ table-examples = refl
 pub named-first : judged ordered ≡ expected ordered
 unfolding ordered firstInput wire wireReference andReference c.cells c.cellAt c.pinCount c.setExpression c.kindOf b.operand b.operands k.sortOf k.operandCount k.operandsFrom k.width k.pinsNeeded k.needed k.stray k.inputsAt k.misfit k.misfitFrom k.unlessMisfit k.gateAt k.outputAt k.wholeAt k.nextAt r.roleOf r.names r.nameless r.orLater r.namelessIn r.namelessFrom r.unlessNameless r.finish r.onCommand r.onNext r.countsOf r.readFrom r.readFile t.stageOf t.referenceOf o.bitsOf o.railsOf o.withNull o.isSet o.rounds o.settledLevels o.levelsHolding o.allData l.isFed l.reachedFrom l.reachesItself a.operate a.evaluate a.answer h.least h.numbers h.words h.atFault h.sweep h.unequal h.looped h.wrongOutput h.missingInput h.unobservedGate h.checks v.firstFault v.judgeReference v.judgeStage v.verdictWithin
 named-first = refl
+
+pub refused-first : judged refused ≡ expected refused
+unfolding refused gates inverters firstInput swapped wire wireReference andReference c.cells c.cellAt c.pinCount c.setExpression c.kindOf b.operand b.operands k.sortOf k.operandCount k.operandsFrom k.width k.pinsNeeded k.needed k.stray k.inputsAt k.misfit k.misfitFrom k.unlessMisfit k.gateAt k.outputAt k.wholeAt k.nextAt r.roleOf r.names r.nameless r.orLater r.namelessIn r.namelessFrom r.unlessNameless r.finish r.onCommand r.onNext r.countsOf r.readFrom r.readFile t.stageOf t.referenceOf o.bitsOf o.railsOf o.withNull o.isSet o.rounds o.settledLevels o.levelsHolding o.allData l.isFed l.reachedFrom l.reachesItself a.operate a.evaluate a.answer h.least h.numbers h.words h.atFault h.sweep h.unequal h.looped h.wrongOutput h.missingInput h.unobservedGate h.checks v.firstFault v.judgeReference v.judgeStage v.verdictWithin
+refused-first = refl
 
 -- ---- the settled-row call
 
