@@ -197,9 +197,6 @@ refused =
     -- the 129th gate of a stage and the 257th of a reference, whose kind and operation do not exist either
     case (1 ∷ 1 ∷ gates 128 (2 ∷ 0x1C ∷ FFFF ++ FFFF ++ FFFF ++ FFFF)) wireReference (verdict 6 1 1282 0) ∷
     case wire (1 ∷ 1 ∷ inverters 256 (0x11 ∷ 7 ∷ FFFF ++ FFFF)) (verdict 6 2 1538 0) ∷
-    -- 128 gates and 256 gates are no fault
-    case (1 ∷ 1 ∷ gates 128 []) wireReference (verdict 1 1 1282 0) ∷
-    case wire (1 ∷ 1 ∷ inverters 256 []) (verdict 1 2 1538 0) ∷
     -- a kind that does not exist, with all pins absent: 4
     case (1 ∷ 1 ∷ 2 ∷ 0 ∷ FFFF ++ FFFF ++ FFFF ++ FFFF) wireReference (verdict 4 1 3 0) ∷
     -- two pins that are needed and absent: the first

@@ -4,10 +4,11 @@ use Prim.Native.Nat.{ℕ, _+_, _-_, _^_, _≤_, _<_}
 use native.Mathlib.Omega.{arith}
 use mathlib.Core.Path.{_≡_, refl, sym, _∙_, ap, subst}
 use native.Mathlib.Decide.{decLt}
-use mathlib.Core.Bool.{Bool, cond, _&&_}
-use lib.Dec.{T, eqb, eqb→eq, leb, leb→le}
+use mathlib.Core.Bool.{Bool, false, cond, _&&_}
+use lib.Dec.{T, lit<, eqb, eqb→eq, leb, leb→le}
 use borrow.Author.Tests.{le-leb, lt-leb, ne-eqb}
 use Rattle.gates.specs.Cell.{cells, cellAt, pinCount, setBit, atLeast, threshold, kindOf}
+use Rattle.gates.specs.Unweighted.{Unweighted, unweightedCells, SetByCount, AllByCount}
 use Rattle.gates.specs.declared.Kind.{Kind}
 use Rattle.gates.specs.declared.Kind.the-variants.{Hold, Unknown}
 use Rattle.gates.proofs.Every.{every, every-at}
@@ -56,17 +57,29 @@ all-small = tt
 pub pattern-in : (c p : ℕ) → c ≤ 27 → p < 2 ^ pinCount c → p < 16
 pattern-in c p h fits = let l : 2 ^ pinCount c ≤ 16 = leb→le (2 ^ pinCount c) 16 (every-at (λ x. leb (2 ^ pinCount x) 16) 28 all-small c (omega arith)) in omega arith
 
-all-thresholds : T (every (λ c. eqb (threshold (12 + c)) 0) 16)
-unfolding threshold
-all-thresholds = tt
-
 -- "An unweighted THmn is set exactly if at least m of its pins are high."
-pub unweighted : (c p : ℕ) → c ≤ 27 → 1 ≤ threshold c → p < 2 ^ pinCount c → setBit c p ≡ atLeast (threshold c) p
-unweighted c p hi some fits = go (decLt c 12)
-  where
-    go : Dec (c < 12) → setBit c p ≡ atLeast (threshold c) p
-    go (yes h) = sym (count-decides c p (threshold c) refl (ne-eqb (threshold c) 0 (λ e. omega arith)) h (pattern-in c p hi fits) fits)
-    go (no h) =
-        let e : 12 + (c - 12) ≡ c = omega arith in
-        let z : threshold (12 + (c - 12)) ≡ 0 = eqb→eq (threshold (12 + (c - 12))) 0 (every-at (λ x. eqb (threshold (12 + x)) 0) 16 all-thresholds (c - 12) (omega arith)) in
-        absurd (omega (arith, ap threshold e))
+by-count : (u : Unweighted) → threshold (u .cell) ≡ u .m → eqb (u .m) 0 ≡ false → u .cell < 12 → cellAt (u .cell) .name ≡ u .name → pinCount (u .cell) ≡ u .n → SetByCount u
+by-count u is some few named pins = record {
+  named = named;
+  pins = pins;
+  counted = λ p fits. sym (count-decides (u .cell) p (u .m) is some few (pattern-in (u .cell) p (omega arith) (rw pins fits)) (rw pins fits));
+}
+
+pub unweighted : AllByCount unweightedCells
+unfolding unweightedCells threshold pinCount cellAt cells
+unweighted = (
+  by-count _ refl refl (lit< tt) refl refl,
+  (
+    by-count _ refl refl (lit< tt) refl refl,
+    (
+      by-count _ refl refl (lit< tt) refl refl,
+      (
+        by-count _ refl refl (lit< tt) refl refl,
+        (
+          by-count _ refl refl (lit< tt) refl refl,
+          (by-count _ refl refl (lit< tt) refl refl, (by-count _ refl refl (lit< tt) refl refl, (by-count _ refl refl (lit< tt) refl refl, (by-count _ refl refl (lit< tt) refl refl, tt)))),
+        ),
+      ),
+    ),
+  ),
+)

@@ -1,3 +1,4 @@
 pub mod Expression
 pub mod Cell
 pub mod Table
+pub mod Unweighted

@@ -14,7 +14,8 @@ use borrow.Author.Tests.{lt-ltb, ltb-true}
 use Rattle.netlist.specs.Content.{Gate}
 use Rattle.verdict.specs.Rows.{high}
 use Rattle.verdict.specs.Loops.{Feeds, Reaches, directly, onward, reachesItself}
-use Rattle.verdict.proofs.Levels.{Bits, sum, bits-length, bits-set, bits-sum}
+use Rattle.verdict.specs.Levels.{Bits, sum}
+use Rattle.verdict.proofs.Levels.{bits-length, bits-set, bits-sum}
 use Rattle.verdict.proofs.Reaching.{reaches-sound, reaches-complete}
 use Rattle.settle.specs.Gates.{gatesAt, GatesThere, fedBy}
 use Rattle.settle.specs.Marks.{Marking, Closed, Grown, Reached}

@@ -9,7 +9,8 @@ use lib.ListN.{length, getD}
 use Rattle.netlist.specs.Content.{Gate}
 use Rattle.verdict.specs.Rows.{high}
 use Rattle.verdict.specs.Loops.{Feeds, Reaches, directly, onward, reachesItself}
-use Rattle.verdict.proofs.Levels.{Bits, sum, bits-length}
+use Rattle.verdict.specs.Levels.{Bits, sum}
+use Rattle.verdict.proofs.Levels.{bits-length}
 use Rattle.verdict.proofs.Reaching.{reaches-sound, rankOf, rank-rises}
 use Rattle.settle.specs.Gates.{gatesAt, GatesThere, fedBy}
 use Rattle.verdict.specs.Loops.{LoopFree}

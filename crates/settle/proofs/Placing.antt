@@ -12,7 +12,8 @@ use borrow.Author.Tests.{ltb-true, le-ltb}
 use Rattle.netlist.specs.Content.{Gate}
 use Rattle.verdict.specs.Rows.{high}
 use Rattle.verdict.specs.Loops.{Feeds}
-use Rattle.verdict.proofs.Levels.{Bits, sum, bits-length, bits-get, bits-set}
+use Rattle.verdict.specs.Levels.{Bits, sum}
+use Rattle.verdict.proofs.Levels.{bits-length, bits-get, bits-set}
 use Rattle.settle.specs.Gates.{gatesAt, GatesThere, fedBy}
 use Rattle.settle.specs.Order.{StandsIn, Placing, Stuck, Passed}
 use Rattle.settle.proofs.Places.{length-gatesAt}

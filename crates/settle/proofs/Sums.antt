@@ -9,7 +9,7 @@ use mathlib.Core.List.{List, [], _∷_}
 use lib.ListN.{length, getD, set, replicate}
 use borrow.Author.Tests.{lt-ltb}
 use Rattle.verdict.specs.Rows.{high}
-use Rattle.verdict.proofs.Levels.{Bits, sum}
+use Rattle.verdict.specs.Levels.{Bits, sum}
 
 pub sum-set : (v : List ℕ) (k x : ℕ) → k < length v → sum (set v k x) + getD v k 0 ≡ sum v + x
 sum-set [] k x h = absurd (omega arith)

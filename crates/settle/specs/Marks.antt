@@ -11,7 +11,7 @@ use Rattle.netlist.specs.Content.{Gate}
 use Rattle.verdict.specs.Rows.{high}
 use Rattle.verdict.specs.Loops.{Reaches, reachesItself}
 use Rattle.verdict.specs.Checks.{least}
-use Rattle.verdict.proofs.Levels.{Bits, sum}
+use Rattle.verdict.specs.Levels.{Bits, sum}
 use Rattle.settle.specs.Gates.{fedBy}
 use Rattle.settle.specs.Order.{TopologicalOrder}
 

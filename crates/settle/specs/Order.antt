@@ -7,7 +7,7 @@ use lib.ListN.{length, getD}
 use Rattle.netlist.specs.Content.{Gate}
 use Rattle.verdict.specs.Rows.{high}
 use Rattle.verdict.specs.Loops.{Feeds, LoopFree}
-use Rattle.verdict.proofs.Levels.{Bits, sum}
+use Rattle.verdict.specs.Levels.{Bits, sum}
 use Rattle.settle.specs.Gates.{fedBy}
 
 -- gate k stands at one of the first m places of an order

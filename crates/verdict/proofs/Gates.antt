@@ -13,7 +13,8 @@ use Rattle.gates.proofs.Expressions.{holds-mono}
 use Rattle.netlist.specs.Content.{Gate}
 use Rattle.verdict.specs.Rows.{high, pinHigh, isSet}
 use Rattle.verdict.specs.Loops.{In, pinsAt, anyHigh, isFed}
-use Rattle.verdict.proofs.Levels.{Bits, Below, high-mono, bits-set, below-set, below-get, below-++, below-refl}
+use Rattle.verdict.specs.Levels.{Bits, Below}
+use Rattle.verdict.proofs.Levels.{high-mono, bits-set, below-set, below-get, below-++, below-refl}
 
 bit-mono : (a b : Bool) → (a ≡ true → b ≡ true) → bit a ≤ bit b
 bit-mono true b h = rw (h refl) (omega arith)

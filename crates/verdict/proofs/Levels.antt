@@ -11,24 +11,7 @@ use lib.ListN.{length, getD, set, replicate}
 use lib.Dec.{ltb}
 use borrow.Author.Tests.{lt-ltb, ltb-true}
 use Rattle.verdict.specs.Rows.{high}
-
--- n values, each 0 or 1
-abbrev pub Bits : ℕ → List ℕ → Type 0
-Bits zero [] = Unit {0}
-Bits zero (x ∷ xs) = ⊥
-Bits (suc n) [] = ⊥
-Bits (suc n) (x ∷ xs) = (x ≤ 1) × Bits n xs
-
--- as long as the other, and nowhere above it
-abbrev pub Below : List ℕ → List ℕ → Type 0
-Below [] [] = Unit {0}
-Below [] (y ∷ ys) = ⊥
-Below (x ∷ xs) [] = ⊥
-Below (x ∷ xs) (y ∷ ys) = (x ≤ y) × Below xs ys
-
-abbrev pub sum : List ℕ → ℕ
-sum [] = 0
-sum (x ∷ xs) = x + sum xs
+use Rattle.verdict.specs.Levels.{Bits, Below, sum}
 
 -- ---- below
 

@@ -16,7 +16,8 @@ use Rattle.gates.specs.Cell.{bit}
 use Rattle.netlist.specs.Content.{Gate}
 use Rattle.verdict.specs.Rows.{high, rounds}
 use Rattle.verdict.specs.Loops.{In, pinsAt, Feeds, Reaches, directly, onward, NoLoop, anyHigh, isFed, marked, reachedFrom, reachesItself, LoopFree}
-use Rattle.verdict.proofs.Levels.{Bits, Below, sum, below-refl, below-get, below-split, below-raise, raise-below, bits-length, bits-sum}
+use Rattle.verdict.specs.Levels.{Bits, Below, sum}
+use Rattle.verdict.proofs.Levels.{below-refl, below-get, below-split, below-raise, raise-below, bits-length, bits-sum}
 use Rattle.verdict.proofs.Rounds.{rounds-bits, rounds-fixed, rounds-least}
 use Rattle.verdict.proofs.Gates.{isFed-rises, isFed-binary, map-bits, heldStep, held-bits, held-rises, fed-at, anyHigh-in, anyHigh-out}
 

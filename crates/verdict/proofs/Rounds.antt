@@ -7,7 +7,8 @@ use mathlib.Core.Logic.{_⊎_, inl, inr, ⊎-elim}
 use mathlib.Core.List.{List}
 use lib.ListN.{replicate}
 use Rattle.verdict.specs.Rows.{rounds}
-use Rattle.verdict.proofs.Levels.{Bits, Below, sum, below-refl, below-trans, below-split, low-bits, low-below, bits-sum}
+use Rattle.verdict.specs.Levels.{Bits, Below, sum}
+use Rattle.verdict.proofs.Levels.{below-refl, below-trans, below-split, low-bits, low-below, bits-sum}
 
 module _
     (step : List ℕ → List ℕ)

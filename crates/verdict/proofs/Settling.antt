@@ -12,7 +12,8 @@ use lib.Dec.{ltb}
 use Rattle.netlist.specs.Content.{Gate}
 use Rattle.verdict.specs.Rows.{high, isSet, Settled, SettledHolding, rounds, settledLevels, levelsHolding, settled, settledHolding}
 use Rattle.verdict.specs.Loops.{In, pinsAt, Feeds, LoopFree, NoLoop}
-use Rattle.verdict.proofs.Levels.{Bits, Below, below-refl, below-++}
+use Rattle.verdict.specs.Levels.{Bits, Below}
+use Rattle.verdict.proofs.Levels.{below-refl, below-++}
 use Rattle.verdict.proofs.Rounds.{rounds-bits, rounds-fixed, rounds-mono}
 use Rattle.verdict.proofs.Gates.{isSet-rises, isSet-binary, map-bits, map-rises, heldStep, held-bits, held-rises, set-local}
 use Rattle.verdict.proofs.Reaching.{noLoop-loopFree, rankOf, rank-rises, rank-bound}

@@ -6,7 +6,7 @@ use native.Mathlib.Omega.{arith}
 use borrow.Author.Needs.{needs}
 use lib.ListN.{length, length-set}
 use denote.Ref.{now}
-use Rattle.verdict.proofs.Levels.{sum}
+use Rattle.verdict.specs.Levels.{sum}
 use Rattle.settle.specs.Gates.{gatesAt}
 use Rattle.settle.specs.Marks.{Marking}
 use Rattle.settle.proofs.Places.{there-still}
