@@ -12,6 +12,7 @@ use lib.Dec.{eqb}
 use borrow.Author.Tests.{eqb-true, eqb-false}
 use Rattle.runs.specs.Net.{IsGate, AllHold}
 use Rattle.runs.specs.Promise.{Promise}
+use Rattle.runs.proofs.Test.{clash}
 use Rattle.runs.proofs.Promise.{promise-not-wrong, promise-not-incomplete, promise-not-unobservable}
 use Rattle.netlist.specs.declared.Found.{Found}
 use Rattle.netlist.specs.declared.Found.the-variants.{At, Nothing}
@@ -26,6 +27,7 @@ use Rattle.verdict.specs.declared.Finding.{Finding}
 use Rattle.verdict.specs.declared.Finding.the-variants.{Fault, Clear}
 use Rattle.verdict.specs.Checks.{verdict, least, checks}
 use Rattle.verdict.specs.Verdicts.{firstFault, judgeReference, judgeStage, verdictWithin, illegalInput, settleLegal, settleLoopFree, settleReading, settledRowWithin, RowAnswer, answerWith}
+use Rattle.verdict.proofs.Illegal.{illegal-true, illegal-says}
 use Rattle.verdict.specs.Faults.{CountsMatch, WithoutLoop, NeverWrong, NeverIncomplete, NeverUnobservable, Judged, inputs-differ, outputs-differ, looped, wrong, incomplete, unobservable, accepted, StageIs, ReferenceIs, Because, stage-refused, reference-refused, both-read, RowBecause, row-refused, row-looped, row-length, row-illegal, row-settled}
 use Rattle.verdict.specs.Rows.{settledLevels}
 use Rattle.verdict.specs.Nets.{noGate, driver, netOf}
@@ -36,9 +38,6 @@ use Rattle.verdict.proofs.Settling.{settled-is, settled-one}
 use Rattle.verdict.proofs.Because.{LoopOutcome, found, free, loop-outcome, judged, stage-is, verdict-because}
 use Rattle.verdict.proofs.Refusals.{refused-number}
 use Rattle.verdict.proofs.OneWord.{CleanIn, clean-acceptable, clean-kept, acceptable-clean, wrong-runs, incomplete-run, unobservable-run, gate-rule-gives}
-
-clash : {b : Bool} → b ≡ true → b ≡ false → ⊥
-clash p q = let z : _≡_ {A = ℕ} 0 1 = cc in omega arith
 
 -- ---- what a readable stage without loops has
 
@@ -192,9 +191,9 @@ row-because most stage row = go (readFile file.Stage most stage) refl
     legal : (s : Stage) → StageIs most stage s → WithoutLoop s → length row ≡ 2 * s .inputs + length (s .gates) → (x : Found) → least (illegalInput row) 0 (s .inputs) ≡ x → Answered most stage row (settleLegal s row x)
     legal s is l h (At i) e =
         let a : LeastAt (illegalInput row) 0 (s .inputs) i = least-says (illegalInput row) 0 (s .inputs) (At i) e in
-        row-illegal {i = i} is l h (omega (arith, a .below)) (a .passes) (λ k hk t. clash t (a .none-before k (omega arith) hk))
+        row-illegal {i = i} is l h (omega (arith, a .below)) (illegal-says row i (a .passes)) (λ k hk t. clash (illegal-true row k t) (a .none-before k (omega arith) hk))
     legal s is l h Nothing e =
-        row-settled is l h (λ k hk t. clash t (least-says (illegalInput row) 0 (s .inputs) Nothing e k (omega arith) (omega arith))) (settled-is (s .gates) (take (2 * s .inputs) row))
+        row-settled is l h (λ k hk t. clash (illegal-true row k t) (least-says (illegalInput row) 0 (s .inputs) Nothing e k (omega arith) (omega arith))) (settled-is (s .gates) (take (2 * s .inputs) row))
 
     long : (s : Stage) → StageIs most stage s → WithoutLoop s → (b : Bool) → eqb (length row) (2 * s .inputs + length (s .gates)) ≡ b
         → Answered most stage row (cond b (settleLegal s row (least (illegalInput row) 0 (s .inputs))) (answerWith (verdict 16 3 (length row) 0) row))

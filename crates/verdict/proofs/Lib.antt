@@ -10,5 +10,6 @@ pub mod Words
 pub mod Bridge
 pub mod Refusals
 pub mod OneWord
+pub mod Illegal
 pub mod Demands
 pub mod Cut

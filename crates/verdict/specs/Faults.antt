@@ -3,6 +3,7 @@
 use Prim.Native.Nat.{ℕ, _+_, _*_, _^_, _<_}
 use mathlib.Core.Path.{_≡_}
 use mathlib.Core.Bool.{Bool, true, false}
+use mathlib.Core.Logic.{_⊎_}
 use mathlib.Core.List.{List, _++_}
 use lib.ListN.{length, getD, take}
 use Rattle.netlist.specs.declared.File.the-variants as file
@@ -14,7 +15,6 @@ use Rattle.verdict.specs.Rows.{high, bitsOf, only, withNull, Settled, se
 use Rattle.verdict.specs.Loops.{Reaches, NoLoop}
 use Rattle.verdict.specs.Answers.{answer}
 use Rattle.verdict.specs.Checks.{verdict, outputPair, railsIn}
-use Rattle.verdict.specs.Verdicts.{illegalInput}
 
 -- ---- one word
 
@@ -117,7 +117,7 @@ pub data Because (stageMost referenceMost : Limits) (stage reference : List ℕ)
 
 -- 17 at input i: a rail is above 1, or both are 1
 abbrev pub IllegalAt : List ℕ → ℕ → Type 0
-IllegalAt row i = illegalInput row i ≡ true
+IllegalAt row i = (1 < getD row (2 * i) 0) ⊎ (1 < getD row (2 * i + 1) 0) ⊎ (getD row (2 * i) 0 ≡ 1) × (getD row (2 * i + 1) 0 ≡ 1)
 
 -- its verdict with the row before and after it: each refusal leaves the row as it was; else the input bytes stay, and the gates' bytes
 -- are settled for them
