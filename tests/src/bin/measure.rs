@@ -28,17 +28,16 @@ const EXAMPLES: [&str; 12] = [
     "and",
 ];
 
-/// Chains of XORs, each of two gates: inputs and operations. The first four grow in gates, the
-/// last four in inputs.
-const CHAINS: [(usize, usize); 8] = [
+/// Chains of XORs, each of two gates: inputs and operations. Up to the fourth they grow in gates,
+/// from there on they shrink in inputs.
+const CHAINS: [(usize, usize); 7] = [
     (10, 8),
     (10, 16),
     (10, 32),
     (10, 64),
-    (4, 64),
-    (6, 64),
     (8, 64),
-    (10, 64),
+    (6, 64),
+    (4, 64),
 ];
 
 fn netlists() -> Vec<(String, FilePair)> {
