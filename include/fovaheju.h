@@ -1,13 +1,14 @@
-/* The check of clockless stages, for C. Link target/staticlib/libfovaheju.a, which `rt staticlib fovaheju` writes
-   for x86-64; it needs no other library.
+/* The check of clockless stages, for C. Link target/staticlib/libfovaheju.a, which `rt staticlib fovaheju` writes for
+   x86-64; of the C library it uses memcpy and memset only.
 
-   Each call takes byte strings as a pointer and then a length, asks nothing else of its caller, always returns, keeps
-   nothing between calls, and reads and writes only the bytes that it is handed. Calls may run at the same time in
-   several threads, as long as none writes a row that another one uses. A call uses some kilobytes of stack.
+   Each call takes byte strings as a pointer and then a length. The bytes may be any; that they are there, that nothing
+   else writes them during the call, and that a row does not overlap the stage is all that is asked. Each call returns,
+   keeps nothing for later calls, and touches no other memory but some kilobytes of stack. So calls may run at the same
+   time in several threads, each with a row of its own.
 
-   A pointer that goes with the length 0 is not read through. The promise is for pointers that are not null, also
-   where the length is 0; there any address will do. Null with length 0 was tried as well: it is an empty file, or an
-   empty row. */
+   A pointer that goes with the length 0 is not read through. What is proved is about pointers that are not null; with
+   the length 0 any other address will do. A null pointer with the length 0 was tried too: it counts as an empty file,
+   or as an empty row. */
 
 #ifndef FOVAHEJU_H
 #define FOVAHEJU_H
@@ -41,7 +42,7 @@ struct fovaheju_verdict fovaheju_check(const uint8_t *stage, size_t stage_len,
 /* Settles a row of the stage: one byte for each net, two for each input (rail 0, rail 1), then one for each gate. The
    bytes of the inputs are 0 or 1 and not both 1; what the bytes of the gates hold is ignored. Where the number is 0,
    each gate's byte is then 1 if the gate is high and 0 if it is low, and the inputs' bytes are as before. Where the row
-   is refused, it is left as it was. The numbers are 0 to 9, 12, 16 and 17. The row and the stage must not overlap. */
+   is refused, it is left as it was. The numbers are 0 to 9, 12, 16 and 17. */
 struct fovaheju_verdict fovaheju_settled_row(const uint8_t *stage, size_t stage_len,
                                              uint8_t *row, size_t row_len);
 
