@@ -1,4 +1,4 @@
-//! compare_library [COUNT [SEED]]: compares both calls of the proved library with the judge,
+//! compare_library [SEED [COUNT]]: compares both calls of the proved library with the judge,
 //! on the stored examples and on as many generated pairs and rows. Prints how many had each
 //! number, or the first difference. Fails too if some number never came or too few were accepted.
 
@@ -47,8 +47,8 @@ fn main() -> ExitCode {
     let mut arguments = std::env::args()
         .skip(1)
         .map(|text| text.parse::<u64>().expect("a number"));
-    let count = arguments.next().unwrap_or(50_000);
     let seed = arguments.next().unwrap_or(20_261_115);
+    let count = arguments.next().unwrap_or(50_000);
     println!("the proved library and the judge, seed {seed}");
     match compare(seed, count) {
         Ok(true) => ExitCode::SUCCESS,
