@@ -292,14 +292,18 @@ pub fn timing_network_reference() -> Reference {
     r.reference
 }
 
-/// Ten inputs and a chain of 64 XORs, the inputs taken in turn.
-pub fn timing_chain_reference() -> Reference {
-    let mut r = ReferenceBuilder::new(10);
+/// A chain of XORs that takes the inputs in turn. An input that it does not reach is an
+/// output by itself.
+pub fn xor_chain_reference(inputs: usize, operations: usize) -> Reference {
+    let mut r = ReferenceBuilder::new(inputs);
     let mut signal = 0;
-    for k in 1..=64 {
-        signal = r.xor(signal, k % 10);
+    for k in 1..=operations {
+        signal = r.xor(signal, k % inputs);
     }
     r.output(signal);
+    for input in operations + 1..inputs {
+        r.output(input);
+    }
     r.reference
 }
 
@@ -873,7 +877,7 @@ pub fn examples() -> Vec<Example> {
         &network_stage,
         &network,
     );
-    let chain = timing_chain_reference();
+    let chain = xor_chain_reference(10, 64);
     let chain_stage = dual_rail(&chain);
     add(
         "timing-chain",

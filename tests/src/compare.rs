@@ -23,6 +23,20 @@ pub type SettledRow = fn(&[u8], &mut [u8]) -> [u64; 4];
 /// How often each verdict number came.
 pub type Histogram = [u64; 18];
 
+/// The numbers of the check, and those of the settled-row call.
+pub const CHECK_NUMBERS: [usize; 16] = [0, 1, 2, 3, 4, 5, 6, 7, 8, 9, 10, 11, 12, 13, 14, 15];
+pub const ROW_NUMBERS: [usize; 13] = [0, 1, 2, 3, 4, 5, 6, 7, 8, 9, 12, 16, 17];
+
+/// What cases lack that a comparison rests on: one of the numbers never came, or fewer
+/// than a fifth of the cases are accepted.
+pub fn lack(histogram: &Histogram, numbers: &[usize]) -> Option<String> {
+    if let Some(number) = numbers.iter().find(|&&number| histogram[number] == 0) {
+        return Some(format!("no case has number {number}"));
+    }
+    let count: u64 = histogram.iter().sum();
+    (5 * histogram[0] < count).then(|| format!("only {} of {count} are accepted", histogram[0]))
+}
+
 /// The first difference found.
 #[derive(Clone, PartialEq, Eq, Debug)]
 pub enum Difference {

@@ -8,6 +8,8 @@ pub mod explore;
 pub mod files;
 pub mod generate;
 pub mod judge;
+#[cfg(feature = "library")]
+pub mod library;
 pub mod row_suite;
 pub mod suite;
 

@@ -2,8 +2,8 @@
 //! by the generated pairs and rows. Among them are those that document 01 names.
 
 use fovaheju_tests::compare::{
-    compare_checks, compare_pair, compare_rows, first_difference, run_program, shrink, Check,
-    Difference, SettledRow,
+    compare_checks, compare_pair, compare_rows, first_difference, lack, run_program, shrink, Check,
+    Difference, Histogram, SettledRow, CHECK_NUMBERS, ROW_NUMBERS,
 };
 use fovaheju_tests::files::{as_the_program_reads, unhex, verdict_from_line, FilePair};
 use fovaheju_tests::generate::pair;
@@ -19,6 +19,30 @@ fn the_judge_agrees_with_itself() {
     assert_eq!(checks.iter().sum::<u64>(), 500);
     let rows = compare_rows(settled_row, 7, 500).unwrap();
     assert_eq!(rows.iter().sum::<u64>(), 500);
+}
+
+/// Cases that lack a number, or are nearly all refused, show too little.
+#[test]
+fn a_lack_is_told() {
+    let full: Histogram = [40, 9, 9, 9, 9, 9, 9, 9, 9, 9, 9, 9, 9, 9, 9, 9, 9, 9];
+    assert_eq!(lack(&full, &CHECK_NUMBERS), None);
+    assert_eq!(lack(&full, &ROW_NUMBERS), None);
+    for number in 0..18 {
+        let mut histogram = full;
+        histogram[number] = 0;
+        for numbers in [&CHECK_NUMBERS[..], &ROW_NUMBERS[..]] {
+            assert_eq!(
+                lack(&histogram, numbers).is_some(),
+                numbers.contains(&number)
+            );
+        }
+    }
+    let mut histogram = full;
+    histogram[0] = 38;
+    assert_eq!(
+        lack(&histogram, &CHECK_NUMBERS),
+        Some("only 38 of 191 are accepted".to_string())
+    );
 }
 
 /// A difference is told with both files in hexadecimal digits, and made smaller.

@@ -22,3 +22,22 @@ pub fn settled_row(stage: &[u8], row: &mut [u8]) -> Verdict
 {
     rows::settled_row(stage, row)
 }
+
+// The check for callers in C and in Rust, with the contract of `check`.
+#[no_mangle]
+pub extern "C" fn fovaheju_check(stage: &[u8], reference: &[u8]) -> Verdict
+    ensures verdict { λ r. ⌜ r ≡ verdictOn (now (stage .entry)) (now (reference .entry)) ⌝ }
+    ensures demand2 { λ r. ⌜ Demand2 stageLimits referenceLimits (now (stage .entry)) (now (reference .entry)) r ⌝ }
+    ensures runs { λ r. ⌜ Demand3 stageLimits referenceLimits (now (stage .entry)) (now (reference .entry)) r ⌝ }
+{
+    check(stage, reference)
+}
+
+// The settled-row call for callers in C and in Rust, with the contract of `settled_row`.
+#[no_mangle]
+pub extern "C" fn fovaheju_settled_row(stage: &[u8], row: &mut [u8]) -> Verdict
+    ensures verdict { λ r. ⌜ r ≡ settledRow (now (stage .entry)) (now (row .entry)) .verdict ⌝ }
+    ensures row { λ r. ⌜ now (row .exit) ≡ settledRow (now (stage .entry)) (now (row .entry)) .row ⌝ }
+{
+    settled_row(stage, row)
+}

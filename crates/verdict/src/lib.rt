@@ -1,6 +1,7 @@
 // The verdict's type, and what one check finds. What they mean is said in specs/.
 
-// The four numbers of a verdict.
+// The four numbers of a verdict, laid out as C does: the C functions of crate `fovaheju` answer one.
+#[repr(C)]
 pub struct Verdict {
     pub number: u64,
     pub file: u64,

@@ -1,0 +1,53 @@
+/* The check of clockless stages, for C. Link target/staticlib/libfovaheju.a, which `rt staticlib fovaheju` writes for
+   x86-64; of the C library it uses memcpy and memset only.
+
+   Each call takes byte strings as a pointer and then a length. The bytes may be any; that they are there, that nothing
+   else writes them during the call, and that a row does not overlap the stage is all that is asked. Each call returns,
+   keeps nothing for later calls, and touches no other memory but some kilobytes of stack. So calls may run at the same
+   time in several threads, each with a row of its own.
+
+   A pointer that goes with the length 0 is not read through. What is proved is about pointers that are not null; with
+   the length 0 any other address will do. A null pointer with the length 0 was tried too: it counts as an empty file,
+   or as an empty row. */
+
+#ifndef FOVAHEJU_H
+#define FOVAHEJU_H
+
+#include <stddef.h>
+#include <stdint.h>
+
+#ifdef __cplusplus
+extern "C" {
+#endif
+
+/* The verdict: four numbers. All are 0 where the call accepts. */
+struct fovaheju_verdict {
+    /* What was found: 0 accepted, 1 to 9 a file that cannot be read, 10 and 11 counts that differ, 12 a loop,
+       13 a wrong output, 14 not input-complete, 15 not observable, 16 and 17 a row that cannot be taken.
+       README.md has the list. */
+    uint64_t number;
+    /* In which file: 1 the stage, 2 the reference, 3 the row, 0 none. */
+    uint64_t file;
+    /* At which place: a byte of the file for 1 to 9, the stage's count for 10 and 11, a gate for 12 and 15, an output
+       for 13, an input for 14 and 17, the row's length for 16. */
+    uint64_t at;
+    /* In which input word for 13 to 15, bit i being input i; the reference's count for 10 and 11; else 0. */
+    uint64_t word;
+};
+
+/* The verdict on a stage file and a reference file, given as their bytes. The numbers are 0 to 15. */
+struct fovaheju_verdict fovaheju_check(const uint8_t *stage, size_t stage_len,
+                                       const uint8_t *reference, size_t reference_len);
+
+/* Settles a row of the stage: one byte for each net, two for each input (rail 0, rail 1), then one for each gate. The
+   bytes of the inputs are 0 or 1 and not both 1; what the bytes of the gates hold is ignored. Where the number is 0,
+   each gate's byte is then 1 if the gate is high and 0 if it is low, and the inputs' bytes are as before. Where the row
+   is refused, it is left as it was. The numbers are 0 to 9, 12, 16 and 17. */
+struct fovaheju_verdict fovaheju_settled_row(const uint8_t *stage, size_t stage_len,
+                                             uint8_t *row, size_t row_len);
+
+#ifdef __cplusplus
+}
+#endif
+
+#endif

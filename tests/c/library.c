@@ -1,0 +1,128 @@
+/* The static library called from C: the stored examples, the struct by value, empty files and rows, null pointers.
+   Arguments: folders that hold stage.ncl, reference.ncl and verdict. The last line is 'N passed, M failed'. */
+
+#include "fovaheju.h"
+
+#include <stdio.h>
+#include <string.h>
+
+static int passed, failed;
+
+static void same(const char *about, struct fovaheju_verdict got, uint64_t number, uint64_t file, uint64_t at,
+                 uint64_t word)
+{
+    if (got.number == number && got.file == file && got.at == at && got.word == word) {
+        passed++;
+        return;
+    }
+    failed++;
+    printf("%s: %llu %llu %llu %llu\n", about, (unsigned long long)got.number, (unsigned long long)got.file,
+           (unsigned long long)got.at, (unsigned long long)got.word);
+}
+
+static void holds(const char *about, int fact)
+{
+    if (fact) {
+        passed++;
+    } else {
+        failed++;
+        printf("%s\n", about);
+    }
+}
+
+static uint8_t stage[8192], reference[8192];
+
+/* The bytes of a file, and how many there are. */
+static size_t bytes_of(const char *folder, const char *name, uint8_t *bytes, size_t most)
+{
+    char path[4096];
+    size_t count;
+    FILE *file;
+    snprintf(path, sizeof path, "%s/%s", folder, name);
+    file = fopen(path, "rb");
+    if (!file) {
+        holds(path, 0);
+        return 0;
+    }
+    count = fread(bytes, 1, most, file);
+    fclose(file);
+    return count;
+}
+
+static void stored(const char *folder)
+{
+    unsigned long long number, file, at, word;
+    char line[100];
+    size_t stage_len = bytes_of(folder, "stage.ncl", stage, sizeof stage);
+    size_t reference_len = bytes_of(folder, "reference.ncl", reference, sizeof reference);
+    line[bytes_of(folder, "verdict", (uint8_t *)line, sizeof line - 1)] = 0;
+    if (sscanf(line, "%llu %llu %llu %llu", &number, &file, &at, &word) != 4) {
+        holds(folder, 0);
+        return;
+    }
+    same(folder, fovaheju_check(stage, stage_len, reference, reference_len), number, file, at, word);
+}
+
+static const uint8_t wire[] = {1, 1, 3, 0, 0, 1, 0, 0};
+static const uint8_t wire_reference[] = {1, 1, 18, 0, 0, 0};
+/* One input, two gates: TH12 of both rails, and TH22 of gate 0 and rail 1. */
+static const uint8_t two_gates[] = {1, 1, 2, 1,   0,   0,   1,   0, 255, 255, 255, 255, 2, 2, 2, 0,
+                                    1, 0, 255, 255, 255, 255, 3, 0, 0,   1,   0,   0};
+
+static void checks(void)
+{
+    /* Bytes on both sides of the answer, to see that only its four numbers are written. */
+    struct {
+        uint64_t before;
+        struct fovaheju_verdict verdict;
+        uint64_t after;
+    } kept = {0x1122334455667788, {9, 9, 9, 9}, 0x99AABBCCDDEEFF00};
+    const uint8_t *nowhere = (const uint8_t *)1;
+
+    holds("a verdict has 32 bytes", sizeof(struct fovaheju_verdict) == 32);
+    kept.verdict = fovaheju_check(wire, sizeof wire, wire_reference, sizeof wire_reference);
+    same("a wire", kept.verdict, 0, 0, 0, 0);
+    kept.verdict = fovaheju_check(wire, sizeof wire, wire_reference, sizeof wire_reference - 1);
+    same("a reference without its end", kept.verdict, 1, 2, 5, 0);
+    holds("beside the answer", kept.before == 0x1122334455667788 && kept.after == 0x99AABBCCDDEEFF00);
+    same("the files exchanged", fovaheju_check(wire_reference, sizeof wire_reference, wire, sizeof wire), 2, 1, 2, 0);
+    same("an empty stage", fovaheju_check(wire, 0, wire_reference, sizeof wire_reference), 1, 1, 0, 0);
+    same("an empty reference", fovaheju_check(wire, sizeof wire, wire_reference, 0), 1, 2, 0, 0);
+    same("one address for both", fovaheju_check(wire, sizeof wire, wire, sizeof wire), 2, 2, 2, 0);
+    same("empty files at an address of nothing", fovaheju_check(nowhere, 0, nowhere, 0), 1, 1, 0, 0);
+    same("both files null", fovaheju_check(NULL, 0, NULL, 0), 1, 1, 0, 0);
+    same("a null reference", fovaheju_check(wire, sizeof wire, NULL, 0), 1, 2, 0, 0);
+}
+
+static void rows(void)
+{
+    uint8_t row[6] = {0, 1, 7, 8, 9, 10};
+    const uint8_t settled[6] = {0, 1, 1, 1, 9, 10};
+    uint8_t kept[6];
+
+    same("a row", fovaheju_settled_row(two_gates, sizeof two_gates, row, 4), 0, 0, 0, 0);
+    holds("the settled row, and the bytes after it", memcmp(row, settled, sizeof row) == 0);
+    row[0] = 0, row[1] = 0;
+    same("a row of NULL", fovaheju_settled_row(two_gates, sizeof two_gates, row, 4), 0, 0, 0, 0);
+    holds("both gates are low", row[2] == 0 && row[3] == 0 && row[4] == 9);
+    row[0] = 1, row[1] = 1, row[2] = 5;
+    memcpy(kept, row, sizeof row);
+    same("both rails high", fovaheju_settled_row(two_gates, sizeof two_gates, row, 4), 17, 3, 0, 0);
+    same("a long row", fovaheju_settled_row(two_gates, sizeof two_gates, row, 6), 16, 3, 6, 0);
+    same("an empty row", fovaheju_settled_row(two_gates, sizeof two_gates, row, 0), 16, 3, 0, 0);
+    same("an empty stage", fovaheju_settled_row(two_gates, 0, row, 4), 1, 1, 0, 0);
+    holds("refused rows are as before", memcmp(row, kept, sizeof row) == 0);
+    same("a null row", fovaheju_settled_row(two_gates, sizeof two_gates, NULL, 0), 16, 3, 0, 0);
+    same("a null stage and a null row", fovaheju_settled_row(NULL, 0, NULL, 0), 1, 1, 0, 0);
+}
+
+int main(int count, char **folders)
+{
+    int i;
+    for (i = 1; i < count; i++)
+        stored(folders[i]);
+    checks();
+    rows();
+    printf("%d passed, %d failed\n", passed, failed);
+    return failed != 0;
+}

@@ -1,0 +1,57 @@
+//! compare_library [SEED [COUNT]]: compares both calls of the proved library with the judge,
+//! on the stored examples and on as many generated pairs and rows. Prints how many had each
+//! number, or the first difference. Fails too if some number never came or too few were accepted.
+
+use fovaheju_tests::compare::{
+    compare_checks, compare_pair, compare_rows, lack, Difference, Histogram, CHECK_NUMBERS,
+    ROW_NUMBERS,
+};
+use fovaheju_tests::files::{examples_folder, load_example, stored_examples};
+use fovaheju_tests::library;
+use std::process::ExitCode;
+use std::time::Instant;
+
+/// Prints the numbers and what they lack; answers whether nothing is lacking.
+fn tell(what: &str, histogram: &Histogram, numbers: &[usize], start: Instant) -> bool {
+    let seconds = start.elapsed().as_secs_f64();
+    let count: u64 = histogram.iter().sum();
+    println!("{count} {what} alike, in {seconds:.1} s; by number:");
+    for &number in numbers {
+        println!("  {number:2} {:8}", histogram[number]);
+    }
+    let lack = lack(histogram, numbers);
+    if let Some(lack) = &lack {
+        println!("{what} show too little: {lack}");
+    }
+    lack.is_none()
+}
+
+fn compare(seed: u64, count: u64) -> Result<bool, Box<Difference>> {
+    let names = stored_examples(&examples_folder()).expect("the examples");
+    for name in &names {
+        let (pair, _) = load_example(&examples_folder(), name).expect("an example");
+        compare_pair(library::check, name, &pair)
+            .inspect_err(|difference| println!("{difference}"))?;
+    }
+    println!("{} examples alike", names.len());
+    let start = Instant::now();
+    let checks = compare_checks(library::check, seed, count)?;
+    let checks = tell("pairs", &checks, &CHECK_NUMBERS, start);
+    let start = Instant::now();
+    let rows = compare_rows(library::settled_row, seed, count)?;
+    let rows = tell("rows", &rows, &ROW_NUMBERS, start);
+    Ok(checks && rows)
+}
+
+fn main() -> ExitCode {
+    let mut arguments = std::env::args()
+        .skip(1)
+        .map(|text| text.parse::<u64>().expect("a number"));
+    let seed = arguments.next().unwrap_or(20_261_115);
+    let count = arguments.next().unwrap_or(50_000);
+    println!("the proved library and the judge, seed {seed}");
+    match compare(seed, count) {
+        Ok(true) => ExitCode::SUCCESS,
+        _ => ExitCode::FAILURE,
+    }
+}

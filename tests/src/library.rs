@@ -1,0 +1,53 @@
+//! The proved calls of the static library, as safe functions. `include/fovaheju.h` says what they answer.
+
+use crate::judge::Verdict;
+
+/// The four numbers as the library lays them out.
+#[repr(C)]
+struct Numbers {
+    number: u64,
+    file: u64,
+    at: u64,
+    word: u64,
+}
+
+impl From<Numbers> for Verdict {
+    fn from(numbers: Numbers) -> Verdict {
+        [numbers.number, numbers.file, numbers.at, numbers.word]
+    }
+}
+
+extern "C" {
+    fn fovaheju_check(
+        stage: *const u8,
+        stage_len: usize,
+        reference: *const u8,
+        reference_len: usize,
+    ) -> Numbers;
+    fn fovaheju_settled_row(
+        stage: *const u8,
+        stage_len: usize,
+        row: *mut u8,
+        row_len: usize,
+    ) -> Numbers;
+}
+
+/// The verdict on a stage file and a reference file.
+pub fn check(stage: &[u8], reference: &[u8]) -> Verdict {
+    // Safety: the contract has no `requires`, and each pointer and length are of a slice.
+    unsafe {
+        fovaheju_check(
+            stage.as_ptr(),
+            stage.len(),
+            reference.as_ptr(),
+            reference.len(),
+        )
+    }
+    .into()
+}
+
+/// The verdict on a stage file and a row, which is settled in place.
+pub fn settled_row(stage: &[u8], row: &mut [u8]) -> Verdict {
+    // Safety: the contract has no `requires`, and each pointer and length are of a slice; the row is lent to be written.
+    unsafe { fovaheju_settled_row(stage.as_ptr(), stage.len(), row.as_mut_ptr(), row.len()) }.into()
+}
