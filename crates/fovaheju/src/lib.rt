@@ -3,7 +3,7 @@ use verdict::Verdict;
 ghost use mathlib.Core.Path.{_≡_};
 ghost use Rattle.netlist.specs.Reading.{stageLimits, referenceLimits};
 ghost use Rattle.verdict.specs.Verdicts.{verdictOn, settledRow};
-ghost use Rattle.verdict.specs.Demands.{Demand2, Demand3};
+ghost use Rattle.verdict.specs.Demands.{Demand2, Demand3, DemandRow};
 
 // The check of a stage file against a reference file. The verdict is the one that the definitions give, and demands 2 and 3 hold of it.
 pub fn check(stage: &[u8], reference: &[u8]) -> Verdict
@@ -19,6 +19,7 @@ pub fn check(stage: &[u8], reference: &[u8]) -> Verdict
 pub fn settled_row(stage: &[u8], row: &mut [u8]) -> Verdict
     ensures verdict { λ r. ⌜ r ≡ settledRow (now (stage .entry)) (now (row .entry)) .verdict ⌝ }
     ensures row { λ r. ⌜ now (row .exit) ≡ settledRow (now (stage .entry)) (now (row .entry)) .row ⌝ }
+    ensures demands { λ r. ⌜ DemandRow stageLimits (now (stage .entry)) (now (row .entry)) r (now (row .exit)) ⌝ }
 {
     rows::settled_row(stage, row)
 }
@@ -38,6 +39,7 @@ pub extern "C" fn fovaheju_check(stage: &[u8], reference: &[u8]) -> Verdict
 pub extern "C" fn fovaheju_settled_row(stage: &[u8], row: &mut [u8]) -> Verdict
     ensures verdict { λ r. ⌜ r ≡ settledRow (now (stage .entry)) (now (row .entry)) .verdict ⌝ }
     ensures row { λ r. ⌜ now (row .exit) ≡ settledRow (now (stage .entry)) (now (row .entry)) .row ⌝ }
+    ensures demands { λ r. ⌜ DemandRow stageLimits (now (stage .entry)) (now (row .entry)) r (now (row .exit)) ⌝ }
 {
     settled_row(stage, row)
 }

@@ -28,6 +28,8 @@ use Rattle.verdict.specs.Rows.{settled}
 use Rattle.verdict.specs.Loops.{reachesItself}
 use Rattle.verdict.specs.Checks.{verdict, least, looped, atFault}
 use Rattle.verdict.specs.Verdicts.{RowAnswer, answerWith, accepted, illegalInput, settleLegal, settleLoopFree, settleReading, settledRow, settledRowWithin}
+use Rattle.verdict.specs.Demands.{DemandRow}
+use Rattle.verdict.proofs.Demands.{demand-row}
 use Rattle.files.specs.Files.{Placed}
 use Rattle.settle.specs.Gates.{gatesAt, GatesThere}
 use Rattle.settle.specs.Order.{TopologicalOrder}
@@ -143,3 +145,9 @@ by-whole s places row room counts e p = go (readFile file.Stage stageLimits s) r
           outputs = map (pairAt s) os;
           same = ap (settleReading s row) is ∙ ap (λ (k : ℕ). settleStage (record { inputs = k; gates = stageOf s m gs os .gates; outputs = map (pairAt s) os }) row) a ∙ ap (λ (l : List ℕ). settleStage (record { inputs = counts .inputs; gates = stageOf s m l os .gates; outputs = map (pairAt s) os }) row) (sym t);
         }
+
+-- ---- the demands
+
+pub on-demand-row : (stage row : List ℕ) (v : Verdict) (after : List ℕ) → v ≡ settledRow stage row .verdict → after ≡ settledRow stage row .row → DemandRow stageLimits stage row v after
+on-demand-row stage row v after e f =
+    subst (λ (x : List ℕ). DemandRow stageLimits stage row v x) (sym f) (subst (λ (x : Verdict). DemandRow stageLimits stage row x (settledRow stage row .row)) (sym e) (demand-row stageLimits stage row))

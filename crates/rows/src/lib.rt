@@ -8,10 +8,12 @@ ghost use mathlib.Core.Path.{_≡_};
 ghost use mathlib.Core.List.{List};
 ghost use Prim.Native.Nat.{ℕ, _+_, _*_, _-_, _≤_, _<_};
 ghost use lib.ListN.{length, take};
+ghost use Rattle.netlist.specs.Reading.{stageLimits};
 ghost use Rattle.netlist.specs.Content.{Pair};
 ghost use Rattle.verdict.specs.Checks as checks;
 ghost use Rattle.verdict.specs.Rows as rows;
 ghost use Rattle.verdict.specs.Verdicts as verdicts;
+ghost use Rattle.verdict.specs.Demands.{DemandRow};
 ghost use Rattle.settle.specs.Gates.{gatesAt, GatesThere};
 ghost use Rattle.settle.specs.Settling.{Settleable};
 ghost use Rattle.rows.specs.Stages.{settleStage};
@@ -106,6 +108,7 @@ fn settle_stage(s: &[u8], places: &[u16], inputs: usize, gates: usize, row: &mut
 pub fn settled_row(stage: &[u8], row: &mut [u8]) -> Verdict
     ensures verdict { λ r. ⌜ r ≡ verdicts.settledRow (now (stage .entry)) (now (row .entry)) .verdict ⌝ }
     ensures row { λ r. ⌜ now (row .exit) ≡ verdicts.settledRow (now (stage .entry)) (now (row .entry)) .row ⌝ }
+    ensures demands { λ r. ⌜ DemandRow stageLimits (now (stage .entry)) (now (row .entry)) r (now (row .exit)) ⌝ }
 {
     let mut places = [0u16; 144];
     let most = Limits {

@@ -31,7 +31,7 @@ use Rattle.verdict.proofs.Illegal.{illegal-true, illegal-says}
 use Rattle.verdict.specs.Faults.{CountsMatch, WithoutLoop, NeverWrong, NeverIncomplete, NeverUnobservable, Judged, inputs-differ, outputs-differ, looped, wrong, incomplete, unobservable, accepted, StageIs, ReferenceIs, Because, stage-refused, reference-refused, both-read, RowBecause, row-refused, row-looped, row-length, row-illegal, row-settled}
 use Rattle.verdict.specs.Rows.{settledLevels}
 use Rattle.verdict.specs.Nets.{noGate, driver, netOf}
-use Rattle.verdict.specs.Demands.{Contents, Acceptable, Demand2, KeptIn, Kept, Broken, WrongRuns, IncompleteRun, UnobservableRun, Demand3, GateRuleGives, RowGiven}
+use Rattle.verdict.specs.Demands.{Contents, Acceptable, Demand2, KeptIn, Kept, Broken, WrongRuns, IncompleteRun, UnobservableRun, Demand3, GateRuleGives, RowGiven, DemandRow}
 use Rattle.verdict.proofs.Reaching.{noLoop-loopFree}
 use Rattle.verdict.proofs.Least.{LeastAt, least-says}
 use Rattle.verdict.proofs.Settling.{settled-is, settled-one}
@@ -234,3 +234,6 @@ settled-row-given most stage row e₀ = go (row-because most stage row) e₀
           only-so = λ v q. settled-one (s .gates) (s .inputs) l rails long v q ∙ sym one;
           given = subst (λ (x : List ℕ). GateRuleGives s rails (rails ++ x)) (sym one) (gate-rule-gives s (noLoop-loopFree (s .inputs) (s .gates) l) rails long);
         }
+
+pub demand-row : (most : Limits) (stage row : List ℕ) → DemandRow most stage row (settledRowWithin most stage row .verdict) (settledRowWithin most stage row .row)
+demand-row most stage row = record { because = row-because most stage row; given = settled-row-given most stage row }

@@ -16,7 +16,7 @@ use Rattle.netlist.specs.Content.{Stage, Reference}
 use Rattle.verdict.specs.declared.Verdict.{Verdict}
 use Rattle.verdict.specs.Rows.{high, only, withNull, Settled, settled, settledHolding, pairIn, null}
 use Rattle.verdict.specs.Checks.{verdict, outputPair, railsIn}
-use Rattle.verdict.specs.Faults.{RightAt, CountsMatch, WithoutLoop, StageIs, ReferenceIs, Because}
+use Rattle.verdict.specs.Faults.{RightAt, CountsMatch, WithoutLoop, StageIs, ReferenceIs, Because, RowBecause}
 use Rattle.verdict.specs.Nets.{netOf, rowOf, railsFor, answerBits}
 
 -- ---- the two files
@@ -123,3 +123,9 @@ pub record RowGiven (most : Limits) (stage before after′ : List ℕ) : Type 0 
   pub settled-so : Settled (circuit .gates) (take (2 * circuit .inputs) before) levels
   pub only-so : (v : List ℕ) → Settled (circuit .gates) (take (2 * circuit .inputs) before) v → v ≡ levels
   pub given : GateRuleGives circuit (take (2 * circuit .inputs) before) after′
+
+-- What demands 1 and 2 say of the settled-row call, by its verdict and the row before and after it: a refusal has its reason and leaves
+-- the row unchanged, and a row that is accepted is what the gate rule gives.
+pub record DemandRow (most : Limits) (stage before : List ℕ) (v : Verdict) (after′ : List ℕ) : Type 0 where
+  pub because : RowBecause most stage before v after′
+  pub given : v ≡ verdict 0 0 0 0 → RowGiven most stage before after′

@@ -3,7 +3,7 @@ use mathlib.Core.Path.{_≡_, sym, ap, _∙_}
 use native.Mathlib.Omega.{arith}
 use denote.Ref.{now}
 use Rattle.verdict.specs.Verdicts.{RowAnswer}
-use Rattle.rows.proofs.Cases.{by-refused, by-whole}
+use Rattle.rows.proofs.Cases.{by-refused, by-whole, on-demand-row}
 use borrow.Author.Needs.{needs}
 use Rattle.rows.proofs.settled_row.Statement.{statement}
 use Rattle.rows.proofs.settled_row.Tie as tie
@@ -33,13 +33,13 @@ settle-stage-requires : tie.Need-settle-stage-requires
 settle-stage-requires c κs = let z = c .before .before .before .before .before .before .before .before .before .before in let r = c .before .before .before .before .before .before .read-file in let w = by-whole (now (z .args .stage)) _ (now (z .args .row)) (omega (arith, r .kept .1 .1 .1 .0)) _ (sym (c .before .before .before .counts .given .1) ∙ r .ensures .0) (r .ensures .1) in (w .few, w .gates-few, w .there)
 
 returns : tie.Need-returns
-returns c = let z = c .before .before .before .before .before .before .before .before .before in let r = c .before .before .before .before .before .read-file in let e = by-refused (now (z .args .stage)) (now (z .args .row)) _ _ (sym (c .before .before .number .given .1) ∙ r .ensures .0) in (c .answer .ensures ∙ ap (λ (x : RowAnswer). x .verdict) (sym e), ap (λ (x : RowAnswer). x .row) (sym e))
+returns c = let z = c .before .before .before .before .before .before .before .before .before in let r = c .before .before .before .before .before .read-file in let e = by-refused (now (z .args .stage)) (now (z .args .row)) _ _ (sym (c .before .before .number .given .1) ∙ r .ensures .0) in let v = c .answer .ensures ∙ ap (λ (x : RowAnswer). x .verdict) (sym e) in let r′ = ap (λ (x : RowAnswer). x .row) (sym e) in (v, (r′, on-demand-row (now (z .args .stage)) (now (z .args .row)) _ _ v r′))
 
 same-length : tie.Need-same-length
 same-length c = search needs
 
 returns-2 : tie.Need-returns-2
-returns-2 c = let z = c .before .before .before .before .before .before .before .before .before .before .before .before .before in let r = c .before .before .before .before .before .before .before .before .before .read-file in let w = by-whole (now (z .args .stage)) _ (now (z .args .row)) (omega (arith, r .kept .1 .1 .1 .0)) _ (sym (c .before .before .before .before .before .before .counts .given .1) ∙ r .ensures .0) (r .ensures .1) in let e = c .before .before .settle-stage .ensures (w .outputs) ∙ sym (w .same) in (ap (λ (x : RowAnswer). x .verdict) e, ap (λ (x : RowAnswer). x .row) e)
+returns-2 c = let z = c .before .before .before .before .before .before .before .before .before .before .before .before .before in let r = c .before .before .before .before .before .before .before .before .before .read-file in let w = by-whole (now (z .args .stage)) _ (now (z .args .row)) (omega (arith, r .kept .1 .1 .1 .0)) _ (sym (c .before .before .before .before .before .before .counts .given .1) ∙ r .ensures .0) (r .ensures .1) in let e = c .before .before .settle-stage .ensures (w .outputs) ∙ sym (w .same) in let v = ap (λ (x : RowAnswer). x .verdict) e in let r′ = ap (λ (x : RowAnswer). x .row) e in (v, (r′, on-demand-row (now (z .args .stage)) (now (z .args .row)) _ _ v r′))
 
 pub settled-row-spec : {M : Type 1} → statement M
 settled-row-spec =
