@@ -25,7 +25,7 @@ use Rattle.words.proofs.Inverting.{each-once}
 use Rattle.sweeps.specs.Sweeps.{sweptInOrder}
 use Rattle.sweeps.specs.Views.{stageAt, referenceAt, StageReady, ReferenceReady, Ready}
 use Rattle.sweeps.proofs.Sweeping.{fault-first, clear-first}
-use Rattle.checker.specs.Circuits.{StageThere, ReferenceThere, Lent, circuitChecks}
+use Rattle.checker.specs.Circuits.{StageThere, ReferenceThere, Workspace, circuitChecks}
 
 -- ---- the sweeps in an order
 
@@ -33,7 +33,7 @@ pub once-in-order : (s places order outputs : List ℕ) (n g p : ℕ) → StageR
 once-in-order s places order outputs n g p r e =
     subst (EachOnce order) (sym e) (each-once s places order (replicate (2 * n) 0) g (record { inputs = n; both = length-replicate (2 * n) 0; there = r .there; ordered = r .ordered }))
 
-pub ready : (s places order position outputs t operations signals : List ℕ) (n known rails nulled g spare p : ℕ) → StageReady s places order outputs n g → ReferenceReady t operations signals n known (length outputs) → Lent n g rails nulled spare p → PositionsIn order position p
+pub ready : (s places order position outputs t operations signals : List ℕ) (n known rails nulled g spare p : ℕ) → StageReady s places order outputs n g → ReferenceReady t operations signals n known (length outputs) → Workspace n g rails nulled spare p → PositionsIn order position p
     → Ready s places order position outputs t operations signals n known rails nulled g spare
 ready s places order position outputs t operations signals n known rails nulled g spare p a b l q =
     record {
@@ -65,8 +65,8 @@ module _ (s places outputs order : List ℕ) (n g : ℕ) (loop : Found) (found :
     unfolding atFault
     is-swept r v q = clear-first _ _ _ v refl (loop-says Nothing none) (q ∙ ap (λ (k : ℕ). firstFault (sweptInOrder (stageAt s n places k outputs) r)) same)
 
-pub lent-alike : (n g g′ rails nulled spare position : ℕ) → g′ ≡ g → Lent n g rails nulled spare position → Lent n g′ rails nulled spare position
-lent-alike n g g′ rails nulled spare position e l = subst (λ (k : ℕ). Lent n k rails nulled spare position) (sym e) l
+pub workspace-alike : (n g g′ rails nulled spare position : ℕ) → g′ ≡ g → Workspace n g rails nulled spare position → Workspace n g′ rails nulled spare position
+workspace-alike n g g′ rails nulled spare position e l = subst (λ (k : ℕ). Workspace n k rails nulled spare position) (sym e) l
 
 -- ---- what is lent
 
@@ -87,8 +87,8 @@ reference-ready outputs t operations signals n k known e h r =
       signals-there = subst (λ (j : ℕ). SignalsThere t signals j known) (sym h) (subst (SignalsThere t signals (length signals)) (sym e) (r .signals-there));
     }
 
-pub lent-all : (n g g′ rails nulled spare position : ℕ) → g′ ≡ g → rails ≡ 2 * n → nulled ≡ 2 * n → spare ≡ g → position ≡ g → Lent n g′ rails nulled spare position
-lent-all n g g′ rails nulled spare position a b c d e = record { rails-long = b; nulled-long = c; spare-long = d ∙ sym a; position-long = e ∙ sym a }
+pub workspace-all : (n g g′ rails nulled spare position : ℕ) → g′ ≡ g → rails ≡ 2 * n → nulled ≡ 2 * n → spare ≡ g → position ≡ g → Workspace n g′ rails nulled spare position
+workspace-all n g g′ rails nulled spare position a b c d e = record { rails-long = b; nulled-long = c; spare-long = d ∙ sym a; position-long = e ∙ sym a }
 
 pub checks-alike : (s places outputs t operations signals : List ℕ) (n g g′ k known : ℕ) (v : Verdict) → g′ ≡ g → known ≡ n + k
     → v ≡ firstFault (circuitChecks (stageAt s n places g′ outputs) (referenceAt t n operations (known - n) signals))

@@ -26,7 +26,7 @@ pub record ReferenceThere (t operations signals : List ℕ) (m k : ℕ) : Type 0
   pub signals-there : SignalsThere t signals (length signals) (m + k)
 
 -- the lengths of what is lent for n inputs and g gates: both rails of each input twice, and a place and a level of each gate
-pub record Lent (n g rails nulled spare position : ℕ) : Type 0 where
+pub record Workspace (n g rails nulled spare position : ℕ) : Type 0 where
   pub rails-long : rails ≡ 2 * n
   pub nulled-long : nulled ≡ 2 * n
   pub spare-long : spare ≡ g

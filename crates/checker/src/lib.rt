@@ -14,7 +14,7 @@ ghost use Rattle.verdict.specs.Verdicts as verdicts;
 ghost use Rattle.verdict.specs.Demands.{Demand2, Demand3};
 ghost use Rattle.sweeps.specs.Sweeps.{sweptInOrder};
 ghost use Rattle.sweeps.specs.Views.{stageAt, referenceAt, StageReady, ReferenceReady};
-ghost use Rattle.checker.specs.Circuits.{StageThere, ReferenceThere, Lent, circuitChecks};
+ghost use Rattle.checker.specs.Circuits.{StageThere, ReferenceThere, Workspace, circuitChecks};
 
 // The four numbers of a verdict.
 fn answer(number: u64, file: u64, at: usize, word: usize) -> Verdict
@@ -45,7 +45,7 @@ fn sweep_in_order(
     levels: &mut [u8],
     spare: &mut [u8],
 ) -> Verdict
-    requires { ⌜ StageReady (now s) (now places) (now order) (now outputs) inputs (length (now levels)) × ReferenceReady (now t) (now operations) (now signals) inputs (length (now values)) (length (now outputs)) × Lent inputs (length (now levels)) (length (now rails)) (length (now nulled)) (length (now spare)) (length (now position)) ⌝ }
+    requires { ⌜ StageReady (now s) (now places) (now order) (now outputs) inputs (length (now levels)) × ReferenceReady (now t) (now operations) (now signals) inputs (length (now values)) (length (now outputs)) × Workspace inputs (length (now levels)) (length (now rails)) (length (now nulled)) (length (now spare)) (length (now position)) ⌝ }
     ensures { λ r. ⌜ r ≡ verdicts.firstFault (sweptInOrder (stageAt (now (s .entry)) inputs (now (places .entry)) (length (now (levels .entry))) (now (outputs .entry))) (referenceAt (now (t .entry)) inputs (now (operations .entry)) (length (now (values .entry)) - inputs) (now (signals .entry)))) ⌝ }
 {
     words::invert(order, position);
@@ -84,7 +84,7 @@ fn judge_circuits(
     levels: &mut [u8],
     spare: &mut [u8],
 ) -> Verdict
-    requires { ⌜ StageThere (now s) (now places) (now outputs) inputs (length (now levels)) × ReferenceReady (now t) (now operations) (now signals) inputs (length (now values)) (length (now outputs)) × Lent inputs (length (now levels)) (length (now rails)) (length (now nulled)) (length (now spare)) (length (now position)) × (length (now levels) ≤ length (now order)) ⌝ }
+    requires { ⌜ StageThere (now s) (now places) (now outputs) inputs (length (now levels)) × ReferenceReady (now t) (now operations) (now signals) inputs (length (now values)) (length (now outputs)) × Workspace inputs (length (now levels)) (length (now rails)) (length (now nulled)) (length (now spare)) (length (now position)) × (length (now levels) ≤ length (now order)) ⌝ }
     ensures { λ r. ⌜ r ≡ verdicts.firstFault (circuitChecks (stageAt (now (s .entry)) inputs (now (places .entry)) (length (now (levels .entry))) (now (outputs .entry))) (referenceAt (now (t .entry)) inputs (now (operations .entry)) (length (now (values .entry)) - inputs) (now (signals .entry)))) ⌝ }
 {
     if let Found::At(g) = settle::find_loop(s, places, inputs, levels, order) {

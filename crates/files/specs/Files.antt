@@ -24,7 +24,7 @@ unfoldable pub IsRefusal : Next → Type 0
 IsRefusal (Refused number at) = Unit {0}
 IsRefusal (Command c next) = ⊥
 
--- the refusal as the file's. A command that was read is none: it is answered as a file that ends there, and nobody asks
+-- the refusal as the file's. A command that was read is no refusal; `IsRefusal` rules it out where this is asked
 unfoldable pub refusalOf : Next → Outcome
 refusalOf (Refused number at) = outcome.Refused number at
 refusalOf (Command c next) = outcome.Refused 1 (next .at)

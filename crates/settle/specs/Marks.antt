@@ -25,7 +25,7 @@ pub record Marking (n : ℕ) (gates : List Gate) (g : ℕ) (marks : List ℕ) : 
 abbrev pub Closed : ℕ → List Gate → List ℕ → Type 0
 Closed n gates marks = (k : ℕ) → k < length gates → fedBy n gates marks k ≡ true → high marks k ≡ true
 
--- A pass marks one more gate, or there is none left to mark.
+-- A pass marks at least one more gate, or there is none left to mark.
 pub record Grown (n : ℕ) (gates : List Gate) (g : ℕ) (before marks : List ℕ) (more : Bool) : Type 0 where
   pub marking : Marking n gates g marks
   pub rose : more ≡ true → sum before < sum marks

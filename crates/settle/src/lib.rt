@@ -255,7 +255,8 @@ fn place_all(
     placed
 }
 
-// A topological order of the gates, as far as there is one. How many gates are placed: all of them exactly if none reaches itself.
+// A topological order of the gates, as far as there is one. How many gates are placed: all of them, and then in a topological order, or
+// fewer, and then some gate reaches itself.
 pub fn topological_order(
     s: &[u8],
     places: &[u16],

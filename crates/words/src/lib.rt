@@ -47,12 +47,14 @@ pub fn spell_rails(bits: &[u8], rails: &mut [u8])
 
 // ---- the reference's answer
 
+// AND of two bits.
 fn both(a: u8, b: u8) -> u8
     ensures { λ r. ⌜ r ≡ min a b ⌝ }
 {
     if a < b { a } else { b }
 }
 
+// OR of two bits.
 fn either(a: u8, b: u8) -> u8
     ensures { λ r. ⌜ r ≡ max a b ⌝ }
 {

@@ -1,6 +1,6 @@
 -- `checker::judge_circuits` meets its contract. Assumes nothing.
 use denote.Ref.{now}
-use Rattle.checker.proofs.Circuits.{is-12, is-swept, stage-ready, lent-alike}
+use Rattle.checker.proofs.Circuits.{is-12, is-swept, stage-ready, workspace-alike}
 use borrow.Author.Needs.{needs}
 use Rattle.checker.proofs.judge_circuits.Statement.{statement}
 use Rattle.checker.proofs.judge_circuits.Tie as tie
@@ -27,7 +27,7 @@ enum-told : tie.Need-enum-told
 enum-told c = search needs
 
 sweep-in-order-requires : tie.Need-sweep-in-order-requires
-sweep-in-order-requires c κs = let z = c .before .before .before .before .before .before .before .before .before .before .before .before .before .before .before .before .before .before .before .before .before .before .before .before .before .before .before .before .before in let l = c .before .before .before .before .before .before .before .before .before .before .before .before .before .find-loop in (stage-ready (now (z .args .s)) (now (z .args .places)) (now (z .args .outputs)) _ (z .args .inputs) _ _ (l .ensures) (c .before .before .before .before .before .before .before .enum-told .given .1) _ (l .kept .1 .1 .1 .0) (z .pre .0), z .pre .1, lent-alike _ _ _ _ _ _ _ (l .kept .1 .1 .1 .0) (z .pre .2))
+sweep-in-order-requires c κs = let z = c .before .before .before .before .before .before .before .before .before .before .before .before .before .before .before .before .before .before .before .before .before .before .before .before .before .before .before .before .before in let l = c .before .before .before .before .before .before .before .before .before .before .before .before .before .find-loop in (stage-ready (now (z .args .s)) (now (z .args .places)) (now (z .args .outputs)) _ (z .args .inputs) _ _ (l .ensures) (c .before .before .before .before .before .before .before .enum-told .given .1) _ (l .kept .1 .1 .1 .0) (z .pre .0), z .pre .1, workspace-alike _ _ _ _ _ _ _ (l .kept .1 .1 .1 .0) (z .pre .2))
 
 same-length-3 : tie.Need-same-length-3
 same-length-3 c = search needs
