@@ -24,8 +24,17 @@ use Rattle.words.specs.Positions.{EachOnce, PositionsIn}
 use Rattle.words.proofs.Inverting.{each-once}
 use Rattle.sweeps.specs.Sweeps.{sweptInOrder}
 use Rattle.sweeps.specs.Views.{stageAt, referenceAt, StageReady, ReferenceReady, Ready}
-use Rattle.sweeps.proofs.Sweeping.{fault-first, clear-first}
 use Rattle.checker.specs.Circuits.{StageThere, ReferenceThere, Workspace, circuitChecks}
+
+-- ---- the first fault of some findings
+
+fault-first : (g f : Finding) (v : Verdict) (later : List Finding) → f ≡ g → f ≡ Fault v → v ≡ firstFault (g ∷ later)
+unfolding firstFault
+fault-first g f v later a b = sym (ap (λ (x : Finding). firstFault (x ∷ later)) (sym a ∙ b))
+
+clear-first : (g f : Finding) (later : List Finding) (v : Verdict) → f ≡ g → f ≡ Clear → v ≡ firstFault later → v ≡ firstFault (g ∷ later)
+unfolding firstFault
+clear-first g f later v a b q = q ∙ sym (ap (λ (x : Finding). firstFault (x ∷ later)) (sym a ∙ b))
 
 -- ---- the sweeps in an order
 

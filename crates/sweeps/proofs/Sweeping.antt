@@ -7,6 +7,7 @@ use native.Mathlib.Numerals.{add-one}
 use lib.Pow.{pow-mono}
 use mathlib.Core.Path.{_≡_, refl, sym, ap, subst, _∙_}
 use mathlib.Core.List.{List, [], _∷_}
+use Rattle.netlist.specs.Content.{Stage, Reference}
 use Rattle.netlist.specs.declared.Found.{Found}
 use Rattle.netlist.specs.declared.Found.the-variants.{At, Nothing}
 use Rattle.verdict.specs.declared.Finding.{Finding}
@@ -15,8 +16,9 @@ use Rattle.verdict.specs.declared.Verdict.{Verdict}
 use Rattle.verdict.specs.Checks.{verdict, numbers, words, atFault, sweep}
 use Rattle.verdict.specs.Verdicts.{firstFault, accepted}
 use Rattle.sweeps.specs.declared.Sweep.{Sweep}
+use Rattle.sweeps.specs.declared.Sweep.the-variants.{Wrong, Missing, Unobserved}
 use Rattle.sweeps.specs.Views.{stageAt, referenceAt, Ready}
-use Rattle.sweeps.specs.Sweeps.{numberOf, finds, swept}
+use Rattle.sweeps.specs.Sweeps.{numberOf, finds, swept, sweptInOrder, sweepAt}
 
 -- ten inputs have 1,024 words
 pub few-words : (i : ℕ) → i ≤ 10 → 2 ^ i ≤ 1024
@@ -70,20 +72,59 @@ module _ (which : Sweep) (s places outputs t operations signals : List ℕ) (n g
       let find = finds which (stageAt s n places g outputs) (referenceAt t n operations (known - n) signals) in
       e ∙ ap (λ (k : ℕ). sweep k find (numbers 0 count)) a ∙ ap (λ (k : ℕ). sweep (numberOf which) find (numbers 0 k)) b
 
-  pub swept-alike : (g′ known′ : ℕ) (f : Finding) → g′ ≡ g → known′ ≡ known → f ≡ swept which (stageAt s n places g′ outputs) (referenceAt t n operations (known′ - n) signals)
-      → f ≡ swept which (stageAt s n places g outputs) (referenceAt t n operations (known - n) signals)
-  swept-alike g′ known′ f a b e = e ∙ ap (λ (k : ℕ). swept which (stageAt s n places k outputs) (referenceAt t n operations (known′ - n) signals)) a ∙ ap (λ (k : ℕ). swept which (stageAt s n places g outputs) (referenceAt t n operations (k - n) signals)) b
+  pub swept-alike : (g′ known′ : ℕ) (f : Finding) → g′ ≡ g → known′ ≡ known → (k : ℕ) → which ≡ sweepAt k
+      → f ≡ swept which (stageAt s n places g′ outputs) (referenceAt t n operations (known′ - n) signals)
+      → f ≡ swept (sweepAt k) (stageAt s n places g outputs) (referenceAt t n operations (known - n) signals)
+  swept-alike g′ known′ f a b k q e = e ∙ ap (λ (k : ℕ). swept which (stageAt s n places k outputs) (referenceAt t n operations (known′ - n) signals)) a ∙ ap (λ (k : ℕ). swept which (stageAt s n places g outputs) (referenceAt t n operations (k - n) signals)) b
+      ∙ ap (λ (x : Sweep). swept x (stageAt s n places g outputs) (referenceAt t n operations (known - n) signals)) q
 
--- ---- the first fault of some findings
+-- the check at a place of the order
+pub last-check : (k : ℕ) → (k ≡ 0 → ⊥) → (k ≡ 1 → ⊥) → Unobserved ≡ sweepAt k
+last-check zero a b = absurd (a refl)
+last-check (suc zero) a b = absurd (b refl)
+last-check (suc (suc k)) a b = refl
 
-pub fault-first : (g f : Finding) (v : Verdict) (later : List Finding) → f ≡ g → f ≡ Fault v → v ≡ firstFault (g ∷ later)
-unfolding firstFault
-fault-first g f v later a b = sym (ap (λ (x : Finding). firstFault (x ∷ later)) (sym a ∙ b))
+-- ---- check by check
 
-pub clear-first : (g f : Finding) (later : List Finding) (v : Verdict) → f ≡ g → f ≡ Clear → v ≡ firstFault later → v ≡ firstFault (g ∷ later)
-unfolding firstFault
-clear-first g f later v a b q = q ∙ sym (ap (λ (x : Finding). firstFault (x ∷ later)) (sym a ∙ b))
+module _ (s : Stage) (r : Reference) where
+  -- what the checks from a place of their order on find
+  abbrev later : ℕ → List Finding
+  later zero = swept Wrong s r ∷ swept Missing s r ∷ swept Unobserved s r ∷ []
+  later (suc zero) = swept Missing s r ∷ swept Unobserved s r ∷ []
+  later (suc (suc zero)) = swept Unobserved s r ∷ []
+  later (suc (suc (suc k))) = []
 
-pub none-first : accepted ≡ firstFault []
-unfolding firstFault
-none-first = refl
+  next-check : (k : ℕ) → k < 3 → later k ≡ swept (sweepAt k) s r ∷ later (k + 1)
+  next-check zero h = refl
+  next-check (suc zero) h = refl
+  next-check (suc (suc zero)) h = refl
+  next-check (suc (suc (suc k))) h = absurd (omega arith)
+
+  no-check : (k : ℕ) → 3 ≤ k → later k ≡ []
+  no-check zero h = absurd (omega arith)
+  no-check (suc zero) h = absurd (omega arith)
+  no-check (suc (suc zero)) h = absurd (omega arith)
+  no-check (suc (suc (suc k))) h = refl
+
+  -- the checks before place k find nothing
+  abbrev pub ClearTo : ℕ → Type 0
+  ClearTo k = firstFault (sweptInOrder s r) ≡ firstFault (later k)
+
+  pub clear-start : ClearTo 0
+  clear-start = refl
+
+  module _ (k : ℕ) (h : k < 3) (c : ClearTo k) (f : Finding) (e : f ≡ swept (sweepAt k) s r) where
+    after : (g : Finding) → f ≡ g → firstFault (sweptInOrder s r) ≡ firstFault (g ∷ later (k + 1))
+    after g q = c ∙ ap firstFault (next-check k h) ∙ ap (λ (x : Finding). firstFault (x ∷ later (k + 1))) (sym e ∙ q)
+
+    pub clear-on : f ≡ Clear → ClearTo (k + 1)
+    unfolding firstFault
+    clear-on q = after Clear q
+
+    pub fault-here : (v : Verdict) → f ≡ Fault v → v ≡ firstFault (sweptInOrder s r)
+    unfolding firstFault
+    fault-here v q = sym (after (Fault v) q)
+
+  pub all-clear : (k : ℕ) → 3 ≤ k → ClearTo k → accepted ≡ firstFault (sweptInOrder s r)
+  unfolding firstFault
+  all-clear k h c = sym (c ∙ ap firstFault (no-check k h))

@@ -1,5 +1,5 @@
 -- The checks that go over all words, by one name for each.
-use Prim.Native.Nat.{ℕ}
+use Prim.Native.Nat.{ℕ, zero, suc}
 use mathlib.Core.List.{List, [], _∷_}
 use Rattle.netlist.specs.declared.Found.{Found}
 use Rattle.netlist.specs.Content.{Stage, Reference}
@@ -27,3 +27,9 @@ swept which s r = sweep (numberOf which) (finds which s r) (words s)
 -- 13, then 14, then 15
 abbrev pub sweptInOrder : Stage → Reference → List Finding
 sweptInOrder s r = swept Wrong s r ∷ swept Missing s r ∷ swept Unobserved s r ∷ []
+
+-- the same by places: the check at a place of that order
+abbrev pub sweepAt : ℕ → Sweep
+sweepAt zero = Wrong
+sweepAt (suc zero) = Missing
+sweepAt (suc (suc k)) = Unobserved

@@ -10,7 +10,7 @@ ghost use Rattle.verdict.specs.Checks as checks;
 ghost use Rattle.words.specs.Positions.{PositionsIn};
 ghost use Rattle.verdict.specs.Verdicts as verdicts;
 ghost use Rattle.sweeps.specs.Views.{stageAt, referenceAt, StageReady, ReferenceReady, Ready};
-ghost use Rattle.sweeps.specs.Sweeps.{numberOf, finds, swept, sweptInOrder};
+ghost use Rattle.sweeps.specs.Sweeps.{numberOf, finds, swept, sweptInOrder, sweepAt};
 
 // The checks that go over all words: 13, 14 and 15.
 pub enum Sweep {
@@ -244,6 +244,17 @@ fn sweep_words(
     Finding::Clear
 }
 
+// The check at a place of the order: 13, then 14, then 15.
+fn sweep_at(k: usize) -> Sweep
+    ensures { λ r. ⌜ r ≡ sweepAt k ⌝ }
+{
+    match k {
+        0 => Sweep::Wrong,
+        1 => Sweep::Missing,
+        _ => Sweep::Unobserved,
+    }
+}
+
 // 13, then 14, then 15.
 pub fn sweep_all(
     s: &[u8],
@@ -264,62 +275,29 @@ pub fn sweep_all(
     requires { ⌜ Ready (now s) (now places) (now order) (now position) (now outputs) (now t) (now operations) (now signals) inputs (length (now values)) (length (now rails)) (length (now nulled)) (length (now levels)) (length (now spare)) ⌝ }
     ensures { λ r. ⌜ r ≡ verdicts.firstFault (sweptInOrder (stageAt (now (s .entry)) inputs (now (places .entry)) (length (now (levels .entry))) (now (outputs .entry))) (referenceAt (now (t .entry)) inputs (now (operations .entry)) (length (now (values .entry)) - inputs) (now (signals .entry)))) ⌝ }
 {
-    if let Finding::Fault(v) = sweep_words(
-        Sweep::Wrong,
-        s,
-        places,
-        order,
-        position,
-        outputs,
-        t,
-        operations,
-        signals,
-        inputs,
-        values,
-        rails,
-        nulled,
-        levels,
-        spare,
-    ) {
-        return v;
-    }
-    if let Finding::Fault(v) = sweep_words(
-        Sweep::Missing,
-        s,
-        places,
-        order,
-        position,
-        outputs,
-        t,
-        operations,
-        signals,
-        inputs,
-        values,
-        rails,
-        nulled,
-        levels,
-        spare,
-    ) {
-        return v;
-    }
-    if let Finding::Fault(v) = sweep_words(
-        Sweep::Unobserved,
-        s,
-        places,
-        order,
-        position,
-        outputs,
-        t,
-        operations,
-        signals,
-        inputs,
-        values,
-        rails,
-        nulled,
-        levels,
-        spare,
-    ) {
-        return v;
+    let mut k: usize = 0;
+    while k < 3 {
+        let which = sweep_at(k);
+        if let Finding::Fault(v) = sweep_words(
+            which,
+            s,
+            places,
+            order,
+            position,
+            outputs,
+            t,
+            operations,
+            signals,
+            inputs,
+            values,
+            rails,
+            nulled,
+            levels,
+            spare,
+        ) {
+            return v;
+        }
+        k += 1;
     }
     Verdict {
         number: 0,
