@@ -17,7 +17,7 @@ use Rattle.verdict.specs.declared.Finding.the-variants.{Fault, Clear}
 use Rattle.verdict.specs.Checks.{verdict, atFault, looped, unequal, checks}
 use Rattle.verdict.specs.Verdicts.{firstFault}
 use Rattle.settle.specs.Gates.{gatesAt}
-use Rattle.settle.specs.Marks.{LoopFound}
+use Rattle.loops.specs.Marks.{LoopFound}
 use Rattle.words.specs.Operations.{OperationsThere}
 use Rattle.words.specs.Outputs.{SignalsThere}
 use Rattle.words.specs.Positions.{EachOnce, PositionsIn}

@@ -87,7 +87,7 @@ fn judge_circuits(
     requires { ⌜ StageThere (now s) (now places) (now outputs) inputs (length (now levels)) × ReferenceReady (now t) (now operations) (now signals) inputs (length (now values)) (length (now outputs)) × Workspace inputs (length (now levels)) (length (now rails)) (length (now nulled)) (length (now spare)) (length (now position)) × (length (now levels) ≤ length (now order)) ⌝ }
     ensures { λ r. ⌜ r ≡ verdicts.firstFault (circuitChecks (stageAt (now (s .entry)) inputs (now (places .entry)) (length (now (levels .entry))) (now (outputs .entry))) (referenceAt (now (t .entry)) inputs (now (operations .entry)) (length (now (values .entry)) - inputs) (now (signals .entry)))) ⌝ }
 {
-    if let Found::At(g) = settle::find_loop(s, places, inputs, levels, order) {
+    if let Found::At(g) = loops::find_loop(s, places, inputs, levels, order) {
         return answer(12, 1, g, 0);
     }
     sweep_in_order(

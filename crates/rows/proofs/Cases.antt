@@ -33,7 +33,7 @@ use Rattle.verdict.proofs.Demands.{demand-row}
 use Rattle.files.specs.Files.{Placed}
 use Rattle.settle.specs.Gates.{gatesAt, GatesThere}
 use Rattle.settle.specs.Order.{TopologicalOrder}
-use Rattle.settle.specs.Marks.{LoopFound}
+use Rattle.loops.specs.Marks.{LoopFound}
 use Rattle.settle.specs.Settling.{Settleable}
 use Rattle.settle.proofs.Places.{length-gatesAt}
 use Rattle.rows.specs.Stages.{settleStage}

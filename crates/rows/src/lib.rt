@@ -90,7 +90,7 @@ fn settle_stage(s: &[u8], places: &[u16], inputs: usize, gates: usize, row: &mut
 {
     let mut marks = [0u8; 128];
     let mut order = [0u16; 128];
-    if let Found::At(g) = settle::find_loop(s, places, inputs, &mut marks[..gates], &mut order) {
+    if let Found::At(g) = loops::find_loop(s, places, inputs, &mut marks[..gates], &mut order) {
         return answer(12, 1, g);
     }
     if row.len() != 2 * inputs + gates {

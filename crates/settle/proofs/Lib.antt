@@ -1,10 +1,5 @@
 pub mod Pins
 pub mod Places
-pub mod Filling
 pub mod Feeding
-pub mod Sums
-pub mod Placing
-pub mod Ordering
+pub mod Order
 pub mod Settling
-pub mod Marking
-pub mod Searching

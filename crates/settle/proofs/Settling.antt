@@ -20,7 +20,7 @@ use Rattle.settle.specs.Gates.{gateAt, gatesAt, GatesThere}
 use Rattle.settle.specs.Settling.{levelHolding, SettledBefore, Settleable}
 use Rattle.settle.proofs.Pins.{rail-net, gate-net}
 use Rattle.settle.proofs.Places.{length-gatesAt, map-gatesAt}
-use Rattle.settle.proofs.Ordering.{order-no-loop}
+use Rattle.settle.proofs.Order.{order-no-loop}
 
 -- where no gate is held, the levels are the settled ones
 pub holding-none : (gates : List Gate) (rails : List ℕ) → levelsHolding (length gates) gates rails ≡ settledLevels gates rails

@@ -1,5 +1,4 @@
 pub mod Pins
 pub mod Gates
 pub mod Order
-pub mod Marks
 pub mod Settling

@@ -1,0 +1,52 @@
+-- `loops::fill` meets its contract. The loop's invariant: the first i bytes are x. The measure is what is left. Assumes nothing.
+use Prim.Native.Nat.{_-_, _≤_}
+use mathlib.Core.Path.{_≡_, refl}
+use native.Mathlib.Omega.{arith}
+use borrow.Author.Needs.{needs}
+use lib.ListN.{length, take, replicate, length-set}
+use Rattle.loops.proofs.Filling.{fill-more, fill-all}
+use Rattle.loops.proofs.fill.Statement.{statement}
+use Rattle.loops.proofs.fill.Tie as tie
+use Rattle.loops.proofs.fill.Reads as reads
+use Rattle.loops.proofs.fill.Lts as lts
+
+abbrev Inv-loop : tie.InvT-loop
+Inv-loop marks₀ x i₀ marks i = (length marks ≡ length marks₀) × (i ≤ length marks₀) × (take i marks ≡ replicate i x)
+
+abbrev μ-loop : tie.MeasureT-loop
+μ-loop marks₀ x i₀ marks i = length marks₀ - i
+
+loop-holds : tie.Need-loop-holds Inv-loop μ-loop
+loop-holds c = (refl, omega arith, refl)
+
+slice-write-marks : tie.Need-slice-write-marks Inv-loop μ-loop
+slice-write-marks c = omega arith
+
+add-i : tie.Need-add-i Inv-loop μ-loop
+add-i c = omega arith
+
+loop-less : tie.Need-loop-less Inv-loop μ-loop
+loop-less c = omega arith
+
+loop-again : tie.Need-loop-again Inv-loop μ-loop
+loop-again c = let l = c .before .loop in (simp length-set (l .inv .0), omega arith, fill-more (l .marks) _ (l .i) (omega arith) (l .inv .2))
+
+same-length : tie.Need-same-length Inv-loop μ-loop
+same-length c = c .before .loop .inv .0
+
+returns : tie.Need-returns Inv-loop μ-loop
+returns c = let l = c .before .loop in fill-all (l .marks) _ _ (l .i) (l .inv .0) (omega arith) (l .inv .1) (l .inv .2)
+
+pub fill-spec : {M : Type 1} → statement M
+fill-spec =
+    tie.close
+    (tie.spec
+    Inv-loop
+    μ-loop
+    loop-holds
+    slice-write-marks
+    add-i
+    loop-less
+    loop-again
+    same-length
+    returns)
