@@ -23,7 +23,7 @@ use Rattle.words.specs.Outputs.{SignalsThere}
 use Rattle.words.specs.Positions.{EachOnce, PositionsIn}
 use Rattle.words.proofs.Inverting.{each-once}
 use Rattle.sweeps.specs.Sweeps.{sweptInOrder}
-use Rattle.sweeps.specs.Views.{stageAt, referenceAt, StageReady, ReferenceReady, Ready}
+use Rattle.faults.specs.Views.{stageAt, referenceAt, StageReady, ReferenceReady, Ready}
 use Rattle.checker.specs.Circuits.{StageThere, ReferenceThere, Workspace, circuitChecks}
 
 -- ---- the first fault of some findings

@@ -25,7 +25,7 @@ use Rattle.files.specs.Files.{Placed}
 use Rattle.settle.specs.Gates.{gatesAt, GatesThere}
 use Rattle.words.specs.Operations.{operationsAt, OperationThere, OperationsThere}
 use Rattle.words.specs.Outputs.{SignalsThere}
-use Rattle.sweeps.specs.Views.{stageAt, referenceAt}
+use Rattle.faults.specs.Views.{stageAt, referenceAt}
 use Rattle.checker.specs.Circuits.{StageThere, ReferenceThere}
 
 -- ---- the demands

@@ -13,7 +13,7 @@ ghost use Rattle.verdict.specs.Checks as checks;
 ghost use Rattle.verdict.specs.Verdicts as verdicts;
 ghost use Rattle.verdict.specs.Demands.{Demand2, Demand3};
 ghost use Rattle.sweeps.specs.Sweeps.{sweptInOrder};
-ghost use Rattle.sweeps.specs.Views.{stageAt, referenceAt, StageReady, ReferenceReady};
+ghost use Rattle.faults.specs.Views.{stageAt, referenceAt, StageReady, ReferenceReady};
 ghost use Rattle.checker.specs.Circuits.{StageThere, ReferenceThere, Workspace, circuitChecks};
 
 // The four numbers of a verdict.

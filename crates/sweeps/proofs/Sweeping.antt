@@ -15,10 +15,11 @@ use Rattle.verdict.specs.declared.Finding.the-variants.{Fault, Clear}
 use Rattle.verdict.specs.declared.Verdict.{Verdict}
 use Rattle.verdict.specs.Checks.{verdict, numbers, words, atFault, sweep}
 use Rattle.verdict.specs.Verdicts.{firstFault, accepted}
-use Rattle.sweeps.specs.declared.Sweep.{Sweep}
-use Rattle.sweeps.specs.declared.Sweep.the-variants.{Wrong, Missing, Unobserved}
-use Rattle.sweeps.specs.Views.{stageAt, referenceAt, Ready}
-use Rattle.sweeps.specs.Sweeps.{numberOf, finds, swept, sweptInOrder, sweepAt}
+use Rattle.faults.specs.declared.Sweep.{Sweep}
+use Rattle.faults.specs.declared.Sweep.the-variants.{Wrong, Missing, Unobserved}
+use Rattle.faults.specs.Views.{stageAt, referenceAt, Ready}
+use Rattle.faults.specs.Finds.{finds}
+use Rattle.sweeps.specs.Sweeps.{numberOf, swept, sweptInOrder, sweepAt}
 
 -- ten inputs have 1,024 words
 pub few-words : (i : ℕ) → i ≤ 10 → 2 ^ i ≤ 1024

@@ -1,24 +1,18 @@
--- The checks that go over all words, by one name for each.
+-- The checks 13, 14 and 15 over all words.
 use Prim.Native.Nat.{ℕ, zero, suc}
 use mathlib.Core.List.{List, [], _∷_}
-use Rattle.netlist.specs.declared.Found.{Found}
 use Rattle.netlist.specs.Content.{Stage, Reference}
 use Rattle.verdict.specs.declared.Finding.{Finding}
-use Rattle.verdict.specs.Checks.{wrongOutput, missingInput, unobservedGate, sweep, words}
-use Rattle.sweeps.specs.declared.Sweep.{Sweep}
-use Rattle.sweeps.specs.declared.Sweep.the-variants.{Wrong, Missing, Unobserved}
+use Rattle.verdict.specs.Checks.{sweep, words}
+use Rattle.faults.specs.declared.Sweep.{Sweep}
+use Rattle.faults.specs.declared.Sweep.the-variants.{Wrong, Missing, Unobserved}
+use Rattle.faults.specs.Finds.{finds}
 
 -- its number
 abbrev pub numberOf : Sweep → ℕ
 numberOf Wrong = 13
 numberOf Missing = 14
 numberOf Unobserved = 15
-
--- what it finds in a word
-abbrev pub finds : Sweep → Stage → Reference → ℕ → Found
-finds Wrong s r w = wrongOutput s r w
-finds Missing s r w = missingInput s w
-finds Unobserved s r w = unobservedGate s w
 
 -- what it finds in all words
 abbrev pub swept : Sweep → Stage → Reference → Finding

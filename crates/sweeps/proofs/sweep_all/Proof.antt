@@ -5,7 +5,7 @@ use mathlib.Core.Path.{_≡_, refl, _∙_}
 use native.Mathlib.Omega.{arith}
 use lib.ListN.{length}
 use denote.Ref.{now}
-use Rattle.sweeps.specs.Views.{stageAt, referenceAt}
+use Rattle.faults.specs.Views.{stageAt, referenceAt}
 use Rattle.sweeps.proofs.Sweeping.{ready-alike, swept-alike, ClearTo, clear-start, clear-on, fault-here, all-clear}
 use borrow.Author.Needs.{needs}
 use Rattle.sweeps.proofs.sweep_all.Statement.{statement}

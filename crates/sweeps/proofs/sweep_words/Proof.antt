@@ -6,8 +6,8 @@ use mathlib.Core.Path.{_≡_, refl, sym, ap, _∙_}
 use native.Mathlib.Omega.{arith}
 use lib.ListN.{length}
 use denote.Ref.{now}
-use Rattle.sweeps.specs.Views.{stageAt, referenceAt}
-use Rattle.sweeps.specs.Sweeps.{finds}
+use Rattle.faults.specs.Views.{stageAt, referenceAt}
+use Rattle.faults.specs.Finds.{finds}
 use Rattle.sweeps.proofs.Sweeping.{SweptTo, swept-start, swept-on, swept-here, swept-none, ready-alike, find-alike, swept-words}
 use Rattle.sweeps.proofs.sweep_words.Statement.{statement}
 use Rattle.sweeps.proofs.sweep_words.Tie as tie

@@ -1,14 +1,14 @@
--- `sweeps::set_word` meets its contract. Assumes nothing.
+-- `faults::set_word` meets its contract. Assumes nothing.
 use mathlib.Core.Path.{_≡_, sym, ap, _∙_}
 use native.Mathlib.Omega.{arith}
 use lib.ListN.{length, take}
 use lib.Seq.{length-take-le}
 use denote.Ref.{now}
 use Rattle.verdict.specs.Rows.{bitsOf, railsOf}
-use Rattle.sweeps.proofs.OneWord.{bits-prefix, spell-ready}
+use Rattle.faults.proofs.OneWord.{bits-prefix, spell-ready}
 use borrow.Author.Needs.{needs}
-use Rattle.sweeps.proofs.set_word.Statement.{statement}
-use Rattle.sweeps.proofs.set_word.Tie as tie
+use Rattle.faults.proofs.set_word.Statement.{statement}
+use Rattle.faults.proofs.set_word.Tie as tie
 
 word-bits-requires : tie.Need-word-bits-requires
 word-bits-requires c κs = search needs

@@ -22,7 +22,7 @@ use Rattle.words.specs.Positions.{PositionsIn}
 use Rattle.words.specs.Operations.{operationsAt, OperationsThere}
 use Rattle.words.specs.Outputs.{OutputsThere, SignalsThere, misread, signalOf, pairsAt}
 use Rattle.words.proofs.OneWord.{missing-in, unobserved-in}
-use Rattle.sweeps.specs.Views.{stageAt, referenceAt, StageReady, ReferenceReady}
+use Rattle.faults.specs.Views.{stageAt, referenceAt, StageReady, ReferenceReady}
 
 -- the bits of a word do not depend on how many are asked for
 pub bits-prefix : (n m w : ℕ) → n ≤ m → take n (bitsOf m w) ≡ bitsOf n w

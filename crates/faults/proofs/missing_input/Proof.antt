@@ -1,10 +1,10 @@
--- `sweeps::missing_input` meets its contract. Assumes nothing.
+-- `faults::missing_input` meets its contract. Assumes nothing.
 use native.Mathlib.Omega.{arith}
 use denote.Ref.{now}
-use Rattle.sweeps.proofs.OneWord.{missing-ready, missing-word}
+use Rattle.faults.proofs.OneWord.{missing-ready, missing-word}
 use borrow.Author.Needs.{needs}
-use Rattle.sweeps.proofs.missing_input.Statement.{statement}
-use Rattle.sweeps.proofs.missing_input.Tie as tie
+use Rattle.faults.proofs.missing_input.Statement.{statement}
+use Rattle.faults.proofs.missing_input.Tie as tie
 
 set-word-requires : tie.Need-set-word-requires
 set-word-requires c κs = search needs

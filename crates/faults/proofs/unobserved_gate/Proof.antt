@@ -1,11 +1,11 @@
--- `sweeps::unobserved_gate` meets its contract. Assumes nothing.
+-- `faults::unobserved_gate` meets its contract. Assumes nothing.
 use mathlib.Core.Path.{refl}
 use native.Mathlib.Omega.{arith}
 use denote.Ref.{now}
-use Rattle.sweeps.proofs.OneWord.{settle-ready, unobserved-ready, unobserved-word}
+use Rattle.faults.proofs.OneWord.{settle-ready, unobserved-ready, unobserved-word}
 use borrow.Author.Needs.{needs}
-use Rattle.sweeps.proofs.unobserved_gate.Statement.{statement}
-use Rattle.sweeps.proofs.unobserved_gate.Tie as tie
+use Rattle.faults.proofs.unobserved_gate.Statement.{statement}
+use Rattle.faults.proofs.unobserved_gate.Tie as tie
 
 set-word-requires : tie.Need-set-word-requires
 set-word-requires c κs = search needs

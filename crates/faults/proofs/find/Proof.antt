@@ -1,16 +1,16 @@
--- `sweeps::find` meets its contract. Assumes nothing.
+-- `faults::find` meets its contract. Assumes nothing.
 use Prim.Native.Nat.{ℕ, _-_}
 use mathlib.Core.Path.{_≡_, sym, ap, subst, _∙_}
 use native.Mathlib.Omega.{arith}
 use lib.ListN.{length}
 use denote.Ref.{now}
 use Rattle.verdict.specs.Checks.{missingInput}
-use Rattle.sweeps.specs.declared.Sweep.{Sweep}
-use Rattle.sweeps.specs.Views.{stageAt, referenceAt, StageReady}
-use Rattle.sweeps.specs.Sweeps.{finds}
+use Rattle.faults.specs.declared.Sweep.{Sweep}
+use Rattle.faults.specs.Views.{stageAt, referenceAt, StageReady}
+use Rattle.faults.specs.Finds.{finds}
 use borrow.Author.Needs.{needs}
-use Rattle.sweeps.proofs.find.Statement.{statement}
-use Rattle.sweeps.proofs.find.Tie as tie
+use Rattle.faults.proofs.find.Statement.{statement}
+use Rattle.faults.proofs.find.Tie as tie
 
 enum-told : tie.Need-enum-told
 enum-told c = search needs

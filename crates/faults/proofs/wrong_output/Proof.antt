@@ -1,11 +1,11 @@
--- `sweeps::wrong_output` meets its contract. Assumes nothing.
+-- `faults::wrong_output` meets its contract. Assumes nothing.
 use mathlib.Core.Path.{_≡_, refl, sym, ap, _∙_}
 use native.Mathlib.Omega.{arith}
 use denote.Ref.{now}
-use Rattle.sweeps.proofs.OneWord.{settle-ready, evaluate-ready, signals-ready, wrong-in}
+use Rattle.faults.proofs.OneWord.{settle-ready, evaluate-ready, signals-ready, wrong-in}
 use borrow.Author.Needs.{needs}
-use Rattle.sweeps.proofs.wrong_output.Statement.{statement}
-use Rattle.sweeps.proofs.wrong_output.Tie as tie
+use Rattle.faults.proofs.wrong_output.Statement.{statement}
+use Rattle.faults.proofs.wrong_output.Tie as tie
 
 set-word-requires : tie.Need-set-word-requires
 set-word-requires c κs = (c .before .before .before .before .before .before .before .before .before .before .before .before .pre .2, c .before .before .before .before .before .before .before .before .before .before .before .before .pre .1 .inputs-known)
