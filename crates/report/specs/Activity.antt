@@ -1,0 +1,38 @@
+-- What the total of a switching report counts: "half of all gate switchings when each word rises and falls once, in any order".
+use Prim.Native.Nat.{ℕ, _+_, _*_, _^_, _≤_, _<_}
+use mathlib.Core.Path.{_≡_}
+use mathlib.Core.Bool.{not}
+use mathlib.Core.List.{List, map}
+use lib.Dec.{ltb}
+use Rattle.runs.specs.Row.{low, after, tally, times}
+use Rattle.runs.specs.Net.{Net, rails, RiseList, RiseEnd, FallList, FallEnd}
+use Rattle.netlist.specs.Content.{Stage}
+use Rattle.verdict.specs.Levels.{sum}
+use Rattle.verdict.specs.Nets.{netOf, railsFor}
+use Rattle.report.specs.Report.{total}
+
+-- how many switchings of a list are of gates: all but those of the inputs' rails
+abbrev pub gateSwitchings : Net → List ℕ → ℕ
+gateSwitchings N l = sum (map (λ k. tally (not (ltb k (rails N))) 0) l)
+
+-- a word rises to an end, and falls from there to an end
+pub record Play (s : Stage) : Type 0 where
+  pub word : ℕ
+  pub rise : List ℕ
+  pub rise-legal : RiseList (netOf s) (railsFor s word) rise
+  pub rise-ended : RiseEnd (netOf s) (railsFor s word) rise
+  pub fall : List ℕ
+  pub fall-legal : FallList (netOf s) (after low rise) fall
+  pub fall-ended : FallEnd (netOf s) (after low rise) fall
+
+abbrev pub switchings : (s : Stage) → Play s → ℕ
+switchings s p = gateSwitchings (netOf s) (p .rise) + gateSwitchings (netOf s) (p .fall)
+
+-- each word of the stage stands exactly once in a list, and nothing else stands in it
+pub record EachWordOnce (s : Stage) (order : List ℕ) : Type 0 where
+  pub once : (w : ℕ) → w < 2 ^ s .inputs → times w order ≡ 1
+  pub none : (w : ℕ) → 2 ^ s .inputs ≤ w → times w order ≡ 0
+
+-- "It is also half of all gate switchings when each word rises and falls once, in any order": of the words, and of the switchings in each
+abbrev pub HalfOfAll : Stage → Type 0
+HalfOfAll s = (plays : List (Play s)) → EachWordOnce s (map (λ (p : Play s). p .word) plays) → sum (map (switchings s) plays) ≡ 2 * total s
