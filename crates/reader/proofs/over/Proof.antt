@@ -22,90 +22,71 @@ use denote.RattleType.{owns}
 use denote.Laws.{Is}
 use denote.Builtin.{u8}
 use denote.Signature.{plain}
-use denote.Slice.{ShrSlice, slice-vals, shr-slice-tells, shr-slice-lawful}
-use denote.Enum.Laws as EL
+use denote.Slice.{slice-vals, shr-slice-tells, shr-slice-lawful}
 use denote.Struct.Laws as LL
 use denote.Struct.Rest.{own-shut}
-use denote.Triple.Entry.{onEntry}
+use denote.Struct.Struct.{twices}
+use denote.Triple.Entry.{Vals, onEntry}
 use denote.Triple.Spec.{Meets, tripleOf}
 use denote.Triple.Table.{entered}
 use denote.Triple.Walked.{says, Stays, stay-none, stay-none-slice, walkOf, goes-none, goes-none-slice, Walks, ends-at, walked, walk-meets}
 use denote.Exit.{yes}
-use Rattle.netlist.proofs.File as File
-use Rattle.netlist.proofs.File.Laws as File′
-use Rattle.netlist.proofs.Limits as Limits
-use Rattle.netlist.proofs.Limits.Laws as Limits′
 use Rattle.netlist.proofs.Cursor as Cursor
 use Rattle.netlist.proofs.Cursor.Laws as Cursor′
-use Rattle.netlist.proofs.Counts as Counts
-use Rattle.netlist.proofs.Counts.Laws as Counts′
 use Rattle.reader.specs.declared.Reader.{Reader}
-use Rattle.reader.proofs.Held.{D, L, Fields, fields, mach, v-file, v-most, v-src, v-here, v-before, each, typed-file, fields-twice}
+use Rattle.reader.proofs.Held.{D, L, fields, v-reader, v-src, v-here, Src, copy-src, copy-here}
 use Rattle.reader.proofs.over.Key.{name as #reader·over}
 use Rattle.reader.proofs.over as over
 use Rattle.reader.proofs.over.Statement as stated
 use Rattle.reader.proofs.over.Code as code
 
 abbrev stayed : Stays (over.ended .signature .params) (over.ended .kept)
-stayed = (stay-none (λ _. File.the-row) yes, (stay-none (λ _. Limits.the-row) yes, (stay-none-slice (0 ∷ []) tt (plain (λ _. u8)) yes, (stay-none (λ _. Cursor.the-row) yes, (stay-none (λ _. Counts.the-row) yes, tt)))))
+stayed = (stay-none-slice (0 ∷ []) tt (plain (λ _. u8)) yes, (stay-none (λ _. Cursor.the-row) yes, tt))
 
 -- d is the reader that the parameters make
 module _ {M : Type 1} (𝓤 : URA M) (H : Heap 𝓤) (A : Atoms 𝓤) (W : Given 𝓤 H A) (mem : Memory → SProp 𝓤) (run : Routine → Fun 𝓤) (κ : Lft) (q : Share) (d : Reader) where
   abbrev κs : Lfts 1
   κs = (κ, tt)
 
+  abbrev at : Vals over.signature κs
+  at = (v-src (d .src) ∷ [], (v-here (d .here) ∷ [], tt))
+
   abbrev Post : Val → SProp 𝓤
-  Post = walkOf 𝓤 H A over.ended stayed (over.clauses 𝓤 H A mem run) .post ((κs, (q, tt), tt, fields κs d, each κs d), tt)
+  Post = walkOf 𝓤 H A over.ended stayed (over.clauses 𝓤 H A mem run) .post ((κs, (q, tt), tt, (d .src, (d .here, tt)), at), tt)
 
   -- what the parameters own together
   abbrev Together : Fml
-  Together = owns (Fields κs) (fields κs d) (each κs d)
+  Together = owns (Src κs ∷ Cursor.the-row ∷ []) (d .src, (d .here, tt)) at
 
-  exits : ent 𝓤 (onEntry 𝓤 H A over.signature κs (q, tt) (fields κs d) (each κs d)) (Post (mach κs d))
+  exits : ent 𝓤 (onEntry 𝓤 H A over.signature κs (q, tt) (d .src, (d .here, tt)) at) (Post (v-reader κs d))
   exits =
       qed W ((‵ (flft κ q) ⊛ ‵ ftrue) ∷ ‵ Together ∷ []) ∵
-      suffices ! _ (ends-at 𝓤 H A over.ended stayed (over.clauses 𝓤 H A mem run) W ((κs, (q, tt), tt, fields κs d, each κs d), tt) (mach κs d) d (tt, (tt, (tt, (tt, (tt, tt))))) (tt, (tt, (tt, (tt, (tt, tt)))))) $ says ! (refl, refl, refl, refl, refl) $
-      frame ! $ use1 W (‵ Together ⊛ ‵ Together) (fields-twice 𝓤 H A W κs d) $ split ! $ frame ! $ by ! (own-shut 𝓤 H A W (D κs) (L κs) (fields κs d))
+      suffices ! _ (ends-at 𝓤 H A over.ended stayed (over.clauses 𝓤 H A mem run) W ((κs, (q, tt), tt, (d .src, (d .here, tt)), at), tt) (v-reader κs d) d (tt, (tt, tt)) (tt, (tt, tt))) $ says ! (refl, refl) $
+      frame ! $ use1 W (‵ Together ⊛ ‵ Together) (twices 𝓤 H A W (Src κs ∷ Cursor.the-row ∷ []) (copy-src 𝓤 H A W κs, (copy-here 𝓤 H A W, tt)) (d .src, (d .here, tt)) at) $ split ! $
+      frame ! $ by ! (own-shut 𝓤 H A W (D κs) (L κs) (fields κs d))
 
   module _ (C : Calls 𝓤 H) (Λ : Loops 𝓤 H) where
-    walk : Is File.the-row (d .file) (v-file κs d ∷ []) → Is Limits.the-row (d .most) (v-most κs d ∷ []) → Is (ShrSlice (named 0) κ u8) (d .src) (v-src κs d ∷ []) → Is Cursor.the-row (d .here) (v-here κs d ∷ []) → Is Counts.the-row (d .before) (v-before κs d ∷ [])
-        → ent 𝓤 (onEntry 𝓤 H A over.signature κs (q, tt) (fields κs d) (each κs d)) (WpFn 𝓤 H C Λ code.function (v-file κs d ∷ v-most κs d ∷ v-src κs d ∷ v-here κs d ∷ v-before κs d ∷ []) Post)
-    walk pf pm ps ph pb =
-        let tf = EL.lawful File.the-type File′.the-laws 𝓤 H A W tt .typed (d .file) _ pf .0 in
-        let tm = LL.lawful Limits.the-type Limits′.the-laws 𝓤 H A W .typed (d .most) _ pm .0 in
+    walk : Is (Src κs) (d .src) (v-src (d .src) ∷ []) → Is Cursor.the-row (d .here) (v-here (d .here) ∷ [])
+        → ent 𝓤 (onEntry 𝓤 H A over.signature κs (q, tt) (d .src, (d .here, tt)) at) (WpFn 𝓤 H C Λ code.function (v-src (d .src) ∷ v-here (d .here) ∷ []) Post)
+    walk ps ph =
         let ts = shr-slice-lawful 𝓤 H A W (named 0) κ u8 .typed (d .src) _ ps .0 in
         let th = LL.lawful Cursor.the-type Cursor′.the-laws 𝓤 H A W .typed (d .here) _ ph .0 in
-        let tb = LL.lawful Counts.the-type Counts′.the-laws 𝓤 H A W .typed (d .before) _ pb .0 in
-        qed W (raw (onEntry 𝓤 H A over.signature κs (q, tt) (fields κs d) (each κs d)) ∷ []) ∵ enter ! C Λ code.function (v-file κs d ∷ v-most κs d ∷ v-src κs d ∷ v-here κs d ∷ v-before κs d ∷ []) _ $
-        alloc1 ! (λ l₀. alloc1 ! (λ l₁. alloc1 ! (λ l₂. alloc1 ! (λ l₃. alloc1 ! (λ l₄. alloc1 ! (λ l₅. alloc0 ! $ params1 ! $
-        pass1 ! (init ! 8 refl tf) $ pass1 ! (init ! 6 refl tm) $ pass1 ! (init ! 4 refl ts) $ pass1 ! (init ! 2 refl th) $ pass1 ! (init ! 0 refl tb) $ pass0 ! $
-        assigns ! (agg !
-        (and-then ! (load ! (from ! (stop !)) (look ! 8 refl)) (and-then ! (load ! (from ! (stop !)) (look ! 6 refl)) (and-then ! (load ! (from ! (stop !)) (look ! 4 refl))
-        (and-then ! (load ! (from ! (stop !)) (look ! 2 refl)) (and-then ! (load ! (from ! (stop !)) (look ! 0 refl)) (no-more !)))))))
-        (from ! (stop !)) (init ! 10 refl (typed-file κs d (tf .0), (tf .1, (tm .1, (ts .1, (th .1, (tb .1, tt))))))) $
-        returns ! (look ! 10 refl) $ forget ! 0 refl $ forget ! 2 refl $ forget ! 4 refl $ forget ! 6 refl $ forget ! 8 refl $ forget ! 10 refl $
-        move ! (10 ∷ 11 ∷ []) $ free1 ! $ move ! (8 ∷ 9 ∷ []) $ free1 ! $ move ! (6 ∷ 7 ∷ []) $ free1 ! $ move ! (4 ∷ 5 ∷ []) $ free1 ! $ move ! (2 ∷ 3 ∷ []) $ free1 ! $ free1 ! $ free0 ! $ by ! exits))))))
+        qed W (raw (onEntry 𝓤 H A over.signature κs (q, tt) (d .src, (d .here, tt)) at) ∷ []) ∵ enter ! C Λ code.function (v-src (d .src) ∷ v-here (d .here) ∷ []) _ $
+        alloc1 ! (λ l₀. alloc1 ! (λ l₁. alloc1 ! (λ l₂. alloc0 ! $ params1 ! $ pass1 ! (init ! 2 refl ts) $ pass1 ! (init ! 0 refl th) $ pass0 ! $
+        assigns ! (agg ! (and-then ! (load ! (from ! (stop !)) (look ! 2 refl)) (and-then ! (load ! (from ! (stop !)) (look ! 0 refl)) (no-more !))))
+        (from ! (stop !)) (init ! 4 refl (tt, (ts .1, (th .1, tt)))) $
+        returns ! (look ! 4 refl) $ forget ! 0 refl $ forget ! 2 refl $ forget ! 4 refl $ move ! (4 ∷ 5 ∷ []) $ free1 ! $ move ! (2 ∷ 3 ∷ []) $ free1 ! $ free1 ! $ free0 ! $ by ! exits)))
 
 module _ {M : Type 1} (𝓤 : URA M) (H : Heap 𝓤) (A : Atoms 𝓤) (W : Given 𝓤 H A) (mem : Memory → SProp 𝓤) (run : Routine → Fun 𝓤) where
   over-walks : (C : Calls 𝓤 H) (Λ : Loops 𝓤 H) → Walks 𝓤 H A over.ended stayed (WpFn 𝓤 H C Λ code.function) (over.clauses 𝓤 H A mem run)
   over-walks C Λ = walked 𝓤 H A over.ended stayed (over.clauses 𝓤 H A mem run) (WpFn 𝓤 H C Λ code.function)
-      (λ κs. (EL.vals File.the-type File′.the-laws, (LL.vals Limits.the-type Limits′.the-laws, (slice-vals, (LL.vals Cursor.the-type Cursor′.the-laws, (LL.vals Counts.the-type Counts′.the-laws, tt))))))
-      (λ κs. (EL.tells File.the-type File′.the-laws, (LL.tells Limits.the-type Limits′.the-laws, (shr-slice-tells (named 0) (κs .0) u8, (LL.tells Cursor.the-type Cursor′.the-laws, (LL.tells Counts.the-type Counts′.the-laws, tt))))))
-      (λ κs qs bounds a g are. via 𝓤 _ (fst∗ 𝓤 _ (emp 𝓤))
-      (walk 𝓤 H A W mem run (κs .0) (qs .0) (record { file = a .0; most = a .1 .0; src = a .1 .1 .0; here = a .1 .1 .1 .0; before = a .1 .1 .1 .1 .0 }) C Λ (are .0) (are .1 .0) (are .1 .1 .0) (are .1 .1 .1 .0) (are .1 .1 .1 .1 .0)))
+      (λ κs. (slice-vals, (LL.vals Cursor.the-type Cursor′.the-laws, tt))) (λ κs. (shr-slice-tells (named 0) (κs .0) u8, (LL.tells Cursor.the-type Cursor′.the-laws, tt)))
+      (λ κs qs bounds a g are. via 𝓤 _ (fst∗ 𝓤 _ (emp 𝓤)) (walk 𝓤 H A W mem run (κs .0) (qs .0) (record { src = a .0; here = a .1 .0 }) C Λ (are .0) (are .1 .0)))
 
 over-meets : {M : Type 1} (𝓤 : URA M) (H : Heap 𝓤) (A : Atoms 𝓤) → Given 𝓤 H A → (mem : Memory → SProp 𝓤) (run : Routine → Fun 𝓤) (𝓣 : Tables 𝓤 H)
     → Meets 𝓤 H A over.signature (WpFn 𝓤 H (𝓣 .C) (𝓣 .Λ) code.function) (over.spec 𝓤 H A mem run)
-over-meets 𝓤 H A W mem run 𝓣 = walk-meets 𝓤 H A over.ended stayed W (
-  goes-none 𝓤 H A W 1 (λ _. File.the-row) yes (λ κs x f. refl),
-  (
-    goes-none 𝓤 H A W 1 (λ _. Limits.the-row) yes (λ κs x f. refl),
-    (
-      goes-none-slice 𝓤 H A W 1 (0 ∷ []) tt (plain (λ _. u8)) yes,
-      (goes-none 𝓤 H A W 1 (λ _. Cursor.the-row) yes (λ κs x f. refl), (goes-none 𝓤 H A W 1 (λ _. Counts.the-row) yes (λ κs x f. refl), tt)),
-    ),
-  ),
-)
+over-meets 𝓤 H A W mem run 𝓣 = walk-meets 𝓤 H A over.ended stayed W
+    (goes-none-slice 𝓤 H A W 1 (0 ∷ []) tt (plain (λ _. u8)) yes, (goes-none 𝓤 H A W 1 (λ _. Cursor.the-row) yes (λ κs x f. refl), tt))
     (over.clauses 𝓤 H A mem run) (WpFn 𝓤 H (𝓣 .C) (𝓣 .Λ) code.function) (WpFn-mono 𝓤 H (W .laws) 𝓣 code.function) (over-walks 𝓤 H A W mem run (𝓣 .C) (𝓣 .Λ))
 
 pub over-spec : {M : Type 1} → stated.statement M
