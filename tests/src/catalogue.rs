@@ -7,8 +7,8 @@ use crate::circuits::{
     dual_rail, kind_named, multiplier, multiplier_reference, reordered, ripple_adder,
     ripple_adder_reference, stage_from_netlist, Products, ReferenceBuilder, Signal, StageBuilder,
 };
-use crate::files::{unhex, write_pair, FilePair};
-use crate::judge::{Gate, Reference, Stage, AND, NAND, NOR, OR, XOR};
+use crate::files::{self, unhex, write_pair, FilePair};
+use crate::judge::{self, Gate, Reference, Stage, AND, NAND, NOR, OR, XOR};
 
 /// One stored pair.
 pub struct Example {
@@ -385,6 +385,21 @@ fn nand_9_reference() -> Reference {
     r.reference
 }
 
+/// The file examples/LIST.md: every pair with its verdict and what it is.
+pub fn listing() -> String {
+    let mut text = String::from("# All pairs\n\n| Folder | Verdict | What it is |\n|---|---|---|\n");
+    for example in examples() {
+        let verdict = judge::check(&example.pair.stage, &example.pair.reference);
+        text += &format!(
+            "| `{}` | {} | {} |\n",
+            example.name,
+            files::verdict_line(verdict).trim_end(),
+            example.about
+        );
+    }
+    text
+}
+
 /// All pairs that are stored under examples/.
 pub fn examples() -> Vec<Example> {
     let mut list: Vec<Example> = Vec::new();
@@ -410,7 +425,7 @@ pub fn examples() -> Vec<Example> {
         let reference = one_operation(operation);
         add(
             name,
-            "two inputs, by the templates of M-107",
+            "two inputs, by the templates of document 02 (M-107)",
             0,
             &dual_rail(&reference),
             &reference,
@@ -779,7 +794,7 @@ pub fn examples() -> Vec<Example> {
     let c17 = c17_reference();
     add(
         "c17",
-        "ISCAS-85 C17 by the templates of M-107",
+        "ISCAS-85 C17 by the templates of document 02 (M-107)",
         0,
         &dual_rail(&c17),
         &c17,

@@ -78,7 +78,7 @@ impl StageBuilder {
         self.stage.outputs.push([signal.rail_0, signal.rail_1]);
     }
 
-    /// Input-complete AND (Figure 7 of source document 001, and M-107).
+    /// Input-complete AND (Figure 7 of source document 001, and M-107 of document 02).
     pub fn and(&mut self, a: Signal, b: Signal) -> Signal {
         let rail_1 = self.gate("TH22", &[a.rail_1, b.rail_1]);
         let rail_0 = self.gate("THand0", &[a.rail_0, b.rail_0, a.rail_1, b.rail_1]);
@@ -106,7 +106,7 @@ impl StageBuilder {
         Signal { rail_0, rail_1 }
     }
 
-    /// XOR of THxor0 and TH24comp (M-107).
+    /// XOR of THxor0 and TH24comp (M-107 of document 02).
     pub fn xor(&mut self, a: Signal, b: Signal) -> Signal {
         let pins = [a.rail_0, b.rail_0, a.rail_1, b.rail_1];
         let rail_0 = self.gate("THxor0", &pins);
@@ -308,7 +308,7 @@ impl ReferenceBuilder {
     }
 }
 
-/// A stage from a reference (M-107): NOT swaps rails, every other operation
+/// A stage from a reference (M-107 of document 02): NOT swaps rails, every other operation
 /// becomes two gates, gates in reference order.
 pub fn dual_rail(reference: &Reference) -> Stage {
     let mut builder = StageBuilder::new(reference.inputs);

@@ -33,6 +33,7 @@ fn kinds() -> Vec<Kind> {
         .collect()
 }
 
+/// Of this file's own constants: document 01 and source document 001 give the same cells.
 #[test]
 fn the_two_papers_agree() {
     let kinds = kinds();
@@ -77,6 +78,7 @@ fn the_table_holds_the_papers_expressions() {
     }
 }
 
+/// Of this file's own constants: the paper's sentence on THmn holds of its expressions.
 #[test]
 fn an_unweighted_gate_counts_its_pins() {
     for kind in kinds() {

@@ -13,6 +13,7 @@ use fovaheju_tests::judge::{
 };
 use std::path::Path;
 
+/// Of the comparison itself: two sides that are the same show no difference.
 #[test]
 fn the_judge_agrees_with_itself() {
     let checks = compare_checks(check, 7, 500).unwrap();

@@ -2,8 +2,8 @@
 //! of the judge.
 
 use fovaheju_tests::catalogue::{
-    address_compare_reference, comparator_reference, examples, mac_of_the_source, mac_reference,
-    multiplier_of_the_source, parity_reference, MARKED,
+    address_compare_reference, comparator_reference, examples, listing, mac_of_the_source,
+    mac_reference, multiplier_of_the_source, parity_reference, MARKED,
 };
 use fovaheju_tests::circuits::{multiplier_reference, ripple_adder_reference};
 use fovaheju_tests::files::{examples_folder, load_example, stored_examples};
@@ -32,6 +32,8 @@ fn stored_files_and_verdicts() {
     }
     described.sort();
     assert_eq!(stored_examples(&folder).unwrap(), described);
+    let list = std::fs::read_to_string(folder.join("LIST.md")).unwrap();
+    assert_eq!(list, listing(), "examples/LIST.md");
 }
 
 #[test]

@@ -115,7 +115,7 @@ fn the_same_seed_gives_the_same_pairs() {
 }
 
 /// Every reference whose signals all lead to outputs gives an accepted stage by the
-/// templates of M-107.
+/// templates of M-107 of document 02.
 #[test]
 fn templates_are_accepted() {
     let (seed, _) = seed_and_count(0);

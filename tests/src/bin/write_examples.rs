@@ -1,5 +1,5 @@
-//! Writes all example pairs with their verdicts into the folder examples/, or
-//! into the folder given, and prints a list of them.
+//! Writes all example pairs with their verdicts and a list of them into the folder
+//! examples/, or into the folder given, and prints the list.
 
 use fovaheju_tests::{catalogue, files, judge};
 use std::path::PathBuf;
@@ -23,5 +23,5 @@ fn main() -> std::io::Result<()> {
             example.about
         );
     }
-    Ok(())
+    std::fs::write(folder.join("LIST.md"), catalogue::listing())
 }
