@@ -16,6 +16,7 @@ use Rattle.verdict.specs.declared.Finding.{Finding}
 use Rattle.verdict.specs.declared.Finding.the-variants.{Fault, Clear}
 use Rattle.verdict.specs.Checks.{verdict, atFault, looped, unequal, checks}
 use Rattle.verdict.specs.Verdicts.{firstFault}
+use Rattle.verdict.proofs.First.{first-fault, first-clear}
 use Rattle.settle.specs.Gates.{gatesAt}
 use Rattle.loops.specs.Marks.{LoopFound}
 use Rattle.words.specs.Operations.{OperationsThere}
@@ -29,30 +30,10 @@ use Rattle.checker.specs.Circuits.{StageThere, ReferenceThere, Workspace
 -- ---- the first fault of some findings
 
 fault-first : (g f : Finding) (v : Verdict) (later : List Finding) → f ≡ g → f ≡ Fault v → v ≡ firstFault (g ∷ later)
-unfolding firstFault
-fault-first g f v later a b = sym (ap (λ (x : Finding). firstFault (x ∷ later)) (sym a ∙ b))
+fault-first g f v later a b = sym (ap (λ (x : Finding). firstFault (x ∷ later)) (sym a ∙ b) ∙ first-fault v later)
 
 clear-first : (g f : Finding) (later : List Finding) (v : Verdict) → f ≡ g → f ≡ Clear → v ≡ firstFault later → v ≡ firstFault (g ∷ later)
-unfolding firstFault
-clear-first g f later v a b q = q ∙ sym (ap (λ (x : Finding). firstFault (x ∷ later)) (sym a ∙ b))
-
--- ---- the sweeps in an order
-
-pub once-in-order : (s places order outputs : List ℕ) (n g p : ℕ) → StageReady s places order outputs n g → p ≡ g → EachOnce order p
-once-in-order s places order outputs n g p r e =
-    subst (EachOnce order) (sym e) (each-once s places order (replicate (2 * n) 0) g (record { inputs = n; both = length-replicate (2 * n) 0; there = r .there; ordered = r .ordered }))
-
-pub ready : (s places order position outputs t operations signals : List ℕ) (n known rails nulled g spare p : ℕ) → StageReady s places order outputs n g → ReferenceReady t operations signals n known (length outputs) → Workspace n g rails nulled spare p → PositionsIn order position p
-    → Ready s places order position outputs t operations signals n known rails nulled g spare
-ready s places order position outputs t operations signals n known rails nulled g spare p a b l q =
-    record {
-      stage = a;
-      reference = b;
-      positions = subst (PositionsIn order position) (l .position-long) q;
-      rails-long = l .rails-long;
-      nulled-long = l .nulled-long;
-      spare-long = l .spare-long;
-    }
+clear-first g f later v a b q = q ∙ sym (ap (λ (x : Finding). firstFault (x ∷ later)) (sym a ∙ b) ∙ first-clear later)
 
 -- ---- loops
 
@@ -67,21 +48,35 @@ module _ (s places outputs order : List ℕ) (n g : ℕ) (loop : Found) (found :
 
   -- slices that keep their lengths: g′ gates are g
   module _ (none : loop ≡ Nothing) (g′ : ℕ) (same : g′ ≡ g) where
-    pub stage-ready : StageThere s places outputs n g → StageReady s places order outputs n g′
+    stage-ready : StageThere s places outputs n g → StageReady s places order outputs n g′
     stage-ready t = subst (StageReady s places order outputs n) (sym same) (record { few = t .few; there = t .there; ordered = found .ordered none; outputs-there = t .outputs-there })
+
+    module _ (there : StageThere s places outputs n g) (rails nulled spare p : ℕ) (space : Workspace n g rails nulled spare p) where
+      pub once-in-order : EachOnce order p
+      once-in-order =
+          let r = stage-ready there in
+          subst (EachOnce order) (same ∙ sym (space .position-long)) (each-once s places order (replicate (2 * n) 0) g′ (record { inputs = n; both = length-replicate (2 * n) 0; there = r .there; ordered = r .ordered }))
+
+      pub ready : (t operations signals position : List ℕ) (known : ℕ) → ReferenceReady t operations signals n known (length outputs) → PositionsIn order position p
+          → Ready s places order position outputs t operations signals n known rails nulled g′ spare
+      ready t operations signals position known b q = record {
+        stage = stage-ready there;
+        reference = b;
+        positions = subst (PositionsIn order position) (space .position-long ∙ sym same) q;
+        rails-long = space .rails-long;
+        nulled-long = space .nulled-long;
+        spare-long = space .spare-long ∙ sym same;
+      }
 
     pub is-swept : (r : Reference) (v : Verdict) → v ≡ firstFault (sweptInOrder (stageAt s n places g′ outputs) r) → v ≡ firstFault (circuitChecks (stageAt s n places g outputs) r)
     unfolding atFault
     is-swept r v q = clear-first _ _ _ v refl (loop-says Nothing none) (q ∙ ap (λ (k : ℕ). firstFault (sweptInOrder (stageAt s n places k outputs) r)) same)
 
-pub workspace-alike : (n g g′ rails nulled spare position : ℕ) → g′ ≡ g → Workspace n g rails nulled spare position → Workspace n g′ rails nulled spare position
-workspace-alike n g g′ rails nulled spare position e l = subst (λ (k : ℕ). Workspace n k rails nulled spare position) (sym e) l
-
 -- ---- what is lent
 
 -- so much of an array is lent
-pub lent-part : (n k : ℕ) → k ≤ n → length (take k (replicate {A = ℕ} n 0)) ≡ k
-lent-part n k h = length-take-le k (replicate n 0) (omega (arith, length-replicate {A = ℕ} n 0))
+pub part-length : (n k : ℕ) → k ≤ n → length (take k (replicate {A = ℕ} n 0)) ≡ k
+part-length n k h = length-take-le k (replicate n 0) (omega (arith, length-replicate {A = ℕ} n 0))
 
 pub there-by : (s places outputs : List ℕ) (n g g′ : ℕ) → g′ ≡ g → StageThere s places outputs n g → StageThere s places outputs n g′
 there-by s places outputs n g g′ e t = subst (StageThere s places outputs n) (sym e) t

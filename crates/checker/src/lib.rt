@@ -12,8 +12,7 @@ ghost use Rattle.netlist.specs.Reading as reading;
 ghost use Rattle.verdict.specs.Checks as checks;
 ghost use Rattle.verdict.specs.Verdicts as verdicts;
 ghost use Rattle.verdict.specs.Demands.{Demand2, Demand3};
-ghost use Rattle.sweeps.specs.Sweeps.{sweptInOrder};
-ghost use Rattle.faults.specs.Views.{stageAt, referenceAt, StageReady, ReferenceReady};
+ghost use Rattle.faults.specs.Views.{stageAt, referenceAt, ReferenceReady};
 ghost use Rattle.checker.specs.Circuits.{StageThere, ReferenceThere, Workspace, circuitChecks};
 
 // The four numbers of a verdict.
@@ -28,46 +27,8 @@ fn answer(number: u64, file: u64, at: usize, word: usize) -> Verdict
     }
 }
 
-// 13, then 14, then 15, in a topological order: the place of each gate in it is written first.
-fn sweep_in_order(
-    s: &[u8],
-    places: &[u16],
-    order: &[u16],
-    position: &mut [u16],
-    outputs: &[u16],
-    t: &[u8],
-    operations: &[u16],
-    signals: &[u16],
-    inputs: usize,
-    values: &mut [u8],
-    rails: &mut [u8],
-    nulled: &mut [u8],
-    levels: &mut [u8],
-    spare: &mut [u8],
-) -> Verdict
-    requires { ⌜ StageReady (now s) (now places) (now order) (now outputs) inputs (length (now levels)) × ReferenceReady (now t) (now operations) (now signals) inputs (length (now values)) (length (now outputs)) × Workspace inputs (length (now levels)) (length (now rails)) (length (now nulled)) (length (now spare)) (length (now position)) ⌝ }
-    ensures { λ r. ⌜ r ≡ verdicts.firstFault (sweptInOrder (stageAt (now (s .entry)) inputs (now (places .entry)) (length (now (levels .entry))) (now (outputs .entry))) (referenceAt (now (t .entry)) inputs (now (operations .entry)) (length (now (values .entry)) - inputs) (now (signals .entry)))) ⌝ }
-{
-    words::invert(order, position);
-    sweeps::sweep_all(
-        s,
-        places,
-        order,
-        position,
-        outputs,
-        t,
-        operations,
-        signals,
-        inputs,
-        values,
-        rails,
-        nulled,
-        levels,
-        spare,
-    )
-}
-
-// 12, then the sweeps. The search for loops leaves the order; the levels serve as its marks.
+// 12, then 13, 14 and 15. The search for loops leaves the order, with the levels as its marks; then the place of each gate in the order is
+// written.
 fn judge_circuits(
     s: &[u8],
     places: &[u16],
@@ -90,7 +51,8 @@ fn judge_circuits(
     if let Found::At(g) = loops::find_loop(s, places, inputs, levels, order) {
         return answer(12, 1, g, 0);
     }
-    sweep_in_order(
+    words::invert(order, position);
+    sweeps::sweep_all(
         s,
         places,
         order,

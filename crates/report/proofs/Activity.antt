@@ -22,8 +22,8 @@ use Rattle.verdict.proofs.Levels.{bits-length, bits-get}
 use Rattle.verdict.proofs.Settling.{settled-bits}
 use Rattle.verdict.proofs.OneWord.{wires-length}
 use Rattle.report.specs.Report.{gatesHigh, lines, total}
-use Rattle.report.specs.Activity.{gateSwitchings, Play, switchings, EachWordOnce, HalfOfAll}
-use Rattle.report.proofs.Counting.{upTo, upTo-same, upTo-zero, upTo-split, upTo-twice, upTo-numbers, upTo-levels, weigh, weigh-zero, first-below, rest-none, sum-times}
+use Rattle.report.specs.Activity.{gateSwitchings, Cycle, switchings, EachWordOnce, HalfOfAll}
+use Rattle.report.proofs.Counting.{upTo, upTo-same, upTo-zero, upTo-split, upTo-twice, upTo-numbers, upTo-levels, weigh, weigh-zero, first-below, tail-none, sum-times}
 
 -- ---- one list
 
@@ -74,8 +74,8 @@ module _ (s : Stage) (w : ℕ) (l : List ℕ) (once : (k : ℕ) → times k l �
 -- ---- one word
 
 -- a rise and a fall of a word in which the promise is kept: twice the gates high at its rest
-pub play-twice : (s : Stage) (r : Reference) (p : Play s) → KeptIn s r (p .word) → switchings s p ≡ 2 * gatesHigh s (p .word)
-play-twice s r p k =
+pub cycle-twice : (s : Stage) (r : Reference) (p : Cycle s) → KeptIn s r (p .word) → switchings s p ≡ 2 * gatesHigh s (p .word)
+cycle-twice s r p k =
     let end = k .rest (p .rise) (p .rise-legal) (p .rise-ended) in
     let rest = k .promise .lists (p .rise) (p .rise-legal) .end-rest (p .rise-ended) in
     let fall = rest .falls (p .fall) (p .fall-legal) .end-switched (p .fall-ended) in
@@ -86,25 +86,25 @@ play-twice s r p k =
 -- ---- all words
 
 module _ (s : Stage) (r : Reference) (kept : (w : ℕ) → w < 2 ^ s .inputs → KeptIn s r w) where
-  abbrev wordOf : Play s → ℕ
+  abbrev wordOf : Cycle s → ℕ
   wordOf p = p .word
 
-  plays-twice : (plays : List (Play s)) → ((w : ℕ) → 2 ^ s .inputs ≤ w → times w (map wordOf plays) ≡ 0) → sum (map (switchings s) plays) ≡ sum (map (λ w. 2 * gatesHigh s w) (map wordOf plays))
-  plays-twice [] none = refl
-  plays-twice (p ∷ plays) none =
-      let below = first-below (2 ^ s .inputs) (p .word) (map wordOf plays) none in
-      let rest = plays-twice plays (rest-none (2 ^ s .inputs) (p .word) (map wordOf plays) none) in
-      omega (arith, play-twice s r p (kept (p .word) below), rest)
+  cycles-twice : (cycles : List (Cycle s)) → ((w : ℕ) → 2 ^ s .inputs ≤ w → times w (map wordOf cycles) ≡ 0) → sum (map (switchings s) cycles) ≡ sum (map (λ w. 2 * gatesHigh s w) (map wordOf cycles))
+  cycles-twice [] none = refl
+  cycles-twice (p ∷ cycles) none =
+      let below = first-below (2 ^ s .inputs) (p .word) (map wordOf cycles) none in
+      let rest = cycles-twice cycles (tail-none (2 ^ s .inputs) (p .word) (map wordOf cycles) none) in
+      omega (arith, cycle-twice s r p (kept (p .word) below), rest)
 
   total-is : total s ≡ upTo (2 ^ s .inputs) (gatesHigh s)
   unfolding words
   total-is = let e : 0 + 2 ^ s .inputs ≡ 2 ^ s .inputs = omega arith in omega (arith, upTo-numbers (gatesHigh s) (2 ^ s .inputs) 0 ∙ ap (λ (m : ℕ). upTo m (gatesHigh s)) e)
 
   pub half-of-all : HalfOfAll s
-  half-of-all plays each =
-      let ws = map wordOf plays in
+  half-of-all cycles each =
+      let ws = map wordOf cycles in
       let m = 2 ^ s .inputs in
-      let a : sum (map (switchings s) plays) ≡ sum (map (λ w. 2 * gatesHigh s w) ws) = plays-twice plays (each .none) in
+      let a : sum (map (switchings s) cycles) ≡ sum (map (λ w. 2 * gatesHigh s w) ws) = cycles-twice cycles (each .none) in
       let b : sum (map (λ w. 2 * gatesHigh s w) ws) ≡ upTo m (λ k. weigh (times k ws) (2 * gatesHigh s k)) = sum-times (λ w. 2 * gatesHigh s w) m ws (each .none) in
       let c : upTo m (λ k. weigh (times k ws) (2 * gatesHigh s k)) ≡ upTo m (λ k. 2 * gatesHigh s k) = upTo-same m (λ k. weigh (times k ws) (2 * gatesHigh s k)) (λ k. 2 * gatesHigh s k) (λ k h. ap (λ (i : ℕ). weigh i (2 * gatesHigh s k)) (each .once k h) ∙ omega arith) in
       omega (arith, a ∙ b ∙ c, upTo-twice m (gatesHigh s), total-is)

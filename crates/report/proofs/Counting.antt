@@ -82,8 +82,8 @@ module _ (m x : ℕ) (l : List ℕ) (none : (k : ℕ) → m ≤ k → times k (x
       go (yes h) = h
       go (no h) = absurd (omega (arith, sym (ap (λ b. tally b (times x l)) (eq-eqb x x refl)) ∙ none x (omega arith)))
 
-  pub rest-none : (k : ℕ) → m ≤ k → times k l ≡ 0
-  rest-none k h = go (eqb k x) (none k h)
+  pub tail-none : (k : ℕ) → m ≤ k → times k l ≡ 0
+  tail-none k h = go (eqb k x) (none k h)
     where
       go : (b : Bool) → tally b (times k l) ≡ 0 → times k l ≡ 0
       go true e = absurd (omega (arith, e))
@@ -91,7 +91,7 @@ module _ (m x : ℕ) (l : List ℕ) (none : (k : ℕ) → m ≤ k → times k (x
 
 pub sum-times : (f : ℕ → ℕ) (m : ℕ) (l : List ℕ) → ((k : ℕ) → m ≤ k → times k l ≡ 0) → sum (map f l) ≡ upTo m (λ k. weigh (times k l) (f k))
 sum-times f m [] none = sym (upTo-zero m _ (λ k h. refl))
-sum-times f m (x ∷ l) none = omega (arith, sum-times f m l (rest-none m x l none), one-more x (λ k. times k l) f m (first-below m x l none))
+sum-times f m (x ∷ l) none = omega (arith, sum-times f m l (tail-none m x l none), one-more x (λ k. times k l) f m (first-below m x l none))
 
 pub weigh-zero : (n : ℕ) → weigh n 0 ≡ 0
 weigh-zero zero = refl

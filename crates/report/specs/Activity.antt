@@ -15,8 +15,8 @@ use Rattle.report.specs.Report.{total}
 abbrev pub gateSwitchings : Net → List ℕ → ℕ
 gateSwitchings N l = sum (map (λ k. tally (not (ltb k (rails N))) 0) l)
 
--- a word rises to an end, and falls from there to an end
-pub record Play (s : Stage) : Type 0 where
+-- a cycle of a word: it rises to an end, and falls from there to an end
+pub record Cycle (s : Stage) : Type 0 where
   pub word : ℕ
   pub rise : List ℕ
   pub rise-legal : RiseList (netOf s) (railsFor s word) rise
@@ -25,7 +25,7 @@ pub record Play (s : Stage) : Type 0 where
   pub fall-legal : FallList (netOf s) (after low rise) fall
   pub fall-ended : FallEnd (netOf s) (after low rise) fall
 
-abbrev pub switchings : (s : Stage) → Play s → ℕ
+abbrev pub switchings : (s : Stage) → Cycle s → ℕ
 switchings s p = gateSwitchings (netOf s) (p .rise) + gateSwitchings (netOf s) (p .fall)
 
 -- each word of the stage stands exactly once in a list, and nothing else stands in it
@@ -35,4 +35,4 @@ pub record EachWordOnce (s : Stage) (order : List ℕ) : Type 0 where
 
 -- "It is also half of all gate switchings when each word rises and falls once, in any order": of the words, and of the switchings in each
 abbrev pub HalfOfAll : Stage → Type 0
-HalfOfAll s = (plays : List (Play s)) → EachWordOnce s (map (λ (p : Play s). p .word) plays) → sum (map (switchings s) plays) ≡ 2 * total s
+HalfOfAll s = (cycles : List (Cycle s)) → EachWordOnce s (map (λ (p : Cycle s). p .word) cycles) → sum (map (switchings s) cycles) ≡ 2 * total s

@@ -15,6 +15,7 @@ use Rattle.verdict.specs.declared.Finding.the-variants.{Fault, Clear}
 use Rattle.verdict.specs.declared.Verdict.{Verdict}
 use Rattle.verdict.specs.Checks.{verdict, numbers, words, atFault, sweep}
 use Rattle.verdict.specs.Verdicts.{firstFault, accepted}
+use Rattle.verdict.proofs.First.{first-fault, first-clear, first-none}
 use Rattle.faults.specs.declared.Sweep.{Sweep}
 use Rattle.faults.specs.declared.Sweep.the-variants.{Wrong, Missing, Unobserved}
 use Rattle.faults.specs.Views.{stageAt, referenceAt, Ready}
@@ -119,13 +120,10 @@ module _ (s : Stage) (r : Reference) where
     after g q = c ∙ ap firstFault (next-check k h) ∙ ap (λ (x : Finding). firstFault (x ∷ later (k + 1))) (sym e ∙ q)
 
     pub clear-on : f ≡ Clear → ClearTo (k + 1)
-    unfolding firstFault
-    clear-on q = after Clear q
+    clear-on q = after Clear q ∙ first-clear (later (k + 1))
 
     pub fault-here : (v : Verdict) → f ≡ Fault v → v ≡ firstFault (sweptInOrder s r)
-    unfolding firstFault
-    fault-here v q = sym (after (Fault v) q)
+    fault-here v q = sym (after (Fault v) q ∙ first-fault v (later (k + 1)))
 
   pub all-clear : (k : ℕ) → 3 ≤ k → ClearTo k → accepted ≡ firstFault (sweptInOrder s r)
-  unfolding firstFault
-  all-clear k h c = sym (c ∙ ap firstFault (no-check k h))
+  all-clear k h c = sym (c ∙ ap firstFault (no-check k h) ∙ first-none)

@@ -5,6 +5,7 @@ pub mod Reaching
 pub mod Settling
 pub mod Least
 pub mod Sweeps
+pub mod First
 pub mod Because
 pub mod Words
 pub mod Bridge

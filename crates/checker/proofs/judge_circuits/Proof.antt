@@ -1,6 +1,6 @@
--- `checker::judge_circuits` meets its contract. Assumes nothing.
+-- `checker::judge_circuits` meets its contract: a loop is 12's fault; where there is none, the order serves the sweeps. Assumes nothing.
 use denote.Ref.{now}
-use Rattle.checker.proofs.Circuits.{is-12, is-swept, stage-ready, workspace-alike}
+use Rattle.checker.proofs.Circuits.{is-12, is-swept, once-in-order, ready}
 use borrow.Author.Needs.{needs}
 use Rattle.checker.proofs.judge_circuits.Statement.{statement}
 use Rattle.checker.proofs.judge_circuits.Tie as tie
@@ -26,8 +26,11 @@ returns c = let z = c .before .before .before .before .before .before .before .b
 enum-told : tie.Need-enum-told
 enum-told c = search needs
 
-sweep-in-order-requires : tie.Need-sweep-in-order-requires
-sweep-in-order-requires c κs = let z = c .before .before .before .before .before .before .before .before .before .before .before .before .before .before .before .before .before .before .before .before .before .before .before .before .before .before .before .before .before in let l = c .before .before .before .before .before .before .before .before .before .before .before .before .before .find-loop in (stage-ready (now (z .args .s)) (now (z .args .places)) (now (z .args .outputs)) _ (z .args .inputs) _ _ (l .ensures) (c .before .before .before .before .before .before .before .enum-told .given .1) _ (l .kept .1 .1 .1 .0) (z .pre .0), z .pre .1, workspace-alike _ _ _ _ _ _ _ (l .kept .1 .1 .1 .0) (z .pre .2))
+invert-requires : tie.Need-invert-requires
+invert-requires c κs = let z = c .before .before .before .before .before .before .before .before .before .before .before .before .before .before .before .before .before .before .before .before .before .before .before .before in let l = c .before .before .before .before .before .before .before .before .find-loop in once-in-order (now (z .args .s)) (now (z .args .places)) (now (z .args .outputs)) _ (z .args .inputs) _ _ (l .ensures) (c .before .before .enum-told .given .1) _ (l .kept .1 .1 .1 .0) (z .pre .0) _ _ _ _ (z .pre .2)
+
+sweep-all-requires : tie.Need-sweep-all-requires
+sweep-all-requires c κs = let z = c .before .before .before .before .before .before .before .before .before .before .before .before .before .before .before .before .before .before .before .before .before .before .before .before .before .before .before .before .before .before .before .before .before .before in let l = c .before .before .before .before .before .before .before .before .before .before .before .before .before .before .before .before .before .before .find-loop in ready (now (z .args .s)) (now (z .args .places)) (now (z .args .outputs)) _ (z .args .inputs) _ _ (l .ensures) (c .before .before .before .before .before .before .before .before .before .before .before .before .enum-told .given .1) _ (l .kept .1 .1 .1 .0) (z .pre .0) _ _ _ _ (z .pre .2) (now (z .args .t)) (now (z .args .operations)) (now (z .args .signals)) _ _ (z .pre .1) (c .before .before .before .before .before .before .before .before .before .invert .ensures)
 
 same-length-3 : tie.Need-same-length-3
 same-length-3 c = search needs
@@ -51,7 +54,7 @@ same-length-9 : tie.Need-same-length-9
 same-length-9 c = search needs
 
 returns-2 : tie.Need-returns-2
-returns-2 c = let z = c .before .before .before .before .before .before .before .before .before .before .before .before .before .before .before .before .before .before .before .before .before .before .before .before .before .before .before .before .before .before .before .before .before .before .before .before .before .before .before .before .before .before in let l = c .before .before .before .before .before .before .before .before .before .before .before .before .before .before .before .before .before .before .before .before .before .before .before .before .before .before .find-loop in is-swept (now (z .args .s)) (now (z .args .places)) (now (z .args .outputs)) _ (z .args .inputs) _ _ (l .ensures) (c .before .before .before .before .before .before .before .before .before .before .before .before .before .before .before .before .before .before .before .before .enum-told .given .1) _ (l .kept .1 .1 .1 .0) _ _ (c .before .before .before .before .before .before .before .before .before .before .before .before .sweep-in-order .ensures)
+returns-2 c = let z = c .before .before .before .before .before .before .before .before .before .before .before .before .before .before .before .before .before .before .before .before .before .before .before .before .before .before .before .before .before .before .before .before .before .before .before .before .before .before .before .before .before .before .before .before .before in let l = c .before .before .before .before .before .before .before .before .before .before .before .before .before .before .before .before .before .before .before .before .before .before .before .before .before .before .before .before .before .find-loop in is-swept (now (z .args .s)) (now (z .args .places)) (now (z .args .outputs)) _ (z .args .inputs) _ _ (l .ensures) (c .before .before .before .before .before .before .before .before .before .before .before .before .before .before .before .before .before .before .before .before .before .before .before .enum-told .given .1) _ (l .kept .1 .1 .1 .0) _ _ (c .before .before .before .before .before .before .before .before .before .before .sweep-all .ensures)
 
 pub judge-circuits-spec : {M : Type 1} → statement M
 judge-circuits-spec =
@@ -64,7 +67,8 @@ judge-circuits-spec =
     same-length-2
     returns
     enum-told
-    sweep-in-order-requires
+    invert-requires
+    sweep-all-requires
     same-length-3
     same-length-4
     same-length-5
