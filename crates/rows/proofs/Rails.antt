@@ -1,18 +1,14 @@
--- The rails of a row, copied from the front; and a row whose part after its rails was settled.
+-- A row whose part after its rails was settled.
 -- Assumes nothing.
-use Prim.Native.Nat.{ℕ, _+_, _-_, _≤_, _<_}
+use Prim.Native.Nat.{ℕ, _-_, _≤_}
 use native.Mathlib.Omega.{arith}
-use native.Mathlib.Numerals.{add-one}
 use mathlib.Core.Path.{_≡_, sym, ap, subst, _∙_}
 use mathlib.Core.List.{List, [], _++_, append-nil}
-use lib.ListN.{length, getD, take, drop, set, length-drop}
-use lib.Seq.{take-suc, take-suc-set, take-all, drop-length}
+use lib.ListN.{length, take, drop, length-drop}
+use lib.Seq.{take-all, drop-length}
 use Rattle.verdict.specs.Rows.{settled, settledLevels}
 use Rattle.settle.specs.Gates.{gatesAt}
 use Rattle.settle.specs.Settling.{Settleable}
-
-pub copy-more : (rails row : List ℕ) (i : ℕ) → i < length rails → i < length row → take i rails ≡ take i row → take (i + 1) (set rails i (getD row i 0)) ≡ take (i + 1) row
-copy-more rails row i h h′ e = simp (add-one, take-suc-set, take-suc row i 0, e)
 
 -- the part of a row from a position on is lent whole
 module _ (row : List ℕ) (first : ℕ) (h : first ≤ length row) where

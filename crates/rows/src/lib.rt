@@ -61,25 +61,13 @@ fn illegal_input(row: &[u8], inputs: usize) -> Found
     Found::Nothing
 }
 
-// The first bytes of a row, one for each of so many rails.
-fn copy_rails(row: &[u8], count: usize, rails: &mut [u8])
-    requires { ⌜ (count ≤ length (now rails)) × (count ≤ length (now row)) ⌝ }
-    ensures { λ r. ⌜ take count (now (rails .exit)) ≡ take count (now (row .entry)) ⌝ }
-{
-    let mut i: usize = 0;
-    while i < count {
-        rails[i] = row[i];
-        i += 1;
-    }
-}
-
 // The part of the row from the first gate's byte on is settled for the part before it.
 fn settle_gates(s: &[u8], places: &[u16], order: &[u16], first: usize, row: &mut [u8])
     requires { ⌜ (first ≤ 20) × (first ≤ length (now row)) × Settleable (now s) (now places) (now order) (take first (now row)) (length (now row) - first) ⌝ }
     ensures { λ r. ⌜ now (row .exit) ≡ rows.settled (gatesAt (now (s .entry)) (now (places .entry)) (length (now (row .entry)) - first)) (take first (now (row .entry))) ⌝ }
 {
     let mut rails = [0u8; 20];
-    copy_rails(row, first, &mut rails);
+    settle::copy_first(row, first, &mut rails);
     settle::settle(s, places, order, &rails[..first], &mut row[first..]);
 }
 

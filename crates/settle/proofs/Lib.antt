@@ -3,3 +3,4 @@ pub mod Places
 pub mod Feeding
 pub mod Order
 pub mod Settling
+pub mod Copying

@@ -5,7 +5,7 @@ use gates::Kind;
 ghost use mathlib.Core.Path.{_≡_};
 ghost use mathlib.Core.List.{_++_, map};
 ghost use Prim.Native.Nat.{_+_, _^_, _≤_, _<_};
-ghost use lib.ListN.{length};
+ghost use lib.ListN.{length, take};
 ghost use lib.Dec.{ltb};
 ghost use Rattle.gates.specs.Cell.{bit};
 ghost use Rattle.gates.specs.Table.{GateTable};
@@ -126,4 +126,18 @@ pub fn settle(s: &[u8], places: &[u16], order: &[u16], rails: &[u8], levels: &mu
 {
     let none = levels.len();
     settle_from(s, places, order, rails, levels, 0, none)
+}
+
+// ---- copies
+
+// The first bytes of one slice become those of another.
+pub fn copy_first(from: &[u8], count: usize, to: &mut [u8])
+    requires { ⌜ (count ≤ length (now from)) × (count ≤ length (now to)) ⌝ }
+    ensures { λ r. ⌜ take count (now (to .exit)) ≡ take count (now (from .entry)) ⌝ }
+{
+    let mut i: usize = 0;
+    while i < count {
+        to[i] = from[i];
+        i += 1;
+    }
 }

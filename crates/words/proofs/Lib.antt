@@ -2,7 +2,6 @@ pub mod Spelling
 pub mod Operating
 pub mod Evaluating
 pub mod Pairs
-pub mod Copying
 pub mod Nulling
 pub mod AllData
 pub mod OneWord

@@ -177,18 +177,6 @@ pub fn first_misread(
 
 // ---- one word
 
-// Each byte becomes that of the other slice.
-fn copy(from: &[u8], to: &mut [u8])
-    requires { ⌜ length (now to) ≡ length (now from) ⌝ }
-    ensures { λ r. ⌜ now (to .exit) ≡ now (from .entry) ⌝ }
-{
-    let mut i: usize = 0;
-    while i < from.len() {
-        to[i] = from[i];
-        i += 1;
-    }
-}
-
 // Input i becomes NULL: both of its rails are low.
 fn null_input(rails: &mut [u8], i: usize)
     requires { ⌜ 2 * i + 1 < length (now rails) ⌝ }
@@ -223,7 +211,7 @@ fn data_without(
     requires { ⌜ Settleable (now s) (now places) (now order) (now rails) (length (now spare)) × OutputsThere (now s) (now outputs) × (length (now nulled) ≡ length (now rails)) × (2 * i + 1 < length (now rails)) ⌝ }
     ensures { λ r. ⌜ r ≡ dataWithout (gatesAt (now (s .entry)) (now (places .entry)) (length (now (spare .entry)))) (pairsAt (now (s .entry)) (now (outputs .entry))) (now (rails .entry)) i ⌝ }
 {
-    copy(rails, nulled);
+    settle::copy_first(rails, rails.len(), nulled);
     null_input(nulled, i);
     settle::settle(s, places, order, nulled, spare);
     all_data(s, outputs, nulled, spare)
@@ -285,7 +273,7 @@ fn unobserved_at(
     if levels[g] == 0 {
         return false;
     }
-    copy(levels, spare);
+    settle::copy_first(levels, levels.len(), spare);
     let start = position[g] as usize;
     settle::settle_from(s, places, order, rails, spare, start, g);
     all_data(s, outputs, rails, spare)

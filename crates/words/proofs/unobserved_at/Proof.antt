@@ -1,6 +1,7 @@
 -- `words::unobserved_at` meets its contract: no gate before g in the order is g, so those have the levels that they are to have with g
 -- held low. Assumes nothing.
 use native.Mathlib.Omega.{arith}
+use Rattle.settle.proofs.Copying.{copied-whole}
 use Rattle.words.proofs.OneWord.{unobserved-low, unobserved-high, hold-ready}
 use borrow.Author.Needs.{needs}
 use Rattle.words.proofs.unobserved_at.Statement.{statement}
@@ -12,8 +13,8 @@ shared-slice-read-if1 c = search needs
 returns : tie.Need-returns
 returns c = unobserved-low _ _ _ _ _ _ _ (c .before .before .before .before .before .before .before .before .before .before .pre .3) (c .if1 .taken)
 
-copy-requires : tie.Need-copy-requires
-copy-requires c κs = search needs
+copy-first-requires : tie.Need-copy-first-requires
+copy-first-requires c κs = search needs
 
 mul-start : tie.Need-mul-start
 mul-start c = search needs
@@ -25,7 +26,7 @@ cast-start : tie.Need-cast-start
 cast-start c = omega (arith, c .shared-slice-known9 .given (c .before .before .before .before .before .before .before .before .before .before .before .before .before .before .before .args .g))
 
 settle-from-requires : tie.Need-settle-from-requires
-settle-from-requires c κs = let p = c .before .before .before .before .before .before .before .before .before .before .before .before .before .before .before .before .pre in hold-ready _ _ _ _ _ _ _ (p .0) (p .1) (p .5) _ _ (p .3) (c .before .before .before .before .copy .ensures) (omega arith)
+settle-from-requires c κs = let p = c .before .before .before .before .before .before .before .before .before .before .before .before .before .before .before .before .pre in hold-ready _ _ _ _ _ _ _ (p .0) (p .1) (p .5) _ _ (p .3) (copied-whole _ _ (omega arith) (c .before .before .before .before .copy-first .ensures)) (omega arith)
 
 all-data-requires : tie.Need-all-data-requires
 all-data-requires c κs = search needs
@@ -42,7 +43,7 @@ unobserved-at-spec =
     (tie.spec
     shared-slice-read-if1
     returns
-    copy-requires
+    copy-first-requires
     mul-start
     shared-slice-read-start
     cast-start
