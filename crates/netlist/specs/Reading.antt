@@ -1,5 +1,5 @@
 -- Reading a whole file: its commands one after the other, the refusals 7 to 9 at the end command, and what a readable file gives.
-use Prim.Native.Nat.{ℕ, zero, suc, _+_, _*_}
+use Prim.Native.Nat.{ℕ, zero, suc, _+_, _*_, _≤_}
 use mathlib.Core.Bool.{Bool, cond}
 use mathlib.Core.List.{List, [], _∷_, _++_}
 use lib.ListN.{length}
@@ -113,6 +113,12 @@ stageLimits = record { inputs = 10; gates = 128; outputs = 16 }
 
 abbrev pub referenceLimits : Limits
 referenceLimits = record { inputs = 10; gates = 256; outputs = 16 }
+
+-- counts within some limits
+pub record Within (most : Limits) (c : Counts) : Type 0 where
+  pub inputs-in : c .inputs ≤ most .inputs
+  pub gates-in : c .gates ≤ most .gates
+  pub outputs-in : c .outputs ≤ most .outputs
 
 -- ---- a reading as the code answers it: the refusal or the counts; the places go to a slice that the caller lends
 

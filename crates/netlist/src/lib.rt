@@ -3,6 +3,7 @@ ghost use mathlib.Core.Path.{_≡_};
 ghost use Prim.Native.Nat.{_+_, _<_};
 ghost use lib.ListN.{length};
 ghost use Rattle.netlist.specs.Bytes as bytes;
+ghost use Rattle.netlist.specs.Reading as reading;
 
 // Which of the two files is read.
 pub enum File {
@@ -24,6 +25,37 @@ pub struct Limits {
     pub inputs: usize,
     pub gates: usize,
     pub outputs: usize,
+}
+
+// What the two files may have; workspaces are as large as these make them.
+pub const INPUTS: usize = 10;
+
+pub const OUTPUTS: usize = 16;
+
+pub const STAGE_GATES: usize = 128;
+
+pub const REFERENCE_GATES: usize = 256;
+
+// The limits of a stage file.
+pub fn stage_limits() -> Limits
+    ensures { λ r. ⌜ r ≡ reading.stageLimits ⌝ }
+{
+    Limits {
+        inputs: INPUTS,
+        gates: STAGE_GATES,
+        outputs: OUTPUTS,
+    }
+}
+
+// The limits of a reference file.
+pub fn reference_limits() -> Limits
+    ensures { λ r. ⌜ r ≡ reading.referenceLimits ⌝ }
+{
+    Limits {
+        inputs: INPUTS,
+        gates: REFERENCE_GATES,
+        outputs: OUTPUTS,
+    }
 }
 
 // A position in a file.
