@@ -10,6 +10,7 @@ use Rattle.netlist.specs.Reading as r
 use Rattle.netlist.specs.Content as t
 use Rattle.verdict.specs.declared.Verdict.{Verdict}
 use Rattle.verdict.specs.Rows as o
+use Rattle.verdict.specs.Graph as g
 use Rattle.verdict.specs.Loops as l
 use Rattle.verdict.specs.Answers as a
 use Rattle.verdict.specs.Checks as h
@@ -233,19 +234,19 @@ abbrev expected : List Case → List Verdict
 expected cases = map (λ (x : Case). x .expected) cases
 
 pub twelve-cases : judged twelve ≡ expected twelve
-unfolding twelve wire wireReference wholeStage andReference swapped notReference earlyAnd wires wireSignals c.cells c.cellAt c.pinCount c.setExpression c.kindOf b.operand b.operands k.sortOf k.operandCount k.operandsFrom k.width k.pinsNeeded k.needed k.stray k.inputsAt k.misfit k.misfitFrom k.unlessMisfit k.gateAt k.outputAt k.wholeAt k.nextAt r.roleOf r.names r.nameless r.orLater r.namelessIn r.namelessFrom r.unlessNameless r.finish r.onCommand r.onNext r.countsOf r.readFrom r.readFile t.stageOf t.referenceOf o.bitsOf o.railsOf o.withNull o.isSet o.rounds o.settledLevels o.levelsHolding o.allData l.isFed l.reachedFrom l.reachesItself a.operate a.evaluate a.answer h.least h.numbers h.words h.atFault h.sweep h.unequal h.looped h.wrongOutput h.missingInput h.unobservedGate h.checks v.firstFault v.judgeReference v.judgeStage v.verdictWithin
+unfolding twelve wire wireReference wholeStage andReference swapped notReference earlyAnd wires wireSignals c.cells c.cellAt c.pinCount c.setExpression c.kindOf b.operand b.operands k.sortOf k.operandCount k.operandsFrom k.width k.pinsNeeded k.needed k.stray k.inputsAt k.misfit k.misfitFrom k.unlessMisfit k.gateAt k.outputAt k.wholeAt k.nextAt r.roleOf r.names r.nameless r.orLater r.namelessIn r.namelessFrom r.unlessNameless r.finish r.onCommand r.onNext r.countsOf r.readFrom r.readFile t.stageOf t.referenceOf o.bitsOf o.railsOf o.withNull o.isSet o.rounds o.settledLevels o.levelsHolding o.allData g.tabulate g.leading l.gateSteps l.reachesItself a.operate a.evaluate a.answer h.least h.numbers h.words h.atFault h.sweep h.unequal h.looped h.wrongOutput h.missingInput h.unobservedGate h.checks v.firstFault v.judgeReference v.judgeStage v.verdictWithin
 twelve-cases = refl
 
 pub table-examples : judged examples ≡ expected examples
-unfolding examples outputs wire wireReference c.cells c.cellAt c.pinCount c.setExpression c.kindOf b.operand b.operands k.sortOf k.operandCount k.operandsFrom k.width k.pinsNeeded k.needed k.stray k.inputsAt k.misfit k.misfitFrom k.unlessMisfit k.gateAt k.outputAt k.wholeAt k.nextAt r.roleOf r.names r.nameless r.orLater r.namelessIn r.namelessFrom r.unlessNameless r.finish r.onCommand r.onNext r.countsOf r.readFrom r.readFile t.stageOf t.referenceOf o.bitsOf o.railsOf o.withNull o.isSet o.rounds o.settledLevels o.levelsHolding o.allData l.isFed l.reachedFrom l.reachesItself a.operate a.evaluate a.answer h.least h.numbers h.words h.atFault h.sweep h.unequal h.looped h.wrongOutput h.missingInput h.unobservedGate h.checks v.firstFault v.judgeReference v.judgeStage v.verdictWithin
+unfolding examples outputs wire wireReference c.cells c.cellAt c.pinCount c.setExpression c.kindOf b.operand b.operands k.sortOf k.operandCount k.operandsFrom k.width k.pinsNeeded k.needed k.stray k.inputsAt k.misfit k.misfitFrom k.unlessMisfit k.gateAt k.outputAt k.wholeAt k.nextAt r.roleOf r.names r.nameless r.orLater r.namelessIn r.namelessFrom r.unlessNameless r.finish r.onCommand r.onNext r.countsOf r.readFrom r.readFile t.stageOf t.referenceOf o.bitsOf o.railsOf o.withNull o.isSet o.rounds o.settledLevels o.levelsHolding o.allData g.tabulate g.leading l.gateSteps l.reachesItself a.operate a.evaluate a.answer h.least h.numbers h.words h.atFault h.sweep h.unequal h.looped h.wrongOutput h.missingInput h.unobservedGate h.checks v.firstFault v.judgeReference v.judgeStage v.verdictWithin
 table-examples = refl
 
 pub named-first : judged ordered ≡ expected ordered
-unfolding ordered firstInput wire wireReference andReference c.cells c.cellAt c.pinCount c.setExpression c.kindOf b.operand b.operands k.sortOf k.operandCount k.operandsFrom k.width k.pinsNeeded k.needed k.stray k.inputsAt k.misfit k.misfitFrom k.unlessMisfit k.gateAt k.outputAt k.wholeAt k.nextAt r.roleOf r.names r.nameless r.orLater r.namelessIn r.namelessFrom r.unlessNameless r.finish r.onCommand r.onNext r.countsOf r.readFrom r.readFile t.stageOf t.referenceOf o.bitsOf o.railsOf o.withNull o.isSet o.rounds o.settledLevels o.levelsHolding o.allData l.isFed l.reachedFrom l.reachesItself a.operate a.evaluate a.answer h.least h.numbers h.words h.atFault h.sweep h.unequal h.looped h.wrongOutput h.missingInput h.unobservedGate h.checks v.firstFault v.judgeReference v.judgeStage v.verdictWithin
+unfolding ordered firstInput wire wireReference andReference c.cells c.cellAt c.pinCount c.setExpression c.kindOf b.operand b.operands k.sortOf k.operandCount k.operandsFrom k.width k.pinsNeeded k.needed k.stray k.inputsAt k.misfit k.misfitFrom k.unlessMisfit k.gateAt k.outputAt k.wholeAt k.nextAt r.roleOf r.names r.nameless r.orLater r.namelessIn r.namelessFrom r.unlessNameless r.finish r.onCommand r.onNext r.countsOf r.readFrom r.readFile t.stageOf t.referenceOf o.bitsOf o.railsOf o.withNull o.isSet o.rounds o.settledLevels o.levelsHolding o.allData g.tabulate g.leading l.gateSteps l.reachesItself a.operate a.evaluate a.answer h.least h.numbers h.words h.atFault h.sweep h.unequal h.looped h.wrongOutput h.missingInput h.unobservedGate h.checks v.firstFault v.judgeReference v.judgeStage v.verdictWithin
 named-first = refl
 
 pub refused-first : judged refused ≡ expected refused
-unfolding refused gates inverters firstInput swapped wire wireReference andReference c.cells c.cellAt c.pinCount c.setExpression c.kindOf b.operand b.operands k.sortOf k.operandCount k.operandsFrom k.width k.pinsNeeded k.needed k.stray k.inputsAt k.misfit k.misfitFrom k.unlessMisfit k.gateAt k.outputAt k.wholeAt k.nextAt r.roleOf r.names r.nameless r.orLater r.namelessIn r.namelessFrom r.unlessNameless r.finish r.onCommand r.onNext r.countsOf r.readFrom r.readFile t.stageOf t.referenceOf o.bitsOf o.railsOf o.withNull o.isSet o.rounds o.settledLevels o.levelsHolding o.allData l.isFed l.reachedFrom l.reachesItself a.operate a.evaluate a.answer h.least h.numbers h.words h.atFault h.sweep h.unequal h.looped h.wrongOutput h.missingInput h.unobservedGate h.checks v.firstFault v.judgeReference v.judgeStage v.verdictWithin
+unfolding refused gates inverters firstInput swapped wire wireReference andReference c.cells c.cellAt c.pinCount c.setExpression c.kindOf b.operand b.operands k.sortOf k.operandCount k.operandsFrom k.width k.pinsNeeded k.needed k.stray k.inputsAt k.misfit k.misfitFrom k.unlessMisfit k.gateAt k.outputAt k.wholeAt k.nextAt r.roleOf r.names r.nameless r.orLater r.namelessIn r.namelessFrom r.unlessNameless r.finish r.onCommand r.onNext r.countsOf r.readFrom r.readFile t.stageOf t.referenceOf o.bitsOf o.railsOf o.withNull o.isSet o.rounds o.settledLevels o.levelsHolding o.allData g.tabulate g.leading l.gateSteps l.reachesItself a.operate a.evaluate a.answer h.least h.numbers h.words h.atFault h.sweep h.unequal h.looped h.wrongOutput h.missingInput h.unobservedGate h.checks v.firstFault v.judgeReference v.judgeStage v.verdictWithin
 refused-first = refl
 
 -- ---- the settled-row call
@@ -272,5 +273,5 @@ rowExamples =
     []
 
 pub row-cases : map (λ (x : RowCase). settledRow (x .stage) (x .row)) rowExamples ≡ map (λ (x : RowCase). x .expected) rowExamples
-unfolding rowExamples wire wholeStage c.cells c.cellAt c.pinCount c.setExpression c.kindOf b.operand b.operands k.sortOf k.operandCount k.operandsFrom k.width k.pinsNeeded k.needed k.stray k.inputsAt k.misfit k.misfitFrom k.unlessMisfit k.gateAt k.outputAt k.wholeAt k.nextAt r.roleOf r.names r.nameless r.orLater r.namelessIn r.namelessFrom r.unlessNameless r.finish r.onCommand r.onNext r.countsOf r.readFrom r.readFile t.stageOf o.isSet o.rounds o.settledLevels l.isFed l.reachedFrom l.reachesItself h.least h.atFault h.looped v.illegalInput v.settleLegal v.settleLoopFree v.settleReading v.settledRowWithin
+unfolding rowExamples wire wholeStage c.cells c.cellAt c.pinCount c.setExpression c.kindOf b.operand b.operands k.sortOf k.operandCount k.operandsFrom k.width k.pinsNeeded k.needed k.stray k.inputsAt k.misfit k.misfitFrom k.unlessMisfit k.gateAt k.outputAt k.wholeAt k.nextAt r.roleOf r.names r.nameless r.orLater r.namelessIn r.namelessFrom r.unlessNameless r.finish r.onCommand r.onNext r.countsOf r.readFrom r.readFile t.stageOf o.isSet o.rounds o.settledLevels g.tabulate g.leading l.gateSteps l.reachesItself h.least h.atFault h.looped v.illegalInput v.settleLegal v.settleLoopFree v.settleReading v.settledRowWithin
 row-cases = refl

@@ -19,7 +19,7 @@ use Rattle.verdict.specs.declared.Verdict.{Verdict}
 use Rattle.verdict.specs.declared.Finding.{Finding}
 use Rattle.verdict.specs.declared.Finding.the-variants.{Fault, Clear}
 use Rattle.verdict.specs.Rows.{high, pairIn, isData, spells, allData, settled, settledHolding, only, withNull, bitsOf}
-use Rattle.verdict.specs.Loops.{Reaches, reachesItself}
+use Rattle.verdict.specs.Loops.{reachesItself}
 use Rattle.verdict.specs.Answers.{answer}
 use Rattle.verdict.specs.Checks as c
 use Rattle.verdict.specs.Checks.{verdict, least, numbers, words, sweep, atFault, unequal, noPair, outputPair, railsIn, wrongOutput, missingInput, unobservedGate, checks}

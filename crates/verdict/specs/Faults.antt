@@ -12,7 +12,7 @@ use Rattle.netlist.specs.Reading.{Reading, refused, readable, readFile}
 use Rattle.netlist.specs.Content.{Stage, Reference, stageOf, referenceOf}
 use Rattle.verdict.specs.declared.Verdict.{Verdict}
 use Rattle.verdict.specs.Rows.{high, bitsOf, only, withNull, Settled, settled, settledHolding, pairIn, isData, spells}
-use Rattle.verdict.specs.Loops.{Reaches, NoLoop}
+use Rattle.verdict.specs.Loops.{ReachesItself, NoLoop}
 use Rattle.verdict.specs.Answers.{answer}
 use Rattle.verdict.specs.Checks.{verdict, outputPair, railsIn}
 
@@ -65,8 +65,8 @@ WithoutLoop s = NoLoop (s .inputs) (s .gates)
 -- gate g reaches itself, and no lesser one does
 pub record LeastLoop (s : Stage) (g : ℕ) : Type 0 where
   pub gate-in : g < length (s .gates)
-  pub loop : Reaches (s .inputs) (s .gates) g g
-  pub least : (g′ : ℕ) → g′ < g → ¬ (Reaches (s .inputs) (s .gates) g′ g′)
+  pub loop : ReachesItself (s .inputs) (s .gates) g
+  pub least : (g′ : ℕ) → g′ < g → ¬ (ReachesItself (s .inputs) (s .gates) g′)
 
 -- ---- why a parsed pair gets its verdict
 

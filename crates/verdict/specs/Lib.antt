@@ -1,5 +1,6 @@
 pub mod Levels
 pub mod Rows
+pub mod Graph
 pub mod Loops
 pub mod Answers
 pub mod Checks
