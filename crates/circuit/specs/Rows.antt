@@ -7,7 +7,7 @@ use lib.ListN.{length, getD, set, take, drop}
 use Rattle.netlist.specs.declared.Counts.{Counts}
 use Rattle.netlist.specs.Content.{Gate}
 use Rattle.verdict.specs.Rows as rows
-use Rattle.circuit.specs.Stage.{netCount, pinIn, gatesIn, pairIn}
+use Rattle.circuit.specs.Stage.{netCount, pinIn, gatesIn, outputIn}
 use Rattle.circuit.specs.Order.{orderIn}
 
 -- levels that are 0 and 1, one for each net, and 0 for the ground
@@ -20,11 +20,11 @@ pub record RowFor (c : Counts) (row : List ℕ) : Type 0 where
 abbrev pub grounded : List ℕ → List ℕ
 grounded row = row ++ (0 ∷ [])
 
-abbrev pub railsIn : Counts → List ℕ → List ℕ
-railsIn c row = take (2 * c .inputs) row
+abbrev pub railPart : Counts → List ℕ → List ℕ
+railPart c row = take (2 * c .inputs) row
 
-abbrev pub levelsIn : Counts → List ℕ → List ℕ
-levelsIn c row = take (c .gates) (drop (2 * c .inputs) row)
+abbrev pub levelPart : Counts → List ℕ → List ℕ
+levelPart c row = take (c .gates) (drop (2 * c .inputs) row)
 
 -- the level of a net, which is 0 or 1
 pub record LevelOf (row : List ℕ) (net level : ℕ) : Type 0 where
@@ -48,21 +48,21 @@ SettledBefore m h gates order rails levels = (i : ℕ) → i < m → getD levels
 
 -- the same of a row in its flat form
 abbrev pub SettledTo : ℕ → ℕ → Counts → List ℕ → List ℕ → Type 0
-SettledTo m h c code row = SettledBefore m h (gatesIn c code) (orderIn c code) (railsIn c row) (levelsIn c row)
+SettledTo m h c code row = SettledBefore m h (gatesIn c code) (orderIn c code) (railPart c row) (levelPart c row)
 
 -- the row of a stage that is settled, with the rails of a row
 abbrev pub settledIn : Counts → List ℕ → List ℕ → List ℕ
-settledIn c code row = rows.settled (gatesIn c code) (railsIn c row)
+settledIn c code row = rows.settled (gatesIn c code) (railPart c row)
 
 abbrev pub settledHoldingIn : ℕ → Counts → List ℕ → List ℕ → List ℕ
-settledHoldingIn h c code row = rows.settledHolding h (gatesIn c code) (railsIn c row)
+settledHoldingIn h c code row = rows.settledHolding h (gatesIn c code) (railPart c row)
 
 -- ---- outputs
 
 -- output j is not DATA in a row
 abbrev pub notData : Counts → List ℕ → List ℕ → ℕ → Bool
-notData c code row j = not (rows.isData (rows.pairIn row (pairIn c code j)))
+notData c code row j = not (rows.isData (rows.pairIn row (outputIn c code j)))
 
 -- output j does not read as a value
 abbrev pub misread : Counts → List ℕ → List ℕ → (ℕ → ℕ) → ℕ → Bool
-misread c code row value j = not (rows.spells (rows.pairIn row (pairIn c code j)) (value j))
+misread c code row value j = not (rows.spells (rows.pairIn row (outputIn c code j)) (value j))

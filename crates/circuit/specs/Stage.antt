@@ -52,16 +52,16 @@ gatesIn c code = tabulate (gateIn code) (c .gates)
 
 -- ---- outputs
 
-abbrev pub pairIn : Counts → List ℕ → ℕ → Pair
-pairIn c code j = record { rail0 = getD code (8 * c .gates + 2 * j) 0; rail1 = getD code (8 * c .gates + 2 * j + 1) 0 }
+abbrev pub outputIn : Counts → List ℕ → ℕ → Pair
+outputIn c code j = record { rail0 = getD code (8 * c .gates + 2 * j) 0; rail1 = getD code (8 * c .gates + 2 * j + 1) 0 }
 
-unfoldable pub pairsIn : Counts → List ℕ → List Pair
-pairsIn c code = tabulate (pairIn c code) (c .outputs)
+unfoldable pub outputsIn : Counts → List ℕ → List Pair
+outputsIn c code = tabulate (outputIn c code) (c .outputs)
 
 -- ---- the stage
 
 abbrev pub stageIn : Counts → List ℕ → Stage
-stageIn c code = record { inputs = c .inputs; gates = gatesIn c code; outputs = pairsIn c code }
+stageIn c code = record { inputs = c .inputs; gates = gatesIn c code; outputs = outputsIn c code }
 
 -- gate k is of a known cell, with nets at its pins and the ground at those that it lacks
 pub record GateLoaded (c : Counts) (code : List ℕ) (k : ℕ) : Type 0 where
@@ -75,5 +75,5 @@ pub record StageLoaded (c : Counts) (code : List ℕ) : Type 0 where
   pub within : Within stageLimits c
   pub room : 8 * c .gates + 2 * c .outputs ≤ length code
   pub gate : (k : ℕ) → k < c .gates → GateLoaded c code k
-  pub rail0-net : (j : ℕ) → j < c .outputs → pairIn c code j .rail0 < netCount c
-  pub rail1-net : (j : ℕ) → j < c .outputs → pairIn c code j .rail1 < netCount c
+  pub rail0-net : (j : ℕ) → j < c .outputs → outputIn c code j .rail0 < netCount c
+  pub rail1-net : (j : ℕ) → j < c .outputs → outputIn c code j .rail1 < netCount c
