@@ -28,10 +28,13 @@ set-rises u v h (g ∷ gates) =
     let more = holds-mono e (pinHigh u g) (pinHigh v g) (pins-mono u v h (g .pins)) in
     (bit-mono (holds e (pinHigh u g)) (holds e (pinHigh v g)) more, set-rises u v h gates)
 
-pub set-bits : (u : List ℕ) (gates : List Gate) → Bits (length gates) (map (isSet u) gates)
+pub isSet-binary : (u : List ℕ) (g : Gate) → isSet u g ≤ 1
 unfolding isSet
+isSet-binary u g = bit-≤-1 (holds (setExpression (g .cell)) (pinHigh u g))
+
+pub set-bits : (u : List ℕ) (gates : List Gate) → Bits (length gates) (map (isSet u) gates)
 set-bits u [] = tt
-set-bits u (g ∷ gates) = (bit-≤-1 (holds (setExpression (g .cell)) (pinHigh u g)), set-bits u gates)
+set-bits u (g ∷ gates) = (isSet-binary u g, set-bits u gates)
 
 -- ---- one gate
 

@@ -1,6 +1,6 @@
 -- The test of check 12 passes at a gate exactly if the gate reaches itself through pins; and where it passes at none, nets have a rank.
 -- Assumes nothing.
-use Prim.Native.Nat.{ℕ, _+_, _-_, _*_, _<_}
+use Prim.Native.Nat.{ℕ, _+_, _-_, _*_, _≤_, _<_}
 use native.Mathlib.Omega.{arith}
 use native.Mathlib.Decide.{decLt}
 use mathlib.Core.Path.{_≡_, refl, subst}
@@ -9,7 +9,8 @@ use mathlib.Core.List.{List, [], map}
 use lib.ListN.{length, length-map, List·getD-eq-default}
 use borrow.Author.Tests.{lt-ltb, le-ltb}
 use Rattle.netlist.specs.Content.{Gate}
-use Rattle.verdict.specs.Loops.{In, pinsAt, gateSteps, ReachesItself, reachesItself, NoLoop, LoopFree}
+use Rattle.verdict.specs.Graph.{Leads, here, onward}
+use Rattle.verdict.specs.Loops.{In, pinsAt, Feeds, gateSteps, ReachesItself, reachesItself, NoLoop, LoopFree}
 use Rattle.verdict.proofs.Graph.{onLoop-sound, onLoop-complete, rank, rank-falls}
 
 module _ (n : ℕ) (gates : List Gate) where
@@ -69,3 +70,17 @@ module _ (n : ℕ) (gates : List Gate) where
   unfolding rankOf
   rank-pin free p k i =
       rank-falls (gateSteps n gates) (2 * n + length gates) inside (2 * n + k) p (loopFree-noLoop free k (pin-gate p k i)) (rw (steps-gate k) i)
+
+  -- and where gates have places such that what feeds a gate comes before it, there is no loop
+  module _ (place : ℕ → ℕ) (before : (j k : ℕ) → j < length gates → k < length gates → Feeds n gates j k → place j < place k) where
+    leads-before : (g : ℕ) → g < length gates → {x : ℕ} → Leads (gateSteps n gates) (2 * n + g) x → (k : ℕ) × (k < length gates) × (x ≡ 2 * n + k) × (place g ≤ place k)
+    leads-before g hg here = (g, hg, refl, omega arith)
+    leads-before g hg (onward {x = x} {z = z} i l) =
+        let s = step-gate x z i in
+        let r = leads-before g hg l in
+        (s .0, s .1, s .2, omega (arith, r .3, before (r .0) (s .0) (r .1) (s .1) (subst (λ (p : ℕ). In p (pinsAt gates (s .0))) (r .2) (s .3))))
+
+    pub placed-free : LoopFree n gates
+    placed-free = noLoop-loopFree (λ g hg l.
+        let r = leads-before g hg (l .2) in
+        omega (arith, r .3, before (r .0) g (r .1) hg (subst (λ (p : ℕ). In p (pinsAt gates g)) (r .2) (rw (steps-gate g) at (l .1)))))
