@@ -1,77 +1,135 @@
--- `loops::fed` meets its contract: the kind decides how many pins there are, and their operands are the gate's pins. Assumes nothing.
-use mathlib.Core.Path.{sym, _∙_}
-use native.Mathlib.Omega.{arith}
-use denote.Ref.{now}
-use Rattle.settle.proofs.Pins.{kind-hold}
-use Rattle.settle.proofs.Places.{fed-hold, fed-unknown}
 use borrow.Author.Needs.{needs}
 use Rattle.loops.proofs.fed.Statement.{statement}
 use Rattle.loops.proofs.fed.Tie as tie
 use Rattle.loops.proofs.fed.Reads as reads
 use Rattle.loops.proofs.fed.Lts as lts
-use Rattle.gates.proofs.kind_of.Reads as kind-of-reads
-use Rattle.loops.proofs.any_marked.Reads as any-marked-reads
 
-mul-place : tie.Need-mul-place
-mul-place c = omega arith
+-- src/lib.rt:23:14
+mul-at : tie.Need-mul-at
+mul-at c = search needs
 
-shared-slice-read-place : tie.Need-shared-slice-read-place
-shared-slice-read-place c = omega arith
+-- src/lib.rt:24:18
+add-a : tie.Need-add-a
+add-a c = search needs
 
-cast-place : tie.Need-cast-place
-cast-place c = omega (arith, c .shared-slice-known4 .given (c .before .before .before .before .args .k))
+-- src/lib.rt:24:13
+mul-a : tie.Need-mul-a
+mul-a c = search needs
 
-add-kind-of : tie.Need-add-kind-of
-add-kind-of c = omega (arith, c .before .before .before .before .pre .0 .room (c .before .before .before .before .args .k) (c .before .before .before .before .pre .2))
+-- src/lib.rt:24:13
+shared-slice-read-a : tie.Need-shared-slice-read-a
+shared-slice-read-a c = search needs
 
-shared-slice-read-kind-of : tie.Need-shared-slice-read-kind-of
-shared-slice-read-kind-of c = omega (arith, c .before .before .before .before .before .pre .0 .room (c .before .before .before .before .before .args .k) (c .before .before .before .before .before .pre .2))
+-- src/lib.rt:24:13
+cast-a : tie.Need-cast-a
+cast-a c = ?
 
-kind-of-requires : tie.Need-kind-of-requires
-kind-of-requires c κs = tt
+-- src/lib.rt:25:18
+add-b : tie.Need-add-b
+add-b c = search needs
 
-enum-known-kind : tie.Need-enum-known-kind
-enum-known-kind c = search needs
+-- src/lib.rt:25:13
+mul-b : tie.Need-mul-b
+mul-b c = search needs
 
-add-any-marked : tie.Need-add-any-marked
-add-any-marked c = omega (arith, c .before .before .before .before .before .before .before .before .before .pre .0 .room (c .before .before .before .before .before .before .before .before .before .args .k) (c .before .before .before .before .before .before .before .before .before .pre .2))
+-- src/lib.rt:25:13
+shared-slice-read-b : tie.Need-shared-slice-read-b
+shared-slice-read-b c = search needs
 
-cast-any-marked : tie.Need-cast-any-marked
-cast-any-marked c = omega arith
+-- src/lib.rt:25:13
+cast-b : tie.Need-cast-b
+cast-b c = ?
 
-any-marked-requires : tie.Need-any-marked-requires
-any-marked-requires c κs =
-    let z = c .before .before .before .before .before .before .before .before .before in
-    let k = kind-hold _ _ _ (sym (c .before .kind .given .1) ∙ c .before .before .before .kind-of .ensures) in
-    (omega (arith, k .four, z .pre .0 .room (z .args .k) (z .pre .2)), z .pre .1)
+-- src/lib.rt:26:18
+add-c : tie.Need-add-c
+add-c c = search needs
 
-enum-told : tie.Need-enum-told
-enum-told c = search needs
+-- src/lib.rt:26:13
+mul-c : tie.Need-mul-c
+mul-c c = search needs
 
+-- src/lib.rt:26:13
+shared-slice-read-c : tie.Need-shared-slice-read-c
+shared-slice-read-c c = search needs
+
+-- src/lib.rt:26:13
+cast-c : tie.Need-cast-c
+cast-c c = ?
+
+-- src/lib.rt:27:18
+add-d : tie.Need-add-d
+add-d c = search needs
+
+-- src/lib.rt:27:13
+mul-d : tie.Need-mul-d
+mul-d c = search needs
+
+-- src/lib.rt:27:13
+shared-slice-read-d : tie.Need-shared-slice-read-d
+shared-slice-read-d c = search needs
+
+-- src/lib.rt:27:13
+cast-d : tie.Need-cast-d
+cast-d c = ?
+
+-- src/lib.rt:28:9
+shared-slice-read-result : tie.Need-shared-slice-read-result
+shared-slice-read-result c = ?
+
+-- src/lib.rt:28:20
+shared-slice-read-result-2 : tie.Need-shared-slice-read-result-2
+shared-slice-read-result-2 c = ?
+
+-- src/lib.rt:28:9
+add-result : tie.Need-add-result
+add-result c = ?
+
+-- src/lib.rt:28:31
+shared-slice-read-result-3 : tie.Need-shared-slice-read-result-3
+shared-slice-read-result-3 c = ?
+
+-- src/lib.rt:28:9
+add-result-2 : tie.Need-add-result-2
+add-result-2 c = ?
+
+-- src/lib.rt:28:42
+shared-slice-read-result-4 : tie.Need-shared-slice-read-result-4
+shared-slice-read-result-4 c = ?
+
+-- src/lib.rt:28:9
+add-result-3 : tie.Need-add-result-3
+add-result-3 c = ?
+
+-- src/lib.rt:19:1
 returns : tie.Need-returns
-returns c =
-    let z = c .before .before .before .before .before .before .before .before .before .before in
-    fed-hold (now (z .args .s)) (now (z .args .places)) _ (z .pre .0) (z .args .inputs) (now (z .args .marks)) _ (z .pre .2) _ _ (sym (c .before .before .kind .given .1) ∙ c .before .before .before .before .kind-of .ensures) _ (c .any-marked .ensures)
-
-returns-2 : tie.Need-returns-2
-returns-2 c =
-    let z = c .before .before .before .before .before .before .before .before in
-    fed-unknown (now (z .args .s)) (now (z .args .places)) _ (z .pre .0) (z .args .inputs) (now (z .args .marks)) _ (z .pre .2) (sym (c .enum-told .given .1) ∙ c .before .before .kind-of .ensures)
+returns c = ?
 
 pub fed-spec : {M : Type 1} → statement M
 fed-spec =
     tie.close
     (tie.spec
-    mul-place
-    shared-slice-read-place
-    cast-place
-    add-kind-of
-    shared-slice-read-kind-of
-    kind-of-requires
-    enum-known-kind
-    add-any-marked
-    cast-any-marked
-    any-marked-requires
-    enum-told
-    returns
-    returns-2)
+    mul-at
+    add-a
+    mul-a
+    shared-slice-read-a
+    cast-a
+    add-b
+    mul-b
+    shared-slice-read-b
+    cast-b
+    add-c
+    mul-c
+    shared-slice-read-c
+    cast-c
+    add-d
+    mul-d
+    shared-slice-read-d
+    cast-d
+    shared-slice-read-result
+    shared-slice-read-result-2
+    add-result
+    shared-slice-read-result-3
+    add-result-2
+    shared-slice-read-result-4
+    add-result-3
+    returns)
