@@ -15,12 +15,12 @@ use Rattle.verdict.specs.Checks.{least}
 use Rattle.verdict.specs.Levels.{sum}
 use Rattle.circuit.specs.Stage.{netCount, gatesIn, stageIn, StageLoaded}
 use Rattle.circuit.specs.Order.{InOrder}
+use Rattle.circuit.specs.Rows.{RowFor}
 
--- marks of 0 and 1 for each net, and none on the ground
-pub record MarksFor (c : Counts) (marks : List ℕ) : Type 0 where
-  pub room : netCount c < length marks
-  pub bit : (p : ℕ) → getD marks p 0 ≤ 1
-  pub ground : getD marks (netCount c) 0 ≡ 0
+-- a row with no mark
+pub record Unmarked (c : Counts) (marks : List ℕ) : Type 0 where
+  pub long : length marks ≡ netCount c + 1
+  pub none : (p : ℕ) → getD marks p 0 ≡ 0
 
 -- a marked net is at a pin of gate k
 abbrev pub fedBy : List Gate → List ℕ → ℕ → Bool
@@ -28,7 +28,7 @@ fedBy gates marks k = anyHigh marks (pinsAt gates k)
 
 -- The net of gate g is marked, and marked nets lead to it.
 pub record Marking (c : Counts) (gates : List Gate) (g : ℕ) (marks : List ℕ) : Type 0 where
-  pub marks-for : MarksFor c marks
+  pub row-for : RowFor c marks
   pub self : high marks (2 * c .inputs + g) ≡ true
   pub back : (p : ℕ) → high marks p ≡ true → Leads (gateSteps (c .inputs) gates) (2 * c .inputs + g) p
 
@@ -37,11 +37,6 @@ pub record Grown (c : Counts) (gates : List Gate) (g : ℕ) (before marks : List
   pub marking : Marking c gates g marks
   pub rose : more ≡ true → sum before < sum marks
   pub done : more ≡ false → (k : ℕ) → k < c .gates → fedBy gates marks k ≡ true → high marks (2 * c .inputs + k) ≡ true
-
--- the marks tell whether gate g reaches itself
-pub record MarksTell (c : Counts) (gates : List Gate) (g : ℕ) (marks : List ℕ) : Type 0 where
-  pub marks-for : MarksFor c marks
-  pub tells : fedBy gates marks g ≡ reachesItself (c .inputs) gates g
 
 -- 12: the least gate that reaches itself. The stage is the same; where no gate was found its gates are in order.
 pub record LoopFound (c : Counts) (before code : List ℕ) (found : Found) : Type 0 where

@@ -1,7 +1,7 @@
 -- How a topological order is made in the code: gates wait until all that feed them are placed.
 use Prim.Native.Nat.{ℕ, _+_, _*_, _≤_, _<_}
 use mathlib.Core.Path.{_≡_}
-use mathlib.Core.Bool.{true, false}
+use mathlib.Core.Bool.{Bool, true, false, _&&_, not}
 use mathlib.Core.List.{List}
 use lib.ListN.{length, getD}
 use Rattle.netlist.specs.declared.Counts.{Counts}
@@ -10,7 +10,8 @@ use Rattle.verdict.specs.Loops.{Feeds, LoopFree}
 use Rattle.verdict.specs.Levels.{sum}
 use Rattle.circuit.specs.Stage.{gateAtPlace, placeOf, gatesIn, StageLoaded}
 use Rattle.circuit.specs.Order.{InOrder}
-use Rattle.loops.specs.Marks.{MarksFor, fedBy}
+use Rattle.circuit.specs.Rows.{RowFor}
+use Rattle.loops.specs.Marks.{fedBy}
 
 -- place i of the code is no place of the order
 abbrev pub Apart : Counts → ℕ → Type 0
@@ -23,7 +24,7 @@ pub record Reordered (c : Counts) (before code : List ℕ) : Type 0 where
 
 -- the first m gates wait, and no other net is marked
 pub record WaitTo (c : Counts) (marks : List ℕ) (m : ℕ) : Type 0 where
-  pub marks-for : MarksFor c marks
+  pub row-for : RowFor c marks
   pub total : sum marks ≡ m
   pub all : (k : ℕ) → k < m → high marks (2 * c .inputs + k) ≡ true
   pub only : (p : ℕ) → high marks p ≡ true → (k : ℕ) × (k < m) × (p ≡ 2 * c .inputs + k)
@@ -38,7 +39,7 @@ Gone c waiting k = high waiting (2 * c .inputs + k) ≡ false
 -- The gates that wait are marked; the others stand at the first `placed` places of the order, each after those that feed it.
 pub record Placing (c : Counts) (code waiting : List ℕ) (placed : ℕ) : Type 0 where
   pub loaded : StageLoaded c code
-  pub marks-for : MarksFor c waiting
+  pub row-for : RowFor c waiting
   pub total : sum waiting + placed ≡ c .gates
   pub only : (p : ℕ) → high waiting p ≡ true → (k : ℕ) × (k < c .gates) × (p ≡ 2 * c .inputs + k)
   pub taken : (i : ℕ) → i < placed → (gateAtPlace code i < c .gates) × Gone c waiting (gateAtPlace code i) × (placeOf code (gateAtPlace code i) ≡ i)
@@ -46,10 +47,8 @@ pub record Placing (c : Counts) (code waiting : List ℕ) (placed : ℕ) : Type 
   pub earlier : (j k : ℕ) → j < c .gates → k < c .gates → Gone c waiting k → Feeds (c .inputs) (gatesIn c code) j k → Gone c waiting j × (placeOf code j < placeOf code k)
 
 -- gate k waits, and no waiting gate feeds it
-pub record Ready (c : Counts) (code waiting : List ℕ) (k : ℕ) : Type 0 where
-  pub gate : k < c .gates
-  pub waits : Waits c waiting k
-  pub unfed : fedBy (gatesIn c code) waiting k ≡ false
+abbrev pub isReady : Counts → List ℕ → List ℕ → ℕ → Bool
+isReady c code waiting k = high waiting (2 * c .inputs + k) && not (fedBy (gatesIn c code) waiting k)
 
 -- A pass places more gates, or each that waits is fed by one that waits.
 pub record Passed (c : Counts) (code waiting : List ℕ) (before placed : ℕ) : Type 0 where

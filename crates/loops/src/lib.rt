@@ -3,36 +3,31 @@
 use netlist::Counts;
 use netlist::Found;
 ghost use mathlib.Core.Path.{_≡_};
-ghost use mathlib.Core.Bool.{_&&_, not};
-ghost use Prim.Native.Nat.{ℕ, _+_, _*_, _<_};
-ghost use lib.ListN.{length, replicate};
-ghost use Rattle.verdict.specs.Rows.{high};
+ghost use mathlib.Core.Bool.{Bool, true, false};
+ghost use Prim.Native.Nat.{ℕ, _+_, _<_};
+ghost use lib.ListN.{length};
 ghost use Rattle.verdict.specs.Loops.{reachesItself};
 ghost use Rattle.verdict.specs.Checks.{least};
-ghost use Rattle.circuit.specs.Stage.{netCount, gatesIn, StageLoaded};
-ghost use Rattle.loops.specs.Placing.{Placing, Ready, WaitTo, Passed, Ordered, Reordered};
-ghost use Rattle.loops.specs.Marks.{MarksFor, fedBy, Marking, Grown, MarksTell, LoopFound};
+ghost use Rattle.circuit.specs.Stage.{gatesIn, StageLoaded};
+ghost use Rattle.circuit.specs.Rows.{RowFor};
+ghost use Rattle.loops.specs.Placing.{Placing, isReady, WaitTo, Passed, Ordered, Reordered};
+ghost use Rattle.loops.specs.Marks.{Unmarked, fedBy, Marking, Grown, LoopFound};
 
 const ROW: usize = 2 * netlist::INPUTS + netlist::STAGE_GATES + 1;
 
-// Whether a marked net is at a pin of gate k. Pins that its cell lacks are at the ground.
+// Whether a marked net is at a pin of gate k.
 fn fed(code: &[u16], counts: Counts, k: usize, marks: &[u8]) -> bool
-    requires { ⌜ StageLoaded counts (now code) × MarksFor counts (now marks) × (k < counts .gates) ⌝ }
+    requires { ⌜ StageLoaded counts (now code) × (k < counts .gates) × RowFor counts (now marks) ⌝ }
     ensures { λ r. ⌜ r ≡ fedBy (gatesIn counts (now (code .entry))) (now (marks .entry)) k ⌝ }
 {
-    let at = 8 * k;
-    let a = code[at + 1] as usize;
-    let b = code[at + 2] as usize;
-    let c = code[at + 3] as usize;
-    let d = code[at + 4] as usize;
-    0 < marks[a] + marks[b] + marks[c] + marks[d]
+    0 < circuit::pattern(code, counts, k, marks)
 }
 
 // ---- a topological order
 
-// Marks on the gates: all of them wait.
+// Marks on all gates: they wait.
 fn wait_all(counts: Counts, marks: &mut [u8])
-    requires { ⌜ (netCount counts < length (now marks)) × (now marks ≡ replicate (length (now marks)) 0) ⌝ }
+    requires { ⌜ Unmarked counts (now marks) ⌝ }
     ensures { λ r. ⌜ WaitTo counts (now (marks .exit)) (counts .gates) ⌝ }
 {
     let first = 2 * counts.inputs;
@@ -46,8 +41,8 @@ fn wait_all(counts: Counts, marks: &mut [u8])
 
 // Whether gate k is to be placed: it waits, and no waiting gate feeds it.
 fn is_ready(code: &[u16], counts: Counts, k: usize, waiting: &[u8]) -> bool
-    requires { ⌜ StageLoaded counts (now code) × MarksFor counts (now waiting) × (k < counts .gates) ⌝ }
-    ensures { λ r. ⌜ r ≡ (high (now (waiting .entry)) (2 * counts .inputs + k) && not (fedBy (gatesIn counts (now (code .entry))) (now (waiting .entry)) k)) ⌝ }
+    requires { ⌜ StageLoaded counts (now code) × (k < counts .gates) × RowFor counts (now waiting) ⌝ }
+    ensures { λ r. ⌜ r ≡ isReady counts (now (code .entry)) (now (waiting .entry)) k ⌝ }
 {
     if waiting[2 * counts.inputs + k] == 0 {
         return false;
@@ -57,7 +52,7 @@ fn is_ready(code: &[u16], counts: Counts, k: usize, waiting: &[u8]) -> bool
 
 // Gate k, which is ready, takes the next place of the order.
 fn place(code: &mut [u16], counts: Counts, k: usize, waiting: &mut [u8], placed: usize)
-    requires { ⌜ Placing counts (now code) (now waiting) placed × Ready counts (now code) (now waiting) k ⌝ }
+    requires { ⌜ Placing counts (now code) (now waiting) placed × (k < counts .gates) × (isReady counts (now code) (now waiting) k ≡ true) ⌝ }
     ensures { λ r. ⌜ Placing counts (now (code .exit)) (now (waiting .exit)) (placed + 1) × Reordered counts (now (code .entry)) (now (code .exit)) ⌝ }
 {
     code[8 * placed + 5] = k as u16;

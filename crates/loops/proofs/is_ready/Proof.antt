@@ -5,27 +5,27 @@ use Rattle.loops.proofs.is_ready.Reads as reads
 use Rattle.loops.proofs.is_ready.Lts as lts
 use Rattle.loops.proofs.fed.Reads as fed-reads
 
--- src/lib.rt:52:16
+-- src/lib.rt:47:16
 mul-if1 : tie.Need-mul-if1
 mul-if1 c = search needs
 
--- src/lib.rt:52:16
+-- src/lib.rt:47:16
 add-if1 : tie.Need-add-if1
 add-if1 c = search needs
 
--- src/lib.rt:52:8
+-- src/lib.rt:47:8
 shared-slice-read-if1 : tie.Need-shared-slice-read-if1
 shared-slice-read-if1 c = search needs
 
--- src/lib.rt:53:9
+-- src/lib.rt:48:9
 returns : tie.Need-returns
 returns c = ?
 
--- src/lib.rt:55:6
+-- src/lib.rt:50:6
 fed-requires : tie.Need-fed-requires
 fed-requires c κs = search needs
 
--- src/lib.rt:48:1
+-- src/lib.rt:43:1
 returns-2 : tie.Need-returns-2
 returns-2 c = ?
 

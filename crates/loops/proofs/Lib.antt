@@ -1,0 +1,4 @@
+pub mod Sums
+pub mod Feeding
+pub mod Reordering
+pub mod Placing
