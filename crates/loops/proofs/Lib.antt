@@ -2,3 +2,4 @@ pub mod Sums
 pub mod Feeding
 pub mod Reordering
 pub mod Placing
+pub mod Ordering

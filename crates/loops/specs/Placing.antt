@@ -50,11 +50,11 @@ pub record Placing (c : Counts) (code waiting : List ℕ) (placed : ℕ) : Type 
 abbrev pub isReady : Counts → List ℕ → List ℕ → ℕ → Bool
 isReady c code waiting k = high waiting (2 * c .inputs + k) && not (fedBy (gatesIn c code) waiting k)
 
--- A pass places more gates, or each that waits is fed by one that waits.
-pub record Passed (c : Counts) (code waiting : List ℕ) (before placed : ℕ) : Type 0 where
+-- In a pass the gates before k have had their turn: more gates are placed, or each of these that waits is fed by one that waits.
+pub record Passed (c : Counts) (code waiting : List ℕ) (before placed k : ℕ) : Type 0 where
   pub placing : Placing c code waiting placed
   pub more : before ≤ placed
-  pub none : placed ≡ before → (k : ℕ) → k < c .gates → Waits c waiting k → fedBy (gatesIn c code) waiting k ≡ true
+  pub none : placed ≡ before → (j : ℕ) → j < k → Waits c waiting j → fedBy (gatesIn c code) waiting j ≡ true
 
 -- All gates are placed, and the code holds a topological order; or some are not, and there is a loop.
 pub record Ordered (c : Counts) (code : List ℕ) (placed : ℕ) : Type 0 where

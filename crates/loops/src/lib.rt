@@ -30,11 +30,9 @@ fn wait_all(counts: Counts, marks: &mut [u8])
     requires { ⌜ Unmarked counts (now marks) ⌝ }
     ensures { λ r. ⌜ WaitTo counts (now (marks .exit)) (counts .gates) ⌝ }
 {
-    let first = 2 * counts.inputs;
-    let gates = counts.gates;
     let mut k: usize = 0;
-    while k < gates {
-        marks[first + k] = 1;
+    while k < counts.gates {
+        marks[2 * counts.inputs + k] = 1;
         k += 1;
     }
 }
@@ -58,4 +56,38 @@ fn place(code: &mut [u16], counts: Counts, k: usize, waiting: &mut [u8], placed:
     code[8 * placed + 5] = k as u16;
     code[8 * k + 6] = placed as u16;
     waiting[2 * counts.inputs + k] = 0;
+}
+
+// A pass over the gates: each that is ready takes the next place of the order. How many places are taken then.
+fn place_ready(code: &mut [u16], counts: Counts, waiting: &mut [u8], taken: usize) -> usize
+    requires { ⌜ Placing counts (now code) (now waiting) taken ⌝ }
+    ensures { λ r. ⌜ Passed counts (now (code .exit)) (now (waiting .exit)) taken r (counts .gates) × Reordered counts (now (code .entry)) (now (code .exit)) ⌝ }
+{
+    let mut placed = taken;
+    let mut k: usize = 0;
+    while k < counts.gates {
+        if is_ready(code, counts, k, waiting) {
+            place(code, counts, k, waiting, placed);
+            placed += 1;
+        }
+        k += 1;
+    }
+    placed
+}
+
+// All gates wait; passes follow until all are placed or one places none. How many are placed.
+fn place_all(code: &mut [u16], counts: Counts, waiting: &mut [u8]) -> usize
+    requires { ⌜ StageLoaded counts (now code) × Unmarked counts (now waiting) ⌝ }
+    ensures { λ r. ⌜ Ordered counts (now (code .exit)) r × Reordered counts (now (code .entry)) (now (code .exit)) ⌝ }
+{
+    wait_all(counts, waiting);
+    let mut placed: usize = 0;
+    while placed < counts.gates {
+        let more = place_ready(code, counts, waiting, placed);
+        if more == placed {
+            return placed;
+        }
+        placed = more;
+    }
+    placed
 }

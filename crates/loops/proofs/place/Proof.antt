@@ -1,72 +1,71 @@
+-- `loops::place` meets its contract. Assumes nothing.
+use Prim.Native.Nat.{_<_}
+use native.Mathlib.Omega.{arith}
 use borrow.Author.Needs.{needs}
+use lib.ListN.{length-set}
+use denote.Ref.{now}
+use Rattle.loops.proofs.Placing.{place-left, placed-reordered, placing-more}
 use Rattle.loops.proofs.place.Statement.{statement}
 use Rattle.loops.proofs.place.Tie as tie
 use Rattle.loops.proofs.place.Reads as reads
 use Rattle.loops.proofs.place.Lts as lts
 
--- src/lib.rt:58:28
+-- there is a place left
+left : (c : tie.Start) → c .args .placed < c .args .counts .gates
+left c = place-left (c .args .counts) (now (c .args .code)) (now (c .args .waiting)) _ (c .pre .0) _ (c .pre .1) (c .pre .2)
+
 cast-code : tie.Need-cast-code
 cast-code c = search needs
 
--- src/lib.rt:58:10
 mul-code : tie.Need-mul-code
 mul-code c = search needs
 
--- src/lib.rt:58:10
 add-code : tie.Need-add-code
 add-code c = search needs
 
--- src/lib.rt:58:5
 mul-code-2 : tie.Need-mul-code-2
 mul-code-2 c = search needs
 
--- src/lib.rt:58:5
 slice-write-code : tie.Need-slice-write-code
-slice-write-code c = ?
+slice-write-code c = omega (arith, left c, c .pre .0 .loaded .room)
 
--- src/lib.rt:59:23
 cast-code-2 : tie.Need-cast-code-2
 cast-code-2 c = search needs
 
--- src/lib.rt:59:10
 mul-code-3 : tie.Need-mul-code-3
 mul-code-3 c = search needs
 
--- src/lib.rt:59:10
 add-code-2 : tie.Need-add-code-2
 add-code-2 c = search needs
 
--- src/lib.rt:59:5
 mul-code-4 : tie.Need-mul-code-4
 mul-code-4 c = search needs
 
--- src/lib.rt:59:5
 slice-write-code-2 : tie.Need-slice-write-code-2
-slice-write-code-2 c = ?
+slice-write-code-2 c = simp length-set (omega (arith, c .pre .1, c .pre .0 .loaded .room))
 
--- src/lib.rt:60:13
 mul-waiting : tie.Need-mul-waiting
 mul-waiting c = search needs
 
--- src/lib.rt:60:13
 add-waiting : tie.Need-add-waiting
 add-waiting c = search needs
 
--- src/lib.rt:60:5
 slice-write-waiting : tie.Need-slice-write-waiting
 slice-write-waiting c = search needs
 
--- src/lib.rt:54:1
 same-length : tie.Need-same-length
 same-length c = search needs
 
--- src/lib.rt:54:1
 same-length-2 : tie.Need-same-length-2
 same-length-2 c = search needs
 
--- src/lib.rt:54:1
 returns : tie.Need-returns
-returns c = ?
+returns c =
+    let z = c .before in
+    (
+    placing-more (z .args .counts) (now (z .args .code)) (now (z .args .waiting)) _ (z .pre .0) _ (z .pre .1) (z .pre .2),
+    placed-reordered (z .args .counts) (now (z .args .code)) (now (z .args .waiting)) _ (z .pre .0) _ (z .pre .1) (z .pre .2)
+    )
 
 pub place-spec : {M : Type 1} → statement M
 place-spec =
