@@ -96,11 +96,13 @@ module _ (c : Counts) (code waiting : List ℕ) (placed : ℕ) (p : Placing c co
       record { loaded = p .loaded; all = all-ordered; some = λ d. absurd (d e) }
 
 -- the last pass placed no gate
-pub ordered-stuck : (c : Counts) (code waiting : List ℕ) (placed : ℕ) → Passed c code waiting placed placed (c .gates) → Ordered c code placed
-ordered-stuck c code waiting placed w = record {
-  loaded = w .placing .loaded;
-  all = all-ordered c code waiting placed (w .placing);
-  some = λ d free.
-      d (stuck-full c code waiting placed (w .placing)
-      (λ k h v. anyHigh-out waiting (pinsAt (gatesIn c code) k) (w .none (omega arith) k h v)) free);
-}
+pub ordered-stuck : (c : Counts) (code waiting : List ℕ) (before placed : ℕ) → Passed c code waiting before placed (c .gates) → placed ≡ before → Ordered c code before
+ordered-stuck c code waiting before placed w e =
+    subst (Ordered c code) e (
+    record {
+      loaded = w .placing .loaded;
+      all = all-ordered c code waiting placed (w .placing);
+      some = λ d free.
+          d (stuck-full c code waiting placed (w .placing)
+          (λ k h v. anyHigh-out waiting (pinsAt (gatesIn c code) k) (w .none e k h v)) free);
+    })

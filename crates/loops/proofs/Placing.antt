@@ -213,10 +213,10 @@ not-ready true true e h = refl
 not-ready true false e h = absurd (never refl e)
 not-ready false b e h = absurd (never h refl)
 
-module _ (c : Counts) (code waiting : List ℕ) (before placed k : ℕ) where
-  pub pass-start : Placing c code waiting before → Passed c code waiting before before 0
-  pass-start p = record { placing = p; more = omega arith; none = λ e j h. absurd (omega arith) }
+pub pass-start : (c : Counts) (code waiting : List ℕ) (before : ℕ) → Placing c code waiting before → Passed c code waiting before before 0
+pass-start c code waiting before p = record { placing = p; more = omega arith; none = λ e j h. absurd (omega arith) }
 
+module _ (c : Counts) (code waiting : List ℕ) (before placed k : ℕ) where
   pub pass-place : (code′ waiting′ : List ℕ) → Passed c code waiting before placed k → Placing c code′ waiting′ (placed + 1) → Passed c code′ waiting′ before (placed + 1) (k + 1)
   pass-place code′ waiting′ w p = record { placing = p; more = omega (arith, w .more); none = λ e. absurd (omega (arith, w .more)) }
 

@@ -1,3 +1,14 @@
+-- `loops::place_ready` meets its contract. The loop's invariant: the gates before k have had their turn. Assumes nothing.
+use Prim.Native.Nat.{ℕ, _+_, _-_, _≤_}
+use mathlib.Core.Path.{_≡_, sym, _∙_, subst, subst₃}
+use mathlib.Core.Logic.{⊎-elim}
+use native.Mathlib.Omega.{arith}
+use borrow.Author.Needs.{needs}
+use mathlib.Core.List.{List}
+use denote.Ref.{now}
+use Rattle.loops.specs.Placing.{Reordered, Passed}
+use Rattle.loops.proofs.Reordering.{reordered-refl, reordered-trans}
+use Rattle.loops.proofs.Placing.{place-left, pass-start, pass-place, pass-skip}
 use Rattle.loops.proofs.place_ready.Statement.{statement}
 use Rattle.loops.proofs.place_ready.Tie as tie
 use Rattle.loops.proofs.place_ready.Reads as reads
@@ -6,50 +17,61 @@ use Rattle.loops.proofs.is_ready.Reads as is-ready-reads
 use Rattle.loops.proofs.place.Reads as place-reads
 
 abbrev Inv-loop : tie.InvT-loop
-Inv-loop code₀ counts waiting₀ taken placed₀ k₀ code waiting placed k = ?
+Inv-loop code₀ counts waiting₀ taken placed₀ k₀ code waiting placed k = (k ≤ counts .gates) × Reordered counts code₀ code × Passed counts code waiting taken placed k
 
 abbrev μ-loop : tie.MeasureT-loop
-μ-loop code₀ counts waiting₀ taken placed₀ k₀ code waiting placed k = ?
+μ-loop code₀ counts waiting₀ taken placed₀ k₀ code waiting placed k = counts .gates - k
 
--- src/lib.rt:68:5
 loop-holds : tie.Need-loop-holds Inv-loop μ-loop
-loop-holds c = ?
+loop-holds c = (omega arith, reordered-refl _ _, pass-start _ _ _ _ (c .before .before .pre))
 
--- src/lib.rt:69:12
 is-ready-requires : tie.Need-is-ready-requires Inv-loop μ-loop
-is-ready-requires c κs = ?
+is-ready-requires c κs = let p = c .before .before .before .before .loop .inv .2 .placing in (p .loaded, c .before .before .if1 .taken, p .row-for)
 
--- src/lib.rt:70:13
 place-requires : tie.Need-place-requires Inv-loop μ-loop
-place-requires c κs = ?
+place-requires c κs =
+    let l = c .before .before .before .before .before .before .before .before .loop in
+    (l .inv .2 .placing, c .before .before .before .before .before .before .if1 .taken, sym (c .before .before .before .is-ready .ensures) ∙ c .before .before .if2 .taken)
 
--- src/lib.rt:71:13
 add-placed : tie.Need-add-placed Inv-loop μ-loop
-add-placed c = ?
+add-placed c =
+    let l = c .before .before .before .before .before .before .before .before .before .before .before .before .before .loop in
+    let r = c .before .before .before .before .place .ensures .0 .total in
+    omega (arith, r, c .before .before .before .before .before .before .before .before .before .before .before .before .before .before .before .before .pre .loaded .within .gates-in)
 
--- src/lib.rt:73:9
 add-k : tie.Need-add-k Inv-loop μ-loop
-add-k c = ?
+add-k c = search needs
 
--- src/lib.rt:68:5
 loop-less : tie.Need-loop-less Inv-loop μ-loop
-loop-less c = ?
+loop-less c = search needs
 
--- src/lib.rt:68:5
 loop-again : tie.Need-loop-again Inv-loop μ-loop
-loop-again c = ?
+loop-again c =
+    let z = c .before .before .before .before .before .before .before .before .before in
+    let l = c .before .before .before .before .before .before .loop in
+    let on : List ℕ → List ℕ → ℕ → Type 0 = λ u v m. Reordered (z .args .counts) (now (z .args .code)) u × Passed (z .args .counts) u v (z .args .taken) m (l .k + 1) in
+    let h : l .k + 1 ≤ z .args .counts .gates = omega (arith, c .before .before .before .before .if1 .taken) in
+    ⊎-elim
+    (λ w.
+    let r = subst₃ on (sym (w .8)) (sym (w .9)) (sym (w .10)) (reordered-trans _ _ _ _ (l .inv .1) (w .3 .ensures .1), pass-place _ _ _ _ _ _ _ _ (l .inv .2) (w .3 .ensures .0)) in
+    (h, r .0, r .1))
+    (λ w.
+    let r = subst₃ on (sym (w .1)) (sym (w .2)) (sym (w .3)) (l .inv .1, pass-skip _ _ _ _ _ _ (l .inv .2) (sym (c .before .is-ready .ensures) ∙ w .0 .left)) in
+    (h, r .0, r .1))
+    (c .if2 .came)
 
--- src/lib.rt:62:1
 same-length : tie.Need-same-length Inv-loop μ-loop
-same-length c = ?
+same-length c = c .before .before .loop .inv .1 .long
 
--- src/lib.rt:62:1
 same-length-2 : tie.Need-same-length-2 Inv-loop μ-loop
-same-length-2 c = ?
+same-length-2 c = c .before .before .loop .inv .2 .placing .row-for .long ∙ sym (c .before .before .before .before .before .pre .row-for .long)
 
--- src/lib.rt:62:1
 returns : tie.Need-returns Inv-loop μ-loop
-returns c = ?
+returns c =
+    let z = c .before .before .before .before .before in
+    let l = c .before .before .loop in
+    let e : l .k ≡ z .args .counts .gates = omega (arith, l .inv .0, c .if1 .left) in
+    (subst (Passed (z .args .counts) (l .code) (l .waiting) (z .args .taken) (l .placed)) e (l .inv .2), l .inv .1)
 
 pub place-ready-spec : {M : Type 1} → statement M
 place-ready-spec =
