@@ -3,3 +3,4 @@ pub mod Feeding
 pub mod Reordering
 pub mod Placing
 pub mod Ordering
+pub mod Marking

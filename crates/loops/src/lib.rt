@@ -91,3 +91,65 @@ fn place_all(code: &mut [u16], counts: Counts, waiting: &mut [u8]) -> usize
     }
     placed
 }
+
+// ---- loops
+
+// A pass over the gates: each with a marked net at a pin is marked. Whether one was not marked before.
+fn mark_fed(code: &[u16], counts: Counts, marks: &mut [u8]) -> bool
+    requires { ⌜ StageLoaded counts (now code) × RowFor counts (now marks) ⌝ }
+    ensures { λ r. ⌜ Grown counts (now (code .entry)) (now (marks .entry)) (now (marks .exit)) r (counts .gates) ⌝ }
+{
+    let mut more = false;
+    let mut k: usize = 0;
+    while k < counts.gates {
+        if marks[2 * counts.inputs + k] == 0 {
+            if fed(code, counts, k, marks) {
+                marks[2 * counts.inputs + k] = 1;
+                more = true;
+            }
+        }
+        k += 1;
+    }
+    more
+}
+
+// Whether gate g reaches itself: it is marked, then what has a marked net at a pin, until there is none left to mark.
+fn reaches_itself(code: &[u16], counts: Counts, g: usize, marks: &mut [u8]) -> bool
+    requires { ⌜ StageLoaded counts (now code) × (g < counts .gates) × Unmarked counts (now marks) ⌝ }
+    ensures { λ r. ⌜ r ≡ reachesItself (counts .inputs) (gatesIn counts (now (code .entry))) g ⌝ }
+{
+    marks[2 * counts.inputs + g] = 1;
+    while mark_fed(code, counts, marks) {}
+    fed(code, counts, g, marks)
+}
+
+// The least gate that reaches itself, gate by gate.
+fn least_loop(code: &[u16], counts: Counts) -> Found
+    requires { ⌜ StageLoaded counts (now code) ⌝ }
+    ensures { λ r. ⌜ r ≡ least (reachesItself (counts .inputs) (gatesIn counts (now (code .entry)))) 0 (counts .gates) ⌝ }
+{
+    let nets = 2 * counts.inputs + counts.gates;
+    let mut g: usize = 0;
+    while g < counts.gates {
+        let mut marks = [0u8; ROW];
+        if reaches_itself(code, counts, g, &mut marks[..nets + 1]) {
+            return Found::At(g);
+        }
+        g += 1;
+    }
+    Found::Nothing
+}
+
+// 12: the least gate that reaches itself. Where there is none, the code then holds a topological order of the gates.
+pub fn order_gates(code: &mut [u16], counts: Counts) -> Found
+    requires { ⌜ StageLoaded counts (now code) ⌝ }
+    ensures { λ r. ⌜ LoopFound counts (now (code .entry)) (now (code .exit)) r ⌝ }
+{
+    let nets = 2 * counts.inputs + counts.gates;
+    let mut waiting = [0u8; ROW];
+    let placed = place_all(code, counts, &mut waiting[..nets + 1]);
+    if placed == counts.gates {
+        return Found::Nothing;
+    }
+    least_loop(code, counts)
+}
