@@ -4,3 +4,4 @@ pub mod Reordering
 pub mod Placing
 pub mod Ordering
 pub mod Marking
+pub mod Searching

@@ -1,6 +1,6 @@
 -- Marking what leads to a gate: the marks start at the gate, grow along pins, and once they are closed tell whether it reaches itself.
 -- Assumes nothing.
-use Prim.Native.Nat.{ℕ, zero, suc, _+_, _-_, _*_, _≤_, _<_}
+use Prim.Native.Nat.{ℕ, zero, suc, _+_, _-_, _*_, _<_}
 use native.Mathlib.Omega.{arith}
 use native.Mathlib.Decide.{ℕ-discrete}
 use mathlib.Core.Path.{_≡_, refl, sym, _∙_, subst}
@@ -13,16 +13,16 @@ use Rattle.netlist.specs.declared.Counts.{Counts}
 use Rattle.netlist.specs.Reading.{stageLimits, Within}
 use Rattle.verdict.specs.Rows.{high}
 use Rattle.verdict.specs.Graph.{In, Leads, here, onward}
-use Rattle.verdict.specs.Loops.{pinsAt, gateSteps, ReachesItself, reachesItself}
+use Rattle.verdict.specs.Loops.{pinsAt, gateSteps, reachesItself}
 use Rattle.verdict.specs.Levels.{sum}
 use Rattle.verdict.proofs.Graph.{anyHigh-in, anyHigh-out, leads-trans}
 use Rattle.verdict.proofs.Reaching.{steps-gate, step-gate, reaches-sound, reaches-complete}
-use Rattle.circuit.specs.Stage.{netCount, gatesIn, StageLoaded}
+use Rattle.circuit.specs.Stage.{netCount, gatesIn}
 use Rattle.circuit.specs.Rows.{RowFor}
 use Rattle.circuit.proofs.Settling.{row-set, length-gatesIn}
 use Rattle.loops.specs.Marks.{Unmarked, fedBy, Grown, Marking}
 use Rattle.loops.proofs.Sums.{sum-set, sum-bound}
-use Rattle.loops.proofs.Placing.{never, low, high-other, high-same}
+use Rattle.loops.proofs.Placing.{never, high-other, high-same}
 
 -- the marks of a stage in an array of zeros that has room for any stage
 abbrev pub most : ℕ

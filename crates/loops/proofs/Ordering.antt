@@ -4,10 +4,9 @@ use Prim.Native.Nat.{ℕ, zero, suc, _+_, _*_, _≤_, _<_}
 use native.Mathlib.Omega.{arith}
 use native.Mathlib.Decide.{decLt}
 use mathlib.Core.Path.{_≡_, sym, ap, _∙_, subst}
-use mathlib.Core.Bool.{Bool, true, false}
+use mathlib.Core.Bool.{true}
 use mathlib.Core.List.{List}
 use lib.ListN.{length, getD}
-use lib.Dec.{ltb}
 use borrow.Author.Tests.{le-ltb}
 use Rattle.netlist.specs.declared.Counts.{Counts}
 use Rattle.verdict.specs.Rows.{high}
@@ -16,7 +15,7 @@ use Rattle.verdict.specs.Loops.{In, pinsAt, Feeds, LoopFree}
 use Rattle.verdict.proofs.Graph.{anyHigh-out}
 use Rattle.verdict.proofs.Reaching.{rankOf, rank-pin, placed-free}
 use Rattle.circuit.specs.Stage.{gateAtPlace, placeOf, gatesIn}
-use Rattle.circuit.specs.Order.{TopologicalOrder, orderIn, InOrder}
+use Rattle.circuit.specs.Order.{orderIn, InOrder}
 use Rattle.circuit.proofs.Tabulate.{length-tabulate}
 use Rattle.circuit.proofs.Settling.{length-gatesIn, order-at}
 use Rattle.loops.specs.Placing.{Gone, Placing, Passed, Ordered}

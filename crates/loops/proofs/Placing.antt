@@ -13,12 +13,11 @@ use borrow.Author.Tests.{ltb-true, lt-ltb}
 use Rattle.netlist.specs.declared.Counts.{Counts}
 use Rattle.verdict.specs.Rows.{high}
 use Rattle.verdict.specs.Loops.{pinsAt, Feeds}
-use Rattle.verdict.specs.Levels.{sum}
 use Rattle.verdict.proofs.Graph.{anyHigh-in}
 use Rattle.circuit.specs.Stage.{netCount, gateAtPlace, placeOf, gatesIn, StageLoaded}
 use Rattle.circuit.proofs.Settling.{row-set}
 use Rattle.loops.specs.Marks.{Unmarked, fedBy}
-use Rattle.loops.specs.Placing.{Apart, Reordered, WaitTo, Waits, Gone, Placing, isReady, Passed}
+use Rattle.loops.specs.Placing.{Reordered, WaitTo, Waits, Gone, Placing, isReady, Passed}
 use Rattle.loops.proofs.Sums.{sum-none, sum-set}
 use Rattle.loops.proofs.Reordering.{reordered-refl, reordered-set, gates-kept, loaded-kept}
 

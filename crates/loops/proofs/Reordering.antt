@@ -1,13 +1,13 @@
 -- Writing the order of the gates leaves the stage as it is.
 -- Assumes nothing.
-use Prim.Native.Nat.{ℕ, _+_, _*_, _≤_, _<_}
+use Prim.Native.Nat.{ℕ, _+_, _*_, _<_}
 use native.Mathlib.Omega.{arith}
 use mathlib.Core.Path.{_≡_, refl, sym, ap, _∙_, subst, fun-ext}
 use mathlib.Core.List.{List}
-use lib.ListN.{length, getD, set, length-set}
+use lib.ListN.{set, length-set}
 use lib.Seq.{getD-set-other}
 use Rattle.netlist.specs.declared.Counts.{Counts}
-use Rattle.netlist.specs.Content.{Gate, Pair, Stage}
+use Rattle.netlist.specs.Content.{Gate, Pair}
 use Rattle.circuit.specs.Stage.{tabulate, netCount, cellIn, slot, pinIn, gateIn, gatesIn, outputIn, outputsIn, stageIn, GateLoaded, StageLoaded}
 use Rattle.loops.specs.Placing.{Apart, Reordered}
 
@@ -45,8 +45,8 @@ module _ (c : Counts) (before code : List ℕ) (r : Reordered c before code) whe
   output-kept : (j : ℕ) → outputIn c code j ≡ outputIn c before j
   output-kept j =
       rw (
-      r .kept (8 * c .gates + 2 * j) (λ m h. (λ e. omega arith, λ e. omega arith)),
-      r .kept (8 * c .gates + 2 * j + 1) (λ m h. (λ e. omega arith, λ e. omega arith)),
+        r .kept (8 * c .gates + 2 * j) (λ m h. (λ e. omega arith, λ e. omega arith)),
+        r .kept (8 * c .gates + 2 * j + 1) (λ m h. (λ e. omega arith, λ e. omega arith)),
       )
 
   pub stage-kept : stageIn c code ≡ stageIn c before

@@ -61,10 +61,9 @@ same-length-2 c = search needs
 
 returns : tie.Need-returns
 returns c =
-    let z = c .before in
-    (
-    placing-more (z .args .counts) (now (z .args .code)) (now (z .args .waiting)) _ (z .pre .0) _ (z .pre .1) (z .pre .2),
-    placed-reordered (z .args .counts) (now (z .args .code)) (now (z .args .waiting)) _ (z .pre .0) _ (z .pre .1) (z .pre .2)
+    let z = c .before in (
+      placing-more (z .args .counts) (now (z .args .code)) (now (z .args .waiting)) _ (z .pre .0) _ (z .pre .1) (z .pre .2),
+      placed-reordered (z .args .counts) (now (z .args .code)) (now (z .args .waiting)) _ (z .pre .0) _ (z .pre .1) (z .pre .2),
     )
 
 pub place-spec : {M : Type 1} → statement M

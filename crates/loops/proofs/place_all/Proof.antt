@@ -3,7 +3,6 @@
 use Prim.Native.Nat.{_-_}
 use mathlib.Core.Path.{sym, _∙_}
 use native.Mathlib.Omega.{arith}
-use borrow.Author.Needs.{needs}
 use Rattle.loops.specs.Placing.{Reordered, Placing}
 use Rattle.loops.proofs.Reordering.{reordered-refl, reordered-trans}
 use Rattle.loops.proofs.Placing.{placing-start}

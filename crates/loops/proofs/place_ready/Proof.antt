@@ -8,7 +8,7 @@ use mathlib.Core.List.{List}
 use denote.Ref.{now}
 use Rattle.loops.specs.Placing.{Reordered, Passed}
 use Rattle.loops.proofs.Reordering.{reordered-refl, reordered-trans}
-use Rattle.loops.proofs.Placing.{place-left, pass-start, pass-place, pass-skip}
+use Rattle.loops.proofs.Placing.{pass-start, pass-place, pass-skip}
 use Rattle.loops.proofs.place_ready.Statement.{statement}
 use Rattle.loops.proofs.place_ready.Tie as tie
 use Rattle.loops.proofs.place_ready.Reads as reads

@@ -1,10 +1,9 @@
 -- `loops::wait_all` meets its contract. The loop's invariant: the gates before k wait. Assumes nothing.
-use Prim.Native.Nat.{ℕ, _-_, _≤_}
+use Prim.Native.Nat.{_-_, _≤_}
 use mathlib.Core.Path.{_≡_, refl, _∙_, subst}
 use native.Mathlib.Omega.{arith}
 use borrow.Author.Needs.{needs}
 use lib.ListN.{length, length-set}
-use denote.Ref.{now}
 use Rattle.loops.specs.Placing.{WaitTo}
 use Rattle.loops.proofs.Placing.{wait-none, wait-more}
 use Rattle.loops.proofs.wait_all.Statement.{statement}
