@@ -50,8 +50,9 @@ module _ (N : Net) (c : Row) (answer : ℕ → Bool) (keeps : Promise N c answer
 
   pub promise-not-wrong : (j : ℕ) → j < N .outputs → ¬ (Wrong N c answer j)
   promise-not-wrong j h x =
-      let rising : Rising N c answer (x .list) = keeps .lists (x .list) (x .legal) in
-      x .wrong (x .list) (x .legal) (x .ended) (rising .data-whole (rising .end-rest (x .ended) .all-data) .read j h)
+      let end = x .goes-on [] tt in
+      let rising : Rising N c answer (end .more) = keeps .lists (end .more) (end .legal) in
+      x .wrong (end .more) (end .legal) (end .ended) (rising .data-whole (rising .end-rest (end .ended) .all-data) .read j h)
 
   pub promise-not-incomplete : (i : ℕ) → i < N .inputs → ¬ (Incomplete N c i)
   promise-not-incomplete i h x = null-not-data (after low (x .list)) (inputRail i) (x .null) (keeps .lists (x .list) (x .legal) .data-whole (x .all-data) .inputs i h)

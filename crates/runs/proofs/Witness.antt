@@ -15,19 +15,15 @@ use Rattle.runs.specs.FallWitness.{Null-outputs, Fall-incomplete, Fall-u
 use Rattle.runs.proofs.Test.{clash, not-false, same?, eqb-same, eqb-other}
 use Rattle.runs.proofs.Net.{byNet-gate, railsOfInputs-in}
 use Rattle.runs.proofs.Moves.{missing-held}
-use Rattle.runs.proofs.Rise.{settled-one, settled-reached, settled-ended, settled-data, rise-end-is, held-reached, held-low}
+use Rattle.runs.proofs.Rise.{settled-one, settled-reached, settled-ended, settled-data, rise-goes-on, rise-end-is, held-reached, held-low}
 use Rattle.runs.proofs.Fall.{kept-reached, kept-still}
 
 module _ (S : Acyclic) (c : Row) where
   pub wrong : (answer : ℕ → Bool) (R : Row) → Settled (S .net) c R → (j : ℕ) → ¬ (DataOf R (S .net .rail j) (answer j)) → Wrong (S .net) c answer j
-  wrong answer R rest j n =
-      let t : Reached (riseStep (S .net) c) low R = settled-reached S c R rest in
-      record {
-        list = t .list;
-        legal = t .legal;
-        ended = rw (t .arrives) (settled-ended S c R rest);
-        wrong = λ l p e s. n (subst (λ (r : Row). DataOf r (S .net .rail j) (answer j)) (rise-end-is S c R rest l p e) s);
-      }
+  wrong answer R rest j n = record {
+    goes-on = rise-goes-on S c;
+    wrong = λ l p e s. n (subst (λ (r : Row). DataOf r (S .net .rail j) (answer j)) (rise-end-is S c R rest l p e) s);
+  }
 
   pub incomplete : (i : ℕ) → i < S .net .inputs → (r : Row) → Settled (S .net) (c ∖ railsOfInputs (S .net) (only i)) r → AllData (S .net) r
       → Incomplete (S .net) c i

@@ -5,14 +5,14 @@ use mathlib.Core.Bool.{Bool, true, false}
 use mathlib.Core.List.{List}
 use Prim.Native.Nat.{ℕ}
 use Rattle.runs.specs.Row.{Row, low, after}
-use Rattle.runs.specs.Net.{Net, inputRail, RiseList, RiseEnd}
+use Rattle.runs.specs.Net.{Net, inputRail, riseStep, RiseList, RiseEnd}
 use Rattle.runs.specs.Pair.{DataOf, Null, AllData}
+use Rattle.runs.specs.Promise.{Goes-on}
 
--- 13: "every run of the named word ends with output `at` not the reference's DATA", and there is a run that ends.
+-- 13: "every run of the named word ends with output `at` not the reference's DATA": every list, the empty one too, goes on to an end, and
+-- every end is so.
 pub record Wrong (N : Net) (c : Row) (answer : ℕ → Bool) (j : ℕ) : Type 0 where
-  pub list : List ℕ
-  pub legal : RiseList N c list
-  pub ended : RiseEnd N c list
+  pub goes-on : (l : List ℕ) → RiseList N c l → Goes-on (riseStep N c) low l
   pub wrong : (l : List ℕ) → RiseList N c l → RiseEnd N c l → ¬ (DataOf (after low l) (N .rail j) (answer j))
 
 -- 14: "some list of its steps leaves all outputs DATA and input `at` NULL".

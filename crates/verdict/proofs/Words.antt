@@ -11,10 +11,11 @@ use lib.Seq.{getD-append-add}
 use lib.Dec.{ltb}
 use native.Mathlib.Decide.{decLt}
 use borrow.Author.Tests.{lt-ltb, le-ltb}
-use Rattle.runs.specs.Net.{wordRails}
+use Rattle.runs.specs.Theory.{wordRails}
 use Rattle.netlist.specs.Content.{Coded, Reference}
-use Rattle.verdict.specs.Rows.{high, bitsOf, railsOf, withNull}
-use Rattle.verdict.specs.Answers.{operate, valuesAt, evaluate, answer}
+use Rattle.verdict.specs.Rows.{high, withNull}
+use Rattle.verdict.specs.Words.{bitsOf, railsOf}
+use Rattle.verdict.specs.Answers.{operate, valuesAt, signalValues, answer}
 
 -- ---- rails
 
@@ -109,13 +110,13 @@ snoc-bit [] x hx h (suc i) = omega arith
 snoc-bit (v ∷ values) x hx h zero = h 0
 snoc-bit (v ∷ values) x hx h (suc i) = snoc-bit values x hx (λ k. h (suc k)) i
 
-evaluate-bit : (values : List ℕ) (gates : List Coded) → ((i : ℕ) → getD values i 0 ≤ 1) → (i : ℕ) → getD (evaluate values gates) i 0 ≤ 1
-unfolding evaluate
-evaluate-bit values [] h = h
-evaluate-bit values (g ∷ gates) h =
-    evaluate-bit (values ++ (operate (g .code) (valuesAt values (g .operands)) ∷ [])) gates
+signalValues-bit : (values : List ℕ) (gates : List Coded) → ((i : ℕ) → getD values i 0 ≤ 1) → (i : ℕ) → getD (signalValues values gates) i 0 ≤ 1
+unfolding signalValues
+signalValues-bit values [] h = h
+signalValues-bit values (g ∷ gates) h =
+    signalValues-bit (values ++ (operate (g .code) (valuesAt values (g .operands)) ∷ [])) gates
     (snoc-bit values (operate (g .code) (valuesAt values (g .operands))) (operate-bit (g .code) (valuesAt values (g .operands)) (valuesAt-bit values (g .operands) h)) h)
 
 pub answer-bit : (r : Reference) (bits : List ℕ) → ((i : ℕ) → getD bits i 0 ≤ 1) → (j : ℕ) → getD (answer r bits) j 0 ≤ 1
 unfolding answer
-answer-bit r bits h = valuesAt-bit (evaluate bits (r .gates)) (r .outputs) (evaluate-bit bits (r .gates) h)
+answer-bit r bits h = valuesAt-bit (signalValues bits (r .gates)) (r .outputs) (signalValues-bit bits (r .gates) h)
