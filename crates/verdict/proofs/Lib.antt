@@ -9,4 +9,7 @@ pub mod Words
 pub mod Bridge
 pub mod Refusals
 pub mod Illegal
+pub mod Because
+pub mod OneWord
+pub mod Demands
 pub mod Cut

@@ -16,7 +16,7 @@ use Rattle.verdict.specs.declared.Finding.the-variants.{Fault, Passed}
 use Rattle.verdict.specs.Loops.{In}
 use Rattle.verdict.specs.Checks.{verdict, Check, first, atFault, sweep, finding, orLater, firstFault}
 use Rattle.verdict.specs.Verdicts.{accepted, verdictOf}
-use Rattle.verdict.specs.Demands.{FirstOf, FailsIn, Nowhere, NamedBy, Judged}
+use Rattle.verdict.specs.Demands.{FirstOf, FailsIn, Nowhere, NamedBy, Named, AllNowhere, Judged}
 
 -- ---- members
 
@@ -139,12 +139,26 @@ module _ (c : Check) (means : Means c) where
       go (at-word {w = w} {i = i} f e) = record { is = refl; word = first-alike f (FailsIn c) (λ v h. fails-in v) (λ v h. finds-in v); place = place w i e }
       go (nowhere f) = λ w h. none w (f w h)
 
--- the verdict of a list of checks has its reason
-pub judged : (cs : List Check) → AllMean cs → Judged cs (verdictOf (firstFault cs))
-unfolding verdictOf firstFault orLater
-judged [] m = refl
-judged (c ∷ cs) m = go (finding c) (outcome c (m .0)) (judged cs (m .1))
+-- the first fault of a list of checks has its reason
+abbrev pub FirstFault : List Check → Finding → Type 0
+FirstFault cs (Fault v) = Named cs v
+FirstFault cs Passed = AllNowhere cs
+
+pub first-fault : (cs : List Check) → AllMean cs → FirstFault cs (firstFault cs)
+unfolding firstFault orLater
+first-fault [] m = tt
+first-fault (c ∷ cs) m = go (finding c) (outcome c (m .0)) (firstFault cs) (first-fault cs (m .1))
   where
-    go : (x : Finding) → Outcome c (m .0) x → Judged cs (verdictOf (firstFault cs)) → Judged (c ∷ cs) (verdictOf (orLater x (firstFault cs)))
-    go (Fault v) o r = inl o
-    go Passed o r = inr (o, r)
+    go : (x : Finding) → Outcome c (m .0) x → (y : Finding) → FirstFault cs y → FirstFault (c ∷ cs) (orLater x y)
+    go (Fault v) o y r = inl o
+    go Passed o (Fault v) r = inr (o, r)
+    go Passed o Passed r = (o, r)
+
+-- and so has the verdict
+pub judged : (cs : List Check) → AllMean cs → Judged cs (verdictOf (firstFault cs))
+unfolding verdictOf
+judged cs m = go (firstFault cs) (first-fault cs m)
+  where
+    go : (x : Finding) → FirstFault cs x → Judged cs (verdictOf x)
+    go (Fault v) n = inl n
+    go Passed a = inr (a, refl)

@@ -68,10 +68,19 @@ pub record NamedBy (c : Check) (v : Verdict) : Type 0 where
   pub word : FirstOf (FailsIn c) (c .words) (v .word)
   pub place : FirstOf (c .Condition (v .word)) (c .places) (v .at)
 
--- the earliest check of a list whose condition holds somewhere is named; or there is none, and the verdict is 0 0 0 0
+-- a check of a list is named, and the conditions of those before it hold nowhere
+abbrev pub Named : List Check → Verdict → Type 0
+Named [] v = ⊥
+Named (c ∷ later) v = NamedBy c v ⊎ (Nowhere c × Named later v)
+
+-- the conditions of all checks hold nowhere
+abbrev pub AllNowhere : List Check → Type 0
+AllNowhere [] = Unit {0}
+AllNowhere (c ∷ later) = Nowhere c × AllNowhere later
+
+-- the earliest failing check is named, or none fails
 abbrev pub Judged : List Check → Verdict → Type 0
-Judged [] v = v ≡ accepted
-Judged (c ∷ later) v = NamedBy c v ⊎ (Nowhere c × Judged later v)
+Judged checks v = Named checks v ⊎ (AllNowhere checks × (v ≡ accepted))
 
 pub data Because (stageMost referenceMost : Limits) (stage reference : List ℕ) : Verdict → Type 0 where
   stage-refused : {number at : ℕ} → readFile file.Stage stageMost stage ≡ refused number at
@@ -148,6 +157,6 @@ pub record RowGiven (s : Stage) (before after′ : List ℕ) : Type 0 where
 -- checks of the row give the verdict; "a lent row is then unchanged", or it is what the gate rule gives.
 pub data DemandRow (most : Limits) (stage before : List ℕ) : Verdict → List ℕ → Type 0 where
   stage-refused : {number at : ℕ} → readFile file.Stage most stage ≡ refused number at → DemandRow most stage before (verdict number 1 at 0) before
-  row-refused : {s : Stage} {v : Verdict} → StageIs most stage s → Judged (rowChecks s before) v → ¬ (v ≡ accepted) → DemandRow most stage before v before
-  row-settled : {s : Stage} {after′ : List ℕ} → StageIs most stage s → Judged (rowChecks s before) accepted → RowGiven s before after′
+  row-refused : {s : Stage} {v : Verdict} → StageIs most stage s → Named (rowChecks s before) v → DemandRow most stage before v before
+  row-settled : {s : Stage} {after′ : List ℕ} → StageIs most stage s → AllNowhere (rowChecks s before) → RowGiven s before after′
       → DemandRow most stage before accepted after′
