@@ -26,6 +26,10 @@ pub data Reaches (n : ℕ) (gates : List Gate) (g : ℕ) : ℕ → Type 0 where
   directly : {k : ℕ} → Feeds n gates g k → Reaches n gates g k
   onward : {j k : ℕ} → Reaches n gates g j → Feeds n gates j k → Reaches n gates g k
 
+-- gate g reaches itself
+abbrev pub ReachesItself : ℕ → List Gate → ℕ → Type 0
+ReachesItself n gates g = Reaches n gates g g
+
 -- no gate reaches itself through pins
 abbrev pub NoLoop : ℕ → List Gate → Type 0
 NoLoop n gates = (g : ℕ) → g < length gates → ¬ (Reaches n gates g g)
