@@ -13,7 +13,7 @@ use Rattle.netlist.specs.declared.Found.{Found}
 use Rattle.netlist.specs.declared.Found.the-variants.{At, Nothing}
 use Rattle.netlist.specs.Content.{Pair}
 use Rattle.verdict.specs.Rows.{high, dualRail, pairIn, isData, spells, allData}
-use Rattle.verdict.specs.Checks.{least}
+use Rattle.verdict.specs.Search.{least}
 use Rattle.verdict.proofs.Least.{least-says}
 use Rattle.circuit.specs.Stage.{tabulate, outputIn, outputsIn}
 use Rattle.circuit.specs.Rows.{LevelOf, grounded, notData}

@@ -13,7 +13,8 @@ use Rattle.gates.specs.Cell.{bit, setExpression}
 use Rattle.gates.specs.Expression.{holds}
 use Rattle.netlist.specs.declared.Counts.{Counts}
 use Rattle.netlist.specs.Content.{Gate}
-use Rattle.verdict.specs.Rows.{high, isSet, SettledHolding, rounds, settledLevels, levelsHolding}
+use Rattle.verdict.specs.Rows.{high, isSet, rounds, settledLevels, levelsHolding}
+use Rattle.verdict.specs.Levels.{LevelsHeld}
 use Rattle.verdict.specs.Loops.{In, pinsAt}
 use Rattle.verdict.proofs.Gates.{set-local, isSet-binary}
 use Rattle.verdict.proofs.Reaching.{loopFree-noLoop}
@@ -90,7 +91,7 @@ module _ (n h : ℕ) (gates : List Gate) (order rails : List ℕ) (t : Topologic
             ∙ sym (level-kept j (omega arith))
 
   module _ (levels : List ℕ) (long : length levels ≡ length gates) where
-    all-settled : SettledBefore (length gates) h gates order rails levels → SettledHolding h gates rails levels
+    all-settled : SettledBefore (length gates) h gates order rails levels → LevelsHeld h gates rails levels
     all-settled before =
         ext-getD 0 (set (map (isSet (rails ++ levels)) gates) h 0) levels (size ∙ sym long)
         (λ k b.

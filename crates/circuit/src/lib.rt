@@ -7,7 +7,7 @@ ghost use Prim.Native.Nat.{ℕ, _+_, _≤_, _<_, min, max};
 ghost use lib.ListN.{length, getD, take};
 ghost use Rattle.gates.specs.Table.{GateTable};
 ghost use Rattle.verdict.specs.Rows as rows;
-ghost use Rattle.verdict.specs.Checks.{least};
+ghost use Rattle.verdict.specs.Search.{least};
 ghost use Rattle.verdict.specs.Answers as answers;
 ghost use Rattle.circuit.specs.Stage.{gateIn, gatesIn, outputIn, outputsIn, StageLoaded};
 ghost use Rattle.circuit.specs.Order.{InOrder};
@@ -182,7 +182,7 @@ fn operator_value(code: &[u16], counts: Counts, k: usize, values: &[u8]) -> u8
 // The values of all signals: the inputs' are there, and each gate's is written after those before it.
 pub fn signal_values(code: &[u16], counts: Counts, values: &mut [u8])
     requires { ⌜ ReferenceLoaded counts (now code) × (counts .inputs + counts .gates ≤ length (now values)) × ((i : ℕ) → getD (now values) i 0 ≤ 1) ⌝ }
-    ensures { λ r. ⌜ (take (counts .inputs + counts .gates) (now (values .exit)) ≡ answers.evaluate (take (counts .inputs) (now (values .entry))) (operatorsIn counts (now (code .entry)))) × ((i : ℕ) → getD (now (values .exit)) i 0 ≤ 1) ⌝ }
+    ensures { λ r. ⌜ (take (counts .inputs + counts .gates) (now (values .exit)) ≡ answers.signalValues (take (counts .inputs) (now (values .entry))) (operatorsIn counts (now (code .entry)))) × ((i : ℕ) → getD (now (values .exit)) i 0 ≤ 1) ⌝ }
 {
     let inputs = counts.inputs;
     let count = counts.gates;

@@ -6,7 +6,7 @@ use lib.ListN.{getD}
 use denote.Ref.{now}
 use native.Mathlib.Omega.{arith}
 use Rattle.verdict.specs.Rows.{pairIn, spells}
-use Rattle.verdict.specs.Checks.{least}
+use Rattle.verdict.specs.Search.{least}
 use Rattle.verdict.proofs.Least.{SoughtTo, sought-on, sought-here, sought-none}
 use Rattle.circuit.specs.Stage.{outputIn}
 use Rattle.circuit.specs.Rows.{misread}
