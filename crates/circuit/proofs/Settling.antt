@@ -5,10 +5,11 @@ use native.Mathlib.Omega.{arith}
 use native.Mathlib.Decide.{ℕ-discrete, decLt}
 use mathlib.Core.Path.{_≡_, sym, ap, _∙_, subst, fun-ext}
 use mathlib.Core.List.{List, _++_, map}
-use lib.ListN.{length, getD, set, take, drop, length-map, length-set, length-drop, List·getD-append}
-use lib.Seq.{getD-append-add, getD-set-same, getD-set-other, set-out, ext-getD, take-set-le, take-set-lt, drop-set-add, length-take-le, take-add}
+use lib.ListN.{length, getD, set, take, drop, length-map, length-set, length-drop, length-append, replicate, length-replicate, getD-replicate, List·getD-append}
+use lib.Seq.{getD-append-add, getD-set-same, getD-set-other, set-out, ext-getD, take-set-le, take-set-lt, drop-set-add, length-take-le, take-add, take-take, take-append-le, getD-take}
 use lib.Dec.{ltb}
 use Rattle.netlist.specs.declared.Counts.{Counts}
+use Rattle.netlist.specs.Reading.{stageLimits, Within}
 use Rattle.netlist.specs.Content.{Gate}
 use Rattle.verdict.specs.Rows.{high, isSet, rounds, settledLevels, levelsHolding}
 use Rattle.verdict.specs.Levels.{LevelsHeld}
@@ -18,7 +19,7 @@ use Rattle.verdict.proofs.Reaching.{loopFree-noLoop}
 use Rattle.verdict.proofs.Settling.{held-one, holding-settled}
 use Rattle.circuit.specs.Stage.{netCount, gateIn, gateAtPlace, gatesIn}
 use Rattle.circuit.specs.Order.{TopologicalOrder, orderIn, InOrder}
-use Rattle.circuit.specs.Rows.{RowFor, netsIn, railPart, levelPart, levelHolding, SettledBefore, SettledTo, settledHoldingIn}
+use Rattle.circuit.specs.Rows.{rowSize, RowFor, netsIn, railPart, levelPart, levelHolding, SettledBefore, SettledTo, settledHoldingIn}
 use Rattle.circuit.proofs.Tabulate.{length-tabulate, getD-tabulate, map-tabulate}
 use Rattle.circuit.proofs.Order.{order-no-loop}
 
@@ -112,6 +113,27 @@ module _ (n h : ℕ) (gates : List Gate) (order rails : List ℕ) (t : Topologic
       ∙ sym (level-free h gates (rails ++ levels) k (not-h i hi))
 
 -- ---- rows of a flat form
+
+-- all nets low
+pub low-row : (c : Counts) → Within stageLimits c → RowFor c (replicate rowSize 0)
+low-row c w = record { long = omega (arith, length-replicate {A = ℕ} rowSize 0, w .inputs-in, w .gates-in); bit = λ p h. omega (arith, low p h); ground = low (netCount c) (omega arith) }
+  where
+    low : (p : ℕ) → p ≤ netCount c → getD {A = ℕ} (replicate rowSize 0) p 0 ≡ 0
+    low p h = getD-replicate rowSize p 0 0 (omega (arith, w .inputs-in, w .gates-in))
+
+-- a row whose first bytes, the ground's among them, are those of another
+pub copied-row : (c : Counts) (row held : List ℕ) → RowFor c row → RowFor c (take (netCount c + 1) row ++ held) × (netsIn c (take (netCount c + 1) row ++ held) ≡ netsIn c row)
+copied-row c row held r = (record {
+  long = omega (arith, length-append (take (netCount c + 1) row) held, size);
+  bit = λ p h. omega (arith, at p h, r .bit p h);
+  ground = at (netCount c) (omega arith) ∙ r .ground;
+}, take-append-le (netCount c) (take (netCount c + 1) row) held (omega (arith, size)) ∙ take-take (netCount c) (netCount c + 1) row (omega arith))
+  where
+    size : length (take (netCount c + 1) row) ≡ netCount c + 1
+    size = length-take-le (netCount c + 1) row (omega (arith, r .long))
+
+    at : (p : ℕ) → p ≤ netCount c → getD (take (netCount c + 1) row ++ held) p 0 ≡ getD row p 0
+    at p h = List·getD-append (take (netCount c + 1) row) held 0 p (omega (arith, size)) ∙ getD-take (netCount c + 1) row p 0 (omega arith)
 
 module _ (c : Counts) (row : List ℕ) (r : RowFor c row) where
   pub length-rails : length (railPart c row) ≡ 2 * c .inputs

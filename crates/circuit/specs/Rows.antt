@@ -5,10 +5,15 @@ use mathlib.Core.Bool.{Bool, not}
 use mathlib.Core.List.{List, _++_, map}
 use lib.ListN.{length, getD, set, take, drop}
 use Rattle.netlist.specs.declared.Counts.{Counts}
+use Rattle.netlist.specs.Reading.{stageLimits}
 use Rattle.netlist.specs.Content.{Gate}
 use Rattle.verdict.specs.Rows as rows
 use Rattle.circuit.specs.Stage.{netCount, pinIn, gatesIn, outputIn}
 use Rattle.circuit.specs.Order.{orderIn}
+
+-- room for a row of the largest stage
+abbrev pub rowSize : ℕ
+rowSize = 2 * stageLimits .inputs + stageLimits .gates + 1
 
 -- levels that are 0 and 1 for the nets, and 0 for the ground; what stands after it is not read
 pub record RowFor (c : Counts) (row : List ℕ) : Type 0 where

@@ -14,6 +14,9 @@ ghost use Rattle.circuit.specs.Order.{InOrder};
 ghost use Rattle.circuit.specs.Rows.{RowFor, netsIn, LevelOf, patternIn, levelHolding, SettledTo, settledIn, settledHoldingIn, notData, misread};
 ghost use Rattle.circuit.specs.Reference.{operatorIn, operatorsIn, signalIn, ReferenceLoaded};
 
+// A byte for each net of the largest stage, and one for the ground.
+pub const ROW: usize = 2 * netlist::INPUTS + netlist::STAGE_GATES + 1;
+
 // ---- one gate
 
 // The level of a net in a row, or the value of a signal.

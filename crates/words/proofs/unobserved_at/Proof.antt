@@ -1,53 +1,108 @@
--- `words::unobserved_at` meets its contract: no gate before g in the order is g, so those have the levels that they are to have with g
--- held low. Assumes nothing.
-use native.Mathlib.Omega.{arith}
-use Rattle.settle.proofs.Copying.{copied-whole}
-use Rattle.words.proofs.OneWord.{unobserved-low, unobserved-high, hold-ready}
 use borrow.Author.Needs.{needs}
 use Rattle.words.proofs.unobserved_at.Statement.{statement}
 use Rattle.words.proofs.unobserved_at.Tie as tie
+use Rattle.words.proofs.unobserved_at.Reads as reads
+use Rattle.words.proofs.unobserved_at.Lts as lts
+use Rattle.bytes.proofs.copy.Reads as copy-reads
+use Rattle.circuit.proofs.all_data.Reads as all-data-reads
+use Rattle.circuit.proofs.settle_from.Reads as settle-from-reads
 
+-- src/lib.rt:129:17
+mul-first : tie.Need-mul-first
+mul-first c = search needs
+
+-- src/lib.rt:130:12
+add-if1 : tie.Need-add-if1
+add-if1 c = search needs
+
+-- src/lib.rt:130:8
 shared-slice-read-if1 : tie.Need-shared-slice-read-if1
 shared-slice-read-if1 c = search needs
 
+-- src/lib.rt:131:9
 returns : tie.Need-returns
-returns c = unobserved-low _ _ _ _ _ _ _ (c .before .before .before .before .before .before .before .before .before .before .pre .3) (c .if1 .taken)
+returns c = ?
 
-copy-first-requires : tie.Need-copy-first-requires
-copy-first-requires c κs = search needs
+-- src/lib.rt:134:16
+add-size : tie.Need-add-size
+add-size c = search needs
 
+-- src/lib.rt:134:16
+add-size-2 : tie.Need-add-size-2
+add-size-2 c = search needs
+
+-- src/lib.rt:135:17
+slice-aggregate-copy : tie.Need-slice-aggregate-copy
+slice-aggregate-copy c = ?
+
+-- src/lib.rt:135:31
+slice-aggregate-copy-2 : tie.Need-slice-aggregate-copy-2
+slice-aggregate-copy-2 c = search needs
+
+-- src/lib.rt:135:5
+copy-requires : tie.Need-copy-requires
+copy-requires c κs = ?
+
+-- src/lib.rt:136:22
 mul-start : tie.Need-mul-start
 mul-start c = search needs
 
+-- src/lib.rt:136:22
+add-start : tie.Need-add-start
+add-start c = search needs
+
+-- src/lib.rt:136:17
+mul-start-2 : tie.Need-mul-start-2
+mul-start-2 c = search needs
+
+-- src/lib.rt:136:17
 shared-slice-read-start : tie.Need-shared-slice-read-start
 shared-slice-read-start c = search needs
 
+-- src/lib.rt:136:17
 cast-start : tie.Need-cast-start
-cast-start c = omega (arith, c .shared-slice-known9 .given (c .before .before .before .before .before .before .before .before .before .before .before .before .before .before .before .args .g))
+cast-start c = ?
 
+-- src/lib.rt:137:40
+slice-aggregate-settle-from : tie.Need-slice-aggregate-settle-from
+slice-aggregate-settle-from c = search needs
+
+-- src/lib.rt:137:5
 settle-from-requires : tie.Need-settle-from-requires
-settle-from-requires c κs = let p = c .before .before .before .before .before .before .before .before .before .before .before .before .before .before .before .before .pre in hold-ready _ _ _ _ _ _ _ (p .0) (p .1) (p .5) _ _ (p .3) (copied-whole _ _ (omega arith) (c .before .before .before .before .copy-first .ensures)) (omega arith)
+settle-from-requires c κs = ?
 
+-- src/lib.rt:138:37
+slice-aggregate-all-data : tie.Need-slice-aggregate-all-data
+slice-aggregate-all-data c = search needs
+
+-- src/lib.rt:138:5
 all-data-requires : tie.Need-all-data-requires
 all-data-requires c κs = search needs
 
-same-length : tie.Need-same-length
-same-length c = search needs
-
+-- src/lib.rt:125:1
 returns-2 : tie.Need-returns-2
-returns-2 c = unobserved-high _ _ _ _ _ _ _ (c .before .before .before .before .before .before .before .before .before .before .before .before .before .before .before .before .before .before .before .before .before .pre .3) (c .before .before .before .before .before .before .before .before .before .before .before .if1 .left) _ _ _ (omega arith) (c .before .before .before .before .settle-from .ensures) (c .all-data .ensures)
+returns-2 c = ?
 
 pub unobserved-at-spec : {M : Type 1} → statement M
 unobserved-at-spec =
     tie.close
     (tie.spec
+    mul-first
+    add-if1
     shared-slice-read-if1
     returns
-    copy-first-requires
+    add-size
+    add-size-2
+    slice-aggregate-copy
+    slice-aggregate-copy-2
+    copy-requires
     mul-start
+    add-start
+    mul-start-2
     shared-slice-read-start
     cast-start
+    slice-aggregate-settle-from
     settle-from-requires
+    slice-aggregate-all-data
     all-data-requires
-    same-length
     returns-2)
