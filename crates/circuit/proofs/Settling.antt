@@ -5,8 +5,8 @@ use native.Mathlib.Omega.{arith}
 use native.Mathlib.Decide.{ℕ-discrete, decLt}
 use mathlib.Core.Path.{_≡_, sym, ap, _∙_, subst, fun-ext}
 use mathlib.Core.List.{List, _++_, map}
-use lib.ListN.{length, getD, set, take, drop, length-map, length-set, length-drop, length-append, replicate, length-replicate, getD-replicate, List·getD-append}
-use lib.Seq.{getD-append-add, getD-set-same, getD-set-other, set-out, ext-getD, take-set-le, take-set-lt, drop-set-add, length-take-le, take-add, take-take, take-append-le, getD-take}
+use lib.ListN.{length, getD, set, take, drop, length-map, length-set, length-drop, replicate, length-replicate, getD-replicate, List·getD-append}
+use lib.Seq.{getD-append-add, getD-set-same, getD-set-other, set-out, ext-getD, take-set-le, take-set-lt, drop-set-add, length-take-le, take-add, take-take, take-length, take-append-seam, getD-take}
 use lib.Dec.{ltb}
 use Rattle.netlist.specs.declared.Counts.{Counts}
 use Rattle.netlist.specs.Reading.{stageLimits, Within}
@@ -121,19 +121,26 @@ low-row c w = record { long = omega (arith, length-replicate {A = ℕ} rowSize 0
     low : (p : ℕ) → p ≤ netCount c → getD {A = ℕ} (replicate rowSize 0) p 0 ≡ 0
     low p h = getD-replicate rowSize p 0 0 (omega (arith, w .inputs-in, w .gates-in))
 
--- a row whose first bytes, the ground's among them, are those of another
-pub copied-row : (c : Counts) (row held : List ℕ) → RowFor c row → RowFor c (take (netCount c + 1) row ++ held) × (netsIn c (take (netCount c + 1) row ++ held) ≡ netsIn c row)
-copied-row c row held r = (record {
-  long = omega (arith, length-append (take (netCount c + 1) row) held, size);
-  bit = λ p h. omega (arith, at p h, r .bit p h);
-  ground = at (netCount c) (omega arith) ∙ r .ground;
-}, take-append-le (netCount c) (take (netCount c + 1) row) held (omega (arith, size)) ∙ take-take (netCount c) (netCount c + 1) row (omega arith))
-  where
-    size : length (take (netCount c + 1) row) ≡ netCount c + 1
-    size = length-take-le (netCount c + 1) row (omega (arith, r .long))
+-- a row after the nets and the ground of another were copied to its front
+module _ (c : Counts) (row rest held : List ℕ) (r : RowFor c row) (long : netCount c < length held)
+    (is : held ≡ take (length (take (netCount c + 1) row)) (take (netCount c + 1) row) ++ rest) where
+  abbrev front : List ℕ
+  front = take (netCount c + 1) row
 
-    at : (p : ℕ) → p ≤ netCount c → getD (take (netCount c + 1) row ++ held) p 0 ≡ getD row p 0
-    at p h = List·getD-append (take (netCount c + 1) row) held 0 p (omega (arith, size)) ∙ getD-take (netCount c + 1) row p 0 (omega arith)
+  same : take (netCount c + 1) held ≡ front
+  same =
+      ap (take (netCount c + 1)) (is ∙ ap (λ (l : List ℕ). l ++ rest) (take-length front))
+      ∙ ap (λ (n : ℕ). take n (front ++ rest)) (sym (length-take-le (netCount c + 1) row (omega (arith, r .long))))
+      ∙ take-append-seam front rest
+
+  pub copied-nets : netsIn c held ≡ netsIn c row
+  copied-nets = sym (take-take (netCount c) (netCount c + 1) held (omega arith)) ∙ ap (take (netCount c)) same ∙ take-take (netCount c) (netCount c + 1) row (omega arith)
+
+  copied-at : (p : ℕ) → p ≤ netCount c → getD held p 0 ≡ getD row p 0
+  copied-at p h = sym (getD-take (netCount c + 1) held p 0 (omega arith)) ∙ ap (λ (l : List ℕ). getD l p 0) same ∙ getD-take (netCount c + 1) row p 0 (omega arith)
+
+  pub copied-row : RowFor c held
+  copied-row = record { long = long; bit = λ p h. omega (arith, copied-at p h, r .bit p h); ground = copied-at (netCount c) (omega arith) ∙ r .ground }
 
 module _ (c : Counts) (row : List ℕ) (r : RowFor c row) where
   pub length-rails : length (railPart c row) ≡ 2 * c .inputs

@@ -1,1 +1,5 @@
 pub mod Spelling
+pub mod Nulling
+pub mod Holding
+pub mod Wrong
+pub mod Found

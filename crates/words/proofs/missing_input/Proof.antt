@@ -1,42 +1,40 @@
+-- `words::missing_input` meets its contract. The loop's invariant: with an input before i NULL some output is not DATA. Assumes nothing.
+use Prim.Native.Nat.{_-_}
+use mathlib.Core.Path.{sym, ap, _∙_}
+use native.Mathlib.Omega.{arith}
+use Rattle.verdict.specs.Checks.{incomplete}
+use Rattle.verdict.specs.Search.{least}
+use Rattle.verdict.proofs.Least.{SoughtTo, sought-on, sought-here, sought-none}
+use Rattle.circuit.specs.Stage.{stageIn}
 use Rattle.words.proofs.missing_input.Statement.{statement}
 use Rattle.words.proofs.missing_input.Tie as tie
-use Rattle.words.proofs.missing_input.Reads as reads
-use Rattle.words.proofs.missing_input.Lts as lts
-use Rattle.words.proofs.incomplete.Reads as incomplete-reads
 
 abbrev Inv-loop : tie.InvT-loop
-Inv-loop code counts w inputs i₀ i = ?
+Inv-loop code counts w inputs i₀ i = SoughtTo (incomplete (stageIn counts code) w) (counts .inputs) i
 
 abbrev μ-loop : tie.MeasureT-loop
-μ-loop code counts w inputs i₀ i = ?
+μ-loop code counts w inputs i₀ i = inputs - i
 
--- src/lib.rt:111:5
 loop-holds : tie.Need-loop-holds Inv-loop μ-loop
-loop-holds c = ?
+loop-holds c = ap (least _ 0) (omega arith)
 
--- src/lib.rt:112:12
 incomplete-requires : tie.Need-incomplete-requires Inv-loop μ-loop
-incomplete-requires c κs = ?
+incomplete-requires c κs = let z = c .before .before .before in (z .pre .0, z .pre .1, omega arith)
 
--- src/lib.rt:113:13
 returns : tie.Need-returns Inv-loop μ-loop
-returns c = ?
+returns c = sought-here _ _ _ (omega arith) (c .before .before .before .loop .inv) (sym (c .before .incomplete .ensures) ∙ c .if1 .taken)
 
--- src/lib.rt:115:9
 add-i : tie.Need-add-i Inv-loop μ-loop
-add-i c = ?
+add-i c = omega arith
 
--- src/lib.rt:111:5
 loop-less : tie.Need-loop-less Inv-loop μ-loop
-loop-less c = ?
+loop-less c = omega arith
 
--- src/lib.rt:111:5
 loop-again : tie.Need-loop-again Inv-loop μ-loop
-loop-again c = ?
+loop-again c = sought-on _ _ _ (omega arith) (c .before .before .before .loop .inv) (sym (c .before .incomplete .ensures) ∙ c .if1 .left)
 
--- src/lib.rt:105:1
 returns-2 : tie.Need-returns-2 Inv-loop μ-loop
-returns-2 c = ?
+returns-2 c = sought-none _ _ _ (omega arith) (c .before .loop .inv)
 
 pub missing-input-spec : {M : Type 1} → statement M
 missing-input-spec =

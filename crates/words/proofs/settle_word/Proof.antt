@@ -1,26 +1,26 @@
+-- `words::settle_word` meets its contract. Assumes nothing.
+use mathlib.Core.Path.{ap, _∙_}
+use denote.Ref.{now}
+use Rattle.verdict.specs.Rows.{settled}
+use Rattle.circuit.specs.Stage.{gatesIn}
 use borrow.Author.Needs.{needs}
 use Rattle.words.proofs.settle_word.Statement.{statement}
 use Rattle.words.proofs.settle_word.Tie as tie
-use Rattle.words.proofs.settle_word.Reads as reads
-use Rattle.words.proofs.settle_word.Lts as lts
-use Rattle.circuit.proofs.settle.Reads as settle-reads
-use Rattle.words.proofs.spell_word.Reads as spell-word-reads
 
--- src/lib.rt:70:5
 spell-word-requires : tie.Need-spell-word-requires
 spell-word-requires c κs = search needs
 
--- src/lib.rt:71:5
 settle-requires : tie.Need-settle-requires
 settle-requires c κs = search needs
 
--- src/lib.rt:65:1
 same-length : tie.Need-same-length
 same-length c = search needs
 
--- src/lib.rt:65:1
 returns : tie.Need-returns
-returns c = ?
+returns c =
+    let z = c .before .before .before .before .before .before .before .before .before .before in
+    let s = c .before .before .settle .ensures in
+    (s .0 ∙ ap (settled (gatesIn (z .args .counts) (now (z .args .code)))) (c .before .before .before .before .before .before .spell-word .ensures .0), s .1)
 
 pub settle-word-spec : {M : Type 1} → statement M
 settle-word-spec = tie.close (tie.spec spell-word-requires settle-requires same-length returns)

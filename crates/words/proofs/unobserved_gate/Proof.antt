@@ -1,55 +1,63 @@
+-- `words::unobserved_gate` meets its contract. The loop's invariant: each gate before g is low, or some output is not DATA with it held
+-- low. Assumes nothing.
+use Prim.Native.Nat.{_-_}
+use mathlib.Core.Path.{sym, ap, _∙_}
+use native.Mathlib.Omega.{arith}
+use denote.Ref.{now}
+use Rattle.verdict.specs.Checks.{unobservable}
+use Rattle.verdict.specs.Search.{least}
+use Rattle.verdict.proofs.Least.{SoughtTo, sought-on, sought-here, sought-none}
+use Rattle.circuit.specs.Stage.{stageIn}
+use Rattle.circuit.proofs.Settling.{low-row}
+use Rattle.words.proofs.Holding.{settled-word, unobserved-word}
+use borrow.Author.Needs.{needs}
 use Rattle.words.proofs.unobserved_gate.Statement.{statement}
 use Rattle.words.proofs.unobserved_gate.Tie as tie
-use Rattle.words.proofs.unobserved_gate.Reads as reads
-use Rattle.words.proofs.unobserved_gate.Lts as lts
-use Rattle.words.proofs.settle_word.Reads as settle-word-reads
-use Rattle.words.proofs.unobserved_at.Reads as unobserved-at-reads
 
 abbrev Inv-loop : tie.InvT-loop
-Inv-loop code counts w row gates g₀ g = ?
+Inv-loop code counts w row gates g₀ g = SoughtTo (unobservable (stageIn counts code) w) (counts .gates) g
 
 abbrev μ-loop : tie.MeasureT-loop
-μ-loop code counts w row gates g₀ g = ?
+μ-loop code counts w row gates g₀ g = gates - g
 
--- src/lib.rt:146:34
 slice-aggregate-settle-word : tie.Need-slice-aggregate-settle-word Inv-loop μ-loop
-slice-aggregate-settle-word c = ?
+slice-aggregate-settle-word c = search needs
 
--- src/lib.rt:146:5
 settle-word-requires : tie.Need-settle-word-requires Inv-loop μ-loop
-settle-word-requires c κs = ?
+settle-word-requires c κs = let z = c .before .before in (z .pre .0, z .pre .1, low-row (z .args .counts) (z .pre .0 .within))
 
--- src/lib.rt:149:5
 loop-holds : tie.Need-loop-holds Inv-loop μ-loop
-loop-holds c = ?
+loop-holds c = ap (least _ 0) (omega arith)
 
--- src/lib.rt:150:40
 slice-aggregate-unobserved-at : tie.Need-slice-aggregate-unobserved-at Inv-loop μ-loop
-slice-aggregate-unobserved-at c = ?
+slice-aggregate-unobserved-at c = search needs
 
--- src/lib.rt:150:12
 unobserved-at-requires : tie.Need-unobserved-at-requires Inv-loop μ-loop
-unobserved-at-requires c κs = ?
+unobserved-at-requires c κs =
+    let z = c .before .before .before .before .before .before .before in
+    let s = c .before .before .before .before .settle-word .ensures in
+    (z .pre .0, z .pre .1, s .1, settled-word (z .args .counts) (now (z .args .code)) _ (z .args .w) (s .0), omega arith)
 
--- src/lib.rt:151:13
 returns : tie.Need-returns Inv-loop μ-loop
-returns c = ?
+returns c =
+    let z = c .before .before .before .before .before .before .before .before .before in
+    let u = unobserved-word (z .args .counts) (now (z .args .code)) _ (z .args .w) (c .before .before .before .before .before .before .settle-word .ensures .0) _ in
+    sought-here _ _ _ (omega arith) (c .before .before .before .before .loop .inv) (sym u ∙ sym (c .before .unobserved-at .ensures) ∙ c .if1 .taken)
 
--- src/lib.rt:153:9
 add-g : tie.Need-add-g Inv-loop μ-loop
-add-g c = ?
+add-g c = omega arith
 
--- src/lib.rt:149:5
 loop-less : tie.Need-loop-less Inv-loop μ-loop
-loop-less c = ?
+loop-less c = omega arith
 
--- src/lib.rt:149:5
 loop-again : tie.Need-loop-again Inv-loop μ-loop
-loop-again c = ?
+loop-again c =
+    let z = c .before .before .before .before .before .before .before .before .before in
+    let u = unobserved-word (z .args .counts) (now (z .args .code)) _ (z .args .w) (c .before .before .before .before .before .before .settle-word .ensures .0) _ in
+    sought-on _ _ _ (omega arith) (c .before .before .before .before .loop .inv) (sym u ∙ sym (c .before .unobserved-at .ensures) ∙ c .if1 .left)
 
--- src/lib.rt:141:1
 returns-2 : tie.Need-returns-2 Inv-loop μ-loop
-returns-2 c = ?
+returns-2 c = sought-none _ _ _ (omega arith) (c .before .loop .inv)
 
 pub unobserved-gate-spec : {M : Type 1} → statement M
 unobserved-gate-spec =

@@ -1,52 +1,59 @@
+-- `words::wrong_output` meets its contract. Assumes nothing.
+use Prim.Native.Nat.{ℕ, _≤_}
+use native.Mathlib.Omega.{arith}
+use mathlib.Core.Path.{sym, subst}
+use mathlib.Core.List.{List}
+use lib.ListN.{getD}
+use denote.Ref.{now}
+use Rattle.verdict.proofs.Words.{bits-of-bit}
+use Rattle.circuit.proofs.Settling.{low-row}
+use Rattle.words.proofs.Wrong.{wrong-word}
+use mathlib.Core.Path.{sym}
 use borrow.Author.Needs.{needs}
 use Rattle.words.proofs.wrong_output.Statement.{statement}
 use Rattle.words.proofs.wrong_output.Tie as tie
-use Rattle.words.proofs.wrong_output.Reads as reads
-use Rattle.words.proofs.wrong_output.Lts as lts
-use Rattle.circuit.proofs.first_misread.Reads as first-misread-reads
-use Rattle.circuit.proofs.signal_values.Reads as signal-values-reads
-use Rattle.words.proofs.settle_word.Reads as settle-word-reads
-use Rattle.words.proofs.word_bits.Reads as word-bits-reads
 
--- src/lib.rt:82:34
 slice-aggregate-settle-word : tie.Need-slice-aggregate-settle-word
 slice-aggregate-settle-word c = search needs
 
--- src/lib.rt:82:5
 settle-word-requires : tie.Need-settle-word-requires
-settle-word-requires c κs = ?
+settle-word-requires c κs = let z = c .before .before .before in (z .pre .stage, z .pre .ordered, low-row (z .args .counts) (z .pre .stage .within))
 
--- src/lib.rt:84:18
 slice-aggregate-word-bits : tie.Need-slice-aggregate-word-bits
 slice-aggregate-word-bits c = search needs
 
--- src/lib.rt:84:5
 word-bits-requires : tie.Need-word-bits-requires
 word-bits-requires c κs = search needs
 
--- src/lib.rt:85:46
 slice-aggregate-signal-values : tie.Need-slice-aggregate-signal-values
 slice-aggregate-signal-values c = search needs
 
--- src/lib.rt:85:5
 signal-values-requires : tie.Need-signal-values-requires
-signal-values-requires c κs = ?
+signal-values-requires c κs =
+    let z = c .before .before .before .before .before .before .before .before .before in
+    let w = z .pre .answers .within in (
+      z .pre .answers,
+      omega (arith, w .inputs-in, w .gates-in),
+      λ i. subst (λ (l : List ℕ). getD l i 0 ≤ 1) (sym (c .before .before .word-bits .ensures)) (bits-of-bit _ (z .args .w) i),
+    )
 
--- src/lib.rt:86:42
 slice-aggregate-first-misread : tie.Need-slice-aggregate-first-misread
 slice-aggregate-first-misread c = search needs
 
--- src/lib.rt:86:66
 slice-aggregate-first-misread-2 : tie.Need-slice-aggregate-first-misread-2
 slice-aggregate-first-misread-2 c = search needs
 
--- src/lib.rt:86:5
 first-misread-requires : tie.Need-first-misread-requires
 first-misread-requires c κs = search needs
 
--- src/lib.rt:77:1
 returns : tie.Need-returns
-returns c = ?
+returns c =
+    let z = c .before .before .before .before .before .before .before .before .before .before .before .before .before .before in
+    let w = z .pre .answers .within in
+    wrong-word (z .args .counts) (now (z .args .code)) (z .args .sizes) (now (z .args .reference)) (z .args .w) (z .pre .answers) (z .pre .enough) _ _ _ _
+    (c .before .before .before .before .before .before .before .before .before .before .settle-word .ensures .0) _
+    (c .before .before .before .before .before .before .before .word-bits .ensures) (omega (arith, w .inputs-in))
+    (c .before .before .before .before .signal-values .ensures .0) (c .first-misread .ensures)
 
 pub wrong-output-spec : {M : Type 1} → statement M
 wrong-output-spec =
