@@ -26,4 +26,3 @@ AllHold N = (g : ℕ) → IsGate N g → N .hold g ≡ true
 -- The rails that some bits call for: rail 1 of input i if bit i is 1, rail 0 if it is 0.
 abbrev pub wordRails : (ℕ → Bool) → Row
 wordRails w k = cond (eqb (k % 2) 1) (w (k / 2)) (not (w (k / 2)))
-

@@ -116,9 +116,13 @@ checks-mean s r = (
 pub row-checks-mean : (s : Stage) (row : List ℕ) → AllMean (rowChecks s row)
 unfolding rowChecks
 row-checks-mean s row =
-    let long = unequal-means 16 (length row) (2 * s .inputs + length (s .gates)) in
-    (looped-means s, (record { passes = long .passes; occurs = long .occurs },
-    (record { passes = λ w i h e. illegal-says row i e; occurs = λ w i h t. illegal-true row i t }, tt)))
+    let long = unequal-means 16 (length row) (2 * s .inputs + length (s .gates)) in (
+      looped-means s,
+      (
+        record { passes = long .passes; occurs = long .occurs },
+        (record { passes = λ w i h e. illegal-says row i e; occurs = λ w i h t. illegal-true row i t }, tt),
+      ),
+    )
 
 -- a readable file holds what is seen through its places
 pub stage-is : {most : Limits} {bytes : List ℕ} {n : ℕ} {gates outputs : List ℕ} → readFile file.Stage most bytes ≡ readable n gates outputs

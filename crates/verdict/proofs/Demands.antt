@@ -127,11 +127,19 @@ module _ (s : Stage) (r : Reference) where
   unfolding checks
   nothing-found m c = (
     λ w h f. f .2 (m .inputs),
-    (λ w h f. f .2 (m .outputs),
-    (λ w h f. m .loop-free (f .0) (in-index (length (s .gates)) (f .0) (f .1)) (f .2),
-    (λ w h f. c w h .right (f .0) (in-index (length (s .outputs)) (f .0) (f .1)) (f .2),
-    (λ w h f. c w h .complete (f .0) (in-index (s .inputs) (f .0) (f .1)) (f .2),
-    (λ w h f. c w h .observable (f .0) (in-index (length (s .gates)) (f .0) (f .1)) (f .2), tt))))),
+    (
+      λ w h f. f .2 (m .outputs),
+      (
+        λ w h f. m .loop-free (f .0) (in-index (length (s .gates)) (f .0) (f .1)) (f .2),
+        (
+          λ w h f. c w h .right (f .0) (in-index (length (s .outputs)) (f .0) (f .1)) (f .2),
+          (
+            λ w h f. c w h .complete (f .0) (in-index (s .inputs) (f .0) (f .1)) (f .2),
+            (λ w h f. c w h .observable (f .0) (in-index (length (s .gates)) (f .0) (f .1)) (f .2), tt),
+          ),
+        ),
+      ),
+    ),
   )
 
   -- 13, 14 or 15 is named: a run shows it
@@ -188,7 +196,7 @@ module _ (stageMost referenceMost : Limits) (stage reference : List ℕ) where
       back c v m a (inl n) =
           let s = c .circuit in
           let clean : Clean s (c .function) = λ w h.
-              conforms-clean s w (noLoop-loopFree (s .inputs) (s .gates) (m .loop-free)) (c .function) (stage-holds stageMost stage s (c .circuit-is)) (a w h) in
+          conforms-clean s w (noLoop-loopFree (s .inputs) (s .gates) (m .loop-free)) (c .function) (stage-holds stageMost stage s (c .circuit-is)) (a w h) in
           absurd (none-named (checks s (c .function)) v (nothing-found s (c .function) m clean) n)
       back c v m a (inr b) = b .1
 
@@ -198,12 +206,14 @@ module _ (stageMost referenceMost : Limits) (stage reference : List ℕ) where
   kept c v e (inr a) =
       let s = c .circuit in
       let f = found-nothing s (c .function) (a .0) in
-      let free = noLoop-loopFree (s .inputs) (s .gates) (f .0 .loop-free) in
-      (a .1, record {
-        contents = c;
-        promise = λ w h. clean-promise s w free (c .function) (stage-holds stageMost stage s (c .circuit-is)) (f .1 w h);
-        rest = λ w h. word-rises s w free (c .function);
-      })
+      let free = noLoop-loopFree (s .inputs) (s .gates) (f .0 .loop-free) in (
+        a .1,
+        record {
+          contents = c;
+          promise = λ w h. clean-promise s w free (c .function) (stage-holds stageMost stage s (c .circuit-is)) (f .1 w h);
+          rest = λ w h. word-rises s w free (c .function);
+        },
+      )
 
   broken : (c : Contents stageMost referenceMost stage reference) (v : Verdict) → 13 ≤ v .number → Judged (checks (c .circuit) (c .function)) v
       → (c : Contents stageMost referenceMost stage reference) × ShownBy (checks (c .circuit) (c .function)) v

@@ -125,11 +125,11 @@ checks s r =
     unequal 11 (length (s .outputs)) (length (r .outputs)) ∷
     looped s ∷
     check 13 1 (words s) (numbers 0 (length (s .outputs))) (wrong s r) (WrongAt s r)
-        (λ w j. Broken s r w (Wrong (netOf s) (railsFor s w) (answerBits r w) j)) ∷
+    (λ w j. Broken s r w (Wrong (netOf s) (railsFor s w) (answerBits r w) j)) ∷
     check 14 1 (words s) (numbers 0 (s .inputs)) (incomplete s) (IncompleteAt s)
-        (λ w i. Broken s r w (Incomplete (netOf s) (railsFor s w) i)) ∷
+    (λ w i. Broken s r w (Incomplete (netOf s) (railsFor s w) i)) ∷
     check 15 1 (words s) (numbers 0 (length (s .gates))) (unobservable s) (UnobservableAt s)
-        (λ w g. Broken s r w (Unobservable (netOf s) (railsFor s w) (2 * s .inputs + g))) ∷
+    (λ w g. Broken s r w (Unobservable (netOf s) (railsFor s w) (2 * s .inputs + g))) ∷
     []
 
 -- 17: a rail of input i is above 1, or both are 1
@@ -147,6 +147,6 @@ unfoldable pub rowChecks : Stage → List ℕ → List Check
 rowChecks s row =
     looped s ∷
     check 16 3 (0 ∷ []) (length row ∷ []) (λ w i. not (eqb (length row) (2 * s .inputs + length (s .gates))))
-        (λ w i. ¬ (length row ≡ 2 * s .inputs + length (s .gates))) nothing ∷
+    (λ w i. ¬ (length row ≡ 2 * s .inputs + length (s .gates))) nothing ∷
     check 17 3 (0 ∷ []) (numbers 0 (s .inputs)) (λ w. illegal row) (λ w. IllegalAt row) nothing ∷
     []
