@@ -10,6 +10,7 @@ use Rattle.netlist.specs.Reading as r
 use Rattle.netlist.specs.Content as t
 use Rattle.verdict.specs.declared.Verdict.{Verdict}
 use Rattle.verdict.specs.Rows as o
+use Rattle.verdict.specs.Graph as g
 use Rattle.verdict.specs.Loops as l
 use Rattle.verdict.specs.Words as w
 use Rattle.verdict.specs.Answers as a
@@ -272,7 +273,7 @@ unfolding twelve examples ordered refused rowExamples wire wireReference wholeSt
     k.sortOf k.operandCount k.operandsFrom k.width k.pinsNeeded k.needed k.stray k.inputsAt k.misfit k.misfitFrom k.unlessMisfit k.gateAt
     k.outputAt k.wholeAt k.nextAt r.roleOf r.names r.nameless r.orLater r.namelessIn r.namelessFrom r.unlessNameless r.finish r.onCommand
     r.onNext r.countsOf r.readFrom r.readFile t.stageOf t.referenceOf o.withNull o.isSet o.rounds o.settledLevels o.levelsHolding o.allData
-    l.isFed l.reachedFrom l.reachesItself w.numbers w.words w.bitsOf w.railsOf a.operate a.signalValues a.answer h.first h.atFault h.sweep
+    g.tabulate g.leading l.gateSteps l.reachesItself w.numbers w.words w.bitsOf w.railsOf a.operate a.signalValues a.answer h.first h.atFault h.sweep
     h.finding h.orLater h.firstFault h.wrong h.incomplete h.unobservable h.checks h.illegal h.rowChecks v.verdictOf v.judgeReference
     v.judgeStage v.verdictWithin v.settleUnless v.settleReading v.settledRowWithin
 computed = (refl, refl, refl, refl, refl)
