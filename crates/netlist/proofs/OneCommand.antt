@@ -102,8 +102,8 @@ module _ (f : File) (most : Limits) (s : List ℕ) (at : ℕ) (before : Counts) 
       let read = taken .0 in
       let k-same : form .sort ≡ k = cc in
       let after : record { at = at + width form } ≡ next = cc in
-      let is : form ≡ formFor f k = form-for f (byte s at) ∙ ap (formFor f) k-same in
-      (sym (ap (λ (x : Cursor). x .at) after) ∙ ap (λ (x : Form). at + width x) is,
+      let is : form ≡ formFor f k = form-for f (byte s at) ∙ ap (formFor f) k-same in (
+        sym (ap (λ (x : Cursor). x .at) after) ∙ ap (λ (x : Form). at + width x) is,
         record {
           command = is;
           ordered = rw k-same at (ordered .0);

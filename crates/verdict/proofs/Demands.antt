@@ -18,7 +18,8 @@ use Rattle.netlist.specs.declared.Limits.{Limits}
 use Rattle.netlist.specs.Reading.{Reading, refused, readable, readFile}
 use Rattle.netlist.specs.Content.{Gate, Stage, Reference, stageOf, referenceOf}
 use Rattle.netlist.specs.Writing.{All}
-use Rattle.netlist.proofs.Stages.{CellFormed, StageFormed, stage-formed}
+use Rattle.netlist.specs.Formed.{CellFormed, StageFormed}
+use Rattle.netlist.proofs.Stages.{stage-formed}
 use Rattle.verdict.specs.declared.Verdict.{Verdict}
 use Rattle.verdict.specs.declared.Finding.{Finding}
 use Rattle.verdict.specs.declared.Finding.the-variants.{Fault, Passed}
@@ -36,7 +37,7 @@ use Rattle.verdict.proofs.Settling.{settled-bits}
 use Rattle.verdict.proofs.Words.{index-in, in-index}
 use Rattle.verdict.proofs.Bridge.{stageIn, settled-row}
 use Rattle.verdict.proofs.Sweeps.{first-in, FirstFault, first-fault, judged}
-use Rattle.verdict.proofs.Because.{checks-mean, row-checks-mean, stage-is, verdict-because}
+use Rattle.verdict.proofs.Because.{checks-mean, row-checks-mean, holds, verdict-because}
 use Rattle.verdict.proofs.Refusals.{refused-number}
 use Rattle.verdict.proofs.OneWord.{CleanIn, rises-to, clean-conforms, conforms-clean, clean-promise, word-rises, wrong-broken, incomplete-broken, unobservable-broken}
 
@@ -49,7 +50,7 @@ gates-hold n (g ∷ gates) h (suc k) = gates-hold n gates (h .1) k
 
 stage-holds : (most : Limits) (bytes : List ℕ) (s : Stage) → StageIs most bytes s → AllHold (netOf s)
 stage-holds most bytes s is k h =
-    let f : StageFormed most s = subst (StageFormed most) (is .content) (stage-formed most bytes (is .inputs) (is .gates) (is .outputs) (is .reads)) in
+    let f : StageFormed most s = subst (StageFormed most) (is .content) (stage-formed most bytes (is .places) (is .reads)) in
     gates-hold (2 * s .inputs + length (s .gates)) (s .gates) (f .gates-formed) (k - 2 * s .inputs)
 
 -- ---- what checks that find nothing say
@@ -175,7 +176,7 @@ module _ (stageMost referenceMost : Limits) (stage reference : List ℕ) where
       let is = c .circuit-is in
       let ir = c .function-is in
       rw (is .reads, ir .reads)
-      (subst (λ (x : Stage). Judged (checks (c .circuit) (c .function)) (verdictOf (firstFault (checks x (referenceOf reference (ir .inputs) (ir .gates) (ir .outputs)))))) (sym (is .content))
+      (subst (λ (x : Stage). Judged (checks (c .circuit) (c .function)) (verdictOf (firstFault (checks x (referenceOf reference (ir .places)))))) (sym (is .content))
       (subst (λ (x : Reference). Judged (checks (c .circuit) (c .function)) (verdictOf (firstFault (checks (c .circuit) x)))) (sym (ir .content))
       (judged (checks (c .circuit) (c .function)) (checks-mean (c .circuit) (c .function)))))
 
@@ -272,6 +273,6 @@ demand-row most stage row = go (readFile file.Stage most stage) refl
 
     go : (x : Reading) → readFile file.Stage most stage ≡ x → Answered most stage row (settleReading stage row x)
     go (refused number at) p = demands.DemandRow.stage-refused p
-    go (readable n gates outputs) p =
-        let s = stageOf stage n gates outputs in
-        answer s (stage-is p) (firstFault (rowChecks s row)) (first-fault (rowChecks s row) (row-checks-mean s row))
+    go (readable places) p =
+        let s = stageOf stage places in
+        answer s (holds p) (firstFault (rowChecks s row)) (first-fault (rowChecks s row) (row-checks-mean s row))

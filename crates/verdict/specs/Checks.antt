@@ -41,8 +41,8 @@ check number file words places fails Condition Shows =
     record { number = number; file = file; words = words; places = places; fails = fails; Condition = Condition; Shows = Shows }
 
 -- nothing is said of runs
-abbrev pub nothing : ℕ → ℕ → Type 0
-nothing w i = Unit {0}
+abbrev pub unsaid : ℕ → ℕ → Type 0
+unsaid w i = Unit {0}
 
 -- ---- what a check finds: "least word, then least index"
 
@@ -112,11 +112,11 @@ pub record Broken (s : Stage) (r : Reference) (w : ℕ) (Run : Type 0) : Type 0 
 -- ---- the tables
 
 abbrev pub unequal : ℕ → ℕ → ℕ → Check
-unequal number mine theirs = check number 0 (theirs ∷ []) (mine ∷ []) (λ w i. not (eqb mine theirs)) (λ w i. ¬ (mine ≡ theirs)) nothing
+unequal number mine theirs = check number 0 (theirs ∷ []) (mine ∷ []) (λ w i. not (eqb mine theirs)) (λ w i. ¬ (mine ≡ theirs)) unsaid
 
 abbrev pub looped : Stage → Check
 looped s =
-    check 12 1 (0 ∷ []) (numbers 0 (length (s .gates))) (λ w. reachesItself (s .inputs) (s .gates)) (λ w. ReachesItself (s .inputs) (s .gates)) nothing
+    check 12 1 (0 ∷ []) (numbers 0 (length (s .gates))) (λ w. reachesItself (s .inputs) (s .gates)) (λ w. ReachesItself (s .inputs) (s .gates)) unsaid
 
 -- the checks of a stage against a reference, in their order
 unfoldable pub checks : Stage → Reference → List Check
@@ -147,6 +147,6 @@ unfoldable pub rowChecks : Stage → List ℕ → List Check
 rowChecks s row =
     looped s ∷
     check 16 3 (0 ∷ []) (length row ∷ []) (λ w i. not (eqb (length row) (2 * s .inputs + length (s .gates))))
-    (λ w i. ¬ (length row ≡ 2 * s .inputs + length (s .gates))) nothing ∷
-    check 17 3 (0 ∷ []) (numbers 0 (s .inputs)) (λ w. illegal row) (λ w. IllegalAt row) nothing ∷
+    (λ w i. ¬ (length row ≡ 2 * s .inputs + length (s .gates))) unsaid ∷
+    check 17 3 (0 ∷ []) (numbers 0 (s .inputs)) (λ w. illegal row) (λ w. IllegalAt row) unsaid ∷
     []

@@ -12,7 +12,7 @@ use Rattle.runs.specs.Promise.{Goes-on, Promise}
 use Rattle.netlist.specs.declared.File.{File}
 use Rattle.netlist.specs.declared.File.the-variants as file
 use Rattle.netlist.specs.declared.Limits.{Limits}
-use Rattle.netlist.specs.Reading.{refused, readable, readFile}
+use Rattle.netlist.specs.Reading.{Places, refused, readable, readFile}
 use Rattle.netlist.specs.Content.{Stage, Reference, stageOf, referenceOf}
 use Rattle.verdict.specs.declared.Verdict.{Verdict}
 use Rattle.verdict.specs.Loops.{In, NoLoop}
@@ -24,12 +24,10 @@ use Rattle.verdict.specs.Verdicts.{accepted}
 -- ---- the two files
 
 -- a file reads, and x is what is seen through the places of its commands
-pub record Holds {X : Type 0} (f : File) (view : List ℕ → ℕ → List ℕ → List ℕ → X) (most : Limits) (bytes : List ℕ) (x : X) : Type 0 where
-  pub inputs : ℕ
-  pub gates : List ℕ
-  pub outputs : List ℕ
-  pub reads : readFile f most bytes ≡ readable inputs gates outputs
-  pub content : view bytes inputs gates outputs ≡ x
+pub record Holds {X : Type 0} (f : File) (view : List ℕ → Places → X) (most : Limits) (bytes : List ℕ) (x : X) : Type 0 where
+  pub places : Places
+  pub reads : readFile f most bytes ≡ readable places
+  pub content : view bytes places ≡ x
 
 abbrev pub StageIs : Limits → List ℕ → Stage → Type 0
 StageIs = Holds file.Stage stageOf
