@@ -274,7 +274,7 @@ unfolding twelve examples ordered refused rowExamples wire wireReference wholeSt
     k.takeCommand k.nextAt r.nameable r.nameless r.used r.namelessAt r.orLater r.onward r.namelessFrom r.noted r.unlessNameless r.finish
     r.onNext r.readFrom r.readFile t.stageOf t.referenceOf o.withNull o.isSet o.rounds o.settledLevels o.levelsHolding o.allData
     g.tabulate g.leading l.gateSteps l.reachesItself w.numbers w.words w.bitsOf w.railsOf a.operate a.signalValues a.answer h.first h.atFault h.sweep
-    h.finding h.orLater h.firstFault h.wrong h.incomplete h.unobservable h.checks h.illegal h.rowChecks v.verdictOf v.judgeReference
+    h.finding h.orLater h.firstFault h.wrong h.incomplete h.unobservable h.sweeps h.checks h.illegal h.rowChecks v.verdictOf v.judgeReference
     v.judgeStage v.verdictWithin v.settleUnless v.settleReading v.settledRowWithin
 computed = (refl, refl, refl, refl, refl)
 

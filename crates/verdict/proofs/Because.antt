@@ -22,13 +22,13 @@ use Rattle.verdict.specs.Loops.{In, reachesItself}
 use Rattle.verdict.specs.Words.{numbers, words, bitsOf, railsIn}
 use Rattle.verdict.specs.Answers.{answer}
 use Rattle.verdict.specs.Nets.{noPair, outputPair, netOf, rowOf}
-use Rattle.verdict.specs.Checks.{Check, check, wrong, incomplete, unobservable, WrongAt, IncompleteAt, UnobservableAt, unequal, looped, checks, illegal, IllegalAt, rowChecks}
+use Rattle.verdict.specs.Checks.{Check, check, wrong, incomplete, unobservable, WrongAt, IncompleteAt, UnobservableAt, unequal, looped, sweeps, checks, illegal, IllegalAt, rowChecks}
 use Rattle.verdict.specs.Verdicts.{judgeReference, judgeStage, verdictWithin}
-use Rattle.verdict.specs.Demands.{Holds, Because, stage-refused, reference-refused, both-read}
+use Rattle.verdict.specs.Demands.{Holds, EachOf, Because, stage-refused, reference-refused, both-read}
 use Rattle.verdict.proofs.Reaching.{reaches-sound, reaches-complete}
 use Rattle.verdict.proofs.Words.{in-index, bits-of-bit, answer-bit}
 use Rattle.verdict.proofs.Bridge.{data-in, data-out, spells-in, spells-out}
-use Rattle.verdict.proofs.Sweeps.{Means, AllMean, judged}
+use Rattle.verdict.proofs.Sweeps.{Means, judged}
 use Rattle.verdict.proofs.Illegal.{illegal-true, illegal-says}
 
 -- ---- all outputs DATA, tested and said
@@ -107,14 +107,16 @@ module _ (s : Stage) (places : List ℕ) (Shows : ℕ → ℕ → Type 0) where
 
 -- ---- the lists of checks
 
-pub checks-mean : (s : Stage) (r : Reference) → AllMean (checks s r)
-unfolding checks
-checks-mean s r = (
-  unequal-means 10 (s .inputs) (r .inputs),
-  (unequal-means 11 (length (s .outputs)) (length (r .outputs)), (looped-means s, (wrong-means s r _ _, (incomplete-means s _ _, (unobservable-means s _ _, tt))))),
-)
+sweeps-mean : (s : Stage) (r : Reference) → EachOf Means (sweeps s r)
+unfolding sweeps
+sweeps-mean s r = (wrong-means s r _ _, (incomplete-means s _ _, (unobservable-means s _ _, tt)))
 
-pub row-checks-mean : (s : Stage) (row : List ℕ) → AllMean (rowChecks s row)
+pub checks-mean : (s : Stage) (r : Reference) → EachOf Means (checks s r)
+unfolding checks
+checks-mean s r =
+    (unequal-means 10 (s .inputs) (r .inputs), (unequal-means 11 (length (s .outputs)) (length (r .outputs)), (looped-means s, sweeps-mean s r)))
+
+pub row-checks-mean : (s : Stage) (row : List ℕ) → EachOf Means (rowChecks s row)
 unfolding rowChecks
 row-checks-mean s row =
     let long = unequal-means 16 (length row) (2 * s .inputs + length (s .gates)) in (

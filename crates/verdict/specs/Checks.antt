@@ -118,12 +118,9 @@ abbrev pub looped : Stage → Check
 looped s =
     check 12 1 (0 ∷ []) (numbers 0 (length (s .gates))) (λ w. reachesItself (s .inputs) (s .gates)) (λ w. ReachesItself (s .inputs) (s .gates)) unsaid
 
--- the checks of a stage against a reference, in their order
-unfoldable pub checks : Stage → Reference → List Check
-checks s r =
-    unequal 10 (s .inputs) (r .inputs) ∷
-    unequal 11 (length (s .outputs)) (length (r .outputs)) ∷
-    looped s ∷
+-- the checks of a stage against a reference, in their order: those of the counts and of loops, and those that sweep the words
+unfoldable pub sweeps : Stage → Reference → List Check
+sweeps s r =
     check 13 1 (words s) (numbers 0 (length (s .outputs))) (wrong s r) (WrongAt s r)
     (λ w j. Broken s r w (Wrong (netOf s) (railsFor s w) (answerBits r w) j)) ∷
     check 14 1 (words s) (numbers 0 (s .inputs)) (incomplete s) (IncompleteAt s)
@@ -131,6 +128,13 @@ checks s r =
     check 15 1 (words s) (numbers 0 (length (s .gates))) (unobservable s) (UnobservableAt s)
     (λ w g. Broken s r w (Unobservable (netOf s) (railsFor s w) (2 * s .inputs + g))) ∷
     []
+
+unfoldable pub checks : Stage → Reference → List Check
+checks s r =
+    unequal 10 (s .inputs) (r .inputs) ∷
+    unequal 11 (length (s .outputs)) (length (r .outputs)) ∷
+    looped s ∷
+    sweeps s r
 
 -- 17: a rail of input i is above 1, or both are 1
 unfoldable pub illegal : List ℕ → ℕ → Bool

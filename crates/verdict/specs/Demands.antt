@@ -71,14 +71,13 @@ abbrev pub Named : List Check → Verdict → Type 0
 Named [] v = ⊥
 Named (c ∷ later) v = NamedBy c v ⊎ (Nowhere c × Named later v)
 
--- the conditions of all checks hold nowhere
-abbrev pub AllNowhere : List Check → Type 0
-AllNowhere [] = Unit {0}
-AllNowhere (c ∷ later) = Nowhere c × AllNowhere later
+abbrev pub EachOf : (Check → Type 0) → List Check → Type 0
+EachOf P [] = Unit {0}
+EachOf P (c ∷ later) = P c × EachOf P later
 
 -- the earliest failing check is named, or none fails
 abbrev pub Judged : List Check → Verdict → Type 0
-Judged checks v = Named checks v ⊎ (AllNowhere checks × (v ≡ accepted))
+Judged checks v = Named checks v ⊎ (EachOf Nowhere checks × (v ≡ accepted))
 
 pub data Because (stageMost referenceMost : Limits) (stage reference : List ℕ) : Verdict → Type 0 where
   stage-refused : {number at : ℕ} → readFile file.Stage stageMost stage ≡ refused number at
@@ -156,5 +155,5 @@ pub record RowGiven (s : Stage) (before after′ : List ℕ) : Type 0 where
 pub data DemandRow (most : Limits) (stage before : List ℕ) : Verdict → List ℕ → Type 0 where
   stage-refused : {number at : ℕ} → readFile file.Stage most stage ≡ refused number at → DemandRow most stage before (verdict number 1 at 0) before
   row-refused : {s : Stage} {v : Verdict} → StageIs most stage s → Named (rowChecks s before) v → DemandRow most stage before v before
-  row-settled : {s : Stage} {after′ : List ℕ} → StageIs most stage s → AllNowhere (rowChecks s before) → RowGiven s before after′
+  row-settled : {s : Stage} {after′ : List ℕ} → StageIs most stage s → EachOf Nowhere (rowChecks s before) → RowGiven s before after′
       → DemandRow most stage before accepted after′
