@@ -12,22 +12,23 @@ use borrow.Author.Tests.{eqb-true, eqb-false}
 use Rattle.runs.specs.Row.{only}
 use Rattle.runs.specs.Pair as pair
 use Rattle.runs.proofs.Test.{clash, not-true, of-not, eqb-same}
+use Rattle.netlist.specs.declared.File.{File}
 use Rattle.netlist.specs.declared.File.the-variants as file
 use Rattle.netlist.specs.declared.Limits.{Limits}
-use Rattle.netlist.specs.Reading.{Reading, refused, readable, readFile}
+use Rattle.netlist.specs.Reading.{Places, Reading, refused, readable, readFile}
 use Rattle.netlist.specs.Content.{Pair, Stage, Reference, stageOf, referenceOf}
 use Rattle.verdict.specs.Rows.{high, withNull, settled, settledHolding, pairIn, isData, spells, allData}
 use Rattle.verdict.specs.Loops.{In, reachesItself}
 use Rattle.verdict.specs.Words.{numbers, words, bitsOf, railsIn}
 use Rattle.verdict.specs.Answers.{answer}
 use Rattle.verdict.specs.Nets.{noPair, outputPair, netOf, rowOf}
-use Rattle.verdict.specs.Checks.{Check, check, nothing, wrong, incomplete, unobservable, WrongAt, IncompleteAt, UnobservableAt, unequal, looped, checks, illegal, IllegalAt, rowChecks}
+use Rattle.verdict.specs.Checks.{Check, check, wrong, incomplete, unobservable, WrongAt, IncompleteAt, UnobservableAt, unequal, looped, sweeps, checks, illegal, IllegalAt, rowChecks}
 use Rattle.verdict.specs.Verdicts.{judgeReference, judgeStage, verdictWithin}
-use Rattle.verdict.specs.Demands.{StageIs, ReferenceIs, Because, stage-refused, reference-refused, both-read}
+use Rattle.verdict.specs.Demands.{Holds, EachOf, Because, stage-refused, reference-refused, both-read}
 use Rattle.verdict.proofs.Reaching.{reaches-sound, reaches-complete}
 use Rattle.verdict.proofs.Words.{in-index, bits-of-bit, answer-bit}
 use Rattle.verdict.proofs.Bridge.{data-in, data-out, spells-in, spells-out}
-use Rattle.verdict.proofs.Sweeps.{Means, AllMean, judged}
+use Rattle.verdict.proofs.Sweeps.{Means, judged}
 use Rattle.verdict.proofs.Illegal.{illegal-true, illegal-says}
 
 -- ---- all outputs DATA, tested and said
@@ -106,14 +107,16 @@ module _ (s : Stage) (places : List ℕ) (Shows : ℕ → ℕ → Type 0) where
 
 -- ---- the lists of checks
 
-pub checks-mean : (s : Stage) (r : Reference) → AllMean (checks s r)
-unfolding checks
-checks-mean s r = (
-  unequal-means 10 (s .inputs) (r .inputs),
-  (unequal-means 11 (length (s .outputs)) (length (r .outputs)), (looped-means s, (wrong-means s r _ _, (incomplete-means s _ _, (unobservable-means s _ _, tt))))),
-)
+sweeps-mean : (s : Stage) (r : Reference) → EachOf Means (sweeps s r)
+unfolding sweeps
+sweeps-mean s r = (wrong-means s r _ _, (incomplete-means s _ _, (unobservable-means s _ _, tt)))
 
-pub row-checks-mean : (s : Stage) (row : List ℕ) → AllMean (rowChecks s row)
+pub checks-mean : (s : Stage) (r : Reference) → EachOf Means (checks s r)
+unfolding checks
+checks-mean s r =
+    (unequal-means 10 (s .inputs) (r .inputs), (unequal-means 11 (length (s .outputs)) (length (r .outputs)), (looped-means s, sweeps-mean s r)))
+
+pub row-checks-mean : (s : Stage) (row : List ℕ) → EachOf Means (rowChecks s row)
 unfolding rowChecks
 row-checks-mean s row =
     let long = unequal-means 16 (length row) (2 * s .inputs + length (s .gates)) in (
@@ -125,13 +128,9 @@ row-checks-mean s row =
     )
 
 -- a readable file holds what is seen through its places
-pub stage-is : {most : Limits} {bytes : List ℕ} {n : ℕ} {gates outputs : List ℕ} → readFile file.Stage most bytes ≡ readable n gates outputs
-    → StageIs most bytes (stageOf bytes n gates outputs)
-stage-is {n = n} {gates = gates} {outputs = outputs} e = record { inputs = n; gates = gates; outputs = outputs; reads = e; content = refl }
-
-pub reference-is : {most : Limits} {bytes : List ℕ} {n : ℕ} {gates outputs : List ℕ} → readFile file.Reference most bytes ≡ readable n gates outputs
-    → ReferenceIs most bytes (referenceOf bytes n gates outputs)
-reference-is {n = n} {gates = gates} {outputs = outputs} e = record { inputs = n; gates = gates; outputs = outputs; reads = e; content = refl }
+pub holds : {X : Type 0} {f : File} {view : List ℕ → Places → X} {most : Limits} {bytes : List ℕ} {places : Places} → readFile f most bytes ≡ readable places
+    → Holds f view most bytes (view bytes places)
+holds {places = places} e = record { places = places; reads = e; content = refl }
 
 -- every verdict on two files has its reason
 pub verdict-because : (stageMost referenceMost : Limits) (stage reference : List ℕ)
@@ -142,8 +141,8 @@ verdict-because stageMost referenceMost stage reference = go (readFile file.Stag
     go : (x : Reading) → readFile file.Stage stageMost stage ≡ x → (y : Reading) → readFile file.Reference referenceMost reference ≡ y
         → Because stageMost referenceMost stage reference (judgeStage referenceMost stage reference x)
     go (refused number at) p y q = stage-refused p
-    go (readable n gates outputs) p (refused number at) q = rw q (reference-refused (stage-is p) q)
-    go (readable n gates outputs) p (readable m operations signals) q =
-        let s = stageOf stage n gates outputs in
-        let r = referenceOf reference m operations signals in
-        rw q (both-read (record { circuit = s; function = r; circuit-is = stage-is p; function-is = reference-is q }) (judged (checks s r) (checks-mean s r)))
+    go (readable at) p (refused number place) q = rw q (reference-refused (holds p) q)
+    go (readable at) p (readable to) q =
+        let s = stageOf stage at in
+        let r = referenceOf reference to in
+        rw q (both-read (record { circuit = s; function = r; circuit-is = holds p; function-is = holds q }) (judged (checks s r) (checks-mean s r)))

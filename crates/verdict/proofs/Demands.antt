@@ -18,7 +18,8 @@ use Rattle.netlist.specs.declared.Limits.{Limits}
 use Rattle.netlist.specs.Reading.{Reading, refused, readable, readFile}
 use Rattle.netlist.specs.Content.{Gate, Stage, Reference, stageOf, referenceOf}
 use Rattle.netlist.specs.Writing.{All}
-use Rattle.netlist.proofs.Stages.{CellFormed, StageFormed, stage-formed}
+use Rattle.netlist.specs.Formed.{CellFormed, StageFormed}
+use Rattle.netlist.proofs.Stages.{stage-formed}
 use Rattle.verdict.specs.declared.Verdict.{Verdict}
 use Rattle.verdict.specs.declared.Finding.{Finding}
 use Rattle.verdict.specs.declared.Finding.the-variants.{Fault, Passed}
@@ -26,17 +27,17 @@ use Rattle.verdict.specs.Rows.{settledLevels, settled}
 use Rattle.verdict.specs.Loops.{In, NoLoop}
 use Rattle.verdict.specs.Words.{numbers, words, IsWord}
 use Rattle.verdict.specs.Nets.{noGate, netOf, rowOf, railsFor, answerBits}
-use Rattle.verdict.specs.Checks.{verdict, Check, unequal, looped, firstFault, checks, rowChecks}
+use Rattle.verdict.specs.Checks.{Check, unequal, looped, sweeps, firstFault, checks, rowChecks}
 use Rattle.verdict.specs.Verdicts.{accepted, verdictOf, judgeReference, judgeStage, verdictWithin, RowAnswer, settleUnless, settleReading, settledRowWithin}
 use Rattle.verdict.specs.Demands as demands
-use Rattle.verdict.specs.Demands.{StageIs, ReferenceIs, Contents, Nowhere, NamedBy, Named, AllNowhere, Judged, Because, both-read, Comparable, Acceptable, Demand2, Kept, Shown, ShownBy, Demand3, RowGiven, DemandRow, row-refused, row-settled}
+use Rattle.verdict.specs.Demands.{StageIs, ReferenceIs, Contents, Nowhere, NamedBy, Named, EachOf, Judged, Because, both-read, Comparable, Acceptable, Demand2, Kept, Shown, ShownBy, Demand3, RowGiven, DemandRow, row-refused, row-settled}
 use Rattle.verdict.proofs.Levels.{bits-length, bits-get}
 use Rattle.verdict.proofs.Reaching.{noLoop-loopFree}
 use Rattle.verdict.proofs.Settling.{settled-bits}
 use Rattle.verdict.proofs.Words.{index-in, in-index}
 use Rattle.verdict.proofs.Bridge.{stageIn, settled-row}
-use Rattle.verdict.proofs.Sweeps.{first-in, FirstFault, first-fault, judged}
-use Rattle.verdict.proofs.Because.{checks-mean, row-checks-mean, stage-is, verdict-because}
+use Rattle.verdict.proofs.Sweeps.{FirstFault, first-fault, judged, Showable, named-shown, shown-by, none-named, named-from}
+use Rattle.verdict.proofs.Because.{checks-mean, row-checks-mean, holds, verdict-because}
 use Rattle.verdict.proofs.Refusals.{refused-number}
 use Rattle.verdict.proofs.OneWord.{CleanIn, rises-to, clean-conforms, conforms-clean, clean-promise, word-rises, wrong-broken, incomplete-broken, unobservable-broken}
 
@@ -49,7 +50,7 @@ gates-hold n (g ∷ gates) h (suc k) = gates-hold n gates (h .1) k
 
 stage-holds : (most : Limits) (bytes : List ℕ) (s : Stage) → StageIs most bytes s → AllHold (netOf s)
 stage-holds most bytes s is k h =
-    let f : StageFormed most s = subst (StageFormed most) (is .content) (stage-formed most bytes (is .inputs) (is .gates) (is .outputs) (is .reads)) in
+    let f : StageFormed most s = subst (StageFormed most) (is .content) (stage-formed most bytes (is .places) (is .reads)) in
     gates-hold (2 * s .inputs + length (s .gates)) (s .gates) (f .gates-formed) (k - 2 * s .inputs)
 
 -- ---- what checks that find nothing say
@@ -67,100 +68,80 @@ nowhere-equal number mine theirs n = same-or mine theirs (λ d. n theirs (inl re
 nowhere-loop : (s : Stage) → Nowhere (looped s) → NoLoop (s .inputs) (s .gates)
 nowhere-loop s n g h p = n 0 (inl refl) (g, index-in (length (s .gates)) g h, p)
 
--- a check that is named
-module _ {c : Check} {v : Verdict} (n : NamedBy c v) where
-  named-number : v .number ≡ c .number
-  named-number = ap (λ (x : Verdict). x .number) (n .is)
-
-  named-fails : Nowhere c → ⊥
-  named-fails none = none (v .word) (first-in (n .word)) (n .word .holds)
-
-  named-shown : ((w i : ℕ) → In w (c .words) → In i (c .places) → c .Condition w i → c .Shows w i) → Shown c v
-  named-shown f = record {
-    number-is = named-number;
-    word-in = first-in (n .word);
-    place-in = first-in (n .place);
-    shows = f (v .word) (v .at) (first-in (n .word)) (first-in (n .place)) (n .place .holds);
-  }
-
 number-of : {v : Verdict} → v ≡ accepted → v .number ≡ 0
 number-of e = ap (λ (v : Verdict). v .number) e
 
 -- ---- a stage and a reference that were read
 
--- 13, 14 and 15 find nothing in any word
+-- the sweeps find nothing in any word
 abbrev Clean : Stage → Reference → Type 0
 Clean s r = (w : ℕ) → IsWord s w → CleanIn s r w
 
--- 13 is the least number of a check that speaks of runs
+module _ (s : Stage) (r : Reference) where
+  sweeps-clean : EachOf Nowhere (sweeps s r) → Clean s r
+  unfolding sweeps
+  sweeps-clean (x, (y, (z, e))) w h = record {
+    right = λ j hj f. x w h (j, index-in (length (s .outputs)) j hj, f);
+    complete = λ i hi f. y w h (i, index-in (s .inputs) i hi, f);
+    observable = λ g hg f. z w h (g, index-in (length (s .gates)) g hg, f);
+  }
+
+  clean-sweeps : Clean s r → EachOf Nowhere (sweeps s r)
+  unfolding sweeps
+  clean-sweeps c = (
+    λ w h f. c w h .right (f .0) (in-index (length (s .outputs)) (f .0) (f .1)) (f .2),
+    (
+      λ w h f. c w h .complete (f .0) (in-index (s .inputs) (f .0) (f .1)) (f .2),
+      (λ w h f. c w h .observable (f .0) (in-index (length (s .gates)) (f .0) (f .1)) (f .2), tt),
+    ),
+  )
+
+  sweeps-showable : NoLoop (s .inputs) (s .gates) → EachOf Showable (sweeps s r)
+  unfolding sweeps
+  sweeps-showable l =
+      let free = noLoop-loopFree (s .inputs) (s .gates) l in (
+        record { shows = λ w j hw hj. wrong-broken s w free r j (in-index (length (s .outputs)) j hj) },
+        (
+          record { shows = λ w i hw hi. incomplete-broken s w free r i (in-index (s .inputs) i hi) },
+          (record { shows = λ w g hw hg. unobservable-broken s w free r g (in-index (length (s .gates)) g hg) }, tt),
+        ),
+      )
+
+  -- ---- all checks
+
+  checks-from : (v : Verdict) → Named (checks s r) v → 10 ≤ v .number
+  unfolding checks sweeps
+  checks-from v n = named-from 10 (checks s r) v (omega arith, (omega arith, (omega arith, (omega arith, (omega arith, (omega arith, tt)))))) n
+
+  -- they find nothing exactly if the two can be compared and every word is clean
+  found-nothing : EachOf Nowhere (checks s r) → Comparable s r × Clean s r
+  unfolding checks
+  found-nothing (a, (b, (l, e))) = (
+    record { inputs = nowhere-equal 10 (s .inputs) (r .inputs) a; outputs = nowhere-equal 11 (length (s .outputs)) (length (r .outputs)) b; loop-free = nowhere-loop s l },
+    sweeps-clean e,
+  )
+
+  nothing-found : Comparable s r → Clean s r → EachOf Nowhere (checks s r)
+  unfolding checks
+  nothing-found m c = (
+    λ w h f. f .2 (m .inputs),
+    (λ w h f. f .2 (m .outputs), (λ w h f. m .loop-free (f .0) (in-index (length (s .gates)) (f .0) (f .1)) (f .2), clean-sweeps c)),
+  )
+
+  -- the check that is named shows what it says
+  shown : (v : Verdict) → Named (checks s r) v → ShownBy (checks s r) v
+  unfolding checks
+  shown v (inl n) = inl (named-shown _ v (record { shows = λ w i hw hi f. tt }) n)
+  shown v (inr (a, inl n)) = inr (inl (named-shown _ v (record { shows = λ w i hw hi f. tt }) n))
+  shown v (inr (a, inr (b, inl n))) = inr (inr (inl (named-shown _ v (record { shows = λ w i hw hi f. tt }) n)))
+  shown v (inr (a, inr (b, inr (l, n)))) = inr (inr (inr (shown-by (sweeps s r) v (sweeps-showable (nowhere-loop s l)) n)))
+
+-- the least number of a check that speaks of runs
 runs-from : (n : ℕ) → In n (13 ∷ 14 ∷ 15 ∷ []) → 13 ≤ n
 runs-from n (inl e) = omega arith
 runs-from n (inr (inl e)) = omega arith
 runs-from n (inr (inr (inl e))) = omega arith
 runs-from n (inr (inr (inr h))) = absurd h
-
-module _ (s : Stage) (r : Reference) where
-  -- a named check has a number of its own, and its condition holds somewhere
-  named-from : (v : Verdict) → Named (checks s r) v → 10 ≤ v .number
-  unfolding checks
-  named-from v (inl n) = omega (arith, named-number n)
-  named-from v (inr (a, inl n)) = omega (arith, named-number n)
-  named-from v (inr (a, inr (b, inl n))) = omega (arith, named-number n)
-  named-from v (inr (a, inr (b, inr (l, inl n)))) = omega (arith, named-number n)
-  named-from v (inr (a, inr (b, inr (l, inr (x, inl n))))) = omega (arith, named-number n)
-  named-from v (inr (a, inr (b, inr (l, inr (x, inr (y, inl n)))))) = omega (arith, named-number n)
-  named-from v (inr (a, inr (b, inr (l, inr (x, inr (y, inr (z, e))))))) = absurd e
-
-  -- the checks find nothing exactly if the two can be compared and every word is clean
-  found-nothing : AllNowhere (checks s r) → Comparable s r × Clean s r
-  unfolding checks
-  found-nothing (a, (b, (l, (x, (y, (z, e)))))) = (
-    record { inputs = nowhere-equal 10 (s .inputs) (r .inputs) a; outputs = nowhere-equal 11 (length (s .outputs)) (length (r .outputs)) b; loop-free = nowhere-loop s l },
-    λ w h. record {
-      right = λ j hj f. x w h (j, index-in (length (s .outputs)) j hj, f);
-      complete = λ i hi f. y w h (i, index-in (s .inputs) i hi, f);
-      observable = λ g hg f. z w h (g, index-in (length (s .gates)) g hg, f);
-    },
-  )
-
-  nothing-found : Comparable s r → Clean s r → AllNowhere (checks s r)
-  unfolding checks
-  nothing-found m c = (
-    λ w h f. f .2 (m .inputs),
-    (
-      λ w h f. f .2 (m .outputs),
-      (
-        λ w h f. m .loop-free (f .0) (in-index (length (s .gates)) (f .0) (f .1)) (f .2),
-        (
-          λ w h f. c w h .right (f .0) (in-index (length (s .outputs)) (f .0) (f .1)) (f .2),
-          (
-            λ w h f. c w h .complete (f .0) (in-index (s .inputs) (f .0) (f .1)) (f .2),
-            (λ w h f. c w h .observable (f .0) (in-index (length (s .gates)) (f .0) (f .1)) (f .2), tt),
-          ),
-        ),
-      ),
-    ),
-  )
-
-  -- 13, 14 or 15 is named: a run shows it
-  shown : (v : Verdict) → 13 ≤ v .number → Named (checks s r) v → ShownBy (checks s r) v
-  unfolding checks
-  shown v h (inl n) = absurd (omega (arith, named-number n))
-  shown v h (inr (a, inl n)) = absurd (omega (arith, named-number n))
-  shown v h (inr (a, inr (b, inl n))) = absurd (omega (arith, named-number n))
-  shown v h (inr (a, inr (b, inr (l, inl n)))) =
-      inr (inr (inr (inl (named-shown n (λ w j hw hj f. wrong-broken s w (noLoop-loopFree (s .inputs) (s .gates) (nowhere-loop s l)) r j (in-index (length (s .outputs)) j hj) f)))))
-  shown v h (inr (a, inr (b, inr (l, inr (x, inl n))))) =
-      inr (inr (inr (inr (inl (named-shown n (λ w i hw hi f. incomplete-broken s w (noLoop-loopFree (s .inputs) (s .gates) (nowhere-loop s l)) r i (in-index (s .inputs) i hi) f))))))
-  shown v h (inr (a, inr (b, inr (l, inr (x, inr (y, inl n)))))) =
-      inr (inr (inr (inr (inr (inl (named-shown n (λ w g hw hg f. unobservable-broken s w (noLoop-loopFree (s .inputs) (s .gates) (nowhere-loop s l)) r g (in-index (length (s .gates)) g hg) f)))))))
-  shown v h (inr (a, inr (b, inr (l, inr (x, inr (y, inr (z, e))))))) = absurd e
-
--- no check of a list whose conditions hold nowhere is named
-none-named : (cs : List Check) (v : Verdict) → AllNowhere cs → Named cs v → ⊥
-none-named [] v a n = n
-none-named (c ∷ cs) v a (inl n) = named-fails n (a .0)
-none-named (c ∷ cs) v a (inr n) = none-named cs v (a .1) (n .1)
 
 -- ---- the verdict on two files
 
@@ -175,7 +156,7 @@ module _ (stageMost referenceMost : Limits) (stage reference : List ℕ) where
       let is = c .circuit-is in
       let ir = c .function-is in
       rw (is .reads, ir .reads)
-      (subst (λ (x : Stage). Judged (checks (c .circuit) (c .function)) (verdictOf (firstFault (checks x (referenceOf reference (ir .inputs) (ir .gates) (ir .outputs)))))) (sym (is .content))
+      (subst (λ (x : Stage). Judged (checks (c .circuit) (c .function)) (verdictOf (firstFault (checks x (referenceOf reference (ir .places)))))) (sym (is .content))
       (subst (λ (x : Reference). Judged (checks (c .circuit) (c .function)) (verdictOf (firstFault (checks (c .circuit) x)))) (sym (ir .content))
       (judged (checks (c .circuit) (c .function)) (checks-mean (c .circuit) (c .function)))))
 
@@ -185,7 +166,7 @@ module _ (stageMost referenceMost : Limits) (stage reference : List ℕ) where
     where
       forth : (c : Contents stageMost referenceMost stage reference) (v : Verdict) → v ≡ accepted → Judged (checks (c .circuit) (c .function)) v
           → Acceptable (c .circuit) (c .function)
-      forth c v e (inl n) = absurd (omega (arith, named-from (c .circuit) (c .function) v n, number-of e))
+      forth c v e (inl n) = absurd (omega (arith, checks-from (c .circuit) (c .function) v n, number-of e))
       forth c v e (inr a) = λ w h.
           let s = c .circuit in
           let f = found-nothing s (c .function) (a .0) in
@@ -202,7 +183,7 @@ module _ (stageMost referenceMost : Limits) (stage reference : List ℕ) where
 
   kept : (c : Contents stageMost referenceMost stage reference) (v : Verdict) → v .number ≡ 0 → Judged (checks (c .circuit) (c .function)) v
       → (v ≡ accepted) × Kept stageMost referenceMost stage reference
-  kept c v e (inl n) = absurd (omega (arith, named-from (c .circuit) (c .function) v n))
+  kept c v e (inl n) = absurd (omega (arith, checks-from (c .circuit) (c .function) v n))
   kept c v e (inr a) =
       let s = c .circuit in
       let f = found-nothing s (c .function) (a .0) in
@@ -217,7 +198,7 @@ module _ (stageMost referenceMost : Limits) (stage reference : List ℕ) where
 
   broken : (c : Contents stageMost referenceMost stage reference) (v : Verdict) → 13 ≤ v .number → Judged (checks (c .circuit) (c .function)) v
       → (c : Contents stageMost referenceMost stage reference) × ShownBy (checks (c .circuit) (c .function)) v
-  broken c v h (inl n) = (c, shown (c .circuit) (c .function) v h n)
+  broken c v h (inl n) = (c, shown (c .circuit) (c .function) v n)
   broken c v h (inr a) = absurd (omega (arith, number-of (a .1)))
 
   -- a file that is refused in reading has a number below those that demand 3 speaks of
@@ -272,6 +253,6 @@ demand-row most stage row = go (readFile file.Stage most stage) refl
 
     go : (x : Reading) → readFile file.Stage most stage ≡ x → Answered most stage row (settleReading stage row x)
     go (refused number at) p = demands.DemandRow.stage-refused p
-    go (readable n gates outputs) p =
-        let s = stageOf stage n gates outputs in
-        answer s (stage-is p) (firstFault (rowChecks s row)) (first-fault (rowChecks s row) (row-checks-mean s row))
+    go (readable places) p =
+        let s = stageOf stage places in
+        answer s (holds p) (firstFault (rowChecks s row)) (first-fault (rowChecks s row) (row-checks-mean s row))

@@ -1,5 +1,6 @@
 pub mod Levels
 pub mod Rounds
+pub mod Graph
 pub mod Gates
 pub mod Reaching
 pub mod Settling

@@ -16,7 +16,7 @@ use Rattle.verdict.specs.declared.Finding.the-variants.{Fault, Passed}
 use Rattle.verdict.specs.Loops.{In}
 use Rattle.verdict.specs.Checks.{verdict, Check, first, atFault, sweep, finding, orLater, firstFault}
 use Rattle.verdict.specs.Verdicts.{accepted, verdictOf}
-use Rattle.verdict.specs.Demands.{FirstOf, FailsIn, Nowhere, NamedBy, Named, AllNowhere, Judged}
+use Rattle.verdict.specs.Demands.{FirstOf, FailsIn, Nowhere, NamedBy, Named, EachOf, Judged, Shown, ShownBy}
 
 -- ---- members
 
@@ -99,10 +99,6 @@ pub record Means (c : Check) : Type 0 where
   pub passes : (w i : ℕ) → In i (c .places) → c .fails w i ≡ true → c .Condition w i
   pub occurs : (w i : ℕ) → In i (c .places) → c .Condition w i → c .fails w i ≡ true
 
-abbrev pub AllMean : List Check → Type 0
-AllMean [] = Unit {0}
-AllMean (c ∷ cs) = Means c × AllMean cs
-
 module _ (c : Check) (means : Means c) where
   abbrev Outcome : Finding → Type 0
   Outcome (Fault v) = NamedBy c v
@@ -142,9 +138,9 @@ module _ (c : Check) (means : Means c) where
 -- the first fault of a list of checks has its reason
 abbrev pub FirstFault : List Check → Finding → Type 0
 FirstFault cs (Fault v) = Named cs v
-FirstFault cs Passed = AllNowhere cs
+FirstFault cs Passed = EachOf Nowhere cs
 
-pub first-fault : (cs : List Check) → AllMean cs → FirstFault cs (firstFault cs)
+pub first-fault : (cs : List Check) → EachOf Means cs → FirstFault cs (firstFault cs)
 unfolding firstFault orLater
 first-fault [] m = tt
 first-fault (c ∷ cs) m = go (finding c) (outcome c (m .0)) (firstFault cs) (first-fault cs (m .1))
@@ -155,10 +151,48 @@ first-fault (c ∷ cs) m = go (finding c) (outcome c (m .0)) (firstFault cs) (fi
     go Passed o Passed r = (o, r)
 
 -- and so has the verdict
-pub judged : (cs : List Check) → AllMean cs → Judged cs (verdictOf (firstFault cs))
+pub judged : (cs : List Check) → EachOf Means cs → Judged cs (verdictOf (firstFault cs))
 unfolding verdictOf
 judged cs m = go (firstFault cs) (first-fault cs m)
   where
     go : (x : Finding) → FirstFault cs x → Judged cs (verdictOf x)
     go (Fault v) n = inl n
     go Passed a = inr (a, refl)
+
+-- ---- what follows where a check of a list is named
+
+module _ {c : Check} {v : Verdict} (n : NamedBy c v) where
+  pub named-number : v .number ≡ c .number
+  named-number = ap (λ (x : Verdict). x .number) (n .is)
+
+  pub named-fails : Nowhere c → ⊥
+  named-fails none = none (v .word) (first-in (n .word)) (n .word .holds)
+
+-- what a check says of each of its cases is shown where it is named
+pub record Showable (c : Check) : Type 0 where
+  pub shows : (w i : ℕ) → In w (c .words) → In i (c .places) → c .Condition w i → c .Shows w i
+
+pub named-shown : (c : Check) (v : Verdict) → Showable c → NamedBy c v → Shown c v
+named-shown c v f n = record {
+  number-is = named-number n;
+  word-in = first-in (n .word);
+  place-in = first-in (n .place);
+  shows = f .shows (v .word) (v .at) (first-in (n .word)) (first-in (n .place)) (n .place .holds);
+}
+
+pub shown-by : (cs : List Check) (v : Verdict) → EachOf Showable cs → Named cs v → ShownBy cs v
+shown-by [] v f n = n
+shown-by (c ∷ cs) v f (inl n) = inl (named-shown c v (f .0) n)
+shown-by (c ∷ cs) v f (inr n) = inr (shown-by cs v (f .1) (n .1))
+
+-- no check of a list whose conditions hold nowhere is named
+pub none-named : (cs : List Check) (v : Verdict) → EachOf Nowhere cs → Named cs v → ⊥
+none-named [] v a n = n
+none-named (c ∷ cs) v a (inl n) = named-fails n (a .0)
+none-named (c ∷ cs) v a (inr n) = none-named cs v (a .1) (n .1)
+
+-- the number of a named check is one of the list's
+pub named-from : (least : ℕ) (cs : List Check) (v : Verdict) → EachOf (λ c. least ≤ c .number) cs → Named cs v → least ≤ v .number
+named-from least [] v f n = absurd n
+named-from least (c ∷ cs) v f (inl n) = let h = f .0 in omega (arith, named-number n)
+named-from least (c ∷ cs) v f (inr n) = named-from least cs v (f .1) (n .1)

@@ -41,8 +41,8 @@ check number file words places fails Condition Shows =
     record { number = number; file = file; words = words; places = places; fails = fails; Condition = Condition; Shows = Shows }
 
 -- nothing is said of runs
-abbrev pub nothing : ℕ → ℕ → Type 0
-nothing w i = Unit {0}
+abbrev pub unsaid : ℕ → ℕ → Type 0
+unsaid w i = Unit {0}
 
 -- ---- what a check finds: "least word, then least index"
 
@@ -112,18 +112,15 @@ pub record Broken (s : Stage) (r : Reference) (w : ℕ) (Run : Type 0) : Type 0 
 -- ---- the tables
 
 abbrev pub unequal : ℕ → ℕ → ℕ → Check
-unequal number mine theirs = check number 0 (theirs ∷ []) (mine ∷ []) (λ w i. not (eqb mine theirs)) (λ w i. ¬ (mine ≡ theirs)) nothing
+unequal number mine theirs = check number 0 (theirs ∷ []) (mine ∷ []) (λ w i. not (eqb mine theirs)) (λ w i. ¬ (mine ≡ theirs)) unsaid
 
 abbrev pub looped : Stage → Check
 looped s =
-    check 12 1 (0 ∷ []) (numbers 0 (length (s .gates))) (λ w. reachesItself (s .inputs) (s .gates)) (λ w. ReachesItself (s .inputs) (s .gates)) nothing
+    check 12 1 (0 ∷ []) (numbers 0 (length (s .gates))) (λ w. reachesItself (s .inputs) (s .gates)) (λ w. ReachesItself (s .inputs) (s .gates)) unsaid
 
--- the checks of a stage against a reference, in their order
-unfoldable pub checks : Stage → Reference → List Check
-checks s r =
-    unequal 10 (s .inputs) (r .inputs) ∷
-    unequal 11 (length (s .outputs)) (length (r .outputs)) ∷
-    looped s ∷
+-- the checks of a stage against a reference, in their order: those of the counts and of loops, and those that sweep the words
+unfoldable pub sweeps : Stage → Reference → List Check
+sweeps s r =
     check 13 1 (words s) (numbers 0 (length (s .outputs))) (wrong s r) (WrongAt s r)
     (λ w j. Broken s r w (Wrong (netOf s) (railsFor s w) (answerBits r w) j)) ∷
     check 14 1 (words s) (numbers 0 (s .inputs)) (incomplete s) (IncompleteAt s)
@@ -131,6 +128,13 @@ checks s r =
     check 15 1 (words s) (numbers 0 (length (s .gates))) (unobservable s) (UnobservableAt s)
     (λ w g. Broken s r w (Unobservable (netOf s) (railsFor s w) (2 * s .inputs + g))) ∷
     []
+
+unfoldable pub checks : Stage → Reference → List Check
+checks s r =
+    unequal 10 (s .inputs) (r .inputs) ∷
+    unequal 11 (length (s .outputs)) (length (r .outputs)) ∷
+    looped s ∷
+    sweeps s r
 
 -- 17: a rail of input i is above 1, or both are 1
 unfoldable pub illegal : List ℕ → ℕ → Bool
@@ -147,6 +151,6 @@ unfoldable pub rowChecks : Stage → List ℕ → List Check
 rowChecks s row =
     looped s ∷
     check 16 3 (0 ∷ []) (length row ∷ []) (λ w i. not (eqb (length row) (2 * s .inputs + length (s .gates))))
-    (λ w i. ¬ (length row ≡ 2 * s .inputs + length (s .gates))) nothing ∷
-    check 17 3 (0 ∷ []) (numbers 0 (s .inputs)) (λ w. illegal row) (λ w. IllegalAt row) nothing ∷
+    (λ w i. ¬ (length row ≡ 2 * s .inputs + length (s .gates))) unsaid ∷
+    check 17 3 (0 ∷ []) (numbers 0 (s .inputs)) (λ w. illegal row) (λ w. IllegalAt row) unsaid ∷
     []

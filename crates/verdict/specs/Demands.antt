@@ -12,7 +12,7 @@ use Rattle.runs.specs.Promise.{Goes-on, Promise}
 use Rattle.netlist.specs.declared.File.{File}
 use Rattle.netlist.specs.declared.File.the-variants as file
 use Rattle.netlist.specs.declared.Limits.{Limits}
-use Rattle.netlist.specs.Reading.{refused, readable, readFile}
+use Rattle.netlist.specs.Reading.{Places, refused, readable, readFile}
 use Rattle.netlist.specs.Content.{Stage, Reference, stageOf, referenceOf}
 use Rattle.verdict.specs.declared.Verdict.{Verdict}
 use Rattle.verdict.specs.Loops.{In, NoLoop}
@@ -24,12 +24,10 @@ use Rattle.verdict.specs.Verdicts.{accepted}
 -- ---- the two files
 
 -- a file reads, and x is what is seen through the places of its commands
-pub record Holds {X : Type 0} (f : File) (view : List ℕ → ℕ → List ℕ → List ℕ → X) (most : Limits) (bytes : List ℕ) (x : X) : Type 0 where
-  pub inputs : ℕ
-  pub gates : List ℕ
-  pub outputs : List ℕ
-  pub reads : readFile f most bytes ≡ readable inputs gates outputs
-  pub content : view bytes inputs gates outputs ≡ x
+pub record Holds {X : Type 0} (f : File) (view : List ℕ → Places → X) (most : Limits) (bytes : List ℕ) (x : X) : Type 0 where
+  pub places : Places
+  pub reads : readFile f most bytes ≡ readable places
+  pub content : view bytes places ≡ x
 
 abbrev pub StageIs : Limits → List ℕ → Stage → Type 0
 StageIs = Holds file.Stage stageOf
@@ -73,14 +71,13 @@ abbrev pub Named : List Check → Verdict → Type 0
 Named [] v = ⊥
 Named (c ∷ later) v = NamedBy c v ⊎ (Nowhere c × Named later v)
 
--- the conditions of all checks hold nowhere
-abbrev pub AllNowhere : List Check → Type 0
-AllNowhere [] = Unit {0}
-AllNowhere (c ∷ later) = Nowhere c × AllNowhere later
+abbrev pub EachOf : (Check → Type 0) → List Check → Type 0
+EachOf P [] = Unit {0}
+EachOf P (c ∷ later) = P c × EachOf P later
 
 -- the earliest failing check is named, or none fails
 abbrev pub Judged : List Check → Verdict → Type 0
-Judged checks v = Named checks v ⊎ (AllNowhere checks × (v ≡ accepted))
+Judged checks v = Named checks v ⊎ (EachOf Nowhere checks × (v ≡ accepted))
 
 pub data Because (stageMost referenceMost : Limits) (stage reference : List ℕ) : Verdict → Type 0 where
   stage-refused : {number at : ℕ} → readFile file.Stage stageMost stage ≡ refused number at
@@ -158,5 +155,5 @@ pub record RowGiven (s : Stage) (before after′ : List ℕ) : Type 0 where
 pub data DemandRow (most : Limits) (stage before : List ℕ) : Verdict → List ℕ → Type 0 where
   stage-refused : {number at : ℕ} → readFile file.Stage most stage ≡ refused number at → DemandRow most stage before (verdict number 1 at 0) before
   row-refused : {s : Stage} {v : Verdict} → StageIs most stage s → Named (rowChecks s before) v → DemandRow most stage before v before
-  row-settled : {s : Stage} {after′ : List ℕ} → StageIs most stage s → AllNowhere (rowChecks s before) → RowGiven s before after′
+  row-settled : {s : Stage} {after′ : List ℕ} → StageIs most stage s → EachOf Nowhere (rowChecks s before) → RowGiven s before after′
       → DemandRow most stage before accepted after′

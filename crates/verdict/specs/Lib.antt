@@ -1,5 +1,6 @@
 pub mod Rows
 pub mod Levels
+pub mod Graph
 pub mod Loops
 pub mod Words
 pub mod Answers

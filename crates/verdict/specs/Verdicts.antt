@@ -24,12 +24,12 @@ verdictOf Passed = accepted
 -- the reference is read after the stage, then the checks follow
 unfoldable pub judgeReference : Stage → List ℕ → Reading → Verdict
 judgeReference s bytes (refused number at) = verdict number 2 at 0
-judgeReference s bytes (readable n gates outputs) = verdictOf (firstFault (checks s (referenceOf bytes n gates outputs)))
+judgeReference s bytes (readable places) = verdictOf (firstFault (checks s (referenceOf bytes places)))
 
 unfoldable pub judgeStage : Limits → List ℕ → List ℕ → Reading → Verdict
 judgeStage referenceMost bytes reference (refused number at) = verdict number 1 at 0
-judgeStage referenceMost bytes reference (readable n gates outputs) =
-    judgeReference (stageOf bytes n gates outputs) reference (readFile file.Reference referenceMost reference)
+judgeStage referenceMost bytes reference (readable places) =
+    judgeReference (stageOf bytes places) reference (readFile file.Reference referenceMost reference)
 
 unfoldable pub verdictWithin : Limits → Limits → List ℕ → List ℕ → Verdict
 verdictWithin stageMost referenceMost stage reference = judgeStage referenceMost stage reference (readFile file.Stage stageMost stage)
@@ -55,8 +55,8 @@ settleUnless Passed s row = answerWith accepted (settled (s .gates) (take (2 * s
 
 unfoldable pub settleReading : List ℕ → List ℕ → Reading → RowAnswer
 settleReading bytes row (refused number at) = answerWith (verdict number 1 at 0) row
-settleReading bytes row (readable n gates outputs) =
-    let s = stageOf bytes n gates outputs in
+settleReading bytes row (readable places) =
+    let s = stageOf bytes places in
     settleUnless (firstFault (rowChecks s row)) s row
 
 unfoldable pub settledRowWithin : Limits → List ℕ → List ℕ → RowAnswer
