@@ -6,17 +6,7 @@ use mathlib.Core.Path.{_≡_, refl, ap, ap₂}
 use mathlib.Core.List.{List, [], _∷_, map}
 use lib.ListN.{length, getD}
 use Rattle.circuit.specs.Stage.{tabulate}
-
-pub length-tabulate : {A : Type 0} (f : ℕ → A) (m : ℕ) → length (tabulate f m) ≡ m
-unfolding tabulate
-length-tabulate f zero = refl
-length-tabulate f (suc m) = ap suc (length-tabulate (λ i. f (suc i)) m)
-
-pub getD-tabulate : {A : Type 0} (f : ℕ → A) (m k : ℕ) (d : A) → k < m → getD (tabulate f m) k d ≡ f k
-unfolding tabulate
-getD-tabulate f zero k d h = absurd (omega arith)
-getD-tabulate f (suc m) zero d h = refl
-getD-tabulate f (suc m) (suc k) d h = getD-tabulate (λ i. f (suc i)) m k d (omega arith)
+pub use Rattle.verdict.proofs.Graph.{length-tabulate, getD-tabulate}
 
 pub map-tabulate : {A B : Type 0} (g : A → B) (f : ℕ → A) (m : ℕ) → map g (tabulate f m) ≡ tabulate (λ i. g (f i)) m
 unfolding tabulate

@@ -29,7 +29,7 @@ fn level(row: &[u8], net: u16) -> u8
 }
 
 // The pattern of the pins of gate k; those that it lacks are at the ground, and so low.
-fn pattern(code: &[u16], counts: Counts, k: usize, row: &[u8]) -> u8
+pub fn pattern(code: &[u16], counts: Counts, k: usize, row: &[u8]) -> u8
     requires { ⌜ StageLoaded counts (now code) × (k < counts .gates) × RowFor counts (now row) ⌝ }
     ensures { λ r. ⌜ r ≡ patternIn (netsIn counts (now (row .entry))) (now (code .entry)) k ⌝ }
 {
