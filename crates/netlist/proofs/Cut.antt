@@ -10,20 +10,14 @@ use mathlib.Core.List.{List, [], _∷_, _++_}
 use lib.ListN.{length, take, length-append}
 use lib.Seq.{length-take-le, take-all, getD-take}
 use borrow.Author.Tests.{lt-leb, le-ltb}
-use Rattle.netlist.specs.declared.File.{File}
-use Rattle.netlist.specs.declared.File.the-variants as file
-use Rattle.netlist.specs.declared.Sort.{Sort}
-use Rattle.netlist.specs.declared.Sort.the-variants as sort
-use Rattle.netlist.specs.declared.Form.{Form}
-use Rattle.netlist.specs.declared.Limits.{Limits}
-use Rattle.netlist.specs.declared.Counts.{Counts}
-use Rattle.netlist.specs.declared.Cursor.{Cursor}
-use Rattle.netlist.specs.declared.Next.{Next}
-use Rattle.netlist.specs.declared.Next.the-variants.{Command, Refused}
+use Rattle.netlist.specs.Types.{File, Sort, Form, Limits, Counts, Cursor, Next, Command, Refused}
+use Rattle.netlist.specs.Types.file
+use Rattle.netlist.specs.Types.sort
 use Rattle.netlist.specs.Bytes.{byte, operand}
-use Rattle.netlist.specs.Commands.{same, rows, rowIn, formOf, width, needed, stray, takeInputs, misfitFrom, takeGate, takeSort, takeCommand, nextAt}
-use Rattle.netlist.specs.Reading.{Reading, Places, nothing, countsOf, noted, finish, onNext, readFrom, readFile, stageLimits, referenceLimits, mostBytes}
+use Rattle.netlist.specs.Commands.{same, rows, rowIn, formOf, width, needed, stray, misfitFrom, takeGate, takeSort, takeCommand, nextAt}
+use Rattle.netlist.specs.Reading.{Reading, Places, nothing, countsOf, noted, finish, onNext, readFrom, readFile, stageLimits, referenceLimits}
 use Rattle.netlist.specs.Writing.{widthFor}
+use Rattle.netlist.specs.Read.{mostBytes}
 use Rattle.netlist.proofs.Encoding.{clash, width-in, width-gate, width-inputs}
 use Rattle.netlist.proofs.OneCommand.{There, next-there}
 use Rattle.netlist.proofs.Walk.{finish-more, first-inputs, Few, noted-few}
@@ -60,7 +54,7 @@ module _ (f : File) (most : Limits) (s : List ℕ) (m : ℕ) (far : farthest f m
 
   module _ (at : ℕ) (room : at + widthFor f sort.Gate ≤ m) where
     sort-cut : (before : Counts) (form : Form) → at + width form ≤ m → (taken : Next) (c : Sort) → takeSort f most cut at before form taken c ≡ takeSort f most s at before form taken c
-    unfolding takeSort takeInputs takeGate
+    unfolding takeSort takeGate
     sort-cut before form l taken sort.Inputs = rw (byte-cut (at + 1) (omega (arith, width-gate f)))
     sort-cut before form l taken sort.Gate =
         rw (byte-cut (at + 1) (omega (arith, width-gate f)), misfit-cut (needed f (byte s (at + 1))) 0 (at + form .lead) (form .operands) (omega arith))

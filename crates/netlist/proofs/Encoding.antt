@@ -11,12 +11,9 @@ use borrow.Author.Tests.{eq-eqb, ne-eqb}
 use Rattle.gates.specs.Cell.{cells, cellAt, pinCount}
 use Rattle.gates.proofs.Every.{every, every-at}
 use Rattle.gates.proofs.Ranges.{kind-known, kind-unknown}
-use Rattle.netlist.specs.declared.File.{File}
-use Rattle.netlist.specs.declared.File.the-variants as file
-use Rattle.netlist.specs.declared.Sort.{Sort}
-use Rattle.netlist.specs.declared.Sort.the-variants as sort
-use Rattle.netlist.specs.declared.Role.the-variants.{Number}
-use Rattle.netlist.specs.declared.Form.{Form}
+use Rattle.netlist.specs.Types.{File, Sort, Number, Form}
+use Rattle.netlist.specs.Types.file
+use Rattle.netlist.specs.Types.sort
 use Rattle.netlist.specs.Commands.{row, rows, rowIn, formOf, width, same, pinsNeeded, needed}
 use Rattle.netlist.specs.Writing.{commandByte, formFor, widthFor, operandCount, roleFor, All}
 

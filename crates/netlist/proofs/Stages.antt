@@ -9,9 +9,9 @@ use mathlib.Core.List.{List, [], _∷_, _++_, map, map-map}
 use lib.ListN.{length, getD, length-map}
 use Rattle.gates.specs.Cell.{pinCount}
 use Rattle.gates.proofs.Ranges.{kind-known}
-use Rattle.netlist.specs.declared.File.the-variants as file
-use Rattle.netlist.specs.declared.Sort.the-variants as sort
-use Rattle.netlist.specs.declared.Limits.{Limits}
+use Rattle.netlist.specs.Types.{Limits}
+use Rattle.netlist.specs.Types.file
+use Rattle.netlist.specs.Types.sort
 use Rattle.netlist.specs.Bytes.{operands, absent}
 use Rattle.netlist.specs.Commands.{rows, rowIn, needed}
 use Rattle.netlist.specs.Reading.{nameable, Places, readFile, readable}

@@ -8,20 +8,15 @@ use lib.Dec.{eqb, leb, ltb}
 use Rattle.gates.specs.Cell.{kindOf}
 use Rattle.gates.specs.declared.Kind.{Kind}
 use Rattle.gates.specs.declared.Kind.the-variants.{Hold, Unknown}
-use Rattle.netlist.specs.declared.File.{File}
-use Rattle.netlist.specs.declared.File.the-variants.{Stage, Reference}
-use Rattle.netlist.specs.declared.Sort.{Sort}
-use Rattle.netlist.specs.declared.Sort.the-variants as sort
-use Rattle.netlist.specs.declared.Role.{Role}
-use Rattle.netlist.specs.declared.Role.the-variants.{AnyNet, EarlierSignal, AnySignal, Number}
-use Rattle.netlist.specs.declared.Form.{Form}
-use Rattle.netlist.specs.declared.Limits.{Limits}
-use Rattle.netlist.specs.declared.Counts.{Counts}
-use Rattle.netlist.specs.declared.Next.{Next}
-use Rattle.netlist.specs.declared.Next.the-variants.{Command, Refused}
-use Rattle.netlist.specs.declared.Found.{Found}
-use Rattle.netlist.specs.declared.Found.the-variants.{At, Nothing}
+use Rattle.netlist.specs.Types.{File, Sort, Role, AnyNet, EarlierSignal, AnySignal, Number, Form, Limits, Counts, Next, Command, Refused, Found, At, Nothing}
+use Rattle.netlist.specs.Types.file.{Stage, Reference}
+use Rattle.netlist.specs.Types.sort
 use Rattle.netlist.specs.Bytes.{byte, operand, absent}
+
+-- what follows where something was found, and where nothing was
+unfoldable pub whenFound : {A : Type 0} → Found → (ℕ → A) → A → A
+whenFound (At place) there none = there place
+whenFound Nothing there none = none
 
 -- ---- the command table
 
@@ -85,10 +80,6 @@ needed Reference operation = getD (0 ∷ 1 ∷ 2 ∷ 2 ∷ 2 ∷ 2 ∷ 2 ∷ [])
 unfoldable pub stray : ℕ → Sort → Bool
 stray at c = same sort.Unknown c || cond (same sort.Inputs c) (not (eqb at 0)) (eqb at 0)
 
--- an inputs command. 3: its count is not in 1 to the limit
-unfoldable pub takeInputs : Limits → List ℕ → ℕ → Next → Next
-takeInputs most s at taken = cond (leb 1 (byte s (at + 1)) && leb (byte s (at + 1)) (most .inputs)) taken (Refused 3 (at + 1))
-
 -- 5: operand i, of which the first k are needed, is needed but FFFF, or not needed and not FFFF
 unfoldable pub misfit : ℕ → ℕ → ℕ → Bool
 misfit k i v = cond (ltb i k) (eqb v absent) (not (eqb v absent))
@@ -98,26 +89,19 @@ unfoldable pub misfitFrom : ℕ → ℕ → List ℕ → ℕ → ℕ → Found
 misfitFrom k i s at zero = Nothing
 misfitFrom k i s at (suc m) = let later = misfitFrom k (i + 1) s (at + 2) m in cond (misfit k i (operand s at)) (At at) later
 
-unfoldable pub unlessMisfit : Found → Next → Next
-unlessMisfit (At p) taken = Refused 5 p
-unlessMisfit Nothing taken = taken
-
--- a gate, where so many gates may stand and g stand before it: 6, then 4, then 5 by operand
-unfoldable pub takeGate : File → ℕ → List ℕ → ℕ → ℕ → Form → Next → Next
+-- a gate, where g gates stand before it: 6, then 4, then 5 by operand
+unfoldable pub takeGate : File → Limits → List ℕ → ℕ → ℕ → Form → Next → Next
 takeGate f most s at g form taken =
     let k = needed f (byte s (at + 1)) in
-    cond (leb most g) (Refused 6 at)
-    (cond (eqb k 0) (Refused 4 (at + 1)) (unlessMisfit (misfitFrom k 0 s (at + form .lead) (form .operands)) taken))
+    cond (leb (most .gates) g) (Refused 6 at)
+    (cond (eqb k 0) (Refused 4 (at + 1))
+    (whenFound (misfitFrom k 0 s (at + form .lead) (form .operands)) (λ place. Refused 5 place) taken))
 
--- an output: 6
-unfoldable pub takeOutput : ℕ → ℕ → ℕ → Next → Next
-takeOutput most at o taken = cond (leb most o) (Refused 6 at) taken
-
--- a command all of whose bytes are there, by its sort
+-- a command all of whose bytes are there, by its sort. Inputs: 3 where the count is not in 1 to the limit. An output: 6
 unfoldable pub takeSort : File → Limits → List ℕ → ℕ → Counts → Form → Next → Sort → Next
-takeSort f most s at before form taken sort.Inputs = takeInputs most s at taken
-takeSort f most s at before form taken sort.Gate = takeGate f (most .gates) s at (before .gates) form taken
-takeSort f most s at before form taken sort.Output = takeOutput (most .outputs) at (before .outputs) taken
+takeSort f most s at before form taken sort.Inputs = cond (leb 1 (byte s (at + 1)) && leb (byte s (at + 1)) (most .inputs)) taken (Refused 3 (at + 1))
+takeSort f most s at before form taken sort.Gate = takeGate f most s at (before .gates) form taken
+takeSort f most s at before form taken sort.Output = cond (leb (most .outputs) (before .outputs)) (Refused 6 at) taken
 takeSort f most s at before form taken sort.End = taken
 takeSort f most s at before form taken sort.Unknown = taken
 

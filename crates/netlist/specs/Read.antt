@@ -3,11 +3,9 @@ use Prim.Native.Nat.{ℕ, _+_, _*_, _≤_, _<_}
 use mathlib.Core.Path.{_≡_}
 use mathlib.Core.List.{List}
 use lib.ListN.{length, getD}
-use Rattle.netlist.specs.declared.File.{File}
-use Rattle.netlist.specs.declared.Sort.the-variants as sort
-use Rattle.netlist.specs.declared.Limits.{Limits}
-use Rattle.netlist.specs.declared.Outcome.{Outcome}
-use Rattle.netlist.specs.declared.Outcome.the-variants as outcome
+use Rattle.netlist.specs.Types.{File, Limits, Outcome}
+use Rattle.netlist.specs.Types.sort
+use Rattle.netlist.specs.Types.outcome
 use Rattle.netlist.specs.Bytes.{byte, operand, absent}
 use Rattle.netlist.specs.Commands.{needed}
 use Rattle.netlist.specs.Reading.{nameable, Places, countsOf, Reading, refused, readable}
@@ -41,3 +39,7 @@ pub record Read (f : File) (most : Limits) (s : List ℕ) (p : Places) : Type 0 
 unfoldable pub outcomeOf : Reading → Outcome
 outcomeOf (refused number at) = outcome.Refused number at
 outcomeOf (readable p) = outcome.Readable (countsOf p)
+
+-- the program reads at most so many bytes of each file
+abbrev pub mostBytes : ℕ
+mostBytes = 8192
