@@ -14,8 +14,8 @@ use Rattle.netlist.specs.Types.{File, Sort, Form, Limits, Counts, Cursor
 use Rattle.netlist.specs.Types.file
 use Rattle.netlist.specs.Types.sort
 use Rattle.netlist.specs.Bytes.{byte, operand}
-use Rattle.netlist.specs.Commands.{same, rows, rowIn, formOf, width, needed, stray, misfitFrom, takeGate, takeSort, takeCommand, nextAt}
-use Rattle.netlist.specs.Reading.{Reading, Places, nothing, countsOf, noted, finish, onNext, readFrom, readFile, stageLimits, referenceLimits}
+use Rattle.netlist.specs.Commands.{isSort, commandTable, formIn, formOf, width, needed, stray, misfitFrom, takeGate, takeSort, takeCommand, nextAt}
+use Rattle.netlist.specs.Reading.{Reading, Places, noPlaces, countsOf, noted, finish, onNext, readFrom, readFile, stageLimits, referenceLimits}
 use Rattle.netlist.specs.Writing.{widthFor}
 use Rattle.netlist.specs.Read.{mostBytes}
 use Rattle.netlist.proofs.Encoding.{clash, width-in, width-gate, width-inputs}
@@ -83,11 +83,11 @@ module _ (f : File) (most : Limits) (s : List ℕ) (m : ℕ) (far : farthest f m
   near-room : (at : ℕ) (p : Places) → Near at p → at + widthFor f sort.Gate ≤ m
   near-room at p h = omega (arith, h .place, mul-le-mul-left (widthFor f sort.Gate) (h .few .0), mul-le-mul-left (widthFor f sort.Output) (h .few .1))
 
-  near-noted : (at : ℕ) (p : Places) (c : Sort) → same sort.End c ≡ false → Near at p → There f most s at (countsOf p) c → Near (at + widthFor f c) (noted c s at p)
+  near-noted : (at : ℕ) (p : Places) (c : Sort) → isSort sort.End c ≡ false → Near at p → There f most s at (countsOf p) c → Near (at + widthFor f c) (noted c s at p)
   unfolding noted stray
   near-noted at p c more h t = record { place = go c more t; few = noted-few f most s at p c (h .few) t }
     where
-      go : (c : Sort) → same sort.End c ≡ false → There f most s at (countsOf p) c →
+      go : (c : Sort) → isSort sort.End c ≡ false → There f most s at (countsOf p) c →
           at + widthFor f c ≤ 2 + widthFor f sort.Gate * length (noted c s at p .gates) + widthFor f sort.Output * length (noted c s at p .outputs)
       go sort.Inputs more t = omega (arith, width-inputs f, first-inputs at (t .ordered))
       go sort.Gate more t = rw (length-append (p .gates) (at ∷ [])) (omega (arith, h .place))
@@ -108,7 +108,7 @@ module _ (f : File) (most : Limits) (s : List ℕ) (m : ℕ) (far : farthest f m
 
   -- after a command that was read both readings go on alike
   module _ (go go′ : ℕ → Places → Reading) (at : ℕ) (p : Places) (later : Same go go′ (suc at)) (near : Near at p) where
-    goes-on : (c : Sort) (next : Cursor) → next .at ≡ at + widthFor f c → There f most s at (countsOf p) c → same sort.End c ≡ false → go (next .at) (noted c cut at p) ≡ go′ (next .at) (noted c s at p)
+    goes-on : (c : Sort) (next : Cursor) → next .at ≡ at + widthFor f c → There f most s at (countsOf p) c → isSort sort.End c ≡ false → go (next .at) (noted c cut at p) ≡ go′ (next .at) (noted c s at p)
     goes-on c next a t more =
         rw (a, noted-cut at p c (near-room at p near))
         (later (at + widthFor f c) (noted c s at p) (omega (arith, rw (t .command) at (width-in f (byte s at)))) (near-noted at p c more near t))
@@ -141,16 +141,16 @@ pub readFile-take : (f : File) (most : Limits) (s : List ℕ) (m : ℕ) → fart
 unfolding readFile
 readFile-take f most s m far = go (decLt m (length s))
   where
-    go : Dec (m < length s) → readFrom (suc (length (take m s))) f most (take m s) 0 nothing ≡ readFrom (suc (length s)) f most s 0 nothing
-    go (no h) = ap (λ (l : List ℕ). readFrom (suc (length l)) f most l 0 nothing) (take-all m s (omega arith))
+    go : Dec (m < length s) → readFrom (suc (length (take m s))) f most (take m s) 0 noPlaces ≡ readFrom (suc (length s)) f most s 0 noPlaces
+    go (no h) = ap (λ (l : List ℕ). readFrom (suc (length l)) f most l 0 noPlaces) (take-all m s (omega arith))
     go (yes h) =
-        read-cut f most s m far (omega arith) (suc (length (take m s))) (suc (length s)) 0 nothing (omega (arith, length-take-le m s (omega arith))) (omega arith)
+        read-cut f most s m far (omega arith) (suc (length (take m s))) (suc (length s)) 0 noPlaces (omega (arith, length-take-le m s (omega arith))) (omega arith)
         (record { place = omega arith; few = omega arith })
 
 pub stage-cut : (s : List ℕ) → readFile file.Stage stageLimits (take mostBytes s) ≡ readFile file.Stage stageLimits s
-unfolding rows rowIn
+unfolding commandTable formIn
 stage-cut s = readFile-take file.Stage stageLimits s mostBytes (omega arith)
 
 pub reference-cut : (s : List ℕ) → readFile file.Reference referenceLimits (take mostBytes s) ≡ readFile file.Reference referenceLimits s
-unfolding rows rowIn
+unfolding commandTable formIn
 reference-cut s = readFile-take file.Reference referenceLimits s mostBytes (omega arith)

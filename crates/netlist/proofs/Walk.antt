@@ -12,8 +12,8 @@ use borrow.Author.Tests.{lt-ltb, le-ltb, ne-eqb, ltb-false, eqb-true, eqb-false,
 use Rattle.netlist.specs.Types.{File, Sort, Form, Limits, Cursor, Next, Command, Refused, Found, At, Nothing}
 use Rattle.netlist.specs.Types.sort
 use Rattle.netlist.specs.Bytes.{byte}
-use Rattle.netlist.specs.Commands.{whenFound, same, row, formOf, width, needed, stray, nextAt}
-use Rattle.netlist.specs.Reading.{nameable, nameless, used, namelessAt, namelessFrom, Places, nothing, countsOf, noted, Reading, refused, readable, finish, onNext, readFrom, readFile}
+use Rattle.netlist.specs.Commands.{whenFound, isSort, asForm, formOf, width, needed, stray, nextAt}
+use Rattle.netlist.specs.Reading.{nameable, nameless, usedOperands, namelessAt, namelessFrom, Places, noPlaces, countsOf, noted, Reading, refused, readable, finish, onNext, readFrom, readFile}
 use Rattle.netlist.specs.Content.{codedAt}
 use Rattle.netlist.specs.Writing.{formFor, widthFor, operandCount, roleFor, Item, gate, output, gatesIn, outputsIn, gatePlaces, outputPlaces, placesOf}
 use Rattle.netlist.proofs.Operands.{nameless-named, named-nameless}
@@ -143,13 +143,13 @@ module _ (f : File) (most : Limits) (s : List ℕ) (P : Places) where
 
   -- the first command is the count of inputs
   abbrev Started : Type 0
-  Started = There f most s 0 (countsOf nothing) sort.Inputs × Walked 2 (places (byte s 1) [] [])
+  Started = There f most s 0 (countsOf noPlaces) sort.Inputs × Walked 2 (places (byte s 1) [] [])
 
   started : readFile f most s ≡ readable P → Started
   unfolding readFile readFrom onNext stray noted
-  started e = go (nextAt f most s 0 (countsOf nothing)) refl e
+  started e = go (nextAt f most s 0 (countsOf noPlaces)) refl e
     where
-      first : (c : Sort) (next : Cursor) → next .at ≡ 0 + widthFor f c → There f most s 0 (countsOf nothing) c → onNext (readFrom (length s) f most s) f s 0 nothing (Command c next) ≡ readable P → Started
+      first : (c : Sort) (next : Cursor) → next .at ≡ 0 + widthFor f c → There f most s 0 (countsOf noPlaces) c → onNext (readFrom (length s) f most s) f s 0 noPlaces (Command c next) ≡ readable P → Started
       first sort.Inputs next a t q =
           let b : next .at ≡ 2 = omega (arith, width-inputs f) in
           (t, walked (length s) 2 (places (byte s 1) [] []) (omega arith) (omega arith) (rw b at q))
@@ -158,9 +158,9 @@ module _ (f : File) (most : Limits) (s : List ℕ) (P : Places) where
       first sort.End next a t q = absurd (clash (let o = t .ordered in cc))
       first sort.Unknown next a t q = absurd (clash (let o = t .ordered in cc))
 
-      go : (x : Next) → nextAt f most s 0 (countsOf nothing) ≡ x → onNext (readFrom (length s) f most s) f s 0 nothing x ≡ readable P → Started
+      go : (x : Next) → nextAt f most s 0 (countsOf noPlaces) ≡ x → onNext (readFrom (length s) f most s) f s 0 noPlaces x ≡ readable P → Started
       go (Refused number place) is q = absurd (clash (cc))
-      go (Command c next) is q = let t = next-there f most s 0 (countsOf nothing) c next is in first c next (t .0) (t .1) q
+      go (Command c next) is q = let t = next-there f most s 0 (countsOf noPlaces) c next is in first c next (t .0) (t .1) q
 
 -- ---- 9, along the items
 
@@ -172,11 +172,11 @@ or-later Nothing later e = (refl, e)
 module _ (f : File) (n g : ℕ) (s : List ℕ) (fuel at k : ℕ) where
   -- the search at one command, by its row
   step : Form → Found
-  step form = whenFound (namelessAt f n g s at k form) At (namelessFrom fuel f n g s (at + width form) (cond (same sort.Gate (form .sort)) (k + 1) k))
+  step form = whenFound (namelessAt f n g s at k form) At (namelessFrom fuel f n g s (at + width form) (cond (isSort sort.Gate (form .sort)) (k + 1) k))
 
   step-gate : formOf f (byte s at) ≡ formFor f sort.Gate → namelessFrom (suc fuel) f n g s at k ≡
       whenFound (nameless (nameable (roleFor f sort.Gate) n g k) s (at + 2) (needed f (byte s (at + 1)))) At (namelessFrom fuel f n g s (at + widthFor f sort.Gate) (suc k))
-  unfolding namelessFrom namelessAt used step
+  unfolding namelessFrom namelessAt usedOperands step
   step-gate e =
       let one : k + 1 ≡ suc k = omega arith in
       ap step (e ∙ gate-form f)
@@ -184,17 +184,17 @@ module _ (f : File) (n g : ℕ) (s : List ℕ) (fuel at k : ℕ) where
 
   step-output : formOf f (byte s at) ≡ formFor f sort.Output → namelessFrom (suc fuel) f n g s at k ≡
       whenFound (nameless (nameable (roleFor f sort.Output) n g k) s (at + 1) (operandCount f sort.Output)) At (namelessFrom fuel f n g s (at + widthFor f sort.Output) k)
-  unfolding namelessFrom namelessAt used step
+  unfolding namelessFrom namelessAt usedOperands step
   step-output e =
       ap step (e ∙ output-form f)
       ∙ ap (λ (w : ℕ). whenFound (nameless (nameable (roleFor f sort.Output) n g k) s (at + 1) (operandCount f sort.Output)) At (namelessFrom fuel f n g s (at + w) k)) (sym (width-output f))
 
   step-inputs : formOf f (byte s at) ≡ formFor f sort.Inputs → namelessFrom (suc fuel) f n g s at k ≡ namelessFrom fuel f n g s (at + 2) k
-  unfolding namelessFrom namelessAt used step nameless whenFound
+  unfolding namelessFrom namelessAt usedOperands step nameless whenFound
   step-inputs e = ap step (e ∙ inputs-form f)
 
   step-end : formOf f (byte s at) ≡ formFor f sort.End → namelessFrom (suc fuel) f n g s at k ≡ namelessFrom fuel f n g s (at + 1) k
-  unfolding namelessFrom namelessAt used step nameless whenFound
+  unfolding namelessFrom namelessAt usedOperands step nameless whenFound
   step-end e = ap step (e ∙ end-form f)
 
 -- past the last byte nothing is found
@@ -313,8 +313,8 @@ module _ (f : File) (most : Limits) (s : List ℕ) where
       let ends : length s ≡ last + 1 = omega arith in
       let few : length (p .gates) ≡ length (gatesIn items) = length-gatePlaces f 2 items in
       let named : Named f n (length (p .gates)) 0 items = rw few (h .named) in
-      let t : There f most s 0 (countsOf nothing) sort.Inputs = record { command = h .command; ordered = refl; room = omega (arith, width-inputs f); taken = rw (h .count) (h .inputs-in) } in
-      rw (there-next f most s 0 (countsOf nothing) sort.Inputs t)
+      let t : There f most s 0 (countsOf noPlaces) sort.Inputs = record { command = h .command; ordered = refl; room = omega (arith, width-inputs f); taken = rw (h .count) (h .inputs-in) } in
+      rw (there-next f most s 0 (countsOf noPlaces) sort.Inputs t)
       (ap₂ (λ (at m : ℕ). readFrom (length s) f most s at (places m [] [])) two (h .count)
       ∙ walk-laid f most s last ends (length s) 2 (places n [] []) items (h .laid) (omega arith) (omega arith) (omega (arith, h .gates-in)) (omega (arith, h .outputs-in))
       ∙ finish-readable f most s last ends p (omega (arith, length-outputPlaces f 2 items, h .outputs-in))

@@ -28,36 +28,36 @@ sortNumber sort.Gate = 2
 sortNumber sort.Output = 3
 sortNumber sort.Unknown = 4
 
-abbrev pub same : Sort → Sort → Bool
-same c d = eqb (sortNumber c) (sortNumber d)
+abbrev pub isSort : Sort → Sort → Bool
+isSort c d = eqb (sortNumber c) (sortNumber d)
 
 -- a row: the command's sort, how many bytes stand before its operands, how many u16 operands follow, and what they name
-abbrev pub row : Sort → ℕ → ℕ → Role → Form
-row c lead operands role = record { sort = c; lead = lead; operands = operands; role = role }
+abbrev pub asForm : Sort → ℕ → ℕ → Role → Form
+asForm c lead operands role = record { sort = c; lead = lead; operands = operands; role = role }
 
--- The rows of each file, with their command bytes. The command byte counts among the bytes before the operands, and so do the count of
+-- The commandTable of each file, with their command bytes. The command byte counts among the bytes before the operands, and so do the count of
 -- inputs and a gate's kind or operation.
-unfoldable pub rows : File → List (ℕ × Form)
-rows Stage =
-    (0x00, row sort.End 1 0 Number)
-    ∷ (0x01, row sort.Inputs 2 0 Number)
-    ∷ (0x02, row sort.Gate 2 4 AnyNet)
-    ∷ (0x03, row sort.Output 1 2 AnyNet)
+unfoldable pub commandTable : File → List (ℕ × Form)
+commandTable Stage =
+    (0x00, asForm sort.End 1 0 Number)
+    ∷ (0x01, asForm sort.Inputs 2 0 Number)
+    ∷ (0x02, asForm sort.Gate 2 4 AnyNet)
+    ∷ (0x03, asForm sort.Output 1 2 AnyNet)
     ∷ []
-rows Reference =
-    (0x00, row sort.End 1 0 Number)
-    ∷ (0x01, row sort.Inputs 2 0 Number)
-    ∷ (0x11, row sort.Gate 2 2 EarlierSignal)
-    ∷ (0x12, row sort.Output 1 1 AnySignal)
+commandTable Reference =
+    (0x00, asForm sort.End 1 0 Number)
+    ∷ (0x01, asForm sort.Inputs 2 0 Number)
+    ∷ (0x11, asForm sort.Gate 2 2 EarlierSignal)
+    ∷ (0x12, asForm sort.Output 1 1 AnySignal)
     ∷ []
 
 -- the row of a byte; one that is in no row stands for no command
-unfoldable pub rowIn : List (ℕ × Form) → ℕ → Form
-rowIn [] b = row sort.Unknown 1 0 Number
-rowIn (r ∷ rs) b = let later = rowIn rs b in cond (eqb b (r .0)) (r .1) later
+unfoldable pub formIn : List (ℕ × Form) → ℕ → Form
+formIn [] b = asForm sort.Unknown 1 0 Number
+formIn (r ∷ rs) b = let later = formIn rs b in cond (eqb b (r .0)) (r .1) later
 
 abbrev pub formOf : File → ℕ → Form
-formOf f b = rowIn (rows f) b
+formOf f b = formIn (commandTable f) b
 
 -- how many bytes a command has
 abbrev pub width : Form → ℕ
@@ -78,7 +78,7 @@ needed Reference operation = getD (0 ∷ 1 ∷ 2 ∷ 2 ∷ 2 ∷ 2 ∷ 2 ∷ [])
 
 -- 2: no command of this file, first not 01, or 01 again
 unfoldable pub stray : ℕ → Sort → Bool
-stray at c = same sort.Unknown c || cond (same sort.Inputs c) (not (eqb at 0)) (eqb at 0)
+stray at c = isSort sort.Unknown c || cond (isSort sort.Inputs c) (not (eqb at 0)) (eqb at 0)
 
 -- 5: operand i, of which the first k are needed, is needed but FFFF, or not needed and not FFFF
 unfoldable pub misfit : ℕ → ℕ → ℕ → Bool

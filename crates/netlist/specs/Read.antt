@@ -17,7 +17,7 @@ pub record GateRead (f : File) (s : List ℕ) (n g k at : ℕ) : Type 0 where
   pub first : 2 ≤ at
   pub room : at + widthFor f sort.Gate ≤ length s
   pub known : 1 ≤ needed f (byte s (at + 1))
-  pub there : (i : ℕ) → i < needed f (byte s (at + 1)) → operand s (at + 2 + 2 * i) ≡ absent → ⊥
+  pub used : (i : ℕ) → i < needed f (byte s (at + 1)) → operand s (at + 2 + 2 * i) ≡ absent → ⊥
   pub named : (i : ℕ) → i < needed f (byte s (at + 1)) → operand s (at + 2 + 2 * i) < nameable (roleFor f sort.Gate) n g k
 
 -- an output stands at a place, and each operand names what it has to name

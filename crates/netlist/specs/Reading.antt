@@ -7,7 +7,7 @@ use lib.Dec.{eqb, ltb}
 use Rattle.netlist.specs.Types.{File, Sort, Role, AnyNet, EarlierSignal, AnySignal, Number, Form, Limits, Counts, Next, Command, Refused, Found, At, Nothing}
 use Rattle.netlist.specs.Types.sort
 use Rattle.netlist.specs.Bytes.{byte, operand}
-use Rattle.netlist.specs.Commands.{whenFound, same, formOf, width, needed, nextAt}
+use Rattle.netlist.specs.Commands.{whenFound, isSort, formOf, width, needed, nextAt}
 
 -- ---- 9: an operand that names nothing
 
@@ -25,13 +25,13 @@ nameless names s at zero = Nothing
 nameless names s at (suc m) = let later = nameless names s (at + 2) m in cond (ltb (operand s at) names) later (At at)
 
 -- how many of its operands a command uses, from the first on: a gate those that its kind or operation needs, others all
-unfoldable pub used : File → ℕ → ℕ → Sort → ℕ
-used f code all c = cond (same sort.Gate c) (needed f code) all
+unfoldable pub usedOperands : File → ℕ → ℕ → Sort → ℕ
+usedOperands f code all c = cond (isSort sort.Gate c) (needed f code) all
 
 -- the first of them that names nothing, for the command at a position
 unfoldable pub namelessAt : File → ℕ → ℕ → List ℕ → ℕ → ℕ → Form → Found
 namelessAt f n g s at k form =
-    nameless (nameable (form .role) n g k) s (at + form .lead) (used f (byte s (at + 1)) (form .operands) (form .sort))
+    nameless (nameable (form .role) n g k) s (at + form .lead) (usedOperands f (byte s (at + 1)) (form .operands) (form .sort))
 
 -- The search over a file from a position on, after k gates, in file order. Each command takes a byte, so that the file's length is fuel
 -- enough; past the last byte nothing is found.
@@ -39,7 +39,7 @@ unfoldable pub namelessFrom : ℕ → File → ℕ → ℕ → List ℕ → ℕ 
 namelessFrom zero f n g s at k = Nothing
 namelessFrom (suc fuel) f n g s at k =
     let form = formOf f (byte s at) in
-    let later = namelessFrom fuel f n g s (at + width form) (cond (same sort.Gate (form .sort)) (k + 1) k) in
+    let later = namelessFrom fuel f n g s (at + width form) (cond (isSort sort.Gate (form .sort)) (k + 1) k) in
     whenFound (namelessAt f n g s at k form) At later
 
 -- ---- the whole file
@@ -50,8 +50,8 @@ pub record Places : Type 0 where
   pub gates : List ℕ
   pub outputs : List ℕ
 
-abbrev pub nothing : Places
-nothing = record { inputs = 0; gates = []; outputs = [] }
+abbrev pub noPlaces : Places
+noPlaces = record { inputs = 0; gates = []; outputs = [] }
 
 abbrev pub countsOf : Places → Counts
 countsOf p = record { inputs = p .inputs; gates = length (p .gates); outputs = length (p .outputs) }
@@ -79,14 +79,14 @@ finish f s at p =
 -- the first command that cannot be read ends the reading, and so does the end command
 unfoldable pub onNext : (ℕ → Places → Reading) → File → List ℕ → ℕ → Places → Next → Reading
 onNext go f s at p (Refused number place) = refused number place
-onNext go f s at p (Command c next) = let more = go (next .at) (noted c s at p) in cond (same sort.End c) (finish f s at p) more
+onNext go f s at p (Command c next) = let more = go (next .at) (noted c s at p) in cond (isSort sort.End c) (finish f s at p) more
 
 unfoldable pub readFrom : ℕ → File → Limits → List ℕ → ℕ → Places → Reading
 readFrom zero f most s at p = refused 1 (length s)
 readFrom (suc fuel) f most s at p = onNext (readFrom fuel f most s) f s at p (nextAt f most s at (countsOf p))
 
 unfoldable pub readFile : File → Limits → List ℕ → Reading
-readFile f most s = readFrom (suc (length s)) f most s 0 nothing
+readFile f most s = readFrom (suc (length s)) f most s 0 noPlaces
 
 -- ---- limits
 

@@ -99,7 +99,7 @@ pub record GateFits (f : File) (n g k : ℕ) (c : Coded) : Type 0 where
   pub code-byte : c .code < 256
   pub known : 1 ≤ needed f (c .code)
   pub whole : length (c .operands) ≡ needed f (c .code)
-  pub there : All (λ v. v < absent) (c .operands)
+  pub used : All (λ v. v < absent) (c .operands)
   pub named : All (λ v. v < nameable (roleFor f sort.Gate) n g k) (c .operands)
 
 pub record OutputFits (f : File) (n g k : ℕ) (vs : List ℕ) : Type 0 where
