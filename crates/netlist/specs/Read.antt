@@ -40,6 +40,10 @@ unfoldable pub outcomeOf : Reading → Outcome
 outcomeOf (refused number at) = outcome.Refused number at
 outcomeOf (readable p) = outcome.Readable (countsOf p)
 
+-- where a command can end that is read, or refused, after as many gates and outputs as there may be
+abbrev pub farthest : File → Limits → ℕ
+farthest f most = 2 + widthFor f sort.Gate * (most .gates + 1) + widthFor f sort.Output * most .outputs
+
 -- the program reads at most so many bytes of each file
 abbrev pub mostBytes : ℕ
 mostBytes = 8192
