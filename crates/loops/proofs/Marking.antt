@@ -25,10 +25,13 @@ use Rattle.loops.proofs.Sums.{sum-set, sum-bound}
 use Rattle.loops.proofs.Placing.{never, high-other, high-same}
 
 -- the marks of a stage in an array of zeros that has room for any stage
-abbrev pub most : ℕ
+abbrev most : ℕ
 most = 2 * stageLimits .inputs + stageLimits .gates + 1
 
-pub fresh : (c : Counts) → Within stageLimits c → Unmarked c (take (netCount c + 1) (replicate most 0))
+abbrev pub Fresh : Counts → Type 0
+Fresh c = Unmarked c (take (netCount c + 1) (replicate most 0))
+
+pub fresh : (c : Counts) → Within stageLimits c → Fresh c
 fresh c w = record {
   long = length-take-le (netCount c + 1) (replicate most 0) (omega (arith, length-replicate {A = ℕ} most 0, w .inputs-in, w .gates-in));
   none = λ p. zeros (netCount c + 1) most p;

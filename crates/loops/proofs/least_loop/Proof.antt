@@ -1,14 +1,12 @@
 -- `loops::least_loop` meets its contract. The loop's invariant: no gate before g reaches itself. Assumes nothing.
-use Prim.Native.Nat.{_+_, _-_}
+use Prim.Native.Nat.{_-_}
 use mathlib.Core.Path.{_≡_, refl, sym, _∙_}
 use native.Mathlib.Omega.{arith}
 use borrow.Author.Needs.{needs}
-use lib.ListN.{take, replicate}
 use Rattle.verdict.specs.Loops.{reachesItself}
 use Rattle.verdict.proofs.Least.{SoughtTo, sought-on, sought-here, sought-none}
 use Rattle.circuit.specs.Stage.{netCount, gatesIn}
-use Rattle.loops.specs.Marks.{Unmarked}
-use Rattle.loops.proofs.Marking.{most, fresh}
+use Rattle.loops.proofs.Marking.{Fresh, fresh}
 use Rattle.loops.proofs.least_loop.Statement.{statement}
 use Rattle.loops.proofs.least_loop.Tie as tie
 use Rattle.loops.proofs.least_loop.Reads as reads
@@ -22,7 +20,7 @@ abbrev μ-loop : tie.MeasureT-loop
 μ-loop code counts nets g₀ g = counts .gates - g
 
 -- the marks start from none
-row : (c : tie.After-marks Inv-loop μ-loop) → Unmarked (c .before .before .before .before .before .before .before .args .counts) (take (netCount (c .before .before .before .before .before .before .before .args .counts) + 1) (replicate most 0))
+row : (c : tie.After-marks Inv-loop μ-loop) → Fresh (c .before .before .before .before .before .before .before .args .counts)
 row c = fresh (c .before .before .before .before .before .before .before .args .counts) (c .before .before .before .before .before .before .before .pre .within)
 
 mul-nets : tie.Need-mul-nets Inv-loop μ-loop
@@ -47,16 +45,12 @@ reaches-itself-requires : tie.Need-reaches-itself-requires Inv-loop μ-loop
 reaches-itself-requires c κs = (c .before .before .before .before .before .before .before .pre, c .before .if1 .taken, row c)
 
 returns : tie.Need-returns Inv-loop μ-loop
-returns c = sought-here _ _ _ (c .before .before .before .before .if1 .taken) (c .before .before .before .before .before .before .loop .inv .1) (sym (c .before .before .reaches-itself .ensures) ∙ c .if2 .taken)
-
-add-g : tie.Need-add-g Inv-loop μ-loop
-add-g c = search needs
-
-loop-less : tie.Need-loop-less Inv-loop μ-loop
-loop-less c = search needs
+returns c = let l = c .before .before .before .before .before .before .loop in sought-here _ _ _ (c .before .before .before .before .if1 .taken) (l .inv .1) (sym (c .before .before .reaches-itself .ensures) ∙ c .if2 .taken)
 
 loop-again : tie.Need-loop-again Inv-loop μ-loop
-loop-again c = (c .before .before .before .before .before .before .loop .inv .0, sought-on _ _ _ (c .before .before .before .before .if1 .taken) (c .before .before .before .before .before .before .loop .inv .1) (sym (c .before .before .reaches-itself .ensures) ∙ c .if2 .left))
+loop-again c =
+    let l = c .before .before .before .before .before .before .loop in
+    (l .inv .0, sought-on _ _ _ (c .before .before .before .before .if1 .taken) (l .inv .1) (sym (c .before .before .reaches-itself .ensures) ∙ c .if2 .left))
 
 returns-2 : tie.Need-returns-2 Inv-loop μ-loop
 returns-2 c = sought-none _ _ _ (omega (arith, c .if1 .left)) (c .before .before .loop .inv .1)
@@ -75,7 +69,7 @@ least-loop-spec =
     slice-aggregate-reaches-itself
     reaches-itself-requires
     returns
-    add-g
-    loop-less
+    (λ c. search needs)
+    (λ c. search needs)
     loop-again
     returns-2)

@@ -36,20 +36,8 @@ slice-read-if2 c = omega (arith, c .before .before .before .before .loop .inv .1
 fed-requires : tie.Need-fed-requires Inv-loop μ-loop
 fed-requires c κs = (c .before .before .before .before .before .before .before .before .before .pre .0, c .before .before .before .before .if1 .taken, c .before .before .before .before .before .before .loop .inv .1 .row-for)
 
-mul-marks : tie.Need-mul-marks Inv-loop μ-loop
-mul-marks c = search needs
-
-add-marks : tie.Need-add-marks Inv-loop μ-loop
-add-marks c = search needs
-
 slice-write-marks : tie.Need-slice-write-marks Inv-loop μ-loop
 slice-write-marks c = omega (arith, c .before .before .before .before .before .before .before .before .before .loop .inv .1 .row-for .long, c .before .before .before .before .before .before .before .if1 .taken)
-
-add-k : tie.Need-add-k Inv-loop μ-loop
-add-k c = search needs
-
-loop-less : tie.Need-loop-less Inv-loop μ-loop
-loop-less c = search needs
 
 loop-again : tie.Need-loop-again Inv-loop μ-loop
 loop-again c =
@@ -87,11 +75,11 @@ mark-fed-spec =
     add-if2
     slice-read-if2
     fed-requires
-    mul-marks
-    add-marks
+    (λ c. search needs)
+    (λ c. search needs)
     slice-write-marks
-    add-k
-    loop-less
+    (λ c. search needs)
+    (λ c. search needs)
     loop-again
     same-length
     returns)

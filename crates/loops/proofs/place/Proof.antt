@@ -14,50 +14,11 @@ use Rattle.loops.proofs.place.Lts as lts
 left : (c : tie.Start) → c .args .placed < c .args .counts .gates
 left c = place-left (c .args .counts) (now (c .args .code)) (now (c .args .waiting)) _ (c .pre .0) _ (c .pre .1) (c .pre .2)
 
-cast-code : tie.Need-cast-code
-cast-code c = search needs
-
-mul-code : tie.Need-mul-code
-mul-code c = search needs
-
-add-code : tie.Need-add-code
-add-code c = search needs
-
-mul-code-2 : tie.Need-mul-code-2
-mul-code-2 c = search needs
-
 slice-write-code : tie.Need-slice-write-code
 slice-write-code c = omega (arith, left c, c .pre .0 .loaded .room)
 
-cast-code-2 : tie.Need-cast-code-2
-cast-code-2 c = search needs
-
-mul-code-3 : tie.Need-mul-code-3
-mul-code-3 c = search needs
-
-add-code-2 : tie.Need-add-code-2
-add-code-2 c = search needs
-
-mul-code-4 : tie.Need-mul-code-4
-mul-code-4 c = search needs
-
 slice-write-code-2 : tie.Need-slice-write-code-2
 slice-write-code-2 c = simp length-set (omega (arith, c .pre .1, c .pre .0 .loaded .room))
-
-mul-waiting : tie.Need-mul-waiting
-mul-waiting c = search needs
-
-add-waiting : tie.Need-add-waiting
-add-waiting c = search needs
-
-slice-write-waiting : tie.Need-slice-write-waiting
-slice-write-waiting c = search needs
-
-same-length : tie.Need-same-length
-same-length c = search needs
-
-same-length-2 : tie.Need-same-length-2
-same-length-2 c = search needs
 
 returns : tie.Need-returns
 returns c =
@@ -70,19 +31,19 @@ pub place-spec : {M : Type 1} → statement M
 place-spec =
     tie.close
     (tie.spec
-    cast-code
-    mul-code
-    add-code
-    mul-code-2
+    (λ c. search needs)
+    (λ c. search needs)
+    (λ c. search needs)
+    (λ c. search needs)
     slice-write-code
-    cast-code-2
-    mul-code-3
-    add-code-2
-    mul-code-4
+    (λ c. search needs)
+    (λ c. search needs)
+    (λ c. search needs)
+    (λ c. search needs)
     slice-write-code-2
-    mul-waiting
-    add-waiting
-    slice-write-waiting
-    same-length
-    same-length-2
+    (λ c. search needs)
+    (λ c. search needs)
+    (λ c. search needs)
+    (λ c. search needs)
+    (λ c. search needs)
     returns)

@@ -30,21 +30,27 @@ place-ready-requires : tie.Need-place-ready-requires Inv-loop μ-loop
 place-ready-requires c κs = c .before .before .before .before .loop .inv .1
 
 same-length : tie.Need-same-length Inv-loop μ-loop
-same-length c = c .before .before .before .before .before .place-ready .ensures .1 .long ∙ c .before .before .before .before .before .before .before .before .before .before .loop .inv .0 .long
+same-length c = let l = c .before .before .before .before .before .before .before .before .before .before .loop in c .before .before .before .before .before .place-ready .ensures .1 .long ∙ l .inv .0 .long
 
 same-length-2 : tie.Need-same-length-2 Inv-loop μ-loop
-same-length-2 c = c .before .before .before .before .before .place-ready .ensures .0 .placing .row-for .long ∙ sym (c .before .before .before .before .before .before .before .before .before .before .before .before .before .before .before .before .before .pre .1 .long)
+same-length-2 c =
+    let z = c .before .before .before .before .before .before .before .before .before .before .before .before .before .before .before .before .before in
+    c .before .before .before .before .before .place-ready .ensures .0 .placing .row-for .long ∙ sym (z .pre .1 .long)
 
 returns : tie.Need-returns Inv-loop μ-loop
 returns c =
+    let l = c .before .before .before .before .before .before .before .before .before .before .loop in
     let p = c .before .before .before .before .before .place-ready .ensures in
-    (ordered-stuck _ _ _ _ _ (p .0) (c .if2 .taken), reordered-trans _ _ _ _ (c .before .before .before .before .before .before .before .before .before .before .loop .inv .0) (p .1))
+    (ordered-stuck _ _ _ _ _ (p .0) (c .if2 .taken), reordered-trans _ _ _ _ (l .inv .0) (p .1))
 
 loop-less : tie.Need-loop-less Inv-loop μ-loop
 loop-less c = let p = c .before .before .before .before .before .place-ready .ensures .0 in omega (arith, p .more, p .placing .total, c .if2 .left)
 
 loop-again : tie.Need-loop-again Inv-loop μ-loop
-loop-again c = let p = c .before .before .before .before .before .place-ready .ensures in (reordered-trans _ _ _ _ (c .before .before .before .before .before .before .before .before .before .before .loop .inv .0) (p .1), p .0 .placing)
+loop-again c =
+    let l = c .before .before .before .before .before .before .before .before .before .before .loop in
+    let p = c .before .before .before .before .before .place-ready .ensures in
+    (reordered-trans _ _ _ _ (l .inv .0) (p .1), p .0 .placing)
 
 same-length-3 : tie.Need-same-length-3 Inv-loop μ-loop
 same-length-3 c = c .before .before .loop .inv .0 .long

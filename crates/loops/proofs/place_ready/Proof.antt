@@ -31,19 +31,13 @@ is-ready-requires c κs = let p = c .before .before .before .before .loop .inv .
 place-requires : tie.Need-place-requires Inv-loop μ-loop
 place-requires c κs =
     let l = c .before .before .before .before .before .before .before .before .loop in
-    (l .inv .2 .placing, c .before .before .before .before .before .before .if1 .taken, sym (c .before .before .before .is-ready .ensures) ∙ c .before .before .if2 .taken)
+    let h = c .before .before .before .before .before .before .if1 .taken in
+    (l .inv .2 .placing, h, sym (c .before .before .before .is-ready .ensures) ∙ c .before .before .if2 .taken)
 
 add-placed : tie.Need-add-placed Inv-loop μ-loop
 add-placed c =
-    let l = c .before .before .before .before .before .before .before .before .before .before .before .before .before .loop in
-    let r = c .before .before .before .before .place .ensures .0 .total in
-    omega (arith, r, c .before .before .before .before .before .before .before .before .before .before .before .before .before .before .before .before .pre .loaded .within .gates-in)
-
-add-k : tie.Need-add-k Inv-loop μ-loop
-add-k c = search needs
-
-loop-less : tie.Need-loop-less Inv-loop μ-loop
-loop-less c = search needs
+    let z = c .before .before .before .before .before .before .before .before .before .before .before .before .before .before .before .before in
+    omega (arith, c .before .before .before .before .place .ensures .0 .total, z .pre .loaded .within .gates-in)
 
 loop-again : tie.Need-loop-again Inv-loop μ-loop
 loop-again c =
@@ -83,8 +77,8 @@ place-ready-spec =
     is-ready-requires
     place-requires
     add-placed
-    add-k
-    loop-less
+    (λ c. search needs)
+    (λ c. search needs)
     loop-again
     same-length
     same-length-2

@@ -21,12 +21,6 @@ Inv-loop code counts g marks₀ marks = Marking counts code g marks
 abbrev μ-loop : tie.MeasureT-loop
 μ-loop code counts g marks₀ marks = netCount counts + 1 - sum marks
 
-mul-marks : tie.Need-mul-marks Inv-loop μ-loop
-mul-marks c = search needs
-
-add-marks : tie.Need-add-marks Inv-loop μ-loop
-add-marks c = search needs
-
 slice-write-marks : tie.Need-slice-write-marks Inv-loop μ-loop
 slice-write-marks c = omega (arith, c .before .before .before .pre .1, c .before .before .before .pre .2 .long)
 
@@ -40,16 +34,21 @@ loop-less : tie.Need-loop-less Inv-loop μ-loop
 loop-less c = grow-less _ _ _ _ _ _ (c .before .before .before .mark-fed .ensures) (c .if1 .taken)
 
 loop-again : tie.Need-loop-again Inv-loop μ-loop
-loop-again c = marking-more _ _ _ (c .before .before .before .before .before .before .before .before .before .pre .1) _ (c .before .before .before .before .before .loop .inv) _ _ (c .before .before .before .mark-fed .ensures)
+loop-again c =
+    let z = c .before .before .before .before .before .before .before .before .before in
+    marking-more _ _ _ (z .pre .1) _ (c .before .before .before .before .before .loop .inv) _ _ (c .before .before .before .mark-fed .ensures)
 
 fed-requires : tie.Need-fed-requires Inv-loop μ-loop
-fed-requires c κs = (c .before .before .before .before .before .before .before .before .before .before .pre .0, c .before .before .before .before .before .before .before .before .before .before .pre .1, c .before .before .before .before .mark-fed .ensures .row-for)
+fed-requires c κs = let z = c .before .before .before .before .before .before .before .before .before .before in (z .pre .0, z .pre .1, c .before .before .before .before .mark-fed .ensures .row-for)
 
 same-length : tie.Need-same-length Inv-loop μ-loop
-same-length c = c .before .before .before .before .before .mark-fed .ensures .row-for .long ∙ sym (c .before .before .before .before .before .before .before .before .before .before .before .pre .2 .long)
+same-length c = let z = c .before .before .before .before .before .before .before .before .before .before .before in c .before .before .before .before .before .mark-fed .ensures .row-for .long ∙ sym (z .pre .2 .long)
 
 returns : tie.Need-returns Inv-loop μ-loop
-returns c = c .fed .ensures ∙ marks-tell _ _ _ (c .before .before .before .before .before .before .before .before .before .before .before .pre .1) _ (c .before .before .before .before .before .before .before .loop .inv) _ _ (c .before .before .before .before .before .mark-fed .ensures) (c .before .before .if1 .left)
+returns c =
+    let z = c .before .before .before .before .before .before .before .before .before .before .before in
+    let l = c .before .before .before .before .before .before .before .loop in
+    c .fed .ensures ∙ marks-tell _ _ _ (z .pre .1) _ (l .inv) _ _ (c .before .before .before .before .before .mark-fed .ensures) (c .before .before .if1 .left)
 
 pub reaches-itself-spec : {M : Type 1} → statement M
 reaches-itself-spec =
@@ -57,8 +56,8 @@ reaches-itself-spec =
     (tie.spec
     Inv-loop
     μ-loop
-    mul-marks
-    add-marks
+    (λ c. search needs)
+    (λ c. search needs)
     slice-write-marks
     loop-holds
     mark-fed-requires
