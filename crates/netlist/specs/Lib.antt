@@ -3,3 +3,5 @@ pub mod Commands
 pub mod Reading
 pub mod Content
 pub mod Writing
+pub mod Formed
+pub mod Read
