@@ -24,8 +24,9 @@ same-length c = search needs
 returns-2 : tie.Need-returns-2
 returns-2 c =
     let entry = c .before .before .before .before .before .before .before in
-    let tested = c .before .before .before .before .before .if1 .left in
-    let opened : entry .args .fd <ℤ pos 0 → ⊥ = λ h. subst T (ap (λ (z : ℤ). ltZ z (pos 0)) (sym (toZ-ofZ w32 (entry .args .fd) (entry .fits .fd))) ∙ tested) (h .lt) in
+    let back = toZ-ofZ w32 (entry .args .fd) (entry .fits .fd) in
+    let tested = ap (λ (z : ℤ). ltZ z (pos 0)) (sym back) ∙ c .before .before .before .before .before .if1 .left in
+    let opened : entry .args .fd <ℤ pos 0 → ⊥ = λ h. subst T tested (h .lt) in
     (c .before .before .before .read-full .ensures, (λ h. absurd (opened h), λ h. absurd (opened h)))
 
 pub load-opened-spec : {M : Type 1} → statement M
