@@ -1,6 +1,6 @@
 -- A stage in its flat form, one list of numbers. Gate k has eight, from 8k on: its cell, the nets at its pins A, B, C and D, the
 -- gate at place k of the order, the place of gate k in the order, and 1 where it has hold. Output j has two, after the gates: its rails.
-use Prim.Native.Nat.{ℕ, zero, suc, _+_, _*_, _≤_, _<_}
+use Prim.Native.Nat.{ℕ, _+_, _*_, _≤_, _<_}
 use mathlib.Core.Path.{_≡_}
 use mathlib.Core.List.{List, [], _∷_}
 use lib.ListN.{length, getD, take}
@@ -9,11 +9,7 @@ use Rattle.gates.specs.Cell.{pinCount}
 use Rattle.netlist.specs.declared.Counts.{Counts}
 use Rattle.netlist.specs.Reading.{stageLimits, Within}
 use Rattle.netlist.specs.Content.{Gate, Pair, Stage}
-
--- the first m values of a function
-unfoldable pub tabulate : {A : Type 0} → (ℕ → A) → ℕ → List A
-tabulate f zero = []
-tabulate f (suc m) = f 0 ∷ tabulate (λ i. f (suc i)) m
+unfoldable pub use Rattle.verdict.specs.Graph.{tabulate}
 
 -- two nets for each input and one for each gate; the net after the last is the ground, which is always low
 abbrev pub netCount : Counts → ℕ

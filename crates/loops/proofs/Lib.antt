@@ -1,5 +1,6 @@
-pub mod Filling
 pub mod Sums
+pub mod Feeding
+pub mod Reordering
 pub mod Placing
 pub mod Ordering
 pub mod Marking

@@ -1,0 +1,229 @@
+-- Settling in a topological order: a gate that is evaluated keeps its level, and in the end every gate has the settled one.
+-- Assumes nothing.
+use Prim.Native.Nat.{ℕ, zero, suc, _+_, _-_, _*_, _≤_, _<_}
+use native.Mathlib.Omega.{arith}
+use native.Mathlib.Decide.{ℕ-discrete, decLt}
+use mathlib.Core.Path.{_≡_, refl, sym, ap, _∙_, subst, fun-ext}
+use mathlib.Core.Bool.{Bool, false}
+use mathlib.Core.List.{List, [], _∷_, _++_, append-assoc, map}
+use lib.ListN.{length, getD, set, take, drop, length-map, length-set, length-drop, take-append-drop, List·getD-append}
+use lib.Seq.{getD-append-add, getD-set-same, getD-set-other, set-out, ext-getD, take-set-le, take-set-lt, drop-set-add, length-take-le, getD-drop}
+use lib.Dec.{ltb}
+use Rattle.gates.specs.Cell.{bit, setExpression}
+use Rattle.gates.specs.Expression.{holds}
+use Rattle.netlist.specs.declared.Counts.{Counts}
+use Rattle.netlist.specs.Content.{Gate}
+use Rattle.verdict.specs.Rows.{high, isSet, SettledHolding, rounds, settledLevels, levelsHolding}
+use Rattle.verdict.specs.Loops.{In, pinsAt}
+use Rattle.verdict.proofs.Gates.{set-local, isSet-binary}
+use Rattle.verdict.proofs.Reaching.{loopFree-noLoop}
+use Rattle.verdict.proofs.Settling.{held-one, holding-settled}
+use Rattle.circuit.specs.Stage.{netCount, gateIn, gateAtPlace, gatesIn}
+use Rattle.circuit.specs.Order.{TopologicalOrder, orderIn, InOrder}
+use Rattle.circuit.specs.Rows.{RowFor, grounded, railPart, levelPart, levelHolding, SettledBefore, SettledTo, settledHoldingIn}
+use Rattle.circuit.proofs.Tabulate.{length-tabulate, getD-tabulate, map-tabulate}
+use Rattle.circuit.proofs.Order.{order-no-loop}
+
+-- where no gate is held, the levels are the settled ones
+pub holding-none : (gates : List Gate) (rails : List ℕ) → levelsHolding (length gates) gates rails ≡ settledLevels gates rails
+unfolding levelsHolding settledLevels
+holding-none gates rails =
+    ap (λ (step : List ℕ → List ℕ). rounds step (length gates) (length gates))
+    (fun-ext (λ v. set-out (map (isSet (rails ++ v)) gates) (length gates) 0 (omega (arith, length-map gates (isSet (rails ++ v))))))
+
+-- ---- the level that a gate is to have
+
+module _ (h : ℕ) (gates : List Gate) (row : List ℕ) (k : ℕ) where
+  pub level-held : k < length gates → k ≡ h → levelHolding h gates row k ≡ 0
+  level-held l e =
+      ap (λ (x : ℕ). getD (set (map (isSet row) gates) x 0) k 0) (sym e)
+      ∙ getD-set-same (map (isSet row) gates) k 0 0 (omega (arith, length-map gates (isSet row)))
+
+  pub level-free : (k ≡ h → ⊥) → levelHolding h gates row k ≡ getD (map (isSet row) gates) k 0
+  level-free d = getD-set-other (map (isSet row) gates) h k 0 0 d
+
+-- it depends on the gate's pins alone
+level-local : (h : ℕ) (gates : List Gate) (u v : List ℕ) (k : ℕ) → k < length gates → ((p : ℕ) → In p (pinsAt gates k) → high u p ≡ high v p) → levelHolding h gates u k ≡ levelHolding h gates v k
+level-local h gates u v k l same = go (ℕ-discrete k h)
+  where
+    go : Dec (k ≡ h) → levelHolding h gates u k ≡ levelHolding h gates v k
+    go (yes e) = level-held h gates u k l e ∙ sym (level-held h gates v k l e)
+    go (no d) = level-free h gates u k d ∙ set-local u v gates k same ∙ sym (level-free h gates v k d)
+
+-- ---- one gate after the other
+
+module _ (n h : ℕ) (gates : List Gate) (order rails : List ℕ) (t : TopologicalOrder n gates order) (both : length rails ≡ 2 * n) where
+  module _ (levels : List ℕ) (long : length levels ≡ length gates) (i : ℕ) (hi : i < length gates) (x : ℕ) where
+    abbrev o : ℕ
+    o = getD order i 0
+
+    abbrev levels′ : List ℕ
+    levels′ = set levels o x
+
+    -- the gate at place i is at no pin of a gate before it, or of itself
+    pin-kept : (j : ℕ) → j ≤ i → (p : ℕ) → In p (pinsAt gates (getD order j 0)) → high (rails ++ levels′) p ≡ high (rails ++ levels) p
+    pin-kept j hj p f = ap (λ (y : ℕ). ltb 0 y) (go (decLt p (length rails)) (ℕ-discrete (p - length rails) o))
+      where
+        gate-net : (v : List ℕ) → length rails ≤ p → getD (rails ++ v) p 0 ≡ getD v (p - length rails) 0
+        gate-net v h = let e : p ≡ length rails + (p - length rails) = omega arith in ap (λ (y : ℕ). getD (rails ++ v) y 0) e ∙ getD-append-add rails v (p - length rails) 0
+
+        go : Dec (p < length rails) → Dec (p - length rails ≡ o) → getD (rails ++ levels′) p 0 ≡ getD (rails ++ levels) p 0
+        go (yes a) b = List·getD-append rails levels′ 0 p a ∙ sym (List·getD-append rails levels 0 p a)
+        go (no a) (no b) = gate-net levels′ (omega arith) ∙ getD-set-other levels o (p - length rails) x 0 b ∙ sym (gate-net levels (omega arith))
+        go (no a) (yes b) =
+            let q : p ≡ 2 * n + o = omega arith in
+            let s = t .earlier j o (omega arith) (t .gate i hi) (subst (λ (y : ℕ). In y (pinsAt gates (getD order j 0))) q f) in
+            absurd (omega (arith, s .1, t .once (s .0) i (omega (arith, s .1)) hi (s .2)))
+
+    level-kept : (j : ℕ) → j ≤ i → levelHolding h gates (rails ++ levels′) (getD order j 0) ≡ levelHolding h gates (rails ++ levels) (getD order j 0)
+    level-kept j hj = level-local h gates (rails ++ levels′) (rails ++ levels) (getD order j 0) (t .gate j (omega arith)) (pin-kept j hj)
+
+    settle-more : SettledBefore i h gates order rails levels → x ≡ levelHolding h gates (rails ++ levels) o → SettledBefore (i + 1) h gates order rails levels′
+    settle-more before e j hj = go (ℕ-discrete j i)
+      where
+        go : Dec (j ≡ i) → getD levels′ (getD order j 0) 0 ≡ levelHolding h gates (rails ++ levels′) (getD order j 0)
+        go (yes q) =
+            rw q (getD-set-same levels o x 0 (omega (arith, t .gate i hi)) ∙ e ∙ sym (level-kept i (omega arith)))
+        go (no d) =
+            getD-set-other levels o (getD order j 0) x 0 (λ q. d (t .once j i (omega arith) hi q))
+            ∙ before j (omega arith)
+            ∙ sym (level-kept j (omega arith))
+
+  module _ (levels : List ℕ) (long : length levels ≡ length gates) where
+    all-settled : SettledBefore (length gates) h gates order rails levels → SettledHolding h gates rails levels
+    all-settled before =
+        ext-getD 0 (set (map (isSet (rails ++ levels)) gates) h 0) levels (size ∙ sym long)
+        (λ k b.
+        let s = t .stands k (omega (arith, size)) in
+        sym (subst (λ (y : ℕ). getD levels y 0 ≡ levelHolding h gates (rails ++ levels) y) (s .2) (before (s .0) (s .1))))
+      where
+        size : length (set (map (isSet (rails ++ levels)) gates) h 0) ≡ length gates
+        size = length-set (map (isSet (rails ++ levels)) gates) h 0 ∙ length-map gates (isSet (rails ++ levels))
+
+    settle-end : (i : ℕ) → length gates ≤ i → SettledBefore i h gates order rails levels → levels ≡ levelsHolding h gates rails
+    settle-end i l before =
+        held-one gates h n (loopFree-noLoop n gates (order-no-loop n gates order t)) rails both levels (all-settled (λ j b. before j (omega arith)))
+
+  -- settled levels, with a gate held or not, are right with another gate held at every place where neither gate stands
+  pub settled-before : (h′ m : ℕ) → m ≤ length gates → ((i : ℕ) → i < m → getD order i 0 ≡ h → ⊥) → ((i : ℕ) → i < m → getD order i 0 ≡ h′ → ⊥) → SettledBefore m h gates order rails (levelsHolding h′ gates rails)
+  settled-before h′ m hm not-h not-h′ i hi =
+      let levels = levelsHolding h′ gates rails in
+      let k = getD order i 0 in
+      ap (λ (v : List ℕ). getD v k 0) (sym (holding-settled h′ gates rails))
+      ∙ level-free h′ gates (rails ++ levels) k (not-h′ i hi)
+      ∙ sym (level-free h gates (rails ++ levels) k (not-h i hi))
+
+-- ---- the ground changes no level
+
+pub high-grounded : (row : List ℕ) (p : ℕ) → high (grounded row) p ≡ high row p
+high-grounded [] zero = refl
+high-grounded [] (suc p) = refl
+high-grounded (x ∷ row) zero = refl
+high-grounded (x ∷ row) (suc p) = high-grounded row p
+
+isSet-grounded : (row : List ℕ) (g : Gate) → isSet (grounded row) g ≡ isSet row g
+unfolding isSet
+isSet-grounded row g = ap (λ (h : ℕ → Bool). bit (holds (setExpression (g .cell)) (λ i. getD (map h (g .pins)) i false))) (fun-ext (λ p. high-grounded row p))
+
+level-grounded : (h : ℕ) (gates : List Gate) (row : List ℕ) (k : ℕ) → levelHolding h gates (grounded row) k ≡ levelHolding h gates row k
+level-grounded h gates row k = ap (λ (f : Gate → ℕ). getD (set (map f gates) h 0) k 0) (fun-ext (λ g. isSet-grounded row g))
+
+one-left : (l : List ℕ) → length l ≡ 1 → l ≡ getD l 0 0 ∷ []
+one-left [] e = absurd (omega arith)
+one-left (x ∷ []) e = refl
+one-left (x ∷ y ∷ l) e = absurd (omega arith)
+
+-- ---- rows of a flat form
+
+module _ (c : Counts) (row : List ℕ) (r : RowFor c row) where
+  pub length-rails : length (railPart c row) ≡ 2 * c .inputs
+  length-rails = length-take-le (2 * c .inputs) row (omega (arith, r .long))
+
+  pub length-levels : length (levelPart c row) ≡ c .gates
+  length-levels = length-take-le (c .gates) (drop (2 * c .inputs) row) (omega (arith, length-drop (2 * c .inputs) row, r .long))
+
+  -- the rails, the levels and the ground are all of the row
+  pub row-whole : row ≡ grounded (railPart c row ++ levelPart c row)
+  row-whole =
+      let n = 2 * c .inputs in
+      let g = c .gates in
+      let z : n + (g + 0) ≡ netCount c = omega arith in
+      let e : drop g (drop n row) ≡ 0 ∷ [] =
+      one-left (drop g (drop n row)) (omega (arith, length-drop g (drop n row), length-drop n row, r .long))
+      ∙ ap (λ (x : ℕ). x ∷ []) (getD-drop g (drop n row) 0 0 ∙ getD-drop n row (g + 0) 0 ∙ ap (λ (x : ℕ). getD row x 0) z ∙ r .ground) in
+      sym (append-assoc (take n row) (take g (drop n row)) (0 ∷ [])
+      ∙ ap (λ (l : List ℕ). take n row ++ (take g (drop n row) ++ l)) (sym e)
+      ∙ ap (λ (l : List ℕ). take n row ++ l) (take-append-drop g (drop n row))
+      ∙ take-append-drop n row)
+
+  -- after a store of 0 or 1 at a net
+  pub row-set : (p x : ℕ) → p < netCount c → x ≤ 1 → RowFor c (set row p x)
+  row-set p x h l = record {
+    long = length-set row p x ∙ r .long;
+    bit = λ q. go q (ℕ-discrete q p);
+    ground = getD-set-other row p (netCount c) x 0 (λ e. omega arith) ∙ r .ground;
+  }
+    where
+      go : (q : ℕ) → Dec (q ≡ p) → getD (set row p x) q 0 ≤ 1
+      go q (yes e) = rw e (omega (arith, getD-set-same row p x 0 (omega (arith, r .long))))
+      go q (no d) = omega (arith, getD-set-other row p q x 0 d, r .bit q)
+
+-- ---- settling a row
+
+pub length-gatesIn : (c : Counts) (code : List ℕ) → length (gatesIn c code) ≡ c .gates
+unfolding gatesIn
+length-gatesIn c code = length-tabulate (gateIn code) (c .gates)
+
+pub order-at : (c : Counts) (code : List ℕ) (i : ℕ) → i < c .gates → getD (orderIn c code) i 0 ≡ gateAtPlace code i
+unfolding orderIn
+order-at c code i h = getD-tabulate (gateAtPlace code) (c .gates) i 0 h
+
+module _ (c : Counts) (code row : List ℕ) (held k : ℕ) (h : k < c .gates) where
+  pub held-at : k ≡ held → 0 ≡ levelHolding held (gatesIn c code) row k
+  held-at e = sym (level-held held (gatesIn c code) row k (omega (arith, length-gatesIn c code)) e)
+
+  pub set-at : (k ≡ held → ⊥) → (x : ℕ) → x ≡ isSet row (gateIn code k) → x ≡ levelHolding held (gatesIn c code) row k
+  unfolding gatesIn
+  set-at d x e =
+      e
+      ∙ sym (ap (λ (l : List ℕ). getD l k 0) (map-tabulate (isSet row) (gateIn code) (c .gates)) ∙ getD-tabulate (λ i. isSet row (gateIn code i)) (c .gates) k 0 h)
+      ∙ sym (level-free held (gatesIn c code) row k d)
+
+-- the rails are those at the start, and the gates at the first i places have their levels
+pub record SettlingTo (c : Counts) (code : List ℕ) (held : ℕ) (start row : List ℕ) (i : ℕ) : Type 0 where
+  pub row-for : RowFor c row
+  pub rails : railPart c row ≡ railPart c start
+  pub before : SettledTo i held c code row
+
+module _ (c : Counts) (code : List ℕ) (ordered : InOrder c code) where
+  pub order-gate : (i : ℕ) → i < c .gates → gateAtPlace code i < c .gates
+  order-gate i h = omega (arith, order-at c code i h, length-gatesIn c code, ordered .ordered .gate i (omega (arith, length-gatesIn c code)))
+
+  module _ (held : ℕ) (start row : List ℕ) (i : ℕ) (s : SettlingTo c code held start row i) where
+    pub settling-turn : i < c .gates → (x : ℕ) → x ≡ levelHolding held (gatesIn c code) row (gateAtPlace code i) → x ≤ 1 → SettlingTo c code held start (set row (2 * c .inputs + gateAtPlace code i) x) (i + 1)
+    settling-turn h x e l =
+        let n = 2 * c .inputs in
+        let r = s .row-for in
+        let k = order-gate i h in
+        let rails = take-set-le n row (n + gateAtPlace code i) x (omega arith) in
+        let y : x ≡ levelHolding held (gatesIn c code) (railPart c row ++ levelPart c row) (gateAtPlace code i) = e ∙ ap (λ (l : List ℕ). levelHolding held (gatesIn c code) l (gateAtPlace code i)) (row-whole c row r) ∙ level-grounded held (gatesIn c code) _ _ in
+        record {
+          row-for = row-set c row r (n + gateAtPlace code i) x (omega arith) l;
+          rails = rails ∙ s .rails;
+          before =
+              rw (rails, drop-set-add n row (gateAtPlace code i) x, take-set-lt (c .gates) (drop n row) (gateAtPlace code i) x k, ← order-at c code i h)
+              (settle-more (c .inputs) held (gatesIn c code) (orderIn c code) (railPart c row) (ordered .ordered) (length-rails c row r) (levelPart c row)
+              (length-levels c row r ∙ sym (length-gatesIn c code)) i (omega (arith, length-gatesIn c code)) x (s .before) (rw (order-at c code i h) y));
+        }
+
+    pub settling-done : c .gates ≤ i → row ≡ grounded (settledHoldingIn held c code start)
+    settling-done h =
+        let r = s .row-for in
+        row-whole c row r
+        ∙ ap (λ (l : List ℕ). grounded (railPart c row ++ l))
+        (settle-end (c .inputs) held (gatesIn c code) (orderIn c code) (railPart c row) (ordered .ordered) (length-rails c row r) (levelPart c row)
+        (length-levels c row r ∙ sym (length-gatesIn c code)) i (omega (arith, length-gatesIn c code)) (s .before))
+        ∙ ap (λ (l : List ℕ). grounded (l ++ levelsHolding held (gatesIn c code) l)) (s .rails)
+
+pub settle-none : (c : Counts) (code rails : List ℕ) → levelsHolding (c .gates) (gatesIn c code) rails ≡ settledLevels (gatesIn c code) rails
+settle-none c code rails = ap (λ (m : ℕ). levelsHolding m (gatesIn c code) rails) (sym (length-gatesIn c code)) ∙ holding-none (gatesIn c code) rails

@@ -1,0 +1,85 @@
+-- `circuit::first_misread` meets its contract. The loop's invariant: the outputs before j read as their signals' values. Assumes nothing.
+use Prim.Native.Nat.{ℕ, _+_, _-_}
+use mathlib.Core.Path.{sym, ap, _∙_}
+use mathlib.Core.Bool.{not}
+use lib.ListN.{getD}
+use denote.Ref.{now}
+use native.Mathlib.Omega.{arith}
+use Rattle.verdict.specs.Rows.{pairIn, spells}
+use Rattle.verdict.specs.Checks.{least}
+use Rattle.verdict.proofs.Least.{SoughtTo, sought-on, sought-here, sought-none}
+use Rattle.circuit.specs.Stage.{outputIn}
+use Rattle.circuit.specs.Rows.{misread}
+use Rattle.circuit.proofs.first_misread.Statement.{statement}
+use Rattle.circuit.proofs.first_misread.Tie as tie
+
+abbrev Inv-loop : tie.InvT-loop
+Inv-loop code counts row reference values count first j₀ j = SoughtTo (misread counts code row (λ i. getD values (getD reference (first + i) 0) 0)) (counts .outputs) j
+
+abbrev μ-loop : tie.MeasureT-loop
+μ-loop code counts row reference values count first j₀ j = count - j
+
+mul-first : tie.Need-mul-first Inv-loop μ-loop
+mul-first c = omega arith
+
+loop-holds : tie.Need-loop-holds Inv-loop μ-loop
+loop-holds c = ap (least _ 0) (omega arith)
+
+add-level : tie.Need-add-level Inv-loop μ-loop
+add-level c = omega arith
+
+mul-level : tie.Need-mul-level Inv-loop μ-loop
+mul-level c = omega arith
+
+shared-slice-read-level : tie.Need-shared-slice-read-level Inv-loop μ-loop
+shared-slice-read-level c = omega arith
+
+level-requires : tie.Need-level-requires Inv-loop μ-loop
+level-requires c κs =
+    let z = c .before .before .before .before .before .before .before .before in
+    (omega (arith, z .pre .2 .signal (c .before .before .loop .j) (omega arith)), z .pre .5)
+
+reads-as-requires : tie.Need-reads-as-requires Inv-loop μ-loop
+reads-as-requires c κs = let z = c .before .before .before .before .before .before .before .before .before in (z .pre .0, omega arith, z .pre .1, c .level .ensures .small)
+
+add-j : tie.Need-add-j Inv-loop μ-loop
+add-j c = omega arith
+
+loop-less : tie.Need-loop-less Inv-loop μ-loop
+loop-less c = omega arith
+
+loop-again : tie.Need-loop-again Inv-loop μ-loop
+loop-again c =
+    let z = c .before .before .before .before .before .before .before .before .before .before .before in
+    let l = c .before .before .before .before .before .loop in
+    let e = ap (spells (pairIn (now (z .args .row)) (outputIn (z .args .counts) (now (z .args .code)) (l .j)))) (c .before .before .level .ensures .is) in
+    sought-on _ _ _ (omega arith) (l .inv) (ap not (sym e ∙ sym (c .before .reads-as .ensures) ∙ c .if1 .taken))
+
+returns : tie.Need-returns Inv-loop μ-loop
+returns c =
+    let z = c .before .before .before .before .before .before .before .before .before .before .before in
+    let l = c .before .before .before .before .before .loop in
+    let e = ap (spells (pairIn (now (z .args .row)) (outputIn (z .args .counts) (now (z .args .code)) (l .j)))) (c .before .before .level .ensures .is) in
+    sought-here _ _ _ (omega arith) (l .inv) (ap not (sym e ∙ sym (c .before .reads-as .ensures) ∙ c .if1 .left))
+
+returns-2 : tie.Need-returns-2 Inv-loop μ-loop
+returns-2 c = sought-none _ _ _ (omega arith) (c .before .loop .inv)
+
+pub first-misread-spec : {M : Type 1} → statement M
+first-misread-spec =
+    tie.close
+    (tie.spec
+    Inv-loop
+    μ-loop
+    mul-first
+    loop-holds
+    add-level
+    mul-level
+    shared-slice-read-level
+    level-requires
+    reads-as-requires
+    add-j
+    loop-less
+    loop-again
+    returns
+    returns-2)

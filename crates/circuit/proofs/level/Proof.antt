@@ -1,0 +1,13 @@
+-- `circuit::level` meets its contract. Assumes nothing.
+use borrow.Author.Needs.{needs}
+use Rattle.circuit.proofs.level.Statement.{statement}
+use Rattle.circuit.proofs.level.Tie as tie
+
+shared-slice-read-result : tie.Need-shared-slice-read-result
+shared-slice-read-result c = search needs
+
+returns : tie.Need-returns
+returns c = record { is = search needs; small = c .before .pre .1 _ }
+
+pub level-spec : {M : Type 1} → statement M
+level-spec = tie.close (tie.spec shared-slice-read-result returns)

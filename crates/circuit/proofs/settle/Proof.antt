@@ -1,0 +1,26 @@
+-- `circuit::settle` meets its contract: no gate is before the first place, and none is held. Assumes nothing.
+use Prim.Native.Nat.{ℕ}
+use mathlib.Core.Path.{ap, _∙_}
+use mathlib.Core.List.{List, _++_}
+use denote.Ref.{now}
+use Rattle.circuit.specs.Rows.{grounded, railPart}
+use Rattle.circuit.proofs.Settling.{settle-none}
+use borrow.Author.Needs.{needs}
+use Rattle.circuit.proofs.settle.Statement.{statement}
+use Rattle.circuit.proofs.settle.Tie as tie
+
+settle-from-requires : tie.Need-settle-from-requires
+settle-from-requires c κs = search needs
+
+same-length : tie.Need-same-length
+same-length c = search needs
+
+returns : tie.Need-returns
+returns c =
+    let z = c .before .before .before .before .before .before in
+    let s = c .before .before .settle-from .ensures in
+    let rails = railPart (z .args .counts) (now (z .args .row)) in
+    (s .0 ∙ ap (λ (l : List ℕ). grounded (rails ++ l)) (settle-none (z .args .counts) (now (z .args .code)) rails), s .1)
+
+pub settle-spec : {M : Type 1} → statement M
+settle-spec = tie.close (tie.spec settle-from-requires same-length returns)
