@@ -10,27 +10,45 @@ use mathlib.Core.List.{List, [], _∷_, _++_}
 use lib.ListN.{length, take, length-append}
 use lib.Seq.{length-take-le, take-all, getD-take}
 use borrow.Author.Tests.{lt-leb, le-ltb}
-use Rattle.netlist.specs.declared.File.{File}
-use Rattle.netlist.specs.declared.File.the-variants as file
-use Rattle.netlist.specs.declared.Sort.{Sort}
-use Rattle.netlist.specs.declared.Sort.the-variants as sort
-use Rattle.netlist.specs.declared.Form.{Form}
-use Rattle.netlist.specs.declared.Limits.{Limits}
-use Rattle.netlist.specs.declared.Counts.{Counts}
-use Rattle.netlist.specs.declared.Cursor.{Cursor}
-use Rattle.netlist.specs.declared.Next.{Next}
-use Rattle.netlist.specs.declared.Next.the-variants.{Command, Refused}
+use Rattle.netlist.specs.Types.{File, Sort, Form, Limits, Counts, Cursor, Next, Command, Refused}
+use Rattle.netlist.specs.Types.file
+use Rattle.netlist.specs.Types.sort
 use Rattle.netlist.specs.Bytes.{byte, operand}
-use Rattle.netlist.specs.Commands.{same, rows, rowIn, formOf, width, needed, stray, takeInputs, misfitFrom, takeGate, takeSort, takeCommand, nextAt}
-use Rattle.netlist.specs.Reading.{Reading, Places, nothing, countsOf, noted, finish, onNext, readFrom, readFile, stageLimits, referenceLimits, mostBytes}
+use Rattle.netlist.specs.Commands.{isSort, commandTable, formIn, formOf, width, needed, stray, misfitFrom, takeGate, takeSort, takeCommand, nextAt}
+use Rattle.netlist.specs.Reading.{Reading, Places, noPlaces, countsOf, noted, finish, onNext, readFrom, readFile, stageLimits, referenceLimits}
 use Rattle.netlist.specs.Writing.{widthFor}
+use Rattle.netlist.specs.Read.{farthest, mostBytes}
 use Rattle.netlist.proofs.Encoding.{clash, width-in, width-gate, width-inputs}
 use Rattle.netlist.proofs.OneCommand.{There, next-there}
-use Rattle.netlist.proofs.Walk.{finish-more, first-inputs, Few, noted-few}
+use Rattle.netlist.proofs.Walk.{finish-more, first-inputs}
 
--- where a command can end that is read, or refused, after as many gates and outputs as there may be
-abbrev pub farthest : File → Limits → ℕ
-farthest f most = 2 + widthFor f sort.Gate * (most .gates + 1) + widthFor f sort.Output * most .outputs
+-- ---- where commands stand
+
+-- the place of a command, after the gates and outputs before it, of which there are no more than there may be
+pub record Near (f : File) (most : Limits) (at : ℕ) (c : Counts) : Type 0 where
+  pub place : at ≤ 2 + widthFor f sort.Gate * c .gates + widthFor f sort.Output * c .outputs
+  pub gates-in : c .gates ≤ most .gates
+  pub outputs-in : c .outputs ≤ most .outputs
+
+module _ (f : File) (most : Limits) where
+  pub near-start : Near f most 0 (countsOf noPlaces)
+  near-start = record { place = omega arith; gates-in = omega arith; outputs-in = omega arith }
+
+  pub near-far : {at : ℕ} {c : Counts} → Near f most at c → at + widthFor f sort.Gate ≤ farthest f most
+  near-far h = omega (arith, h .place, mul-le-mul-left (widthFor f sort.Gate) (h .gates-in), mul-le-mul-left (widthFor f sort.Output) (h .outputs-in))
+
+  pub near-noted : (s : List ℕ) (at : ℕ) (p : Places) (c : Sort) → isSort sort.End c ≡ false → Near f most at (countsOf p) → There f most s at (countsOf p) c →
+      Near f most (at + widthFor f c) (countsOf (noted c s at p))
+  unfolding noted stray
+  near-noted s at p sort.Inputs more h t = record { place = omega (arith, width-inputs f, first-inputs at (t .ordered)); gates-in = h .gates-in; outputs-in = h .outputs-in }
+  near-noted s at p sort.Gate more h t =
+      rw (length-append (p .gates) (at ∷ [])) (record { place = omega (arith, h .place); gates-in = omega (arith, t .taken .0); outputs-in = h .outputs-in })
+  near-noted s at p sort.Output more h t =
+      rw (length-append (p .outputs) (at ∷ [])) (record { place = omega (arith, h .place); gates-in = h .gates-in; outputs-in = omega (arith, t .taken) })
+  near-noted s at p sort.End more h t = absurd (clash (cc))
+  near-noted s at p sort.Unknown more h t = absurd (clash (let o = t .ordered in cc))
+
+-- ---- the cut
 
 -- where all bytes of a command are there, whichever it is
 in-room : (f : File) (most : Limits) (s : List ℕ) (at m : ℕ) (before : Counts) → at + widthFor f sort.Gate ≤ m → at < m → m ≤ length s →
@@ -60,7 +78,7 @@ module _ (f : File) (most : Limits) (s : List ℕ) (m : ℕ) (far : farthest f m
 
   module _ (at : ℕ) (room : at + widthFor f sort.Gate ≤ m) where
     sort-cut : (before : Counts) (form : Form) → at + width form ≤ m → (taken : Next) (c : Sort) → takeSort f most cut at before form taken c ≡ takeSort f most s at before form taken c
-    unfolding takeSort takeInputs takeGate
+    unfolding takeSort takeGate
     sort-cut before form l taken sort.Inputs = rw (byte-cut (at + 1) (omega (arith, width-gate f)))
     sort-cut before form l taken sort.Gate =
         rw (byte-cut (at + 1) (omega (arith, width-gate f)), misfit-cut (needed f (byte s (at + 1))) 0 (at + form .lead) (form .operands) (omega arith))
@@ -81,25 +99,8 @@ module _ (f : File) (most : Limits) (s : List ℕ) (m : ℕ) (far : farthest f m
     finish-cut : (p : Places) → finish f cut at p ≡ finish f s at p
     finish-cut p = finish-more f cut at p (omega (arith, length-cut, width-gate f)) ∙ sym (finish-more f s at p (omega (arith, width-gate f)))
 
-  -- the place of a command, after the gates and outputs before it, of which there are no more than there may be
-  pub record Near (at : ℕ) (p : Places) : Type 0 where
-    pub place : at ≤ 2 + widthFor f sort.Gate * length (p .gates) + widthFor f sort.Output * length (p .outputs)
-    pub few : Few most p
-
-  near-room : (at : ℕ) (p : Places) → Near at p → at + widthFor f sort.Gate ≤ m
-  near-room at p h = omega (arith, h .place, mul-le-mul-left (widthFor f sort.Gate) (h .few .0), mul-le-mul-left (widthFor f sort.Output) (h .few .1))
-
-  near-noted : (at : ℕ) (p : Places) (c : Sort) → same sort.End c ≡ false → Near at p → There f most s at (countsOf p) c → Near (at + widthFor f c) (noted c s at p)
-  unfolding noted stray
-  near-noted at p c more h t = record { place = go c more t; few = noted-few f most s at p c (h .few) t }
-    where
-      go : (c : Sort) → same sort.End c ≡ false → There f most s at (countsOf p) c →
-          at + widthFor f c ≤ 2 + widthFor f sort.Gate * length (noted c s at p .gates) + widthFor f sort.Output * length (noted c s at p .outputs)
-      go sort.Inputs more t = omega (arith, width-inputs f, first-inputs at (t .ordered))
-      go sort.Gate more t = rw (length-append (p .gates) (at ∷ [])) (omega (arith, h .place))
-      go sort.Output more t = rw (length-append (p .outputs) (at ∷ [])) (omega (arith, h .place))
-      go sort.End more t = absurd (clash (cc))
-      go sort.Unknown more t = absurd (clash (let o = t .ordered in cc))
+  near-room : (at : ℕ) (p : Places) → Near f most at (countsOf p) → at + widthFor f sort.Gate ≤ m
+  near-room at p h = omega (arith, near-far f most h)
 
   noted-cut : (at : ℕ) (p : Places) (c : Sort) → at + widthFor f sort.Gate ≤ m → noted c cut at p ≡ noted c s at p
   unfolding noted
@@ -110,14 +111,14 @@ module _ (f : File) (most : Limits) (s : List ℕ) (m : ℕ) (far : farthest f m
   noted-cut at p sort.Unknown room = refl
 
   abbrev Same : (ℕ → Places → Reading) → (ℕ → Places → Reading) → ℕ → Type 0
-  Same go go′ from = (at : ℕ) (p : Places) → from ≤ at → Near at p → go at p ≡ go′ at p
+  Same go go′ from = (at : ℕ) (p : Places) → from ≤ at → Near f most at (countsOf p) → go at p ≡ go′ at p
 
   -- after a command that was read both readings go on alike
-  module _ (go go′ : ℕ → Places → Reading) (at : ℕ) (p : Places) (later : Same go go′ (suc at)) (near : Near at p) where
-    goes-on : (c : Sort) (next : Cursor) → next .at ≡ at + widthFor f c → There f most s at (countsOf p) c → same sort.End c ≡ false → go (next .at) (noted c cut at p) ≡ go′ (next .at) (noted c s at p)
+  module _ (go go′ : ℕ → Places → Reading) (at : ℕ) (p : Places) (later : Same go go′ (suc at)) (near : Near f most at (countsOf p)) where
+    goes-on : (c : Sort) (next : Cursor) → next .at ≡ at + widthFor f c → There f most s at (countsOf p) c → isSort sort.End c ≡ false → go (next .at) (noted c cut at p) ≡ go′ (next .at) (noted c s at p)
     goes-on c next a t more =
         rw (a, noted-cut at p c (near-room at p near))
-        (later (at + widthFor f c) (noted c s at p) (omega (arith, rw (t .command) at (width-in f (byte s at)))) (near-noted at p c more near t))
+        (later (at + widthFor f c) (noted c s at p) (omega (arith, rw (t .command) at (width-in f (byte s at)))) (near-noted f most s at p c more near t))
 
     command-cut : (c : Sort) (next : Cursor) → next .at ≡ at + widthFor f c → There f most s at (countsOf p) c → onNext go f cut at p (Command c next) ≡ onNext go′ f s at p (Command c next)
     unfolding onNext
@@ -127,7 +128,7 @@ module _ (f : File) (most : Limits) (s : List ℕ) (m : ℕ) (far : farthest f m
     command-cut sort.End next a t = finish-cut at (near-room at p near) p
     command-cut sort.Unknown next a t = goes-on sort.Unknown next a t refl
 
-  read-cut : (fuel fuel′ at : ℕ) (p : Places) → m < at + fuel → length s < at + fuel′ → Near at p → readFrom fuel f most cut at p ≡ readFrom fuel′ f most s at p
+  read-cut : (fuel fuel′ at : ℕ) (p : Places) → m < at + fuel → length s < at + fuel′ → Near f most at (countsOf p) → readFrom fuel f most cut at p ≡ readFrom fuel′ f most s at p
   unfolding readFrom onNext
   read-cut zero fuel′ at p l l′ near = absurd (omega (arith, near-room at p near))
   read-cut (suc fuel) zero at p l l′ near = absurd (omega (arith, near-room at p near))
@@ -147,16 +148,16 @@ pub readFile-take : (f : File) (most : Limits) (s : List ℕ) (m : ℕ) → fart
 unfolding readFile
 readFile-take f most s m far = go (decLt m (length s))
   where
-    go : Dec (m < length s) → readFrom (suc (length (take m s))) f most (take m s) 0 nothing ≡ readFrom (suc (length s)) f most s 0 nothing
-    go (no h) = ap (λ (l : List ℕ). readFrom (suc (length l)) f most l 0 nothing) (take-all m s (omega arith))
+    go : Dec (m < length s) → readFrom (suc (length (take m s))) f most (take m s) 0 noPlaces ≡ readFrom (suc (length s)) f most s 0 noPlaces
+    go (no h) = ap (λ (l : List ℕ). readFrom (suc (length l)) f most l 0 noPlaces) (take-all m s (omega arith))
     go (yes h) =
-        read-cut f most s m far (omega arith) (suc (length (take m s))) (suc (length s)) 0 nothing (omega (arith, length-take-le m s (omega arith))) (omega arith)
-        (record { place = omega arith; few = omega arith })
+        read-cut f most s m far (omega arith) (suc (length (take m s))) (suc (length s)) 0 noPlaces (omega (arith, length-take-le m s (omega arith))) (omega arith)
+        (near-start f most)
 
 pub stage-cut : (s : List ℕ) → readFile file.Stage stageLimits (take mostBytes s) ≡ readFile file.Stage stageLimits s
-unfolding rows rowIn
+unfolding commandTable formIn
 stage-cut s = readFile-take file.Stage stageLimits s mostBytes (omega arith)
 
 pub reference-cut : (s : List ℕ) → readFile file.Reference referenceLimits (take mostBytes s) ≡ readFile file.Reference referenceLimits s
-unfolding rows rowIn
+unfolding commandTable formIn
 reference-cut s = readFile-take file.Reference referenceLimits s mostBytes (omega arith)

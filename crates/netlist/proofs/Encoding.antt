@@ -11,13 +11,10 @@ use borrow.Author.Tests.{eq-eqb, ne-eqb}
 use Rattle.gates.specs.Cell.{cells, cellAt, pinCount}
 use Rattle.gates.proofs.Every.{every, every-at}
 use Rattle.gates.proofs.Ranges.{kind-known, kind-unknown}
-use Rattle.netlist.specs.declared.File.{File}
-use Rattle.netlist.specs.declared.File.the-variants as file
-use Rattle.netlist.specs.declared.Sort.{Sort}
-use Rattle.netlist.specs.declared.Sort.the-variants as sort
-use Rattle.netlist.specs.declared.Role.the-variants.{Number}
-use Rattle.netlist.specs.declared.Form.{Form}
-use Rattle.netlist.specs.Commands.{row, rows, rowIn, formOf, width, same, pinsNeeded, needed}
+use Rattle.netlist.specs.Types.{File, Sort, Number, Form}
+use Rattle.netlist.specs.Types.file
+use Rattle.netlist.specs.Types.sort
+use Rattle.netlist.specs.Commands.{asForm, commandTable, formIn, formOf, width, isSort, pinsNeeded, needed}
 use Rattle.netlist.specs.Writing.{commandByte, formFor, widthFor, operandCount, roleFor, All}
 
 -- two constructors are never equal: `cc` makes 0 ≡ 1 of it
@@ -27,24 +24,24 @@ clash e = omega arith
 -- ---- the command table
 
 -- what holds of each row, and of what stands for no command, holds of the row of a byte
-pub row-all : (P : ℕ → Form → Type 0) → ((b : ℕ) → P b (row sort.Unknown 1 0 Number)) →
-    (rs : List (ℕ × Form)) → All (λ r. P (r .0) (r .1)) rs → (b : ℕ) → P b (rowIn rs b)
-unfolding rowIn
-row-all P u [] h b = u b
-row-all P u (r ∷ rs) h b = go (ℕ-discrete b (r .0)) (row-all P u rs (h .1) b)
+pub table-all : (P : ℕ → Form → Type 0) → ((b : ℕ) → P b (asForm sort.Unknown 1 0 Number)) →
+    (rs : List (ℕ × Form)) → All (λ r. P (r .0) (r .1)) rs → (b : ℕ) → P b (formIn rs b)
+unfolding formIn
+table-all P u [] h b = u b
+table-all P u (r ∷ rs) h b = go (ℕ-discrete b (r .0)) (table-all P u rs (h .1) b)
   where
-    go : Dec (b ≡ r .0) → P b (rowIn rs b) → P b (rowIn (r ∷ rs) b)
+    go : Dec (b ≡ r .0) → P b (formIn rs b) → P b (formIn (r ∷ rs) b)
     go (yes e) l = rw (eq-eqb b (r .0) e, e) (h .0)
     go (no d) l = rw (ne-eqb b (r .0) d) l
 
 -- a row is the only one of its sort in its file
 pub form-for : (f : File) (b : ℕ) → formOf f b ≡ formFor f (formOf f b .sort)
-unfolding rows rowIn
-form-for file.Stage = row-all (λ b form. form ≡ formFor file.Stage (form .sort)) (λ b. refl) (rows file.Stage) (refl, (refl, (refl, (refl, tt))))
-form-for file.Reference = row-all (λ b form. form ≡ formFor file.Reference (form .sort)) (λ b. refl) (rows file.Reference) (refl, (refl, (refl, (refl, tt))))
+unfolding commandTable formIn
+form-for file.Stage = table-all (λ b form. form ≡ formFor file.Stage (form .sort)) (λ b. refl) (commandTable file.Stage) (refl, (refl, (refl, (refl, tt))))
+form-for file.Reference = table-all (λ b form. form ≡ formFor file.Reference (form .sort)) (λ b. refl) (commandTable file.Reference) (refl, (refl, (refl, (refl, tt))))
 
 pub sort-for : (f : File) (c : Sort) → formFor f c .sort ≡ c
-unfolding rows rowIn
+unfolding commandTable formIn
 sort-for file.Stage sort.End = refl
 sort-for file.Stage sort.Inputs = refl
 sort-for file.Stage sort.Gate = refl
@@ -58,38 +55,38 @@ sort-for file.Reference sort.Unknown = refl
 
 -- and only its byte stands for it
 abbrev Only : File → ℕ → Form → Type 0
-Only f b form = same sort.Unknown (form .sort) ≡ false → b ≡ commandByte f (form .sort)
+Only f b form = isSort sort.Unknown (form .sort) ≡ false → b ≡ commandByte f (form .sort)
 
 only-byte : (f : File) (b : ℕ) → Only f b (formOf f b)
-unfolding rows
+unfolding commandTable
 only-byte file.Stage =
-    row-all (Only file.Stage) (λ b e. absurd (clash (cc))) (rows file.Stage) ((λ e. refl), ((λ e. refl), ((λ e. refl), ((λ e. refl), tt))))
+    table-all (Only file.Stage) (λ b e. absurd (clash (cc))) (commandTable file.Stage) ((λ e. refl), ((λ e. refl), ((λ e. refl), ((λ e. refl), tt))))
 only-byte file.Reference =
-    row-all (Only file.Reference) (λ b e. absurd (clash (cc))) (rows file.Reference) ((λ e. refl), ((λ e. refl), ((λ e. refl), ((λ e. refl), tt))))
+    table-all (Only file.Reference) (λ b e. absurd (clash (cc))) (commandTable file.Reference) ((λ e. refl), ((λ e. refl), ((λ e. refl), ((λ e. refl), tt))))
 
-pub byte-for : (f : File) (b : ℕ) (c : Sort) → formOf f b ≡ formFor f c → same sort.Unknown c ≡ false → b ≡ commandByte f c
+pub byte-for : (f : File) (b : ℕ) (c : Sort) → formOf f b ≡ formFor f c → isSort sort.Unknown c ≡ false → b ≡ commandByte f c
 byte-for f b c e known =
     let s : formOf f b .sort ≡ c = ap (λ (x : Form). x .sort) e ∙ sort-for f c in
     rw s at (only-byte f b (rw s known))
 
--- the rows of the four sorts in either file
-pub gate-form : (f : File) → formFor f sort.Gate ≡ row sort.Gate 2 (operandCount f sort.Gate) (roleFor f sort.Gate)
-unfolding rows rowIn
+-- the commandTable of the four sorts in either file
+pub gate-form : (f : File) → formFor f sort.Gate ≡ asForm sort.Gate 2 (operandCount f sort.Gate) (roleFor f sort.Gate)
+unfolding commandTable formIn
 gate-form file.Stage = refl
 gate-form file.Reference = refl
 
-pub output-form : (f : File) → formFor f sort.Output ≡ row sort.Output 1 (operandCount f sort.Output) (roleFor f sort.Output)
-unfolding rows rowIn
+pub output-form : (f : File) → formFor f sort.Output ≡ asForm sort.Output 1 (operandCount f sort.Output) (roleFor f sort.Output)
+unfolding commandTable formIn
 output-form file.Stage = refl
 output-form file.Reference = refl
 
-pub inputs-form : (f : File) → formFor f sort.Inputs ≡ row sort.Inputs 2 0 Number
-unfolding rows rowIn
+pub inputs-form : (f : File) → formFor f sort.Inputs ≡ asForm sort.Inputs 2 0 Number
+unfolding commandTable formIn
 inputs-form file.Stage = refl
 inputs-form file.Reference = refl
 
-pub end-form : (f : File) → formFor f sort.End ≡ row sort.End 1 0 Number
-unfolding rows rowIn
+pub end-form : (f : File) → formFor f sort.End ≡ asForm sort.End 1 0 Number
+unfolding commandTable formIn
 end-form file.Stage = refl
 end-form file.Reference = refl
 
@@ -111,9 +108,9 @@ abbrev Sized : File → Form → Type 0
 Sized f form = (1 ≤ width form) × (width form ≤ widthFor f sort.Gate)
 
 pub width-in : (f : File) (b : ℕ) → Sized f (formOf f b)
-unfolding rows rowIn
-width-in file.Stage = row-all (λ b form. Sized file.Stage form) (λ b. omega arith) (rows file.Stage) (omega arith, (omega arith, (omega arith, (omega arith, tt))))
-width-in file.Reference = row-all (λ b form. Sized file.Reference form) (λ b. omega arith) (rows file.Reference) (omega arith, (omega arith, (omega arith, (omega arith, tt))))
+unfolding commandTable formIn
+width-in file.Stage = table-all (λ b form. Sized file.Stage form) (λ b. omega arith) (commandTable file.Stage) (omega arith, (omega arith, (omega arith, (omega arith, tt))))
+width-in file.Reference = table-all (λ b form. Sized file.Reference form) (λ b. omega arith) (commandTable file.Reference) (omega arith, (omega arith, (omega arith, (omega arith, tt))))
 
 -- ---- kinds and operations
 
@@ -163,7 +160,7 @@ operation-needs (suc (suc (suc (suc (suc (suc (suc c))))))) = omega arith
 
 -- what is needed has room
 pub needed-in : (f : File) (c : ℕ) → needed f c ≤ operandCount f sort.Gate
-unfolding rows rowIn
+unfolding commandTable formIn
 needed-in file.Stage c = go (decLt 0 (needed file.Stage c))
   where
     go : Dec (0 < needed file.Stage c) → needed file.Stage c ≤ 4

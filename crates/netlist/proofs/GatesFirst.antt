@@ -6,9 +6,8 @@ use native.Mathlib.Omega.{arith}
 use mathlib.Core.Path.{_≡_, refl, sym, ap, ap₂, subst, _∙_}
 use mathlib.Core.List.{List, [], _∷_, _++_, map, map-map}
 use lib.ListN.{length, getD}
-use Rattle.netlist.specs.declared.File.{File}
-use Rattle.netlist.specs.declared.Sort.the-variants as sort
-use Rattle.netlist.specs.declared.Limits.{Limits}
+use Rattle.netlist.specs.Types.{File, Limits}
+use Rattle.netlist.specs.Types.sort
 use Rattle.netlist.specs.Reading.{Places, readFile, readable}
 use Rattle.netlist.specs.Content.{Circuit, Coded, codedAt}
 use Rattle.netlist.specs.Writing.{widthFor, Item, gate, output, gatesIn, outputsIn, gatePlaces, outputPlaces, writeFile, All, FileFits}

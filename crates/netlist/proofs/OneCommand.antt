@@ -8,19 +8,10 @@ use mathlib.Core.List.{List}
 use lib.ListN.{length}
 use lib.Dec.{eqb, leb, ltb}
 use borrow.Author.Tests.{le-leb, lt-leb, le-ltb, ne-eqb, leb-true, leb-false, ltb-false, eqb-false}
-use Rattle.netlist.specs.declared.File.{File}
-use Rattle.netlist.specs.declared.Sort.{Sort}
-use Rattle.netlist.specs.declared.Sort.the-variants as sort
-use Rattle.netlist.specs.declared.Form.{Form}
-use Rattle.netlist.specs.declared.Limits.{Limits}
-use Rattle.netlist.specs.declared.Counts.{Counts}
-use Rattle.netlist.specs.declared.Cursor.{Cursor}
-use Rattle.netlist.specs.declared.Next.{Next}
-use Rattle.netlist.specs.declared.Next.the-variants.{Command, Refused}
-use Rattle.netlist.specs.declared.Found.{Found}
-use Rattle.netlist.specs.declared.Found.the-variants.{At, Nothing}
+use Rattle.netlist.specs.Types.{File, Sort, Form, Limits, Counts, Cursor, Next, Command, Refused, Found, At, Nothing}
+use Rattle.netlist.specs.Types.sort
 use Rattle.netlist.specs.Bytes.{byte}
-use Rattle.netlist.specs.Commands.{formOf, width, needed, stray, misfitFrom, unlessMisfit, takeInputs, takeGate, takeOutput, takeSort, takeCommand, nextAt}
+use Rattle.netlist.specs.Commands.{whenFound, formOf, width, needed, stray, misfitFrom, takeGate, takeSort, takeCommand, nextAt}
 use Rattle.netlist.specs.Writing.{formFor, widthFor}
 use Rattle.netlist.proofs.Encoding.{clash, form-for, sort-for, width-in}
 
@@ -35,8 +26,8 @@ module _ {k : Sort} {next : Cursor} where
   met true number place e = (refl, e)
   met false number place e = absurd (clash (cc))
 
-  fitted : (x : Found) {later : Next} → unlessMisfit x later ≡ Command k next → (x ≡ Nothing) × (later ≡ Command k next)
-  unfolding unlessMisfit
+  fitted : (x : Found) {later : Next} → whenFound x (Refused 5) later ≡ Command k next → (x ≡ Nothing) × (later ≡ Command k next)
+  unfolding whenFound
   fitted (At p) e = absurd (clash (cc))
   fitted Nothing e = (refl, e)
 
@@ -67,7 +58,7 @@ pub record There (f : File) (most : Limits) (s : List ℕ) (at : ℕ) (before : 
 module _ (f : File) (most : Limits) (s : List ℕ) (at : ℕ) (before : Counts) where
   module _ (form : Form) {later : Next} where
     sort-taken : {k : Sort} {next : Cursor} (c : Sort) → takeSort f most s at before form later c ≡ Command k next → (later ≡ Command k next) × Taken f most s at before form c
-    unfolding takeSort takeInputs takeGate takeOutput
+    unfolding takeSort takeGate
     sort-taken sort.Inputs e =
         let t = met (leb 1 (byte s (at + 1)) && leb (byte s (at + 1)) (most .inputs)) 3 (at + 1) e in
         let b = &&-both (leb 1 (byte s (at + 1))) (leb (byte s (at + 1)) (most .inputs)) (t .0) in
@@ -83,7 +74,7 @@ module _ (f : File) (most : Limits) (s : List ℕ) (at : ℕ) (before : Counts) 
     sort-taken sort.Unknown e = (e, tt)
 
     taken-sort : (c : Sort) → Taken f most s at before form c → takeSort f most s at before form later c ≡ later
-    unfolding takeSort takeInputs takeGate takeOutput unlessMisfit
+    unfolding takeSort takeGate whenFound
     taken-sort sort.Inputs t = rw (le-leb 1 (byte s (at + 1)) (t .0), le-leb (byte s (at + 1)) (most .inputs) (t .1))
     taken-sort sort.Gate t = rw (lt-leb (most .gates) (before .gates) (t .0), ne-eqb (needed f (byte s (at + 1))) 0 (λ z. omega (arith, t .1)), t .2)
     taken-sort sort.Output t = rw (lt-leb (most .outputs) (before .outputs) t)

@@ -9,8 +9,7 @@ use lib.ListN.{length, drop, length-drop}
 use lib.Seq.{getD-drop, drop-drop, drop-cons, drop-at}
 use lib.Dec.{eqb, ltb}
 use borrow.Author.Tests.{lt-ltb, le-ltb, ltb-true, eq-eqb, ne-eqb, eqb-true, eqb-false, not-false}
-use Rattle.netlist.specs.declared.Found.{Found}
-use Rattle.netlist.specs.declared.Found.the-variants.{At, Nothing}
+use Rattle.netlist.specs.Types.{Found, At, Nothing}
 use Rattle.netlist.specs.Bytes.{byte, operand, operands, absent}
 use Rattle.netlist.specs.Commands.{misfit, misfitFrom}
 use Rattle.netlist.specs.Reading.{nameless}

@@ -7,11 +7,9 @@ use mathlib.Core.Bool.{true}
 use mathlib.Core.Logic.{_↔_}
 use mathlib.Core.List.{List, [], _∷_, _++_, append-assoc, map}
 use lib.ListN.{length, drop, length-append, drop-of-length-le}
-use Rattle.netlist.specs.declared.File.{File}
-use Rattle.netlist.specs.declared.File.the-variants as file
-use Rattle.netlist.specs.declared.Sort.{Sort}
-use Rattle.netlist.specs.declared.Sort.the-variants as sort
-use Rattle.netlist.specs.declared.Limits.{Limits}
+use Rattle.netlist.specs.Types.{File, Sort, Limits}
+use Rattle.netlist.specs.Types.file
+use Rattle.netlist.specs.Types.sort
 use Rattle.netlist.specs.Bytes.{byte, operands, absent}
 use Rattle.netlist.specs.Commands.{formOf, needed}
 use Rattle.netlist.specs.Reading.{nameable, Places, readFile, readable}
@@ -54,7 +52,7 @@ module _ (f : File) (s : List ℕ) where
           room = omega (arith, width-gate f, length-append (writeOperands m (c .operands)) rest, length-written m (c .operands));
           content = ap₂ coded code (rw (code, ← h .whole) (operands-written s rest (at + 2) m (c .operands) few e′));
           known = rw code (h .known);
-          fits = rw code (fits-written s rest (at + 2) m (needed f (c .code)) 0 (c .operands) (omega (arith, h .whole)) (h .there) e′);
+          fits = rw code (fits-written s rest (at + 2) m (needed f (c .code)) 0 (c .operands) (omega (arith, h .whole)) (h .used) e′);
         }
 
     written-output : (vs : List ℕ) → OutputFits f n g k vs → drop at s ≡ writeItem f (output vs) ++ rest → OutputLaid f s at vs
@@ -93,7 +91,7 @@ command-bytes file.Reference = omega arith
 bytes-items : (f : File) (n g k : ℕ) (items : List Item) → ItemsFit f n g k items → Bytes (writeItems f items)
 bytes-items f n g k [] h = tt
 bytes-items f n g k (gate c ∷ items) h =
-    let wide : All (λ v. v < 65536) (c .operands) = All-map (λ v. v < absent) (λ v. v < 65536) (λ v l. omega arith) (c .operands) (h .0 .there) in
+    let wide : All (λ v. v < 65536) (c .operands) = All-map (λ v. v < absent) (λ v. v < 65536) (λ v l. omega arith) (c .operands) (h .0 .used) in
     (command-bytes f .0, (h .0 .code-byte, All-++ (λ b. b < 256) (writeOperands (operandCount f sort.Gate) (c .operands)) (writeItems f items) (bytes-written (operandCount f sort.Gate) (c .operands) wide) (bytes-items f n g (suc k) items (h .1))))
 bytes-items f n g k (output vs ∷ items) h =
     (command-bytes f .1, All-++ (λ b. b < 256) (writeOperands (operandCount f sort.Output) vs) (writeItems f items) (bytes-written (operandCount f sort.Output) vs (h .0 .u16s)) (bytes-items f n g k items (h .1)))
@@ -127,7 +125,7 @@ module _ (f : File) (s : List ℕ) (small : Bytes s) where
           code-byte = rw (laid-code h) at (byte-small s small (at + 1));
           known = rw (laid-code h) at (h .known);
           whole = ap length (sym (laid-operands h)) ∙ length-operands s (at + 2) p ∙ ap (needed f) (laid-code h);
-          there = rw (laid-operands h) at (each-operands (λ v. v < absent) s (at + 2) p (λ i l. let d = laid-used h i l in omega (arith, operand-small s small (at + 2 + 2 * i))));
+          used = rw (laid-operands h) at (each-operands (λ v. v < absent) s (at + 2) p (λ i l. let d = laid-used h i l in omega (arith, operand-small s small (at + 2 + 2 * i))));
           named = named;
         }
 

@@ -6,12 +6,11 @@ use native.Mathlib.Nat.{mul-le-mul-left}
 use mathlib.Core.Path.{_≡_, refl, sym, ap, subst, subst₂, _∙_}
 use mathlib.Core.List.{List, [], _∷_}
 use lib.ListN.{length, getD}
-use Rattle.netlist.specs.declared.File.{File}
-use Rattle.netlist.specs.declared.File.the-variants as file
-use Rattle.netlist.specs.declared.Sort.the-variants as sort
-use Rattle.netlist.specs.declared.Limits.{Limits}
+use Rattle.netlist.specs.Types.{File, Limits}
+use Rattle.netlist.specs.Types.file
+use Rattle.netlist.specs.Types.sort
 use Rattle.netlist.specs.Bytes.{byte, operand}
-use Rattle.netlist.specs.Commands.{rows, rowIn, needed}
+use Rattle.netlist.specs.Commands.{commandTable, formIn, needed}
 use Rattle.netlist.specs.Reading.{nameable, Places, readFile, readable}
 use Rattle.netlist.specs.Writing.{widthFor, operandCount, roleFor, Item, gate, output, gatesIn, outputsIn, gatePlaces, outputPlaces}
 use Rattle.netlist.specs.Read.{GateRead, OutputRead, Read}
@@ -24,19 +23,19 @@ use Rattle.netlist.proofs.Walk.{LaidItems, readable-laid}
 
 -- what is named is there: a net of the stage; an input or an earlier gate of the reference; any of its signals
 pub named-pin : (k n g v : ℕ) → v < nameable (roleFor file.Stage sort.Gate) n g k → v < 2 * n + g
-unfolding nameable rows rowIn
+unfolding nameable commandTable formIn
 named-pin k n g v h = h
 
 pub named-rail : (k n g v : ℕ) → v < nameable (roleFor file.Stage sort.Output) n g k → v < 2 * n + g
-unfolding nameable rows rowIn
+unfolding nameable commandTable formIn
 named-rail k n g v h = h
 
 pub named-earlier : (k n g v : ℕ) → v < nameable (roleFor file.Reference sort.Gate) n g k → v < n + k
-unfolding nameable rows rowIn
+unfolding nameable commandTable formIn
 named-earlier k n g v h = h
 
 pub named-signal : (k n g v : ℕ) → v < nameable (roleFor file.Reference sort.Output) n g k → v < n + g
-unfolding nameable rows rowIn
+unfolding nameable commandTable formIn
 named-signal k n g v h = h
 
 -- a gate's kind is one of 27, its operation one of 6
@@ -48,7 +47,7 @@ operation-read {s} {at} r = operation-needs (byte s (at + 1)) .1 (r .known)
 
 -- an output may name the same wherever it stands
 pub output-names : (f : File) (n g k : ℕ) → nameable (roleFor f sort.Output) n g g ≡ nameable (roleFor f sort.Output) n g k
-unfolding nameable rows rowIn
+unfolding nameable commandTable formIn
 output-names file.Stage n g k = refl
 output-names file.Reference n g k = refl
 
@@ -62,7 +61,7 @@ module _ (f : File) (s : List ℕ) (n g : ℕ) where
         first = two;
         room = h .0 .room;
         known = h .0 .known;
-        there = laid-used (h .0);
+        used = laid-used (h .0);
         named = rw z (operands-each (λ v. v < nameable (roleFor f sort.Gate) n g k) s (at + 2) p (rw (laid-operands (h .0)) (m .0)));
       }
   gate-read at k (gate c ∷ items) two h m (suc i) l =

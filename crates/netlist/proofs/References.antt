@@ -7,11 +7,11 @@ use mathlib.Core.Path.{_≡_, refl, ap, ap₂, subst, _∙_}
 use mathlib.Core.Bool.{true}
 use mathlib.Core.List.{List, [], _∷_, _++_, map, map-map}
 use lib.ListN.{length, getD, length-map}
-use Rattle.netlist.specs.declared.File.the-variants as file
-use Rattle.netlist.specs.declared.Sort.the-variants as sort
-use Rattle.netlist.specs.declared.Limits.{Limits}
+use Rattle.netlist.specs.Types.{Limits}
+use Rattle.netlist.specs.Types.file
+use Rattle.netlist.specs.Types.sort
 use Rattle.netlist.specs.Bytes.{operand, operands, absent}
-use Rattle.netlist.specs.Commands.{rows, rowIn}
+use Rattle.netlist.specs.Commands.{commandTable, formIn}
 use Rattle.netlist.specs.Reading.{nameable, Places, readFile, readable}
 use Rattle.netlist.specs.Content.{Coded, codedAt, Reference, referenceOf}
 use Rattle.netlist.specs.Writing.{operandCount, roleFor, Item, gate, output, gatesIn, outputsIn, ItemsFit, placesOf, All, FileFits, referenceItems, writeReference}
@@ -56,7 +56,7 @@ module _ (n g : ℕ) where
       )
 
   wires-signals : (vss : List (List ℕ)) → All (OutputFormed file.Reference n g) vss → All (λ v. v < n + g) (map signalOf vss)
-  unfolding rows rowIn
+  unfolding commandTable formIn
   wires-signals [] h = tt
   wires-signals (vs ∷ vss) h = (go vs (h .0 .whole) (h .0 .named), wires-signals vss (h .1))
     where
@@ -65,13 +65,13 @@ module _ (n g : ℕ) where
       go (v ∷ vs) e a = named-signal g n g v (a .0)
 
   signals-again : (vss : List (List ℕ)) → All (OutputFormed file.Reference n g) vss → All (λ vs. signalOf vs ∷ [] ≡ vs) vss
-  unfolding rows rowIn
+  unfolding commandTable formIn
   signals-again = All-map (OutputFormed file.Reference n g) (λ vs. signalOf vs ∷ [] ≡ vs) (λ vs w. signal-again vs (w .whole))
 
 -- ---- written and read
 
 signals-view : (s os : List ℕ) → map (λ p. operand s (p + 1)) os ≡ map (λ p. signalOf (wiredAt file.Reference s p)) os
-unfolding operands rows rowIn
+unfolding operands commandTable formIn
 signals-view s os = refl
 
 abbrev same : Coded → Coded
@@ -124,7 +124,7 @@ module _ (most : Limits) (s : List ℕ) (p : Places) (e : readFile file.Referenc
 
 module _ (n g : ℕ) (small : n + g ≤ absent) where
   operations-fit : (k : ℕ) (cs : List Coded) (rest : List Item) → k + length cs ≤ g → InOrder (n + k) cs → ((k : ℕ) → ItemsFit file.Reference n g k rest) → ItemsFit file.Reference n g k (map gate cs ++ rest)
-  unfolding nameable rows rowIn
+  unfolding nameable commandTable formIn
   operations-fit k [] rest l h r = r k
   operations-fit k (c ∷ cs) rest l h r =
       let inside = h .0 .operation-in in
@@ -133,14 +133,14 @@ module _ (n g : ℕ) (small : n + g ≤ absent) where
           code-byte = omega arith;
           known = operation-needs (c .code) .2 (inside .0) (inside .1);
           whole = h .0 .whole;
-          there = All-map (λ v. v < n + k) (λ v. v < absent) (λ v b. omega arith) (c .operands) (h .0 .operands-in);
+          used = All-map (λ v. v < n + k) (λ v. v < absent) (λ v b. omega arith) (c .operands) (h .0 .operands-in);
           named = h .0 .operands-in;
         },
         operations-fit (suc k) cs rest (omega arith) (rw z at (h .1)) r,
       )
 
   signals-fit : (vs : List ℕ) → All (λ v. v < n + g) vs → (k : ℕ) → ItemsFit file.Reference n g k (map (λ v. output (v ∷ [])) vs)
-  unfolding nameable rows rowIn
+  unfolding nameable commandTable formIn
   signals-fit [] h k = tt
   signals-fit (v ∷ vs) h k =
       let a = h .0 in

@@ -5,23 +5,15 @@ use native.Mathlib.Omega.{arith}
 use mathlib.Core.Path.{_≡_, refl, sym, ap, ap₂, subst, _∙_}
 use mathlib.Core.Bool.{Bool, true, false, cond}
 use mathlib.Core.List.{List, [], _∷_, _++_, append-nil}
-use lib.ListN.{length, length-append}
+use lib.ListN.{length, length-append, List·getD-eq-default}
 use lib.Seq.{append-snoc}
 use lib.Dec.{eqb, ltb}
 use borrow.Author.Tests.{lt-ltb, le-ltb, ne-eqb, ltb-false, eqb-true, eqb-false, not-false}
-use Rattle.netlist.specs.declared.File.{File}
-use Rattle.netlist.specs.declared.Sort.{Sort}
-use Rattle.netlist.specs.declared.Sort.the-variants as sort
-use Rattle.netlist.specs.declared.Form.{Form}
-use Rattle.netlist.specs.declared.Limits.{Limits}
-use Rattle.netlist.specs.declared.Cursor.{Cursor}
-use Rattle.netlist.specs.declared.Next.{Next}
-use Rattle.netlist.specs.declared.Next.the-variants.{Command, Refused}
-use Rattle.netlist.specs.declared.Found.{Found}
-use Rattle.netlist.specs.declared.Found.the-variants.{At, Nothing}
+use Rattle.netlist.specs.Types.{File, Sort, Form, Limits, Cursor, Next, Command, Refused, Found, At, Nothing}
+use Rattle.netlist.specs.Types.sort
 use Rattle.netlist.specs.Bytes.{byte}
-use Rattle.netlist.specs.Commands.{row, formOf, width, needed, stray, nextAt}
-use Rattle.netlist.specs.Reading.{nameable, nameless, used, namelessAt, orLater, onward, namelessFrom, Places, nothing, countsOf, noted, Reading, refused, readable, unlessNameless, finish, onNext, readFrom, readFile}
+use Rattle.netlist.specs.Commands.{whenFound, isSort, asForm, formOf, width, needed, stray, nextAt}
+use Rattle.netlist.specs.Reading.{nameable, nameless, usedOperands, namelessAt, namelessFrom, Places, noPlaces, countsOf, noted, Reading, refused, readable, finish, onNext, readFrom, readFile}
 use Rattle.netlist.specs.Content.{codedAt}
 use Rattle.netlist.specs.Writing.{formFor, widthFor, operandCount, roleFor, Item, gate, output, gatesIn, outputsIn, gatePlaces, outputPlaces, placesOf}
 use Rattle.netlist.proofs.Operands.{nameless-named, named-nameless}
@@ -32,9 +24,9 @@ use Rattle.netlist.proofs.Laid.{Laid, Named, FileLaid, wiredAt, laid-op
 -- ---- the end command
 
 -- the tests for 8, 7 and 9 were passed
-ended : (x y : Bool) (z : Found) (a b : ℕ) (p P : Places) → cond x (refused 8 a) (cond y (refused 7 b) (unlessNameless z (readable p))) ≡ readable P →
+ended : (x y : Bool) (z : Found) (a b : ℕ) (p P : Places) → cond x (refused 8 a) (cond y (refused 7 b) (whenFound z (refused 9) (readable p))) ≡ readable P →
     (x ≡ false) × (y ≡ false) × (z ≡ Nothing) × (p ≡ P)
-unfolding unlessNameless
+unfolding whenFound
 ended true y z a b p P e = absurd (clash (cc))
 ended false true z a b p P e = absurd (clash (cc))
 ended false false (At r) a b p P e = absurd (clash (cc))
@@ -151,13 +143,13 @@ module _ (f : File) (most : Limits) (s : List ℕ) (P : Places) where
 
   -- the first command is the count of inputs
   abbrev Started : Type 0
-  Started = There f most s 0 (countsOf nothing) sort.Inputs × Walked 2 (places (byte s 1) [] [])
+  Started = There f most s 0 (countsOf noPlaces) sort.Inputs × Walked 2 (places (byte s 1) [] [])
 
   started : readFile f most s ≡ readable P → Started
   unfolding readFile readFrom onNext stray noted
-  started e = go (nextAt f most s 0 (countsOf nothing)) refl e
+  started e = go (nextAt f most s 0 (countsOf noPlaces)) refl e
     where
-      first : (c : Sort) (next : Cursor) → next .at ≡ 0 + widthFor f c → There f most s 0 (countsOf nothing) c → onNext (readFrom (length s) f most s) f s 0 nothing (Command c next) ≡ readable P → Started
+      first : (c : Sort) (next : Cursor) → next .at ≡ 0 + widthFor f c → There f most s 0 (countsOf noPlaces) c → onNext (readFrom (length s) f most s) f s 0 noPlaces (Command c next) ≡ readable P → Started
       first sort.Inputs next a t q =
           let b : next .at ≡ 2 = omega (arith, width-inputs f) in
           (t, walked (length s) 2 (places (byte s 1) [] []) (omega arith) (omega arith) (rw b at q))
@@ -166,44 +158,51 @@ module _ (f : File) (most : Limits) (s : List ℕ) (P : Places) where
       first sort.End next a t q = absurd (clash (let o = t .ordered in cc))
       first sort.Unknown next a t q = absurd (clash (let o = t .ordered in cc))
 
-      go : (x : Next) → nextAt f most s 0 (countsOf nothing) ≡ x → onNext (readFrom (length s) f most s) f s 0 nothing x ≡ readable P → Started
+      go : (x : Next) → nextAt f most s 0 (countsOf noPlaces) ≡ x → onNext (readFrom (length s) f most s) f s 0 noPlaces x ≡ readable P → Started
       go (Refused number place) is q = absurd (clash (cc))
-      go (Command c next) is q = let t = next-there f most s 0 (countsOf nothing) c next is in first c next (t .0) (t .1) q
+      go (Command c next) is q = let t = next-there f most s 0 (countsOf noPlaces) c next is in first c next (t .0) (t .1) q
 
 -- ---- 9, along the items
 
-or-later : (x later : Found) → orLater x later ≡ Nothing → (x ≡ Nothing) × (later ≡ Nothing)
-unfolding orLater
+or-later : (x later : Found) → whenFound x At later ≡ Nothing → (x ≡ Nothing) × (later ≡ Nothing)
+unfolding whenFound
 or-later (At p) later e = absurd (clash (cc))
 or-later Nothing later e = (refl, e)
 
 module _ (f : File) (n g : ℕ) (s : List ℕ) (fuel at k : ℕ) where
   -- the search at one command, by its row
   step : Form → Found
-  step form = orLater (namelessAt f n g s at k form) (onward (namelessFrom fuel f n g s (at + width form)) k (form .sort))
+  step form = whenFound (namelessAt f n g s at k form) At (namelessFrom fuel f n g s (at + width form) (cond (isSort sort.Gate (form .sort)) (k + 1) k))
 
   step-gate : formOf f (byte s at) ≡ formFor f sort.Gate → namelessFrom (suc fuel) f n g s at k ≡
-      orLater (nameless (nameable (roleFor f sort.Gate) n g k) s (at + 2) (needed f (byte s (at + 1)))) (namelessFrom fuel f n g s (at + widthFor f sort.Gate) (suc k))
-  unfolding namelessFrom namelessAt used onward step
+      whenFound (nameless (nameable (roleFor f sort.Gate) n g k) s (at + 2) (needed f (byte s (at + 1)))) At (namelessFrom fuel f n g s (at + widthFor f sort.Gate) (suc k))
+  unfolding namelessFrom namelessAt usedOperands step
   step-gate e =
       let one : k + 1 ≡ suc k = omega arith in
       ap step (e ∙ gate-form f)
-      ∙ rw one (ap (λ (w : ℕ). orLater (nameless (nameable (roleFor f sort.Gate) n g k) s (at + 2) (needed f (byte s (at + 1)))) (namelessFrom fuel f n g s (at + w) (suc k))) (sym (width-gate f)))
+      ∙ rw one (ap (λ (w : ℕ). whenFound (nameless (nameable (roleFor f sort.Gate) n g k) s (at + 2) (needed f (byte s (at + 1)))) At (namelessFrom fuel f n g s (at + w) (suc k))) (sym (width-gate f)))
 
   step-output : formOf f (byte s at) ≡ formFor f sort.Output → namelessFrom (suc fuel) f n g s at k ≡
-      orLater (nameless (nameable (roleFor f sort.Output) n g k) s (at + 1) (operandCount f sort.Output)) (namelessFrom fuel f n g s (at + widthFor f sort.Output) k)
-  unfolding namelessFrom namelessAt used onward step
+      whenFound (nameless (nameable (roleFor f sort.Output) n g k) s (at + 1) (operandCount f sort.Output)) At (namelessFrom fuel f n g s (at + widthFor f sort.Output) k)
+  unfolding namelessFrom namelessAt usedOperands step
   step-output e =
       ap step (e ∙ output-form f)
-      ∙ ap (λ (w : ℕ). orLater (nameless (nameable (roleFor f sort.Output) n g k) s (at + 1) (operandCount f sort.Output)) (namelessFrom fuel f n g s (at + w) k)) (sym (width-output f))
+      ∙ ap (λ (w : ℕ). whenFound (nameless (nameable (roleFor f sort.Output) n g k) s (at + 1) (operandCount f sort.Output)) At (namelessFrom fuel f n g s (at + w) k)) (sym (width-output f))
 
   step-inputs : formOf f (byte s at) ≡ formFor f sort.Inputs → namelessFrom (suc fuel) f n g s at k ≡ namelessFrom fuel f n g s (at + 2) k
-  unfolding namelessFrom namelessAt used onward step nameless orLater
+  unfolding namelessFrom namelessAt usedOperands step nameless whenFound
   step-inputs e = ap step (e ∙ inputs-form f)
 
-  step-end : formOf f (byte s at) ≡ formFor f sort.End → namelessFrom (suc fuel) f n g s at k ≡ Nothing
-  unfolding namelessFrom namelessAt used onward step nameless orLater
+  step-end : formOf f (byte s at) ≡ formFor f sort.End → namelessFrom (suc fuel) f n g s at k ≡ namelessFrom fuel f n g s (at + 1) k
+  unfolding namelessFrom namelessAt usedOperands step nameless whenFound
   step-end e = ap step (e ∙ end-form f)
+
+-- past the last byte nothing is found
+pub nameless-past : (f : File) (n g : ℕ) (s : List ℕ) (fuel at k : ℕ) → length s ≤ at → namelessFrom fuel f n g s at k ≡ Nothing
+unfolding namelessFrom
+nameless-past f n g s zero at k h = refl
+nameless-past f n g s (suc fuel) at k h =
+    step-end f n g s fuel at k (ap (formOf f) (List·getD-eq-default s 0 h)) ∙ nameless-past f n g s fuel (at + 1) k (omega arith)
 
 module _ (f : File) (n g : ℕ) (s : List ℕ) where
   -- the test for 9 finds nothing exactly where each operand names what it has to name
@@ -223,9 +222,9 @@ module _ (f : File) (n g : ℕ) (s : List ℕ) where
       )
 
   walk-named : (fuel at k : ℕ) (items : List Item) → Laid f s at items → Named f n g k items → namelessFrom fuel f n g s at k ≡ Nothing
-  unfolding namelessFrom orLater
+  unfolding namelessFrom whenFound
   walk-named zero at k items h m = refl
-  walk-named (suc fuel) at k [] h m = step-end f n g s fuel at k (h .command)
+  walk-named (suc fuel) at k [] h m = step-end f n g s fuel at k (h .command) ∙ nameless-past f n g s fuel (at + 1) k (omega (arith, h .last))
   walk-named (suc fuel) at k (gate c ∷ items) h m =
       step-gate f n g s fuel at k (h .0 .command)
       ∙ rw (named-nameless (nameable (roleFor f sort.Gate) n g k) s (at + 2) (needed f (byte s (at + 1))) (rw (laid-operands (h .0)) (m .0)))
@@ -260,7 +259,7 @@ module _ (f : File) (most : Limits) (s : List ℕ) (last : ℕ) (ends : length s
       ∙ ap (finish f s last) (added-output f s at p items (at + widthFor f sort.Output)))
 
   finish-readable : (p : Places) → 1 ≤ length (p .outputs) → namelessFrom (length s) f (p .inputs) (length (p .gates)) s 0 0 ≡ Nothing → finish f s last p ≡ readable p
-  unfolding finish unlessNameless
+  unfolding finish whenFound
   finish-readable p some all = rw (ne-eqb (length (p .outputs)) 0 (omega arith), le-ltb (last + 1) (length s) (omega arith), all)
 
 -- ---- the whole file
@@ -314,8 +313,8 @@ module _ (f : File) (most : Limits) (s : List ℕ) where
       let ends : length s ≡ last + 1 = omega arith in
       let few : length (p .gates) ≡ length (gatesIn items) = length-gatePlaces f 2 items in
       let named : Named f n (length (p .gates)) 0 items = rw few (h .named) in
-      let t : There f most s 0 (countsOf nothing) sort.Inputs = record { command = h .command; ordered = refl; room = omega (arith, width-inputs f); taken = rw (h .count) (h .inputs-in) } in
-      rw (there-next f most s 0 (countsOf nothing) sort.Inputs t)
+      let t : There f most s 0 (countsOf noPlaces) sort.Inputs = record { command = h .command; ordered = refl; room = omega (arith, width-inputs f); taken = rw (h .count) (h .inputs-in) } in
+      rw (there-next f most s 0 (countsOf noPlaces) sort.Inputs t)
       (ap₂ (λ (at m : ℕ). readFrom (length s) f most s at (places m [] [])) two (h .count)
       ∙ walk-laid f most s last ends (length s) 2 (places n [] []) items (h .laid) (omega arith) (omega arith) (omega (arith, h .gates-in)) (omega (arith, h .outputs-in))
       ∙ finish-readable f most s last ends p (omega (arith, length-outputPlaces f 2 items, h .outputs-in))

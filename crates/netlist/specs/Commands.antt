@@ -8,20 +8,15 @@ use lib.Dec.{eqb, leb, ltb}
 use Rattle.gates.specs.Cell.{kindOf}
 use Rattle.gates.specs.declared.Kind.{Kind}
 use Rattle.gates.specs.declared.Kind.the-variants.{Hold, Unknown}
-use Rattle.netlist.specs.declared.File.{File}
-use Rattle.netlist.specs.declared.File.the-variants.{Stage, Reference}
-use Rattle.netlist.specs.declared.Sort.{Sort}
-use Rattle.netlist.specs.declared.Sort.the-variants as sort
-use Rattle.netlist.specs.declared.Role.{Role}
-use Rattle.netlist.specs.declared.Role.the-variants.{AnyNet, EarlierSignal, AnySignal, Number}
-use Rattle.netlist.specs.declared.Form.{Form}
-use Rattle.netlist.specs.declared.Limits.{Limits}
-use Rattle.netlist.specs.declared.Counts.{Counts}
-use Rattle.netlist.specs.declared.Next.{Next}
-use Rattle.netlist.specs.declared.Next.the-variants.{Command, Refused}
-use Rattle.netlist.specs.declared.Found.{Found}
-use Rattle.netlist.specs.declared.Found.the-variants.{At, Nothing}
+use Rattle.netlist.specs.Types.{File, Sort, Role, AnyNet, EarlierSignal, AnySignal, Number, Form, Limits, Counts, Next, Command, Refused, Found, At, Nothing}
+use Rattle.netlist.specs.Types.file.{Stage, Reference}
+use Rattle.netlist.specs.Types.sort
 use Rattle.netlist.specs.Bytes.{byte, operand, absent}
+
+-- what follows where something was found, and where nothing was
+unfoldable pub whenFound : {A : Type 0} → Found → (ℕ → A) → A → A
+whenFound (At place) there none = there place
+whenFound Nothing there none = none
 
 -- ---- the command table
 
@@ -33,36 +28,36 @@ sortNumber sort.Gate = 2
 sortNumber sort.Output = 3
 sortNumber sort.Unknown = 4
 
-abbrev pub same : Sort → Sort → Bool
-same c d = eqb (sortNumber c) (sortNumber d)
+abbrev pub isSort : Sort → Sort → Bool
+isSort c d = eqb (sortNumber c) (sortNumber d)
 
 -- a row: the command's sort, how many bytes stand before its operands, how many u16 operands follow, and what they name
-abbrev pub row : Sort → ℕ → ℕ → Role → Form
-row c lead operands role = record { sort = c; lead = lead; operands = operands; role = role }
+abbrev pub asForm : Sort → ℕ → ℕ → Role → Form
+asForm c lead operands role = record { sort = c; lead = lead; operands = operands; role = role }
 
--- The rows of each file, with their command bytes. The command byte counts among the bytes before the operands, and so do the count of
+-- The commandTable of each file, with their command bytes. The command byte counts among the bytes before the operands, and so do the count of
 -- inputs and a gate's kind or operation.
-unfoldable pub rows : File → List (ℕ × Form)
-rows Stage =
-    (0x00, row sort.End 1 0 Number)
-    ∷ (0x01, row sort.Inputs 2 0 Number)
-    ∷ (0x02, row sort.Gate 2 4 AnyNet)
-    ∷ (0x03, row sort.Output 1 2 AnyNet)
+unfoldable pub commandTable : File → List (ℕ × Form)
+commandTable Stage =
+    (0x00, asForm sort.End 1 0 Number)
+    ∷ (0x01, asForm sort.Inputs 2 0 Number)
+    ∷ (0x02, asForm sort.Gate 2 4 AnyNet)
+    ∷ (0x03, asForm sort.Output 1 2 AnyNet)
     ∷ []
-rows Reference =
-    (0x00, row sort.End 1 0 Number)
-    ∷ (0x01, row sort.Inputs 2 0 Number)
-    ∷ (0x11, row sort.Gate 2 2 EarlierSignal)
-    ∷ (0x12, row sort.Output 1 1 AnySignal)
+commandTable Reference =
+    (0x00, asForm sort.End 1 0 Number)
+    ∷ (0x01, asForm sort.Inputs 2 0 Number)
+    ∷ (0x11, asForm sort.Gate 2 2 EarlierSignal)
+    ∷ (0x12, asForm sort.Output 1 1 AnySignal)
     ∷ []
 
 -- the row of a byte; one that is in no row stands for no command
-unfoldable pub rowIn : List (ℕ × Form) → ℕ → Form
-rowIn [] b = row sort.Unknown 1 0 Number
-rowIn (r ∷ rs) b = let later = rowIn rs b in cond (eqb b (r .0)) (r .1) later
+unfoldable pub formIn : List (ℕ × Form) → ℕ → Form
+formIn [] b = asForm sort.Unknown 1 0 Number
+formIn (r ∷ rs) b = let later = formIn rs b in cond (eqb b (r .0)) (r .1) later
 
 abbrev pub formOf : File → ℕ → Form
-formOf f b = rowIn (rows f) b
+formOf f b = formIn (commandTable f) b
 
 -- how many bytes a command has
 abbrev pub width : Form → ℕ
@@ -83,11 +78,7 @@ needed Reference operation = getD (0 ∷ 1 ∷ 2 ∷ 2 ∷ 2 ∷ 2 ∷ 2 ∷ [])
 
 -- 2: no command of this file, first not 01, or 01 again
 unfoldable pub stray : ℕ → Sort → Bool
-stray at c = same sort.Unknown c || cond (same sort.Inputs c) (not (eqb at 0)) (eqb at 0)
-
--- an inputs command. 3: its count is not in 1 to the limit
-unfoldable pub takeInputs : Limits → List ℕ → ℕ → Next → Next
-takeInputs most s at taken = cond (leb 1 (byte s (at + 1)) && leb (byte s (at + 1)) (most .inputs)) taken (Refused 3 (at + 1))
+stray at c = isSort sort.Unknown c || cond (isSort sort.Inputs c) (not (eqb at 0)) (eqb at 0)
 
 -- 5: operand i, of which the first k are needed, is needed but FFFF, or not needed and not FFFF
 unfoldable pub misfit : ℕ → ℕ → ℕ → Bool
@@ -98,26 +89,19 @@ unfoldable pub misfitFrom : ℕ → ℕ → List ℕ → ℕ → ℕ → Found
 misfitFrom k i s at zero = Nothing
 misfitFrom k i s at (suc m) = let later = misfitFrom k (i + 1) s (at + 2) m in cond (misfit k i (operand s at)) (At at) later
 
-unfoldable pub unlessMisfit : Found → Next → Next
-unlessMisfit (At p) taken = Refused 5 p
-unlessMisfit Nothing taken = taken
-
--- a gate, where so many gates may stand and g stand before it: 6, then 4, then 5 by operand
-unfoldable pub takeGate : File → ℕ → List ℕ → ℕ → ℕ → Form → Next → Next
+-- a gate, where g gates stand before it: 6, then 4, then 5 by operand
+unfoldable pub takeGate : File → Limits → List ℕ → ℕ → ℕ → Form → Next → Next
 takeGate f most s at g form taken =
     let k = needed f (byte s (at + 1)) in
-    cond (leb most g) (Refused 6 at)
-    (cond (eqb k 0) (Refused 4 (at + 1)) (unlessMisfit (misfitFrom k 0 s (at + form .lead) (form .operands)) taken))
+    cond (leb (most .gates) g) (Refused 6 at)
+    (cond (eqb k 0) (Refused 4 (at + 1))
+    (whenFound (misfitFrom k 0 s (at + form .lead) (form .operands)) (λ place. Refused 5 place) taken))
 
--- an output: 6
-unfoldable pub takeOutput : ℕ → ℕ → ℕ → Next → Next
-takeOutput most at o taken = cond (leb most o) (Refused 6 at) taken
-
--- a command all of whose bytes are there, by its sort
+-- a command all of whose bytes are there, by its sort. Inputs: 3 where the count is not in 1 to the limit. An output: 6
 unfoldable pub takeSort : File → Limits → List ℕ → ℕ → Counts → Form → Next → Sort → Next
-takeSort f most s at before form taken sort.Inputs = takeInputs most s at taken
-takeSort f most s at before form taken sort.Gate = takeGate f (most .gates) s at (before .gates) form taken
-takeSort f most s at before form taken sort.Output = takeOutput (most .outputs) at (before .outputs) taken
+takeSort f most s at before form taken sort.Inputs = cond (leb 1 (byte s (at + 1)) && leb (byte s (at + 1)) (most .inputs)) taken (Refused 3 (at + 1))
+takeSort f most s at before form taken sort.Gate = takeGate f most s at (before .gates) form taken
+takeSort f most s at before form taken sort.Output = cond (leb (most .outputs) (before .outputs)) (Refused 6 at) taken
 takeSort f most s at before form taken sort.End = taken
 takeSort f most s at before form taken sort.Unknown = taken
 

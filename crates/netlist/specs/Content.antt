@@ -5,8 +5,8 @@ use mathlib.Core.List.{List, map}
 use Rattle.gates.specs.Cell.{kindOf}
 use Rattle.gates.specs.declared.Kind.{Kind}
 use Rattle.gates.specs.declared.Kind.the-variants.{Hold, Unknown}
-use Rattle.netlist.specs.declared.File.{File}
-use Rattle.netlist.specs.declared.File.the-variants as file
+use Rattle.netlist.specs.Types.{File}
+use Rattle.netlist.specs.Types.file
 use Rattle.netlist.specs.Bytes.{byte, operand, operands}
 use Rattle.netlist.specs.Commands.{needed}
 use Rattle.netlist.specs.Reading.{Places}
@@ -24,8 +24,6 @@ pub record Coded : Type 0 where
 
 abbrev pub codedAt : File → List ℕ → ℕ → Coded
 codedAt f s at = record { code = byte s (at + 1); operands = operands s (at + 2) (needed f (byte s (at + 1))) }
-
--- ---- stages
 
 -- a gate of a stage: its cell, 1 to 27; whether it has hold; and the nets at the pins that it has, from A on
 pub record Gate : Type 0 where
@@ -56,21 +54,11 @@ abbrev pub pairAt : List ℕ → ℕ → Pair
 pairAt s at = record { rail0 = operand s (at + 1); rail1 = operand s (at + 3) }
 
 unfoldable pub stageOf : List ℕ → Places → Stage
-stageOf s p = record {
-  inputs = p .inputs;
-  gates = map (λ at. gateOf (codedAt file.Stage s at)) (p .gates);
-  outputs = map (pairAt s) (p .outputs);
-}
-
--- ---- references
+stageOf s p = record { inputs = p .inputs; gates = map (λ at. gateOf (codedAt file.Stage s at)) (p .gates); outputs = map (pairAt s) (p .outputs) }
 
 -- a gate of a reference is its operation, 1 to 6, with one or two signals; an output is a signal
 abbrev pub Reference : Type 0
 Reference = Circuit Coded ℕ
 
 unfoldable pub referenceOf : List ℕ → Places → Reference
-referenceOf s p = record {
-  inputs = p .inputs;
-  gates = map (codedAt file.Reference s) (p .gates);
-  outputs = map (λ at. operand s (at + 1)) (p .outputs);
-}
+referenceOf s p = record { inputs = p .inputs; gates = map (codedAt file.Reference s) (p .gates); outputs = map (λ at. operand s (at + 1)) (p .outputs) }

@@ -5,8 +5,8 @@ use mathlib.Core.Bool.{true}
 use mathlib.Core.List.{List, [], _∷_}
 use lib.ListN.{length}
 use Rattle.gates.specs.Cell.{pinCount}
-use Rattle.netlist.specs.declared.File.the-variants as file
-use Rattle.netlist.specs.declared.Limits.{Limits}
+use Rattle.netlist.specs.Types.{Limits}
+use Rattle.netlist.specs.Types.file
 use Rattle.netlist.specs.Commands.{needed}
 use Rattle.netlist.specs.Content.{Coded, Gate, Pair, Stage, Reference}
 use Rattle.netlist.specs.Writing.{All}

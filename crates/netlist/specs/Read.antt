@@ -3,11 +3,9 @@ use Prim.Native.Nat.{ℕ, _+_, _*_, _≤_, _<_}
 use mathlib.Core.Path.{_≡_}
 use mathlib.Core.List.{List}
 use lib.ListN.{length, getD}
-use Rattle.netlist.specs.declared.File.{File}
-use Rattle.netlist.specs.declared.Sort.the-variants as sort
-use Rattle.netlist.specs.declared.Limits.{Limits}
-use Rattle.netlist.specs.declared.Outcome.{Outcome}
-use Rattle.netlist.specs.declared.Outcome.the-variants as outcome
+use Rattle.netlist.specs.Types.{File, Limits, Outcome}
+use Rattle.netlist.specs.Types.sort
+use Rattle.netlist.specs.Types.outcome
 use Rattle.netlist.specs.Bytes.{byte, operand, absent}
 use Rattle.netlist.specs.Commands.{needed}
 use Rattle.netlist.specs.Reading.{nameable, Places, countsOf, Reading, refused, readable}
@@ -19,7 +17,7 @@ pub record GateRead (f : File) (s : List ℕ) (n g k at : ℕ) : Type 0 where
   pub first : 2 ≤ at
   pub room : at + widthFor f sort.Gate ≤ length s
   pub known : 1 ≤ needed f (byte s (at + 1))
-  pub there : (i : ℕ) → i < needed f (byte s (at + 1)) → operand s (at + 2 + 2 * i) ≡ absent → ⊥
+  pub used : (i : ℕ) → i < needed f (byte s (at + 1)) → operand s (at + 2 + 2 * i) ≡ absent → ⊥
   pub named : (i : ℕ) → i < needed f (byte s (at + 1)) → operand s (at + 2 + 2 * i) < nameable (roleFor f sort.Gate) n g k
 
 -- an output stands at a place, and each operand names what it has to name
@@ -41,3 +39,11 @@ pub record Read (f : File) (most : Limits) (s : List ℕ) (p : Places) : Type 0 
 unfoldable pub outcomeOf : Reading → Outcome
 outcomeOf (refused number at) = outcome.Refused number at
 outcomeOf (readable p) = outcome.Readable (countsOf p)
+
+-- where a command can end that is read, or refused, after as many gates and outputs as there may be
+abbrev pub farthest : File → Limits → ℕ
+farthest f most = 2 + widthFor f sort.Gate * (most .gates + 1) + widthFor f sort.Output * most .outputs
+
+-- the program reads at most so many bytes of each file
+abbrev pub mostBytes : ℕ
+mostBytes = 8192

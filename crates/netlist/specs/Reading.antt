@@ -1,23 +1,13 @@
 -- Reading a whole file: its commands one after the other, the refusals 7 to 9 at the end command, and what a readable file gives.
 use Prim.Native.Nat.{ℕ, zero, suc, _+_, _*_, _≤_}
-use mathlib.Core.Bool.{Bool, cond, _||_}
+use mathlib.Core.Bool.{cond}
 use mathlib.Core.List.{List, [], _∷_, _++_}
 use lib.ListN.{length}
 use lib.Dec.{eqb, ltb}
-use Rattle.netlist.specs.declared.File.{File}
-use Rattle.netlist.specs.declared.Sort.{Sort}
-use Rattle.netlist.specs.declared.Sort.the-variants as sort
-use Rattle.netlist.specs.declared.Role.{Role}
-use Rattle.netlist.specs.declared.Role.the-variants.{AnyNet, EarlierSignal, AnySignal, Number}
-use Rattle.netlist.specs.declared.Form.{Form}
-use Rattle.netlist.specs.declared.Limits.{Limits}
-use Rattle.netlist.specs.declared.Counts.{Counts}
-use Rattle.netlist.specs.declared.Next.{Next}
-use Rattle.netlist.specs.declared.Next.the-variants.{Command, Refused}
-use Rattle.netlist.specs.declared.Found.{Found}
-use Rattle.netlist.specs.declared.Found.the-variants.{At, Nothing}
+use Rattle.netlist.specs.Types.{File, Sort, Role, AnyNet, EarlierSignal, AnySignal, Number, Form, Limits, Counts, Next, Command, Refused, Found, At, Nothing}
+use Rattle.netlist.specs.Types.sort
 use Rattle.netlist.specs.Bytes.{byte, operand}
-use Rattle.netlist.specs.Commands.{same, formOf, width, needed, nextAt}
+use Rattle.netlist.specs.Commands.{whenFound, isSort, formOf, width, needed, nextAt}
 
 -- ---- 9: an operand that names nothing
 
@@ -35,31 +25,22 @@ nameless names s at zero = Nothing
 nameless names s at (suc m) = let later = nameless names s (at + 2) m in cond (ltb (operand s at) names) later (At at)
 
 -- how many of its operands a command uses, from the first on: a gate those that its kind or operation needs, others all
-unfoldable pub used : File → ℕ → ℕ → Sort → ℕ
-used f code all c = cond (same sort.Gate c) (needed f code) all
+unfoldable pub usedOperands : File → ℕ → ℕ → Sort → ℕ
+usedOperands f code all c = cond (isSort sort.Gate c) (needed f code) all
 
 -- the first of them that names nothing, for the command at a position
 unfoldable pub namelessAt : File → ℕ → ℕ → List ℕ → ℕ → ℕ → Form → Found
 namelessAt f n g s at k form =
-    nameless (nameable (form .role) n g k) s (at + form .lead) (used f (byte s (at + 1)) (form .operands) (form .sort))
+    nameless (nameable (form .role) n g k) s (at + form .lead) (usedOperands f (byte s (at + 1)) (form .operands) (form .sort))
 
--- what was found, or else what is found later
-unfoldable pub orLater : Found → Found → Found
-orLater (At p) later = At p
-orLater Nothing later = later
-
--- what is found after a command: one gate more stands before it, or the search is over
-unfoldable pub onward : (ℕ → Found) → ℕ → Sort → Found
-onward later k c =
-    let more = later (cond (same sort.Gate c) (k + 1) k) in
-    cond (same sort.End c || same sort.Unknown c) Nothing more
-
--- from a position on, after k gates, in the order of the file; each command takes a byte, so that the file's length is fuel enough
+-- The search over a file from a position on, after k gates, in file order. Each command takes a byte, so that the file's length is fuel
+-- enough; past the last byte nothing is found.
 unfoldable pub namelessFrom : ℕ → File → ℕ → ℕ → List ℕ → ℕ → ℕ → Found
 namelessFrom zero f n g s at k = Nothing
 namelessFrom (suc fuel) f n g s at k =
     let form = formOf f (byte s at) in
-    orLater (namelessAt f n g s at k form) (onward (namelessFrom fuel f n g s (at + width form)) k (form .sort))
+    let later = namelessFrom fuel f n g s (at + width form) (cond (isSort sort.Gate (form .sort)) (k + 1) k) in
+    whenFound (namelessAt f n g s at k form) At later
 
 -- ---- the whole file
 
@@ -69,8 +50,8 @@ pub record Places : Type 0 where
   pub gates : List ℕ
   pub outputs : List ℕ
 
-abbrev pub nothing : Places
-nothing = record { inputs = 0; gates = []; outputs = [] }
+abbrev pub noPlaces : Places
+noPlaces = record { inputs = 0; gates = []; outputs = [] }
 
 abbrev pub countsOf : Places → Counts
 countsOf p = record { inputs = p .inputs; gates = length (p .gates); outputs = length (p .outputs) }
@@ -88,28 +69,24 @@ pub data Reading : Type 0 where
   refused : ℕ → ℕ → Reading
   readable : Places → Reading
 
-unfoldable pub unlessNameless : Found → Reading → Reading
-unlessNameless (At place) r = refused 9 place
-unlessNameless Nothing r = r
-
 -- at the end command: 8, 7, then 9
 unfoldable pub finish : File → List ℕ → ℕ → Places → Reading
 finish f s at p =
     cond (eqb (length (p .outputs)) 0) (refused 8 at)
     (cond (ltb (at + 1) (length s)) (refused 7 (at + 1))
-    (unlessNameless (namelessFrom (length s) f (p .inputs) (length (p .gates)) s 0 0) (readable p)))
+    (whenFound (namelessFrom (length s) f (p .inputs) (length (p .gates)) s 0 0) (refused 9) (readable p)))
 
 -- the first command that cannot be read ends the reading, and so does the end command
 unfoldable pub onNext : (ℕ → Places → Reading) → File → List ℕ → ℕ → Places → Next → Reading
 onNext go f s at p (Refused number place) = refused number place
-onNext go f s at p (Command c next) = let more = go (next .at) (noted c s at p) in cond (same sort.End c) (finish f s at p) more
+onNext go f s at p (Command c next) = let more = go (next .at) (noted c s at p) in cond (isSort sort.End c) (finish f s at p) more
 
 unfoldable pub readFrom : ℕ → File → Limits → List ℕ → ℕ → Places → Reading
 readFrom zero f most s at p = refused 1 (length s)
 readFrom (suc fuel) f most s at p = onNext (readFrom fuel f most s) f s at p (nextAt f most s at (countsOf p))
 
 unfoldable pub readFile : File → Limits → List ℕ → Reading
-readFile f most s = readFrom (suc (length s)) f most s 0 nothing
+readFile f most s = readFrom (suc (length s)) f most s 0 noPlaces
 
 -- ---- limits
 
@@ -118,10 +95,6 @@ stageLimits = record { inputs = 10; gates = 128; outputs = 16 }
 
 abbrev pub referenceLimits : Limits
 referenceLimits = record { inputs = 10; gates = 256; outputs = 16 }
-
--- the program reads at most so many bytes of each file
-abbrev pub mostBytes : ℕ
-mostBytes = 8192
 
 -- counts within some limits
 pub record Within (most : Limits) (c : Counts) : Type 0 where

@@ -3,13 +3,9 @@ use Prim.Native.Nat.{ℕ, zero, suc, _+_, _*_, _/_, _%_, _≤_, _<_}
 use mathlib.Core.Path.{_≡_}
 use mathlib.Core.List.{List, [], _∷_, _++_, map}
 use lib.ListN.{length}
-use Rattle.netlist.specs.declared.File.{File}
-use Rattle.netlist.specs.declared.File.the-variants as file
-use Rattle.netlist.specs.declared.Sort.{Sort}
-use Rattle.netlist.specs.declared.Sort.the-variants as sort
-use Rattle.netlist.specs.declared.Role.{Role}
-use Rattle.netlist.specs.declared.Form.{Form}
-use Rattle.netlist.specs.declared.Limits.{Limits}
+use Rattle.netlist.specs.Types.{File, Sort, Role, Form, Limits}
+use Rattle.netlist.specs.Types.file
+use Rattle.netlist.specs.Types.sort
 use Rattle.netlist.specs.Bytes.{absent}
 use Rattle.netlist.specs.Commands.{formOf, width, needed}
 use Rattle.netlist.specs.Reading.{nameable, Places}
@@ -103,7 +99,7 @@ pub record GateFits (f : File) (n g k : ℕ) (c : Coded) : Type 0 where
   pub code-byte : c .code < 256
   pub known : 1 ≤ needed f (c .code)
   pub whole : length (c .operands) ≡ needed f (c .code)
-  pub there : All (λ v. v < absent) (c .operands)
+  pub used : All (λ v. v < absent) (c .operands)
   pub named : All (λ v. v < nameable (roleFor f sort.Gate) n g k) (c .operands)
 
 pub record OutputFits (f : File) (n g k : ℕ) (vs : List ℕ) : Type 0 where
