@@ -35,7 +35,7 @@ isSort c d = eqb (sortNumber c) (sortNumber d)
 abbrev pub asForm : Sort → ℕ → ℕ → Role → Form
 asForm c lead operands role = record { sort = c; lead = lead; operands = operands; role = role }
 
--- The commandTable of each file, with their command bytes. The command byte counts among the bytes before the operands, and so do the count of
+-- The rows of each file, with their command bytes. The command byte counts among the bytes before the operands, and so do the count of
 -- inputs and a gate's kind or operation.
 unfoldable pub commandTable : File → List (ℕ × Form)
 commandTable Stage =

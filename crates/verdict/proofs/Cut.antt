@@ -10,8 +10,9 @@ use Rattle.netlist.specs.declared.File.{File}
 use Rattle.netlist.specs.declared.File.the-variants as file
 use Rattle.netlist.specs.declared.Sort.the-variants as sort
 use Rattle.netlist.specs.declared.Limits.{Limits}
-use Rattle.netlist.specs.Commands.{rows, rowIn}
-use Rattle.netlist.specs.Reading.{Places, Reading, refused, readable, readFile, stageLimits, referenceLimits, mostBytes}
+use Rattle.netlist.specs.Commands.{commandTable, formIn}
+use Rattle.netlist.specs.Reading.{Places, Reading, refused, readable, readFile, stageLimits, referenceLimits}
+use Rattle.netlist.specs.Read.{mostBytes}
 use Rattle.netlist.specs.Writing.{widthFor}
 use Rattle.netlist.specs.Content.{Stage, stageOf}
 use Rattle.netlist.proofs.Readable.{readable-length}
@@ -24,11 +25,11 @@ short : (f : File) (most : Limits) → 3 + widthFor f sort.Gate * most .gates + 
 short f most h s p e = take-all mostBytes s (omega (arith, readable-length f most s p e))
 
 stage-short : (s : List ℕ) (p : Places) → readFile file.Stage stageLimits s ≡ readable p → take mostBytes s ≡ s
-unfolding rows rowIn
+unfolding commandTable formIn
 stage-short = short file.Stage stageLimits (omega arith)
 
 reference-short : (s : List ℕ) (p : Places) → readFile file.Reference referenceLimits s ≡ readable p → take mostBytes s ≡ s
-unfolding rows rowIn
+unfolding commandTable formIn
 reference-short = short file.Reference referenceLimits (omega arith)
 
 cut-reference : (c : Stage) (r : List ℕ)

@@ -18,9 +18,8 @@ use Rattle.netlist.specs.declared.Next.the-variants.{Command, Refused}
 use Rattle.netlist.specs.declared.Found.{Found}
 use Rattle.netlist.specs.declared.Found.the-variants.{At, Nothing}
 use Rattle.netlist.specs.Bytes.{byte}
-use Rattle.netlist.specs.Commands.{same, formOf, width, needed, stray, misfitFrom, unlessMisfit, takeInputs, takeGate, takeOutput, takeSort, takeCommand, nextAt}
-use Rattle.netlist.specs.Reading as reading
-use Rattle.netlist.specs.Reading.{Places, Reading, refused, readable, namelessFrom, unlessNameless, finish, onNext, noted, countsOf, readFrom, readFile}
+use Rattle.netlist.specs.Commands.{whenFound, isSort, formOf, width, needed, stray, misfitFrom, takeGate, takeSort, takeCommand, nextAt}
+use Rattle.netlist.specs.Reading.{Places, noPlaces, Reading, refused, readable, namelessFrom, finish, onNext, noted, countsOf, readFrom, readFile}
 
 abbrev InTable : ℕ → Type 0
 InTable number = (1 ≤ number) × (number ≤ 9)
@@ -37,19 +36,20 @@ either : {X : Type 0} (P : X → Type 0) (b : Bool) (x y : X) → P x → P y �
 either P true x y p q = p
 either P false x y p q = q
 
-unless-misfit : (x : Found) (taken : Next) → NextNumbered taken → NextNumbered (unlessMisfit x taken)
-unfolding unlessMisfit
-unless-misfit (At p) taken h = omega arith
-unless-misfit Nothing taken h = h
+unless-found : {X : Type 0} (P : X → Type 0) (x : Found) (there : ℕ → X) (none : X) → ((place : ℕ) → P (there place)) → P none → P (whenFound x there none)
+unfolding whenFound
+unless-found P (At place) there none p q = p place
+unless-found P Nothing there none p q = q
 
 module _ (f : File) (most : Limits) (s : List ℕ) (at : ℕ) (before : Counts) where
   sort-numbered : (form : Form) (taken : Next) → NextNumbered taken → (c : Sort) → NextNumbered (takeSort f most s at before form taken c)
-  unfolding takeSort takeInputs takeGate takeOutput
+  unfolding takeSort takeGate
   sort-numbered form taken h sort.Inputs = either NextNumbered (leb 1 (byte s (at + 1)) && leb (byte s (at + 1)) (most .inputs)) taken _ h (omega arith)
   sort-numbered form taken h sort.Gate =
       let k = needed f (byte s (at + 1)) in
       either NextNumbered (leb (most .gates) (before .gates)) (Refused 6 at) _ (omega arith)
-      (either NextNumbered (eqb k 0) (Refused 4 (at + 1)) _ (omega arith) (unless-misfit (misfitFrom k 0 s (at + form .lead) (form .operands)) taken h))
+      (either NextNumbered (eqb k 0) (Refused 4 (at + 1)) _ (omega arith)
+      (unless-found NextNumbered (misfitFrom k 0 s (at + form .lead) (form .operands)) (λ place. Refused 5 place) taken (λ place. omega arith) h))
   sort-numbered form taken h sort.Output = either NextNumbered (leb (most .outputs) (before .outputs)) (Refused 6 at) taken (omega arith) h
   sort-numbered form taken h sort.End = h
   sort-numbered form taken h sort.Unknown = h
@@ -64,14 +64,11 @@ module _ (f : File) (most : Limits) (s : List ℕ) (at : ℕ) (before : Counts) 
       (sort-numbered form (Command (form .sort) (record { at = at + width form })) tt (form .sort))))
 
 finish-numbered : (f : File) (s : List ℕ) (at : ℕ) (p : Places) → Numbered (finish f s at p)
-unfolding finish unlessNameless
-finish-numbered f s at p = go (eqb (length (p .outputs)) 0) (ltb (at + 1) (length s)) (namelessFrom (length s) f (p .inputs) (length (p .gates)) s 0 0)
-  where
-    go : (a b : Bool) (x : Found) → Numbered (cond a (refused 8 at) (cond b (refused 7 (at + 1)) (unlessNameless x (readable p))))
-    go true b x = omega arith
-    go false true x = omega arith
-    go false false (At place) = omega arith
-    go false false Nothing = tt
+unfolding finish
+finish-numbered f s at p =
+    either Numbered (eqb (length (p .outputs)) 0) (refused 8 at) _ (omega arith)
+    (either Numbered (ltb (at + 1) (length s)) (refused 7 (at + 1)) _ (omega arith)
+    (unless-found Numbered (namelessFrom (length s) f (p .inputs) (length (p .gates)) s 0 0) (refused 9) (readable p) (λ place. omega arith) tt))
 
 read-numbered : (fuel : ℕ) (f : File) (most : Limits) (s : List ℕ) (at : ℕ) (p : Places) → Numbered (readFrom fuel f most s at p)
 unfolding readFrom onNext
@@ -80,8 +77,8 @@ read-numbered (suc fuel) f most s at p = go (nextAt f most s at (countsOf p)) (n
   where
     go : (x : Next) → NextNumbered x → ((at : ℕ) (p : Places) → Numbered (readFrom fuel f most s at p)) → Numbered (onNext (readFrom fuel f most s) f s at p x)
     go (Refused number place) h later = h
-    go (Command c next) h later = either Numbered (same sort.End c) (finish f s at p) (readFrom fuel f most s (next .at) (noted c s at p)) (finish-numbered f s at p) (later (next .at) (noted c s at p))
+    go (Command c next) h later = either Numbered (isSort sort.End c) (finish f s at p) (readFrom fuel f most s (next .at) (noted c s at p)) (finish-numbered f s at p) (later (next .at) (noted c s at p))
 
 pub refused-number : (f : File) (most : Limits) (s : List ℕ) (number at : ℕ) → readFile f most s ≡ refused number at → InTable number
 unfolding readFile
-refused-number f most s number at e = subst Numbered e (read-numbered (suc (length s)) f most s 0 reading.nothing)
+refused-number f most s number at e = subst Numbered e (read-numbered (suc (length s)) f most s 0 noPlaces)
