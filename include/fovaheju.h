@@ -24,7 +24,7 @@ extern "C" {
 struct fovaheju_verdict {
     /* What was found: 0 accepted, 1 to 9 a file that cannot be read, 10 and 11 counts that differ, 12 a loop,
        13 a wrong output, 14 not input-complete, 15 not observable, 16 and 17 a row that cannot be taken.
-       README.md has the list. */
+       docs/VERDICTS.md has the list. */
     uint64_t number;
     /* In which file: 1 the stage, 2 the reference, 3 the row, 0 none. */
     uint64_t file;

@@ -18,9 +18,9 @@ use Rattle.verdict.specs.Levels.{sum}
 use Rattle.verdict.proofs.Graph.{anyHigh-in, anyHigh-out, leads-trans}
 use Rattle.verdict.proofs.Reaching.{steps-gate, step-gate, reaches-sound, reaches-complete}
 use Rattle.circuit.specs.Stage.{netCount, gatesIn}
-use Rattle.circuit.specs.Rows.{RowFor}
-use Rattle.circuit.proofs.Settling.{row-set, length-gatesIn}
-use Rattle.loops.specs.Marks.{Unmarked, fedBy, LeadsIn, Grown, Marking}
+use Rattle.circuit.proofs.Settling.{length-gatesIn}
+use Rattle.loops.proofs.Feeding.{marks-set}
+use Rattle.loops.specs.Marks.{MarksFor, Unmarked, fedBy, LeadsIn, Grown, Marking}
 use Rattle.loops.proofs.Sums.{sum-set, sum-bound}
 use Rattle.loops.proofs.Placing.{never, high-other, high-same}
 
@@ -45,7 +45,7 @@ fresh c w = record {
 
 -- ---- a pass
 
-pub grow-start : (c : Counts) (code marks : List ℕ) → RowFor c marks → Grown c code marks marks false 0
+pub grow-start : (c : Counts) (code marks : List ℕ) → MarksFor c marks → Grown c code marks marks false 0
 grow-start c code marks r = record {
   row-for = r;
   kept = λ p e. e;
@@ -71,7 +71,7 @@ module _ (c : Counts) (code before marks : List ℕ) (more : Bool) (k : ℕ) (w 
 
   pub grow-mark : getD marks net 0 ≡ 0 → fedBy (gatesIn c code) marks k ≡ true → Grown c code before (set marks net 1) true (k + 1)
   grow-mark z f = record {
-    row-for = row-set c marks (w .row-for) net 1 (omega arith) (omega arith);
+    row-for = marks-set c marks (w .row-for) net 1 (omega arith) (omega arith);
     kept = λ p e. kept p (w .kept p e) (ℕ-discrete p net);
     back = λ p e. back p e (ℕ-discrete p net);
     no-less = omega (arith, w .no-less, sum-set marks net 1 inside);
@@ -117,12 +117,12 @@ grow-less c code before marks more k w e = omega (arith, w .rose e, sum-bound ma
 module _ (c : Counts) (code : List ℕ) (g : ℕ) (hg : g < c .gates) where
   pub marking-start : (marks : List ℕ) → Unmarked c marks → Marking c code g (set marks (2 * c .inputs + g) 1)
   marking-start marks u = record {
-    row-for = row-set c marks row (2 * c .inputs + g) 1 (omega arith) (omega arith);
+    row-for = marks-set c marks row (2 * c .inputs + g) 1 (omega arith) (omega arith);
     self = high-same marks (2 * c .inputs + g) 1 (omega (arith, u .long));
     back = λ p e. at p e (ℕ-discrete p (2 * c .inputs + g));
   }
     where
-      row : RowFor c marks
+      row : MarksFor c marks
       row = record { long = u .long; bit = λ p. omega (arith, u .none p); ground = u .none (netCount c) }
 
       at : (p : ℕ) → high (set marks (2 * c .inputs + g) 1) p ≡ true → Dec (p ≡ 2 * c .inputs + g) → LeadsIn c code (2 * c .inputs + g) p

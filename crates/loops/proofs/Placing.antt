@@ -15,7 +15,7 @@ use Rattle.verdict.specs.Rows.{high}
 use Rattle.verdict.specs.Loops.{pinsAt, Feeds}
 use Rattle.verdict.proofs.Graph.{anyHigh-in}
 use Rattle.circuit.specs.Stage.{netCount, gateAtPlace, placeOf, gatesIn, StageLoaded}
-use Rattle.circuit.proofs.Settling.{row-set}
+use Rattle.loops.proofs.Feeding.{marks-set}
 use Rattle.loops.specs.Marks.{Unmarked, fedBy}
 use Rattle.loops.specs.Placing.{Reordered, WaitTo, Waits, Gone, Placing, isReady, Passed}
 use Rattle.loops.proofs.Sums.{sum-none, sum-set}
@@ -71,7 +71,7 @@ module _ (c : Counts) where
 
     pub wait-more : WaitTo c (set marks (2 * c .inputs + m) 1) (m + 1)
     wait-more = record {
-      row-for = row-set c marks (w .row-for) next 1 (omega arith) (omega arith);
+      row-for = marks-set c marks (w .row-for) next 1 (omega arith) (omega arith);
       total = omega (arith, w .total, sum-set marks next 1 next-in, unmarked);
       all = λ k l. all′ k l (ℕ-discrete k m);
       only = λ p e. one-more p e (ℕ-discrete p next);
@@ -199,7 +199,7 @@ module _ (c : Counts) (code waiting : List ℕ) (placed : ℕ) (p : Placing c co
   pub placing-more : Placing c code′ waiting′ (placed + 1)
   placing-more = record {
     loaded = loaded-kept c code code′ placed-reordered (p .loaded);
-    row-for = row-set c waiting (p .row-for) net 0 (omega arith) (omega arith);
+    row-for = marks-set c waiting (p .row-for) net 0 (omega arith) (omega arith);
     total = omega (arith, p .total, one, sum-set waiting net 0 inside);
     only = λ q h. only′ q h (ℕ-discrete q net);
     taken = λ i h. taken′ i h (ℕ-discrete i placed);

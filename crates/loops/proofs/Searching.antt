@@ -11,7 +11,9 @@ use Rattle.netlist.specs.declared.Found.{Found}
 use Rattle.netlist.specs.declared.Found.the-variants.{Nothing}
 use Rattle.netlist.specs.Content.{Gate}
 use Rattle.verdict.specs.Loops.{reachesItself}
-use Rattle.verdict.specs.Checks.{least}
+use Rattle.verdict.specs.Words.{numbers}
+use Rattle.verdict.specs.Checks.{first}
+use Rattle.verdict.specs.Search.{least}
 use Rattle.verdict.proofs.Least.{least-later, least-says}
 use Rattle.circuit.specs.Stage.{gatesIn}
 use Rattle.circuit.proofs.Settling.{length-gatesIn}
@@ -21,7 +23,7 @@ use Rattle.loops.proofs.Reordering.{gates-kept, stage-kept}
 
 -- where no number passes there is no least
 none-least : (f : ℕ → Bool) (j m : ℕ) → ((k : ℕ) → j ≤ k → k < j + m → f k ≡ false) → least f j m ≡ Nothing
-unfolding least
+unfolding first numbers
 none-least f j zero h = refl
 none-least f j (suc m) h = least-later f j m (h j (omega arith) (omega arith)) ∙ none-least f (suc j) m (λ k l b. h k (omega arith) (omega arith))
 

@@ -76,12 +76,22 @@ pub enum Next {
     Refused { number: u8, at: usize },
 }
 
-// What an operand has to name: a net of the stage, a signal of the reference that is an input or one of its first gates,
-// or any signal of the reference.
+// What an operand has to name: any net of the stage, a signal of the reference that is an input or an earlier gate, any signal of the
+// reference; or it is a number and names nothing.
 pub enum Role {
-    Net,
-    Earlier(usize),
-    Signal,
+    AnyNet,
+    EarlierSignal,
+    AnySignal,
+    Number,
+}
+
+// A row of the command table: the sort of a command, how many bytes stand before its operands, the command byte included, how many u16
+// operands follow, and what they name.
+pub struct Form {
+    pub sort: Sort,
+    pub lead: usize,
+    pub operands: usize,
+    pub role: Role,
 }
 
 // A place or an index, if there is one.
@@ -92,7 +102,7 @@ pub enum Found {
 
 // How the reading of a file ends: with its counts, or refused.
 pub enum Outcome {
-    Whole(Counts),
+    Readable(Counts),
     Refused { number: u8, at: usize },
 }
 

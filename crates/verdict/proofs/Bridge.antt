@@ -16,15 +16,16 @@ use Rattle.gates.specs.Expression.{holds}
 use Rattle.gates.specs.Cell.{setExpression, bit}
 use Rattle.gates.proofs.Expressions.{holds-mono, holds-low}
 use Rattle.runs.specs.Row as run
-use Rattle.runs.specs.Row.{Row, _⊑_, _∖_}
+use Rattle.runs.specs.Row.{Row, _∖_}
+use Rattle.runs.specs.Theory.{_⊑_}
 use Rattle.runs.specs.Net.{Net, rails, nets, IsGate, allLow, railsOfInputs, inputRail}
 use Rattle.runs.specs.Settled as runs
 use Rattle.runs.specs.Pair as pair
-use Rattle.runs.specs.Stage as theory
-use Rattle.runs.specs.Stage.{All}
+use Rattle.runs.specs.Acyclic.{Acyclic, AllPins}
 use Rattle.runs.proofs.Rise.{settled-by, held-by, settled-cong}
 use Rattle.netlist.specs.Content.{Gate, Pair, Stage, Reference}
-use Rattle.verdict.specs.Rows.{high, only, withNull, isSet, Settled, SettledHolding, settledLevels, levelsHolding, settled, settledHolding, DualRail, null, data0, data1, both, dualRail, pairIn, isData, spells}
+use Rattle.verdict.specs.Rows.{high, withNull, isSet, settledLevels, levelsHolding, settled, settledHolding, DualRail, null, data0, data1, both, dualRail, pairIn, isData, spells}
+use Rattle.verdict.specs.Levels.{LevelsSettled, LevelsHeld}
 use Rattle.verdict.specs.Loops.{In, pinsAt, LoopFree}
 use Rattle.verdict.specs.Nets.{noGate, driver, setIn, railOf, netOf, rowOf}
 use Rattle.verdict.proofs.Levels.{bits-length}
@@ -42,7 +43,7 @@ pins-mono r s h [] i e = e
 pins-mono r s h (p ∷ pins) zero e = h p e
 pins-mono r s h (p ∷ pins) (suc i) e = pins-mono r s h pins i e
 
-pub pins-local : (r s : Row) (pins : List ℕ) → All (λ p. r p ≡ s p) pins → map r pins ≡ map s pins
+pub pins-local : (r s : Row) (pins : List ℕ) → AllPins (λ p. r p ≡ s p) pins → map r pins ≡ map s pins
 pins-local r s [] h = refl
 pins-local r s (p ∷ pins) h = ap₂ {C = List Bool} (λ a b. a ∷ b) (h .0) (pins-local r s pins (h .1))
 
@@ -66,14 +67,14 @@ module _ (s : Stage) (free : LoopFree (s .inputs) (s .gates)) where
       go (g ∷ gates) zero = refl
       go (g ∷ gates) (suc j) = go gates j
 
-  all-in : (P : ℕ → Type 0) (pins : List ℕ) → ((p : ℕ) → In p pins → P p) → All P pins
+  all-in : (P : ℕ → Type 0) (pins : List ℕ) → ((p : ℕ) → In p pins → P p) → AllPins P pins
   all-in P [] h = tt
   all-in P (p ∷ pins) h = (h p (inl refl), all-in P pins (λ q i. h q (inr i)))
 
   abbrev pub rank : ℕ → ℕ
   rank = rankOf (s .inputs) (s .gates)
 
-  pub rank-pins : (k : ℕ) → IsGate (netOf s) k → All (λ p. rank p < rank k) (driver s k .pins)
+  pub rank-pins : (k : ℕ) → IsGate (netOf s) k → AllPins (λ p. rank p < rank k) (driver s k .pins)
   rank-pins k is = all-in (λ p. rank p < rank k) (driver s k .pins) below
     where
       below : (p : ℕ) → In p (driver s k .pins) → rank p < rank k
@@ -81,7 +82,7 @@ module _ (s : Stage) (free : LoopFree (s .inputs) (s .gates)) where
           let e : 2 * s .inputs + (k - 2 * s .inputs) ≡ k = omega (arith, is .0) in
           subst (λ (x : ℕ). rank p < rank x) e (rank-pin (s .inputs) (s .gates) free p (k - 2 * s .inputs) (subst (In p) (pins-driver k) i))
 
-  abbrev pub stageIn : theory.Stage
+  abbrev pub stageIn : Acyclic
   stageIn = record {
     net = netOf s;
     fires-mono = λ r t h k. holds-mono (setExpression (driver s k .cell)) (λ i. getD (map r (driver s k .pins)) i false) (λ i. getD (map t (driver s k .pins)) i false) (pins-mono r t h (driver s k .pins));

@@ -6,12 +6,11 @@ pub mod Reaching
 pub mod Settling
 pub mod Least
 pub mod Sweeps
-pub mod First
-pub mod Because
 pub mod Words
 pub mod Bridge
 pub mod Refusals
-pub mod OneWord
 pub mod Illegal
+pub mod Because
+pub mod OneWord
 pub mod Demands
 pub mod Cut

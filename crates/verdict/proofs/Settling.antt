@@ -10,9 +10,9 @@ use lib.ListN.{length, getD, set, length-append, length-map, length-set, List·g
 use lib.Seq.{getD-set-same, getD-set-other, getD-append-add, set-out, ext-getD}
 use lib.Dec.{ltb}
 use Rattle.netlist.specs.Content.{Gate}
-use Rattle.verdict.specs.Rows.{high, isSet, Settled, SettledHolding, settledLevels, levelsHolding, settled, settledHolding}
+use Rattle.verdict.specs.Rows.{high, isSet, settledLevels, levelsHolding, settled, settledHolding}
 use Rattle.verdict.specs.Loops.{In, pinsAt, Feeds, LoopFree, NoLoop}
-use Rattle.verdict.specs.Levels.{Bits, Below}
+use Rattle.verdict.specs.Levels.{Bits, Below, LevelsSettled, LevelsHeld}
 use Rattle.verdict.proofs.Levels.{below-refl, below-++, below-set, bits-set}
 use Rattle.verdict.proofs.Rounds.{rounds-bits, rounds-fixed, rounds-mono}
 use Rattle.verdict.proofs.Gates.{set-rises, set-bits, set-local}
@@ -35,7 +35,7 @@ module _ (h : ℕ) (gates : List Gate) where
   unfolding levelsHolding
   holding-bits rails = rounds-bits (lowStep rails) (length gates) (step-bits rails) (step-rises rails rails (below-refl rails)) (length gates)
 
-  pub holding-settled : (rails : List ℕ) → SettledHolding h gates rails (levelsHolding h gates rails)
+  pub holding-settled : (rails : List ℕ) → LevelsHeld h gates rails (levelsHolding h gates rails)
   unfolding levelsHolding
   holding-settled rails = rounds-fixed (lowStep rails) (length gates) (step-bits rails) (step-rises rails rails (below-refl rails))
 
@@ -47,10 +47,10 @@ module _ (h : ℕ) (gates : List Gate) where
 
   -- ---- one settled row
 
-  settled-length : (rails v : List ℕ) → SettledHolding h gates rails v → length v ≡ length gates
+  settled-length : (rails v : List ℕ) → LevelsHeld h gates rails v → length v ≡ length gates
   settled-length rails v s = ap length (sym s) ∙ length-set (map (isSet (rails ++ v)) gates) h 0 ∙ length-map gates (isSet (rails ++ v))
 
-  module _ (n : ℕ) (free : LoopFree n gates) (rails : List ℕ) (long : length rails ≡ 2 * n) (u v : List ℕ) (su : SettledHolding h gates rails u) (sv : SettledHolding h gates rails v) where
+  module _ (n : ℕ) (free : LoopFree n gates) (rails : List ℕ) (long : length rails ≡ 2 * n) (u v : List ℕ) (su : LevelsHeld h gates rails u) (sv : LevelsHeld h gates rails v) where
     -- a net is alike in both rows if it is a rail, or the level of a gate that is
     net-alike : (p : ℕ) → ((j : ℕ) → j < length gates → p ≡ 2 * n + j → getD u j 0 ≡ getD v j 0) → high (rails ++ u) p ≡ high (rails ++ v) p
     net-alike p same = ap (λ (x : ℕ). ltb 0 x) (go (decLt p (length rails)) (decLt (p - length rails) (length gates)))
@@ -114,7 +114,7 @@ module _ (gates : List Gate) where
   settled-bits rails = rounds-bits (λ v. map (isSet (rails ++ v)) gates) (length gates) (plain-bits rails) (plain-rises rails rails (below-refl rails)) (length gates)
 
   -- the computed levels are settled, loops or not
-  pub settled-is : (rails : List ℕ) → Settled gates rails (settledLevels gates rails)
+  pub settled-is : (rails : List ℕ) → LevelsSettled gates rails (settledLevels gates rails)
   unfolding settledLevels
   settled-is rails = rounds-fixed (λ v. map (isSet (rails ++ v)) gates) (length gates) (plain-bits rails) (plain-rises rails rails (below-refl rails))
 
@@ -126,9 +126,9 @@ module _ (gates : List Gate) where
       (rounds-mono (λ v. map (isSet (rails ++ v)) gates) (λ v. map (isSet (rails′ ++ v)) gates) (plain-rises rails rails′ p) (length gates) (length gates))
 
   -- a stage without loops has exactly one settled row for given rails: the computed one; and exactly one with gate h held low
-  pub settled-one : (n : ℕ) → NoLoop n gates → (rails : List ℕ) → length rails ≡ 2 * n → (v : List ℕ) → Settled gates rails v → v ≡ settledLevels gates rails
+  pub settled-one : (n : ℕ) → NoLoop n gates → (rails : List ℕ) → length rails ≡ 2 * n → (v : List ℕ) → LevelsSettled gates rails v → v ≡ settledLevels gates rails
   settled-one n none rails long v s =
       holding-one (length gates) gates n (noLoop-loopFree n gates none) rails long v (settledLevels gates rails) (unheld rails v ∙ s) (unheld rails (settledLevels gates rails) ∙ settled-is rails)
 
-  pub held-one : (h n : ℕ) → NoLoop n gates → (rails : List ℕ) → length rails ≡ 2 * n → (v : List ℕ) → SettledHolding h gates rails v → v ≡ levelsHolding h gates rails
+  pub held-one : (h n : ℕ) → NoLoop n gates → (rails : List ℕ) → length rails ≡ 2 * n → (v : List ℕ) → LevelsHeld h gates rails v → v ≡ levelsHolding h gates rails
   held-one h n none rails long v s = holding-one h gates n (noLoop-loopFree n gates none) rails long v (levelsHolding h gates rails) s (holding-settled h gates rails)

@@ -12,5 +12,5 @@ pub struct Verdict {
 // What a check finds: its least fault, or none.
 pub enum Finding {
     Fault(Verdict),
-    Clear,
+    Passed,
 }

@@ -4,7 +4,7 @@ use native.Mathlib.Omega.{arith}
 use mathlib.Core.Path.{sym}
 use borrow.Author.Needs.{needs}
 use Rattle.netlist.specs.Commands.{needed}
-use Rattle.commands.proofs.ByteSorts.{operation-two, operation-zero, operation-past}
+use Rattle.commands.proofs.Forms.{operation-two, operation-zero, operation-past}
 use Rattle.commands.proofs.needed.Statement.{statement}
 use Rattle.commands.proofs.needed.Tie as tie
 
