@@ -125,11 +125,10 @@ fn least_loop(code: &[u16], counts: Counts) -> Found
     requires { ⌜ StageLoaded counts (now code) ⌝ }
     ensures { λ r. ⌜ r ≡ least (reachesItself (counts .inputs) (gatesIn counts (now (code .entry)))) 0 (counts .gates) ⌝ }
 {
-    let nets = 2 * counts.inputs + counts.gates;
     let mut g: usize = 0;
     while g < counts.gates {
         let mut marks = [0u8; circuit::ROW];
-        if reaches_itself(code, counts, g, &mut marks[..nets + 1]) {
+        if reaches_itself(code, counts, g, &mut marks) {
             return Found::At(g);
         }
         g += 1;
@@ -142,9 +141,8 @@ pub fn order_gates(code: &mut [u16], counts: Counts) -> Found
     requires { ⌜ StageLoaded counts (now code) ⌝ }
     ensures { λ r. ⌜ LoopFound counts (now (code .entry)) (now (code .exit)) r ⌝ }
 {
-    let nets = 2 * counts.inputs + counts.gates;
     let mut waiting = [0u8; circuit::ROW];
-    let placed = place_all(code, counts, &mut waiting[..nets + 1]);
+    let placed = place_all(code, counts, &mut waiting);
     if placed == counts.gates {
         return Found::Nothing;
     }

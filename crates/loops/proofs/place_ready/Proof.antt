@@ -26,7 +26,7 @@ loop-holds : tie.Need-loop-holds Inv-loop μ-loop
 loop-holds c = (omega arith, reordered-refl _ _, pass-start _ _ _ _ (c .before .before .pre))
 
 is-ready-requires : tie.Need-is-ready-requires Inv-loop μ-loop
-is-ready-requires c κs = let p = c .before .before .before .before .loop .inv .2 .placing in (p .loaded, c .before .before .if1 .taken, p .row-for)
+is-ready-requires c κs = let p = c .before .before .before .before .loop .inv .2 .placing in (p .loaded, c .before .before .if1 .taken, p .marks-for)
 
 place-requires : tie.Need-place-requires Inv-loop μ-loop
 place-requires c κs =
@@ -58,7 +58,7 @@ same-length : tie.Need-same-length Inv-loop μ-loop
 same-length c = c .before .before .loop .inv .1 .long
 
 same-length-2 : tie.Need-same-length-2 Inv-loop μ-loop
-same-length-2 c = c .before .before .loop .inv .2 .placing .row-for .long ∙ sym (c .before .before .before .before .before .pre .row-for .long)
+same-length-2 c = c .before .before .loop .inv .2 .placing .marks-for .long ∙ sym (c .before .before .before .before .before .pre .marks-for .long)
 
 returns : tie.Need-returns Inv-loop μ-loop
 returns c =
