@@ -17,7 +17,7 @@ use Rattle.verdict.proofs.Graph.{anyHigh-in}
 use Rattle.circuit.specs.Stage.{gateAtPlace, placeOf, gatesIn, StageLoaded}
 use Rattle.loops.proofs.Feeding.{marks-set}
 use Rattle.loops.specs.Marks.{Unmarked, fedBy}
-use Rattle.loops.specs.Placing.{Reordered, WaitTo, Waits, Gone, Placing, isReady, Passed}
+use Rattle.loops.specs.Placing.{Reordered, WaitTo, Waits, Gone, Placing, isReady, PassTo}
 use Rattle.loops.proofs.Sums.{sum-none, sum-set}
 use Rattle.loops.proofs.Reordering.{reordered-refl, reordered-set, gates-kept, loaded-kept}
 
@@ -214,15 +214,15 @@ not-ready true true e h = refl
 not-ready true false e h = absurd (never refl e)
 not-ready false b e h = absurd (never h refl)
 
-pub pass-start : (c : Counts) (code waiting : List ℕ) (before : ℕ) → Placing c code waiting before → Passed c code waiting before before 0
+pub pass-start : (c : Counts) (code waiting : List ℕ) (before : ℕ) → Placing c code waiting before → PassTo c code waiting before before 0
 pass-start c code waiting before p = record { placing = p; more = omega arith; none = λ e j h. absurd (omega arith) }
 
 module _ (c : Counts) (code waiting : List ℕ) (before placed k : ℕ) where
-  pub pass-place : (code′ waiting′ : List ℕ) → Passed c code waiting before placed k → Placing c code′ waiting′ (placed + 1) →
-      Passed c code′ waiting′ before (placed + 1) (k + 1)
+  pub pass-place : (code′ waiting′ : List ℕ) → PassTo c code waiting before placed k → Placing c code′ waiting′ (placed + 1) →
+      PassTo c code′ waiting′ before (placed + 1) (k + 1)
   pass-place code′ waiting′ w p = record { placing = p; more = omega (arith, w .more); none = λ e. absurd (omega (arith, w .more)) }
 
-  pub pass-skip : Passed c code waiting before placed k → isReady c code waiting k ≡ false → Passed c code waiting before placed (k + 1)
+  pub pass-skip : PassTo c code waiting before placed k → isReady c code waiting k ≡ false → PassTo c code waiting before placed (k + 1)
   pass-skip w r = record { placing = w .placing; more = w .more; none = λ e j h v. at e j h v (ℕ-discrete j k) }
     where
       at : placed ≡ before → (j : ℕ) → j < k + 1 → Waits c waiting j → Dec (j ≡ k) → fedBy (gatesIn c code) waiting j ≡ true

@@ -52,7 +52,7 @@ abbrev pub isReady : Counts → List ℕ → List ℕ → ℕ → Bool
 isReady c code waiting k = high waiting (2 * c .inputs + k) && not (fedBy (gatesIn c code) waiting k)
 
 -- In a pass the gates before k have had their turn: more gates are placed, or each of these that waits is fed by one that waits.
-pub record Passed (c : Counts) (code waiting : List ℕ) (before placed k : ℕ) : Type 0 where
+pub record PassTo (c : Counts) (code waiting : List ℕ) (before placed k : ℕ) : Type 0 where
   pub placing : Placing c code waiting placed
   pub more : before ≤ placed
   pub none : placed ≡ before → (j : ℕ) → j < k → Waits c waiting j → fedBy (gatesIn c code) waiting j ≡ true

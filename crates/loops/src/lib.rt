@@ -9,7 +9,7 @@ ghost use lib.ListN.{length};
 ghost use Rattle.verdict.specs.Loops.{reachesItself};
 ghost use Rattle.verdict.specs.Search.{least};
 ghost use Rattle.circuit.specs.Stage.{gatesIn, StageLoaded};
-ghost use Rattle.loops.specs.Placing.{Placing, isReady, WaitTo, Passed, Ordered, Reordered};
+ghost use Rattle.loops.specs.Placing.{Placing, isReady, WaitTo, PassTo, Ordered, Reordered};
 ghost use Rattle.loops.specs.Marks.{MarksFor, Unmarked, fedBy, Marking, Grown, LoopFound};
 
 // Whether a marked net is at a pin of gate k.
@@ -58,7 +58,7 @@ fn place(code: &mut [u16], counts: Counts, k: usize, waiting: &mut [u8], placed:
 // A pass over the gates: each that is ready takes the next place of the order. How many places are taken then.
 fn place_ready(code: &mut [u16], counts: Counts, waiting: &mut [u8], taken: usize) -> usize
     requires { ⌜ Placing counts (now code) (now waiting) taken ⌝ }
-    ensures { λ r. ⌜ Passed counts (now (code .exit)) (now (waiting .exit)) taken r (counts .gates) × Reordered counts (now (code .entry)) (now (code .exit)) ⌝ }
+    ensures { λ r. ⌜ PassTo counts (now (code .exit)) (now (waiting .exit)) taken r (counts .gates) × Reordered counts (now (code .entry)) (now (code .exit)) ⌝ }
 {
     let mut placed = taken;
     let mut k: usize = 0;

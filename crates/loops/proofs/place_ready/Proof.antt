@@ -6,7 +6,7 @@ use native.Mathlib.Omega.{arith}
 use borrow.Author.Needs.{needs}
 use mathlib.Core.List.{List}
 use denote.Ref.{now}
-use Rattle.loops.specs.Placing.{Reordered, Passed}
+use Rattle.loops.specs.Placing.{Reordered, PassTo}
 use Rattle.loops.proofs.Reordering.{reordered-refl, reordered-trans}
 use Rattle.loops.proofs.Placing.{pass-start, pass-place, pass-skip}
 use Rattle.loops.proofs.place_ready.Statement.{statement}
@@ -17,7 +17,7 @@ use Rattle.loops.proofs.is_ready.Reads as is-ready-reads
 use Rattle.loops.proofs.place.Reads as place-reads
 
 abbrev Inv-loop : tie.InvT-loop
-Inv-loop code₀ counts waiting₀ taken placed₀ k₀ code waiting placed k = (k ≤ counts .gates) × Reordered counts code₀ code × Passed counts code waiting taken placed k
+Inv-loop code₀ counts waiting₀ taken placed₀ k₀ code waiting placed k = (k ≤ counts .gates) × Reordered counts code₀ code × PassTo counts code waiting taken placed k
 
 abbrev μ-loop : tie.MeasureT-loop
 μ-loop code₀ counts waiting₀ taken placed₀ k₀ code waiting placed k = counts .gates - k
@@ -43,7 +43,7 @@ loop-again : tie.Need-loop-again Inv-loop μ-loop
 loop-again c =
     let z = c .before .before .before .before .before .before .before .before .before in
     let l = c .before .before .before .before .before .before .loop in
-    let on : List ℕ → List ℕ → ℕ → Type 0 = λ u v m. Reordered (z .args .counts) (now (z .args .code)) u × Passed (z .args .counts) u v (z .args .taken) m (l .k + 1) in
+    let on : List ℕ → List ℕ → ℕ → Type 0 = λ u v m. Reordered (z .args .counts) (now (z .args .code)) u × PassTo (z .args .counts) u v (z .args .taken) m (l .k + 1) in
     let h : l .k + 1 ≤ z .args .counts .gates = omega (arith, c .before .before .before .before .if1 .taken) in
     ⊎-elim
     (λ w.
@@ -65,7 +65,7 @@ returns c =
     let z = c .before .before .before .before .before in
     let l = c .before .before .loop in
     let e : l .k ≡ z .args .counts .gates = omega (arith, l .inv .0, c .if1 .left) in
-    (subst (Passed (z .args .counts) (l .code) (l .waiting) (z .args .taken) (l .placed)) e (l .inv .2), l .inv .1)
+    (subst (PassTo (z .args .counts) (l .code) (l .waiting) (z .args .taken) (l .placed)) e (l .inv .2), l .inv .1)
 
 pub place-ready-spec : {M : Type 1} → statement M
 place-ready-spec =
