@@ -5,7 +5,7 @@ use native.Mathlib.Omega.{arith}
 use mathlib.Core.Path.{_≡_, refl, sym, ap, ap₂, _∙_}
 use mathlib.Core.Bool.{Bool, true, false, cond, not}
 use mathlib.Core.List.{List, [], _∷_}
-use lib.ListN.{getD}
+use lib.ListN.{length, getD}
 use lib.Dec.{eqb, ltb}
 use Rattle.gates.specs.Cell.{bit}
 use Rattle.netlist.specs.declared.Counts.{Counts}
@@ -13,11 +13,11 @@ use Rattle.netlist.specs.declared.Found.{Found}
 use Rattle.netlist.specs.declared.Found.the-variants.{At, Nothing}
 use Rattle.netlist.specs.Content.{Pair}
 use Rattle.verdict.specs.Rows.{high, dualRail, pairIn, isData, spells, allData}
-use Rattle.verdict.specs.Checks.{least}
+use Rattle.verdict.specs.Search.{least}
 use Rattle.verdict.proofs.Least.{least-says}
-use Rattle.circuit.specs.Stage.{tabulate, outputIn, outputsIn}
-use Rattle.circuit.specs.Rows.{LevelOf, grounded, notData}
-use Rattle.circuit.proofs.Settling.{high-grounded}
+use Rattle.circuit.specs.Stage.{tabulate, outputIn, outputsIn, StageLoaded}
+use Rattle.circuit.specs.Rows.{RowFor, netsIn, LevelOf, notData}
+use Rattle.circuit.proofs.Pins.{net-there, level-in}
 
 -- ---- two rails
 
@@ -46,18 +46,40 @@ spell-bits false true (suc zero) h = ((λ e. refl), λ d. absurd (d refl))
 spell-bits false false zero h = ((λ e. refl), λ d. refl)
 spell-bits false false (suc zero) h = ((λ e. absurd (omega arith)), λ d. refl)
 
-module _ (row : List ℕ) (p q x y : ℕ) (a : LevelOf row p x) (b : LevelOf row q y) where
-  -- exactly one of two rails is high
-  pub levels-data : not (eqb x y) ≡ isData (dualRail (high row p) (high row q))
-  levels-data = ap₂ (λ (u v : ℕ). not (eqb u v)) (level-bit row p x a) (level-bit row q y b) ∙ data-bits (high row p) (high row q)
+module _ (c : Counts) (code row : List ℕ) (loaded : StageLoaded c code) (r : RowFor c row) (j : ℕ) (h : j < c .outputs) where
+  abbrev p : ℕ
+  p = outputIn c code j .rail0
 
-  -- rail 1 is the value: the pair spells it exactly if rail 0 is the other bit
-  pub levels-spell : (v : ℕ) → v ≤ 1 → y ≡ v → eqb (x + v) 1 ≡ spells (dualRail (high row p) (high row q)) v
-  levels-spell v h e = ap (λ (u : ℕ). eqb (u + v) 1) (level-bit row p x a) ∙ spell-bits (high row p) (high row q) v h .0 (sym (level-bit row q y b) ∙ e)
+  abbrev q : ℕ
+  q = outputIn c code j .rail1
 
-  -- it is not: the pair does not spell it
-  pub levels-misspell : (v : ℕ) → v ≤ 1 → (y ≡ v → ⊥) → false ≡ spells (dualRail (high row p) (high row q)) v
-  levels-misspell v h d = spell-bits (high row p) (high row q) v h .1 (λ e. d (level-bit row q y b ∙ e))
+  pub rail0-there : (p < length row) × (getD row p 0 ≤ 1)
+  rail0-there = net-there c row r p (omega (arith, loaded .rail0-net j h))
+
+  pub rail1-there : (q < length row) × (getD row q 0 ≤ 1)
+  rail1-there = net-there c row r q (omega (arith, loaded .rail1-net j h))
+
+  module _ (x y : ℕ) (a : LevelOf row p x) (b : LevelOf row q y) where
+    abbrev nets : List ℕ
+    nets = netsIn c row
+
+    bit0 : x ≡ bit (high nets p)
+    bit0 = level-bit nets p x (level-in c row r p x (omega (arith, loaded .rail0-net j h)) a)
+
+    bit1 : y ≡ bit (high nets q)
+    bit1 = level-bit nets q y (level-in c row r q y (omega (arith, loaded .rail1-net j h)) b)
+
+    -- exactly one of two rails is high
+    pub levels-data : not (eqb x y) ≡ isData (pairIn nets (outputIn c code j))
+    levels-data = ap₂ (λ (u v : ℕ). not (eqb u v)) bit0 bit1 ∙ data-bits (high nets p) (high nets q)
+
+    -- rail 1 is the value: the pair spells it exactly if rail 0 is the other bit
+    pub levels-spell : (v : ℕ) → v ≤ 1 → y ≡ v → eqb (x + v) 1 ≡ spells (pairIn nets (outputIn c code j)) v
+    levels-spell v l e = ap (λ (u : ℕ). eqb (u + v) 1) bit0 ∙ spell-bits (high nets p) (high nets q) v l .0 (sym bit1 ∙ e)
+
+    -- it is not: the pair does not spell it
+    pub levels-misspell : (v : ℕ) → v ≤ 1 → (y ≡ v → ⊥) → false ≡ spells (pairIn nets (outputIn c code j)) v
+    levels-misspell v l d = spell-bits (high nets p) (high nets q) v l .1 (λ e. d (bit1 ∙ e))
 
 -- ---- all outputs
 
@@ -89,12 +111,3 @@ module _ (row : List ℕ) where
     pub not-all-data : (j : ℕ) → x ≡ At j → false ≡ allData row (outputsIn c code)
     unfolding outputsIn
     not-all-data j e = let f = least-says (notData c code row) 0 (c .outputs) (At j) (sym is ∙ e) in one-not (outputIn c code) (c .outputs) j (omega (arith, f .below)) (f .passes)
-
--- the ground changes no output
-pub pair-grounded : (row : List ℕ) (p : Pair) → pairIn (grounded row) p ≡ pairIn row p
-pair-grounded row p = ap₂ dualRail (high-grounded row (p .rail0)) (high-grounded row (p .rail1))
-
-pub data-grounded : (row : List ℕ) (pairs : List Pair) → allData (grounded row) pairs ≡ allData row pairs
-unfolding allData
-data-grounded row [] = refl
-data-grounded row (p ∷ pairs) = rw (pair-grounded row p, data-grounded row pairs)

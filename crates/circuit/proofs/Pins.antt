@@ -6,15 +6,16 @@ use native.Mathlib.Decide.{decLt}
 use mathlib.Core.Path.{_≡_, refl, sym, ap, _∙_}
 use mathlib.Core.Bool.{Bool, true, false, _&&_}
 use mathlib.Core.List.{List, [], _∷_, map}
-use lib.ListN.{length, getD, take}
+use lib.ListN.{length, getD, take, List·getD-eq-default}
+use lib.Seq.{getD-take, length-take-le}
 use lib.Dec.{T, eqb, ltb, leb, leb→le}
 use Rattle.gates.specs.Cell.{cells, cellAt, pinCount, setExpression, pinOf, bit, setBit}
 use Rattle.gates.proofs.Expressions.{holds-local}
 use Rattle.gates.proofs.Every.{every, every-at}
 use Rattle.netlist.specs.declared.Counts.{Counts}
 use Rattle.verdict.specs.Rows.{high, pinHigh, isSet}
-use Rattle.circuit.specs.Stage.{cellIn, pinIn, gateIn, StageLoaded}
-use Rattle.circuit.specs.Rows.{RowFor, patternIn}
+use Rattle.circuit.specs.Stage.{netCount, cellIn, pinIn, gateIn, StageLoaded}
+use Rattle.circuit.specs.Rows.{RowFor, netsIn, LevelOf, patternIn}
 
 -- ---- cells have two to four pins
 
@@ -66,38 +67,68 @@ no-pins f [] (suc m) i h = refl
 no-pins f (p ∷ ps) (suc m) zero h = absurd (omega arith)
 no-pins f (p ∷ ps) (suc m) (suc i) h = no-pins f ps m i (omega arith)
 
+-- ---- the levels of the nets and of the ground, which stands after them
+
+module _ (c : Counts) (row : List ℕ) (r : RowFor c row) where
+  pub nets-at : (p : ℕ) → p ≤ netCount c → getD (netsIn c row) p 0 ≡ getD row p 0
+  nets-at p h = go (decLt p (netCount c))
+    where
+      go : Dec (p < netCount c) → getD (netsIn c row) p 0 ≡ getD row p 0
+      go (yes l) = getD-take (netCount c) row p 0 l
+      go (no l) =
+          let e : netCount c ≡ p = omega arith in
+          List·getD-eq-default (netsIn c row) 0 (omega (arith, length-take-le (netCount c) row (omega (arith, r .long)))) ∙ sym (r .ground) ∙ ap (λ (q : ℕ). getD row q 0) e
+
+  pub net-there : (p : ℕ) → p ≤ netCount c → (p < length row) × (getD row p 0 ≤ 1)
+  net-there p h = (omega (arith, r .long), r .bit p h)
+
+  pub level-in : (p x : ℕ) → p ≤ netCount c → LevelOf row p x → LevelOf (netsIn c row) p x
+  level-in p x h l = record { is = l .is ∙ sym (nets-at p h); small = l .small }
+
 module _ (c : Counts) (code row : List ℕ) (loaded : StageLoaded c code) (r : RowFor c row) (k : ℕ) (h : k < c .gates) where
+  abbrev nets : List ℕ
+  nets = netsIn c row
+
   abbrev m : ℕ
   m = pinCount (cellIn code k)
 
-  low : (i : ℕ) → m ≤ i → i < 4 → getD row (pinIn code k i) 0 ≡ 0
-  low i a l = ap (λ (p : ℕ). getD row p 0) (loaded .gate k h .absent i a l) ∙ r .ground
+  level : (i : ℕ) → i < 4 → getD nets (pinIn code k i) 0 ≡ getD row (pinIn code k i) 0
+  level i l = nets-at c row r (pinIn code k i) (loaded .gate k h .pin i l)
 
-  pub pattern-small : patternIn row code k < 2 ^ m
+  bit-at : (i : ℕ) → i < 4 → getD nets (pinIn code k i) 0 ≤ 1
+  bit-at i l = omega (arith, level i l, r .bit (pinIn code k i) (loaded .gate k h .pin i l))
+
+  low : (i : ℕ) → m ≤ i → i < 4 → getD nets (pinIn code k i) 0 ≡ 0
+  low i a l = level i l ∙ ap (λ (p : ℕ). getD row p 0) (loaded .gate k h .absent i a l) ∙ r .ground
+
+  pub pattern-nets : patternIn row code k ≡ patternIn nets code k
+  pattern-nets = omega (arith, level 0 (omega arith), level 1 (omega arith), level 2 (omega arith), level 3 (omega arith))
+
+  pub pattern-small : patternIn nets code k < 2 ^ m
   pattern-small =
       let g = loaded .gate k h in
       let f = pins-few (cellIn code k) (g .low) (g .high) in
-      pattern-below m (getD row (pinIn code k 0) 0) (getD row (pinIn code k 1) 0) (getD row (pinIn code k 2) 0) (getD row (pinIn code k 3) 0)
-      (f .0) (f .1) (r .bit _) (r .bit _) (r .bit _) (r .bit _) (λ a. low 2 a (omega arith)) (λ a. low 3 a (omega arith))
+      pattern-below m (getD nets (pinIn code k 0) 0) (getD nets (pinIn code k 1) 0) (getD nets (pinIn code k 2) 0) (getD nets (pinIn code k 3) 0)
+      (f .0) (f .1) (bit-at 0 (omega arith)) (bit-at 1 (omega arith)) (bit-at 2 (omega arith)) (bit-at 3 (omega arith)) (λ a. low 2 a (omega arith)) (λ a. low 3 a (omega arith))
 
   -- pin i of the pattern is pin i of the gate
   pin-is : (i : ℕ) → i < 4 → getD (pinIn code k 0 ∷ pinIn code k 1 ∷ pinIn code k 2 ∷ pinIn code k 3 ∷ []) i 0 ≡ pinIn code k i →
-      patternIn row code k / 2 ^ i % 2 ≡ getD row (pinIn code k i) 0 → pinOf (patternIn row code k) i ≡ pinHigh row (gateIn code k) i
-  pin-is i l e v = ap (λ (y : ℕ). eqb y 1) v ∙ level-high (getD row (pinIn code k i) 0) (r .bit _) ∙ sym (go (decLt i m))
+      patternIn nets code k / 2 ^ i % 2 ≡ getD nets (pinIn code k i) 0 → pinOf (patternIn nets code k) i ≡ pinHigh nets (gateIn code k) i
+  pin-is i l e v = ap (λ (y : ℕ). eqb y 1) v ∙ level-high (getD nets (pinIn code k i) 0) (bit-at i l) ∙ sym (go (decLt i m))
     where
-      go : Dec (i < m) → pinHigh row (gateIn code k) i ≡ high row (pinIn code k i)
-      go (yes a) = first-pins (high row) _ m i a (omega arith) ∙ ap (high row) e
-      go (no a) = no-pins (high row) _ m i (omega arith) ∙ sym (ap (ltb 0) (low i (omega arith) l))
+      go : Dec (i < m) → pinHigh nets (gateIn code k) i ≡ high nets (pinIn code k i)
+      go (yes a) = first-pins (high nets) _ m i a (omega arith) ∙ ap (high nets) e
+      go (no a) = no-pins (high nets) _ m i (omega arith) ∙ sym (ap (ltb 0) (low i (omega arith) l))
 
-  pub level-by-pattern : setBit (cellIn code k) (patternIn row code k) ≡ isSet row (gateIn code k)
+  pub level-by-pattern : setBit (cellIn code k) (patternIn nets code k) ≡ isSet nets (gateIn code k)
   unfolding setBit isSet
   level-by-pattern =
-      let a = r .bit (pinIn code k 0) in
-      let b = r .bit (pinIn code k 1) in
-      let d = r .bit (pinIn code k 2) in
-      let f = r .bit (pinIn code k 3) in
+      let a = bit-at 0 (omega arith) in
+      let b = bit-at 1 (omega arith) in
+      let d = bit-at 2 (omega arith) in
+      let f = bit-at 3 (omega arith) in
       ap bit
-      (holds-local (setExpression (cellIn code k)) (pinOf (patternIn row code k)) (pinHigh row (gateIn code k))
+      (holds-local (setExpression (cellIn code k)) (pinOf (patternIn nets code k)) (pinHigh nets (gateIn code k))
       (pin-is 0 (omega arith) refl (omega arith))
       (pin-is 1 (omega arith) refl (omega arith))
       (pin-is 2 (omega arith) refl (omega arith))

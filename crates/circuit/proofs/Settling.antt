@@ -1,26 +1,25 @@
 -- Settling in a topological order: a gate that is evaluated keeps its level, and in the end every gate has the settled one.
 -- Assumes nothing.
-use Prim.Native.Nat.{ℕ, zero, suc, _+_, _-_, _*_, _≤_, _<_}
+use Prim.Native.Nat.{ℕ, _+_, _-_, _*_, _≤_, _<_}
 use native.Mathlib.Omega.{arith}
 use native.Mathlib.Decide.{ℕ-discrete, decLt}
-use mathlib.Core.Path.{_≡_, refl, sym, ap, _∙_, subst, fun-ext}
-use mathlib.Core.Bool.{Bool, false}
-use mathlib.Core.List.{List, [], _∷_, _++_, append-assoc, map}
-use lib.ListN.{length, getD, set, take, drop, length-map, length-set, length-drop, take-append-drop, List·getD-append}
-use lib.Seq.{getD-append-add, getD-set-same, getD-set-other, set-out, ext-getD, take-set-le, take-set-lt, drop-set-add, length-take-le, getD-drop}
+use mathlib.Core.Path.{_≡_, sym, ap, _∙_, subst, fun-ext}
+use mathlib.Core.List.{List, _++_, map}
+use lib.ListN.{length, getD, set, take, drop, length-map, length-set, length-drop, replicate, length-replicate, getD-replicate, List·getD-append}
+use lib.Seq.{getD-append-add, getD-set-same, getD-set-other, set-out, ext-getD, take-set-le, take-set-lt, drop-set-add, length-take-le, take-add, take-take, take-length, take-append-seam, getD-take}
 use lib.Dec.{ltb}
-use Rattle.gates.specs.Cell.{bit, setExpression}
-use Rattle.gates.specs.Expression.{holds}
 use Rattle.netlist.specs.declared.Counts.{Counts}
+use Rattle.netlist.specs.Reading.{stageLimits, Within}
 use Rattle.netlist.specs.Content.{Gate}
-use Rattle.verdict.specs.Rows.{high, isSet, SettledHolding, rounds, settledLevels, levelsHolding}
+use Rattle.verdict.specs.Rows.{high, isSet, rounds, settledLevels, levelsHolding}
+use Rattle.verdict.specs.Levels.{LevelsHeld}
 use Rattle.verdict.specs.Loops.{In, pinsAt}
-use Rattle.verdict.proofs.Gates.{set-local, isSet-binary}
+use Rattle.verdict.proofs.Gates.{set-local}
 use Rattle.verdict.proofs.Reaching.{loopFree-noLoop}
 use Rattle.verdict.proofs.Settling.{held-one, holding-settled}
 use Rattle.circuit.specs.Stage.{netCount, gateIn, gateAtPlace, gatesIn}
 use Rattle.circuit.specs.Order.{TopologicalOrder, orderIn, InOrder}
-use Rattle.circuit.specs.Rows.{RowFor, grounded, railPart, levelPart, levelHolding, SettledBefore, SettledTo, settledHoldingIn}
+use Rattle.circuit.specs.Rows.{rowSize, RowFor, netsIn, railPart, levelPart, levelHolding, SettledBefore, SettledTo, settledHoldingIn}
 use Rattle.circuit.proofs.Tabulate.{length-tabulate, getD-tabulate, map-tabulate}
 use Rattle.circuit.proofs.Order.{order-no-loop}
 
@@ -90,7 +89,7 @@ module _ (n h : ℕ) (gates : List Gate) (order rails : List ℕ) (t : Topologic
             ∙ sym (level-kept j (omega arith))
 
   module _ (levels : List ℕ) (long : length levels ≡ length gates) where
-    all-settled : SettledBefore (length gates) h gates order rails levels → SettledHolding h gates rails levels
+    all-settled : SettledBefore (length gates) h gates order rails levels → LevelsHeld h gates rails levels
     all-settled before =
         ext-getD 0 (set (map (isSet (rails ++ levels)) gates) h 0) levels (size ∙ sym long)
         (λ k b.
@@ -113,27 +112,35 @@ module _ (n h : ℕ) (gates : List Gate) (order rails : List ℕ) (t : Topologic
       ∙ level-free h′ gates (rails ++ levels) k (not-h′ i hi)
       ∙ sym (level-free h gates (rails ++ levels) k (not-h i hi))
 
--- ---- the ground changes no level
-
-pub high-grounded : (row : List ℕ) (p : ℕ) → high (grounded row) p ≡ high row p
-high-grounded [] zero = refl
-high-grounded [] (suc p) = refl
-high-grounded (x ∷ row) zero = refl
-high-grounded (x ∷ row) (suc p) = high-grounded row p
-
-isSet-grounded : (row : List ℕ) (g : Gate) → isSet (grounded row) g ≡ isSet row g
-unfolding isSet
-isSet-grounded row g = ap (λ (h : ℕ → Bool). bit (holds (setExpression (g .cell)) (λ i. getD (map h (g .pins)) i false))) (fun-ext (λ p. high-grounded row p))
-
-level-grounded : (h : ℕ) (gates : List Gate) (row : List ℕ) (k : ℕ) → levelHolding h gates (grounded row) k ≡ levelHolding h gates row k
-level-grounded h gates row k = ap (λ (f : Gate → ℕ). getD (set (map f gates) h 0) k 0) (fun-ext (λ g. isSet-grounded row g))
-
-one-left : (l : List ℕ) → length l ≡ 1 → l ≡ getD l 0 0 ∷ []
-one-left [] e = absurd (omega arith)
-one-left (x ∷ []) e = refl
-one-left (x ∷ y ∷ l) e = absurd (omega arith)
-
 -- ---- rows of a flat form
+
+-- all nets low
+pub low-row : (c : Counts) → Within stageLimits c → RowFor c (replicate rowSize 0)
+low-row c w = record { long = omega (arith, length-replicate {A = ℕ} rowSize 0, w .inputs-in, w .gates-in); bit = λ p h. omega (arith, low p h); ground = low (netCount c) (omega arith) }
+  where
+    low : (p : ℕ) → p ≤ netCount c → getD {A = ℕ} (replicate rowSize 0) p 0 ≡ 0
+    low p h = getD-replicate rowSize p 0 0 (omega (arith, w .inputs-in, w .gates-in))
+
+-- a row after the nets and the ground of another were copied to its front
+module _ (c : Counts) (row rest held : List ℕ) (r : RowFor c row) (long : netCount c < length held)
+    (is : held ≡ take (length (take (netCount c + 1) row)) (take (netCount c + 1) row) ++ rest) where
+  abbrev front : List ℕ
+  front = take (netCount c + 1) row
+
+  same : take (netCount c + 1) held ≡ front
+  same =
+      ap (take (netCount c + 1)) (is ∙ ap (λ (l : List ℕ). l ++ rest) (take-length front))
+      ∙ ap (λ (n : ℕ). take n (front ++ rest)) (sym (length-take-le (netCount c + 1) row (omega (arith, r .long))))
+      ∙ take-append-seam front rest
+
+  pub copied-nets : netsIn c held ≡ netsIn c row
+  copied-nets = sym (take-take (netCount c) (netCount c + 1) held (omega arith)) ∙ ap (take (netCount c)) same ∙ take-take (netCount c) (netCount c + 1) row (omega arith)
+
+  copied-at : (p : ℕ) → p ≤ netCount c → getD held p 0 ≡ getD row p 0
+  copied-at p h = sym (getD-take (netCount c + 1) held p 0 (omega arith)) ∙ ap (λ (l : List ℕ). getD l p 0) same ∙ getD-take (netCount c + 1) row p 0 (omega arith)
+
+  pub copied-row : RowFor c held
+  copied-row = record { long = long; bit = λ p h. omega (arith, copied-at p h, r .bit p h); ground = copied-at (netCount c) (omega arith) ∙ r .ground }
 
 module _ (c : Counts) (row : List ℕ) (r : RowFor c row) where
   pub length-rails : length (railPart c row) ≡ 2 * c .inputs
@@ -142,31 +149,17 @@ module _ (c : Counts) (row : List ℕ) (r : RowFor c row) where
   pub length-levels : length (levelPart c row) ≡ c .gates
   length-levels = length-take-le (c .gates) (drop (2 * c .inputs) row) (omega (arith, length-drop (2 * c .inputs) row, r .long))
 
-  -- the rails, the levels and the ground are all of the row
-  pub row-whole : row ≡ grounded (railPart c row ++ levelPart c row)
-  row-whole =
-      let n = 2 * c .inputs in
-      let g = c .gates in
-      let z : n + (g + 0) ≡ netCount c = omega arith in
-      let e : drop g (drop n row) ≡ 0 ∷ [] =
-      one-left (drop g (drop n row)) (omega (arith, length-drop g (drop n row), length-drop n row, r .long))
-      ∙ ap (λ (x : ℕ). x ∷ []) (getD-drop g (drop n row) 0 0 ∙ getD-drop n row (g + 0) 0 ∙ ap (λ (x : ℕ). getD row x 0) z ∙ r .ground) in
-      sym (append-assoc (take n row) (take g (drop n row)) (0 ∷ [])
-      ∙ ap (λ (l : List ℕ). take n row ++ (take g (drop n row) ++ l)) (sym e)
-      ∙ ap (λ (l : List ℕ). take n row ++ l) (take-append-drop g (drop n row))
-      ∙ take-append-drop n row)
-
   -- after a store of 0 or 1 at a net
   pub row-set : (p x : ℕ) → p < netCount c → x ≤ 1 → RowFor c (set row p x)
   row-set p x h l = record {
-    long = length-set row p x ∙ r .long;
-    bit = λ q. go q (ℕ-discrete q p);
+    long = omega (arith, length-set row p x, r .long);
+    bit = λ q b. go q b (ℕ-discrete q p);
     ground = getD-set-other row p (netCount c) x 0 (λ e. omega arith) ∙ r .ground;
   }
     where
-      go : (q : ℕ) → Dec (q ≡ p) → getD (set row p x) q 0 ≤ 1
-      go q (yes e) = rw e (omega (arith, getD-set-same row p x 0 (omega (arith, r .long))))
-      go q (no d) = omega (arith, getD-set-other row p q x 0 d, r .bit q)
+      go : (q : ℕ) → q ≤ netCount c → Dec (q ≡ p) → getD (set row p x) q 0 ≤ 1
+      go q b (yes e) = rw e (omega (arith, getD-set-same row p x 0 (omega (arith, r .long))))
+      go q b (no d) = omega (arith, getD-set-other row p q x 0 d, r .bit q b)
 
 -- ---- settling a row
 
@@ -192,6 +185,7 @@ module _ (c : Counts) (code row : List ℕ) (held k : ℕ) (h : k < c .gates) wh
 -- the rails are those at the start, and the gates at the first i places have their levels
 pub record SettlingTo (c : Counts) (code : List ℕ) (held : ℕ) (start row : List ℕ) (i : ℕ) : Type 0 where
   pub row-for : RowFor c row
+  pub same-long : length row ≡ length start
   pub rails : railPart c row ≡ railPart c start
   pub before : SettledTo i held c code row
 
@@ -200,15 +194,16 @@ module _ (c : Counts) (code : List ℕ) (ordered : InOrder c code) where
   order-gate i h = omega (arith, order-at c code i h, length-gatesIn c code, ordered .ordered .gate i (omega (arith, length-gatesIn c code)))
 
   module _ (held : ℕ) (start row : List ℕ) (i : ℕ) (s : SettlingTo c code held start row i) where
-    pub settling-turn : i < c .gates → (x : ℕ) → x ≡ levelHolding held (gatesIn c code) row (gateAtPlace code i) → x ≤ 1 → SettlingTo c code held start (set row (2 * c .inputs + gateAtPlace code i) x) (i + 1)
+    pub settling-turn : i < c .gates → (x : ℕ) → x ≡ levelHolding held (gatesIn c code) (netsIn c row) (gateAtPlace code i) → x ≤ 1 → SettlingTo c code held start (set row (2 * c .inputs + gateAtPlace code i) x) (i + 1)
     settling-turn h x e l =
         let n = 2 * c .inputs in
         let r = s .row-for in
         let k = order-gate i h in
         let rails = take-set-le n row (n + gateAtPlace code i) x (omega arith) in
-        let y : x ≡ levelHolding held (gatesIn c code) (railPart c row ++ levelPart c row) (gateAtPlace code i) = e ∙ ap (λ (l : List ℕ). levelHolding held (gatesIn c code) l (gateAtPlace code i)) (row-whole c row r) ∙ level-grounded held (gatesIn c code) _ _ in
+        let y = e ∙ ap (λ (l : List ℕ). levelHolding held (gatesIn c code) l (gateAtPlace code i)) (take-add n (c .gates) row) in
         record {
           row-for = row-set c row r (n + gateAtPlace code i) x (omega arith) l;
+          same-long = length-set row (n + gateAtPlace code i) x ∙ s .same-long;
           rails = rails ∙ s .rails;
           before =
               rw (rails, drop-set-add n row (gateAtPlace code i) x, take-set-lt (c .gates) (drop n row) (gateAtPlace code i) x k, ← order-at c code i h)
@@ -216,14 +211,14 @@ module _ (c : Counts) (code : List ℕ) (ordered : InOrder c code) where
               (length-levels c row r ∙ sym (length-gatesIn c code)) i (omega (arith, length-gatesIn c code)) x (s .before) (rw (order-at c code i h) y));
         }
 
-    pub settling-done : c .gates ≤ i → row ≡ grounded (settledHoldingIn held c code start)
+    pub settling-done : c .gates ≤ i → netsIn c row ≡ settledHoldingIn held c code start
     settling-done h =
         let r = s .row-for in
-        row-whole c row r
-        ∙ ap (λ (l : List ℕ). grounded (railPart c row ++ l))
+        take-add (2 * c .inputs) (c .gates) row
+        ∙ ap (λ (l : List ℕ). railPart c row ++ l)
         (settle-end (c .inputs) held (gatesIn c code) (orderIn c code) (railPart c row) (ordered .ordered) (length-rails c row r) (levelPart c row)
         (length-levels c row r ∙ sym (length-gatesIn c code)) i (omega (arith, length-gatesIn c code)) (s .before))
-        ∙ ap (λ (l : List ℕ). grounded (l ++ levelsHolding held (gatesIn c code) l)) (s .rails)
+        ∙ ap (λ (l : List ℕ). l ++ levelsHolding held (gatesIn c code) l) (s .rails)
 
 pub settle-none : (c : Counts) (code rails : List ℕ) → levelsHolding (c .gates) (gatesIn c code) rails ≡ settledLevels (gatesIn c code) rails
 settle-none c code rails = ap (λ (m : ℕ). levelsHolding m (gatesIn c code) rails) (sym (length-gatesIn c code)) ∙ holding-none (gatesIn c code) rails

@@ -13,7 +13,7 @@ use lib.Dec.{eqb}
 use borrow.Author.Tests.{eq-eqb, ne-eqb}
 use Rattle.netlist.specs.declared.Counts.{Counts}
 use Rattle.netlist.specs.Content.{Coded}
-use Rattle.verdict.specs.Answers.{operate, valuesAt, evaluate}
+use Rattle.verdict.specs.Answers.{operate, valuesAt, signalValues}
 use Rattle.circuit.specs.Reference.{operatorIn, operatorsIn}
 use Rattle.circuit.proofs.Tabulate.{length-tabulate, getD-tabulate}
 
@@ -52,12 +52,12 @@ module _ (c : Counts) (code : List ℕ) where
     pub within : k ≤ c .gates
     pub same-long : length values ≡ length start
     pub bits : (i : ℕ) → getD values i 0 ≤ 1
-    pub all : evaluate (take (c .inputs + k) values) (drop k (operatorsIn c code)) ≡ evaluate (take (c .inputs) start) (operatorsIn c code)
+    pub all : signalValues (take (c .inputs + k) values) (drop k (operatorsIn c code)) ≡ signalValues (take (c .inputs) start) (operatorsIn c code)
 
   pub values-start : (values : List ℕ) → ((i : ℕ) → getD values i 0 ≤ 1) → ValuesTo values values 0
   values-start values b =
       let e : c .inputs + 0 ≡ c .inputs = omega arith in
-      record { within = omega arith; same-long = refl; bits = b; all = ap (λ (m : ℕ). evaluate (take m values) (operatorsIn c code)) e }
+      record { within = omega arith; same-long = refl; bits = b; all = ap (λ (m : ℕ). signalValues (take m values) (operatorsIn c code)) e }
 
   length-operators : length (operatorsIn c code) ≡ c .gates
   unfolding operatorsIn
@@ -72,7 +72,7 @@ module _ (c : Counts) (code : List ℕ) where
   module _ (start values : List ℕ) (k : ℕ) (v : ValuesTo start values k) where
     pub values-turn : c .inputs + c .gates ≤ length start → k < c .gates → (x : ℕ) →
         (x ≡ operate (operatorIn code k .code) (valuesAt (take (c .inputs + k) values) (operatorIn code k .operands))) × (x ≤ 1) → ValuesTo start (set values (c .inputs + k) x) (k + 1)
-    unfolding evaluate
+    unfolding signalValues
     values-turn room h x is =
         let at = c .inputs + k in
         let e : c .inputs + (k + 1) ≡ suc at = omega arith in
@@ -81,10 +81,10 @@ module _ (c : Counts) (code : List ℕ) where
           same-long = length-set values at x ∙ v .same-long;
           bits = λ i. bit i (ℕ-discrete i at);
           all =
-              ap₂ (λ (a b : ℕ). evaluate (take a (set values at x)) (drop b (operatorsIn c code))) e (add-one k)
-              ∙ ap (λ (l : List ℕ). evaluate l (drop (suc k) (operatorsIn c code))) (take-suc-set values at x (omega (arith, v .same-long)))
-              ∙ ap (λ (y : ℕ). evaluate (take at values ++ (y ∷ [])) (drop (suc k) (operatorsIn c code))) (is .0)
-              ∙ sym (ap (evaluate (take at values)) (operators-from k h))
+              ap₂ (λ (a b : ℕ). signalValues (take a (set values at x)) (drop b (operatorsIn c code))) e (add-one k)
+              ∙ ap (λ (l : List ℕ). signalValues l (drop (suc k) (operatorsIn c code))) (take-suc-set values at x (omega (arith, v .same-long)))
+              ∙ ap (λ (y : ℕ). signalValues (take at values ++ (y ∷ [])) (drop (suc k) (operatorsIn c code))) (is .0)
+              ∙ sym (ap (signalValues (take at values)) (operators-from k h))
               ∙ v .all;
         }
       where
@@ -92,9 +92,9 @@ module _ (c : Counts) (code : List ℕ) where
         bit i (yes q) = rw q (omega (arith, is .1, getD-set-same values (c .inputs + k) x 0 (omega (arith, v .same-long))))
         bit i (no d) = omega (arith, getD-set-other values (c .inputs + k) i x 0 d, v .bits i)
 
-    pub values-done : c .gates ≤ k → take (c .inputs + c .gates) values ≡ evaluate (take (c .inputs) start) (operatorsIn c code)
-    unfolding evaluate
+    pub values-done : c .gates ≤ k → take (c .inputs + c .gates) values ≡ signalValues (take (c .inputs) start) (operatorsIn c code)
+    unfolding signalValues
     values-done h =
         let e : k ≡ c .gates = omega (arith, v .within) in
         let z : drop k (operatorsIn c code) ≡ [] = ap (λ (m : ℕ). drop m (operatorsIn c code)) (e ∙ sym length-operators) ∙ drop-length (operatorsIn c code) in
-        ap (λ (m : ℕ). take (c .inputs + m) values) (sym e) ∙ sym (ap (evaluate (take (c .inputs + k) values)) z) ∙ v .all
+        ap (λ (m : ℕ). take (c .inputs + m) values) (sym e) ∙ sym (ap (signalValues (take (c .inputs + k) values)) z) ∙ v .all

@@ -1,24 +1,29 @@
--- Rows of a stage in its flat form: the rails, the gates' levels, and the ground.
+-- Rows of a stage in its flat form: the rails, the gates' levels, and the ground, which is low.
 use Prim.Native.Nat.{ℕ, _+_, _*_, _≤_, _<_}
 use mathlib.Core.Path.{_≡_}
 use mathlib.Core.Bool.{Bool, not}
-use mathlib.Core.List.{List, [], _∷_, _++_, map}
+use mathlib.Core.List.{List, _++_, map}
 use lib.ListN.{length, getD, set, take, drop}
 use Rattle.netlist.specs.declared.Counts.{Counts}
+use Rattle.netlist.specs.Reading.{stageLimits}
 use Rattle.netlist.specs.Content.{Gate}
 use Rattle.verdict.specs.Rows as rows
 use Rattle.circuit.specs.Stage.{netCount, pinIn, gatesIn, outputIn}
 use Rattle.circuit.specs.Order.{orderIn}
 
--- levels that are 0 and 1, one for each net, and 0 for the ground
+-- room for a row of the largest stage
+abbrev pub rowSize : ℕ
+rowSize = 2 * stageLimits .inputs + stageLimits .gates + 1
+
+-- levels that are 0 and 1 for the nets, and 0 for the ground; what stands after it is not read
 pub record RowFor (c : Counts) (row : List ℕ) : Type 0 where
-  pub long : length row ≡ netCount c + 1
-  pub bit : (p : ℕ) → getD row p 0 ≤ 1
+  pub long : netCount c < length row
+  pub bit : (p : ℕ) → p ≤ netCount c → getD row p 0 ≤ 1
   pub ground : getD row (netCount c) 0 ≡ 0
 
--- a row with the ground after it
-abbrev pub grounded : List ℕ → List ℕ
-grounded row = row ++ (0 ∷ [])
+-- the levels of the nets: the rails, then the gates' levels
+abbrev pub netsIn : Counts → List ℕ → List ℕ
+netsIn c row = take (netCount c) row
 
 abbrev pub railPart : Counts → List ℕ → List ℕ
 railPart c row = take (2 * c .inputs) row

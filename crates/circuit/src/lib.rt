@@ -7,18 +7,21 @@ ghost use Prim.Native.Nat.{ℕ, _+_, _≤_, _<_, min, max};
 ghost use lib.ListN.{length, getD, take};
 ghost use Rattle.gates.specs.Table.{GateTable};
 ghost use Rattle.verdict.specs.Rows as rows;
-ghost use Rattle.verdict.specs.Checks.{least};
+ghost use Rattle.verdict.specs.Search.{least};
 ghost use Rattle.verdict.specs.Answers as answers;
 ghost use Rattle.circuit.specs.Stage.{gateIn, gatesIn, outputIn, outputsIn, StageLoaded};
 ghost use Rattle.circuit.specs.Order.{InOrder};
-ghost use Rattle.circuit.specs.Rows.{RowFor, LevelOf, patternIn, levelHolding, SettledTo, settledIn, settledHoldingIn, grounded, notData, misread};
+ghost use Rattle.circuit.specs.Rows.{RowFor, netsIn, LevelOf, patternIn, levelHolding, SettledTo, settledIn, settledHoldingIn, notData, misread};
 ghost use Rattle.circuit.specs.Reference.{operatorIn, operatorsIn, signalIn, ReferenceLoaded};
+
+// A byte for each net of the largest stage, and one for the ground.
+pub const ROW: usize = 2 * netlist::INPUTS + netlist::STAGE_GATES + 1;
 
 // ---- one gate
 
 // The level of a net in a row, or the value of a signal.
 fn level(row: &[u8], net: u16) -> u8
-    requires { ⌜ (net < length (now row)) × ((p : ℕ) → getD (now row) p 0 ≤ 1) ⌝ }
+    requires { ⌜ (net < length (now row)) × (getD (now row) net 0 ≤ 1) ⌝ }
     ensures { λ r. ⌜ LevelOf (now (row .entry)) net r ⌝ }
 {
     let p = net as usize;
@@ -28,7 +31,7 @@ fn level(row: &[u8], net: u16) -> u8
 // The pattern of the pins of gate k; those that it lacks are at the ground, and so low.
 pub fn pattern(code: &[u16], counts: Counts, k: usize, row: &[u8]) -> u8
     requires { ⌜ StageLoaded counts (now code) × (k < counts .gates) × RowFor counts (now row) ⌝ }
-    ensures { λ r. ⌜ r ≡ patternIn (now (row .entry)) (now (code .entry)) k ⌝ }
+    ensures { λ r. ⌜ r ≡ patternIn (netsIn counts (now (row .entry))) (now (code .entry)) k ⌝ }
 {
     let at = 8 * k;
     let a = level(row, code[at + 1]);
@@ -41,7 +44,7 @@ pub fn pattern(code: &[u16], counts: Counts, k: usize, row: &[u8]) -> u8
 // 1 where the set expression of gate k holds, else 0.
 fn gate_level(entries: &[[u8; 16]; 27], code: &[u16], counts: Counts, k: usize, row: &[u8]) -> u8
     requires { ⌜ GateTable (now entries) × StageLoaded counts (now code) × (k < counts .gates) × RowFor counts (now row) ⌝ }
-    ensures { λ r. ⌜ r ≡ rows.isSet (now (row .entry)) (gateIn (now (code .entry)) k) ⌝ }
+    ensures { λ r. ⌜ r ≡ rows.isSet (netsIn counts (now (row .entry))) (gateIn (now (code .entry)) k) ⌝ }
 {
     let cell = (code[8 * k] % 256) as u8;
     gates::sets(entries, cell, pattern(code, counts, k, row))
@@ -57,7 +60,7 @@ fn level_holding(
     held: usize,
 ) -> u8
     requires { ⌜ GateTable (now entries) × StageLoaded counts (now code) × (k < counts .gates) × RowFor counts (now row) ⌝ }
-    ensures { λ r. ⌜ (r ≡ levelHolding held (gatesIn counts (now (code .entry))) (now (row .entry)) k) × (r ≤ 1) ⌝ }
+    ensures { λ r. ⌜ (r ≡ levelHolding held (gatesIn counts (now (code .entry))) (netsIn counts (now (row .entry))) k) × (r ≤ 1) ⌝ }
 {
     if k == held {
         return 0;
@@ -71,7 +74,7 @@ fn level_holding(
 // none is. The gates before that place have their levels already.
 pub fn settle_from(code: &[u16], counts: Counts, row: &mut [u8], start: usize, held: usize)
     requires { ⌜ StageLoaded counts (now code) × InOrder counts (now code) × RowFor counts (now row) × SettledTo start held counts (now code) (now row) ⌝ }
-    ensures settled { λ r. ⌜ now (row .exit) ≡ grounded (settledHoldingIn held counts (now (code .entry)) (now (row .entry))) ⌝ }
+    ensures settled { λ r. ⌜ netsIn counts (now (row .exit)) ≡ settledHoldingIn held counts (now (code .entry)) (now (row .entry)) ⌝ }
     ensures row { λ r. ⌜ RowFor counts (now (row .exit)) ⌝ }
 {
     let entries = gates::table();
@@ -88,7 +91,7 @@ pub fn settle_from(code: &[u16], counts: Counts, row: &mut [u8], start: usize, h
 // The gates settle for the rails in the row, whatever their levels were.
 pub fn settle(code: &[u16], counts: Counts, row: &mut [u8])
     requires { ⌜ StageLoaded counts (now code) × InOrder counts (now code) × RowFor counts (now row) ⌝ }
-    ensures settled { λ r. ⌜ now (row .exit) ≡ grounded (settledIn counts (now (code .entry)) (now (row .entry))) ⌝ }
+    ensures settled { λ r. ⌜ netsIn counts (now (row .exit)) ≡ settledIn counts (now (code .entry)) (now (row .entry)) ⌝ }
     ensures row { λ r. ⌜ RowFor counts (now (row .exit)) ⌝ }
 {
     let none = counts.gates;
@@ -100,7 +103,7 @@ pub fn settle(code: &[u16], counts: Counts, row: &mut [u8])
 // Whether output j is DATA: exactly one of its rails is high.
 fn is_data(code: &[u16], counts: Counts, row: &[u8], j: usize) -> bool
     requires { ⌜ StageLoaded counts (now code) × (j < counts .outputs) × RowFor counts (now row) ⌝ }
-    ensures { λ r. ⌜ r ≡ rows.isData (rows.pairIn (now (row .entry)) (outputIn counts (now (code .entry)) j)) ⌝ }
+    ensures { λ r. ⌜ r ≡ rows.isData (rows.pairIn (netsIn counts (now (row .entry))) (outputIn counts (now (code .entry)) j)) ⌝ }
 {
     let at = 8 * counts.gates + 2 * j;
     level(row, code[at]) != level(row, code[at + 1])
@@ -109,7 +112,7 @@ fn is_data(code: &[u16], counts: Counts, row: &[u8], j: usize) -> bool
 // The least output that is not DATA.
 pub fn first_not_data(code: &[u16], counts: Counts, row: &[u8]) -> Found
     requires { ⌜ StageLoaded counts (now code) × RowFor counts (now row) ⌝ }
-    ensures { λ r. ⌜ r ≡ least (notData counts (now (code .entry)) (now (row .entry))) 0 (counts .outputs) ⌝ }
+    ensures { λ r. ⌜ r ≡ least (notData counts (now (code .entry)) (netsIn counts (now (row .entry)))) 0 (counts .outputs) ⌝ }
 {
     let count = counts.outputs;
     let mut j: usize = 0;
@@ -126,7 +129,7 @@ pub fn first_not_data(code: &[u16], counts: Counts, row: &[u8]) -> Found
 // Whether all outputs are DATA.
 pub fn all_data(code: &[u16], counts: Counts, row: &[u8]) -> bool
     requires { ⌜ StageLoaded counts (now code) × RowFor counts (now row) ⌝ }
-    ensures { λ r. ⌜ r ≡ rows.allData (now (row .entry)) (outputsIn counts (now (code .entry))) ⌝ }
+    ensures { λ r. ⌜ r ≡ rows.allData (netsIn counts (now (row .entry))) (outputsIn counts (now (code .entry))) ⌝ }
 {
     match first_not_data(code, counts, row) {
         Found::At(_) => false,
@@ -182,7 +185,7 @@ fn operator_value(code: &[u16], counts: Counts, k: usize, values: &[u8]) -> u8
 // The values of all signals: the inputs' are there, and each gate's is written after those before it.
 pub fn signal_values(code: &[u16], counts: Counts, values: &mut [u8])
     requires { ⌜ ReferenceLoaded counts (now code) × (counts .inputs + counts .gates ≤ length (now values)) × ((i : ℕ) → getD (now values) i 0 ≤ 1) ⌝ }
-    ensures { λ r. ⌜ (take (counts .inputs + counts .gates) (now (values .exit)) ≡ answers.evaluate (take (counts .inputs) (now (values .entry))) (operatorsIn counts (now (code .entry)))) × ((i : ℕ) → getD (now (values .exit)) i 0 ≤ 1) ⌝ }
+    ensures { λ r. ⌜ (take (counts .inputs + counts .gates) (now (values .exit)) ≡ answers.signalValues (take (counts .inputs) (now (values .entry))) (operatorsIn counts (now (code .entry)))) × ((i : ℕ) → getD (now (values .exit)) i 0 ≤ 1) ⌝ }
 {
     let inputs = counts.inputs;
     let count = counts.gates;
@@ -196,7 +199,7 @@ pub fn signal_values(code: &[u16], counts: Counts, values: &mut [u8])
 // Whether output j is DATA1 for the value 1 and DATA0 for 0.
 fn reads_as(code: &[u16], counts: Counts, row: &[u8], j: usize, value: u8) -> bool
     requires { ⌜ StageLoaded counts (now code) × (j < counts .outputs) × RowFor counts (now row) × (value ≤ 1) ⌝ }
-    ensures { λ r. ⌜ r ≡ rows.spells (rows.pairIn (now (row .entry)) (outputIn counts (now (code .entry)) j)) value ⌝ }
+    ensures { λ r. ⌜ r ≡ rows.spells (rows.pairIn (netsIn counts (now (row .entry))) (outputIn counts (now (code .entry)) j)) value ⌝ }
 {
     let at = 8 * counts.gates + 2 * j;
     let rail0 = level(row, code[at]);
@@ -218,7 +221,7 @@ pub fn first_misread(
     values: &[u8],
 ) -> Found
     requires { ⌜ StageLoaded counts (now code) × RowFor counts (now row) × ReferenceLoaded sizes (now reference) × (counts .outputs ≤ sizes .outputs) × (sizes .inputs + sizes .gates ≤ length (now values)) × ((i : ℕ) → getD (now values) i 0 ≤ 1) ⌝ }
-    ensures { λ r. ⌜ r ≡ least (misread counts (now (code .entry)) (now (row .entry)) (λ j. getD (now (values .entry)) (signalIn sizes (now (reference .entry)) j) 0)) 0 (counts .outputs) ⌝ }
+    ensures { λ r. ⌜ r ≡ least (misread counts (now (code .entry)) (netsIn counts (now (row .entry))) (λ j. getD (now (values .entry)) (signalIn sizes (now (reference .entry)) j) 0)) 0 (counts .outputs) ⌝ }
 {
     let count = counts.outputs;
     let first = 3 * sizes.gates;

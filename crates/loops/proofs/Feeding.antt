@@ -2,11 +2,12 @@
 -- Assumes nothing.
 use Prim.Native.Nat.{ℕ, zero, suc, _+_, _*_, _≤_, _<_}
 use native.Mathlib.Omega.{arith}
-use native.Mathlib.Decide.{decLt}
+use native.Mathlib.Decide.{decLt, ℕ-discrete}
 use mathlib.Core.Path.{_≡_, refl, sym, ap, _∙_}
 use mathlib.Core.Bool.{Bool, false, _||_}
 use mathlib.Core.List.{List, [], _∷_}
-use lib.ListN.{length, getD, take}
+use lib.ListN.{length, getD, take, set, length-set}
+use lib.Seq.{getD-set-same, getD-set-other}
 use lib.Dec.{ltb}
 use borrow.Author.Tests.{lt-ltb, le-ltb}
 use Rattle.gates.specs.Cell.{pinCount}
@@ -15,10 +16,11 @@ use Rattle.netlist.specs.Content.{Gate}
 use Rattle.verdict.specs.Rows.{high}
 use Rattle.verdict.specs.Graph.{anyHigh}
 use Rattle.verdict.specs.Loops.{pinsAt}
-use Rattle.circuit.specs.Stage.{cellIn, pinIn, gateIn, gatesIn, StageLoaded}
-use Rattle.circuit.specs.Rows.{RowFor, patternIn}
+use Rattle.circuit.specs.Stage.{netCount, cellIn, pinIn, gateIn, gatesIn, StageLoaded}
+use Rattle.circuit.specs.Rows.{RowFor, netsIn, patternIn}
+use Rattle.circuit.proofs.Pins.{pattern-nets}
 use Rattle.circuit.proofs.Tabulate.{getD-tabulate, map-tabulate}
-use Rattle.loops.specs.Marks.{fedBy}
+use Rattle.loops.specs.Marks.{MarksFor, fedBy}
 
 pub pinsAt-gatesIn : (c : Counts) (code : List ℕ) (k : ℕ) → k < c .gates → pinsAt (gatesIn c code) k ≡ gateIn code k .pins
 unfolding gatesIn
@@ -42,13 +44,32 @@ any-four a b c d = go (decLt 0 a) (decLt 0 b) (decLt 0 c) (decLt 0 d)
     go (no x) (no y) (no z) (no w) = rw (none a x, none b y, none c z, none d w) (le-ltb 0 (a + 2 * b + 4 * c + 8 * d) (omega arith))
 
 -- nets of which those from place m on are unmarked
-any-first : (marks nets : List ℕ) (m : ℕ) → ((i : ℕ) → m ≤ i → i < length nets → high marks (getD nets i 0) ≡ false) → anyHigh marks nets ≡ anyHigh marks (take m nets)
+any-first : (marks nets : List ℕ) (m : ℕ) → ((i : ℕ) → m ≤ i → i < length nets → high marks (getD nets i 0) ≡ false) →
+    anyHigh marks nets ≡ anyHigh marks (take m nets)
 any-first marks [] zero low = refl
 any-first marks [] (suc m) low = refl
 any-first marks (p ∷ nets) zero low = rw (low 0 (omega arith) (omega arith)) (any-first marks nets zero (λ i h l. low (suc i) (omega arith) (omega arith)))
 any-first marks (p ∷ nets) (suc m) low = ap (λ (b : Bool). high marks p || b) (any-first marks nets m (λ i h l. low (suc i) (omega arith) (omega arith)))
 
-module _ (c : Counts) (code marks : List ℕ) (loaded : StageLoaded c code) (m : RowFor c marks) (k : ℕ) (h : k < c .gates) where
+-- ---- marks are rows of their stage
+
+pub marks-row : (c : Counts) (marks : List ℕ) → MarksFor c marks → RowFor c marks
+marks-row c marks m = record { long = omega (arith, m .long, m .room); bit = λ p h. m .bit p; ground = m .ground }
+
+-- after a store of 0 or 1 at a net
+pub marks-set : (c : Counts) (marks : List ℕ) → MarksFor c marks → (p x : ℕ) → p < netCount c → x ≤ 1 → MarksFor c (set marks p x)
+marks-set c marks m p x h l = record {
+  long = length-set marks p x ∙ m .long;
+  room = m .room;
+  bit = λ q. go q (ℕ-discrete q p);
+  ground = getD-set-other marks p (netCount c) x 0 (λ e. omega arith) ∙ m .ground;
+}
+  where
+    go : (q : ℕ) → Dec (q ≡ p) → getD (set marks p x) q 0 ≤ 1
+    go q (yes e) = rw e (omega (arith, getD-set-same marks p x 0 (omega (arith, m .long, m .room))))
+    go q (no d) = omega (arith, getD-set-other marks p q x 0 d, m .bit q)
+
+module _ (c : Counts) (code marks : List ℕ) (loaded : StageLoaded c code) (m : MarksFor c marks) (k : ℕ) (h : k < c .gates) where
   abbrev four : List ℕ
   four = pinIn code k 0 ∷ pinIn code k 1 ∷ pinIn code k 2 ∷ pinIn code k 3 ∷ []
 
@@ -62,8 +83,9 @@ module _ (c : Counts) (code marks : List ℕ) (loaded : StageLoaded c code) (m :
   low (suc (suc (suc zero))) a l = at 3 a l
   low (suc (suc (suc (suc i)))) a l = absurd (omega arith)
 
-  pub fed-pattern : ltb 0 (patternIn marks code k) ≡ fedBy (gatesIn c code) marks k
+  pub fed-pattern : ltb 0 (patternIn (netsIn c marks) code k) ≡ fedBy (gatesIn c code) marks k
   fed-pattern =
-      any-four (getD marks (pinIn code k 0) 0) (getD marks (pinIn code k 1) 0) (getD marks (pinIn code k 2) 0) (getD marks (pinIn code k 3) 0)
+      ap (ltb 0) (sym (pattern-nets c code marks loaded (marks-row c marks m) k h))
+      ∙ any-four (getD marks (pinIn code k 0) 0) (getD marks (pinIn code k 1) 0) (getD marks (pinIn code k 2) 0) (getD marks (pinIn code k 3) 0)
       ∙ any-first marks four (pinCount (cellIn code k)) low
       ∙ ap (anyHigh marks) (sym (pinsAt-gatesIn c code k h))

@@ -11,36 +11,47 @@ use Rattle.netlist.specs.Content.{Gate}
 use Rattle.verdict.specs.Rows.{high}
 use Rattle.verdict.specs.Graph.{Leads, anyHigh}
 use Rattle.verdict.specs.Loops.{pinsAt, gateSteps, reachesItself}
-use Rattle.verdict.specs.Checks.{least}
+use Rattle.verdict.specs.Search.{least}
 use Rattle.verdict.specs.Levels.{sum}
 use Rattle.circuit.specs.Stage.{netCount, gatesIn, stageIn, StageLoaded}
 use Rattle.circuit.specs.Order.{InOrder}
-use Rattle.circuit.specs.Rows.{RowFor}
+use Rattle.circuit.specs.Rows.{rowSize}
 
--- a row with no mark
+-- marks on the nets of a stage, and none on the ground
+pub record MarksFor (c : Counts) (marks : List ℕ) : Type 0 where
+  pub long : length marks ≡ rowSize
+  pub room : netCount c < rowSize
+  pub bit : (p : ℕ) → getD marks p 0 ≤ 1
+  pub ground : getD marks (netCount c) 0 ≡ 0
+
+-- no net is marked
 pub record Unmarked (c : Counts) (marks : List ℕ) : Type 0 where
-  pub long : length marks ≡ netCount c + 1
+  pub marks-for : MarksFor c marks
   pub none : (p : ℕ) → getD marks p 0 ≡ 0
 
 -- a marked net is at a pin of gate k
 abbrev pub fedBy : List Gate → List ℕ → ℕ → Bool
 fedBy gates marks k = anyHigh marks (pinsAt gates k)
 
+-- through the pins of a loaded stage net p leads to net q
+abbrev pub LeadsIn : Counts → List ℕ → ℕ → ℕ → Type 0
+LeadsIn c code q p = Leads (gateSteps (c .inputs) (gatesIn c code)) q p
+
 -- In a pass the gates before k have had their turn: marks stay, new ones are on nets that lead to marked ones, and there are more of
 -- them, or each of these gates that has a marked net at a pin is marked.
 pub record Grown (c : Counts) (code before marks : List ℕ) (more : Bool) (k : ℕ) : Type 0 where
-  pub row-for : RowFor c marks
+  pub marks-for : MarksFor c marks
   pub kept : (p : ℕ) → high before p ≡ true → high marks p ≡ true
-  pub back : (p : ℕ) → high marks p ≡ true → (q : ℕ) × (high before q ≡ true) × Leads (gateSteps (c .inputs) (gatesIn c code)) q p
+  pub back : (p : ℕ) → high marks p ≡ true → (q : ℕ) × (high before q ≡ true) × LeadsIn c code q p
   pub no-less : sum before ≤ sum marks
   pub rose : more ≡ true → sum before < sum marks
   pub done : more ≡ false → (j : ℕ) → j < k → fedBy (gatesIn c code) marks j ≡ true → high marks (2 * c .inputs + j) ≡ true
 
 -- The net of gate g is marked, and marked nets lead to it.
 pub record Marking (c : Counts) (code : List ℕ) (g : ℕ) (marks : List ℕ) : Type 0 where
-  pub row-for : RowFor c marks
+  pub marks-for : MarksFor c marks
   pub self : high marks (2 * c .inputs + g) ≡ true
-  pub back : (p : ℕ) → high marks p ≡ true → Leads (gateSteps (c .inputs) (gatesIn c code)) (2 * c .inputs + g) p
+  pub back : (p : ℕ) → high marks p ≡ true → LeadsIn c code (2 * c .inputs + g) p
 
 -- 12: the least gate that reaches itself. The stage is the same; where no gate was found its gates are in order.
 pub record LoopFound (c : Counts) (before code : List ℕ) (found : Found) : Type 0 where

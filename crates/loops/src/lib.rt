@@ -7,17 +7,14 @@ ghost use mathlib.Core.Bool.{Bool, true, false};
 ghost use Prim.Native.Nat.{ℕ, _+_, _<_};
 ghost use lib.ListN.{length};
 ghost use Rattle.verdict.specs.Loops.{reachesItself};
-ghost use Rattle.verdict.specs.Checks.{least};
+ghost use Rattle.verdict.specs.Search.{least};
 ghost use Rattle.circuit.specs.Stage.{gatesIn, StageLoaded};
-ghost use Rattle.circuit.specs.Rows.{RowFor};
-ghost use Rattle.loops.specs.Placing.{Placing, isReady, WaitTo, Passed, Ordered, Reordered};
-ghost use Rattle.loops.specs.Marks.{Unmarked, fedBy, Marking, Grown, LoopFound};
-
-const ROW: usize = 2 * netlist::INPUTS + netlist::STAGE_GATES + 1;
+ghost use Rattle.loops.specs.Placing.{Placing, isReady, WaitTo, PassTo, Ordered, Reordered};
+ghost use Rattle.loops.specs.Marks.{MarksFor, Unmarked, fedBy, Marking, Grown, LoopFound};
 
 // Whether a marked net is at a pin of gate k.
 fn fed(code: &[u16], counts: Counts, k: usize, marks: &[u8]) -> bool
-    requires { ⌜ StageLoaded counts (now code) × (k < counts .gates) × RowFor counts (now marks) ⌝ }
+    requires { ⌜ StageLoaded counts (now code) × (k < counts .gates) × MarksFor counts (now marks) ⌝ }
     ensures { λ r. ⌜ r ≡ fedBy (gatesIn counts (now (code .entry))) (now (marks .entry)) k ⌝ }
 {
     0 < circuit::pattern(code, counts, k, marks)
@@ -39,7 +36,7 @@ fn wait_all(counts: Counts, marks: &mut [u8])
 
 // Whether gate k is to be placed: it waits, and no waiting gate feeds it.
 fn is_ready(code: &[u16], counts: Counts, k: usize, waiting: &[u8]) -> bool
-    requires { ⌜ StageLoaded counts (now code) × (k < counts .gates) × RowFor counts (now waiting) ⌝ }
+    requires { ⌜ StageLoaded counts (now code) × (k < counts .gates) × MarksFor counts (now waiting) ⌝ }
     ensures { λ r. ⌜ r ≡ isReady counts (now (code .entry)) (now (waiting .entry)) k ⌝ }
 {
     if waiting[2 * counts.inputs + k] == 0 {
@@ -61,7 +58,7 @@ fn place(code: &mut [u16], counts: Counts, k: usize, waiting: &mut [u8], placed:
 // A pass over the gates: each that is ready takes the next place of the order. How many places are taken then.
 fn place_ready(code: &mut [u16], counts: Counts, waiting: &mut [u8], taken: usize) -> usize
     requires { ⌜ Placing counts (now code) (now waiting) taken ⌝ }
-    ensures { λ r. ⌜ Passed counts (now (code .exit)) (now (waiting .exit)) taken r (counts .gates) × Reordered counts (now (code .entry)) (now (code .exit)) ⌝ }
+    ensures { λ r. ⌜ PassTo counts (now (code .exit)) (now (waiting .exit)) taken r (counts .gates) × Reordered counts (now (code .entry)) (now (code .exit)) ⌝ }
 {
     let mut placed = taken;
     let mut k: usize = 0;
@@ -96,7 +93,7 @@ fn place_all(code: &mut [u16], counts: Counts, waiting: &mut [u8]) -> usize
 
 // A pass over the gates: each with a marked net at a pin is marked. Whether one was not marked before.
 fn mark_fed(code: &[u16], counts: Counts, marks: &mut [u8]) -> bool
-    requires { ⌜ StageLoaded counts (now code) × RowFor counts (now marks) ⌝ }
+    requires { ⌜ StageLoaded counts (now code) × MarksFor counts (now marks) ⌝ }
     ensures { λ r. ⌜ Grown counts (now (code .entry)) (now (marks .entry)) (now (marks .exit)) r (counts .gates) ⌝ }
 {
     let mut more = false;
@@ -128,11 +125,10 @@ fn least_loop(code: &[u16], counts: Counts) -> Found
     requires { ⌜ StageLoaded counts (now code) ⌝ }
     ensures { λ r. ⌜ r ≡ least (reachesItself (counts .inputs) (gatesIn counts (now (code .entry)))) 0 (counts .gates) ⌝ }
 {
-    let nets = 2 * counts.inputs + counts.gates;
     let mut g: usize = 0;
     while g < counts.gates {
-        let mut marks = [0u8; ROW];
-        if reaches_itself(code, counts, g, &mut marks[..nets + 1]) {
+        let mut marks = [0u8; circuit::ROW];
+        if reaches_itself(code, counts, g, &mut marks) {
             return Found::At(g);
         }
         g += 1;
@@ -145,9 +141,8 @@ pub fn order_gates(code: &mut [u16], counts: Counts) -> Found
     requires { ⌜ StageLoaded counts (now code) ⌝ }
     ensures { λ r. ⌜ LoopFound counts (now (code .entry)) (now (code .exit)) r ⌝ }
 {
-    let nets = 2 * counts.inputs + counts.gates;
-    let mut waiting = [0u8; ROW];
-    let placed = place_all(code, counts, &mut waiting[..nets + 1]);
+    let mut waiting = [0u8; circuit::ROW];
+    let placed = place_all(code, counts, &mut waiting);
     if placed == counts.gates {
         return Found::Nothing;
     }

@@ -1,4 +1,4 @@
--- Both rails of one input set low: that input is NULL, and the others are as they were.
+-- Both rails of one input set low: that input is NULL, and the others are as they were. 14 for that input.
 -- Assumes nothing.
 use Prim.Native.Nat.{ℕ, zero, suc, _+_, _*_, _<_}
 use native.Mathlib.Omega.{arith}
@@ -6,8 +6,16 @@ use mathlib.Core.Path.{_≡_, refl, sym, ap, ap₂, _∙_, fun-ext}
 use mathlib.Core.Bool.{Bool, false, cond}
 use mathlib.Core.List.{List, [], _∷_}
 use lib.ListN.{length, set}
+use lib.Seq.{take-set-lt}
 use lib.Dec.{eqb·zero-suc, eqb·suc-zero, eqb·suc-suc}
-use Rattle.verdict.specs.Rows.{only, withNull}
+use Rattle.runs.specs.Row.{only}
+use Rattle.netlist.specs.declared.Counts.{Counts}
+use Rattle.verdict.specs.Words.{bitsOf, railsOf}
+use Rattle.verdict.specs.Rows.{withNull, settled, allData}
+use Rattle.verdict.specs.Checks.{incomplete}
+use Rattle.circuit.specs.Stage.{gatesIn, outputsIn, stageIn}
+use Rattle.circuit.specs.Rows.{RowFor, railPart, settledIn}
+use Rattle.circuit.proofs.Settling.{length-rails, row-set}
 
 -- no input is missing
 null-none : (rails : List ℕ) → withNull (λ i. false) rails ≡ rails
@@ -31,3 +39,22 @@ null-input (a ∷ b ∷ rails) (suc i) h =
     let e : 2 * suc i ≡ suc (suc (2 * i)) = omega arith in
     let f : 2 * suc i + 1 ≡ suc (suc (2 * i + 1)) = omega arith in
     ap₂ (λ (x y : ℕ). set (set (a ∷ b ∷ rails) x 0) y 0) e f ∙ ap (λ (l : List ℕ). a ∷ b ∷ l) (null-input rails i (omega arith)) ∙ sym (null-later i a b rails)
+
+-- ---- 14
+
+module _ (c : Counts) (row : List ℕ) (r : RowFor c row) (i : ℕ) (h : i < c .inputs) where
+  pub null-row : RowFor c (set (set row (2 * i) 0) (2 * i + 1) 0)
+  null-row = row-set c (set row (2 * i) 0) (row-set c row r (2 * i) 0 (omega arith) (omega arith)) (2 * i + 1) 0 (omega arith) (omega arith)
+
+  null-rails : railPart c (set (set row (2 * i) 0) (2 * i + 1) 0) ≡ withNull (only i) (railPart c row)
+  null-rails =
+      take-set-lt (2 * c .inputs) (set row (2 * i) 0) (2 * i + 1) 0 (omega arith)
+      ∙ ap (λ (l : List ℕ). set l (2 * i + 1) 0) (take-set-lt (2 * c .inputs) row (2 * i) 0 (omega arith))
+      ∙ null-input (railPart c row) i (omega (arith, length-rails c row r))
+
+  pub null-word : (code : List ℕ) (w : ℕ) → railPart c row ≡ railsOf (bitsOf (c .inputs) w) → (nets : List ℕ) → nets ≡ settledIn c code (set (set row (2 * i) 0) (2 * i + 1) 0) →
+      (b : Bool) → b ≡ allData nets (outputsIn c code) → b ≡ incomplete (stageIn c code) w i
+  unfolding incomplete
+  null-word code w spelt nets is b e =
+      e ∙ ap (λ (l : List ℕ). allData l (outputsIn c code)) is
+      ∙ ap (λ (l : List ℕ). allData (settled (gatesIn c code) l) (outputsIn c code)) (null-rails ∙ ap (withNull (only i)) spelt)

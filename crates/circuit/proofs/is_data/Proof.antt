@@ -1,7 +1,6 @@
 -- `circuit::is_data` meets its contract. Assumes nothing.
-use native.Mathlib.Omega.{arith}
 use denote.Ref.{now}
-use Rattle.circuit.proofs.Outputs.{levels-data}
+use Rattle.circuit.proofs.Outputs.{rail0-there, rail1-there, levels-data}
 use borrow.Author.Needs.{needs}
 use Rattle.circuit.proofs.is_data.Statement.{statement}
 use Rattle.circuit.proofs.is_data.Tie as tie
@@ -22,7 +21,7 @@ shared-slice-read-level : tie.Need-shared-slice-read-level
 shared-slice-read-level c = search needs
 
 level-requires : tie.Need-level-requires
-level-requires c κs = let z = c .before .before .before .before in (omega (arith, z .pre .0 .rail0-net (z .args .j) (z .pre .1), z .pre .2 .long), z .pre .2 .bit)
+level-requires c κs = let z = c .before .before .before .before in rail0-there (z .args .counts) (now (z .args .code)) (now (z .args .row)) (z .pre .0) (z .pre .2) (z .args .j) (z .pre .1)
 
 add-level : tie.Need-add-level
 add-level c = search needs
@@ -34,10 +33,10 @@ shared-slice-read-level-2 : tie.Need-shared-slice-read-level-2
 shared-slice-read-level-2 c = search needs
 
 level-requires-2 : tie.Need-level-requires-2
-level-requires-2 c κs = let z = c .before .before .before .before .before .before in (omega (arith, z .pre .0 .rail1-net (z .args .j) (z .pre .1), z .pre .2 .long), z .pre .2 .bit)
+level-requires-2 c κs = let z = c .before .before .before .before .before .before in rail1-there (z .args .counts) (now (z .args .code)) (now (z .args .row)) (z .pre .0) (z .pre .2) (z .args .j) (z .pre .1)
 
 returns : tie.Need-returns
-returns c = levels-data (now (c .before .before .before .before .before .before .before .args .row)) _ _ _ _ (c .before .before .level .ensures) (c .level2 .ensures)
+returns c = let z = c .before .before .before .before .before .before .before in levels-data (z .args .counts) (now (z .args .code)) (now (z .args .row)) (z .pre .0) (z .pre .2) (z .args .j) (z .pre .1) _ _ (c .before .before .level .ensures) (c .level2 .ensures)
 
 pub is-data-spec : {M : Type 1} → statement M
 is-data-spec =

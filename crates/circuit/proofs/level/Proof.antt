@@ -7,7 +7,7 @@ shared-slice-read-result : tie.Need-shared-slice-read-result
 shared-slice-read-result c = search needs
 
 returns : tie.Need-returns
-returns c = record { is = search needs; small = c .before .pre .1 _ }
+returns c = record { is = search needs; small = c .before .pre .1 }
 
 pub level-spec : {M : Type 1} → statement M
 level-spec = tie.close (tie.spec shared-slice-read-result returns)

@@ -2,13 +2,14 @@
 use native.Mathlib.Omega.{arith}
 use denote.Ref.{now}
 use Rattle.verdict.proofs.Gates.{isSet-binary}
+use Rattle.circuit.specs.Rows.{netsIn}
 use Rattle.circuit.proofs.Settling.{held-at, set-at}
 use borrow.Author.Needs.{needs}
 use Rattle.circuit.proofs.level_holding.Statement.{statement}
 use Rattle.circuit.proofs.level_holding.Tie as tie
 
 returns : tie.Need-returns
-returns c = let z = c .before .before .before in (held-at (z .args .counts) (now (z .args .code)) (now (z .args .row)) _ _ (z .pre .2) (c .if1 .taken), omega arith)
+returns c = let z = c .before .before .before in (held-at (z .args .counts) (now (z .args .code)) (netsIn (z .args .counts) (now (z .args .row))) _ _ (z .pre .2) (c .if1 .taken), omega arith)
 
 gate-level-requires : tie.Need-gate-level-requires
 gate-level-requires c κs = search needs
@@ -16,7 +17,7 @@ gate-level-requires c κs = search needs
 returns-2 : tie.Need-returns-2
 returns-2 c =
     let z = c .before .before .before .before in (
-      set-at (z .args .counts) (now (z .args .code)) (now (z .args .row)) _ _ (z .pre .2) (c .before .if1 .left) _ (c .gate-level .ensures),
+      set-at (z .args .counts) (now (z .args .code)) (netsIn (z .args .counts) (now (z .args .row))) _ _ (z .pre .2) (c .before .if1 .left) _ (c .gate-level .ensures),
       rw (c .gate-level .ensures) (isSet-binary _ _),
     )
 

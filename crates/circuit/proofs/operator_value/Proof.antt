@@ -31,7 +31,7 @@ shared-slice-read-level : tie.Need-shared-slice-read-level
 shared-slice-read-level c = search needs
 
 level-requires : tie.Need-level-requires
-level-requires c κs = let z = c .before .before .before .before in (omega (arith, z .pre .0 .operand (z .args .k) 0 (z .pre .1) (omega arith)), z .pre .3)
+level-requires c κs = let z = c .before .before .before .before in (omega (arith, z .pre .0 .operand (z .args .k) 0 (z .pre .1) (omega arith)), z .pre .3 _)
 
 add-level-2 : tie.Need-add-level-2
 add-level-2 c = search needs
@@ -43,7 +43,7 @@ shared-slice-read-level-2 : tie.Need-shared-slice-read-level-2
 shared-slice-read-level-2 c = search needs
 
 level-requires-2 : tie.Need-level-requires-2
-level-requires-2 c κs = let z = c .before .before .before .before .before .before in (omega (arith, z .pre .0 .operand (z .args .k) 1 (z .pre .1) (omega arith)), z .pre .3)
+level-requires-2 c κs = let z = c .before .before .before .before .before .before in (omega (arith, z .pre .0 .operand (z .args .k) 1 (z .pre .1) (omega arith)), z .pre .3 _)
 
 operate-requires : tie.Need-operate-requires
 operate-requires c κs = search needs

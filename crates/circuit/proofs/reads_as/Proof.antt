@@ -1,7 +1,6 @@
 -- `circuit::reads_as` meets its contract. Assumes nothing.
-use native.Mathlib.Omega.{arith}
 use denote.Ref.{now}
-use Rattle.circuit.proofs.Outputs.{levels-spell, levels-misspell}
+use Rattle.circuit.proofs.Outputs.{rail0-there, rail1-there, levels-spell, levels-misspell}
 use borrow.Author.Needs.{needs}
 use Rattle.circuit.proofs.reads_as.Statement.{statement}
 use Rattle.circuit.proofs.reads_as.Tie as tie
@@ -22,7 +21,7 @@ shared-slice-read-level : tie.Need-shared-slice-read-level
 shared-slice-read-level c = search needs
 
 level-requires : tie.Need-level-requires
-level-requires c κs = let z = c .before .before .before .before in (omega (arith, z .pre .0 .rail0-net (z .args .j) (z .pre .1), z .pre .2 .long), z .pre .2 .bit)
+level-requires c κs = let z = c .before .before .before .before in rail0-there (z .args .counts) (now (z .args .code)) (now (z .args .row)) (z .pre .0) (z .pre .2) (z .args .j) (z .pre .1)
 
 add-level : tie.Need-add-level
 add-level c = search needs
@@ -34,7 +33,7 @@ shared-slice-read-level-2 : tie.Need-shared-slice-read-level-2
 shared-slice-read-level-2 c = search needs
 
 level-requires-2 : tie.Need-level-requires-2
-level-requires-2 c κs = let z = c .before .before .before .before .before .before in (omega (arith, z .pre .0 .rail1-net (z .args .j) (z .pre .1), z .pre .2 .long), z .pre .2 .bit)
+level-requires-2 c κs = let z = c .before .before .before .before .before .before in rail1-there (z .args .counts) (now (z .args .code)) (now (z .args .row)) (z .pre .0) (z .pre .2) (z .args .j) (z .pre .1)
 
 add-result : tie.Need-add-result
 add-result c = search needs
@@ -42,12 +41,12 @@ add-result c = search needs
 returns : tie.Need-returns
 returns c =
     let z = c .before .before .before .before .before .before .before .before in
-    levels-spell (now (z .args .row)) _ _ _ _ (c .before .before .before .level .ensures) (c .before .level2 .ensures) (z .args .value) (z .pre .3) (c .if1 .taken)
+    levels-spell (z .args .counts) (now (z .args .code)) (now (z .args .row)) (z .pre .0) (z .pre .2) (z .args .j) (z .pre .1) _ _ (c .before .before .before .level .ensures) (c .before .level2 .ensures) (z .args .value) (z .pre .3) (c .if1 .taken)
 
 returns-2 : tie.Need-returns-2
 returns-2 c =
     let z = c .before .before .before .before .before .before .before .before in
-    levels-misspell (now (z .args .row)) _ _ _ _ (c .before .before .before .level .ensures) (c .before .level2 .ensures) (z .args .value) (z .pre .3) (c .if1 .left)
+    levels-misspell (z .args .counts) (now (z .args .code)) (now (z .args .row)) (z .pre .0) (z .pre .2) (z .args .j) (z .pre .1) _ _ (c .before .before .before .level .ensures) (c .before .level2 .ensures) (z .args .value) (z .pre .3) (c .if1 .left)
 
 pub reads-as-spec : {M : Type 1} → statement M
 reads-as-spec =

@@ -22,7 +22,7 @@ mul-first : tie.Need-mul-first Inv-loop μ-loop
 mul-first c = omega arith
 
 loop-holds : tie.Need-loop-holds Inv-loop μ-loop
-loop-holds c = let z = c .before .before .before .before in record { row-for = z .pre .2; rails = refl; before = z .pre .3 }
+loop-holds c = let z = c .before .before .before .before in record { row-for = z .pre .2; same-long = refl; rails = refl; before = z .pre .3 }
 
 mul-k : tie.Need-mul-k Inv-loop μ-loop
 mul-k c = omega arith
@@ -69,7 +69,7 @@ loop-again c =
     settling-turn (z .args .counts) (now (z .args .code)) (z .pre .1) (z .args .held) (now (z .args .row)) (l .row) (l .i) (l .inv) (omega arith) _ (c .level-holding .ensures .0) (c .level-holding .ensures .1)
 
 same-length : tie.Need-same-length Inv-loop μ-loop
-same-length c = omega (arith, c .before .loop .inv .row-for .long, c .before .before .before .before .before .before .pre .2 .long)
+same-length c = c .before .loop .inv .same-long
 
 returns : tie.Need-returns Inv-loop μ-loop
 returns c =

@@ -1,13 +1,12 @@
 -- `loops::fed` meets its contract: some pin is marked where the pattern of the pins is above 0. Assumes nothing.
 use mathlib.Core.Path.{ap, _∙_}
 use lib.Dec.{ltb}
-use borrow.Author.Needs.{needs}
-use Rattle.loops.proofs.Feeding.{fed-pattern}
+use Rattle.loops.proofs.Feeding.{marks-row, fed-pattern}
 use Rattle.loops.proofs.fed.Statement.{statement}
 use Rattle.loops.proofs.fed.Tie as tie
 
 pattern-requires : tie.Need-pattern-requires
-pattern-requires c κs = search needs
+pattern-requires c κs = let z = c .before .before in (z .pre .0, z .pre .1, marks-row (z .args .counts) _ (z .pre .2))
 
 returns : tie.Need-returns
 returns c =

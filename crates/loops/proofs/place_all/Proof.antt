@@ -30,12 +30,14 @@ place-ready-requires : tie.Need-place-ready-requires Inv-loop μ-loop
 place-ready-requires c κs = c .before .before .before .before .loop .inv .1
 
 same-length : tie.Need-same-length Inv-loop μ-loop
-same-length c = let l = c .before .before .before .before .before .before .before .before .before .before .loop in c .before .before .before .before .before .place-ready .ensures .1 .long ∙ l .inv .0 .long
+same-length c =
+    let l = c .before .before .before .before .before .before .before .before .before .before .loop in
+    c .before .before .before .before .before .place-ready .ensures .1 .long ∙ l .inv .0 .long
 
 same-length-2 : tie.Need-same-length-2 Inv-loop μ-loop
 same-length-2 c =
     let z = c .before .before .before .before .before .before .before .before .before .before .before .before .before .before .before .before .before in
-    c .before .before .before .before .before .place-ready .ensures .0 .placing .row-for .long ∙ sym (z .pre .1 .long)
+    c .before .before .before .before .before .place-ready .ensures .0 .placing .marks-for .long ∙ sym (z .pre .1 .marks-for .long)
 
 returns : tie.Need-returns Inv-loop μ-loop
 returns c =
@@ -56,7 +58,7 @@ same-length-3 : tie.Need-same-length-3 Inv-loop μ-loop
 same-length-3 c = c .before .before .loop .inv .0 .long
 
 same-length-4 : tie.Need-same-length-4 Inv-loop μ-loop
-same-length-4 c = c .before .before .loop .inv .1 .row-for .long ∙ sym (c .before .before .before .before .before .before .before .before .before .pre .1 .long)
+same-length-4 c = c .before .before .loop .inv .1 .marks-for .long ∙ sym (c .before .before .before .before .before .before .before .before .before .pre .1 .marks-for .long)
 
 returns-2 : tie.Need-returns-2 Inv-loop μ-loop
 returns-2 c = let l = c .before .before .loop in (ordered-full _ _ _ _ (l .inv .1) (omega (arith, c .if1 .left)), l .inv .0)

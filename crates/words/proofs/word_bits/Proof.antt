@@ -1,10 +1,9 @@
 -- `words::word_bits` meets its contract. The loop's invariant: the bits before i are written, and those of `rest` are to come. Assumes nothing.
 use Prim.Native.Nat.{_-_}
-use mathlib.Core.Path.{sym, _∙_}
 use lib.ListN.{length}
 use native.Mathlib.Omega.{arith}
+use Rattle.words.proofs.Spelling.{BitsTo, bits-start, bits-turn, bits-done}
 use borrow.Author.Needs.{needs}
-use Rattle.words.proofs.Spelling.{BitsTo, bits-start, bits-step, bits-done}
 use Rattle.words.proofs.word_bits.Statement.{statement}
 use Rattle.words.proofs.word_bits.Tie as tie
 
@@ -30,7 +29,7 @@ loop-less : tie.Need-loop-less Inv-loop μ-loop
 loop-less c = search needs
 
 loop-again : tie.Need-loop-again Inv-loop μ-loop
-loop-again c = bits-step _ _ _ _ _ (c .before .loop .inv) (omega arith)
+loop-again c = bits-turn _ _ _ _ _ (c .before .loop .inv) (omega arith)
 
 same-length : tie.Need-same-length Inv-loop μ-loop
 same-length c = c .before .loop .inv .same-long
