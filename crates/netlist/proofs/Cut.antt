@@ -14,7 +14,7 @@ use Rattle.netlist.specs.Types.{File, Sort, Form, Limits, Counts, Cursor
 use Rattle.netlist.specs.Types.file
 use Rattle.netlist.specs.Types.sort
 use Rattle.netlist.specs.Bytes.{byte, operand}
-use Rattle.netlist.specs.Commands.{isSort, commandTable, formIn, formOf, width, needed, stray, misfitFrom, takeGate, takeSort, takeCommand, nextAt}
+use Rattle.netlist.specs.Commands.{isSort, commandTable, ownCommands, formIn, formOf, width, needed, stray, misfitFrom, takeGate, takeSort, takeCommand, nextAt}
 use Rattle.netlist.specs.Reading.{Reading, Places, noPlaces, countsOf, noted, finish, onNext, readFrom, readFile, stageLimits, referenceLimits}
 use Rattle.netlist.specs.Writing.{widthFor}
 use Rattle.netlist.specs.Read.{farthest, mostBytes}
@@ -155,9 +155,9 @@ readFile-take f most s m far = go (decLt m (length s))
         (near-start f most)
 
 pub stage-cut : (s : List ℕ) → readFile file.Stage stageLimits (take mostBytes s) ≡ readFile file.Stage stageLimits s
-unfolding commandTable formIn
+unfolding commandTable ownCommands formIn
 stage-cut s = readFile-take file.Stage stageLimits s mostBytes (omega arith)
 
 pub reference-cut : (s : List ℕ) → readFile file.Reference referenceLimits (take mostBytes s) ≡ readFile file.Reference referenceLimits s
-unfolding commandTable formIn
+unfolding commandTable ownCommands formIn
 reference-cut s = readFile-take file.Reference referenceLimits s mostBytes (omega arith)

@@ -11,7 +11,7 @@ use Rattle.netlist.specs.Types.{Limits}
 use Rattle.netlist.specs.Types.file
 use Rattle.netlist.specs.Types.sort
 use Rattle.netlist.specs.Bytes.{operand, operands, absent}
-use Rattle.netlist.specs.Commands.{commandTable, formIn}
+use Rattle.netlist.specs.Commands.{commandTable, ownCommands, formIn}
 use Rattle.netlist.specs.Reading.{nameable, Places, readFile, readable}
 use Rattle.netlist.specs.Content.{Coded, codedAt, Reference, referenceOf}
 use Rattle.netlist.specs.Writing.{operandCount, roleFor, Item, gate, output, gatesIn, outputsIn, ItemsFit, placesOf, All, FileFits, referenceItems, writeReference}
@@ -56,7 +56,7 @@ module _ (n g : ℕ) where
       )
 
   wires-signals : (vss : List (List ℕ)) → All (OutputFormed file.Reference n g) vss → All (λ v. v < n + g) (map signalOf vss)
-  unfolding commandTable formIn
+  unfolding commandTable ownCommands formIn
   wires-signals [] h = tt
   wires-signals (vs ∷ vss) h = (go vs (h .0 .whole) (h .0 .named), wires-signals vss (h .1))
     where
@@ -65,13 +65,13 @@ module _ (n g : ℕ) where
       go (v ∷ vs) e a = named-signal g n g v (a .0)
 
   signals-again : (vss : List (List ℕ)) → All (OutputFormed file.Reference n g) vss → All (λ vs. signalOf vs ∷ [] ≡ vs) vss
-  unfolding commandTable formIn
+  unfolding commandTable ownCommands formIn
   signals-again = All-map (OutputFormed file.Reference n g) (λ vs. signalOf vs ∷ [] ≡ vs) (λ vs w. signal-again vs (w .whole))
 
 -- ---- written and read
 
 signals-view : (s os : List ℕ) → map (λ p. operand s (p + 1)) os ≡ map (λ p. signalOf (wiredAt file.Reference s p)) os
-unfolding operands commandTable formIn
+unfolding operands commandTable ownCommands formIn
 signals-view s os = refl
 
 abbrev same : Coded → Coded
@@ -124,7 +124,7 @@ module _ (most : Limits) (s : List ℕ) (p : Places) (e : readFile file.Referenc
 
 module _ (n g : ℕ) (small : n + g ≤ absent) where
   operations-fit : (k : ℕ) (cs : List Coded) (rest : List Item) → k + length cs ≤ g → InOrder (n + k) cs → ((k : ℕ) → ItemsFit file.Reference n g k rest) → ItemsFit file.Reference n g k (map gate cs ++ rest)
-  unfolding nameable commandTable formIn
+  unfolding nameable commandTable ownCommands formIn
   operations-fit k [] rest l h r = r k
   operations-fit k (c ∷ cs) rest l h r =
       let inside = h .0 .operation-in in
@@ -140,7 +140,7 @@ module _ (n g : ℕ) (small : n + g ≤ absent) where
       )
 
   signals-fit : (vs : List ℕ) → All (λ v. v < n + g) vs → (k : ℕ) → ItemsFit file.Reference n g k (map (λ v. output (v ∷ [])) vs)
-  unfolding nameable commandTable formIn
+  unfolding nameable commandTable ownCommands formIn
   signals-fit [] h k = tt
   signals-fit (v ∷ vs) h k =
       let a = h .0 in
