@@ -4,7 +4,6 @@
 use Prim.Native.Nat.{ℕ, zero, suc, _+_, _≤_, _<_}
 use native.Mathlib.Omega.{arith}
 use mathlib.Core.Path.{_≡_, refl, ap, ap₂, subst, _∙_}
-use mathlib.Core.Bool.{true}
 use mathlib.Core.List.{List, [], _∷_, _++_, map, map-map}
 use lib.ListN.{length, getD, length-map}
 use Rattle.netlist.specs.Types.{Limits}
@@ -14,7 +13,7 @@ use Rattle.netlist.specs.Bytes.{operand, operands, absent}
 use Rattle.netlist.specs.Commands.{commandTable, ownCommands, formIn}
 use Rattle.netlist.specs.Reading.{nameable, Places, readFile, readable}
 use Rattle.netlist.specs.Content.{Coded, codedAt, Reference, referenceOf}
-use Rattle.netlist.specs.Writing.{operandCount, roleFor, Item, gate, output, gatesIn, outputsIn, ItemsFit, placesOf, All, FileFits, referenceItems, writeReference}
+use Rattle.netlist.specs.Writing.{roleFor, Item, gate, output, gatesIn, outputsIn, ItemsFit, placesOf, All, FileFits, referenceItems, writeReference}
 use Rattle.netlist.specs.Formed.{OperationFormed, InOrder, ReferenceFormed}
 use Rattle.netlist.proofs.Lists.{Bytes, All-every, All-map}
 use Rattle.netlist.proofs.Encoding.{operation-needs}
@@ -123,7 +122,8 @@ module _ (most : Limits) (s : List ℕ) (p : Places) (e : readFile file.Referenc
 -- ---- a well-formed reference, and no other, fits a file
 
 module _ (n g : ℕ) (small : n + g ≤ absent) where
-  operations-fit : (k : ℕ) (cs : List Coded) (rest : List Item) → k + length cs ≤ g → InOrder (n + k) cs → ((k : ℕ) → ItemsFit file.Reference n g k rest) → ItemsFit file.Reference n g k (map gate cs ++ rest)
+  operations-fit : (k : ℕ) (cs : List Coded) (rest : List Item) → k + length cs ≤ g → InOrder (n + k) cs →
+      ((k : ℕ) → ItemsFit file.Reference n g k rest) → ItemsFit file.Reference n g k (map gate cs ++ rest)
   unfolding nameable commandTable ownCommands formIn
   operations-fit k [] rest l h r = r k
   operations-fit k (c ∷ cs) rest l h r =
@@ -159,8 +159,11 @@ module _ (most : Limits) (r : Reference) where
         inputs-byte = omega (arith, h .inputs-in);
         gates-in = rw g (h .gates-in);
         outputs-in = rw o (h .outputs-in);
-        items-fit = rw g (operations-fit (r .inputs) (length (r .gates)) in-reach 0 (r .gates) (map (λ v. output (v ∷ [])) (r .outputs)) (omega arith) ordered (signals-fit (r .inputs) (length (r .gates)) in-reach (r .outputs) (h .outputs-formed)));
+        items-fit = rw g (operations-fit (r .inputs) (length (r .gates)) in-reach 0 (r .gates) (map (λ v. output (v ∷ [])) (r .outputs)) (omega arith) ordered
+            (signals-fit (r .inputs) (length (r .gates)) in-reach (r .outputs) (h .outputs-formed)));
       }
 
   pub fits-reference : FileFits file.Reference most (r .inputs) (referenceItems r) → ReferenceFormed most r
-  fits-reference fits = subst (ReferenceFormed most) (referenceOf-writeReference most r fits) (reference-formed most (writeReference r) (placesOf file.Reference (r .inputs) (referenceItems r)) (read-writeReference most r fits))
+  fits-reference fits =
+      subst (ReferenceFormed most) (referenceOf-writeReference most r fits)
+      (reference-formed most (writeReference r) (placesOf file.Reference (r .inputs) (referenceItems r)) (read-writeReference most r fits))
