@@ -182,8 +182,8 @@ module _ {f : File} {most : Limits} {s : List ℕ} {long : ℕ} {places : List �
           rw e at (filled-next f s (w .filled) (omega (arith, walk-further)))
 
       -- the reading goes on with the places that the code has then
-      walk-on : isSort sort.End k ≡ false → (places′ : List ℕ) (c′ : Counts) → length places′ ≡ length places → standing most places′ c′ ≡ noted k s at (standing most places c) →
-          c′ .inputs < 256 → Near f most (at + widthFor f k) c′ → Walking f most s long places′ (next .at) c′
+      walk-on : isSort sort.End k ≡ false → (places′ : List ℕ) (c′ : Counts) → length places′ ≡ length places →
+          standing most places′ c′ ≡ noted k s at (standing most places c) → c′ .inputs < 256 → Near f most (at + widthFor f k) c′ → Walking f most s long places′ (next .at) c′
       unfolding onNext
       walk-on more places′ c′ same-length e small near = record {
         within = walk-further .1;
