@@ -7,7 +7,7 @@ use Rattle.netlist.specs.declared.File.{File}
 use Rattle.netlist.specs.declared.Limits.{Limits}
 use Rattle.netlist.specs.Bytes.{byte}
 use Rattle.netlist.specs.Commands.{formOf, width}
-use Rattle.netlist.specs.Reading.{Places, Reading, refused, readable}
+use Rattle.netlist.specs.Reading.{Reading, refused, readable}
 use Rattle.netlist.specs.Read.{farthest}
 
 -- k commands stand one after the other, each with all of its bytes, from one position to another
