@@ -44,7 +44,8 @@ any-four a b c d = go (decLt 0 a) (decLt 0 b) (decLt 0 c) (decLt 0 d)
     go (no x) (no y) (no z) (no w) = rw (none a x, none b y, none c z, none d w) (le-ltb 0 (a + 2 * b + 4 * c + 8 * d) (omega arith))
 
 -- nets of which those from place m on are unmarked
-any-first : (marks nets : List ℕ) (m : ℕ) → ((i : ℕ) → m ≤ i → i < length nets → high marks (getD nets i 0) ≡ false) → anyHigh marks nets ≡ anyHigh marks (take m nets)
+any-first : (marks nets : List ℕ) (m : ℕ) → ((i : ℕ) → m ≤ i → i < length nets → high marks (getD nets i 0) ≡ false) →
+    anyHigh marks nets ≡ anyHigh marks (take m nets)
 any-first marks [] zero low = refl
 any-first marks [] (suc m) low = refl
 any-first marks (p ∷ nets) zero low = rw (low 0 (omega arith) (omega arith)) (any-first marks nets zero (λ i h l. low (suc i) (omega arith) (omega arith)))

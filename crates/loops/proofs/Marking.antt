@@ -12,7 +12,7 @@ use borrow.Author.Tests.{lt-ltb, ltb-true}
 use Rattle.netlist.specs.declared.Counts.{Counts}
 use Rattle.netlist.specs.Reading.{stageLimits, Within}
 use Rattle.verdict.specs.Rows.{high}
-use Rattle.verdict.specs.Graph.{In, Leads, here, onward}
+use Rattle.verdict.specs.Graph.{In, here, onward}
 use Rattle.verdict.specs.Loops.{pinsAt, gateSteps, reachesItself}
 use Rattle.verdict.specs.Levels.{sum}
 use Rattle.verdict.proofs.Graph.{anyHigh-in, anyHigh-out, leads-trans}
@@ -20,7 +20,7 @@ use Rattle.verdict.proofs.Reaching.{steps-gate, step-gate, reaches-sound, reach
 use Rattle.circuit.specs.Stage.{netCount, gatesIn}
 use Rattle.circuit.proofs.Settling.{length-gatesIn}
 use Rattle.loops.proofs.Feeding.{marks-set}
-use Rattle.loops.specs.Marks.{MarksFor, Unmarked, fedBy, Grown, Marking}
+use Rattle.loops.specs.Marks.{MarksFor, Unmarked, fedBy, LeadsIn, Grown, Marking}
 use Rattle.loops.proofs.Sums.{sum-set, sum-bound}
 use Rattle.loops.proofs.Placing.{never, high-other, high-same}
 
@@ -63,7 +63,7 @@ module _ (c : Counts) (code before marks : List ℕ) (more : Bool) (k : ℕ) (w 
   inside = omega (arith, w .row-for .long)
 
   -- a net at a pin of gate k is marked, so the net of gate k leads to where that one does
-  feeds-back : fedBy (gatesIn c code) marks k ≡ true → (q : ℕ) × (high before q ≡ true) × Leads (gateSteps (c .inputs) (gatesIn c code)) q net
+  feeds-back : fedBy (gatesIn c code) marks k ≡ true → (q : ℕ) × (high before q ≡ true) × LeadsIn c code q net
   feeds-back f =
       let r = anyHigh-out marks (pinsAt (gatesIn c code) k) f in
       let b = w .back (r .0) (r .2) in
@@ -83,7 +83,7 @@ module _ (c : Counts) (code before marks : List ℕ) (more : Bool) (k : ℕ) (w 
       kept p e (yes q) = rw q (high-same marks net 1 inside)
       kept p e (no d) = high-other marks net 1 p d ∙ e
 
-      back : (p : ℕ) → high (set marks net 1) p ≡ true → Dec (p ≡ net) → (q : ℕ) × (high before q ≡ true) × Leads (gateSteps (c .inputs) (gatesIn c code)) q p
+      back : (p : ℕ) → high (set marks net 1) p ≡ true → Dec (p ≡ net) → (q : ℕ) × (high before q ≡ true) × LeadsIn c code q p
       back p e (yes q) = rw q (feeds-back f)
       back p e (no d) = w .back p (sym (high-other marks net 1 p d) ∙ e)
 
@@ -108,7 +108,8 @@ module _ (c : Counts) (code before marks : List ℕ) (more : Bool) (k : ℕ) (w 
   grow-marked d = grow-on (λ e. lt-ltb 0 (getD marks net 0) (omega (arith, d)))
 
 -- there are fewer left to mark
-pub grow-less : (c : Counts) (code before marks : List ℕ) (more : Bool) (k : ℕ) → Grown c code before marks more k → more ≡ true → netCount c + 1 - sum marks < netCount c + 1 - sum before
+pub grow-less : (c : Counts) (code before marks : List ℕ) (more : Bool) (k : ℕ) → Grown c code before marks more k → more ≡ true →
+    netCount c + 1 - sum marks < netCount c + 1 - sum before
 grow-less c code before marks more k w e = omega (arith, w .rose e, sum-bound marks (w .row-for .bit), w .row-for .long)
 
 -- ---- passes
@@ -124,7 +125,7 @@ module _ (c : Counts) (code : List ℕ) (g : ℕ) (hg : g < c .gates) where
       row : MarksFor c marks
       row = record { long = u .long; bit = λ p. omega (arith, u .none p); ground = u .none (netCount c) }
 
-      at : (p : ℕ) → high (set marks (2 * c .inputs + g) 1) p ≡ true → Dec (p ≡ 2 * c .inputs + g) → Leads (gateSteps (c .inputs) (gatesIn c code)) (2 * c .inputs + g) p
+      at : (p : ℕ) → high (set marks (2 * c .inputs + g) 1) p ≡ true → Dec (p ≡ 2 * c .inputs + g) → LeadsIn c code (2 * c .inputs + g) p
       at p e (yes q) = rw q here
       at p e (no d) = absurd (omega (arith, u .none p, ltb-true 0 (getD marks p 0) (sym (high-other marks (2 * c .inputs + g) 1 p d) ∙ e)))
 
@@ -133,11 +134,13 @@ module _ (c : Counts) (code : List ℕ) (g : ℕ) (hg : g < c .gates) where
     marking-more = record {
       row-for = w .row-for;
       self = w .kept (2 * c .inputs + g) (m .self);
-      back = λ p e. let r = w .back p e in leads-trans (gateSteps (c .inputs) (gatesIn c code)) (r .0) (2 * c .inputs + g) (r .2) (m .back (r .0) (r .1));
+      back = λ p e.
+          let r = w .back p e in
+          leads-trans (gateSteps (c .inputs) (gatesIn c code)) (r .0) (2 * c .inputs + g) (r .2) (m .back (r .0) (r .1));
     }
 
     module _ (last : more ≡ false) where
-      marked : {p : ℕ} → Leads (gateSteps (c .inputs) (gatesIn c code)) (2 * c .inputs + g) p → high after p ≡ true
+      marked : {p : ℕ} → LeadsIn c code (2 * c .inputs + g) p → high after p ≡ true
       marked here = marking-more .self
       marked (onward {x = x} {z = z} i l) =
           let s = step-gate (c .inputs) (gatesIn c code) x z i in

@@ -11,14 +11,15 @@ use borrow.Author.Tests.{le-ltb}
 use Rattle.netlist.specs.declared.Counts.{Counts}
 use Rattle.verdict.specs.Rows.{high}
 use Rattle.verdict.specs.Levels.{sum}
-use Rattle.verdict.specs.Loops.{In, pinsAt, Feeds, LoopFree}
+use Rattle.verdict.specs.Loops.{pinsAt, Feeds, LoopFree}
 use Rattle.verdict.proofs.Graph.{anyHigh-out}
 use Rattle.verdict.proofs.Reaching.{rankOf, rank-pin, placed-free}
 use Rattle.circuit.specs.Stage.{gateAtPlace, placeOf, gatesIn}
 use Rattle.circuit.specs.Order.{orderIn, InOrder}
 use Rattle.circuit.proofs.Tabulate.{length-tabulate}
 use Rattle.circuit.proofs.Settling.{length-gatesIn, order-at}
-use Rattle.loops.specs.Placing.{Gone, Placing, Passed, Ordered}
+use Rattle.loops.specs.Placing.{Waits, Gone, Placing, Passed, Ordered}
+use Rattle.loops.specs.Marks.{fedBy}
 use Rattle.loops.proofs.Sums.{get-≤-sum, sum-some}
 
 module _ (c : Counts) (code waiting : List ℕ) (placed : ℕ) (p : Placing c code waiting placed) where
@@ -73,21 +74,25 @@ module _ (c : Counts) (code waiting : List ℕ) (placed : ℕ) (p : Placing c co
 
   -- ---- stuck: each gate that waits has one that waits, of lower rank, at a pin
 
-  module _ (stuck : (k : ℕ) → k < c .gates → high waiting (2 * c .inputs + k) ≡ true → (q : ℕ) × In q (pinsAt (gatesIn c code) k) × (high waiting q ≡ true)) (free : LoopFree (c .inputs) (gatesIn c code)) where
-    descent : (r q : ℕ) → high waiting q ≡ true → rankOf (c .inputs) (gatesIn c code) q < r → ⊥
-    descent zero q w l = omega arith
-    descent (suc r) q w l =
-        let o = p .only q w in
-        let s = stuck (o .0) (o .1) (subst (λ (x : ℕ). high waiting x ≡ true) (o .2) w) in
-        let e = ap (rankOf (c .inputs) (gatesIn c code)) (o .2) in
-        descent r (s .0) (s .2) (omega (arith, rank-pin (c .inputs) (gatesIn c code) free (s .0) (o .0) (s .1)))
+  module _
+      (stuck : (k : ℕ) → k < c .gates → Waits c waiting k → fedBy (gatesIn c code) waiting k ≡ true)
+      (free : LoopFree (c .inputs) (gatesIn c code))
+    where
+      descent : (r q : ℕ) → high waiting q ≡ true → rankOf (c .inputs) (gatesIn c code) q < r → ⊥
+      descent zero q w l = omega arith
+      descent (suc r) q w l =
+          let o = p .only q w in
+          let s = anyHigh-out waiting (pinsAt (gatesIn c code) (o .0)) (stuck (o .0) (o .1) (subst (λ (x : ℕ). high waiting x ≡ true) (o .2) w)) in
+          let e = ap (rankOf (c .inputs) (gatesIn c code)) (o .2) in
+          descent r (s .0) (s .2) (omega (arith, rank-pin (c .inputs) (gatesIn c code) free (s .0) (o .0) (s .1)))
 
-    stuck-full : placed ≡ c .gates
-    stuck-full = go (decLt 0 (sum waiting))
-      where
-        go : Dec (0 < sum waiting) → placed ≡ c .gates
-        go (yes h) = let s = sum-some waiting h in absurd (descent (suc (rankOf (c .inputs) (gatesIn c code) (s .0))) (s .0) (s .1) (omega arith))
-        go (no h) = omega (arith, p .total)
+      -- so there is none
+      stuck-full : placed ≡ c .gates
+      stuck-full = go (decLt 0 (sum waiting))
+        where
+          go : Dec (0 < sum waiting) → placed ≡ c .gates
+          go (yes h) = let s = sum-some waiting h in absurd (descent (suc (rankOf (c .inputs) (gatesIn c code) (s .0))) (s .0) (s .1) (omega arith))
+          go (no h) = omega (arith, p .total)
 
   pub ordered-full : c .gates ≤ placed → Ordered c code placed
   ordered-full h =
@@ -95,13 +100,11 @@ module _ (c : Counts) (code waiting : List ℕ) (placed : ℕ) (p : Placing c co
       record { loaded = p .loaded; all = all-ordered; some = λ d. absurd (d e) }
 
 -- the last pass placed no gate
-pub ordered-stuck : (c : Counts) (code waiting : List ℕ) (before placed : ℕ) → Passed c code waiting before placed (c .gates) → placed ≡ before → Ordered c code before
-ordered-stuck c code waiting before placed w e =
-    subst (Ordered c code) e (
-    record {
-      loaded = w .placing .loaded;
-      all = all-ordered c code waiting placed (w .placing);
-      some = λ d free.
-          d (stuck-full c code waiting placed (w .placing)
-          (λ k h v. anyHigh-out waiting (pinsAt (gatesIn c code) k) (w .none e k h v)) free);
-    })
+module _ (c : Counts) (code waiting : List ℕ) (before placed : ℕ) (w : Passed c code waiting before placed (c .gates)) where
+  pub ordered-stuck : placed ≡ before → Ordered c code before
+  ordered-stuck e = subst (Ordered c code) e (
+      record {
+        loaded = w .placing .loaded;
+        all = all-ordered c code waiting placed (w .placing);
+        some = λ d free. d (stuck-full c code waiting placed (w .placing) (w .none e) free);
+      })

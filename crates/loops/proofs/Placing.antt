@@ -171,13 +171,15 @@ module _ (c : Counts) (code waiting : List ℕ) (placed : ℕ) (p : Placing c co
       let o = other (gateAtPlace code i) (t .1) in
       subst (Taken i) (sym (gate-old i d)) (t .0, gone-old (gateAtPlace code i) o ∙ t .1, place-old (gateAtPlace code i) o ∙ t .2)
 
-  stands′ : (m : ℕ) → m < c .gates → Gone c waiting′ m → Dec (m ≡ k) → (placeOf code′ m < placed + 1) × (gateAtPlace code′ (placeOf code′ m) ≡ m)
+  stands′ : (m : ℕ) → m < c .gates → Gone c waiting′ m → Dec (m ≡ k) →
+      (placeOf code′ m < placed + 1) × (gateAtPlace code′ (placeOf code′ m) ≡ m)
   stands′ m h g (yes e) = rw e (omega (arith, place-new), ap (gateAtPlace code′) place-new ∙ gate-new)
   stands′ m h g (no d) =
       let s = p .stands m h (sym (gone-old m d) ∙ g) in
       (omega (arith, s .0, place-old m d), ap (gateAtPlace code′) (place-old m d) ∙ gate-old (placeOf code m) (λ e. omega (arith, s .0)) ∙ s .1)
 
-  earlier′ : (j m : ℕ) → j < c .gates → m < c .gates → Gone c waiting′ m → Feeds (c .inputs) (gatesIn c code) j m → Dec (m ≡ k) → Gone c waiting′ j × (placeOf code′ j < placeOf code′ m)
+  earlier′ : (j m : ℕ) → j < c .gates → m < c .gates → Gone c waiting′ m → Feeds (c .inputs) (gatesIn c code) j m → Dec (m ≡ k) →
+      Gone c waiting′ j × (placeOf code′ j < placeOf code′ m)
   earlier′ j m hj hm g f (yes e) =
       let gone : Gone c waiting j = low-mark j (rw e at f) in
       let o = other j gone in
@@ -216,7 +218,8 @@ pub pass-start : (c : Counts) (code waiting : List ℕ) (before : ℕ) → Placi
 pass-start c code waiting before p = record { placing = p; more = omega arith; none = λ e j h. absurd (omega arith) }
 
 module _ (c : Counts) (code waiting : List ℕ) (before placed k : ℕ) where
-  pub pass-place : (code′ waiting′ : List ℕ) → Passed c code waiting before placed k → Placing c code′ waiting′ (placed + 1) → Passed c code′ waiting′ before (placed + 1) (k + 1)
+  pub pass-place : (code′ waiting′ : List ℕ) → Passed c code waiting before placed k → Placing c code′ waiting′ (placed + 1) →
+      Passed c code′ waiting′ before (placed + 1) (k + 1)
   pass-place code′ waiting′ w p = record { placing = p; more = omega (arith, w .more); none = λ e. absurd (omega (arith, w .more)) }
 
   pub pass-skip : Passed c code waiting before placed k → isReady c code waiting k ≡ false → Passed c code waiting before placed (k + 1)

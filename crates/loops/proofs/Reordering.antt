@@ -18,7 +18,8 @@ pub reordered-trans : (c : Counts) (u v w : List ℕ) → Reordered c u v → Re
 reordered-trans c u v w p q = record { long = q .long ∙ p .long; kept = λ i a. q .kept i a ∙ p .kept i a }
 
 -- a number of the order is written
-pub reordered-set : (c : Counts) (before code : List ℕ) (at x : ℕ) → ((i : ℕ) → Apart c i → i ≡ at → ⊥) → Reordered c before code → Reordered c before (set code at x)
+pub reordered-set : (c : Counts) (before code : List ℕ) (at x : ℕ) → ((i : ℕ) → Apart c i → ¬ (i ≡ at)) → Reordered c before code →
+    Reordered c before (set code at x)
 reordered-set c before code at x other r = record {
   long = length-set code at x ∙ r .long;
   kept = λ i a. getD-set-other code at i x 0 (other i a) ∙ r .kept i a;

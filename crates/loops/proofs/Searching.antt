@@ -31,21 +31,24 @@ module _ (c : Counts) (before code : List ℕ) (r : Reordered c before code) (pl
   abbrev leastIn : List Gate → Found
   leastIn gates = least (reachesItself (c .inputs) gates) 0 (length gates)
 
+  abbrev test : ℕ → Bool
+  test = reachesItself (c .inputs) (gatesIn c code)
+
   pub found-none : placed ≡ c .gates → LoopFound c before code Nothing
   found-none e = record {
     loaded = o .loaded;
     same = stage-kept c before code r;
-    least-loop = sym (ap leastIn (sym (gates-kept c before code r)) ∙ none-least (reachesItself (c .inputs) (gatesIn c code)) 0 (length (gatesIn c code)) (λ k l b. o .all e .1 k (omega arith)));
+    least-loop = sym (none-least test 0 (length (gatesIn c code)) (λ k l b. o .all e .1 k (omega arith))) ∙ ap leastIn (gates-kept c before code r);
     in-order = λ q. o .all e .0;
   }
 
-  pub found-some : ¬ (placed ≡ c .gates) → (found : Found) → found ≡ least (reachesItself (c .inputs) (gatesIn c code)) 0 (c .gates) → LoopFound c before code found
+  pub found-some : ¬ (placed ≡ c .gates) → (found : Found) → found ≡ least test 0 (c .gates) → LoopFound c before code found
   found-some d found e = record {
     loaded = o .loaded;
     same = stage-kept c before code r;
     least-loop = f ∙ ap leastIn (gates-kept c before code r);
-    in-order = λ q. absurd (o .some d (λ g h. least-says (reachesItself (c .inputs) (gatesIn c code)) 0 (length (gatesIn c code)) Nothing (sym f ∙ q) g (omega arith) (omega arith)));
+    in-order = λ q. absurd (o .some d (λ g h. least-says test 0 (length (gatesIn c code)) Nothing (sym f ∙ q) g (omega arith) (omega arith)));
   }
     where
       f : found ≡ leastIn (gatesIn c code)
-      f = e ∙ ap (least (reachesItself (c .inputs) (gatesIn c code)) 0) (sym (length-gatesIn c code))
+      f = e ∙ ap (least test 0) (sym (length-gatesIn c code))

@@ -31,12 +31,16 @@ pub record Unmarked (c : Counts) (marks : List ℕ) : Type 0 where
 abbrev pub fedBy : List Gate → List ℕ → ℕ → Bool
 fedBy gates marks k = anyHigh marks (pinsAt gates k)
 
+-- through the pins of a loaded stage net p leads to net q
+abbrev pub LeadsIn : Counts → List ℕ → ℕ → ℕ → Type 0
+LeadsIn c code q p = Leads (gateSteps (c .inputs) (gatesIn c code)) q p
+
 -- In a pass the gates before k have had their turn: marks stay, new ones are on nets that lead to marked ones, and there are more of
 -- them, or each of these gates that has a marked net at a pin is marked.
 pub record Grown (c : Counts) (code before marks : List ℕ) (more : Bool) (k : ℕ) : Type 0 where
   pub row-for : MarksFor c marks
   pub kept : (p : ℕ) → high before p ≡ true → high marks p ≡ true
-  pub back : (p : ℕ) → high marks p ≡ true → (q : ℕ) × (high before q ≡ true) × Leads (gateSteps (c .inputs) (gatesIn c code)) q p
+  pub back : (p : ℕ) → high marks p ≡ true → (q : ℕ) × (high before q ≡ true) × LeadsIn c code q p
   pub no-less : sum before ≤ sum marks
   pub rose : more ≡ true → sum before < sum marks
   pub done : more ≡ false → (j : ℕ) → j < k → fedBy (gatesIn c code) marks j ≡ true → high marks (2 * c .inputs + j) ≡ true
@@ -45,7 +49,7 @@ pub record Grown (c : Counts) (code before marks : List ℕ) (more : Bool) (k : 
 pub record Marking (c : Counts) (code : List ℕ) (g : ℕ) (marks : List ℕ) : Type 0 where
   pub row-for : MarksFor c marks
   pub self : high marks (2 * c .inputs + g) ≡ true
-  pub back : (p : ℕ) → high marks p ≡ true → Leads (gateSteps (c .inputs) (gatesIn c code)) (2 * c .inputs + g) p
+  pub back : (p : ℕ) → high marks p ≡ true → LeadsIn c code (2 * c .inputs + g) p
 
 -- 12: the least gate that reaches itself. The stage is the same; where no gate was found its gates are in order.
 pub record LoopFound (c : Counts) (before code : List ℕ) (found : Found) : Type 0 where

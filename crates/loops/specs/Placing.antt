@@ -41,9 +41,11 @@ pub record Placing (c : Counts) (code waiting : List ℕ) (placed : ℕ) : Type 
   pub row-for : MarksFor c waiting
   pub total : sum waiting + placed ≡ c .gates
   pub only : (p : ℕ) → high waiting p ≡ true → (k : ℕ) × (k < c .gates) × (p ≡ 2 * c .inputs + k)
-  pub taken : (i : ℕ) → i < placed → (gateAtPlace code i < c .gates) × Gone c waiting (gateAtPlace code i) × (placeOf code (gateAtPlace code i) ≡ i)
+  pub taken : (i : ℕ) → i < placed →
+      (gateAtPlace code i < c .gates) × Gone c waiting (gateAtPlace code i) × (placeOf code (gateAtPlace code i) ≡ i)
   pub stands : (k : ℕ) → k < c .gates → Gone c waiting k → (placeOf code k < placed) × (gateAtPlace code (placeOf code k) ≡ k)
-  pub earlier : (j k : ℕ) → j < c .gates → k < c .gates → Gone c waiting k → Feeds (c .inputs) (gatesIn c code) j k → Gone c waiting j × (placeOf code j < placeOf code k)
+  pub earlier : (j k : ℕ) → j < c .gates → k < c .gates → Gone c waiting k → Feeds (c .inputs) (gatesIn c code) j k →
+      Gone c waiting j × (placeOf code j < placeOf code k)
 
 -- gate k waits, and no waiting gate feeds it
 abbrev pub isReady : Counts → List ℕ → List ℕ → ℕ → Bool

@@ -108,10 +108,6 @@ module _ (next : ℕ → List ℕ) (goal : ℕ → Bool) (size : ℕ) where
   round-at : (m : List ℕ) (x : ℕ) → x < size → high (round m) x ≡ (goal x || anyHigh m (next x))
   round-at m x h = high-bit (round m) x (goal x || anyHigh m (next x)) (getD-tabulate (λ x. bit (goal x || anyHigh m (next x))) size x 0 h)
 
-  pub leading-bits : Bits size (leading next goal size)
-  unfolding leading
-  leading-bits = rounds-bits round size round-bits round-rises size
-
   -- x leads to a goal among the nets
   abbrev pub ToGoal : ℕ → Type 0
   ToGoal x = (y : ℕ) × (y < size) × (goal y ≡ true) × Leads next y x
@@ -136,7 +132,7 @@ module _ (next : ℕ → List ℕ) (goal : ℕ → Bool) (size : ℕ) where
 
   pub leads-sound : (x : ℕ) → leads next goal size x ≡ true → ToGoal x
   unfolding leading
-  leads-sound x e = marks-sound size x e
+  leads-sound x e = marks-sound _ x e
 
   leads-at : (x : ℕ) → x < size → leads next goal size x ≡ (goal x || anyHigh (leading next goal size) (next x))
   unfolding leading

@@ -41,7 +41,9 @@ module _ (h : ℕ) (gates : List Gate) where
 
   pub holding-grows : (rails rails′ : List ℕ) → Below rails rails′ → Below (settledHolding h gates rails) (settledHolding h gates rails′)
   unfolding levelsHolding
-  holding-grows rails rails′ p = below-++ rails rails′ (levelsHolding h gates rails) (levelsHolding h gates rails′) p (rounds-mono (lowStep rails) (lowStep rails′) (step-rises rails rails′ p) (length gates) (length gates))
+  holding-grows rails rails′ p =
+      below-++ rails rails′ (levelsHolding h gates rails) (levelsHolding h gates rails′) p
+      (rounds-mono (lowStep rails) (lowStep rails′) (step-rises rails rails′ p) (length gates) (length gates))
 
   -- ---- one settled row
 
@@ -119,7 +121,9 @@ module _ (gates : List Gate) where
   -- settled rows grow with their rails
   pub settled-grows : (rails rails′ : List ℕ) → Below rails rails′ → Below (settled gates rails) (settled gates rails′)
   unfolding settledLevels
-  settled-grows rails rails′ p = below-++ rails rails′ (settledLevels gates rails) (settledLevels gates rails′) p (rounds-mono (λ v. map (isSet (rails ++ v)) gates) (λ v. map (isSet (rails′ ++ v)) gates) (plain-rises rails rails′ p) (length gates) (length gates))
+  settled-grows rails rails′ p =
+      below-++ rails rails′ (settledLevels gates rails) (settledLevels gates rails′) p
+      (rounds-mono (λ v. map (isSet (rails ++ v)) gates) (λ v. map (isSet (rails′ ++ v)) gates) (plain-rises rails rails′ p) (length gates) (length gates))
 
   -- a stage without loops has exactly one settled row for given rails: the computed one; and exactly one with gate h held low
   pub settled-one : (n : ℕ) → NoLoop n gates → (rails : List ℕ) → length rails ≡ 2 * n → (v : List ℕ) → LevelsSettled gates rails v → v ≡ settledLevels gates rails

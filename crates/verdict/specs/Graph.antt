@@ -21,8 +21,6 @@ pub data Leads (next : ℕ → List ℕ) (y : ℕ) : ℕ → Type 0 where
 abbrev pub OnLoop : (ℕ → List ℕ) → ℕ → Type 0
 OnLoop next x = (z : ℕ) × In z (next x) × Leads next x z
 
--- ---- the test, among the first `size` nets; that it tests these is a theorem
-
 abbrev pub anyHigh : List ℕ → List ℕ → Bool
 anyHigh row [] = false
 anyHigh row (p ∷ nets) = high row p || anyHigh row nets
@@ -32,10 +30,11 @@ unfoldable pub tabulate : {A : Type 0} → (ℕ → A) → ℕ → List A
 tabulate f zero = []
 tabulate f (suc m) = f 0 ∷ tabulate (λ i. f (suc i)) m
 
--- the nets that lead to a goal, marked by 1: in each round those that are a goal or have a marked net one step from them
+-- of the first `size` nets those that lead to a goal, marked by 1: in each round a net that is a goal or has a marked net one step from it
 unfoldable pub leading : (ℕ → List ℕ) → (ℕ → Bool) → ℕ → List ℕ
 leading next goal size = rounds (λ marks. tabulate (λ x. bit (goal x || anyHigh marks (next x))) size) size size
 
+-- x leads to a goal; x leads back to itself: that these tests pass exactly if that is so is a theorem
 abbrev pub leads : (ℕ → List ℕ) → (ℕ → Bool) → ℕ → ℕ → Bool
 leads next goal size x = high (leading next goal size) x
 

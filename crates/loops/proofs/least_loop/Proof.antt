@@ -45,7 +45,9 @@ reaches-itself-requires : tie.Need-reaches-itself-requires Inv-loop μ-loop
 reaches-itself-requires c κs = (c .before .before .before .before .before .before .before .pre, c .before .if1 .taken, row c)
 
 returns : tie.Need-returns Inv-loop μ-loop
-returns c = let l = c .before .before .before .before .before .before .loop in sought-here _ _ _ (c .before .before .before .before .if1 .taken) (l .inv .1) (sym (c .before .before .reaches-itself .ensures) ∙ c .if2 .taken)
+returns c =
+    let l = c .before .before .before .before .before .before .loop in
+    sought-here _ _ _ (c .before .before .before .before .if1 .taken) (l .inv .1) (sym (c .before .before .reaches-itself .ensures) ∙ c .if2 .taken)
 
 loop-again : tie.Need-loop-again Inv-loop μ-loop
 loop-again c =

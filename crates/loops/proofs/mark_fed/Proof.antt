@@ -34,10 +34,14 @@ slice-read-if2 : tie.Need-slice-read-if2 Inv-loop μ-loop
 slice-read-if2 c = omega (arith, c .before .before .before .before .loop .inv .1 .row-for .long)
 
 fed-requires : tie.Need-fed-requires Inv-loop μ-loop
-fed-requires c κs = (c .before .before .before .before .before .before .before .before .before .pre .0, c .before .before .before .before .if1 .taken, c .before .before .before .before .before .before .loop .inv .1 .row-for)
+fed-requires c κs =
+    let z = c .before .before .before .before .before .before .before .before .before in
+    (z .pre .0, c .before .before .before .before .if1 .taken, c .before .before .before .before .before .before .loop .inv .1 .row-for)
 
 slice-write-marks : tie.Need-slice-write-marks Inv-loop μ-loop
-slice-write-marks c = omega (arith, c .before .before .before .before .before .before .before .before .before .loop .inv .1 .row-for .long, c .before .before .before .before .before .before .before .if1 .taken)
+slice-write-marks c =
+    let l = c .before .before .before .before .before .before .before .before .before .loop in
+    omega (arith, l .inv .1 .row-for .long, c .before .before .before .before .before .before .before .if1 .taken)
 
 loop-again : tie.Need-loop-again Inv-loop μ-loop
 loop-again c =

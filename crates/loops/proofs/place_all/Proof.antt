@@ -30,7 +30,9 @@ place-ready-requires : tie.Need-place-ready-requires Inv-loop μ-loop
 place-ready-requires c κs = c .before .before .before .before .loop .inv .1
 
 same-length : tie.Need-same-length Inv-loop μ-loop
-same-length c = let l = c .before .before .before .before .before .before .before .before .before .before .loop in c .before .before .before .before .before .place-ready .ensures .1 .long ∙ l .inv .0 .long
+same-length c =
+    let l = c .before .before .before .before .before .before .before .before .before .before .loop in
+    c .before .before .before .before .before .place-ready .ensures .1 .long ∙ l .inv .0 .long
 
 same-length-2 : tie.Need-same-length-2 Inv-loop μ-loop
 same-length-2 c =

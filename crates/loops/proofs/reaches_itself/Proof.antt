@@ -39,10 +39,14 @@ loop-again c =
     marking-more _ _ _ (z .pre .1) _ (c .before .before .before .before .before .loop .inv) _ _ (c .before .before .before .mark-fed .ensures)
 
 fed-requires : tie.Need-fed-requires Inv-loop μ-loop
-fed-requires c κs = let z = c .before .before .before .before .before .before .before .before .before .before in (z .pre .0, z .pre .1, c .before .before .before .before .mark-fed .ensures .row-for)
+fed-requires c κs =
+    let z = c .before .before .before .before .before .before .before .before .before .before in
+    (z .pre .0, z .pre .1, c .before .before .before .before .mark-fed .ensures .row-for)
 
 same-length : tie.Need-same-length Inv-loop μ-loop
-same-length c = let z = c .before .before .before .before .before .before .before .before .before .before .before in c .before .before .before .before .before .mark-fed .ensures .row-for .long ∙ sym (z .pre .2 .long)
+same-length c =
+    let z = c .before .before .before .before .before .before .before .before .before .before .before in
+    c .before .before .before .before .before .mark-fed .ensures .row-for .long ∙ sym (z .pre .2 .long)
 
 returns : tie.Need-returns Inv-loop μ-loop
 returns c =
