@@ -1,58 +1,60 @@
+-- `load::load_reference` meets its contract. The loop's invariant: the numbers before i are written. Assumes nothing.
+use Prim.Native.Nat.{ℕ, _-_, _<_}
+use mathlib.Core.Path.{_≡_, refl}
+use native.Mathlib.Omega.{arith}
+use lib.ListN.{length, length-set}
+use denote.Ref.{now}
+use Rattle.load.specs.Load.{referenceNumber}
+use Rattle.load.proofs.Numbers.{WrittenTo, write-more}
+use Rattle.load.proofs.References.{reference-same, reference-loaded}
 use Rattle.load.proofs.load_reference.Statement.{statement}
 use Rattle.load.proofs.load_reference.Tie as tie
-use Rattle.load.proofs.load_reference.Reads as reads
-use Rattle.load.proofs.load_reference.Lts as lts
-use Rattle.load.proofs.reference_number.Reads as reference-number-reads
 
 abbrev Inv-loop : tie.InvT-loop
-Inv-loop s places counts code₀ end i₀ code i = ?
+Inv-loop s places counts code₀ end i₀ code i = (length code ≡ length code₀) × WrittenTo (referenceNumber s places counts) code i
 
 abbrev μ-loop : tie.MeasureT-loop
-μ-loop s places counts code₀ end i₀ code i = ?
+μ-loop s places counts code₀ end i₀ code i = end - i
 
--- src/lib.rt:121:15
 mul-end : tie.Need-mul-end Inv-loop μ-loop
-mul-end c = ?
+mul-end c = omega arith
 
--- src/lib.rt:121:15
 add-end : tie.Need-add-end Inv-loop μ-loop
-add-end c = ?
+add-end c = omega arith
 
--- src/lib.rt:123:5
 loop-holds : tie.Need-loop-holds Inv-loop μ-loop
-loop-holds c = ?
+loop-holds c = (refl, λ q h. absurd (omega arith))
 
--- src/lib.rt:124:19
 reference-number-requires : tie.Need-reference-number-requires Inv-loop μ-loop
-reference-number-requires c κs = ?
+reference-number-requires c κs = let z = c .before .before .before .before .before .before .before in (z .pre .0, omega arith)
 
--- src/lib.rt:124:9
 mul-code : tie.Need-mul-code Inv-loop μ-loop
-mul-code c = ?
+mul-code c = omega arith
 
--- src/lib.rt:124:9
 slice-write-code : tie.Need-slice-write-code Inv-loop μ-loop
-slice-write-code c = ?
+slice-write-code c = omega arith
 
--- src/lib.rt:125:9
 add-i : tie.Need-add-i Inv-loop μ-loop
-add-i c = ?
+add-i c = omega arith
 
--- src/lib.rt:123:5
 loop-less : tie.Need-loop-less Inv-loop μ-loop
-loop-less c = ?
+loop-less c = omega arith
 
--- src/lib.rt:123:5
 loop-again : tie.Need-loop-again Inv-loop μ-loop
-loop-again c = ?
+loop-again c =
+    let l = c .before .before .loop in
+    (simp length-set (l .inv .0), write-more _ (l .code) (l .i) _ (omega arith) (l .inv .1) (c .reference-number .ensures))
 
--- src/lib.rt:116:1
 same-length : tie.Need-same-length Inv-loop μ-loop
-same-length c = ?
+same-length c = c .before .loop .inv .0
 
--- src/lib.rt:116:1
 returns : tie.Need-returns Inv-loop μ-loop
-returns c = ?
+returns c =
+    let z = c .before .before .before .before .before .before .before in
+    let l = c .before .loop in (
+      reference-same (now (z .args .s)) (now (z .args .places)) (z .args .counts) (l .code) (z .pre .0) (omega arith) (λ q h. l .inv .1 q (omega arith)),
+      reference-loaded (now (z .args .s)) (now (z .args .places)) (z .args .counts) (l .code) (z .pre .0) (omega arith) (λ q h. l .inv .1 q (omega arith)),
+    )
 
 pub load-reference-spec : {M : Type 1} → statement M
 load-reference-spec =

@@ -1,62 +1,63 @@
+-- `load::load_stage` meets its contract. The loop's invariant: the numbers before i are written. Assumes nothing.
+use Prim.Native.Nat.{ℕ, _-_, _<_}
+use mathlib.Core.Path.{_≡_, refl}
+use native.Mathlib.Omega.{arith}
+use lib.ListN.{length, length-set}
+use denote.Ref.{now}
+use Rattle.load.specs.Load.{stageNumber}
+use Rattle.load.proofs.Numbers.{WrittenTo, write-more}
+use Rattle.load.proofs.Stages.{stage-same, stage-loaded}
 use Rattle.load.proofs.load_stage.Statement.{statement}
 use Rattle.load.proofs.load_stage.Tie as tie
-use Rattle.load.proofs.load_stage.Reads as reads
-use Rattle.load.proofs.load_stage.Lts as lts
-use Rattle.load.proofs.stage_number.Reads as stage-number-reads
 
 abbrev Inv-loop : tie.InvT-loop
-Inv-loop s places counts code₀ end i₀ code i = ?
+Inv-loop s places counts code₀ end i₀ code i = (length code ≡ length code₀) × WrittenTo (stageNumber s places counts) code i
 
 abbrev μ-loop : tie.MeasureT-loop
-μ-loop s places counts code₀ end i₀ code i = ?
+μ-loop s places counts code₀ end i₀ code i = end - i
 
--- src/lib.rt:73:15
 mul-end : tie.Need-mul-end Inv-loop μ-loop
-mul-end c = ?
+mul-end c = omega arith
 
--- src/lib.rt:73:34
 mul-end-2 : tie.Need-mul-end-2 Inv-loop μ-loop
-mul-end-2 c = ?
+mul-end-2 c = omega arith
 
--- src/lib.rt:73:15
 add-end : tie.Need-add-end Inv-loop μ-loop
-add-end c = ?
+add-end c = omega arith
 
--- src/lib.rt:75:5
 loop-holds : tie.Need-loop-holds Inv-loop μ-loop
-loop-holds c = ?
+loop-holds c = (refl, λ q h. absurd (omega arith))
 
--- src/lib.rt:76:19
 stage-number-requires : tie.Need-stage-number-requires Inv-loop μ-loop
-stage-number-requires c κs = ?
+stage-number-requires c κs = let z = c .before .before .before .before .before .before .before in (z .pre .0, omega arith)
 
--- src/lib.rt:76:9
 mul-code : tie.Need-mul-code Inv-loop μ-loop
-mul-code c = ?
+mul-code c = omega arith
 
--- src/lib.rt:76:9
 slice-write-code : tie.Need-slice-write-code Inv-loop μ-loop
-slice-write-code c = ?
+slice-write-code c = omega arith
 
--- src/lib.rt:77:9
 add-i : tie.Need-add-i Inv-loop μ-loop
-add-i c = ?
+add-i c = omega arith
 
--- src/lib.rt:75:5
 loop-less : tie.Need-loop-less Inv-loop μ-loop
-loop-less c = ?
+loop-less c = omega arith
 
--- src/lib.rt:75:5
 loop-again : tie.Need-loop-again Inv-loop μ-loop
-loop-again c = ?
+loop-again c =
+    let l = c .before .before .loop in
+    (simp length-set (l .inv .0), write-more _ (l .code) (l .i) _ (omega arith) (l .inv .1) (c .stage-number .ensures))
 
--- src/lib.rt:68:1
 same-length : tie.Need-same-length Inv-loop μ-loop
-same-length c = ?
+same-length c = c .before .loop .inv .0
 
--- src/lib.rt:68:1
 returns : tie.Need-returns Inv-loop μ-loop
-returns c = ?
+returns c =
+    let z = c .before .before .before .before .before .before .before in
+    let l = c .before .loop in (
+      stage-same (now (z .args .s)) (now (z .args .places)) (z .args .counts) (l .code) (z .pre .0) (omega arith) (λ q h. l .inv .1 q (omega arith)),
+      stage-loaded (now (z .args .s)) (now (z .args .places)) (z .args .counts) (l .code) (z .pre .0) (omega arith) (λ q h. l .inv .1 q (omega arith)),
+    )
 
 pub load-stage-spec : {M : Type 1} → statement M
 load-stage-spec =
