@@ -1,5 +1,6 @@
--- What loading asks of a file that was read, and the flat forms number by number.
+-- What loading asks of a file that was read, what it leaves, and the flat forms number by number.
 use Prim.Native.Nat.{ℕ, _+_, _-_, _*_, _/_, _%_, _≤_}
+use mathlib.Core.Path.{_≡_}
 use mathlib.Core.Bool.{cond}
 use mathlib.Core.List.{List}
 use lib.ListN.{length, getD, take, drop}
@@ -11,9 +12,11 @@ use Rattle.netlist.specs.declared.File.{File}
 use Rattle.netlist.specs.declared.Limits.{Limits}
 use Rattle.netlist.specs.declared.Counts.{Counts}
 use Rattle.netlist.specs.Bytes.{byte, operand}
-use Rattle.netlist.specs.Reading.{Places, Within, stageLimits, referenceLimits}
+use Rattle.netlist.specs.Reading.{Places, countsOf, Reading, refused, readable, Within, stageLimits, referenceLimits}
+use Rattle.netlist.specs.Content.{stageOf, referenceOf}
 use Rattle.netlist.specs.Read.{Read}
-use Rattle.circuit.specs.Stage.{netCount}
+use Rattle.circuit.specs.Stage.{netCount, stageIn, StageLoaded}
+use Rattle.circuit.specs.Reference.{referenceIn, ReferenceLoaded}
 
 -- the places that reading left in a lent slice: those of the gates first, those of the outputs from the most gates on
 abbrev pub placesIn : Limits → Counts → List ℕ → Places
@@ -25,7 +28,16 @@ pub record FileRead (f : File) (most : Limits) (s places : List ℕ) (c : Counts
   pub room : most .gates + most .outputs ≤ length places
   pub read : Read f most s (placesIn most c places)
 
--- ---- a stage
+-- what a reading leaves in a flat form: the stage, or the reference, where there is one
+unfoldable pub HoldsStage : List ℕ → Reading → List ℕ → Type 0
+HoldsStage s (refused number at) code = Unit {0}
+HoldsStage s (readable p) code = StageLoaded (countsOf p) code × (stageIn (countsOf p) code ≡ stageOf s p)
+
+unfoldable pub HoldsReference : List ℕ → Reading → List ℕ → Type 0
+HoldsReference s (refused number at) code = Unit {0}
+HoldsReference s (readable p) code = ReferenceLoaded (countsOf p) code × (referenceIn (countsOf p) code ≡ referenceOf s p)
+
+-- ---- a stage, number by number
 
 -- the net at pin i of the gate command at a place, or the ground where its kind lacks the pin
 unfoldable pub pinNumber : List ℕ → ℕ → ℕ → ℕ → ℕ → ℕ
@@ -50,7 +62,7 @@ stageNumber s places c i =
     (gateNumber s (getD places (i / 8) 0) (netCount c) (i % 8))
     (operand s (getD places (stageLimits .gates + j / 2) 0 + 1 + 2 * (j % 2)))
 
--- ---- a reference
+-- ---- a reference, number by number
 
 -- number j of a gate: its operation and its two operands; operation 1, NOT, has its first operand twice
 unfoldable pub operatorNumber : List ℕ → ℕ → ℕ → ℕ

@@ -1,15 +1,23 @@
 // Loading a stage or a reference that was read into its flat form, number by number. After this nothing looks at the bytes of a file.
 use gates::Kind;
 use netlist::Counts;
+use netlist::File;
+use netlist::Outcome;
 ghost use mathlib.Core.Path.{_≡_};
 ghost use Prim.Native.Nat.{_+_, _*_, _≤_, _<_};
 ghost use lib.ListN.{length};
 ghost use Rattle.netlist.specs.declared.File.the-variants as file;
-ghost use Rattle.netlist.specs.Reading.{stageLimits, referenceLimits};
+ghost use Rattle.netlist.specs.Reading.{readFile, stageLimits, referenceLimits};
+ghost use Rattle.netlist.specs.Read.{outcomeOf};
 ghost use Rattle.netlist.specs.Content.{stageOf, referenceOf};
 ghost use Rattle.circuit.specs.Stage.{netCount, stageIn, StageLoaded};
 ghost use Rattle.circuit.specs.Reference.{referenceIn, ReferenceLoaded};
-ghost use Rattle.load.specs.Load.{placesIn, FileRead, pinNumber, holdNumber, gateNumber, stageNumber, operatorNumber, referenceNumber};
+ghost use Rattle.load.specs.Load.{placesIn, FileRead, HoldsStage, HoldsReference, pinNumber, holdNumber, gateNumber, stageNumber, operatorNumber, referenceNumber};
+
+// The room that the flat forms of the largest stage and of the largest reference take.
+pub const STAGE_CODE: usize = 8 * netlist::STAGE_GATES + 2 * netlist::OUTPUTS;
+
+pub const REFERENCE_CODE: usize = 3 * netlist::REFERENCE_GATES + netlist::OUTPUTS;
 
 // ---- a stage
 
@@ -78,6 +86,20 @@ pub fn load_stage(s: &[u8], places: &[u16], counts: Counts, code: &mut [u16])
     }
 }
 
+// Reads a stage file, and loads the stage that it holds.
+pub fn read_stage(s: &[u8], code: &mut [u16]) -> Outcome
+    requires { ⌜ 8 * stageLimits .gates + 2 * stageLimits .outputs ≤ length (now code) ⌝ }
+    ensures answered { λ r. ⌜ r ≡ outcomeOf (readFile file.Stage stageLimits (now (s .entry))) ⌝ }
+    ensures loaded { λ r. ⌜ HoldsStage (now (s .entry)) (readFile file.Stage stageLimits (now (s .entry))) (now (code .exit)) ⌝ }
+{
+    let mut places = [0u16; netlist::STAGE_GATES + netlist::OUTPUTS];
+    let outcome = files::read_file(File::Stage, netlist::stage_limits(), s, &mut places);
+    if let Outcome::Readable(counts) = outcome {
+        load_stage(s, &places, counts, code);
+    }
+    outcome
+}
+
 // ---- a reference
 
 // Number j of the gate whose command stands at a place.
@@ -124,4 +146,18 @@ pub fn load_reference(s: &[u8], places: &[u16], counts: Counts, code: &mut [u16]
         code[i] = reference_number(s, places, counts, i);
         i += 1;
     }
+}
+
+// Reads a reference file, and loads the reference that it holds.
+pub fn read_reference(s: &[u8], code: &mut [u16]) -> Outcome
+    requires { ⌜ 3 * referenceLimits .gates + referenceLimits .outputs ≤ length (now code) ⌝ }
+    ensures answered { λ r. ⌜ r ≡ outcomeOf (readFile file.Reference referenceLimits (now (s .entry))) ⌝ }
+    ensures loaded { λ r. ⌜ HoldsReference (now (s .entry)) (readFile file.Reference referenceLimits (now (s .entry))) (now (code .exit)) ⌝ }
+{
+    let mut places = [0u16; netlist::REFERENCE_GATES + netlist::OUTPUTS];
+    let outcome = files::read_file(File::Reference, netlist::reference_limits(), s, &mut places);
+    if let Outcome::Readable(counts) = outcome {
+        load_reference(s, &places, counts, code);
+    }
+    outcome
 }
