@@ -1,85 +1,79 @@
+-- `rows::settle_stage` meets its contract. Assumes nothing.
+use native.Mathlib.Omega.{arith}
+use mathlib.Core.Path.{sym, _∙_}
+use denote.Ref.{now}
+use Rattle.rows.proofs.Cases.{is-12, is-16, is-17, is-0, rails-bits}
 use borrow.Author.Needs.{needs}
 use Rattle.rows.proofs.settle_stage.Statement.{statement}
 use Rattle.rows.proofs.settle_stage.Tie as tie
-use Rattle.rows.proofs.settle_stage.Reads as reads
-use Rattle.rows.proofs.settle_stage.Lts as lts
-use Rattle.loops.proofs.order_gates.Reads as order-gates-reads
-use Rattle.rows.proofs.illegal_input.Reads as illegal-input-reads
-use Rattle.rows.proofs.settle_row.Reads as settle-row-reads
 
--- src/lib.rt:84:27
 order-gates-requires : tie.Need-order-gates-requires
 order-gates-requires c κs = search needs
 
--- src/lib.rt:84:22
 enum-known-g : tie.Need-enum-known-g
 enum-known-g c = search needs
 
--- src/lib.rt:85:9
 same-length : tie.Need-same-length
 same-length c = search needs
 
--- src/lib.rt:85:9
 returns : tie.Need-returns
-returns c = ?
+returns c = let z = c .before .before .before .before .before .before .before .before .before in is-12 (z .args .counts) (now (z .args .code)) _ (now (z .args .row)) _ (c .before .before .before .before .before .order-gates .ensures) _ (c .before .g .given .1)
 
 enum-told : tie.Need-enum-told
 enum-told c = search needs
 
--- src/lib.rt:92:21
 mul-if1 : tie.Need-mul-if1
 mul-if1 c = search needs
 
--- src/lib.rt:92:21
 add-if1 : tie.Need-add-if1
 add-if1 c = search needs
 
--- src/lib.rt:93:9
 same-length-2 : tie.Need-same-length-2
 same-length-2 c = search needs
 
--- src/lib.rt:93:9
 returns-2 : tie.Need-returns-2
-returns-2 c = ?
+returns-2 c = let z = c .before .before .before .before .before .before .before .before .before .before .before in is-16 (z .args .counts) (now (z .args .code)) _ (now (z .args .row)) _ (c .before .before .before .before .before .before .before .order-gates .ensures) (c .before .before .before .enum-told .given .1) (c .if1 .taken)
 
--- src/lib.rt:100:27
 illegal-input-requires : tie.Need-illegal-input-requires
 illegal-input-requires c κs = search needs
 
--- src/lib.rt:100:22
 enum-known-i : tie.Need-enum-known-i
 enum-known-i c = search needs
 
--- src/lib.rt:101:9
 same-length-3 : tie.Need-same-length-3
 same-length-3 c = search needs
 
--- src/lib.rt:101:9
 same-length-4 : tie.Need-same-length-4
 same-length-4 c = search needs
 
--- src/lib.rt:101:9
 returns-3 : tie.Need-returns-3
-returns-3 c = ?
+returns-3 c =
+    let z = c .before .before .before .before .before .before .before .before .before .before .before .before .before .before .before .before in
+    is-17 (z .args .counts) (now (z .args .code)) _ (now (z .args .row)) _ (c .before .before .before .before .before .before .before .before .before .before .before .before .order-gates .ensures) (c .before .before .before .before .before .before .before .before .enum-told .given .1) (c .before .before .before .before .before .if1 .left) _
+    (c .before .before .before .illegal-input .ensures) _ (c .before .i .given .1)
 
 enum-told-2 : tie.Need-enum-told-2
 enum-told-2 c = search needs
 
--- src/lib.rt:108:5
 settle-row-requires : tie.Need-settle-row-requires
-settle-row-requires c κs = ?
+settle-row-requires c κs =
+    let z = c .before .before .before .before .before .before .before .before .before .before .before .before .before .before .before .before .before in
+    let l = c .before .before .before .before .before .before .before .before .before .before .before .before .before .order-gates .ensures in
+    let e = c .before .before .before .before .before .before .before .before .before .enum-told .given .1 in
+    (l .loaded, l .in-order e, c .before .before .before .before .before .before .if1 .left,
+    rails-bits (z .args .counts) (now (z .args .code)) _ (now (z .args .row)) _ l e (c .before .before .before .before .before .before .if1 .left) _ (c .before .before .before .before .illegal-input .ensures) (c .before .before .enum-told2 .given .1))
 
--- src/lib.rt:80:1
 same-length-5 : tie.Need-same-length-5
 same-length-5 c = search needs
 
--- src/lib.rt:80:1
 same-length-6 : tie.Need-same-length-6
 same-length-6 c = search needs
 
--- src/lib.rt:80:1
 returns-4 : tie.Need-returns-4
-returns-4 c = ?
+returns-4 c =
+    let z = c .before .before .before .before .before .before .before .before .before .before .before .before .before .before .before .before .before .before .before .before in
+    is-0 (z .args .counts) (now (z .args .code)) _ (now (z .args .row)) _ (c .before .before .before .before .before .before .before .before .before .before .before .before .before .before .before .before .order-gates .ensures) (c .before .before .before .before .before .before .before .before .before .before .before .before .enum-told .given .1) (c .before .before .before .before .before .before .before .before .before .if1 .left) _
+    (c .before .before .before .before .before .before .before .illegal-input .ensures) (c .before .before .before .before .before .enum-told2 .given .1) _ (c .before .before .settle-row .ensures)
 
 pub settle-stage-spec : {M : Type 1} → statement M
 settle-stage-spec =
