@@ -270,7 +270,7 @@ Computed =
 computed : Computed
 unfolding twelve examples ordered refused rowExamples wire wireReference wholeStage andReference swapped notReference earlyAnd wires wireSignals
     outputs firstInput gates inverters c.cells c.cellAt c.pinCount c.setExpression c.kindOf b.operand b.operands
-    k.whenFound k.commandTable k.formIn k.pinsNeeded k.needed k.stray k.misfit k.misfitFrom k.takeGate k.takeSort k.takeCommand k.nextAt
+    k.whenFound k.ownCommands k.commandTable k.formIn k.pinsNeeded k.needed k.stray k.misfit k.misfitFrom k.takeGate k.takeSort k.takeCommand k.nextAt
     r.nameable r.nameless r.usedOperands r.namelessAt r.namelessFrom r.noted r.finish r.onNext r.readFrom r.readFile t.stageOf t.referenceOf o.withNull o.isSet o.rounds o.settledLevels o.levelsHolding o.allData
     g.tabulate g.leading l.gateSteps l.reachesItself w.numbers w.words w.bitsOf w.railsOf a.operate a.signalValues a.answer h.first h.atFault h.sweep
     h.finding h.orLater h.firstFault h.wrong h.incomplete h.unobservable h.sweeps h.checks h.illegal h.rowChecks v.verdictOf v.judgeReference

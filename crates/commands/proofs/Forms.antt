@@ -1,6 +1,6 @@
 -- A byte that is in no row of the table, how many bytes a command has at most, and which bytes are an operation.
 -- Assumes nothing.
-use Prim.Native.Nat.{ℕ, zero, suc, _+_, _*_, _^_, _≤_, _<_}
+use Prim.Native.Nat.{ℕ, zero, suc, _^_, _≤_, _<_}
 use native.Mathlib.Omega.{arith}
 use mathlib.Core.Path.{_≡_, refl, sym, ap, _∙_}
 use mathlib.Core.List.{List, [], _∷_}
@@ -12,7 +12,7 @@ use Rattle.netlist.specs.declared.Sort.{Sort}
 use Rattle.netlist.specs.declared.Sort.the-variants as sort
 use Rattle.netlist.specs.declared.Role.the-variants.{Number}
 use Rattle.netlist.specs.declared.Form.{Form}
-use Rattle.netlist.specs.Commands.{asForm, commandTable, formIn, formOf, width, needed}
+use Rattle.netlist.specs.Commands.{asForm, commandTable, ownCommands, formIn, formOf, width, needed}
 use Rattle.netlist.specs.Writing.{formFor, All}
 use Rattle.netlist.proofs.Encoding.{form-for, gate-form, inputs-form, width-in}
 
@@ -24,7 +24,7 @@ in-no-row (r ∷ rs) b h = rw (ne-eqb b (r .0) (h .0)) (in-no-row rs b (h .1))
 -- the row of a byte
 module _ (f : File) (b : ℕ) {form : Form} (is : form ≡ formOf f b) where
   pub few-bytes : (1 ≤ width form) × (width form < 2 ^ 16)
-  unfolding commandTable formIn
+  unfolding commandTable ownCommands formIn
   few-bytes = rw is (go f)
     where
       go : (f : File) → (1 ≤ width (formOf f b)) × (width (formOf f b) < 2 ^ 16)

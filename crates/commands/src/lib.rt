@@ -33,20 +33,20 @@ fn as_form(sort: Sort, lead: usize, operands: usize, role: Role) -> Form
 pub fn form_of(file: File, command: u8) -> Form
     ensures { λ r. ⌜ r ≡ commands.formOf file command ⌝ }
 {
-    match file {
-        File::Stage => match command {
-            0x00 => as_form(Sort::End, 1, 0, Role::Number),
-            0x01 => as_form(Sort::Inputs, 2, 0, Role::Number),
-            0x02 => as_form(Sort::Gate, 2, 4, Role::AnyNet),
-            0x03 => as_form(Sort::Output, 1, 2, Role::AnyNet),
-            _ => as_form(Sort::Unknown, 1, 0, Role::Number),
-        },
-        File::Reference => match command {
-            0x00 => as_form(Sort::End, 1, 0, Role::Number),
-            0x01 => as_form(Sort::Inputs, 2, 0, Role::Number),
-            0x11 => as_form(Sort::Gate, 2, 2, Role::EarlierSignal),
-            0x12 => as_form(Sort::Output, 1, 1, Role::AnySignal),
-            _ => as_form(Sort::Unknown, 1, 0, Role::Number),
+    match command {
+        0x00 => as_form(Sort::End, 1, 0, Role::Number),
+        0x01 => as_form(Sort::Inputs, 2, 0, Role::Number),
+        _ => match file {
+            File::Stage => match command {
+                0x02 => as_form(Sort::Gate, 2, 4, Role::AnyNet),
+                0x03 => as_form(Sort::Output, 1, 2, Role::AnyNet),
+                _ => as_form(Sort::Unknown, 1, 0, Role::Number),
+            },
+            File::Reference => match command {
+                0x11 => as_form(Sort::Gate, 2, 2, Role::EarlierSignal),
+                0x12 => as_form(Sort::Output, 1, 1, Role::AnySignal),
+                _ => as_form(Sort::Unknown, 1, 0, Role::Number),
+            },
         },
     }
 }

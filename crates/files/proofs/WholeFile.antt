@@ -7,16 +7,14 @@ use native.Mathlib.Numerals.{add-one}
 use native.Mathlib.Nat.{mul-le-mul-right}
 use mathlib.Core.Path.{_≡_, refl, sym, ap, ap₂, subst, _∙_}
 use mathlib.Core.Bool.{Bool, true, false, cond}
-use mathlib.Core.List.{List, [], _∷_, _++_}
+use mathlib.Core.List.{List}
 use lib.ListN.{length, take, drop, set, length-set, length-drop}
 use lib.Seq.{length-take-le, take-suc-set, take-set-le, drop-set-lt, drop-set-add}
 use lib.Dec.{eqb, ltb}
 use borrow.Author.Tests.{lt-ltb, le-ltb, eq-eqb, ne-eqb}
 use Rattle.netlist.specs.declared.File.{File}
-use Rattle.netlist.specs.declared.File.the-variants as file
 use Rattle.netlist.specs.declared.Sort.{Sort}
 use Rattle.netlist.specs.declared.Sort.the-variants as sort
-use Rattle.netlist.specs.declared.Form.{Form}
 use Rattle.netlist.specs.declared.Limits.{Limits}
 use Rattle.netlist.specs.declared.Cursor.{Cursor}
 use Rattle.netlist.specs.declared.Counts.{Counts}
@@ -26,13 +24,12 @@ use Rattle.netlist.specs.declared.Found.{Found}
 use Rattle.netlist.specs.declared.Found.the-variants.{At, Nothing}
 use Rattle.netlist.specs.Bytes.{byte}
 use Rattle.netlist.specs.Commands.{whenFound, isSort, formOf, width, stray, nextAt}
-use Rattle.netlist.specs.Reading.{namelessFrom, Places, noPlaces, countsOf, noted, Reading, refused, readable, finish, onNext, readFrom, readFile}
+use Rattle.netlist.specs.Reading.{namelessFrom, Places, countsOf, noted, Reading, refused, readable, finish, onNext, readFrom, readFile}
 use Rattle.netlist.specs.Writing.{commandByte, widthFor}
-use Rattle.files.specs.Files.{Follow, FilledTo, RoomFor, Placed}
+use Rattle.files.specs.Files.{Follow, FilledTo, Countable, RoomFor, Placed}
 use Rattle.netlist.proofs.Encoding.{clash, width-in, width-inputs, width-end}
 use Rattle.netlist.proofs.OneCommand.{There, next-there}
-use Rattle.netlist.proofs.Walk.{first-inputs}
-use Rattle.netlist.proofs.Cut.{Near, near-start, near-far}
+use Rattle.netlist.proofs.Walk.{first-inputs, Near, near-start, near-far}
 
 -- ---- at the end command
 
@@ -149,7 +146,7 @@ module _ {f : File} {most : Limits} {s : List ℕ} {long : ℕ} {places : List �
   place-fits = omega (arith, near-far f most (w .near), room .u16s)
 
   -- the sums that the search for 9 takes fit
-  pub sums-fit : 2 * c .inputs + c .gates < 2 ^ 32
+  pub sums-fit : Countable (c .inputs) (c .gates)
   sums-fit = omega (arith, w .inputs-byte, w .near .gates-in, room .u16s, mul-le-mul-right (most .gates + 1) (width-in f (commandByte f sort.Gate) .0))
 
   -- x is what stands at the position
@@ -185,8 +182,8 @@ module _ {f : File} {most : Limits} {s : List ℕ} {long : ℕ} {places : List �
           rw e at (filled-next f s (w .filled) (omega (arith, walk-further)))
 
       -- the reading goes on with the places that the code has then
-      walk-on : isSort sort.End k ≡ false → (places′ : List ℕ) (c′ : Counts) → length places′ ≡ length places → standing most places′ c′ ≡ noted k s at (standing most places c) →
-          c′ .inputs < 256 → Near f most (at + widthFor f k) c′ → Walking f most s long places′ (next .at) c′
+      walk-on : isSort sort.End k ≡ false → (places′ : List ℕ) (c′ : Counts) → length places′ ≡ length places →
+          standing most places′ c′ ≡ noted k s at (standing most places c) → c′ .inputs < 256 → Near f most (at + widthFor f k) c′ → Walking f most s long places′ (next .at) c′
       unfolding onNext
       walk-on more places′ c′ same-length e small near = record {
         within = walk-further .1;

@@ -11,7 +11,7 @@ use Rattle.netlist.specs.declared.File.the-variants as file
 use Rattle.netlist.specs.declared.Sort.the-variants as sort
 use Rattle.netlist.specs.declared.Limits.{Limits}
 use Rattle.netlist.specs.declared.Counts.{Counts}
-use Rattle.netlist.specs.Commands.{commandTable, formIn}
+use Rattle.netlist.specs.Commands.{commandTable, ownCommands, formIn}
 use Rattle.netlist.specs.declared.Outcome.the-variants as outcome
 use Rattle.netlist.specs.Reading.{Places, countsOf, Reading, refused, readable, readFile, Within, stageLimits, referenceLimits}
 use Rattle.netlist.specs.Read.{GateRead, OutputRead, Read, outcomeOf}
@@ -46,20 +46,20 @@ module _ (f : File) (most : Limits) (s places : List ℕ) (c : Counts) (r : File
 
 module _ (s places : List ℕ) (c : Counts) (r : FileRead file.Stage stageLimits s places c) where
   pub gate-room : (k : ℕ) → k < c .gates → getD places k 0 + 10 ≤ length s
-  unfolding commandTable formIn
+  unfolding commandTable ownCommands formIn
   gate-room k h = gate-at file.Stage stageLimits s places c r k h .room
 
   pub rails-room : (j : ℕ) → j < c .outputs → getD places (stageLimits .gates + j) 0 + 5 ≤ length s
-  unfolding commandTable formIn
+  unfolding commandTable ownCommands formIn
   rails-room j h = output-at file.Stage stageLimits s places c r j h .room
 
 module _ (s places : List ℕ) (c : Counts) (r : FileRead file.Reference referenceLimits s places c) where
   pub operator-room : (k : ℕ) → k < c .gates → getD places k 0 + 6 ≤ length s
-  unfolding commandTable formIn
+  unfolding commandTable ownCommands formIn
   operator-room k h = gate-at file.Reference referenceLimits s places c r k h .room
 
   pub signal-room : (j : ℕ) → j < c .outputs → getD places (referenceLimits .gates + j) 0 + 3 ≤ length s
-  unfolding commandTable formIn
+  unfolding commandTable ownCommands formIn
   signal-room j h = output-at file.Reference referenceLimits s places c r j h .room
 
 -- ---- what reading answers
@@ -99,11 +99,11 @@ was-read-by f given most e s places c room a b =
     was-read f most s places c room (t .0) (t .1)
 
 pub stage-places : (most : Limits) → most ≡ stageLimits → RoomFor file.Stage most (stageLimits .gates + stageLimits .outputs)
-unfolding commandTable formIn
+unfolding commandTable ownCommands formIn
 stage-places most e = subst (λ (m : Limits). RoomFor file.Stage m (stageLimits .gates + stageLimits .outputs)) (sym e) (record { u16s = omega arith; space = omega arith })
 
 pub reference-places : (most : Limits) → most ≡ referenceLimits → RoomFor file.Reference most (referenceLimits .gates + referenceLimits .outputs)
-unfolding commandTable formIn
+unfolding commandTable ownCommands formIn
 reference-places most e = subst (λ (m : Limits). RoomFor file.Reference m (referenceLimits .gates + referenceLimits .outputs)) (sym e) (record { u16s = omega arith; space = omega arith })
 
 module _ (s : List ℕ) where

@@ -14,7 +14,7 @@ use Rattle.gates.proofs.Every.{every, every-at}
 use Rattle.netlist.specs.declared.File.the-variants as file
 use Rattle.netlist.specs.declared.Counts.{Counts}
 use Rattle.netlist.specs.Bytes.{byte, operand, operands}
-use Rattle.netlist.specs.Commands.{commandTable, formIn, needed}
+use Rattle.netlist.specs.Commands.{commandTable, ownCommands, formIn, needed}
 use Rattle.netlist.specs.Reading.{referenceLimits}
 use Rattle.netlist.specs.Content.{Coded, codedAt, referenceOf}
 use Rattle.netlist.proofs.Readable.{operation-read, named-earlier, named-signal}
@@ -110,7 +110,7 @@ module _ (s places : List ℕ) (c : Counts) (code : List ℕ) (r : FileRead file
         written (3 * c .gates + j) (omega arith) ∙ sym (reference-output s places c (3 * c .gates + j) (omega arith)) ∙ rw e
 
     signal-in : signalIn c code j < c .inputs + c .gates
-    unfolding commandTable formIn
+    unfolding commandTable ownCommands formIn
     signal-in =
         let e : place + 1 + 2 * 0 ≡ place + 1 = omega arith in
         let n = output-at file.Reference referenceLimits s places c r j h .named 0 (omega arith) in

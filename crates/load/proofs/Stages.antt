@@ -12,7 +12,7 @@ use Rattle.gates.proofs.Ranges.{kind-known}
 use Rattle.netlist.specs.declared.File.the-variants as file
 use Rattle.netlist.specs.declared.Counts.{Counts}
 use Rattle.netlist.specs.Bytes.{byte, operand, operands}
-use Rattle.netlist.specs.Commands.{commandTable, formIn, needed, pinsNeeded}
+use Rattle.netlist.specs.Commands.{commandTable, ownCommands, formIn, needed, pinsNeeded}
 use Rattle.netlist.specs.Reading.{stageLimits}
 use Rattle.netlist.specs.Content.{Gate, Pair, gateOf, codedAt, pairAt, stageOf}
 use Rattle.netlist.proofs.Encoding.{kind-needs}
@@ -127,7 +127,7 @@ module _ (s places : List ℕ) (c : Counts) (code : List ℕ) (r : FileRead file
         written i (omega arith) ∙ sym (stage-output s places c i (omega arith)) ∙ rw (p, q)
 
     rail-in : (i b : ℕ) → i ≡ 8 * c .gates + 2 * j + b → b < 2 → getD code i 0 < netCount c
-    unfolding commandTable formIn
+    unfolding commandTable ownCommands formIn
     rail-in i b e l =
         let n = output-at file.Stage stageLimits s places c r j h .named b l in
         omega (arith, rail-at i b e l, named-rail (c .gates) (c .inputs) (c .gates) (operand s (place + 1 + 2 * b)) n)

@@ -54,18 +54,19 @@ any-first marks (p ∷ nets) (suc m) low = ap (λ (b : Bool). high marks p || b)
 -- ---- marks are rows of their stage
 
 pub marks-row : (c : Counts) (marks : List ℕ) → MarksFor c marks → RowFor c marks
-marks-row c marks m = record { long = omega (arith, m .long); bit = λ p h. m .bit p; ground = m .ground }
+marks-row c marks m = record { long = omega (arith, m .long, m .room); bit = λ p h. m .bit p; ground = m .ground }
 
 -- after a store of 0 or 1 at a net
 pub marks-set : (c : Counts) (marks : List ℕ) → MarksFor c marks → (p x : ℕ) → p < netCount c → x ≤ 1 → MarksFor c (set marks p x)
 marks-set c marks m p x h l = record {
   long = length-set marks p x ∙ m .long;
+  room = m .room;
   bit = λ q. go q (ℕ-discrete q p);
   ground = getD-set-other marks p (netCount c) x 0 (λ e. omega arith) ∙ m .ground;
 }
   where
     go : (q : ℕ) → Dec (q ≡ p) → getD (set marks p x) q 0 ≤ 1
-    go q (yes e) = rw e (omega (arith, getD-set-same marks p x 0 (omega (arith, m .long))))
+    go q (yes e) = rw e (omega (arith, getD-set-same marks p x 0 (omega (arith, m .long, m .room))))
     go q (no d) = omega (arith, getD-set-other marks p q x 0 d, m .bit q)
 
 module _ (c : Counts) (code marks : List ℕ) (loaded : StageLoaded c code) (m : MarksFor c marks) (k : ℕ) (h : k < c .gates) where

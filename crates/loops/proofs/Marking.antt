@@ -6,8 +6,7 @@ use native.Mathlib.Decide.{ℕ-discrete}
 use mathlib.Core.Path.{_≡_, refl, sym, _∙_, subst}
 use mathlib.Core.Bool.{Bool, true, false}
 use mathlib.Core.List.{List}
-use lib.ListN.{length, getD, set, take, replicate, length-replicate}
-use lib.Seq.{length-take-le}
+use lib.ListN.{length, getD, set, replicate, length-replicate}
 use borrow.Author.Tests.{lt-ltb, ltb-true}
 use Rattle.netlist.specs.declared.Counts.{Counts}
 use Rattle.netlist.specs.Reading.{stageLimits, Within}
@@ -18,36 +17,35 @@ use Rattle.verdict.specs.Levels.{sum}
 use Rattle.verdict.proofs.Graph.{anyHigh-in, anyHigh-out, leads-trans}
 use Rattle.verdict.proofs.Reaching.{steps-gate, step-gate, reaches-sound, reaches-complete}
 use Rattle.circuit.specs.Stage.{netCount, stageGates}
+use Rattle.circuit.specs.Rows.{rowSize}
 use Rattle.circuit.proofs.Settling.{length-stageGates}
 use Rattle.loops.proofs.Feeding.{marks-set}
 use Rattle.loops.specs.Marks.{MarksFor, Unmarked, fedBy, LeadsIn, Grown, Marking}
 use Rattle.loops.proofs.Sums.{sum-set, sum-bound}
 use Rattle.loops.proofs.Placing.{never, high-other, high-same}
 
--- the marks of a stage in an array of zeros that has room for any stage
-abbrev most : ℕ
-most = 2 * stageLimits .inputs + stageLimits .gates + 1
-
-abbrev pub Fresh : Counts → Type 0
-Fresh c = Unmarked c (take (netCount c + 1) (replicate most 0))
-
-pub fresh : (c : Counts) → Within stageLimits c → Fresh c
+-- the marks of a stage within the limits, in an array of zeros
+pub fresh : (c : Counts) → Within stageLimits c → Unmarked c (replicate rowSize 0)
 fresh c w = record {
-  long = length-take-le (netCount c + 1) (replicate most 0) (omega (arith, length-replicate {A = ℕ} most 0, w .inputs-in, w .gates-in));
-  none = λ p. zeros (netCount c + 1) most p;
+  marks-for = record {
+    long = length-replicate {A = ℕ} rowSize 0;
+    room = omega (arith, w .inputs-in, w .gates-in);
+    bit = λ p. omega (arith, zeros rowSize p);
+    ground = zeros rowSize (netCount c);
+  };
+  none = zeros rowSize;
 }
   where
-    zeros : (n m p : ℕ) → _≡_ {A = ℕ} (getD (take n (replicate m 0)) p 0) 0
-    zeros zero m p = refl
-    zeros (suc n) zero p = refl
-    zeros (suc n) (suc m) zero = refl
-    zeros (suc n) (suc m) (suc p) = zeros n m p
+    zeros : (m p : ℕ) → _≡_ {A = ℕ} (getD (replicate m 0) p 0) 0
+    zeros zero p = refl
+    zeros (suc m) zero = refl
+    zeros (suc m) (suc p) = zeros m p
 
 -- ---- a pass
 
 pub grow-start : (c : Counts) (code marks : List ℕ) → MarksFor c marks → Grown c code marks marks false 0
 grow-start c code marks r = record {
-  row-for = r;
+  marks-for = r;
   kept = λ p e. e;
   back = λ p e. (p, e, here);
   no-less = omega arith;
@@ -60,7 +58,7 @@ module _ (c : Counts) (code before marks : List ℕ) (more : Bool) (k : ℕ) (w 
   net = 2 * c .inputs + k
 
   inside : net < length marks
-  inside = omega (arith, w .row-for .long)
+  inside = omega (arith, w .marks-for .long, w .marks-for .room)
 
   -- a net at a pin of gate k is marked, so the net of gate k leads to where that one does
   feeds-back : fedBy (stageGates c code) marks k ≡ true → (q : ℕ) × (high before q ≡ true) × LeadsIn c code q net
@@ -71,7 +69,7 @@ module _ (c : Counts) (code before marks : List ℕ) (more : Bool) (k : ℕ) (w 
 
   pub grow-mark : getD marks net 0 ≡ 0 → fedBy (stageGates c code) marks k ≡ true → Grown c code before (set marks net 1) true (k + 1)
   grow-mark z f = record {
-    row-for = marks-set c marks (w .row-for) net 1 (omega arith) (omega arith);
+    marks-for = marks-set c marks (w .marks-for) net 1 (omega arith) (omega arith);
     kept = λ p e. kept p (w .kept p e) (ℕ-discrete p net);
     back = λ p e. back p e (ℕ-discrete p net);
     no-less = omega (arith, w .no-less, sum-set marks net 1 inside);
@@ -89,7 +87,7 @@ module _ (c : Counts) (code before marks : List ℕ) (more : Bool) (k : ℕ) (w 
 
   grow-on : (fedBy (stageGates c code) marks k ≡ true → high marks net ≡ true) → Grown c code before marks more (k + 1)
   grow-on now = record {
-    row-for = w .row-for;
+    marks-for = w .marks-for;
     kept = w .kept;
     back = w .back;
     no-less = w .no-less;
@@ -109,22 +107,19 @@ module _ (c : Counts) (code before marks : List ℕ) (more : Bool) (k : ℕ) (w 
 
 -- there are fewer left to mark
 pub grow-less : (c : Counts) (code before marks : List ℕ) (more : Bool) (k : ℕ) → Grown c code before marks more k → more ≡ true →
-    netCount c + 1 - sum marks < netCount c + 1 - sum before
-grow-less c code before marks more k w e = omega (arith, w .rose e, sum-bound marks (w .row-for .bit), w .row-for .long)
+    rowSize - sum marks < rowSize - sum before
+grow-less c code before marks more k w e = omega (arith, w .rose e, sum-bound marks (w .marks-for .bit), w .marks-for .long, w .marks-for .room)
 
 -- ---- passes
 
 module _ (c : Counts) (code : List ℕ) (g : ℕ) (hg : g < c .gates) where
   pub marking-start : (marks : List ℕ) → Unmarked c marks → Marking c code g (set marks (2 * c .inputs + g) 1)
   marking-start marks u = record {
-    row-for = marks-set c marks row (2 * c .inputs + g) 1 (omega arith) (omega arith);
-    self = high-same marks (2 * c .inputs + g) 1 (omega (arith, u .long));
+    marks-for = marks-set c marks (u .marks-for) (2 * c .inputs + g) 1 (omega arith) (omega arith);
+    self = high-same marks (2 * c .inputs + g) 1 (omega (arith, u .marks-for .long, u .marks-for .room));
     back = λ p e. at p e (ℕ-discrete p (2 * c .inputs + g));
   }
     where
-      row : MarksFor c marks
-      row = record { long = u .long; bit = λ p. omega (arith, u .none p); ground = u .none (netCount c) }
-
       at : (p : ℕ) → high (set marks (2 * c .inputs + g) 1) p ≡ true → Dec (p ≡ 2 * c .inputs + g) → LeadsIn c code (2 * c .inputs + g) p
       at p e (yes q) = rw q here
       at p e (no d) = absurd (omega (arith, u .none p, ltb-true 0 (getD marks p 0) (sym (high-other marks (2 * c .inputs + g) 1 p d) ∙ e)))
@@ -132,7 +127,7 @@ module _ (c : Counts) (code : List ℕ) (g : ℕ) (hg : g < c .gates) where
   module _ (marks : List ℕ) (m : Marking c code g marks) (after : List ℕ) (more : Bool) (w : Grown c code marks after more (c .gates)) where
     pub marking-more : Marking c code g after
     marking-more = record {
-      row-for = w .row-for;
+      marks-for = w .marks-for;
       self = w .kept (2 * c .inputs + g) (m .self);
       back = λ p e.
           let r = w .back p e in

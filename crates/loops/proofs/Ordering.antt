@@ -18,7 +18,7 @@ use Rattle.circuit.specs.Stage.{gateAtPlace, placeOf, stageGates}
 use Rattle.circuit.specs.Order.{orderIn, InOrder}
 use Rattle.circuit.proofs.Tabulate.{length-tabulate}
 use Rattle.circuit.proofs.Settling.{length-stageGates, order-at}
-use Rattle.loops.specs.Placing.{Waits, Gone, Placing, Passed, Ordered}
+use Rattle.loops.specs.Placing.{Waits, Gone, Placing, PassTo, Ordered}
 use Rattle.loops.specs.Marks.{fedBy}
 use Rattle.loops.proofs.Sums.{get-≤-sum, sum-some}
 
@@ -100,7 +100,7 @@ module _ (c : Counts) (code waiting : List ℕ) (placed : ℕ) (p : Placing c co
       record { loaded = p .loaded; all = all-ordered; some = λ d. absurd (d e) }
 
 -- the last pass placed no gate
-module _ (c : Counts) (code waiting : List ℕ) (before placed : ℕ) (w : Passed c code waiting before placed (c .gates)) where
+module _ (c : Counts) (code waiting : List ℕ) (before placed : ℕ) (w : PassTo c code waiting before placed (c .gates)) where
   pub ordered-stuck : placed ≡ before → Ordered c code before
   ordered-stuck e = subst (Ordered c code) e (
       record {

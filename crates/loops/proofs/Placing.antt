@@ -14,10 +14,10 @@ use Rattle.netlist.specs.declared.Counts.{Counts}
 use Rattle.verdict.specs.Rows.{high}
 use Rattle.verdict.specs.Loops.{pinsAt, Feeds}
 use Rattle.verdict.proofs.Graph.{anyHigh-in}
-use Rattle.circuit.specs.Stage.{netCount, gateAtPlace, placeOf, stageGates, StageLoaded}
+use Rattle.circuit.specs.Stage.{gateAtPlace, placeOf, stageGates, StageLoaded}
 use Rattle.loops.proofs.Feeding.{marks-set}
 use Rattle.loops.specs.Marks.{Unmarked, fedBy}
-use Rattle.loops.specs.Placing.{Reordered, WaitTo, Waits, Gone, Placing, isReady, Passed}
+use Rattle.loops.specs.Placing.{Reordered, WaitTo, Waits, Gone, Placing, isReady, PassTo}
 use Rattle.loops.proofs.Sums.{sum-none, sum-set}
 use Rattle.loops.proofs.Reordering.{reordered-refl, reordered-set, gates-kept, loaded-kept}
 
@@ -45,7 +45,7 @@ low v p h = go (decLt 0 (getD v p 0))
 module _ (c : Counts) where
   pub wait-none : (marks : List ℕ) → Unmarked c marks → WaitTo c marks 0
   wait-none marks u = record {
-    row-for = record { long = u .long; bit = λ p. omega (arith, u .none p); ground = u .none (netCount c) };
+    marks-for = u .marks-for;
     total = sum-none marks (u .none);
     all = λ k h. absurd (omega arith);
     only = λ p h. absurd (omega (arith, u .none p, ltb-true 0 (getD marks p 0) h));
@@ -56,7 +56,7 @@ module _ (c : Counts) where
     next = 2 * c .inputs + m
 
     next-in : next < length marks
-    next-in = omega (arith, w .row-for .long)
+    next-in = omega (arith, w .marks-for .long, w .marks-for .room)
 
     unmarked : getD marks next 0 ≡ 0
     unmarked = low marks next (λ e. let r = w .only next e in omega (arith, r .1, r .2))
@@ -71,7 +71,7 @@ module _ (c : Counts) where
 
     pub wait-more : WaitTo c (set marks (2 * c .inputs + m) 1) (m + 1)
     wait-more = record {
-      row-for = marks-set c marks (w .row-for) next 1 (omega arith) (omega arith);
+      marks-for = marks-set c marks (w .marks-for) next 1 (omega arith) (omega arith);
       total = omega (arith, w .total, sum-set marks next 1 next-in, unmarked);
       all = λ k l. all′ k l (ℕ-discrete k m);
       only = λ p e. one-more p e (ℕ-discrete p next);
@@ -80,7 +80,7 @@ module _ (c : Counts) where
   pub placing-start : (code waiting : List ℕ) → StageLoaded c code → WaitTo c waiting (c .gates) → Placing c code waiting 0
   placing-start code waiting l w = record {
     loaded = l;
-    row-for = w .row-for;
+    marks-for = w .marks-for;
     total = omega (arith, w .total);
     only = w .only;
     taken = λ i h. absurd (omega arith);
@@ -106,10 +106,10 @@ module _ (c : Counts) (code waiting : List ℕ) (placed : ℕ) (p : Placing c co
   unfed = ready (high waiting net) (fedBy (stageGates c code) waiting k) r .1
 
   one : getD waiting net 0 ≡ 1
-  one = omega (arith, ltb-true 0 (getD waiting net 0) waits, p .row-for .bit net)
+  one = omega (arith, ltb-true 0 (getD waiting net 0) waits, p .marks-for .bit net)
 
   inside : net < length waiting
-  inside = omega (arith, p .row-for .long)
+  inside = omega (arith, p .marks-for .long, p .marks-for .room)
 
   -- there is a place left
   pub place-left : placed < c .gates
@@ -199,7 +199,7 @@ module _ (c : Counts) (code waiting : List ℕ) (placed : ℕ) (p : Placing c co
   pub placing-more : Placing c code′ waiting′ (placed + 1)
   placing-more = record {
     loaded = loaded-kept c code code′ placed-reordered (p .loaded);
-    row-for = marks-set c waiting (p .row-for) net 0 (omega arith) (omega arith);
+    marks-for = marks-set c waiting (p .marks-for) net 0 (omega arith) (omega arith);
     total = omega (arith, p .total, one, sum-set waiting net 0 inside);
     only = λ q h. only′ q h (ℕ-discrete q net);
     taken = λ i h. taken′ i h (ℕ-discrete i placed);
@@ -214,15 +214,15 @@ not-ready true true e h = refl
 not-ready true false e h = absurd (never refl e)
 not-ready false b e h = absurd (never h refl)
 
-pub pass-start : (c : Counts) (code waiting : List ℕ) (before : ℕ) → Placing c code waiting before → Passed c code waiting before before 0
+pub pass-start : (c : Counts) (code waiting : List ℕ) (before : ℕ) → Placing c code waiting before → PassTo c code waiting before before 0
 pass-start c code waiting before p = record { placing = p; more = omega arith; none = λ e j h. absurd (omega arith) }
 
 module _ (c : Counts) (code waiting : List ℕ) (before placed k : ℕ) where
-  pub pass-place : (code′ waiting′ : List ℕ) → Passed c code waiting before placed k → Placing c code′ waiting′ (placed + 1) →
-      Passed c code′ waiting′ before (placed + 1) (k + 1)
+  pub pass-place : (code′ waiting′ : List ℕ) → PassTo c code waiting before placed k → Placing c code′ waiting′ (placed + 1) →
+      PassTo c code′ waiting′ before (placed + 1) (k + 1)
   pass-place code′ waiting′ w p = record { placing = p; more = omega (arith, w .more); none = λ e. absurd (omega (arith, w .more)) }
 
-  pub pass-skip : Passed c code waiting before placed k → isReady c code waiting k ≡ false → Passed c code waiting before placed (k + 1)
+  pub pass-skip : PassTo c code waiting before placed k → isReady c code waiting k ≡ false → PassTo c code waiting before placed (k + 1)
   pass-skip w r = record { placing = w .placing; more = w .more; none = λ e j h v. at e j h v (ℕ-discrete j k) }
     where
       at : placed ≡ before → (j : ℕ) → j < k + 1 → Waits c waiting j → Dec (j ≡ k) → fedBy (stageGates c code) waiting j ≡ true

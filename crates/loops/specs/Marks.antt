@@ -15,16 +15,18 @@ use Rattle.verdict.specs.Search.{least}
 use Rattle.verdict.specs.Levels.{sum}
 use Rattle.circuit.specs.Stage.{netCount, stageGates, stageIn, StageLoaded}
 use Rattle.circuit.specs.Order.{InOrder}
+use Rattle.circuit.specs.Rows.{rowSize}
 
--- marks on nets, and none on the ground
+-- marks on the nets of a stage, and none on the ground
 pub record MarksFor (c : Counts) (marks : List ℕ) : Type 0 where
-  pub long : length marks ≡ netCount c + 1
+  pub long : length marks ≡ rowSize
+  pub room : netCount c < rowSize
   pub bit : (p : ℕ) → getD marks p 0 ≤ 1
   pub ground : getD marks (netCount c) 0 ≡ 0
 
--- a row with no mark
+-- no net is marked
 pub record Unmarked (c : Counts) (marks : List ℕ) : Type 0 where
-  pub long : length marks ≡ netCount c + 1
+  pub marks-for : MarksFor c marks
   pub none : (p : ℕ) → getD marks p 0 ≡ 0
 
 -- a marked net is at a pin of gate k
@@ -38,7 +40,7 @@ LeadsIn c code q p = Leads (gateSteps (c .inputs) (stageGates c code)) q p
 -- In a pass the gates before k have had their turn: marks stay, new ones are on nets that lead to marked ones, and there are more of
 -- them, or each of these gates that has a marked net at a pin is marked.
 pub record Grown (c : Counts) (code before marks : List ℕ) (more : Bool) (k : ℕ) : Type 0 where
-  pub row-for : MarksFor c marks
+  pub marks-for : MarksFor c marks
   pub kept : (p : ℕ) → high before p ≡ true → high marks p ≡ true
   pub back : (p : ℕ) → high marks p ≡ true → (q : ℕ) × (high before q ≡ true) × LeadsIn c code q p
   pub no-less : sum before ≤ sum marks
@@ -47,7 +49,7 @@ pub record Grown (c : Counts) (code before marks : List ℕ) (more : Bool) (k : 
 
 -- The net of gate g is marked, and marked nets lead to it.
 pub record Marking (c : Counts) (code : List ℕ) (g : ℕ) (marks : List ℕ) : Type 0 where
-  pub row-for : MarksFor c marks
+  pub marks-for : MarksFor c marks
   pub self : high marks (2 * c .inputs + g) ≡ true
   pub back : (p : ℕ) → high marks p ≡ true → LeadsIn c code (2 * c .inputs + g) p
 

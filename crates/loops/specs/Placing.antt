@@ -23,7 +23,7 @@ pub record Reordered (c : Counts) (before code : List ℕ) : Type 0 where
 
 -- the first m gates wait, and no other net is marked
 pub record WaitTo (c : Counts) (marks : List ℕ) (m : ℕ) : Type 0 where
-  pub row-for : MarksFor c marks
+  pub marks-for : MarksFor c marks
   pub total : sum marks ≡ m
   pub all : (k : ℕ) → k < m → high marks (2 * c .inputs + k) ≡ true
   pub only : (p : ℕ) → high marks p ≡ true → (k : ℕ) × (k < m) × (p ≡ 2 * c .inputs + k)
@@ -38,7 +38,7 @@ Gone c waiting k = high waiting (2 * c .inputs + k) ≡ false
 -- The gates that wait are marked; the others stand at the first `placed` places of the order, each after those that feed it.
 pub record Placing (c : Counts) (code waiting : List ℕ) (placed : ℕ) : Type 0 where
   pub loaded : StageLoaded c code
-  pub row-for : MarksFor c waiting
+  pub marks-for : MarksFor c waiting
   pub total : sum waiting + placed ≡ c .gates
   pub only : (p : ℕ) → high waiting p ≡ true → (k : ℕ) × (k < c .gates) × (p ≡ 2 * c .inputs + k)
   pub taken : (i : ℕ) → i < placed →
@@ -52,7 +52,7 @@ abbrev pub isReady : Counts → List ℕ → List ℕ → ℕ → Bool
 isReady c code waiting k = high waiting (2 * c .inputs + k) && not (fedBy (stageGates c code) waiting k)
 
 -- In a pass the gates before k have had their turn: more gates are placed, or each of these that waits is fed by one that waits.
-pub record Passed (c : Counts) (code waiting : List ℕ) (before placed k : ℕ) : Type 0 where
+pub record PassTo (c : Counts) (code waiting : List ℕ) (before placed k : ℕ) : Type 0 where
   pub placing : Placing c code waiting placed
   pub more : before ≤ placed
   pub none : placed ≡ before → (j : ℕ) → j < k → Waits c waiting j → fedBy (stageGates c code) waiting j ≡ true

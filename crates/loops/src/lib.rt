@@ -9,7 +9,7 @@ ghost use lib.ListN.{length};
 ghost use Rattle.verdict.specs.Loops.{reachesItself};
 ghost use Rattle.verdict.specs.Search.{least};
 ghost use Rattle.circuit.specs.Stage.{stageGates, StageLoaded};
-ghost use Rattle.loops.specs.Placing.{Placing, isReady, WaitTo, Passed, Ordered, Reordered};
+ghost use Rattle.loops.specs.Placing.{Placing, isReady, WaitTo, PassTo, Ordered, Reordered};
 ghost use Rattle.loops.specs.Marks.{MarksFor, Unmarked, fedBy, Marking, Grown, LoopFound};
 
 // Whether a marked net is at a pin of gate k.
@@ -58,7 +58,7 @@ fn place(code: &mut [u16], counts: Counts, k: usize, waiting: &mut [u8], placed:
 // A pass over the gates: each that is ready takes the next place of the order. How many places are taken then.
 fn place_ready(code: &mut [u16], counts: Counts, waiting: &mut [u8], taken: usize) -> usize
     requires { ⌜ Placing counts (now code) (now waiting) taken ⌝ }
-    ensures { λ r. ⌜ Passed counts (now (code .exit)) (now (waiting .exit)) taken r (counts .gates) × Reordered counts (now (code .entry)) (now (code .exit)) ⌝ }
+    ensures { λ r. ⌜ PassTo counts (now (code .exit)) (now (waiting .exit)) taken r (counts .gates) × Reordered counts (now (code .entry)) (now (code .exit)) ⌝ }
 {
     let mut placed = taken;
     let mut k: usize = 0;
@@ -125,11 +125,10 @@ fn least_loop(code: &[u16], counts: Counts) -> Found
     requires { ⌜ StageLoaded counts (now code) ⌝ }
     ensures { λ r. ⌜ r ≡ least (reachesItself (counts .inputs) (stageGates counts (now (code .entry)))) 0 (counts .gates) ⌝ }
 {
-    let nets = 2 * counts.inputs + counts.gates;
     let mut g: usize = 0;
     while g < counts.gates {
         let mut marks = [0u8; circuit::ROW];
-        if reaches_itself(code, counts, g, &mut marks[..nets + 1]) {
+        if reaches_itself(code, counts, g, &mut marks) {
             return Found::At(g);
         }
         g += 1;
@@ -142,9 +141,8 @@ pub fn order_gates(code: &mut [u16], counts: Counts) -> Found
     requires { ⌜ StageLoaded counts (now code) ⌝ }
     ensures { λ r. ⌜ LoopFound counts (now (code .entry)) (now (code .exit)) r ⌝ }
 {
-    let nets = 2 * counts.inputs + counts.gates;
     let mut waiting = [0u8; circuit::ROW];
-    let placed = place_all(code, counts, &mut waiting[..nets + 1]);
+    let placed = place_all(code, counts, &mut waiting);
     if placed == counts.gates {
         return Found::Nothing;
     }

@@ -3,52 +3,23 @@
 use Prim.Native.Nat.{ℕ, zero, suc, _+_, _*_, _≤_, _<_}
 use native.Mathlib.Omega.{arith}
 use native.Mathlib.Decide.{decLt}
-use native.Mathlib.Nat.{mul-le-mul-left}
 use mathlib.Core.Path.{_≡_, refl, sym, ap, _∙_}
 use mathlib.Core.Bool.{false, cond}
-use mathlib.Core.List.{List, [], _∷_, _++_}
-use lib.ListN.{length, take, length-append}
+use mathlib.Core.List.{List}
+use lib.ListN.{length, take}
 use lib.Seq.{length-take-le, take-all, getD-take}
 use borrow.Author.Tests.{lt-leb, le-ltb}
 use Rattle.netlist.specs.Types.{File, Sort, Form, Limits, Counts, Cursor, Next, Command, Refused}
 use Rattle.netlist.specs.Types.file
 use Rattle.netlist.specs.Types.sort
 use Rattle.netlist.specs.Bytes.{byte, operand}
-use Rattle.netlist.specs.Commands.{isSort, commandTable, formIn, formOf, width, needed, stray, misfitFrom, takeGate, takeSort, takeCommand, nextAt}
+use Rattle.netlist.specs.Commands.{isSort, commandTable, ownCommands, formIn, formOf, width, needed, stray, misfitFrom, takeGate, takeSort, takeCommand, nextAt}
 use Rattle.netlist.specs.Reading.{Reading, Places, noPlaces, countsOf, noted, finish, onNext, readFrom, readFile, stageLimits, referenceLimits}
 use Rattle.netlist.specs.Writing.{widthFor}
 use Rattle.netlist.specs.Read.{farthest, mostBytes}
-use Rattle.netlist.proofs.Encoding.{clash, width-in, width-gate, width-inputs}
+use Rattle.netlist.proofs.Encoding.{width-in, width-gate}
 use Rattle.netlist.proofs.OneCommand.{There, next-there}
-use Rattle.netlist.proofs.Walk.{finish-more, first-inputs}
-
--- ---- where commands stand
-
--- the place of a command, after the gates and outputs before it, of which there are no more than there may be
-pub record Near (f : File) (most : Limits) (at : ℕ) (c : Counts) : Type 0 where
-  pub place : at ≤ 2 + widthFor f sort.Gate * c .gates + widthFor f sort.Output * c .outputs
-  pub gates-in : c .gates ≤ most .gates
-  pub outputs-in : c .outputs ≤ most .outputs
-
-module _ (f : File) (most : Limits) where
-  pub near-start : Near f most 0 (countsOf noPlaces)
-  near-start = record { place = omega arith; gates-in = omega arith; outputs-in = omega arith }
-
-  pub near-far : {at : ℕ} {c : Counts} → Near f most at c → at + widthFor f sort.Gate ≤ farthest f most
-  near-far h = omega (arith, h .place, mul-le-mul-left (widthFor f sort.Gate) (h .gates-in), mul-le-mul-left (widthFor f sort.Output) (h .outputs-in))
-
-  pub near-noted : (s : List ℕ) (at : ℕ) (p : Places) (c : Sort) → isSort sort.End c ≡ false → Near f most at (countsOf p) → There f most s at (countsOf p) c →
-      Near f most (at + widthFor f c) (countsOf (noted c s at p))
-  unfolding noted stray
-  near-noted s at p sort.Inputs more h t = record { place = omega (arith, width-inputs f, first-inputs at (t .ordered)); gates-in = h .gates-in; outputs-in = h .outputs-in }
-  near-noted s at p sort.Gate more h t =
-      rw (length-append (p .gates) (at ∷ [])) (record { place = omega (arith, h .place); gates-in = omega (arith, t .taken .0); outputs-in = h .outputs-in })
-  near-noted s at p sort.Output more h t =
-      rw (length-append (p .outputs) (at ∷ [])) (record { place = omega (arith, h .place); gates-in = h .gates-in; outputs-in = omega (arith, t .taken) })
-  near-noted s at p sort.End more h t = absurd (clash (cc))
-  near-noted s at p sort.Unknown more h t = absurd (clash (let o = t .ordered in cc))
-
--- ---- the cut
+use Rattle.netlist.proofs.Walk.{finish-more, Near, near-start, near-far, near-noted}
 
 -- where all bytes of a command are there, whichever it is
 in-room : (f : File) (most : Limits) (s : List ℕ) (at m : ℕ) (before : Counts) → at + widthFor f sort.Gate ≤ m → at < m → m ≤ length s →
@@ -91,9 +62,10 @@ module _ (f : File) (most : Limits) (s : List ℕ) (m : ℕ) (far : farthest f m
     next-cut before =
         let inside : at < m = omega (arith, width-gate f) in
         let form = formOf f (byte s at) in
+        let taken = Command (form .sort) (record { at = at + width form }) in
         in-room f most cut at m before room inside (omega (arith, length-cut))
         ∙ ap (λ (b : ℕ). cond (stray at (formOf f b .sort)) (Refused 2 at) (takeCommand f most cut at before (formOf f b))) (byte-cut at inside)
-        ∙ ap (λ (x : Next). cond (stray at (form .sort)) (Refused 2 at) x) (sort-cut before form (omega (arith, width-in f (byte s at))) (Command (form .sort) (record { at = at + width form })) (form .sort))
+        ∙ ap (λ (x : Next). cond (stray at (form .sort)) (Refused 2 at) x) (sort-cut before form (omega (arith, width-in f (byte s at))) taken (form .sort))
         ∙ sym (in-room f most s at m before room inside long)
 
     finish-cut : (p : Places) → finish f cut at p ≡ finish f s at p
@@ -115,7 +87,8 @@ module _ (f : File) (most : Limits) (s : List ℕ) (m : ℕ) (far : farthest f m
 
   -- after a command that was read both readings go on alike
   module _ (go go′ : ℕ → Places → Reading) (at : ℕ) (p : Places) (later : Same go go′ (suc at)) (near : Near f most at (countsOf p)) where
-    goes-on : (c : Sort) (next : Cursor) → next .at ≡ at + widthFor f c → There f most s at (countsOf p) c → isSort sort.End c ≡ false → go (next .at) (noted c cut at p) ≡ go′ (next .at) (noted c s at p)
+    goes-on : (c : Sort) (next : Cursor) → next .at ≡ at + widthFor f c → There f most s at (countsOf p) c → isSort sort.End c ≡ false →
+        go (next .at) (noted c cut at p) ≡ go′ (next .at) (noted c s at p)
     goes-on c next a t more =
         rw (a, noted-cut at p c (near-room at p near))
         (later (at + widthFor f c) (noted c s at p) (omega (arith, rw (t .command) at (width-in f (byte s at)))) (near-noted f most s at p c more near t))
@@ -155,9 +128,9 @@ readFile-take f most s m far = go (decLt m (length s))
         (near-start f most)
 
 pub stage-cut : (s : List ℕ) → readFile file.Stage stageLimits (take mostBytes s) ≡ readFile file.Stage stageLimits s
-unfolding commandTable formIn
+unfolding commandTable ownCommands formIn
 stage-cut s = readFile-take file.Stage stageLimits s mostBytes (omega arith)
 
 pub reference-cut : (s : List ℕ) → readFile file.Reference referenceLimits (take mostBytes s) ≡ readFile file.Reference referenceLimits s
-unfolding commandTable formIn
+unfolding commandTable ownCommands formIn
 reference-cut s = readFile-take file.Reference referenceLimits s mostBytes (omega arith)

@@ -3,7 +3,7 @@
 use Prim.Native.Nat.{ℕ, zero, suc, _+_, _-_, _*_, _≤_, _<_}
 use native.Mathlib.Omega.{arith}
 use native.Mathlib.Decide.{ℕ-discrete, decLt}
-use mathlib.Core.Path.{_≡_, refl, sym, ap, _∙_}
+use mathlib.Core.Path.{_≡_, refl, ap, _∙_}
 use mathlib.Core.Bool.{false}
 use mathlib.Core.List.{List, [], _∷_}
 use lib.Dec.{T, leb, leb→le}
@@ -14,7 +14,7 @@ use Rattle.gates.proofs.Ranges.{kind-known, kind-unknown}
 use Rattle.netlist.specs.Types.{File, Sort, Number, Form}
 use Rattle.netlist.specs.Types.file
 use Rattle.netlist.specs.Types.sort
-use Rattle.netlist.specs.Commands.{asForm, commandTable, formIn, formOf, width, isSort, pinsNeeded, needed}
+use Rattle.netlist.specs.Commands.{asForm, commandTable, ownCommands, formIn, formOf, width, isSort, pinsNeeded, needed}
 use Rattle.netlist.specs.Writing.{commandByte, formFor, widthFor, operandCount, roleFor, All}
 
 -- two constructors are never equal: `cc` makes 0 ≡ 1 of it
@@ -36,12 +36,12 @@ table-all P u (r ∷ rs) h b = go (ℕ-discrete b (r .0)) (table-all P u rs (h .
 
 -- a row is the only one of its sort in its file
 pub form-for : (f : File) (b : ℕ) → formOf f b ≡ formFor f (formOf f b .sort)
-unfolding commandTable formIn
+unfolding commandTable ownCommands formIn
 form-for file.Stage = table-all (λ b form. form ≡ formFor file.Stage (form .sort)) (λ b. refl) (commandTable file.Stage) (refl, (refl, (refl, (refl, tt))))
 form-for file.Reference = table-all (λ b form. form ≡ formFor file.Reference (form .sort)) (λ b. refl) (commandTable file.Reference) (refl, (refl, (refl, (refl, tt))))
 
 pub sort-for : (f : File) (c : Sort) → formFor f c .sort ≡ c
-unfolding commandTable formIn
+unfolding commandTable ownCommands formIn
 sort-for file.Stage sort.End = refl
 sort-for file.Stage sort.Inputs = refl
 sort-for file.Stage sort.Gate = refl
@@ -58,7 +58,7 @@ abbrev Only : File → ℕ → Form → Type 0
 Only f b form = isSort sort.Unknown (form .sort) ≡ false → b ≡ commandByte f (form .sort)
 
 only-byte : (f : File) (b : ℕ) → Only f b (formOf f b)
-unfolding commandTable
+unfolding commandTable ownCommands
 only-byte file.Stage =
     table-all (Only file.Stage) (λ b e. absurd (clash (cc))) (commandTable file.Stage) ((λ e. refl), ((λ e. refl), ((λ e. refl), ((λ e. refl), tt))))
 only-byte file.Reference =
@@ -71,24 +71,22 @@ byte-for f b c e known =
 
 -- the commandTable of the four sorts in either file
 pub gate-form : (f : File) → formFor f sort.Gate ≡ asForm sort.Gate 2 (operandCount f sort.Gate) (roleFor f sort.Gate)
-unfolding commandTable formIn
+unfolding commandTable ownCommands formIn
 gate-form file.Stage = refl
 gate-form file.Reference = refl
 
 pub output-form : (f : File) → formFor f sort.Output ≡ asForm sort.Output 1 (operandCount f sort.Output) (roleFor f sort.Output)
-unfolding commandTable formIn
+unfolding commandTable ownCommands formIn
 output-form file.Stage = refl
 output-form file.Reference = refl
 
 pub inputs-form : (f : File) → formFor f sort.Inputs ≡ asForm sort.Inputs 2 0 Number
-unfolding commandTable formIn
-inputs-form file.Stage = refl
-inputs-form file.Reference = refl
+unfolding commandTable ownCommands formIn
+inputs-form f = refl
 
 pub end-form : (f : File) → formFor f sort.End ≡ asForm sort.End 1 0 Number
-unfolding commandTable formIn
-end-form file.Stage = refl
-end-form file.Reference = refl
+unfolding commandTable ownCommands formIn
+end-form f = refl
 
 module _ (f : File) where
   pub width-gate : widthFor f sort.Gate ≡ 2 + 2 * operandCount f sort.Gate
@@ -108,7 +106,7 @@ abbrev Sized : File → Form → Type 0
 Sized f form = (1 ≤ width form) × (width form ≤ widthFor f sort.Gate)
 
 pub width-in : (f : File) (b : ℕ) → Sized f (formOf f b)
-unfolding commandTable formIn
+unfolding commandTable ownCommands formIn
 width-in file.Stage = table-all (λ b form. Sized file.Stage form) (λ b. omega arith) (commandTable file.Stage) (omega arith, (omega arith, (omega arith, (omega arith, tt))))
 width-in file.Reference = table-all (λ b form. Sized file.Reference form) (λ b. omega arith) (commandTable file.Reference) (omega arith, (omega arith, (omega arith, (omega arith, tt))))
 
@@ -160,7 +158,7 @@ operation-needs (suc (suc (suc (suc (suc (suc (suc c))))))) = omega arith
 
 -- what is needed has room
 pub needed-in : (f : File) (c : ℕ) → needed f c ≤ operandCount f sort.Gate
-unfolding commandTable formIn
+unfolding commandTable ownCommands formIn
 needed-in file.Stage c = go (decLt 0 (needed file.Stage c))
   where
     go : Dec (0 < needed file.Stage c) → needed file.Stage c ≤ 4

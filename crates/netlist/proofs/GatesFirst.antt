@@ -71,10 +71,16 @@ module _ {G O : Type 0} (toG : Coded → G) (fromG : G → Coded) (toO : List �
       written = writeFile f n (itemsOf gs os)
 
       pub gates-back : All (λ g. toG (fromG g) ≡ g) gs → map (λ p. toG (codedAt f written p)) (gatePlaces f 2 (itemsOf gs os)) ≡ gs
-      gates-back h = sym (map-map toG (codedAt f written) (gatePlaces f 2 (itemsOf gs os))) ∙ ap (map toG) (gates-write f most n (itemsOf gs os) fits ∙ gatesIn-items gs os) ∙ map-back toG fromG gs h
+      gates-back h =
+          sym (map-map toG (codedAt f written) (gatePlaces f 2 (itemsOf gs os)))
+          ∙ ap (map toG) (gates-write f most n (itemsOf gs os) fits ∙ gatesIn-items gs os)
+          ∙ map-back toG fromG gs h
 
       pub outputs-back : All (λ o. toO (fromO o) ≡ o) os → map (λ p. toO (wiredAt f written p)) (outputPlaces f 2 (itemsOf gs os)) ≡ os
-      outputs-back h = sym (map-map toO (wiredAt f written) (outputPlaces f 2 (itemsOf gs os))) ∙ ap (map toO) (outputs-write f most n (itemsOf gs os) fits ∙ outputsIn-items gs os) ∙ map-back toO fromO os h
+      outputs-back h =
+          sym (map-map toO (wiredAt f written) (outputPlaces f 2 (itemsOf gs os)))
+          ∙ ap (map toO) (outputs-write f most n (itemsOf gs os) fits ∙ outputsIn-items gs os)
+          ∙ map-back toO fromO os h
 
     -- bytes that are readable, with the gates first, are what writing their content gives
     module _ (s : List ℕ) (small : Bytes s) (p : Places) (e : readFile f most s ≡ readable p) (first : GatesFirst (p .gates) (p .outputs)) where

@@ -178,9 +178,11 @@ module _ (s : List ℕ) (small : Bytes s) where
   written-operands at (suc m) zero r h =
       let e : at + 2 * 0 ≡ at = omega arith in
       let w : at + 2 * suc m ≡ at + 2 + 2 * m = omega arith in
+      let rest = written-operands (at + 2) m zero (omega arith) (λ j a b. let x : at + 2 + 2 * j ≡ at + 2 * suc j = omega arith in rw x (h (suc j) (omega arith) (omega arith))) in
       rw w (operand-bytes at absent (rw e at (h 0 (omega arith) (omega arith))) (omega arith)
-      ∙ ap (λ (l : List ℕ). 255 ∷ 255 ∷ l) (written-operands (at + 2) m zero (omega arith) (λ j a b. let x : at + 2 + 2 * j ≡ at + 2 * suc j = omega arith in rw x (h (suc j) (omega arith) (omega arith)))))
+      ∙ ap (λ (l : List ℕ). 255 ∷ 255 ∷ l) rest)
   written-operands at (suc m) (suc k) r h =
       let w : at + 2 * suc m ≡ at + 2 + 2 * m = omega arith in
+      let rest = written-operands (at + 2) m k (omega arith) (λ j a b. let x : at + 2 + 2 * j ≡ at + 2 * suc j = omega arith in rw x (h (suc j) (omega arith) (omega arith))) in
       rw w (operand-bytes at (operand s at) refl (omega arith)
-      ∙ ap (λ (l : List ℕ). operand s at % 256 ∷ operand s at / 256 ∷ l) (written-operands (at + 2) m k (omega arith) (λ j a b. let x : at + 2 + 2 * j ≡ at + 2 * suc j = omega arith in rw x (h (suc j) (omega arith) (omega arith)))))
+      ∙ ap (λ (l : List ℕ). operand s at % 256 ∷ operand s at / 256 ∷ l) rest)

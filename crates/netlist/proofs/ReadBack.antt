@@ -3,7 +3,6 @@
 use Prim.Native.Nat.{ℕ, suc, _+_, _*_, _≤_, _<_}
 use native.Mathlib.Omega.{arith}
 use mathlib.Core.Path.{_≡_, refl, sym, ap, ap₂, _∙_}
-use mathlib.Core.Bool.{true}
 use mathlib.Core.Logic.{_↔_}
 use mathlib.Core.List.{List, [], _∷_, _++_, append-assoc, map}
 use lib.ListN.{length, drop, length-append, drop-of-length-le}
@@ -14,9 +13,11 @@ use Rattle.netlist.specs.Bytes.{byte, operands, absent}
 use Rattle.netlist.specs.Commands.{formOf, needed}
 use Rattle.netlist.specs.Reading.{nameable, Places, readFile, readable}
 use Rattle.netlist.specs.Content.{Coded, codedAt}
-use Rattle.netlist.specs.Writing.{commandByte, widthFor, operandCount, roleFor, Item, gate, output, gatesIn, outputsIn, gatePlaces, outputPlaces, placesOf, writeOperands, writeItem, writeItems, writeFile, All, GateFits, OutputFits, ItemsFit, FileFits}
+use Rattle.netlist.specs.Writing.{commandByte, widthFor, operandCount, roleFor, Item, gate, output, gatesIn, outputsIn, gatePlaces, outputPlaces, placesOf}
+use Rattle.netlist.specs.Writing.{writeOperands, writeItem, writeItems, writeFile, All, GateFits, OutputFits, ItemsFit, FileFits}
 use Rattle.netlist.proofs.Lists.{Bytes, All-++, All-map, byte-small}
-use Rattle.netlist.proofs.Operands.{bytes-written, operand-small, length-operands, each-operands, byte-after, drop-after, length-after, length-written, operands-written, fits-written, drop-one, drop-two, written-operands}
+use Rattle.netlist.proofs.Operands.{bytes-written, operand-small, length-operands, each-operands, byte-after, drop-after, length-after}
+use Rattle.netlist.proofs.Operands.{length-written, operands-written, fits-written, drop-one, drop-two, written-operands}
 use Rattle.netlist.proofs.Encoding.{byte-for, width-gate, width-output, needed-in}
 use Rattle.netlist.proofs.Laid.{GateLaid, OutputLaid, Laid, Named, FileLaid, wiredAt, laid-code, laid-operands, laid-used, laid-bare, laid-gates, laid-outputs, laid-length}
 use Rattle.netlist.proofs.Walk.{readable-laid, laid-readable}
@@ -92,9 +93,12 @@ bytes-items : (f : File) (n g k : ℕ) (items : List Item) → ItemsFit f n g k 
 bytes-items f n g k [] h = tt
 bytes-items f n g k (gate c ∷ items) h =
     let wide : All (λ v. v < 65536) (c .operands) = All-map (λ v. v < absent) (λ v. v < 65536) (λ v l. omega arith) (c .operands) (h .0 .used) in
-    (command-bytes f .0, (h .0 .code-byte, All-++ (λ b. b < 256) (writeOperands (operandCount f sort.Gate) (c .operands)) (writeItems f items) (bytes-written (operandCount f sort.Gate) (c .operands) wide) (bytes-items f n g (suc k) items (h .1))))
+    let m = operandCount f sort.Gate in
+    let rest = bytes-items f n g (suc k) items (h .1) in
+    (command-bytes f .0, (h .0 .code-byte, All-++ (λ b. b < 256) (writeOperands m (c .operands)) (writeItems f items) (bytes-written m (c .operands) wide) rest))
 bytes-items f n g k (output vs ∷ items) h =
-    (command-bytes f .1, All-++ (λ b. b < 256) (writeOperands (operandCount f sort.Output) vs) (writeItems f items) (bytes-written (operandCount f sort.Output) vs (h .0 .u16s)) (bytes-items f n g k items (h .1)))
+    let m = operandCount f sort.Output in
+    (command-bytes f .1, All-++ (λ b. b < 256) (writeOperands m vs) (writeItems f items) (bytes-written m vs (h .0 .u16s)) (bytes-items f n g k items (h .1)))
 
 -- ---- items that are laid are what is written
 

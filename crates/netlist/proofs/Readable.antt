@@ -9,13 +9,13 @@ use lib.ListN.{length, getD}
 use Rattle.netlist.specs.Types.{File, Limits}
 use Rattle.netlist.specs.Types.file
 use Rattle.netlist.specs.Types.sort
-use Rattle.netlist.specs.Bytes.{byte, operand}
-use Rattle.netlist.specs.Commands.{commandTable, formIn, needed}
+use Rattle.netlist.specs.Bytes.{byte}
+use Rattle.netlist.specs.Commands.{commandTable, ownCommands, formIn, needed}
 use Rattle.netlist.specs.Reading.{nameable, Places, readFile, readable}
 use Rattle.netlist.specs.Writing.{widthFor, operandCount, roleFor, Item, gate, output, gatesIn, outputsIn, gatePlaces, outputPlaces}
 use Rattle.netlist.specs.Read.{GateRead, OutputRead, Read}
 use Rattle.netlist.proofs.Operands.{operands-each}
-use Rattle.netlist.proofs.Encoding.{kind-in, operation-needs, width-gate, width-output}
+use Rattle.netlist.proofs.Encoding.{kind-in, operation-needs}
 use Rattle.netlist.proofs.Laid.{Laid, Named, laid-operands, laid-used, laid-length, length-gatePlaces, length-outputPlaces}
 use Rattle.netlist.proofs.Walk.{LaidItems, readable-laid}
 
@@ -23,19 +23,19 @@ use Rattle.netlist.proofs.Walk.{LaidItems, readable-laid}
 
 -- what is named is there: a net of the stage; an input or an earlier gate of the reference; any of its signals
 pub named-pin : (k n g v : ℕ) → v < nameable (roleFor file.Stage sort.Gate) n g k → v < 2 * n + g
-unfolding nameable commandTable formIn
+unfolding nameable commandTable ownCommands formIn
 named-pin k n g v h = h
 
 pub named-rail : (k n g v : ℕ) → v < nameable (roleFor file.Stage sort.Output) n g k → v < 2 * n + g
-unfolding nameable commandTable formIn
+unfolding nameable commandTable ownCommands formIn
 named-rail k n g v h = h
 
 pub named-earlier : (k n g v : ℕ) → v < nameable (roleFor file.Reference sort.Gate) n g k → v < n + k
-unfolding nameable commandTable formIn
+unfolding nameable commandTable ownCommands formIn
 named-earlier k n g v h = h
 
 pub named-signal : (k n g v : ℕ) → v < nameable (roleFor file.Reference sort.Output) n g k → v < n + g
-unfolding nameable commandTable formIn
+unfolding nameable commandTable ownCommands formIn
 named-signal k n g v h = h
 
 -- a gate's kind is one of 27, its operation one of 6
@@ -47,7 +47,7 @@ operation-read {s} {at} r = operation-needs (byte s (at + 1)) .1 (r .known)
 
 -- an output may name the same wherever it stands
 pub output-names : (f : File) (n g k : ℕ) → nameable (roleFor f sort.Output) n g g ≡ nameable (roleFor f sort.Output) n g k
-unfolding nameable commandTable formIn
+unfolding nameable commandTable ownCommands formIn
 output-names file.Stage n g k = refl
 output-names file.Reference n g k = refl
 

@@ -4,17 +4,16 @@
 use Prim.Native.Nat.{ℕ, zero, suc, _+_, _≤_, _<_}
 use native.Mathlib.Omega.{arith}
 use mathlib.Core.Path.{_≡_, refl, ap, ap₂, subst, _∙_}
-use mathlib.Core.Bool.{true}
 use mathlib.Core.List.{List, [], _∷_, _++_, map, map-map}
 use lib.ListN.{length, getD, length-map}
 use Rattle.netlist.specs.Types.{Limits}
 use Rattle.netlist.specs.Types.file
 use Rattle.netlist.specs.Types.sort
 use Rattle.netlist.specs.Bytes.{operand, operands, absent}
-use Rattle.netlist.specs.Commands.{commandTable, formIn}
+use Rattle.netlist.specs.Commands.{commandTable, ownCommands, formIn}
 use Rattle.netlist.specs.Reading.{nameable, Places, readFile, readable}
 use Rattle.netlist.specs.Content.{Coded, codedAt, Reference, referenceOf}
-use Rattle.netlist.specs.Writing.{operandCount, roleFor, Item, gate, output, gatesIn, outputsIn, ItemsFit, placesOf, All, FileFits, referenceItems, writeReference}
+use Rattle.netlist.specs.Writing.{roleFor, Item, gate, output, gatesIn, outputsIn, ItemsFit, placesOf, All, FileFits, referenceItems, writeReference}
 use Rattle.netlist.specs.Formed.{OperationFormed, InOrder, ReferenceFormed}
 use Rattle.netlist.proofs.Lists.{Bytes, All-every, All-map}
 use Rattle.netlist.proofs.Encoding.{operation-needs}
@@ -56,7 +55,7 @@ module _ (n g : ℕ) where
       )
 
   wires-signals : (vss : List (List ℕ)) → All (OutputFormed file.Reference n g) vss → All (λ v. v < n + g) (map signalOf vss)
-  unfolding commandTable formIn
+  unfolding commandTable ownCommands formIn
   wires-signals [] h = tt
   wires-signals (vs ∷ vss) h = (go vs (h .0 .whole) (h .0 .named), wires-signals vss (h .1))
     where
@@ -65,13 +64,13 @@ module _ (n g : ℕ) where
       go (v ∷ vs) e a = named-signal g n g v (a .0)
 
   signals-again : (vss : List (List ℕ)) → All (OutputFormed file.Reference n g) vss → All (λ vs. signalOf vs ∷ [] ≡ vs) vss
-  unfolding commandTable formIn
+  unfolding commandTable ownCommands formIn
   signals-again = All-map (OutputFormed file.Reference n g) (λ vs. signalOf vs ∷ [] ≡ vs) (λ vs w. signal-again vs (w .whole))
 
 -- ---- written and read
 
 signals-view : (s os : List ℕ) → map (λ p. operand s (p + 1)) os ≡ map (λ p. signalOf (wiredAt file.Reference s p)) os
-unfolding operands commandTable formIn
+unfolding operands commandTable ownCommands formIn
 signals-view s os = refl
 
 abbrev same : Coded → Coded
@@ -123,8 +122,9 @@ module _ (most : Limits) (s : List ℕ) (p : Places) (e : readFile file.Referenc
 -- ---- a well-formed reference, and no other, fits a file
 
 module _ (n g : ℕ) (small : n + g ≤ absent) where
-  operations-fit : (k : ℕ) (cs : List Coded) (rest : List Item) → k + length cs ≤ g → InOrder (n + k) cs → ((k : ℕ) → ItemsFit file.Reference n g k rest) → ItemsFit file.Reference n g k (map gate cs ++ rest)
-  unfolding nameable commandTable formIn
+  operations-fit : (k : ℕ) (cs : List Coded) (rest : List Item) → k + length cs ≤ g → InOrder (n + k) cs →
+      ((k : ℕ) → ItemsFit file.Reference n g k rest) → ItemsFit file.Reference n g k (map gate cs ++ rest)
+  unfolding nameable commandTable ownCommands formIn
   operations-fit k [] rest l h r = r k
   operations-fit k (c ∷ cs) rest l h r =
       let inside = h .0 .operation-in in
@@ -140,7 +140,7 @@ module _ (n g : ℕ) (small : n + g ≤ absent) where
       )
 
   signals-fit : (vs : List ℕ) → All (λ v. v < n + g) vs → (k : ℕ) → ItemsFit file.Reference n g k (map (λ v. output (v ∷ [])) vs)
-  unfolding nameable commandTable formIn
+  unfolding nameable commandTable ownCommands formIn
   signals-fit [] h k = tt
   signals-fit (v ∷ vs) h k =
       let a = h .0 in
@@ -159,8 +159,11 @@ module _ (most : Limits) (r : Reference) where
         inputs-byte = omega (arith, h .inputs-in);
         gates-in = rw g (h .gates-in);
         outputs-in = rw o (h .outputs-in);
-        items-fit = rw g (operations-fit (r .inputs) (length (r .gates)) in-reach 0 (r .gates) (map (λ v. output (v ∷ [])) (r .outputs)) (omega arith) ordered (signals-fit (r .inputs) (length (r .gates)) in-reach (r .outputs) (h .outputs-formed)));
+        items-fit = rw g (operations-fit (r .inputs) (length (r .gates)) in-reach 0 (r .gates) (map (λ v. output (v ∷ [])) (r .outputs)) (omega arith) ordered
+            (signals-fit (r .inputs) (length (r .gates)) in-reach (r .outputs) (h .outputs-formed)));
       }
 
   pub fits-reference : FileFits file.Reference most (r .inputs) (referenceItems r) → ReferenceFormed most r
-  fits-reference fits = subst (ReferenceFormed most) (referenceOf-writeReference most r fits) (reference-formed most (writeReference r) (placesOf file.Reference (r .inputs) (referenceItems r)) (read-writeReference most r fits))
+  fits-reference fits =
+      subst (ReferenceFormed most) (referenceOf-writeReference most r fits)
+      (reference-formed most (writeReference r) (placesOf file.Reference (r .inputs) (referenceItems r)) (read-writeReference most r fits))

@@ -13,10 +13,10 @@ use Rattle.netlist.specs.Types.{Limits}
 use Rattle.netlist.specs.Types.file
 use Rattle.netlist.specs.Types.sort
 use Rattle.netlist.specs.Bytes.{operands, absent}
-use Rattle.netlist.specs.Commands.{commandTable, formIn, needed}
+use Rattle.netlist.specs.Commands.{commandTable, ownCommands, formIn, needed}
 use Rattle.netlist.specs.Reading.{nameable, Places, readFile, readable}
 use Rattle.netlist.specs.Content.{Coded, codedAt, Gate, Pair, Stage, gateOf, pairAt, stageOf}
-use Rattle.netlist.specs.Writing.{operandCount, roleFor, Item, gate, output, outputsIn, ItemsFit, gatesIn, placesOf, All, FileFits, codedGate, pairOperands, stageItems, writeStage}
+use Rattle.netlist.specs.Writing.{roleFor, Item, gate, output, outputsIn, ItemsFit, gatesIn, placesOf, All, FileFits, codedGate, pairOperands, stageItems, writeStage}
 use Rattle.netlist.specs.Formed.{CellFormed, RailsFormed, nets, StageFormed}
 use Rattle.netlist.proofs.Lists.{Bytes, All-every, All-map}
 use Rattle.netlist.proofs.Encoding.{kind-in, kind-needs, kind-some}
@@ -41,7 +41,7 @@ module _ (c : Coded) (known : 1 ≤ needed file.Stage (c .code)) where
   codedGate-gateOf = ap codedGate gate-cell
 
 pairAt-wiredAt : (s : List ℕ) (p : ℕ) → pairOf (wiredAt file.Stage s p) ≡ pairAt s p
-unfolding operands commandTable formIn
+unfolding operands commandTable ownCommands formIn
 pairAt-wiredAt s p = let e : p + 1 + 2 ≡ p + 3 = omega arith in rw e
 
 pairOperands-pairOf : (vs : List ℕ) → length vs ≡ 2 → pairOperands (pairOf vs) ≡ vs
@@ -61,7 +61,7 @@ module _ (n g : ℕ) where
   known-again k (c ∷ cs) h = (codedGate-gateOf c (h .0 .known), known-again (suc k) cs (h .1))
 
   wired-again : (vss : List (List ℕ)) → All (OutputFormed file.Stage n g) vss → All (λ vs. pairOperands (pairOf vs) ≡ vs) vss
-  unfolding commandTable formIn
+  unfolding commandTable ownCommands formIn
   wired-again = All-map (OutputFormed file.Stage n g) (λ vs. pairOperands (pairOf vs) ≡ vs) (λ vs w. pairOperands-pairOf vs (w .whole))
 
   codes-gates : (k : ℕ) (cs : List Coded) → GatesFormed file.Stage n g k cs → All (CellFormed (2 * n + g)) (map gateOf cs)
@@ -77,7 +77,7 @@ module _ (n g : ℕ) where
       (subst (CellFormed (2 * n + g)) (sym (gate-cell c (h .0 .known))) formed, codes-gates (suc k) cs (h .1))
 
   wires-pairs : (vss : List (List ℕ)) → All (OutputFormed file.Stage n g) vss → All (RailsFormed (2 * n + g)) (map pairOf vss)
-  unfolding commandTable formIn
+  unfolding commandTable ownCommands formIn
   wires-pairs [] h = tt
   wires-pairs (vs ∷ vss) h = (go vs (h .0 .whole) (h .0 .named), wires-pairs vss (h .1))
     where
@@ -136,8 +136,9 @@ module _ (most : Limits) (s : List ℕ) (p : Places) (e : readFile file.Stage mo
 -- ---- a well-formed stage, and no other, fits a file
 
 module _ (n g : ℕ) (small : 2 * n + g ≤ absent) where
-  cells-fit : (k : ℕ) (xs : List Gate) (rest : List Item) → All (CellFormed (2 * n + g)) xs → ((k : ℕ) → ItemsFit file.Stage n g k rest) → ItemsFit file.Stage n g k (map (λ x. gate (codedGate x)) xs ++ rest)
-  unfolding nameable commandTable formIn
+  cells-fit : (k : ℕ) (xs : List Gate) (rest : List Item) → All (CellFormed (2 * n + g)) xs →
+      ((k : ℕ) → ItemsFit file.Stage n g k rest) → ItemsFit file.Stage n g k (map (λ x. gate (codedGate x)) xs ++ rest)
+  unfolding nameable commandTable ownCommands formIn
   cells-fit k [] rest h r = r k
   cells-fit k (x ∷ xs) rest h r =
       let inside = h .0 .cell-in in (
@@ -152,7 +153,7 @@ module _ (n g : ℕ) (small : 2 * n + g ≤ absent) where
       )
 
   rails-fit : (ps : List Pair) → All (RailsFormed (2 * n + g)) ps → (k : ℕ) → ItemsFit file.Stage n g k (map (λ p. output (pairOperands p)) ps)
-  unfolding nameable commandTable formIn
+  unfolding nameable commandTable ownCommands formIn
   rails-fit [] h k = tt
   rails-fit (p ∷ ps) h k =
       let a = h .0 .rail0-in in
@@ -169,15 +170,19 @@ module _ (most : Limits) (c : Stage) where
   pub stage-fits : most .inputs < 256 → 2 * most .inputs + most .gates ≤ absent → StageFormed most c → FileFits file.Stage most (c .inputs) (stageItems c)
   stage-fits low small h =
       let g : length (gatesIn (stageItems c)) ≡ length (c .gates) = ap length (gatesIn-items gateOf codedGate pairOf pairOperands (c .gates) (c .outputs)) ∙ length-map (c .gates) codedGate in
-      let o : length (outputsIn (stageItems c)) ≡ length (c .outputs) = ap length (outputsIn-items gateOf codedGate pairOf pairOperands (c .gates) (c .outputs)) ∙ length-map (c .outputs) pairOperands in
+      let o : length (outputsIn (stageItems c)) ≡ length (c .outputs) =
+      ap length (outputsIn-items gateOf codedGate pairOf pairOperands (c .gates) (c .outputs)) ∙ length-map (c .outputs) pairOperands in
       let in-reach : nets c ≤ absent = omega (arith, h .inputs-in, h .gates-in) in
       record {
         inputs-in = h .inputs-in;
         inputs-byte = omega (arith, h .inputs-in);
         gates-in = rw g (h .gates-in);
         outputs-in = rw o (h .outputs-in);
-        items-fit = rw g (cells-fit (c .inputs) (length (c .gates)) in-reach 0 (c .gates) (map (λ p. output (pairOperands p)) (c .outputs)) (h .gates-formed) (rails-fit (c .inputs) (length (c .gates)) in-reach (c .outputs) (h .outputs-formed)));
+        items-fit = rw g (cells-fit (c .inputs) (length (c .gates)) in-reach 0 (c .gates) (map (λ p. output (pairOperands p)) (c .outputs)) (h .gates-formed)
+            (rails-fit (c .inputs) (length (c .gates)) in-reach (c .outputs) (h .outputs-formed)));
       }
 
   pub fits-stage : FileFits file.Stage most (c .inputs) (stageItems c) → All (λ g. g .hold ≡ true) (c .gates) → StageFormed most c
-  fits-stage fits hold = subst (StageFormed most) (stageOf-writeStage most c fits hold) (stage-formed most (writeStage c) (placesOf file.Stage (c .inputs) (stageItems c)) (read-writeStage most c fits))
+  fits-stage fits hold =
+      subst (StageFormed most) (stageOf-writeStage most c fits hold)
+      (stage-formed most (writeStage c) (placesOf file.Stage (c .inputs) (stageItems c)) (read-writeStage most c fits))

@@ -2,20 +2,22 @@
 -- Assumes nothing.
 use Prim.Native.Nat.{ℕ, zero, suc, _+_, _-_, _*_, _≤_, _<_}
 use native.Mathlib.Omega.{arith}
-use mathlib.Core.Path.{_≡_, refl, sym, ap, ap₂, subst, _∙_}
+use native.Mathlib.Nat.{mul-le-mul-left}
+use mathlib.Core.Path.{_≡_, refl, sym, ap, ap₂, _∙_}
 use mathlib.Core.Bool.{Bool, true, false, cond}
 use mathlib.Core.List.{List, [], _∷_, _++_, append-nil}
 use lib.ListN.{length, length-append, List·getD-eq-default}
 use lib.Seq.{append-snoc}
 use lib.Dec.{eqb, ltb}
 use borrow.Author.Tests.{lt-ltb, le-ltb, ne-eqb, ltb-false, eqb-true, eqb-false, not-false}
-use Rattle.netlist.specs.Types.{File, Sort, Form, Limits, Cursor, Next, Command, Refused, Found, At, Nothing}
+use Rattle.netlist.specs.Types.{File, Sort, Form, Limits, Counts, Cursor, Next, Command, Refused, Found, At, Nothing}
 use Rattle.netlist.specs.Types.sort
 use Rattle.netlist.specs.Bytes.{byte}
-use Rattle.netlist.specs.Commands.{whenFound, isSort, asForm, formOf, width, needed, stray, nextAt}
+use Rattle.netlist.specs.Commands.{whenFound, isSort, formOf, width, needed, stray, nextAt}
 use Rattle.netlist.specs.Reading.{nameable, nameless, usedOperands, namelessAt, namelessFrom, Places, noPlaces, countsOf, noted, Reading, refused, readable, finish, onNext, readFrom, readFile}
 use Rattle.netlist.specs.Content.{codedAt}
 use Rattle.netlist.specs.Writing.{formFor, widthFor, operandCount, roleFor, Item, gate, output, gatesIn, outputsIn, gatePlaces, outputPlaces, placesOf}
+use Rattle.netlist.specs.Read.{farthest}
 use Rattle.netlist.proofs.Operands.{nameless-named, named-nameless}
 use Rattle.netlist.proofs.Encoding.{clash, gate-form, output-form, inputs-form, end-form, width-gate, width-output, width-inputs, width-end}
 use Rattle.netlist.proofs.OneCommand.{There, there-next, next-there}
@@ -67,17 +69,31 @@ module _ (f : File) (s : List ℕ) (at : ℕ) (p : Places) where
     unfolding noted
     added-output at′ = ap (places (p .inputs) (p .gates ++ gatePlaces f at′ items)) (append-snoc (p .outputs) at (outputPlaces f at′ items))
 
--- no more gates and outputs than there may be
-abbrev pub Few : Limits → Places → Type 0
-Few most p = (length (p .gates) ≤ most .gates) × (length (p .outputs) ≤ most .outputs)
+-- ---- where commands stand
 
-pub noted-few : (f : File) (most : Limits) (s : List ℕ) (at : ℕ) (p : Places) (c : Sort) → Few most p → There f most s at (countsOf p) c → Few most (noted c s at p)
-unfolding noted
-noted-few f most s at p sort.Inputs few t = few
-noted-few f most s at p sort.Gate few t = omega (arith, length-append (p .gates) (at ∷ []), t .taken .0, few .1)
-noted-few f most s at p sort.Output few t = omega (arith, length-append (p .outputs) (at ∷ []), t .taken, few .0)
-noted-few f most s at p sort.End few t = few
-noted-few f most s at p sort.Unknown few t = few
+-- the place of a command, after the gates and outputs before it, of which there are no more than there may be
+pub record Near (f : File) (most : Limits) (at : ℕ) (c : Counts) : Type 0 where
+  pub place : at ≤ 2 + widthFor f sort.Gate * c .gates + widthFor f sort.Output * c .outputs
+  pub gates-in : c .gates ≤ most .gates
+  pub outputs-in : c .outputs ≤ most .outputs
+
+module _ (f : File) (most : Limits) where
+  pub near-start : Near f most 0 (countsOf noPlaces)
+  near-start = record { place = omega arith; gates-in = omega arith; outputs-in = omega arith }
+
+  pub near-far : {at : ℕ} {c : Counts} → Near f most at c → at + widthFor f sort.Gate ≤ farthest f most
+  near-far h = omega (arith, h .place, mul-le-mul-left (widthFor f sort.Gate) (h .gates-in), mul-le-mul-left (widthFor f sort.Output) (h .outputs-in))
+
+  pub near-noted : (s : List ℕ) (at : ℕ) (p : Places) (c : Sort) → isSort sort.End c ≡ false → Near f most at (countsOf p) → There f most s at (countsOf p) c →
+      Near f most (at + widthFor f c) (countsOf (noted c s at p))
+  unfolding noted stray
+  near-noted s at p sort.Inputs more h t = record { place = omega (arith, width-inputs f, first-inputs at (t .ordered)); gates-in = h .gates-in; outputs-in = h .outputs-in }
+  near-noted s at p sort.Gate more h t =
+      rw (length-append (p .gates) (at ∷ [])) (record { place = omega (arith, h .place); gates-in = omega (arith, t .taken .0); outputs-in = h .outputs-in })
+  near-noted s at p sort.Output more h t =
+      rw (length-append (p .outputs) (at ∷ [])) (record { place = omega (arith, h .place); gates-in = h .gates-in; outputs-in = omega (arith, t .taken) })
+  near-noted s at p sort.End more h t = absurd (clash (cc))
+  near-noted s at p sort.Unknown more h t = absurd (clash (let o = t .ordered in cc))
 
 -- ---- from a readable file to its items
 
@@ -97,14 +113,14 @@ module _ (f : File) (most : Limits) (s : List ℕ) (P : Places) where
 
   -- a reading that goes on from later places finds what stands there
   abbrev Walks : (ℕ → Places → Reading) → Type 0
-  Walks go = (at : ℕ) (p : Places) → 1 ≤ at → Few most p → go at p ≡ readable P → Walked at p
+  Walks go = (at : ℕ) (p : Places) → 1 ≤ at → Near f most at (countsOf p) → go at p ≡ readable P → Walked at p
 
-  module _ (go : ℕ → Places → Reading) (later : Walks go) (at : ℕ) (p : Places) (further : 1 ≤ at) (few : Few most p) where
+  module _ (go : ℕ → Places → Reading) (later : Walks go) (at : ℕ) (p : Places) (further : 1 ≤ at) (near : Near f most at (countsOf p)) where
     walked-command : (c : Sort) (next : Cursor) → next .at ≡ at + widthFor f c → There f most s at (countsOf p) c → onNext go f s at p (Command c next) ≡ readable P → Walked at p
     unfolding onNext finish stray
     walked-command sort.Inputs next a t e = absurd (omega (arith, first-inputs at (t .ordered)))
     walked-command sort.Gate next a t e =
-        let w = later (at + widthFor f sort.Gate) (noted sort.Gate s at p) (omega arith) (noted-few f most s at p sort.Gate few t) (rw a at e) in
+        let w = later (at + widthFor f sort.Gate) (noted sort.Gate s at p) (omega arith) (near-noted f most s at p sort.Gate refl near t) (rw a at e) in
         record {
           items = gate (codedAt f s at) ∷ w .items;
           laid = (record { command = t .command; room = t .room; content = refl; known = t .taken .1; fits = rw (gate-form f) at (t .taken .2) }, w .laid);
@@ -112,7 +128,7 @@ module _ (f : File) (most : Limits) (s : List ℕ) (P : Places) where
           at-end = w .at-end;
         }
     walked-command sort.Output next a t e =
-        let w = later (at + widthFor f sort.Output) (noted sort.Output s at p) (omega arith) (noted-few f most s at p sort.Output few t) (rw a at e) in
+        let w = later (at + widthFor f sort.Output) (noted sort.Output s at p) (omega arith) (near-noted f most s at p sort.Output refl near t) (rw a at e) in
         record {
           items = output (wiredAt f s at) ∷ w .items;
           laid = (record { command = t .command; room = t .room; content = refl }, w .laid);
@@ -126,20 +142,20 @@ module _ (f : File) (most : Limits) (s : List ℕ) (P : Places) where
           items = [];
           laid = record { command = t .command; last = omega (arith, t .room, width-end f, ltb-false (at + 1) (length s) (d .1)) };
           same = sym (added-nil f s at p ∙ d .3);
-          at-end = rw (d .3) at (let x : Ended f most s p = record { gates-in = few .0; outputs-in = (omega arith, few .1); all-named = d .2 } in x);
+          at-end = rw (d .3) at (let x : Ended f most s p = record { gates-in = near .gates-in; outputs-in = (omega arith, near .outputs-in); all-named = d .2 } in x);
         }
     walked-command sort.Unknown next a t e = absurd (clash (let o = t .ordered in cc))
 
   walked : (fuel : ℕ) → Walks (readFrom fuel f most s)
   unfolding readFrom onNext
-  walked zero at p further few e = absurd (clash (cc))
-  walked (suc fuel) at p further few e = go (walked fuel) (nextAt f most s at (countsOf p)) refl e
+  walked zero at p further near e = absurd (clash (cc))
+  walked (suc fuel) at p further near e = go (walked fuel) (nextAt f most s at (countsOf p)) refl e
     where
       go : Walks (readFrom fuel f most s) → (x : Next) → nextAt f most s at (countsOf p) ≡ x → onNext (readFrom fuel f most s) f s at p x ≡ readable P → Walked at p
       go later (Refused number place) is q = absurd (clash (cc))
       go later (Command c next) is q =
           let t = next-there f most s at (countsOf p) c next is in
-          walked-command (readFrom fuel f most s) later at p further few c next (t .0) (t .1) q
+          walked-command (readFrom fuel f most s) later at p further near c next (t .0) (t .1) q
 
   -- the first command is the count of inputs
   abbrev Started : Type 0
@@ -149,10 +165,11 @@ module _ (f : File) (most : Limits) (s : List ℕ) (P : Places) where
   unfolding readFile readFrom onNext stray noted
   started e = go (nextAt f most s 0 (countsOf noPlaces)) refl e
     where
-      first : (c : Sort) (next : Cursor) → next .at ≡ 0 + widthFor f c → There f most s 0 (countsOf noPlaces) c → onNext (readFrom (length s) f most s) f s 0 noPlaces (Command c next) ≡ readable P → Started
+      first : (c : Sort) (next : Cursor) → next .at ≡ 0 + widthFor f c → There f most s 0 (countsOf noPlaces) c →
+          onNext (readFrom (length s) f most s) f s 0 noPlaces (Command c next) ≡ readable P → Started
       first sort.Inputs next a t q =
           let b : next .at ≡ 2 = omega (arith, width-inputs f) in
-          (t, walked (length s) 2 (places (byte s 1) [] []) (omega arith) (omega arith) (rw b at q))
+          (t, walked (length s) 2 (places (byte s 1) [] []) (omega arith) (record { place = omega arith; gates-in = omega arith; outputs-in = omega arith }) (rw b at q))
       first sort.Gate next a t q = absurd (clash (let o = t .ordered in cc))
       first sort.Output next a t q = absurd (clash (let o = t .ordered in cc))
       first sort.End next a t q = absurd (clash (let o = t .ordered in cc))
@@ -170,32 +187,44 @@ or-later (At p) later e = absurd (clash (cc))
 or-later Nothing later e = (refl, e)
 
 module _ (f : File) (n g : ℕ) (s : List ℕ) (fuel at k : ℕ) where
+  -- what is found in the operands of a gate and of an output, and after a command of some bytes
+  abbrev inGate : Found
+  inGate = nameless (nameable (roleFor f sort.Gate) n g k) s (at + 2) (needed f (byte s (at + 1)))
+
+  abbrev inOutput : Found
+  inOutput = nameless (nameable (roleFor f sort.Output) n g k) s (at + 1) (operandCount f sort.Output)
+
+  abbrev onFrom : ℕ → ℕ → Found
+  onFrom w k′ = namelessFrom fuel f n g s (at + w) k′
+
   -- the search at one command, by its row
   step : Form → Found
-  step form = whenFound (namelessAt f n g s at k form) At (namelessFrom fuel f n g s (at + width form) (cond (isSort sort.Gate (form .sort)) (k + 1) k))
+  step form = whenFound (namelessAt f n g s at k form) At (onFrom (width form) (cond (isSort sort.Gate (form .sort)) (k + 1) k))
 
-  step-gate : formOf f (byte s at) ≡ formFor f sort.Gate → namelessFrom (suc fuel) f n g s at k ≡
-      whenFound (nameless (nameable (roleFor f sort.Gate) n g k) s (at + 2) (needed f (byte s (at + 1)))) At (namelessFrom fuel f n g s (at + widthFor f sort.Gate) (suc k))
+  step-gate : formOf f (byte s at) ≡ formFor f sort.Gate → namelessFrom (suc fuel) f n g s at k ≡ whenFound inGate At (onFrom (widthFor f sort.Gate) (suc k))
   unfolding namelessFrom namelessAt usedOperands step
   step-gate e =
       let one : k + 1 ≡ suc k = omega arith in
-      ap step (e ∙ gate-form f)
-      ∙ rw one (ap (λ (w : ℕ). whenFound (nameless (nameable (roleFor f sort.Gate) n g k) s (at + 2) (needed f (byte s (at + 1)))) At (namelessFrom fuel f n g s (at + w) (suc k))) (sym (width-gate f)))
+      ap step (e ∙ gate-form f) ∙ rw one (ap (λ (w : ℕ). whenFound inGate At (onFrom w (suc k))) (sym (width-gate f)))
 
-  step-output : formOf f (byte s at) ≡ formFor f sort.Output → namelessFrom (suc fuel) f n g s at k ≡
-      whenFound (nameless (nameable (roleFor f sort.Output) n g k) s (at + 1) (operandCount f sort.Output)) At (namelessFrom fuel f n g s (at + widthFor f sort.Output) k)
+  step-output : formOf f (byte s at) ≡ formFor f sort.Output → namelessFrom (suc fuel) f n g s at k ≡ whenFound inOutput At (onFrom (widthFor f sort.Output) k)
   unfolding namelessFrom namelessAt usedOperands step
-  step-output e =
-      ap step (e ∙ output-form f)
-      ∙ ap (λ (w : ℕ). whenFound (nameless (nameable (roleFor f sort.Output) n g k) s (at + 1) (operandCount f sort.Output)) At (namelessFrom fuel f n g s (at + w) k)) (sym (width-output f))
+  step-output e = ap step (e ∙ output-form f) ∙ ap (λ (w : ℕ). whenFound inOutput At (onFrom w k)) (sym (width-output f))
 
-  step-inputs : formOf f (byte s at) ≡ formFor f sort.Inputs → namelessFrom (suc fuel) f n g s at k ≡ namelessFrom fuel f n g s (at + 2) k
+  step-inputs : formOf f (byte s at) ≡ formFor f sort.Inputs → namelessFrom (suc fuel) f n g s at k ≡ onFrom 2 k
   unfolding namelessFrom namelessAt usedOperands step nameless whenFound
   step-inputs e = ap step (e ∙ inputs-form f)
 
-  step-end : formOf f (byte s at) ≡ formFor f sort.End → namelessFrom (suc fuel) f n g s at k ≡ namelessFrom fuel f n g s (at + 1) k
+  step-end : formOf f (byte s at) ≡ formFor f sort.End → namelessFrom (suc fuel) f n g s at k ≡ onFrom 1 k
   unfolding namelessFrom namelessAt usedOperands step nameless whenFound
   step-end e = ap step (e ∙ end-form f)
+
+  -- where nothing is found, nothing is found in the operands and after the command
+  gate-none : formOf f (byte s at) ≡ formFor f sort.Gate → namelessFrom (suc fuel) f n g s at k ≡ Nothing → (inGate ≡ Nothing) × (onFrom (widthFor f sort.Gate) (suc k) ≡ Nothing)
+  gate-none e none = or-later inGate (onFrom (widthFor f sort.Gate) (suc k)) (sym (step-gate e) ∙ none)
+
+  output-none : formOf f (byte s at) ≡ formFor f sort.Output → namelessFrom (suc fuel) f n g s at k ≡ Nothing → (inOutput ≡ Nothing) × (onFrom (widthFor f sort.Output) k ≡ Nothing)
+  output-none e none = or-later inOutput (onFrom (widthFor f sort.Output) k) (sym (step-output e) ∙ none)
 
 -- past the last byte nothing is found
 pub nameless-past : (f : File) (n g : ℕ) (s : List ℕ) (fuel at k : ℕ) → length s ≤ at → namelessFrom fuel f n g s at k ≡ Nothing
@@ -211,12 +240,12 @@ module _ (f : File) (n g : ℕ) (s : List ℕ) where
   named-walk zero at k (gate c ∷ items) h l e = absurd (omega (arith, h .0 .room, width-gate f))
   named-walk zero at k (output vs ∷ items) h l e = absurd (omega (arith, h .0 .room, width-output f))
   named-walk (suc fuel) at k (gate c ∷ items) h l e =
-      let d = or-later (nameless (nameable (roleFor f sort.Gate) n g k) s (at + 2) (needed f (byte s (at + 1)))) (namelessFrom fuel f n g s (at + widthFor f sort.Gate) (suc k)) (sym (step-gate f n g s fuel at k (h .0 .command)) ∙ e) in (
+      let d = gate-none f n g s fuel at k (h .0 .command) e in (
         rw (laid-operands (h .0)) at (nameless-named (nameable (roleFor f sort.Gate) n g k) s (at + 2) (needed f (byte s (at + 1))) (d .0)),
         named-walk fuel (at + widthFor f sort.Gate) (suc k) items (h .1) (omega (arith, width-gate f)) (d .1),
       )
   named-walk (suc fuel) at k (output vs ∷ items) h l e =
-      let d = or-later (nameless (nameable (roleFor f sort.Output) n g k) s (at + 1) (operandCount f sort.Output)) (namelessFrom fuel f n g s (at + widthFor f sort.Output) k) (sym (step-output f n g s fuel at k (h .0 .command)) ∙ e) in (
+      let d = output-none f n g s fuel at k (h .0 .command) e in (
         rw (h .0 .content) at (nameless-named (nameable (roleFor f sort.Output) n g k) s (at + 1) (operandCount f sort.Output) (d .0)),
         named-walk fuel (at + widthFor f sort.Output) k items (h .1) (omega (arith, width-output f)) (d .1),
       )
@@ -250,7 +279,12 @@ module _ (f : File) (most : Limits) (s : List ℕ) (last : ℕ) (ends : length s
       rw (there-next f most s at (countsOf p) sort.End (record { command = h .command; ordered = not-first at i; room = omega (arith, h .last, width-end f); taken = tt }))
       (ap₂ (finish f s) e (sym (added-nil f s at p)))
   walk-laid (suc fuel) at p (gate c ∷ items) h i l few thin =
-      rw (there-next f most s at (countsOf p) sort.Gate (record { command = h .0 .command; ordered = not-first at i; room = h .0 .room; taken = (omega arith, h .0 .known, rw (gate-form f) (h .0 .fits)) }))
+      rw (there-next f most s at (countsOf p) sort.Gate (record {
+        command = h .0 .command;
+        ordered = not-first at i;
+        room = h .0 .room;
+        taken = (omega arith, h .0 .known, rw (gate-form f) (h .0 .fits));
+      }))
       (walk-laid fuel (at + widthFor f sort.Gate) (noted sort.Gate s at p) items (h .1) (omega arith) (omega (arith, width-gate f)) (omega (arith, length-append (p .gates) (at ∷ []))) thin
       ∙ ap (finish f s last) (added-gate f s at p items (at + widthFor f sort.Gate)))
   walk-laid (suc fuel) at p (output vs ∷ items) h i l few thin =

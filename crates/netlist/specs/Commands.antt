@@ -1,7 +1,7 @@
 -- The commands of the two files: the table that says what a command byte calls for, and the command that stands at a position or
 -- the refusal, 1 to 6, with its place.
 use Prim.Native.Nat.{ℕ, zero, suc, _+_, _*_}
-use mathlib.Core.Bool.{Bool, true, false, cond, not, _&&_, _||_}
+use mathlib.Core.Bool.{Bool, cond, not, _&&_, _||_}
 use mathlib.Core.List.{List, [], _∷_}
 use lib.ListN.{length, getD}
 use lib.Dec.{eqb, leb, ltb}
@@ -35,21 +35,14 @@ isSort c d = eqb (sortNumber c) (sortNumber d)
 abbrev pub asForm : Sort → ℕ → ℕ → Role → Form
 asForm c lead operands role = record { sort = c; lead = lead; operands = operands; role = role }
 
--- The rows of each file, with their command bytes. The command byte counts among the bytes before the operands, and so do the count of
--- inputs and a gate's kind or operation.
+-- The table: a row for each command byte of a file. The command byte counts among the bytes before the operands, and so do the count
+-- of inputs and a gate's kind or operation.
+unfoldable pub ownCommands : File → List (ℕ × Form)
+ownCommands Stage = (0x02, asForm sort.Gate 2 4 AnyNet) ∷ (0x03, asForm sort.Output 1 2 AnyNet) ∷ []
+ownCommands Reference = (0x11, asForm sort.Gate 2 2 EarlierSignal) ∷ (0x12, asForm sort.Output 1 1 AnySignal) ∷ []
+
 unfoldable pub commandTable : File → List (ℕ × Form)
-commandTable Stage =
-    (0x00, asForm sort.End 1 0 Number)
-    ∷ (0x01, asForm sort.Inputs 2 0 Number)
-    ∷ (0x02, asForm sort.Gate 2 4 AnyNet)
-    ∷ (0x03, asForm sort.Output 1 2 AnyNet)
-    ∷ []
-commandTable Reference =
-    (0x00, asForm sort.End 1 0 Number)
-    ∷ (0x01, asForm sort.Inputs 2 0 Number)
-    ∷ (0x11, asForm sort.Gate 2 2 EarlierSignal)
-    ∷ (0x12, asForm sort.Output 1 1 AnySignal)
-    ∷ []
+commandTable f = (0x00, asForm sort.End 1 0 Number) ∷ (0x01, asForm sort.Inputs 2 0 Number) ∷ ownCommands f
 
 -- the row of a byte; one that is in no row stands for no command
 unfoldable pub formIn : List (ℕ × Form) → ℕ → Form

@@ -1,5 +1,5 @@
 -- Writing a file: the commands of a content, in any order of gates and outputs; and which contents fit a file.
-use Prim.Native.Nat.{ℕ, zero, suc, _+_, _*_, _/_, _%_, _≤_, _<_}
+use Prim.Native.Nat.{ℕ, zero, suc, _+_, _/_, _%_, _≤_, _<_}
 use mathlib.Core.Path.{_≡_}
 use mathlib.Core.List.{List, [], _∷_, _++_, map}
 use lib.ListN.{length}
@@ -9,7 +9,7 @@ use Rattle.netlist.specs.Types.sort
 use Rattle.netlist.specs.Bytes.{absent}
 use Rattle.netlist.specs.Commands.{formOf, width, needed}
 use Rattle.netlist.specs.Reading.{nameable, Places}
-use Rattle.netlist.specs.Content.{Circuit, Coded, Gate, Pair, Stage, Reference}
+use Rattle.netlist.specs.Content.{Coded, Gate, Pair, Stage, Reference}
 
 -- ---- the row of a sort of command
 

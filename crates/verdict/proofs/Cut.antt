@@ -10,7 +10,7 @@ use Rattle.netlist.specs.declared.File.{File}
 use Rattle.netlist.specs.declared.File.the-variants as file
 use Rattle.netlist.specs.declared.Sort.the-variants as sort
 use Rattle.netlist.specs.declared.Limits.{Limits}
-use Rattle.netlist.specs.Commands.{commandTable, formIn}
+use Rattle.netlist.specs.Commands.{ownCommands, commandTable, formIn}
 use Rattle.netlist.specs.Reading.{Places, Reading, refused, readable, readFile, stageLimits, referenceLimits}
 use Rattle.netlist.specs.Read.{mostBytes}
 use Rattle.netlist.specs.Writing.{widthFor}
@@ -25,11 +25,11 @@ short : (f : File) (most : Limits) → 3 + widthFor f sort.Gate * most .gates + 
 short f most h s p e = take-all mostBytes s (omega (arith, readable-length f most s p e))
 
 stage-short : (s : List ℕ) (p : Places) → readFile file.Stage stageLimits s ≡ readable p → take mostBytes s ≡ s
-unfolding commandTable formIn
+unfolding ownCommands commandTable formIn
 stage-short = short file.Stage stageLimits (omega arith)
 
 reference-short : (s : List ℕ) (p : Places) → readFile file.Reference referenceLimits s ≡ readable p → take mostBytes s ≡ s
-unfolding commandTable formIn
+unfolding ownCommands commandTable formIn
 reference-short = short file.Reference referenceLimits (omega arith)
 
 cut-reference : (c : Stage) (r : List ℕ)

@@ -2,19 +2,19 @@
 use mathlib.Core.Path.{_∙_}
 use borrow.Author.Needs.{needs}
 use Rattle.netlist.specs.declared.File.the-variants as file
-use Rattle.netlist.specs.Commands.{commandTable, formIn}
+use Rattle.netlist.specs.Commands.{commandTable, ownCommands, formIn}
 use Rattle.commands.proofs.Forms.{in-no-row}
 use Rattle.commands.proofs.form_of.Statement.{statement}
 use Rattle.commands.proofs.form_of.Tie as tie
-
-enum-told : tie.Need-enum-told
-enum-told c = search needs
 
 as-form-requires : tie.Need-as-form-requires
 as-form-requires c κs = search needs
 
 as-form-requires-2 : tie.Need-as-form-requires-2
 as-form-requires-2 c κs = search needs
+
+enum-told : tie.Need-enum-told
+enum-told c = search needs
 
 as-form-requires-3 : tie.Need-as-form-requires-3
 as-form-requires-3 c κs = search needs
@@ -37,63 +37,53 @@ as-form-requires-7 c κs = search needs
 as-form-requires-8 : tie.Need-as-form-requires-8
 as-form-requires-8 c κs = search needs
 
-as-form-requires-9 : tie.Need-as-form-requires-9
-as-form-requires-9 c κs = search needs
-
-as-form-requires-10 : tie.Need-as-form-requires-10
-as-form-requires-10 c κs = search needs
-
 returns : tie.Need-returns
-unfolding commandTable formIn
-returns c = rw (c .before .before .enum-told .given .1, c .before .match2 .keys1) (c .as-form .ensures)
+unfolding commandTable ownCommands formIn
+returns c = rw (c .before .match .keys1) (c .as-form .ensures)
 
 returns-2 : tie.Need-returns-2
-unfolding commandTable formIn
-returns-2 c = rw (c .before .before .enum-told .given .1, c .before .match2 .keys2) (c .as-form2 .ensures)
+unfolding commandTable ownCommands formIn
+returns-2 c = rw (c .before .match .keys2) (c .as-form2 .ensures)
 
 returns-3 : tie.Need-returns-3
-unfolding commandTable formIn
-returns-3 c = rw (c .before .before .enum-told .given .1, c .before .match2 .keys3) (c .as-form3 .ensures)
+unfolding commandTable ownCommands formIn
+returns-3 c = rw (c .before .before .enum-told .given .1, c .before .match3 .keys1) (c .as-form3 .ensures)
 
 returns-4 : tie.Need-returns-4
-unfolding commandTable formIn
-returns-4 c = rw (c .before .before .enum-told .given .1, c .before .match2 .keys4) (c .as-form4 .ensures)
+unfolding commandTable ownCommands formIn
+returns-4 c = rw (c .before .before .enum-told .given .1, c .before .match3 .keys2) (c .as-form4 .ensures)
 
 returns-5 : tie.Need-returns-5
-unfolding commandTable formIn
+unfolding commandTable ownCommands formIn
 returns-5 c =
+    let outer = c .before .before .before .before .match .rest in
+    let inner = c .before .match3 .rest in
     rw (c .before .before .enum-told .given .1)
-    (c .as-form5 .ensures ∙ in-no-row (commandTable file.Stage) (c .before .before .before .before .args .command) (c .before .match2 .rest .0 .0 .0 .1, (c .before .match2 .rest .0 .0 .1, (c .before .match2 .rest .0 .1, (c .before .match2 .rest .1, tt)))))
+    (c .as-form5 .ensures ∙ in-no-row (commandTable file.Stage) (c .before .before .before .before .before .args .command) (outer .0 .1, (outer .1, (inner .0 .1, (inner .1, tt)))))
 
 returns-6 : tie.Need-returns-6
-unfolding commandTable formIn
-returns-6 c = rw (c .before .before .enum-told2 .given .1, c .before .match3 .keys1) (c .as-form6 .ensures)
+unfolding commandTable ownCommands formIn
+returns-6 c = rw (c .before .before .enum-told2 .given .1, c .before .match4 .keys1) (c .as-form6 .ensures)
 
 returns-7 : tie.Need-returns-7
-unfolding commandTable formIn
-returns-7 c = rw (c .before .before .enum-told2 .given .1, c .before .match3 .keys2) (c .as-form7 .ensures)
+unfolding commandTable ownCommands formIn
+returns-7 c = rw (c .before .before .enum-told2 .given .1, c .before .match4 .keys2) (c .as-form7 .ensures)
 
 returns-8 : tie.Need-returns-8
-unfolding commandTable formIn
-returns-8 c = rw (c .before .before .enum-told2 .given .1, c .before .match3 .keys3) (c .as-form8 .ensures)
-
-returns-9 : tie.Need-returns-9
-unfolding commandTable formIn
-returns-9 c = rw (c .before .before .enum-told2 .given .1, c .before .match3 .keys4) (c .as-form9 .ensures)
-
-returns-10 : tie.Need-returns-10
-unfolding commandTable formIn
-returns-10 c =
+unfolding commandTable ownCommands formIn
+returns-8 c =
+    let outer = c .before .before .before .before .match .rest in
+    let inner = c .before .match4 .rest in
     rw (c .before .before .enum-told2 .given .1)
-    (c .as-form10 .ensures ∙ in-no-row (commandTable file.Reference) (c .before .before .before .before .args .command) (c .before .match3 .rest .0 .0 .0 .1, (c .before .match3 .rest .0 .0 .1, (c .before .match3 .rest .0 .1, (c .before .match3 .rest .1, tt)))))
+    (c .as-form8 .ensures ∙ in-no-row (commandTable file.Reference) (c .before .before .before .before .before .args .command) (outer .0 .1, (outer .1, (inner .0 .1, (inner .1, tt)))))
 
 pub form-of-spec : {M : Type 1} → statement M
 form-of-spec =
     tie.close
     (tie.spec
-    enum-told
     as-form-requires
     as-form-requires-2
+    enum-told
     as-form-requires-3
     as-form-requires-4
     as-form-requires-5
@@ -101,8 +91,6 @@ form-of-spec =
     as-form-requires-6
     as-form-requires-7
     as-form-requires-8
-    as-form-requires-9
-    as-form-requires-10
     returns
     returns-2
     returns-3
@@ -110,6 +98,4 @@ form-of-spec =
     returns-5
     returns-6
     returns-7
-    returns-8
-    returns-9
-    returns-10)
+    returns-8)

@@ -23,14 +23,18 @@ add-count : tie.Need-add-count
 add-count c = search needs
 
 shared-slice-read-n : tie.Need-shared-slice-read-n
-shared-slice-read-n c = omega (arith, inputs-wide _ _ (c .before .before .before .before .before .pre .0) (c .before .enum-told .given .1), c .before .before .before .before .before .pre .1)
+shared-slice-read-n c =
+    let start = c .before .before .before .before .before in
+    omega (arith, inputs-wide _ _ (start .pre .0) (c .before .enum-told .given .1), start .pre .1)
 
 cast-n : tie.Need-cast-n
 cast-n c = omega (arith, c .shared-slice-known2 .given (c .before .before .before .before .before .args .at + 1))
 
 returns : tie.Need-returns
 unfolding takeSort
-returns c = sym (by-sort _ _ _ _ _ _ _ (c .before .before .before .before .before .before .width .ensures) _ (c .before .before .before .before .enum-told .given .1) ∙ simp (le-leb _ _ (c .before .before .if1 .taken), le-leb _ _ (c .if2 .taken)))
+returns c =
+    let arm = c .before .before .before .before in
+    sym (by-sort _ _ _ _ _ _ _ (arm .before .before .width .ensures) _ (arm .enum-told .given .1) ∙ simp (le-leb _ _ (c .before .before .if1 .taken), le-leb _ _ (c .if2 .taken)))
 
 enum-told-2 : tie.Need-enum-told-2
 enum-told-2 c = search needs
@@ -43,7 +47,9 @@ enum-told-3 c = search needs
 
 returns-2 : tie.Need-returns-2
 unfolding takeSort
-returns-2 c = sym (by-sort _ _ _ _ _ _ _ (c .before .before .before .before .before .before .width .ensures) _ (c .before .before .before .before .enum-told .given .1) ∙ simp (le-leb _ _ (c .before .before .if1 .taken), lt-leb _ _ (c .if2 .left)))
+returns-2 c =
+    let arm = c .before .before .before .before in
+    sym (by-sort _ _ _ _ _ _ _ (arm .before .before .width .ensures) _ (arm .enum-told .given .1) ∙ simp (le-leb _ _ (c .before .before .if1 .taken), lt-leb _ _ (c .if2 .left)))
 
 returns-3 : tie.Need-returns-3
 unfolding takeSort
@@ -55,11 +61,15 @@ returns-4 c = c .take-gate .ensures ∙ sym (by-sort _ _ _ _ _ _ _ (c .before .b
 
 returns-5 : tie.Need-returns-5
 unfolding takeSort
-returns-5 c = sym (by-sort _ _ _ _ _ _ _ (c .before .before .before .before .before .width .ensures) _ (c .before .before .before .enum-told3 .given .1) ∙ simp (le-leb _ _ (c .if3 .taken)))
+returns-5 c =
+    let arm = c .before .before .before in
+    sym (by-sort _ _ _ _ _ _ _ (arm .before .before .width .ensures) _ (arm .enum-told3 .given .1) ∙ simp (le-leb _ _ (c .if3 .taken)))
 
 returns-6 : tie.Need-returns-6
 unfolding takeSort
-returns-6 c = sym (by-sort _ _ _ _ _ _ _ (c .before .before .before .before .before .width .ensures) _ (c .before .before .before .enum-told3 .given .1) ∙ simp (lt-leb _ _ (c .if3 .left)))
+returns-6 c =
+    let arm = c .before .before .before in
+    sym (by-sort _ _ _ _ _ _ _ (arm .before .before .width .ensures) _ (arm .enum-told3 .given .1) ∙ simp (lt-leb _ _ (c .if3 .left)))
 
 returns-7 : tie.Need-returns-7
 returns-7 c = by-rest _ _ _ _ _ _ _ (c .before .width .ensures) (c .match .keys4)

@@ -1,5 +1,4 @@
 -- `commands::take_gate` meets its contract: each answer is that of the tests that led to it. Assumes nothing.
-use native.Mathlib.Omega.{arith}
 use borrow.Author.Tests.{le-leb, lt-leb, eq-eqb, ne-eqb}
 use borrow.Author.Needs.{needs}
 use Rattle.netlist.specs.Commands.{whenFound, takeGate}

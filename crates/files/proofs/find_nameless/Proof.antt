@@ -27,15 +27,17 @@ form-of-requires c κs = search needs
 
 nameless-at-requires : tie.Need-nameless-at-requires Inv-loop μ-loop
 nameless-at-requires c κs =
-    ((c .form-of .ensures, command-room (c .before .before .before .loop .inv) (c .before .before .loop-test .taken) (c .form-of .ensures)), (omega arith, omega (arith, c .before .before .before .loop .inv, c .before .before .before .before .before .good)))
+    let loop = c .before .before .before in
+    ((c .form-of .ensures, command-room (loop .loop .inv) (c .before .before .loop-test .taken) (c .form-of .ensures)), (omega arith, omega (arith, loop .loop .inv, loop .before .before .good)))
 
 enum-known-place : tie.Need-enum-known-place Inv-loop μ-loop
 enum-known-place c = search needs
 
 returns : tie.Need-returns Inv-loop μ-loop
 returns c =
-    sym (search-found (c .before .before .before .before .before .before .before .loop .inv) (c .before .before .before .before .before .before .loop-test .taken)
-    (c .before .before .before .before .form-of .ensures) (c .before .before .before .nameless-at .ensures) (c .before .place .given .1))
+    let found = c .before .before .before in
+    let inside = found .before .before .before in
+    sym (search-found (inside .before .loop .inv) (inside .loop-test .taken) (found .before .form-of .ensures) (found .nameless-at .ensures) (c .before .place .given .1))
 
 enum-told : tie.Need-enum-told Inv-loop μ-loop
 enum-told c = search needs
@@ -45,7 +47,8 @@ width-requires c κs = omega (arith, few-bytes _ _ (c .before .before .before .f
 
 add-after : tie.Need-add-after Inv-loop μ-loop
 add-after c =
-    omega (arith, c .width .ensures, command-room (c .before .before .before .before .before .before .before .loop .inv) (c .before .before .before .before .before .before .loop-test .taken) (c .before .before .before .before .form-of .ensures))
+    let read = c .before .before .before .before in
+    omega (arith, c .width .ensures, command-room (read .before .before .before .loop .inv) (read .before .before .loop-test .taken) (read .form-of .ensures))
 
 enum-told-2 : tie.Need-enum-told-2 Inv-loop μ-loop
 enum-told-2 c = search needs
@@ -58,8 +61,11 @@ loop-less c = omega (arith, few-bytes _ _ (c .before .before .before .before .be
 
 loop-again : tie.Need-loop-again Inv-loop μ-loop
 loop-again c =
-    search-goes (c .before .before .before .before .before .before .before .before .before .loop .inv) (c .before .before .before .before .before .before .before .before .loop-test .taken)
-    (c .before .before .before .before .before .before .form-of .ensures) (c .before .before .before .before .before .nameless-at .ensures) (c .before .before .before .enum-told .given .1) _ (c .before .before .width .ensures) _
+    let wide = c .before .before in
+    let none = wide .before in
+    let found = none .before .before in
+    let inside = found .before .before .before in
+    search-goes (inside .before .loop .inv) (inside .loop-test .taken) (found .before .form-of .ensures) (found .nameless-at .ensures) (none .enum-told .given .1) _ (wide .width .ensures) _
     (after-gate _ (c .enum-told2 .given .1)) (omega arith)
 
 loop-less-2 : tie.Need-loop-less-2 Inv-loop μ-loop
@@ -67,9 +73,12 @@ loop-less-2 c = omega (arith, few-bytes _ _ (c .before .before .before .before .
 
 loop-again-2 : tie.Need-loop-again-2 Inv-loop μ-loop
 loop-again-2 c =
-    search-goes (c .before .before .before .before .before .before .before .before .loop .inv) (c .before .before .before .before .before .before .before .loop-test .taken)
-    (c .before .before .before .before .before .form-of .ensures) (c .before .before .before .before .nameless-at .ensures) (c .before .before .enum-told .given .1) _ (c .before .width .ensures) _
-    (after-other _ (c .before .before .before .before .before .form-of .result .sort) (c .match2 .keys2)) (omega arith)
+    let wide = c .before in
+    let none = wide .before in
+    let found = none .before .before in
+    let inside = found .before .before .before in
+    search-goes (inside .before .loop .inv) (inside .loop-test .taken) (found .before .form-of .ensures) (found .nameless-at .ensures) (none .enum-told .given .1) _ (wide .width .ensures) _
+    (after-other _ (found .before .form-of .result .sort) (c .match2 .keys2)) (omega arith)
 
 returns-2 : tie.Need-returns-2 Inv-loop μ-loop
 returns-2 c = sym (search-past (c .before .loop .inv) (c .loop-test .left))

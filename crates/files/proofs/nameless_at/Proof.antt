@@ -19,7 +19,8 @@ add-first-nameless c = search needs
 
 first-nameless-requires : tie.Need-first-nameless-requires
 first-nameless-requires c κs =
-    omega (arith, c .before .used-operands .ensures, used-in _ _ (byte (c .before .before .before .before .args .s .now) (c .before .before .before .before .args .at + 1)) (c .before .before .before .before .pre .0 .0), c .before .before .before .before .pre .0 .1)
+    let start = c .before .before .before .before in
+    omega (arith, c .before .used-operands .ensures, used-in _ _ (byte (start .args .s .now) (start .args .at + 1)) (start .pre .0 .0), start .pre .0 .1)
 
 returns : tie.Need-returns
 unfolding namelessAt

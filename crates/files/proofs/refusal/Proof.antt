@@ -1,5 +1,4 @@
 -- `files::refusal` meets its contract, by its arms. Assumes nothing.
-use mathlib.Core.Path.{_≡_, sym, _∙_}
 use borrow.Author.Needs.{needs}
 use Rattle.netlist.proofs.Encoding.{clash}
 use Rattle.files.proofs.refusal.Statement.{statement}

@@ -1,7 +1,6 @@
 -- `loops::fed` meets its contract: some pin is marked where the pattern of the pins is above 0. Assumes nothing.
 use mathlib.Core.Path.{ap, _∙_}
 use lib.Dec.{ltb}
-use borrow.Author.Needs.{needs}
 use Rattle.loops.proofs.Feeding.{marks-row, fed-pattern}
 use Rattle.loops.proofs.fed.Statement.{statement}
 use Rattle.loops.proofs.fed.Tie as tie

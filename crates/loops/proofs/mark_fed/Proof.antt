@@ -31,17 +31,17 @@ add-if2 : tie.Need-add-if2 Inv-loop μ-loop
 add-if2 c = omega (arith, c .before .before .before .before .before .before .pre .0 .within .inputs-in)
 
 slice-read-if2 : tie.Need-slice-read-if2 Inv-loop μ-loop
-slice-read-if2 c = omega (arith, c .before .before .before .before .loop .inv .1 .row-for .long)
+slice-read-if2 c = omega (arith, c .before .before .before .before .loop .inv .1 .marks-for .long, c .before .before .before .before .loop .inv .1 .marks-for .room)
 
 fed-requires : tie.Need-fed-requires Inv-loop μ-loop
 fed-requires c κs =
     let z = c .before .before .before .before .before .before .before .before .before in
-    (z .pre .0, c .before .before .before .before .if1 .taken, c .before .before .before .before .before .before .loop .inv .1 .row-for)
+    (z .pre .0, c .before .before .before .before .if1 .taken, c .before .before .before .before .before .before .loop .inv .1 .marks-for)
 
 slice-write-marks : tie.Need-slice-write-marks Inv-loop μ-loop
 slice-write-marks c =
     let l = c .before .before .before .before .before .before .before .before .before .loop in
-    omega (arith, l .inv .1 .row-for .long, c .before .before .before .before .before .before .before .if1 .taken)
+    omega (arith, l .inv .1 .marks-for .long, l .inv .1 .marks-for .room, c .before .before .before .before .before .before .before .if1 .taken)
 
 loop-again : tie.Need-loop-again Inv-loop μ-loop
 loop-again c =
@@ -59,7 +59,7 @@ loop-again c =
     (omega arith, r)
 
 same-length : tie.Need-same-length Inv-loop μ-loop
-same-length c = c .before .before .loop .inv .1 .row-for .long ∙ sym (c .before .before .before .before .before .pre .1 .long)
+same-length c = c .before .before .loop .inv .1 .marks-for .long ∙ sym (c .before .before .before .before .before .pre .1 .long)
 
 returns : tie.Need-returns Inv-loop μ-loop
 returns c =

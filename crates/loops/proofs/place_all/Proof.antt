@@ -37,7 +37,7 @@ same-length c =
 same-length-2 : tie.Need-same-length-2 Inv-loop μ-loop
 same-length-2 c =
     let z = c .before .before .before .before .before .before .before .before .before .before .before .before .before .before .before .before .before in
-    c .before .before .before .before .before .place-ready .ensures .0 .placing .row-for .long ∙ sym (z .pre .1 .long)
+    c .before .before .before .before .before .place-ready .ensures .0 .placing .marks-for .long ∙ sym (z .pre .1 .marks-for .long)
 
 returns : tie.Need-returns Inv-loop μ-loop
 returns c =
@@ -58,7 +58,7 @@ same-length-3 : tie.Need-same-length-3 Inv-loop μ-loop
 same-length-3 c = c .before .before .loop .inv .0 .long
 
 same-length-4 : tie.Need-same-length-4 Inv-loop μ-loop
-same-length-4 c = c .before .before .loop .inv .1 .row-for .long ∙ sym (c .before .before .before .before .before .before .before .before .before .pre .1 .long)
+same-length-4 c = c .before .before .loop .inv .1 .marks-for .long ∙ sym (c .before .before .before .before .before .before .before .before .before .pre .1 .marks-for .long)
 
 returns-2 : tie.Need-returns-2 Inv-loop μ-loop
 returns-2 c = let l = c .before .before .loop in (ordered-full _ _ _ _ (l .inv .1) (omega (arith, c .if1 .left)), l .inv .0)

@@ -6,7 +6,7 @@ use native.Mathlib.Omega.{arith}
 use borrow.Author.Needs.{needs}
 use mathlib.Core.List.{List}
 use denote.Ref.{now}
-use Rattle.loops.specs.Placing.{Reordered, Passed}
+use Rattle.loops.specs.Placing.{Reordered, PassTo}
 use Rattle.loops.proofs.Reordering.{reordered-refl, reordered-trans}
 use Rattle.loops.proofs.Placing.{pass-start, pass-place, pass-skip}
 use Rattle.loops.proofs.place_ready.Statement.{statement}
@@ -17,7 +17,7 @@ use Rattle.loops.proofs.is_ready.Reads as is-ready-reads
 use Rattle.loops.proofs.place.Reads as place-reads
 
 abbrev Inv-loop : tie.InvT-loop
-Inv-loop code₀ counts waiting₀ taken placed₀ k₀ code waiting placed k = (k ≤ counts .gates) × Reordered counts code₀ code × Passed counts code waiting taken placed k
+Inv-loop code₀ counts waiting₀ taken placed₀ k₀ code waiting placed k = (k ≤ counts .gates) × Reordered counts code₀ code × PassTo counts code waiting taken placed k
 
 abbrev μ-loop : tie.MeasureT-loop
 μ-loop code₀ counts waiting₀ taken placed₀ k₀ code waiting placed k = counts .gates - k
@@ -26,7 +26,7 @@ loop-holds : tie.Need-loop-holds Inv-loop μ-loop
 loop-holds c = (omega arith, reordered-refl _ _, pass-start _ _ _ _ (c .before .before .pre))
 
 is-ready-requires : tie.Need-is-ready-requires Inv-loop μ-loop
-is-ready-requires c κs = let p = c .before .before .before .before .loop .inv .2 .placing in (p .loaded, c .before .before .if1 .taken, p .row-for)
+is-ready-requires c κs = let p = c .before .before .before .before .loop .inv .2 .placing in (p .loaded, c .before .before .if1 .taken, p .marks-for)
 
 place-requires : tie.Need-place-requires Inv-loop μ-loop
 place-requires c κs =
@@ -43,7 +43,7 @@ loop-again : tie.Need-loop-again Inv-loop μ-loop
 loop-again c =
     let z = c .before .before .before .before .before .before .before .before .before in
     let l = c .before .before .before .before .before .before .loop in
-    let on : List ℕ → List ℕ → ℕ → Type 0 = λ u v m. Reordered (z .args .counts) (now (z .args .code)) u × Passed (z .args .counts) u v (z .args .taken) m (l .k + 1) in
+    let on : List ℕ → List ℕ → ℕ → Type 0 = λ u v m. Reordered (z .args .counts) (now (z .args .code)) u × PassTo (z .args .counts) u v (z .args .taken) m (l .k + 1) in
     let h : l .k + 1 ≤ z .args .counts .gates = omega (arith, c .before .before .before .before .if1 .taken) in
     ⊎-elim
     (λ w.
@@ -58,14 +58,14 @@ same-length : tie.Need-same-length Inv-loop μ-loop
 same-length c = c .before .before .loop .inv .1 .long
 
 same-length-2 : tie.Need-same-length-2 Inv-loop μ-loop
-same-length-2 c = c .before .before .loop .inv .2 .placing .row-for .long ∙ sym (c .before .before .before .before .before .pre .row-for .long)
+same-length-2 c = c .before .before .loop .inv .2 .placing .marks-for .long ∙ sym (c .before .before .before .before .before .pre .marks-for .long)
 
 returns : tie.Need-returns Inv-loop μ-loop
 returns c =
     let z = c .before .before .before .before .before in
     let l = c .before .before .loop in
     let e : l .k ≡ z .args .counts .gates = omega (arith, l .inv .0, c .if1 .left) in
-    (subst (Passed (z .args .counts) (l .code) (l .waiting) (z .args .taken) (l .placed)) e (l .inv .2), l .inv .1)
+    (subst (PassTo (z .args .counts) (l .code) (l .waiting) (z .args .taken) (l .placed)) e (l .inv .2), l .inv .1)
 
 pub place-ready-spec : {M : Type 1} → statement M
 place-ready-spec =

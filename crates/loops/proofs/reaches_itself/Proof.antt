@@ -1,11 +1,11 @@
 -- `loops::reaches_itself` meets its contract. The loop's invariant: the gate is marked, and marked nets lead to it. The measure is how many
 -- are not marked. Assumes nothing.
-use Prim.Native.Nat.{_+_, _-_}
+use Prim.Native.Nat.{_-_}
 use mathlib.Core.Path.{sym, _∙_}
 use native.Mathlib.Omega.{arith}
 use borrow.Author.Needs.{needs}
 use Rattle.verdict.specs.Levels.{sum}
-use Rattle.circuit.specs.Stage.{netCount}
+use Rattle.circuit.specs.Rows.{rowSize}
 use Rattle.loops.specs.Marks.{Marking}
 use Rattle.loops.proofs.Marking.{grow-less, marking-start, marking-more, marks-tell}
 use Rattle.loops.proofs.reaches_itself.Statement.{statement}
@@ -19,16 +19,16 @@ abbrev Inv-loop : tie.InvT-loop
 Inv-loop code counts g marks₀ marks = Marking counts code g marks
 
 abbrev μ-loop : tie.MeasureT-loop
-μ-loop code counts g marks₀ marks = netCount counts + 1 - sum marks
+μ-loop code counts g marks₀ marks = rowSize - sum marks
 
 slice-write-marks : tie.Need-slice-write-marks Inv-loop μ-loop
-slice-write-marks c = omega (arith, c .before .before .before .pre .1, c .before .before .before .pre .2 .long)
+slice-write-marks c = omega (arith, c .before .before .before .pre .1, c .before .before .before .pre .2 .marks-for .long, c .before .before .before .pre .2 .marks-for .room)
 
 loop-holds : tie.Need-loop-holds Inv-loop μ-loop
 loop-holds c = marking-start _ _ _ (c .before .before .before .pre .1) _ (c .before .before .before .pre .2)
 
 mark-fed-requires : tie.Need-mark-fed-requires Inv-loop μ-loop
-mark-fed-requires c κs = (c .before .before .before .before .before .pre .0, c .before .loop .inv .row-for)
+mark-fed-requires c κs = (c .before .before .before .before .before .pre .0, c .before .loop .inv .marks-for)
 
 loop-less : tie.Need-loop-less Inv-loop μ-loop
 loop-less c = grow-less _ _ _ _ _ _ (c .before .before .before .mark-fed .ensures) (c .if1 .taken)
@@ -41,12 +41,12 @@ loop-again c =
 fed-requires : tie.Need-fed-requires Inv-loop μ-loop
 fed-requires c κs =
     let z = c .before .before .before .before .before .before .before .before .before .before in
-    (z .pre .0, z .pre .1, c .before .before .before .before .mark-fed .ensures .row-for)
+    (z .pre .0, z .pre .1, c .before .before .before .before .mark-fed .ensures .marks-for)
 
 same-length : tie.Need-same-length Inv-loop μ-loop
 same-length c =
     let z = c .before .before .before .before .before .before .before .before .before .before .before in
-    c .before .before .before .before .before .mark-fed .ensures .row-for .long ∙ sym (z .pre .2 .long)
+    c .before .before .before .before .before .mark-fed .ensures .marks-for .long ∙ sym (z .pre .2 .marks-for .long)
 
 returns : tie.Need-returns Inv-loop μ-loop
 returns c =

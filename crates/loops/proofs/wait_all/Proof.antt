@@ -21,7 +21,7 @@ loop-holds : tie.Need-loop-holds Inv-loop μ-loop
 loop-holds c = (refl, omega arith, wait-none _ _ (c .pre))
 
 slice-write-marks : tie.Need-slice-write-marks Inv-loop μ-loop
-slice-write-marks c = let l = c .before .before .before .loop in omega (arith, l .inv .2 .row-for .long)
+slice-write-marks c = let l = c .before .before .before .loop in omega (arith, l .inv .2 .marks-for .long, l .inv .2 .marks-for .room)
 
 loop-again : tie.Need-loop-again Inv-loop μ-loop
 loop-again c =
