@@ -13,7 +13,7 @@ use Rattle.netlist.specs.Content.{Stage, Reference}
 use Rattle.verdict.specs.declared.Finding.{Finding}
 use Rattle.verdict.specs.declared.Finding.the-variants.{Fault, Passed}
 use Rattle.verdict.specs.Checks.{verdict, first, atFault, sweep, finding, orLater, firstFault, unequal, looped, sweeps, checks}
-use Rattle.circuit.specs.Stage.{gatesIn, outputIn, outputsIn, stageIn}
+use Rattle.circuit.specs.Stage.{stageGates, outputIn, stageOutputs, stageIn}
 use Rattle.circuit.specs.Reference.{signalIn, signalsIn, referenceIn, ReferenceLoaded}
 use Rattle.circuit.proofs.Tabulate.{length-tabulate}
 use Rattle.loops.specs.Marks.{LoopFound}
@@ -38,7 +38,7 @@ module _ (c : Counts) (code : List ℕ) (sizes : Counts) (reference : List ℕ) 
   r = referenceIn sizes reference
 
   stage-outputs : length (s .outputs) ≡ c .outputs
-  unfolding outputsIn
+  unfolding stageOutputs
   stage-outputs = length-tabulate (outputIn c code) (c .outputs)
 
   reference-outputs : length (r .outputs) ≡ sizes .outputs

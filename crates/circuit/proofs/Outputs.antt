@@ -15,7 +15,7 @@ use Rattle.netlist.specs.Content.{Pair}
 use Rattle.verdict.specs.Rows.{high, dualRail, pairIn, isData, spells, allData}
 use Rattle.verdict.specs.Search.{least}
 use Rattle.verdict.proofs.Least.{least-says}
-use Rattle.circuit.specs.Stage.{tabulate, outputIn, outputsIn, StageLoaded}
+use Rattle.circuit.specs.Stage.{tabulate, outputIn, stageOutputs, StageLoaded}
 use Rattle.circuit.specs.Rows.{RowFor, netsIn, LevelOf, notData}
 use Rattle.circuit.proofs.Pins.{net-there, level-in}
 
@@ -104,10 +104,10 @@ module _ (row : List ℕ) where
       go false r = refl
 
   module _ (c : Counts) (code : List ℕ) (x : Found) (is : x ≡ least (notData c code row) 0 (c .outputs)) where
-    pub all-data : x ≡ Nothing → true ≡ allData row (outputsIn c code)
-    unfolding outputsIn
+    pub all-data : x ≡ Nothing → true ≡ allData row (stageOutputs c code)
+    unfolding stageOutputs
     all-data e = let f = least-says (notData c code row) 0 (c .outputs) Nothing (sym is ∙ e) in each-data (outputIn c code) (c .outputs) (λ j h. f j (omega arith) (omega arith))
 
-    pub not-all-data : (j : ℕ) → x ≡ At j → false ≡ allData row (outputsIn c code)
-    unfolding outputsIn
+    pub not-all-data : (j : ℕ) → x ≡ At j → false ≡ allData row (stageOutputs c code)
+    unfolding stageOutputs
     not-all-data j e = let f = least-says (notData c code row) 0 (c .outputs) (At j) (sym is ∙ e) in one-not (outputIn c code) (c .outputs) j (omega (arith, f .below)) (f .passes)

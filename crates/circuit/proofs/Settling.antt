@@ -17,7 +17,7 @@ use Rattle.verdict.specs.Loops.{In, pinsAt}
 use Rattle.verdict.proofs.Gates.{set-local}
 use Rattle.verdict.proofs.Reaching.{loopFree-noLoop}
 use Rattle.verdict.proofs.Settling.{held-one, holding-settled}
-use Rattle.circuit.specs.Stage.{netCount, gateIn, gateAtPlace, gatesIn}
+use Rattle.circuit.specs.Stage.{netCount, gateIn, gateAtPlace, stageGates}
 use Rattle.circuit.specs.Order.{TopologicalOrder, orderIn, InOrder}
 use Rattle.circuit.specs.Rows.{rowSize, RowFor, netsIn, railPart, levelPart, levelHolding, SettledBefore, SettledTo, settledHoldingIn}
 use Rattle.circuit.proofs.Tabulate.{length-tabulate, getD-tabulate, map-tabulate}
@@ -171,24 +171,24 @@ module _ (c : Counts) (row : List ℕ) (r : RowFor c row) where
 
 -- ---- settling a row
 
-pub length-gatesIn : (c : Counts) (code : List ℕ) → length (gatesIn c code) ≡ c .gates
-unfolding gatesIn
-length-gatesIn c code = length-tabulate (gateIn code) (c .gates)
+pub length-stageGates : (c : Counts) (code : List ℕ) → length (stageGates c code) ≡ c .gates
+unfolding stageGates
+length-stageGates c code = length-tabulate (gateIn code) (c .gates)
 
 pub order-at : (c : Counts) (code : List ℕ) (i : ℕ) → i < c .gates → getD (orderIn c code) i 0 ≡ gateAtPlace code i
 unfolding orderIn
 order-at c code i h = getD-tabulate (gateAtPlace code) (c .gates) i 0 h
 
 module _ (c : Counts) (code row : List ℕ) (held k : ℕ) (h : k < c .gates) where
-  pub held-at : k ≡ held → 0 ≡ levelHolding held (gatesIn c code) row k
-  held-at e = sym (level-held held (gatesIn c code) row k (omega (arith, length-gatesIn c code)) e)
+  pub held-at : k ≡ held → 0 ≡ levelHolding held (stageGates c code) row k
+  held-at e = sym (level-held held (stageGates c code) row k (omega (arith, length-stageGates c code)) e)
 
-  pub set-at : (k ≡ held → ⊥) → (x : ℕ) → x ≡ isSet row (gateIn code k) → x ≡ levelHolding held (gatesIn c code) row k
-  unfolding gatesIn
+  pub set-at : (k ≡ held → ⊥) → (x : ℕ) → x ≡ isSet row (gateIn code k) → x ≡ levelHolding held (stageGates c code) row k
+  unfolding stageGates
   set-at d x e =
       e
       ∙ sym (ap (λ (l : List ℕ). getD l k 0) (map-tabulate (isSet row) (gateIn code) (c .gates)) ∙ getD-tabulate (λ i. isSet row (gateIn code i)) (c .gates) k 0 h)
-      ∙ sym (level-free held (gatesIn c code) row k d)
+      ∙ sym (level-free held (stageGates c code) row k d)
 
 -- the rails are those at the start, and the gates at the first i places have their levels
 pub record SettlingTo (c : Counts) (code : List ℕ) (held : ℕ) (start row : List ℕ) (i : ℕ) : Type 0 where
@@ -199,24 +199,24 @@ pub record SettlingTo (c : Counts) (code : List ℕ) (held : ℕ) (start row : L
 
 module _ (c : Counts) (code : List ℕ) (ordered : InOrder c code) where
   pub order-gate : (i : ℕ) → i < c .gates → gateAtPlace code i < c .gates
-  order-gate i h = omega (arith, order-at c code i h, length-gatesIn c code, ordered .ordered .gate i (omega (arith, length-gatesIn c code)))
+  order-gate i h = omega (arith, order-at c code i h, length-stageGates c code, ordered .ordered .gate i (omega (arith, length-stageGates c code)))
 
   module _ (held : ℕ) (start row : List ℕ) (i : ℕ) (s : SettlingTo c code held start row i) where
-    pub settling-turn : i < c .gates → (x : ℕ) → x ≡ levelHolding held (gatesIn c code) (netsIn c row) (gateAtPlace code i) → x ≤ 1 → SettlingTo c code held start (set row (2 * c .inputs + gateAtPlace code i) x) (i + 1)
+    pub settling-turn : i < c .gates → (x : ℕ) → x ≡ levelHolding held (stageGates c code) (netsIn c row) (gateAtPlace code i) → x ≤ 1 → SettlingTo c code held start (set row (2 * c .inputs + gateAtPlace code i) x) (i + 1)
     settling-turn h x e l =
         let n = 2 * c .inputs in
         let r = s .row-for in
         let k = order-gate i h in
         let rails = take-set-le n row (n + gateAtPlace code i) x (omega arith) in
-        let y = e ∙ ap (λ (l : List ℕ). levelHolding held (gatesIn c code) l (gateAtPlace code i)) (take-add n (c .gates) row) in
+        let y = e ∙ ap (λ (l : List ℕ). levelHolding held (stageGates c code) l (gateAtPlace code i)) (take-add n (c .gates) row) in
         record {
           row-for = row-set c row r (n + gateAtPlace code i) x (omega arith) l;
           same-long = length-set row (n + gateAtPlace code i) x ∙ s .same-long;
           rails = rails ∙ s .rails;
           before =
               rw (rails, drop-set-add n row (gateAtPlace code i) x, take-set-lt (c .gates) (drop n row) (gateAtPlace code i) x k, ← order-at c code i h)
-              (settle-more (c .inputs) held (gatesIn c code) (orderIn c code) (railPart c row) (ordered .ordered) (length-rails c row r) (levelPart c row)
-              (length-levels c row r ∙ sym (length-gatesIn c code)) i (omega (arith, length-gatesIn c code)) x (s .before) (rw (order-at c code i h) y));
+              (settle-more (c .inputs) held (stageGates c code) (orderIn c code) (railPart c row) (ordered .ordered) (length-rails c row r) (levelPart c row)
+              (length-levels c row r ∙ sym (length-stageGates c code)) i (omega (arith, length-stageGates c code)) x (s .before) (rw (order-at c code i h) y));
         }
 
     pub settling-done : c .gates ≤ i → netsIn c row ≡ settledHoldingIn held c code start
@@ -224,9 +224,9 @@ module _ (c : Counts) (code : List ℕ) (ordered : InOrder c code) where
         let r = s .row-for in
         take-add (2 * c .inputs) (c .gates) row
         ∙ ap (λ (l : List ℕ). railPart c row ++ l)
-        (settle-end (c .inputs) held (gatesIn c code) (orderIn c code) (railPart c row) (ordered .ordered) (length-rails c row r) (levelPart c row)
-        (length-levels c row r ∙ sym (length-gatesIn c code)) i (omega (arith, length-gatesIn c code)) (s .before))
-        ∙ ap (λ (l : List ℕ). l ++ levelsHolding held (gatesIn c code) l) (s .rails)
+        (settle-end (c .inputs) held (stageGates c code) (orderIn c code) (railPart c row) (ordered .ordered) (length-rails c row r) (levelPart c row)
+        (length-levels c row r ∙ sym (length-stageGates c code)) i (omega (arith, length-stageGates c code)) (s .before))
+        ∙ ap (λ (l : List ℕ). l ++ levelsHolding held (stageGates c code) l) (s .rails)
 
-pub settle-none : (c : Counts) (code rails : List ℕ) → levelsHolding (c .gates) (gatesIn c code) rails ≡ settledLevels (gatesIn c code) rails
-settle-none c code rails = ap (λ (m : ℕ). levelsHolding m (gatesIn c code) rails) (sym (length-gatesIn c code)) ∙ holding-none (gatesIn c code) rails
+pub settle-none : (c : Counts) (code rails : List ℕ) → levelsHolding (c .gates) (stageGates c code) rails ≡ settledLevels (stageGates c code) rails
+settle-none c code rails = ap (λ (m : ℕ). levelsHolding m (stageGates c code) rails) (sym (length-stageGates c code)) ∙ holding-none (stageGates c code) rails

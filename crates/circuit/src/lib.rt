@@ -9,7 +9,7 @@ ghost use Rattle.gates.specs.Table.{GateTable};
 ghost use Rattle.verdict.specs.Rows as rows;
 ghost use Rattle.verdict.specs.Search.{least};
 ghost use Rattle.verdict.specs.Answers as answers;
-ghost use Rattle.circuit.specs.Stage.{gateIn, gatesIn, outputIn, outputsIn, StageLoaded};
+ghost use Rattle.circuit.specs.Stage.{gateIn, stageGates, outputIn, stageOutputs, StageLoaded};
 ghost use Rattle.circuit.specs.Order.{InOrder};
 ghost use Rattle.circuit.specs.Rows.{RowFor, netsIn, LevelOf, patternIn, levelHolding, SettledTo, settledIn, settledHoldingIn, notData, misread};
 ghost use Rattle.circuit.specs.Reference.{operatorIn, operatorsIn, signalIn, ReferenceLoaded};
@@ -60,7 +60,7 @@ fn level_holding(
     held: usize,
 ) -> u8
     requires { ⌜ GateTable (now entries) × StageLoaded counts (now code) × (k < counts .gates) × RowFor counts (now row) ⌝ }
-    ensures { λ r. ⌜ (r ≡ levelHolding held (gatesIn counts (now (code .entry))) (netsIn counts (now (row .entry))) k) × (r ≤ 1) ⌝ }
+    ensures { λ r. ⌜ (r ≡ levelHolding held (stageGates counts (now (code .entry))) (netsIn counts (now (row .entry))) k) × (r ≤ 1) ⌝ }
 {
     if k == held {
         return 0;
@@ -129,7 +129,7 @@ pub fn first_not_data(code: &[u16], counts: Counts, row: &[u8]) -> Found
 // Whether all outputs are DATA.
 pub fn all_data(code: &[u16], counts: Counts, row: &[u8]) -> bool
     requires { ⌜ StageLoaded counts (now code) × RowFor counts (now row) ⌝ }
-    ensures { λ r. ⌜ r ≡ rows.allData (netsIn counts (now (row .entry))) (outputsIn counts (now (code .entry))) ⌝ }
+    ensures { λ r. ⌜ r ≡ rows.allData (netsIn counts (now (row .entry))) (stageOutputs counts (now (code .entry))) ⌝ }
 {
     match first_not_data(code, counts, row) {
         Found::At(_) => false,

@@ -17,7 +17,7 @@ use Rattle.netlist.specs.Reading.{stageLimits}
 use Rattle.netlist.specs.Content.{Gate, Pair, gateOf, codedAt, pairAt, stageOf}
 use Rattle.netlist.proofs.Encoding.{kind-needs}
 use Rattle.netlist.proofs.Readable.{kind-read, named-pin, named-rail}
-use Rattle.circuit.specs.Stage.{netCount, cellIn, slot, pinIn, gateIn, gatesIn, outputIn, outputsIn, stageIn, GateLoaded, StageLoaded}
+use Rattle.circuit.specs.Stage.{netCount, cellIn, slot, pinIn, gateIn, stageGates, outputIn, stageOutputs, stageIn, GateLoaded, StageLoaded}
 use Rattle.circuit.proofs.Tabulate.{tabulate-map}
 use Rattle.circuit.proofs.Pins.{pins-few}
 use Rattle.load.specs.Load.{placesIn, FileRead, pinNumber, holdNumber, kindNumber, gateNumber, stageNumber}
@@ -143,7 +143,7 @@ module _ (s places : List ℕ) (c : Counts) (code : List ℕ) (r : FileRead file
   -- ---- the stage
 
   pub stage-same : stageIn c code ≡ stageOf s (placesIn stageLimits c places)
-  unfolding gatesIn outputsIn stageOf
+  unfolding stageGates stageOutputs stageOf
   stage-same =
       ap₂ (λ (gs : List Gate) (ps : List Pair). record { inputs = c .inputs; gates = gs; outputs = ps })
       (tabulate-map (gateIn code) (λ at. gateOf (codedAt file.Stage s at)) (take (c .gates) places) (c .gates) (length-gates file.Stage stageLimits s places c r)

@@ -24,8 +24,8 @@ use Rattle.verdict.specs.Verdicts.{RowAnswer, answerWith, accepted, settleUnles
 use Rattle.verdict.specs.Demands.{DemandRow}
 use Rattle.verdict.proofs.Least.{least-says}
 use Rattle.verdict.proofs.Demands.{demand-row}
-use Rattle.circuit.specs.Stage.{gatesIn, stageIn}
-use Rattle.circuit.proofs.Settling.{length-gatesIn}
+use Rattle.circuit.specs.Stage.{stageGates, stageIn}
+use Rattle.circuit.proofs.Settling.{length-stageGates}
 use Rattle.loops.specs.Marks.{LoopFound}
 use Rattle.loops.proofs.Findings.{passed-on, faulty, loop-at, no-loop}
 use Rattle.load.specs.Load.{HoldsStage}
@@ -42,7 +42,7 @@ module _ (c : Counts) (code after row : List ℕ) (found : Found) (l : LoopFound
   call = settleUnless (firstFault (rowChecks s row)) s row
 
   size : 2 * c .inputs + length (s .gates) ≡ 2 * c .inputs + c .gates
-  size = ap (λ (g : ℕ). 2 * c .inputs + g) (length-gatesIn c code)
+  size = ap (λ (g : ℕ). 2 * c .inputs + g) (length-stageGates c code)
 
   -- a fault of the checks leaves the row
   refusal : (v : Verdict) → firstFault (rowChecks s row) ≡ Fault v → answerWith v row ≡ call
@@ -73,7 +73,7 @@ module _ (c : Counts) (code after row : List ℕ) (found : Found) (l : LoopFound
       is-17 k q = refusal (verdict 17 3 k 0) (after-16 ∙ ap (λ (f : Found). orLater (atFault 17 3 0 f Passed) Passed) q)
 
       module _ (q : illegal-at ≡ Nothing) where
-        pub is-0 : (row′ : List ℕ) → row′ ≡ settled (gatesIn c after) (take (2 * c .inputs) row) → answerWith accepted row′ ≡ call
+        pub is-0 : (row′ : List ℕ) → row′ ≡ settled (stageGates c after) (take (2 * c .inputs) row) → answerWith accepted row′ ≡ call
         unfolding atFault orLater settleUnless
         is-0 row′ f =
             ap (answerWith accepted) (f ∙ ap (λ (x : Stage). settled (x .gates) (take (2 * c .inputs) row)) (l .same))

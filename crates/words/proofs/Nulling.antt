@@ -13,7 +13,7 @@ use Rattle.netlist.specs.declared.Counts.{Counts}
 use Rattle.verdict.specs.Words.{bitsOf, railsOf}
 use Rattle.verdict.specs.Rows.{withNull, settled, allData}
 use Rattle.verdict.specs.Checks.{incomplete}
-use Rattle.circuit.specs.Stage.{gatesIn, outputsIn, stageIn}
+use Rattle.circuit.specs.Stage.{stageGates, stageOutputs, stageIn}
 use Rattle.circuit.specs.Rows.{RowFor, railPart, settledIn}
 use Rattle.circuit.proofs.Settling.{length-rails, row-set}
 
@@ -53,8 +53,8 @@ module _ (c : Counts) (row : List ℕ) (r : RowFor c row) (i : ℕ) (h : i < c .
       ∙ null-input (railPart c row) i (omega (arith, length-rails c row r))
 
   pub null-word : (code : List ℕ) (w : ℕ) → railPart c row ≡ railsOf (bitsOf (c .inputs) w) → (nets : List ℕ) → nets ≡ settledIn c code (set (set row (2 * i) 0) (2 * i + 1) 0) →
-      (b : Bool) → b ≡ allData nets (outputsIn c code) → b ≡ incomplete (stageIn c code) w i
+      (b : Bool) → b ≡ allData nets (stageOutputs c code) → b ≡ incomplete (stageIn c code) w i
   unfolding incomplete
   null-word code w spelt nets is b e =
-      e ∙ ap (λ (l : List ℕ). allData l (outputsIn c code)) is
-      ∙ ap (λ (l : List ℕ). allData (settled (gatesIn c code) l) (outputsIn c code)) (null-rails ∙ ap (withNull (only i)) spelt)
+      e ∙ ap (λ (l : List ℕ). allData l (stageOutputs c code)) is
+      ∙ ap (λ (l : List ℕ). allData (settled (stageGates c code) l) (stageOutputs c code)) (null-rails ∙ ap (withNull (only i)) spelt)

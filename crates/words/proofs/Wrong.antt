@@ -16,7 +16,7 @@ use Rattle.verdict.specs.Answers.{answer, signalValues}
 use Rattle.verdict.specs.Nets.{outputPair, noPair}
 use Rattle.verdict.specs.Checks.{first, wrong}
 use Rattle.verdict.specs.Search.{least}
-use Rattle.circuit.specs.Stage.{gatesIn, outputIn, outputsIn, stageIn}
+use Rattle.circuit.specs.Stage.{stageGates, outputIn, stageOutputs, stageIn}
 use Rattle.circuit.specs.Rows.{misread}
 use Rattle.circuit.specs.Reference.{operatorsIn, signalIn, signalsIn, referenceIn, ReferenceLoaded}
 use Rattle.circuit.proofs.Tabulate.{getD-tabulate, map-tabulate}
@@ -30,7 +30,7 @@ least-alike f g j (suc m) h = simp (h j (omega arith), least-alike f g (suc j) m
 
 module _ (c : Counts) (code : List ℕ) (sizes : Counts) (reference : List ℕ) (w : ℕ) (loaded : ReferenceLoaded sizes reference) (enough : c .outputs ≤ sizes .outputs) where
   pair-at : (j : ℕ) → j < c .outputs → outputPair (stageIn c code) j ≡ outputIn c code j
-  unfolding outputsIn
+  unfolding stageOutputs
   pair-at j h = getD-tabulate (outputIn c code) (c .outputs) j noPair h
 
   answer-at : (bits : List ℕ) (j : ℕ) → j < sizes .outputs → getD (answer (referenceIn sizes reference) bits) j 0 ≡ getD (signalValues bits (operatorsIn sizes reference)) (signalIn sizes reference j) 0
@@ -39,7 +39,7 @@ module _ (c : Counts) (code : List ℕ) (sizes : Counts) (reference : List ℕ) 
       let value : ℕ → ℕ = λ v. getD (signalValues bits (operatorsIn sizes reference)) v 0 in
       ap (λ (l : List ℕ). getD l j 0) (map-tabulate value (signalIn sizes reference) (sizes .outputs)) ∙ getD-tabulate (λ i. value (signalIn sizes reference i)) (sizes .outputs) j 0 h
 
-  pub wrong-word : (nets values bits : List ℕ) (found : Found) → nets ≡ settled (gatesIn c code) (railsIn (stageIn c code) w) → (long : ℕ) → bits ≡ bitsOf long w → sizes .inputs ≤ long →
+  pub wrong-word : (nets values bits : List ℕ) (found : Found) → nets ≡ settled (stageGates c code) (railsIn (stageIn c code) w) → (long : ℕ) → bits ≡ bitsOf long w → sizes .inputs ≤ long →
       take (sizes .inputs + sizes .gates) values ≡ signalValues (take (sizes .inputs) bits) (operatorsIn sizes reference) →
       found ≡ least (misread c code nets (λ j. getD values (signalIn sizes reference j) 0)) 0 (c .outputs) → found ≡ least (wrong (stageIn c code) (referenceIn sizes reference) w) 0 (c .outputs)
   unfolding wrong

@@ -9,7 +9,7 @@ ghost use Rattle.verdict.specs.Words.{bitsOf, railsOf, railsIn};
 ghost use Rattle.verdict.specs.Rows.{settled};
 ghost use Rattle.verdict.specs.Checks as checks;
 ghost use Rattle.verdict.specs.Search.{least};
-ghost use Rattle.circuit.specs.Stage.{gatesIn, outputsIn, stageIn, StageLoaded};
+ghost use Rattle.circuit.specs.Stage.{stageGates, stageOutputs, stageIn, StageLoaded};
 ghost use Rattle.circuit.specs.Order.{InOrder};
 ghost use Rattle.circuit.specs.Rows.{RowFor, netsIn, railPart, settledIn};
 ghost use Rattle.circuit.specs.Reference.{referenceIn};
@@ -61,7 +61,7 @@ fn spell_word(counts: Counts, w: usize, row: &mut [u8])
 // The stage settles in word w.
 fn settle_word(code: &[u16], counts: Counts, w: usize, row: &mut [u8])
     requires { ⌜ StageLoaded counts (now code) × InOrder counts (now code) × RowFor counts (now row) ⌝ }
-    ensures settled { λ r. ⌜ netsIn counts (now (row .exit)) ≡ settled (gatesIn counts (now (code .entry))) (railsIn (stageIn counts (now (code .entry))) w) ⌝ }
+    ensures settled { λ r. ⌜ netsIn counts (now (row .exit)) ≡ settled (stageGates counts (now (code .entry))) (railsIn (stageIn counts (now (code .entry))) w) ⌝ }
     ensures row { λ r. ⌜ RowFor counts (now (row .exit)) ⌝ }
 {
     spell_word(counts, w, row);
@@ -120,7 +120,7 @@ fn missing_input(code: &[u16], counts: Counts, w: usize) -> Found
 // place on are evaluated anew: those before it keep their levels.
 fn unobserved_at(code: &[u16], counts: Counts, row: &[u8], g: usize) -> bool
     requires { ⌜ StageLoaded counts (now code) × InOrder counts (now code) × RowFor counts (now row) × (netsIn counts (now row) ≡ settledIn counts (now code) (now row)) × (g < counts .gates) ⌝ }
-    ensures { λ r. ⌜ r ≡ unobserved (gatesIn counts (now (code .entry))) (outputsIn counts (now (code .entry))) (railPart counts (now (row .entry))) g ⌝ }
+    ensures { λ r. ⌜ r ≡ unobserved (stageGates counts (now (code .entry))) (stageOutputs counts (now (code .entry))) (railPart counts (now (row .entry))) g ⌝ }
 {
     let first = 2 * counts.inputs;
     if row[first + g] == 0 {
