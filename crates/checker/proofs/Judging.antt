@@ -18,7 +18,7 @@ use Rattle.circuit.specs.Reference.{signalIn, signalsIn, referenceIn, Reference
 use Rattle.circuit.proofs.Tabulate.{length-tabulate}
 use Rattle.loops.specs.Marks.{LoopFound}
 use Rattle.loops.proofs.Findings.{passed-on, faulty, loop-at, no-loop}
-use Rattle.words.specs.Loaded.{Comparable}
+use Rattle.words.specs.Loaded.{BothLoaded}
 
 -- ---- one check
 
@@ -69,7 +69,7 @@ module _ (c : Counts) (code : List ℕ) (sizes : Counts) (reference : List ℕ) 
       is-12 g e = sym (after-11 ∙ faulty _ _ _ (loop-at c code after found l g e))
 
       module _ (e : found ≡ Nothing) where
-        pub comparable : ReferenceLoaded sizes reference → Comparable c after sizes reference
+        pub comparable : ReferenceLoaded sizes reference → BothLoaded c after sizes reference
         comparable a = record { stage = l .loaded; ordered = l .in-order e; answers = a; enough = omega arith }
 
         pub is-swept : (f : Finding) → f ≡ firstFault (sweeps (stageIn c after) r) → f ≡ firstFault (checks s r)

@@ -14,7 +14,7 @@ ghost use Rattle.circuit.specs.Order.{InOrder};
 ghost use Rattle.circuit.specs.Rows.{RowFor, netsIn, railPart, settledIn};
 ghost use Rattle.circuit.specs.Reference.{referenceIn};
 ghost use Rattle.words.specs.Finds.{finds, unobserved};
-ghost use Rattle.words.specs.Loaded.{Comparable};
+ghost use Rattle.words.specs.Loaded.{BothLoaded};
 
 // The checks that go over all words: 13, 14 and 15.
 pub enum Sweep {
@@ -72,7 +72,7 @@ fn settle_word(code: &[u16], counts: Counts, w: usize, row: &mut [u8])
 
 // The least output that is not the reference's DATA in word w.
 fn wrong_output(code: &[u16], counts: Counts, reference: &[u16], sizes: Counts, w: usize) -> Found
-    requires { ⌜ Comparable counts (now code) sizes (now reference) ⌝ }
+    requires { ⌜ BothLoaded counts (now code) sizes (now reference) ⌝ }
     ensures { λ r. ⌜ r ≡ least (checks.wrong (stageIn counts (now (code .entry))) (referenceIn sizes (now (reference .entry))) w) 0 (counts .outputs) ⌝ }
 {
     let mut row = [0u8; circuit::ROW];
@@ -163,7 +163,7 @@ pub fn find(
     sizes: Counts,
     w: usize,
 ) -> Found
-    requires { ⌜ Comparable counts (now code) sizes (now reference) ⌝ }
+    requires { ⌜ BothLoaded counts (now code) sizes (now reference) ⌝ }
     ensures { λ r. ⌜ r ≡ finds which (stageIn counts (now (code .entry))) (referenceIn sizes (now (reference .entry))) w ⌝ }
 {
     match which {
