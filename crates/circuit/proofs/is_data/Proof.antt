@@ -21,7 +21,9 @@ shared-slice-read-level : tie.Need-shared-slice-read-level
 shared-slice-read-level c = search needs
 
 level-requires : tie.Need-level-requires
-level-requires c κs = let z = c .before .before .before .before in rail0-there (z .args .counts) (now (z .args .code)) (now (z .args .row)) (z .pre .0) (z .pre .2) (z .args .j) (z .pre .1)
+level-requires c κs =
+    let z = c .before .before .before .before in
+    rail0-there (z .args .counts) (now (z .args .code)) (now (z .args .row)) (z .pre .0) (z .pre .2) (z .args .j) (z .pre .1)
 
 add-level : tie.Need-add-level
 add-level c = search needs
@@ -33,10 +35,15 @@ shared-slice-read-level-2 : tie.Need-shared-slice-read-level-2
 shared-slice-read-level-2 c = search needs
 
 level-requires-2 : tie.Need-level-requires-2
-level-requires-2 c κs = let z = c .before .before .before .before .before .before in rail1-there (z .args .counts) (now (z .args .code)) (now (z .args .row)) (z .pre .0) (z .pre .2) (z .args .j) (z .pre .1)
+level-requires-2 c κs =
+    let z = c .before .before .before .before .before .before in
+    rail1-there (z .args .counts) (now (z .args .code)) (now (z .args .row)) (z .pre .0) (z .pre .2) (z .args .j) (z .pre .1)
 
 returns : tie.Need-returns
-returns c = let z = c .before .before .before .before .before .before .before in levels-data (z .args .counts) (now (z .args .code)) (now (z .args .row)) (z .pre .0) (z .pre .2) (z .args .j) (z .pre .1) _ _ (c .before .before .level .ensures) (c .level2 .ensures)
+returns c =
+    let z = c .before .before .before .before .before .before .before in
+    levels-data (z .args .counts) (now (z .args .code)) (now (z .args .row)) (z .pre .0) (z .pre .2) (z .args .j) (z .pre .1) _ _
+    (c .before .before .level .ensures) (c .level2 .ensures)
 
 pub is-data-spec : {M : Type 1} → statement M
 is-data-spec =

@@ -19,7 +19,9 @@ shared-slice-read-level : tie.Need-shared-slice-read-level
 shared-slice-read-level c = search needs
 
 level-requires : tie.Need-level-requires
-level-requires c κs = let z = c .before .before .before in net-there (z .args .counts) (now (z .args .row)) (z .pre .2) _ (z .pre .0 .gate (z .args .k) (z .pre .1) .pin 0 (omega arith))
+level-requires c κs =
+    let z = c .before .before .before in
+    net-there (z .args .counts) (now (z .args .row)) (z .pre .2) _ (z .pre .0 .gate (z .args .k) (z .pre .1) .pin 0 (omega arith))
 
 add-level-2 : tie.Need-add-level-2
 add-level-2 c = search needs
@@ -31,7 +33,9 @@ shared-slice-read-level-2 : tie.Need-shared-slice-read-level-2
 shared-slice-read-level-2 c = search needs
 
 level-requires-2 : tie.Need-level-requires-2
-level-requires-2 c κs = let z = c .before .before .before .before .before in net-there (z .args .counts) (now (z .args .row)) (z .pre .2) _ (z .pre .0 .gate (z .args .k) (z .pre .1) .pin 1 (omega arith))
+level-requires-2 c κs =
+    let z = c .before .before .before .before .before in
+    net-there (z .args .counts) (now (z .args .row)) (z .pre .2) _ (z .pre .0 .gate (z .args .k) (z .pre .1) .pin 1 (omega arith))
 
 add-level-3 : tie.Need-add-level-3
 add-level-3 c = search needs
@@ -43,7 +47,9 @@ shared-slice-read-level-3 : tie.Need-shared-slice-read-level-3
 shared-slice-read-level-3 c = search needs
 
 level-requires-3 : tie.Need-level-requires-3
-level-requires-3 c κs = let z = c .before .before .before .before .before .before .before in net-there (z .args .counts) (now (z .args .row)) (z .pre .2) _ (z .pre .0 .gate (z .args .k) (z .pre .1) .pin 2 (omega arith))
+level-requires-3 c κs =
+    let z = c .before .before .before .before .before .before .before in
+    net-there (z .args .counts) (now (z .args .row)) (z .pre .2) _ (z .pre .0 .gate (z .args .k) (z .pre .1) .pin 2 (omega arith))
 
 add-level-4 : tie.Need-add-level-4
 add-level-4 c = search needs
@@ -55,7 +61,9 @@ shared-slice-read-level-4 : tie.Need-shared-slice-read-level-4
 shared-slice-read-level-4 c = search needs
 
 level-requires-4 : tie.Need-level-requires-4
-level-requires-4 c κs = let z = c .before .before .before .before .before .before .before .before .before in net-there (z .args .counts) (now (z .args .row)) (z .pre .2) _ (z .pre .0 .gate (z .args .k) (z .pre .1) .pin 3 (omega arith))
+level-requires-4 c κs =
+    let z = c .before .before .before .before .before .before .before .before .before in
+    net-there (z .args .counts) (now (z .args .row)) (z .pre .2) _ (z .pre .0 .gate (z .args .k) (z .pre .1) .pin 3 (omega arith))
 
 mul-result : tie.Need-mul-result
 mul-result c = search needs

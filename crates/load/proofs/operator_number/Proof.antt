@@ -27,7 +27,9 @@ operand-requires : tie.Need-operand-requires
 operand-requires c κs = search needs
 
 returns-2 : tie.Need-returns-2
-returns-2 c = let z = c .before .before .before .before .before .args in c .operand .ensures ∙ number-first (now (z .s)) (z .at) (z .j) (c .before .if2 .taken)
+returns-2 c =
+    let z = c .before .before .before .before .before .args in
+    c .operand .ensures ∙ number-first (now (z .s)) (z .at) (z .j) (c .before .if2 .taken)
 
 add-operand-2 : tie.Need-add-operand-2
 add-operand-2 c = search needs
@@ -38,7 +40,8 @@ operand-requires-2 c κs = search needs
 returns-3 : tie.Need-returns-3
 returns-3 c =
     let z = c .before .before .before .before .before .before .args in
-    c .operand2 .ensures ∙ number-again (now (z .s)) (z .at) (z .j) (c .before .before .before .if1 .left) (c .before .before .if2 .left) (c .before .if3 .taken)
+    c .operand2 .ensures ∙ number-again (now (z .s)) (z .at) (z .j) (c .before .before .before .if1 .left) (c .before .before .if2 .left)
+    (c .before .if3 .taken)
 
 add-operand-3 : tie.Need-add-operand-3
 add-operand-3 c = search needs
@@ -49,7 +52,8 @@ operand-requires-3 c κs = search needs
 returns-4 : tie.Need-returns-4
 returns-4 c =
     let z = c .before .before .before .before .before .before .args in
-    c .operand3 .ensures ∙ number-second (now (z .s)) (z .at) (z .j) (c .before .before .before .if1 .left) (c .before .before .if2 .left) (c .before .if3 .left)
+    c .operand3 .ensures ∙ number-second (now (z .s)) (z .at) (z .j) (c .before .before .before .if1 .left) (c .before .before .if2 .left)
+    (c .before .if3 .left)
 
 pub operator-number-spec : {M : Type 1} → statement M
 operator-number-spec =

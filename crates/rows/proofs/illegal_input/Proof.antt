@@ -22,7 +22,9 @@ is-illegal-requires : tie.Need-is-illegal-requires Inv-loop μ-loop
 is-illegal-requires c κs = search needs
 
 returns : tie.Need-returns Inv-loop μ-loop
-returns c = let l = c .before .before .before .loop in sought-here _ _ (l .i) (omega arith) (l .inv) (sym (c .before .is-illegal .ensures) ∙ c .if1 .taken)
+returns c =
+    let l = c .before .before .before .loop in
+    sought-here _ _ (l .i) (omega arith) (l .inv) (sym (c .before .is-illegal .ensures) ∙ c .if1 .taken)
 
 add-i : tie.Need-add-i Inv-loop μ-loop
 add-i c = search needs
@@ -31,7 +33,9 @@ loop-less : tie.Need-loop-less Inv-loop μ-loop
 loop-less c = search needs
 
 loop-again : tie.Need-loop-again Inv-loop μ-loop
-loop-again c = let l = c .before .before .before .loop in sought-on _ _ (l .i) (omega arith) (l .inv) (sym (c .before .is-illegal .ensures) ∙ c .if1 .left)
+loop-again c =
+    let l = c .before .before .before .loop in
+    sought-on _ _ (l .i) (omega arith) (l .inv) (sym (c .before .is-illegal .ensures) ∙ c .if1 .left)
 
 returns-2 : tie.Need-returns-2 Inv-loop μ-loop
 returns-2 c = let l = c .before .loop in sought-none _ _ (l .i) (omega arith) (l .inv)

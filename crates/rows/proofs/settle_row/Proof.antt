@@ -24,7 +24,9 @@ slice-aggregate-copy-2 : tie.Need-slice-aggregate-copy-2
 slice-aggregate-copy-2 c = search needs
 
 copy-requires : tie.Need-copy-requires
-copy-requires c κs = let z = c .before .before .before .before .before in omega (arith, first-long (z .args .counts) (now (z .args .row)) (z .pre .2), z .pre .0 .within .inputs-in)
+copy-requires c κs =
+    let z = c .before .before .before .before .before in
+    omega (arith, first-long (z .args .counts) (now (z .args .row)) (z .pre .2), z .pre .0 .within .inputs-in)
 
 array-share-prefix-rails : tie.Need-array-share-prefix-rails
 array-share-prefix-rails c = search needs
@@ -32,7 +34,8 @@ array-share-prefix-rails c = search needs
 slice-aggregate-settle-part : tie.Need-slice-aggregate-settle-part
 slice-aggregate-settle-part c =
     let z = c .before .before .before .before .before .before .before .before in
-    sym (ap length (copied-first (2 * z .args .counts .inputs) (now (z .args .row)) _ _ (omega arith) (c .before .before .copy .ensures .1)) ∙ first-long (z .args .counts) (now (z .args .row)) (z .pre .2))
+    sym (ap length (copied-first (2 * z .args .counts .inputs) (now (z .args .row)) _ _ (omega arith) (c .before .before .copy .ensures .1))
+    ∙ first-long (z .args .counts) (now (z .args .row)) (z .pre .2))
 
 sub-settle-part : tie.Need-sub-settle-part
 sub-settle-part c = search needs
@@ -47,10 +50,13 @@ settle-part-requires : tie.Need-settle-part-requires
 settle-part-requires c κs =
     let z = c .before .before .before .before .before .before .before .before .before in
     let n = z .args .counts in
-    let e = copied-first (2 * n .inputs) (now (z .args .row)) _ _ (omega arith) (c .before .before .before .copy .ensures .1) in
-    (z .pre .0, z .pre .1, ap length e ∙ first-long n (now (z .args .row)) (z .pre .2),
-    (λ p. subst (λ (l : List ℕ). getD l p 0 ≤ 1) (sym e) (first-bits n (now (z .args .row)) (z .pre .2) (z .pre .3) p)),
-    part-long n (now (z .args .row)) (z .pre .2))
+    let e = copied-first (2 * n .inputs) (now (z .args .row)) _ _ (omega arith) (c .before .before .before .copy .ensures .1) in (
+      z .pre .0,
+      z .pre .1,
+      ap length e ∙ first-long n (now (z .args .row)) (z .pre .2),
+      (λ p. subst (λ (l : List ℕ). getD l p 0 ≤ 1) (sym e) (first-bits n (now (z .args .row)) (z .pre .2) (z .pre .3) p)),
+      part-long n (now (z .args .row)) (z .pre .2),
+    )
 
 same-length : tie.Need-same-length
 same-length c = search needs
@@ -58,7 +64,8 @@ same-length c = search needs
 returns : tie.Need-returns
 returns c =
     let z = c .before .before .before .before .before .before .before .before .before .before .before .before in
-    let e = copied-first (2 * z .args .counts .inputs) (now (z .args .row)) _ _ (omega arith) (c .before .before .before .before .before .before .copy .ensures .1) in
+    let e = copied-first (2 * z .args .counts .inputs) (now (z .args .row)) _ _ (omega arith)
+    (c .before .before .before .before .before .before .copy .ensures .1) in
     row-settled (z .args .counts) (now (z .args .row)) (z .pre .2) (now (z .args .code)) _ _ e (c .before .before .settle-part .ensures)
 
 pub settle-row-spec : {M : Type 1} → statement M

@@ -19,8 +19,11 @@ same-length c = search needs
 returns : tie.Need-returns
 returns c =
     let z = c .before .before .before .before .before .before .before .before .before .before in
-    let s = c .before .before .settle .ensures in
-    (s .0 ∙ ap (settled (stageGates (z .args .counts) (now (z .args .code)))) (c .before .before .before .before .before .before .spell-word .ensures .0), s .1)
+    let s = c .before .before .settle .ensures in (
+      s .0 ∙ ap (settled (stageGates (z .args .counts) (now (z .args .code))))
+          (c .before .before .before .before .before .before .spell-word .ensures .0),
+      s .1,
+    )
 
 pub settle-word-spec : {M : Type 1} → statement M
 settle-word-spec = tie.close (tie.spec spell-word-requires settle-requires same-length returns)

@@ -23,7 +23,10 @@ shared-slice-read-if1 : tie.Need-shared-slice-read-if1
 shared-slice-read-if1 c = search needs
 
 returns : tie.Need-returns
-returns c = let z = c .before .before .before .before .before in unobserved-low (z .args .counts) (now (z .args .code)) (now (z .args .row)) (z .pre .1) (z .pre .2) (z .pre .3) (z .args .g) (z .pre .4) (c .if1 .taken) _
+returns c =
+    let z = c .before .before .before .before .before in
+    unobserved-low (z .args .counts) (now (z .args .code)) (now (z .args .row)) (z .pre .1) (z .pre .2) (z .pre .3) (z .args .g) (z .pre .4)
+    (c .if1 .taken) _
 
 add-size : tie.Need-add-size
 add-size c = search needs
@@ -32,7 +35,9 @@ add-size-2 : tie.Need-add-size-2
 add-size-2 c = search needs
 
 slice-aggregate-copy : tie.Need-slice-aggregate-copy
-slice-aggregate-copy c = let z = c .before .before .before .before .before .before .before in sym (length-take-le _ (now (z .args .row)) (omega (arith, z .pre .2 .long)))
+slice-aggregate-copy c =
+    let z = c .before .before .before .before .before .before .before in
+    sym (length-take-le _ (now (z .args .row)) (omega (arith, z .pre .2 .long)))
 
 slice-aggregate-copy-2 : tie.Need-slice-aggregate-copy-2
 slice-aggregate-copy-2 c = search needs
@@ -40,7 +45,13 @@ slice-aggregate-copy-2 c = search needs
 copy-requires : tie.Need-copy-requires
 copy-requires c κs =
     let z = c .before .before .before .before .before .before .before .before in
-    omega (arith, length-take-le (netCount (z .args .counts) + 1) (now (z .args .row)) (omega (arith, z .pre .2 .long)), z .pre .0 .within .inputs-in, z .pre .0 .within .gates-in)
+    omega (
+      arith,
+      length-take-le (netCount (z .args .counts) + 1) (now (z .args .row))
+          (omega (arith, z .pre .2 .long)),
+      z .pre .0 .within .inputs-in,
+      z .pre .0 .within .gates-in,
+    )
 
 mul-start : tie.Need-mul-start
 mul-start c = search needs
@@ -55,7 +66,9 @@ shared-slice-read-start : tie.Need-shared-slice-read-start
 shared-slice-read-start c = search needs
 
 cast-start : tie.Need-cast-start
-cast-start c = let z = c .before .before .before .before .before .before .before .before .before .before .before in omega (arith, z .pre .1 .place-in (z .args .g) (z .pre .4), z .pre .0 .within .gates-in)
+cast-start c =
+    let z = c .before .before .before .before .before .before .before .before .before .before .before in
+    omega (arith, z .pre .1 .place-in (z .args .g) (z .pre .4), z .pre .0 .within .gates-in)
 
 slice-aggregate-settle-from : tie.Need-slice-aggregate-settle-from
 slice-aggregate-settle-from c = search needs
@@ -70,7 +83,8 @@ settle-from-requires c κs =
       z .pre .0,
       z .pre .1,
       r,
-      hold-before (z .args .counts) (now (z .args .code)) _ (z .pre .1) r (settled-same (z .args .counts) (now (z .args .code)) (now (z .args .row)) (z .pre .3) _ n) (z .args .g) (z .pre .4),
+      hold-before (z .args .counts) (now (z .args .code)) _ (z .pre .1) r
+          (settled-same (z .args .counts) (now (z .args .code)) (now (z .args .row)) (z .pre .3) _ n) (z .args .g) (z .pre .4),
     )
 
 slice-aggregate-all-data : tie.Need-slice-aggregate-all-data
@@ -83,10 +97,12 @@ returns-2 : tie.Need-returns-2
 returns-2 c =
     let z = c .before .before .before .before .before .before .before .before .before .before .before .before .before .before .before .before in
     let w = z .pre .0 .within in
-    let n = copied-nets (z .args .counts) (now (z .args .row)) _ _ (z .pre .2) (omega (arith, w .inputs-in, w .gates-in)) (c .before .before .before .before .before .before .before .copy .ensures .1) in
+    let n = copied-nets (z .args .counts) (now (z .args .row)) _ _ (z .pre .2) (omega (arith, w .inputs-in, w .gates-in))
+    (c .before .before .before .before .before .before .before .copy .ensures .1) in
     unobserved-high (z .args .counts) (now (z .args .code)) (now (z .args .row)) (z .pre .1) (z .pre .2) (z .pre .3) (z .args .g) (z .pre .4)
     (c .before .before .before .before .before .before .before .before .before .before .before .if1 .left) _ _ _
-    (rails-same (z .args .counts) (now (z .args .code)) (now (z .args .row)) (z .pre .3) _ n) _ (c .before .before .before .settle-from .ensures .0) (c .all-data .ensures)
+    (rails-same (z .args .counts) (now (z .args .code)) (now (z .args .row)) (z .pre .3) _ n) _ (c .before .before .before .settle-from .ensures .0)
+    (c .all-data .ensures)
 
 pub unobserved-at-spec : {M : Type 1} → statement M
 unobserved-at-spec =
