@@ -45,17 +45,20 @@ module _ (c : Counts) (code : List ℕ) (sizes : Counts) (reference : List ℕ) 
   unfolding signalsIn
   reference-outputs = length-tabulate (signalIn sizes reference) (sizes .outputs)
 
-  in-order : firstFault (checks s r) ≡ orLater (finding (unequal 10 (c .inputs) (sizes .inputs))) (orLater (finding (unequal 11 (c .outputs) (sizes .outputs))) (orLater (finding (looped s)) (firstFault (sweeps s r))))
+  in-order : firstFault (checks s r) ≡ orLater (finding (unequal 10 (c .inputs) (sizes .inputs)))
+      (orLater (finding (unequal 11 (c .outputs) (sizes .outputs))) (orLater (finding (looped s)) (firstFault (sweeps s r))))
   unfolding firstFault checks
   in-order =
-      ap₂ (λ (a b : ℕ). orLater (finding (unequal 10 (c .inputs) (sizes .inputs))) (orLater (finding (unequal 11 a b)) (orLater (finding (looped s)) (firstFault (sweeps s r)))))
+      ap₂ (λ (a b : ℕ). orLater (finding (unequal 10 (c .inputs) (sizes .inputs)))
+      (orLater (finding (unequal 11 a b)) (orLater (finding (looped s)) (firstFault (sweeps s r)))))
       stage-outputs reference-outputs
 
   pub is-10 : (c .inputs ≡ sizes .inputs → ⊥) → Fault (verdict 10 0 (c .inputs) (sizes .inputs)) ≡ firstFault (checks s r)
   is-10 d = sym (in-order ∙ faulty _ _ _ (differ 10 (c .inputs) (sizes .inputs) d))
 
   module _ (inputs : c .inputs ≡ sizes .inputs) where
-    after-10 : firstFault (checks s r) ≡ orLater (finding (unequal 11 (c .outputs) (sizes .outputs))) (orLater (finding (looped s)) (firstFault (sweeps s r)))
+    after-10 : firstFault (checks s r) ≡ orLater (finding (unequal 11 (c .outputs) (sizes .outputs)))
+        (orLater (finding (looped s)) (firstFault (sweeps s r)))
     after-10 = in-order ∙ passed-on _ _ (agree 10 (c .inputs) (sizes .inputs) inputs)
 
     pub is-11 : (c .outputs ≡ sizes .outputs → ⊥) → Fault (verdict 11 0 (c .outputs) (sizes .outputs)) ≡ firstFault (checks s r)

@@ -49,7 +49,8 @@ levelHolding h gates row k = getD (set (map (rows.isSet row) gates) h 0) k 0
 
 -- the gates at the first m places of an order have the levels that they are to have, with gate h held low
 abbrev pub SettledBefore : ℕ → ℕ → List Gate → List ℕ → List ℕ → List ℕ → Type 0
-SettledBefore m h gates order rails levels = (i : ℕ) → i < m → getD levels (getD order i 0) 0 ≡ levelHolding h gates (rails ++ levels) (getD order i 0)
+SettledBefore m h gates order rails levels =
+    (i : ℕ) → i < m → getD levels (getD order i 0) 0 ≡ levelHolding h gates (rails ++ levels) (getD order i 0)
 
 -- the same of a row in its flat form
 abbrev pub SettledTo : ℕ → ℕ → Counts → List ℕ → List ℕ → Type 0

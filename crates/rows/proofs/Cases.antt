@@ -58,7 +58,8 @@ module _ (c : Counts) (code after row : List ℕ) (found : Found) (l : LoopFound
     unfolding firstFault rowChecks finding sweep first atFault
     is-16 d =
         refusal (verdict 16 3 (length row) 0)
-        (passed-on _ _ (no-loop c code after found l e) ∙ faulty _ _ _ (rw (ne-eqb (length row) (2 * c .inputs + length (s .gates)) (λ q. d (q ∙ size)))))
+        (passed-on _ _ (no-loop c code after found l e) ∙ faulty _ _ _
+        (rw (ne-eqb (length row) (2 * c .inputs + length (s .gates)) (λ q. d (q ∙ size)))))
 
     module _ (long : length row ≡ 2 * c .inputs + c .gates) (illegal-at : Found) (i : illegal-at ≡ least (illegal row) 0 (c .inputs)) where
       after-16 : firstFault (rowChecks s row) ≡ orLater (atFault 17 3 0 illegal-at Passed) Passed
@@ -93,7 +94,8 @@ module _ (bytes row : List ℕ) where
   unfolding settleReading settledRowWithin
   by-refusal number at e = sym (ap (settleReading bytes row) (was-refused reading number at e))
 
-  pub by-stage : (c : Counts) (code : List ℕ) → outcome.Readable c ≡ outcomeOf reading → HoldsStage bytes reading code → (v : Verdict) (row′ : List ℕ) →
+  pub by-stage : (c : Counts) (code : List ℕ) → outcome.Readable c ≡ outcomeOf reading → HoldsStage bytes reading code →
+      (v : Verdict) (row′ : List ℕ) →
       answerWith v row′ ≡ settleUnless (firstFault (rowChecks (stageIn c code) row)) (stageIn c code) row → answerWith v row′ ≡ settledRow bytes row
   unfolding settleReading settledRowWithin
   by-stage c code e h v row′ j =
@@ -105,5 +107,9 @@ module _ (bytes row : List ℕ) where
       (v ≡ settledRow bytes row .verdict) × ((row′ ≡ settledRow bytes row .row) × DemandRow stageLimits bytes row v row′)
   answered v row′ e = (
     ap (λ (a : RowAnswer). a .verdict) e,
-    (ap (λ (a : RowAnswer). a .row) e, subst (λ (a : RowAnswer). DemandRow stageLimits bytes row (a .verdict) (a .row)) (sym e) (demand-row stageLimits bytes row)),
+    (
+      ap (λ (a : RowAnswer). a .row) e,
+      subst (λ (a : RowAnswer). DemandRow stageLimits bytes row (a .verdict) (a .row)) (sym e)
+          (demand-row stageLimits bytes row),
+    ),
   )

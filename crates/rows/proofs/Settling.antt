@@ -37,7 +37,16 @@ module _ (c : Counts) (within : Within stageLimits c) (rails row : List ℕ) (bo
 
   pub rails-row : RowFor c row
   rails-row = record {
-    long = omega (arith, ap length whole, length-append rails low, length-drop (length rails) (replicate {A = ℕ} rowSize 0), length-replicate {A = ℕ} rowSize 0, within .inputs-in, within .gates-in);
+    long = omega (
+      arith,
+      ap length whole,
+      length-append rails low,
+      length-drop (length rails)
+          (replicate {A = ℕ} rowSize 0),
+      length-replicate {A = ℕ} rowSize 0,
+      within .inputs-in,
+      within .gates-in,
+    );
     bit = λ p h. bit-at p h (decLt p (2 * c .inputs));
     ground = after (netCount c) (omega arith) (omega arith);
   }
@@ -48,9 +57,11 @@ module _ (c : Counts) (within : Within stageLimits c) (rails row : List ℕ) (bo
 -- ---- the levels that settle
 
 -- the part of a settled row that was copied out is its levels
-pub part-settled : (c : Counts) (code rails row row′ : List ℕ) → RowFor c row′ → length rails ≡ 2 * c .inputs → railPart c row ≡ rails → netsIn c row′ ≡ settledIn c code row →
+pub part-settled : (c : Counts) (code rails row row′ : List ℕ) → RowFor c row′ → length rails ≡ 2 * c .inputs → railPart c row ≡ rails →
+    netsIn c row′ ≡ settledIn c code row →
     (first end : ℕ) → first ≡ 2 * c .inputs → end ≡ first + c .gates → (part part′ : List ℕ) → length part ≡ c .gates →
-    part′ ≡ take (length (take (end - first) (drop first row′))) (take (end - first) (drop first row′)) ++ drop (length (take (end - first) (drop first row′))) part →
+    part′ ≡ take (length (take (end - first) (drop first row′))) (take (end - first) (drop first row′)) ++ drop
+    (length (take (end - first) (drop first row′))) part →
     part′ ≡ settledLevels (stageGates c code) rails
 part-settled c code rails row row′ r both same is first end a b part part′ long e =
     let g : end - first ≡ c .gates = omega arith in
@@ -64,7 +75,9 @@ part-settled c code rails row row′ r both same is first end a b part part′ l
 
 module _ (c : Counts) (row : List ℕ) (long : length row ≡ 2 * c .inputs + c .gates) where
   pub part-long : length (take (length row - 2 * c .inputs) (drop (2 * c .inputs) row)) ≡ c .gates
-  part-long = ap length (take-all (length row - 2 * c .inputs) (drop (2 * c .inputs) row) (omega (arith, length-drop (2 * c .inputs) row))) ∙ omega (arith, length-drop (2 * c .inputs) row)
+  part-long =
+      ap length (take-all (length row - 2 * c .inputs) (drop (2 * c .inputs) row) (omega (arith, length-drop (2 * c .inputs) row)))
+      ∙ omega (arith, length-drop (2 * c .inputs) row)
 
   pub first-long : length (take (2 * c .inputs) row) ≡ 2 * c .inputs
   first-long = length-take-le (2 * c .inputs) row (omega arith)
@@ -80,7 +93,8 @@ module _ (c : Counts) (row : List ℕ) (long : length row ≡ 2 * c .inputs + c 
   none-left = ap (λ (k : ℕ). drop k (drop (2 * c .inputs) row)) (sym (length-drop (2 * c .inputs) row)) ∙ drop-length (drop (2 * c .inputs) row)
 
   pub row-settled : (code rails levels : List ℕ) → rails ≡ take (2 * c .inputs) row → levels ≡ settledLevels (stageGates c code) rails →
-      take (2 * c .inputs) row ++ (levels ++ drop (length row - 2 * c .inputs) (drop (2 * c .inputs) row)) ≡ settled (stageGates c code) (take (2 * c .inputs) row)
+      take (2 * c .inputs) row ++ (levels ++ drop (length row - 2 * c .inputs) (drop (2 * c .inputs) row)) ≡ settled (stageGates c code)
+      (take (2 * c .inputs) row)
   row-settled code rails levels e f =
       ap (λ (l : List ℕ). take (2 * c .inputs) row ++ l)
       (ap (λ (l : List ℕ). levels ++ l) none-left ∙ append-nil levels ∙ f ∙ ap (settledLevels (stageGates c code)) e)

@@ -20,7 +20,8 @@ use Rattle.circuit.specs.Rows.{RowFor, netsIn, railPart, levelPart, SettledTo, 
 use Rattle.circuit.proofs.Settling.{holding-none, settled-before, length-stageGates, length-rails, levels-by, order-at}
 use Rattle.words.specs.Finds.{unobserved}
 
-module _ (c : Counts) (code row : List ℕ) (ordered : InOrder c code) (r : RowFor c row) (is : netsIn c row ≡ settledIn c code row) (g : ℕ) (hg : g < c .gates) where
+module _ (c : Counts) (code row : List ℕ) (ordered : InOrder c code) (r : RowFor c row) (is : netsIn c row ≡ settledIn c code row) (g : ℕ)
+    (hg : g < c .gates) where
   abbrev gates : List Gate
   gates = stageGates c code
 
@@ -41,7 +42,8 @@ module _ (c : Counts) (code row : List ℕ) (ordered : InOrder c code) (r : RowF
   unfolding unobserved
   unobserved-low z pairs = rw (le-ltb 0 (getD (settled gates R) (length R + g) 0) (omega (arith, level-same)), unobserved)
 
-  pub unobserved-high : (getD row (2 * c .inputs + g) 0 ≡ 0 → ⊥) → (pairs : List Pair) (held : List ℕ) (b : Bool) → railPart c held ≡ R → (nets : List ℕ) →
+  pub unobserved-high : (getD row (2 * c .inputs + g) 0 ≡ 0 → ⊥) → (pairs : List Pair) (held : List ℕ) (b : Bool) → railPart c held ≡ R →
+      (nets : List ℕ) →
       nets ≡ settledHoldingIn g c code held → b ≡ allData nets pairs → b ≡ unobserved gates pairs R g
   unfolding unobserved
   unobserved-high d pairs held b same nets e f =
@@ -57,15 +59,22 @@ module _ (c : Counts) (code row : List ℕ) (ordered : InOrder c code) (r : RowF
   hold-before =
       let at = ordered .place-in g hg in
       subst (SettledBefore (placeOf code g) g gates (orderIn c code) R) (holding-none gates R ∙ sym levels-settled)
-      (settled-before (c .inputs) g gates (orderIn c code) R (ordered .ordered) (length-rails c row r) (length gates) (placeOf code g) (omega (arith, size))
+      (settled-before (c .inputs) g gates (orderIn c code) R (ordered .ordered) (length-rails c row r) (length gates) (placeOf code g)
+      (omega (arith, size))
       (λ i h e.
-      omega (arith, ordered .ordered .once i (placeOf code g) (omega (arith, size)) (omega (arith, size)) (e ∙ sym (order-at c code (placeOf code g) at ∙ ordered .stands-there g hg))))
+      omega (
+        arith,
+        ordered .ordered .once i (placeOf code g) (omega (arith, size)) (omega (arith, size))
+            (e ∙ sym (order-at c code (placeOf code g) at ∙ ordered .stands-there g hg)),
+      ))
       (λ i h e. omega (arith, ordered .ordered .gate i (omega (arith, size)))))
 
 -- a copy of a settled row is settled
 module _ (c : Counts) (code row : List ℕ) (is : netsIn c row ≡ settledIn c code row) (held : List ℕ) (same : netsIn c held ≡ netsIn c row) where
   pub rails-same : railPart c held ≡ railPart c row
-  rails-same = sym (take-take (2 * c .inputs) (netCount c) held (omega arith)) ∙ ap (take (2 * c .inputs)) same ∙ take-take (2 * c .inputs) (netCount c) row (omega arith)
+  rails-same =
+      sym (take-take (2 * c .inputs) (netCount c) held (omega arith)) ∙ ap (take (2 * c .inputs)) same
+      ∙ take-take (2 * c .inputs) (netCount c) row (omega arith)
 
   pub settled-same : netsIn c held ≡ settledIn c code held
   settled-same = same ∙ is ∙ ap (settled (stageGates c code)) (sym rails-same)
@@ -92,5 +101,6 @@ module _ (c : Counts) (code row : List ℕ) (w : ℕ) (is : netsIn c row ≡ set
   unobserved-word g =
       let s = stageIn c code in
       ap (λ (l : List ℕ). unobserved (s .gates) (s .outputs) l g) word-rails
-      ∙ ap (λ (n : ℕ). elim (high (settled (s .gates) (railsIn s w)) (n + g)) as (λ b. Bool) [ true ↦ allData (settledHolding g (s .gates) (railsIn s w)) (s .outputs) | false ↦ false ])
+      ∙ ap (λ (n : ℕ). elim (high (settled (s .gates) (railsIn s w)) (n + g)) as
+      (λ b. Bool) [ true ↦ allData (settledHolding g (s .gates) (railsIn s w)) (s .outputs) | false ↦ false ])
       (word-length (c .inputs) w)
