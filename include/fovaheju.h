@@ -24,7 +24,7 @@ extern "C" {
 struct fovaheju_verdict {
     /* What was found: 0 accepted, 1 to 9 a file that cannot be read, 10 and 11 counts that differ, 12 a loop,
        13 a wrong output, 14 not input-complete, 15 not observable, 16 and 17 a row that cannot be taken.
-       README.md has the list. */
+       docs/VERDICTS.md has the list. */
     uint64_t number;
     /* In which file: 1 the stage, 2 the reference, 3 the row, 0 none. */
     uint64_t file;
@@ -41,8 +41,8 @@ struct fovaheju_verdict fovaheju_check(const uint8_t *stage, size_t stage_len,
 
 /* Settles a row of the stage: one byte for each net, two for each input (rail 0, rail 1), then one for each gate. The
    bytes of the inputs are 0 or 1 and not both 1; what the bytes of the gates hold is ignored. Where the number is 0,
-   each gate's byte is then 1 if the gate is high and 0 if it is low, and the inputs' bytes are as before. Where the row
-   is refused, it is left as it was. The numbers are 0 to 9, 12, 16 and 17. */
+   each gate's byte is then 1 if the gate is high and 0 if it is low, and the inputs' bytes are as before. Where the
+   number is another, the row is left as it was. The numbers are 0 to 9, 12, 16 and 17. */
 struct fovaheju_verdict fovaheju_settled_row(const uint8_t *stage, size_t stage_len,
                                              uint8_t *row, size_t row_len);
 

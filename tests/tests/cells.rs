@@ -62,6 +62,20 @@ fn the_definitions_spell_the_papers_cells() {
     }
 }
 
+/// docs/FILES.md has a row for each kind: number, byte, name, pins and set expression.
+#[test]
+fn the_table_of_the_files_is_the_papers() {
+    let text = read("docs/FILES.md");
+    let rows: Vec<&str> = text.lines().filter(|l| l.contains(" | TH")).collect();
+    let kinds = kinds();
+    assert_eq!(rows.len(), kinds.len());
+    for (i, (row, kind)) in rows.iter().zip(&kinds).enumerate() {
+        let letters = ["A", "B", "C", "D"][..pins(&kind.expression) as usize].join(" ");
+        let expression = kind.expression.replace('+', " + ");
+        assert_eq!(row, &format!("| {} | {:02X} | {} | {letters} | {expression} |", i + 1, i + 1, kind.name));
+    }
+}
+
 #[test]
 fn the_table_holds_the_papers_expressions() {
     let source = read("crates/gates/src/lib.rt");

@@ -8,6 +8,7 @@ use fovaheju_tests::catalogue::{
 use fovaheju_tests::circuits::{multiplier_reference, ripple_adder_reference};
 use fovaheju_tests::files::{examples_folder, load_example, stored_examples};
 use fovaheju_tests::judge::{answer, check};
+use fovaheju_tests::read;
 
 #[test]
 fn stored_files_and_verdicts() {
@@ -34,6 +35,33 @@ fn stored_files_and_verdicts() {
     assert_eq!(stored_examples(&folder).unwrap(), described);
     let list = std::fs::read_to_string(folder.join("LIST.md")).unwrap();
     assert_eq!(list, listing(), "examples/LIST.md");
+}
+
+/// The bytes that the blocks of a document spell: in each line the pairs of hexadecimal digits at its
+/// start, or after its first word.
+fn spelt(document: &str) -> Vec<u8> {
+    let byte = |word: &str| {
+        let digits = word.len() == 2 && !word.contains(|c: char| c.is_ascii_lowercase());
+        u8::from_str_radix(word, 16).ok().filter(|_| digits)
+    };
+    let blocks = document.split("```").skip(1).step_by(2);
+    let lines = blocks.flat_map(|block| block.lines().skip(1));
+    lines
+        .flat_map(|line| {
+            let words: Vec<&str> = line.split_whitespace().collect();
+            let label = words.first().is_some_and(|word| byte(word).is_none());
+            let bytes = words.into_iter().skip(label as usize).map_while(byte);
+            bytes.collect::<Vec<u8>>()
+        })
+        .collect()
+}
+
+#[test]
+fn the_documents_spell_the_and() {
+    let (pair, _) = load_example(&examples_folder(), "and").unwrap();
+    for path in ["README.md", "docs/FILES.md"] {
+        assert_eq!(spelt(&read(path)), [pair.stage.clone(), pair.reference.clone()].concat(), "{path}");
+    }
 }
 
 #[test]

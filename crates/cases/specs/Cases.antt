@@ -10,7 +10,9 @@ use Rattle.netlist.specs.Reading as r
 use Rattle.netlist.specs.Content as t
 use Rattle.verdict.specs.declared.Verdict.{Verdict}
 use Rattle.verdict.specs.Rows as o
+use Rattle.verdict.specs.Graph as g
 use Rattle.verdict.specs.Loops as l
+use Rattle.verdict.specs.Words as w
 use Rattle.verdict.specs.Answers as a
 use Rattle.verdict.specs.Checks as h
 use Rattle.verdict.specs.Checks.{verdict}
@@ -232,22 +234,6 @@ judged cases = map (λ (x : Case). verdictOn (x .stage) (x .reference)) cases
 abbrev expected : List Case → List Verdict
 expected cases = map (λ (x : Case). x .expected) cases
 
-pub twelve-cases : judged twelve ≡ expected twelve
-unfolding twelve wire wireReference wholeStage andReference swapped notReference earlyAnd wires wireSignals c.cells c.cellAt c.pinCount c.setExpression c.kindOf b.operand b.operands k.sortOf k.operandCount k.operandsFrom k.width k.pinsNeeded k.needed k.stray k.inputsAt k.misfit k.misfitFrom k.unlessMisfit k.gateAt k.outputAt k.wholeAt k.nextAt r.roleOf r.names r.nameless r.orLater r.namelessIn r.namelessFrom r.unlessNameless r.finish r.onCommand r.onNext r.countsOf r.readFrom r.readFile t.stageOf t.referenceOf o.bitsOf o.railsOf o.withNull o.isSet o.rounds o.settledLevels o.levelsHolding o.allData l.isFed l.reachedFrom l.reachesItself a.operate a.evaluate a.answer h.least h.numbers h.words h.atFault h.sweep h.unequal h.looped h.wrongOutput h.missingInput h.unobservedGate h.checks v.firstFault v.judgeReference v.judgeStage v.verdictWithin
-twelve-cases = refl
-
-pub table-examples : judged examples ≡ expected examples
-unfolding examples outputs wire wireReference c.cells c.cellAt c.pinCount c.setExpression c.kindOf b.operand b.operands k.sortOf k.operandCount k.operandsFrom k.width k.pinsNeeded k.needed k.stray k.inputsAt k.misfit k.misfitFrom k.unlessMisfit k.gateAt k.outputAt k.wholeAt k.nextAt r.roleOf r.names r.nameless r.orLater r.namelessIn r.namelessFrom r.unlessNameless r.finish r.onCommand r.onNext r.countsOf r.readFrom r.readFile t.stageOf t.referenceOf o.bitsOf o.railsOf o.withNull o.isSet o.rounds o.settledLevels o.levelsHolding o.allData l.isFed l.reachedFrom l.reachesItself a.operate a.evaluate a.answer h.least h.numbers h.words h.atFault h.sweep h.unequal h.looped h.wrongOutput h.missingInput h.unobservedGate h.checks v.firstFault v.judgeReference v.judgeStage v.verdictWithin
-table-examples = refl
-
-pub named-first : judged ordered ≡ expected ordered
-unfolding ordered firstInput wire wireReference andReference c.cells c.cellAt c.pinCount c.setExpression c.kindOf b.operand b.operands k.sortOf k.operandCount k.operandsFrom k.width k.pinsNeeded k.needed k.stray k.inputsAt k.misfit k.misfitFrom k.unlessMisfit k.gateAt k.outputAt k.wholeAt k.nextAt r.roleOf r.names r.nameless r.orLater r.namelessIn r.namelessFrom r.unlessNameless r.finish r.onCommand r.onNext r.countsOf r.readFrom r.readFile t.stageOf t.referenceOf o.bitsOf o.railsOf o.withNull o.isSet o.rounds o.settledLevels o.levelsHolding o.allData l.isFed l.reachedFrom l.reachesItself a.operate a.evaluate a.answer h.least h.numbers h.words h.atFault h.sweep h.unequal h.looped h.wrongOutput h.missingInput h.unobservedGate h.checks v.firstFault v.judgeReference v.judgeStage v.verdictWithin
-named-first = refl
-
-pub refused-first : judged refused ≡ expected refused
-unfolding refused gates inverters firstInput swapped wire wireReference andReference c.cells c.cellAt c.pinCount c.setExpression c.kindOf b.operand b.operands k.sortOf k.operandCount k.operandsFrom k.width k.pinsNeeded k.needed k.stray k.inputsAt k.misfit k.misfitFrom k.unlessMisfit k.gateAt k.outputAt k.wholeAt k.nextAt r.roleOf r.names r.nameless r.orLater r.namelessIn r.namelessFrom r.unlessNameless r.finish r.onCommand r.onNext r.countsOf r.readFrom r.readFile t.stageOf t.referenceOf o.bitsOf o.railsOf o.withNull o.isSet o.rounds o.settledLevels o.levelsHolding o.allData l.isFed l.reachedFrom l.reachesItself a.operate a.evaluate a.answer h.least h.numbers h.words h.atFault h.sweep h.unequal h.looped h.wrongOutput h.missingInput h.unobservedGate h.checks v.firstFault v.judgeReference v.judgeStage v.verdictWithin
-refused-first = refl
-
 -- ---- the settled-row call
 
 pub record RowCase : Type 0 where
@@ -271,6 +257,37 @@ rowExamples =
     rowCase wholeStage (1 ∷ 0 ∷ 0 ∷ 0 ∷ 9 ∷ 9 ∷ []) (answerWith (verdict 0 0 0 0) (1 ∷ 0 ∷ 0 ∷ 0 ∷ 0 ∷ 0 ∷ [])) ∷
     []
 
+-- ---- computed, all at once
+
+abbrev Computed : Type 0
+Computed =
+    (judged twelve ≡ expected twelve)
+    × (judged examples ≡ expected examples)
+    × (judged ordered ≡ expected ordered)
+    × (judged refused ≡ expected refused)
+    × (map (λ (x : RowCase). settledRow (x .stage) (x .row)) rowExamples ≡ map (λ (x : RowCase). x .expected) rowExamples)
+
+computed : Computed
+unfolding twelve examples ordered refused rowExamples wire wireReference wholeStage andReference swapped notReference earlyAnd wires wireSignals
+    outputs firstInput gates inverters c.cells c.cellAt c.pinCount c.setExpression c.kindOf b.operand b.operands
+    k.whenFound k.ownCommands k.commandTable k.formIn k.pinsNeeded k.needed k.stray k.misfit k.misfitFrom k.takeGate k.takeSort k.takeCommand k.nextAt
+    r.nameable r.nameless r.usedOperands r.namelessAt r.namelessFrom r.noted r.finish r.onNext r.readFrom r.readFile t.stageOf t.referenceOf o.withNull o.isSet o.rounds o.settledLevels o.levelsHolding o.allData
+    g.tabulate g.leading l.gateSteps l.reachesItself w.numbers w.words w.bitsOf w.railsOf a.operate a.signalValues a.answer h.first h.atFault h.sweep
+    h.finding h.orLater h.firstFault h.wrong h.incomplete h.unobservable h.sweeps h.checks h.illegal h.rowChecks v.verdictOf v.judgeReference
+    v.judgeStage v.verdictWithin v.settleUnless v.settleReading v.settledRowWithin
+computed = (refl, refl, refl, refl, refl)
+
+pub twelve-cases : judged twelve ≡ expected twelve
+twelve-cases = computed .0
+
+pub table-examples : judged examples ≡ expected examples
+table-examples = computed .1
+
+pub named-first : judged ordered ≡ expected ordered
+named-first = computed .2
+
+pub refused-first : judged refused ≡ expected refused
+refused-first = computed .3
+
 pub row-cases : map (λ (x : RowCase). settledRow (x .stage) (x .row)) rowExamples ≡ map (λ (x : RowCase). x .expected) rowExamples
-unfolding rowExamples wire wholeStage c.cells c.cellAt c.pinCount c.setExpression c.kindOf b.operand b.operands k.sortOf k.operandCount k.operandsFrom k.width k.pinsNeeded k.needed k.stray k.inputsAt k.misfit k.misfitFrom k.unlessMisfit k.gateAt k.outputAt k.wholeAt k.nextAt r.roleOf r.names r.nameless r.orLater r.namelessIn r.namelessFrom r.unlessNameless r.finish r.onCommand r.onNext r.countsOf r.readFrom r.readFile t.stageOf o.isSet o.rounds o.settledLevels l.isFed l.reachedFrom l.reachesItself h.least h.atFault h.looped v.illegalInput v.settleLegal v.settleLoopFree v.settleReading v.settledRowWithin
-row-cases = refl
+row-cases = computed .4

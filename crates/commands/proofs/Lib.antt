@@ -1,4 +1,4 @@
-pub mod ByteSorts
+pub mod Forms
 pub mod Misfits
 pub mod Position
 pub mod Arms

@@ -3,73 +3,60 @@ use gates::Kind;
 use netlist::Counts;
 use netlist::Cursor;
 use netlist::File;
+use netlist::Form;
 use netlist::Found;
 use netlist::Limits;
 use netlist::Next;
+use netlist::Role;
 use netlist::Sort;
 ghost use mathlib.Core.Path.{_≡_};
 ghost use Prim.Native.Nat.{_+_, _*_, _^_, _<_, _≤_};
 ghost use lib.ListN.{length};
+ghost use Rattle.netlist.specs.Bytes as bytes;
 ghost use Rattle.netlist.specs.Commands as commands;
 
-// ---- what a command byte calls for
+// ---- the command table
 
-// The sort of command that a byte stands for in a file.
-pub fn sort_of(file: File, command: u8) -> Sort
-    ensures { λ r. ⌜ r ≡ commands.sortOf file command ⌝ }
+// A row: the command's sort, how many bytes stand before its operands, how many u16 operands follow, and what they name.
+fn as_form(sort: Sort, lead: usize, operands: usize, role: Role) -> Form
+    ensures { λ r. ⌜ r ≡ commands.asForm sort lead operands role ⌝ }
 {
-    match file {
-        File::Stage => match command {
-            0x00 => Sort::End,
-            0x01 => Sort::Inputs,
-            0x02 => Sort::Gate,
-            0x03 => Sort::Output,
-            _ => Sort::Unknown,
-        },
-        File::Reference => match command {
-            0x00 => Sort::End,
-            0x01 => Sort::Inputs,
-            0x11 => Sort::Gate,
-            0x12 => Sort::Output,
-            _ => Sort::Unknown,
-        },
+    Form {
+        sort,
+        lead,
+        operands,
+        role,
     }
 }
 
-// How many u16 operands a command has: pins or operands of a gate, rails or the signal of an output.
-pub fn operand_count(file: File, sort: Sort) -> usize
-    ensures { λ r. ⌜ r ≡ commands.operandCount file sort ⌝ }
+// The row of a command byte. The byte alone says which operands follow.
+pub fn form_of(file: File, command: u8) -> Form
+    ensures { λ r. ⌜ r ≡ commands.formOf file command ⌝ }
 {
-    match file {
-        File::Stage => match sort {
-            Sort::Gate => 4,
-            Sort::Output => 2,
-            Sort::End | Sort::Inputs | Sort::Unknown => 0,
+    match command {
+        0x00 => as_form(Sort::End, 1, 0, Role::Number),
+        0x01 => as_form(Sort::Inputs, 2, 0, Role::Number),
+        _ => match file {
+            File::Stage => match command {
+                0x02 => as_form(Sort::Gate, 2, 4, Role::AnyNet),
+                0x03 => as_form(Sort::Output, 1, 2, Role::AnyNet),
+                _ => as_form(Sort::Unknown, 1, 0, Role::Number),
+            },
+            File::Reference => match command {
+                0x11 => as_form(Sort::Gate, 2, 2, Role::EarlierSignal),
+                0x12 => as_form(Sort::Output, 1, 1, Role::AnySignal),
+                _ => as_form(Sort::Unknown, 1, 0, Role::Number),
+            },
         },
-        File::Reference => match sort {
-            Sort::Gate => 2,
-            Sort::Output => 1,
-            Sort::End | Sort::Inputs | Sort::Unknown => 0,
-        },
-    }
-}
-
-// Where the first of them stands, counted from the command byte.
-pub fn operands_from(sort: Sort) -> usize
-    ensures { λ r. ⌜ r ≡ commands.operandsFrom sort ⌝ }
-{
-    match sort {
-        Sort::Gate | Sort::Inputs => 2,
-        Sort::Output | Sort::End => 1,
-        Sort::Unknown => 0,
     }
 }
 
 // How many bytes a command has.
-pub fn width(file: File, sort: Sort) -> usize
-    ensures { λ r. ⌜ r ≡ commands.width file sort ⌝ }
+pub fn width(form: Form) -> usize
+    requires { ⌜ commands.width form < 2 ^ 64 ⌝ }
+    ensures { λ r. ⌜ r ≡ commands.width form ⌝ }
 {
-    operands_from(sort) + 2 * operand_count(file, sort)
+    form.lead + 2 * form.operands
 }
 
 // How many pins a gate of a kind has; 0 where there is no such kind.
@@ -105,25 +92,7 @@ fn stray(at: usize, sort: Sort) -> bool
     match sort {
         Sort::Unknown => true,
         Sort::Inputs => at != 0,
-        Sort::Gate | Sort::Output | Sort::End => at == 0,
-    }
-}
-
-// The inputs command: 3 where its count is not in 1 to the limit.
-fn inputs_at(most: Limits, s: &[u8], at: usize) -> Next
-    requires { ⌜ at + 2 ≤ length (now s) ⌝ }
-    ensures { λ r. ⌜ r ≡ commands.inputsAt most (now (s .entry)) at ⌝ }
-{
-    let count = at + 1;
-    let n = s[count] as usize;
-    if 1 <= n {
-        if n <= most.inputs {
-            return Next::Command(Sort::Inputs, Cursor { at: at + 2 });
-        }
-    }
-    Next::Refused {
-        number: 3,
-        at: count,
+        _ => at == 0,
     }
 }
 
@@ -151,12 +120,20 @@ fn first_misfit(k: usize, s: &[u8], at: usize, m: usize) -> Found
     Found::Nothing
 }
 
-// A gate all of whose bytes are there: 6, then 4, then 5 by operand.
-fn gate_at(file: File, most: Limits, s: &[u8], at: usize, before: Counts) -> Next
-    requires { ⌜ at + commands.width file Sort.Gate ≤ length (now s) ⌝ }
-    ensures { λ r. ⌜ r ≡ commands.gateAt file most (now (s .entry)) at before ⌝ }
+// A gate all of whose bytes are there, after g gates: 6, then 4, then 5 by operand.
+fn take_gate(
+    file: File,
+    most: Limits,
+    s: &[u8],
+    at: usize,
+    g: usize,
+    form: Form,
+    taken: Next,
+) -> Next
+    requires { ⌜ (2 ≤ form .lead) × (at + commands.width form ≤ length (now s)) ⌝ }
+    ensures { λ r. ⌜ r ≡ commands.takeGate file most (now (s .entry)) at g form taken ⌝ }
 {
-    if most.gates <= before.gates {
+    if most.gates <= g {
         return Next::Refused { number: 6, at };
     }
     let code = at + 1;
@@ -167,48 +144,48 @@ fn gate_at(file: File, most: Limits, s: &[u8], at: usize, before: Counts) -> Nex
             at: code,
         };
     }
-    let found = first_misfit(k, s, at + 2, operand_count(file, Sort::Gate));
+    let found = first_misfit(k, s, at + form.lead, form.operands);
     match found {
         Found::At(place) => Next::Refused {
             number: 5,
             at: place,
         },
-        Found::Nothing => Next::Command(
-            Sort::Gate,
-            Cursor {
-                at: at + width(file, Sort::Gate),
-            },
-        ),
+        Found::Nothing => taken,
     }
 }
 
-// An output all of whose bytes are there: 6.
-fn output_at(file: File, most: Limits, at: usize, before: Counts) -> Next
-    requires { ⌜ at + commands.width file Sort.Output < 2 ^ 64 ⌝ }
-    ensures { λ r. ⌜ r ≡ commands.outputAt file most at before ⌝ }
+// A command all of whose bytes are there, by its sort: its refusals, or the command with the position after it. Inputs: 3 where
+// the count is not in 1 to the limit. An output: 6.
+fn take_command(file: File, most: Limits, s: &[u8], at: usize, before: Counts, form: Form) -> Next
+    requires { ⌜ (form ≡ commands.formOf file (bytes.byte (now s) at)) × (at + commands.width form ≤ length (now s)) ⌝ }
+    ensures { λ r. ⌜ r ≡ commands.takeCommand file most (now (s .entry)) at before form ⌝ }
 {
-    if most.outputs <= before.outputs {
-        return Next::Refused { number: 6, at };
-    }
-    Next::Command(
-        Sort::Output,
-        Cursor {
-            at: at + width(file, Sort::Output),
-        },
-    )
-}
-
-// A command all of whose bytes are there, by its sort.
-fn whole_at(file: File, most: Limits, s: &[u8], at: usize, before: Counts, sort: Sort) -> Next
-    requires { ⌜ (at < length (now s)) × (at + commands.width file sort ≤ length (now s)) ⌝ }
-    ensures { λ r. ⌜ r ≡ commands.wholeAt file most (now (s .entry)) at before sort ⌝ }
-{
+    let sort = form.sort;
+    let after = at + width(form);
+    let taken = Next::Command(sort, Cursor { at: after });
     match sort {
-        Sort::Inputs => inputs_at(most, s, at),
-        Sort::Gate => gate_at(file, most, s, at, before),
-        Sort::Output => output_at(file, most, at, before),
-        Sort::End => Next::Command(Sort::End, Cursor { at: at + 1 }),
-        Sort::Unknown => Next::Refused { number: 2, at },
+        Sort::Inputs => {
+            let count = at + 1;
+            let n = s[count] as usize;
+            if 1 <= n {
+                if n <= most.inputs {
+                    return taken;
+                }
+            }
+            Next::Refused {
+                number: 3,
+                at: count,
+            }
+        }
+        Sort::Gate => take_gate(file, most, s, at, before.gates, form, taken),
+        Sort::Output => {
+            if most.outputs <= before.outputs {
+                Next::Refused { number: 6, at }
+            } else {
+                taken
+            }
+        }
+        Sort::End | Sort::Unknown => taken,
     }
 }
 
@@ -224,15 +201,16 @@ pub fn next_command(file: File, most: Limits, s: &[u8], here: Cursor, before: Co
             at: s.len(),
         };
     }
-    let sort = sort_of(file, s[at]);
+    let form = form_of(file, s[at]);
+    let sort = form.sort;
     if stray(at, sort) {
         return Next::Refused { number: 2, at };
     }
-    if s.len() - at < width(file, sort) {
+    if s.len() - at < width(form) {
         return Next::Refused {
             number: 1,
             at: s.len(),
         };
     }
-    whole_at(file, most, s, at, before, sort)
+    take_command(file, most, s, at, before, form)
 }

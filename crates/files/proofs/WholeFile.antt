@@ -1,18 +1,18 @@
 -- Reading a whole file, as the code does it: the walk from one command to the next, with the places in one lent list, and the tests
 -- at the end command.
 -- Assumes nothing.
-use Prim.Native.Nat.{ℕ, suc, _+_, _*_, _-_, _≤_, _<_}
+use Prim.Native.Nat.{ℕ, zero, suc, _+_, _*_, _-_, _^_, _≤_, _<_}
 use native.Mathlib.Omega.{arith}
 use native.Mathlib.Numerals.{add-one}
-use mathlib.Core.Path.{_≡_, refl, sym, ap, subst, _∙_}
+use native.Mathlib.Nat.{mul-le-mul-right}
+use mathlib.Core.Path.{_≡_, refl, sym, ap, ap₂, subst, _∙_}
 use mathlib.Core.Bool.{Bool, true, false, cond}
-use mathlib.Core.List.{List, [], _∷_, _++_}
+use mathlib.Core.List.{List}
 use lib.ListN.{length, take, drop, set, length-set, length-drop}
 use lib.Seq.{length-take-le, take-suc-set, take-set-le, drop-set-lt, drop-set-add}
 use lib.Dec.{eqb, ltb}
-use borrow.Author.Tests.{lt-ltb, le-ltb, eq-eqb, ne-eqb, eqb-true, not-false}
+use borrow.Author.Tests.{lt-ltb, le-ltb, eq-eqb, ne-eqb}
 use Rattle.netlist.specs.declared.File.{File}
-use Rattle.netlist.specs.declared.File.the-variants as file
 use Rattle.netlist.specs.declared.Sort.{Sort}
 use Rattle.netlist.specs.declared.Sort.the-variants as sort
 use Rattle.netlist.specs.declared.Limits.{Limits}
@@ -23,62 +23,74 @@ use Rattle.netlist.specs.declared.Next.the-variants.{Command, Refused}
 use Rattle.netlist.specs.declared.Found.{Found}
 use Rattle.netlist.specs.declared.Found.the-variants.{At, Nothing}
 use Rattle.netlist.specs.Bytes.{byte}
-use Rattle.netlist.specs.Commands.{sortOf, operandCount, operandsFrom, width, stray, nextAt}
-use Rattle.netlist.specs.Reading.{namelessFrom, Reading, refused, readable, unlessNameless, finish, onCommand, onNext, countsOf, readFrom, readFile}
-use Rattle.files.specs.Files.{CommandsFrom, Complete, Placed}
-use Rattle.netlist.proofs.Encoding.{width-some, width-inputs}
+use Rattle.netlist.specs.Commands.{whenFound, isSort, formOf, width, stray, nextAt}
+use Rattle.netlist.specs.Reading.{namelessFrom, Places, countsOf, noted, Reading, refused, readable, finish, onNext, readFrom, readFile}
+use Rattle.netlist.specs.Writing.{commandByte, widthFor}
+use Rattle.files.specs.Files.{Follow, FilledTo, Countable, RoomFor, Placed}
+use Rattle.netlist.proofs.Encoding.{clash, width-in, width-inputs, width-end}
 use Rattle.netlist.proofs.OneCommand.{There, next-there}
+use Rattle.netlist.proofs.Walk.{first-inputs, Near, near-start, near-far}
 
 -- ---- at the end command
 
-module _ (f : File) (s : List ℕ) (at n : ℕ) (gs os : List ℕ) where
-  pub finish-8 : length os ≡ 0 → finish f s at n gs os ≡ refused 8 at
+-- the counts are those of some places
+module _ (f : File) (s : List ℕ) (at : ℕ) (p : Places) (c : Counts) (e : countsOf p ≡ c) where
+  outputs-same : length (p .outputs) ≡ c .outputs
+  outputs-same = ap (λ (x : Counts). x .outputs) e
+
+  pub finish-8 : c .outputs ≡ 0 → finish f s at p ≡ refused 8 at
   unfolding finish
-  finish-8 e = rw (eq-eqb (length os) 0 e)
+  finish-8 z = rw (eq-eqb (length (p .outputs)) 0 (outputs-same ∙ z))
 
-  module _ (some : length os ≡ 0 → ⊥) where
-    pub finish-7 : at + 1 < length s → finish f s at n gs os ≡ refused 7 (at + 1)
+  module _ (some : c .outputs ≡ 0 → ⊥) where
+    tested : eqb (length (p .outputs)) 0 ≡ false
+    tested = ne-eqb (length (p .outputs)) 0 (λ z. some (sym outputs-same ∙ z))
+
+    pub finish-7 : at + 1 < length s → finish f s at p ≡ refused 7 (at + 1)
     unfolding finish
-    finish-7 h = rw (ne-eqb (length os) 0 some, lt-ltb (at + 1) (length s) h)
+    finish-7 h = rw (tested, lt-ltb (at + 1) (length s) h)
 
-    module _ (last : length s ≤ at + 1) (found : Found) (is : found ≡ namelessFrom (length s) f n (length gs) s 0 0) where
-      pub finish-9 : (place : ℕ) → found ≡ At place → finish f s at n gs os ≡ refused 9 place
-      unfolding finish unlessNameless
-      finish-9 place e = rw (ne-eqb (length os) 0 some, le-ltb (at + 1) (length s) last, ← is, e)
+    module _ (last : length s ≤ at + 1) (found : Found) (is : found ≡ namelessFrom (length s) f (c .inputs) (c .gates) s 0 0) where
+      searched : namelessFrom (length s) f (p .inputs) (length (p .gates)) s 0 0 ≡ found
+      searched = ap (λ (x : Counts). namelessFrom (length s) f (x .inputs) (x .gates) s 0 0) e ∙ sym is
 
-      pub finish-readable : found ≡ Nothing → finish f s at n gs os ≡ readable n gs os
-      unfolding finish unlessNameless
-      finish-readable e = rw (ne-eqb (length os) 0 some, le-ltb (at + 1) (length s) last, ← is, e)
+      pub finish-9 : (place : ℕ) → found ≡ At place → finish f s at p ≡ refused 9 place
+      unfolding finish whenFound
+      finish-9 place q = rw (tested, le-ltb (at + 1) (length s) last, searched, q)
 
-  module _ (from : ℕ) (places : List ℕ) (gates : take (length gs) places ≡ gs) (outputs : take (length os) (drop from places) ≡ os) where
-    finish-placed : Placed from (finish f s at n gs os) places
-    unfolding finish unlessNameless Placed
-    finish-placed = go (eqb (length os) 0) (ltb (at + 1) (length s)) (namelessFrom (length s) f n (length gs) s 0 0)
-      where
-        go : (x y : Bool) (found : Found) → Placed from (cond x (refused 8 at) (cond y (refused 7 (at + 1)) (unlessNameless found (readable n gs os)))) places
-        go true y found = tt
-        go false true found = tt
-        go false false (At place) = tt
-        go false false Nothing = (gates, outputs)
+      pub finish-readable : found ≡ Nothing → finish f s at p ≡ readable p
+      unfolding finish whenFound
+      finish-readable q = rw (tested, le-ltb (at + 1) (length s) last, searched, q)
 
-    pub ends-placed : (r : Reading) → r ≡ finish f s at n gs os → Placed from r places
-    ends-placed r e = rw e finish-placed
+module _ (from : ℕ) (places : List ℕ) where
+  pub refused-placed : (r : Reading) (number at : ℕ) → r ≡ refused number at → Placed from r places
+  unfolding Placed
+  refused-placed r number at e = subst (λ (x : Reading). Placed from x places) (sym e) tt
 
-pub refused-placed : (from : ℕ) (places : List ℕ) (r : Reading) (number at : ℕ) → r ≡ refused number at → Placed from r places
-unfolding Placed
-refused-placed from places r number at e = subst (λ (x : Reading). Placed from x places) (sym e) tt
+  finish-placed : (f : File) (s : List ℕ) (at : ℕ) (p : Places) → Placed from (readable p) places → Placed from (finish f s at p) places
+  unfolding finish whenFound Placed
+  finish-placed f s at p h = go (eqb (length (p .outputs)) 0) (ltb (at + 1) (length s)) (namelessFrom (length s) f (p .inputs) (length (p .gates)) s 0 0)
+    where
+      go : (x y : Bool) (found : Found) → Placed from (cond x (refused 8 at) (cond y (refused 7 (at + 1)) (whenFound found (refused 9) (readable p)))) places
+      go true y found = tt
+      go false true found = tt
+      go false false (At place) = tt
+      go false false Nothing = h
 
--- ---- widths
+-- ---- whole commands fill the file
 
-gate-wide : (f : File) → width f sort.Gate ≤ 10
-unfolding width operandsFrom operandCount
-gate-wide file.Stage = omega arith
-gate-wide file.Reference = omega arith
+module _ (f : File) (s : List ℕ) where
+  follow-next : (k from to : ℕ) → Follow f s from k to → to + width (formOf f (byte s to)) ≤ length s → Follow f s from (suc k) (to + width (formOf f (byte s to)))
+  unfolding Follow
+  follow-next zero from to h l = rw h (l, refl)
+  follow-next (suc k) from to h l = (h .0, follow-next k (from + width (formOf f (byte s from))) to (h .1) l)
 
-output-wide : (f : File) → width f sort.Output ≤ 5
-unfolding width operandsFrom operandCount
-output-wide file.Stage = omega arith
-output-wide file.Reference = omega arith
+  filled-next : {at : ℕ} → FilledTo f s at → at + width (formOf f (byte s at)) ≤ length s → FilledTo f s (at + width (formOf f (byte s at)))
+  filled-next {at} h l = record { count = suc (h .count); commands = follow-next (h .count) 0 at (h .commands) l }
+
+  filled-none : FilledTo f s 0
+  unfolding Follow
+  filled-none = record { count = 0; commands = refl }
 
 -- ---- the walk over the commands
 
@@ -86,30 +98,30 @@ output-wide file.Reference = omega arith
 abbrev pub counts : ℕ → ℕ → ℕ → Counts
 counts n g o = record { inputs = n; gates = g; outputs = o }
 
--- The reading goes on from a position with n inputs, the places of g gates from index 0 on and those of o outputs from a fixed index
--- on. The position is near enough to 0 for a u16, the commands before it are whole, and the fuel lasts to the end of the file.
-pub record Walking (f : File) (most : Limits) (s : List ℕ) (long : ℕ) (places : List ℕ) (at n g o : ℕ) : Type 0 where
+-- the places that stand in a lent list: those of the gates from index 0 on, those of the outputs from a fixed index on
+abbrev pub standing : Limits → List ℕ → Counts → Places
+standing most places c = record { inputs = c .inputs; gates = take (c .gates) places; outputs = take (c .outputs) (drop (most .gates) places) }
+
+-- The reading goes on from a position with the places that stand in the lent list. The position is near enough to 0 for a u16, whole commands fill
+-- the file up to it, and the fuel lasts to the end of the file.
+pub record Walking (f : File) (most : Limits) (s : List ℕ) (long : ℕ) (places : List ℕ) (at : ℕ) (c : Counts) : Type 0 where
   pub within : at ≤ length s
-  pub inputs-few : n ≤ 255
-  pub gates-few : g ≤ most .gates
-  pub outputs-few : o ≤ most .outputs
-  pub near : at ≤ 2 + 10 * g + 5 * o
+  pub inputs-byte : c .inputs < 256
+  pub near : Near f most at c
   pub long-same : length places ≡ long
-  pub before : (cs : List Sort) → CommandsFrom f s at cs → Complete f s
+  pub filled : FilledTo f s at
   pub fuel : ℕ
   pub enough : length s < at + fuel
-  pub same : readFile f most s ≡ readFrom fuel f most s at n (take g places) (take o (drop (most .gates) places))
+  pub same : readFile f most s ≡ readFrom fuel f most s at (standing most places c)
 
-pub walk-starts : (f : File) (most : Limits) (s places : List ℕ) → Walking f most s (length places) places 0 0 0 0
+pub walk-starts : (f : File) (most : Limits) (s places : List ℕ) → Walking f most s (length places) places 0 (counts 0 0 0)
 unfolding readFile
 walk-starts f most s places = record {
   within = omega arith;
-  inputs-few = omega arith;
-  gates-few = omega arith;
-  outputs-few = omega arith;
-  near = omega arith;
+  inputs-byte = omega arith;
+  near = near-start f most;
   long-same = refl;
-  before = λ cs h. record { sorts = cs; commands = h };
+  filled = filled-none f s;
   fuel = suc (length s);
   enough = omega arith;
   same = refl;
@@ -119,129 +131,123 @@ walk-starts f most s places = record {
 pub read-as : {x : Next} {c c′ : Sort} {next : Cursor} → x ≡ Command c next → c ≡ c′ → x ≡ Command c′ next
 read-as {next} e told = e ∙ ap (λ (y : Sort). Command y next) told
 
-module _ {f : File} {most : Limits} {s : List ℕ} {long : ℕ} {places : List ℕ} {at n g o : ℕ} (space : most .gates + most .outputs ≤ long) (w : Walking f most s long places at n g o) where
-  pub gates-length : length (take g places) ≡ g
-  gates-length = length-take-le g places (omega arith)
+module _ {f : File} {most : Limits} {s : List ℕ} {long : ℕ} {places : List ℕ} {at : ℕ} {c : Counts} (room : RoomFor f most long) (w : Walking f most s long places at c) where
+  gates-length : length (take (c .gates) places) ≡ c .gates
+  gates-length = length-take-le (c .gates) places (omega (arith, room .space, w .long-same, w .near .gates-in))
 
-  pub outputs-length : length (take o (drop (most .gates) places)) ≡ o
-  outputs-length = length-take-le o (drop (most .gates) places) (simp length-drop (omega arith))
+  outputs-length : length (take (c .outputs) (drop (most .gates) places)) ≡ c .outputs
+  outputs-length = length-take-le (c .outputs) (drop (most .gates) places) (simp length-drop (omega (arith, room .space, w .long-same, w .near .outputs-in)))
+
+  pub standing-counts : countsOf (standing most places c) ≡ c
+  standing-counts = ap₂ (counts (c .inputs)) gates-length outputs-length
+
+  -- the position fits a u16
+  pub place-fits : at < 2 ^ 16
+  place-fits = omega (arith, near-far f most (w .near), room .u16s)
+
+  -- the sums that the search for 9 takes fit
+  pub sums-fit : Countable (c .inputs) (c .gates)
+  sums-fit = omega (arith, w .inputs-byte, w .near .gates-in, room .u16s, mul-le-mul-right (most .gates + 1) (width-in f (commandByte f sort.Gate) .0))
 
   -- x is what stands at the position
-  module _ {x : Next} (is : x ≡ nextAt f most s at (counts n g o)) where
-    walk-step : readFile f most s ≡ onNext (readFrom (w .fuel - 1) f most s) f s at x n (take g places) (take o (drop (most .gates) places))
-    unfolding readFrom countsOf
+  module _ {x : Next} (is : x ≡ nextAt f most s at c) where
+    walk-step : readFile f most s ≡ onNext (readFrom (w .fuel - 1) f most s) f s at (standing most places c) x
+    unfolding readFrom
     walk-step =
-        let p : w .fuel ≡ suc (w .fuel - 1) = omega arith in
-        w .same ∙ ap (λ (k : ℕ). readFrom k f most s at n (take g places) (take o (drop (most .gates) places))) p ∙ rw (gates-length, outputs-length, ← is)
+        let p : w .fuel ≡ suc (w .fuel - 1) = omega (arith, w .enough, w .within) in
+        w .same ∙ ap (λ (k : ℕ). readFrom k f most s at (standing most places c)) p
+        ∙ ap (onNext (readFrom (w .fuel - 1) f most s) f s at (standing most places c)) (ap (nextAt f most s at) standing-counts ∙ sym is)
 
     pub walk-stops : (number place : ℕ) → x ≡ Refused number place → readFile f most s ≡ refused number place
     unfolding onNext
     walk-stops number place e = walk-step ∙ rw e
 
-    -- a command of the sort c was read
-    module _ {c : Sort} {next : Cursor} (read : x ≡ Command c next) where
-      walk-command : readFile f most s ≡ onCommand (readFrom (w .fuel - 1) f most s) f s at c (next .at) n (take g places) (take o (drop (most .gates) places))
-      unfolding onNext
-      walk-command = walk-step ∙ rw read
+    -- a command of the sort k was read
+    module _ {k : Sort} {next : Cursor} (read : x ≡ Command k next) where
+      after : next .at ≡ at + widthFor f k
+      after = next-there f most s at c k next (sym is ∙ read) .0
 
-      after : next .at ≡ at + width f c
-      after = next-there f most s at (counts n g o) c next (sym is ∙ read) .0
+      there : There f most s at c k
+      there = next-there f most s at c k next (sym is ∙ read) .1
 
-      there : There f most s at (counts n g o) c
-      there = next-there f most s at (counts n g o) c next (sym is ∙ read) .1
+      form-wide : width (formOf f (byte s at)) ≡ widthFor f k
+      form-wide = ap width (there .command)
 
       pub walk-further : (at < next .at) × (next .at ≤ length s)
-      walk-further = omega (arith, after, there .room, width-some f at c (there .ordered))
+      walk-further = omega (arith, after, there .room, form-wide, width-in f (byte s at))
 
-      before-next : (cs : List Sort) → CommandsFrom f s (next .at) cs → Complete f s
-      unfolding CommandsFrom
-      before-next cs h = w .before (c ∷ cs) (there .command, there .room, rw after at h)
+      filled-after : FilledTo f s (next .at)
+      filled-after =
+          let e : at + width (formOf f (byte s at)) ≡ next .at = omega (arith, after, form-wide) in
+          rw e at (filled-next f s (w .filled) (omega (arith, walk-further)))
+
+      -- the reading goes on with the places that the code has then
+      walk-on : isSort sort.End k ≡ false → (places′ : List ℕ) (c′ : Counts) → length places′ ≡ length places →
+          standing most places′ c′ ≡ noted k s at (standing most places c) → c′ .inputs < 256 → Near f most (at + widthFor f k) c′ → Walking f most s long places′ (next .at) c′
+      unfolding onNext
+      walk-on more places′ c′ same-length e small near = record {
+        within = walk-further .1;
+        inputs-byte = small;
+        near = rw after near;
+        long-same = same-length ∙ w .long-same;
+        filled = filled-after;
+        fuel = w .fuel - 1;
+        enough = omega (arith, walk-further, w .enough);
+        same = walk-step ∙ rw (read, more) (ap (readFrom (w .fuel - 1) f most s (next .at)) (sym e));
+      }
 
     module _ {next : Cursor} where
-      -- the inputs command stands first, and has a count
       pub inputs-room : x ≡ Command sort.Inputs next → at + 2 ≤ length s
       inputs-room read = omega (arith, there read .room, width-inputs f)
 
-      pub gate-room : x ≡ Command sort.Gate next → g < most .gates
+      pub gate-room : x ≡ Command sort.Gate next → c .gates < most .gates
       gate-room read = there read .taken .0
 
-      pub output-room : x ≡ Command sort.Output next → o < most .outputs
+      pub output-room : x ≡ Command sort.Output next → c .outputs < most .outputs
       output-room read = there read .taken
 
-      first : x ≡ Command sort.Inputs next → at ≡ 0
-      unfolding stray
-      first read = eqb-true at 0 (not-false (eqb at 0) (there read .ordered))
-
-      pub walk-inputs : x ≡ Command sort.Inputs next → byte s (at + 1) < 256 → Walking f most s long places (next .at) (byte s (at + 1)) g o
-      unfolding onCommand
+      pub walk-inputs : x ≡ Command sort.Inputs next → byte s (at + 1) < 256 → Walking f most s long places (next .at) (counts (byte s (at + 1)) (c .gates) (c .outputs))
+      unfolding noted
       walk-inputs read small =
-          let m = walk-further read in
-          record {
-            within = m .1;
-            inputs-few = omega arith;
-            gates-few = w .gates-few;
-            outputs-few = w .outputs-few;
-            near = omega (arith, after read, width-inputs f, first read);
-            long-same = w .long-same;
-            before = before-next read;
-            fuel = w .fuel - 1;
-            enough = omega arith;
-            same = walk-command read;
-          }
+          walk-on read refl places (counts (byte s (at + 1)) (c .gates) (c .outputs)) refl refl small
+          (record { place = omega (arith, width-inputs f, first-inputs at (there read .ordered)); gates-in = w .near .gates-in; outputs-in = w .near .outputs-in })
 
-      pub walk-gate : x ≡ Command sort.Gate next → Walking f most s long (set places g at) (next .at) n (g + 1) o
-      unfolding onCommand
+      pub walk-gate : x ≡ Command sort.Gate next → Walking f most s long (set places (c .gates) at) (next .at) (counts (c .inputs) (c .gates + 1) (c .outputs))
+      unfolding noted
       walk-gate read =
-          let m = walk-further read in
-          let room = gate-room read in
-          let inside : g < length places = omega arith in
-          record {
-            within = m .1;
-            inputs-few = w .inputs-few;
-            gates-few = omega arith;
-            outputs-few = w .outputs-few;
-            near = omega (arith, after read, gate-wide f);
-            long-same = length-set places g at ∙ w .long-same;
-            before = before-next read;
-            fuel = w .fuel - 1;
-            enough = omega arith;
-            same = walk-command read ∙ rw (add-one, take-suc-set places g at inside, drop-set-lt (most .gates) places g at room);
-          }
+          let inside : c .gates < length places = omega (arith, gate-room read, room .space, w .long-same) in
+          walk-on read refl (set places (c .gates) at) (counts (c .inputs) (c .gates + 1) (c .outputs)) (length-set places (c .gates) at)
+          (rw (add-one, take-suc-set places (c .gates) at inside, drop-set-lt (most .gates) places (c .gates) at (gate-room read))) (w .inputs-byte)
+          (record { place = omega (arith, w .near .place); gates-in = omega (arith, gate-room read); outputs-in = w .near .outputs-in })
 
-      pub walk-output : x ≡ Command sort.Output next → Walking f most s long (set places (most .gates + o) at) (next .at) n g (o + 1)
-      unfolding onCommand
+      pub walk-output : x ≡ Command sort.Output next → Walking f most s long (set places (most .gates + c .outputs) at) (next .at) (counts (c .inputs) (c .gates) (c .outputs + 1))
+      unfolding noted
       walk-output read =
-          let m = walk-further read in
-          let room = output-room read in
-          let inside : o < length (drop (most .gates) places) = simp length-drop (omega arith) in
-          record {
-            within = m .1;
-            inputs-few = w .inputs-few;
-            gates-few = w .gates-few;
-            outputs-few = omega arith;
-            near = omega (arith, after read, output-wide f);
-            long-same = length-set places (most .gates + o) at ∙ w .long-same;
-            before = before-next read;
-            fuel = w .fuel - 1;
-            enough = omega arith;
-            same = walk-command read ∙ rw (add-one, take-set-le g places (most .gates + o) at (omega arith), drop-set-add (most .gates) places o at, take-suc-set (drop (most .gates) places) o at inside);
-          }
+          let inside : c .outputs < length (drop (most .gates) places) = simp length-drop (omega (arith, output-room read, room .space, w .long-same)) in
+          walk-on read refl (set places (most .gates + c .outputs) at) (counts (c .inputs) (c .gates) (c .outputs + 1)) (length-set places (most .gates + c .outputs) at)
+          (rw (
+            add-one,
+            take-set-le (c .gates) places (most .gates + c .outputs) at (omega (arith, w .near .gates-in)),
+            drop-set-add (most .gates) places (c .outputs) at,
+            take-suc-set (drop (most .gates) places) (c .outputs) at inside,
+          )) (w .inputs-byte)
+          (record { place = omega (arith, w .near .place); gates-in = w .near .gates-in; outputs-in = omega (arith, output-room read) })
 
-      -- no byte that stands for no command was read
-      pub walk-unknown : x ≡ Command sort.Unknown next → readFile f most s ≡ refused 2 at
-      unfolding onCommand
-      walk-unknown read = walk-command read
+      -- a byte that stands for no command is refused
+      pub walk-unknown : x ≡ Command sort.Unknown next → ⊥
+      unfolding stray
+      walk-unknown read = clash (let o = there read .ordered in cc)
 
       module _ (read : x ≡ Command sort.End next) where
-        pub walk-ends : readFile f most s ≡ finish f s at n (take g places) (take o (drop (most .gates) places))
-        unfolding onCommand
-        walk-ends = walk-command read
+        pub walk-ends : readFile f most s ≡ finish f s at (standing most places c)
+        unfolding onNext
+        walk-ends = walk-step ∙ rw read
 
-        pub walk-complete : Complete f s
-        unfolding CommandsFrom
-        walk-complete = w .before [] (there read .command, omega (arith, walk-further read))
+        pub walk-filled : FilledTo f s (at + 1)
+        walk-filled = let e : next .at ≡ at + 1 = omega (arith, after read, width-end f) in rw e at (filled-after read)
 
         pub walk-placed : Placed (most .gates) (readFile f most s) places
+        unfolding Placed
         walk-placed =
-            ends-placed f s at n (take g places) (take o (drop (most .gates) places)) (most .gates) places
-            (ap (λ (k : ℕ). take k places) gates-length) (ap (λ (k : ℕ). take k (drop (most .gates) places)) outputs-length) (readFile f most s) walk-ends
+            rw walk-ends (finish-placed (most .gates) places f s at (standing most places c)
+            (ap (λ (k : ℕ). take k places) gates-length, ap (λ (k : ℕ). take k (drop (most .gates) places)) outputs-length))

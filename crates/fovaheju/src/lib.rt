@@ -1,4 +1,4 @@
-// The public calls. Their contracts cite the definitions of crate `verdict` and ask nothing of the caller.
+// The public calls. Their contracts cite the definitions of crate `verdict`, at the limits of crate `netlist`, and ask nothing of the caller.
 use verdict::Verdict;
 ghost use mathlib.Core.Path.{_≡_};
 ghost use Rattle.netlist.specs.Reading.{stageLimits, referenceLimits};

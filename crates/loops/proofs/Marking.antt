@@ -1,218 +1,163 @@
--- Marking what a gate reaches: the marks start at the gate, grow along pins, and once they are closed tell whether it reaches itself.
+-- Marking what leads to a gate: the marks start at the gate, grow along pins, and once they are closed tell whether it reaches itself.
 -- Assumes nothing.
-use Prim.Native.Nat.{ℕ, zero, suc, _+_, _-_, _*_, _≤_, _<_}
+use Prim.Native.Nat.{ℕ, zero, suc, _+_, _-_, _*_, _<_}
 use native.Mathlib.Omega.{arith}
-use native.Mathlib.Decide.{ℕ-discrete, decLt}
-use mathlib.Core.Path.{_≡_, refl, sym, ap, _∙_, subst, subst₂}
+use native.Mathlib.Decide.{ℕ-discrete}
+use mathlib.Core.Path.{_≡_, refl, sym, _∙_, subst}
 use mathlib.Core.Bool.{Bool, true, false}
-use mathlib.Core.Logic.{_⊎_, inl, inr, ⊎-elim}
 use mathlib.Core.List.{List}
-use lib.ListN.{length, getD, set, replicate, length-set, length-replicate, getD-replicate, List·getD-eq-default}
-use lib.Seq.{getD-set-same, getD-set-other}
-use lib.Dec.{ltb}
+use lib.ListN.{length, getD, set, replicate, length-replicate}
 use borrow.Author.Tests.{lt-ltb, ltb-true}
-use Rattle.netlist.specs.Content.{Gate}
+use Rattle.netlist.specs.declared.Counts.{Counts}
+use Rattle.netlist.specs.Reading.{stageLimits, Within}
 use Rattle.verdict.specs.Rows.{high}
-use Rattle.verdict.specs.Loops.{Feeds, Reaches, directly, onward, reachesItself}
-use Rattle.verdict.specs.Levels.{Bits, sum}
-use Rattle.verdict.proofs.Levels.{bits-length, bits-set, bits-sum}
-use Rattle.verdict.proofs.Reaching.{reaches-sound, reaches-complete}
-use Rattle.settle.specs.Gates.{gatesAt, GatesThere, fedBy}
-use Rattle.loops.specs.Marks.{Marking, Closed, Grown, Reached}
-use Rattle.settle.proofs.Places.{length-gatesAt}
-use Rattle.settle.proofs.Feeding.{feeds-gate, feeds-fed, fed-feeds}
-use Rattle.loops.proofs.Sums.{sum-set, bits-same}
+use Rattle.verdict.specs.Graph.{In, here, onward}
+use Rattle.verdict.specs.Loops.{pinsAt, gateSteps, reachesItself}
+use Rattle.verdict.specs.Levels.{sum}
+use Rattle.verdict.proofs.Graph.{anyHigh-in, anyHigh-out, leads-trans}
+use Rattle.verdict.proofs.Reaching.{steps-gate, step-gate, reaches-sound, reaches-complete}
+use Rattle.circuit.specs.Stage.{netCount, stageGates}
+use Rattle.circuit.specs.Rows.{rowSize}
+use Rattle.circuit.proofs.Settling.{length-stageGates}
+use Rattle.loops.proofs.Feeding.{marks-set}
+use Rattle.loops.specs.Marks.{MarksFor, Unmarked, fedBy, LeadsIn, Grown, Marking}
+use Rattle.loops.proofs.Sums.{sum-set, sum-bound}
+use Rattle.loops.proofs.Placing.{never, high-other, high-same}
 
--- a mark that is set, and the marks beside it
-high-same : (v : List ℕ) (k : ℕ) → k < length v → high (set v k 1) k ≡ true
-high-same v k h = ap (λ (x : ℕ). ltb 0 x) (getD-set-same v k 1 0 h)
-
-high-other : (v : List ℕ) (k j : ℕ) → (j ≡ k → ⊥) → high (set v k 1) j ≡ high v j
-high-other v k j d = ap (λ (x : ℕ). ltb 0 x) (getD-set-other v k j 1 0 d)
-
-low-low : (m j : ℕ) → _≡_ {A = ℕ} (getD (replicate m 0) j 0) 0
-low-low m j = go (decLt j m)
+-- the marks of a stage within the limits, in an array of zeros
+pub fresh : (c : Counts) → Within stageLimits c → Unmarked c (replicate rowSize 0)
+fresh c w = record {
+  marks-for = record {
+    long = length-replicate {A = ℕ} rowSize 0;
+    room = omega (arith, w .inputs-in, w .gates-in);
+    bit = λ p. omega (arith, zeros rowSize p);
+    ground = zeros rowSize (netCount c);
+  };
+  none = zeros rowSize;
+}
   where
-    go : Dec (j < m) → _≡_ {A = ℕ} (getD (replicate m 0) j 0) 0
-    go (yes h) = getD-replicate m j 0 0 h
-    go (no h) = List·getD-eq-default (replicate m 0) 0 (omega (arith, length-replicate {A = ℕ} m 0))
+    zeros : (m p : ℕ) → _≡_ {A = ℕ} (getD (replicate m 0) p 0) 0
+    zeros zero p = refl
+    zeros (suc m) zero = refl
+    zeros (suc m) (suc p) = zeros m p
 
-same-bool : (a b : Bool) → (a ≡ true → b ≡ true) → (b ≡ true → a ≡ true) → a ≡ b
-same-bool true b f g = sym (f refl)
-same-bool false true f g = g refl
-same-bool false false f g = refl
+-- ---- a pass
 
-module _ (n : ℕ) (gates : List Gate) (g : ℕ) where
-  pub marking-start : g < length gates → Marking n gates g (set (replicate (length gates) 0) g 1)
-  marking-start hg = record {
-    bits = bits-set (length gates) (replicate (length gates) 0) (bits-same (length gates) 0 (omega arith)) g 1 (omega arith);
-    self = high-same (replicate (length gates) 0) g (omega (arith, length-replicate {A = ℕ} (length gates) 0));
-    reached = λ j h. at j h (ℕ-discrete j g);
+pub grow-start : (c : Counts) (code marks : List ℕ) → MarksFor c marks → Grown c code marks marks false 0
+grow-start c code marks r = record {
+  marks-for = r;
+  kept = λ p e. e;
+  back = λ p e. (p, e, here);
+  no-less = omega arith;
+  rose = λ e. absurd (never e refl);
+  done = λ e j h. absurd (omega arith);
+}
+
+module _ (c : Counts) (code before marks : List ℕ) (more : Bool) (k : ℕ) (w : Grown c code before marks more k) (hk : k < c .gates) where
+  abbrev net : ℕ
+  net = 2 * c .inputs + k
+
+  inside : net < length marks
+  inside = omega (arith, w .marks-for .long, w .marks-for .room)
+
+  -- a net at a pin of gate k is marked, so the net of gate k leads to where that one does
+  feeds-back : fedBy (stageGates c code) marks k ≡ true → (q : ℕ) × (high before q ≡ true) × LeadsIn c code q net
+  feeds-back f =
+      let r = anyHigh-out marks (pinsAt (stageGates c code) k) f in
+      let b = w .back (r .0) (r .2) in
+      (b .0, b .1, onward (subst (In (r .0)) (sym (steps-gate (c .inputs) (stageGates c code) k)) (r .1)) (b .2))
+
+  pub grow-mark : getD marks net 0 ≡ 0 → fedBy (stageGates c code) marks k ≡ true → Grown c code before (set marks net 1) true (k + 1)
+  grow-mark z f = record {
+    marks-for = marks-set c marks (w .marks-for) net 1 (omega arith) (omega arith);
+    kept = λ p e. kept p (w .kept p e) (ℕ-discrete p net);
+    back = λ p e. back p e (ℕ-discrete p net);
+    no-less = omega (arith, w .no-less, sum-set marks net 1 inside);
+    rose = λ e. omega (arith, w .no-less, sum-set marks net 1 inside);
+    done = λ e. absurd (never refl e);
   }
     where
-      at : (j : ℕ) → high (set (replicate (length gates) 0) g 1) j ≡ true → Dec (j ≡ g) → (j ≡ g) ⊎ Reaches n gates g j
-      at j h (yes e) = inl e
-      at j h (no d) = absurd (omega (arith, ltb-true 0 (getD (replicate (length gates) 0) j 0) (sym (high-other (replicate (length gates) 0) g j d) ∙ h), low-low (length gates) j))
+      kept : (p : ℕ) → high marks p ≡ true → Dec (p ≡ net) → high (set marks net 1) p ≡ true
+      kept p e (yes q) = rw q (high-same marks net 1 inside)
+      kept p e (no d) = high-other marks net 1 p d ∙ e
 
-  -- what a gate at a pin, marked, says of the gate
-  reached-on : (marks : List ℕ) → Marking n gates g marks → (k : ℕ) → fedBy n gates marks k ≡ true → Reaches n gates g k
-  reached-on marks m k f =
-      let r = fed-feeds n gates marks k f in
-      ⊎-elim (λ e. directly (subst (λ (j : ℕ). Feeds n gates j k) e (r .1))) (λ s. onward s (r .1)) (m .reached (r .0) (r .2))
+      back : (p : ℕ) → high (set marks net 1) p ≡ true → Dec (p ≡ net) → (q : ℕ) × (high before q ≡ true) × LeadsIn c code q p
+      back p e (yes q) = rw q (feeds-back f)
+      back p e (no d) = w .back p (sym (high-other marks net 1 p d) ∙ e)
 
-  marking-more : (marks : List ℕ) → Marking n gates g marks → (k : ℕ) → k < length gates → fedBy n gates marks k ≡ true → Marking n gates g (set marks k 1)
-  marking-more marks m k hk f = record {
-    bits = bits-set (length gates) marks (m .bits) k 1 (omega arith);
-    self = self′ (ℕ-discrete g k);
-    reached = λ j h. at j h (ℕ-discrete j k);
+  grow-on : (fedBy (stageGates c code) marks k ≡ true → high marks net ≡ true) → Grown c code before marks more (k + 1)
+  grow-on now = record {
+    marks-for = w .marks-for;
+    kept = w .kept;
+    back = w .back;
+    no-less = w .no-less;
+    rose = w .rose;
+    done = λ e j h. at e j h (ℕ-discrete j k);
   }
     where
-      k-in : k < length marks
-      k-in = omega (arith, bits-length (length gates) marks (m .bits))
+      at : more ≡ false → (j : ℕ) → j < k + 1 → Dec (j ≡ k) → fedBy (stageGates c code) marks j ≡ true → high marks (2 * c .inputs + j) ≡ true
+      at e j h (yes q) = rw q now
+      at e j h (no d) = w .done e j (omega arith)
 
-      self′ : Dec (g ≡ k) → high (set marks k 1) g ≡ true
-      self′ (yes e) = ap (high (set marks k 1)) e ∙ high-same marks k k-in
-      self′ (no d) = high-other marks k g d ∙ m .self
+  pub grow-unfed : fedBy (stageGates c code) marks k ≡ false → Grown c code before marks more (k + 1)
+  grow-unfed f = grow-on (λ e. absurd (never e f))
 
-      at : (j : ℕ) → high (set marks k 1) j ≡ true → Dec (j ≡ k) → (j ≡ g) ⊎ Reaches n gates g j
-      at j h (yes e) = inr (subst (Reaches n gates g) (sym e) (reached-on marks m k f))
-      at j h (no d) = m .reached j (sym (high-other marks k j d) ∙ h)
+  pub grow-marked : ¬ (getD marks net 0 ≡ 0) → Grown c code before marks more (k + 1)
+  grow-marked d = grow-on (λ e. lt-ltb 0 (getD marks net 0) (omega (arith, d)))
 
-  -- ---- a pass
+-- there are fewer left to mark
+pub grow-less : (c : Counts) (code before marks : List ℕ) (more : Bool) (k : ℕ) → Grown c code before marks more k → more ≡ true →
+    rowSize - sum marks < rowSize - sum before
+grow-less c code before marks more k w e = omega (arith, w .rose e, sum-bound marks (w .marks-for .bit), w .marks-for .long, w .marks-for .room)
 
-  module _ (marks : List ℕ) (m : Marking n gates g marks) (closed : Closed n gates marks) where
-    closed-fed : {k : ℕ} → Reaches n gates g k → fedBy n gates marks k ≡ true
-    closed-fed {k} (directly f) = feeds-fed n gates marks g k f (m .self)
-    closed-fed {k} (onward {j = j} r f) = feeds-fed n gates marks j k f (closed j (in-gates r) (closed-fed r))
-      where
-        in-gates : {j : ℕ} → Reaches n gates g j → j < length gates
-        in-gates {j} (directly f) = feeds-gate n gates g j f
-        in-gates {j} (onward {j = i} r f) = feeds-gate n gates i j f
+-- ---- passes
 
-    -- the gate is fed by the marks exactly if it reaches itself
-    pub closed-tells : g < length gates → fedBy n gates marks g ≡ reachesItself n gates g
-    closed-tells hg =
-        same-bool (fedBy n gates marks g) (reachesItself n gates g)
-        (λ e. reaches-complete n gates g hg (reached-on marks m g e))
-        (λ e. closed-fed (reaches-sound n gates g e))
+module _ (c : Counts) (code : List ℕ) (g : ℕ) (hg : g < c .gates) where
+  pub marking-start : (marks : List ℕ) → Unmarked c marks → Marking c code g (set marks (2 * c .inputs + g) 1)
+  marking-start marks u = record {
+    marks-for = marks-set c marks (u .marks-for) (2 * c .inputs + g) 1 (omega arith) (omega arith);
+    self = high-same marks (2 * c .inputs + g) 1 (omega (arith, u .marks-for .long, u .marks-for .room));
+    back = λ p e. at p e (ℕ-discrete p (2 * c .inputs + g));
+  }
+    where
+      at : (p : ℕ) → high (set marks (2 * c .inputs + g) 1) p ≡ true → Dec (p ≡ 2 * c .inputs + g) → LeadsIn c code (2 * c .inputs + g) p
+      at p e (yes q) = rw q here
+      at p e (no d) = absurd (omega (arith, u .none p, ltb-true 0 (getD marks p 0) (sym (high-other marks (2 * c .inputs + g) 1 p d) ∙ e)))
 
--- the gates before k have had their turn
-pub record Growing (n : ℕ) (gates : List Gate) (g : ℕ) (before marks : List ℕ) (more : Bool) (k : ℕ) : Type 0 where
-  pub marking : Marking n gates g marks
-  pub no-less : sum before ≤ sum marks
-  pub rose : more ≡ true → sum before < sum marks
-  pub done : more ≡ false → (j : ℕ) → j < k → fedBy n gates marks j ≡ true → high marks j ≡ true
+  module _ (marks : List ℕ) (m : Marking c code g marks) (after : List ℕ) (more : Bool) (w : Grown c code marks after more (c .gates)) where
+    pub marking-more : Marking c code g after
+    marking-more = record {
+      marks-for = w .marks-for;
+      self = w .kept (2 * c .inputs + g) (m .self);
+      back = λ p e.
+          let r = w .back p e in
+          leads-trans (gateSteps (c .inputs) (stageGates c code)) (r .0) (2 * c .inputs + g) (r .2) (m .back (r .0) (r .1));
+    }
 
-never : false ≡ true → ⊥
-never e = let z : _≡_ {A = ℕ} 0 1 = cc in omega arith
+    module _ (last : more ≡ false) where
+      marked : {p : ℕ} → LeadsIn c code (2 * c .inputs + g) p → high after p ≡ true
+      marked here = marking-more .self
+      marked (onward {x = x} {z = z} i l) =
+          let s = step-gate (c .inputs) (stageGates c code) x z i in
+          let f = anyHigh-in after (pinsAt (stageGates c code) (s .0)) z (s .3) (marked l) in
+          rw (s .2) (w .done last (s .0) (omega (arith, s .1, length-stageGates c code)) f)
 
-module _ (n : ℕ) (gates : List Gate) (g : ℕ) (before : List ℕ) where
-  pub grow-start : Marking n gates g before → Growing n gates g before before false 0
-  grow-start m = record { marking = m; no-less = omega arith; rose = λ e. absurd (never e); done = λ e j h. absurd (omega arith) }
+      -- the gate is fed by the marks exactly if it reaches itself
+      pub marks-tell : fedBy (stageGates c code) after g ≡ reachesItself (c .inputs) (stageGates c code) g
+      marks-tell = same (fedBy (stageGates c code) after g) (reachesItself (c .inputs) (stageGates c code) g) there again
+        where
+          same : (a b : Bool) → (a ≡ true → b ≡ true) → (b ≡ true → a ≡ true) → a ≡ b
+          same true b f h = sym (f refl)
+          same false true f h = h refl
+          same false false f h = refl
 
-  module _ (marks : List ℕ) (more : Bool) (k : ℕ) (w : Growing n gates g before marks more k) (hk : k < length gates) where
-    pub grow-mark : getD marks k 0 ≡ 0 → fedBy n gates marks k ≡ true → Growing n gates g before (set marks k 1) true (k + 1)
-    grow-mark z f =
-        let s = sum-set marks k 1 (omega (arith, bits-length (length gates) marks (w .marking .bits))) in
-        record {
-          marking = marking-more n gates g marks (w .marking) k hk f;
-          no-less = omega (arith, w .no-less);
-          rose = λ e. omega (arith, w .no-less);
-          done = λ e. absurd (never (sym e));
-        }
+          there : fedBy (stageGates c code) after g ≡ true → reachesItself (c .inputs) (stageGates c code) g ≡ true
+          there f =
+              let r = anyHigh-out after (pinsAt (stageGates c code) g) f in
+              reaches-complete (c .inputs) (stageGates c code) g (omega (arith, length-stageGates c code))
+              (r .0, subst (In (r .0)) (sym (steps-gate (c .inputs) (stageGates c code) g)) (r .1), marking-more .back (r .0) (r .2))
 
-    grow-on : (fedBy n gates marks k ≡ true → high marks k ≡ true) → Growing n gates g before marks more (k + 1)
-    grow-on here = record { marking = w .marking; no-less = w .no-less; rose = w .rose; done = λ e j h. at e j h (ℕ-discrete j k) }
-      where
-        at : more ≡ false → (j : ℕ) → j < k + 1 → Dec (j ≡ k) → fedBy n gates marks j ≡ true → high marks j ≡ true
-        at e j h (yes q) = subst (λ (x : ℕ). fedBy n gates marks x ≡ true → high marks x ≡ true) (sym q) here
-        at e j h (no d) = w .done e j (omega arith)
-
-    pub grow-unfed : fedBy n gates marks k ≡ false → Growing n gates g before marks more (k + 1)
-    grow-unfed f = grow-on (λ e. absurd (never (sym f ∙ e)))
-
-    pub grow-marked : (getD marks k 0 ≡ 0 → ⊥) → Growing n gates g before marks more (k + 1)
-    grow-marked d = grow-on (λ e. lt-ltb 0 (getD marks k 0) (omega (arith, d)))
-
-  pub grow-end : (marks : List ℕ) (more : Bool) (k : ℕ) → Growing n gates g before marks more k → length gates ≤ k → Grown n gates g before marks more
-  grow-end marks more k w l = record { marking = w .marking; rose = w .rose; done = λ e j h. w .done e j (omega arith) }
-
--- ---- the gates at some places
-
-module _ (s places : List ℕ) (count : ℕ) (there : GatesThere s places count) (n : ℕ) where
-  abbrev gates : List Gate
-  gates = gatesAt s places count
-
-  size : length gates ≡ count
-  size = length-gatesAt s places count (there .enough)
-
-  -- a pass, from whichever gate the marks come
-  abbrev pub GrowingAt : List ℕ → List ℕ → Bool → ℕ → Type 0
-  GrowingAt before marks more k = (length marks ≡ count) × ((g : ℕ) → Marking n gates g before → Growing n gates g before marks more k)
-
-  module _ (before marks : List ℕ) (more : Bool) (k : ℕ) (w : GrowingAt before marks more k) (hk : k < length marks) where
-    in-gates : k < length gates
-    in-gates = omega (arith, size, w .0)
-
-    module _ (marks′ : List ℕ) (more′ : Bool) where
-      kept : marks′ ≡ marks → more′ ≡ more → GrowingAt before marks more (k + 1) → GrowingAt before marks′ more′ (k + 1)
-      kept a b x = subst₂ (λ (v : List ℕ) (m : Bool). GrowingAt before v m (k + 1)) (sym a) (sym b) x
-
-      pub marked-turn : (getD marks k 0 ≡ 0 → ⊥) → marks′ ≡ marks → more′ ≡ more → GrowingAt before marks′ more′ (k + 1)
-      marked-turn d a b = kept a b (w .0, λ g m. grow-marked n gates g before marks more k (w .1 g m) in-gates d)
-
-      module _ (r : Bool) (e : r ≡ fedBy n (gatesAt s places (length marks)) marks k) where
-        now : r ≡ fedBy n gates marks k
-        now = e ∙ ap (λ (m : ℕ). fedBy n (gatesAt s places m) marks k) (w .0)
-
-        pub unfed-turn : r ≡ false → marks′ ≡ marks → more′ ≡ more → GrowingAt before marks′ more′ (k + 1)
-        unfed-turn f a b = kept a b (w .0, λ g m. grow-unfed n gates g before marks more k (w .1 g m) in-gates (sym now ∙ f))
-
-        pub fed-turn : getD marks k 0 ≡ 0 → r ≡ true → marks′ ≡ set marks k 1 → more′ ≡ true → GrowingAt before marks′ more′ (k + 1)
-        fed-turn z t a b =
-            subst₂ (λ (v : List ℕ) (m : Bool). GrowingAt before v m (k + 1)) (sym a) (sym b)
-            (length-set marks k 1 ∙ w .0, λ g m. grow-mark n gates g before marks more k (w .1 g m) in-gates z (sym now ∙ t))
-
-  pub mark-end : (before marks : List ℕ) (more : Bool) (k : ℕ) → GrowingAt before marks more k → length marks ≤ k → (g : ℕ) → Marking n gates g before → Grown n gates g before marks more
-  mark-end before marks more k w l g m = grow-end n gates g before marks more k (w .1 g m) (omega (arith, size, w .0))
-
-  -- ---- passes
-
-  module _ (g : ℕ) where
-    pub reach-start : (marks : List ℕ) → marks ≡ replicate count 0 → g < count → Marking n gates g (set marks g 1)
-    reach-start marks e h =
-        subst (λ (v : List ℕ). Marking n gates g (set v g 1)) (ap (λ (m : ℕ). replicate m 0) size ∙ sym e) (marking-start n gates g (omega (arith, size)))
-
-    module _
-        (before after : List ℕ)
-        (more : Bool)
-        (len : length before ≡ count)
-        (m : Marking n gates g before)
-        (grown : (g : ℕ) → Marking n (gatesAt s places (length before)) g before → Grown n (gatesAt s places (length before)) g before after more)
-      where
-        grows : Grown n gates g before after more
-        grows = subst (λ (c : ℕ). (g : ℕ) → Marking n (gatesAt s places c) g before → Grown n (gatesAt s places c) g before after more) len grown g m
-
-        pub reach-again : Marking n gates g after
-        reach-again = grows .marking
-
-        pub reach-long : length after ≡ count
-        reach-long = bits-length (length gates) after (grows .marking .bits) ∙ size
-
-        pub reach-less : more ≡ true → count - sum after < count - sum before
-        reach-less t = omega (arith, size, grows .rose t, bits-sum (length gates) after (grows .marking .bits))
-
-        pub reach-end : more ≡ false → Reached n gates g after
-        reach-end f = record { marking = grows .marking; closed = grows .done f }
-
-    -- the same, with the gates counted by the marks that hold the first of them
-    pub reach-first : (marks : List ℕ) → length marks ≡ count → marks ≡ replicate count 0 → g < count → Marking n (gatesAt s places (length (set marks g 1))) g (set marks g 1)
-    reach-first marks l e h = subst (λ (c : ℕ). Marking n (gatesAt s places c) g (set marks g 1)) (sym (length-set marks g 1 ∙ l)) (reach-start marks e h)
-
-    pub reach-last : (m : ℕ) (marks : List ℕ) → m ≡ count → Reached n (gatesAt s places m) g marks → Reached n gates g marks
-    reach-last m marks e x = subst (λ (c : ℕ). Reached n (gatesAt s places c) g marks) e x
-
-    pub reach-tells : (m : ℕ) (marks : List ℕ) → m ≡ count → length marks ≡ count → g < count → Reached n (gatesAt s places m) g marks → (r : Bool) → r ≡ fedBy n (gatesAt s places (length marks)) marks g → r ≡ reachesItself n gates g
-    reach-tells m marks e l h x r f =
-        let y = subst (λ (c : ℕ). Reached n (gatesAt s places c) g marks) e x in
-        f ∙ ap (λ (c : ℕ). fedBy n (gatesAt s places c) marks g) l ∙ closed-tells n gates g marks (y .marking) (y .closed) (omega (arith, size))
+          again : reachesItself (c .inputs) (stageGates c code) g ≡ true → fedBy (stageGates c code) after g ≡ true
+          again e =
+              let r = reaches-sound (c .inputs) (stageGates c code) g e in
+              anyHigh-in after (pinsAt (stageGates c code) g) (r .0) (subst (In (r .0)) (steps-gate (c .inputs) (stageGates c code) g) (r .1)) (marked (r .2))

@@ -1,78 +1,110 @@
 -- Topological orders and loops: where every gate is placed there is an order; where those that wait are stuck there is a loop.
 -- Assumes nothing.
-use Prim.Native.Nat.{ℕ, zero, suc, _+_, _-_, _*_, _≤_, _<_}
+use Prim.Native.Nat.{ℕ, zero, suc, _+_, _*_, _≤_, _<_}
 use native.Mathlib.Omega.{arith}
-use mathlib.Core.Path.{_≡_, refl, sym, ap, _∙_, subst}
-use mathlib.Core.Bool.{Bool, true, false}
+use native.Mathlib.Decide.{decLt}
+use mathlib.Core.Path.{_≡_, sym, ap, _∙_, subst}
+use mathlib.Core.Bool.{true}
 use mathlib.Core.List.{List}
 use lib.ListN.{length, getD}
-use Rattle.netlist.specs.Content.{Gate}
+use borrow.Author.Tests.{le-ltb}
+use Rattle.netlist.specs.declared.Counts.{Counts}
 use Rattle.verdict.specs.Rows.{high}
-use Rattle.verdict.specs.Loops.{Feeds, Reaches, directly, onward, reachesItself}
-use Rattle.verdict.specs.Levels.{Bits, sum}
-use Rattle.verdict.proofs.Levels.{bits-length}
-use Rattle.verdict.proofs.Reaching.{reaches-sound, rankOf, rank-rises}
-use Rattle.settle.specs.Gates.{gatesAt, GatesThere, fedBy}
-use Rattle.verdict.specs.Loops.{LoopFree}
-use Rattle.settle.specs.Order.{StandsIn, TopologicalOrder}
-use Rattle.loops.specs.Placing.{Placing, Stuck, Passed, Ordered}
-use Rattle.settle.proofs.Feeding.{feeds-gate, fed-feeds, high-in}
-use Rattle.settle.proofs.Places.{length-gatesAt}
-use Rattle.loops.proofs.Placing.{waiting-long}
+use Rattle.verdict.specs.Levels.{sum}
+use Rattle.verdict.specs.Loops.{pinsAt, Feeds, LoopFree}
+use Rattle.verdict.proofs.Graph.{anyHigh-out}
+use Rattle.verdict.proofs.Reaching.{rankOf, rank-pin, placed-free}
+use Rattle.circuit.specs.Stage.{gateAtPlace, placeOf, stageGates}
+use Rattle.circuit.specs.Order.{orderIn, InOrder}
+use Rattle.circuit.proofs.Tabulate.{length-tabulate}
+use Rattle.circuit.proofs.Settling.{length-stageGates, order-at}
+use Rattle.loops.specs.Placing.{Waits, Gone, Placing, PassTo, Ordered}
+use Rattle.loops.specs.Marks.{fedBy}
 use Rattle.loops.proofs.Sums.{get-≤-sum, sum-some}
 
-module _ (n : ℕ) (gates : List Gate) where
+module _ (c : Counts) (code waiting : List ℕ) (placed : ℕ) (p : Placing c code waiting placed) where
   -- ---- all placed
 
-  pub placed-order : (waiting order : List ℕ) (placed : ℕ) → Placing n gates waiting order placed → placed ≡ length gates → TopologicalOrder n gates order
-  placed-order waiting order placed p e = record {
-    long = p .long;
-    gate = λ i h. p .gate i (omega arith);
-    stands = λ k h.
-        let r = p .stands k h (omega (arith, p .total, get-≤-sum waiting k)) in
-        (r .0, omega (arith, r .1), r .2);
-    once = λ i j h h′ q. p .once i j (omega arith) (omega arith) q;
-    earlier = λ i j h hj f. p .earlier i j (omega arith) hj f;
-  }
+  module _ (full : placed ≡ c .gates) where
+    gone : (k : ℕ) → Gone c waiting k
+    gone k = le-ltb 0 (getD waiting (2 * c .inputs + k) 0) (omega (arith, p .total, get-≤-sum waiting (2 * c .inputs + k)))
 
-  -- ---- stuck
+    size : length (stageGates c code) ≡ c .gates
+    size = length-stageGates c code
 
-  module _ (waiting : List ℕ) (bits : Bits (length gates) waiting) (stuck : Stuck n gates waiting) (free : LoopFree n gates) where
-    -- each gate that waits is fed by one of lower rank that waits
-    descent : (r k : ℕ) → high waiting k ≡ true → rankOf n gates k < r → ⊥
-    descent zero k w l = omega arith
-    descent (suc r) k w l =
-        let hk : k < length gates = omega (arith, high-in waiting k w, bits-length (length gates) waiting bits) in
-        let f = fed-feeds n gates waiting k (stuck k hk w) in
-        let hj : f .0 < length gates = omega (arith, high-in waiting (f .0) (f .2), bits-length (length gates) waiting bits) in
-        descent r (f .0) (f .2) (omega (arith, rank-rises n gates free (f .0) k hj hk (f .1)))
+    order-long : length (orderIn c code) ≡ c .gates
+    unfolding orderIn
+    order-long = length-tabulate (gateAtPlace code) (c .gates)
 
-    stuck-low : 0 < sum waiting → ⊥
-    stuck-low h = let s = sum-some waiting h in descent (suc (rankOf n gates (s .0))) (s .0) (s .2) (omega arith)
+    abbrev order : List ℕ
+    order = orderIn c code
 
-  -- ---- how the passes end
+    at : (i : ℕ) → i < length (stageGates c code) → getD order i 0 ≡ gateAtPlace code i
+    at i h = order-at c code i (omega (arith, size))
 
-  pub ordered-all : (waiting order : List ℕ) (placed : ℕ) → Placing n gates waiting order placed → length gates ≤ placed → Ordered n gates order placed
-  ordered-all waiting order placed p l = record {
-    within = omega (arith, p .total);
-    all = λ e. placed-order waiting order placed p e;
-    some = λ h free. omega arith;
-  }
+    taken : (i : ℕ) → i < length (stageGates c code) → (getD order i 0 < c .gates) × (placeOf code (getD order i 0) ≡ i)
+    taken i h = let t = p .taken i (omega (arith, size)) in rw (at i h) (t .0, t .2)
 
-  pub ordered-stuck : (waiting order : List ℕ) (before placed : ℕ) → Passed n gates waiting order before placed → placed ≡ before → Ordered n gates order before
-  ordered-stuck waiting order before placed q e =
-      let p = subst (Placing n gates waiting order) e (q .placing) in
+    stands : (k : ℕ) → k < length (stageGates c code) → (placeOf code k < length (stageGates c code)) × (getD order (placeOf code k) 0 ≡ k)
+    stands k h =
+        let s = p .stands k (omega (arith, size)) (gone k) in
+        let l : placeOf code k < length (stageGates c code) = omega (arith, s .0, size) in
+        (l, at (placeOf code k) l ∙ s .1)
+
+    before : (j k : ℕ) → j < length (stageGates c code) → k < length (stageGates c code) → Feeds (c .inputs) (stageGates c code) j k → placeOf code j < placeOf code k
+    before j k hj hk f = p .earlier j k (omega (arith, size)) (omega (arith, size)) (gone k) f .1
+
+    in-order : InOrder c code
+    in-order = record {
+      ordered = record {
+        long = omega (arith, size, order-long);
+        gate = λ i h. omega (arith, taken i h .0, size);
+        stands = λ k h. let s = stands k h in (placeOf code k, s .0, s .1);
+        once = λ i j h h′ e. sym (taken i h .1) ∙ ap (placeOf code) e ∙ taken j h′ .1;
+        earlier = λ i j h hj f.
+            let t = taken i h in
+            (placeOf code j, omega (arith, t .1, before j (getD order i 0) hj (omega (arith, t .0, size)) f), stands j hj .1);
+      };
+      place-in = λ k h. omega (arith, p .stands k h (gone k) .0);
+      stands-there = λ k h. p .stands k h (gone k) .1;
+    }
+
+    pub all-ordered : InOrder c code × LoopFree (c .inputs) (stageGates c code)
+    all-ordered = (in-order, placed-free (c .inputs) (stageGates c code) (placeOf code) before)
+
+  -- ---- stuck: each gate that waits has one that waits, of lower rank, at a pin
+
+  module _
+      (stuck : (k : ℕ) → k < c .gates → Waits c waiting k → fedBy (stageGates c code) waiting k ≡ true)
+      (free : LoopFree (c .inputs) (stageGates c code))
+    where
+      descent : (r q : ℕ) → high waiting q ≡ true → rankOf (c .inputs) (stageGates c code) q < r → ⊥
+      descent zero q w l = omega arith
+      descent (suc r) q w l =
+          let o = p .only q w in
+          let s = anyHigh-out waiting (pinsAt (stageGates c code) (o .0)) (stuck (o .0) (o .1) (subst (λ (x : ℕ). high waiting x ≡ true) (o .2) w)) in
+          let e = ap (rankOf (c .inputs) (stageGates c code)) (o .2) in
+          descent r (s .0) (s .2) (omega (arith, rank-pin (c .inputs) (stageGates c code) free (s .0) (o .0) (s .1)))
+
+      -- so there is none
+      stuck-full : placed ≡ c .gates
+      stuck-full = go (decLt 0 (sum waiting))
+        where
+          go : Dec (0 < sum waiting) → placed ≡ c .gates
+          go (yes h) = let s = sum-some waiting h in absurd (descent (suc (rankOf (c .inputs) (stageGates c code) (s .0))) (s .0) (s .1) (omega arith))
+          go (no h) = omega (arith, p .total)
+
+  pub ordered-full : c .gates ≤ placed → Ordered c code placed
+  ordered-full h =
+      let e : placed ≡ c .gates = omega (arith, p .total) in
+      record { loaded = p .loaded; all = all-ordered; some = λ d. absurd (d e) }
+
+-- the last pass placed no gate
+module _ (c : Counts) (code waiting : List ℕ) (before placed : ℕ) (w : PassTo c code waiting before placed (c .gates)) where
+  pub ordered-stuck : placed ≡ before → Ordered c code before
+  ordered-stuck e = subst (Ordered c code) e (
       record {
-        within = omega (arith, p .total);
-        all = λ f. placed-order waiting order before p f;
-        some = λ h free. stuck-low waiting (p .marks) (q .none e) free (omega (arith, p .total));
-      }
-
--- the same for the gates at some places
-pub placed-all : (s places : List ℕ) (count : ℕ) → GatesThere s places count → (n : ℕ) (waiting order : List ℕ) (placed : ℕ) → Placing n (gatesAt s places count) waiting order placed → length waiting ≤ placed → Ordered n (gatesAt s places count) order placed
-placed-all s places count there n waiting order placed p l =
-    ordered-all n (gatesAt s places count) waiting order placed p
-    (omega (arith, waiting-long s places count there n waiting order placed p, length-gatesAt s places count (there .enough)))
-
-pub ordered-still : (s places : List ℕ) (m count n : ℕ) (order : List ℕ) (placed : ℕ) → m ≡ count → Ordered n (gatesAt s places m) order placed → Ordered n (gatesAt s places count) order placed
-ordered-still s places m count n order placed e o = subst (λ (c : ℕ). Ordered n (gatesAt s places c) order placed) e o
+        loaded = w .placing .loaded;
+        all = all-ordered c code waiting placed (w .placing);
+        some = λ d free. d (stuck-full c code waiting placed (w .placing) (w .none e) free);
+      })

@@ -1,221 +1,230 @@
 -- Placing the gates: all of them wait; one that no waiting gate feeds takes the next place; and a pass over all of them.
 -- Assumes nothing.
-use Prim.Native.Nat.{ℕ, zero, suc, _+_, _-_, _*_, _≤_, _<_}
+use Prim.Native.Nat.{ℕ, _+_, _*_, _≤_, _<_}
 use native.Mathlib.Omega.{arith}
-use native.Mathlib.Decide.{ℕ-discrete}
-use mathlib.Core.Path.{_≡_, refl, sym, ap, _∙_, subst, subst₃}
+use native.Mathlib.Decide.{ℕ-discrete, decLt}
+use mathlib.Core.Path.{_≡_, refl, sym, ap, _∙_, subst}
 use mathlib.Core.Bool.{Bool, true, false, _&&_, not}
 use mathlib.Core.List.{List}
-use lib.ListN.{length, getD, set, replicate, length-set, getD-replicate}
+use lib.ListN.{length, getD, set, length-set}
 use lib.Seq.{getD-set-same, getD-set-other}
-use borrow.Author.Tests.{ltb-true, le-ltb}
-use Rattle.netlist.specs.Content.{Gate}
+use lib.Dec.{ltb}
+use borrow.Author.Tests.{ltb-true, lt-ltb}
+use Rattle.netlist.specs.declared.Counts.{Counts}
 use Rattle.verdict.specs.Rows.{high}
-use Rattle.verdict.specs.Loops.{Feeds}
-use Rattle.verdict.specs.Levels.{Bits, sum}
-use Rattle.verdict.proofs.Levels.{bits-length, bits-get, bits-set}
-use Rattle.settle.specs.Gates.{gatesAt, GatesThere, fedBy}
-use Rattle.settle.specs.Order.{StandsIn}
-use Rattle.loops.specs.Placing.{Placing, Stuck, Passed}
-use Rattle.settle.proofs.Places.{length-gatesAt}
-use Rattle.settle.proofs.Feeding.{unfed-low}
-use Rattle.loops.proofs.Sums.{sum-set, sum-ones, bits-same}
+use Rattle.verdict.specs.Loops.{pinsAt, Feeds}
+use Rattle.verdict.proofs.Graph.{anyHigh-in}
+use Rattle.circuit.specs.Stage.{gateAtPlace, placeOf, stageGates, StageLoaded}
+use Rattle.loops.proofs.Feeding.{marks-set}
+use Rattle.loops.specs.Marks.{Unmarked, fedBy}
+use Rattle.loops.specs.Placing.{Reordered, WaitTo, Waits, Gone, Placing, isReady, PassTo}
+use Rattle.loops.proofs.Sums.{sum-none, sum-set}
+use Rattle.loops.proofs.Reordering.{reordered-refl, reordered-set, gates-kept, loaded-kept}
 
-module _ (n : ℕ) (gates : List Gate) where
-  -- no gate is placed yet
-  pub placing-start : (order : List ℕ) → length gates ≤ length order → Placing n gates (replicate (length gates) 1) order 0
-  placing-start order l = record {
-    long = l;
-    marks = bits-same (length gates) 1 (omega arith);
-    total = omega (arith, sum-ones (length gates));
-    gate = λ i h. absurd (omega arith);
-    left = λ i h. absurd (omega arith);
-    stands = λ k h z. absurd (omega (arith, getD-replicate {A = ℕ} (length gates) k 1 0 h));
-    once = λ i j h h′ e. absurd (omega arith);
-    earlier = λ i j h. absurd (omega arith);
+pub never : {b : Bool} → b ≡ true → b ≡ false → ⊥
+never p q = let z : _≡_ {A = ℕ} 0 1 = cc in omega arith
+
+-- ---- marks on the nets
+
+-- a mark is changed, and the others are not
+pub high-other : (v : List ℕ) (at x p : ℕ) → (p ≡ at → ⊥) → high (set v at x) p ≡ high v p
+high-other v at x p d = ap (ltb 0) (getD-set-other v at p x 0 d)
+
+pub high-same : (v : List ℕ) (at x : ℕ) → at < length v → high (set v at x) at ≡ ltb 0 x
+high-same v at x h = ap (ltb 0) (getD-set-same v at x 0 h)
+
+pub low : (v : List ℕ) (p : ℕ) → ¬ (high v p ≡ true) → getD v p 0 ≡ 0
+low v p h = go (decLt 0 (getD v p 0))
+  where
+    go : Dec (0 < getD v p 0) → getD v p 0 ≡ 0
+    go (yes l) = absurd (h (lt-ltb 0 (getD v p 0) l))
+    go (no l) = omega arith
+
+-- ---- all wait
+
+module _ (c : Counts) where
+  pub wait-none : (marks : List ℕ) → Unmarked c marks → WaitTo c marks 0
+  wait-none marks u = record {
+    marks-for = u .marks-for;
+    total = sum-none marks (u .none);
+    all = λ k h. absurd (omega arith);
+    only = λ p h. absurd (omega (arith, u .none p, ltb-true 0 (getD marks p 0) h));
   }
 
-  -- ---- one gate
+  module _ (marks : List ℕ) (m : ℕ) (w : WaitTo c marks m) (h : m < c .gates) where
+    abbrev next : ℕ
+    next = 2 * c .inputs + m
 
-  module _ (waiting order : List ℕ) (placed : ℕ) (p : Placing n gates waiting order placed) (k : ℕ) (hk : k < length gates) (waits : high waiting k ≡ true) where
-    one : getD waiting k 0 ≡ 1
-    one = omega (arith, ltb-true 0 (getD waiting k 0) waits, bits-get (length gates) waiting (p .marks) k)
+    next-in : next < length marks
+    next-in = omega (arith, w .marks-for .long, w .marks-for .room)
 
-    k-in : k < length waiting
-    k-in = omega (arith, bits-length (length gates) waiting (p .marks))
+    unmarked : getD marks next 0 ≡ 0
+    unmarked = low marks next (λ e. let r = w .only next e in omega (arith, r .1, r .2))
 
-    -- there is a place left
-    pub place-left : placed < length gates
-    place-left = omega (arith, p .total, one, sum-set waiting k 0 k-in)
+    all′ : (k : ℕ) → k < m + 1 → Dec (k ≡ m) → high (set marks next 1) (2 * c .inputs + k) ≡ true
+    all′ k l (yes e) = rw e (high-same marks next 1 next-in)
+    all′ k l (no d) = high-other marks next 1 (2 * c .inputs + k) (λ e. d (omega arith)) ∙ w .all k (omega arith)
 
-    abbrev waiting′ : List ℕ
-    waiting′ = set waiting k 0
+    one-more : (p : ℕ) → high (set marks next 1) p ≡ true → Dec (p ≡ next) → (k : ℕ) × (k < m + 1) × (p ≡ 2 * c .inputs + k)
+    one-more p e (yes q) = (m, omega arith, q)
+    one-more p e (no d) = let r = w .only p (sym (high-other marks next 1 p d) ∙ e) in (r .0, omega (arith, r .1), r .2)
 
-    abbrev order′ : List ℕ
-    order′ = set order placed k
+    pub wait-more : WaitTo c (set marks (2 * c .inputs + m) 1) (m + 1)
+    wait-more = record {
+      marks-for = marks-set c marks (w .marks-for) next 1 (omega arith) (omega arith);
+      total = omega (arith, w .total, sum-set marks next 1 next-in, unmarked);
+      all = λ k l. all′ k l (ℕ-discrete k m);
+      only = λ p e. one-more p e (ℕ-discrete p next);
+    }
 
-    new-place : getD order′ placed 0 ≡ k
-    new-place = getD-set-same order placed k 0 (omega (arith, place-left, p .long))
+  pub placing-start : (code waiting : List ℕ) → StageLoaded c code → WaitTo c waiting (c .gates) → Placing c code waiting 0
+  placing-start code waiting l w = record {
+    loaded = l;
+    marks-for = w .marks-for;
+    total = omega (arith, w .total);
+    only = w .only;
+    taken = λ i h. absurd (omega arith);
+    stands = λ k h g. absurd (never (w .all k h) g);
+    earlier = λ j k hj hk g. absurd (never (w .all k hk) g);
+  }
 
-    old-place : (i : ℕ) → i < placed → getD order′ i 0 ≡ getD order i 0
-    old-place i h = getD-set-other order placed i k 0 (λ e. omega arith)
+-- ---- one gate
 
-    -- what stood in the order stands there still
-    still : (m j : ℕ) → m ≤ placed → StandsIn order m j → StandsIn order′ m j
-    still m j h r = (r .0, r .1, old-place (r .0) (omega (arith, r .1)) ∙ r .2)
+ready : (a b : Bool) → (a && not b) ≡ true → (a ≡ true) × (b ≡ false)
+ready true true e = absurd (never e refl)
+ready true false e = (refl, refl)
+ready false b e = absurd (never e refl)
 
-    -- a gate that was placed before is another
-    other : (i : ℕ) → i < placed → getD order i 0 ≡ k → ⊥
-    other i h e = omega (arith, p .left i h, one, ap (λ (x : ℕ). getD waiting x 0) e)
+module _ (c : Counts) (code waiting : List ℕ) (placed : ℕ) (p : Placing c code waiting placed) (k : ℕ) (hk : k < c .gates) (r : isReady c code waiting k ≡ true) where
+  abbrev net : ℕ
+  net = 2 * c .inputs + k
 
-    gate′ : (i : ℕ) → i < placed + 1 → Dec (i ≡ placed) → getD order′ i 0 < length gates
-    gate′ i h (yes e) = omega (arith, ap (λ (x : ℕ). getD order′ x 0) e, new-place)
-    gate′ i h (no d) = omega (arith, old-place i (omega arith), p .gate i (omega arith))
+  waits : Waits c waiting k
+  waits = ready (high waiting net) (fedBy (stageGates c code) waiting k) r .0
 
-    left′ : (i : ℕ) → i < placed + 1 → Dec (i ≡ placed) → getD waiting′ (getD order′ i 0) 0 ≡ 0
-    left′ i h (yes e) = ap (λ (x : ℕ). getD waiting′ x 0) (ap (λ (x : ℕ). getD order′ x 0) e ∙ new-place) ∙ getD-set-same waiting k 0 0 k-in
-    left′ i h (no d) =
-        let l : i < placed = omega arith in
-        ap (λ (x : ℕ). getD waiting′ x 0) (old-place i l) ∙ getD-set-other waiting k (getD order i 0) 0 0 (other i l) ∙ p .left i l
+  unfed : fedBy (stageGates c code) waiting k ≡ false
+  unfed = ready (high waiting net) (fedBy (stageGates c code) waiting k) r .1
 
-    stands′ : (j : ℕ) → j < length gates → getD waiting′ j 0 ≡ 0 → Dec (j ≡ k) → StandsIn order′ (placed + 1) j
-    stands′ j h z (yes e) = (placed, omega arith, new-place ∙ sym e)
-    stands′ j h z (no d) =
-        let r = p .stands j h (sym (getD-set-other waiting k j 0 0 d) ∙ z) in
-        (r .0, omega (arith, r .1), old-place (r .0) (r .1) ∙ r .2)
+  one : getD waiting net 0 ≡ 1
+  one = omega (arith, ltb-true 0 (getD waiting net 0) waits, p .marks-for .bit net)
 
-    once′ : (i j : ℕ) → i < placed + 1 → j < placed + 1 → getD order′ i 0 ≡ getD order′ j 0 → Dec (i ≡ placed) → Dec (j ≡ placed) → i ≡ j
-    once′ i j h h′ e (yes a) (yes b) = a ∙ sym b
-    once′ i j h h′ e (yes a) (no b) =
-        let l : j < placed = omega arith in
-        absurd (other j l (sym (old-place j l) ∙ sym e ∙ ap (λ (x : ℕ). getD order′ x 0) a ∙ new-place))
-    once′ i j h h′ e (no a) (yes b) =
-        let l : i < placed = omega arith in
-        absurd (other i l (sym (old-place i l) ∙ e ∙ ap (λ (x : ℕ). getD order′ x 0) b ∙ new-place))
-    once′ i j h h′ e (no a) (no b) =
-        let l : i < placed = omega arith in
-        let l′ : j < placed = omega arith in
-        p .once i j l l′ (sym (old-place i l) ∙ e ∙ old-place j l′)
+  inside : net < length waiting
+  inside = omega (arith, p .marks-for .long, p .marks-for .room)
 
-    module _ (unfed : fedBy n gates waiting k ≡ false) where
-      earlier′ : (i j : ℕ) → i < placed + 1 → j < length gates → Feeds n gates j (getD order′ i 0) → Dec (i ≡ placed) → StandsIn order′ i j
-      earlier′ i j h hj f (yes e) =
-          let at : getD order′ i 0 ≡ k = ap (λ (x : ℕ). getD order′ x 0) e ∙ new-place in
-          let r = p .stands j hj (unfed-low n gates waiting j k unfed (subst (Feeds n gates j) at f)) in
-          (r .0, omega (arith, r .1), old-place (r .0) (r .1) ∙ r .2)
-      earlier′ i j h hj f (no d) =
-          let l : i < placed = omega arith in
-          still i j (omega arith) (p .earlier i j l hj (subst (Feeds n gates j) (old-place i l) f))
+  -- there is a place left
+  pub place-left : placed < c .gates
+  place-left = omega (arith, p .total, one, sum-set waiting net 0 inside)
 
-      pub placing-more : Placing n gates waiting′ order′ (placed + 1)
-      placing-more = record {
-        long = omega (arith, p .long, length-set order placed k);
-        marks = bits-set (length gates) waiting (p .marks) k 0 (omega arith);
-        total = omega (arith, p .total, one, sum-set waiting k 0 k-in);
-        gate = λ i h. gate′ i h (ℕ-discrete i placed);
-        left = λ i h. left′ i h (ℕ-discrete i placed);
-        stands = λ j h z. stands′ j h z (ℕ-discrete j k);
-        once = λ i j h h′ e. once′ i j h h′ e (ℕ-discrete i placed) (ℕ-discrete j placed);
-        earlier = λ i j h hj f. earlier′ i j h hj f (ℕ-discrete i placed);
-      }
+  abbrev code′ : List ℕ
+  code′ = set (set code (8 * placed + 5) k) (8 * k + 6) placed
+
+  abbrev waiting′ : List ℕ
+  waiting′ = set waiting net 0
+
+  pub placed-reordered : Reordered c code code′
+  placed-reordered =
+      reordered-set c code (set code (8 * placed + 5) k) (8 * k + 6) placed (λ i a e. a k hk .1 e)
+      (reordered-set c code code (8 * placed + 5) k (λ i a e. a placed place-left .0 e) (reordered-refl c code))
+
+  room : 8 * c .gates ≤ length code
+  room = omega (arith, p .loaded .room)
+
+  gate-new : gateAtPlace code′ placed ≡ k
+  gate-new =
+      getD-set-other (set code (8 * placed + 5) k) (8 * k + 6) (8 * placed + 5) placed 0 (λ e. omega arith)
+      ∙ getD-set-same code (8 * placed + 5) k 0 (omega (arith, place-left, room))
+
+  gate-old : (i : ℕ) → ¬ (i ≡ placed) → gateAtPlace code′ i ≡ gateAtPlace code i
+  gate-old i d =
+      getD-set-other (set code (8 * placed + 5) k) (8 * k + 6) (8 * i + 5) placed 0 (λ e. omega arith)
+      ∙ getD-set-other code (8 * placed + 5) (8 * i + 5) k 0 (λ e. d (omega arith))
+
+  place-new : placeOf code′ k ≡ placed
+  place-new = getD-set-same (set code (8 * placed + 5) k) (8 * k + 6) placed 0 (omega (arith, room, length-set code (8 * placed + 5) k))
+
+  place-old : (m : ℕ) → ¬ (m ≡ k) → placeOf code′ m ≡ placeOf code m
+  place-old m d =
+      getD-set-other (set code (8 * placed + 5) k) (8 * k + 6) (8 * m + 6) placed 0 (λ e. d (omega arith))
+      ∙ getD-set-other code (8 * placed + 5) (8 * m + 6) k 0 (λ e. omega arith)
+
+  gone-new : Gone c waiting′ k
+  gone-new = high-same waiting net 0 inside
+
+  -- another gate waits as before; one that is gone is another
+  gone-old : (m : ℕ) → ¬ (m ≡ k) → high waiting′ (2 * c .inputs + m) ≡ high waiting (2 * c .inputs + m)
+  gone-old m d = high-other waiting net 0 (2 * c .inputs + m) (λ e. d (omega arith))
+
+  other : (m : ℕ) → Gone c waiting m → ¬ (m ≡ k)
+  other m g e = never waits (rw e at g)
+
+  only′ : (q : ℕ) → high waiting′ q ≡ true → Dec (q ≡ net) → (m : ℕ) × (m < c .gates) × (q ≡ 2 * c .inputs + m)
+  only′ q h (yes e) = absurd (never (rw e at h) gone-new)
+  only′ q h (no d) = p .only q (sym (high-other waiting net 0 q d) ∙ h)
+
+  abbrev Taken : ℕ → ℕ → Type 0
+  Taken i m = (m < c .gates) × Gone c waiting′ m × (placeOf code′ m ≡ i)
+
+  taken′ : (i : ℕ) → i < placed + 1 → Dec (i ≡ placed) → Taken i (gateAtPlace code′ i)
+  taken′ i h (yes e) = rw e (subst (Taken placed) (sym gate-new) (hk, gone-new, place-new))
+  taken′ i h (no d) =
+      let t = p .taken i (omega arith) in
+      let o = other (gateAtPlace code i) (t .1) in
+      subst (Taken i) (sym (gate-old i d)) (t .0, gone-old (gateAtPlace code i) o ∙ t .1, place-old (gateAtPlace code i) o ∙ t .2)
+
+  stands′ : (m : ℕ) → m < c .gates → Gone c waiting′ m → Dec (m ≡ k) →
+      (placeOf code′ m < placed + 1) × (gateAtPlace code′ (placeOf code′ m) ≡ m)
+  stands′ m h g (yes e) = rw e (omega (arith, place-new), ap (gateAtPlace code′) place-new ∙ gate-new)
+  stands′ m h g (no d) =
+      let s = p .stands m h (sym (gone-old m d) ∙ g) in
+      (omega (arith, s .0, place-old m d), ap (gateAtPlace code′) (place-old m d) ∙ gate-old (placeOf code m) (λ e. omega (arith, s .0)) ∙ s .1)
+
+  earlier′ : (j m : ℕ) → j < c .gates → m < c .gates → Gone c waiting′ m → Feeds (c .inputs) (stageGates c code) j m → Dec (m ≡ k) →
+      Gone c waiting′ j × (placeOf code′ j < placeOf code′ m)
+  earlier′ j m hj hm g f (yes e) =
+      let gone : Gone c waiting j = low-mark j (rw e at f) in
+      let o = other j gone in
+      (gone-old j o ∙ gone, rw e (omega (arith, p .stands j hj gone .0, place-old j o, place-new)))
+    where
+      low-mark : (j : ℕ) → Feeds (c .inputs) (stageGates c code) j k → Gone c waiting j
+      low-mark j f = go (high waiting (2 * c .inputs + j)) refl
+        where
+          go : (b : Bool) → high waiting (2 * c .inputs + j) ≡ b → b ≡ false
+          go true h = absurd (never (anyHigh-in waiting (pinsAt (stageGates c code) k) (2 * c .inputs + j) f h) unfed)
+          go false h = refl
+  earlier′ j m hj hm g f (no d) =
+      let e = p .earlier j m hj hm (sym (gone-old m d) ∙ g) f in
+      let o = other j (e .0) in
+      (gone-old j o ∙ e .0, omega (arith, e .1, place-old j o, place-old m d))
+
+  pub placing-more : Placing c code′ waiting′ (placed + 1)
+  placing-more = record {
+    loaded = loaded-kept c code code′ placed-reordered (p .loaded);
+    marks-for = marks-set c waiting (p .marks-for) net 0 (omega arith) (omega arith);
+    total = omega (arith, p .total, one, sum-set waiting net 0 inside);
+    only = λ q h. only′ q h (ℕ-discrete q net);
+    taken = λ i h. taken′ i h (ℕ-discrete i placed);
+    stands = λ m h g. stands′ m h g (ℕ-discrete m k);
+    earlier = λ j m hj hm g f. earlier′ j m hj hm g (rw (gates-kept c code code′ placed-reordered) at f) (ℕ-discrete m k);
+  }
 
 -- ---- a pass
 
--- the gates before k have had their turn
-pub record Pass (n : ℕ) (gates : List Gate) (before : ℕ) (waiting order : List ℕ) (placed k : ℕ) : Type 0 where
-  pub placing : Placing n gates waiting order placed
-  pub more : before ≤ placed
-  pub none : placed ≡ before → (j : ℕ) → j < k → high waiting j ≡ true → fedBy n gates waiting j ≡ true
+not-ready : (a b : Bool) → (a && not b) ≡ false → a ≡ true → b ≡ true
+not-ready true true e h = refl
+not-ready true false e h = absurd (never refl e)
+not-ready false b e h = absurd (never h refl)
 
-both : (a b : Bool) → true ≡ (a && not b) → (a ≡ true) × (b ≡ false)
-both true true e = absurd (let z : _≡_ {A = ℕ} 0 1 = cc in omega arith)
-both true false e = (refl, refl)
-both false b e = absurd (let z : _≡_ {A = ℕ} 0 1 = cc in omega arith)
+pub pass-start : (c : Counts) (code waiting : List ℕ) (before : ℕ) → Placing c code waiting before → PassTo c code waiting before before 0
+pass-start c code waiting before p = record { placing = p; more = omega arith; none = λ e j h. absurd (omega arith) }
 
-not-both : (a b : Bool) → false ≡ (a && not b) → a ≡ true → b ≡ true
-not-both true true e h = refl
-not-both true false e h = absurd (let z : _≡_ {A = ℕ} 0 1 = cc in omega arith)
-not-both false b e h = absurd (let z : _≡_ {A = ℕ} 0 1 = cc in omega arith)
+module _ (c : Counts) (code waiting : List ℕ) (before placed k : ℕ) where
+  pub pass-place : (code′ waiting′ : List ℕ) → PassTo c code waiting before placed k → Placing c code′ waiting′ (placed + 1) →
+      PassTo c code′ waiting′ before (placed + 1) (k + 1)
+  pass-place code′ waiting′ w p = record { placing = p; more = omega (arith, w .more); none = λ e. absurd (omega (arith, w .more)) }
 
-module _ (n : ℕ) (gates : List Gate) (before : ℕ) where
-  pub pass-start : (waiting order : List ℕ) → Placing n gates waiting order before → Pass n gates before waiting order before 0
-  pass-start waiting order p = record { placing = p; more = omega arith; none = λ e j h. absurd (omega arith) }
-
-  module _ (waiting order : List ℕ) (placed k : ℕ) (p : Pass n gates before waiting order placed k) (hk : k < length gates) where
-    pub pass-room : true ≡ (high waiting k && not (fedBy n gates waiting k)) → placed < length gates
-    pass-room e = place-left n gates waiting order placed (p .placing) k hk (both (high waiting k) (fedBy n gates waiting k) e .0)
-
-    pub pass-place : true ≡ (high waiting k && not (fedBy n gates waiting k)) → Pass n gates before (set waiting k 0) (set order placed k) (placed + 1) (k + 1)
-    pass-place e =
-        let r = both (high waiting k) (fedBy n gates waiting k) e in
-        record {
-          placing = placing-more n gates waiting order placed (p .placing) k hk (r .0) (r .1);
-          more = omega (arith, p .more);
-          none = λ f j h. absurd (omega (arith, p .more));
-        }
-
-    pub pass-skip : false ≡ (high waiting k && not (fedBy n gates waiting k)) → Pass n gates before waiting order placed (k + 1)
-    pass-skip e = record { placing = p .placing; more = p .more; none = λ f j h w. at f j h w (ℕ-discrete j k) }
-      where
-        at : placed ≡ before → (j : ℕ) → j < k + 1 → high waiting j ≡ true → Dec (j ≡ k) → fedBy n gates waiting j ≡ true
-        at f j h w (yes q) = subst (λ (x : ℕ). fedBy n gates waiting x ≡ true) (sym q) (not-both (high waiting k) (fedBy n gates waiting k) e (sym (ap (high waiting) q) ∙ w))
-        at f j h w (no d) = p .none f j (omega arith) w
-
-  pub pass-end : (waiting order : List ℕ) (placed k : ℕ) → Pass n gates before waiting order placed k → length gates ≤ k → Passed n gates waiting order before placed
-  pass-end waiting order placed k p l = record { placing = p .placing; more = p .more; none = λ f j h w. p .none f j (omega arith) w }
-
--- ---- the gates at some places
-
-module _ (s places : List ℕ) (count : ℕ) (there : GatesThere s places count) (n : ℕ) where
-  abbrev gates : List Gate
-  gates = gatesAt s places count
-
-  size : length gates ≡ count
-  size = length-gatesAt s places count (there .enough)
-
-  -- all gates wait
-  pub wait-all : (waiting order : List ℕ) → waiting ≡ replicate count 1 → count ≤ length order → Placing n gates waiting order 0
-  wait-all waiting order e l =
-      subst (λ (w : List ℕ). Placing n gates w order 0) (ap (λ (m : ℕ). replicate m 1) size ∙ sym e) (placing-start n gates order (omega (arith, size)))
-
-  pub waiting-long : (waiting order : List ℕ) (placed : ℕ) → Placing n gates waiting order placed → length waiting ≡ count
-  waiting-long waiting order placed p = bits-length (length gates) waiting (p .marks) ∙ size
-
-  -- waiting marks that keep their length leave the gates as they are
-  pub wait-still : (waiting order : List ℕ) (placed : ℕ) → Placing n gates waiting order placed → Placing n (gatesAt s places (length waiting)) waiting order placed
-  wait-still waiting order placed p = subst (λ (m : ℕ). Placing n (gatesAt s places m) waiting order placed) (sym (waiting-long waiting order placed p)) p
-
-  pub pass-still : (m : ℕ) (waiting order : List ℕ) (before placed : ℕ) → m ≡ count → Passed n (gatesAt s places m) waiting order before placed → Passed n gates waiting order before placed
-  pass-still m waiting order before placed e p = subst (λ (m : ℕ). Passed n (gatesAt s places m) waiting order before placed) e p
-
-  pub placed-within : (waiting order : List ℕ) (placed : ℕ) → Placing n gates waiting order placed → placed ≤ count
-  placed-within waiting order placed p = omega (arith, p .total, size)
-
-  module _ (before : ℕ) (waiting order : List ℕ) (placed k : ℕ) (p : Pass n gates before waiting order placed k) where
-    module _ (hk : k < count) (r : Bool) (e : r ≡ (high waiting k && not (fedBy n (gatesAt s places (length waiting)) waiting k))) where
-      now : r ≡ (high waiting k && not (fedBy n gates waiting k))
-      now = e ∙ ap (λ (m : ℕ). high waiting k && not (fedBy n (gatesAt s places m) waiting k)) (waiting-long waiting order placed (p .placing))
-
-      in-gates : k < length gates
-      in-gates = omega (arith, size)
-
-      pub turn-room : r ≡ true → (placed < count) × (placed < length order)
-      turn-room t =
-          let h = pass-room n gates before waiting order placed k p in-gates (sym t ∙ now) in
-          (omega (arith, size), omega (arith, p .placing .long))
-
-      module _ (waiting′ order′ : List ℕ) (placed′ : ℕ) where
-        pub turn-place : r ≡ true → waiting′ ≡ set waiting k 0 → order′ ≡ set order placed k → placed′ ≡ placed + 1 → (length order′ ≡ length order) × Pass n gates before waiting′ order′ placed′ (k + 1)
-        turn-place t a b d = (
-          ap length b ∙ length-set order placed k,
-          subst₃ (λ (w o : List ℕ) (m : ℕ). Pass n gates before w o m (k + 1)) (sym a) (sym b) (sym d) (pass-place n gates before waiting order placed k p in-gates (sym t ∙ now)),
-        )
-
-        pub turn-skip : r ≡ false → waiting′ ≡ waiting → order′ ≡ order → placed′ ≡ placed → (length order′ ≡ length order) × Pass n gates before waiting′ order′ placed′ (k + 1)
-        turn-skip t a b d = (
-          ap length b,
-          subst₃ (λ (w o : List ℕ) (m : ℕ). Pass n gates before w o m (k + 1)) (sym a) (sym b) (sym d) (pass-skip n gates before waiting order placed k p in-gates (sym t ∙ now)),
-        )
-
-    pub turn-end : length waiting ≤ k → Passed n gates waiting order before placed
-    turn-end l = pass-end n gates before waiting order placed k p (omega (arith, size, waiting-long waiting order placed (p .placing)))
+  pub pass-skip : PassTo c code waiting before placed k → isReady c code waiting k ≡ false → PassTo c code waiting before placed (k + 1)
+  pass-skip w r = record { placing = w .placing; more = w .more; none = λ e j h v. at e j h v (ℕ-discrete j k) }
+    where
+      at : placed ≡ before → (j : ℕ) → j < k + 1 → Waits c waiting j → Dec (j ≡ k) → fedBy (stageGates c code) waiting j ≡ true
+      at e j h v (yes q) = rw q (not-ready (high waiting (2 * c .inputs + k)) (fedBy (stageGates c code) waiting k) r (rw q at v))
+      at e j h v (no d) = w .none e j (omega arith) v

@@ -1,58 +1,54 @@
--- The search for the least gate that reaches itself: gate by gate, and where none does.
+-- The least gate that reaches itself, by the order that was made: where all gates are placed there is none.
 -- Assumes nothing.
-use Prim.Native.Nat.{ℕ, zero, suc, _+_, _-_, _≤_, _<_}
+use Prim.Native.Nat.{ℕ, zero, suc, _+_, _≤_, _<_}
 use native.Mathlib.Omega.{arith}
-use mathlib.Core.Path.{_≡_, refl, sym, ap, ap₂, _∙_, subst}
-use mathlib.Core.Bool.{Bool, true, false}
+use mathlib.Core.Path.{_≡_, refl, sym, ap, _∙_}
+use mathlib.Core.Bool.{Bool, false}
 use mathlib.Core.List.{List}
 use lib.ListN.{length}
+use Rattle.netlist.specs.declared.Counts.{Counts}
 use Rattle.netlist.specs.declared.Found.{Found}
-use Rattle.netlist.specs.declared.Found.the-variants.{At, Nothing}
+use Rattle.netlist.specs.declared.Found.the-variants.{Nothing}
 use Rattle.netlist.specs.Content.{Gate}
 use Rattle.verdict.specs.Loops.{reachesItself}
-use Rattle.verdict.specs.Checks.{least}
-use Rattle.verdict.proofs.Least.{least-here, least-later, least-says}
-use Rattle.settle.specs.Gates.{gatesAt, GatesThere}
-use Rattle.verdict.specs.Loops.{LoopFree}
-use Rattle.settle.specs.Order.{TopologicalOrder}
-use Rattle.loops.specs.Placing.{Ordered}
+use Rattle.verdict.specs.Words.{numbers}
+use Rattle.verdict.specs.Checks.{first}
+use Rattle.verdict.specs.Search.{least}
+use Rattle.verdict.proofs.Least.{least-later, least-says}
+use Rattle.circuit.specs.Stage.{stageGates}
+use Rattle.circuit.proofs.Settling.{length-stageGates}
+use Rattle.loops.specs.Placing.{Reordered, Ordered}
 use Rattle.loops.specs.Marks.{LoopFound}
-use Rattle.settle.proofs.Places.{length-gatesAt}
-use Rattle.settle.proofs.Order.{order-no-loop}
+use Rattle.loops.proofs.Reordering.{gates-kept, stage-kept}
 
 -- where no number passes there is no least
 none-least : (f : ℕ → Bool) (j m : ℕ) → ((k : ℕ) → j ≤ k → k < j + m → f k ≡ false) → least f j m ≡ Nothing
-unfolding least
+unfolding first numbers
 none-least f j zero h = refl
 none-least f j (suc m) h = least-later f j m (h j (omega arith) (omega arith)) ∙ none-least f (suc j) m (λ k l b. h k (omega arith) (omega arith))
 
-module _ (n : ℕ) (gates : List Gate) (order : List ℕ) (placed : ℕ) (o : Ordered n gates order placed) where
-  pub loop-none : placed ≡ length gates → LoopFound n gates order Nothing
-  loop-none e =
-      let t = o .all e in
-      record {
-        least-loop = sym (none-least (reachesItself n gates) 0 (length gates) (λ k l b. order-no-loop n gates order t k (omega arith)));
-        ordered = λ q. t;
-      }
+module _ (c : Counts) (before code : List ℕ) (r : Reordered c before code) (placed : ℕ) (o : Ordered c code placed) where
+  abbrev leastIn : List Gate → Found
+  leastIn gates = least (reachesItself (c .inputs) gates) 0 (length gates)
 
-  pub loop-some : (placed ≡ length gates → ⊥) → (found : Found) → found ≡ least (reachesItself n gates) 0 (length gates) → LoopFound n gates order found
-  loop-some d found e = record {
-    least-loop = e;
-    ordered = λ q.
-        let free : LoopFree n gates = λ g h. least-says (reachesItself n gates) 0 (length gates) Nothing (sym e ∙ q) g (omega arith) (omega arith) in
-        absurd (o .some (omega (arith, o .within, d)) free);
+  abbrev test : ℕ → Bool
+  test = reachesItself (c .inputs) (stageGates c code)
+
+  pub found-none : placed ≡ c .gates → LoopFound c before code Nothing
+  found-none e = record {
+    loaded = o .loaded;
+    same = stage-kept c before code r;
+    least-loop = sym (none-least test 0 (length (stageGates c code)) (λ k l b. o .all e .1 k (omega arith))) ∙ ap leastIn (gates-kept c before code r);
+    in-order = λ q. o .all e .0;
   }
 
--- ---- the gates at some places
-
-module _ (s places : List ℕ) (count : ℕ) (there : GatesThere s places count) (n : ℕ) (order : List ℕ) (placed : ℕ) (o : Ordered n (gatesAt s places count) order placed) (m : ℕ) (same : m ≡ count) where
-  size : length (gatesAt s places count) ≡ count
-  size = length-gatesAt s places count (there .enough)
-
-  pub find-none : placed ≡ m → LoopFound n (gatesAt s places count) order Nothing
-  find-none e = loop-none n (gatesAt s places count) order placed o (omega (arith, size))
-
-  pub find-some : (placed ≡ m → ⊥) → (found : Found) → found ≡ least (reachesItself n (gatesAt s places m)) 0 m → LoopFound n (gatesAt s places count) order found
-  find-some d found e =
-      loop-some n (gatesAt s places count) order placed o (λ q. d (q ∙ size ∙ sym same)) found
-      (e ∙ ap (λ (c : ℕ). least (reachesItself n (gatesAt s places c)) 0 c) same ∙ ap (least (reachesItself n (gatesAt s places count)) 0) (sym size))
+  pub found-some : ¬ (placed ≡ c .gates) → (found : Found) → found ≡ least test 0 (c .gates) → LoopFound c before code found
+  found-some d found e = record {
+    loaded = o .loaded;
+    same = stage-kept c before code r;
+    least-loop = f ∙ ap leastIn (gates-kept c before code r);
+    in-order = λ q. absurd (o .some d (λ g h. least-says test 0 (length (stageGates c code)) Nothing (sym f ∙ q) g (omega arith) (omega arith)));
+  }
+    where
+      f : found ≡ leastIn (stageGates c code)
+      f = e ∙ ap (least test 0) (sym (length-stageGates c code))

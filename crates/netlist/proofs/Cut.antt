@@ -3,53 +3,30 @@
 use Prim.Native.Nat.{ℕ, zero, suc, _+_, _*_, _≤_, _<_}
 use native.Mathlib.Omega.{arith}
 use native.Mathlib.Decide.{decLt}
-use native.Mathlib.Nat.{mul-le-mul-left}
 use mathlib.Core.Path.{_≡_, refl, sym, ap, _∙_}
-use mathlib.Core.Bool.{cond}
-use mathlib.Core.List.{List, [], _∷_, _++_}
-use lib.ListN.{length, take, length-append}
+use mathlib.Core.Bool.{false, cond}
+use mathlib.Core.List.{List}
+use lib.ListN.{length, take}
 use lib.Seq.{length-take-le, take-all, getD-take}
-use lib.Dec.{eqb}
-use borrow.Author.Tests.{lt-leb, le-ltb, eqb-true, not-false}
-use Rattle.netlist.specs.declared.File.{File}
-use Rattle.netlist.specs.declared.File.the-variants as file
-use Rattle.netlist.specs.declared.Sort.{Sort}
-use Rattle.netlist.specs.declared.Sort.the-variants as sort
-use Rattle.netlist.specs.declared.Limits.{Limits}
-use Rattle.netlist.specs.declared.Counts.{Counts}
-use Rattle.netlist.specs.declared.Next.{Next}
-use Rattle.netlist.specs.declared.Next.the-variants.{Command, Refused}
+use borrow.Author.Tests.{lt-leb, le-ltb}
+use Rattle.netlist.specs.Types.{File, Sort, Form, Limits, Counts, Cursor, Next, Command, Refused}
+use Rattle.netlist.specs.Types.file
+use Rattle.netlist.specs.Types.sort
 use Rattle.netlist.specs.Bytes.{byte, operand}
-use Rattle.netlist.specs.Commands.{sortOf, operandCount, operandsFrom, width, needed, stray, inputsAt, misfitFrom, gateAt, wholeAt, nextAt}
-use Rattle.netlist.specs.Reading.{Reading, finish, onCommand, onNext, countsOf, readFrom, readFile, stageLimits, referenceLimits}
-use Rattle.netlist.proofs.Encoding.{width-inputs}
+use Rattle.netlist.specs.Commands.{isSort, commandTable, ownCommands, formIn, formOf, width, needed, stray, misfitFrom, takeGate, takeSort, takeCommand, nextAt}
+use Rattle.netlist.specs.Reading.{Reading, Places, noPlaces, countsOf, noted, finish, onNext, readFrom, readFile, stageLimits, referenceLimits}
+use Rattle.netlist.specs.Writing.{widthFor}
+use Rattle.netlist.specs.Read.{farthest, mostBytes}
+use Rattle.netlist.proofs.Encoding.{width-in, width-gate}
 use Rattle.netlist.proofs.OneCommand.{There, next-there}
-use Rattle.netlist.proofs.Walk.{finish-more}
-
--- no command is wider than a gate
-widest : (f : File) (c : Sort) → width f c ≤ width f sort.Gate
-unfolding width operandsFrom operandCount
-widest file.Stage sort.End = omega arith
-widest file.Stage sort.Inputs = omega arith
-widest file.Stage sort.Gate = omega arith
-widest file.Stage sort.Output = omega arith
-widest file.Stage sort.Unknown = omega arith
-widest file.Reference sort.End = omega arith
-widest file.Reference sort.Inputs = omega arith
-widest file.Reference sort.Gate = omega arith
-widest file.Reference sort.Output = omega arith
-widest file.Reference sort.Unknown = omega arith
-
--- where a command can end that is read, or refused, after as many gates and outputs as there may be
-abbrev pub farthest : File → Limits → ℕ
-farthest f most = 2 + width f sort.Gate * (most .gates + 1) + width f sort.Output * most .outputs
+use Rattle.netlist.proofs.Walk.{finish-more, Near, near-start, near-far, near-noted}
 
 -- where all bytes of a command are there, whichever it is
-in-room : (f : File) (most : Limits) (s : List ℕ) (at m : ℕ) (before : Counts) → at + width f sort.Gate ≤ m → at < m → m ≤ length s →
-    nextAt f most s at before ≡ cond (stray at (sortOf f (byte s at))) (Refused 2 at) (wholeAt f most s at before (sortOf f (byte s at)))
+in-room : (f : File) (most : Limits) (s : List ℕ) (at m : ℕ) (before : Counts) → at + widthFor f sort.Gate ≤ m → at < m → m ≤ length s →
+    nextAt f most s at before ≡ cond (stray at (formOf f (byte s at) .sort)) (Refused 2 at) (takeCommand f most s at before (formOf f (byte s at)))
 unfolding nextAt
 in-room f most s at m before room inside long =
-    rw (lt-leb (length s) at (omega arith), le-ltb (length s) (at + width f (sortOf f (byte s at))) (omega (arith, widest f (sortOf f (byte s at)))))
+    rw (lt-leb (length s) at (omega arith), le-ltb (length s) (at + width (formOf f (byte s at))) (omega (arith, width-in f (byte s at))))
 
 module _ (f : File) (most : Limits) (s : List ℕ) (m : ℕ) (far : farthest f most ≤ m) (long : m ≤ length s) where
   abbrev cut : List ℕ
@@ -70,87 +47,90 @@ module _ (f : File) (most : Limits) (s : List ℕ) (m : ℕ) (far : farthest f m
   misfit-cut k i at zero l = refl
   misfit-cut k i at (suc j) l = rw (operand-cut at (omega arith), misfit-cut k (i + 1) (at + 2) j (omega arith))
 
-  module _ (at : ℕ) (room : at + width f sort.Gate ≤ m) where
-    whole-cut : (before : Counts) (c : Sort) → wholeAt f most cut at before c ≡ wholeAt f most s at before c
-    unfolding wholeAt inputsAt gateAt width operandsFrom
-    whole-cut before sort.Inputs = rw (byte-cut (at + 1) (omega arith))
-    whole-cut before sort.Gate = rw (byte-cut (at + 1) (omega arith), misfit-cut (needed f (byte s (at + 1))) 0 (at + 2) (operandCount f sort.Gate) (omega arith))
-    whole-cut before sort.Output = refl
-    whole-cut before sort.End = refl
-    whole-cut before sort.Unknown = refl
+  module _ (at : ℕ) (room : at + widthFor f sort.Gate ≤ m) where
+    sort-cut : (before : Counts) (form : Form) → at + width form ≤ m → (taken : Next) (c : Sort) → takeSort f most cut at before form taken c ≡ takeSort f most s at before form taken c
+    unfolding takeSort takeGate
+    sort-cut before form l taken sort.Inputs = rw (byte-cut (at + 1) (omega (arith, width-gate f)))
+    sort-cut before form l taken sort.Gate =
+        rw (byte-cut (at + 1) (omega (arith, width-gate f)), misfit-cut (needed f (byte s (at + 1))) 0 (at + form .lead) (form .operands) (omega arith))
+    sort-cut before form l taken sort.Output = refl
+    sort-cut before form l taken sort.End = refl
+    sort-cut before form l taken sort.Unknown = refl
 
     next-cut : (before : Counts) → nextAt f most cut at before ≡ nextAt f most s at before
-    unfolding width operandsFrom
+    unfolding takeCommand
     next-cut before =
-        let inside : at < m = omega arith in
+        let inside : at < m = omega (arith, width-gate f) in
+        let form = formOf f (byte s at) in
+        let taken = Command (form .sort) (record { at = at + width form }) in
         in-room f most cut at m before room inside (omega (arith, length-cut))
-        ∙ ap (λ (b : ℕ). cond (stray at (sortOf f b)) (Refused 2 at) (wholeAt f most cut at before (sortOf f b))) (byte-cut at inside)
-        ∙ ap (λ (x : Next). cond (stray at (sortOf f (byte s at))) (Refused 2 at) x) (whole-cut before (sortOf f (byte s at)))
+        ∙ ap (λ (b : ℕ). cond (stray at (formOf f b .sort)) (Refused 2 at) (takeCommand f most cut at before (formOf f b))) (byte-cut at inside)
+        ∙ ap (λ (x : Next). cond (stray at (form .sort)) (Refused 2 at) x) (sort-cut before form (omega (arith, width-in f (byte s at))) taken (form .sort))
         ∙ sym (in-room f most s at m before room inside long)
 
-    finish-cut : (n : ℕ) (gs os : List ℕ) → finish f cut at n gs os ≡ finish f s at n gs os
-    unfolding width operandsFrom
-    finish-cut n gs os = finish-more f cut at n gs os (omega (arith, length-cut)) ∙ sym (finish-more f s at n gs os (omega arith))
+    finish-cut : (p : Places) → finish f cut at p ≡ finish f s at p
+    finish-cut p = finish-more f cut at p (omega (arith, length-cut, width-gate f)) ∙ sym (finish-more f s at p (omega (arith, width-gate f)))
 
-  -- the place of a command, after the gates and outputs before it
-  abbrev Near : ℕ → List ℕ → List ℕ → Type 0
-  Near at gs os = at ≤ 2 + width f sort.Gate * length gs + width f sort.Output * length os
+  near-room : (at : ℕ) (p : Places) → Near f most at (countsOf p) → at + widthFor f sort.Gate ≤ m
+  near-room at p h = omega (arith, near-far f most h)
 
-  near-gate : (at : ℕ) (gs os : List ℕ) → Near at gs os → Near (at + width f sort.Gate) (gs ++ (at ∷ [])) os
-  near-gate at gs os h = rw (length-append gs (at ∷ [])) (omega arith)
+  noted-cut : (at : ℕ) (p : Places) (c : Sort) → at + widthFor f sort.Gate ≤ m → noted c cut at p ≡ noted c s at p
+  unfolding noted
+  noted-cut at p sort.Inputs room = rw (byte-cut (at + 1) (omega (arith, width-gate f)))
+  noted-cut at p sort.Gate room = refl
+  noted-cut at p sort.Output room = refl
+  noted-cut at p sort.End room = refl
+  noted-cut at p sort.Unknown room = refl
 
-  near-output : (at : ℕ) (gs os : List ℕ) → Near at gs os → Near (at + width f sort.Output) gs (os ++ (at ∷ []))
-  near-output at gs os h = rw (length-append os (at ∷ [])) (omega arith)
-
-  near-room : (at : ℕ) (gs os : List ℕ) → Near at gs os → length gs ≤ most .gates → length os ≤ most .outputs → at + width f sort.Gate ≤ m
-  near-room at gs os h few thin = omega (arith, mul-le-mul-left (width f sort.Gate) few, mul-le-mul-left (width f sort.Output) thin)
-
-  abbrev Same : (ℕ → ℕ → List ℕ → List ℕ → Reading) → (ℕ → ℕ → List ℕ → List ℕ → Reading) → ℕ → Type 0
-  Same go go′ from = (at n : ℕ) (gs os : List ℕ) → from ≤ at → Near at gs os → length gs ≤ most .gates → length os ≤ most .outputs → go at n gs os ≡ go′ at n gs os
+  abbrev Same : (ℕ → Places → Reading) → (ℕ → Places → Reading) → ℕ → Type 0
+  Same go go′ from = (at : ℕ) (p : Places) → from ≤ at → Near f most at (countsOf p) → go at p ≡ go′ at p
 
   -- after a command that was read both readings go on alike
-  command-cut : (go go′ : ℕ → ℕ → List ℕ → List ℕ → Reading) (at n : ℕ) (gs os : List ℕ) → Same go go′ (suc at) → Near at gs os → length gs ≤ most .gates → length os ≤ most .outputs →
-      (c : Sort) (next : ℕ) → next ≡ at + width f c → There f most s at (countsOf n gs os) c → onCommand go f cut at c next n gs os ≡ onCommand go′ f s at c next n gs os
-  unfolding onCommand countsOf stray width operandsFrom
-  command-cut go go′ at n gs os later near few thin sort.Inputs next a t =
-      let first : at ≡ 0 = eqb-true at 0 (not-false (eqb at 0) (t .ordered)) in
-      let b = byte-cut (at + 1) (omega (arith, near-room at gs os near few thin)) in
-      rw b (later next (byte s (at + 1)) gs os (omega (arith, width-inputs f)) (omega (arith, width-inputs f)) few thin)
-  command-cut go go′ at n gs os later near few thin sort.Gate next a t =
-      later next n (gs ++ (at ∷ [])) os (omega arith) (rw a (near-gate at gs os near)) (omega (arith, length-append gs (at ∷ []), t .taken .0)) thin
-  command-cut go go′ at n gs os later near few thin sort.Output next a t =
-      later next n gs (os ++ (at ∷ [])) (omega arith) (rw a (near-output at gs os near)) few (omega (arith, length-append os (at ∷ []), t .taken))
-  command-cut go go′ at n gs os later near few thin sort.End next a t = finish-cut at (near-room at gs os near few thin) n gs os
-  command-cut go go′ at n gs os later near few thin sort.Unknown next a t = refl
+  module _ (go go′ : ℕ → Places → Reading) (at : ℕ) (p : Places) (later : Same go go′ (suc at)) (near : Near f most at (countsOf p)) where
+    goes-on : (c : Sort) (next : Cursor) → next .at ≡ at + widthFor f c → There f most s at (countsOf p) c → isSort sort.End c ≡ false →
+        go (next .at) (noted c cut at p) ≡ go′ (next .at) (noted c s at p)
+    goes-on c next a t more =
+        rw (a, noted-cut at p c (near-room at p near))
+        (later (at + widthFor f c) (noted c s at p) (omega (arith, rw (t .command) at (width-in f (byte s at)))) (near-noted f most s at p c more near t))
 
-  read-cut : (fuel fuel′ at n : ℕ) (gs os : List ℕ) → m < at + fuel → length s < at + fuel′ → Near at gs os → length gs ≤ most .gates → length os ≤ most .outputs → readFrom fuel f most cut at n gs os ≡ readFrom fuel′ f most s at n gs os
+    command-cut : (c : Sort) (next : Cursor) → next .at ≡ at + widthFor f c → There f most s at (countsOf p) c → onNext go f cut at p (Command c next) ≡ onNext go′ f s at p (Command c next)
+    unfolding onNext
+    command-cut sort.Inputs next a t = goes-on sort.Inputs next a t refl
+    command-cut sort.Gate next a t = goes-on sort.Gate next a t refl
+    command-cut sort.Output next a t = goes-on sort.Output next a t refl
+    command-cut sort.End next a t = finish-cut at (near-room at p near) p
+    command-cut sort.Unknown next a t = goes-on sort.Unknown next a t refl
+
+  read-cut : (fuel fuel′ at : ℕ) (p : Places) → m < at + fuel → length s < at + fuel′ → Near f most at (countsOf p) → readFrom fuel f most cut at p ≡ readFrom fuel′ f most s at p
   unfolding readFrom onNext
-  read-cut zero fuel′ at n gs os l l′ near few thin = absurd (omega (arith, near-room at gs os near few thin))
-  read-cut (suc fuel) zero at n gs os l l′ near few thin = absurd (omega (arith, near-room at gs os near few thin))
-  read-cut (suc fuel) (suc fuel′) at n gs os l l′ near few thin =
-      rw (next-cut at (near-room at gs os near few thin) (countsOf n gs os))
-      (go (λ at′ n′ gs′ os′ up near′ few′ thin′. read-cut fuel fuel′ at′ n′ gs′ os′ (omega arith) (omega arith) near′ few′ thin′) (nextAt f most s at (countsOf n gs os)) refl)
+  read-cut zero fuel′ at p l l′ near = absurd (omega (arith, near-room at p near))
+  read-cut (suc fuel) zero at p l l′ near = absurd (omega (arith, near-room at p near))
+  read-cut (suc fuel) (suc fuel′) at p l l′ near =
+      rw (next-cut at (near-room at p near) (countsOf p))
+      (go (λ at′ p′ up near′. read-cut fuel fuel′ at′ p′ (omega arith) (omega arith) near′) (nextAt f most s at (countsOf p)) refl)
     where
-      go : Same (readFrom fuel f most cut) (readFrom fuel′ f most s) (suc at) → (x : Next) → nextAt f most s at (countsOf n gs os) ≡ x → onNext (readFrom fuel f most cut) f cut at x n gs os ≡ onNext (readFrom fuel′ f most s) f s at x n gs os
-      go later (Refused number place) p = refl
-      go later (Command c next) p =
-          let t = next-there f most s at (countsOf n gs os) c next p in
-          command-cut (readFrom fuel f most cut) (readFrom fuel′ f most s) at n gs os later near few thin c (next .at) (t .0) (t .1)
+      go : Same (readFrom fuel f most cut) (readFrom fuel′ f most s) (suc at) → (x : Next) → nextAt f most s at (countsOf p) ≡ x →
+          onNext (readFrom fuel f most cut) f cut at p x ≡ onNext (readFrom fuel′ f most s) f s at p x
+      go later (Refused number place) is = refl
+      go later (Command c next) is =
+          let t = next-there f most s at (countsOf p) c next is in
+          command-cut (readFrom fuel f most cut) (readFrom fuel′ f most s) at p later near c next (t .0) (t .1)
 
 -- the reading of a file is that of its first m bytes
 pub readFile-take : (f : File) (most : Limits) (s : List ℕ) (m : ℕ) → farthest f most ≤ m → readFile f most (take m s) ≡ readFile f most s
 unfolding readFile
 readFile-take f most s m far = go (decLt m (length s))
   where
-    go : Dec (m < length s) → readFrom (suc (length (take m s))) f most (take m s) 0 0 [] [] ≡ readFrom (suc (length s)) f most s 0 0 [] []
-    go (no h) = ap (λ (l : List ℕ). readFrom (suc (length l)) f most l 0 0 [] []) (take-all m s (omega arith))
-    go (yes h) = read-cut f most s m far (omega arith) (suc (length (take m s))) (suc (length s)) 0 0 [] [] (omega (arith, length-take-le m s (omega arith))) (omega arith) (omega arith) (omega arith) (omega arith)
+    go : Dec (m < length s) → readFrom (suc (length (take m s))) f most (take m s) 0 noPlaces ≡ readFrom (suc (length s)) f most s 0 noPlaces
+    go (no h) = ap (λ (l : List ℕ). readFrom (suc (length l)) f most l 0 noPlaces) (take-all m s (omega arith))
+    go (yes h) =
+        read-cut f most s m far (omega arith) (suc (length (take m s))) (suc (length s)) 0 noPlaces (omega (arith, length-take-le m s (omega arith))) (omega arith)
+        (near-start f most)
 
--- the program reads at most 8,192 bytes of each file
-pub stage-cut : (s : List ℕ) → readFile file.Stage stageLimits (take 8192 s) ≡ readFile file.Stage stageLimits s
-unfolding width operandsFrom operandCount
-stage-cut s = readFile-take file.Stage stageLimits s 8192 (omega arith)
+pub stage-cut : (s : List ℕ) → readFile file.Stage stageLimits (take mostBytes s) ≡ readFile file.Stage stageLimits s
+unfolding commandTable ownCommands formIn
+stage-cut s = readFile-take file.Stage stageLimits s mostBytes (omega arith)
 
-pub reference-cut : (s : List ℕ) → readFile file.Reference referenceLimits (take 8192 s) ≡ readFile file.Reference referenceLimits s
-unfolding width operandsFrom operandCount
-reference-cut s = readFile-take file.Reference referenceLimits s 8192 (omega arith)
+pub reference-cut : (s : List ℕ) → readFile file.Reference referenceLimits (take mostBytes s) ≡ readFile file.Reference referenceLimits s
+unfolding commandTable ownCommands formIn
+reference-cut s = readFile-take file.Reference referenceLimits s mostBytes (omega arith)

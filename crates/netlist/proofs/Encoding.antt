@@ -1,90 +1,114 @@
--- Which byte stands for which command, and how many operands a kind or an operation needs.
+-- What the command table says of every byte, and how many operands a kind or an operation needs.
 -- Assumes nothing.
-use Prim.Native.Nat.{ℕ, zero, suc, _+_, _-_, _≤_, _<_}
+use Prim.Native.Nat.{ℕ, zero, suc, _+_, _-_, _*_, _≤_, _<_}
 use native.Mathlib.Omega.{arith}
 use native.Mathlib.Decide.{ℕ-discrete, decLt}
-use mathlib.Core.Path.{_≡_, refl}
+use mathlib.Core.Path.{_≡_, refl, ap, _∙_}
 use mathlib.Core.Bool.{false}
-use mathlib.Core.List.{[], _∷_}
-use lib.ListN.{getD}
+use mathlib.Core.List.{List, [], _∷_}
 use lib.Dec.{T, leb, leb→le}
 use borrow.Author.Tests.{eq-eqb, ne-eqb}
 use Rattle.gates.specs.Cell.{cells, cellAt, pinCount}
 use Rattle.gates.proofs.Every.{every, every-at}
 use Rattle.gates.proofs.Ranges.{kind-known, kind-unknown}
-use Rattle.netlist.specs.declared.File.{File}
-use Rattle.netlist.specs.declared.File.the-variants as file
-use Rattle.netlist.specs.declared.Sort.{Sort}
-use Rattle.netlist.specs.declared.Sort.the-variants as sort
-use Rattle.netlist.specs.Commands.{sortOf, operandCount, operandsFrom, width, pinsNeeded, needed, stray}
-use Rattle.netlist.specs.Writing.{gateByte, outputByte}
+use Rattle.netlist.specs.Types.{File, Sort, Number, Form}
+use Rattle.netlist.specs.Types.file
+use Rattle.netlist.specs.Types.sort
+use Rattle.netlist.specs.Commands.{asForm, commandTable, ownCommands, formIn, formOf, width, isSort, pinsNeeded, needed}
+use Rattle.netlist.specs.Writing.{commandByte, formFor, widthFor, operandCount, roleFor, All}
 
--- ---- commands
+-- two constructors are never equal: `cc` makes 0 ≡ 1 of it
+pub clash : _≡_ {A = ℕ} 0 1 → ⊥
+clash e = omega arith
 
-abbrev pub IsByteOf : File → Sort → ℕ → Type 0
-IsByteOf f sort.End b = b ≡ 0
-IsByteOf f sort.Inputs b = b ≡ 1
-IsByteOf f sort.Gate b = b ≡ gateByte f
-IsByteOf f sort.Output b = b ≡ outputByte f
-IsByteOf f sort.Unknown b = Unit {0}
+-- ---- the command table
 
-pub sort-byte : (f : File) (b : ℕ) → IsByteOf f (sortOf f b) b
-unfolding sortOf
-sort-byte file.Stage zero = refl
-sort-byte file.Stage (suc zero) = refl
-sort-byte file.Stage (suc (suc zero)) = refl
-sort-byte file.Stage (suc (suc (suc zero))) = refl
-sort-byte file.Stage (suc (suc (suc (suc b)))) = tt
-sort-byte file.Reference b = go (ℕ-discrete b 0x11) (ℕ-discrete b 0x12)
+-- what holds of each row, and of what stands for no command, holds of the row of a byte
+pub table-all : (P : ℕ → Form → Type 0) → ((b : ℕ) → P b (asForm sort.Unknown 1 0 Number)) →
+    (rs : List (ℕ × Form)) → All (λ r. P (r .0) (r .1)) rs → (b : ℕ) → P b (formIn rs b)
+unfolding formIn
+table-all P u [] h b = u b
+table-all P u (r ∷ rs) h b = go (ℕ-discrete b (r .0)) (table-all P u rs (h .1) b)
   where
-    low : (b : ℕ) → IsByteOf file.Reference (getD (sort.End ∷ sort.Inputs ∷ []) b sort.Unknown) b
-    low zero = refl
-    low (suc zero) = refl
-    low (suc (suc b)) = tt
+    go : Dec (b ≡ r .0) → P b (formIn rs b) → P b (formIn (r ∷ rs) b)
+    go (yes e) l = rw (eq-eqb b (r .0) e, e) (h .0)
+    go (no d) l = rw (ne-eqb b (r .0) d) l
 
-    go : Dec (b ≡ 0x11) → Dec (b ≡ 0x12) → IsByteOf file.Reference (sortOf file.Reference b) b
-    go (yes e) d = rw (eq-eqb b 0x11 e) e
-    go (no e) (yes d) = rw (ne-eqb b 0x11 e, eq-eqb b 0x12 d) d
-    go (no e) (no d) = rw (ne-eqb b 0x11 e, ne-eqb b 0x12 d) (low b)
+-- a row is the only one of its sort in its file
+pub form-for : (f : File) (b : ℕ) → formOf f b ≡ formFor f (formOf f b .sort)
+unfolding commandTable ownCommands formIn
+form-for file.Stage = table-all (λ b form. form ≡ formFor file.Stage (form .sort)) (λ b. refl) (commandTable file.Stage) (refl, (refl, (refl, (refl, tt))))
+form-for file.Reference = table-all (λ b form. form ≡ formFor file.Reference (form .sort)) (λ b. refl) (commandTable file.Reference) (refl, (refl, (refl, (refl, tt))))
 
-pub sort-gate : (f : File) → sortOf f (gateByte f) ≡ sort.Gate
-unfolding sortOf
-sort-gate file.Stage = refl
-sort-gate file.Reference = refl
+pub sort-for : (f : File) (c : Sort) → formFor f c .sort ≡ c
+unfolding commandTable ownCommands formIn
+sort-for file.Stage sort.End = refl
+sort-for file.Stage sort.Inputs = refl
+sort-for file.Stage sort.Gate = refl
+sort-for file.Stage sort.Output = refl
+sort-for file.Stage sort.Unknown = refl
+sort-for file.Reference sort.End = refl
+sort-for file.Reference sort.Inputs = refl
+sort-for file.Reference sort.Gate = refl
+sort-for file.Reference sort.Output = refl
+sort-for file.Reference sort.Unknown = refl
 
-pub sort-output : (f : File) → sortOf f (outputByte f) ≡ sort.Output
-unfolding sortOf
-sort-output file.Stage = refl
-sort-output file.Reference = refl
+-- and only its byte stands for it
+abbrev Only : File → ℕ → Form → Type 0
+Only f b form = isSort sort.Unknown (form .sort) ≡ false → b ≡ commandByte f (form .sort)
 
-pub sort-inputs : (f : File) → sortOf f 1 ≡ sort.Inputs
-unfolding sortOf
-sort-inputs file.Stage = refl
-sort-inputs file.Reference = refl
+only-byte : (f : File) (b : ℕ) → Only f b (formOf f b)
+unfolding commandTable ownCommands
+only-byte file.Stage =
+    table-all (Only file.Stage) (λ b e. absurd (clash (cc))) (commandTable file.Stage) ((λ e. refl), ((λ e. refl), ((λ e. refl), ((λ e. refl), tt))))
+only-byte file.Reference =
+    table-all (Only file.Reference) (λ b e. absurd (clash (cc))) (commandTable file.Reference) ((λ e. refl), ((λ e. refl), ((λ e. refl), ((λ e. refl), tt))))
 
-pub sort-end : (f : File) → sortOf f 0 ≡ sort.End
-unfolding sortOf
-sort-end file.Stage = refl
-sort-end file.Reference = refl
+pub byte-for : (f : File) (b : ℕ) (c : Sort) → formOf f b ≡ formFor f c → isSort sort.Unknown c ≡ false → b ≡ commandByte f c
+byte-for f b c e known =
+    let s : formOf f b .sort ≡ c = ap (λ (x : Form). x .sort) e ∙ sort-for f c in
+    rw s at (only-byte f b (rw s known))
 
--- a command that may stand at a place has a byte
-pub width-some : (f : File) (at : ℕ) (c : Sort) → stray at c ≡ false → 1 ≤ width f c
-unfolding width operandsFrom stray
-width-some f at sort.End e = omega arith
-width-some f at sort.Inputs e = omega arith
-width-some f at sort.Gate e = omega arith
-width-some f at sort.Output e = omega arith
-width-some f at sort.Unknown e = absurd (let z : _≡_ {A = ℕ} 0 1 = cc in omega arith)
+-- the commandTable of the four sorts in either file
+pub gate-form : (f : File) → formFor f sort.Gate ≡ asForm sort.Gate 2 (operandCount f sort.Gate) (roleFor f sort.Gate)
+unfolding commandTable ownCommands formIn
+gate-form file.Stage = refl
+gate-form file.Reference = refl
 
-pub width-inputs : (f : File) → width f sort.Inputs ≡ 2
-unfolding width operandsFrom operandCount
-width-inputs file.Stage = refl
-width-inputs file.Reference = refl
+pub output-form : (f : File) → formFor f sort.Output ≡ asForm sort.Output 1 (operandCount f sort.Output) (roleFor f sort.Output)
+unfolding commandTable ownCommands formIn
+output-form file.Stage = refl
+output-form file.Reference = refl
 
-pub width-end : (f : File) → width f sort.End ≡ 1
-unfolding width operandsFrom operandCount
-width-end file.Stage = refl
-width-end file.Reference = refl
+pub inputs-form : (f : File) → formFor f sort.Inputs ≡ asForm sort.Inputs 2 0 Number
+unfolding commandTable ownCommands formIn
+inputs-form f = refl
+
+pub end-form : (f : File) → formFor f sort.End ≡ asForm sort.End 1 0 Number
+unfolding commandTable ownCommands formIn
+end-form f = refl
+
+module _ (f : File) where
+  pub width-gate : widthFor f sort.Gate ≡ 2 + 2 * operandCount f sort.Gate
+  width-gate = ap width (gate-form f)
+
+  pub width-output : widthFor f sort.Output ≡ 1 + 2 * operandCount f sort.Output
+  width-output = ap width (output-form f)
+
+  pub width-inputs : widthFor f sort.Inputs ≡ 2
+  width-inputs = ap width (inputs-form f)
+
+  pub width-end : widthFor f sort.End ≡ 1
+  width-end = ap width (end-form f)
+
+-- every command has a byte, and none is wider than a gate
+abbrev Sized : File → Form → Type 0
+Sized f form = (1 ≤ width form) × (width form ≤ widthFor f sort.Gate)
+
+pub width-in : (f : File) (b : ℕ) → Sized f (formOf f b)
+unfolding commandTable ownCommands formIn
+width-in file.Stage = table-all (λ b form. Sized file.Stage form) (λ b. omega arith) (commandTable file.Stage) (omega arith, (omega arith, (omega arith, (omega arith, tt))))
+width-in file.Reference = table-all (λ b form. Sized file.Reference form) (λ b. omega arith) (commandTable file.Reference) (omega arith, (omega arith, (omega arith, (omega arith, tt))))
 
 -- ---- kinds and operations
 
@@ -134,7 +158,7 @@ operation-needs (suc (suc (suc (suc (suc (suc (suc c))))))) = omega arith
 
 -- what is needed has room
 pub needed-in : (f : File) (c : ℕ) → needed f c ≤ operandCount f sort.Gate
-unfolding operandCount
+unfolding commandTable ownCommands formIn
 needed-in file.Stage c = go (decLt 0 (needed file.Stage c))
   where
     go : Dec (0 < needed file.Stage c) → needed file.Stage c ≤ 4

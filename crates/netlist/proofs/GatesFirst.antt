@@ -3,17 +3,16 @@
 -- Assumes nothing.
 use Prim.Native.Nat.{ℕ, zero, suc, _+_, _≤_, _<_}
 use native.Mathlib.Omega.{arith}
-use mathlib.Core.Path.{_≡_, refl, sym, ap, ap₂, subst₂, _∙_}
+use mathlib.Core.Path.{_≡_, refl, sym, ap, ap₂, subst, _∙_}
 use mathlib.Core.List.{List, [], _∷_, _++_, map, map-map}
 use lib.ListN.{length, getD}
-use Rattle.netlist.specs.declared.File.{File}
-use Rattle.netlist.specs.declared.Sort.the-variants as sort
-use Rattle.netlist.specs.declared.Limits.{Limits}
-use Rattle.netlist.specs.Commands.{width}
-use Rattle.netlist.specs.Reading.{readFile, readable}
-use Rattle.netlist.specs.Content.{Circuit, Coded, codedAt, Gate}
-use Rattle.netlist.specs.Writing.{Item, gate, output, gatesIn, outputsIn, gatePlaces, outputPlaces, writeFile, All, FileFits}
+use Rattle.netlist.specs.Types.{File, Limits}
+use Rattle.netlist.specs.Types.sort
+use Rattle.netlist.specs.Reading.{Places, readFile, readable}
+use Rattle.netlist.specs.Content.{Circuit, Coded, codedAt}
+use Rattle.netlist.specs.Writing.{widthFor, Item, gate, output, gatesIn, outputsIn, gatePlaces, outputPlaces, writeFile, All, FileFits}
 use Rattle.netlist.proofs.Lists.{Bytes, map-back, map-again}
+use Rattle.netlist.proofs.Encoding.{width-output}
 use Rattle.netlist.proofs.Laid.{wiredAt, length-gatePlaces}
 use Rattle.netlist.proofs.ReadBack.{gates-write, outputs-write, write-read}
 use Rattle.netlist.proofs.Formed.{GatesFormed, OutputFormed, readable-formed}
@@ -27,8 +26,8 @@ GatesFirst gs os = (k j : ℕ) → k < length gs → j < length os → getD gs k
 places-from : (f : File) (at : ℕ) (items : List Item) (k : ℕ) → k < length (gatePlaces f at items) → at ≤ getD (gatePlaces f at items) k 0
 places-from f at [] k l = absurd (omega arith)
 places-from f at (gate c ∷ items) zero l = omega arith
-places-from f at (gate c ∷ items) (suc k) l = omega (arith, places-from f (at + width f sort.Gate) items k (omega arith))
-places-from f at (output vs ∷ items) k l = omega (arith, places-from f (at + width f sort.Output) items k l)
+places-from f at (gate c ∷ items) (suc k) l = omega (arith, places-from f (at + widthFor f sort.Gate) items k (omega arith))
+places-from f at (output vs ∷ items) k l = omega (arith, places-from f (at + widthFor f sort.Output) items k l)
 
 only-outputs : (items : List Item) → gatesIn items ≡ [] → items ≡ map output (outputsIn items)
 only-outputs [] e = refl
@@ -37,17 +36,17 @@ only-outputs (output vs ∷ items) e = ap {B = List Item} (λ l. output vs ∷ l
 
 pub gates-first : (f : File) (at : ℕ) (items : List Item) → GatesFirst (gatePlaces f at items) (outputPlaces f at items) → items ≡ map gate (gatesIn items) ++ map output (outputsIn items)
 gates-first f at [] h = refl
-gates-first f at (gate c ∷ items) h = ap {B = List Item} (λ l. gate c ∷ l) (gates-first f (at + width f sort.Gate) items (λ k j a b. h (suc k) j (omega arith) b))
+gates-first f at (gate c ∷ items) h = ap {B = List Item} (λ l. gate c ∷ l) (gates-first f (at + widthFor f sort.Gate) items (λ k j a b. h (suc k) j (omega arith) b))
 gates-first f at (output vs ∷ items) h = go (gatesIn items) refl
   where
     later : ℕ
-    later = at + width f sort.Output
+    later = at + widthFor f sort.Output
 
     go : (cs : List Coded) → gatesIn items ≡ cs → output vs ∷ items ≡ map gate (gatesIn items) ++ map output (vs ∷ outputsIn items)
     go [] e = rw e (ap {B = List Item} (λ l. output vs ∷ l) (only-outputs items e))
     go (c ∷ cs) e =
         let some : 0 < length (gatePlaces f later items) = omega (arith, length-gatePlaces f later items, ap length e) in
-        absurd (omega (arith, places-from f later items 0 some, h 0 0 some (omega arith)))
+        absurd (omega (arith, places-from f later items 0 some, width-output f, h 0 0 some (omega arith)))
 
 -- ---- contents with gates G and outputs O: to them from coded gates and lists of operands, and back
 
@@ -65,32 +64,37 @@ module _ {G O : Type 0} (toG : Coded → G) (fromG : G → Coded) (toO : List �
   outputsIn-items [] (o ∷ os) = ap {B = List (List ℕ)} (λ l. fromO o ∷ l) (outputsIn-items [] os)
   outputsIn-items (g ∷ gs) os = outputsIn-items gs os
 
-  module _ (f : File) (most : Limits) (n : ℕ) where
+  module _ (f : File) (most : Limits) where
     -- a content that is written is what its places show
-    module _ (gs : List G) (os : List O) (fits : FileFits f most n (itemsOf gs os)) where
-      abbrev pub written : List ℕ
-      written = writeFile f n (itemsOf gs os)
+    module _ (n : ℕ) (gs : List G) (os : List O) (fits : FileFits f most n (itemsOf gs os)) where
+      pub gates-back : All (λ g. toG (fromG g) ≡ g) gs → map (λ p. toG (codedAt f (writeFile f n (itemsOf gs os)) p)) (gatePlaces f 2 (itemsOf gs os)) ≡ gs
+      gates-back h =
+          sym (map-map toG (codedAt f (writeFile f n (itemsOf gs os))) (gatePlaces f 2 (itemsOf gs os)))
+          ∙ ap (map toG) (gates-write f most n (itemsOf gs os) fits ∙ gatesIn-items gs os)
+          ∙ map-back toG fromG gs h
 
-      pub gates-back : All (λ g. toG (fromG g) ≡ g) gs → map (λ p. toG (codedAt f written p)) (gatePlaces f 2 (itemsOf gs os)) ≡ gs
-      gates-back h = sym (map-map toG (codedAt f written) (gatePlaces f 2 (itemsOf gs os))) ∙ ap (map toG) (gates-write f most n (itemsOf gs os) fits ∙ gatesIn-items gs os) ∙ map-back toG fromG gs h
-
-      pub outputs-back : All (λ o. toO (fromO o) ≡ o) os → map (λ p. toO (wiredAt f written p)) (outputPlaces f 2 (itemsOf gs os)) ≡ os
-      outputs-back h = sym (map-map toO (wiredAt f written) (outputPlaces f 2 (itemsOf gs os))) ∙ ap (map toO) (outputs-write f most n (itemsOf gs os) fits ∙ outputsIn-items gs os) ∙ map-back toO fromO os h
+      pub outputs-back : All (λ o. toO (fromO o) ≡ o) os → map (λ p. toO (wiredAt f (writeFile f n (itemsOf gs os)) p)) (outputPlaces f 2 (itemsOf gs os)) ≡ os
+      outputs-back h =
+          sym (map-map toO (wiredAt f (writeFile f n (itemsOf gs os))) (outputPlaces f 2 (itemsOf gs os)))
+          ∙ ap (map toO) (outputs-write f most n (itemsOf gs os) fits ∙ outputsIn-items gs os)
+          ∙ map-back toO fromO os h
 
     -- bytes that are readable, with the gates first, are what writing their content gives
-    module _ (s : List ℕ) (small : Bytes s) (gs os : List ℕ) (e : readFile f most s ≡ readable n gs os) (first : GatesFirst gs os) where
-      pub write-back : ((cs : List Coded) → GatesFormed f n (length gs) 0 cs → All (λ c. fromG (toG c) ≡ c) cs) → ((vss : List (List ℕ)) → All (OutputFormed f n (length gs)) vss → All (λ vs. fromO (toO vs) ≡ vs) vss) →
-          s ≡ writeFile f n (itemsOf (map (λ p. toG (codedAt f s p)) gs) (map (λ p. toO (wiredAt f s p)) os))
+    module _ (s : List ℕ) (small : Bytes s) (p : Places) (e : readFile f most s ≡ readable p) (first : GatesFirst (p .gates) (p .outputs)) where
+      pub write-back :
+          ((cs : List Coded) → GatesFormed f (p .inputs) (length (p .gates)) 0 cs → All (λ c. fromG (toG c) ≡ c) cs) →
+          ((vss : List (List ℕ)) → All (OutputFormed f (p .inputs) (length (p .gates))) vss → All (λ vs. fromO (toO vs) ≡ vs) vss) →
+          s ≡ writeFile f (p .inputs) (itemsOf (map (λ at. toG (codedAt f s at)) (p .gates)) (map (λ at. toO (wiredAt f s at)) (p .outputs)))
       write-back codes wires =
-          let h = write-read f most s n gs os e in
-          let formed = readable-formed f most s n gs os e in
-          let ordered : GatesFirst (gatePlaces f 2 (h .items)) (outputPlaces f 2 (h .items)) = subst₂ GatesFirst (h .gate-places) (h .output-places) first in
+          let h = write-read f most s p e in
+          let formed = readable-formed f most s p e in
+          let ordered = subst (λ (x : Places). GatesFirst (x .gates) (x .outputs)) (h .item-places) first in
           h .bytes small
-          ∙ ap (writeFile f n)
+          ∙ ap (writeFile f (p .inputs))
           (gates-first f 2 (h .items) ordered
           ∙ sym (ap₂ (λ (x y : List Item). x ++ y)
-          (map-again gate fromG toG (codedAt f s) gs (codes (map (codedAt f s) gs) (formed .0)) ∙ ap (map gate) (h .gates))
-          (map-again output fromO toO (wiredAt f s) os (wires (map (wiredAt f s) os) (formed .1)) ∙ ap (map output) (h .outputs))))
+          (map-again gate fromG toG (codedAt f s) (p .gates) (codes (map (codedAt f s) (p .gates)) (formed .0)) ∙ ap (map gate) (h .gates))
+          (map-again output fromO toO (wiredAt f s) (p .outputs) (wires (map (wiredAt f s) (p .outputs)) (formed .1)) ∙ ap (map output) (h .outputs))))
 
 abbrev pub circuit : {G O : Type 0} → ℕ → List G → List O → Circuit G O
 circuit n gs os = record { inputs = n; gates = gs; outputs = os }

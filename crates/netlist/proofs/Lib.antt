@@ -4,8 +4,8 @@ pub mod Encoding
 pub mod OneCommand
 pub mod Laid
 pub mod Walk
-pub mod ReadBack
 pub mod Readable
+pub mod ReadBack
 pub mod Formed
 pub mod GatesFirst
 pub mod Stages

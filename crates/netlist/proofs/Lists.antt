@@ -39,6 +39,7 @@ map-back g f [] h = refl
 map-back {X} g f (x ∷ xs) h = ap₂ {C = List X} (λ y l. y ∷ l) (h .0) (map-back g f xs (h .1))
 
 -- writing what the places show is writing what they were shown from
-pub map-again : {X Y Z : Type 0} (i : Y → Z) (from : X → Y) (to : Y → X) (view : ℕ → Y) (ps : List ℕ) → All (λ y. from (to y) ≡ y) (map view ps) → map (λ x. i (from x)) (map (λ p. to (view p)) ps) ≡ map i (map view ps)
+pub map-again : {X Y Z : Type 0} (i : Y → Z) (from : X → Y) (to : Y → X) (view : ℕ → Y) (ps : List ℕ) →
+    All (λ y. from (to y) ≡ y) (map view ps) → map (λ x. i (from x)) (map (λ p. to (view p)) ps) ≡ map i (map view ps)
 map-again i from to view [] h = refl
 map-again {Z} i from to view (p ∷ ps) h = ap₂ {C = List Z} (λ y l. i y ∷ l) (h .0) (map-again i from to view ps (h .1))

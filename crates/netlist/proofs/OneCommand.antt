@@ -2,122 +2,117 @@
 -- Assumes nothing.
 use Prim.Native.Nat.{ℕ, _+_, _≤_, _<_}
 use native.Mathlib.Omega.{arith}
-use mathlib.Core.Path.{_≡_, refl, sym, ap, subst}
+use mathlib.Core.Path.{_≡_, refl, sym, ap, subst, subst₂, _∙_}
 use mathlib.Core.Bool.{Bool, true, false, cond, _&&_}
 use mathlib.Core.List.{List}
 use lib.ListN.{length}
 use lib.Dec.{eqb, leb, ltb}
 use borrow.Author.Tests.{le-leb, lt-leb, le-ltb, ne-eqb, leb-true, leb-false, ltb-false, eqb-false}
-use Rattle.netlist.specs.declared.File.{File}
-use Rattle.netlist.specs.declared.Sort.{Sort}
-use Rattle.netlist.specs.declared.Sort.the-variants as sort
-use Rattle.netlist.specs.declared.Limits.{Limits}
-use Rattle.netlist.specs.declared.Counts.{Counts}
-use Rattle.netlist.specs.declared.Cursor.{Cursor}
-use Rattle.netlist.specs.declared.Next.{Next}
-use Rattle.netlist.specs.declared.Next.the-variants.{Command, Refused}
-use Rattle.netlist.specs.declared.Found.{Found}
-use Rattle.netlist.specs.declared.Found.the-variants.{At, Nothing}
+use Rattle.netlist.specs.Types.{File, Sort, Form, Limits, Counts, Cursor, Next, Command, Refused, Found, At, Nothing}
+use Rattle.netlist.specs.Types.sort
 use Rattle.netlist.specs.Bytes.{byte}
-use Rattle.netlist.specs.Commands.{sortOf, operandCount, width, needed, stray, inputsAt, misfitFrom, unlessMisfit, gateAt, outputAt, wholeAt, nextAt}
-use Rattle.netlist.proofs.Encoding.{width-some, width-inputs, width-end}
+use Rattle.netlist.specs.Commands.{whenFound, formOf, width, needed, stray, misfitFrom, takeGate, takeSort, takeCommand, nextAt}
+use Rattle.netlist.specs.Writing.{formFor, widthFor}
+use Rattle.netlist.proofs.Encoding.{clash, form-for, sort-for, width-in}
 
--- two constructors are never equal: `cc` makes 0 ≡ 1 of it
-pub clash : _≡_ {A = ℕ} 0 1 → ⊥
-clash e = omega arith
+-- ---- tests that were passed
 
--- ---- one command
+module _ {k : Sort} {next : Cursor} where
+  passed : (x : Bool) (number place : ℕ) {later : Next} → cond x (Refused number place) later ≡ Command k next → (x ≡ false) × (later ≡ Command k next)
+  passed true number place e = absurd (clash (cc))
+  passed false number place e = (refl, e)
 
--- what the reader asks of a command of a sort, all of whose bytes are there
-abbrev pub Taken : File → Limits → List ℕ → ℕ → Counts → Sort → Type 0
-Taken f most s at before sort.Inputs = (1 ≤ byte s (at + 1)) × (byte s (at + 1) ≤ most .inputs)
-Taken f most s at before sort.Gate =
-    (before .gates < most .gates)
-    × (1 ≤ needed f (byte s (at + 1)))
-    × (misfitFrom (needed f (byte s (at + 1))) 0 s (at + 2) (operandCount f sort.Gate) ≡ Nothing)
-Taken f most s at before sort.Output = before .outputs < most .outputs
-Taken f most s at before sort.End = Unit {0}
-Taken f most s at before sort.Unknown = ⊥
+  met : (x : Bool) (number place : ℕ) {later : Next} → cond x later (Refused number place) ≡ Command k next → (x ≡ true) × (later ≡ Command k next)
+  met true number place e = (refl, e)
+  met false number place e = absurd (clash (cc))
 
--- it stands there, where it may stand, with all of its bytes
-pub record There (f : File) (most : Limits) (s : List ℕ) (at : ℕ) (before : Counts) (c : Sort) : Type 0 where
-  pub command : sortOf f (byte s at) ≡ c
-  pub ordered : stray at c ≡ false
-  pub room : at + width f c ≤ length s
-  pub taken : Taken f most s at before c
-
--- three tests that were passed
-tests : (x y z : Bool) (p q r : ℕ) (a b d : ℕ) (w : Next) (k : Sort) (next : Cursor) → cond x (Refused a p) (cond y (Refused b q) (cond z (Refused d r) w)) ≡ Command k next → (x ≡ false) × (y ≡ false) × (z ≡ false) × (w ≡ Command k next)
-tests true y z p q r a b d w k next e = absurd (clash (cc))
-tests false true z p q r a b d w k next e = absurd (clash (cc))
-tests false false true p q r a b d w k next e = absurd (clash (cc))
-tests false false false p q r a b d w k next e = (refl, refl, refl, e)
+  fitted : (x : Found) {later : Next} → whenFound x (Refused 5) later ≡ Command k next → (x ≡ Nothing) × (later ≡ Command k next)
+  unfolding whenFound
+  fitted (At p) e = absurd (clash (cc))
+  fitted Nothing e = (refl, e)
 
 &&-both : (x y : Bool) → (x && y) ≡ true → (x ≡ true) × (y ≡ true)
 &&-both true y e = (refl, e)
 &&-both false y e = absurd (clash (cc))
 
+-- ---- one command
+
+-- what the reader asks of a command of a sort, all of whose bytes are there, beside what its row says
+abbrev pub Taken : File → Limits → List ℕ → ℕ → Counts → Form → Sort → Type 0
+Taken f most s at before form sort.Inputs = (1 ≤ byte s (at + 1)) × (byte s (at + 1) ≤ most .inputs)
+Taken f most s at before form sort.Gate =
+    (before .gates < most .gates)
+    × (1 ≤ needed f (byte s (at + 1)))
+    × (misfitFrom (needed f (byte s (at + 1))) 0 s (at + form .lead) (form .operands) ≡ Nothing)
+Taken f most s at before form sort.Output = before .outputs < most .outputs
+Taken f most s at before form sort.End = Unit {0}
+Taken f most s at before form sort.Unknown = Unit {0}
+
+-- it stands there, where it may stand, with all of its bytes
+pub record There (f : File) (most : Limits) (s : List ℕ) (at : ℕ) (before : Counts) (c : Sort) : Type 0 where
+  pub command : formOf f (byte s at) ≡ formFor f c
+  pub ordered : stray at c ≡ false
+  pub room : at + widthFor f c ≤ length s
+  pub taken : Taken f most s at before (formFor f c) c
+
 module _ (f : File) (most : Limits) (s : List ℕ) (at : ℕ) (before : Counts) where
+  module _ (form : Form) {later : Next} where
+    sort-taken : {k : Sort} {next : Cursor} (c : Sort) → takeSort f most s at before form later c ≡ Command k next → (later ≡ Command k next) × Taken f most s at before form c
+    unfolding takeSort takeGate
+    sort-taken sort.Inputs e =
+        let t = met (leb 1 (byte s (at + 1)) && leb (byte s (at + 1)) (most .inputs)) 3 (at + 1) e in
+        let b = &&-both (leb 1 (byte s (at + 1))) (leb (byte s (at + 1)) (most .inputs)) (t .0) in
+        (t .1, (leb-true 1 (byte s (at + 1)) (b .0), leb-true (byte s (at + 1)) (most .inputs) (b .1)))
+    sort-taken sort.Gate e =
+        let room = passed (leb (most .gates) (before .gates)) 6 at e in
+        let known = passed (eqb (needed f (byte s (at + 1))) 0) 4 (at + 1) (room .1) in
+        let fit = fitted (misfitFrom (needed f (byte s (at + 1))) 0 s (at + form .lead) (form .operands)) (known .1) in
+        let some = eqb-false (needed f (byte s (at + 1))) 0 (known .0) in
+        (fit .1, (leb-false (most .gates) (before .gates) (room .0), omega arith, fit .0))
+    sort-taken sort.Output e = let t = passed (leb (most .outputs) (before .outputs)) 6 at e in (t .1, leb-false (most .outputs) (before .outputs) (t .0))
+    sort-taken sort.End e = (e, tt)
+    sort-taken sort.Unknown e = (e, tt)
+
+    taken-sort : (c : Sort) → Taken f most s at before form c → takeSort f most s at before form later c ≡ later
+    unfolding takeSort takeGate whenFound
+    taken-sort sort.Inputs t = rw (le-leb 1 (byte s (at + 1)) (t .0), le-leb (byte s (at + 1)) (most .inputs) (t .1))
+    taken-sort sort.Gate t = rw (lt-leb (most .gates) (before .gates) (t .0), ne-eqb (needed f (byte s (at + 1))) 0 (λ z. omega (arith, t .1)), t .2)
+    taken-sort sort.Output t = rw (lt-leb (most .outputs) (before .outputs) t)
+    taken-sort sort.End t = refl
+    taken-sort sort.Unknown t = refl
+
   -- a command that was read is there
-  module _ (k : Sort) (next : Cursor) where
-    -- the command k that was read is of the sort c that its byte calls for
-    pub record Took (c : Sort) : Type 0 where
-      pub same : c ≡ k
-      pub after : next .at ≡ at + width f c
-      pub taken : Taken f most s at before c
-
-    took : (c : Sort) → Command c (record { at = at + width f c }) ≡ Command k next → Taken f most s at before c → Took c
-    took c e t =
-        let m : record { at = at + width f c } ≡ next = cc in
-        record { same = cc; after = sym (ap (λ (x : Cursor). x .at) m); taken = t }
-
-    whole-took : (c : Sort) → wholeAt f most s at before c ≡ Command k next → Took c
-    unfolding wholeAt inputsAt gateAt outputAt unlessMisfit
-    whole-took sort.Inputs e = go (leb 1 (byte s (at + 1)) && leb (byte s (at + 1)) (most .inputs)) refl e
-      where
-        go : (x : Bool) → (leb 1 (byte s (at + 1)) && leb (byte s (at + 1)) (most .inputs)) ≡ x → cond x (Command sort.Inputs (record { at = at + 2 })) (Refused 3 (at + 1)) ≡ Command k next → Took sort.Inputs
-        go true p q =
-            let b = &&-both (leb 1 (byte s (at + 1))) (leb (byte s (at + 1)) (most .inputs)) p in
-            took sort.Inputs (rw (width-inputs f) q) (leb-true 1 (byte s (at + 1)) (b .0), leb-true (byte s (at + 1)) (most .inputs) (b .1))
-        go false p q = absurd (clash (cc))
-    whole-took sort.Gate e = go (leb (most .gates) (before .gates)) (eqb (needed f (byte s (at + 1))) 0) (misfitFrom (needed f (byte s (at + 1))) 0 s (at + 2) (operandCount f sort.Gate)) refl refl refl e
-      where
-        go : (x y : Bool) (z : Found) → leb (most .gates) (before .gates) ≡ x → eqb (needed f (byte s (at + 1))) 0 ≡ y → misfitFrom (needed f (byte s (at + 1))) 0 s (at + 2) (operandCount f sort.Gate) ≡ z →
-            cond x (Refused 6 at) (cond y (Refused 4 (at + 1)) (unlessMisfit z (Command sort.Gate (record { at = at + width f sort.Gate })))) ≡ Command k next → Took sort.Gate
-        go true y z a b c q = absurd (clash (cc))
-        go false true z a b c q = absurd (clash (cc))
-        go false false (At p) a b c q = absurd (clash (cc))
-        go false false Nothing a b c q =
-            let some = eqb-false (needed f (byte s (at + 1))) 0 b in
-            took sort.Gate q (leb-false (most .gates) (before .gates) a, omega arith, c)
-    whole-took sort.Output e = go (leb (most .outputs) (before .outputs)) refl e
-      where
-        go : (x : Bool) → leb (most .outputs) (before .outputs) ≡ x → cond x (Refused 6 at) (Command sort.Output (record { at = at + width f sort.Output })) ≡ Command k next → Took sort.Output
-        go true a q = absurd (clash (cc))
-        go false a q = took sort.Output q (leb-false (most .outputs) (before .outputs) a)
-    whole-took sort.End e = took sort.End (rw (width-end f) e) tt
-    whole-took sort.Unknown e = absurd (clash (cc))
-
-    pub next-there : nextAt f most s at before ≡ Command k next → (next .at ≡ at + width f k) × There f most s at before k
-    unfolding nextAt
-    next-there e =
-        let c = sortOf f (byte s at) in
-        let t = tests (leb (length s) at) (stray at c) (ltb (length s) (at + width f c)) (length s) at (length s) 1 2 1 (wholeAt f most s at before c) k next e in
-        let w : Took c = whole-took c (t .3) in
-        subst (λ (x : Sort). (next .at ≡ at + width f x) × There f most s at before x) (w .same)
-        (w .after, record { command = refl; ordered = t .1; room = ltb-false (length s) (at + width f c) (t .2); taken = w .taken })
+  pub next-there : (k : Sort) (next : Cursor) → nextAt f most s at before ≡ Command k next → (next .at ≡ at + widthFor f k) × There f most s at before k
+  unfolding nextAt takeCommand
+  next-there k next e =
+      let form = formOf f (byte s at) in
+      let inside = passed (leb (length s) at) 1 (length s) e in
+      let ordered = passed (stray at (form .sort)) 2 at (inside .1) in
+      let room = passed (ltb (length s) (at + width form)) 1 (length s) (ordered .1) in
+      let taken = sort-taken form (form .sort) (room .1) in
+      let read = taken .0 in
+      let k-same : form .sort ≡ k = cc in
+      let after : record { at = at + width form } ≡ next = cc in
+      let is : form ≡ formFor f k = form-for f (byte s at) ∙ ap (formFor f) k-same in (
+        sym (ap (λ (x : Cursor). x .at) after) ∙ ap (λ (x : Form). at + width x) is,
+        record {
+          command = is;
+          ordered = rw k-same at (ordered .0);
+          room = rw is at (ltb-false (length s) (at + width form) (room .0));
+          taken = subst₂ (Taken f most s at before) is k-same (taken .1);
+        },
+      )
 
   -- and one that is there is read
-  there-whole : (c : Sort) → Taken f most s at before c → wholeAt f most s at before c ≡ Command c (record { at = at + width f c })
-  unfolding wholeAt inputsAt gateAt outputAt unlessMisfit
-  there-whole sort.Inputs t = rw (width-inputs f, le-leb 1 (byte s (at + 1)) (t .0), le-leb (byte s (at + 1)) (most .inputs) (t .1))
-  there-whole sort.Gate t = rw (lt-leb (most .gates) (before .gates) (t .0), ne-eqb (needed f (byte s (at + 1))) 0 (λ z. omega (arith, t .1)), t .2)
-  there-whole sort.Output t = rw (lt-leb (most .outputs) (before .outputs) t)
-  there-whole sort.End t = rw (width-end f)
-  there-whole sort.Unknown t = absurd t
+  command-taken : (form : Form) (c : Sort) → form .sort ≡ c → Taken f most s at before form c →
+      takeCommand f most s at before form ≡ Command c (record { at = at + width form })
+  unfolding takeCommand
+  command-taken form c e t =
+      taken-sort form (form .sort) (subst (Taken f most s at before form) (sym e) t) ∙ ap (λ (x : Sort). Command x (record { at = at + width form })) e
 
-  pub there-next : (c : Sort) → There f most s at before c → nextAt f most s at before ≡ Command c (record { at = at + width f c })
+  pub there-next : (c : Sort) → There f most s at before c → nextAt f most s at before ≡ Command c (record { at = at + widthFor f c })
   unfolding nextAt
   there-next c t =
-      let w = width-some f at c (t .ordered) in
-      rw (t .command, lt-leb (length s) at (omega (arith, t .room)), t .ordered, le-ltb (length s) (at + width f c) (t .room)) (there-whole c (t .taken))
+      let one = rw (t .command) at (width-in f (byte s at)) in
+      rw (t .command, lt-leb (length s) at (omega (arith, t .room, one)), ap (stray at) (sort-for f c) ∙ t .ordered, le-ltb (length s) (at + widthFor f c) (t .room))
+      (command-taken (formFor f c) c (sort-for f c) (t .taken))

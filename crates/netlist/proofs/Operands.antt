@@ -7,14 +7,12 @@ use mathlib.Core.Bool.{Bool, true, false, cond}
 use mathlib.Core.List.{List, [], _∷_, _++_}
 use lib.ListN.{length, drop, length-drop}
 use lib.Seq.{getD-drop, drop-drop, drop-cons, drop-at}
-use lib.Dec.{eqb}
-use borrow.Author.Tests.{lt-ltb, le-ltb, eq-eqb, ne-eqb, eqb-true, eqb-false, not-false}
-use Rattle.netlist.specs.declared.Role.{Role}
-use Rattle.netlist.specs.declared.Found.{Found}
-use Rattle.netlist.specs.declared.Found.the-variants.{At, Nothing}
+use lib.Dec.{eqb, ltb}
+use borrow.Author.Tests.{lt-ltb, le-ltb, ltb-true, eq-eqb, ne-eqb, eqb-true, eqb-false, not-false}
+use Rattle.netlist.specs.Types.{Found, At, Nothing}
 use Rattle.netlist.specs.Bytes.{byte, operand, operands, absent}
 use Rattle.netlist.specs.Commands.{misfit, misfitFrom}
-use Rattle.netlist.specs.Reading.{names, nameless}
+use Rattle.netlist.specs.Reading.{nameless}
 use Rattle.netlist.specs.Writing.{writeOperands, All}
 use Rattle.netlist.proofs.Lists.{Bytes, byte-small}
 
@@ -52,18 +50,18 @@ passed : (b : Bool) (p : ℕ) (later : Found) → cond b (At p) later ≡ Nothin
 passed true p later e = absurd (let z : _≡_ {A = ℕ} 0 1 = cc in omega arith)
 passed false p later e = (refl, e)
 
-module _ (role : Role) (n g : ℕ) (s : List ℕ) where
-  pub nameless-named : (at m : ℕ) → nameless role n g s at m ≡ Nothing → All (λ v. names role n g v ≡ true) (operands s at m)
+module _ (names : ℕ) (s : List ℕ) where
+  pub nameless-named : (at m : ℕ) → nameless names s at m ≡ Nothing → All (λ v. v < names) (operands s at m)
   unfolding nameless operands
   nameless-named at zero e = tt
   nameless-named at (suc m) e =
-      let k = kept (names role n g (operand s at)) at (nameless role n g s (at + 2) m) e in
-      (k .0, nameless-named (at + 2) m (k .1))
+      let k = kept (ltb (operand s at) names) at (nameless names s (at + 2) m) e in
+      (ltb-true (operand s at) names (k .0), nameless-named (at + 2) m (k .1))
 
-  pub named-nameless : (at m : ℕ) → All (λ v. names role n g v ≡ true) (operands s at m) → nameless role n g s at m ≡ Nothing
+  pub named-nameless : (at m : ℕ) → All (λ v. v < names) (operands s at m) → nameless names s at m ≡ Nothing
   unfolding nameless operands
   named-nameless at zero h = refl
-  named-nameless at (suc m) h = rw (h .0) (named-nameless (at + 2) m (h .1))
+  named-nameless at (suc m) h = rw (lt-ltb (operand s at) names (h .0)) (named-nameless (at + 2) m (h .1))
 
 -- ---- 5
 
@@ -180,9 +178,11 @@ module _ (s : List ℕ) (small : Bytes s) where
   written-operands at (suc m) zero r h =
       let e : at + 2 * 0 ≡ at = omega arith in
       let w : at + 2 * suc m ≡ at + 2 + 2 * m = omega arith in
+      let rest = written-operands (at + 2) m zero (omega arith) (λ j a b. let x : at + 2 + 2 * j ≡ at + 2 * suc j = omega arith in rw x (h (suc j) (omega arith) (omega arith))) in
       rw w (operand-bytes at absent (rw e at (h 0 (omega arith) (omega arith))) (omega arith)
-      ∙ ap (λ (l : List ℕ). 255 ∷ 255 ∷ l) (written-operands (at + 2) m zero (omega arith) (λ j a b. let x : at + 2 + 2 * j ≡ at + 2 * suc j = omega arith in rw x (h (suc j) (omega arith) (omega arith)))))
+      ∙ ap (λ (l : List ℕ). 255 ∷ 255 ∷ l) rest)
   written-operands at (suc m) (suc k) r h =
       let w : at + 2 * suc m ≡ at + 2 + 2 * m = omega arith in
+      let rest = written-operands (at + 2) m k (omega arith) (λ j a b. let x : at + 2 + 2 * j ≡ at + 2 * suc j = omega arith in rw x (h (suc j) (omega arith) (omega arith))) in
       rw w (operand-bytes at (operand s at) refl (omega arith)
-      ∙ ap (λ (l : List ℕ). operand s at % 256 ∷ operand s at / 256 ∷ l) (written-operands (at + 2) m k (omega arith) (λ j a b. let x : at + 2 + 2 * j ≡ at + 2 * suc j = omega arith in rw x (h (suc j) (omega arith) (omega arith)))))
+      ∙ ap (λ (l : List ℕ). operand s at % 256 ∷ operand s at / 256 ∷ l) rest)

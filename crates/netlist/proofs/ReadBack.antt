@@ -3,23 +3,22 @@
 use Prim.Native.Nat.{ℕ, suc, _+_, _*_, _≤_, _<_}
 use native.Mathlib.Omega.{arith}
 use mathlib.Core.Path.{_≡_, refl, sym, ap, ap₂, _∙_}
-use mathlib.Core.Bool.{true}
 use mathlib.Core.Logic.{_↔_}
 use mathlib.Core.List.{List, [], _∷_, _++_, append-assoc, map}
 use lib.ListN.{length, drop, length-append, drop-of-length-le}
-use Rattle.netlist.specs.declared.File.{File}
-use Rattle.netlist.specs.declared.File.the-variants as file
-use Rattle.netlist.specs.declared.Sort.{Sort}
-use Rattle.netlist.specs.declared.Sort.the-variants as sort
-use Rattle.netlist.specs.declared.Limits.{Limits}
+use Rattle.netlist.specs.Types.{File, Sort, Limits}
+use Rattle.netlist.specs.Types.file
+use Rattle.netlist.specs.Types.sort
 use Rattle.netlist.specs.Bytes.{byte, operands, absent}
-use Rattle.netlist.specs.Commands.{sortOf, operandCount, operandsFrom, width, needed}
-use Rattle.netlist.specs.Reading.{names, roleOf, readFile, readable}
+use Rattle.netlist.specs.Commands.{formOf, needed}
+use Rattle.netlist.specs.Reading.{nameable, Places, readFile, readable}
 use Rattle.netlist.specs.Content.{Coded, codedAt}
-use Rattle.netlist.specs.Writing.{Item, gate, output, gatesIn, outputsIn, gatePlaces, outputPlaces, writeOperands, gateByte, outputByte, writeItem, writeItems, writeFile, All, GateFits, OutputFits, ItemsFit, FileFits}
+use Rattle.netlist.specs.Writing.{commandByte, widthFor, operandCount, roleFor, Item, gate, output, gatesIn, outputsIn, gatePlaces, outputPlaces, placesOf}
+use Rattle.netlist.specs.Writing.{writeOperands, writeItem, writeItems, writeFile, All, GateFits, OutputFits, ItemsFit, FileFits}
 use Rattle.netlist.proofs.Lists.{Bytes, All-++, All-map, byte-small}
-use Rattle.netlist.proofs.Operands.{bytes-written, operand-small, length-operands, each-operands, byte-after, drop-after, length-after, length-written, operands-written, fits-written, drop-one, drop-two, written-operands}
-use Rattle.netlist.proofs.Encoding.{sort-byte, sort-gate, sort-output, sort-inputs, sort-end, needed-in}
+use Rattle.netlist.proofs.Operands.{bytes-written, operand-small, length-operands, each-operands, byte-after, drop-after, length-after}
+use Rattle.netlist.proofs.Operands.{length-written, operands-written, fits-written, drop-one, drop-two, written-operands}
+use Rattle.netlist.proofs.Encoding.{byte-for, width-gate, width-output, needed-in}
 use Rattle.netlist.proofs.Laid.{GateLaid, OutputLaid, Laid, Named, FileLaid, wiredAt, laid-code, laid-operands, laid-used, laid-bare, laid-gates, laid-outputs, laid-length}
 use Rattle.netlist.proofs.Walk.{readable-laid, laid-readable}
 
@@ -30,10 +29,9 @@ abbrev itemSort : Item → Sort
 itemSort (gate c) = sort.Gate
 itemSort (output vs) = sort.Output
 
-length-item : (f : File) (i : Item) → length (writeItem f i) ≡ width f (itemSort i)
-unfolding width operandsFrom
-length-item f (gate c) = omega (arith, length-written (operandCount f sort.Gate) (c .operands))
-length-item f (output vs) = omega (arith, length-written (operandCount f sort.Output) vs)
+length-item : (f : File) (i : Item) → length (writeItem f i) ≡ widthFor f (itemSort i)
+length-item f (gate c) = omega (arith, width-gate f, length-written (operandCount f sort.Gate) (c .operands))
+length-item f (output vs) = omega (arith, width-output f, length-written (operandCount f sort.Output) vs)
 
 -- ---- written items are laid
 
@@ -43,32 +41,30 @@ module _ (f : File) (s : List ℕ) where
 
   module _ (n g k at : ℕ) (rest : List ℕ) where
     written-gate : (c : Coded) → GateFits f n g k c → drop at s ≡ writeItem f (gate c) ++ rest → GateLaid f s at c
-    unfolding width operandsFrom
     written-gate c h e =
         let m = operandCount f sort.Gate in
         let tail = writeOperands m (c .operands) ++ rest in
-        let code : byte s (at + 1) ≡ c .code = byte-after s at (gateByte f ∷ c .code ∷ tail) e 1 in
-        let e′ : drop (at + 2) s ≡ tail = drop-after s at (gateByte f ∷ c .code ∷ []) tail 2 e refl in
-        let size : length s ≡ at + suc (suc (length tail)) = length-after s at (gateByte f) (c .code ∷ tail) e in
+        let code : byte s (at + 1) ≡ c .code = byte-after s at (commandByte f sort.Gate ∷ c .code ∷ tail) e 1 in
+        let e′ : drop (at + 2) s ≡ tail = drop-after s at (commandByte f sort.Gate ∷ c .code ∷ []) tail 2 e refl in
+        let size : length s ≡ at + suc (suc (length tail)) = length-after s at (commandByte f sort.Gate) (c .code ∷ tail) e in
         let few : length (c .operands) ≤ m = omega (arith, h .whole, needed-in f (c .code)) in
         record {
-          command = ap (sortOf f) (byte-at at (gateByte f) (c .code ∷ tail) e) ∙ sort-gate f;
-          room = omega (arith, length-append (writeOperands m (c .operands)) rest, length-written m (c .operands));
+          command = ap (formOf f) (byte-at at (commandByte f sort.Gate) (c .code ∷ tail) e);
+          room = omega (arith, width-gate f, length-append (writeOperands m (c .operands)) rest, length-written m (c .operands));
           content = ap₂ coded code (rw (code, ← h .whole) (operands-written s rest (at + 2) m (c .operands) few e′));
           known = rw code (h .known);
           fits = rw code (fits-written s rest (at + 2) m (needed f (c .code)) 0 (c .operands) (omega (arith, h .whole)) (h .used) e′);
         }
 
     written-output : (vs : List ℕ) → OutputFits f n g k vs → drop at s ≡ writeItem f (output vs) ++ rest → OutputLaid f s at vs
-    unfolding width operandsFrom
     written-output vs h e =
         let m = operandCount f sort.Output in
         let tail = writeOperands m vs ++ rest in
-        let e′ : drop (at + 1) s ≡ tail = drop-after s at (outputByte f ∷ []) tail 1 e refl in
-        let size : length s ≡ at + suc (length tail) = length-after s at (outputByte f) tail e in
+        let e′ : drop (at + 1) s ≡ tail = drop-after s at (commandByte f sort.Output ∷ []) tail 1 e refl in
+        let size : length s ≡ at + suc (length tail) = length-after s at (commandByte f sort.Output) tail e in
         record {
-          command = ap (sortOf f) (byte-at at (outputByte f) tail e) ∙ sort-output f;
-          room = omega (arith, length-append (writeOperands m vs) rest, length-written m vs);
+          command = ap (formOf f) (byte-at at (commandByte f sort.Output) tail e);
+          room = omega (arith, width-output f, length-append (writeOperands m vs) rest, length-written m vs);
           content = ap (operands s (at + 1)) (sym (h .whole)) ∙ operands-written s rest (at + 1) m vs (omega (arith, h .whole)) e′;
         }
 
@@ -77,19 +73,19 @@ module _ (f : File) (s : List ℕ) where
     item-first : drop at s ≡ writeItem f i ++ (writeItems f items ++ (0 ∷ []))
     item-first = e ∙ append-assoc (writeItem f i) (writeItems f items) (0 ∷ [])
 
-    items-after : drop (at + width f (itemSort i)) s ≡ writeItems f items ++ (0 ∷ [])
-    items-after = drop-after s at (writeItem f i) (writeItems f items ++ (0 ∷ [])) (width f (itemSort i)) item-first (length-item f i)
+    items-after : drop (at + widthFor f (itemSort i)) s ≡ writeItems f items ++ (0 ∷ [])
+    items-after = drop-after s at (writeItem f i) (writeItems f items ++ (0 ∷ [])) (widthFor f (itemSort i)) item-first (length-item f i)
 
   written-laid : (n g k at : ℕ) (items : List Item) → ItemsFit f n g k items → drop at s ≡ writeItems f items ++ (0 ∷ []) → Laid f s at items × Named f n g k items
-  written-laid n g k at [] h e = (record { command = ap (sortOf f) (byte-at at 0 [] e) ∙ sort-end f; last = length-after s at 0 [] e }, tt)
+  written-laid n g k at [] h e = (record { command = ap (formOf f) (byte-at at 0 [] e); last = length-after s at 0 [] e }, tt)
   written-laid n g k at (gate c ∷ items) h e =
-      let r = written-laid n g (suc k) (at + width f sort.Gate) items (h .1) (items-after at (gate c) items e) in
+      let r = written-laid n g (suc k) (at + widthFor f sort.Gate) items (h .1) (items-after at (gate c) items e) in
       ((written-gate n g k at (writeItems f items ++ (0 ∷ [])) c (h .0) (item-first at (gate c) items e), r .0), (h .0 .named, r .1))
   written-laid n g k at (output vs ∷ items) h e =
-      let r = written-laid n g k (at + width f sort.Output) items (h .1) (items-after at (output vs) items e) in
+      let r = written-laid n g k (at + widthFor f sort.Output) items (h .1) (items-after at (output vs) items e) in
       ((written-output n g k at (writeItems f items ++ (0 ∷ [])) vs (h .0) (item-first at (output vs) items e), r .0), (h .0 .named, r .1))
 
-command-bytes : (f : File) → (gateByte f < 256) × (outputByte f < 256)
+command-bytes : (f : File) → (commandByte f sort.Gate < 256) × (commandByte f sort.Output < 256)
 command-bytes file.Stage = omega arith
 command-bytes file.Reference = omega arith
 
@@ -97,35 +93,36 @@ bytes-items : (f : File) (n g k : ℕ) (items : List Item) → ItemsFit f n g k 
 bytes-items f n g k [] h = tt
 bytes-items f n g k (gate c ∷ items) h =
     let wide : All (λ v. v < 65536) (c .operands) = All-map (λ v. v < absent) (λ v. v < 65536) (λ v l. omega arith) (c .operands) (h .0 .used) in
-    (command-bytes f .0, (h .0 .code-byte, All-++ (λ b. b < 256) (writeOperands (operandCount f sort.Gate) (c .operands)) (writeItems f items) (bytes-written (operandCount f sort.Gate) (c .operands) wide) (bytes-items f n g (suc k) items (h .1))))
+    let m = operandCount f sort.Gate in
+    let rest = bytes-items f n g (suc k) items (h .1) in
+    (command-bytes f .0, (h .0 .code-byte, All-++ (λ b. b < 256) (writeOperands m (c .operands)) (writeItems f items) (bytes-written m (c .operands) wide) rest))
 bytes-items f n g k (output vs ∷ items) h =
-    (command-bytes f .1, All-++ (λ b. b < 256) (writeOperands (operandCount f sort.Output) vs) (writeItems f items) (bytes-written (operandCount f sort.Output) vs (h .0 .u16s)) (bytes-items f n g k items (h .1)))
+    let m = operandCount f sort.Output in
+    (command-bytes f .1, All-++ (λ b. b < 256) (writeOperands m vs) (writeItems f items) (bytes-written m vs (h .0 .u16s)) (bytes-items f n g k items (h .1)))
 
 -- ---- items that are laid are what is written
 
 module _ (f : File) (s : List ℕ) (small : Bytes s) where
   module _ (at : ℕ) where
-    laid-gate : (c : Coded) → GateLaid f s at c → drop at s ≡ writeItem f (gate c) ++ drop (at + width f sort.Gate) s
-    unfolding width operandsFrom
+    laid-gate : (c : Coded) → GateLaid f s at c → drop at s ≡ writeItem f (gate c) ++ drop (at + widthFor f sort.Gate) s
     laid-gate c h =
         let m = operandCount f sort.Gate in
-        let is : byte s at ≡ gateByte f = rw (h .command) at (sort-byte f (byte s at)) in
-        let w : at + width f sort.Gate ≡ at + 2 + 2 * m = omega arith in
-        drop-two s at (omega (arith, h .room))
+        let is : byte s at ≡ commandByte f sort.Gate = byte-for f (byte s at) sort.Gate (h .command) refl in
+        let w : at + widthFor f sort.Gate ≡ at + 2 + 2 * m = omega (arith, width-gate f) in
+        drop-two s at (omega (arith, h .room, width-gate f))
         ∙ rw (is, laid-code h, w)
-        (ap (λ (l : List ℕ). gateByte f ∷ c .code ∷ l) (rw (laid-operands h) at (written-operands s small (at + 2) m (needed f (byte s (at + 1))) (omega (arith, h .room)) (laid-bare h))))
+        (ap (λ (l : List ℕ). commandByte f sort.Gate ∷ c .code ∷ l) (rw (laid-operands h) at (written-operands s small (at + 2) m (needed f (byte s (at + 1))) (omega (arith, h .room)) (laid-bare h))))
 
-    laid-output : (vs : List ℕ) → OutputLaid f s at vs → drop at s ≡ writeItem f (output vs) ++ drop (at + width f sort.Output) s
-    unfolding width operandsFrom
+    laid-output : (vs : List ℕ) → OutputLaid f s at vs → drop at s ≡ writeItem f (output vs) ++ drop (at + widthFor f sort.Output) s
     laid-output vs h =
         let m = operandCount f sort.Output in
-        let is : byte s at ≡ outputByte f = rw (h .command) at (sort-byte f (byte s at)) in
-        let w : at + width f sort.Output ≡ at + 1 + 2 * m = omega arith in
-        drop-one s at (omega (arith, h .room))
+        let is : byte s at ≡ commandByte f sort.Output = byte-for f (byte s at) sort.Output (h .command) refl in
+        let w : at + widthFor f sort.Output ≡ at + 1 + 2 * m = omega (arith, width-output f) in
+        drop-one s at (omega (arith, h .room, width-output f))
         ∙ rw (is, w)
-        (ap (λ (l : List ℕ). outputByte f ∷ l) (rw (h .content) at (written-operands s small (at + 1) m m (omega (arith, h .room)) (λ j a b. absurd (omega arith)))))
+        (ap (λ (l : List ℕ). commandByte f sort.Output ∷ l) (rw (h .content) at (written-operands s small (at + 1) m m (omega (arith, h .room)) (λ j a b. absurd (omega arith)))))
 
-    gate-fits : (n g k : ℕ) (c : Coded) → GateLaid f s at c → All (λ v. names (roleOf f sort.Gate k) n g v ≡ true) (c .operands) → GateFits f n g k c
+    gate-fits : (n g k : ℕ) (c : Coded) → GateLaid f s at c → All (λ v. v < nameable (roleFor f sort.Gate) n g k) (c .operands) → GateFits f n g k c
     gate-fits n g k c h named =
         let p = needed f (byte s (at + 1)) in
         record {
@@ -136,7 +133,7 @@ module _ (f : File) (s : List ℕ) (small : Bytes s) where
           named = named;
         }
 
-    output-fits : (n g k : ℕ) (vs : List ℕ) → OutputLaid f s at vs → All (λ v. names (roleOf f sort.Output k) n g v ≡ true) vs → OutputFits f n g k vs
+    output-fits : (n g k : ℕ) (vs : List ℕ) → OutputLaid f s at vs → All (λ v. v < nameable (roleFor f sort.Output) n g k) vs → OutputFits f n g k vs
     output-fits n g k vs h named =
         let m = operandCount f sort.Output in
         record {
@@ -147,18 +144,18 @@ module _ (f : File) (s : List ℕ) (small : Bytes s) where
 
   laid-fits : (n g k at : ℕ) (items : List Item) → Laid f s at items → Named f n g k items → ItemsFit f n g k items
   laid-fits n g k at [] h m = tt
-  laid-fits n g k at (gate c ∷ items) h m = (gate-fits at n g k c (h .0) (m .0), laid-fits n g (suc k) (at + width f sort.Gate) items (h .1) (m .1))
-  laid-fits n g k at (output vs ∷ items) h m = (output-fits at n g k vs (h .0) (m .0), laid-fits n g k (at + width f sort.Output) items (h .1) (m .1))
+  laid-fits n g k at (gate c ∷ items) h m = (gate-fits at n g k c (h .0) (m .0), laid-fits n g (suc k) (at + widthFor f sort.Gate) items (h .1) (m .1))
+  laid-fits n g k at (output vs ∷ items) h m = (output-fits at n g k vs (h .0) (m .0), laid-fits n g k (at + widthFor f sort.Output) items (h .1) (m .1))
 
   laid-written : (at : ℕ) (items : List Item) → Laid f s at items → drop at s ≡ writeItems f items ++ (0 ∷ [])
   laid-written at [] h =
-      let is : byte s at ≡ 0 = rw (h .command) at (sort-byte f (byte s at)) in
+      let is : byte s at ≡ 0 = byte-for f (byte s at) sort.End (h .command) refl in
       drop-one s at (omega (arith, h .last)) ∙ ap₂ (λ (x : ℕ) (xs : List ℕ). x ∷ xs) is (drop-of-length-le s {i = at + 1} (omega (arith, h .last)))
   laid-written at (gate c ∷ items) h =
-      laid-gate at c (h .0) ∙ ap (λ (l : List ℕ). writeItem f (gate c) ++ l) (laid-written (at + width f sort.Gate) items (h .1))
+      laid-gate at c (h .0) ∙ ap (λ (l : List ℕ). writeItem f (gate c) ++ l) (laid-written (at + widthFor f sort.Gate) items (h .1))
       ∙ sym (append-assoc (writeItem f (gate c)) (writeItems f items) (0 ∷ []))
   laid-written at (output vs ∷ items) h =
-      laid-output at vs (h .0) ∙ ap (λ (l : List ℕ). writeItem f (output vs) ++ l) (laid-written (at + width f sort.Output) items (h .1))
+      laid-output at vs (h .0) ∙ ap (λ (l : List ℕ). writeItem f (output vs) ++ l) (laid-written (at + widthFor f sort.Output) items (h .1))
       ∙ sym (append-assoc (writeItem f (output vs)) (writeItems f items) (0 ∷ []))
 
 -- ---- the whole file
@@ -169,7 +166,7 @@ module _ (f : File) (most : Limits) where
   written-file n items h =
       let r = written-laid f (writeFile f n items) n (length (gatesIn items)) 0 2 items (h .items-fit) refl in
       record {
-        command = sort-inputs f;
+        command = refl;
         count = refl;
         inputs-in = h .inputs-in;
         gates-in = h .gates-in;
@@ -181,7 +178,7 @@ module _ (f : File) (most : Limits) where
   laid-file : (s : List ℕ) → Bytes s → (n : ℕ) (items : List Item) → FileLaid f most s n items → (s ≡ writeFile f n items) × FileFits f most n items
   unfolding writeFile
   laid-file s small n items h =
-      let is : byte s 0 ≡ 1 = rw (h .command) at (sort-byte f (byte s 0)) in
+      let is : byte s 0 ≡ 1 = byte-for f (byte s 0) sort.Inputs (h .command) refl in
       let size = laid-length f s 2 items (h .laid) in (
         drop-two s 0 (omega arith) ∙ rw (is, h .count) (ap (λ (l : List ℕ). 1 ∷ n ∷ l) (laid-written f s small 2 items (h .laid))),
         record {
@@ -196,7 +193,7 @@ module _ (f : File) (most : Limits) where
   -- ---- what is written reads back
 
   module _ (n : ℕ) (items : List Item) (fits : FileFits f most n items) where
-    pub read-write : readFile f most (writeFile f n items) ≡ readable n (gatePlaces f 2 items) (outputPlaces f 2 items)
+    pub read-write : readFile f most (writeFile f n items) ≡ readable (placesOf f n items)
     read-write = laid-readable f most (writeFile f n items) n items (written-file n items fits)
 
     -- through the places of its commands the written file shows the content
@@ -214,38 +211,36 @@ module _ (f : File) (most : Limits) where
   -- ---- what is readable was written
 
   -- the items that a readable file holds, in the order of their commands
-  pub record Holds (s : List ℕ) (n : ℕ) (gs os : List ℕ) : Type 0 where
+  pub record Holds (s : List ℕ) (p : Places) : Type 0 where
     pub items : List Item
-    pub gate-places : gs ≡ gatePlaces f 2 items
-    pub output-places : os ≡ outputPlaces f 2 items
-    pub gates : map (codedAt f s) gs ≡ gatesIn items
-    pub outputs : map (wiredAt f s) os ≡ outputsIn items
-    pub fits : Bytes s → FileFits f most n items
-    pub bytes : Bytes s → s ≡ writeFile f n items
+    pub item-places : p ≡ placesOf f (p .inputs) items
+    pub gates : map (codedAt f s) (p .gates) ≡ gatesIn items
+    pub outputs : map (wiredAt f s) (p .outputs) ≡ outputsIn items
+    pub fits : Bytes s → FileFits f most (p .inputs) items
+    pub bytes : Bytes s → s ≡ writeFile f (p .inputs) items
 
-  pub write-read : (s : List ℕ) (n : ℕ) (gs os : List ℕ) → readFile f most s ≡ readable n gs os → Holds s n gs os
-  write-read s n gs os e =
-      let r = readable-laid f most s n gs os e in
+  pub write-read : (s : List ℕ) (p : Places) → readFile f most s ≡ readable p → Holds s p
+  write-read s p e =
+      let r = readable-laid f most s p e in
       let i = r .items in
       record {
         items = i;
-        gate-places = r .gate-places;
-        output-places = r .output-places;
-        gates = ap (map (codedAt f s)) (r .gate-places) ∙ laid-gates f s 2 i (r .file-laid .laid);
-        outputs = ap (map (wiredAt f s)) (r .output-places) ∙ laid-outputs f s 2 i (r .file-laid .laid);
-        fits = λ small. laid-file s small n i (r .file-laid) .1;
-        bytes = λ small. laid-file s small n i (r .file-laid) .0;
+        item-places = r .item-places;
+        gates = ap (λ (x : Places). map (codedAt f s) (x .gates)) (r .item-places) ∙ laid-gates f s 2 i (r .file-laid .laid);
+        outputs = ap (λ (x : Places). map (wiredAt f s) (x .outputs)) (r .item-places) ∙ laid-outputs f s 2 i (r .file-laid .laid);
+        fits = λ small. laid-file s small (p .inputs) i (r .file-laid) .1;
+        bytes = λ small. laid-file s small (p .inputs) i (r .file-laid) .0;
       }
 
   -- Refusals 1 to 9 come exactly where no content was written.
   abbrev pub Readable : List ℕ → Type 0
-  Readable s = (n : ℕ) × (gs : List ℕ) × (os : List ℕ) × (readFile f most s ≡ readable n gs os)
+  Readable s = (p : Places) × (readFile f most s ≡ readable p)
 
   abbrev pub IsWritten : List ℕ → Type 0
   IsWritten s = (n : ℕ) × (items : List Item) × FileFits f most n items × (s ≡ writeFile f n items)
 
   pub readable-iff-written : (s : List ℕ) → Bytes s → Readable s ↔ IsWritten s
   readable-iff-written s small = (
-    (λ r. let h = write-read s (r .0) (r .1) (r .2) (r .3) in (r .0, h .items, h .fits small, h .bytes small)),
-    (λ w. (w .0, gatePlaces f 2 (w .1), outputPlaces f 2 (w .1), rw (w .3) (read-write (w .0) (w .1) (w .2)))),
+    (λ r. let h = write-read s (r .0) (r .1) in (r .0 .inputs, h .items, h .fits small, h .bytes small)),
+    (λ w. (placesOf f (w .0) (w .1), rw (w .3) (read-write (w .0) (w .1) (w .2)))),
   )

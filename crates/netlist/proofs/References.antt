@@ -4,19 +4,17 @@
 use Prim.Native.Nat.{ℕ, zero, suc, _+_, _≤_, _<_}
 use native.Mathlib.Omega.{arith}
 use mathlib.Core.Path.{_≡_, refl, ap, ap₂, subst, _∙_}
-use mathlib.Core.Bool.{true}
 use mathlib.Core.List.{List, [], _∷_, _++_, map, map-map}
 use lib.ListN.{length, getD, length-map}
-use lib.Dec.{ltb}
-use borrow.Author.Tests.{lt-ltb}
-use Rattle.netlist.specs.declared.File.the-variants as file
-use Rattle.netlist.specs.declared.Sort.the-variants as sort
-use Rattle.netlist.specs.declared.Limits.{Limits}
+use Rattle.netlist.specs.Types.{Limits}
+use Rattle.netlist.specs.Types.file
+use Rattle.netlist.specs.Types.sort
 use Rattle.netlist.specs.Bytes.{operand, operands, absent}
-use Rattle.netlist.specs.Commands.{operandCount, needed}
-use Rattle.netlist.specs.Reading.{names, roleOf, readFile, readable}
+use Rattle.netlist.specs.Commands.{commandTable, ownCommands, formIn}
+use Rattle.netlist.specs.Reading.{nameable, Places, readFile, readable}
 use Rattle.netlist.specs.Content.{Coded, codedAt, Reference, referenceOf}
-use Rattle.netlist.specs.Writing.{Item, gate, output, gatesIn, outputsIn, ItemsFit, gatePlaces, outputPlaces, All, FileFits, referenceItems, writeReference}
+use Rattle.netlist.specs.Writing.{roleFor, Item, gate, output, gatesIn, outputsIn, ItemsFit, placesOf, All, FileFits, referenceItems, writeReference}
+use Rattle.netlist.specs.Formed.{OperationFormed, FormedFrom, ReferenceFormed}
 use Rattle.netlist.proofs.Lists.{Bytes, All-every, All-map}
 use Rattle.netlist.proofs.Encoding.{operation-needs}
 use Rattle.netlist.proofs.Laid.{wiredAt}
@@ -25,28 +23,10 @@ use Rattle.netlist.proofs.Readable.{readable-read, named-earlier, named
 use Rattle.netlist.proofs.Formed.{GatesFormed, OutputFormed, readable-formed}
 use Rattle.netlist.proofs.GatesFirst.{GatesFirst, gatesIn-items, outputsIn-items, gates-back, outputs-back, write-back, circuit}
 
--- ---- well-formed references
-
--- an operation of the six, whose operands are signals below a number
-pub record OperationFormed (below : ℕ) (c : Coded) : Type 0 where
-  pub operation-in : (1 ≤ c .code) × (c .code ≤ 6)
-  pub whole : length (c .operands) ≡ needed file.Reference (c .code)
-  pub operands-in : All (λ v. v < below) (c .operands)
-
--- gates in order: the operands of each are inputs or earlier gates; the first drives signal `below`
-abbrev pub InOrder : ℕ → List Coded → Type 0
-InOrder below [] = Unit {0}
-InOrder below (c ∷ cs) = OperationFormed below c × InOrder (suc below) cs
-
-pub record ReferenceFormed (most : Limits) (r : Reference) : Type 0 where
-  pub inputs-in : (1 ≤ r .inputs) × (r .inputs ≤ most .inputs)
-  pub gates-in : length (r .gates) ≤ most .gates
-  pub outputs-in : (1 ≤ length (r .outputs)) × (length (r .outputs) ≤ most .outputs)
-  pub gates-formed : InOrder (r .inputs) (r .gates)
-  pub outputs-formed : All (λ v. v < r .inputs + length (r .gates)) (r .outputs)
+-- ---- gates and outputs, coded and as a reference has them
 
 -- gate k by its number
-pub in-order-at : (below : ℕ) (cs : List Coded) → InOrder below cs → (k : ℕ) (d : Coded) → k < length cs → OperationFormed (below + k) (getD cs k d)
+pub in-order-at : (below : ℕ) (cs : List Coded) → FormedFrom below cs → (k : ℕ) (d : Coded) → k < length cs → OperationFormed (below + k) (getD cs k d)
 in-order-at below [] h k d l = absurd (omega arith)
 in-order-at below (c ∷ cs) h zero d l = let z : below + 0 ≡ below = omega arith in rw z (h .0)
 in-order-at below (c ∷ cs) h (suc k) d l = let z : below + suc k ≡ suc below + k = omega arith in rw z (in-order-at (suc below) cs (h .1) k d (omega arith))
@@ -62,35 +42,35 @@ signal-again (v ∷ w ∷ vs) e = absurd (omega arith)
 
 -- the gates and outputs of a reference file, coded and as a reference has them
 module _ (n g : ℕ) where
-  codes-order : (k : ℕ) (cs : List Coded) → GatesFormed file.Reference n g k cs → InOrder (n + k) cs
+  codes-order : (k : ℕ) (cs : List Coded) → GatesFormed file.Reference n g k cs → FormedFrom (n + k) cs
   codes-order k [] h = tt
   codes-order k (c ∷ cs) h =
       let z : n + suc k ≡ suc (n + k) = omega arith in (
         record {
           operation-in = operation-needs (c .code) .1 (h .0 .known);
           whole = h .0 .whole;
-          operands-in = All-map (λ v. names (roleOf file.Reference sort.Gate k) n g v ≡ true) (λ v. v < n + k) (named-earlier k n g) (c .operands) (h .0 .named);
+          operands-in = All-map (λ v. v < nameable (roleFor file.Reference sort.Gate) n g k) (λ v. v < n + k) (named-earlier k n g) (c .operands) (h .0 .named);
         },
         rw z at (codes-order (suc k) cs (h .1)),
       )
 
   wires-signals : (vss : List (List ℕ)) → All (OutputFormed file.Reference n g) vss → All (λ v. v < n + g) (map signalOf vss)
-  unfolding operandCount
+  unfolding commandTable ownCommands formIn
   wires-signals [] h = tt
   wires-signals (vs ∷ vss) h = (go vs (h .0 .whole) (h .0 .named), wires-signals vss (h .1))
     where
-      go : (vs : List ℕ) → length vs ≡ 1 → All (λ v. names (roleOf file.Reference sort.Output g) n g v ≡ true) vs → signalOf vs < n + g
+      go : (vs : List ℕ) → length vs ≡ 1 → All (λ v. v < nameable (roleFor file.Reference sort.Output) n g g) vs → signalOf vs < n + g
       go [] e a = absurd (omega arith)
       go (v ∷ vs) e a = named-signal g n g v (a .0)
 
   signals-again : (vss : List (List ℕ)) → All (OutputFormed file.Reference n g) vss → All (λ vs. signalOf vs ∷ [] ≡ vs) vss
-  unfolding operandCount
+  unfolding commandTable ownCommands formIn
   signals-again = All-map (OutputFormed file.Reference n g) (λ vs. signalOf vs ∷ [] ≡ vs) (λ vs w. signal-again vs (w .whole))
 
 -- ---- written and read
 
 signals-view : (s os : List ℕ) → map (λ p. operand s (p + 1)) os ≡ map (λ p. signalOf (wiredAt file.Reference s p)) os
-unfolding operands operandCount
+unfolding operands commandTable ownCommands formIn
 signals-view s os = refl
 
 abbrev same : Coded → Coded
@@ -101,47 +81,50 @@ lone v = v ∷ []
 
 -- a reference that is written is read back
 module _ (most : Limits) (r : Reference) (fits : FileFits file.Reference most (r .inputs) (referenceItems r)) where
-  pub read-writeReference : readFile file.Reference most (writeReference r) ≡ readable (r .inputs) (gatePlaces file.Reference 2 (referenceItems r)) (outputPlaces file.Reference 2 (referenceItems r))
+  pub read-writeReference : readFile file.Reference most (writeReference r) ≡ readable (placesOf file.Reference (r .inputs) (referenceItems r))
   unfolding writeReference
   read-writeReference = read-write file.Reference most (r .inputs) (referenceItems r) fits
 
-  pub referenceOf-writeReference : referenceOf (writeReference r) (r .inputs) (gatePlaces file.Reference 2 (referenceItems r)) (outputPlaces file.Reference 2 (referenceItems r)) ≡ r
+  pub referenceOf-writeReference : referenceOf (writeReference r) (placesOf file.Reference (r .inputs) (referenceItems r)) ≡ r
   unfolding writeReference referenceOf
   referenceOf-writeReference =
       ap₂ (circuit (r .inputs))
       (gates-back same same signalOf lone file.Reference most (r .inputs) (r .gates) (r .outputs) fits (All-every (λ c. c ≡ c) (λ c. refl) (r .gates)))
-      (signals-view (writeReference r) (outputPlaces file.Reference 2 (referenceItems r))
+      (signals-view (writeReference r) (placesOf file.Reference (r .inputs) (referenceItems r) .outputs)
       ∙ outputs-back same same signalOf lone file.Reference most (r .inputs) (r .gates) (r .outputs) fits (All-every (λ v. v ≡ v) (λ v. refl) (r .outputs)))
 
-module _ (most : Limits) (s : List ℕ) (n : ℕ) (gs os : List ℕ) (e : readFile file.Reference most s ≡ readable n gs os) where
+module _ (most : Limits) (s : List ℕ) (p : Places) (e : readFile file.Reference most s ≡ readable p) where
   -- readable bytes with the gates first are what writing their reference gives
-  pub writeReference-referenceOf : Bytes s → GatesFirst gs os → s ≡ writeReference (referenceOf s n gs os)
+  pub writeReference-referenceOf : Bytes s → GatesFirst (p .gates) (p .outputs) → s ≡ writeReference (referenceOf s p)
   unfolding writeReference referenceOf
   writeReference-referenceOf small first =
-      rw (signals-view s os)
-      (write-back same same signalOf lone file.Reference most n s small gs os e first (λ cs h. All-every (λ c. c ≡ c) (λ c. refl) cs) (signals-again n (length gs)))
+      rw (signals-view s (p .outputs))
+      (write-back same same signalOf lone file.Reference most s small p e first (λ cs h. All-every (λ c. c ≡ c) (λ c. refl) cs) (signals-again (p .inputs) (length (p .gates))))
 
-  pub reference-formed : ReferenceFormed most (referenceOf s n gs os)
+  pub reference-formed : ReferenceFormed most (referenceOf s p)
   unfolding referenceOf
   reference-formed =
-      let r = readable-read file.Reference most s n gs os e in
-      let formed = readable-formed file.Reference most s n gs os e in
+      let r = readable-read file.Reference most s p e in
+      let formed = readable-formed file.Reference most s p e in
+      let gs = p .gates in
+      let os = p .outputs in
       let g : length (map (codedAt file.Reference s) gs) ≡ length gs = length-map gs (codedAt file.Reference s) in
-      let o : length (map (λ p. operand s (p + 1)) os) ≡ length os = length-map os (λ p. operand s (p + 1)) in
-      let z : n + 0 ≡ n = omega arith in
+      let o : length (map (λ at. operand s (at + 1)) os) ≡ length os = length-map os (λ at. operand s (at + 1)) in
+      let z : p .inputs + 0 ≡ p .inputs = omega arith in
       record {
         inputs-in = r .inputs-in;
         gates-in = rw g (r .gates-in);
         outputs-in = rw o (r .outputs-in);
-        gates-formed = rw z at (codes-order n (length gs) 0 (map (codedAt file.Reference s) gs) (formed .0));
-        outputs-formed = rw (g, signals-view s os) (rw (map-map signalOf (wiredAt file.Reference s) os) at (wires-signals n (length gs) (map (wiredAt file.Reference s) os) (formed .1)));
+        gates-formed = rw z at (codes-order (p .inputs) (length gs) 0 (map (codedAt file.Reference s) gs) (formed .0));
+        outputs-formed = rw (g, signals-view s os) (rw (map-map signalOf (wiredAt file.Reference s) os) at (wires-signals (p .inputs) (length gs) (map (wiredAt file.Reference s) os) (formed .1)));
       }
 
 -- ---- a well-formed reference, and no other, fits a file
 
 module _ (n g : ℕ) (small : n + g ≤ absent) where
-  operations-fit : (k : ℕ) (cs : List Coded) (rest : List Item) → k + length cs ≤ g → InOrder (n + k) cs → ((k : ℕ) → ItemsFit file.Reference n g k rest) → ItemsFit file.Reference n g k (map gate cs ++ rest)
-  unfolding names roleOf
+  operations-fit : (k : ℕ) (cs : List Coded) (rest : List Item) → k + length cs ≤ g → FormedFrom (n + k) cs →
+      ((k : ℕ) → ItemsFit file.Reference n g k rest) → ItemsFit file.Reference n g k (map gate cs ++ rest)
+  unfolding nameable commandTable ownCommands formIn
   operations-fit k [] rest l h r = r k
   operations-fit k (c ∷ cs) rest l h r =
       let inside = h .0 .operation-in in
@@ -151,17 +134,17 @@ module _ (n g : ℕ) (small : n + g ≤ absent) where
           known = operation-needs (c .code) .2 (inside .0) (inside .1);
           whole = h .0 .whole;
           used = All-map (λ v. v < n + k) (λ v. v < absent) (λ v b. omega arith) (c .operands) (h .0 .operands-in);
-          named = All-map (λ v. v < n + k) (λ v. ltb v (n + k) ≡ true) (λ v b. lt-ltb v (n + k) b) (c .operands) (h .0 .operands-in);
+          named = h .0 .operands-in;
         },
         operations-fit (suc k) cs rest (omega arith) (rw z at (h .1)) r,
       )
 
   signals-fit : (vs : List ℕ) → All (λ v. v < n + g) vs → (k : ℕ) → ItemsFit file.Reference n g k (map (λ v. output (v ∷ [])) vs)
-  unfolding names roleOf operandCount
+  unfolding nameable commandTable ownCommands formIn
   signals-fit [] h k = tt
   signals-fit (v ∷ vs) h k =
       let a = h .0 in
-      (record { whole = refl; u16s = (omega arith, tt); named = (lt-ltb v (n + g) a, tt) }, signals-fit vs (h .1) k)
+      (record { whole = refl; u16s = (omega arith, tt); named = (a, tt) }, signals-fit vs (h .1) k)
 
 module _ (most : Limits) (r : Reference) where
   pub reference-fits : most .inputs < 256 → most .inputs + most .gates ≤ absent → ReferenceFormed most r → FileFits file.Reference most (r .inputs) (referenceItems r)
@@ -170,14 +153,17 @@ module _ (most : Limits) (r : Reference) where
       let o : length (outputsIn (referenceItems r)) ≡ length (r .outputs) = ap length (outputsIn-items same same signalOf lone (r .gates) (r .outputs)) ∙ length-map (r .outputs) lone in
       let in-reach : r .inputs + length (r .gates) ≤ absent = omega (arith, h .inputs-in, h .gates-in) in
       let z : r .inputs ≡ r .inputs + 0 = omega arith in
-      let ordered : InOrder (r .inputs + 0) (r .gates) = subst (λ (b : ℕ). InOrder b (r .gates)) z (h .gates-formed) in
+      let ordered : FormedFrom (r .inputs + 0) (r .gates) = subst (λ (b : ℕ). FormedFrom b (r .gates)) z (h .gates-formed) in
       record {
         inputs-in = h .inputs-in;
         inputs-byte = omega (arith, h .inputs-in);
         gates-in = rw g (h .gates-in);
         outputs-in = rw o (h .outputs-in);
-        items-fit = rw g (operations-fit (r .inputs) (length (r .gates)) in-reach 0 (r .gates) (map (λ v. output (v ∷ [])) (r .outputs)) (omega arith) ordered (signals-fit (r .inputs) (length (r .gates)) in-reach (r .outputs) (h .outputs-formed)));
+        items-fit = rw g (operations-fit (r .inputs) (length (r .gates)) in-reach 0 (r .gates) (map (λ v. output (v ∷ [])) (r .outputs)) (omega arith) ordered
+            (signals-fit (r .inputs) (length (r .gates)) in-reach (r .outputs) (h .outputs-formed)));
       }
 
   pub fits-reference : FileFits file.Reference most (r .inputs) (referenceItems r) → ReferenceFormed most r
-  fits-reference fits = subst (ReferenceFormed most) (referenceOf-writeReference most r fits) (reference-formed most (writeReference r) (r .inputs) (gatePlaces file.Reference 2 (referenceItems r)) (outputPlaces file.Reference 2 (referenceItems r)) (read-writeReference most r fits))
+  fits-reference fits =
+      subst (ReferenceFormed most) (referenceOf-writeReference most r fits)
+      (reference-formed most (writeReference r) (placesOf file.Reference (r .inputs) (referenceItems r)) (read-writeReference most r fits))

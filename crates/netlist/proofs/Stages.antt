@@ -7,48 +7,26 @@ use mathlib.Core.Path.{_≡_, refl, sym, ap, ap₂, subst, _∙_, fun-ext}
 use mathlib.Core.Bool.{Bool, true}
 use mathlib.Core.List.{List, [], _∷_, _++_, map, map-map}
 use lib.ListN.{length, getD, length-map}
-use lib.Dec.{ltb}
-use borrow.Author.Tests.{lt-ltb}
 use Rattle.gates.specs.Cell.{pinCount}
 use Rattle.gates.proofs.Ranges.{kind-known}
-use Rattle.netlist.specs.declared.File.the-variants as file
-use Rattle.netlist.specs.declared.Sort.the-variants as sort
-use Rattle.netlist.specs.declared.Limits.{Limits}
+use Rattle.netlist.specs.Types.{Limits}
+use Rattle.netlist.specs.Types.file
+use Rattle.netlist.specs.Types.sort
 use Rattle.netlist.specs.Bytes.{operands, absent}
-use Rattle.netlist.specs.Commands.{operandCount, needed}
-use Rattle.netlist.specs.Reading.{names, roleOf, readFile, readable}
+use Rattle.netlist.specs.Commands.{commandTable, ownCommands, formIn, needed}
+use Rattle.netlist.specs.Reading.{nameable, Places, readFile, readable}
 use Rattle.netlist.specs.Content.{Coded, codedAt, Gate, Pair, Stage, gateOf, pairAt, stageOf}
-use Rattle.netlist.specs.Writing.{Item, gate, output, outputsIn, ItemsFit, gatesIn, gatePlaces, outputPlaces, All, FileFits, codedGate, pairOperands, stageItems, writeStage}
+use Rattle.netlist.specs.Writing.{roleFor, Item, gate, output, outputsIn, ItemsFit, gatesIn, placesOf, All, FileFits, codedGate, pairOperands, stageItems, writeStage}
+use Rattle.netlist.specs.Formed.{CellFormed, RailsFormed, nets, StageFormed}
 use Rattle.netlist.proofs.Lists.{Bytes, All-every, All-map}
 use Rattle.netlist.proofs.Encoding.{kind-in, kind-needs, kind-some}
 use Rattle.netlist.proofs.Laid.{wiredAt}
 use Rattle.netlist.proofs.ReadBack.{read-write}
-use Rattle.netlist.proofs.Readable.{readable-read, named-net}
+use Rattle.netlist.proofs.Readable.{readable-read, named-pin, named-rail}
 use Rattle.netlist.proofs.Formed.{GatesFormed, OutputFormed, fits-formed, readable-formed}
 use Rattle.netlist.proofs.GatesFirst.{GatesFirst, gatesIn-items, outputsIn-items, gates-back, outputs-back, write-back, circuit}
 
--- ---- well-formed stages
-
--- with so many nets: a cell of the 27, with hold, and a net at each of its pins
-pub record CellFormed (nets : ℕ) (g : Gate) : Type 0 where
-  pub cell-in : (1 ≤ g .cell) × (g .cell ≤ 27)
-  pub holds : g .hold ≡ true
-  pub whole : length (g .pins) ≡ pinCount (g .cell)
-  pub pins-in : All (λ v. v < nets) (g .pins)
-
-pub record RailsFormed (nets : ℕ) (p : Pair) : Type 0 where
-  pub rail0-in : p .rail0 < nets
-  pub rail1-in : p .rail1 < nets
-
-abbrev pub nets : Stage → ℕ
-nets c = 2 * c .inputs + length (c .gates)
-
-pub record StageFormed (most : Limits) (c : Stage) : Type 0 where
-  pub inputs-in : (1 ≤ c .inputs) × (c .inputs ≤ most .inputs)
-  pub gates-in : length (c .gates) ≤ most .gates
-  pub outputs-in : (1 ≤ length (c .outputs)) × (length (c .outputs) ≤ most .outputs)
-  pub gates-formed : All (CellFormed (nets c)) (c .gates)
-  pub outputs-formed : All (RailsFormed (nets c)) (c .outputs)
+-- ---- gates and outputs, coded and as a stage has them
 
 -- a pair of a list of two
 abbrev pairOf : List ℕ → Pair
@@ -63,7 +41,7 @@ module _ (c : Coded) (known : 1 ≤ needed file.Stage (c .code)) where
   codedGate-gateOf = ap codedGate gate-cell
 
 pairAt-wiredAt : (s : List ℕ) (p : ℕ) → pairOf (wiredAt file.Stage s p) ≡ pairAt s p
-unfolding operands operandCount
+unfolding operands commandTable ownCommands formIn
 pairAt-wiredAt s p = let e : p + 1 + 2 ≡ p + 3 = omega arith in rw e
 
 pairOperands-pairOf : (vs : List ℕ) → length vs ≡ 2 → pairOperands (pairOf vs) ≡ vs
@@ -83,7 +61,7 @@ module _ (n g : ℕ) where
   known-again k (c ∷ cs) h = (codedGate-gateOf c (h .0 .known), known-again (suc k) cs (h .1))
 
   wired-again : (vss : List (List ℕ)) → All (OutputFormed file.Stage n g) vss → All (λ vs. pairOperands (pairOf vs) ≡ vs) vss
-  unfolding operandCount
+  unfolding commandTable ownCommands formIn
   wired-again = All-map (OutputFormed file.Stage n g) (λ vs. pairOperands (pairOf vs) ≡ vs) (λ vs w. pairOperands-pairOf vs (w .whole))
 
   codes-gates : (k : ℕ) (cs : List Coded) → GatesFormed file.Stage n g k cs → All (CellFormed (2 * n + g)) (map gateOf cs)
@@ -94,19 +72,19 @@ module _ (n g : ℕ) where
         cell-in = r;
         holds = refl;
         whole = h .0 .whole ∙ kind-needs (c .code) (r .0) (r .1);
-        pins-in = All-map (λ v. names (roleOf file.Stage sort.Gate k) n g v ≡ true) (λ v. v < 2 * n + g) (named-net sort.Gate k n g) (c .operands) (h .0 .named);
+        pins-in = All-map (λ v. v < nameable (roleFor file.Stage sort.Gate) n g k) (λ v. v < 2 * n + g) (named-pin k n g) (c .operands) (h .0 .named);
       } in
       (subst (CellFormed (2 * n + g)) (sym (gate-cell c (h .0 .known))) formed, codes-gates (suc k) cs (h .1))
 
   wires-pairs : (vss : List (List ℕ)) → All (OutputFormed file.Stage n g) vss → All (RailsFormed (2 * n + g)) (map pairOf vss)
-  unfolding operandCount
+  unfolding commandTable ownCommands formIn
   wires-pairs [] h = tt
   wires-pairs (vs ∷ vss) h = (go vs (h .0 .whole) (h .0 .named), wires-pairs vss (h .1))
     where
-      go : (vs : List ℕ) → length vs ≡ 2 → All (λ v. names (roleOf file.Stage sort.Output g) n g v ≡ true) vs → RailsFormed (2 * n + g) (pairOf vs)
+      go : (vs : List ℕ) → length vs ≡ 2 → All (λ v. v < nameable (roleFor file.Stage sort.Output) n g g) vs → RailsFormed (2 * n + g) (pairOf vs)
       go [] e a = absurd (omega arith)
       go (x ∷ []) e a = absurd (omega arith)
-      go (x ∷ y ∷ vs) e a = record { rail0-in = named-net sort.Output g n g x (a .0); rail1-in = named-net sort.Output g n g y (a .1 .0) }
+      go (x ∷ y ∷ vs) e a = record { rail0-in = named-rail g n g x (a .0); rail1-in = named-rail g n g y (a .1 .0) }
 
 -- ---- written and read
 
@@ -115,11 +93,11 @@ pairs-view s os = ap (λ (h : ℕ → Pair). map h os) (fun-ext (λ p. sym (pair
 
 -- a stage that is written is read back
 module _ (most : Limits) (c : Stage) (fits : FileFits file.Stage most (c .inputs) (stageItems c)) where
-  pub read-writeStage : readFile file.Stage most (writeStage c) ≡ readable (c .inputs) (gatePlaces file.Stage 2 (stageItems c)) (outputPlaces file.Stage 2 (stageItems c))
+  pub read-writeStage : readFile file.Stage most (writeStage c) ≡ readable (placesOf file.Stage (c .inputs) (stageItems c))
   unfolding writeStage
   read-writeStage = read-write file.Stage most (c .inputs) (stageItems c) fits
 
-  pub stageOf-writeStage : All (λ g. g .hold ≡ true) (c .gates) → stageOf (writeStage c) (c .inputs) (gatePlaces file.Stage 2 (stageItems c)) (outputPlaces file.Stage 2 (stageItems c)) ≡ c
+  pub stageOf-writeStage : All (λ g. g .hold ≡ true) (c .gates) → stageOf (writeStage c) (placesOf file.Stage (c .inputs) (stageItems c)) ≡ c
   unfolding writeStage stageOf
   stageOf-writeStage hold =
       let codes = fits-formed file.Stage (c .inputs) (length (gatesIn (stageItems c))) 0 (stageItems c) (fits .items-fit) .0 in
@@ -127,36 +105,40 @@ module _ (most : Limits) (c : Stage) (fits : FileFits file.Stage most (c .inputs
       let known = known-back (c .inputs) g 0 (c .gates) (subst (GatesFormed file.Stage (c .inputs) g 0) (gatesIn-items gateOf codedGate pairOf pairOperands (c .gates) (c .outputs)) codes) hold in
       ap₂ (circuit (c .inputs))
       (gates-back gateOf codedGate pairOf pairOperands file.Stage most (c .inputs) (c .gates) (c .outputs) fits known)
-      (pairs-view (writeStage c) (outputPlaces file.Stage 2 (stageItems c))
+      (pairs-view (writeStage c) (placesOf file.Stage (c .inputs) (stageItems c) .outputs)
       ∙ outputs-back gateOf codedGate pairOf pairOperands file.Stage most (c .inputs) (c .gates) (c .outputs) fits (All-every (λ p. pairOf (pairOperands p) ≡ p) (λ p. refl) (c .outputs)))
 
-module _ (most : Limits) (s : List ℕ) (n : ℕ) (gs os : List ℕ) (e : readFile file.Stage most s ≡ readable n gs os) where
+module _ (most : Limits) (s : List ℕ) (p : Places) (e : readFile file.Stage most s ≡ readable p) where
   -- readable bytes with the gates first are what writing their stage gives
-  pub writeStage-stageOf : Bytes s → GatesFirst gs os → s ≡ writeStage (stageOf s n gs os)
+  pub writeStage-stageOf : Bytes s → GatesFirst (p .gates) (p .outputs) → s ≡ writeStage (stageOf s p)
   unfolding writeStage stageOf
   writeStage-stageOf small first =
-      rw (pairs-view s os) (write-back gateOf codedGate pairOf pairOperands file.Stage most n s small gs os e first (known-again n (length gs) 0) (wired-again n (length gs)))
+      rw (pairs-view s (p .outputs))
+      (write-back gateOf codedGate pairOf pairOperands file.Stage most s small p e first (known-again (p .inputs) (length (p .gates)) 0) (wired-again (p .inputs) (length (p .gates))))
 
-  pub stage-formed : StageFormed most (stageOf s n gs os)
+  pub stage-formed : StageFormed most (stageOf s p)
   unfolding stageOf
   stage-formed =
-      let r = readable-read file.Stage most s n gs os e in
-      let formed = readable-formed file.Stage most s n gs os e in
-      let g : length (map (λ p. gateOf (codedAt file.Stage s p)) gs) ≡ length gs = length-map gs (λ p. gateOf (codedAt file.Stage s p)) in
+      let r = readable-read file.Stage most s p e in
+      let formed = readable-formed file.Stage most s p e in
+      let gs = p .gates in
+      let os = p .outputs in
+      let g : length (map (λ at. gateOf (codedAt file.Stage s at)) gs) ≡ length gs = length-map gs (λ at. gateOf (codedAt file.Stage s at)) in
       let o : length (map (pairAt s) os) ≡ length os = length-map os (pairAt s) in
       record {
         inputs-in = r .inputs-in;
         gates-in = rw g (r .gates-in);
         outputs-in = rw o (r .outputs-in);
-        gates-formed = rw g (rw (map-map gateOf (codedAt file.Stage s) gs) at (codes-gates n (length gs) 0 (map (codedAt file.Stage s) gs) (formed .0)));
-        outputs-formed = rw (g, pairs-view s os) (rw (map-map pairOf (wiredAt file.Stage s) os) at (wires-pairs n (length gs) (map (wiredAt file.Stage s) os) (formed .1)));
+        gates-formed = rw g (rw (map-map gateOf (codedAt file.Stage s) gs) at (codes-gates (p .inputs) (length gs) 0 (map (codedAt file.Stage s) gs) (formed .0)));
+        outputs-formed = rw (g, pairs-view s os) (rw (map-map pairOf (wiredAt file.Stage s) os) at (wires-pairs (p .inputs) (length gs) (map (wiredAt file.Stage s) os) (formed .1)));
       }
 
 -- ---- a well-formed stage, and no other, fits a file
 
 module _ (n g : ℕ) (small : 2 * n + g ≤ absent) where
-  cells-fit : (k : ℕ) (xs : List Gate) (rest : List Item) → All (CellFormed (2 * n + g)) xs → ((k : ℕ) → ItemsFit file.Stage n g k rest) → ItemsFit file.Stage n g k (map (λ x. gate (codedGate x)) xs ++ rest)
-  unfolding names roleOf
+  cells-fit : (k : ℕ) (xs : List Gate) (rest : List Item) → All (CellFormed (2 * n + g)) xs →
+      ((k : ℕ) → ItemsFit file.Stage n g k rest) → ItemsFit file.Stage n g k (map (λ x. gate (codedGate x)) xs ++ rest)
+  unfolding nameable commandTable ownCommands formIn
   cells-fit k [] rest h r = r k
   cells-fit k (x ∷ xs) rest h r =
       let inside = h .0 .cell-in in (
@@ -165,13 +147,13 @@ module _ (n g : ℕ) (small : 2 * n + g ≤ absent) where
           known = kind-some (x .cell) (inside .0) (inside .1);
           whole = h .0 .whole ∙ sym (kind-needs (x .cell) (inside .0) (inside .1));
           used = All-map (λ v. v < 2 * n + g) (λ v. v < absent) (λ v l. omega arith) (x .pins) (h .0 .pins-in);
-          named = All-map (λ v. v < 2 * n + g) (λ v. ltb v (2 * n + g) ≡ true) (λ v l. lt-ltb v (2 * n + g) l) (x .pins) (h .0 .pins-in);
+          named = h .0 .pins-in;
         },
         cells-fit (suc k) xs rest (h .1) r,
       )
 
   rails-fit : (ps : List Pair) → All (RailsFormed (2 * n + g)) ps → (k : ℕ) → ItemsFit file.Stage n g k (map (λ p. output (pairOperands p)) ps)
-  unfolding names roleOf operandCount
+  unfolding nameable commandTable ownCommands formIn
   rails-fit [] h k = tt
   rails-fit (p ∷ ps) h k =
       let a = h .0 .rail0-in in
@@ -179,7 +161,7 @@ module _ (n g : ℕ) (small : 2 * n + g ≤ absent) where
         record {
           whole = refl;
           u16s = (omega arith, (omega arith, tt));
-          named = (lt-ltb (p .rail0) (2 * n + g) a, (lt-ltb (p .rail1) (2 * n + g) b, tt));
+          named = (a, (b, tt));
         },
         rails-fit ps (h .1) k,
       )
@@ -188,15 +170,19 @@ module _ (most : Limits) (c : Stage) where
   pub stage-fits : most .inputs < 256 → 2 * most .inputs + most .gates ≤ absent → StageFormed most c → FileFits file.Stage most (c .inputs) (stageItems c)
   stage-fits low small h =
       let g : length (gatesIn (stageItems c)) ≡ length (c .gates) = ap length (gatesIn-items gateOf codedGate pairOf pairOperands (c .gates) (c .outputs)) ∙ length-map (c .gates) codedGate in
-      let o : length (outputsIn (stageItems c)) ≡ length (c .outputs) = ap length (outputsIn-items gateOf codedGate pairOf pairOperands (c .gates) (c .outputs)) ∙ length-map (c .outputs) pairOperands in
+      let o : length (outputsIn (stageItems c)) ≡ length (c .outputs) =
+      ap length (outputsIn-items gateOf codedGate pairOf pairOperands (c .gates) (c .outputs)) ∙ length-map (c .outputs) pairOperands in
       let in-reach : nets c ≤ absent = omega (arith, h .inputs-in, h .gates-in) in
       record {
         inputs-in = h .inputs-in;
         inputs-byte = omega (arith, h .inputs-in);
         gates-in = rw g (h .gates-in);
         outputs-in = rw o (h .outputs-in);
-        items-fit = rw g (cells-fit (c .inputs) (length (c .gates)) in-reach 0 (c .gates) (map (λ p. output (pairOperands p)) (c .outputs)) (h .gates-formed) (rails-fit (c .inputs) (length (c .gates)) in-reach (c .outputs) (h .outputs-formed)));
+        items-fit = rw g (cells-fit (c .inputs) (length (c .gates)) in-reach 0 (c .gates) (map (λ p. output (pairOperands p)) (c .outputs)) (h .gates-formed)
+            (rails-fit (c .inputs) (length (c .gates)) in-reach (c .outputs) (h .outputs-formed)));
       }
 
   pub fits-stage : FileFits file.Stage most (c .inputs) (stageItems c) → All (λ g. g .hold ≡ true) (c .gates) → StageFormed most c
-  fits-stage fits hold = subst (StageFormed most) (stageOf-writeStage most c fits hold) (stage-formed most (writeStage c) (c .inputs) (gatePlaces file.Stage 2 (stageItems c)) (outputPlaces file.Stage 2 (stageItems c)) (read-writeStage most c fits))
+  fits-stage fits hold =
+      subst (StageFormed most) (stageOf-writeStage most c fits hold)
+      (stage-formed most (writeStage c) (placesOf file.Stage (c .inputs) (stageItems c)) (read-writeStage most c fits))

@@ -1,281 +1,355 @@
 -- A file is readable exactly where items are laid in it; the walk of the reader over the commands is followed once, both ways.
 -- Assumes nothing.
-use Prim.Native.Nat.{ℕ, zero, suc, _+_, _-_, _≤_, _<_}
+use Prim.Native.Nat.{ℕ, zero, suc, _+_, _-_, _*_, _≤_, _<_}
 use native.Mathlib.Omega.{arith}
+use native.Mathlib.Nat.{mul-le-mul-left}
 use mathlib.Core.Path.{_≡_, refl, sym, ap, ap₂, _∙_}
 use mathlib.Core.Bool.{Bool, true, false, cond}
 use mathlib.Core.List.{List, [], _∷_, _++_, append-nil}
-use lib.ListN.{length, length-append}
+use lib.ListN.{length, length-append, List·getD-eq-default}
 use lib.Seq.{append-snoc}
 use lib.Dec.{eqb, ltb}
 use borrow.Author.Tests.{lt-ltb, le-ltb, ne-eqb, ltb-false, eqb-true, eqb-false, not-false}
-use Rattle.netlist.specs.declared.File.{File}
-use Rattle.netlist.specs.declared.Sort.{Sort}
-use Rattle.netlist.specs.declared.Sort.the-variants as sort
-use Rattle.netlist.specs.declared.Limits.{Limits}
-use Rattle.netlist.specs.declared.Next.{Next}
-use Rattle.netlist.specs.declared.Next.the-variants.{Command, Refused}
-use Rattle.netlist.specs.declared.Found.{Found}
-use Rattle.netlist.specs.declared.Found.the-variants.{At, Nothing}
+use Rattle.netlist.specs.Types.{File, Sort, Form, Limits, Counts, Cursor, Next, Command, Refused, Found, At, Nothing}
+use Rattle.netlist.specs.Types.sort
 use Rattle.netlist.specs.Bytes.{byte}
-use Rattle.netlist.specs.Commands.{sortOf, operandCount, operandsFrom, width, needed, stray, nextAt}
-use Rattle.netlist.specs.Reading.{orLater, nameless, namelessIn, namelessFrom, roleOf, Reading, refused, readable, unlessNameless, finish, onCommand, onNext, countsOf, readFrom, readFile}
+use Rattle.netlist.specs.Commands.{whenFound, isSort, formOf, width, needed, stray, nextAt}
+use Rattle.netlist.specs.Reading.{nameable, nameless, usedOperands, namelessAt, namelessFrom, Places, noPlaces, countsOf, noted, Reading, refused, readable, finish, onNext, readFrom, readFile}
 use Rattle.netlist.specs.Content.{codedAt}
-use Rattle.netlist.specs.Writing.{Item, gate, output, gatesIn, outputsIn, gatePlaces, outputPlaces}
+use Rattle.netlist.specs.Writing.{formFor, widthFor, operandCount, roleFor, Item, gate, output, gatesIn, outputsIn, gatePlaces, outputPlaces, placesOf}
+use Rattle.netlist.specs.Read.{farthest}
 use Rattle.netlist.proofs.Operands.{nameless-named, named-nameless}
-use Rattle.netlist.proofs.Encoding.{width-inputs, width-end}
-use Rattle.netlist.proofs.OneCommand.{clash, There, there-next, next-there}
+use Rattle.netlist.proofs.Encoding.{clash, gate-form, output-form, inputs-form, end-form, width-gate, width-output, width-inputs, width-end}
+use Rattle.netlist.proofs.OneCommand.{There, there-next, next-there}
 use Rattle.netlist.proofs.Laid.{Laid, Named, FileLaid, wiredAt, laid-operands, length-gatePlaces, length-outputPlaces, laid-length}
 
 -- ---- the end command
 
 -- the tests for 8, 7 and 9 were passed
-ended : (x y : Bool) (z : Found) (p q n N : ℕ) (gs os G O : List ℕ) → cond x (refused 8 p) (cond y (refused 7 q) (unlessNameless z (readable n gs os))) ≡ readable N G O → (x ≡ false) × (y ≡ false) × (z ≡ Nothing) × (readable n gs os ≡ readable N G O)
-unfolding unlessNameless
-ended true y z p q n N gs os G O e = absurd (clash (cc))
-ended false true z p q n N gs os G O e = absurd (clash (cc))
-ended false false (At r) p q n N gs os G O e = absurd (clash (cc))
-ended false false Nothing p q n N gs os G O e = (refl, refl, refl, e)
+ended : (x y : Bool) (z : Found) (a b : ℕ) (p P : Places) → cond x (refused 8 a) (cond y (refused 7 b) (whenFound z (refused 9) (readable p))) ≡ readable P →
+    (x ≡ false) × (y ≡ false) × (z ≡ Nothing) × (p ≡ P)
+unfolding whenFound
+ended true y z a b p P e = absurd (clash (cc))
+ended false true z a b p P e = absurd (clash (cc))
+ended false false (At r) a b p P e = absurd (clash (cc))
+ended false false Nothing a b p P e = (refl, refl, refl, cc)
 
 -- with bytes after the end command: 8 at it where there is no output, and else 7 at the first of them
-pub finish-more : (f : File) (s : List ℕ) (at n : ℕ) (gs os : List ℕ) → at + 1 < length s → finish f s at n gs os ≡ cond (eqb (length os) 0) (refused 8 at) (refused 7 (at + 1))
+pub finish-more : (f : File) (s : List ℕ) (at : ℕ) (p : Places) → at + 1 < length s → finish f s at p ≡ cond (eqb (length (p .outputs)) 0) (refused 8 at) (refused 7 (at + 1))
 unfolding finish
-finish-more f s at n gs os h =
-    ap (λ (more : Bool). cond (eqb (length os) 0) (refused 8 at) (cond more (refused 7 (at + 1)) (unlessNameless (namelessFrom (length s) f n (length gs) s 0 0) (readable n gs os)))) (lt-ltb (at + 1) (length s) h)
+finish-more f s at p h = rw (lt-ltb (at + 1) (length s) h)
 
-not-first : (at : ℕ) → 1 ≤ at → eqb at 0 ≡ false
+-- ---- the order of commands
+
+pub not-first : (at : ℕ) → 1 ≤ at → eqb at 0 ≡ false
 not-first at h = ne-eqb at 0 (omega arith)
+
+pub first-inputs : (at : ℕ) → stray at sort.Inputs ≡ false → at ≡ 0
+unfolding stray
+first-inputs at e = eqb-true at 0 (not-false (eqb at 0) e)
+
+-- ---- places with those of some items after them
+
+abbrev added : File → ℕ → List Item → Places → Places
+added f at items p = record { inputs = p .inputs; gates = p .gates ++ gatePlaces f at items; outputs = p .outputs ++ outputPlaces f at items }
+
+abbrev places : ℕ → List ℕ → List ℕ → Places
+places n gs os = record { inputs = n; gates = gs; outputs = os }
+
+module _ (f : File) (s : List ℕ) (at : ℕ) (p : Places) where
+  added-nil : added f at [] p ≡ p
+  added-nil = ap₂ (places (p .inputs)) (append-nil (p .gates)) (append-nil (p .outputs))
+
+  module _ (items : List Item) where
+    added-gate : (at′ : ℕ) → added f at′ items (noted sort.Gate s at p) ≡ places (p .inputs) (p .gates ++ (at ∷ gatePlaces f at′ items)) (p .outputs ++ outputPlaces f at′ items)
+    unfolding noted
+    added-gate at′ = ap (λ (gs : List ℕ). places (p .inputs) gs (p .outputs ++ outputPlaces f at′ items)) (append-snoc (p .gates) at (gatePlaces f at′ items))
+
+    added-output : (at′ : ℕ) → added f at′ items (noted sort.Output s at p) ≡ places (p .inputs) (p .gates ++ gatePlaces f at′ items) (p .outputs ++ (at ∷ outputPlaces f at′ items))
+    unfolding noted
+    added-output at′ = ap (places (p .inputs) (p .gates ++ gatePlaces f at′ items)) (append-snoc (p .outputs) at (outputPlaces f at′ items))
+
+-- ---- where commands stand
+
+-- the place of a command, after the gates and outputs before it, of which there are no more than there may be
+pub record Near (f : File) (most : Limits) (at : ℕ) (c : Counts) : Type 0 where
+  pub place : at ≤ 2 + widthFor f sort.Gate * c .gates + widthFor f sort.Output * c .outputs
+  pub gates-in : c .gates ≤ most .gates
+  pub outputs-in : c .outputs ≤ most .outputs
+
+module _ (f : File) (most : Limits) where
+  pub near-start : Near f most 0 (countsOf noPlaces)
+  near-start = record { place = omega arith; gates-in = omega arith; outputs-in = omega arith }
+
+  pub near-far : {at : ℕ} {c : Counts} → Near f most at c → at + widthFor f sort.Gate ≤ farthest f most
+  near-far h = omega (arith, h .place, mul-le-mul-left (widthFor f sort.Gate) (h .gates-in), mul-le-mul-left (widthFor f sort.Output) (h .outputs-in))
+
+  pub near-noted : (s : List ℕ) (at : ℕ) (p : Places) (c : Sort) → isSort sort.End c ≡ false → Near f most at (countsOf p) → There f most s at (countsOf p) c →
+      Near f most (at + widthFor f c) (countsOf (noted c s at p))
+  unfolding noted stray
+  near-noted s at p sort.Inputs more h t = record { place = omega (arith, width-inputs f, first-inputs at (t .ordered)); gates-in = h .gates-in; outputs-in = h .outputs-in }
+  near-noted s at p sort.Gate more h t =
+      rw (length-append (p .gates) (at ∷ [])) (record { place = omega (arith, h .place); gates-in = omega (arith, t .taken .0); outputs-in = h .outputs-in })
+  near-noted s at p sort.Output more h t =
+      rw (length-append (p .outputs) (at ∷ [])) (record { place = omega (arith, h .place); gates-in = h .gates-in; outputs-in = omega (arith, t .taken) })
+  near-noted s at p sort.End more h t = absurd (clash (cc))
+  near-noted s at p sort.Unknown more h t = absurd (clash (let o = t .ordered in cc))
 
 -- ---- from a readable file to its items
 
-module _ (f : File) (most : Limits) (s : List ℕ) (N : ℕ) (G O : List ℕ) where
-  -- what the walk from a place on has found, where n inputs, gates and outputs stand before it
-  pub record Walked (at n : ℕ) (gs os : List ℕ) : Type 0 where
+-- what the end command shows
+pub record Ended (f : File) (most : Limits) (s : List ℕ) (p : Places) : Type 0 where
+  pub gates-in : length (p .gates) ≤ most .gates
+  pub outputs-in : (1 ≤ length (p .outputs)) × (length (p .outputs) ≤ most .outputs)
+  pub all-named : namelessFrom (length s) f (p .inputs) (length (p .gates)) s 0 0 ≡ Nothing
+
+module _ (f : File) (most : Limits) (s : List ℕ) (P : Places) where
+  -- what the walk from a position on has found, where some places stand before it
+  pub record Walked (at : ℕ) (p : Places) : Type 0 where
     pub items : List Item
     pub laid : Laid f s at items
-    pub inputs-same : n ≡ N
-    pub gates : G ≡ gs ++ gatePlaces f at items
-    pub outputs : O ≡ os ++ outputPlaces f at items
-    pub gates-in : length G ≤ most .gates
-    pub outputs-in : (1 ≤ length O) × (length O ≤ most .outputs)
-    pub all-named : namelessFrom (length s) f N (length G) s 0 0 ≡ Nothing
+    pub same : P ≡ added f at items p
+    pub at-end : Ended f most s P
 
-  -- one item more
-  module _ (at n : ℕ) (gs os : List ℕ) where
-    gate-before : There f most s at (countsOf n gs os) sort.Gate → Walked (at + width f sort.Gate) n (gs ++ (at ∷ [])) os → Walked at n gs os
-    gate-before t w = record {
-      items = gate (codedAt f s at) ∷ w .items;
-      laid = (record { command = t .command; room = t .room; content = refl; known = t .taken .1; fits = t .taken .2 }, w .laid);
-      inputs-same = w .inputs-same;
-      gates = w .gates ∙ append-snoc gs at (gatePlaces f (at + width f sort.Gate) (w .items));
-      outputs = w .outputs;
-      gates-in = w .gates-in;
-      outputs-in = w .outputs-in;
-      all-named = w .all-named;
-    }
+  -- a reading that goes on from later places finds what stands there
+  abbrev Walks : (ℕ → Places → Reading) → Type 0
+  Walks go = (at : ℕ) (p : Places) → 1 ≤ at → Near f most at (countsOf p) → go at p ≡ readable P → Walked at p
 
-    output-before : There f most s at (countsOf n gs os) sort.Output → Walked (at + width f sort.Output) n gs (os ++ (at ∷ [])) → Walked at n gs os
-    output-before t w = record {
-      items = output (wiredAt f s at) ∷ w .items;
-      laid = (record { command = t .command; room = t .room; content = refl }, w .laid);
-      inputs-same = w .inputs-same;
-      gates = w .gates;
-      outputs = w .outputs ∙ append-snoc os at (outputPlaces f (at + width f sort.Output) (w .items));
-      gates-in = w .gates-in;
-      outputs-in = w .outputs-in;
-      all-named = w .all-named;
-    }
-
-    end-walked : length gs ≤ most .gates → length os ≤ most .outputs → There f most s at (countsOf n gs os) sort.End → finish f s at n gs os ≡ readable N G O → Walked at n gs os
-    unfolding finish
-    end-walked few thin t e =
-        let d = ended (eqb (length os) 0) (ltb (at + 1) (length s)) (namelessFrom (length s) f n (length gs) s 0 0) at (at + 1) n N gs os G O e in
-        let some = eqb-false (length os) 0 (d .0) in
-        let read = d .3 in
-        let x : n ≡ N = cc in
-        let y : gs ≡ G = cc in
-        let z : os ≡ O = cc in
+  module _ (go : ℕ → Places → Reading) (later : Walks go) (at : ℕ) (p : Places) (further : 1 ≤ at) (near : Near f most at (countsOf p)) where
+    walked-command : (c : Sort) (next : Cursor) → next .at ≡ at + widthFor f c → There f most s at (countsOf p) c → onNext go f s at p (Command c next) ≡ readable P → Walked at p
+    unfolding onNext finish stray
+    walked-command sort.Inputs next a t e = absurd (omega (arith, first-inputs at (t .ordered)))
+    walked-command sort.Gate next a t e =
+        let w = later (at + widthFor f sort.Gate) (noted sort.Gate s at p) (omega arith) (near-noted f most s at p sort.Gate refl near t) (rw a at e) in
+        record {
+          items = gate (codedAt f s at) ∷ w .items;
+          laid = (record { command = t .command; room = t .room; content = refl; known = t .taken .1; fits = rw (gate-form f) at (t .taken .2) }, w .laid);
+          same = w .same ∙ added-gate f s at p (w .items) (at + widthFor f sort.Gate);
+          at-end = w .at-end;
+        }
+    walked-command sort.Output next a t e =
+        let w = later (at + widthFor f sort.Output) (noted sort.Output s at p) (omega arith) (near-noted f most s at p sort.Output refl near t) (rw a at e) in
+        record {
+          items = output (wiredAt f s at) ∷ w .items;
+          laid = (record { command = t .command; room = t .room; content = refl }, w .laid);
+          same = w .same ∙ added-output f s at p (w .items) (at + widthFor f sort.Output);
+          at-end = w .at-end;
+        }
+    walked-command sort.End next a t e =
+        let d = ended (eqb (length (p .outputs)) 0) (ltb (at + 1) (length s)) (namelessFrom (length s) f (p .inputs) (length (p .gates)) s 0 0) at (at + 1) p P e in
+        let some = eqb-false (length (p .outputs)) 0 (d .0) in
         record {
           items = [];
           laid = record { command = t .command; last = omega (arith, t .room, width-end f, ltb-false (at + 1) (length s) (d .1)) };
-          inputs-same = x;
-          gates = sym y ∙ sym (append-nil gs);
-          outputs = sym z ∙ sym (append-nil os);
-          gates-in = rw y at few;
-          outputs-in = rw z at (let s : (1 ≤ length os) × (length os ≤ most .outputs) = (omega arith, thin) in s);
-          all-named = rw (x, y) at (d .2);
+          same = sym (added-nil f s at p ∙ d .3);
+          at-end = rw (d .3) at (let x : Ended f most s p = record { gates-in = near .gates-in; outputs-in = (omega arith, near .outputs-in); all-named = d .2 } in x);
         }
-
-  -- a reading that goes on from later places finds what stands there
-  abbrev Walks : (ℕ → ℕ → List ℕ → List ℕ → Reading) → Type 0
-  Walks go = (at n : ℕ) (gs os : List ℕ) → 1 ≤ at → length gs ≤ most .gates → length os ≤ most .outputs → go at n gs os ≡ readable N G O → Walked at n gs os
-
-  walked-command : (go : ℕ → ℕ → List ℕ → List ℕ → Reading) → Walks go → (at n : ℕ) (gs os : List ℕ) → 1 ≤ at → length gs ≤ most .gates → length os ≤ most .outputs →
-      (c : Sort) (next : ℕ) → next ≡ at + width f c → There f most s at (countsOf n gs os) c → onCommand go f s at c next n gs os ≡ readable N G O → Walked at n gs os
-  unfolding onCommand countsOf stray
-  walked-command go later at n gs os further few thin sort.Inputs next a t e = absurd (eqb-false at 0 (not-first at further) (eqb-true at 0 (not-false (eqb at 0) (t .ordered))))
-  walked-command go later at n gs os further few thin sort.Gate next a t e =
-      gate-before at n gs os t (later (at + width f sort.Gate) n (gs ++ (at ∷ [])) os (omega arith) (omega (arith, length-append gs (at ∷ []), t .taken .0)) thin (rw a at e))
-  walked-command go later at n gs os further few thin sort.Output next a t e =
-      output-before at n gs os t (later (at + width f sort.Output) n gs (os ++ (at ∷ [])) (omega arith) few (omega (arith, length-append os (at ∷ []), t .taken)) (rw a at e))
-  walked-command go later at n gs os further few thin sort.End next a t e = end-walked at n gs os few thin t e
-  walked-command go later at n gs os further few thin sort.Unknown next a t e = absurd (t .taken)
+    walked-command sort.Unknown next a t e = absurd (clash (let o = t .ordered in cc))
 
   walked : (fuel : ℕ) → Walks (readFrom fuel f most s)
   unfolding readFrom onNext
-  walked zero at n gs os further few thin e = absurd (clash (cc))
-  walked (suc fuel) at n gs os further few thin e = go (walked fuel) (nextAt f most s at (countsOf n gs os)) refl e
+  walked zero at p further near e = absurd (clash (cc))
+  walked (suc fuel) at p further near e = go (walked fuel) (nextAt f most s at (countsOf p)) refl e
     where
-      go : Walks (readFrom fuel f most s) → (x : Next) → nextAt f most s at (countsOf n gs os) ≡ x → onNext (readFrom fuel f most s) f s at x n gs os ≡ readable N G O → Walked at n gs os
-      go later (Refused number place) p q = absurd (clash (cc))
-      go later (Command c next) p q =
-          let t = next-there f most s at (countsOf n gs os) c next p in
-          walked-command (readFrom fuel f most s) later at n gs os further few thin c (next .at) (t .0) (t .1) q
+      go : Walks (readFrom fuel f most s) → (x : Next) → nextAt f most s at (countsOf p) ≡ x → onNext (readFrom fuel f most s) f s at p x ≡ readable P → Walked at p
+      go later (Refused number place) is q = absurd (clash (cc))
+      go later (Command c next) is q =
+          let t = next-there f most s at (countsOf p) c next is in
+          walked-command (readFrom fuel f most s) later at p further near c next (t .0) (t .1) q
 
   -- the first command is the count of inputs
-  started : readFile f most s ≡ readable N G O → There f most s 0 (countsOf 0 [] []) sort.Inputs × Walked 2 (byte s 1) [] []
-  unfolding readFile readFrom onNext onCommand stray
-  started e = go (nextAt f most s 0 (countsOf 0 [] [])) refl e
+  abbrev Started : Type 0
+  Started = There f most s 0 (countsOf noPlaces) sort.Inputs × Walked 2 (places (byte s 1) [] [])
+
+  started : readFile f most s ≡ readable P → Started
+  unfolding readFile readFrom onNext stray noted
+  started e = go (nextAt f most s 0 (countsOf noPlaces)) refl e
     where
-      first : (c : Sort) (next : ℕ) → next ≡ 0 + width f c → There f most s 0 (countsOf 0 [] []) c → onCommand (readFrom (length s) f most s) f s 0 c next 0 [] [] ≡ readable N G O → There f most s 0 (countsOf 0 [] []) sort.Inputs × Walked 2 (byte s 1) [] []
+      first : (c : Sort) (next : Cursor) → next .at ≡ 0 + widthFor f c → There f most s 0 (countsOf noPlaces) c →
+          onNext (readFrom (length s) f most s) f s 0 noPlaces (Command c next) ≡ readable P → Started
       first sort.Inputs next a t q =
-          let b : next ≡ 2 = omega (arith, width-inputs f) in
-          (t, walked (length s) 2 (byte s 1) [] [] (omega arith) (omega arith) (omega arith) (rw b at q))
+          let b : next .at ≡ 2 = omega (arith, width-inputs f) in
+          (t, walked (length s) 2 (places (byte s 1) [] []) (omega arith) (record { place = omega arith; gates-in = omega arith; outputs-in = omega arith }) (rw b at q))
       first sort.Gate next a t q = absurd (clash (let o = t .ordered in cc))
       first sort.Output next a t q = absurd (clash (let o = t .ordered in cc))
       first sort.End next a t q = absurd (clash (let o = t .ordered in cc))
-      first sort.Unknown next a t q = absurd (t .taken)
+      first sort.Unknown next a t q = absurd (clash (let o = t .ordered in cc))
 
-      go : (x : Next) → nextAt f most s 0 (countsOf 0 [] []) ≡ x → onNext (readFrom (length s) f most s) f s 0 x 0 [] [] ≡ readable N G O → There f most s 0 (countsOf 0 [] []) sort.Inputs × Walked 2 (byte s 1) [] []
-      go (Refused number place) p q = absurd (clash (cc))
-      go (Command c next) p q =
-          let t = next-there f most s 0 (countsOf 0 [] []) c next p in
-          first c (next .at) (t .0) (t .1) q
+      go : (x : Next) → nextAt f most s 0 (countsOf noPlaces) ≡ x → onNext (readFrom (length s) f most s) f s 0 noPlaces x ≡ readable P → Started
+      go (Refused number place) is q = absurd (clash (cc))
+      go (Command c next) is q = let t = next-there f most s 0 (countsOf noPlaces) c next is in first c next (t .0) (t .1) q
 
 -- ---- 9, along the items
 
-or-later : (x later : Found) → orLater x later ≡ Nothing → (x ≡ Nothing) × (later ≡ Nothing)
-unfolding orLater
+or-later : (x later : Found) → whenFound x At later ≡ Nothing → (x ≡ Nothing) × (later ≡ Nothing)
+unfolding whenFound
 or-later (At p) later e = absurd (clash (cc))
 or-later Nothing later e = (refl, e)
+
+module _ (f : File) (n g : ℕ) (s : List ℕ) (fuel at k : ℕ) where
+  -- what is found in the operands of a gate and of an output, and after a command of some bytes
+  abbrev inGate : Found
+  inGate = nameless (nameable (roleFor f sort.Gate) n g k) s (at + 2) (needed f (byte s (at + 1)))
+
+  abbrev inOutput : Found
+  inOutput = nameless (nameable (roleFor f sort.Output) n g k) s (at + 1) (operandCount f sort.Output)
+
+  abbrev onFrom : ℕ → ℕ → Found
+  onFrom w k′ = namelessFrom fuel f n g s (at + w) k′
+
+  -- the search at one command, by its row
+  step : Form → Found
+  step form = whenFound (namelessAt f n g s at k form) At (onFrom (width form) (cond (isSort sort.Gate (form .sort)) (k + 1) k))
+
+  step-gate : formOf f (byte s at) ≡ formFor f sort.Gate → namelessFrom (suc fuel) f n g s at k ≡ whenFound inGate At (onFrom (widthFor f sort.Gate) (suc k))
+  unfolding namelessFrom namelessAt usedOperands step
+  step-gate e =
+      let one : k + 1 ≡ suc k = omega arith in
+      ap step (e ∙ gate-form f) ∙ rw one (ap (λ (w : ℕ). whenFound inGate At (onFrom w (suc k))) (sym (width-gate f)))
+
+  step-output : formOf f (byte s at) ≡ formFor f sort.Output → namelessFrom (suc fuel) f n g s at k ≡ whenFound inOutput At (onFrom (widthFor f sort.Output) k)
+  unfolding namelessFrom namelessAt usedOperands step
+  step-output e = ap step (e ∙ output-form f) ∙ ap (λ (w : ℕ). whenFound inOutput At (onFrom w k)) (sym (width-output f))
+
+  step-inputs : formOf f (byte s at) ≡ formFor f sort.Inputs → namelessFrom (suc fuel) f n g s at k ≡ onFrom 2 k
+  unfolding namelessFrom namelessAt usedOperands step nameless whenFound
+  step-inputs e = ap step (e ∙ inputs-form f)
+
+  step-end : formOf f (byte s at) ≡ formFor f sort.End → namelessFrom (suc fuel) f n g s at k ≡ onFrom 1 k
+  unfolding namelessFrom namelessAt usedOperands step nameless whenFound
+  step-end e = ap step (e ∙ end-form f)
+
+  -- where nothing is found, nothing is found in the operands and after the command
+  gate-none : formOf f (byte s at) ≡ formFor f sort.Gate → namelessFrom (suc fuel) f n g s at k ≡ Nothing → (inGate ≡ Nothing) × (onFrom (widthFor f sort.Gate) (suc k) ≡ Nothing)
+  gate-none e none = or-later inGate (onFrom (widthFor f sort.Gate) (suc k)) (sym (step-gate e) ∙ none)
+
+  output-none : formOf f (byte s at) ≡ formFor f sort.Output → namelessFrom (suc fuel) f n g s at k ≡ Nothing → (inOutput ≡ Nothing) × (onFrom (widthFor f sort.Output) k ≡ Nothing)
+  output-none e none = or-later inOutput (onFrom (widthFor f sort.Output) k) (sym (step-output e) ∙ none)
+
+-- past the last byte nothing is found
+pub nameless-past : (f : File) (n g : ℕ) (s : List ℕ) (fuel at k : ℕ) → length s ≤ at → namelessFrom fuel f n g s at k ≡ Nothing
+unfolding namelessFrom
+nameless-past f n g s zero at k h = refl
+nameless-past f n g s (suc fuel) at k h =
+    step-end f n g s fuel at k (ap (formOf f) (List·getD-eq-default s 0 h)) ∙ nameless-past f n g s fuel (at + 1) k (omega arith)
 
 module _ (f : File) (n g : ℕ) (s : List ℕ) where
   -- the test for 9 finds nothing exactly where each operand names what it has to name
   named-walk : (fuel at k : ℕ) (items : List Item) → Laid f s at items → length s ≤ at + fuel → namelessFrom fuel f n g s at k ≡ Nothing → Named f n g k items
-  unfolding namelessFrom namelessIn operandsFrom width
   named-walk fuel at k [] h l e = tt
-  named-walk zero at k (gate c ∷ items) h l e = absurd (omega (arith, h .0 .room))
-  named-walk zero at k (output vs ∷ items) h l e = absurd (omega (arith, h .0 .room))
+  named-walk zero at k (gate c ∷ items) h l e = absurd (omega (arith, h .0 .room, width-gate f))
+  named-walk zero at k (output vs ∷ items) h l e = absurd (omega (arith, h .0 .room, width-output f))
   named-walk (suc fuel) at k (gate c ∷ items) h l e =
-      let p : k + 1 ≡ suc k = omega arith in
-      let d = or-later (nameless (roleOf f sort.Gate k) n g s (at + 2) (needed f (byte s (at + 1)))) (namelessFrom fuel f n g s (at + width f sort.Gate) (k + 1)) (rw (h .0 .command) at e) in (
-        rw (laid-operands (h .0)) at (nameless-named (roleOf f sort.Gate k) n g s (at + 2) (needed f (byte s (at + 1))) (d .0)),
-        named-walk fuel (at + width f sort.Gate) (suc k) items (h .1) (omega arith) (rw p at (d .1)),
+      let d = gate-none f n g s fuel at k (h .0 .command) e in (
+        rw (laid-operands (h .0)) at (nameless-named (nameable (roleFor f sort.Gate) n g k) s (at + 2) (needed f (byte s (at + 1))) (d .0)),
+        named-walk fuel (at + widthFor f sort.Gate) (suc k) items (h .1) (omega (arith, width-gate f)) (d .1),
       )
   named-walk (suc fuel) at k (output vs ∷ items) h l e =
-      let d = or-later (nameless (roleOf f sort.Output k) n g s (at + 1) (operandCount f sort.Output)) (namelessFrom fuel f n g s (at + width f sort.Output) k) (rw (h .0 .command) at e) in (
-        rw (h .0 .content) at (nameless-named (roleOf f sort.Output k) n g s (at + 1) (operandCount f sort.Output) (d .0)),
-        named-walk fuel (at + width f sort.Output) k items (h .1) (omega arith) (d .1),
+      let d = output-none f n g s fuel at k (h .0 .command) e in (
+        rw (h .0 .content) at (nameless-named (nameable (roleFor f sort.Output) n g k) s (at + 1) (operandCount f sort.Output) (d .0)),
+        named-walk fuel (at + widthFor f sort.Output) k items (h .1) (omega (arith, width-output f)) (d .1),
       )
 
   walk-named : (fuel at k : ℕ) (items : List Item) → Laid f s at items → Named f n g k items → namelessFrom fuel f n g s at k ≡ Nothing
-  unfolding namelessFrom namelessIn operandsFrom orLater
+  unfolding namelessFrom whenFound
   walk-named zero at k items h m = refl
-  walk-named (suc fuel) at k [] h m = rw (h .command)
+  walk-named (suc fuel) at k [] h m = step-end f n g s fuel at k (h .command) ∙ nameless-past f n g s fuel (at + 1) k (omega (arith, h .last))
   walk-named (suc fuel) at k (gate c ∷ items) h m =
-      let p : k + 1 ≡ suc k = omega arith in
-      rw (h .0 .command, named-nameless (roleOf f sort.Gate k) n g s (at + 2) (needed f (byte s (at + 1))) (rw (laid-operands (h .0)) (m .0)), p)
-      (walk-named fuel (at + width f sort.Gate) (suc k) items (h .1) (m .1))
+      step-gate f n g s fuel at k (h .0 .command)
+      ∙ rw (named-nameless (nameable (roleFor f sort.Gate) n g k) s (at + 2) (needed f (byte s (at + 1))) (rw (laid-operands (h .0)) (m .0)))
+      (walk-named fuel (at + widthFor f sort.Gate) (suc k) items (h .1) (m .1))
   walk-named (suc fuel) at k (output vs ∷ items) h m =
-      rw (h .0 .command, named-nameless (roleOf f sort.Output k) n g s (at + 1) (operandCount f sort.Output) (rw (h .0 .content) (m .0)))
-      (walk-named fuel (at + width f sort.Output) k items (h .1) (m .1))
+      step-output f n g s fuel at k (h .0 .command)
+      ∙ rw (named-nameless (nameable (roleFor f sort.Output) n g k) s (at + 1) (operandCount f sort.Output) (rw (h .0 .content) (m .0)))
+      (walk-named fuel (at + widthFor f sort.Output) k items (h .1) (m .1))
 
 -- ---- from items to a readable file
 
-module _ (f : File) (most : Limits) (s : List ℕ) (n last : ℕ) (ends : length s ≡ last + 1) where
+module _ (f : File) (most : Limits) (s : List ℕ) (last : ℕ) (ends : length s ≡ last + 1) where
   -- the walk over the items comes to the end command, the last byte
-  walk-laid : (fuel at : ℕ) (gs os : List ℕ) (items : List Item) → Laid f s at items → 1 ≤ at → length s < at + fuel →
-      length gs + length (gatesIn items) ≤ most .gates → length os + length (outputsIn items) ≤ most .outputs →
-      readFrom fuel f most s at n gs os ≡ finish f s last n (gs ++ gatePlaces f at items) (os ++ outputPlaces f at items)
-  unfolding readFrom onNext onCommand stray width operandsFrom countsOf
-  walk-laid zero at gs os [] h i l few thin = absurd (omega (arith, h .last))
-  walk-laid zero at gs os (gate c ∷ items) h i l few thin = absurd (omega (arith, h .0 .room))
-  walk-laid zero at gs os (output vs ∷ items) h i l few thin = absurd (omega (arith, h .0 .room))
-  walk-laid (suc fuel) at gs os [] h i l few thin =
-      let e : last ≡ at = omega (arith, h .last) in
-      rw (there-next f most s at (countsOf n gs os) sort.End (record { command = h .command; ordered = not-first at i; room = omega (arith, h .last, width-end f); taken = tt }), append-nil gs, append-nil os, e)
-  walk-laid (suc fuel) at gs os (gate c ∷ items) h i l few thin =
-      rw (there-next f most s at (countsOf n gs os) sort.Gate (record { command = h .0 .command; ordered = not-first at i; room = h .0 .room; taken = (omega arith, h .0 .known, h .0 .fits) }))
-      (walk-laid fuel (at + width f sort.Gate) (gs ++ (at ∷ [])) os items (h .1) (omega arith) (omega arith) (omega (arith, length-append gs (at ∷ []))) thin
-      ∙ ap (λ (x : List ℕ). finish f s last n x (os ++ outputPlaces f (at + width f sort.Gate) items)) (append-snoc gs at (gatePlaces f (at + width f sort.Gate) items)))
-  walk-laid (suc fuel) at gs os (output vs ∷ items) h i l few thin =
-      rw (there-next f most s at (countsOf n gs os) sort.Output (record { command = h .0 .command; ordered = not-first at i; room = h .0 .room; taken = omega arith }))
-      (walk-laid fuel (at + width f sort.Output) gs (os ++ (at ∷ [])) items (h .1) (omega arith) (omega arith) few (omega (arith, length-append os (at ∷ [])))
-      ∙ ap (λ (x : List ℕ). finish f s last n (gs ++ gatePlaces f (at + width f sort.Output) items) x) (append-snoc os at (outputPlaces f (at + width f sort.Output) items)))
+  walk-laid : (fuel at : ℕ) (p : Places) (items : List Item) → Laid f s at items → 1 ≤ at → length s < at + fuel →
+      length (p .gates) + length (gatesIn items) ≤ most .gates → length (p .outputs) + length (outputsIn items) ≤ most .outputs →
+      readFrom fuel f most s at p ≡ finish f s last (added f at items p)
+  unfolding readFrom onNext noted stray
+  walk-laid zero at p [] h i l few thin = absurd (omega (arith, h .last))
+  walk-laid zero at p (gate c ∷ items) h i l few thin = absurd (omega (arith, h .0 .room, width-gate f))
+  walk-laid zero at p (output vs ∷ items) h i l few thin = absurd (omega (arith, h .0 .room, width-output f))
+  walk-laid (suc fuel) at p [] h i l few thin =
+      let e : at ≡ last = omega (arith, h .last) in
+      rw (there-next f most s at (countsOf p) sort.End (record { command = h .command; ordered = not-first at i; room = omega (arith, h .last, width-end f); taken = tt }))
+      (ap₂ (finish f s) e (sym (added-nil f s at p)))
+  walk-laid (suc fuel) at p (gate c ∷ items) h i l few thin =
+      rw (there-next f most s at (countsOf p) sort.Gate (record {
+        command = h .0 .command;
+        ordered = not-first at i;
+        room = h .0 .room;
+        taken = (omega arith, h .0 .known, rw (gate-form f) (h .0 .fits));
+      }))
+      (walk-laid fuel (at + widthFor f sort.Gate) (noted sort.Gate s at p) items (h .1) (omega arith) (omega (arith, width-gate f)) (omega (arith, length-append (p .gates) (at ∷ []))) thin
+      ∙ ap (finish f s last) (added-gate f s at p items (at + widthFor f sort.Gate)))
+  walk-laid (suc fuel) at p (output vs ∷ items) h i l few thin =
+      rw (there-next f most s at (countsOf p) sort.Output (record { command = h .0 .command; ordered = not-first at i; room = h .0 .room; taken = omega arith }))
+      (walk-laid fuel (at + widthFor f sort.Output) (noted sort.Output s at p) items (h .1) (omega arith) (omega (arith, width-output f)) few (omega (arith, length-append (p .outputs) (at ∷ [])))
+      ∙ ap (finish f s last) (added-output f s at p items (at + widthFor f sort.Output)))
 
-  finish-readable : (gs os : List ℕ) → 1 ≤ length os → namelessFrom (length s) f n (length gs) s 0 0 ≡ Nothing → finish f s last n gs os ≡ readable n gs os
-  unfolding finish unlessNameless
-  finish-readable gs os some all = rw (ne-eqb (length os) 0 (omega arith), le-ltb (last + 1) (length s) (omega arith), all)
+  finish-readable : (p : Places) → 1 ≤ length (p .outputs) → namelessFrom (length s) f (p .inputs) (length (p .gates)) s 0 0 ≡ Nothing → finish f s last p ≡ readable p
+  unfolding finish whenFound
+  finish-readable p some all = rw (ne-eqb (length (p .outputs)) 0 (omega arith), le-ltb (last + 1) (length s) (omega arith), all)
 
 -- ---- the whole file
 
 module _ (f : File) (most : Limits) (s : List ℕ) where
   -- the test for 9 starts after the inputs command
-  past-inputs : (n g : ℕ) → 2 ≤ length s → sortOf f (byte s 0) ≡ sort.Inputs → namelessFrom (length s) f n g s 0 0 ≡ namelessFrom (length s - 1) f n g s 2 0
-  unfolding namelessFrom namelessIn
+  past-inputs : (n g : ℕ) → 2 ≤ length s → formOf f (byte s 0) ≡ formFor f sort.Inputs → namelessFrom (length s) f n g s 0 0 ≡ namelessFrom (length s - 1) f n g s 2 0
   past-inputs n g l e =
       let p : length s ≡ suc (length s - 1) = omega arith in
-      let two : 0 + width f sort.Inputs ≡ 2 = omega (arith, width-inputs f) in
-      ap (λ (k : ℕ). namelessFrom k f n g s 0 0) p ∙ rw e (ap (λ (at : ℕ). namelessFrom (length s - 1) f n g s at 0) two)
+      ap (λ (k : ℕ). namelessFrom k f n g s 0 0) p ∙ step-inputs f n g s (length s - 1) 0 0 e
 
   -- the items of a readable file
-  pub record LaidItems (n : ℕ) (gs os : List ℕ) : Type 0 where
+  pub record LaidItems (p : Places) : Type 0 where
     pub items : List Item
-    pub file-laid : FileLaid f most s n items
-    pub gate-places : gs ≡ gatePlaces f 2 items
-    pub output-places : os ≡ outputPlaces f 2 items
+    pub file-laid : FileLaid f most s (p .inputs) items
+    pub item-places : p ≡ placesOf f (p .inputs) items
 
-  pub readable-laid : (n : ℕ) (gs os : List ℕ) → readFile f most s ≡ readable n gs os → LaidItems n gs os
-  unfolding width operandsFrom
-  readable-laid n gs os e =
-      let r = started f most s n gs os e in
+  pub readable-laid : (p : Places) → readFile f most s ≡ readable p → LaidItems p
+  readable-laid p e =
+      let r = started f most s p e in
       let t = r .0 in
       let w = r .1 in
-      let g : length gs ≡ length (gatesIn (w .items)) = ap length (w .gates) ∙ length-gatePlaces f 2 (w .items) in
-      let o : length os ≡ length (outputsIn (w .items)) = ap length (w .outputs) ∙ length-outputPlaces f 2 (w .items) in
-      let room : 2 ≤ length s = omega (arith, t .room) in
-      let nothing = w .all-named in
-      let none : namelessFrom (length s - 1) f n (length (gatesIn (w .items))) s 2 0 ≡ Nothing = rw g at (sym (past-inputs n (length gs) room (t .command)) ∙ nothing) in
+      let n : p .inputs ≡ byte s 1 = ap (λ (x : Places). x .inputs) (w .same) in
+      let same : p ≡ placesOf f (p .inputs) (w .items) = w .same ∙ ap (λ (m : ℕ). placesOf f m (w .items)) (sym n) in
+      let g : length (p .gates) ≡ length (gatesIn (w .items)) = ap (λ (x : Places). length (x .gates)) (w .same) ∙ length-gatePlaces f 2 (w .items) in
+      let o : length (p .outputs) ≡ length (outputsIn (w .items)) = ap (λ (x : Places). length (x .outputs)) (w .same) ∙ length-outputPlaces f 2 (w .items) in
+      let room : 2 ≤ length s = omega (arith, t .room, width-inputs f) in
+      let none = rw g at (sym (past-inputs (p .inputs) (length (p .gates)) room (t .command)) ∙ w .at-end .all-named) in
       record {
         items = w .items;
         file-laid = record {
           command = t .command;
-          count = w .inputs-same;
-          inputs-in = rw (w .inputs-same) at (t .taken);
-          gates-in = omega (arith, w .gates-in);
-          outputs-in = omega (arith, w .outputs-in);
+          count = sym n;
+          inputs-in = rw n (t .taken);
+          gates-in = omega (arith, w .at-end .gates-in);
+          outputs-in = omega (arith, w .at-end .outputs-in);
           laid = w .laid;
-          named = named-walk f n (length (gatesIn (w .items))) s (length s - 1) 2 0 (w .items) (w .laid) (omega arith) none;
+          named = named-walk f (p .inputs) (length (gatesIn (w .items))) s (length s - 1) 2 0 (w .items) (w .laid) (omega arith) none;
         };
-        gate-places = w .gates;
-        output-places = w .outputs;
+        item-places = same;
       }
 
   -- and a file with items is readable
-  pub laid-readable : (n : ℕ) (items : List Item) → FileLaid f most s n items → readFile f most s ≡ readable n (gatePlaces f 2 items) (outputPlaces f 2 items)
-  unfolding readFile readFrom onNext onCommand stray
+  pub laid-readable : (n : ℕ) (items : List Item) → FileLaid f most s n items → readFile f most s ≡ readable (placesOf f n items)
+  unfolding readFile readFrom onNext noted stray
   laid-readable n items h =
-      let two : 0 + width f sort.Inputs ≡ 2 = omega (arith, width-inputs f) in
       let size = laid-length f s 2 items (h .laid) in
-      let gs = gatePlaces f 2 items in
-      let os = outputPlaces f 2 items in
+      let two : 0 + widthFor f sort.Inputs ≡ 2 = omega (arith, width-inputs f) in
+      let p = placesOf f n items in
       let last : ℕ = length s - 1 in
       let ends : length s ≡ last + 1 = omega arith in
-      let few : length gs ≡ length (gatesIn items) = length-gatePlaces f 2 items in
-      let named : Named f n (length gs) 0 items = rw few (h .named) in
-      let t : There f most s 0 (countsOf 0 [] []) sort.Inputs = record { command = h .command; ordered = refl; room = omega arith; taken = rw (h .count) (h .inputs-in) } in
-      rw (there-next f most s 0 (countsOf 0 [] []) sort.Inputs t)
-      (ap₂ (λ (at m : ℕ). readFrom (length s) f most s at m [] []) two (h .count)
-      ∙ walk-laid f most s n last ends (length s) 2 [] [] items (h .laid) (omega arith) (omega arith) (omega (arith, h .gates-in)) (omega (arith, h .outputs-in))
-      ∙ finish-readable f most s n last ends gs os (omega (arith, length-outputPlaces f 2 items, h .outputs-in))
-      (past-inputs n (length gs) (omega arith) (h .command) ∙ walk-named f n (length gs) s (length s - 1) 2 0 items (h .laid) named))
+      let few : length (p .gates) ≡ length (gatesIn items) = length-gatePlaces f 2 items in
+      let named : Named f n (length (p .gates)) 0 items = rw few (h .named) in
+      let t : There f most s 0 (countsOf noPlaces) sort.Inputs = record { command = h .command; ordered = refl; room = omega (arith, width-inputs f); taken = rw (h .count) (h .inputs-in) } in
+      rw (there-next f most s 0 (countsOf noPlaces) sort.Inputs t)
+      (ap₂ (λ (at m : ℕ). readFrom (length s) f most s at (places m [] [])) two (h .count)
+      ∙ walk-laid f most s last ends (length s) 2 (places n [] []) items (h .laid) (omega arith) (omega arith) (omega (arith, h .gates-in)) (omega (arith, h .outputs-in))
+      ∙ finish-readable f most s last ends p (omega (arith, length-outputPlaces f 2 items, h .outputs-in))
+      (past-inputs n (length (p .gates)) (omega arith) (h .command) ∙ walk-named f n (length (p .gates)) s (length s - 1) 2 0 items (h .laid) named))

@@ -5,10 +5,11 @@ use mathlib.Core.List.{List, map}
 use Rattle.gates.specs.Cell.{kindOf}
 use Rattle.gates.specs.declared.Kind.{Kind}
 use Rattle.gates.specs.declared.Kind.the-variants.{Hold, Unknown}
-use Rattle.netlist.specs.declared.File.{File}
-use Rattle.netlist.specs.declared.File.the-variants as file
+use Rattle.netlist.specs.Types.{File}
+use Rattle.netlist.specs.Types.file
 use Rattle.netlist.specs.Bytes.{byte, operand, operands}
 use Rattle.netlist.specs.Commands.{needed}
+use Rattle.netlist.specs.Reading.{Places}
 
 -- a circuit with gates G and outputs O
 pub record Circuit (G O : Type 0) : Type 0 where
@@ -22,9 +23,7 @@ pub record Coded : Type 0 where
   pub operands : List ℕ
 
 abbrev pub codedAt : File → List ℕ → ℕ → Coded
-codedAt f s p = record { code = byte s (p + 1); operands = operands s (p + 2) (needed f (byte s (p + 1))) }
-
--- ---- stages
+codedAt f s at = record { code = byte s (at + 1); operands = operands s (at + 2) (needed f (byte s (at + 1))) }
 
 -- a gate of a stage: its cell, 1 to 27; whether it has hold; and the nets at the pins that it has, from A on
 pub record Gate : Type 0 where
@@ -52,16 +51,14 @@ abbrev pub gateOf : Coded → Gate
 gateOf c = record { cell = cellOf (kindOf (c .code)); hold = holdOf (kindOf (c .code)); pins = c .operands }
 
 abbrev pub pairAt : List ℕ → ℕ → Pair
-pairAt s p = record { rail0 = operand s (p + 1); rail1 = operand s (p + 3) }
+pairAt s at = record { rail0 = operand s (at + 1); rail1 = operand s (at + 3) }
 
-unfoldable pub stageOf : List ℕ → ℕ → List ℕ → List ℕ → Stage
-stageOf s n gates outputs = record { inputs = n; gates = map (λ p. gateOf (codedAt file.Stage s p)) gates; outputs = map (pairAt s) outputs }
-
--- ---- references
+unfoldable pub stageOf : List ℕ → Places → Stage
+stageOf s p = record { inputs = p .inputs; gates = map (λ at. gateOf (codedAt file.Stage s at)) (p .gates); outputs = map (pairAt s) (p .outputs) }
 
 -- a gate of a reference is its operation, 1 to 6, with one or two signals; an output is a signal
 abbrev pub Reference : Type 0
 Reference = Circuit Coded ℕ
 
-unfoldable pub referenceOf : List ℕ → ℕ → List ℕ → List ℕ → Reference
-referenceOf s n gates outputs = record { inputs = n; gates = map (codedAt file.Reference s) gates; outputs = map (λ p. operand s (p + 1)) outputs }
+unfoldable pub referenceOf : List ℕ → Places → Reference
+referenceOf s p = record { inputs = p .inputs; gates = map (codedAt file.Reference s) (p .gates); outputs = map (λ at. operand s (at + 1)) (p .outputs) }

@@ -1,121 +1,103 @@
 -- Reading a whole file: its commands one after the other, the refusals 7 to 9 at the end command, and what a readable file gives.
-use Prim.Native.Nat.{ℕ, zero, suc, _+_, _*_}
-use mathlib.Core.Bool.{Bool, cond}
+use Prim.Native.Nat.{ℕ, zero, suc, _+_, _*_, _≤_}
+use mathlib.Core.Bool.{cond}
 use mathlib.Core.List.{List, [], _∷_, _++_}
 use lib.ListN.{length}
 use lib.Dec.{eqb, ltb}
-use Rattle.netlist.specs.declared.File.{File}
-use Rattle.netlist.specs.declared.File.the-variants.{Stage, Reference}
-use Rattle.netlist.specs.declared.Sort.{Sort}
-use Rattle.netlist.specs.declared.Sort.the-variants as sort
-use Rattle.netlist.specs.declared.Limits.{Limits}
-use Rattle.netlist.specs.declared.Counts.{Counts}
-use Rattle.netlist.specs.declared.Next.{Next}
-use Rattle.netlist.specs.declared.Next.the-variants.{Command, Refused}
-use Rattle.netlist.specs.declared.Role.{Role}
-use Rattle.netlist.specs.declared.Role.the-variants.{Net, Earlier, Signal}
-use Rattle.netlist.specs.declared.Found.{Found}
-use Rattle.netlist.specs.declared.Found.the-variants.{At, Nothing}
-use Rattle.netlist.specs.declared.Outcome.{Outcome}
-use Rattle.netlist.specs.declared.Outcome.the-variants as outcome
+use Rattle.netlist.specs.Types.{File, Sort, Role, AnyNet, EarlierSignal, AnySignal, Number, Form, Limits, Counts, Next, Command, Refused, Found, At, Nothing}
+use Rattle.netlist.specs.Types.sort
 use Rattle.netlist.specs.Bytes.{byte, operand}
-use Rattle.netlist.specs.Commands.{sortOf, operandCount, operandsFrom, width, needed, nextAt}
+use Rattle.netlist.specs.Commands.{whenFound, isSort, formOf, width, needed, nextAt}
 
 -- ---- 9: an operand that names nothing
 
--- what an operand of a gate or output has to name, where k gates stand before the command
-unfoldable pub roleOf : File → Sort → ℕ → Role
-roleOf Stage c k = Net
-roleOf Reference sort.Gate k = Earlier k
-roleOf Reference sort.Output k = Signal
-roleOf Reference sort.End k = Signal
-roleOf Reference sort.Inputs k = Signal
-roleOf Reference sort.Unknown k = Signal
+-- An operand names what it has to name where it is below this number, with n inputs and g gates in all and k gates before its
+-- command. A stage has two nets for an input and one for a gate; a reference has one signal for each. A number may be any u16.
+unfoldable pub nameable : Role → ℕ → ℕ → ℕ → ℕ
+nameable AnyNet n g k = 2 * n + g
+nameable EarlierSignal n g k = n + k
+nameable AnySignal n g k = n + g
+nameable Number n g k = 0x10000
 
--- with n inputs and g gates in all, v names what its role asks for. A stage has two nets for an input and one for a gate;
--- a reference has one signal for each
-unfoldable pub names : Role → ℕ → ℕ → ℕ → Bool
-names Net n g v = ltb v (2 * n + g)
-names (Earlier k) n g v = ltb v (n + k)
-names Signal n g v = ltb v (n + g)
+-- the first of m operands from a place on that is not below it
+unfoldable pub nameless : ℕ → List ℕ → ℕ → ℕ → Found
+nameless names s at zero = Nothing
+nameless names s at (suc m) = let later = nameless names s (at + 2) m in cond (ltb (operand s at) names) later (At at)
 
--- the first of m operands from a place on that names nothing
-unfoldable pub nameless : Role → ℕ → ℕ → List ℕ → ℕ → ℕ → Found
-nameless role n g s at zero = Nothing
-nameless role n g s at (suc m) = let later = nameless role n g s (at + 2) m in cond (names role n g (operand s at)) later (At at)
+-- how many of its operands a command uses, from the first on: a gate those that its kind or operation needs, others all
+unfoldable pub usedOperands : File → ℕ → ℕ → Sort → ℕ
+usedOperands f code all c = cond (isSort sort.Gate c) (needed f code) all
 
--- what was found, or else what is found later
-unfoldable pub orLater : Found → Found → Found
-orLater (At p) later = At p
-orLater Nothing later = later
+-- the first of them that names nothing, for the command at a position
+unfoldable pub namelessAt : File → ℕ → ℕ → List ℕ → ℕ → ℕ → Form → Found
+namelessAt f n g s at k form =
+    nameless (nameable (form .role) n g k) s (at + form .lead) (usedOperands f (byte s (at + 1)) (form .operands) (form .sort))
 
--- from the command at a position on, after k gates: the operands that a gate needs and all of an output's, in the order of the file
-unfoldable pub namelessIn : (ℕ → ℕ → Found) → File → ℕ → ℕ → List ℕ → ℕ → ℕ → Sort → Found
-namelessIn later f n g s at k sort.Inputs = later (at + width f sort.Inputs) k
-namelessIn later f n g s at k sort.Gate =
-    orLater (nameless (roleOf f sort.Gate k) n g s (at + operandsFrom sort.Gate) (needed f (byte s (at + 1)))) (later (at + width f sort.Gate) (k + 1))
-namelessIn later f n g s at k sort.Output =
-    orLater (nameless (roleOf f sort.Output k) n g s (at + operandsFrom sort.Output) (operandCount f sort.Output)) (later (at + width f sort.Output) k)
-namelessIn later f n g s at k sort.End = Nothing
-namelessIn later f n g s at k sort.Unknown = Nothing
-
--- each command takes a byte, so that the file's length is fuel enough
+-- The search over a file from a position on, after k gates, in file order. Each command takes a byte, so that the file's length is fuel
+-- enough; past the last byte nothing is found.
 unfoldable pub namelessFrom : ℕ → File → ℕ → ℕ → List ℕ → ℕ → ℕ → Found
 namelessFrom zero f n g s at k = Nothing
-namelessFrom (suc fuel) f n g s at k = namelessIn (namelessFrom fuel f n g s) f n g s at k (sortOf f (byte s at))
+namelessFrom (suc fuel) f n g s at k =
+    let form = formOf f (byte s at) in
+    let later = namelessFrom fuel f n g s (at + width form) (cond (isSort sort.Gate (form .sort)) (k + 1) k) in
+    whenFound (namelessAt f n g s at k form) At later
 
 -- ---- the whole file
 
--- A file is refused, with a number and a place; or it is readable: the count of its inputs, and the places of its gate and output
--- commands, in file order.
+-- what stands before a position: the count of inputs, and the places of the gate and output commands, in file order
+pub record Places : Type 0 where
+  pub inputs : ℕ
+  pub gates : List ℕ
+  pub outputs : List ℕ
+
+abbrev pub noPlaces : Places
+noPlaces = record { inputs = 0; gates = []; outputs = [] }
+
+abbrev pub countsOf : Places → Counts
+countsOf p = record { inputs = p .inputs; gates = length (p .gates); outputs = length (p .outputs) }
+
+-- what stands before the next command, where a command of a sort stands at a position
+unfoldable pub noted : Sort → List ℕ → ℕ → Places → Places
+noted sort.Inputs s at p = record { inputs = byte s (at + 1); gates = p .gates; outputs = p .outputs }
+noted sort.Gate s at p = record { inputs = p .inputs; gates = p .gates ++ (at ∷ []); outputs = p .outputs }
+noted sort.Output s at p = record { inputs = p .inputs; gates = p .gates; outputs = p .outputs ++ (at ∷ []) }
+noted sort.End s at p = p
+noted sort.Unknown s at p = p
+
+-- a file is refused, with a number and a place; or it is readable
 pub data Reading : Type 0 where
   refused : ℕ → ℕ → Reading
-  readable : ℕ → List ℕ → List ℕ → Reading
-
-unfoldable pub unlessNameless : Found → Reading → Reading
-unlessNameless (At p) r = refused 9 p
-unlessNameless Nothing r = r
+  readable : Places → Reading
 
 -- at the end command: 8, 7, then 9
-unfoldable pub finish : File → List ℕ → ℕ → ℕ → List ℕ → List ℕ → Reading
-finish f s at n gates outputs =
-    cond (eqb (length outputs) 0) (refused 8 at)
+unfoldable pub finish : File → List ℕ → ℕ → Places → Reading
+finish f s at p =
+    cond (eqb (length (p .outputs)) 0) (refused 8 at)
     (cond (ltb (at + 1) (length s)) (refused 7 (at + 1))
-    (unlessNameless (namelessFrom (length s) f n (length gates) s 0 0) (readable n gates outputs)))
+    (whenFound (namelessFrom (length s) f (p .inputs) (length (p .gates)) s 0 0) (refused 9) (readable p)))
 
--- after a command at a position, where n inputs and the gates and outputs at some places stand before it
-unfoldable pub onCommand : (ℕ → ℕ → List ℕ → List ℕ → Reading) → File → List ℕ → ℕ → Sort → ℕ → ℕ → List ℕ → List ℕ → Reading
-onCommand go f s at sort.Inputs next n gates outputs = go next (byte s (at + 1)) gates outputs
-onCommand go f s at sort.Gate next n gates outputs = go next n (gates ++ (at ∷ [])) outputs
-onCommand go f s at sort.Output next n gates outputs = go next n gates (outputs ++ (at ∷ []))
-onCommand go f s at sort.End next n gates outputs = finish f s at n gates outputs
-onCommand go f s at sort.Unknown next n gates outputs = refused 2 at
+-- the first command that cannot be read ends the reading, and so does the end command
+unfoldable pub onNext : (ℕ → Places → Reading) → File → List ℕ → ℕ → Places → Next → Reading
+onNext go f s at p (Refused number place) = refused number place
+onNext go f s at p (Command c next) = let more = go (next .at) (noted c s at p) in cond (isSort sort.End c) (finish f s at p) more
 
--- the first command that cannot be read ends the reading
-unfoldable pub onNext : (ℕ → ℕ → List ℕ → List ℕ → Reading) → File → List ℕ → ℕ → Next → ℕ → List ℕ → List ℕ → Reading
-onNext go f s at (Refused number place) n gates outputs = refused number place
-onNext go f s at (Command c next) n gates outputs = onCommand go f s at c (next .at) n gates outputs
-
-unfoldable pub countsOf : ℕ → List ℕ → List ℕ → Counts
-countsOf n gates outputs = record { inputs = n; gates = length gates; outputs = length outputs }
-
-unfoldable pub readFrom : ℕ → File → Limits → List ℕ → ℕ → ℕ → List ℕ → List ℕ → Reading
-readFrom zero f most s at n gates outputs = refused 1 (length s)
-readFrom (suc fuel) f most s at n gates outputs =
-    onNext (readFrom fuel f most s) f s at (nextAt f most s at (countsOf n gates outputs)) n gates outputs
+unfoldable pub readFrom : ℕ → File → Limits → List ℕ → ℕ → Places → Reading
+readFrom zero f most s at p = refused 1 (length s)
+readFrom (suc fuel) f most s at p = onNext (readFrom fuel f most s) f s at p (nextAt f most s at (countsOf p))
 
 unfoldable pub readFile : File → Limits → List ℕ → Reading
-readFile f most s = readFrom (suc (length s)) f most s 0 0 [] []
+readFile f most s = readFrom (suc (length s)) f most s 0 noPlaces
 
--- the limits of the two files
+-- ---- limits
+
 abbrev pub stageLimits : Limits
 stageLimits = record { inputs = 10; gates = 128; outputs = 16 }
 
 abbrev pub referenceLimits : Limits
 referenceLimits = record { inputs = 10; gates = 256; outputs = 16 }
 
--- ---- a reading as the code answers it: the refusal or the counts; the places go to a slice that the caller lends
-
-unfoldable pub outcomeOf : Reading → Outcome
-outcomeOf (refused number at) = outcome.Refused number at
-outcomeOf (readable n gates outputs) = outcome.Whole (countsOf n gates outputs)
+-- counts within some limits
+pub record Within (most : Limits) (c : Counts) : Type 0 where
+  pub inputs-in : c .inputs ≤ most .inputs
+  pub gates-in : c .gates ≤ most .gates
+  pub outputs-in : c .outputs ≤ most .outputs

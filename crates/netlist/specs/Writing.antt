@@ -1,17 +1,39 @@
 -- Writing a file: the commands of a content, in any order of gates and outputs; and which contents fit a file.
-use Prim.Native.Nat.{ℕ, zero, suc, _+_, _*_, _/_, _%_, _≤_, _<_}
+use Prim.Native.Nat.{ℕ, zero, suc, _+_, _/_, _%_, _≤_, _<_}
 use mathlib.Core.Path.{_≡_}
-use mathlib.Core.Bool.{Bool, true}
 use mathlib.Core.List.{List, [], _∷_, _++_, map}
 use lib.ListN.{length}
-use Rattle.netlist.specs.declared.File.{File}
-use Rattle.netlist.specs.declared.File.the-variants as file
-use Rattle.netlist.specs.declared.Sort.the-variants as sort
-use Rattle.netlist.specs.declared.Limits.{Limits}
+use Rattle.netlist.specs.Types.{File, Sort, Role, Form, Limits}
+use Rattle.netlist.specs.Types.file
+use Rattle.netlist.specs.Types.sort
 use Rattle.netlist.specs.Bytes.{absent}
-use Rattle.netlist.specs.Commands.{operandCount, width, needed}
-use Rattle.netlist.specs.Reading.{roleOf, names}
-use Rattle.netlist.specs.Content.{Circuit, Coded, Gate, Pair, Stage, Reference}
+use Rattle.netlist.specs.Commands.{formOf, width, needed}
+use Rattle.netlist.specs.Reading.{nameable, Places}
+use Rattle.netlist.specs.Content.{Coded, Gate, Pair, Stage, Reference}
+
+-- ---- the row of a sort of command
+
+-- the byte that stands for a sort of command; none stands for no command
+abbrev pub commandByte : File → Sort → ℕ
+commandByte f sort.End = 0x00
+commandByte f sort.Inputs = 0x01
+commandByte file.Stage sort.Gate = 0x02
+commandByte file.Stage sort.Output = 0x03
+commandByte file.Reference sort.Gate = 0x11
+commandByte file.Reference sort.Output = 0x12
+commandByte f sort.Unknown = 0xFF
+
+abbrev pub formFor : File → Sort → Form
+formFor f c = formOf f (commandByte f c)
+
+abbrev pub widthFor : File → Sort → ℕ
+widthFor f c = width (formFor f c)
+
+abbrev pub operandCount : File → Sort → ℕ
+operandCount f c = formFor f c .operands
+
+abbrev pub roleFor : File → Sort → Role
+roleFor f c = formFor f c .role
 
 -- ---- items
 
@@ -34,13 +56,17 @@ outputsIn (output vs ∷ items) = vs ∷ outputsIn items
 -- their places, where the first item stands at a place
 abbrev pub gatePlaces : File → ℕ → List Item → List ℕ
 gatePlaces f at [] = []
-gatePlaces f at (gate c ∷ items) = at ∷ gatePlaces f (at + width f sort.Gate) items
-gatePlaces f at (output vs ∷ items) = gatePlaces f (at + width f sort.Output) items
+gatePlaces f at (gate c ∷ items) = at ∷ gatePlaces f (at + widthFor f sort.Gate) items
+gatePlaces f at (output vs ∷ items) = gatePlaces f (at + widthFor f sort.Output) items
 
 abbrev pub outputPlaces : File → ℕ → List Item → List ℕ
 outputPlaces f at [] = []
-outputPlaces f at (gate c ∷ items) = outputPlaces f (at + width f sort.Gate) items
-outputPlaces f at (output vs ∷ items) = at ∷ outputPlaces f (at + width f sort.Output) items
+outputPlaces f at (gate c ∷ items) = outputPlaces f (at + widthFor f sort.Gate) items
+outputPlaces f at (output vs ∷ items) = at ∷ outputPlaces f (at + widthFor f sort.Output) items
+
+-- in a file with n inputs, whose items follow the inputs command
+abbrev pub placesOf : File → ℕ → List Item → Places
+placesOf f n items = record { inputs = n; gates = gatePlaces f 2 items; outputs = outputPlaces f 2 items }
 
 -- ---- bytes
 
@@ -50,17 +76,9 @@ writeOperands zero vs = []
 writeOperands (suc k) [] = 0xFF ∷ 0xFF ∷ writeOperands k []
 writeOperands (suc k) (v ∷ vs) = v % 256 ∷ v / 256 ∷ writeOperands k vs
 
-abbrev pub gateByte : File → ℕ
-gateByte file.Stage = 0x02
-gateByte file.Reference = 0x11
-
-abbrev pub outputByte : File → ℕ
-outputByte file.Stage = 0x03
-outputByte file.Reference = 0x12
-
 abbrev pub writeItem : File → Item → List ℕ
-writeItem f (gate c) = gateByte f ∷ c .code ∷ writeOperands (operandCount f sort.Gate) (c .operands)
-writeItem f (output vs) = outputByte f ∷ writeOperands (operandCount f sort.Output) vs
+writeItem f (gate c) = commandByte f sort.Gate ∷ c .code ∷ writeOperands (operandCount f sort.Gate) (c .operands)
+writeItem f (output vs) = commandByte f sort.Output ∷ writeOperands (operandCount f sort.Output) vs
 
 abbrev pub writeItems : File → List Item → List ℕ
 writeItems f [] = []
@@ -82,12 +100,12 @@ pub record GateFits (f : File) (n g k : ℕ) (c : Coded) : Type 0 where
   pub known : 1 ≤ needed f (c .code)
   pub whole : length (c .operands) ≡ needed f (c .code)
   pub used : All (λ v. v < absent) (c .operands)
-  pub named : All (λ v. names (roleOf f sort.Gate k) n g v ≡ true) (c .operands)
+  pub named : All (λ v. v < nameable (roleFor f sort.Gate) n g k) (c .operands)
 
 pub record OutputFits (f : File) (n g k : ℕ) (vs : List ℕ) : Type 0 where
   pub whole : length vs ≡ operandCount f sort.Output
   pub u16s : All (λ v. v < 65536) vs
-  pub named : All (λ v. names (roleOf f sort.Output k) n g v ≡ true) vs
+  pub named : All (λ v. v < nameable (roleFor f sort.Output) n g k) vs
 
 abbrev pub ItemsFit : File → ℕ → ℕ → ℕ → List Item → Type 0
 ItemsFit f n g k [] = Unit {0}

@@ -3,6 +3,7 @@ ghost use mathlib.Core.Path.{_≡_};
 ghost use Prim.Native.Nat.{_+_, _<_};
 ghost use lib.ListN.{length};
 ghost use Rattle.netlist.specs.Bytes as bytes;
+ghost use Rattle.netlist.specs.Reading as reading;
 
 // Which of the two files is read.
 pub enum File {
@@ -26,12 +27,43 @@ pub struct Limits {
     pub outputs: usize,
 }
 
+// What the two files may have; workspaces are as large as these make them.
+pub const INPUTS: usize = 10;
+
+pub const OUTPUTS: usize = 16;
+
+pub const STAGE_GATES: usize = 128;
+
+pub const REFERENCE_GATES: usize = 256;
+
+// The limits of a stage file.
+pub fn stage_limits() -> Limits
+    ensures { λ r. ⌜ r ≡ reading.stageLimits ⌝ }
+{
+    Limits {
+        inputs: INPUTS,
+        gates: STAGE_GATES,
+        outputs: OUTPUTS,
+    }
+}
+
+// The limits of a reference file.
+pub fn reference_limits() -> Limits
+    ensures { λ r. ⌜ r ≡ reading.referenceLimits ⌝ }
+{
+    Limits {
+        inputs: INPUTS,
+        gates: REFERENCE_GATES,
+        outputs: OUTPUTS,
+    }
+}
+
 // A position in a file.
 pub struct Cursor {
     pub at: usize,
 }
 
-// What stands before a position: the count of the inputs command, and how many gates and outputs.
+// The count of the inputs command, and how many gates and outputs there are: before a position of a file, or in all.
 pub struct Counts {
     pub inputs: usize,
     pub gates: usize,
@@ -44,12 +76,22 @@ pub enum Next {
     Refused { number: u8, at: usize },
 }
 
-// What an operand has to name: a net of the stage, a signal of the reference that is an input or one of its first gates,
-// or any signal of the reference.
+// What an operand has to name: any net of the stage, a signal of the reference that is an input or an earlier gate, any signal of the
+// reference; or it is a number and names nothing.
 pub enum Role {
-    Net,
-    Earlier(usize),
-    Signal,
+    AnyNet,
+    EarlierSignal,
+    AnySignal,
+    Number,
+}
+
+// A row of the command table: the sort of a command, how many bytes stand before its operands, the command byte included, how many u16
+// operands follow, and what they name.
+pub struct Form {
+    pub sort: Sort,
+    pub lead: usize,
+    pub operands: usize,
+    pub role: Role,
 }
 
 // A place or an index, if there is one.
@@ -60,7 +102,7 @@ pub enum Found {
 
 // How the reading of a file ends: with its counts, or refused.
 pub enum Outcome {
-    Whole(Counts),
+    Readable(Counts),
     Refused { number: u8, at: usize },
 }
 

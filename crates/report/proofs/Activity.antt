@@ -4,26 +4,28 @@ use Prim.Native.Nat.{ℕ, zero, suc, _+_, _*_, _^_, _≤_, _<_}
 use native.Mathlib.Omega.{arith}
 use mathlib.Core.Path.{_≡_, refl, sym, ap, subst, _∙_}
 use mathlib.Core.Bool.{Bool, true, false, not}
+use mathlib.Core.Logic.{_⊎_, inl, inr}
 use mathlib.Core.List.{List, [], _∷_, _++_, map}
 use lib.ListN.{length, getD, length-append, List·getD-eq-default}
 use lib.Seq.{getD-append-add}
-use lib.Dec.{ltb}
-use borrow.Author.Tests.{lt-ltb, le-ltb}
+use lib.Dec.{eqb, ltb}
+use borrow.Author.Tests.{lt-ltb, le-ltb, eq-eqb}
 use Rattle.runs.specs.Row.{Row, low, after, tally, times}
 use Rattle.runs.specs.Net.{rails}
+use Rattle.runs.specs.Promise.{Promise}
 use Rattle.netlist.specs.declared.Limits.{Limits}
 use Rattle.netlist.specs.Content.{Stage, Reference}
 use Rattle.verdict.specs.Levels.{Bits, sum}
 use Rattle.verdict.specs.Rows.{high, settled, settledLevels}
-use Rattle.verdict.specs.Checks.{words, numbers, railsIn}
-use Rattle.verdict.specs.Nets.{netOf, rowOf}
-use Rattle.verdict.specs.Demands.{KeptIn, Kept}
+use Rattle.verdict.specs.Words.{words, IsWord, railsIn}
+use Rattle.verdict.specs.Nets.{netOf, rowOf, railsFor, answerBits, restRow}
+use Rattle.verdict.specs.Demands.{RisesTo, Kept}
 use Rattle.verdict.proofs.Levels.{bits-length, bits-get}
 use Rattle.verdict.proofs.Settling.{settled-bits}
 use Rattle.verdict.proofs.OneWord.{wires-length}
 use Rattle.report.specs.Report.{gatesHigh, lines, total}
 use Rattle.report.specs.Activity.{gateSwitchings, Cycle, switchings, EachWordOnce, HalfOfAll}
-use Rattle.report.proofs.Counting.{upTo, upTo-same, upTo-zero, upTo-split, upTo-twice, upTo-numbers, upTo-levels, weigh, weigh-zero, first-below, tail-none, sum-times}
+use Rattle.report.proofs.Counting.{upTo, upTo-same, upTo-zero, upTo-split, upTo-levels, weigh, weigh-zero, sum-times, sum-same, times-numbers}
 
 -- ---- one list
 
@@ -74,10 +76,11 @@ module _ (s : Stage) (w : ℕ) (l : List ℕ) (once : (k : ℕ) → times k l �
 -- ---- one word
 
 -- a rise and a fall of a word in which the promise is kept: twice the gates high at its rest
-pub cycle-twice : (s : Stage) (r : Reference) (p : Cycle s) → KeptIn s r (p .word) → switchings s p ≡ 2 * gatesHigh s (p .word)
-cycle-twice s r p k =
-    let end = k .rest (p .rise) (p .rise-legal) (p .rise-ended) in
-    let rest = k .promise .lists (p .rise) (p .rise-legal) .end-rest (p .rise-ended) in
+cycle-twice : (s : Stage) (r : Reference) (p : Cycle s) → Promise (netOf s) (railsFor s (p .word)) (answerBits r (p .word))
+    → RisesTo s (railsFor s (p .word)) (restRow s (p .word)) → switchings s p ≡ 2 * gatesHigh s (p .word)
+cycle-twice s r p promise rises =
+    let end = rises .end-is (p .rise) (p .rise-legal) (p .rise-ended) in
+    let rest = promise .lists (p .rise) (p .rise-legal) .end-rest (p .rise-ended) in
     let fall = rest .falls (p .fall) (p .fall-legal) .end-switched (p .fall-ended) in
     let up = list-gates s (p .word) (p .rise) (λ i. rest .switched .once i ∙ ap (λ (R : Row). tally (R i) 0) end) in
     let down = list-gates s (p .word) (p .fall) (λ i. fall .once i ∙ ap (λ (R : Row). tally (R i) 0) end) in
@@ -85,30 +88,39 @@ cycle-twice s r p k =
 
 -- ---- all words
 
-module _ (s : Stage) (r : Reference) (kept : (w : ℕ) → w < 2 ^ s .inputs → KeptIn s r w) where
+-- each word stands once in the list of words
+words-once : (s : Stage) (w : ℕ) → (IsWord s w × (times w (words s) ≡ 1)) ⊎ ((¬ (IsWord s w)) × (times w (words s) ≡ 0))
+unfolding words
+words-once s w = times-numbers 0 (2 ^ s .inputs) w
+
+module _ (s : Stage) (cycle : (p : Cycle s) → IsWord s (p .word) → switchings s p ≡ 2 * gatesHigh s (p .word)) where
   abbrev wordOf : Cycle s → ℕ
   wordOf p = p .word
 
-  cycles-twice : (cycles : List (Cycle s)) → ((w : ℕ) → 2 ^ s .inputs ≤ w → times w (map wordOf cycles) ≡ 0) → sum (map (switchings s) cycles) ≡ sum (map (λ w. 2 * gatesHigh s w) (map wordOf cycles))
+  cycles-twice : (cycles : List (Cycle s)) → ((w : ℕ) → ¬ (IsWord s w) → times w (map wordOf cycles) ≡ 0)
+      → sum (map (switchings s) cycles) ≡ 2 * sum (map (gatesHigh s) (map wordOf cycles))
   cycles-twice [] none = refl
-  cycles-twice (p ∷ cycles) none =
-      let below = first-below (2 ^ s .inputs) (p .word) (map wordOf cycles) none in
-      let rest = cycles-twice cycles (tail-none (2 ^ s .inputs) (p .word) (map wordOf cycles) none) in
-      omega (arith, cycle-twice s r p (kept (p .word) below), rest)
+  cycles-twice (p ∷ cycles) none = omega (arith, cycle p (first (words-once s (p .word))), cycles-twice cycles (λ w n. tail w (eqb w (p .word)) (none w n)))
+    where
+      later : ℕ → ℕ
+      later w = times w (map wordOf cycles)
 
-  total-is : total s ≡ upTo (2 ^ s .inputs) (gatesHigh s)
-  unfolding words
-  total-is = let e : 0 + 2 ^ s .inputs ≡ 2 ^ s .inputs = omega arith in omega (arith, upTo-numbers (gatesHigh s) (2 ^ s .inputs) 0 ∙ ap (λ (m : ℕ). upTo m (gatesHigh s)) e)
+      first : (IsWord s (p .word) × (times (p .word) (words s) ≡ 1)) ⊎ ((¬ (IsWord s (p .word))) × (times (p .word) (words s) ≡ 0)) → IsWord s (p .word)
+      first (inl h) = h .0
+      first (inr h) = absurd (omega (arith, sym (ap (λ b. tally b (later (p .word))) (eq-eqb (p .word) (p .word) refl)) ∙ none (p .word) (h .0)))
 
-  pub half-of-all : HalfOfAll s
-  half-of-all cycles each =
-      let ws = map wordOf cycles in
-      let m = 2 ^ s .inputs in
-      let a : sum (map (switchings s) cycles) ≡ sum (map (λ w. 2 * gatesHigh s w) ws) = cycles-twice cycles (each .none) in
-      let b : sum (map (λ w. 2 * gatesHigh s w) ws) ≡ upTo m (λ k. weigh (times k ws) (2 * gatesHigh s k)) = sum-times (λ w. 2 * gatesHigh s w) m ws (each .none) in
-      let c : upTo m (λ k. weigh (times k ws) (2 * gatesHigh s k)) ≡ upTo m (λ k. 2 * gatesHigh s k) = upTo-same m (λ k. weigh (times k ws) (2 * gatesHigh s k)) (λ k. 2 * gatesHigh s k) (λ k h. ap (λ (i : ℕ). weigh i (2 * gatesHigh s k)) (each .once k h) ∙ omega arith) in
-      omega (arith, a ∙ b ∙ c, upTo-twice m (gatesHigh s), total-is)
+      tail : (w : ℕ) (b : Bool) → tally b (later w) ≡ 0 → later w ≡ 0
+      tail w true e = absurd (omega (arith, e))
+      tail w false e = e
+
+  half : HalfOfAll s
+  half cycles each = omega (arith, cycles-twice cycles (each .none), sum-same (gatesHigh s) (map wordOf cycles) (words s) (λ w. as-often w (words-once s w)))
+    where
+      as-often : (w : ℕ) → (IsWord s w × (times w (words s) ≡ 1)) ⊎ ((¬ (IsWord s w)) × (times w (words s) ≡ 0)) → times w (map wordOf cycles) ≡ times w (words s)
+      as-often w (inl h) = each .once w (h .0) ∙ sym (h .1)
+      as-often w (inr h) = each .none w (h .0) ∙ sym (h .1)
 
 -- of the stage of an accepted pair of files
 pub accepted-half : (stageMost referenceMost : Limits) (stage reference : List ℕ) (k : Kept stageMost referenceMost stage reference) → HalfOfAll (k .contents .circuit)
-accepted-half stageMost referenceMost stage reference k = half-of-all (k .contents .circuit) (k .contents .function) (k .kept)
+accepted-half stageMost referenceMost stage reference k =
+    half (k .contents .circuit) (λ p h. cycle-twice (k .contents .circuit) (k .contents .function) p (k .promise (p .word) h) (k .rest (p .word) h))

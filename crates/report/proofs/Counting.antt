@@ -5,13 +5,16 @@ use native.Mathlib.Omega.{arith}
 use native.Mathlib.Decide.{ℕ-discrete, decLt}
 use mathlib.Core.Path.{_≡_, refl, sym, ap, ap₂, subst, _∙_}
 use mathlib.Core.Bool.{Bool, true, false}
+use mathlib.Core.Logic.{_⊎_, inl, inr, ⊎-elim}
 use mathlib.Core.List.{List, [], _∷_, map}
 use lib.ListN.{length, getD}
 use lib.Dec.{eqb}
 use borrow.Author.Tests.{eq-eqb, ne-eqb}
 use Rattle.runs.specs.Row.{tally, times}
 use Rattle.verdict.specs.Levels.{sum}
-use Rattle.verdict.specs.Checks.{numbers}
+use Rattle.verdict.specs.Loops.{In}
+use Rattle.verdict.specs.Words.{numbers}
+use Rattle.verdict.proofs.Words.{numbers-in}
 
 -- ---- below a bound
 
@@ -35,11 +38,6 @@ upTo-split a (suc b) f = let e : a + suc b ≡ suc (a + b) = omega arith in ap (
 pub upTo-twice : (m : ℕ) (f : ℕ → ℕ) → upTo m (λ k. 2 * f k) ≡ 2 * upTo m f
 upTo-twice zero f = refl
 upTo-twice (suc m) f = omega (arith, upTo-twice m f)
-
-pub upTo-numbers : (f : ℕ → ℕ) (m j : ℕ) → sum (map f (numbers j m)) + upTo j f ≡ upTo (j + m) f
-unfolding numbers
-upTo-numbers f zero j = let e : j + 0 ≡ j = omega arith in omega (arith, ap (λ (m : ℕ). upTo m f) e)
-upTo-numbers f (suc m) j = let e : suc j + m ≡ j + suc m = omega arith in omega (arith, upTo-numbers f m (suc j) ∙ ap (λ (m : ℕ). upTo m f) e)
 
 pub upTo-levels : (v : List ℕ) → sum v ≡ upTo (length v) (λ k. getD v k 0)
 upTo-levels [] = refl
@@ -96,3 +94,32 @@ sum-times f m (x ∷ l) none = omega (arith, sum-times f m l (tail-none m x l no
 pub weigh-zero : (n : ℕ) → weigh n 0 ≡ 0
 weigh-zero zero = refl
 weigh-zero (suc n) = omega (arith, weigh-zero n)
+
+-- ---- two lists in which each number stands as often
+
+past-sum : (l : List ℕ) (k : ℕ) → suc (sum l) ≤ k → times k l ≡ 0
+past-sum [] k h = refl
+past-sum (x ∷ l) k h = ap (λ b. tally b (times k l)) (ne-eqb k x (λ e. omega arith)) ∙ past-sum l k (omega arith)
+
+pub sum-same : (f : ℕ → ℕ) (l m : List ℕ) → ((k : ℕ) → times k l ≡ times k m) → sum (map f l) ≡ sum (map f m)
+sum-same f l m e =
+    let past = suc (sum l + sum m) in
+    sum-times f past l (λ k h. past-sum l k (omega arith))
+    ∙ upTo-same past _ _ (λ k h. ap (λ (n : ℕ). weigh n (f k)) (e k))
+    ∙ sym (sum-times f past m (λ k h. past-sum m k (omega arith)))
+
+-- how often a number stands in a list of numbers
+pub times-numbers : (j m k : ℕ) → (In k (numbers j m) × (times k (numbers j m) ≡ 1)) ⊎ ((¬ (In k (numbers j m))) × (times k (numbers j m) ≡ 0))
+unfolding numbers
+times-numbers j zero k = inr ((λ h. h), refl)
+times-numbers j (suc m) k = go (ℕ-discrete k j) (times-numbers (suc j) m k)
+  where
+    later : List ℕ
+    later = numbers (suc j) m
+
+    go : Dec (k ≡ j) → (In k later × (times k later ≡ 1)) ⊎ ((¬ (In k later)) × (times k later ≡ 0))
+        → (In k (j ∷ later) × (tally (eqb k j) (times k later) ≡ 1)) ⊎ ((¬ (In k (j ∷ later))) × (tally (eqb k j) (times k later) ≡ 0))
+    go (yes e) (inl h) = absurd (omega (arith, numbers-in (suc j) m k (h .0) .0))
+    go (yes e) (inr h) = inl (inl e, ap (λ b. tally b (times k later)) (eq-eqb k j e) ∙ ap suc (h .1))
+    go (no d) (inl h) = inl (inr (h .0), ap (λ b. tally b (times k later)) (ne-eqb k j d) ∙ h .1)
+    go (no d) (inr h) = inr (⊎-elim d (h .0), ap (λ b. tally b (times k later)) (ne-eqb k j d) ∙ h .1)

@@ -1,5 +1,5 @@
 -- What the total of a switching report counts: "half of all gate switchings when each word rises and falls once, in any order".
-use Prim.Native.Nat.{ℕ, _+_, _*_, _^_, _≤_, _<_}
+use Prim.Native.Nat.{ℕ, _+_, _*_}
 use mathlib.Core.Path.{_≡_}
 use mathlib.Core.Bool.{not}
 use mathlib.Core.List.{List, map}
@@ -8,6 +8,7 @@ use Rattle.runs.specs.Row.{low, after, tally, times}
 use Rattle.runs.specs.Net.{Net, rails, RiseList, RiseEnd, FallList, FallEnd}
 use Rattle.netlist.specs.Content.{Stage}
 use Rattle.verdict.specs.Levels.{sum}
+use Rattle.verdict.specs.Words.{IsWord}
 use Rattle.verdict.specs.Nets.{netOf, railsFor}
 use Rattle.report.specs.Report.{total}
 
@@ -30,8 +31,8 @@ switchings s p = gateSwitchings (netOf s) (p .rise) + gateSwitchings (netOf s) (
 
 -- each word of the stage stands exactly once in a list, and nothing else stands in it
 pub record EachWordOnce (s : Stage) (order : List ℕ) : Type 0 where
-  pub once : (w : ℕ) → w < 2 ^ s .inputs → times w order ≡ 1
-  pub none : (w : ℕ) → 2 ^ s .inputs ≤ w → times w order ≡ 0
+  pub once : (w : ℕ) → IsWord s w → times w order ≡ 1
+  pub none : (w : ℕ) → ¬ (IsWord s w) → times w order ≡ 0
 
 -- "It is also half of all gate switchings when each word rises and falls once, in any order": of the words, and of the switchings in each
 abbrev pub HalfOfAll : Stage → Type 0

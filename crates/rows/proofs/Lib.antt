@@ -1,3 +1,3 @@
-pub mod Rails
 pub mod Illegal
+pub mod Settling
 pub mod Cases

@@ -8,16 +8,17 @@ use mathlib.Core.List.{List, [], _∷_}
 use Prim.Native.Nat.{ℕ, zero, suc, _+_, _≤_, _<_}
 use native.Mathlib.Omega.{arith}
 use lib.Dec.{eqb, ltb}
-use Rattle.runs.specs.Row.{Row, _⊑_, _∖_, only}
+use Rattle.runs.specs.Row.{Row, _∖_, only}
 use Rattle.runs.specs.Net.{rails, nets, IsGate, riseUp}
+use Rattle.runs.specs.Theory.{_⊑_}
 use Rattle.runs.specs.Settled.{Settled}
 use Rattle.runs.specs.Pair.{DataOf, AllData, Reads}
-use Rattle.runs.specs.Stage.{Stage, All}
+use Rattle.runs.specs.Acyclic.{Acyclic, AllPins}
 use Rattle.runs.specs.Tight.{Supported, Tight}
 use Rattle.runs.specs.Acknowledged.{Acknowledged, output, next}
 use Rattle.runs.proofs.Test.{clash, not-false, of-not, and-in, and-left, and-right, or-left, or-right, or-cases, eqb-same, eqb-eq, eqb-other, same?, le-ltb, ltb-false, find}
 use Rattle.runs.proofs.Row.{∖-same}
-use Rattle.runs.proofs.Net.{Place, rail, gate, none, place, byNet-rail, byNet-gate, All-map}
+use Rattle.runs.proofs.Net.{Place, rail, gate, none, place, byNet-rail, byNet-gate, AllPins-map}
 use Rattle.runs.proofs.Pair.{data-one, dataOf-data, below-data, reads-data}
 use Rattle.runs.proofs.Rise.{settled-one, settled-rail, settled-gate, settled-inside, supported-⊑-settled}
 use Rattle.runs.proofs.Tight.{tight-from}
@@ -35,23 +36,23 @@ bound f (suc n) = go (bound f n)
         at k h (inr e) = omega (arith, x .1 k (omega arith))
 
 -- a net is in a list, so that P holds of it, or no member is that net
-among : (P : ℕ → Type 0) (k : ℕ) (l : List ℕ) → All P l → (P k) ⊎ (All (λ p. p ≢ k) l)
+among : (P : ℕ → Type 0) (k : ℕ) (l : List ℕ) → AllPins P l → (P k) ⊎ (AllPins (λ p. p ≢ k) l)
 among P k [] h = inr tt
 among P k (p ∷ ps) h = go (same? p k) (among P k ps (h .1))
   where
-    go : (p ≡ k) ⊎ (p ≢ k) → (P k) ⊎ (All (λ p. p ≢ k) ps) → (P k) ⊎ ((p ≢ k) × All (λ p. p ≢ k) ps)
+    go : (p ≡ k) ⊎ (p ≢ k) → (P k) ⊎ (AllPins (λ p. p ≢ k) ps) → (P k) ⊎ ((p ≢ k) × AllPins (λ p. p ≢ k) ps)
     go (inl e) t = inl (rw e at (h .0))
     go (inr e) (inl x) = inl x
     go (inr e) (inr x) = inr (e, x)
 
-module _ (S : Stage) (c : Row) (answer : ℕ → Bool) where
+module _ (S : Acyclic) (c : Row) (answer : ℕ → Bool) where
   -- a gate whose set expression turns false as net k falls has k at a pin
   falls-behind : (R : Row) (k g : ℕ) → IsGate (S .net) g → S .net .fires R g ≡ true → S .net .fires (R ∖ only k) g ≡ false → S .rank k < S .rank g
   falls-behind R k g h u z = go (among (λ p. S .rank p < S .rank g) k (S .net .pins g) (S .rank-pins g h))
     where
-      go : (S .rank k < S .rank g) ⊎ (All (λ p. p ≢ k) (S .net .pins g)) → S .rank k < S .rank g
+      go : (S .rank k < S .rank g) ⊎ (AllPins (λ p. p ≢ k) (S .net .pins g)) → S .rank k < S .rank g
       go (inl x) = x
-      go (inr x) = absurd (clash (sym (S .fires-local R (R ∖ only k) g (All-map (λ p. p ≢ k) (λ p. R p ≡ (R ∖ only k) p) (λ p n. ∖-same R (only k) p (eqb-other p k n)) (S .net .pins g) x)) ∙ u) z)
+      go (inr x) = absurd (clash (sym (S .fires-local R (R ∖ only k) g (AllPins-map (λ p. p ≢ k) (λ p. R p ≡ (R ∖ only k) p) (λ p n. ∖-same R (only k) p (eqb-other p k n)) (S .net .pins g) x)) ∙ u) z)
 
   module _ (R : Row) (rest : Settled (S .net) c R) (reads : Reads (S .net) R answer) (ack : (k : ℕ) → R k ≡ true → Acknowledged (S .net) R k) where
     -- from a net to the gate that waits for it, up to an output: the ranks rise, so it comes to an end

@@ -4,22 +4,23 @@ use mathlib.Core.Path.{_≡_, sym, ap, _∙_, subst, fun-ext}
 use mathlib.Core.Bool.{Bool, true, false, not}
 use Prim.Native.Nat.{ℕ, _/_, _<_}
 use native.Mathlib.Omega.{arith}
-use Rattle.runs.specs.Row.{Row, _⊑_, _∖_, low, only}
-use Rattle.runs.specs.Net.{IsGate, AllHold, inputRail, mayFall, riseUp, railsOfInputs}
+use Rattle.runs.specs.Row.{Row, _∖_, low, only}
+use Rattle.runs.specs.Net.{IsGate, inputRail, mayFall, riseUp, railsOfInputs}
+use Rattle.runs.specs.Theory.{_⊑_, AllHold}
 use Rattle.runs.specs.Settled.{Settled, SettledKept}
 use Rattle.runs.specs.Pair.{AllData, AllNull, InputsData}
-use Rattle.runs.specs.Stage.{Stage, All}
+use Rattle.runs.specs.Acyclic.{Acyclic, AllPins}
 use Rattle.runs.specs.Checks.{Passes, Fall-passes}
 use Rattle.runs.specs.Tight.{Released, Tight, Clear}
 use Rattle.runs.proofs.Test.{clash, not-true, of-not, and-left, and-right, eqb-same, eqb-eq}
 use Rattle.runs.proofs.Row.{∖-same}
-use Rattle.runs.proofs.Net.{Place, rail, gate, none, place, byNet-rail, byNet-gate, railsOfInputs-in, hold-waits, All-map}
+use Rattle.runs.proofs.Net.{Place, rail, gate, none, place, byNet-rail, byNet-gate, railsOfInputs-in, hold-waits, AllPins-map}
 use Rattle.runs.proofs.Pair.{data-high, input-one, reads-data, allNull-down}
 use Rattle.runs.proofs.Rise.{settled-one, settled-rail, settled-gate, settled-data, settled-inside}
 use Rattle.runs.proofs.Fall.{kept-one, kept-⊑, kept-released, kept-still, kept-exists, kept-⊑-released}
 use Rattle.runs.proofs.Tight.{passes-tight}
 
-module _ (S : Stage) (c : Row) where
+module _ (S : Acyclic) (c : Row) where
   -- with a net kept high, not all outputs are NULL
   pub clear-kept : Clear (S .net) c → (R : Row) → Settled (S .net) c R → (X : Row) (k : ℕ) → X k ≡ true → R k ≡ true → (r : Row)
       → SettledKept (S .net) X R r → ¬ (AllNull (S .net) r)
@@ -59,7 +60,7 @@ module _ (S : Stage) (c : Row) where
     }
 
 -- One settled row of each sort is enough: a stage has no other.
-module _ (S : Stage) (c R : Row) (rest : Settled (S .net) c R) where
+module _ (S : Acyclic) (c R : Row) (rest : Settled (S .net) c R) where
   pub fall-passes-at : ((i : ℕ) → i < S .net .inputs → (r : Row) × SettledKept (S .net) (railsOfInputs (S .net) (only i)) R r × (¬ (AllNull (S .net) r)))
       → ((g : ℕ) → IsGate (S .net) g → R g ≡ true → (r : Row) × SettledKept (S .net) (only g) R r × (¬ (AllNull (S .net) r)))
       → Fall-passes (S .net) c
@@ -74,7 +75,7 @@ module _ (S : Stage) (c R : Row) (rest : Settled (S .net) c R) where
 
 -- ---- hold
 
-module _ (S : Stage) (c : Row) (answer : ℕ → Bool) (hold : AllHold (S .net)) (t : Tight (S .net) c answer) (R : Row) (rest : Settled (S .net) c R) (r : Row) (o : r ⊑ R) (f : Released (S .net) R r) (n : AllNull (S .net) r) where
+module _ (S : Acyclic) (c : Row) (answer : ℕ → Bool) (hold : AllHold (S .net)) (t : Tight (S .net) c answer) (R : Row) (rest : Settled (S .net) c R) (r : Row) (o : r ⊑ R) (f : Released (S .net) R r) (n : AllNull (S .net) r) where
   -- what has fallen was a supported row: a gate with hold fell after all its pins had
   fallen-supported : (k : ℕ) → (R ∖ r) k ≡ true → riseUp (S .net) c (R ∖ r) k ≡ true
   fallen-supported k e = go (place (S .net) k)
@@ -86,7 +87,7 @@ module _ (S : Stage) (c : Row) (answer : ℕ → Bool) (hold : AllHold (S .net))
       go (rail h) = byNet-rail (S .net) k (c k) (S .net .fires (R ∖ r) k) h ∙ sym (settled-rail (S .net) c R rest k h) ∙ was
       go (gate h) =
           let may : mayFall (S .net) r k ≡ true = sym (byNet-gate (S .net) k true (mayFall (S .net) r k) h) ∙ f k was (of-not (r k) (and-right (R k) (not (r k)) e)) in
-          let same : All (λ p. R p ≡ (R ∖ r) p) (S .net .pins k) = All-map (λ p. r p ≡ false) (λ p. R p ≡ (R ∖ r) p) (∖-same R r) (S .net .pins k) (hold-waits (S .net) r k (hold k h) may) in
+          let same : AllPins (λ p. R p ≡ (R ∖ r) p) (S .net .pins k) = AllPins-map (λ p. r p ≡ false) (λ p. R p ≡ (R ∖ r) p) (∖-same R r) (S .net .pins k) (hold-waits (S .net) r k (hold k h) may) in
           byNet-gate (S .net) k (c k) (S .net .fires (R ∖ r) k) h ∙ sym (S .fires-local R (R ∖ r) k same) ∙ sym (settled-gate (S .net) c R rest k h) ∙ was
       go (none h) = absurd (omega (arith, settled-inside (S .net) c R rest k was))
 
@@ -100,10 +101,10 @@ module _ (S : Stage) (c : Row) (answer : ℕ → Bool) (hold : AllHold (S .net))
       kept : (k : ℕ) → r k ≡ true → (R ∖ r) k ≡ false
       kept k e = rw (e, o k e)
 
-pub tight-clear : (S : Stage) (c : Row) (answer : ℕ → Bool) → AllHold (S .net) → Tight (S .net) c answer → Clear (S .net) c
+pub tight-clear : (S : Acyclic) (c : Row) (answer : ℕ → Bool) → AllHold (S .net) → Tight (S .net) c answer → Clear (S .net) c
 tight-clear S c answer hold t R rest r o f n = all-fallen S c answer hold t R rest r o f n
 
 -- a stage with hold everywhere never meets 20 and 21
-pub hold-fall-passes : (S : Stage) (c : Row) (answer : ℕ → Bool) → InputsData (S .net) c → AllHold (S .net) → Passes (S .net) c answer
+pub hold-fall-passes : (S : Acyclic) (c : Row) (answer : ℕ → Bool) → InputsData (S .net) c → AllHold (S .net) → Passes (S .net) c answer
     → Fall-passes (S .net) c
 hold-fall-passes S c answer word hold ok = clear-fall-passes S c word (tight-clear S c answer hold (passes-tight S c answer word ok))

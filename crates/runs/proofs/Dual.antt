@@ -6,7 +6,8 @@ use mathlib.Core.List.{List, [], _∷_, _++_}
 use Prim.Native.Nat.{ℕ, zero, suc, _+_}
 use native.Mathlib.Omega.{arith}
 use lib.Dec.{eqb}
-use Rattle.runs.specs.Row.{Row, _⊑_, toggle, after, Legal, Ended, Reached, tally, count}
+use Rattle.runs.specs.Row.{Row, toggle, after, Legal, Ended, tally, count}
+use Rattle.runs.specs.Theory.{_⊑_, Reached}
 use Rattle.runs.specs.Exchange.{Exchanged, done, swap}
 use Rattle.runs.specs.Promise.{Goes-on}
 use Rattle.runs.proofs.Test.{clash, not-false}

@@ -8,10 +8,11 @@ use mathlib.Core.List.{List}
 use Prim.Native.Nat.{ℕ, _+_, _≤_, _<_}
 use native.Mathlib.Omega.{arith}
 use lib.ListN.{length}
-use Rattle.runs.specs.Row.{Row, _⊑_, _∖_, low, toggle, after, Legal, Reached, tally, count, times}
+use Rattle.runs.specs.Row.{Row, _∖_, low, toggle, after, Legal, tally, count, times}
 use Rattle.runs.specs.Net.{Net, rails, nets, IsGate, mayFall, fallUp, fallDown, fallStep, FallList, FallEnd}
+use Rattle.runs.specs.Theory.{_⊑_, Reached}
 use Rattle.runs.specs.Settled.{Settled, SettledKept}
-use Rattle.runs.specs.Stage.{Stage}
+use Rattle.runs.specs.Acyclic.{Acyclic}
 use Rattle.runs.specs.Tight.{Released}
 use Rattle.runs.specs.Promise.{Goes-on, Switched}
 use Rattle.runs.specs.Exchange.{Exchanged}
@@ -51,7 +52,7 @@ kept-by N X R r f g h k = go (place N k)
     go (none x) = h k x ∙ sym (and-true (R k)) ∙ ap (λ (b : Bool). R k && b) (sym (or-true (X k)))
         ∙ ap (λ (b : Bool). R k && (X k || not b)) (sym (byNet-none N k true (mayFall N r k) x))
 
-module _ (S : Stage) (X R : Row) where
+module _ (S : Acyclic) (X R : Row) where
   pub kept-one : (a b : Row) → SettledKept (S .net) X R a → SettledKept (S .net) X R b → a ≡ b
   kept-one a b p q =
       let ranked : Ranked (mask (fallen S) X) = mask-ranked (fallen S) X (fallen-ranked S) in
@@ -74,7 +75,7 @@ end-cases true r d u e f g = rw (e, f refl)
 end-cases false true d u e f g = rw (g refl refl)
 end-cases false false d u e f g = refl
 
-module _ (S : Stage) (c R : Row) (rest : Settled (S .net) c R) where
+module _ (S : Acyclic) (c R : Row) (rest : Settled (S .net) c R) where
   quiet : Quiet (fallen S) (complement R)
   quiet = settled-dual-quiet S c R rest
 

@@ -4,18 +4,19 @@ use mathlib.Core.Path.{_≡_, refl, sym, ap, _∙_, subst}
 use mathlib.Core.Logic.{_⊎_, inl, inr}
 use mathlib.Core.Bool.{Bool, true, false, not, _&&_, _||_, Bool·not-not}
 use Prim.Native.Nat.{ℕ, _<_}
-use Rattle.runs.specs.Row.{Row, Rule, _⊑_, _∖_, low}
+use Rattle.runs.specs.Row.{Row, Rule, _∖_, low}
 use Rattle.runs.specs.Net.{Net, nets, IsGate, mayFall, byNet, riseUp, fallUp, fallDown, railsOfInputs}
+use Rattle.runs.specs.Theory.{_⊑_}
 use Rattle.runs.specs.Settled.{Settled, SettledHeld, SettledKept}
-use Rattle.runs.specs.Stage.{Stage, All}
+use Rattle.runs.specs.Acyclic.{Acyclic, AllPins}
 use Rattle.runs.specs.Tight.{Released}
 use Rattle.runs.proofs.Test.{clash, true?, not-true, of-not}
 use Rattle.runs.proofs.System.{System, Quiet, SupportedFrom, SettledFrom, Ranked, mask, complement, dual}
 use Rattle.runs.proofs.Dual.{complement-complement}
-use Rattle.runs.proofs.Net.{byNet-both, byNet-mono, byNet-inside, All-map, fires-mayFall, mayFall-anti, mayFall-local, riseUp-∖}
+use Rattle.runs.proofs.Net.{byNet-both, byNet-mono, byNet-inside, AllPins-map, fires-mayFall, mayFall-anti, mayFall-local, riseUp-∖}
 
 -- the gate rule, with rails that rise where c says so and fall where d says so
-abbrev pub moves : (S : Stage) (c d : Row) → ((k : ℕ) → c k ≡ true → d k ≡ false) → System
+abbrev pub moves : (S : Acyclic) (c d : Row) → ((k : ℕ) → c k ≡ true → d k ≡ false) → System
 moves S c d n = record {
   size = nets (S .net);
   up = λ r k. byNet (S .net) k (c k) (S .net .fires r k);
@@ -28,27 +29,27 @@ moves S c d n = record {
       (λ x. n k) (λ x. fires-mayFall S r k) (λ x e. refl);
 }
 
-abbrev pub rise : Stage → Row → System
+abbrev pub rise : Acyclic → Row → System
 rise S c = moves S c low (λ k e. refl)
 
-abbrev pub fall : Stage → System
+abbrev pub fall : Acyclic → System
 fall S = moves S low (λ k. true) (λ k e. absurd (clash e refl))
 
 -- the fall as a rise: high is what has fallen
-abbrev pub fallen : Stage → System
+abbrev pub fallen : Acyclic → System
 fallen S = dual (fall S)
 
-gate-local : (S : Stage) (a : Row) (b : Rule) → ((r s : Row) (g : ℕ) → All (λ p. r p ≡ s p) (S .net .pins g) → b r g ≡ b s g)
+gate-local : (S : Acyclic) (a : Row) (b : Rule) → ((r s : Row) (g : ℕ) → AllPins (λ p. r p ≡ s p) (S .net .pins g) → b r g ≡ b s g)
     → (r s : Row) (k : ℕ) → ((i : ℕ) → S .rank i < S .rank k → r i ≡ s i) → byNet (S .net) k (a k) (b r k) ≡ byNet (S .net) k (a k) (b s k)
 gate-local S a b f r s k h = byNet-both (λ x y. x ≡ y) (S .net) k (a k) (b r k) (a k) (b s k) (λ x. refl) (λ g. f r s k (same g)) (λ x. refl)
   where
-    same : IsGate (S .net) k → All (λ p. r p ≡ s p) (S .net .pins k)
-    same g = All-map (λ p. S .rank p < S .rank k) (λ p. r p ≡ s p) h (S .net .pins k) (S .rank-pins k g)
+    same : IsGate (S .net) k → AllPins (λ p. r p ≡ s p) (S .net .pins k)
+    same g = AllPins-map (λ p. S .rank p < S .rank k) (λ p. r p ≡ s p) h (S .net .pins k) (S .rank-pins k g)
 
-pub rise-ranked : (S : Stage) (c : Row) → Ranked (rise S c)
+pub rise-ranked : (S : Acyclic) (c : Row) → Ranked (rise S c)
 rise-ranked S c = record { rank = S .rank; local = gate-local S c (S .net .fires) (S .fires-local) }
 
-pub fallen-ranked : (S : Stage) → Ranked (fallen S)
+pub fallen-ranked : (S : Acyclic) → Ranked (fallen S)
 fallen-ranked S = record {
   rank = S .rank;
   local = λ r s k h. gate-local S (λ k. true) (mayFall (S .net)) (mayFall-local S) (complement r) (complement s) k (λ i d. ap not (h i d));
@@ -74,7 +75,7 @@ kept-not false x d = refl
 not-kept : (r x d : Bool) → not (not r || d && not x) ≡ (r && (x || not d))
 not-kept r x d = ap not (sym (kept-not r x d)) ∙ Bool·not-not (r && (x || not d))
 
-module _ (S : Stage) where
+module _ (S : Acyclic) where
   pub kept-dual : (X R r : Row) → SettledKept (S .net) X R r → SettledFrom (mask (fallen S) X) (complement R) (complement r)
   kept-dual X R r h k = ap not (h k) ∙ kept-not (R k) (X k) (fallDown (S .net) r k)
       ∙ ap (λ (s : Row). not (R k) || fallDown (S .net) s k && not (X k)) (sym (complement-complement r))

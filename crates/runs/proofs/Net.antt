@@ -7,9 +7,10 @@ use mathlib.Core.List.{List, [], _∷_}
 use Prim.Native.Nat.{ℕ, _+_, _*_, _/_, _%_, _≤_, _<_}
 use native.Mathlib.Omega.{arith}
 use lib.Dec.{ltb}
-use Rattle.runs.specs.Row.{Row, _⊑_, _∖_, low}
-use Rattle.runs.specs.Net.{Net, rails, nets, IsGate, inputRail, allLow, mayFall, byNet, riseUp, wordRails, railsOfInputs}
-use Rattle.runs.specs.Stage.{Stage, All}
+use Rattle.runs.specs.Row.{Row, _∖_, low}
+use Rattle.runs.specs.Net.{Net, rails, nets, IsGate, inputRail, allLow, mayFall, byNet, riseUp, railsOfInputs}
+use Rattle.runs.specs.Theory.{_⊑_, wordRails}
+use Rattle.runs.specs.Acyclic.{Acyclic, AllPins}
 use Rattle.runs.proofs.Test.{clash, true?, not-true, of-not, and-in, and-left, and-right, ltb-true, ltb-false, lt-ltb, le-ltb, same?}
 
 -- ---- a net is a rail, a gate's, or none
@@ -107,15 +108,15 @@ riseUp-∖ N c A r k = go (ltb k (rails N))
 
 -- ---- pins
 
-pub All-map : (P Q : ℕ → Type 0) → ((p : ℕ) → P p → Q p) → (l : List ℕ) → All P l → All Q l
-All-map P Q f [] h = tt
-All-map P Q f (p ∷ ps) h = (f p (h .0), All-map P Q f ps (h .1))
+pub AllPins-map : (P Q : ℕ → Type 0) → ((p : ℕ) → P p → Q p) → (l : List ℕ) → AllPins P l → AllPins Q l
+AllPins-map P Q f [] h = tt
+AllPins-map P Q f (p ∷ ps) h = (f p (h .0), AllPins-map P Q f ps (h .1))
 
-pub allLow-in : (r : Row) (l : List ℕ) → All (λ p. r p ≡ false) l → allLow r l ≡ true
+pub allLow-in : (r : Row) (l : List ℕ) → AllPins (λ p. r p ≡ false) l → allLow r l ≡ true
 allLow-in r [] h = refl
 allLow-in r (p ∷ ps) h = rw (h .0) (allLow-in r ps (h .1))
 
-pub allLow-out : (r : Row) (l : List ℕ) → allLow r l ≡ true → All (λ p. r p ≡ false) l
+pub allLow-out : (r : Row) (l : List ℕ) → allLow r l ≡ true → AllPins (λ p. r p ≡ false) l
 allLow-out r [] e = tt
 allLow-out r (p ∷ ps) e = (of-not (r p) (and-left (not (r p)) (allLow r ps) e), allLow-out r ps (and-right (not (r p)) (allLow r ps) e))
 
@@ -124,19 +125,19 @@ allLow-low [] = refl
 allLow-low (p ∷ ps) = allLow-low ps
 
 pub allLow-anti : (r s : Row) → r ⊑ s → (l : List ℕ) → allLow s l ≡ true → allLow r l ≡ true
-allLow-anti r s h l e = allLow-in r l (All-map (λ p. s p ≡ false) (λ p. r p ≡ false) (λ p x. not-true (r p) (λ y. clash (h p y) x)) l (allLow-out s l e))
+allLow-anti r s h l e = allLow-in r l (AllPins-map (λ p. s p ≡ false) (λ p. r p ≡ false) (λ p x. not-true (r p) (λ y. clash (h p y) x)) l (allLow-out s l e))
 
-pub allLow-local : (r s : Row) (l : List ℕ) → All (λ p. r p ≡ s p) l → allLow r l ≡ allLow s l
+pub allLow-local : (r s : Row) (l : List ℕ) → AllPins (λ p. r p ≡ s p) l → allLow r l ≡ allLow s l
 allLow-local r s [] h = refl
 allLow-local r s (p ∷ ps) h = ap₂ (λ a b. not a && b) (h .0) (allLow-local r s ps (h .1))
 
 -- ---- the gate rule
 
 -- a gate with hold waits until all its pins are low
-pub hold-waits : (N : Net) (r : Row) (g : ℕ) → N .hold g ≡ true → mayFall N r g ≡ true → All (λ p. r p ≡ false) (N .pins g)
+pub hold-waits : (N : Net) (r : Row) (g : ℕ) → N .hold g ≡ true → mayFall N r g ≡ true → AllPins (λ p. r p ≡ false) (N .pins g)
 hold-waits N r g h e = allLow-out r (N .pins g) (subst (λ (b : Bool). cond b (allLow r (N .pins g)) (not (N .fires r g)) ≡ true) h e)
 
-module _ (S : Stage) where
+module _ (S : Acyclic) where
   -- a gate that may rise may not fall
   pub fires-mayFall : (r : Row) (g : ℕ) → S .net .fires r g ≡ true → mayFall (S .net) r g ≡ false
   fires-mayFall r g e = go (S .net .hold g)
@@ -153,7 +154,7 @@ module _ (S : Stage) where
       go true f = allLow-anti r s h (S .net .pins g) f
       go false f = ap not (not-true (S .net .fires r g) (λ x. clash f (ap not (S .fires-mono r s h g x))))
 
-  pub mayFall-local : (r s : Row) (g : ℕ) → All (λ p. r p ≡ s p) (S .net .pins g) → mayFall (S .net) r g ≡ mayFall (S .net) s g
+  pub mayFall-local : (r s : Row) (g : ℕ) → AllPins (λ p. r p ≡ s p) (S .net .pins g) → mayFall (S .net) r g ≡ mayFall (S .net) s g
   mayFall-local r s g h = ap₂ (λ a b. cond (S .net .hold g) b (not a)) (S .fires-local r s g h) (allLow-local r s (S .net .pins g) h)
 
   pub fires-of-low : (g : ℕ) → S .net .fires low g ≡ false

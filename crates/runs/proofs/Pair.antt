@@ -6,9 +6,10 @@ use mathlib.Core.Bool.{Bool, true, false, not, _||_}
 use Prim.Native.Nat.{ℕ, _+_, _*_, _/_, _<_}
 use native.Mathlib.Omega.{arith}
 use lib.Dec.{eqb, ltb}
-use Rattle.runs.specs.Row.{Row, _⊑_, only}
-use Rattle.runs.specs.Net.{Net, rails, inputRail, railsOfInputs, wordRails}
-use Rattle.runs.specs.Pair.{DataOf, Data, Data0, Data1, Null, Both, AllData, AllNull, Reads, InputsData}
+use Rattle.runs.specs.Row.{Row, only}
+use Rattle.runs.specs.Net.{Net, rails, inputRail, railsOfInputs}
+use Rattle.runs.specs.Theory.{_⊑_, wordRails}
+use Rattle.runs.specs.Pair.{DataOf, Data, Null, Both, AllData, AllNull, Reads, InputsData}
 use Rattle.runs.specs.Complete.{SomeNull, SomeNotNull}
 use Rattle.runs.proofs.Test.{clash, true?, not-true, not-false, of-not, and-right, or-left, or-right, eqb-eq, find}
 use Rattle.runs.proofs.Row.{⊑-low}
@@ -28,10 +29,10 @@ dataOf-data r p true h = h .1 ∙ sym (ap not (h .0))
 dataOf-data r p false h = h .0 ∙ sym (ap not (h .1))
 
 -- DATA is DATA0 or DATA1
-pub data-cases : (r : Row) (p : Bool → ℕ) → Data r p → (Data0 r p) ⊎ (Data1 r p)
+pub data-cases : (r : Row) (p : Bool → ℕ) → Data r p → (DataOf r p false) ⊎ (DataOf r p true)
 data-cases r p d = go (true? (r (p true)))
   where
-    go : (r (p true) ≡ true) ⊎ (r (p true) ≡ false) → (Data0 r p) ⊎ (Data1 r p)
+    go : (r (p true) ≡ true) ⊎ (r (p true) ≡ false) → (DataOf r p false) ⊎ (DataOf r p true)
     go (inl e) = inr (e, d ∙ ap not e)
     go (inr e) = inl (d ∙ ap not e, e)
 
@@ -39,7 +40,7 @@ data-cases r p d = go (true? (r (p true)))
 pub data-high : (r : Row) (p : Bool → ℕ) → Data r p → (b : Bool) × (r (p b) ≡ true)
 data-high r p d = go (data-cases r p d)
   where
-    go : (Data0 r p) ⊎ (Data1 r p) → (b : Bool) × (r (p b) ≡ true)
+    go : (DataOf r p false) ⊎ (DataOf r p true) → (b : Bool) × (r (p b) ≡ true)
     go (inl h) = (false, h .0)
     go (inr h) = (true, h .0)
 

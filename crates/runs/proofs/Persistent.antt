@@ -9,7 +9,8 @@ use Prim.Native.Nat.{ℕ, zero, suc, _+_, _≤_, _<_}
 use native.Mathlib.Omega.{arith}
 use lib.Dec.{eqb}
 use lib.ListN.{length}
-use Rattle.runs.specs.Row.{Row, _⊑_, low, toggle, after, Legal, Ended, tally, count, times}
+use Rattle.runs.specs.Row.{Row, low, toggle, after, Legal, Ended, tally, count, times}
+use Rattle.runs.specs.Theory.{_⊑_}
 use Rattle.runs.specs.Promise.{Goes-on}
 use Rattle.runs.proofs.Test.{clash, not-true, same?, eqb-same, eqb-other, find}
 use Rattle.runs.proofs.Row.{⊑-refl, ⊑-trans, ⊑-antisym, toggle-high, toggle-other, toggle-⊑, after-++, Legal-++, count-≤, count-toggle}

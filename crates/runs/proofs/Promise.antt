@@ -8,14 +8,16 @@ use Prim.Native.Nat.{ℕ, _<_}
 use native.Mathlib.Omega.{arith}
 use lib.ListN.{length}
 use Rattle.runs.specs.Row.{Row, low, after}
-use Rattle.runs.specs.Net.{Net, IsGate, AllHold, inputRail, riseStep, fallStep, RiseList, RiseEnd, FallList, FallEnd}
+use Rattle.runs.specs.Net.{Net, IsGate, inputRail, riseStep, fallStep, RiseList, RiseEnd, FallList, FallEnd}
+use Rattle.runs.specs.Theory.{AllHold}
 use Rattle.runs.specs.Settled.{Settled}
 use Rattle.runs.specs.Pair.{AllData, Reads, InputsData, AllLow}
-use Rattle.runs.specs.Stage.{Stage}
+use Rattle.runs.specs.Acyclic.{Acyclic}
 use Rattle.runs.specs.Checks.{Passes, Fall-passes}
 use Rattle.runs.specs.Tight.{Tight, Clear}
 use Rattle.runs.specs.Promise.{Goes-on, Falling, Whole, Rest, Rising, Promise}
-use Rattle.runs.specs.Witness.{Wrong, Incomplete, Unobservable, Null-outputs, Fall-incomplete, Fall-unobservable}
+use Rattle.runs.specs.Witness.{Wrong, Incomplete, Unobservable}
+use Rattle.runs.specs.FallWitness.{Null-outputs, Fall-incomplete, Fall-unobservable}
 use Rattle.runs.proofs.Test.{clash}
 use Rattle.runs.proofs.Net.{byNet-gate, inputRail-inside}
 use Rattle.runs.proofs.Pair.{null-not-data, below-not-both, reads-data}
@@ -48,8 +50,9 @@ module _ (N : Net) (c : Row) (answer : ℕ → Bool) (keeps : Promise N c answer
 
   pub promise-not-wrong : (j : ℕ) → j < N .outputs → ¬ (Wrong N c answer j)
   promise-not-wrong j h x =
-      let rising : Rising N c answer (x .list) = keeps .lists (x .list) (x .legal) in
-      x .wrong (x .list) (x .legal) (x .ended) (rising .data-whole (rising .end-rest (x .ended) .all-data) .read j h)
+      let end = x .goes-on [] tt in
+      let rising : Rising N c answer (end .more) = keeps .lists (end .more) (end .legal) in
+      x .wrong (end .more) (end .legal) (end .ended) (rising .data-whole (rising .end-rest (end .ended) .all-data) .read j h)
 
   pub promise-not-incomplete : (i : ℕ) → i < N .inputs → ¬ (Incomplete N c i)
   promise-not-incomplete i h x = null-not-data (after low (x .list)) (inputRail i) (x .null) (keeps .lists (x .list) (x .legal) .data-whole (x .all-data) .inputs i h)
@@ -74,7 +77,7 @@ module _ (N : Net) (c : Row) (answer : ℕ → Bool) (keeps : Promise N c answer
 
 -- ---- it is kept
 
-module _ (S : Stage) (c : Row) (answer : ℕ → Bool) (word : InputsData (S .net) c) (t : Tight (S .net) c answer) where
+module _ (S : Acyclic) (c : Row) (answer : ℕ → Bool) (word : InputsData (S .net) c) (t : Tight (S .net) c answer) where
   -- a list that leaves all outputs DATA leaves the rest
   pub data-rest : (R : Row) → Settled (S .net) c R → (l : List ℕ) → RiseList (S .net) c l → AllData (S .net) (after low l) → after low l ≡ R
   data-rest R rest l p d = t .tight R rest (after low l) (rise-supported S c l p) d
@@ -114,7 +117,7 @@ module _ (S : Stage) (c : Row) (answer : ℕ → Bool) (word : InputsData (S .ne
     tight-promise = record { lists = rising; one-end = rise-one-end S c }
 
 -- Demand 3: where 13 to 15 find nothing, and every gate has hold or 20 and 21 find nothing, the promise is kept.
-pub passes-promise : (S : Stage) (c : Row) (answer : ℕ → Bool) → InputsData (S .net) c → Passes (S .net) c answer
+pub passes-promise : (S : Acyclic) (c : Row) (answer : ℕ → Bool) → InputsData (S .net) c → Passes (S .net) c answer
     → (AllHold (S .net)) ⊎ (Fall-passes (S .net) c) → Promise (S .net) c answer
 passes-promise S c answer word ok (inl hold) = let t : Tight (S .net) c answer = passes-tight S c answer word ok in tight-promise S c answer word t (tight-clear S c answer hold t)
 passes-promise S c answer word ok (inr fall-ok) = tight-promise S c answer word (passes-tight S c answer word ok) (fall-passes-clear S c word fall-ok)

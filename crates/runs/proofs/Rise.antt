@@ -6,11 +6,12 @@ use mathlib.Core.Bool.{Bool, true, false, not, _&&_, and-false}
 use mathlib.Core.List.{List}
 use Prim.Native.Nat.{ℕ, _≤_, _<_}
 use native.Mathlib.Omega.{arith}
-use Rattle.runs.specs.Row.{Row, Rule, _⊑_, _∖_, low, only, toggle, after, Ended, Reached}
+use Rattle.runs.specs.Row.{Row, Rule, _∖_, low, only, toggle, after, Ended}
 use Rattle.runs.specs.Net.{Net, rails, nets, IsGate, inputRail, riseUp, riseStep, RiseList, RiseEnd}
+use Rattle.runs.specs.Theory.{_⊑_, Reached}
 use Rattle.runs.specs.Settled.{Settled, SettledHeld}
 use Rattle.runs.specs.Pair.{InputsData}
-use Rattle.runs.specs.Stage.{Stage}
+use Rattle.runs.specs.Acyclic.{Acyclic}
 use Rattle.runs.specs.Tight.{Supported}
 use Rattle.runs.specs.Promise.{Goes-on, Switched}
 use Rattle.runs.specs.Exchange.{Exchanged}
@@ -23,7 +24,7 @@ use Rattle.runs.proofs.Exchange.{exchange}
 use Rattle.runs.proofs.Net.{Place, rail, gate, none, place, riseUp-cong, byNet-rail, byNet-gate, byNet-none, byNet-inside, byNet-mono, inputRail-inside}
 use Rattle.runs.proofs.Moves.{rise, rise-ranked}
 
-module _ (S : Stage) (c : Row) where
+module _ (S : Acyclic) (c : Row) where
   quiet : Quiet (rise S c) low
   quiet = quiet-low (rise S c)
 
@@ -111,7 +112,7 @@ module _ (S : Stage) (c : Row) where
   supported-⊑-held X r a s x h = General.supported-⊑-held (rise S c) X (rise-ranked S c) low r a s (λ k y z. x k y) h
 
 -- more rails, more high nets
-pub settled-mono : (S : Stage) (c d : Row) → c ⊑ d → (r s : Row) → Settled (S .net) c r → Settled (S .net) d s → r ⊑ s
+pub settled-mono : (S : Acyclic) (c d : Row) → c ⊑ d → (r s : Row) → Settled (S .net) c r → Settled (S .net) d s → r ⊑ s
 settled-mono S c d o r s h g = supported-⊑-settled S d r s (λ k e. up k (sym (h k) ∙ e)) g
   where
     up : (k : ℕ) → riseUp (S .net) c r k ≡ true → riseUp (S .net) d r k ≡ true

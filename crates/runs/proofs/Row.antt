@@ -7,7 +7,8 @@ use mathlib.Core.List.{List, [], _∷_, _++_}
 use Prim.Native.Nat.{ℕ, zero, suc, _+_, _≤_, _<_}
 use native.Mathlib.Omega.{arith}
 use lib.Dec.{eqb}
-use Rattle.runs.specs.Row.{Row, Rule, _⊑_, _∖_, low, toggle, after, Legal, tally, count}
+use Rattle.runs.specs.Row.{Row, Rule, _∖_, low, toggle, after, Legal, tally, count}
+use Rattle.runs.specs.Theory.{_⊑_}
 use Rattle.runs.proofs.Test.{clash, true?, not-true, and-same, same?, eqb-same, eqb-other}
 
 -- ---- order

@@ -6,7 +6,8 @@ use mathlib.Core.Bool.{true, false, not, _&&_, _||_}
 use mathlib.Core.List.{List, [], _∷_}
 use Prim.Native.Nat.{ℕ, zero, suc, _<_}
 use native.Mathlib.Omega.{arith}
-use Rattle.runs.specs.Row.{Row, _⊑_, _∖_, toggle, after, Legal, Ended, Reached}
+use Rattle.runs.specs.Row.{Row, _∖_, toggle, after, Legal, Ended}
+use Rattle.runs.specs.Theory.{_⊑_, Reached}
 use Rattle.runs.specs.Promise.{Goes-on}
 use Rattle.runs.proofs.Test.{clash, true?, not-true, of-not, and-in, and-left, and-right, or-left, or-right, or-cases, or-mono, and-same, same?}
 use Rattle.runs.proofs.Row.{⊑-antisym, toggle-other, toggle-⊑}

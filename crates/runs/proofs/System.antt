@@ -4,7 +4,8 @@
 use mathlib.Core.Path.{_≡_, ap}
 use mathlib.Core.Bool.{true, false, not, _&&_, _||_}
 use Prim.Native.Nat.{ℕ, _<_}
-use Rattle.runs.specs.Row.{Row, Rule, _⊑_, _∖_, switch}
+use Rattle.runs.specs.Row.{Row, Rule, _∖_, switch}
+use Rattle.runs.specs.Theory.{_⊑_}
 use Rattle.runs.proofs.Test.{clash, not-true, of-not, and-in, and-left, and-right}
 
 -- A low net may rise where `up` says so, a high net may fall where `down` says so. More high nets allow more rises and fewer falls, and no

@@ -4,11 +4,12 @@ use mathlib.Core.Path.{_≡_, sym, ap, _∙_, subst}
 use mathlib.Core.Bool.{Bool, true, false}
 use Prim.Native.Nat.{ℕ, _/_, _<_}
 use native.Mathlib.Omega.{arith}
-use Rattle.runs.specs.Row.{Row, _⊑_, _∖_, only}
+use Rattle.runs.specs.Row.{Row, _∖_, only}
 use Rattle.runs.specs.Net.{IsGate, inputRail, railsOfInputs}
+use Rattle.runs.specs.Theory.{_⊑_}
 use Rattle.runs.specs.Settled.{Settled, SettledHeld}
 use Rattle.runs.specs.Pair.{AllData, Reads, InputsData}
-use Rattle.runs.specs.Stage.{Stage}
+use Rattle.runs.specs.Acyclic.{Acyclic}
 use Rattle.runs.specs.Checks.{Passes}
 use Rattle.runs.specs.Tight.{Supported, Tight}
 use Rattle.runs.proofs.Test.{clash, not-true, not-false, eqb-same, eqb-eq}
@@ -18,7 +19,7 @@ use Rattle.runs.proofs.Pair.{data-high, input-one, allData-up}
 use Rattle.runs.proofs.Moves.{missing-held, held-missing}
 use Rattle.runs.proofs.Rise.{settled-one, held-one, settled-exists, settled-data, settled-inside, supported-⊑-settled, held-exists, held-supported, held-low, supported-⊑-held}
 
-module _ (S : Stage) (c : Row) (answer : ℕ → Bool) where
+module _ (S : Acyclic) (c : Row) (answer : ℕ → Bool) where
   -- it is enough that no supported row with all outputs DATA lacks a net of the settled row
   pub tight-from : ((R : Row) → Settled (S .net) c R → (r : Row) → Supported (S .net) c r → AllData (S .net) r → R ⊑ r) → (R : Row)
       → Settled (S .net) c R → (r : Row) → Supported (S .net) c r → AllData (S .net) r → r ≡ R
@@ -70,7 +71,7 @@ module _ (S : Stage) (c : Row) (answer : ℕ → Bool) where
     }
 
 -- One settled row of each sort is enough: a stage has no other.
-module _ (S : Stage) (c R : Row) (rest : Settled (S .net) c R) where
+module _ (S : Acyclic) (c R : Row) (rest : Settled (S .net) c R) where
   pub passes-at : (answer : ℕ → Bool) → Reads (S .net) R answer
       → ((i : ℕ) → i < S .net .inputs → (r : Row) × Settled (S .net) (c ∖ railsOfInputs (S .net) (only i)) r × (¬ (AllData (S .net) r)))
       → ((g : ℕ) → IsGate (S .net) g → R g ≡ true → (r : Row) × SettledHeld (S .net) c (only g) r × (¬ (AllData (S .net) r)))

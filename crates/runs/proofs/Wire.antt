@@ -7,10 +7,11 @@ use mathlib.Core.List.{[], _∷_}
 use Prim.Native.Nat.{ℕ, _<_}
 use native.Mathlib.Omega.{arith}
 use Rattle.runs.specs.Row.{Row, _∖_, only}
-use Rattle.runs.specs.Net.{Net, inputRail, railsOfInputs, wordRails}
+use Rattle.runs.specs.Net.{Net, inputRail, railsOfInputs}
+use Rattle.runs.specs.Theory.{wordRails}
 use Rattle.runs.specs.Settled.{Settled}
 use Rattle.runs.specs.Pair.{AllData, Reads}
-use Rattle.runs.specs.Stage.{Stage}
+use Rattle.runs.specs.Acyclic.{Acyclic}
 use Rattle.runs.specs.Checks.{Passes}
 use Rattle.runs.specs.Promise.{Promise}
 use Rattle.runs.specs.Witness.{Unobservable}
@@ -26,7 +27,7 @@ use Rattle.runs.proofs.Promise.{promise-not-unobservable, passes-promis
 abbrev pub wire : Net
 wire = record { inputs = 1; gates = 0; outputs = 1; rail = λ j. inputRail 0; pins = λ g. []; fires = λ r g. false; hold = λ g. true }
 
-abbrev pub wire-stage : Stage
+abbrev pub wire-stage : Acyclic
 wire-stage = record {
   net = wire;
   fires-mono = λ r s o g e. e;

@@ -4,28 +4,26 @@ use mathlib.Core.Path.{_≡_, sym, ap, _∙_, subst}
 use mathlib.Core.Logic.{_⊎_, inl, inr, _≢_}
 use mathlib.Core.Bool.{Bool, true, false, not, _&&_, and-true}
 use Prim.Native.Nat.{ℕ, _<_}
-use Rattle.runs.specs.Row.{Row, _∖_, low, only, after, Reached}
+use Rattle.runs.specs.Row.{Row, _∖_, low, only, after}
 use Rattle.runs.specs.Net.{IsGate, inputRail, riseUp, railsOfInputs, riseStep, fallStep}
+use Rattle.runs.specs.Theory.{Reached}
 use Rattle.runs.specs.Settled.{Settled, SettledHeld, SettledKept}
 use Rattle.runs.specs.Pair.{DataOf, AllData, AllNull, InputsData}
-use Rattle.runs.specs.Stage.{Stage}
-use Rattle.runs.specs.Witness.{Wrong, Incomplete, Unobservable, Null-outputs, Fall-incomplete, Fall-unobservable}
+use Rattle.runs.specs.Acyclic.{Acyclic}
+use Rattle.runs.specs.Witness.{Wrong, Incomplete, Unobservable}
+use Rattle.runs.specs.FallWitness.{Null-outputs, Fall-incomplete, Fall-unobservable}
 use Rattle.runs.proofs.Test.{clash, not-false, same?, eqb-same, eqb-other}
 use Rattle.runs.proofs.Net.{byNet-gate, railsOfInputs-in}
 use Rattle.runs.proofs.Moves.{missing-held}
-use Rattle.runs.proofs.Rise.{settled-one, settled-reached, settled-ended, settled-data, rise-end-is, held-reached, held-low}
+use Rattle.runs.proofs.Rise.{settled-one, settled-reached, settled-ended, settled-data, rise-goes-on, rise-end-is, held-reached, held-low}
 use Rattle.runs.proofs.Fall.{kept-reached, kept-still}
 
-module _ (S : Stage) (c : Row) where
+module _ (S : Acyclic) (c : Row) where
   pub wrong : (answer : ℕ → Bool) (R : Row) → Settled (S .net) c R → (j : ℕ) → ¬ (DataOf R (S .net .rail j) (answer j)) → Wrong (S .net) c answer j
-  wrong answer R rest j n =
-      let t : Reached (riseStep (S .net) c) low R = settled-reached S c R rest in
-      record {
-        list = t .list;
-        legal = t .legal;
-        ended = rw (t .arrives) (settled-ended S c R rest);
-        wrong = λ l p e s. n (subst (λ (r : Row). DataOf r (S .net .rail j) (answer j)) (rise-end-is S c R rest l p e) s);
-      }
+  wrong answer R rest j n = record {
+    goes-on = rise-goes-on S c;
+    wrong = λ l p e s. n (subst (λ (r : Row). DataOf r (S .net .rail j) (answer j)) (rise-end-is S c R rest l p e) s);
+  }
 
   pub incomplete : (i : ℕ) → i < S .net .inputs → (r : Row) → Settled (S .net) (c ∖ railsOfInputs (S .net) (only i)) r → AllData (S .net) r
       → Incomplete (S .net) c i

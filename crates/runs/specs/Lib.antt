@@ -1,14 +1,16 @@
--- Promises of the papers rest on Row, Net, Settled, Pair, Complete, Promise and Witness. Stage is what the theory asks of a stage; Checks and
--- Tight carry the argument; the falls of gates without hold, Acknowledged and Exchange are for later requests.
+-- Promises of the papers rest on Row, Net, Settled, Pair, Complete, Promise and Witness. Acyclic is what the theory asks of a net; Theory, Checks
+-- and Tight carry the argument; FallWitness, Acknowledged and Exchange are for gates without hold and for later uses.
 pub mod Row
 pub mod Net
+pub mod Theory
 pub mod Settled
 pub mod Pair
-pub mod Stage
+pub mod Acyclic
 pub mod Checks
 pub mod Complete
 pub mod Promise
 pub mod Witness
+pub mod FallWitness
 pub mod Tight
 pub mod Acknowledged
 pub mod Exchange

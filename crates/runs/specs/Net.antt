@@ -3,8 +3,8 @@
 use mathlib.Core.Path.{_≡_}
 use mathlib.Core.Bool.{Bool, true, false, not, cond, _&&_}
 use mathlib.Core.List.{List, [], _∷_}
-use Prim.Native.Nat.{ℕ, _+_, _*_, _/_, _%_, _≤_, _<_}
-use lib.Dec.{eqb, ltb}
+use Prim.Native.Nat.{ℕ, _+_, _*_, _/_, _≤_, _<_}
+use lib.Dec.{ltb}
 use Rattle.runs.specs.Row.{Row, Rule, low, switch, after, Legal, Ended}
 
 -- "Input i of a stage has nets 2i (rail 0) and 2i + 1 (rail 1); gate k drives net 2n + k."
@@ -31,10 +31,6 @@ nets N = 2 * N .inputs + N .gates
 -- Net g is driven by a gate.
 abbrev pub IsGate : Net → ℕ → Type 0
 IsGate N g = (rails N ≤ g) × (g < nets N)
-
--- Every gate has hold.
-abbrev pub AllHold : Net → Type 0
-AllHold N = (g : ℕ) → IsGate N g → N .hold g ≡ true
 
 -- The net of rail b of input i.
 abbrev pub inputRail : ℕ → Bool → ℕ
@@ -95,10 +91,6 @@ FallList N R l = Legal (fallStep N) R l
 
 abbrev pub FallEnd : Net → Row → List ℕ → Type 0
 FallEnd N R l = Ended (fallStep N) (after R l)
-
--- The rails that a word calls for ("bit i is input i"): rail 1 of input i if bit i is 1, rail 0 if it is 0.
-abbrev pub wordRails : (ℕ → Bool) → Row
-wordRails w k = cond (eqb (k % 2) 1) (w (k / 2)) (not (w (k / 2)))
 
 -- The rails of a set A of inputs.
 abbrev pub railsOfInputs : Net → (ℕ → Bool) → Row

@@ -8,16 +8,9 @@ use Rattle.runs.specs.Net.{Net, nets, inputRail}
 
 -- A pair is given by the net of rail 0 and the net of rail 1: `N .rail j` is output j's, `inputRail i` input i's.
 
--- DATA of bit b: rail b is high and the other is low.
+-- DATA of bit b, "DATA0 (only rail 0 high) or DATA1 (only rail 1 high)": rail b is high and the other is low.
 abbrev pub DataOf : Row → (Bool → ℕ) → Bool → Type 0
 DataOf r p b = (r (p b) ≡ true) × (r (p (not b)) ≡ false)
-
--- "DATA0 (only rail 0 high) or DATA1 (only rail 1 high)".
-abbrev pub Data0 : Row → (Bool → ℕ) → Type 0
-Data0 r p = DataOf r p false
-
-abbrev pub Data1 : Row → (Bool → ℕ) → Type 0
-Data1 r p = DataOf r p true
 
 -- DATA: exactly one rail is high.
 abbrev pub Data : Row → (Bool → ℕ) → Type 0

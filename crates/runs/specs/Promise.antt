@@ -1,5 +1,5 @@
--- Demand 3: what is promised of every list of switchings of an accepted stage in one word, whose rails are c (`wordRails`), and to which the
--- reference answers `answer`.
+-- Demand 3: what is promised of every list of switchings of an accepted stage in one word, whose rails are c, and to which the reference
+-- answers `answer`.
 -- Assumes nothing.
 use mathlib.Core.Path.{_≡_}
 use mathlib.Core.Bool.{Bool, false}

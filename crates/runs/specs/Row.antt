@@ -10,10 +10,6 @@ use lib.Dec.{eqb}
 abbrev pub Row : Type 0
 Row = ℕ → Bool
 
--- Every net that is high in the first row is high in the second.
-abbrev pub _⊑_ : Row → Row → Type 0
-_⊑_ r s = (k : ℕ) → r k ≡ true → s k ≡ true
-
 -- Every net is low.
 abbrev pub low : Row
 low k = false
@@ -52,12 +48,6 @@ Legal can r (k ∷ l) = (can r k ≡ true) × Legal can (toggle r k) l
 abbrev pub Ended : Rule → Row → Type 0
 Ended can r = (k : ℕ) → can r k ≡ false
 
--- Some list leads from row s to row r.
-pub record Reached (can : Rule) (s r : Row) : Type 0 where
-  pub list : List ℕ
-  pub legal : Legal can s list
-  pub arrives : after s list ≡ r
-
 -- One more if the test holds.
 abbrev pub tally : Bool → ℕ → ℕ
 tally true n = suc n
@@ -73,5 +63,4 @@ abbrev pub times : ℕ → List ℕ → ℕ
 times k [] = 0
 times k (i ∷ l) = tally (eqb k i) (times k l)
 
-infix 50 _⊑_
 infix 60 _∖_

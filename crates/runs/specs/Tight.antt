@@ -3,8 +3,9 @@
 use mathlib.Core.Path.{_≡_}
 use mathlib.Core.Bool.{Bool, true, false}
 use Prim.Native.Nat.{ℕ}
-use Rattle.runs.specs.Row.{Row, _⊑_, low}
+use Rattle.runs.specs.Row.{Row, low}
 use Rattle.runs.specs.Net.{Net, riseUp, fallDown}
+use Rattle.runs.specs.Theory.{_⊑_}
 use Rattle.runs.specs.Settled.{Settled}
 use Rattle.runs.specs.Pair.{AllData, AllNull, Reads}
 

@@ -1,18 +1,18 @@
--- What the refusals 13, 14, 15, 20 and 21 of a word, whose rails are c, show: runs that break the promise at the place named.
+-- What the refusals 13, 14 and 15 of a word, whose rails are c, show: runs that break the promise at the place named.
 -- Assumes nothing.
 use mathlib.Core.Path.{_≡_}
 use mathlib.Core.Bool.{Bool, true, false}
 use mathlib.Core.List.{List}
 use Prim.Native.Nat.{ℕ}
 use Rattle.runs.specs.Row.{Row, low, after}
-use Rattle.runs.specs.Net.{Net, inputRail, RiseList, RiseEnd, FallList}
-use Rattle.runs.specs.Pair.{DataOf, Data, Null, AllData, AllNull}
+use Rattle.runs.specs.Net.{Net, inputRail, riseStep, RiseList, RiseEnd}
+use Rattle.runs.specs.Pair.{DataOf, Null, AllData}
+use Rattle.runs.specs.Promise.{Goes-on}
 
--- 13: "every run of the named word ends with output `at` not the reference's DATA", and there is a run that ends.
+-- 13: "every run of the named word ends with output `at` not the reference's DATA": every list, the empty one too, goes on to an end, and
+-- every end is so.
 pub record Wrong (N : Net) (c : Row) (answer : ℕ → Bool) (j : ℕ) : Type 0 where
-  pub list : List ℕ
-  pub legal : RiseList N c list
-  pub ended : RiseEnd N c list
+  pub goes-on : (l : List ℕ) → RiseList N c l → Goes-on (riseStep N c) low l
   pub wrong : (l : List ℕ) → RiseList N c l → RiseEnd N c l → ¬ (DataOf (after low l) (N .rail j) (answer j))
 
 -- 14: "some list of its steps leaves all outputs DATA and input `at` NULL".
@@ -29,22 +29,3 @@ pub record Unobservable (N : Net) (c : Row) (g : ℕ) : Type 0 where
   pub all-data : AllData N (after low list)
   pub gate-low : after low list g ≡ false
   pub set : N .fires (after low list) g ≡ true
-
--- A rise to an end, and a list of the fall from there that leaves all outputs NULL.
-pub record Null-outputs (N : Net) (c : Row) : Type 0 where
-  pub rise : List ℕ
-  pub rise-legal : RiseList N c rise
-  pub rise-ended : RiseEnd N c rise
-  pub list : List ℕ
-  pub legal : FallList N (after low rise) list
-  pub all-null : AllNull N (after (after low rise) list)
-
--- 20: "some list of the named word's fall leaves all outputs NULL, but input `at` DATA".
-pub record Fall-incomplete (N : Net) (c : Row) (i : ℕ) : Type 0 where
-  pub run : Null-outputs N c
-  pub input-data : Data (after (after low (run .rise)) (run .list)) (inputRail i)
-
--- 21: the same, "or gate `at` high".
-pub record Fall-unobservable (N : Net) (c : Row) (g : ℕ) : Type 0 where
-  pub run : Null-outputs N c
-  pub gate-high : after (after low (run .rise)) (run .list) g ≡ true

@@ -3,32 +3,33 @@
 -- Assumes nothing.
 use Prim.Native.Nat.{ℕ, zero, suc, _+_, _-_, _*_, _/_, _≤_, _<_}
 use native.Mathlib.Omega.{arith}
-use native.Mathlib.Decide.{ℕ-discrete, decLt}
+use native.Mathlib.Decide.{ℕ-discrete}
 use mathlib.Core.Path.{_≡_, refl, sym, ap, ap₂, _∙_, subst}
-use mathlib.Core.Bool.{Bool, true, false, cond, not, _&&_}
+use mathlib.Core.Bool.{Bool, true, false, not, _&&_}
 use mathlib.Core.Logic.{_⊎_, inl, inr}
 use mathlib.Core.List.{List, [], _∷_, _++_, map}
 use lib.ListN.{length, getD, set, length-append, length-map, length-set, List·getD-append, List·getD-eq-default}
 use lib.Seq.{getD-append-add, getD-set-same, getD-set-other}
 use lib.Dec.{eqb, ltb}
-use borrow.Author.Tests.{lt-ltb, le-ltb, ltb-true, eq-eqb, ne-eqb, eqb-true, eqb-false}
+use borrow.Author.Tests.{lt-ltb, eq-eqb, ne-eqb, eqb-true, eqb-false}
 use Rattle.gates.specs.Expression.{holds}
 use Rattle.gates.specs.Cell.{setExpression, bit}
 use Rattle.gates.proofs.Expressions.{holds-mono, holds-low}
 use Rattle.runs.specs.Row as run
-use Rattle.runs.specs.Row.{Row, _⊑_, _∖_}
+use Rattle.runs.specs.Row.{Row, _∖_}
+use Rattle.runs.specs.Theory.{_⊑_}
 use Rattle.runs.specs.Net.{Net, rails, nets, IsGate, allLow, railsOfInputs, inputRail}
 use Rattle.runs.specs.Settled as runs
 use Rattle.runs.specs.Pair as pair
-use Rattle.runs.specs.Stage as theory
-use Rattle.runs.specs.Stage.{All}
+use Rattle.runs.specs.Acyclic.{Acyclic, AllPins}
 use Rattle.runs.proofs.Rise.{settled-by, held-by, settled-cong}
 use Rattle.netlist.specs.Content.{Gate, Pair, Stage, Reference}
-use Rattle.verdict.specs.Rows.{high, only, withNull, isSet, Settled, SettledHolding, settledLevels, levelsHolding, settled, settledHolding, DualRail, null, data0, data1, both, dualRail, pairIn, isData, spells}
-use Rattle.verdict.specs.Loops.{In, pinsAt, Feeds, LoopFree}
+use Rattle.verdict.specs.Rows.{high, withNull, isSet, settledLevels, levelsHolding, settled, settledHolding, DualRail, null, data0, data1, both, dualRail, pairIn, isData, spells}
+use Rattle.verdict.specs.Levels.{LevelsSettled, LevelsHeld}
+use Rattle.verdict.specs.Loops.{In, pinsAt, LoopFree}
 use Rattle.verdict.specs.Nets.{noGate, driver, setIn, railOf, netOf, rowOf}
 use Rattle.verdict.proofs.Levels.{bits-length}
-use Rattle.verdict.proofs.Reaching.{rankOf, rank-rises}
+use Rattle.verdict.proofs.Reaching.{rankOf, rank-pin}
 use Rattle.verdict.proofs.Settling.{settled-bits, settled-is, holding-bits, holding-settled}
 use Rattle.verdict.proofs.Words.{null-length, null-high}
 
@@ -42,7 +43,7 @@ pins-mono r s h [] i e = e
 pins-mono r s h (p ∷ pins) zero e = h p e
 pins-mono r s h (p ∷ pins) (suc i) e = pins-mono r s h pins i e
 
-pub pins-local : (r s : Row) (pins : List ℕ) → All (λ p. r p ≡ s p) pins → map r pins ≡ map s pins
+pub pins-local : (r s : Row) (pins : List ℕ) → AllPins (λ p. r p ≡ s p) pins → map r pins ≡ map s pins
 pins-local r s [] h = refl
 pins-local r s (p ∷ pins) h = ap₂ {C = List Bool} (λ a b. a ∷ b) (h .0) (pins-local r s pins (h .1))
 
@@ -58,23 +59,6 @@ pins-low r (p ∷ pins) e i = go (r p) refl e i (pins-low r pins)
 -- ---- a stage without loops, in the theory of runs
 
 module _ (s : Stage) (free : LoopFree (s .inputs) (s .gates)) where
-  pub rank : ℕ → ℕ
-  rank k = cond (ltb k (2 * s .inputs)) 0 (cond (ltb k (2 * s .inputs + length (s .gates))) (suc (rankOf (s .inputs) (s .gates) (k - 2 * s .inputs))) 0)
-
-  rank-gate : (k : ℕ) → 2 * s .inputs ≤ k → k < 2 * s .inputs + length (s .gates) → rank k ≡ suc (rankOf (s .inputs) (s .gates) (k - 2 * s .inputs))
-  unfolding rank
-  rank-gate k h h′ = rw (le-ltb k (2 * s .inputs) h, lt-ltb k (2 * s .inputs + length (s .gates)) h′)
-
-  -- a net that drives no gate has rank 0
-  rank-other : (k : ℕ) → (2 * s .inputs ≤ k → k < 2 * s .inputs + length (s .gates) → ⊥) → rank k ≡ 0
-  unfolding rank
-  rank-other k out = go (decLt k (2 * s .inputs)) (decLt k (2 * s .inputs + length (s .gates)))
-    where
-      go : Dec (k < 2 * s .inputs) → Dec (k < 2 * s .inputs + length (s .gates)) → cond (ltb k (2 * s .inputs)) 0 (cond (ltb k (2 * s .inputs + length (s .gates))) (suc (rankOf (s .inputs) (s .gates) (k - 2 * s .inputs))) 0) ≡ 0
-      go (yes a) b = rw (lt-ltb k (2 * s .inputs) a)
-      go (no a) (yes b) = absurd (out (omega arith) b)
-      go (no a) (no b) = rw (le-ltb k (2 * s .inputs) (omega arith), le-ltb k (2 * s .inputs + length (s .gates)) (omega arith))
-
   pins-driver : (k : ℕ) → driver s k .pins ≡ pinsAt (s .gates) (k - 2 * s .inputs)
   pins-driver k = go (s .gates) (k - 2 * s .inputs)
     where
@@ -83,22 +67,22 @@ module _ (s : Stage) (free : LoopFree (s .inputs) (s .gates)) where
       go (g ∷ gates) zero = refl
       go (g ∷ gates) (suc j) = go gates j
 
-  all-in : (P : ℕ → Type 0) (pins : List ℕ) → ((p : ℕ) → In p pins → P p) → All P pins
+  all-in : (P : ℕ → Type 0) (pins : List ℕ) → ((p : ℕ) → In p pins → P p) → AllPins P pins
   all-in P [] h = tt
   all-in P (p ∷ pins) h = (h p (inl refl), all-in P pins (λ q i. h q (inr i)))
 
-  pub rank-pins : (k : ℕ) → IsGate (netOf s) k → All (λ p. rank p < rank k) (driver s k .pins)
-  rank-pins k is = all-in (λ p. rank p < rank k) (driver s k .pins) (λ p i. go p (subst (In p) (pins-driver k) i) (decLt p (2 * s .inputs)) (decLt p (2 * s .inputs + length (s .gates))))
-    where
-      go : (p : ℕ) → In p (pinsAt (s .gates) (k - 2 * s .inputs)) → Dec (p < 2 * s .inputs) → Dec (p < 2 * s .inputs + length (s .gates)) → rank p < rank k
-      go p i (yes a) b = omega (arith, rank-other p (λ h h′. omega arith), rank-gate k (is .0) (is .1))
-      go p i (no a) (no b) = omega (arith, rank-other p (λ h h′. omega arith), rank-gate k (is .0) (is .1))
-      go p i (no a) (yes b) =
-          let e : p ≡ 2 * s .inputs + (p - 2 * s .inputs) = omega arith in
-          let f : Feeds (s .inputs) (s .gates) (p - 2 * s .inputs) (k - 2 * s .inputs) = subst (λ (x : ℕ). In x (pinsAt (s .gates) (k - 2 * s .inputs))) e i in
-          omega (arith, rank-gate p (omega arith) b, rank-gate k (is .0) (is .1), rank-rises (s .inputs) (s .gates) free (p - 2 * s .inputs) (k - 2 * s .inputs) (omega arith) (omega (arith, is .0, is .1)) f)
+  abbrev pub rank : ℕ → ℕ
+  rank = rankOf (s .inputs) (s .gates)
 
-  abbrev pub stageIn : theory.Stage
+  pub rank-pins : (k : ℕ) → IsGate (netOf s) k → AllPins (λ p. rank p < rank k) (driver s k .pins)
+  rank-pins k is = all-in (λ p. rank p < rank k) (driver s k .pins) below
+    where
+      below : (p : ℕ) → In p (driver s k .pins) → rank p < rank k
+      below p i =
+          let e : 2 * s .inputs + (k - 2 * s .inputs) ≡ k = omega (arith, is .0) in
+          subst (λ (x : ℕ). rank p < rank x) e (rank-pin (s .inputs) (s .gates) free p (k - 2 * s .inputs) (subst (In p) (pins-driver k) i))
+
+  abbrev pub stageIn : Acyclic
   stageIn = record {
     net = netOf s;
     fires-mono = λ r t h k. holds-mono (setExpression (driver s k .cell)) (λ i. getD (map r (driver s k .pins)) i false) (λ i. getD (map t (driver s k .pins)) i false) (pins-mono r t h (driver s k .pins));

@@ -1,52 +1,58 @@
--- Cutting a longer file at 8,192 bytes changes no verdict and no settled row.
+-- Cutting a longer file at what the program reads of it changes no verdict and no settled row.
 -- Assumes nothing.
-use Prim.Native.Nat.{ℕ, _+_, _*_, _≤_, _<_}
+use Prim.Native.Nat.{ℕ, _+_, _*_, _≤_}
 use native.Mathlib.Omega.{arith}
-use mathlib.Core.Path.{_≡_, refl, sym, ap, ap₂, _∙_}
+use mathlib.Core.Path.{_≡_, refl, ap, _∙_}
 use mathlib.Core.List.{List}
-use lib.ListN.{length, take}
+use lib.ListN.{take}
 use lib.Seq.{take-all}
+use Rattle.netlist.specs.declared.File.{File}
 use Rattle.netlist.specs.declared.File.the-variants as file
 use Rattle.netlist.specs.declared.Sort.the-variants as sort
-use Rattle.netlist.specs.Commands as k
-use Rattle.netlist.specs.Reading.{Reading, refused, readable, readFile, stageLimits, referenceLimits}
+use Rattle.netlist.specs.declared.Limits.{Limits}
+use Rattle.netlist.specs.Commands.{ownCommands, commandTable, formIn}
+use Rattle.netlist.specs.Reading.{Places, Reading, refused, readable, readFile, stageLimits, referenceLimits}
+use Rattle.netlist.specs.Read.{mostBytes}
+use Rattle.netlist.specs.Writing.{widthFor}
+use Rattle.netlist.specs.Content.{Stage, stageOf}
 use Rattle.netlist.proofs.Readable.{readable-length}
 use Rattle.netlist.proofs.Cut.{stage-cut, reference-cut}
-use Rattle.verdict.specs.declared.Verdict.{Verdict}
-use Rattle.netlist.specs.Content.{Stage, stageOf}
-use Rattle.verdict.specs.Verdicts.{judgeReference, judgeStage, verdictWithin, verdictOn, RowAnswer, settleReading, settledRowWithin, settledRow}
+use Rattle.verdict.specs.Verdicts.{judgeReference, judgeStage, verdictWithin, verdictOn, settleReading, settledRowWithin, settledRow}
 
 -- a readable file is not cut
-stage-short : (s : List ℕ) (n : ℕ) (gates outputs : List ℕ) → readFile file.Stage stageLimits s ≡ readable n gates outputs → take 8192 s ≡ s
-unfolding k.width k.operandsFrom k.operandCount
-stage-short s n gates outputs e = take-all 8192 s (omega (arith, readable-length file.Stage stageLimits s n gates outputs e))
+short : (f : File) (most : Limits) → 3 + widthFor f sort.Gate * most .gates + widthFor f sort.Output * most .outputs ≤ mostBytes
+    → (s : List ℕ) (p : Places) → readFile f most s ≡ readable p → take mostBytes s ≡ s
+short f most h s p e = take-all mostBytes s (omega (arith, readable-length f most s p e))
 
-reference-short : (s : List ℕ) (n : ℕ) (gates outputs : List ℕ) → readFile file.Reference referenceLimits s ≡ readable n gates outputs → take 8192 s ≡ s
-unfolding k.width k.operandsFrom k.operandCount
-reference-short s n gates outputs e = take-all 8192 s (omega (arith, readable-length file.Reference referenceLimits s n gates outputs e))
+stage-short : (s : List ℕ) (p : Places) → readFile file.Stage stageLimits s ≡ readable p → take mostBytes s ≡ s
+unfolding ownCommands commandTable formIn
+stage-short = short file.Stage stageLimits (omega arith)
 
-cut-reference : (c : Stage) (r : List ℕ) → judgeReference c (take 8192 r) (readFile file.Reference referenceLimits (take 8192 r)) ≡ judgeReference c r (readFile file.Reference referenceLimits r)
+reference-short : (s : List ℕ) (p : Places) → readFile file.Reference referenceLimits s ≡ readable p → take mostBytes s ≡ s
+unfolding ownCommands commandTable formIn
+reference-short = short file.Reference referenceLimits (omega arith)
+
+cut-reference : (c : Stage) (r : List ℕ)
+    → judgeReference c (take mostBytes r) (readFile file.Reference referenceLimits (take mostBytes r)) ≡ judgeReference c r (readFile file.Reference referenceLimits r)
 unfolding judgeReference
 cut-reference c r = rw (reference-cut r) (go (readFile file.Reference referenceLimits r) refl)
   where
-    go : (x : Reading) → readFile file.Reference referenceLimits r ≡ x → judgeReference c (take 8192 r) x ≡ judgeReference c r x
+    go : (x : Reading) → readFile file.Reference referenceLimits r ≡ x → judgeReference c (take mostBytes r) x ≡ judgeReference c r x
     go (refused number at) e = refl
-    go (readable n gates outputs) e = ap (λ (b : List ℕ). judgeReference c b (readable n gates outputs)) (reference-short r n gates outputs e)
+    go (readable p) e = ap (λ (b : List ℕ). judgeReference c b (readable p)) (reference-short r p e)
 
-pub verdict-cut : (s r : List ℕ) → verdictOn (take 8192 s) (take 8192 r) ≡ verdictOn s r
+pub verdict-cut : (s r : List ℕ) → verdictOn (take mostBytes s) (take mostBytes r) ≡ verdictOn s r
 unfolding verdictWithin judgeStage
 verdict-cut s r = rw (stage-cut s) (go (readFile file.Stage stageLimits s) refl)
   where
-    go : (x : Reading) → readFile file.Stage stageLimits s ≡ x → judgeStage referenceLimits (take 8192 s) (take 8192 r) x ≡ judgeStage referenceLimits s r x
+    go : (x : Reading) → readFile file.Stage stageLimits s ≡ x → judgeStage referenceLimits (take mostBytes s) (take mostBytes r) x ≡ judgeStage referenceLimits s r x
     go (refused number at) e = refl
-    go (readable n gates outputs) e =
-        ap (λ (b : List ℕ). judgeStage referenceLimits b (take 8192 r) (readable n gates outputs)) (stage-short s n gates outputs e)
-        ∙ cut-reference (stageOf s n gates outputs) r
+    go (readable p) e = ap (λ (b : List ℕ). judgeStage referenceLimits b (take mostBytes r) (readable p)) (stage-short s p e) ∙ cut-reference (stageOf s p) r
 
-pub row-cut : (s row : List ℕ) → settledRow (take 8192 s) row ≡ settledRow s row
+pub row-cut : (s row : List ℕ) → settledRow (take mostBytes s) row ≡ settledRow s row
 unfolding settledRowWithin settleReading
 row-cut s row = rw (stage-cut s) (go (readFile file.Stage stageLimits s) refl)
   where
-    go : (x : Reading) → readFile file.Stage stageLimits s ≡ x → settleReading (take 8192 s) row x ≡ settleReading s row x
+    go : (x : Reading) → readFile file.Stage stageLimits s ≡ x → settleReading (take mostBytes s) row x ≡ settleReading s row x
     go (refused number at) e = refl
-    go (readable n gates outputs) e = ap (λ (b : List ℕ). settleReading b row (readable n gates outputs)) (stage-short s n gates outputs e)
+    go (readable p) e = ap (λ (b : List ℕ). settleReading b row (readable p)) (stage-short s p e)

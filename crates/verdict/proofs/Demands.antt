@@ -1,239 +1,258 @@
 -- Demands 2 and 3 as theorems about two files, and that the settled-row call leaves what the gate rule gives.
 -- Assumes nothing.
-use Prim.Native.Nat.{ℕ, zero, suc, _+_, _-_, _*_, _^_, _≤_, _<_}
+use Prim.Native.Nat.{ℕ, zero, suc, _+_, _-_, _*_, _≤_, _<_}
 use native.Mathlib.Omega.{arith}
+use native.Mathlib.Decide.{ℕ-discrete}
 use mathlib.Core.Path.{_≡_, refl, sym, ap, _∙_, subst}
-use mathlib.Core.Bool.{Bool, true, false, cond}
-use mathlib.Core.Logic.{_↔_}
+use mathlib.Core.Bool.{true}
+use mathlib.Core.Logic.{_⊎_, inl, inr, _↔_}
 use mathlib.Core.List.{List, [], _∷_, _++_}
-use lib.ListN.{length, getD, take}
-use lib.Seq.{length-take-le}
-use lib.Dec.{eqb}
-use borrow.Author.Tests.{eqb-true, eqb-false}
-use Rattle.runs.specs.Net.{IsGate, AllHold}
-use Rattle.runs.specs.Promise.{Promise}
-use Rattle.runs.proofs.Test.{clash}
-use Rattle.runs.proofs.Promise.{promise-not-wrong, promise-not-incomplete, promise-not-unobservable}
-use Rattle.netlist.specs.declared.Found.{Found}
-use Rattle.netlist.specs.declared.Found.the-variants.{At, Nothing}
+use lib.ListN.{length, getD, take, length-append}
+use lib.Seq.{length-take-le, take-append-seam, getD-append-add}
+use Rattle.runs.specs.Row.{Row}
+use Rattle.runs.specs.Theory.{AllHold}
+use Rattle.runs.specs.Settled.{Settled}
+use Rattle.runs.proofs.Rise.{settled-one}
 use Rattle.netlist.specs.declared.File.the-variants as file
 use Rattle.netlist.specs.declared.Limits.{Limits}
 use Rattle.netlist.specs.Reading.{Reading, refused, readable, readFile}
 use Rattle.netlist.specs.Content.{Gate, Stage, Reference, stageOf, referenceOf}
 use Rattle.netlist.specs.Writing.{All}
-use Rattle.netlist.proofs.Stages.{CellFormed, StageFormed, stage-formed}
+use Rattle.netlist.specs.Formed.{CellFormed, StageFormed}
+use Rattle.netlist.proofs.Stages.{stage-formed}
 use Rattle.verdict.specs.declared.Verdict.{Verdict}
 use Rattle.verdict.specs.declared.Finding.{Finding}
-use Rattle.verdict.specs.declared.Finding.the-variants.{Fault, Clear}
-use Rattle.verdict.specs.Checks.{verdict, least, checks}
-use Rattle.verdict.specs.Verdicts.{firstFault, judgeReference, judgeStage, verdictWithin, illegalInput, settleLegal, settleLoopFree, settleReading, settledRowWithin, RowAnswer, answerWith}
-use Rattle.verdict.proofs.Illegal.{illegal-true, illegal-says}
-use Rattle.verdict.specs.Faults.{CountsMatch, WithoutLoop, NeverWrong, NeverIncomplete, NeverUnobservable, Judged, inputs-differ, outputs-differ, looped, wrong, incomplete, unobservable, accepted, StageIs, ReferenceIs, Because, stage-refused, reference-refused, both-read, RowBecause, row-refused, row-looped, row-length, row-illegal, row-settled}
-use Rattle.verdict.specs.Rows.{settledLevels}
-use Rattle.verdict.specs.Nets.{noGate, driver, netOf}
-use Rattle.verdict.specs.Demands.{Contents, Acceptable, Demand2, KeptIn, Kept, Broken, WrongRuns, IncompleteRun, UnobservableRun, Demand3, GateRuleGives, RowGiven, DemandRow}
+use Rattle.verdict.specs.declared.Finding.the-variants.{Fault, Passed}
+use Rattle.verdict.specs.Rows.{settledLevels, settled}
+use Rattle.verdict.specs.Loops.{In, NoLoop}
+use Rattle.verdict.specs.Words.{numbers, words, IsWord}
+use Rattle.verdict.specs.Nets.{noGate, netOf, rowOf, railsFor, answerBits}
+use Rattle.verdict.specs.Checks.{Check, unequal, looped, sweeps, firstFault, checks, rowChecks}
+use Rattle.verdict.specs.Verdicts.{accepted, verdictOf, judgeReference, judgeStage, verdictWithin, RowAnswer, settleUnless, settleReading, settledRowWithin}
+use Rattle.verdict.specs.Demands as demands
+use Rattle.verdict.specs.Demands.{StageIs, ReferenceIs, Contents, Nowhere, NamedBy, Named, EachOf, Judged, Because, both-read, Comparable, Acceptable, Demand2, Kept, Shown, ShownBy, Demand3, RowGiven, DemandRow, row-refused, row-settled}
+use Rattle.verdict.proofs.Levels.{bits-length, bits-get}
 use Rattle.verdict.proofs.Reaching.{noLoop-loopFree}
-use Rattle.verdict.proofs.Least.{LeastAt, least-says}
-use Rattle.verdict.proofs.Settling.{settled-is, settled-one}
-use Rattle.verdict.proofs.Because.{LoopOutcome, found, free, loop-outcome, judged, stage-is, verdict-because}
+use Rattle.verdict.proofs.Settling.{settled-bits}
+use Rattle.verdict.proofs.Words.{index-in, in-index}
+use Rattle.verdict.proofs.Bridge.{stageIn, settled-row}
+use Rattle.verdict.proofs.Sweeps.{FirstFault, first-fault, judged, Showable, named-shown, shown-by, none-named, named-from}
+use Rattle.verdict.proofs.Because.{checks-mean, row-checks-mean, holds, verdict-because}
 use Rattle.verdict.proofs.Refusals.{refused-number}
-use Rattle.verdict.proofs.OneWord.{CleanIn, clean-acceptable, clean-kept, acceptable-clean, wrong-runs, incomplete-run, unobservable-run, gate-rule-gives}
+use Rattle.verdict.proofs.OneWord.{CleanIn, rises-to, clean-conforms, conforms-clean, clean-promise, word-rises, wrong-broken, incomplete-broken, unobservable-broken}
 
--- ---- what a readable stage without loops has
+-- ---- what a readable stage has
 
 gates-hold : (n : ℕ) (gates : List Gate) → All (CellFormed n) gates → (k : ℕ) → getD gates k noGate .hold ≡ true
 gates-hold n [] h k = refl
 gates-hold n (g ∷ gates) h zero = h .0 .holds
 gates-hold n (g ∷ gates) h (suc k) = gates-hold n gates (h .1) k
 
-pub stage-holds : (most : Limits) (bytes : List ℕ) (s : Stage) → StageIs most bytes s → AllHold (netOf s)
+stage-holds : (most : Limits) (bytes : List ℕ) (s : Stage) → StageIs most bytes s → AllHold (netOf s)
 stage-holds most bytes s is k h =
-    let f : StageFormed most s = subst (StageFormed most) (is .content) (stage-formed most bytes (is .inputs) (is .gatePlaces) (is .outputPlaces) (is .reads)) in
+    let f : StageFormed most s = subst (StageFormed most) (is .content) (stage-formed most bytes (is .places) (is .reads)) in
     gates-hold (2 * s .inputs + length (s .gates)) (s .gates) (f .gates-formed) (k - 2 * s .inputs)
 
-clean : (s : Stage) (r : Reference) → NeverWrong s r → NeverIncomplete s → NeverUnobservable s → (w : ℕ) → w < 2 ^ s .inputs → CleanIn s r w
-clean s r a b d w h = record { right = a w h; complete = b w h; observable = d w h }
+-- ---- what checks that find nothing say
 
--- ---- the verdict on parsed files
+same-or : (m n : ℕ) → ¬ (¬ (m ≡ n)) → m ≡ n
+same-or m n f = go (ℕ-discrete m n)
+  where
+    go : Dec (m ≡ n) → m ≡ n
+    go (yes e) = e
+    go (no d) = absurd (f d)
+
+nowhere-equal : (number mine theirs : ℕ) → Nowhere (unequal number mine theirs) → mine ≡ theirs
+nowhere-equal number mine theirs n = same-or mine theirs (λ d. n theirs (inl refl) (mine, inl refl, d))
+
+nowhere-loop : (s : Stage) → Nowhere (looped s) → NoLoop (s .inputs) (s .gates)
+nowhere-loop s n g h p = n 0 (inl refl) (g, index-in (length (s .gates)) g h, p)
+
+number-of : {v : Verdict} → v ≡ accepted → v .number ≡ 0
+number-of e = ap (λ (v : Verdict). v .number) e
+
+-- ---- a stage and a reference that were read
+
+-- the sweeps find nothing in any word
+abbrev Clean : Stage → Reference → Type 0
+Clean s r = (w : ℕ) → IsWord s w → CleanIn s r w
+
+module _ (s : Stage) (r : Reference) where
+  sweeps-clean : EachOf Nowhere (sweeps s r) → Clean s r
+  unfolding sweeps
+  sweeps-clean (x, (y, (z, e))) w h = record {
+    right = λ j hj f. x w h (j, index-in (length (s .outputs)) j hj, f);
+    complete = λ i hi f. y w h (i, index-in (s .inputs) i hi, f);
+    observable = λ g hg f. z w h (g, index-in (length (s .gates)) g hg, f);
+  }
+
+  clean-sweeps : Clean s r → EachOf Nowhere (sweeps s r)
+  unfolding sweeps
+  clean-sweeps c = (
+    λ w h f. c w h .right (f .0) (in-index (length (s .outputs)) (f .0) (f .1)) (f .2),
+    (
+      λ w h f. c w h .complete (f .0) (in-index (s .inputs) (f .0) (f .1)) (f .2),
+      (λ w h f. c w h .observable (f .0) (in-index (length (s .gates)) (f .0) (f .1)) (f .2), tt),
+    ),
+  )
+
+  sweeps-showable : NoLoop (s .inputs) (s .gates) → EachOf Showable (sweeps s r)
+  unfolding sweeps
+  sweeps-showable l =
+      let free = noLoop-loopFree (s .inputs) (s .gates) l in (
+        record { shows = λ w j hw hj. wrong-broken s w free r j (in-index (length (s .outputs)) j hj) },
+        (
+          record { shows = λ w i hw hi. incomplete-broken s w free r i (in-index (s .inputs) i hi) },
+          (record { shows = λ w g hw hg. unobservable-broken s w free r g (in-index (length (s .gates)) g hg) }, tt),
+        ),
+      )
+
+  -- ---- all checks
+
+  checks-from : (v : Verdict) → Named (checks s r) v → 10 ≤ v .number
+  unfolding checks sweeps
+  checks-from v n = named-from 10 (checks s r) v (omega arith, (omega arith, (omega arith, (omega arith, (omega arith, (omega arith, tt)))))) n
+
+  -- they find nothing exactly if the two can be compared and every word is clean
+  found-nothing : EachOf Nowhere (checks s r) → Comparable s r × Clean s r
+  unfolding checks
+  found-nothing (a, (b, (l, e))) = (
+    record { inputs = nowhere-equal 10 (s .inputs) (r .inputs) a; outputs = nowhere-equal 11 (length (s .outputs)) (length (r .outputs)) b; loop-free = nowhere-loop s l },
+    sweeps-clean e,
+  )
+
+  nothing-found : Comparable s r → Clean s r → EachOf Nowhere (checks s r)
+  unfolding checks
+  nothing-found m c = (
+    λ w h f. f .2 (m .inputs),
+    (λ w h f. f .2 (m .outputs), (λ w h f. m .loop-free (f .0) (in-index (length (s .gates)) (f .0) (f .1)) (f .2), clean-sweeps c)),
+  )
+
+  -- the check that is named shows what it says
+  shown : (v : Verdict) → Named (checks s r) v → ShownBy (checks s r) v
+  unfolding checks
+  shown v (inl n) = inl (named-shown _ v (record { shows = λ w i hw hi f. tt }) n)
+  shown v (inr (a, inl n)) = inr (inl (named-shown _ v (record { shows = λ w i hw hi f. tt }) n))
+  shown v (inr (a, inr (b, inl n))) = inr (inr (inl (named-shown _ v (record { shows = λ w i hw hi f. tt }) n)))
+  shown v (inr (a, inr (b, inr (l, n)))) = inr (inr (inr (shown-by (sweeps s r) v (sweeps-showable (nowhere-loop s l)) n)))
+
+-- the least number of a check that speaks of runs
+runs-from : (n : ℕ) → In n (13 ∷ 14 ∷ 15 ∷ []) → 13 ≤ n
+runs-from n (inl e) = omega arith
+runs-from n (inr (inl e)) = omega arith
+runs-from n (inr (inr (inl e))) = omega arith
+runs-from n (inr (inr (inr h))) = absurd h
+
+-- ---- the verdict on two files
 
 module _ (stageMost referenceMost : Limits) (stage reference : List ℕ) where
+  abbrev given : Verdict
+  given = verdictWithin stageMost referenceMost stage reference
+
   -- files that read are judged by what they hold
-  verdict-judged : (s : Stage) (r : Reference) → StageIs stageMost stage s → ReferenceIs referenceMost reference r → Judged s r (verdictWithin stageMost referenceMost stage reference)
+  verdict-judged : (c : Contents stageMost referenceMost stage reference) → Judged (checks (c .circuit) (c .function)) given
   unfolding verdictWithin judgeStage judgeReference
-  verdict-judged s r is ir =
+  verdict-judged c =
+      let is = c .circuit-is in
+      let ir = c .function-is in
       rw (is .reads, ir .reads)
-      (subst (λ (x : Stage). Judged s r (firstFault (checks x (referenceOf reference (ir .inputs) (ir .gatePlaces) (ir .outputPlaces))))) (sym (is .content))
-      (subst (λ (x : Reference). Judged s r (firstFault (checks s x))) (sym (ir .content)) (judged s r)))
-
-  exactly : (s : Stage) (r : Reference) → StageIs stageMost stage s → ReferenceIs referenceMost reference r → CountsMatch s r → WithoutLoop s
-      → (verdictWithin stageMost referenceMost stage reference ≡ verdict 0 0 0 0) ↔ Acceptable s r
-  exactly s r is ir match none =
-      (λ e. acceptable e (verdict-judged s r is ir), λ a. only-accepted a (verdict-judged s r is ir))
-    where
-      acceptable : {v : Verdict} → v ≡ verdict 0 0 0 0 → Judged s r v → Acceptable s r
-      acceptable e (inputs-differ d) = absurd (let z = ap (λ (v : Verdict). v .number) e in omega arith)
-      acceptable e (outputs-differ d d′) = absurd (let z = ap (λ (v : Verdict). v .number) e in omega arith)
-      acceptable e (looped m l) = absurd (let z = ap (λ (v : Verdict). v .number) e in omega arith)
-      acceptable e (wrong m l x) = absurd (let z = ap (λ (v : Verdict). v .number) e in omega arith)
-      acceptable e (incomplete m l x y) = absurd (let z = ap (λ (v : Verdict). v .number) e in omega arith)
-      acceptable e (unobservable m l x y t) = absurd (let z = ap (λ (v : Verdict). v .number) e in omega arith)
-      acceptable e (accepted m l x y t) = λ w h. clean-acceptable s w (noLoop-loopFree (s .inputs) (s .gates) l) r (stage-holds stageMost stage s is) (clean s r x y t w h)
-
-      only-accepted : {v : Verdict} → Acceptable s r → Judged s r v → v ≡ verdict 0 0 0 0
-      only-accepted a (inputs-differ d) = absurd (d (match .inputs))
-      only-accepted a (outputs-differ d d′) = absurd (d′ (match .outputs))
-      only-accepted a (looped m l) = absurd (none _ (l .gate-in) (l .loop))
-      only-accepted a (wrong {w = w} {j = j} m l x) = absurd (acceptable-clean s w (noLoop-loopFree (s .inputs) (s .gates) l) r (a w (x .word-in)) .right j (x .index-in) (x .occurs))
-      only-accepted a (incomplete {w = w} {i = i} m l x y) = absurd (acceptable-clean s w (noLoop-loopFree (s .inputs) (s .gates) l) r (a w (y .word-in)) .complete i (y .index-in) (y .occurs))
-      only-accepted a (unobservable {w = w} {g = g} m l x y t) = absurd (acceptable-clean s w (noLoop-loopFree (s .inputs) (s .gates) l) r (a w (t .word-in)) .observable g (t .index-in) (t .occurs))
-      only-accepted a (accepted m l x y t) = refl
+      (subst (λ (x : Stage). Judged (checks (c .circuit) (c .function)) (verdictOf (firstFault (checks x (referenceOf reference (ir .places)))))) (sym (is .content))
+      (subst (λ (x : Reference). Judged (checks (c .circuit) (c .function)) (verdictOf (firstFault (checks (c .circuit) x)))) (sym (ir .content))
+      (judged (checks (c .circuit) (c .function)) (checks-mean (c .circuit) (c .function)))))
 
   -- Demand 2 holds of the verdict, whatever the two files hold.
-  pub demand-2 : Demand2 stageMost referenceMost stage reference (verdictWithin stageMost referenceMost stage reference)
-  demand-2 = record { exactly = exactly; least = verdict-because stageMost referenceMost stage reference }
+  pub demand-2 : Demand2 stageMost referenceMost stage reference given
+  demand-2 = record { exactly = λ c m. (λ e. forth c given e (verdict-judged c), λ a. back c given m a (verdict-judged c)); least = verdict-because stageMost referenceMost stage reference }
+    where
+      forth : (c : Contents stageMost referenceMost stage reference) (v : Verdict) → v ≡ accepted → Judged (checks (c .circuit) (c .function)) v
+          → Acceptable (c .circuit) (c .function)
+      forth c v e (inl n) = absurd (omega (arith, checks-from (c .circuit) (c .function) v n, number-of e))
+      forth c v e (inr a) = λ w h.
+          let s = c .circuit in
+          let f = found-nothing s (c .function) (a .0) in
+          clean-conforms s w (noLoop-loopFree (s .inputs) (s .gates) (f .0 .loop-free)) (c .function) (stage-holds stageMost stage s (c .circuit-is)) (f .1 w h)
 
-  -- ---- demand 3
+      back : (c : Contents stageMost referenceMost stage reference) (v : Verdict) → Comparable (c .circuit) (c .function) → Acceptable (c .circuit) (c .function)
+          → Judged (checks (c .circuit) (c .function)) v → v ≡ accepted
+      back c v m a (inl n) =
+          let s = c .circuit in
+          let clean : Clean s (c .function) = λ w h.
+          conforms-clean s w (noLoop-loopFree (s .inputs) (s .gates) (m .loop-free)) (c .function) (stage-holds stageMost stage s (c .circuit-is)) (a w h) in
+          absurd (none-named (checks s (c .function)) v (nothing-found s (c .function) m clean) n)
+      back c v m a (inr b) = b .1
 
-  -- a verdict by another number
-  other : (v : Verdict) → ¬ (v .number ≡ 0) → ¬ (v .number ≡ 13) → ¬ (v .number ≡ 14) → ¬ (v .number ≡ 15) → Demand3 stageMost referenceMost stage reference v
-  other v a b d e = record { accepted = λ x. absurd (a x); wrong = λ x. absurd (b x); incomplete = λ x. absurd (d x); unobservable = λ x. absurd (e x) }
-
-  module _ (contents : Contents stageMost referenceMost stage reference) where
-    abbrev s : Stage
-    s = contents .circuit
-
-    abbrev r : Reference
-    r = contents .function
-
-    judged-3 : {v : Verdict} → Judged s r v → Demand3 stageMost referenceMost stage reference v
-    judged-3 (inputs-differ d) = other _ (λ x. omega arith) (λ x. omega arith) (λ x. omega arith) (λ x. omega arith)
-    judged-3 (outputs-differ d d′) = other _ (λ x. omega arith) (λ x. omega arith) (λ x. omega arith) (λ x. omega arith)
-    judged-3 (looped m l) = other _ (λ x. omega arith) (λ x. omega arith) (λ x. omega arith) (λ x. omega arith)
-    judged-3 (wrong {w = w} {j = j} m l x) = record {
-      accepted = λ e. absurd (omega arith);
-      wrong = λ e.
-          let runs : WrongRuns s r w j = wrong-runs s w (noLoop-loopFree (s .inputs) (s .gates) l) r j (x .occurs) in
-          record {
-            contents = contents;
-            word-in = x .word-in;
-            at-in = x .index-in;
-            run = runs;
-            broken = λ p. promise-not-wrong (netOf s) _ _ p j (x .index-in) (runs .wrong);
-          };
-      incomplete = λ e. absurd (omega arith);
-      unobservable = λ e. absurd (omega arith);
-    }
-    judged-3 (incomplete {w = w} {i = i} m l x y) = record {
-      accepted = λ e. absurd (omega arith);
-      wrong = λ e. absurd (omega arith);
-      incomplete = λ e.
-          let run : IncompleteRun s r w i = incomplete-run s w (noLoop-loopFree (s .inputs) (s .gates) l) r i (y .index-in) (y .occurs) in
-          record {
-            contents = contents;
-            word-in = y .word-in;
-            at-in = y .index-in;
-            run = run;
-            broken = λ p. promise-not-incomplete (netOf s) _ _ p i (y .index-in) run;
-          };
-      unobservable = λ e. absurd (omega arith);
-    }
-    judged-3 (unobservable {w = w} {g = g} m l x y t) = record {
-      accepted = λ e. absurd (omega arith);
-      wrong = λ e. absurd (omega arith);
-      incomplete = λ e. absurd (omega arith);
-      unobservable = λ e.
-          let run : UnobservableRun s r w g = unobservable-run s w (noLoop-loopFree (s .inputs) (s .gates) l) r g (t .index-in) (t .occurs) in
-          let net : IsGate (netOf s) (2 * s .inputs + g) = omega (arith, t .index-in) in
-          record {
-            contents = contents;
-            word-in = t .word-in;
-            at-in = t .index-in;
-            run = run;
-            broken = λ p. promise-not-unobservable (netOf s) _ _ p (2 * s .inputs + g) net run;
-          };
-    }
-    judged-3 (accepted m l x y t) = record {
-      accepted = λ e. (
-        refl,
+  kept : (c : Contents stageMost referenceMost stage reference) (v : Verdict) → v .number ≡ 0 → Judged (checks (c .circuit) (c .function)) v
+      → (v ≡ accepted) × Kept stageMost referenceMost stage reference
+  kept c v e (inl n) = absurd (omega (arith, checks-from (c .circuit) (c .function) v n))
+  kept c v e (inr a) =
+      let s = c .circuit in
+      let f = found-nothing s (c .function) (a .0) in
+      let free = noLoop-loopFree (s .inputs) (s .gates) (f .0 .loop-free) in (
+        a .1,
         record {
-          contents = contents;
-          kept = λ w h. clean-kept s w (noLoop-loopFree (s .inputs) (s .gates) l) r (stage-holds stageMost stage s (contents .circuit-is)) (clean s r x y t w h);
+          contents = c;
+          promise = λ w h. clean-promise s w free (c .function) (stage-holds stageMost stage s (c .circuit-is)) (f .1 w h);
+          rest = λ w h. word-rises s w free (c .function);
         },
-      );
-      wrong = λ e. absurd (omega arith);
-      incomplete = λ e. absurd (omega arith);
-      unobservable = λ e. absurd (omega arith);
-    }
+      )
+
+  broken : (c : Contents stageMost referenceMost stage reference) (v : Verdict) → 13 ≤ v .number → Judged (checks (c .circuit) (c .function)) v
+      → (c : Contents stageMost referenceMost stage reference) × ShownBy (checks (c .circuit) (c .function)) v
+  broken c v h (inl n) = (c, shown (c .circuit) (c .function) v n)
+  broken c v h (inr a) = absurd (omega (arith, number-of (a .1)))
+
+  -- a file that is refused in reading has a number below those that demand 3 speaks of
+  refused-in-reading : (v : Verdict) → 1 ≤ v .number → v .number ≤ 9 → Demand3 stageMost referenceMost stage reference v
+  refused-in-reading v a b = record { kept = λ e. absurd (omega arith); broken = λ h. absurd (omega (arith, runs-from (v .number) h)) }
 
   -- Demand 3 holds of the verdict, whatever the two files hold.
-  pub demand-3 : Demand3 stageMost referenceMost stage reference (verdictWithin stageMost referenceMost stage reference)
+  pub demand-3 : Demand3 stageMost referenceMost stage reference given
   demand-3 = go (verdict-because stageMost referenceMost stage reference)
     where
       go : {v : Verdict} → Because stageMost referenceMost stage reference v → Demand3 stageMost referenceMost stage reference v
-      go (stage-refused {number = number} {at = at} e) =
-          let n = refused-number file.Stage stageMost stage number at e in
-          other _ (λ x. omega arith) (λ x. omega arith) (λ x. omega arith) (λ x. omega arith)
-      go (reference-refused {number = number} {at = at} e f) =
-          let n = refused-number file.Reference referenceMost reference number at f in
-          other _ (λ x. omega arith) (λ x. omega arith) (λ x. omega arith) (λ x. omega arith)
-      go (both-read {s = s} {r = r} is ir j) = judged-3 (record { circuit = s; function = r; circuit-is = is; function-is = ir }) j
+      go (demands.Because.stage-refused {number = number} {at = at} e) =
+          let n = refused-number file.Stage stageMost stage number at e in refused-in-reading _ (n .0) (n .1)
+      go (demands.Because.reference-refused {number = number} {at = at} is e) =
+          let n = refused-number file.Reference referenceMost reference number at e in refused-in-reading _ (n .0) (n .1)
+      go (both-read {v = v} c j) = record { kept = λ e. kept c v e j; broken = λ h. broken c v (runs-from (v .number) h) j }
 
 -- ---- the settled-row call
 
+-- the row that settling leaves
+settled-given : (s : Stage) (row : List ℕ) → NoLoop (s .inputs) (s .gates) → length row ≡ 2 * s .inputs + length (s .gates)
+    → RowGiven s row (settled (s .gates) (take (2 * s .inputs) row))
+settled-given s row l e =
+    let free = noLoop-loopFree (s .inputs) (s .gates) l in
+    let rails = take (2 * s .inputs) row in
+    let long : length rails ≡ 2 * s .inputs = length-take-le (2 * s .inputs) row (omega arith) in
+    let bits = settled-bits (s .gates) rails in
+    let is = settled-row s rails long in
+    record {
+      long = omega (arith, length-append rails (settledLevels (s .gates) rails), bits-length (length (s .gates)) (settledLevels (s .gates) rails) bits);
+      inputs-kept = subst (λ (n : ℕ). take n (settled (s .gates) rails) ≡ rails) long (take-append-seam rails (settledLevels (s .gates) rails));
+      levels = λ g.
+          subst (λ (n : ℕ). getD (settled (s .gates) rails) (n + g) 0 ≤ 1) long
+          (rw (getD-append-add rails (settledLevels (s .gates) rails) g 0) (bits-get (length (s .gates)) (settledLevels (s .gates) rails) bits g));
+      settled = is;
+      only-so = λ R h. settled-one (stageIn s free) (rowOf rails) R (rowOf (settled (s .gates) rails)) h is;
+      given = rises-to s free (rowOf rails) (rowOf (settled (s .gates) rails)) is;
+    }
+
 abbrev Answered : Limits → List ℕ → List ℕ → RowAnswer → Type 0
-Answered most stage row a = RowBecause most stage row (a .verdict) (a .row)
+Answered most stage row a = DemandRow most stage row (a .verdict) (a .row)
 
--- every answer of the settled-row call has its reason
-pub row-because : (most : Limits) (stage row : List ℕ) → RowBecause most stage row (settledRowWithin most stage row .verdict) (settledRowWithin most stage row .row)
-unfolding settledRowWithin settleReading settleLoopFree settleLegal
-row-because most stage row = go (readFile file.Stage most stage) refl
+-- demands 1 and 2 hold of every answer of the call
+pub demand-row : (most : Limits) (stage row : List ℕ) → DemandRow most stage row (settledRowWithin most stage row .verdict) (settledRowWithin most stage row .row)
+unfolding settledRowWithin settleReading settleUnless rowChecks
+demand-row most stage row = go (readFile file.Stage most stage) refl
   where
-    legal : (s : Stage) → StageIs most stage s → WithoutLoop s → length row ≡ 2 * s .inputs + length (s .gates) → (x : Found) → least (illegalInput row) 0 (s .inputs) ≡ x → Answered most stage row (settleLegal s row x)
-    legal s is l h (At i) e =
-        let a : LeastAt (illegalInput row) 0 (s .inputs) i = least-says (illegalInput row) 0 (s .inputs) (At i) e in
-        row-illegal {i = i} is l h (omega (arith, a .below)) (illegal-says row i (a .passes)) (λ k hk t. clash (illegal-true row k t) (a .none-before k (omega arith) hk))
-    legal s is l h Nothing e =
-        row-settled is l h (λ k hk t. clash (illegal-true row k t) (least-says (illegalInput row) 0 (s .inputs) Nothing e k (omega arith) (omega arith))) (settled-is (s .gates) (take (2 * s .inputs) row))
-
-    long : (s : Stage) → StageIs most stage s → WithoutLoop s → (b : Bool) → eqb (length row) (2 * s .inputs + length (s .gates)) ≡ b
-        → Answered most stage row (cond b (settleLegal s row (least (illegalInput row) 0 (s .inputs))) (answerWith (verdict 16 3 (length row) 0) row))
-    long s is l true h = legal s is l (eqb-true (length row) (2 * s .inputs + length (s .gates)) h) (least (illegalInput row) 0 (s .inputs)) refl
-    long s is l false h = row-length is l (eqb-false (length row) (2 * s .inputs + length (s .gates)) h)
-
-    loops : (s : Stage) → StageIs most stage s → {x : Finding} → LoopOutcome s x → Answered most stage row (settleLoopFree s row x)
-    loops s is (found l) = row-looped is l
-    loops s is (free l) = long s is l (eqb (length row) (2 * s .inputs + length (s .gates))) refl
+    answer : (s : Stage) → StageIs most stage s → (x : Finding) → FirstFault (rowChecks s row) x → Answered most stage row (settleUnless x s row)
+    answer s is (Fault v) n = row-refused is n
+    answer s is Passed a =
+        row-settled is a (settled-given s row (nowhere-loop s (a .0)) (same-or (length row) (2 * s .inputs + length (s .gates)) (λ d. a .1 .0 0 (inl refl) (length row, inl refl, d))))
 
     go : (x : Reading) → readFile file.Stage most stage ≡ x → Answered most stage row (settleReading stage row x)
-    go (refused number at) p = row-refused p
-    go (readable n gates outputs) p = loops (stageOf stage n gates outputs) (stage-is p) (loop-outcome (stageOf stage n gates outputs))
-
--- "A settled row is what the gate rule gives": of every row that the call accepts
-pub settled-row-given : (most : Limits) (stage row : List ℕ) → settledRowWithin most stage row .verdict ≡ verdict 0 0 0 0 → RowGiven most stage row (settledRowWithin most stage row .row)
-settled-row-given most stage row e₀ = go (row-because most stage row) e₀
-  where
-    number : {v : Verdict} → v ≡ verdict 0 0 0 0 → v .number ≡ 0
-    number e = ap (λ (v : Verdict). v .number) e
-
-    go : {v : Verdict} {after : List ℕ} → RowBecause most stage row v after → v ≡ verdict 0 0 0 0 → RowGiven most stage row after
-    go (row-refused {number = k} {at = at} p) e = absurd (let n = refused-number file.Stage most stage k at p in omega (arith, number e))
-    go (row-looped is l) e = absurd (omega (arith, number e))
-    go (row-length is l d) e = absurd (omega (arith, number e))
-    go (row-illegal is l h a b d) e = absurd (omega (arith, number e))
-    go (row-settled {s = s} {levels = levels} is l h a settled-so) e =
-        let rails = take (2 * s .inputs) row in
-        let long : length rails ≡ 2 * s .inputs = length-take-le (2 * s .inputs) row (omega arith) in
-        let one : levels ≡ settledLevels (s .gates) rails = settled-one (s .gates) (s .inputs) l rails long levels settled-so in
-        record {
-          circuit = s;
-          circuit-is = is;
-          long = h;
-          levels = levels;
-          row-is = refl;
-          settled-so = settled-so;
-          only-so = λ v q. settled-one (s .gates) (s .inputs) l rails long v q ∙ sym one;
-          given = subst (λ (x : List ℕ). GateRuleGives s rails (rails ++ x)) (sym one) (gate-rule-gives s (noLoop-loopFree (s .inputs) (s .gates) l) rails long);
-        }
-
-pub demand-row : (most : Limits) (stage row : List ℕ) → DemandRow most stage row (settledRowWithin most stage row .verdict) (settledRowWithin most stage row .row)
-demand-row most stage row = record { because = row-because most stage row; given = settled-row-given most stage row }
+    go (refused number at) p = demands.DemandRow.stage-refused p
+    go (readable places) p =
+        let s = stageOf stage places in
+        answer s (holds p) (firstFault (rowChecks s row)) (first-fault (rowChecks s row) (row-checks-mean s row))

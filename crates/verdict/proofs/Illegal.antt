@@ -11,8 +11,7 @@ use lib.ListN.{getD}
 use lib.Dec.{eqb, ltb}
 use borrow.Author.Tests.{lt-ltb, le-ltb}
 use Rattle.runs.proofs.Test.{clash}
-use Rattle.verdict.specs.Verdicts.{illegalInput}
-use Rattle.verdict.specs.Faults.{IllegalAt}
+use Rattle.verdict.specs.Checks.{illegal, IllegalAt}
 
 module _ (row : List ℕ) (i : ℕ) where
   abbrev rail0 : ℕ
@@ -22,8 +21,8 @@ module _ (row : List ℕ) (i : ℕ) where
   rail1 = getD row (2 * i + 1) 0
 
   -- the test, and what is said
-  pub illegal-true : IllegalAt row i → illegalInput row i ≡ true
-  unfolding illegalInput
+  pub illegal-true : IllegalAt row i → illegal row i ≡ true
+  unfolding illegal
   illegal-true (inl h) = simp (lt-ltb 1 rail0 h)
   illegal-true (inr (inl h)) = go (decLt 1 rail0)
     where
@@ -32,8 +31,8 @@ module _ (row : List ℕ) (i : ℕ) where
       go (no a) = simp (le-ltb 1 rail0 (omega arith), lt-ltb 1 rail1 h)
   illegal-true (inr (inr (a, b))) = simp (a, b)
 
-  pub illegal-says : illegalInput row i ≡ true → IllegalAt row i
-  unfolding illegalInput
+  pub illegal-says : illegal row i ≡ true → IllegalAt row i
+  unfolding illegal
   illegal-says t = go (decLt 1 rail0) (decLt 1 rail1) (ℕ-discrete rail0 1) (ℕ-discrete rail1 1)
     where
       go : Dec (1 < rail0) → Dec (1 < rail1) → Dec (rail0 ≡ 1) → Dec (rail1 ≡ 1) → IllegalAt row i

@@ -7,14 +7,16 @@ use mathlib.Core.Path.{_≡_, refl, sym, ap, _∙_}
 use mathlib.Core.Bool.{Bool, true, false, cond}
 use Rattle.netlist.specs.declared.Found.{Found}
 use Rattle.netlist.specs.declared.Found.the-variants.{At, Nothing}
-use Rattle.verdict.specs.Checks.{least}
+use Rattle.verdict.specs.Words.{numbers}
+use Rattle.verdict.specs.Checks.{first}
+use Rattle.verdict.specs.Search.{least}
 
 pub least-here : (f : ℕ → Bool) (j m : ℕ) → f j ≡ true → least f j (suc m) ≡ At j
-unfolding least
+unfolding first numbers
 least-here f j m e = rw e
 
 pub least-later : (f : ℕ → Bool) (j m : ℕ) → f j ≡ false → least f j (suc m) ≡ least f (suc j) m
-unfolding least
+unfolding first numbers
 least-later f j m e = rw e
 
 -- ---- a search from 0 on
@@ -36,7 +38,7 @@ module _ (f : ℕ → Bool) (m j : ℕ) where
       sym (s ∙ ap (least f j) a ∙ least-here f j (m - (j + 1)) e)
 
   pub sought-none : m ≤ j → SoughtTo → Nothing ≡ least f 0 m
-  unfolding least
+  unfolding first numbers
   sought-none h s = let a : m - j ≡ 0 = omega arith in sym (s ∙ ap (least f j) a)
 
 -- what the test says of the numbers from j on, m of them
@@ -51,7 +53,7 @@ LeastSays f j m (At i) = LeastAt f j m i
 LeastSays f j m Nothing = (k : ℕ) → j ≤ k → k < j + m → f k ≡ false
 
 pub least-says : (f : ℕ → Bool) (j m : ℕ) (x : Found) → least f j m ≡ x → LeastSays f j m x
-unfolding least
+unfolding first numbers
 least-says f j zero x e = go x e
   where
     go : (x : Found) → Nothing ≡ x → LeastSays f j zero x

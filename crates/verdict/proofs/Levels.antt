@@ -3,13 +3,13 @@
 use Prim.Native.Nat.{ℕ, zero, suc, _+_, _≤_, _<_}
 use native.Mathlib.Omega.{arith}
 use native.Mathlib.Decide.{ℕ-discrete}
-use mathlib.Core.Path.{_≡_, refl, sym, ap, ap₂, _∙_}
+use mathlib.Core.Path.{_≡_, refl, ap, ap₂}
 use mathlib.Core.Bool.{Bool, true, false}
 use mathlib.Core.Logic.{_⊎_, inl, inr}
 use mathlib.Core.List.{List, [], _∷_, _++_}
 use lib.ListN.{length, getD, set, replicate}
-use lib.Dec.{ltb}
 use borrow.Author.Tests.{lt-ltb, ltb-true}
+use Rattle.gates.specs.Cell.{bit}
 use Rattle.verdict.specs.Rows.{high}
 use Rattle.verdict.specs.Levels.{Bits, Below, sum}
 
@@ -18,10 +18,6 @@ use Rattle.verdict.specs.Levels.{Bits, Below, sum}
 pub below-refl : (u : List ℕ) → Below u u
 below-refl [] = tt
 below-refl (x ∷ u) = (omega arith, below-refl u)
-
-pub below-trans : (u v w : List ℕ) → Below u v → Below v w → Below u w
-below-trans [] [] [] p q = tt
-below-trans (x ∷ u) (y ∷ v) (z ∷ w) p q = (omega (arith, p .0, q .0), below-trans u v w (p .1) (q .1))
 
 pub below-get : (u v : List ℕ) → Below u v → (k : ℕ) → getD u k 0 ≤ getD v k 0
 below-get [] [] p k = omega arith
@@ -54,6 +50,14 @@ high-mono u v h p e = lt-ltb 0 (getD v p 0) (omega (arith, h p, ltb-true 0 (getD
 
 -- ---- bits
 
+pub bit-≤-1 : (a : Bool) → bit a ≤ 1
+bit-≤-1 true = omega arith
+bit-≤-1 false = omega arith
+
+pub bit-mono : (a b : Bool) → (a ≡ true → b ≡ true) → bit a ≤ bit b
+bit-mono true b h = rw (h refl) (omega arith)
+bit-mono false b h = omega arith
+
 pub low-bits : (n : ℕ) → Bits n (replicate n 0)
 low-bits zero = tt
 low-bits (suc n) = (omega arith, low-bits n)
@@ -79,15 +83,3 @@ pub bits-set : (n : ℕ) (v : List ℕ) → Bits n v → (k x : ℕ) → x ≤ 1
 bits-set zero [] p k x h = tt
 bits-set (suc n) (a ∷ v) p zero x h = (h, p .1)
 bits-set (suc n) (a ∷ v) p (suc k) x h = (p .0, bits-set n v (p .1) k x h)
-
--- setting a level to 1 does not lower it
-pub below-raise : (n : ℕ) (v : List ℕ) → Bits n v → (k : ℕ) → Below v (set v k 1)
-below-raise zero [] b k = tt
-below-raise (suc n) (x ∷ v) b zero = (b .0, below-refl v)
-below-raise (suc n) (x ∷ v) b (suc k) = (omega arith, below-raise n v (b .1) k)
-
--- and stays below what is high there
-pub raise-below : (u v : List ℕ) → Below u v → (k : ℕ) → 1 ≤ getD v k 0 → Below (set u k 1) v
-raise-below [] [] p k h = tt
-raise-below (x ∷ u) (y ∷ v) p zero h = (h, p .1)
-raise-below (x ∷ u) (y ∷ v) p (suc k) h = (p .0, raise-below u v (p .1) k h)

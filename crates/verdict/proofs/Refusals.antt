@@ -4,12 +4,13 @@ use Prim.Native.Nat.{ℕ, zero, suc, _+_, _≤_}
 use native.Mathlib.Omega.{arith}
 use mathlib.Core.Path.{_≡_, subst}
 use mathlib.Core.Bool.{Bool, true, false, cond, _&&_}
-use mathlib.Core.List.{List, [], _∷_, _++_}
+use mathlib.Core.List.{List}
 use lib.ListN.{length}
 use lib.Dec.{eqb, leb, ltb}
 use Rattle.netlist.specs.declared.File.{File}
 use Rattle.netlist.specs.declared.Sort.{Sort}
 use Rattle.netlist.specs.declared.Sort.the-variants as sort
+use Rattle.netlist.specs.declared.Form.{Form}
 use Rattle.netlist.specs.declared.Limits.{Limits}
 use Rattle.netlist.specs.declared.Counts.{Counts}
 use Rattle.netlist.specs.declared.Next.{Next}
@@ -17,8 +18,8 @@ use Rattle.netlist.specs.declared.Next.the-variants.{Command, Refused}
 use Rattle.netlist.specs.declared.Found.{Found}
 use Rattle.netlist.specs.declared.Found.the-variants.{At, Nothing}
 use Rattle.netlist.specs.Bytes.{byte}
-use Rattle.netlist.specs.Commands.{sortOf, operandCount, width, needed, stray, misfitFrom, unlessMisfit, inputsAt, gateAt, outputAt, wholeAt, nextAt}
-use Rattle.netlist.specs.Reading.{Reading, refused, readable, namelessFrom, unlessNameless, finish, onCommand, onNext, countsOf, readFrom, readFile}
+use Rattle.netlist.specs.Commands.{whenFound, isSort, formOf, width, needed, stray, misfitFrom, takeGate, takeSort, takeCommand, nextAt}
+use Rattle.netlist.specs.Reading.{Places, noPlaces, Reading, refused, readable, namelessFrom, finish, onNext, noted, countsOf, readFrom, readFile}
 
 abbrev InTable : ℕ → Type 0
 InTable number = (1 ≤ number) × (number ≤ 9)
@@ -29,66 +30,55 @@ NextNumbered (Command c next) = Unit {0}
 
 abbrev Numbered : Reading → Type 0
 Numbered (refused number at) = InTable number
-Numbered (readable n gates outputs) = Unit {0}
+Numbered (readable p) = Unit {0}
 
 either : {X : Type 0} (P : X → Type 0) (b : Bool) (x y : X) → P x → P y → P (cond b x y)
 either P true x y p q = p
 either P false x y p q = q
 
-unless-misfit : (x : Found) (next : Next) → NextNumbered next → NextNumbered (unlessMisfit x next)
-unfolding unlessMisfit
-unless-misfit (At p) next h = omega arith
-unless-misfit Nothing next h = h
+unless-found : {X : Type 0} (P : X → Type 0) (x : Found) (there : ℕ → X) (none : X) → ((place : ℕ) → P (there place)) → P none → P (whenFound x there none)
+unfolding whenFound
+unless-found P (At place) there none p q = p place
+unless-found P Nothing there none p q = q
 
 module _ (f : File) (most : Limits) (s : List ℕ) (at : ℕ) (before : Counts) where
-  whole-numbered : (c : Sort) → NextNumbered (wholeAt f most s at before c)
-  unfolding wholeAt inputsAt gateAt outputAt
-  whole-numbered sort.Inputs =
-      either NextNumbered (leb 1 (byte s (at + 1)) && leb (byte s (at + 1)) (most .inputs)) (Command sort.Inputs (record { at = at + 2 })) (Refused 3 (at + 1)) tt (omega arith)
-  whole-numbered sort.Gate =
+  sort-numbered : (form : Form) (taken : Next) → NextNumbered taken → (c : Sort) → NextNumbered (takeSort f most s at before form taken c)
+  unfolding takeSort takeGate
+  sort-numbered form taken h sort.Inputs = either NextNumbered (leb 1 (byte s (at + 1)) && leb (byte s (at + 1)) (most .inputs)) taken _ h (omega arith)
+  sort-numbered form taken h sort.Gate =
       let k = needed f (byte s (at + 1)) in
-      let found = unlessMisfit (misfitFrom k 0 s (at + 2) (operandCount f sort.Gate)) (Command sort.Gate (record { at = at + width f sort.Gate })) in
-      either NextNumbered (leb (most .gates) (before .gates)) (Refused 6 at) (cond (eqb k 0) (Refused 4 (at + 1)) found) (omega arith)
-      (either NextNumbered (eqb k 0) (Refused 4 (at + 1)) found (omega arith)
-      (unless-misfit (misfitFrom k 0 s (at + 2) (operandCount f sort.Gate)) (Command sort.Gate (record { at = at + width f sort.Gate })) tt))
-  whole-numbered sort.Output =
-      either NextNumbered (leb (most .outputs) (before .outputs)) (Refused 6 at) (Command sort.Output (record { at = at + width f sort.Output })) (omega arith) tt
-  whole-numbered sort.End = tt
-  whole-numbered sort.Unknown = omega arith
+      either NextNumbered (leb (most .gates) (before .gates)) (Refused 6 at) _ (omega arith)
+      (either NextNumbered (eqb k 0) (Refused 4 (at + 1)) _ (omega arith)
+      (unless-found NextNumbered (misfitFrom k 0 s (at + form .lead) (form .operands)) (λ place. Refused 5 place) taken (λ place. omega arith) h))
+  sort-numbered form taken h sort.Output = either NextNumbered (leb (most .outputs) (before .outputs)) (Refused 6 at) taken (omega arith) h
+  sort-numbered form taken h sort.End = h
+  sort-numbered form taken h sort.Unknown = h
 
   next-numbered : NextNumbered (nextAt f most s at before)
-  unfolding nextAt
+  unfolding nextAt takeCommand
   next-numbered =
-      let c = sortOf f (byte s at) in
-      let short = cond (ltb (length s) (at + width f c)) (Refused 1 (length s)) (wholeAt f most s at before c) in
-      either NextNumbered (leb (length s) at) (Refused 1 (length s)) (cond (stray at c) (Refused 2 at) short) (omega arith)
-      (either NextNumbered (stray at c) (Refused 2 at) short (omega arith)
-      (either NextNumbered (ltb (length s) (at + width f c)) (Refused 1 (length s)) (wholeAt f most s at before c) (omega arith) (whole-numbered c)))
+      let form = formOf f (byte s at) in
+      either NextNumbered (leb (length s) at) (Refused 1 (length s)) _ (omega arith)
+      (either NextNumbered (stray at (form .sort)) (Refused 2 at) _ (omega arith)
+      (either NextNumbered (ltb (length s) (at + width form)) (Refused 1 (length s)) _ (omega arith)
+      (sort-numbered form (Command (form .sort) (record { at = at + width form })) tt (form .sort))))
 
-finish-numbered : (f : File) (s : List ℕ) (at n : ℕ) (gates outputs : List ℕ) → Numbered (finish f s at n gates outputs)
-unfolding finish unlessNameless
-finish-numbered f s at n gates outputs = go (eqb (length outputs) 0) (ltb (at + 1) (length s)) (namelessFrom (length s) f n (length gates) s 0 0)
-  where
-    go : (a b : Bool) (x : Found) → Numbered (cond a (refused 8 at) (cond b (refused 7 (at + 1)) (unlessNameless x (readable n gates outputs))))
-    go true b x = omega arith
-    go false true x = omega arith
-    go false false (At p) = omega arith
-    go false false Nothing = tt
+finish-numbered : (f : File) (s : List ℕ) (at : ℕ) (p : Places) → Numbered (finish f s at p)
+unfolding finish
+finish-numbered f s at p =
+    either Numbered (eqb (length (p .outputs)) 0) (refused 8 at) _ (omega arith)
+    (either Numbered (ltb (at + 1) (length s)) (refused 7 (at + 1)) _ (omega arith)
+    (unless-found Numbered (namelessFrom (length s) f (p .inputs) (length (p .gates)) s 0 0) (refused 9) (readable p) (λ place. omega arith) tt))
 
-read-numbered : (fuel : ℕ) (f : File) (most : Limits) (s : List ℕ) (at n : ℕ) (gates outputs : List ℕ) → Numbered (readFrom fuel f most s at n gates outputs)
-unfolding readFrom onNext onCommand
-read-numbered zero f most s at n gates outputs = omega arith
-read-numbered (suc fuel) f most s at n gates outputs =
-    go (nextAt f most s at (countsOf n gates outputs)) (next-numbered f most s at (countsOf n gates outputs)) (read-numbered fuel f most s)
+read-numbered : (fuel : ℕ) (f : File) (most : Limits) (s : List ℕ) (at : ℕ) (p : Places) → Numbered (readFrom fuel f most s at p)
+unfolding readFrom onNext
+read-numbered zero f most s at p = omega arith
+read-numbered (suc fuel) f most s at p = go (nextAt f most s at (countsOf p)) (next-numbered f most s at (countsOf p)) (read-numbered fuel f most s)
   where
-    go : (x : Next) → NextNumbered x → ((at n : ℕ) (gates outputs : List ℕ) → Numbered (readFrom fuel f most s at n gates outputs)) → Numbered (onNext (readFrom fuel f most s) f s at x n gates outputs)
+    go : (x : Next) → NextNumbered x → ((at : ℕ) (p : Places) → Numbered (readFrom fuel f most s at p)) → Numbered (onNext (readFrom fuel f most s) f s at p x)
     go (Refused number place) h later = h
-    go (Command sort.Inputs next) h later = later (next .at) (byte s (at + 1)) gates outputs
-    go (Command sort.Gate next) h later = later (next .at) n (gates ++ (at ∷ [])) outputs
-    go (Command sort.Output next) h later = later (next .at) n gates (outputs ++ (at ∷ []))
-    go (Command sort.End next) h later = finish-numbered f s at n gates outputs
-    go (Command sort.Unknown next) h later = omega arith
+    go (Command c next) h later = either Numbered (isSort sort.End c) (finish f s at p) (readFrom fuel f most s (next .at) (noted c s at p)) (finish-numbered f s at p) (later (next .at) (noted c s at p))
 
 pub refused-number : (f : File) (most : Limits) (s : List ℕ) (number at : ℕ) → readFile f most s ≡ refused number at → InTable number
 unfolding readFile
-refused-number f most s number at e = subst Numbered e (read-numbered (suc (length s)) f most s 0 0 [] [])
+refused-number f most s number at e = subst Numbered e (read-numbered (suc (length s)) f most s 0 noPlaces)

@@ -1,14 +1,14 @@
--- Rounds of a step that grows with its levels: as many rounds as levels reach the least levels that the step leaves as they are.
+-- Rounds of a step that grows with its levels: after as many rounds as levels the step leaves them as they are.
 -- Assumes nothing.
-use Prim.Native.Nat.{ℕ, zero, suc, _+_, _≤_, _<_}
+use Prim.Native.Nat.{ℕ, zero, suc, _<_}
 use native.Mathlib.Omega.{arith}
-use mathlib.Core.Path.{_≡_, refl, sym, ap}
+use mathlib.Core.Path.{_≡_, sym, ap}
 use mathlib.Core.Logic.{_⊎_, inl, inr, ⊎-elim}
 use mathlib.Core.List.{List}
 use lib.ListN.{replicate}
 use Rattle.verdict.specs.Rows.{rounds}
 use Rattle.verdict.specs.Levels.{Bits, Below, sum}
-use Rattle.verdict.proofs.Levels.{below-refl, below-trans, below-split, low-bits, low-below, bits-sum}
+use Rattle.verdict.proofs.Levels.{below-refl, below-split, low-bits, low-below, bits-sum}
 
 module _
     (step : List ℕ → List ℕ)
@@ -39,12 +39,6 @@ module _
     pub rounds-fixed : step (rounds step n n) ≡ rounds step n n
     unfolding rounds
     rounds-fixed = ⊎-elim (λ e. sym e) (λ h. absurd (omega (arith, bits-sum n (rounds step n (suc n)) (rounds-bits (suc n))))) (progress n)
-
-    -- and the rounds are below every levels that the step does not raise
-    pub rounds-least : (v : List ℕ) → Bits n v → Below (step v) v → (k : ℕ) → Below (rounds step n k) v
-    unfolding rounds
-    rounds-least v b h zero = low-below n v b
-    rounds-least v b h (suc k) = below-trans (rounds step n (suc k)) (step v) v (rises (rounds step n k) v (rounds-least v b h k)) h
 
 -- rounds of a step that is nowhere above another are nowhere above that one's
 pub rounds-mono : (step step′ : List ℕ → List ℕ) → ((u v : List ℕ) → Below u v → Below (step u) (step′ v)) → (n k : ℕ) → Below (rounds step n k) (rounds step′ n k)

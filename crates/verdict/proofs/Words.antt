@@ -1,6 +1,6 @@
--- The rails of an input word: how many there are, that each input is DATA, and what taking inputs away leaves; and that answers are bits.
+-- The rails of an input word: how many there are, that each input is DATA, and what taking inputs away leaves; that answers are bits; and which numbers are words.
 -- Assumes nothing.
-use Prim.Native.Nat.{ℕ, zero, suc, _+_, _-_, _*_, _/_, _%_, _≤_, _<_, min, max}
+use Prim.Native.Nat.{ℕ, zero, suc, _+_, _-_, _*_, _/_, _%_, _^_, _≤_, _<_, min, max}
 use native.Mathlib.Omega.{arith}
 use mathlib.Core.Path.{_≡_, refl, sym, ap, _∙_}
 use mathlib.Core.Bool.{Bool, true, false, cond, not, _&&_}
@@ -9,12 +9,15 @@ use mathlib.Core.List.{List, [], _∷_, _++_, map}
 use lib.ListN.{length, getD, length-append, List·getD-append}
 use lib.Seq.{getD-append-add}
 use lib.Dec.{ltb}
-use native.Mathlib.Decide.{decLt}
+use native.Mathlib.Decide.{decLt, ℕ-discrete}
 use borrow.Author.Tests.{lt-ltb, le-ltb}
-use Rattle.runs.specs.Net.{wordRails}
-use Rattle.netlist.specs.Content.{Coded, Reference}
-use Rattle.verdict.specs.Rows.{high, bitsOf, railsOf, withNull}
-use Rattle.verdict.specs.Answers.{operate, valuesAt, evaluate, answer}
+use Rattle.runs.specs.Theory.{wordRails}
+use Rattle.netlist.specs.Content.{Coded, Stage, Reference}
+use Rattle.verdict.specs.Rows.{high, withNull}
+use Rattle.verdict.specs.Loops.{In}
+use Rattle.verdict.specs.Words.{numbers, words, IsWord, bitsOf, railsOf}
+use Rattle.verdict.specs.Answers.{operate, valuesAt, signalValues, answer}
+use Rattle.verdict.specs.Demands.{FirstOf}
 
 -- ---- rails
 
@@ -109,13 +112,67 @@ snoc-bit [] x hx h (suc i) = omega arith
 snoc-bit (v ∷ values) x hx h zero = h 0
 snoc-bit (v ∷ values) x hx h (suc i) = snoc-bit values x hx (λ k. h (suc k)) i
 
-evaluate-bit : (values : List ℕ) (gates : List Coded) → ((i : ℕ) → getD values i 0 ≤ 1) → (i : ℕ) → getD (evaluate values gates) i 0 ≤ 1
-unfolding evaluate
-evaluate-bit values [] h = h
-evaluate-bit values (g ∷ gates) h =
-    evaluate-bit (values ++ (operate (g .code) (valuesAt values (g .operands)) ∷ [])) gates
+signalValues-bit : (values : List ℕ) (gates : List Coded) → ((i : ℕ) → getD values i 0 ≤ 1) → (i : ℕ) → getD (signalValues values gates) i 0 ≤ 1
+unfolding signalValues
+signalValues-bit values [] h = h
+signalValues-bit values (g ∷ gates) h =
+    signalValues-bit (values ++ (operate (g .code) (valuesAt values (g .operands)) ∷ [])) gates
     (snoc-bit values (operate (g .code) (valuesAt values (g .operands))) (operate-bit (g .code) (valuesAt values (g .operands)) (valuesAt-bit values (g .operands) h)) h)
 
 pub answer-bit : (r : Reference) (bits : List ℕ) → ((i : ℕ) → getD bits i 0 ≤ 1) → (j : ℕ) → getD (answer r bits) j 0 ≤ 1
 unfolding answer
-answer-bit r bits h = valuesAt-bit (evaluate bits (r .gates)) (r .outputs) (evaluate-bit bits (r .gates) h)
+answer-bit r bits h = valuesAt-bit (signalValues bits (r .gates)) (r .outputs) (signalValues-bit bits (r .gates) h)
+
+-- ---- the words of a stage
+
+pub in-numbers : (j m k : ℕ) → j ≤ k → k < j + m → In k (numbers j m)
+unfolding numbers
+in-numbers j zero k h l = absurd (omega arith)
+in-numbers j (suc m) k h l = go (in-numbers (suc j) m k) (ℕ-discrete k j)
+  where
+    go : (suc j ≤ k → k < suc j + m → In k (numbers (suc j) m)) → Dec (k ≡ j) → In k (j ∷ numbers (suc j) m)
+    go later (yes e) = inl e
+    go later (no d) = inr (later (omega arith) (omega arith))
+
+pub numbers-in : (j m k : ℕ) → In k (numbers j m) → (j ≤ k) × (k < j + m)
+unfolding numbers
+numbers-in j zero k h = absurd h
+numbers-in j (suc m) k (inl e) = (omega arith, omega arith)
+numbers-in j (suc m) k (inr h) = let r = numbers-in (suc j) m k h in (omega (arith, r .0), omega (arith, r .1))
+
+pub index-in : (m k : ℕ) → k < m → In k (numbers 0 m)
+index-in m k h = in-numbers 0 m k (omega arith) (omega arith)
+
+pub in-index : (m k : ℕ) → In k (numbers 0 m) → k < m
+in-index m k h = omega (arith, numbers-in 0 m k h .1)
+
+-- a word is below 2 to the number of inputs
+pub word-below : (s : Stage) (w : ℕ) → IsWord s w → w < 2 ^ s .inputs
+unfolding words
+word-below s = in-index (2 ^ s .inputs)
+
+pub below-word : (s : Stage) (w : ℕ) → w < 2 ^ s .inputs → IsWord s w
+unfolding words
+below-word s = index-in (2 ^ s .inputs)
+
+-- in a list of numbers those that are less stand before: the first of which something holds is the least
+less-before : (j m : ℕ) (before later : List ℕ) (x : ℕ) → numbers j m ≡ before ++ (x ∷ later) → (y : ℕ) → j ≤ y → y < x → In y before
+unfolding numbers
+less-before j zero [] later x e y h l = absurd (let z : _≡_ {A = ℕ} 0 (suc (length later)) = ap length e in omega arith)
+less-before j zero (b ∷ before) later x e y h l = absurd (let z : _≡_ {A = ℕ} 0 (suc (length (before ++ (x ∷ later)))) = ap length e in omega arith)
+less-before j (suc m) [] later x e y h l = absurd (let z : j ≡ x = cc in omega arith)
+less-before j (suc m) (b ∷ before) later x e y h l =
+    let head : j ≡ b = cc in
+    let tail : numbers (suc j) m ≡ before ++ (x ∷ later) = cc in
+    go head (λ g. less-before (suc j) m before later x tail y g l) (ℕ-discrete y j)
+  where
+    go : j ≡ b → (suc j ≤ y → In y before) → Dec (y ≡ j) → In y (b ∷ before)
+    go head rest (yes q) = inl (q ∙ head)
+    go head rest (no d) = inr (rest (omega arith))
+
+pub first-least : (P : ℕ → Type 0) (m x : ℕ) → FirstOf P (numbers 0 m) x → (y : ℕ) → y < x → ¬ (P y)
+first-least P m x f y h = f .none y (less-before 0 m (f .before) (f .later) x (f .stands) y (omega arith) h)
+
+pub first-word-least : (P : ℕ → Type 0) (s : Stage) (w : ℕ) → FirstOf P (words s) w → (v : ℕ) → v < w → ¬ (P v)
+unfolding words
+first-word-least P s = first-least P (2 ^ s .inputs)

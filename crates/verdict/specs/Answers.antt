@@ -16,10 +16,10 @@ abbrev pub valuesAt : List ℕ → List ℕ → List ℕ
 valuesAt values signals = map (λ (v : ℕ). getD values v 0) signals
 
 -- the values of all signals: first those already known, then each gate's, in file order
-unfoldable pub evaluate : List ℕ → List Coded → List ℕ
-evaluate values [] = values
-evaluate values (g ∷ gates) = evaluate (values ++ (operate (g .code) (valuesAt values (g .operands)) ∷ [])) gates
+unfoldable pub signalValues : List ℕ → List Coded → List ℕ
+signalValues values [] = values
+signalValues values (g ∷ gates) = signalValues (values ++ (operate (g .code) (valuesAt values (g .operands)) ∷ [])) gates
 
 -- what the outputs answer where the inputs have some bits
 unfoldable pub answer : Reference → List ℕ → List ℕ
-answer r bits = valuesAt (evaluate bits (r .gates)) (r .outputs)
+answer r bits = valuesAt (signalValues bits (r .gates)) (r .outputs)

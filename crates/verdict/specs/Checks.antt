@@ -1,99 +1,156 @@
--- The checks 10 to 15: each finds its least fault, or none.
-use Prim.Native.Nat.{ℕ, zero, suc, _+_, _*_, _^_}
-use mathlib.Core.Bool.{Bool, true, false, cond, not}
-use mathlib.Core.List.{List, [], _∷_, _++_}
+-- The checks that follow reading, as the rows of document 01's table, and the first fault of a list of checks.
+use Prim.Native.Nat.{ℕ, _+_, _*_, _<_}
+use mathlib.Core.Path.{_≡_}
+use mathlib.Core.Bool.{Bool, true, false, cond, not, _&&_, _||_}
+use mathlib.Core.Logic.{_⊎_}
+use mathlib.Core.List.{List, [], _∷_}
 use lib.ListN.{length, getD}
-use lib.Dec.{eqb}
+use lib.Dec.{eqb, ltb}
+use Rattle.runs.specs.Row.{only}
+use Rattle.runs.specs.Pair.{DataOf, AllData}
+use Rattle.runs.specs.Promise.{Promise}
+use Rattle.runs.specs.Witness.{Wrong, Incomplete, Unobservable}
 use Rattle.netlist.specs.declared.Found.{Found}
 use Rattle.netlist.specs.declared.Found.the-variants.{At, Nothing}
-use Rattle.netlist.specs.Content.{Pair, Stage, Reference}
+use Rattle.netlist.specs.Content.{Stage, Reference}
 use Rattle.verdict.specs.declared.Verdict.{Verdict}
 use Rattle.verdict.specs.declared.Finding.{Finding}
-use Rattle.verdict.specs.declared.Finding.the-variants.{Fault, Clear}
-use Rattle.verdict.specs.Rows.{high, bitsOf, railsOf, only, withNull, settled, settledHolding, pairIn, spells, allData}
-use Rattle.verdict.specs.Loops.{reachesItself}
+use Rattle.verdict.specs.declared.Finding.the-variants.{Fault, Passed}
+use Rattle.verdict.specs.Rows.{high, withNull, settled, settledHolding, pairIn, spells, allData}
+use Rattle.verdict.specs.Loops.{ReachesItself, reachesItself}
+use Rattle.verdict.specs.Words.{numbers, words, bitsOf, railsIn}
 use Rattle.verdict.specs.Answers.{answer}
+use Rattle.verdict.specs.Nets.{outputPair, netOf, railsFor, answerBits, restRow, missingRow, heldRow}
 
 abbrev pub verdict : ℕ → ℕ → ℕ → ℕ → Verdict
 verdict number file at word = record { number = number; file = file; at = at; word = word }
 
--- ---- least index, least word
+-- One check: its number and its file; the words in which it looks and the places that it tries in each, in their order; whether it fails in
+-- a word at a place, computed; the paper's condition for that; and what a run shows then (demand 3).
+pub record Check : Type 1 where
+  pub number : ℕ
+  pub file : ℕ
+  pub words : List ℕ
+  pub places : List ℕ
+  pub fails : ℕ → ℕ → Bool
+  pub Condition : ℕ → ℕ → Type 0
+  pub Shows : ℕ → ℕ → Type 0
 
--- the least of m numbers from j on that passes the test
-unfoldable pub least : (ℕ → Bool) → ℕ → ℕ → Found
-least test j zero = Nothing
-least test j (suc m) = let later = least test (suc j) m in cond (test j) (At j) later
+abbrev pub check : ℕ → ℕ → List ℕ → List ℕ → (ℕ → ℕ → Bool) → (ℕ → ℕ → Type 0) → (ℕ → ℕ → Type 0) → Check
+check number file words places fails Condition Shows =
+    record { number = number; file = file; words = words; places = places; fails = fails; Condition = Condition; Shows = Shows }
 
--- m numbers from j on
-unfoldable pub numbers : ℕ → ℕ → List ℕ
-numbers j zero = []
-numbers j (suc m) = j ∷ numbers (suc j) m
+-- nothing is said of runs
+abbrev pub unsaid : ℕ → ℕ → Type 0
+unsaid w i = Unit {0}
 
--- the words that are swept, in their order
-unfoldable pub words : Stage → List ℕ
-words s = numbers 0 (2 ^ s .inputs)
+-- ---- what a check finds: "least word, then least index"
 
--- the stage is at fault in word w (0 where the check has no word), at the index found; if none was, what comes later
-unfoldable pub atFault : ℕ → ℕ → Found → Finding → Finding
-atFault number w (At i) later = Fault (verdict number 1 i w)
-atFault number w Nothing later = later
+-- the first of some numbers that passes a test
+unfoldable pub first : (ℕ → Bool) → List ℕ → Found
+first test [] = Nothing
+first test (i ∷ is) = let later = first test is in cond (test i) (At i) later
 
--- the first of some words in which an index is found, with that index
-unfoldable pub sweep : ℕ → (ℕ → Found) → List ℕ → Finding
-sweep number find [] = Clear
-sweep number find (w ∷ ws) = let later = sweep number find ws in atFault number w (find w) later
+-- a fault in word w, at what was found there; if nothing was, what comes later
+unfoldable pub atFault : ℕ → ℕ → ℕ → Found → Finding → Finding
+atFault number file w (At i) later = Fault (verdict number file i w)
+atFault number file w Nothing later = later
 
--- ---- counts and loops
+-- the first of some words in which something is found, with that
+unfoldable pub sweep : ℕ → ℕ → (ℕ → Found) → List ℕ → Finding
+sweep number file find [] = Passed
+sweep number file find (w ∷ ws) = let later = sweep number file find ws in atFault number file w (find w) later
 
--- 10 and 11: two counts are unequal
-unfoldable pub unequal : ℕ → ℕ → ℕ → Finding
-unequal number stage reference = cond (eqb stage reference) Clear (Fault (verdict number 0 stage reference))
+unfoldable pub finding : Check → Finding
+finding c = sweep (c .number) (c .file) (λ w. first (c .fails w) (c .places)) (c .words)
 
--- 12: the least gate that reaches itself
-unfoldable pub looped : Stage → Finding
-looped s = atFault 12 0 (least (reachesItself (s .inputs) (s .gates)) 0 (length (s .gates))) Clear
+unfoldable pub orLater : Finding → Finding → Finding
+orLater (Fault v) later = Fault v
+orLater Passed later = later
 
--- ---- one word
+-- the first fault that some checks find
+unfoldable pub firstFault : List Check → Finding
+firstFault [] = Passed
+firstFault (c ∷ later) = let rest = firstFault later in orLater (finding c) rest
 
-abbrev pub noPair : Pair
-noPair = record { rail0 = 0; rail1 = 0 }
+-- ---- 13, 14 and 15 in word w, computed
 
--- output j of a stage
-abbrev pub outputPair : Stage → ℕ → Pair
-outputPair s j = getD (s .outputs) j noPair
-
--- the input rails of word w
-abbrev pub railsIn : Stage → ℕ → List ℕ
-railsIn s w = railsOf (bitsOf (s .inputs) w)
-
--- 13: the least output whose settled pair is not the reference's DATA
-unfoldable pub wrongOutput : Stage → Reference → ℕ → Found
-wrongOutput s r w =
+-- the settled pair of output j is not the reference's DATA
+unfoldable pub wrong : Stage → Reference → ℕ → ℕ → Bool
+wrong s r w =
     let row = settled (s .gates) (railsIn s w) in
     let values = answer r (bitsOf (r .inputs) w) in
-    least (λ j. not (spells (pairIn row (outputPair s j)) (getD values j 0))) 0 (length (s .outputs))
+    λ j. not (spells (pairIn row (outputPair s j)) (getD values j 0))
 
--- 14: the least input with which NULL, and the others as in w, all settled outputs are DATA
-unfoldable pub missingInput : Stage → ℕ → Found
-missingInput s w =
-    let rails = railsIn s w in
-    least (λ i. allData (settled (s .gates) (withNull (only i) rails)) (s .outputs)) 0 (s .inputs)
+-- with input i NULL, and the others as in w, all settled outputs are DATA
+unfoldable pub incomplete : Stage → ℕ → ℕ → Bool
+incomplete s w = let rails = railsIn s w in λ i. allData (settled (s .gates) (withNull (only i) rails)) (s .outputs)
 
--- 15: the least gate that is high in w and with which held low all settled outputs are still DATA
-unfoldable pub unobservedGate : Stage → ℕ → Found
-unobservedGate s w =
+-- gate g is high in w, and with it held low all settled outputs are still DATA
+unfoldable pub unobservable : Stage → ℕ → ℕ → Bool
+unobservable s w =
     let rails = railsIn s w in
     let row = settled (s .gates) rails in
-    least (λ g. elim (high row (2 * s .inputs + g)) [ true ↦ allData (settledHolding g (s .gates) rails) (s .outputs) | false ↦ false ]) 0 (length (s .gates))
+    λ g. elim (high row (2 * s .inputs + g)) [ true ↦ allData (settledHolding g (s .gates) rails) (s .outputs) | false ↦ false ]
 
--- ---- the checks in their order
+-- ---- the same as statements about the rows at rest; that these rows are the settled ones of a loop-free stage is shown in proofs/Bridge
 
-unfoldable pub checks : Stage → Reference → List Finding
+abbrev pub WrongAt : Stage → Reference → ℕ → ℕ → Type 0
+WrongAt s r w j = ¬ (DataOf (restRow s w) (netOf s .rail j) (answerBits r w j))
+
+abbrev pub IncompleteAt : Stage → ℕ → ℕ → Type 0
+IncompleteAt s w i = AllData (netOf s) (missingRow s w i)
+
+abbrev pub UnobservableAt : Stage → ℕ → ℕ → Type 0
+UnobservableAt s w g = (restRow s w (2 * s .inputs + g) ≡ true) × AllData (netOf s) (heldRow s w g)
+
+-- some run of word w shows it, and the promise is broken
+pub record Broken (s : Stage) (r : Reference) (w : ℕ) (Run : Type 0) : Type 0 where
+  pub run : Run
+  pub broken : ¬ (Promise (netOf s) (railsFor s w) (answerBits r w))
+
+-- ---- the tables
+
+abbrev pub unequal : ℕ → ℕ → ℕ → Check
+unequal number mine theirs = check number 0 (theirs ∷ []) (mine ∷ []) (λ w i. not (eqb mine theirs)) (λ w i. ¬ (mine ≡ theirs)) unsaid
+
+abbrev pub looped : Stage → Check
+looped s =
+    check 12 1 (0 ∷ []) (numbers 0 (length (s .gates))) (λ w. reachesItself (s .inputs) (s .gates)) (λ w. ReachesItself (s .inputs) (s .gates)) unsaid
+
+-- the checks that sweep the words, in their order
+unfoldable pub sweeps : Stage → Reference → List Check
+sweeps s r =
+    check 13 1 (words s) (numbers 0 (length (s .outputs))) (wrong s r) (WrongAt s r)
+    (λ w j. Broken s r w (Wrong (netOf s) (railsFor s w) (answerBits r w) j)) ∷
+    check 14 1 (words s) (numbers 0 (s .inputs)) (incomplete s) (IncompleteAt s)
+    (λ w i. Broken s r w (Incomplete (netOf s) (railsFor s w) i)) ∷
+    check 15 1 (words s) (numbers 0 (length (s .gates))) (unobservable s) (UnobservableAt s)
+    (λ w g. Broken s r w (Unobservable (netOf s) (railsFor s w) (2 * s .inputs + g))) ∷
+    []
+
+unfoldable pub checks : Stage → Reference → List Check
 checks s r =
     unequal 10 (s .inputs) (r .inputs) ∷
     unequal 11 (length (s .outputs)) (length (r .outputs)) ∷
     looped s ∷
-    sweep 13 (wrongOutput s r) (words s) ∷
-    sweep 14 (missingInput s) (words s) ∷
-    sweep 15 (unobservedGate s) (words s) ∷
+    sweeps s r
+
+-- 17: a rail of input i is above 1, or both are 1
+unfoldable pub illegal : List ℕ → ℕ → Bool
+illegal row i =
+    let rail0 = getD row (2 * i) 0 in
+    let rail1 = getD row (2 * i + 1) 0 in
+    ltb 1 rail0 || ltb 1 rail1 || eqb rail0 1 && eqb rail1 1
+
+abbrev pub IllegalAt : List ℕ → ℕ → Type 0
+IllegalAt row i = (1 < getD row (2 * i) 0) ⊎ (1 < getD row (2 * i + 1) 0) ⊎ (getD row (2 * i) 0 ≡ 1) × (getD row (2 * i + 1) 0 ≡ 1)
+
+-- the checks of a stage and a row that is lent, in their order
+unfoldable pub rowChecks : Stage → List ℕ → List Check
+rowChecks s row =
+    looped s ∷
+    check 16 3 (0 ∷ []) (length row ∷ []) (λ w i. not (eqb (length row) (2 * s .inputs + length (s .gates))))
+    (λ w i. ¬ (length row ≡ 2 * s .inputs + length (s .gates))) unsaid ∷
+    check 17 3 (0 ∷ []) (numbers 0 (s .inputs)) (λ w. illegal row) (λ w. IllegalAt row) unsaid ∷
     []

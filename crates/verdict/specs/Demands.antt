@@ -1,25 +1,39 @@
--- Demands 2 and 3 of the customer, as statements about two files.
-use Prim.Native.Nat.{ℕ, _+_, _*_, _^_, _<_}
+-- Demands 2 and 3 of the customer, as statements about two files, and what is said of the settled-row call.
+use Prim.Native.Nat.{ℕ, _+_, _*_, _≤_}
 use mathlib.Core.Path.{_≡_}
-use mathlib.Core.Bool.{Bool, true}
-use mathlib.Core.List.{List, _++_}
-use mathlib.Core.Logic.{_↔_}
-use lib.ListN.{length, take}
+use mathlib.Core.List.{List, [], _∷_, _++_}
+use mathlib.Core.Logic.{_⊎_, _↔_}
+use lib.ListN.{length, getD, take}
 use Rattle.runs.specs.Row.{Row, low, after}
-use Rattle.runs.specs.Net.{railsOfInputs, RiseList, RiseEnd, riseStep}
-use Rattle.runs.specs.Settled.{SettledKept}
-use Rattle.runs.specs.Complete.{SomeNotNull}
+use Rattle.runs.specs.Net.{RiseList, RiseEnd, riseStep}
+use Rattle.runs.specs.Settled.{Settled}
+use Rattle.runs.specs.Complete.{Conforms}
 use Rattle.runs.specs.Promise.{Goes-on, Promise}
-use Rattle.runs.specs.Witness.{Wrong, Incomplete, Unobservable}
+use Rattle.netlist.specs.declared.File.{File}
+use Rattle.netlist.specs.declared.File.the-variants as file
 use Rattle.netlist.specs.declared.Limits.{Limits}
-use Rattle.netlist.specs.Content.{Stage, Reference}
+use Rattle.netlist.specs.Reading.{Places, refused, readable, readFile}
+use Rattle.netlist.specs.Content.{Stage, Reference, stageOf, referenceOf}
 use Rattle.verdict.specs.declared.Verdict.{Verdict}
-use Rattle.verdict.specs.Rows.{high, only, withNull, Settled, settled, settledHolding, pairIn, null}
-use Rattle.verdict.specs.Checks.{verdict, outputPair, railsIn}
-use Rattle.verdict.specs.Faults.{RightAt, CountsMatch, WithoutLoop, StageIs, ReferenceIs, Because, RowBecause}
-use Rattle.verdict.specs.Nets.{netOf, rowOf, railsFor, answerBits}
+use Rattle.verdict.specs.Loops.{In, NoLoop}
+use Rattle.verdict.specs.Words.{IsWord}
+use Rattle.verdict.specs.Nets.{netOf, rowOf, railsFor, answerBits, restRow}
+use Rattle.verdict.specs.Checks.{verdict, Check, checks, rowChecks}
+use Rattle.verdict.specs.Verdicts.{accepted}
 
 -- ---- the two files
+
+-- a file reads, and x is what is seen through the places of its commands
+pub record Holds {X : Type 0} (f : File) (view : List ℕ → Places → X) (most : Limits) (bytes : List ℕ) (x : X) : Type 0 where
+  pub places : Places
+  pub reads : readFile f most bytes ≡ readable places
+  pub content : view bytes places ≡ x
+
+abbrev pub StageIs : Limits → List ℕ → Stage → Type 0
+StageIs = Holds file.Stage stageOf
+
+abbrev pub ReferenceIs : Limits → List ℕ → Reference → Type 0
+ReferenceIs = Holds file.Reference referenceOf
 
 -- both files read, and hold this stage and this reference
 pub record Contents (stageMost referenceMost : Limits) (stage reference : List ℕ) : Type 0 where
@@ -28,104 +42,118 @@ pub record Contents (stageMost referenceMost : Limits) (stage reference : List �
   pub circuit-is : StageIs stageMost stage circuit
   pub function-is : ReferenceIs referenceMost reference function
 
+-- ---- why a list of checks gives its verdict
+
+-- x is the first of a list that is P
+pub record FirstOf (P : ℕ → Type 0) (l : List ℕ) (x : ℕ) : Type 0 where
+  pub before : List ℕ
+  pub later : List ℕ
+  pub stands : l ≡ before ++ (x ∷ later)
+  pub holds : P x
+  pub none : (y : ℕ) → In y before → ¬ (P y)
+
+-- in word w the condition holds at some place
+abbrev pub FailsIn : Check → ℕ → Type 0
+FailsIn c w = (i : ℕ) × In i (c .places) × c .Condition w i
+
+-- the condition holds in no word, at no place
+abbrev pub Nowhere : Check → Type 0
+Nowhere c = (w : ℕ) → In w (c .words) → ¬ (FailsIn c w)
+
+-- a check is named at its least case: the first word in which the condition holds, and the first place there
+pub record NamedBy (c : Check) (v : Verdict) : Type 0 where
+  pub is : v ≡ verdict (c .number) (c .file) (v .at) (v .word)
+  pub word : FirstOf (FailsIn c) (c .words) (v .word)
+  pub place : FirstOf (c .Condition (v .word)) (c .places) (v .at)
+
+-- a check of a list is named, and the conditions of those before it hold nowhere
+abbrev pub Named : List Check → Verdict → Type 0
+Named [] v = ⊥
+Named (c ∷ later) v = NamedBy c v ⊎ (Nowhere c × Named later v)
+
+abbrev pub EachOf : (Check → Type 0) → List Check → Type 0
+EachOf P [] = Unit {0}
+EachOf P (c ∷ later) = P c × EachOf P later
+
+-- the earliest failing check is named, or none fails
+abbrev pub Judged : List Check → Verdict → Type 0
+Judged checks v = Named checks v ⊎ (EachOf Nowhere checks × (v ≡ accepted))
+
+pub data Because (stageMost referenceMost : Limits) (stage reference : List ℕ) : Verdict → Type 0 where
+  stage-refused : {number at : ℕ} → readFile file.Stage stageMost stage ≡ refused number at
+      → Because stageMost referenceMost stage reference (verdict number 1 at 0)
+  reference-refused : {number at : ℕ} {s : Stage} → StageIs stageMost stage s → readFile file.Reference referenceMost reference ≡ refused number at
+      → Because stageMost referenceMost stage reference (verdict number 2 at 0)
+  both-read : {v : Verdict} (c : Contents stageMost referenceMost stage reference) → Judged (checks (c .circuit) (c .function)) v
+      → Because stageMost referenceMost stage reference v
+
 -- ---- demand 2
 
--- some output is NULL in a row
-abbrev pub SomeNull : Stage → List ℕ → Type 0
-SomeNull s row = (j : ℕ) × (j < length (s .outputs)) × (pairIn row (outputPair s j) ≡ null)
+-- "a readable, loop-free stage whose counts match"
+pub record Comparable (s : Stage) (r : Reference) : Type 0 where
+  pub inputs : s .inputs ≡ r .inputs
+  pub outputs : length (s .outputs) ≡ length (r .outputs)
+  pub loop-free : NoLoop (s .inputs) (s .gates)
 
--- from the settled row of word w, with the nets of a set kept and the others settled by the fall rule (a stage without loops has exactly
--- one such row), some output is not NULL
-pub record NotNullKeeping (s : Stage) (w : ℕ) (kept : Row) : Type 0 where
-  pub row : Row
-  pub settled-so : SettledKept (netOf s) kept (rowOf (settled (s .gates) (railsIn s w))) row
-  pub not-null : SomeNotNull (netOf s) row
-
--- What demand 2 asks of word w: "its settled outputs spell the reference's answer and it is input-complete and observable as NCL
--- defines these". The second half of each definition speaks of the way back to NULL: from the settled row, with some inputs still
--- DATA, or with one high gate kept high, and the others fallen.
-pub record AcceptableIn (s : Stage) (r : Reference) (w : ℕ) : Type 0 where
-  pub right : (j : ℕ) → j < length (s .outputs) → RightAt s r w j
-  -- with any non-empty set of inputs missing, some settled output is NULL
-  pub complete : (missing : ℕ → Bool) (i : ℕ) → i < s .inputs → missing i ≡ true → SomeNull s (settled (s .gates) (withNull missing (railsIn s w)))
-  -- with any non-empty set of inputs still DATA, the others fallen and the gates settled by the fall rule, some output is not NULL
-  pub complete-falling : (still : ℕ → Bool) (i : ℕ) → i < s .inputs → still i ≡ true → NotNullKeeping s w (railsOfInputs (netOf s) still)
-  -- with a gate held low that is high in w, some settled output is NULL
-  pub observable : (g : ℕ) → g < length (s .gates) → high (settled (s .gates) (railsIn s w)) (2 * s .inputs + g) ≡ true
-      → SomeNull s (settledHolding g (s .gates) (railsIn s w))
-  -- with a gate kept high that is high in w, all inputs fallen and the other gates settled by the fall rule, some output is not NULL
-  pub observable-falling : (g : ℕ) → g < length (s .gates) → high (settled (s .gates) (railsIn s w)) (2 * s .inputs + g) ≡ true → NotNullKeeping s w (only (2 * s .inputs + g))
-
+-- "for every input word, its settled outputs spell the reference's answer and it is input-complete and observable as NCL defines these"
 abbrev pub Acceptable : Stage → Reference → Type 0
-Acceptable s r = (w : ℕ) → w < 2 ^ s .inputs → AcceptableIn s r w
+Acceptable s r = (w : ℕ) → IsWord s w → Conforms (netOf s) (railsFor s w) (answerBits r w)
 
--- What demand 2 says of a verdict on two files. "A readable, loop-free stage whose counts match is accepted exactly if" it is acceptable;
--- "otherwise the verdict names the earliest failing check and its least case".
+-- What demand 2 says of a verdict on two files: a comparable stage "is accepted exactly if" it is acceptable; "otherwise the verdict names
+-- the earliest failing check and its least case".
 pub record Demand2 (stageMost referenceMost : Limits) (stage reference : List ℕ) (v : Verdict) : Type 0 where
-  pub exactly : (s : Stage) (r : Reference) → StageIs stageMost stage s → ReferenceIs referenceMost reference r → CountsMatch s r → WithoutLoop s → (v ≡ verdict 0 0 0 0) ↔ Acceptable s r
+  pub exactly : (c : Contents stageMost referenceMost stage reference) → Comparable (c .circuit) (c .function)
+      → (v ≡ accepted) ↔ Acceptable (c .circuit) (c .function)
   pub least : Because stageMost referenceMost stage reference v
 
 -- ---- demand 3
 
--- the promise about every list of switchings of word w; and the paper's "rest": all ends of its rises are the settled row of w's rails
-pub record KeptIn (s : Stage) (r : Reference) (w : ℕ) : Type 0 where
-  pub promise : Promise (netOf s) (railsFor s w) (answerBits r w)
-  pub rest : (l : List ℕ) → RiseList (netOf s) (railsFor s w) l → RiseEnd (netOf s) (railsFor s w) l → after low l ≡ rowOf (settled (s .gates) (railsIn s w))
+-- every list of a rise of some rails goes on to an end, and every end is this row
+pub record RisesTo (s : Stage) (rails : Row) (end : Row) : Type 0 where
+  pub goes-on : (l : List ℕ) → RiseList (netOf s) rails l → Goes-on (riseStep (netOf s) rails) low l
+  pub end-is : (l : List ℕ) → RiseList (netOf s) rails l → RiseEnd (netOf s) rails l → after low l ≡ end
 
--- accepted: both files read, and the promise is kept in every word
+-- accepted: both files read, and for every word the promise is kept; all ends of its rises are the paper's "rest"
 pub record Kept (stageMost referenceMost : Limits) (stage reference : List ℕ) : Type 0 where
   pub contents : Contents stageMost referenceMost stage reference
-  pub kept : (w : ℕ) → w < 2 ^ contents .circuit .inputs → KeptIn (contents .circuit) (contents .function) w
+  pub promise : (w : ℕ) → IsWord (contents .circuit) w
+      → Promise (netOf (contents .circuit)) (railsFor (contents .circuit) w) (answerBits (contents .function) w)
+  pub rest : (w : ℕ) → IsWord (contents .circuit) w → RisesTo (contents .circuit) (railsFor (contents .circuit) w) (restRow (contents .circuit) w)
 
--- refused in word w, at an index below the count of outputs, inputs or gates: a run shows it, and the promise is broken
-pub record Broken (stageMost referenceMost : Limits) (stage reference : List ℕ) (count : Stage → ℕ) (Run : Stage → Reference → ℕ → ℕ → Type 0) (w at : ℕ) : Type 0 where
-  pub contents : Contents stageMost referenceMost stage reference
-  pub word-in : w < 2 ^ contents .circuit .inputs
-  pub at-in : at < count (contents .circuit)
-  pub run : Run (contents .circuit) (contents .function) w at
-  pub broken : ¬ (Promise (netOf (contents .circuit)) (railsFor (contents .circuit) w) (answerBits (contents .function) w))
+-- the check of the verdict's number, in a word and at a place of its own, shows what it says
+pub record Shown (c : Check) (v : Verdict) : Type 0 where
+  pub number-is : v .number ≡ c .number
+  pub word-in : In (v .word) (c .words)
+  pub place-in : In (v .at) (c .places)
+  pub shows : c .Shows (v .word) (v .at)
 
--- 13: every list of the word goes on to an end, and every end has output j not the reference's DATA
-pub record WrongRuns (s : Stage) (r : Reference) (w j : ℕ) : Type 0 where
-  pub goes-on : (l : List ℕ) → RiseList (netOf s) (railsFor s w) l → Goes-on (riseStep (netOf s) (railsFor s w)) low l
-  pub wrong : Wrong (netOf s) (railsFor s w) (answerBits r w) j
+abbrev pub ShownBy : List Check → Verdict → Type 0
+ShownBy [] v = ⊥
+ShownBy (c ∷ later) v = Shown c v ⊎ ShownBy later v
 
--- 14: some list leaves all outputs DATA and input i NULL
-abbrev pub IncompleteRun : Stage → Reference → ℕ → ℕ → Type 0
-IncompleteRun s r w i = Incomplete (netOf s) (railsFor s w) i
-
--- 15: some list leaves all outputs DATA and gate g low with its set expression true
-abbrev pub UnobservableRun : Stage → Reference → ℕ → ℕ → Type 0
-UnobservableRun s r w g = Unobservable (netOf s) (railsFor s w) (2 * s .inputs + g)
-
--- What demand 3 says of a verdict on two files, by its number.
+-- What demand 3 says of a verdict on two files, by its number: of an accepted stage; and of one that is "refused as wrong, incomplete or
+-- unobservable", 13, 14 and 15.
 pub record Demand3 (stageMost referenceMost : Limits) (stage reference : List ℕ) (v : Verdict) : Type 0 where
-  pub accepted : v .number ≡ 0 → (v ≡ verdict 0 0 0 0) × Kept stageMost referenceMost stage reference
-  pub wrong : v .number ≡ 13 → Broken stageMost referenceMost stage reference (λ s. length (s .outputs)) WrongRuns (v .word) (v .at)
-  pub incomplete : v .number ≡ 14 → Broken stageMost referenceMost stage reference (λ s. s .inputs) IncompleteRun (v .word) (v .at)
-  pub unobservable : v .number ≡ 15 → Broken stageMost referenceMost stage reference (λ s. length (s .gates)) UnobservableRun (v .word) (v .at)
+  pub kept : v .number ≡ 0 → (v ≡ accepted) × Kept stageMost referenceMost stage reference
+  pub broken : In (v .number) (13 ∷ 14 ∷ 15 ∷ [])
+      → (c : Contents stageMost referenceMost stage reference) × ShownBy (checks (c .circuit) (c .function)) v
 
--- ---- "A settled row is what the gate rule gives"
+-- ---- the settled-row call
 
--- every list of a rise of some rails goes on to an end, and every end is the settled row
-pub record GateRuleGives (s : Stage) (rails : List ℕ) (row : List ℕ) : Type 0 where
-  pub goes-on : (l : List ℕ) → RiseList (netOf s) (rowOf rails) l → Goes-on (riseStep (netOf s) (rowOf rails)) low l
-  pub end-is : (l : List ℕ) → RiseList (netOf s) (rowOf rails) l → RiseEnd (netOf s) (rowOf rails) l → after low l ≡ rowOf row
+-- "a settled row is what the gate rule gives": the input bytes keep their values, the gates' bytes are 1 for high and 0 for low, the row is
+-- settled for its rails, no other is, and every rise of these rails ends in it
+pub record RowGiven (s : Stage) (before after′ : List ℕ) : Type 0 where
+  pub long : length after′ ≡ 2 * s .inputs + length (s .gates)
+  pub inputs-kept : take (2 * s .inputs) after′ ≡ take (2 * s .inputs) before
+  pub levels : (g : ℕ) → getD after′ (2 * s .inputs + g) 0 ≤ 1
+  pub settled : Settled (netOf s) (rowOf (take (2 * s .inputs) before)) (rowOf after′)
+  pub only-so : (R : Row) → Settled (netOf s) (rowOf (take (2 * s .inputs) before)) R → R ≡ rowOf after′
+  pub given : RisesTo s (rowOf (take (2 * s .inputs) before)) (rowOf after′)
 
--- what the settled-row call leaves of a row that it accepts: the file reads, the row has a byte for each net, the input bytes keep their
--- values, the gates' bytes are settled for them and nothing else is, and the row is what the gate rule gives for these rails
-pub record RowGiven (most : Limits) (stage before after′ : List ℕ) : Type 0 where
-  pub circuit : Stage
-  pub circuit-is : StageIs most stage circuit
-  pub long : length before ≡ 2 * circuit .inputs + length (circuit .gates)
-  pub levels : List ℕ
-  pub row-is : after′ ≡ take (2 * circuit .inputs) before ++ levels
-  pub settled-so : Settled (circuit .gates) (take (2 * circuit .inputs) before) levels
-  pub only-so : (v : List ℕ) → Settled (circuit .gates) (take (2 * circuit .inputs) before) v → v ≡ levels
-  pub given : GateRuleGives circuit (take (2 * circuit .inputs) before) after′
-
--- What demands 1 and 2 say of the settled-row call, by its verdict and the row before and after it: a refusal has its reason and leaves
--- the row unchanged, and a row that is accepted is what the gate rule gives.
-pub record DemandRow (most : Limits) (stage before : List ℕ) (v : Verdict) (after′ : List ℕ) : Type 0 where
-  pub because : RowBecause most stage before v after′
-  pub given : v ≡ verdict 0 0 0 0 → RowGiven most stage before after′
+-- What demands 1 and 2 say of the settled-row call, by its verdict and the row before and after it: the stage is refused in reading, or the
+-- checks of the row give the verdict; "a lent row is then unchanged", or it is what the gate rule gives.
+pub data DemandRow (most : Limits) (stage before : List ℕ) : Verdict → List ℕ → Type 0 where
+  stage-refused : {number at : ℕ} → readFile file.Stage most stage ≡ refused number at → DemandRow most stage before (verdict number 1 at 0) before
+  row-refused : {s : Stage} {v : Verdict} → StageIs most stage s → Named (rowChecks s before) v → DemandRow most stage before v before
+  row-settled : {s : Stage} {after′ : List ℕ} → StageIs most stage s → EachOf Nowhere (rowChecks s before) → RowGiven s before after′
+      → DemandRow most stage before accepted after′

@@ -1,6 +1,10 @@
--- Lists of levels: which are 0 and 1, which lie below which, and how many are high.
+-- Lists of levels: which are 0 and 1, which lie below which, how many are high, and which are settled for given rails.
 use Prim.Native.Nat.{ℕ, zero, suc, _+_, _≤_}
-use mathlib.Core.List.{List, [], _∷_}
+use mathlib.Core.Path.{_≡_}
+use mathlib.Core.List.{List, [], _∷_, _++_, map}
+use lib.ListN.{set}
+use Rattle.netlist.specs.Content.{Gate}
+use Rattle.verdict.specs.Rows.{isSet}
 
 -- n values, each 0 or 1
 abbrev pub Bits : ℕ → List ℕ → Type 0
@@ -20,3 +24,11 @@ Below (x ∷ xs) (y ∷ ys) = (x ≤ y) × Below xs ys
 abbrev pub sum : List ℕ → ℕ
 sum [] = 0
 sum (x ∷ xs) = x + sum xs
+
+-- each gate's level is 1 exactly if its set expression holds in the row, which is the rails and then the levels
+abbrev pub LevelsSettled : List Gate → List ℕ → List ℕ → Type 0
+LevelsSettled gates rails levels = map (isSet (rails ++ levels)) gates ≡ levels
+
+-- the same, except that gate h is low
+abbrev pub LevelsHeld : ℕ → List Gate → List ℕ → List ℕ → Type 0
+LevelsHeld h gates rails levels = set (map (isSet (rails ++ levels)) gates) h 0 ≡ levels

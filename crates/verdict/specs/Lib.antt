@@ -1,9 +1,11 @@
-pub mod Levels
 pub mod Rows
+pub mod Levels
+pub mod Graph
 pub mod Loops
+pub mod Words
 pub mod Answers
-pub mod Checks
-pub mod Verdicts
-pub mod Faults
 pub mod Nets
+pub mod Checks
+pub mod Search
+pub mod Verdicts
 pub mod Demands

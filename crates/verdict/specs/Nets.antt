@@ -6,12 +6,12 @@ use lib.ListN.{length, getD}
 use lib.Dec.{eqb}
 use Rattle.gates.specs.Expression.{holds}
 use Rattle.gates.specs.Cell.{setExpression}
-use Rattle.runs.specs.Row.{Row}
+use Rattle.runs.specs.Row.{Row, only}
 use Rattle.runs.specs.Net.{Net}
 use Rattle.netlist.specs.Content.{Gate, Pair, Stage, Reference}
-use Rattle.verdict.specs.Rows.{high, bitsOf}
+use Rattle.verdict.specs.Rows.{high, settled, settledHolding, withNull}
+use Rattle.verdict.specs.Words.{bitsOf, railsIn}
 use Rattle.verdict.specs.Answers.{answer}
-use Rattle.verdict.specs.Checks.{outputPair, railsIn}
 
 abbrev pub noGate : Gate
 noGate = record { cell = 0; hold = true; pins = [] }
@@ -23,6 +23,13 @@ driver s net = getD (s .gates) (net - 2 * s .inputs) noGate
 -- whether a gate's set expression holds in a row; a pin that its kind lacks counts as low
 abbrev pub setIn : Row → Gate → Bool
 setIn row g = holds (setExpression (g .cell)) (λ i. getD (map row (g .pins)) i false)
+
+abbrev pub noPair : Pair
+noPair = record { rail0 = 0; rail1 = 0 }
+
+-- output j of a stage
+abbrev pub outputPair : Stage → ℕ → Pair
+outputPair s j = getD (s .outputs) j noPair
 
 abbrev pub railOf : Pair → Bool → ℕ
 railOf p false = p .rail0
@@ -49,3 +56,17 @@ railsFor s w = rowOf (railsIn s w)
 
 abbrev pub answerBits : Reference → ℕ → ℕ → Bool
 answerBits r w j = eqb (getD (answer r (bitsOf (r .inputs) w)) j 0) 1
+
+-- ---- the settled rows of word w that the checks look at
+
+-- with w given: the paper's "rest"
+abbrev pub restRow : Stage → ℕ → Row
+restRow s w = rowOf (settled (s .gates) (railsIn s w))
+
+-- with w given and input i NULL
+abbrev pub missingRow : Stage → ℕ → ℕ → Row
+missingRow s w i = rowOf (settled (s .gates) (withNull (only i) (railsIn s w)))
+
+-- with w given and gate g held low
+abbrev pub heldRow : Stage → ℕ → ℕ → Row
+heldRow s w g = rowOf (settledHolding g (s .gates) (railsIn s w))

@@ -1,7 +1,6 @@
--- The nets of a stage as a row of levels, 1 for high and 0 for low: input words, settled rows, and what an output pair holds.
-use Prim.Native.Nat.{ℕ, zero, suc, _+_, _*_, _-_, _/_, _%_}
+-- The nets of a stage as a row of levels, 1 for high and 0 for low: settled rows, and what an output pair holds.
+use Prim.Native.Nat.{ℕ, zero, suc}
 use mathlib.Core.Bool.{Bool, true, false, cond}
-use mathlib.Core.Path.{_≡_}
 use mathlib.Core.List.{List, [], _∷_, _++_, map}
 use lib.ListN.{length, getD, set, replicate}
 use lib.Dec.{eqb, ltb}
@@ -12,22 +11,6 @@ use Rattle.netlist.specs.Content.{Gate, Pair}
 -- a net is high in a row: its level is not 0; what is past the row's end is low
 abbrev pub high : List ℕ → ℕ → Bool
 high row net = ltb 0 (getD row net 0)
-
--- ---- input words
-
--- bit i of word w is input i: the bits of n inputs
-unfoldable pub bitsOf : ℕ → ℕ → List ℕ
-bitsOf zero w = []
-bitsOf (suc n) w = w % 2 ∷ bitsOf n (w / 2)
-
--- the input rails that spell some bits: rail 0 is high for 0, rail 1 for 1
-unfoldable pub railsOf : List ℕ → List ℕ
-railsOf [] = []
-railsOf (b ∷ bits) = (1 - b) ∷ b ∷ railsOf bits
-
--- the set of the one index i
-abbrev pub only : ℕ → ℕ → Bool
-only i k = eqb k i
 
 -- some rails with the inputs of a set NULL, which is both of their rails low
 unfoldable pub withNull : (ℕ → Bool) → List ℕ → List ℕ
@@ -47,24 +30,17 @@ pinHigh row g i = getD (map (high row) (g .pins)) i false
 unfoldable pub isSet : List ℕ → Gate → ℕ
 isSet row g = bit (holds (setExpression (g .cell)) (pinHigh row g))
 
--- Settled for given rails: each gate is high exactly if its set expression holds. The row is the rails, then the gates' levels.
-abbrev pub Settled : List Gate → List ℕ → List ℕ → Type 0
-Settled gates rails levels = map (isSet (rails ++ levels)) gates ≡ levels
-
--- Settled with gate h held low: the same, except that gate h is low.
-abbrev pub SettledHolding : ℕ → List Gate → List ℕ → List ℕ → Type 0
-SettledHolding h gates rails levels = set (map (isSet (rails ++ levels)) gates) h 0 ≡ levels
-
 -- n levels that start low, after k rounds of a step
 unfoldable pub rounds : (List ℕ → List ℕ) → ℕ → ℕ → List ℕ
 rounds step n zero = replicate n 0
 rounds step n (suc k) = step (rounds step n k)
 
--- The settled levels, computed: as many rounds as there are gates, each of which sets every gate by the levels before it. That a
--- stage without loops has these settled levels and no others is a theorem.
+-- "Settled for given rails: each gate is high exactly if its set expression holds", computed: as many rounds as there are gates, each of
+-- which sets every gate by the levels before it. That a stage without loops has this settled row and no other is a theorem.
 unfoldable pub settledLevels : List Gate → List ℕ → List ℕ
 settledLevels gates rails = rounds (λ levels. map (isSet (rails ++ levels)) gates) (length gates) (length gates)
 
+-- "Settled with g held low: the same, except that gate g is low"
 unfoldable pub levelsHolding : ℕ → List Gate → List ℕ → List ℕ
 levelsHolding h gates rails = rounds (λ levels. set (map (isSet (rails ++ levels)) gates) h 0) (length gates) (length gates)
 

@@ -1,8 +1,5 @@
 pub mod Spelling
-pub mod Operating
-pub mod Evaluating
-pub mod Pairs
 pub mod Nulling
-pub mod AllData
-pub mod OneWord
-pub mod Inverting
+pub mod Holding
+pub mod Wrong
+pub mod Found

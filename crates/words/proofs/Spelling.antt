@@ -5,9 +5,21 @@ use native.Mathlib.Omega.{arith}
 use native.Mathlib.Numerals.{add-one}
 use mathlib.Core.Path.{_≡_, refl, sym, ap, ap₂, _∙_}
 use mathlib.Core.List.{List, [], _∷_, _++_, append-nil, append-assoc}
-use lib.ListN.{length, getD, take, drop, set, length-set}
-use lib.Seq.{take-suc-set, drop-cons, take-length, drop-length}
-use Rattle.verdict.specs.Rows.{bitsOf, railsOf}
+use lib.ListN.{length, take, set, length-set}
+use lib.Seq.{take-suc-set, take-length}
+use Rattle.netlist.specs.declared.Counts.{Counts}
+use Rattle.verdict.specs.Words.{bitsOf, railsOf}
+use Rattle.circuit.specs.Rows.{RowFor, railPart}
+use Rattle.circuit.proofs.Settling.{row-set}
+
+-- ---- bits
+
+-- the bits of a word do not depend on how many are asked for
+pub bits-prefix : (n m w : ℕ) → n ≤ m → take n (bitsOf m w) ≡ bitsOf n w
+unfolding bitsOf
+bits-prefix zero m w h = refl
+bits-prefix (suc n) zero w h = absurd (omega arith)
+bits-prefix (suc n) (suc m) w h = ap (λ (l : List ℕ). w % 2 ∷ l) (bits-prefix n m (w / 2) (omega arith))
 
 -- the first i bits are written, and those of `rest` are to come
 pub record BitsTo (w long : ℕ) (bits : List ℕ) (rest i : ℕ) : Type 0 where
@@ -18,65 +30,71 @@ pub record BitsTo (w long : ℕ) (bits : List ℕ) (rest i : ℕ) : Type 0 where
 pub bits-start : (w : ℕ) (bits : List ℕ) → BitsTo w (length bits) bits w 0
 bits-start w bits = record { within = omega arith; same-long = refl; all = ap (λ (n : ℕ). bitsOf n w) (omega arith) }
 
-pub bits-step : (w long : ℕ) (bits : List ℕ) (rest i : ℕ) → BitsTo w long bits rest i → i < long → BitsTo w long (set bits i (rest % 2)) (rest / 2) (i + 1)
-unfolding bitsOf
-bits-step w long bits rest i b h =
-    let e : long - i ≡ suc (long - (i + 1)) = omega arith in
-    record {
-      within = omega arith;
-      same-long = length-set bits i (rest % 2) ∙ b .same-long;
-      all =
-          ap (λ (l : List ℕ). l ++ bitsOf (long - (i + 1)) (rest / 2)) (ap (λ (n : ℕ). take n (set bits i (rest % 2))) (add-one i) ∙ take-suc-set bits i (rest % 2) (omega (arith, b .same-long)))
-          ∙ snoc (take i bits) (rest % 2) (bitsOf (long - (i + 1)) (rest / 2))
-          ∙ sym (ap (λ (n : ℕ). take i bits ++ bitsOf n rest) e)
-          ∙ b .all;
-    }
-  where
-    snoc : (xs : List ℕ) (x : ℕ) (ys : List ℕ) → (xs ++ (x ∷ [])) ++ ys ≡ xs ++ (x ∷ ys)
-    snoc xs x ys = append-assoc xs (x ∷ []) ys
+module _ (w long : ℕ) (bits : List ℕ) (rest i : ℕ) (b : BitsTo w long bits rest i) where
+  pub bits-turn : i < long → BitsTo w long (set bits i (rest % 2)) (rest / 2) (i + 1)
+  unfolding bitsOf
+  bits-turn h =
+      let e : long - i ≡ suc (long - (i + 1)) = omega arith in
+      record {
+        within = omega arith;
+        same-long = length-set bits i (rest % 2) ∙ b .same-long;
+        all =
+            ap (λ (l : List ℕ). l ++ bitsOf (long - (i + 1)) (rest / 2))
+            (ap (λ (n : ℕ). take n (set bits i (rest % 2))) (add-one i) ∙ take-suc-set bits i (rest % 2) (omega (arith, b .same-long)))
+            ∙ append-assoc (take i bits) (rest % 2 ∷ []) (bitsOf (long - (i + 1)) (rest / 2))
+            ∙ sym (ap (λ (n : ℕ). take i bits ++ bitsOf n rest) e)
+            ∙ b .all;
+      }
 
-pub bits-done : (w long : ℕ) (bits : List ℕ) (rest i : ℕ) → BitsTo w long bits rest i → long ≤ i → bits ≡ bitsOf long w
-unfolding bitsOf
-bits-done w long bits rest i b h =
-    let e : i ≡ length bits = omega (arith, b .within, b .same-long) in
-    let z : long - i ≡ 0 = omega arith in
-    sym (append-nil bits) ∙ sym (ap₂ (λ (n m : ℕ). take n bits ++ bitsOf m rest) e z ∙ ap (λ (l : List ℕ). l ++ []) (take-length bits)) ∙ b .all
+  pub bits-done : long ≤ i → bits ≡ bitsOf long w
+  unfolding bitsOf
+  bits-done h =
+      let e : i ≡ length bits = omega (arith, b .within, b .same-long) in
+      let z : long - i ≡ 0 = omega arith in
+      sym (append-nil bits) ∙ sym (ap₂ (λ (n m : ℕ). take n bits ++ bitsOf m rest) e z ∙ ap (λ (l : List ℕ). l ++ []) (take-length bits)) ∙ b .all
 
--- the rails of the first i bits are written, and those of the others are to come
-pub record RailsTo (bits rails : List ℕ) (i : ℕ) : Type 0 where
-  pub within : i ≤ length bits
-  pub same-long : length rails ≡ 2 * length bits
-  pub all : take (2 * i) rails ++ railsOf (drop i bits) ≡ railsOf bits
+-- ---- rails
 
-pub rails-start : (bits rails : List ℕ) → length rails ≡ 2 * length bits → RailsTo bits rails 0
-rails-start bits rails h = record { within = omega arith; same-long = h; all = refl }
+-- the rails of the first i inputs are written, and those of `rest` are to come
+pub record SpeltTo (c : Counts) (w : ℕ) (start row : List ℕ) (rest i : ℕ) : Type 0 where
+  pub row-for : RowFor c row
+  pub same-long : length row ≡ length start
+  pub within : i ≤ c .inputs
+  pub all : take (2 * i) row ++ railsOf (bitsOf (c .inputs - i) rest) ≡ railsOf (bitsOf (c .inputs) w)
 
-pub rails-step : (bits rails : List ℕ) (i : ℕ) → RailsTo bits rails i → i < length bits → RailsTo bits (set (set rails (2 * i) (1 - getD bits i 0)) (2 * i + 1) (getD bits i 0)) (i + 1)
-unfolding railsOf
-rails-step bits rails i r h =
-    let b = getD bits i 0 in
-    let one = set rails (2 * i) (1 - b) in
-    let two = set one (2 * i + 1) b in
-    let l : length one ≡ 2 * length bits = length-set rails (2 * i) (1 - b) ∙ r .same-long in
+pub spelt-start : (c : Counts) (w : ℕ) (row : List ℕ) → RowFor c row → SpeltTo c w row row w 0
+spelt-start c w row r = record { row-for = r; same-long = refl; within = omega arith; all = ap (λ (n : ℕ). railsOf (bitsOf n w)) (omega arith) }
+
+take-two : (row : List ℕ) (i x y : ℕ) → 2 * i + 1 < length row →
+    take (2 * (i + 1)) (set (set row (2 * i) x) (2 * i + 1) y) ≡ take (2 * i) row ++ (x ∷ y ∷ [])
+take-two row i x y h =
     let e : 2 * (i + 1) ≡ suc (2 * i + 1) = omega arith in
-    record {
-      within = omega arith;
-      same-long = length-set one (2 * i + 1) b ∙ l;
-      all =
-          ap₂ (λ (n m : ℕ). take n two ++ railsOf (drop m bits)) e (add-one i)
-          ∙ ap (λ (x : List ℕ). x ++ railsOf (drop (suc i) bits)) (take-suc-set one (2 * i + 1) b (omega arith))
-          ∙ ap (λ (x : List ℕ). (x ++ (b ∷ [])) ++ railsOf (drop (suc i) bits)) (ap (λ (n : ℕ). take n one) (add-one (2 * i)) ∙ take-suc-set rails (2 * i) (1 - b) (omega (arith, r .same-long)))
-          ∙ append-assoc (take (2 * i) rails ++ ((1 - b) ∷ [])) (b ∷ []) (railsOf (drop (suc i) bits))
-          ∙ append-assoc (take (2 * i) rails) ((1 - b) ∷ []) (b ∷ railsOf (drop (suc i) bits))
-          ∙ sym (ap (λ (x : List ℕ). take (2 * i) rails ++ railsOf x) (drop-cons bits i 0 h))
-          ∙ r .all;
-    }
+    ap (λ (n : ℕ). take n (set (set row (2 * i) x) (2 * i + 1) y)) e
+    ∙ take-suc-set (set row (2 * i) x) (2 * i + 1) y (omega (arith, length-set row (2 * i) x))
+    ∙ ap (λ (l : List ℕ). l ++ (y ∷ [])) (ap (λ (n : ℕ). take n (set row (2 * i) x)) (add-one (2 * i)) ∙ take-suc-set row (2 * i) x (omega arith))
+    ∙ append-assoc (take (2 * i) row) (x ∷ []) (y ∷ [])
 
-pub rails-done : (bits rails : List ℕ) (i : ℕ) → RailsTo bits rails i → length bits ≤ i → rails ≡ railsOf bits
-unfolding railsOf
-rails-done bits rails i r h =
-    let e : 2 * i ≡ length rails = omega (arith, r .within, r .same-long) in
-    let f : i ≡ length bits = omega (arith, r .within) in
-    sym (append-nil rails)
-    ∙ sym (ap₂ (λ (n m : ℕ). take n rails ++ railsOf (drop m bits)) e f ∙ ap₂ (λ (x y : List ℕ). x ++ railsOf y) (take-length rails) (drop-length bits))
-    ∙ r .all
+module _ (c : Counts) (w : ℕ) (start row : List ℕ) (rest i : ℕ) (s : SpeltTo c w start row rest i) where
+  pub spelt-turn : i < c .inputs → SpeltTo c w start (set (set row (2 * i) (1 - rest % 2)) (2 * i + 1) (rest % 2)) (rest / 2) (i + 1)
+  unfolding bitsOf railsOf
+  spelt-turn h =
+      let b = rest % 2 in
+      let e : c .inputs - i ≡ suc (c .inputs - (i + 1)) = omega arith in
+      record {
+        row-for = row-set c (set row (2 * i) (1 - b)) (row-set c row (s .row-for) (2 * i) (1 - b) (omega arith) (omega arith)) (2 * i + 1) b
+            (omega arith) (omega arith);
+        same-long = simp length-set (s .same-long);
+        within = omega arith;
+        all =
+            ap (λ (l : List ℕ). l ++ railsOf (bitsOf (c .inputs - (i + 1)) (rest / 2))) (take-two row i (1 - b) b (omega (arith, s .row-for .long)))
+            ∙ append-assoc (take (2 * i) row) ((1 - b) ∷ b ∷ []) (railsOf (bitsOf (c .inputs - (i + 1)) (rest / 2)))
+            ∙ sym (ap (λ (n : ℕ). take (2 * i) row ++ railsOf (bitsOf n rest)) e)
+            ∙ s .all;
+      }
+
+  pub spelt-done : c .inputs ≤ i → railPart c row ≡ railsOf (bitsOf (c .inputs) w)
+  unfolding bitsOf railsOf
+  spelt-done h =
+      let e : i ≡ c .inputs = omega (arith, s .within) in
+      let z : c .inputs - i ≡ 0 = omega arith in
+      sym (append-nil (railPart c row)) ∙ sym (ap₂ (λ (n m : ℕ). take (2 * n) row ++ railsOf (bitsOf m rest)) e z) ∙ s .all

@@ -1,4 +1,2 @@
-pub mod Operations
-pub mod Outputs
-pub mod Words
-pub mod Positions
+pub mod Finds
+pub mod Loaded

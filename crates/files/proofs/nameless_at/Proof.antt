@@ -1,55 +1,31 @@
--- `files::nameless_at` meets its contract: the operands that have to name something are among the command's. Assumes nothing.
+-- `files::nameless_at` meets its contract: the operands that a command uses are among those that it has. Assumes nothing.
+use Prim.Native.Nat.{_+_}
 use native.Mathlib.Omega.{arith}
-use mathlib.Core.Path.{_∙_}
-use denote.Ref.{now}
 use borrow.Author.Needs.{needs}
-use Rattle.netlist.specs.Commands.{width}
-use Rattle.files.specs.Files.{namelessAt}
-use Rattle.files.proofs.Search.{nameable-fits, naming-in}
+use Rattle.netlist.specs.Bytes.{byte}
+use Rattle.netlist.specs.Reading.{namelessAt}
+use Rattle.files.proofs.Search.{nameable-fits, used-in}
 use Rattle.files.proofs.nameless_at.Statement.{statement}
 use Rattle.files.proofs.nameless_at.Tie as tie
 
-role-of-requires : tie.Need-role-of-requires
-role-of-requires c κs = search needs
-
-naming-requires : tie.Need-naming-requires
-naming-requires c κs = search needs
-
-operands-from-requires : tie.Need-operands-from-requires
-operands-from-requires c κs = search needs
-
-add-first-nameless : tie.Need-add-first-nameless
-unfolding width
-add-first-nameless c = omega (arith, c .operands-from .ensures, c .before .before .before .before .pre)
+nameable-requires : tie.Need-nameable-requires
+nameable-requires c κs = nameable-fits _ _ _ _ (c .before .pre .1 .0) (c .before .pre .1 .1)
 
 first-nameless-requires : tie.Need-first-nameless-requires
-unfolding width
-first-nameless-requires c κs = (
-  rw (c .before .before .role-of .ensures) (nameable-fits (c .before .before .before .before .args .file) (c .before .before .before .before .args .sort)
-      (c .before .before .before .before .args .k) (c .before .before .before .before .args .n) (c .before .before .before .before .args .g) (c .before .before .before .before .pre .1)
-      (c .before .before .before .before .pre .2)),
-  omega (
-    arith,
-    c .operands-from .ensures,
-    c .before .naming .ensures,
-    c .before .before .before .before .pre,
-    naming-in
-        (c .before .before .before .before .args .file) (now (c .before .before .before .before .args .s)) (c .before .before .before .before .args .at)
-        (c .before .before .before .before .args .sort),
-  ),
-)
+first-nameless-requires c κs =
+    let start = c .before .before .before .before in
+    omega (arith, c .before .used-operands .ensures, used-in _ _ (byte (start .args .s .now) (start .args .at + 1)) (start .pre .0 .0), start .pre .0 .1)
 
 returns : tie.Need-returns
 unfolding namelessAt
-returns c = c .first-nameless .ensures ∙ rw (c .before .before .before .role-of .ensures, c .before .operands-from .ensures, c .before .before .naming .ensures)
+returns c = rw (← c .before .before .before .nameable .ensures, ← c .before .before .used-operands .ensures) (c .first-nameless .ensures)
 
 pub nameless-at-spec : {M : Type 1} → statement M
 nameless-at-spec =
     tie.close
     (tie.spec
-    role-of-requires
-    naming-requires
-    operands-from-requires
-    add-first-nameless
+    nameable-requires
+    (λ c κs. search needs)
+    (λ c. search needs)
     first-nameless-requires
     returns)

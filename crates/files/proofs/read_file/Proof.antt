@@ -5,15 +5,15 @@ use native.Mathlib.Omega.{arith}
 use mathlib.Core.Path.{refl, sym, ap, _∙_}
 use lib.ListN.{length}
 use borrow.Author.Needs.{needs}
-use Rattle.netlist.specs.Reading.{outcomeOf}
-use Rattle.files.specs.Files.{IsRefusal, refusalOf}
+use Rattle.netlist.specs.Read.{outcomeOf}
 use Rattle.commands.proofs.Position.{next-past}
-use Rattle.files.proofs.WholeFile.{Walking, walk-starts, read-as, gates-length, outputs-length, walk-stops, walk-further, inputs-room, gate-room, output-room, walk-inputs, walk-gate, walk-output, walk-unknown, walk-ends, walk-complete, walk-placed, refused-placed}
+use Rattle.files.proofs.WholeFile.{counts, Walking, walk-starts, read-as, standing-counts, place-fits, sums-fit, walk-stops, walk-further, inputs-room, gate-room, output-room}
+use Rattle.files.proofs.WholeFile.{walk-inputs, walk-gate, walk-output, walk-unknown, walk-ends, walk-filled, walk-placed, refused-placed}
 use Rattle.files.proofs.read_file.Statement.{statement}
 use Rattle.files.proofs.read_file.Tie as tie
 
 abbrev Inv-loop : tie.InvT-loop
-Inv-loop file most s places₀ first-output at₀ inputs₀ gates₀ outputs₀ places at inputs gates outputs = Walking file most s (length places₀) places at inputs gates outputs
+Inv-loop file most s places₀ first-output at₀ inputs₀ gates₀ outputs₀ places at inputs gates outputs = Walking file most s (length places₀) places at (counts inputs gates outputs)
 
 abbrev μ-loop : tie.MeasureT-loop
 μ-loop file most s places₀ first-output at₀ inputs₀ gates₀ outputs₀ places at inputs gates outputs = length s - at
@@ -21,187 +21,150 @@ abbrev μ-loop : tie.MeasureT-loop
 loop-holds : tie.Need-loop-holds Inv-loop μ-loop
 loop-holds c = walk-starts _ _ _ _
 
-take-next-requires : tie.Need-take-next-requires Inv-loop μ-loop
-take-next-requires c κs = search needs
-
-enum-known-next : tie.Need-enum-known-next Inv-loop μ-loop
-enum-known-next c = search needs
-
-enum-told : tie.Need-enum-told Inv-loop μ-loop
-enum-told c = search needs
-
-refusal-requires : tie.Need-refusal-requires Inv-loop μ-loop
-unfolding IsRefusal
-refusal-requires c κs = rw (c .enum-told .given .1) tt
-
-same-length : tie.Need-same-length Inv-loop μ-loop
-same-length c = search needs
-
 returns : tie.Need-returns Inv-loop μ-loop
-unfolding refusalOf outcomeOf
+unfolding outcomeOf
 returns c =
-    let e = walk-stops (c .before .before .before .before .before .before .before .before .pre .2) (c .before .before .before .before .before .loop .inv)
-    (c .before .before .before .take-next .ensures) _ _ (c .before .enum-told .given .1) in (
-      c .refusal .ensures ∙ ap refusalOf (c .before .enum-told .given .1)
-          ∙ sym (ap outcomeOf e),
-      refused-placed _ _ _ _ _ e,
-    )
-
-enum-told-2 : tie.Need-enum-told-2 Inv-loop μ-loop
-enum-told-2 c = search needs
-
-add-inputs : tie.Need-add-inputs Inv-loop μ-loop
-add-inputs c = search needs
+    let loop = c .before .before .before .before .before in
+    let told = c .before .enum-told .given .1 in
+    let e = walk-stops (loop .before .before .before .pre) (loop .loop .inv) (c .before .before .before .take-next .ensures) _ _ told in
+    (c .refusal .ensures _ _ told ∙ sym (ap outcomeOf e), refused-placed _ _ _ _ _ e)
 
 shared-slice-read-inputs : tie.Need-shared-slice-read-inputs Inv-loop μ-loop
 shared-slice-read-inputs c =
-    omega (
-      arith,
-      inputs-room (c .before .before .before .before .before .before .before .before .before .before .before .pre .2) (c .before .before .before .before .before .before .before .before .loop .inv)
-          (c .before .before .before .before .before .before .take-next .ensures) (read-as (c .before .before .before .before .next .given .1) (c .before .enum-told2 .given .1)),
-    )
+    let next = c .before .before .before .before in
+    let loop = next .before .before .before .before in
+    let room = loop .before .before .before .pre in
+    let is = next .before .before .take-next .ensures in
+    let read = read-as (next .next .given .1) (c .before .enum-told2 .given .1) in
+    omega (arith, inputs-room room (loop .loop .inv) is read)
 
 cast-inputs : tie.Need-cast-inputs Inv-loop μ-loop
 cast-inputs c = omega (arith, c .shared-slice-known2 .given (c .before .before .before .before .before .before .before .before .loop .at + 1))
 
-enum-told-3 : tie.Need-enum-told-3 Inv-loop μ-loop
-enum-told-3 c = search needs
-
 cast-places : tie.Need-cast-places Inv-loop μ-loop
 cast-places c =
-    omega (arith, c .before .before .before .before .before .before .before .loop .inv, c .before .before .before .before .before .before .before .before .before .before .pre)
-
-mul-places : tie.Need-mul-places Inv-loop μ-loop
-mul-places c = search needs
+    let next = c .before .before .before in
+    let loop = next .before .before .before .before in
+    let room = loop .before .before .before .pre in
+    omega (arith, place-fits room (loop .loop .inv))
 
 slice-write-places : tie.Need-slice-write-places Inv-loop μ-loop
 slice-write-places c =
-    omega (
-      arith,
-      gate-room (c .before .before .before .before .before .before .before .before .before .before .pre .2) (c .before .before .before .before .before .before .before .loop .inv)
-          (c .before .before .before .before .before .take-next .ensures) (read-as (c .before .before .before .next .given .1) (c .enum-told3 .given .1)),
-      c .before .before .before .before .before .before .before .loop .inv,
-      c .before .before .before .before .before .before .before .before .before .before .pre,
-    )
-
-add-gates : tie.Need-add-gates Inv-loop μ-loop
-add-gates c = search needs
-
-enum-told-4 : tie.Need-enum-told-4 Inv-loop μ-loop
-enum-told-4 c = search needs
+    let next = c .before .before .before in
+    let loop = next .before .before .before .before in
+    let room = loop .before .before .before .pre in
+    let is = next .before .before .take-next .ensures in
+    let read = read-as (next .next .given .1) (c .enum-told3 .given .1) in
+    omega (arith, gate-room room (loop .loop .inv) is read, room .space, loop .loop .inv .long-same)
 
 cast-places-2 : tie.Need-cast-places-2 Inv-loop μ-loop
 cast-places-2 c =
-    omega (arith, c .before .before .before .before .before .before .before .loop .inv, c .before .before .before .before .before .before .before .before .before .before .pre)
-
-add-places : tie.Need-add-places Inv-loop μ-loop
-add-places c = search needs
-
-mul-places-2 : tie.Need-mul-places-2 Inv-loop μ-loop
-mul-places-2 c = search needs
+    let next = c .before .before .before in
+    let loop = next .before .before .before .before in
+    let room = loop .before .before .before .pre in
+    omega (arith, place-fits room (loop .loop .inv))
 
 slice-write-places-2 : tie.Need-slice-write-places-2 Inv-loop μ-loop
 slice-write-places-2 c =
-    omega (
-      arith,
-      output-room (c .before .before .before .before .before .before .before .before .before .before .pre .2) (c .before .before .before .before .before .before .before .loop .inv)
-          (c .before .before .before .before .before .take-next .ensures) (read-as (c .before .before .before .next .given .1) (c .enum-told4 .given .1)),
-      c .before .before .before .before .before .before .before .loop .inv,
-      c .before .before .before .before .before .before .before .before .before .before .pre,
-    )
-
-add-outputs : tie.Need-add-outputs Inv-loop μ-loop
-add-outputs c = search needs
-
-enum-told-5 : tie.Need-enum-told-5 Inv-loop μ-loop
-enum-told-5 c = search needs
+    let next = c .before .before .before in
+    let loop = next .before .before .before .before in
+    let room = loop .before .before .before .pre in
+    let is = next .before .before .take-next .ensures in
+    let read = read-as (next .next .given .1) (c .enum-told4 .given .1) in
+    omega (arith, output-room room (loop .loop .inv) is read, room .space, loop .loop .inv .long-same)
 
 finish-requires : tie.Need-finish-requires Inv-loop μ-loop
-finish-requires c κs = (
-  c .before .before .before .before .before .before .loop-test .taken,
-  c .before .before .before .before .before .before .before .loop .inv .inputs-few,
-  omega
-      (arith, c .before .before .before .before .before .before .before .loop .inv, c .before .before .before .before .before .before .before .before .before .before .pre),
-  walk-complete
-      (c .before .before .before .before .before .before .before .before .before .before .pre .2) (c .before .before .before .before .before .before .before .loop .inv)
-      (c .before .before .before .before .before .take-next .ensures) (read-as (c .before .before .before .next .given .1) (c .enum-told5 .given .1)),
-)
-
-same-length-2 : tie.Need-same-length-2 Inv-loop μ-loop
-same-length-2 c = search needs
+finish-requires c κs =
+    let next = c .before .before .before in
+    let loop = next .before .before .before .before in
+    let room = loop .before .before .before .pre in
+    let is = next .before .before .take-next .ensures in
+    let read = read-as (next .next .given .1) (c .enum-told5 .given .1) in
+    (sums-fit room (loop .loop .inv), next .before .before .before .loop-test .taken, walk-filled room (loop .loop .inv) is read)
 
 returns-2 : tie.Need-returns-2 Inv-loop μ-loop
 unfolding outcomeOf
-returns-2 c = (
-  c .finish .ensures _ _ (gates-length (c .before .before .before .before .before .before .before .before .before .before .before .pre .2) (c .before .before .before .before .before .before .before .before .loop .inv))
-      (outputs-length (c .before .before .before .before .before .before .before .before .before .before .before .pre .2) (c .before .before .before .before .before .before .before .before .loop .inv))
-      ∙ sym (ap outcomeOf (walk-ends (c .before .before .before .before .before .before .before .before .before .before .before .pre .2) (c .before .before .before .before .before .before .before .before .loop .inv)
-      (c .before .before .before .before .before .before .take-next .ensures) (read-as (c .before .before .before .before .next .given .1) (c .before .enum-told5 .given .1)))),
-  walk-placed
-      (c .before .before .before .before .before .before .before .before .before .before .before .pre .2) (c .before .before .before .before .before .before .before .before .loop .inv)
-      (c .before .before .before .before .before .before .take-next .ensures) (read-as (c .before .before .before .before .next .given .1) (c .before .enum-told5 .given .1)),
-)
+returns-2 c =
+    let next = c .before .before .before .before in
+    let loop = next .before .before .before .before in
+    let room = loop .before .before .before .pre in
+    let is = next .before .before .take-next .ensures in
+    let read = read-as (next .next .given .1) (c .before .enum-told5 .given .1) in
+    let e = walk-ends room (loop .loop .inv) is read in
+    (c .finish .ensures _ (standing-counts room (loop .loop .inv)) ∙ sym (ap outcomeOf e), walk-placed room (loop .loop .inv) is read)
 
-enum-told-6 : tie.Need-enum-told-6 Inv-loop μ-loop
-enum-told-6 c = search needs
+loop-less : tie.Need-loop-less Inv-loop μ-loop
+loop-less c =
+    let next = c .before .before .before .before in
+    let loop = next .before .before .before .before in
+    let room = loop .before .before .before .pre in
+    let is = next .before .before .take-next .ensures in
+    omega (arith, walk-further room (loop .loop .inv) is (next .next .given .1))
 
-same-length-3 : tie.Need-same-length-3 Inv-loop μ-loop
-same-length-3 c = search needs
+loop-again : tie.Need-loop-again Inv-loop μ-loop
+loop-again c =
+    let next = c .before .before .before .before in
+    let loop = next .before .before .before .before in
+    let room = loop .before .before .before .pre in
+    let is = next .before .before .take-next .ensures in
+    let read = read-as (next .next .given .1) (c .before .enum-told2 .given .1) in
+    walk-inputs room (loop .loop .inv) is read (omega (arith, c .shared-slice-known2 .given (loop .loop .at + 1)))
+
+loop-less-2 : tie.Need-loop-less-2 Inv-loop μ-loop
+loop-less-2 c =
+    let next = c .before .before .before in
+    let loop = next .before .before .before .before in
+    let room = loop .before .before .before .pre in
+    let is = next .before .before .take-next .ensures in
+    omega (arith, walk-further room (loop .loop .inv) is (next .next .given .1))
+
+loop-again-2 : tie.Need-loop-again-2 Inv-loop μ-loop
+loop-again-2 c =
+    let next = c .before .before .before in
+    let loop = next .before .before .before .before in
+    let room = loop .before .before .before .pre in
+    let is = next .before .before .take-next .ensures in
+    let read = read-as (next .next .given .1) (c .enum-told3 .given .1) in
+    walk-gate room (loop .loop .inv) is read
+
+loop-less-3 : tie.Need-loop-less-3 Inv-loop μ-loop
+loop-less-3 c =
+    let next = c .before .before .before in
+    let loop = next .before .before .before .before in
+    let room = loop .before .before .before .pre in
+    let is = next .before .before .take-next .ensures in
+    omega (arith, walk-further room (loop .loop .inv) is (next .next .given .1))
+
+loop-again-3 : tie.Need-loop-again-3 Inv-loop μ-loop
+loop-again-3 c =
+    let next = c .before .before .before in
+    let loop = next .before .before .before .before in
+    let room = loop .before .before .before .pre in
+    let is = next .before .before .take-next .ensures in
+    let read = read-as (next .next .given .1) (c .enum-told4 .given .1) in
+    walk-output room (loop .loop .inv) is read
+
+loop-less-4 : tie.Need-loop-less-4 Inv-loop μ-loop
+loop-less-4 c =
+    let next = c .before .before .before in
+    let loop = next .before .before .before .before in
+    let room = loop .before .before .before .pre in
+    let is = next .before .before .take-next .ensures in
+    omega (arith, walk-further room (loop .loop .inv) is (next .next .given .1))
+
+loop-again-4 : tie.Need-loop-again-4 Inv-loop μ-loop
+loop-again-4 c =
+    let next = c .before .before .before in
+    let loop = next .before .before .before .before in
+    let room = loop .before .before .before .pre in
+    let is = next .before .before .take-next .ensures in
+    let read = read-as (next .next .given .1) (c .enum-told6 .given .1) in
+    absurd (walk-unknown room (loop .loop .inv) is read)
 
 returns-3 : tie.Need-returns-3 Inv-loop μ-loop
 unfolding outcomeOf
 returns-3 c =
-    let e = walk-unknown (c .before .before .before .before .before .before .before .before .before .before .pre .2) (c .before .before .before .before .before .before .before .loop .inv)
-    (c .before .before .before .before .before .take-next .ensures) (read-as (c .before .before .before .next .given .1) (c .enum-told6 .given .1)) in
-    (sym (ap outcomeOf e), refused-placed _ _ _ _ _ e)
-
-loop-less : tie.Need-loop-less Inv-loop μ-loop
-loop-less c =
-    omega (
-      arith,
-      walk-further (c .before .before .before .before .before .before .before .before .before .before .before .pre .2) (c .before .before .before .before .before .before .before .before .loop .inv)
-          (c .before .before .before .before .before .before .take-next .ensures) (c .before .before .before .before .next .given .1),
-    )
-
-loop-again : tie.Need-loop-again Inv-loop μ-loop
-loop-again c =
-    walk-inputs (c .before .before .before .before .before .before .before .before .before .before .before .pre .2) (c .before .before .before .before .before .before .before .before .loop .inv)
-    (c .before .before .before .before .before .before .take-next .ensures) (read-as (c .before .before .before .before .next .given .1) (c .before .enum-told2 .given .1))
-    (omega (arith, c .shared-slice-known2 .given (c .before .before .before .before .before .before .before .before .loop .at + 1)))
-
-loop-less-2 : tie.Need-loop-less-2 Inv-loop μ-loop
-loop-less-2 c =
-    omega (
-      arith,
-      walk-further (c .before .before .before .before .before .before .before .before .before .before .pre .2) (c .before .before .before .before .before .before .before .loop .inv)
-          (c .before .before .before .before .before .take-next .ensures) (c .before .before .before .next .given .1),
-    )
-
-loop-again-2 : tie.Need-loop-again-2 Inv-loop μ-loop
-loop-again-2 c =
-    walk-gate (c .before .before .before .before .before .before .before .before .before .before .pre .2) (c .before .before .before .before .before .before .before .loop .inv)
-    (c .before .before .before .before .before .take-next .ensures) (read-as (c .before .before .before .next .given .1) (c .enum-told3 .given .1))
-
-loop-less-3 : tie.Need-loop-less-3 Inv-loop μ-loop
-loop-less-3 c =
-    omega (
-      arith,
-      walk-further (c .before .before .before .before .before .before .before .before .before .before .pre .2) (c .before .before .before .before .before .before .before .loop .inv)
-          (c .before .before .before .before .before .take-next .ensures) (c .before .before .before .next .given .1),
-    )
-
-loop-again-3 : tie.Need-loop-again-3 Inv-loop μ-loop
-loop-again-3 c =
-    walk-output (c .before .before .before .before .before .before .before .before .before .before .pre .2) (c .before .before .before .before .before .before .before .loop .inv)
-    (c .before .before .before .before .before .take-next .ensures) (read-as (c .before .before .before .next .given .1) (c .enum-told4 .given .1))
-
-same-length-4 : tie.Need-same-length-4 Inv-loop μ-loop
-same-length-4 c = search needs
-
-returns-4 : tie.Need-returns-4 Inv-loop μ-loop
-unfolding outcomeOf
-returns-4 c =
-    let e = walk-stops (c .before .before .before .before .pre .2) (c .before .loop .inv) (sym (next-past _ _ _ _ _ (c .loop-test .left))) _ _ refl in
+    let e = walk-stops (c .before .before .before .before .pre) (c .before .loop .inv) (sym (next-past _ _ _ _ _ (c .loop-test .left))) _ _ refl in
     (sym (ap outcomeOf e), refused-placed _ _ _ _ _ e)
 
 pub read-file-spec : {M : Type 1} → statement M
@@ -211,39 +174,39 @@ read-file-spec =
     Inv-loop
     μ-loop
     loop-holds
-    take-next-requires
-    enum-known-next
-    enum-told
-    refusal-requires
-    same-length
+    (λ c κs. search needs)
+    (λ c. search needs)
+    (λ c. search needs)
+    (λ c κs. search needs)
+    (λ c. search needs)
     returns
-    enum-told-2
-    add-inputs
+    (λ c. search needs)
+    (λ c. search needs)
     shared-slice-read-inputs
     cast-inputs
-    enum-told-3
+    (λ c. search needs)
     cast-places
-    mul-places
+    (λ c. search needs)
     slice-write-places
-    add-gates
-    enum-told-4
+    (λ c. search needs)
+    (λ c. search needs)
     cast-places-2
-    add-places
-    mul-places-2
+    (λ c. search needs)
+    (λ c. search needs)
     slice-write-places-2
-    add-outputs
-    enum-told-5
+    (λ c. search needs)
+    (λ c. search needs)
     finish-requires
-    same-length-2
+    (λ c. search needs)
     returns-2
-    enum-told-6
-    same-length-3
-    returns-3
+    (λ c. search needs)
     loop-less
     loop-again
     loop-less-2
     loop-again-2
     loop-less-3
     loop-again-3
-    same-length-4
-    returns-4)
+    loop-less-4
+    loop-again-4
+    (λ c. search needs)
+    returns-3)

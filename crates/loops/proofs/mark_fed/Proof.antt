@@ -1,16 +1,14 @@
--- `loops::mark_fed` meets its contract. The loop's invariant: the gates before k have had their turn. The measure is how many have not.
--- Assumes nothing.
-use Prim.Native.Nat.{ℕ, _-_}
-use mathlib.Core.Path.{_≡_, refl, _∙_}
+-- `loops::mark_fed` meets its contract. The loop's invariant: the gates before k have had their turn. Assumes nothing.
+use Prim.Native.Nat.{ℕ, _+_, _-_, _≤_}
+use mathlib.Core.Path.{_≡_, sym, _∙_, subst, subst₂}
+use mathlib.Core.Bool.{Bool}
+use mathlib.Core.List.{List}
 use mathlib.Core.Logic.{⊎-elim}
 use native.Mathlib.Omega.{arith}
 use borrow.Author.Needs.{needs}
-use lib.ListN.{length}
 use denote.Ref.{now}
-use Rattle.settle.specs.Gates.{gatesAt}
-use Rattle.loops.specs.Marks.{Marking}
-use Rattle.settle.proofs.Places.{there-still}
-use Rattle.loops.proofs.Marking.{Growing, grow-start, marked-turn, unfed-turn, fed-turn, mark-end}
+use Rattle.loops.specs.Marks.{Grown}
+use Rattle.loops.proofs.Marking.{grow-start, grow-mark, grow-unfed, grow-marked}
 use Rattle.loops.proofs.mark_fed.Statement.{statement}
 use Rattle.loops.proofs.mark_fed.Tie as tie
 use Rattle.loops.proofs.mark_fed.Reads as reads
@@ -18,46 +16,57 @@ use Rattle.loops.proofs.mark_fed.Lts as lts
 use Rattle.loops.proofs.fed.Reads as fed-reads
 
 abbrev Inv-loop : tie.InvT-loop
-Inv-loop s places inputs marks₀ more₀ k₀ marks more k = (length marks ≡ length marks₀) × ((g : ℕ) → Marking inputs (gatesAt s places (length marks₀)) g marks₀ → Growing inputs (gatesAt s places (length marks₀)) g marks₀ marks more k)
+Inv-loop code counts marks₀ more₀ k₀ marks more k = (k ≤ counts .gates) × Grown counts code marks₀ marks more k
 
 abbrev μ-loop : tie.MeasureT-loop
-μ-loop s places inputs marks₀ more₀ k₀ marks more k = length marks₀ - k
+μ-loop code counts marks₀ more₀ k₀ marks more k = counts .gates - k
 
 loop-holds : tie.Need-loop-holds Inv-loop μ-loop
-loop-holds c = (refl, λ g m. grow-start _ _ g _ m)
+loop-holds c = (omega arith, grow-start _ _ _ (c .before .before .pre .1))
 
-slice-read-if1 : tie.Need-slice-read-if1 Inv-loop μ-loop
-slice-read-if1 c = omega arith
+mul-if2 : tie.Need-mul-if2 Inv-loop μ-loop
+mul-if2 c = omega (arith, c .before .before .before .before .before .before .pre .0 .within .inputs-in)
+
+add-if2 : tie.Need-add-if2 Inv-loop μ-loop
+add-if2 c = omega (arith, c .before .before .before .before .before .before .pre .0 .within .inputs-in)
+
+slice-read-if2 : tie.Need-slice-read-if2 Inv-loop μ-loop
+slice-read-if2 c = omega (arith, c .before .before .before .before .loop .inv .1 .marks-for .long, c .before .before .before .before .loop .inv .1 .marks-for .room)
 
 fed-requires : tie.Need-fed-requires Inv-loop μ-loop
-fed-requires c κs = let z = c .before .before .before .before .before .before .before .before in (there-still _ _ _ _ (z .pre .0) (c .before .before .before .before .loop .inv .0), z .pre .1, omega arith)
+fed-requires c κs =
+    let z = c .before .before .before .before .before .before .before .before .before in
+    (z .pre .0, c .before .before .before .before .if1 .taken, c .before .before .before .before .before .before .loop .inv .1 .marks-for)
 
 slice-write-marks : tie.Need-slice-write-marks Inv-loop μ-loop
-slice-write-marks c = omega arith
-
-add-k : tie.Need-add-k Inv-loop μ-loop
-add-k c = omega arith
-
-loop-less : tie.Need-loop-less Inv-loop μ-loop
-loop-less c = omega arith
+slice-write-marks c =
+    let l = c .before .before .before .before .before .before .before .before .before .loop in
+    omega (arith, l .inv .1 .marks-for .long, l .inv .1 .marks-for .room, c .before .before .before .before .before .before .before .if1 .taken)
 
 loop-again : tie.Need-loop-again Inv-loop μ-loop
 loop-again c =
-    let z = c .before .before .before .before .before .before .before in
-    let l = c .before .before .before .loop in
-    let h = c .before .before .loop-test .taken in
+    let z = c .before .before .before .before .before .before .before .before in
+    let l = c .before .before .before .before .before .loop in
+    let h = c .before .before .before .if1 .taken in
+    let on : List ℕ → Bool → Type 0 = λ v m. Grown (z .args .counts) (now (z .args .code)) (now (z .args .marks)) v m (l .k + 1) in
+    let r : on (c .if2 .marks) (c .if2 .more) =
     ⊎-elim
-    (λ w. fed-turn _ _ _ (z .pre .0) _ (now (z .args .marks)) (l .marks) (l .more) (l .k) (l .inv) h _ _ _ (w .2 .ensures) (w .0 .taken) (w .3 .taken) (w .4) (w .5))
+    (λ w. subst₂ on (sym (w .5)) (sym (w .6)) (grow-mark _ _ _ _ _ _ (l .inv .1) h (w .0 .taken) (sym (w .2 .ensures) ∙ w .3 .taken)))
     (⊎-elim
-    (λ w. unfed-turn _ _ _ (z .pre .0) _ (now (z .args .marks)) (l .marks) (l .more) (l .k) (l .inv) h _ _ _ (w .2 .ensures) (w .3 .left) (w .4) (w .5))
-    (λ w. marked-turn _ _ _ (z .pre .0) _ (now (z .args .marks)) (l .marks) (l .more) (l .k) (l .inv) h _ _ (w .0 .left) (w .1) (w .2)))
-    (c .if1 .came)
+    (λ w. subst₂ on (sym (w .4)) (sym (w .5)) (grow-unfed _ _ _ _ _ _ (l .inv .1) h (sym (w .2 .ensures) ∙ w .3 .left)))
+    (λ w. subst₂ on (sym (w .1)) (sym (w .2)) (grow-marked _ _ _ _ _ _ (l .inv .1) h (w .0 .left))))
+    (c .if2 .came) in
+    (omega arith, r)
 
 same-length : tie.Need-same-length Inv-loop μ-loop
-same-length c = c .before .loop .inv .0
+same-length c = c .before .before .loop .inv .1 .marks-for .long ∙ sym (c .before .before .before .before .before .pre .1 .long)
 
 returns : tie.Need-returns Inv-loop μ-loop
-returns c = let z = c .before .before .before .before .before in let l = c .before .loop in mark-end _ _ _ (z .pre .0) _ (now (z .args .marks)) (l .marks) (l .more) (l .k) (l .inv) (c .loop-test .left)
+returns c =
+    let z = c .before .before .before .before .before in
+    let l = c .before .before .loop in
+    let e : l .k ≡ z .args .counts .gates = omega (arith, l .inv .0, c .if1 .left) in
+    subst (Grown (z .args .counts) (now (z .args .code)) (now (z .args .marks)) (l .marks) (l .more)) e (l .inv .1)
 
 pub mark-fed-spec : {M : Type 1} → statement M
 mark-fed-spec =
@@ -66,11 +75,15 @@ mark-fed-spec =
     Inv-loop
     μ-loop
     loop-holds
-    slice-read-if1
+    mul-if2
+    add-if2
+    slice-read-if2
     fed-requires
+    (λ c. search needs)
+    (λ c. search needs)
     slice-write-marks
-    add-k
-    loop-less
+    (λ c. search needs)
+    (λ c. search needs)
     loop-again
     same-length
     returns)

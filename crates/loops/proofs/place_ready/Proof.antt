@@ -1,88 +1,71 @@
--- `loops::place_ready` meets its contract. The loop's invariant: the gates before k have had their turn. The measure is how many have not.
--- Assumes nothing.
-use Prim.Native.Nat.{_-_, _<_}
-use mathlib.Core.Path.{_≡_, refl, _∙_}
+-- `loops::place_ready` meets its contract. The loop's invariant: the gates before k have had their turn. Assumes nothing.
+use Prim.Native.Nat.{ℕ, _+_, _-_, _≤_}
+use mathlib.Core.Path.{_≡_, sym, _∙_, subst, subst₃}
 use mathlib.Core.Logic.{⊎-elim}
 use native.Mathlib.Omega.{arith}
 use borrow.Author.Needs.{needs}
-use lib.ListN.{length}
+use mathlib.Core.List.{List}
 use denote.Ref.{now}
-use Rattle.settle.specs.Gates.{gatesAt}
-use Rattle.settle.proofs.Places.{there-still}
-use Rattle.loops.proofs.Placing.{Pass, pass-start, waiting-long, turn-room, turn-place, turn-skip, turn-end}
+use Rattle.loops.specs.Placing.{Reordered, PassTo}
+use Rattle.loops.proofs.Reordering.{reordered-refl, reordered-trans}
+use Rattle.loops.proofs.Placing.{pass-start, pass-place, pass-skip}
 use Rattle.loops.proofs.place_ready.Statement.{statement}
 use Rattle.loops.proofs.place_ready.Tie as tie
 use Rattle.loops.proofs.place_ready.Reads as reads
 use Rattle.loops.proofs.place_ready.Lts as lts
 use Rattle.loops.proofs.is_ready.Reads as is-ready-reads
+use Rattle.loops.proofs.place.Reads as place-reads
 
 abbrev Inv-loop : tie.InvT-loop
-Inv-loop s places inputs waiting₀ order₀ taken placed₀ k₀ waiting order placed k = (length order ≡ length order₀) × Pass inputs (gatesAt s places (length waiting₀)) taken waiting order placed k
+Inv-loop code₀ counts waiting₀ taken placed₀ k₀ code waiting placed k = (k ≤ counts .gates) × Reordered counts code₀ code × PassTo counts code waiting taken placed k
 
 abbrev μ-loop : tie.MeasureT-loop
-μ-loop s places inputs waiting₀ order₀ taken placed₀ k₀ waiting order placed k = length waiting₀ - k
+μ-loop code₀ counts waiting₀ taken placed₀ k₀ code waiting placed k = counts .gates - k
 
 loop-holds : tie.Need-loop-holds Inv-loop μ-loop
-loop-holds c = (refl, pass-start _ _ _ _ _ (c .before .before .before .before .pre .2))
+loop-holds c = (omega arith, reordered-refl _ _, pass-start _ _ _ _ (c .before .before .pre))
 
 is-ready-requires : tie.Need-is-ready-requires Inv-loop μ-loop
-is-ready-requires c κs =
-    let z = c .before .before .before .before .before .before .before in
-    (there-still _ _ _ _ (z .pre .0) (waiting-long _ _ _ (z .pre .0) _ _ _ _ (c .before .before .loop .inv .1 .placing)), z .pre .1, omega arith)
+is-ready-requires c κs = let p = c .before .before .before .before .loop .inv .2 .placing in (p .loaded, c .before .before .if1 .taken, p .marks-for)
 
--- there is room for a gate that is ready
-room : (c : tie.Then1 Inv-loop μ-loop) → (c .before .before .before .before .loop .placed < length (now (c .before .before .before .before .before .before .before .before .before .args .waiting))) × (c .before .before .before .before .loop .placed < length (c .before .before .before .before .loop .order))
-room c =
-    let z = c .before .before .before .before .before .before .before .before .before in
-    let l = c .before .before .before .before .loop in
-    turn-room _ _ _ (z .pre .0) _ _ _ _ _ _ (l .inv .1) (omega (arith, waiting-long _ _ _ (z .pre .0) _ _ _ _ (l .inv .1 .placing))) _ (c .before .is-ready .ensures) (c .if1 .taken)
-
-long : (c : tie.Joined1 Inv-loop μ-loop) → length (c .before .before .before .before .loop .waiting) ≡ length (now (c .before .before .before .before .before .before .before .before .before .args .waiting))
-long c = waiting-long _ _ _ (c .before .before .before .before .before .before .before .before .before .pre .0) _ _ _ _ (c .before .before .before .before .loop .inv .1 .placing)
-
-cast-order : tie.Need-cast-order Inv-loop μ-loop
-cast-order c = let z = c .before .before .before .before .before .before .before .before .before in omega (arith, z .pre .0 .few, waiting-long _ _ _ (z .pre .0) _ _ _ _ (c .before .before .before .before .loop .inv .1 .placing))
-
-mul-order : tie.Need-mul-order Inv-loop μ-loop
-mul-order c = let h = room c in omega arith
-
-slice-write-order : tie.Need-slice-write-order Inv-loop μ-loop
-slice-write-order c = room c .1
-
-slice-write-waiting : tie.Need-slice-write-waiting Inv-loop μ-loop
-slice-write-waiting c = omega arith
+place-requires : tie.Need-place-requires Inv-loop μ-loop
+place-requires c κs =
+    let l = c .before .before .before .before .before .before .before .before .loop in
+    let h = c .before .before .before .before .before .before .if1 .taken in
+    (l .inv .2 .placing, h, sym (c .before .before .before .is-ready .ensures) ∙ c .before .before .if2 .taken)
 
 add-placed : tie.Need-add-placed Inv-loop μ-loop
-add-placed c = let h = room c in omega arith
-
-add-k : tie.Need-add-k Inv-loop μ-loop
-add-k c = omega (arith, long c)
-
-loop-less : tie.Need-loop-less Inv-loop μ-loop
-loop-less c = omega (arith, long c)
+add-placed c =
+    let z = c .before .before .before .before .before .before .before .before .before .before .before .before .before .before .before .before in
+    omega (arith, c .before .before .before .before .place .ensures .0 .total, z .pre .loaded .within .gates-in)
 
 loop-again : tie.Need-loop-again Inv-loop μ-loop
 loop-again c =
     let z = c .before .before .before .before .before .before .before .before .before in
-    let l = c .before .before .before .before .loop in
-    let h : l .k < length (now (z .args .waiting)) = omega (arith, long c) in
+    let l = c .before .before .before .before .before .before .loop in
+    let on : List ℕ → List ℕ → ℕ → Type 0 = λ u v m. Reordered (z .args .counts) (now (z .args .code)) u × PassTo (z .args .counts) u v (z .args .taken) m (l .k + 1) in
+    let h : l .k + 1 ≤ z .args .counts .gates = omega (arith, c .before .before .before .before .if1 .taken) in
     ⊎-elim
     (λ w.
-    let r = turn-place _ _ _ (z .pre .0) _ _ _ _ _ _ (l .inv .1) h _ (c .before .is-ready .ensures) _ _ _ (w .0 .taken) (w .1) (w .2) (w .3) in
-    (r .0 ∙ l .inv .0, r .1))
+    let r = subst₃ on (sym (w .8)) (sym (w .9)) (sym (w .10)) (reordered-trans _ _ _ _ (l .inv .1) (w .3 .ensures .1), pass-place _ _ _ _ _ _ _ _ (l .inv .2) (w .3 .ensures .0)) in
+    (h, r .0, r .1))
     (λ w.
-    let r = turn-skip _ _ _ (z .pre .0) _ _ _ _ _ _ (l .inv .1) h _ (c .before .is-ready .ensures) _ _ _ (w .0 .left) (w .1) (w .2) (w .3) in
-    (r .0 ∙ l .inv .0, r .1))
-    (c .if1 .came)
+    let r = subst₃ on (sym (w .1)) (sym (w .2)) (sym (w .3)) (l .inv .1, pass-skip _ _ _ _ _ _ (l .inv .2) (sym (c .before .is-ready .ensures) ∙ w .0 .left)) in
+    (h, r .0, r .1))
+    (c .if2 .came)
 
 same-length : tie.Need-same-length Inv-loop μ-loop
-same-length c = waiting-long _ _ _ (c .before .before .before .before .before .before .pre .0) _ _ _ _ (c .before .loop .inv .1 .placing)
+same-length c = c .before .before .loop .inv .1 .long
 
 same-length-2 : tie.Need-same-length-2 Inv-loop μ-loop
-same-length-2 c = c .before .loop .inv .0
+same-length-2 c = c .before .before .loop .inv .2 .placing .marks-for .long ∙ sym (c .before .before .before .before .before .pre .marks-for .long)
 
 returns : tie.Need-returns Inv-loop μ-loop
-returns c = turn-end _ _ _ (c .before .before .before .before .before .before .pre .0) _ _ _ _ _ _ (c .before .loop .inv .1) (c .loop-test .left)
+returns c =
+    let z = c .before .before .before .before .before in
+    let l = c .before .before .loop in
+    let e : l .k ≡ z .args .counts .gates = omega (arith, l .inv .0, c .if1 .left) in
+    (subst (PassTo (z .args .counts) (l .code) (l .waiting) (z .args .taken) (l .placed)) e (l .inv .2), l .inv .1)
 
 pub place-ready-spec : {M : Type 1} → statement M
 place-ready-spec =
@@ -92,13 +75,10 @@ place-ready-spec =
     μ-loop
     loop-holds
     is-ready-requires
-    cast-order
-    mul-order
-    slice-write-order
-    slice-write-waiting
+    place-requires
     add-placed
-    add-k
-    loop-less
+    (λ c. search needs)
+    (λ c. search needs)
     loop-again
     same-length
     same-length-2

@@ -1,9 +1,8 @@
--- `sweeps::word_count` meets its contract. The loop's invariant: the count is 2 ^ i. Assumes nothing.
-use borrow.Author.Needs.{needs}
-use Prim.Native.Nat.{_-_, _*_, _^_, _≤_}
-use mathlib.Core.Path.{_≡_, refl, sym, ap, _∙_}
+-- `sweeps::word_count` meets its contract. The loop's invariant: the count is that of i inputs. Assumes nothing.
+use Prim.Native.Nat.{ℕ, _*_, _-_, _^_, _≤_}
 use native.Mathlib.Omega.{arith}
-use Rattle.sweeps.proofs.Sweeping.{few-words, twice}
+use mathlib.Core.Path.{_≡_, refl, sym, ap, _∙_}
+use Rattle.sweeps.proofs.Sweeping.{word-count, twice, few-words}
 use Rattle.sweeps.proofs.word_count.Statement.{statement}
 use Rattle.sweeps.proofs.word_count.Tie as tie
 
@@ -19,18 +18,16 @@ loop-holds c = (omega arith, refl)
 mul-count : tie.Need-mul-count Inv-loop μ-loop
 mul-count c = let l = c .before .loop in omega (arith, l .inv .1, few-words (l .i) (omega (arith, l .inv .0, c .before .before .pre)))
 
-add-i : tie.Need-add-i Inv-loop μ-loop
-add-i c = search needs
-
-loop-less : tie.Need-loop-less Inv-loop μ-loop
-loop-less c = search needs
-
 loop-again : tie.Need-loop-again Inv-loop μ-loop
 loop-again c = let l = c .before .loop in (omega arith, ap (λ n. 2 * n) (l .inv .1) ∙ twice (l .i))
 
 returns : tie.Need-returns Inv-loop μ-loop
-returns c = let l = c .before .loop in let e : l .i ≡ c .before .before .args .inputs = omega (arith, l .inv .0) in (l .inv .1 ∙ ap (λ n. 2 ^ n) e, omega (arith, l .inv .1, few-words (l .i) (omega (arith, l .inv .0, c .before .before .pre))))
+returns c =
+    λ s e.
+    let l = c .before .loop in
+    let i : l .i ≡ s .inputs = omega (arith, l .inv .0) in
+    l .inv .1 ∙ ap (λ n. 2 ^ n) i ∙ sym (word-count s)
 
 pub word-count-spec : {M : Type 1} → statement M
 word-count-spec =
-    tie.close (tie.spec Inv-loop μ-loop loop-holds mul-count add-i loop-less loop-again returns)
+    tie.close (tie.spec Inv-loop μ-loop loop-holds mul-count (λ c. omega arith) (λ c. omega arith) loop-again returns)

@@ -1,10 +1,9 @@
 -- `words::word_bits` meets its contract. The loop's invariant: the bits before i are written, and those of `rest` are to come. Assumes nothing.
 use Prim.Native.Nat.{_-_}
-use mathlib.Core.Path.{sym, _∙_}
 use lib.ListN.{length}
 use native.Mathlib.Omega.{arith}
+use Rattle.words.proofs.Spelling.{BitsTo, bits-start, bits-turn, bits-done}
 use borrow.Author.Needs.{needs}
-use Rattle.words.proofs.Spelling.{BitsTo, bits-start, bits-step, bits-done}
 use Rattle.words.proofs.word_bits.Statement.{statement}
 use Rattle.words.proofs.word_bits.Tie as tie
 
@@ -17,20 +16,8 @@ abbrev μ-loop : tie.MeasureT-loop
 loop-holds : tie.Need-loop-holds Inv-loop μ-loop
 loop-holds c = bits-start _ _
 
-cast-bits : tie.Need-cast-bits Inv-loop μ-loop
-cast-bits c = search needs
-
-slice-write-bits : tie.Need-slice-write-bits Inv-loop μ-loop
-slice-write-bits c = search needs
-
-add-i : tie.Need-add-i Inv-loop μ-loop
-add-i c = search needs
-
-loop-less : tie.Need-loop-less Inv-loop μ-loop
-loop-less c = search needs
-
 loop-again : tie.Need-loop-again Inv-loop μ-loop
-loop-again c = bits-step _ _ _ _ _ (c .before .loop .inv) (omega arith)
+loop-again c = bits-turn _ _ _ _ _ (c .before .loop .inv) (omega arith)
 
 same-length : tie.Need-same-length Inv-loop μ-loop
 same-length c = c .before .loop .inv .same-long
@@ -45,10 +32,10 @@ word-bits-spec =
     Inv-loop
     μ-loop
     loop-holds
-    cast-bits
-    slice-write-bits
-    add-i
-    loop-less
+    (λ c. search needs)
+    (λ c. search needs)
+    (λ c. search needs)
+    (λ c. search needs)
     loop-again
     same-length
     returns)

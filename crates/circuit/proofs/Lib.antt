@@ -1,0 +1,6 @@
+pub mod Tabulate
+pub mod Pins
+pub mod Order
+pub mod Settling
+pub mod Outputs
+pub mod Values

@@ -1,0 +1,4 @@
+pub mod Stage
+pub mod Order
+pub mod Rows
+pub mod Reference

@@ -1,0 +1,62 @@
+-- A byte that is in no row of the table, how many bytes a command has at most, and which bytes are an operation.
+-- Assumes nothing.
+use Prim.Native.Nat.{ℕ, zero, suc, _^_, _≤_, _<_}
+use native.Mathlib.Omega.{arith}
+use mathlib.Core.Path.{_≡_, refl, sym, ap, _∙_}
+use mathlib.Core.List.{List, [], _∷_}
+use lib.ListN.{List·getD-eq-default}
+use borrow.Author.Tests.{ne-eqb}
+use Rattle.netlist.specs.declared.File.{File}
+use Rattle.netlist.specs.declared.File.the-variants as file
+use Rattle.netlist.specs.declared.Sort.{Sort}
+use Rattle.netlist.specs.declared.Sort.the-variants as sort
+use Rattle.netlist.specs.declared.Role.the-variants.{Number}
+use Rattle.netlist.specs.declared.Form.{Form}
+use Rattle.netlist.specs.Commands.{asForm, commandTable, ownCommands, formIn, formOf, width, needed}
+use Rattle.netlist.specs.Writing.{formFor, All}
+use Rattle.netlist.proofs.Encoding.{form-for, gate-form, inputs-form, width-in}
+
+pub in-no-row : (rs : List (ℕ × Form)) (b : ℕ) → All (λ r. b ≡ r .0 → ⊥) rs → asForm sort.Unknown 1 0 Number ≡ formIn rs b
+unfolding formIn
+in-no-row [] b h = refl
+in-no-row (r ∷ rs) b h = rw (ne-eqb b (r .0) (h .0)) (in-no-row rs b (h .1))
+
+-- the row of a byte
+module _ (f : File) (b : ℕ) {form : Form} (is : form ≡ formOf f b) where
+  pub few-bytes : (1 ≤ width form) × (width form < 2 ^ 16)
+  unfolding commandTable ownCommands formIn
+  few-bytes = rw is (go f)
+    where
+      go : (f : File) → (1 ≤ width (formOf f b)) × (width (formOf f b) < 2 ^ 16)
+      go file.Stage = omega (arith, width-in file.Stage b)
+      go file.Reference = omega (arith, width-in file.Reference b)
+
+  pub form-sort : {c : Sort} → form .sort ≡ c → form ≡ formFor f c
+  form-sort e = is ∙ form-for f b ∙ ap (formFor f) (ap (λ (x : Form). x .sort) (sym is) ∙ e)
+
+  pub gate-lead : form .sort ≡ sort.Gate → form .lead ≡ 2
+  gate-lead e = ap (λ (x : Form). x .lead) (form-sort e ∙ gate-form f)
+
+  pub inputs-wide : form .sort ≡ sort.Inputs → width form ≡ 2
+  inputs-wide e = ap width (form-sort e ∙ inputs-form f)
+
+-- operations 2 to 6 need two operands
+pub operation-two : (b : ℕ) → 2 ≤ b → b ≤ 6 → needed file.Reference b ≡ 2
+unfolding needed
+operation-two zero lo hi = absurd (omega arith)
+operation-two (suc zero) lo hi = absurd (omega arith)
+operation-two (suc (suc zero)) lo hi = refl
+operation-two (suc (suc (suc zero))) lo hi = refl
+operation-two (suc (suc (suc (suc zero)))) lo hi = refl
+operation-two (suc (suc (suc (suc (suc zero))))) lo hi = refl
+operation-two (suc (suc (suc (suc (suc (suc zero)))))) lo hi = refl
+operation-two (suc (suc (suc (suc (suc (suc (suc b))))))) lo hi = absurd (omega arith)
+
+-- 0 and what lies above 6 is no operation
+pub operation-zero : (b : ℕ) → b ≡ 0 → needed file.Reference b ≡ 0
+unfolding needed
+operation-zero b e = rw e
+
+pub operation-past : (b : ℕ) → 7 ≤ b → needed file.Reference b ≡ 0
+unfolding needed
+operation-past b h = List·getD-eq-default (0 ∷ 1 ∷ 2 ∷ 2 ∷ 2 ∷ 2 ∷ 2 ∷ []) 0 h
