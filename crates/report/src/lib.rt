@@ -1,14 +1,19 @@
 // The switching report: how many gates are high at rest, word by word, and in all words together.
 use netlist::Counts;
+use netlist::Outcome;
 use verdict::Verdict;
 ghost use mathlib.Core.Path.{_≡_};
 ghost use Prim.Native.Nat.{ℕ, _+_, _≤_, _<_};
 ghost use lib.ListN.{length, getD, take, drop, replicate};
+ghost use Rattle.netlist.specs.declared.File.the-variants as file;
+ghost use Rattle.netlist.specs.Reading.{Places, readable, readFile, stageLimits};
+ghost use Rattle.netlist.specs.Content.{stageOf};
 ghost use Rattle.verdict.specs.Levels.{sum};
 ghost use Rattle.circuit.specs.Stage.{stageIn, StageLoaded};
 ghost use Rattle.circuit.specs.Order.{InOrder};
 ghost use Rattle.report.specs.Report as spec;
-ghost use Rattle.report.specs.Lines.{LinesTo};
+ghost use Rattle.report.specs.Activity.{ReportMeans};
+ghost use Rattle.report.specs.Lines.{LoopFreeFile};
 
 // A line for each word of the most inputs.
 pub const LINES: usize = 1 << netlist::INPUTS;
@@ -63,4 +68,48 @@ fn fill_lines(code: &[u16], counts: Counts, lines: &mut [u16]) -> u64
         w += 1;
     }
     total
+}
+
+// The report of a stage that reads and has no loop.
+fn report_stage(stage: &[u8], verdict: Verdict) -> Report
+    requires { ⌜ LoopFreeFile (now stage) ⌝ }
+    ensures { λ r. ⌜ ((p : Places) → readFile file.Stage stageLimits (now (stage .entry)) ≡ readable p
+        → r ≡ spec.reportOf verdict (spec.lines (stageOf (now (stage .entry)) p))) ⌝ }
+{
+    let mut lines = [0u16; LINES];
+    let mut code = [0u16; load::STAGE_CODE];
+    if let Outcome::Readable(counts) = load::read_stage(stage, &mut code) {
+        loops::order_gates(&mut code, counts);
+        let total = fill_lines(&code, counts, &mut lines);
+        let words = sweeps::word_count(counts.inputs) as u64;
+        return Report {
+            verdict,
+            words,
+            total,
+            lines,
+        };
+    }
+    Report {
+        verdict,
+        words: 0,
+        total: 0,
+        lines,
+    }
+}
+
+// The report of a stage file against a reference file.
+pub fn report(stage: &[u8], reference: &[u8]) -> Report
+    ensures report { λ r. ⌜ r ≡ spec.reportOn (now (stage .entry)) (now (reference .entry)) ⌝ }
+    ensures means { λ r. ⌜ ReportMeans (now (stage .entry)) (now (reference .entry)) r ⌝ }
+{
+    let verdict = checker::check(stage, reference);
+    if verdict.number == 0 {
+        return report_stage(stage, verdict);
+    }
+    Report {
+        verdict,
+        words: 0,
+        total: 0,
+        lines: [0u16; LINES],
+    }
 }

@@ -41,7 +41,7 @@ loop-again : tie.Need-loop-again Inv-loop μ-loop
 loop-again c =
     let z = c .before .before .before in
     let l = c .before .before .loop in
-    (ap (λ h. h + _) (l .inv .0) ∙ sym (sum-part (now (z .args .row)) (z .args .from) (l .i) (omega (arith, z .pre .0))),
+    (omega (arith, l .inv .0, sum-part (now (z .args .row)) (z .args .from) (l .i) (omega (arith, z .pre .0))),
     omega (arith, z .pre .2 (z .args .from + l .i) (omega arith)), omega arith)
 
 returns : tie.Need-returns Inv-loop μ-loop

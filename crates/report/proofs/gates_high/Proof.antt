@@ -1,42 +1,38 @@
+-- `report::gates_high` meets its contract: the levels of the settled row are those of the word's rest. Assumes nothing.
+use mathlib.Core.Path.{ap, _∙_}
+use native.Mathlib.Omega.{arith}
+use denote.Ref.{now}
+use Rattle.verdict.specs.Levels.{sum}
+use Rattle.circuit.proofs.Settling.{low-row}
+use Rattle.words.proofs.Holding.{levels-word}
 use borrow.Author.Needs.{needs}
 use Rattle.report.proofs.gates_high.Statement.{statement}
 use Rattle.report.proofs.gates_high.Tie as tie
-use Rattle.report.proofs.gates_high.Reads as reads
-use Rattle.report.proofs.gates_high.Lts as lts
-use Rattle.report.proofs.count_high.Reads as count-high-reads
-use Rattle.words.proofs.settle_word.Reads as settle-word-reads
 
--- src/lib.rt:47:41
-slice-aggregate-settle-word : tie.Need-slice-aggregate-settle-word
-slice-aggregate-settle-word c = search needs
-
--- src/lib.rt:47:5
 settle-word-requires : tie.Need-settle-word-requires
-settle-word-requires c κs = ?
+settle-word-requires c κs = let z = c .before .before in (z .pre .0, z .pre .1, low-row (z .args .counts) (z .pre .0 .within))
 
--- src/lib.rt:48:16
-slice-aggregate-count-high : tie.Need-slice-aggregate-count-high
-slice-aggregate-count-high c = search needs
-
--- src/lib.rt:48:22
 mul-count-high : tie.Need-mul-count-high
 mul-count-high c = search needs
 
--- src/lib.rt:48:5
 count-high-requires : tie.Need-count-high-requires
-count-high-requires c κs = ?
+count-high-requires c κs =
+    let z = c .before .before .before .before .before .before in
+    let r = c .before .before .before .settle-word .ensures .1 in
+    (omega (arith, r .long), omega (arith, z .pre .0 .within .gates-in), λ p h. r .bit p (omega arith))
 
--- src/lib.rt:42:1
 returns : tie.Need-returns
-returns c = ?
+returns c =
+    let z = c .before .before .before .before .before .before .before in
+    c .count-high .ensures ∙ ap sum (levels-word (z .args .counts) (now (z .args .code)) _ (z .args .w) (c .before .before .before .before .settle-word .ensures .0))
 
 pub gates-high-spec : {M : Type 1} → statement M
 gates-high-spec =
     tie.close
     (tie.spec
-    slice-aggregate-settle-word
+    (λ c. search needs)
     settle-word-requires
-    slice-aggregate-count-high
+    (λ c. search needs)
     mul-count-high
     count-high-requires
     returns)
