@@ -2,3 +2,4 @@ pub mod Counting
 pub mod Activity
 pub mod Summing
 pub mod Lines
+pub mod Reporting

@@ -42,12 +42,16 @@ pub record EachWordOnce (s : Stage) (order : List ℕ) : Type 0 where
 abbrev pub HalfOfAll : Stage → Type 0
 HalfOfAll s = (cycles : List (Cycle s)) → EachWordOnce s (map (λ (p : Cycle s). p .word) cycles) → sum (map (switchings s) cycles) ≡ 2 * total s
 
--- What the report of two files means: of a refused pair it says no more than the verdict; of an accepted one each line is the number of
--- gates high at the rest of its word, and the total, their sum, is half of all gate switchings.
+-- the report of an accepted stage: each line is the number of gates high at the rest of its word, and the total, the sum of the lines, is
+-- half of all gate switchings
+pub record Reported (stage : List ℕ) (r : Report) : Type 0 where
+  pub circuit : Stage
+  pub circuit-is : StageIs stageLimits stage circuit
+  pub lines-are : r ≡ reportOf accepted (lines circuit)
+  pub half : HalfOfAll circuit
+
+-- What the report of two files means: it has the check's verdict, and of a refused pair it says no more.
 pub record ReportMeans (stage reference : List ℕ) (r : Report) : Type 0 where
   pub verdict-is : r .verdict ≡ verdictOn stage reference
   pub refused : ¬ (r .verdict ≡ accepted) → r ≡ reportOf (r .verdict) []
-  pub circuit : r .verdict ≡ accepted → Stage
-  pub circuit-is : (e : r .verdict ≡ accepted) → StageIs stageLimits stage (circuit e)
-  pub lines-are : (e : r .verdict ≡ accepted) → r ≡ reportOf accepted (lines (circuit e))
-  pub half : (e : r .verdict ≡ accepted) → HalfOfAll (circuit e)
+  pub reported : r .verdict ≡ accepted → Reported stage r

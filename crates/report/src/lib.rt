@@ -98,7 +98,7 @@ fn report_stage(stage: &[u8], verdict: Verdict) -> Report
 }
 
 // The report of a stage file against a reference file.
-pub fn report(stage: &[u8], reference: &[u8]) -> Report
+pub fn report_on(stage: &[u8], reference: &[u8]) -> Report
     ensures report { λ r. ⌜ r ≡ spec.reportOn (now (stage .entry)) (now (reference .entry)) ⌝ }
     ensures means { λ r. ⌜ ReportMeans (now (stage .entry)) (now (reference .entry)) r ⌝ }
 {
