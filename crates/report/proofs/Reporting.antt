@@ -50,6 +50,10 @@ none-loops n gates free = go (least (reachesItself n gates) 0 (length gates)) re
     go Nothing e = refl
     go (At g) e = absurd (let l = least-says (reachesItself n gates) 0 (length gates) (At g) e in free g (omega (arith, l .below)) (reaches-sound n gates g (l .passes)))
 
+pub not-refused : (stage : List ℕ) → LoopFreeFile stage → (number at : ℕ) → outcome.Refused number at ≡ outcomeOf (readFile file.Stage stageLimits stage) → ⊥
+unfolding outcomeOf
+not-refused stage f number at e = let q : outcome.Refused number at ≡ outcomeOf (readable (f .places)) = e ∙ ap outcomeOf (f .reads) in let z : _≡_ {A = ℕ} 0 1 = cc in omega arith
+
 module _ (stage : List ℕ) (f : LoopFreeFile stage) (c : Counts) (code : List ℕ) (e : outcome.Readable c ≡ outcomeOf (readFile file.Stage stageLimits stage))
     (h : HoldsStage stage (readFile file.Stage stageLimits stage) code) where
   same-counts : c ≡ countsOf (f .places)

@@ -2,11 +2,11 @@
 -- Assumes nothing.
 use Prim.Native.Nat.{ℕ, _+_, _*_, _≤_, _<_}
 use native.Mathlib.Omega.{arith}
-use mathlib.Core.Path.{_≡_, refl, sym, ap, _∙_, subst}
+use mathlib.Core.Path.{_≡_, sym, ap, _∙_, subst}
 use mathlib.Core.Bool.{Bool, true, false}
 use mathlib.Core.List.{List, _++_}
-use lib.ListN.{length, getD, take, drop}
-use lib.Seq.{getD-take, drop-append-seam, take-append-seam, take-add, take-take}
+use lib.ListN.{length, getD, take}
+use lib.Seq.{getD-take, take-append-seam, take-take}
 use borrow.Author.Tests.{lt-ltb, le-ltb}
 use Rattle.netlist.specs.declared.Counts.{Counts}
 use Rattle.netlist.specs.Content.{Gate, Pair}
@@ -17,17 +17,8 @@ use Rattle.verdict.proofs.Words.{bits-of-length, rails-length}
 use Rattle.circuit.specs.Stage.{netCount, placeOf, gatesIn, outputsIn, stageIn}
 use Rattle.circuit.specs.Order.{orderIn, InOrder}
 use Rattle.circuit.specs.Rows.{RowFor, netsIn, railPart, levelPart, SettledTo, SettledBefore, settledIn, settledHoldingIn}
-use Rattle.circuit.proofs.Settling.{holding-none, settled-before, length-gatesIn, length-rails, order-at}
+use Rattle.circuit.proofs.Settling.{holding-none, settled-before, length-gatesIn, length-rails, levels-by, order-at}
 use Rattle.words.specs.Finds.{unobserved}
-
--- the levels of a settled row
-pub levels-settled : (c : Counts) (code row rails : List ℕ) → netsIn c row ≡ settled (gatesIn c code) rails → railPart c row ≡ rails
-    → levelPart c row ≡ settledLevels (gatesIn c code) rails
-levels-settled c code row rails is e =
-    sym (drop-append-seam (railPart c row) (levelPart c row))
-    ∙ ap (drop (length (railPart c row))) (sym (take-add (2 * c .inputs) (c .gates) row) ∙ is)
-    ∙ ap (λ (l : List ℕ). drop (length l) (settled (gatesIn c code) rails)) e
-    ∙ drop-append-seam rails (settledLevels (gatesIn c code) rails)
 
 module _ (c : Counts) (code row : List ℕ) (ordered : InOrder c code) (r : RowFor c row) (is : netsIn c row ≡ settledIn c code row) (g : ℕ) (hg : g < c .gates) where
   abbrev gates : List Gate
@@ -57,11 +48,15 @@ module _ (c : Counts) (code row : List ℕ) (ordered : InOrder c code) (r : RowF
       rw (lt-ltb 0 (getD (settled gates R) (length R + g) 0) (omega (arith, level-same, d)), unobserved)
       (f ∙ ap (λ (l : List ℕ). allData l pairs) e ∙ ap (λ (l : List ℕ). allData (settledHolding g gates l) pairs) same)
 
+  -- the levels of a settled row
+  levels-settled : levelPart c row ≡ settledLevels gates R
+  levels-settled = levels-by c row r R (settledLevels gates R) (length-rails c row r) is
+
   -- what settling from g's place on asks for
   pub hold-before : SettledTo (placeOf code g) g c code row
   hold-before =
       let at = ordered .place-in g hg in
-      subst (SettledBefore (placeOf code g) g gates (orderIn c code) R) (holding-none gates R ∙ sym (levels-settled c code row R is refl))
+      subst (SettledBefore (placeOf code g) g gates (orderIn c code) R) (holding-none gates R ∙ sym levels-settled)
       (settled-before (c .inputs) g gates (orderIn c code) R (ordered .ordered) (length-rails c row r) (length gates) (placeOf code g) (omega (arith, size))
       (λ i h e.
       omega (arith, ordered .ordered .once i (placeOf code g) (omega (arith, size)) (omega (arith, size)) (e ∙ sym (order-at c code (placeOf code g) at ∙ ordered .stands-there g hg))))
@@ -92,8 +87,8 @@ module _ (c : Counts) (code row : List ℕ) (w : ℕ) (is : netsIn c row ≡ set
   pub settled-word : netsIn c row ≡ settledIn c code row
   settled-word = is ∙ ap (settled (gatesIn c code)) (sym word-rails)
 
-  pub levels-word : levelPart c row ≡ settledLevels (gatesIn c code) (railsIn (stageIn c code) w)
-  levels-word = levels-settled c code row (railsIn (stageIn c code) w) is word-rails
+  pub levels-word : RowFor c row → levelPart c row ≡ settledLevels (gatesIn c code) (railsIn (stageIn c code) w)
+  levels-word r = levels-by c row r (railsIn (stageIn c code) w) (settledLevels (gatesIn c code) (railsIn (stageIn c code) w)) (word-length (c .inputs) w) is
 
   pub unobserved-word : (g : ℕ) → unobserved (gatesIn c code) (outputsIn c code) (railPart c row) g ≡ unobservable (stageIn c code) w g
   unfolding unobserved unobservable

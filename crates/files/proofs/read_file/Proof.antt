@@ -21,21 +21,6 @@ abbrev μ-loop : tie.MeasureT-loop
 loop-holds : tie.Need-loop-holds Inv-loop μ-loop
 loop-holds c = walk-starts _ _ _ _
 
-take-next-requires : tie.Need-take-next-requires Inv-loop μ-loop
-take-next-requires c κs = search needs
-
-enum-known-next : tie.Need-enum-known-next Inv-loop μ-loop
-enum-known-next c = search needs
-
-enum-told : tie.Need-enum-told Inv-loop μ-loop
-enum-told c = search needs
-
-refusal-requires : tie.Need-refusal-requires Inv-loop μ-loop
-refusal-requires c κs = search needs
-
-same-length : tie.Need-same-length Inv-loop μ-loop
-same-length c = search needs
-
 returns : tie.Need-returns Inv-loop μ-loop
 unfolding outcomeOf
 returns c =
@@ -43,12 +28,6 @@ returns c =
     let told = c .before .enum-told .given .1 in
     let e = walk-stops (loop .before .before .before .pre) (loop .loop .inv) (c .before .before .before .take-next .ensures) _ _ told in
     (c .refusal .ensures _ _ told ∙ sym (ap outcomeOf e), refused-placed _ _ _ _ _ e)
-
-enum-told-2 : tie.Need-enum-told-2 Inv-loop μ-loop
-enum-told-2 c = search needs
-
-add-inputs : tie.Need-add-inputs Inv-loop μ-loop
-add-inputs c = search needs
 
 shared-slice-read-inputs : tie.Need-shared-slice-read-inputs Inv-loop μ-loop
 shared-slice-read-inputs c =
@@ -62,18 +41,12 @@ shared-slice-read-inputs c =
 cast-inputs : tie.Need-cast-inputs Inv-loop μ-loop
 cast-inputs c = omega (arith, c .shared-slice-known2 .given (c .before .before .before .before .before .before .before .before .loop .at + 1))
 
-enum-told-3 : tie.Need-enum-told-3 Inv-loop μ-loop
-enum-told-3 c = search needs
-
 cast-places : tie.Need-cast-places Inv-loop μ-loop
 cast-places c =
     let next = c .before .before .before in
     let loop = next .before .before .before .before in
     let room = loop .before .before .before .pre in
     omega (arith, place-fits room (loop .loop .inv))
-
-mul-places : tie.Need-mul-places Inv-loop μ-loop
-mul-places c = search needs
 
 slice-write-places : tie.Need-slice-write-places Inv-loop μ-loop
 slice-write-places c =
@@ -84,24 +57,12 @@ slice-write-places c =
     let read = read-as (next .next .given .1) (c .enum-told3 .given .1) in
     omega (arith, gate-room room (loop .loop .inv) is read, room .space, loop .loop .inv .long-same)
 
-add-gates : tie.Need-add-gates Inv-loop μ-loop
-add-gates c = search needs
-
-enum-told-4 : tie.Need-enum-told-4 Inv-loop μ-loop
-enum-told-4 c = search needs
-
 cast-places-2 : tie.Need-cast-places-2 Inv-loop μ-loop
 cast-places-2 c =
     let next = c .before .before .before in
     let loop = next .before .before .before .before in
     let room = loop .before .before .before .pre in
     omega (arith, place-fits room (loop .loop .inv))
-
-add-places : tie.Need-add-places Inv-loop μ-loop
-add-places c = search needs
-
-mul-places-2 : tie.Need-mul-places-2 Inv-loop μ-loop
-mul-places-2 c = search needs
 
 slice-write-places-2 : tie.Need-slice-write-places-2 Inv-loop μ-loop
 slice-write-places-2 c =
@@ -112,12 +73,6 @@ slice-write-places-2 c =
     let read = read-as (next .next .given .1) (c .enum-told4 .given .1) in
     omega (arith, output-room room (loop .loop .inv) is read, room .space, loop .loop .inv .long-same)
 
-add-outputs : tie.Need-add-outputs Inv-loop μ-loop
-add-outputs c = search needs
-
-enum-told-5 : tie.Need-enum-told-5 Inv-loop μ-loop
-enum-told-5 c = search needs
-
 finish-requires : tie.Need-finish-requires Inv-loop μ-loop
 finish-requires c κs =
     let next = c .before .before .before in
@@ -126,9 +81,6 @@ finish-requires c κs =
     let is = next .before .before .take-next .ensures in
     let read = read-as (next .next .given .1) (c .enum-told5 .given .1) in
     (sums-fit room (loop .loop .inv), next .before .before .before .loop-test .taken, walk-filled room (loop .loop .inv) is read)
-
-same-length-2 : tie.Need-same-length-2 Inv-loop μ-loop
-same-length-2 c = search needs
 
 returns-2 : tie.Need-returns-2 Inv-loop μ-loop
 unfolding outcomeOf
@@ -140,9 +92,6 @@ returns-2 c =
     let read = read-as (next .next .given .1) (c .before .enum-told5 .given .1) in
     let e = walk-ends room (loop .loop .inv) is read in
     (c .finish .ensures _ (standing-counts room (loop .loop .inv)) ∙ sym (ap outcomeOf e), walk-placed room (loop .loop .inv) is read)
-
-enum-told-6 : tie.Need-enum-told-6 Inv-loop μ-loop
-enum-told-6 c = search needs
 
 loop-less : tie.Need-loop-less Inv-loop μ-loop
 loop-less c =
@@ -212,9 +161,6 @@ loop-again-4 c =
     let read = read-as (next .next .given .1) (c .enum-told6 .given .1) in
     absurd (walk-unknown room (loop .loop .inv) is read)
 
-same-length-3 : tie.Need-same-length-3 Inv-loop μ-loop
-same-length-3 c = search needs
-
 returns-3 : tie.Need-returns-3 Inv-loop μ-loop
 unfolding outcomeOf
 returns-3 c =
@@ -228,32 +174,32 @@ read-file-spec =
     Inv-loop
     μ-loop
     loop-holds
-    take-next-requires
-    enum-known-next
-    enum-told
-    refusal-requires
-    same-length
+    (λ c κs. search needs)
+    (λ c. search needs)
+    (λ c. search needs)
+    (λ c κs. search needs)
+    (λ c. search needs)
     returns
-    enum-told-2
-    add-inputs
+    (λ c. search needs)
+    (λ c. search needs)
     shared-slice-read-inputs
     cast-inputs
-    enum-told-3
+    (λ c. search needs)
     cast-places
-    mul-places
+    (λ c. search needs)
     slice-write-places
-    add-gates
-    enum-told-4
+    (λ c. search needs)
+    (λ c. search needs)
     cast-places-2
-    add-places
-    mul-places-2
+    (λ c. search needs)
+    (λ c. search needs)
     slice-write-places-2
-    add-outputs
-    enum-told-5
+    (λ c. search needs)
+    (λ c. search needs)
     finish-requires
-    same-length-2
+    (λ c. search needs)
     returns-2
-    enum-told-6
+    (λ c. search needs)
     loop-less
     loop-again
     loop-less-2
@@ -262,5 +208,5 @@ read-file-spec =
     loop-again-3
     loop-less-4
     loop-again-4
-    same-length-3
+    (λ c. search needs)
     returns-3)

@@ -24,7 +24,7 @@ count-high-requires c κs =
 returns : tie.Need-returns
 returns c =
     let z = c .before .before .before .before .before .before .before in
-    c .count-high .ensures ∙ ap sum (levels-word (z .args .counts) (now (z .args .code)) _ (z .args .w) (c .before .before .before .before .settle-word .ensures .0))
+    c .count-high .ensures ∙ ap sum (levels-word (z .args .counts) (now (z .args .code)) _ (z .args .w) (c .before .before .before .before .settle-word .ensures .0) (c .before .before .before .before .settle-word .ensures .1))
 
 pub gates-high-spec : {M : Type 1} → statement M
 gates-high-spec =

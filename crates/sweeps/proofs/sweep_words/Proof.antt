@@ -17,9 +17,6 @@ Inv-loop which code counts reference sizes number count w₀ w = SweptTo number 
 abbrev μ-loop : tie.MeasureT-loop
 μ-loop which code counts reference sizes number count w₀ w = count - w
 
-number-of-requires : tie.Need-number-of-requires Inv-loop μ-loop
-number-of-requires c κs = search needs
-
 word-count-requires : tie.Need-word-count-requires Inv-loop μ-loop
 word-count-requires c κs = c .before .before .before .pre .stage .within .inputs-in
 
@@ -29,9 +26,6 @@ loop-holds c = swept-start _ _ _
 find-requires : tie.Need-find-requires Inv-loop μ-loop
 find-requires c κs = c .before .before .before .before .before .before .pre
 
-enum-known-i : tie.Need-enum-known-i Inv-loop μ-loop
-enum-known-i c = search needs
-
 returns : tie.Need-returns Inv-loop μ-loop
 returns c =
     let z = c .before .before .before .before .before .before .before .before .before .before in
@@ -39,15 +33,6 @@ returns c =
     swept-words (z .args .which) (stageIn (z .args .counts) (now (z .args .code))) (referenceIn (z .args .sizes) (now (z .args .reference))) _ _ _
     (c .before .before .before .before .before .before .before .number-of .ensures) (c .before .before .before .before .before .before .word-count .ensures _ refl)
     (swept-here _ _ _ (l .w) _ (omega arith) (l .inv) (sym (c .before .before .before .find .ensures) ∙ c .before .i .given .1))
-
-enum-told : tie.Need-enum-told Inv-loop μ-loop
-enum-told c = search needs
-
-add-w : tie.Need-add-w Inv-loop μ-loop
-add-w c = omega arith
-
-loop-less : tie.Need-loop-less Inv-loop μ-loop
-loop-less c = omega arith
 
 loop-again : tie.Need-loop-again Inv-loop μ-loop
 loop-again c =
@@ -67,14 +52,14 @@ sweep-words-spec =
     (tie.spec
     Inv-loop
     μ-loop
-    number-of-requires
+    (λ c κs. search needs)
     word-count-requires
     loop-holds
     find-requires
-    enum-known-i
+    (λ c. search needs)
     returns
-    enum-told
-    add-w
-    loop-less
+    (λ c. search needs)
+    (λ c. omega arith)
+    (λ c. omega arith)
     loop-again
     returns-2)

@@ -18,12 +18,6 @@ loop-holds c = (omega arith, refl)
 mul-count : tie.Need-mul-count Inv-loop μ-loop
 mul-count c = let l = c .before .loop in omega (arith, l .inv .1, few-words (l .i) (omega (arith, l .inv .0, c .before .before .pre)))
 
-add-i : tie.Need-add-i Inv-loop μ-loop
-add-i c = omega arith
-
-loop-less : tie.Need-loop-less Inv-loop μ-loop
-loop-less c = omega arith
-
 loop-again : tie.Need-loop-again Inv-loop μ-loop
 loop-again c = let l = c .before .loop in (omega arith, ap (λ n. 2 * n) (l .inv .1) ∙ twice (l .i))
 
@@ -36,4 +30,4 @@ returns c =
 
 pub word-count-spec : {M : Type 1} → statement M
 word-count-spec =
-    tie.close (tie.spec Inv-loop μ-loop loop-holds mul-count add-i loop-less loop-again returns)
+    tie.close (tie.spec Inv-loop μ-loop loop-holds mul-count (λ c. omega arith) (λ c. omega arith) loop-again returns)
