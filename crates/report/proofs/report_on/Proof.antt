@@ -1,26 +1,30 @@
+-- `report::report_on` meets its contract: an accepted stage reads and has no loop. Assumes nothing.
+use mathlib.Core.Path.{sym}
+use denote.Ref.{now}
+use Rattle.report.proofs.Reporting.{accepted-file, report-accepted, report-refused, report-means}
 use borrow.Author.Needs.{needs}
 use Rattle.report.proofs.report_on.Statement.{statement}
 use Rattle.report.proofs.report_on.Tie as tie
-use Rattle.report.proofs.report_on.Reads as reads
-use Rattle.report.proofs.report_on.Lts as lts
-use Rattle.checker.proofs.check.Reads as check-reads
-use Rattle.report.proofs.report_stage.Reads as report-stage-reads
 
--- src/lib.rt:105:9
-check-requires : tie.Need-check-requires
-check-requires c κs = search needs
-
--- src/lib.rt:107:9
 report-stage-requires : tie.Need-report-stage-requires
-report-stage-requires c κs = ?
+report-stage-requires c κs =
+    let z = c .before .before .before .before .before in
+    accepted-file (now (z .args .stage)) (now (z .args .reference)) _ (c .before .before .check .ensures .0) (c .if1 .taken)
 
--- src/lib.rt:107:9
 returns : tie.Need-returns
-returns c = ?
+returns c =
+    let z = c .before .before .before .before .before .before in
+    let v = c .before .before .before .check .ensures .0 in
+    let is = report-accepted (now (z .args .stage)) (now (z .args .reference)) _ v (c .before .if1 .taken) _ (c .report-stage .ensures) in
+    (is, report-means (now (z .args .stage)) (now (z .args .reference)) _ is)
 
--- src/lib.rt:101:1
 returns-2 : tie.Need-returns-2
-returns-2 c = ?
+returns-2 c =
+    let z = c .before .before .before .before .before in
+    let v = c .before .before .check .ensures .0 in
+    let is = report-refused (now (z .args .stage)) (now (z .args .reference)) _ v (c .if1 .left) in
+    (is, report-means (now (z .args .stage)) (now (z .args .reference)) _ is)
 
 pub report-on-spec : {M : Type 1} → statement M
-report-on-spec = tie.close (tie.spec check-requires report-stage-requires returns returns-2)
+report-on-spec =
+    tie.close (tie.spec (λ c κs. search needs) report-stage-requires returns returns-2)

@@ -35,7 +35,7 @@ returns c =
 returns-2 : tie.Need-returns-2
 returns-2 c =
     let z = c .before .before .before .before .before .before in
-    absurd (not-refused (now (z .args .stage)) (z .pre) _ _ ?)
+    absurd (not-refused (now (z .args .stage)) (z .pre) _ _ (sym (c .enum-told .given .1) ∙ c .before .before .before .read-stage .ensures .0))
 
 pub report-stage-spec : {M : Type 1} → statement M
 report-stage-spec =
