@@ -27,7 +27,8 @@ module _ (f : File) (most : Limits) (s places : List ℕ) (c : Counts) (r : File
   length-gates = length-take-le (c .gates) places (omega (arith, r .room, r .within .gates-in))
 
   pub length-outputs : length (take (c .outputs) (drop (most .gates) places)) ≡ c .outputs
-  length-outputs = length-take-le (c .outputs) (drop (most .gates) places) (omega (arith, length-drop (most .gates) places, r .room, r .within .outputs-in))
+  length-outputs =
+      length-take-le (c .outputs) (drop (most .gates) places) (omega (arith, length-drop (most .gates) places, r .room, r .within .outputs-in))
 
   pub gate-at : (k : ℕ) → k < c .gates → GateRead f s (c .inputs) (c .gates) k (getD places k 0)
   gate-at k h =
@@ -70,7 +71,8 @@ pub record WasRead (f : File) (most : Limits) (s places : List ℕ) (c : Counts)
   pub reading : readFile f most s ≡ readable (placesIn most c places)
   pub counts : countsOf (placesIn most c places) ≡ c
 
-pub was-read : (f : File) (most : Limits) (s places : List ℕ) (c : Counts) → most .gates + most .outputs ≤ length places → outcome.Readable c ≡ outcomeOf (readFile f most s) →
+pub was-read : (f : File) (most : Limits) (s places : List ℕ) (c : Counts) → most .gates + most .outputs ≤ length places →
+    outcome.Readable c ≡ outcomeOf (readFile f most s) →
     Placed (most .gates) (readFile f most s) places → WasRead f most s places c
 unfolding outcomeOf Placed
 was-read f most s places c room e placed = go (readFile f most s) refl e placed
@@ -79,7 +81,8 @@ was-read f most s places c room e placed = go (readFile f most s) refl e placed
     go (refused number at) is e t = absurd (let z : _≡_ {A = ℕ} 0 1 = cc in omega arith)
     go (readable p) is e t =
         let q : countsOf p ≡ c = cc in
-        let same : placesIn most (countsOf p) places ≡ p = ap₂ (λ (gs os : List ℕ). record { inputs = p .inputs; gates = gs; outputs = os }) (t .0) (t .1) in
+        let same : placesIn most (countsOf p) places ≡ p = ap₂ (λ (gs os : List ℕ). record { inputs = p .inputs; gates = gs; outputs = os }) (t .0)
+        (t .1) in
         let r = readable-read f most s p is in
         subst (WasRead f most s places) q (record {
           file-read = record {
@@ -100,27 +103,38 @@ was-read-by f given most e s places c room a b =
 
 pub stage-places : (most : Limits) → most ≡ stageLimits → RoomFor file.Stage most (stageLimits .gates + stageLimits .outputs)
 unfolding commandTable ownCommands formIn
-stage-places most e = subst (λ (m : Limits). RoomFor file.Stage m (stageLimits .gates + stageLimits .outputs)) (sym e) (record { u16s = omega arith; space = omega arith })
+stage-places most e =
+    subst (λ (m : Limits). RoomFor file.Stage m (stageLimits .gates + stageLimits .outputs)) (sym e)
+    (record { u16s = omega arith; space = omega arith })
 
 pub reference-places : (most : Limits) → most ≡ referenceLimits → RoomFor file.Reference most (referenceLimits .gates + referenceLimits .outputs)
 unfolding commandTable ownCommands formIn
-reference-places most e = subst (λ (m : Limits). RoomFor file.Reference m (referenceLimits .gates + referenceLimits .outputs)) (sym e) (record { u16s = omega arith; space = omega arith })
+reference-places most e =
+    subst (λ (m : Limits). RoomFor file.Reference m (referenceLimits .gates + referenceLimits .outputs)) (sym e)
+    (record { u16s = omega arith; space = omega arith })
 
 module _ (s : List ℕ) where
-  pub holds-stage : (places : List ℕ) (c : Counts) (code : List ℕ) → WasRead file.Stage stageLimits s places c → stageIn c code ≡ stageOf s (placesIn stageLimits c places) → StageLoaded c code →
+  pub holds-stage : (places : List ℕ) (c : Counts) (code : List ℕ) → WasRead file.Stage stageLimits s places c →
+      stageIn c code ≡ stageOf s (placesIn stageLimits c places) → StageLoaded c code →
       HoldsStage s (readFile file.Stage stageLimits s) code
   unfolding HoldsStage
-  holds-stage places c code w e l = subst (λ (x : Reading). HoldsStage s x code) (sym (w .reading)) (subst (λ (d : Counts). StageLoaded d code × (stageIn d code ≡ stageOf s (placesIn stageLimits c places))) (sym (w .counts)) (l, e))
+  holds-stage places c code w e l =
+      subst (λ (x : Reading). HoldsStage s x code) (sym (w .reading))
+      (subst (λ (d : Counts). StageLoaded d code × (stageIn d code ≡ stageOf s (placesIn stageLimits c places))) (sym (w .counts)) (l, e))
 
   pub holds-no-stage : (x : Reading) (number at : ℕ) (code : List ℕ) → outcome.Refused number at ≡ outcomeOf x → HoldsStage s x code
   unfolding HoldsStage outcomeOf
   holds-no-stage (refused k p) number at code e = tt
   holds-no-stage (readable p) number at code e = absurd (let z : _≡_ {A = ℕ} 0 1 = cc in omega arith)
 
-  pub holds-reference : (places : List ℕ) (c : Counts) (code : List ℕ) → WasRead file.Reference referenceLimits s places c → referenceIn c code ≡ referenceOf s (placesIn referenceLimits c places) → ReferenceLoaded c code →
+  pub holds-reference : (places : List ℕ) (c : Counts) (code : List ℕ) → WasRead file.Reference referenceLimits s places c →
+      referenceIn c code ≡ referenceOf s (placesIn referenceLimits c places) → ReferenceLoaded c code →
       HoldsReference s (readFile file.Reference referenceLimits s) code
   unfolding HoldsReference
-  holds-reference places c code w e l = subst (λ (x : Reading). HoldsReference s x code) (sym (w .reading)) (subst (λ (d : Counts). ReferenceLoaded d code × (referenceIn d code ≡ referenceOf s (placesIn referenceLimits c places))) (sym (w .counts)) (l, e))
+  holds-reference places c code w e l =
+      subst (λ (x : Reading). HoldsReference s x code) (sym (w .reading))
+      (subst (λ (d : Counts). ReferenceLoaded d code × (referenceIn d code ≡ referenceOf s (placesIn referenceLimits c places))) (sym (w .counts))
+      (l, e))
 
   pub holds-no-reference : (x : Reading) (number at : ℕ) (code : List ℕ) → outcome.Refused number at ≡ outcomeOf x → HoldsReference s x code
   unfolding HoldsReference outcomeOf

@@ -67,18 +67,15 @@ module _ {G O : Type 0} (toG : Coded → G) (fromG : G → Coded) (toO : List �
   module _ (f : File) (most : Limits) where
     -- a content that is written is what its places show
     module _ (n : ℕ) (gs : List G) (os : List O) (fits : FileFits f most n (itemsOf gs os)) where
-      abbrev pub written : List ℕ
-      written = writeFile f n (itemsOf gs os)
-
-      pub gates-back : All (λ g. toG (fromG g) ≡ g) gs → map (λ p. toG (codedAt f written p)) (gatePlaces f 2 (itemsOf gs os)) ≡ gs
+      pub gates-back : All (λ g. toG (fromG g) ≡ g) gs → map (λ p. toG (codedAt f (writeFile f n (itemsOf gs os)) p)) (gatePlaces f 2 (itemsOf gs os)) ≡ gs
       gates-back h =
-          sym (map-map toG (codedAt f written) (gatePlaces f 2 (itemsOf gs os)))
+          sym (map-map toG (codedAt f (writeFile f n (itemsOf gs os))) (gatePlaces f 2 (itemsOf gs os)))
           ∙ ap (map toG) (gates-write f most n (itemsOf gs os) fits ∙ gatesIn-items gs os)
           ∙ map-back toG fromG gs h
 
-      pub outputs-back : All (λ o. toO (fromO o) ≡ o) os → map (λ p. toO (wiredAt f written p)) (outputPlaces f 2 (itemsOf gs os)) ≡ os
+      pub outputs-back : All (λ o. toO (fromO o) ≡ o) os → map (λ p. toO (wiredAt f (writeFile f n (itemsOf gs os)) p)) (outputPlaces f 2 (itemsOf gs os)) ≡ os
       outputs-back h =
-          sym (map-map toO (wiredAt f written) (outputPlaces f 2 (itemsOf gs os)))
+          sym (map-map toO (wiredAt f (writeFile f n (itemsOf gs os))) (outputPlaces f 2 (itemsOf gs os)))
           ∙ ap (map toO) (outputs-write f most n (itemsOf gs os) fits ∙ outputsIn-items gs os)
           ∙ map-back toO fromO os h
 

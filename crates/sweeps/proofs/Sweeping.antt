@@ -52,11 +52,13 @@ module _ (number : ℕ) (find : ℕ → Found) (m w : ℕ) where
   SweptTo = sweep number 1 find (numbers 0 m) ≡ sweep number 1 find (numbers w (m - w))
 
   -- what is found in word w and after it
-  now-at : w < m → SweptTo → (f : Found) → find w ≡ f → sweep number 1 find (numbers 0 m) ≡ atFault number 1 w f (sweep number 1 find (numbers (w + 1) (m - (w + 1))))
+  now-at : w < m → SweptTo → (f : Found) → find w ≡ f → sweep number 1 find (numbers 0 m) ≡ atFault number 1 w f
+      (sweep number 1 find (numbers (w + 1) (m - (w + 1))))
   unfolding sweep numbers
   now-at h s f e =
       let a : m - w ≡ suc (m - (w + 1)) = omega arith in
-      s ∙ ap (λ (k : ℕ). sweep number 1 find (numbers w k)) a ∙ ap (λ (k : ℕ). atFault number 1 w (find w) (sweep number 1 find (numbers k (m - (w + 1))))) (sym (add-one w))
+      s ∙ ap (λ (k : ℕ). sweep number 1 find (numbers w k)) a
+      ∙ ap (λ (k : ℕ). atFault number 1 w (find w) (sweep number 1 find (numbers k (m - (w + 1))))) (sym (add-one w))
       ∙ ap (λ (g : Found). atFault number 1 w g (sweep number 1 find (numbers (w + 1) (m - (w + 1))))) e
 
   pub swept-on : w < m → SweptTo → find w ≡ Nothing → sweep number 1 find (numbers 0 m) ≡ sweep number 1 find (numbers (w + 1) (m - (w + 1)))
@@ -75,7 +77,8 @@ pub swept-start : (number : ℕ) (find : ℕ → Found) (m : ℕ) → SweptTo nu
 swept-start number find m = ap (λ (k : ℕ). sweep number 1 find (numbers 0 k)) (omega arith)
 
 -- in all words of a stage
-pub swept-words : (which : Sweep) (s : Stage) (r : Reference) (number count : ℕ) (f : Finding) → number ≡ numberOf which → count ≡ wordCount s → f ≡ sweep number 1 (finds which s r) (numbers 0 count) → f ≡ swept which s r
+pub swept-words : (which : Sweep) (s : Stage) (r : Reference) (number count : ℕ) (f : Finding) → number ≡ numberOf which → count ≡ wordCount s →
+    f ≡ sweep number 1 (finds which s r) (numbers 0 count) → f ≡ swept which s r
 swept-words which s r number count f a b e =
     e
     ∙ ap (λ (k : ℕ). sweep k 1 (finds which s r) (numbers 0 count)) a
@@ -108,4 +111,5 @@ module _ (s : Stage) (r : Reference) where
 
     pub first-unobserved : Passed ≡ swept Missing s r → (f : Finding) → f ≡ swept Unobserved s r → f ≡ firstFault (sweeps s r)
     unfolding orLater
-    first-unobserved q f u = u ∙ sym (last (swept Unobserved s r)) ∙ sym (then ∙ ap (λ (g : Finding). orLater g (orLater (swept Unobserved s r) Passed)) (sym q))
+    first-unobserved q f u =
+        u ∙ sym (last (swept Unobserved s r)) ∙ sym (then ∙ ap (λ (g : Finding). orLater g (orLater (swept Unobserved s r) Passed)) (sym q))

@@ -11,7 +11,7 @@ ghost use Rattle.netlist.specs.Content.{Stage};
 ghost use Rattle.verdict.specs.Checks as checks;
 ghost use Rattle.circuit.specs.Stage.{stageIn};
 ghost use Rattle.circuit.specs.Reference.{referenceIn};
-ghost use Rattle.words.specs.Loaded.{Comparable};
+ghost use Rattle.words.specs.Loaded.{BothLoaded};
 ghost use Rattle.sweeps.specs.Sweeps.{wordCount, numberOf, swept};
 
 // How many words so many inputs have.
@@ -47,7 +47,7 @@ fn sweep_words(
     reference: &[u16],
     sizes: Counts,
 ) -> Finding
-    requires { ⌜ Comparable counts (now code) sizes (now reference) ⌝ }
+    requires { ⌜ BothLoaded counts (now code) sizes (now reference) ⌝ }
     ensures { λ r. ⌜ r ≡ swept which (stageIn counts (now (code .entry))) (referenceIn sizes (now (reference .entry))) ⌝ }
 {
     let number = number_of(which);
@@ -69,7 +69,7 @@ fn sweep_words(
 
 // 13, then 14, then 15.
 pub fn sweep_all(code: &[u16], counts: Counts, reference: &[u16], sizes: Counts) -> Finding
-    requires { ⌜ Comparable counts (now code) sizes (now reference) ⌝ }
+    requires { ⌜ BothLoaded counts (now code) sizes (now reference) ⌝ }
     ensures { λ r. ⌜ r ≡ checks.firstFault (checks.sweeps (stageIn counts (now (code .entry))) (referenceIn sizes (now (reference .entry)))) ⌝ }
 {
     if let Finding::Fault(v) = sweep_words(Sweep::Wrong, code, counts, reference, sizes) {

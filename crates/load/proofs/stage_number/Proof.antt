@@ -14,19 +14,30 @@ cast-gate-number : tie.Need-cast-gate-number
 cast-gate-number c = omega (arith, c .shared-slice-known3 .given (c .before .before .before .before .before .before .before .args .i / 8))
 
 gate-number-requires : tie.Need-gate-number-requires
-gate-number-requires c κs = let z = c .before .before .before .before .before .before .before in gate-room (now (z .args .s)) (now (z .args .places)) (z .args .counts) (z .pre .0) (z .args .i / 8) (omega arith)
+gate-number-requires c κs =
+    let z = c .before .before .before .before .before .before .before in
+    gate-room (now (z .args .s)) (now (z .args .places)) (z .args .counts) (z .pre .0) (z .args .i / 8) (omega arith)
 
 returns : tie.Need-returns
-returns c = let z = c .before .before .before .before .before .before .before .before in c .gate-number .ensures ∙ stage-gate (now (z .args .s)) (now (z .args .places)) (z .args .counts) (z .args .i) (c .before .before .before .before .if1 .taken)
+returns c =
+    let z = c .before .before .before .before .before .before .before .before in
+    c .gate-number .ensures ∙ stage-gate (now (z .args .s)) (now (z .args .places)) (z .args .counts) (z .args .i)
+    (c .before .before .before .before .if1 .taken)
 
 cast-at : tie.Need-cast-at
-cast-at c = let z = c .before .before .before .before .before in omega (arith, c .shared-slice-known4 .given (stageLimits .gates + (z .args .i - 8 * z .args .counts .gates) / 2))
+cast-at c =
+    let z = c .before .before .before .before .before in
+    omega (arith, c .shared-slice-known4 .given (stageLimits .gates + (z .args .i - 8 * z .args .counts .gates) / 2))
 
 add-operand : tie.Need-add-operand
-add-operand c = let z = c .before .before .before .before .before in omega (arith, c .shared-slice-known4 .given (stageLimits .gates + (z .args .i - 8 * z .args .counts .gates) / 2))
+add-operand c =
+    let z = c .before .before .before .before .before in
+    omega (arith, c .shared-slice-known4 .given (stageLimits .gates + (z .args .i - 8 * z .args .counts .gates) / 2))
 
 add-operand-2 : tie.Need-add-operand-2
-add-operand-2 c = let z = c .before .before .before .before .before in omega (arith, c .shared-slice-known4 .given (stageLimits .gates + (z .args .i - 8 * z .args .counts .gates) / 2))
+add-operand-2 c =
+    let z = c .before .before .before .before .before in
+    omega (arith, c .shared-slice-known4 .given (stageLimits .gates + (z .args .i - 8 * z .args .counts .gates) / 2))
 
 operand-requires : tie.Need-operand-requires
 operand-requires c κs =
@@ -35,7 +46,9 @@ operand-requires c κs =
     omega (arith, rails-room (now (z .args .s)) (now (z .args .places)) (z .args .counts) (z .pre .0) (j / 2) (omega arith))
 
 returns-2 : tie.Need-returns-2
-returns-2 c = let z = c .before .before .before .before .before .before in c .operand .ensures ∙ stage-output (now (z .args .s)) (now (z .args .places)) (z .args .counts) (z .args .i) (omega arith)
+returns-2 c =
+    let z = c .before .before .before .before .before .before in
+    c .operand .ensures ∙ stage-output (now (z .args .s)) (now (z .args .places)) (z .args .counts) (z .args .i) (omega arith)
 
 pub stage-number-spec : {M : Type 1} → statement M
 stage-number-spec =

@@ -12,7 +12,8 @@ use Rattle.sweeps.proofs.sweep_words.Statement.{statement}
 use Rattle.sweeps.proofs.sweep_words.Tie as tie
 
 abbrev Inv-loop : tie.InvT-loop
-Inv-loop which code counts reference sizes number count w₀ w = SweptTo number (finds which (stageIn counts code) (referenceIn sizes reference)) count w
+Inv-loop which code counts reference sizes number count w₀ w =
+    SweptTo number (finds which (stageIn counts code) (referenceIn sizes reference)) count w
 
 abbrev μ-loop : tie.MeasureT-loop
 μ-loop which code counts reference sizes number count w₀ w = count - w
@@ -31,7 +32,8 @@ returns c =
     let z = c .before .before .before .before .before .before .before .before .before .before in
     let l = c .before .before .before .before .before .loop in
     swept-words (z .args .which) (stageIn (z .args .counts) (now (z .args .code))) (referenceIn (z .args .sizes) (now (z .args .reference))) _ _ _
-    (c .before .before .before .before .before .before .before .number-of .ensures) (c .before .before .before .before .before .before .word-count .ensures _ refl)
+    (c .before .before .before .before .before .before .before .number-of .ensures)
+    (c .before .before .before .before .before .before .word-count .ensures _ refl)
     (swept-here _ _ _ (l .w) _ (omega arith) (l .inv) (sym (c .before .before .before .find .ensures) ∙ c .before .i .given .1))
 
 loop-again : tie.Need-loop-again Inv-loop μ-loop
