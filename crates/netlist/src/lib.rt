@@ -63,7 +63,7 @@ pub struct Cursor {
     pub at: usize,
 }
 
-// What stands before a position: the count of the inputs command, and how many gates and outputs.
+// The count of the inputs command, and how many gates and outputs there are: before a position of a file, or in all.
 pub struct Counts {
     pub inputs: usize,
     pub gates: usize,
