@@ -3,7 +3,7 @@
 
    Each call takes byte strings as a pointer and then a length. The bytes may be any; that they are there, that nothing
    else writes them during the call, and that a row does not overlap the stage is all that is asked. Each call returns,
-   keeps nothing for later calls, and touches no other memory but some kilobytes of stack. So calls may run at the same
+   keeps nothing for later calls, and touches no other memory but its answer and some kilobytes of stack. So calls may run at the same
    time in several threads, each with a row of its own.
 
    A pointer that goes with the length 0 is not read through. What is proved is about pointers that are not null; with
@@ -37,6 +37,22 @@ struct fovaheju_verdict {
 
 /* The verdict on a stage file and a reference file, given as their bytes. The numbers are 0 to 15. */
 struct fovaheju_verdict fovaheju_check(const uint8_t *stage, size_t stage_len,
+                                       const uint8_t *reference, size_t reference_len);
+
+/* The switching report: the verdict, and of an accepted stage how many gates are high at the rest of each word. */
+struct fovaheju_report {
+    /* As fovaheju_check answers. Where it refuses, all that follows is 0. */
+    struct fovaheju_verdict verdict;
+    /* How many words the stage has: 2 to the power of its inputs. */
+    uint64_t words;
+    /* The sum of the lines; half of all gate switchings when each word rises and falls once. */
+    uint64_t total;
+    /* lines[w] is how many gates are high at the rest of word w; 0 behind the last word's line. */
+    uint16_t lines[1024];
+};
+
+/* The report of a stage file against a reference file. */
+struct fovaheju_report fovaheju_report(const uint8_t *stage, size_t stage_len,
                                        const uint8_t *reference, size_t reference_len);
 
 /* Settles a row of the stage: one byte for each net, two for each input (rail 0, rail 1), then one for each gate. The

@@ -15,7 +15,7 @@ ghost use Rattle.words.specs.Loaded.{BothLoaded};
 ghost use Rattle.sweeps.specs.Sweeps.{wordCount, numberOf, swept};
 
 // How many words so many inputs have.
-fn word_count(inputs: usize) -> usize
+pub fn word_count(inputs: usize) -> usize
     requires { ⌜ inputs ≤ stageLimits .inputs ⌝ }
     ensures { λ r. ⌜ ((s : Stage) → s .inputs ≡ inputs → r ≡ wordCount s) ⌝ }
 {

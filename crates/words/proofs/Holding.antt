@@ -96,6 +96,9 @@ module _ (c : Counts) (code row : List ℕ) (w : ℕ) (is : netsIn c row ≡ set
   pub settled-word : netsIn c row ≡ settledIn c code row
   settled-word = is ∙ ap (settled (stageGates c code)) (sym word-rails)
 
+  pub levels-word : RowFor c row → levelPart c row ≡ settledLevels (stageGates c code) (railsIn (stageIn c code) w)
+  levels-word r = levels-by c row r (railsIn (stageIn c code) w) (settledLevels (stageGates c code) (railsIn (stageIn c code) w)) (word-length (c .inputs) w) is
+
   pub unobserved-word : (g : ℕ) → unobserved (stageGates c code) (stageOutputs c code) (railPart c row) g ≡ unobservable (stageIn c code) w g
   unfolding unobserved unobservable
   unobserved-word g =

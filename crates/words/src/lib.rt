@@ -59,7 +59,7 @@ fn spell_word(counts: Counts, w: usize, row: &mut [u8])
 }
 
 // The stage settles in word w.
-fn settle_word(code: &[u16], counts: Counts, w: usize, row: &mut [u8])
+pub fn settle_word(code: &[u16], counts: Counts, w: usize, row: &mut [u8])
     requires { ⌜ StageLoaded counts (now code) × InOrder counts (now code) × RowFor counts (now row) ⌝ }
     ensures settled { λ r. ⌜ netsIn counts (now (row .exit)) ≡ settled (stageGates counts (now (code .entry))) (railsIn (stageIn counts
         (now (code .entry))) w) ⌝ }
