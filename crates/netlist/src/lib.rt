@@ -17,6 +17,7 @@ pub enum Sort {
     Inputs,
     Gate,
     Output,
+    Care,
     Unknown,
 }
 
@@ -63,11 +64,14 @@ pub struct Cursor {
     pub at: usize,
 }
 
-// What stands before a position: the count of the inputs command, and how many gates and outputs.
+// What stands before a position: the count of the inputs command; how many gates, outputs and care words; and the least that the
+// next care word may be.
 pub struct Counts {
     pub inputs: usize,
     pub gates: usize,
     pub outputs: usize,
+    pub care: usize,
+    pub floor: usize,
 }
 
 // What stands at a position: a command, with the position after it, or the refusal that ends the reading.
