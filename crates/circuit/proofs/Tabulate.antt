@@ -13,8 +13,10 @@ unfolding tabulate
 map-tabulate g f zero = refl
 map-tabulate g f (suc m) = ap (λ l. g (f 0) ∷ l) (map-tabulate g (λ i. f (suc i)) m)
 
--- a list whose elements are these values
-pub tabulate-list : {A : Type 0} (f : ℕ → A) (l : List A) (d : A) → ((k : ℕ) → k < length l → f k ≡ getD l k d) → tabulate f (length l) ≡ l
+-- a list that is mapped by a rule has these values where they are the rule's
+pub tabulate-map : {A : Type 0} (f g : ℕ → A) (l : List ℕ) (m : ℕ) → length l ≡ m → ((k : ℕ) → k < m → f k ≡ g (getD l k 0)) → tabulate f m ≡ map g l
 unfolding tabulate
-tabulate-list f [] d e = refl
-tabulate-list f (x ∷ l) d e = ap₂ _∷_ (e 0 (omega arith)) (tabulate-list (λ i. f (suc i)) l d (λ k h. e (suc k) (omega arith)))
+tabulate-map f g [] zero e h = refl
+tabulate-map f g [] (suc m) e h = absurd (omega arith)
+tabulate-map f g (x ∷ l) zero e h = absurd (omega arith)
+tabulate-map f g (x ∷ l) (suc m) e h = ap₂ _∷_ (h 0 (omega arith)) (tabulate-map (λ i. f (suc i)) g l m (omega arith) (λ k b. h (suc k) (omega arith)))

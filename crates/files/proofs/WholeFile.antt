@@ -26,7 +26,7 @@ use Rattle.netlist.specs.Bytes.{byte}
 use Rattle.netlist.specs.Commands.{whenFound, isSort, formOf, width, stray, nextAt}
 use Rattle.netlist.specs.Reading.{namelessFrom, Places, countsOf, noted, Reading, refused, readable, finish, onNext, readFrom, readFile}
 use Rattle.netlist.specs.Writing.{commandByte, widthFor}
-use Rattle.files.specs.Files.{Follow, FilledTo, RoomFor, Placed}
+use Rattle.files.specs.Files.{Follow, FilledTo, Countable, RoomFor, Placed}
 use Rattle.netlist.proofs.Encoding.{clash, width-in, width-inputs, width-end}
 use Rattle.netlist.proofs.OneCommand.{There, next-there}
 use Rattle.netlist.proofs.Walk.{first-inputs, Near, near-start, near-far}
@@ -146,7 +146,7 @@ module _ {f : File} {most : Limits} {s : List ℕ} {long : ℕ} {places : List �
   place-fits = omega (arith, near-far f most (w .near), room .u16s)
 
   -- the sums that the search for 9 takes fit
-  pub sums-fit : 2 * c .inputs + c .gates < 2 ^ 32
+  pub sums-fit : Countable (c .inputs) (c .gates)
   sums-fit = omega (arith, w .inputs-byte, w .near .gates-in, room .u16s, mul-le-mul-right (most .gates + 1) (width-in f (commandByte f sort.Gate) .0))
 
   -- x is what stands at the position

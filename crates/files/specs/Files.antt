@@ -1,5 +1,5 @@
 -- What the functions that read a whole file ask of one another beside the reading itself, and what a readable file leaves in the lent places.
-use Prim.Native.Nat.{ℕ, zero, suc, _+_, _^_, _<_, _≤_}
+use Prim.Native.Nat.{ℕ, zero, suc, _+_, _*_, _^_, _<_, _≤_}
 use mathlib.Core.Path.{_≡_}
 use mathlib.Core.List.{List}
 use lib.ListN.{length, take, drop}
@@ -19,6 +19,10 @@ Follow f s from (suc k) to = (from + width (formOf f (byte s from)) ≤ length s
 pub record FilledTo (f : File) (s : List ℕ) (to : ℕ) : Type 0 where
   pub count : ℕ
   pub commands : Follow f s 0 count to
+
+-- so many nets can be counted, and the sums that the search for 9 takes fit
+abbrev pub Countable : ℕ → ℕ → Type 0
+Countable n g = 2 * n + g < 2 ^ 32
 
 -- a lent slice of u16 has room for the places of as many gates and outputs as there may be
 pub record RoomFor (f : File) (most : Limits) (long : ℕ) : Type 0 where

@@ -77,7 +77,7 @@ fn nameless_at(file: File, n: usize, g: usize, s: &[u8], at: usize, k: usize, fo
 
 // The first operand of a file that names nothing, in the order of the file, which whole commands fill.
 fn find_nameless(file: File, n: usize, g: usize, s: &[u8]) -> Found
-    requires { ⌜ (2 * n + g < 2 ^ 32) × files.FilledTo file (now s) (length (now s)) ⌝ }
+    requires { ⌜ files.Countable n g × files.FilledTo file (now s) (length (now s)) ⌝ }
     ensures { λ r. ⌜ r ≡ reading.namelessFrom (length (now (s .entry))) file n g (now (s .entry)) 0 0 ⌝ }
 {
     let mut at: usize = 0;
@@ -117,7 +117,7 @@ fn refusal(next: Next) -> Outcome
 
 // At the end command, whose place is given with the counts before it: 8, 7, then 9.
 fn finish(file: File, s: &[u8], at: usize, counts: Counts) -> Outcome
-    requires { ⌜ (2 * counts .inputs + counts .gates < 2 ^ 32) × (at < length (now s)) × files.FilledTo file (now s) (at + 1) ⌝ }
+    requires { ⌜ files.Countable (counts .inputs) (counts .gates) × (at < length (now s)) × files.FilledTo file (now s) (at + 1) ⌝ }
     ensures { λ r. ⌜ ((p : reading.Places) → reading.countsOf p ≡ counts → r ≡ read.outcomeOf (reading.finish file (now (s .entry)) at p)) ⌝ }
 {
     if counts.outputs == 0 {

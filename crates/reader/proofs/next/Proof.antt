@@ -71,7 +71,8 @@ module _ {M : Type 1} (𝓤 : URA M) (H : Heap 𝓤) (A : Atoms 𝓤) (mem : Mem
   abbrev Command : Contract 𝓤
   Command = tripleOf 𝓤 H A command.signature (command.spec 𝓤 H A mem run)
 
-module _ {M : Type 1} (𝓤 : URA M) (H : Heap 𝓤) (A : Atoms 𝓤) (W : Given 𝓤 H A) (mem : Memory → SProp 𝓤) (run : Routine → Fun 𝓤) (κ : Lft) (q : Share) (f : File) (m : Limits) (d : Reader) (b : Counts) where
+module _ {M : Type 1} (𝓤 : URA M) (H : Heap 𝓤) (A : Atoms 𝓤) (W : Given 𝓤 H A) (mem : Memory → SProp 𝓤) (run : Routine → Fun 𝓤) (κ : Lft) (q : Share) (f : File) (m : Limits)
+    (d : Reader) (b : Counts) where
   abbrev κs : Lfts 1
   κs = (κ, tt)
 
@@ -104,7 +105,9 @@ module _ {M : Type 1} (𝓤 : URA M) (H : Heap 𝓤) (A : Atoms 𝓤) (W : Given
   apart : ent 𝓤 (onEntry 𝓤 H A next.signature κs (q, tt) (f, (m, (d, (b, tt)))) at) (sep 𝓤 (Command 𝓤 H A mem run .pre to) (sem 𝓤 H A Together))
   apart =
       qed W ((‵ (flft κ q) ⊛ ‵ ftrue) ∷ ‵ Together ∷ []) ∵
-      move ! (1 ∷ []) $ use1 W (‵ Together ⊛ ‵ Together) (twices 𝓤 H A W (FT.the-row ∷ MT.the-row ∷ B κs ∷ NT.the-row ∷ []) (copy-file 𝓤 H A W, (copy-most 𝓤 H A W, (copy-reader 𝓤 H A W κs, (copy-before 𝓤 H A W, tt)))) (f, (m, (d, (b, tt)))) at) $ split ! $
+      move ! (1 ∷ []) $ use1 W (‵ Together ⊛ ‵ Together)
+      (twices 𝓤 H A W (FT.the-row ∷ MT.the-row ∷ B κs ∷ NT.the-row ∷ []) (copy-file 𝓤 H A W, (copy-most 𝓤 H A W, (copy-reader 𝓤 H A W κs, (copy-before 𝓤 H A W, tt))))
+      (f, (m, (d, (b, tt)))) at) $ split ! $
       fsplit ! $ move ! (1 ∷ []) $ fsplit ! $ move ! (1 ∷ []) $ fsplit ! $
       -- [what d owns; b's; m's; f's; what all own; the token]
       use1 W (given (v-reader κs d ∷ [] ≡ v-reader κs d ∷ []) (‵ (all-own (D κs .parts) (L κs) (fields κs d)))) (own-open 𝓤 H A W (D κs) (L κs) (fields κs d) (v-reader κs d)) $ learn ! (λ _.
@@ -120,7 +123,8 @@ module _ {M : Type 1} (𝓤 : URA M) (H : Heap 𝓤) (A : Atoms 𝓤) (W : Given
   exits : (n : Next) (u : Val) → n ≡ found → ent 𝓤 (⋆ 𝓤 H A (‵ (S.the-row .own n (u ∷ [])) ∷ (‵ (flft κ q) ⊛ ‵ ftrue) ∷ ‵ Together ∷ [])) (Post u)
   exits n u e =
       qed W (‵ (S.the-row .own n (u ∷ [])) ∷ (‵ (flft κ q) ⊛ ‵ ftrue) ∷ ‵ Together ∷ []) ∵
-      suffices ! _ (ends-at 𝓤 H A next.ended stayed (next.clauses 𝓤 H A mem run) W ((κs, (q, tt), tt, (f, (m, (d, (b, tt)))), at), tt) u n (tt, (tt, (tt, (tt, tt)))) (tt, (tt, (tt, (tt, tt))))) $ says ! e $
+      suffices ! _ (ends-at 𝓤 H A next.ended stayed (next.clauses 𝓤 H A mem run) W ((κs, (q, tt), tt, (f, (m, (d, (b, tt)))), at), tt) u n (tt, (tt, (tt, (tt, tt))))
+      (tt, (tt, (tt, (tt, tt))))) $ says ! e $
       move ! (1 ∷ []) $ frame ! $ move ! (1 ∷ []) $ frame ! $ by ! (id⊢ 𝓤 _)
 
   module _ (C : Calls 𝓤 H) (Λ : Loops 𝓤 H) (fm : FmC 𝓤 H (W .laws) C) (known : Triple 𝓤 (C #commands·next-command) (Command 𝓤 H A mem run)) where
@@ -137,13 +141,15 @@ module _ {M : Type 1} (𝓤 : URA M) (H : Heap 𝓤) (A : Atoms 𝓤) (W : Given
         calls-at ! fm (Command 𝓤 H A mem run) known to
         (and-then ! (load ! (from ! (stop !)) (look ! 12 refl)) (and-then ! (load ! (from ! (stop !)) (look ! 10 refl)) (and-then ! (load ! (from ! (stop !)) (look ! 4 refl))
         (and-then ! (load ! (from ! (stop !)) (look ! 2 refl)) (and-then ! (load ! (from ! (stop !)) (look ! 6 refl)) (no-more !)))))) (λ u.
-        use1 W (later (some (λ (n : Next). ((‵ (flft κ q) ⊛ ‵ ftrue) ⊛ ‵ (S.the-row .own n (u ∷ []))) ⊛ raw (ensured 𝓤 H A command.ended (command.clauses 𝓤 H A mem run) κs (f, (m, (d .src, (d .here, (b, tt))))) tt n)))) (id⊢ 𝓤 _) $ await ! tt $ pick ! (λ n.
+        use1 W (later (some (λ (n : Next). ((‵ (flft κ q) ⊛ ‵ ftrue) ⊛ ‵ (S.the-row .own n (u ∷ []))) ⊛ raw
+        (ensured 𝓤 H A command.ended (command.clauses 𝓤 H A mem run) κs (f, (m, (d .src, (d .here, (b, tt))))) tt n)))) (id⊢ 𝓤 _) $ await ! tt $ pick ! (λ n.
         split ! $ move ! (1 ∷ []) $ use1 W (raw (fact 𝓤 (n ≡ found))) (said n) $ heard ! (n ≡ found) (λ e. split ! $ move ! (1 ∷ []) $
         -- [the result; the token; what the parameters own; _6; …; _5; …; _1; …; room for _0; …]
         peeks ! S.the-row (Is S.the-row) (shows 𝓤 H A S.the-row) n (u ∷ []) (λ is.
         land ! (from ! (stop !)) (init ! 15 refl (EL.lawful S.the-type S′.the-laws 𝓤 H A W tt .typed n _ is .0)) $
         returns ! (look ! 15 refl) $ forget ! 3 refl $ forget ! 5 refl $ forget ! 7 refl $ forget ! 9 refl $ forget ! 11 refl $ forget ! 13 refl $ forget ! 15 refl $
-        move ! (15 ∷ 16 ∷ []) $ free1 ! $ move ! (13 ∷ 14 ∷ []) $ free1 ! $ move ! (11 ∷ 12 ∷ []) $ free1 ! $ move ! (9 ∷ 10 ∷ []) $ free1 ! $ move ! (7 ∷ 8 ∷ []) $ free1 ! $ move ! (5 ∷ 6 ∷ []) $ free1 ! $ move ! (3 ∷ 4 ∷ []) $ free1 ! $ free0 ! $
+        move ! (15 ∷ 16 ∷ []) $ free1 ! $ move ! (13 ∷ 14 ∷ []) $ free1 ! $ move ! (11 ∷ 12 ∷ []) $ free1 ! $ move ! (9 ∷ 10 ∷ []) $ free1 ! $ move ! (7 ∷ 8 ∷ []) $ free1 ! $
+        move ! (5 ∷ 6 ∷ []) $ free1 ! $ move ! (3 ∷ 4 ∷ []) $ free1 ! $ free0 ! $
         by ! (exits n u e))))))))))))
 
 module _ {M : Type 1} (𝓤 : URA M) (H : Heap 𝓤) (A : Atoms 𝓤) (W : Given 𝓤 H A) (mem : Memory → SProp 𝓤) (run : Routine → Fun 𝓤) where
@@ -153,13 +159,19 @@ module _ {M : Type 1} (𝓤 : URA M) (H : Heap 𝓤) (A : Atoms 𝓤) (W : Given
       (λ κs. (EL.vals FT.the-type FT′.the-laws, (LL.vals MT.the-type MT′.the-laws, (LL.vals (D κs) (L κs), (LL.vals NT.the-type NT′.the-laws, tt)))))
       (λ κs. (EL.tells FT.the-type FT′.the-laws, (LL.tells MT.the-type MT′.the-laws, (LL.tells (D κs) (L κs), (LL.tells NT.the-type NT′.the-laws, tt)))))
       (λ κs qs bounds a g are. via 𝓤 _ (fst∗ 𝓤 _ (emp 𝓤))
-      (walk 𝓤 H A W mem run (κs .0) (qs .0) (a .0) (a .1 .0) (a .1 .1 .0) (a .1 .1 .1 .0) C Λ fm known (are .0) (are .1 .0) (LL.lawful (D κs) (L κs) 𝓤 H A W .typed (a .1 .1 .0) _ (are .1 .1 .0) .0) (are .1 .1 .1 .0)))
+      (walk 𝓤 H A W mem run (κs .0) (qs .0) (a .0) (a .1 .0) (a .1 .1 .0) (a .1 .1 .1 .0) C Λ fm known (are .0) (are .1 .0)
+      (LL.lawful (D κs) (L κs) 𝓤 H A W .typed (a .1 .1 .0) _ (are .1 .1 .0) .0) (are .1 .1 .1 .0)))
 
 next-meets : {M : Type 1} (𝓤 : URA M) (H : Heap 𝓤) (A : Atoms 𝓤) (W : Given 𝓤 H A) (mem : Memory → SProp 𝓤) (run : Routine → Fun 𝓤) (𝓣 : Tables 𝓤 H)
     → Triple 𝓤 (𝓣 .C #commands·next-command) (Command 𝓤 H A mem run)
     → Meets 𝓤 H A next.signature (WpFn 𝓤 H (𝓣 .C) (𝓣 .Λ) code.function) (next.spec 𝓤 H A mem run)
-next-meets 𝓤 H A W mem run 𝓣 known = walk-meets 𝓤 H A next.ended stayed W
-    (goes-none 𝓤 H A W 1 (λ _. FT.the-row) yes (λ κs x f. refl), (goes-none 𝓤 H A W 1 (λ _. MT.the-row) yes (λ κs x f. refl), (goes-none 𝓤 H A W 1 B yes (λ κs x f. refl), (goes-none 𝓤 H A W 1 (λ _. NT.the-row) yes (λ κs x f. refl), tt))))
+next-meets 𝓤 H A W mem run 𝓣 known = walk-meets 𝓤 H A next.ended stayed W (
+  goes-none 𝓤 H A W 1 (λ _. FT.the-row) yes (λ κs x f. refl),
+  (
+    goes-none 𝓤 H A W 1 (λ _. MT.the-row) yes (λ κs x f. refl),
+    (goes-none 𝓤 H A W 1 B yes (λ κs x f. refl), (goes-none 𝓤 H A W 1 (λ _. NT.the-row) yes (λ κs x f. refl), tt)),
+  ),
+)
     (next.clauses 𝓤 H A mem run) (WpFn 𝓤 H (𝓣 .C) (𝓣 .Λ) code.function) (WpFn-mono 𝓤 H (W .laws) 𝓣 code.function)
     (next-walks 𝓤 H A W mem run (𝓣 .C) (𝓣 .Λ) (fmOf 𝓤 H (W .laws) 𝓣) known)
 

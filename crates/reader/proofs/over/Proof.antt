@@ -61,7 +61,8 @@ module _ {M : Type 1} (𝓤 : URA M) (H : Heap 𝓤) (A : Atoms 𝓤) (W : Given
   exits : ent 𝓤 (onEntry 𝓤 H A over.signature κs (q, tt) (d .src, (d .here, tt)) at) (Post (v-reader κs d))
   exits =
       qed W ((‵ (flft κ q) ⊛ ‵ ftrue) ∷ ‵ Together ∷ []) ∵
-      suffices ! _ (ends-at 𝓤 H A over.ended stayed (over.clauses 𝓤 H A mem run) W ((κs, (q, tt), tt, (d .src, (d .here, tt)), at), tt) (v-reader κs d) d (tt, (tt, tt)) (tt, (tt, tt))) $ says ! (refl, refl) $
+      suffices ! _ (ends-at 𝓤 H A over.ended stayed (over.clauses 𝓤 H A mem run) W ((κs, (q, tt), tt, (d .src, (d .here, tt)), at), tt) (v-reader κs d) d (tt, (tt, tt))
+      (tt, (tt, tt))) $ says ! (refl, refl) $
       frame ! $ use1 W (‵ Together ⊛ ‵ Together) (twices 𝓤 H A W (Src κs ∷ Cursor.the-row ∷ []) (copy-src 𝓤 H A W κs, (copy-here 𝓤 H A W, tt)) (d .src, (d .here, tt)) at) $ split ! $
       frame ! $ by ! (own-shut 𝓤 H A W (D κs) (L κs) (fields κs d))
 

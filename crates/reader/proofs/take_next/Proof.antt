@@ -72,7 +72,10 @@ use Rattle.reader.proofs.take_next.Statement as stated
 use Rattle.reader.proofs.take_next.Code as code
 
 abbrev stayed : Stays (take.ended .signature .params) (take.ended .kept)
-stayed = (stay-none (λ _. FT.the-row) yes, (stay-none (λ _. MT.the-row) yes, (stay-none-slice (0 ∷ []) tt (plain (λ _. u8)) yes, (stay-none (λ _. CT.the-row) yes, (stay-none (λ _. NT.the-row) yes, tt)))))
+stayed = (
+  stay-none (λ _. FT.the-row) yes,
+  (stay-none (λ _. MT.the-row) yes, (stay-none-slice (0 ∷ []) tt (plain (λ _. u8)) yes, (stay-none (λ _. CT.the-row) yes, (stay-none (λ _. NT.the-row) yes, tt)))),
+)
 
 module _ {M : Type 1} (𝓤 : URA M) (H : Heap 𝓤) (A : Atoms 𝓤) (mem : Memory → SProp 𝓤) (run : Routine → Fun 𝓤) where
   -- the contracts that the proof cites
@@ -118,11 +121,14 @@ module _ {M : Type 1} (𝓤 : URA M) (H : Heap 𝓤) (A : Atoms 𝓤) (W : Given
   goes-over : ent 𝓤 (onEntry 𝓤 H A take.signature κs (q, tt) (f, (m, (s, (h, (b, tt))))) at) (sep 𝓤 (Over 𝓤 H A mem run .pre to-over) (sep 𝓤 (sem 𝓤 H A Aside) (sem 𝓤 H A Together)))
   goes-over =
       qed W ((‵ (flft κ q) ⊛ ‵ ftrue) ∷ ‵ Together ∷ []) ∵ move ! (1 ∷ []) $
-      use1 W (‵ Together ⊛ ‵ Together) (twices 𝓤 H A W (FT.the-row ∷ MT.the-row ∷ Src κs ∷ CT.the-row ∷ NT.the-row ∷ []) (copy-file 𝓤 H A W, (copy-most 𝓤 H A W, (copy-src 𝓤 H A W κs, (copy-here 𝓤 H A W, (copy-before 𝓤 H A W, tt))))) (f, (m, (s, (h, (b, tt))))) at) $ split ! $
+      use1 W (‵ Together ⊛ ‵ Together)
+      (twices 𝓤 H A W (FT.the-row ∷ MT.the-row ∷ Src κs ∷ CT.the-row ∷ NT.the-row ∷ [])
+      (copy-file 𝓤 H A W, (copy-most 𝓤 H A W, (copy-src 𝓤 H A W κs, (copy-here 𝓤 H A W, (copy-before 𝓤 H A W, tt))))) (f, (m, (s, (h, (b, tt))))) at) $ split ! $
       fsplit ! $ move ! (1 ∷ []) $ fsplit ! $ move ! (1 ∷ []) $ fsplit ! $ move ! (1 ∷ []) $ fsplit ! $
       -- [what h owns; b's; s's; m's; f's; what all own; the token]
       nothing ! $ move ! (1 ∷ 0 ∷ []) $ fjoin ! $ move ! (2 ∷ 0 ∷ []) $ fjoin ! $ move ! (5 ∷ 0 ∷ []) $
-      use2 W (raw (Over 𝓤 H A mem run .pre to-over)) (qed W ((‵ (flft κ q) ⊛ ‵ ftrue) ∷ ‵ (owns (Src κs ∷ CT.the-row ∷ []) (s, (h, tt)) (v-src s ∷ [], (v-here h ∷ [], tt))) ∷ []) ∵ join ! $ frame ! $ done !) $ frame ! $
+      use2 W (raw (Over 𝓤 H A mem run .pre to-over))
+      (qed W ((‵ (flft κ q) ⊛ ‵ ftrue) ∷ ‵ (owns (Src κs ∷ CT.the-row ∷ []) (s, (h, tt)) (v-src s ∷ [], (v-here h ∷ [], tt))) ∷ []) ∵ join ! $ frame ! $ done !) $ frame ! $
       -- [b's; m's; f's; what all own]
       move ! (1 ∷ 0 ∷ []) $ fjoin ! $ move ! (1 ∷ 0 ∷ []) $ fjoin ! $ frame ! $ by ! (id⊢ 𝓤 _)
 
@@ -136,7 +142,8 @@ module _ {M : Type 1} (𝓤 : URA M) (H : Heap 𝓤) (A : Atoms 𝓤) (W : Given
   abbrev to-next : Reader → Val → NextOf 𝓤 H A mem run .Ghost
   to-next r u = ((κs, (q, tt), tt, (f, (m, (r, (b, tt)))), with u), tt)
 
-  goes-next : (r : Reader) (u : Val) → ent 𝓤 (⋆ 𝓤 H A ((‵ (flft κ q) ⊛ ‵ ftrue) ∷ ‵ (owns (FT.the-row ∷ MT.the-row ∷ B κs ∷ NT.the-row ∷ []) (f, (m, (r, (b, tt)))) (with u)) ∷ [])) (NextOf 𝓤 H A mem run .pre (to-next r u))
+  goes-next : (r : Reader) (u : Val) → ent 𝓤 (⋆ 𝓤 H A ((‵ (flft κ q) ⊛ ‵ ftrue) ∷ ‵ (owns (FT.the-row ∷ MT.the-row ∷ B κs ∷ NT.the-row ∷ []) (f, (m, (r, (b, tt)))) (with u)) ∷ []))
+      (NextOf 𝓤 H A mem run .pre (to-next r u))
   goes-next r u = qed W ((‵ (flft κ q) ⊛ ‵ ftrue) ∷ ‵ (owns (FT.the-row ∷ MT.the-row ∷ B κs ∷ NT.the-row ∷ []) (f, (m, (r, (b, tt)))) (with u)) ∷ []) ∵ join ! $ frame ! $ done !
 
   next-said : (r : Reader) (n : Next) → ent 𝓤 (ensured 𝓤 H A next.ended (next.clauses 𝓤 H A mem run) κs (f, (m, (r, (b, tt)))) tt n) (fact 𝓤 (n ≡ foundBy r))
@@ -148,10 +155,12 @@ module _ {M : Type 1} (𝓤 : URA M) (H : Heap 𝓤) (A : Atoms 𝓤) (W : Given
   exits : (n : Next) (u : Val) → n ≡ found → ent 𝓤 (⋆ 𝓤 H A (‵ (S.the-row .own n (u ∷ [])) ∷ (‵ (flft κ q) ⊛ ‵ ftrue) ∷ ‵ Together ∷ [])) (Post u)
   exits n u e =
       qed W (‵ (S.the-row .own n (u ∷ [])) ∷ (‵ (flft κ q) ⊛ ‵ ftrue) ∷ ‵ Together ∷ []) ∵
-      suffices ! _ (ends-at 𝓤 H A take.ended stayed (take.clauses 𝓤 H A mem run) W ((κs, (q, tt), tt, (f, (m, (s, (h, (b, tt))))), at), tt) u n (tt, (tt, (tt, (tt, (tt, tt))))) (tt, (tt, (tt, (tt, (tt, tt)))))) $ says ! e $
+      suffices ! _ (ends-at 𝓤 H A take.ended stayed (take.clauses 𝓤 H A mem run) W ((κs, (q, tt), tt, (f, (m, (s, (h, (b, tt))))), at), tt) u n (tt, (tt, (tt, (tt, (tt, tt)))))
+      (tt, (tt, (tt, (tt, (tt, tt)))))) $ says ! e $
       move ! (1 ∷ []) $ frame ! $ move ! (1 ∷ []) $ frame ! $ by ! (id⊢ 𝓤 _)
 
-  module _ (C : Calls 𝓤 H) (Λ : Loops 𝓤 H) (fm : FmC 𝓤 H (W .laws) C) (known-over : Triple 𝓤 (C #reader·over) (Over 𝓤 H A mem run)) (known-next : Triple 𝓤 (C #reader·next) (NextOf 𝓤 H A mem run)) where
+  module _ (C : Calls 𝓤 H) (Λ : Loops 𝓤 H) (fm : FmC 𝓤 H (W .laws) C) (known-over : Triple 𝓤 (C #reader·over) (Over 𝓤 H A mem run))
+      (known-next : Triple 𝓤 (C #reader·next) (NextOf 𝓤 H A mem run)) where
     walk : Is FT.the-row f (v-file f ∷ []) → Is MT.the-row m (v-most m ∷ []) → Is (Src κs) s (v-src s ∷ []) → Is CT.the-row h (v-here h ∷ []) → Is NT.the-row b (v-before b ∷ [])
         → ent 𝓤 (onEntry 𝓤 H A take.signature κs (q, tt) (f, (m, (s, (h, (b, tt))))) at) (WpFn 𝓤 H C Λ code.function (v-file f ∷ v-most m ∷ v-src s ∷ v-here h ∷ v-before b ∷ []) Post)
     walk pf pm ps ph pb =
@@ -164,7 +173,8 @@ module _ {M : Type 1} (𝓤 : URA M) (H : Heap 𝓤) (A : Atoms 𝓤) (W : Given
         pass1 ! (init ! 2 refl (LL.lawful NT.the-type NT′.the-laws 𝓤 H A W .typed b _ pb .0)) $ pass0 ! $
         move ! (14 ∷ []) $ use1 W (raw (Over 𝓤 H A mem run .pre to-over) ⊛ (‵ Aside ⊛ ‵ Together)) goes-over $ split ! $
         calls-at ! fm (Over 𝓤 H A mem run) known-over to-over (and-then ! (load ! (from ! (stop !)) (look ! 8 refl)) (and-then ! (load ! (from ! (stop !)) (look ! 6 refl)) (no-more !))) (λ u.
-        use1 W (later (some (λ (r : Reader). ((‵ (flft κ q) ⊛ ‵ ftrue) ⊛ ‵ (B κs .own r (u ∷ []))) ⊛ raw (ensured 𝓤 H A over.ended (over.clauses 𝓤 H A mem run) κs (s, (h, tt)) tt r)))) (id⊢ 𝓤 _) $ await ! tt $ pick ! (λ r.
+        use1 W (later (some (λ (r : Reader). ((‵ (flft κ q) ⊛ ‵ ftrue) ⊛ ‵ (B κs .own r (u ∷ []))) ⊛ raw
+        (ensured 𝓤 H A over.ended (over.clauses 𝓤 H A mem run) κs (s, (h, tt)) tt r)))) (id⊢ 𝓤 _) $ await ! tt $ pick ! (λ r.
         split ! $ move ! (1 ∷ []) $ use1 W (raw (fact 𝓤 ((r .src ≡ s) × (r .here ≡ h)))) (over-said r) $ heard ! ((r .src ≡ s) × (r .here ≡ h)) (λ e. split ! $ move ! (1 ∷ []) $
         -- [what the reader owns; the token; what waits and what all own; room for _6; …; _5; …; _1; …; room for _0; …]
         peeks ! (B κs) (Is (B κs)) (shows 𝓤 H A (B κs)) r (u ∷ []) (λ is.
@@ -174,14 +184,18 @@ module _ {M : Type 1} (𝓤 : URA M) (H : Heap 𝓤) (A : Atoms 𝓤) (W : Given
         move ! (4 ∷ 1 ∷ []) $ fjoin ! $ move ! (1 ∷ 0 ∷ []) $ fjoin ! $ move ! (1 ∷ 0 ∷ []) $ fjoin ! $ move ! (2 ∷ 0 ∷ []) $
         use2 W (raw (NextOf 𝓤 H A mem run .pre (to-next r u))) (goes-next r u) $
         calls-at ! fm (NextOf 𝓤 H A mem run) known-next (to-next r u)
-        (and-then ! (load ! (from ! (stop !)) (look ! 12 refl)) (and-then ! (load ! (from ! (stop !)) (look ! 10 refl)) (and-then ! (load ! (from ! (stop !)) (look ! 2 refl)) (and-then ! (load ! (from ! (stop !)) (look ! 4 refl)) (no-more !))))) (λ u′.
-        use1 W (later (some (λ (n : Next). ((‵ (flft κ q) ⊛ ‵ ftrue) ⊛ ‵ (S.the-row .own n (u′ ∷ []))) ⊛ raw (ensured 𝓤 H A next.ended (next.clauses 𝓤 H A mem run) κs (f, (m, (r, (b, tt)))) tt n)))) (id⊢ 𝓤 _) $ await ! tt $ pick ! (λ n.
+        (and-then ! (load ! (from ! (stop !)) (look ! 12 refl))
+        (and-then ! (load ! (from ! (stop !)) (look ! 10 refl))
+        (and-then ! (load ! (from ! (stop !)) (look ! 2 refl)) (and-then ! (load ! (from ! (stop !)) (look ! 4 refl)) (no-more !))))) (λ u′.
+        use1 W (later (some (λ (n : Next). ((‵ (flft κ q) ⊛ ‵ ftrue) ⊛ ‵ (S.the-row .own n (u′ ∷ []))) ⊛ raw
+        (ensured 𝓤 H A next.ended (next.clauses 𝓤 H A mem run) κs (f, (m, (r, (b, tt)))) tt n)))) (id⊢ 𝓤 _) $ await ! tt $ pick ! (λ n.
         split ! $ move ! (1 ∷ []) $ use1 W (raw (fact 𝓤 (n ≡ foundBy r))) (next-said r n) $ heard ! (n ≡ foundBy r) (λ e′. split ! $ move ! (1 ∷ []) $
         -- [the result; the token; what all own; _6; …; _5; …; _1; …; room for _0; …]
         peeks ! S.the-row (Is S.the-row) (shows 𝓤 H A S.the-row) n (u′ ∷ []) (λ is′.
         land ! (from ! (stop !)) (init ! 15 refl (EL.lawful S.the-type S′.the-laws 𝓤 H A W tt .typed n _ is′ .0)) $
         returns ! (look ! 15 refl) $ forget ! 3 refl $ forget ! 5 refl $ forget ! 7 refl $ forget ! 9 refl $ forget ! 11 refl $ forget ! 13 refl $ forget ! 15 refl $
-        move ! (15 ∷ 16 ∷ []) $ free1 ! $ move ! (13 ∷ 14 ∷ []) $ free1 ! $ move ! (11 ∷ 12 ∷ []) $ free1 ! $ move ! (9 ∷ 10 ∷ []) $ free1 ! $ move ! (7 ∷ 8 ∷ []) $ free1 ! $ move ! (5 ∷ 6 ∷ []) $ free1 ! $ move ! (3 ∷ 4 ∷ []) $ free1 ! $ free0 ! $
+        move ! (15 ∷ 16 ∷ []) $ free1 ! $ move ! (13 ∷ 14 ∷ []) $ free1 ! $ move ! (11 ∷ 12 ∷ []) $ free1 ! $ move ! (9 ∷ 10 ∷ []) $ free1 ! $ move ! (7 ∷ 8 ∷ []) $ free1 ! $
+        move ! (5 ∷ 6 ∷ []) $ free1 ! $ move ! (3 ∷ 4 ∷ []) $ free1 ! $ free0 ! $
         by ! (exits n u′ (e′ ∙ found-same r e)))))))))))))))))
 
 module _ {M : Type 1} (𝓤 : URA M) (H : Heap 𝓤) (A : Atoms 𝓤) (W : Given 𝓤 H A) (mem : Memory → SProp 𝓤) (run : Routine → Fun 𝓤) where
@@ -189,9 +203,13 @@ module _ {M : Type 1} (𝓤 : URA M) (H : Heap 𝓤) (A : Atoms 𝓤) (W : Given
       → Walks 𝓤 H A take.ended stayed (WpFn 𝓤 H C Λ code.function) (take.clauses 𝓤 H A mem run)
   take-next-walks C Λ fm known-over known-next = walked 𝓤 H A take.ended stayed (take.clauses 𝓤 H A mem run) (WpFn 𝓤 H C Λ code.function)
       (λ κs. (EL.vals FT.the-type FT′.the-laws, (LL.vals MT.the-type MT′.the-laws, (slice-vals, (LL.vals CT.the-type CT′.the-laws, (LL.vals NT.the-type NT′.the-laws, tt))))))
-      (λ κs. (EL.tells FT.the-type FT′.the-laws, (LL.tells MT.the-type MT′.the-laws, (shr-slice-tells (named 0) (κs .0) u8, (LL.tells CT.the-type CT′.the-laws, (LL.tells NT.the-type NT′.the-laws, tt))))))
+      (λ κs. (
+        EL.tells FT.the-type FT′.the-laws,
+        (LL.tells MT.the-type MT′.the-laws, (shr-slice-tells (named 0) (κs .0) u8, (LL.tells CT.the-type CT′.the-laws, (LL.tells NT.the-type NT′.the-laws, tt)))),
+      ))
       (λ κs qs bounds a g are. via 𝓤 _ (fst∗ 𝓤 _ (emp 𝓤))
-      (walk 𝓤 H A W mem run (κs .0) (qs .0) (a .0) (a .1 .0) (a .1 .1 .0) (a .1 .1 .1 .0) (a .1 .1 .1 .1 .0) C Λ fm known-over known-next (are .0) (are .1 .0) (are .1 .1 .0) (are .1 .1 .1 .0) (are .1 .1 .1 .1 .0)))
+      (walk 𝓤 H A W mem run (κs .0) (qs .0) (a .0) (a .1 .0) (a .1 .1 .0) (a .1 .1 .1 .0) (a .1 .1 .1 .1 .0) C Λ fm known-over known-next (are .0) (are .1 .0) (are .1 .1 .0)
+      (are .1 .1 .1 .0) (are .1 .1 .1 .1 .0)))
 
 take-next-meets : {M : Type 1} (𝓤 : URA M) (H : Heap 𝓤) (A : Atoms 𝓤) (W : Given 𝓤 H A) (mem : Memory → SProp 𝓤) (run : Routine → Fun 𝓤) (𝓣 : Tables 𝓤 H)
     → Triple 𝓤 (𝓣 .C #reader·over) (Over 𝓤 H A mem run) → Triple 𝓤 (𝓣 .C #reader·next) (NextOf 𝓤 H A mem run)

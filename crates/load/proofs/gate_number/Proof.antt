@@ -1,0 +1,46 @@
+-- `load::gate_number` meets its contract. Assumes nothing.
+use mathlib.Core.Path.{sym, _∙_}
+use denote.Ref.{now}
+use Rattle.load.proofs.Numbers.{number-known, number-unknown}
+use borrow.Author.Needs.{needs}
+use Rattle.load.proofs.gate_number.Statement.{statement}
+use Rattle.load.proofs.gate_number.Tie as tie
+
+add-kind-of : tie.Need-add-kind-of
+add-kind-of c = search needs
+
+shared-slice-read-kind-of : tie.Need-shared-slice-read-kind-of
+shared-slice-read-kind-of c = search needs
+
+kind-of-requires : tie.Need-kind-of-requires
+kind-of-requires c κs = search needs
+
+enum-known-kind : tie.Need-enum-known-kind
+enum-known-kind c = search needs
+
+hold-number-requires : tie.Need-hold-number-requires
+hold-number-requires c κs = search needs
+
+enum-told : tie.Need-enum-told
+enum-told c = search needs
+
+returns : tie.Need-returns
+returns c = number-known _ _ _ _ _ _ _ (sym (c .before .before .kind .given .1) ∙ c .before .before .before .before .kind-of .ensures) (c .hold-number .ensures)
+
+returns-2 : tie.Need-returns-2
+returns-2 c =
+    let z = c .before .before .before .before .before in
+    number-unknown (now (z .args .s)) (z .args .at) (z .args .ground) (z .args .j) (sym (c .enum-told .given .1) ∙ c .before .before .kind-of .ensures)
+
+pub gate-number-spec : {M : Type 1} → statement M
+gate-number-spec =
+    tie.close
+    (tie.spec
+    add-kind-of
+    shared-slice-read-kind-of
+    kind-of-requires
+    enum-known-kind
+    hold-number-requires
+    enum-told
+    returns
+    returns-2)

@@ -1,0 +1,75 @@
+-- `load::load_reference` meets its contract. The loop's invariant: the numbers before i are written. Assumes nothing.
+use Prim.Native.Nat.{ℕ, _-_, _<_}
+use mathlib.Core.Path.{_≡_, refl}
+use native.Mathlib.Omega.{arith}
+use lib.ListN.{length, length-set}
+use denote.Ref.{now}
+use Rattle.load.specs.Load.{referenceNumber}
+use Rattle.load.proofs.Numbers.{WrittenTo, write-more}
+use Rattle.load.proofs.References.{reference-same, reference-loaded}
+use Rattle.load.proofs.load_reference.Statement.{statement}
+use Rattle.load.proofs.load_reference.Tie as tie
+
+abbrev Inv-loop : tie.InvT-loop
+Inv-loop s places counts code₀ end i₀ code i = (length code ≡ length code₀) × WrittenTo (referenceNumber s places counts) code i
+
+abbrev μ-loop : tie.MeasureT-loop
+μ-loop s places counts code₀ end i₀ code i = end - i
+
+mul-end : tie.Need-mul-end Inv-loop μ-loop
+mul-end c = omega arith
+
+add-end : tie.Need-add-end Inv-loop μ-loop
+add-end c = omega arith
+
+loop-holds : tie.Need-loop-holds Inv-loop μ-loop
+loop-holds c = (refl, λ q h. absurd (omega arith))
+
+reference-number-requires : tie.Need-reference-number-requires Inv-loop μ-loop
+reference-number-requires c κs = let z = c .before .before .before .before .before .before .before in (z .pre .0, omega arith)
+
+mul-code : tie.Need-mul-code Inv-loop μ-loop
+mul-code c = omega arith
+
+slice-write-code : tie.Need-slice-write-code Inv-loop μ-loop
+slice-write-code c = omega arith
+
+add-i : tie.Need-add-i Inv-loop μ-loop
+add-i c = omega arith
+
+loop-less : tie.Need-loop-less Inv-loop μ-loop
+loop-less c = omega arith
+
+loop-again : tie.Need-loop-again Inv-loop μ-loop
+loop-again c =
+    let l = c .before .before .loop in
+    (simp length-set (l .inv .0), write-more _ (l .code) (l .i) _ (omega arith) (l .inv .1) (c .reference-number .ensures))
+
+same-length : tie.Need-same-length Inv-loop μ-loop
+same-length c = c .before .loop .inv .0
+
+returns : tie.Need-returns Inv-loop μ-loop
+returns c =
+    let z = c .before .before .before .before .before .before .before in
+    let l = c .before .loop in (
+      reference-same (now (z .args .s)) (now (z .args .places)) (z .args .counts) (l .code) (z .pre .0) (omega arith) (λ q h. l .inv .1 q (omega arith)),
+      reference-loaded (now (z .args .s)) (now (z .args .places)) (z .args .counts) (l .code) (z .pre .0) (omega arith) (λ q h. l .inv .1 q (omega arith)),
+    )
+
+pub load-reference-spec : {M : Type 1} → statement M
+load-reference-spec =
+    tie.close
+    (tie.spec
+    Inv-loop
+    μ-loop
+    mul-end
+    add-end
+    loop-holds
+    reference-number-requires
+    mul-code
+    slice-write-code
+    add-i
+    loop-less
+    loop-again
+    same-length
+    returns)

@@ -1,0 +1,29 @@
+-- `load::pin_number` meets its contract. Assumes nothing.
+use mathlib.Core.Path.{_∙_}
+use denote.Ref.{now}
+use Rattle.load.proofs.Numbers.{pin-there, pin-absent}
+use borrow.Author.Needs.{needs}
+use Rattle.load.proofs.pin_number.Statement.{statement}
+use Rattle.load.proofs.pin_number.Tie as tie
+
+add-operand : tie.Need-add-operand
+add-operand c = search needs
+
+mul-operand : tie.Need-mul-operand
+mul-operand c = search needs
+
+add-operand-2 : tie.Need-add-operand-2
+add-operand-2 c = search needs
+
+operand-requires : tie.Need-operand-requires
+operand-requires c κs = search needs
+
+returns : tie.Need-returns
+returns c = let z = c .before .before .before in c .operand .ensures ∙ pin-there (now (z .args .s)) (z .args .at) (z .args .ground) _ _ (c .before .if1 .taken)
+
+returns-2 : tie.Need-returns-2
+returns-2 c = let z = c .before .before in pin-absent (now (z .args .s)) (z .args .at) (z .args .ground) _ _ (c .if1 .left)
+
+pub pin-number-spec : {M : Type 1} → statement M
+pin-number-spec =
+    tie.close (tie.spec add-operand mul-operand add-operand-2 operand-requires returns returns-2)

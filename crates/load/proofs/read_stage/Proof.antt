@@ -1,0 +1,72 @@
+-- `load::read_stage` meets its contract. Assumes nothing.
+use native.Mathlib.Omega.{arith}
+use mathlib.Core.Path.{sym, ap, _∙_}
+use denote.Ref.{now}
+use Rattle.netlist.specs.declared.File.the-variants as file
+use Rattle.netlist.specs.Reading.{readFile, stageLimits}
+use Rattle.netlist.specs.Read.{outcomeOf}
+use Rattle.load.proofs.Reading.{stage-places, was-read-by, holds-stage, holds-no-stage}
+use borrow.Author.Needs.{needs}
+use Rattle.load.proofs.read_stage.Statement.{statement}
+use Rattle.load.proofs.read_stage.Tie as tie
+
+stage-limits-requires : tie.Need-stage-limits-requires
+stage-limits-requires c κs = search needs
+
+slice-aggregate-read-file : tie.Need-slice-aggregate-read-file
+slice-aggregate-read-file c = search needs
+
+read-file-requires : tie.Need-read-file-requires
+read-file-requires c κs = stage-places _ (c .before .stage-limits .ensures)
+
+enum-known-outcome : tie.Need-enum-known-outcome
+enum-known-outcome c = search needs
+
+slice-aggregate-load-stage : tie.Need-slice-aggregate-load-stage
+slice-aggregate-load-stage c = search needs
+
+load-stage-requires : tie.Need-load-stage-requires
+load-stage-requires c κs =
+    let f = c .before .before .before .before .before .before .read-file in
+    let z = c .before .before .before .before .before .before .before .before .before .before .before in
+    let w = was-read-by file.Stage _ stageLimits (c .before .before .before .before .before .before .before .before .stage-limits .ensures) (now (z .args .s)) _ _ (omega arith) (sym (c .before .before .before .outcome .given .1) ∙ f .ensures .0) (f .ensures .1) in
+    let n = w .file-read .within in
+    (w .file-read, omega (arith, n .gates-in, n .outputs-in))
+
+enum-told : tie.Need-enum-told
+enum-told c = search needs
+
+same-length : tie.Need-same-length
+same-length c = search needs
+
+returns : tie.Need-returns
+returns c =
+    let f = c .before .before .before .before .before .before .before .before .before .read-file in
+    let z = c .before .before .before .before .before .before .before .before .before .before .before .before .before .before in
+    let m = c .before .before .before .before .before .before .before .before .before .before .before .stage-limits .ensures in
+    let e = sym (c .before .before .before .before .before .before .outcome .given .1) ∙ f .ensures .0 in
+    let w = was-read-by file.Stage _ stageLimits m (now (z .args .s)) _ _ (omega arith) e (f .ensures .1) in
+    let l = c .before .before .load-stage .ensures in
+    (e ∙ ap (λ m. outcomeOf (readFile file.Stage m (now (z .args .s)))) m, holds-stage (now (z .args .s)) _ _ _ w (l .0) (l .1))
+
+returns-2 : tie.Need-returns-2
+returns-2 c =
+    let f = c .before .before .before .read-file in
+    let z = c .before .before .before .before .before .before .before .before in
+    let e = f .ensures .0 ∙ ap (λ m. outcomeOf (readFile file.Stage m (now (z .args .s)))) (c .before .before .before .before .before .stage-limits .ensures) in
+    (e, holds-no-stage (now (z .args .s)) _ _ _ _ (sym (c .enum-told .given .1) ∙ e))
+
+pub read-stage-spec : {M : Type 1} → statement M
+read-stage-spec =
+    tie.close
+    (tie.spec
+    stage-limits-requires
+    slice-aggregate-read-file
+    read-file-requires
+    enum-known-outcome
+    slice-aggregate-load-stage
+    load-stage-requires
+    enum-told
+    same-length
+    returns
+    returns-2)

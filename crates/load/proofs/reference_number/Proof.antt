@@ -1,0 +1,71 @@
+-- `load::reference_number` meets its contract. Assumes nothing.
+use Prim.Native.Nat.{_+_, _-_, _*_, _/_, _%_}
+use native.Mathlib.Omega.{arith}
+use mathlib.Core.Path.{_∙_}
+use denote.Ref.{now}
+use Rattle.netlist.specs.Reading.{referenceLimits}
+use Rattle.load.proofs.Numbers.{reference-gate, reference-output}
+use Rattle.load.proofs.Reading.{operator-room, signal-room}
+use borrow.Author.Needs.{needs}
+use Rattle.load.proofs.reference_number.Statement.{statement}
+use Rattle.load.proofs.reference_number.Tie as tie
+
+mul-end : tie.Need-mul-end
+mul-end c = search needs
+
+mul-operator-number : tie.Need-mul-operator-number
+mul-operator-number c = search needs
+
+shared-slice-read-operator-number : tie.Need-shared-slice-read-operator-number
+shared-slice-read-operator-number c = search needs
+
+cast-operator-number : tie.Need-cast-operator-number
+cast-operator-number c = omega (arith, c .shared-slice-known3 .given (c .before .before .before .before .before .args .i / 3))
+
+operator-number-requires : tie.Need-operator-number-requires
+operator-number-requires c κs = let z = c .before .before .before .before .before in operator-room (now (z .args .s)) (now (z .args .places)) (z .args .counts) (z .pre .0) (z .args .i / 3) (omega arith)
+
+returns : tie.Need-returns
+returns c = let z = c .before .before .before .before .before .before in c .operator-number .ensures ∙ reference-gate (now (z .args .s)) (now (z .args .places)) (z .args .counts) (z .args .i) (c .before .before .if1 .taken)
+
+add-at : tie.Need-add-at
+add-at c = search needs
+
+mul-at : tie.Need-mul-at
+mul-at c = search needs
+
+shared-slice-read-at : tie.Need-shared-slice-read-at
+shared-slice-read-at c = search needs
+
+cast-at : tie.Need-cast-at
+cast-at c = let z = c .before .before .before .before .before in omega (arith, c .shared-slice-known4 .given (referenceLimits .gates + (z .args .i - 3 * z .args .counts .gates)))
+
+add-operand : tie.Need-add-operand
+add-operand c = let z = c .before .before .before .before .before in omega (arith, c .shared-slice-known4 .given (referenceLimits .gates + (z .args .i - 3 * z .args .counts .gates)))
+
+operand-requires : tie.Need-operand-requires
+operand-requires c κs =
+    let z = c .before .before .before .before .before in
+    let j = z .args .i - 3 * z .args .counts .gates in
+    omega (arith, signal-room (now (z .args .s)) (now (z .args .places)) (z .args .counts) (z .pre .0) j (omega arith))
+
+returns-2 : tie.Need-returns-2
+returns-2 c = let z = c .before .before .before .before .before .before in c .operand .ensures ∙ reference-output (now (z .args .s)) (now (z .args .places)) (z .args .counts) (z .args .i) (omega arith)
+
+pub reference-number-spec : {M : Type 1} → statement M
+reference-number-spec =
+    tie.close
+    (tie.spec
+    mul-end
+    mul-operator-number
+    shared-slice-read-operator-number
+    cast-operator-number
+    operator-number-requires
+    returns
+    add-at
+    mul-at
+    shared-slice-read-at
+    cast-at
+    add-operand
+    operand-requires
+    returns-2)

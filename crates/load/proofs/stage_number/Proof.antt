@@ -1,0 +1,91 @@
+-- `load::stage_number` meets its contract. Assumes nothing.
+use Prim.Native.Nat.{_+_, _-_, _*_, _/_, _%_}
+use native.Mathlib.Omega.{arith}
+use mathlib.Core.Path.{_∙_}
+use denote.Ref.{now}
+use Rattle.netlist.specs.Reading.{stageLimits}
+use Rattle.load.proofs.Numbers.{stage-gate, stage-output}
+use Rattle.load.proofs.Reading.{gate-room, rails-room}
+use borrow.Author.Needs.{needs}
+use Rattle.load.proofs.stage_number.Statement.{statement}
+use Rattle.load.proofs.stage_number.Tie as tie
+
+mul-end : tie.Need-mul-end
+mul-end c = search needs
+
+mul-ground : tie.Need-mul-ground
+mul-ground c = search needs
+
+add-ground : tie.Need-add-ground
+add-ground c = search needs
+
+cast-ground : tie.Need-cast-ground
+cast-ground c = search needs
+
+mul-gate-number : tie.Need-mul-gate-number
+mul-gate-number c = search needs
+
+shared-slice-read-gate-number : tie.Need-shared-slice-read-gate-number
+shared-slice-read-gate-number c = search needs
+
+cast-gate-number : tie.Need-cast-gate-number
+cast-gate-number c = omega (arith, c .shared-slice-known3 .given (c .before .before .before .before .before .before .before .args .i / 8))
+
+gate-number-requires : tie.Need-gate-number-requires
+gate-number-requires c κs = let z = c .before .before .before .before .before .before .before in gate-room (now (z .args .s)) (now (z .args .places)) (z .args .counts) (z .pre .0) (z .args .i / 8) (omega arith)
+
+returns : tie.Need-returns
+returns c = let z = c .before .before .before .before .before .before .before .before in c .gate-number .ensures ∙ stage-gate (now (z .args .s)) (now (z .args .places)) (z .args .counts) (z .args .i) (c .before .before .before .before .if1 .taken)
+
+add-at : tie.Need-add-at
+add-at c = search needs
+
+mul-at : tie.Need-mul-at
+mul-at c = search needs
+
+shared-slice-read-at : tie.Need-shared-slice-read-at
+shared-slice-read-at c = search needs
+
+cast-at : tie.Need-cast-at
+cast-at c = let z = c .before .before .before .before .before in omega (arith, c .shared-slice-known4 .given (stageLimits .gates + (z .args .i - 8 * z .args .counts .gates) / 2))
+
+add-operand : tie.Need-add-operand
+add-operand c = let z = c .before .before .before .before .before in omega (arith, c .shared-slice-known4 .given (stageLimits .gates + (z .args .i - 8 * z .args .counts .gates) / 2))
+
+mul-operand : tie.Need-mul-operand
+mul-operand c = search needs
+
+add-operand-2 : tie.Need-add-operand-2
+add-operand-2 c = let z = c .before .before .before .before .before in omega (arith, c .shared-slice-known4 .given (stageLimits .gates + (z .args .i - 8 * z .args .counts .gates) / 2))
+
+operand-requires : tie.Need-operand-requires
+operand-requires c κs =
+    let z = c .before .before .before .before .before in
+    let j = z .args .i - 8 * z .args .counts .gates in
+    omega (arith, rails-room (now (z .args .s)) (now (z .args .places)) (z .args .counts) (z .pre .0) (j / 2) (omega arith))
+
+returns-2 : tie.Need-returns-2
+returns-2 c = let z = c .before .before .before .before .before .before in c .operand .ensures ∙ stage-output (now (z .args .s)) (now (z .args .places)) (z .args .counts) (z .args .i) (omega arith)
+
+pub stage-number-spec : {M : Type 1} → statement M
+stage-number-spec =
+    tie.close
+    (tie.spec
+    mul-end
+    mul-ground
+    add-ground
+    cast-ground
+    mul-gate-number
+    shared-slice-read-gate-number
+    cast-gate-number
+    gate-number-requires
+    returns
+    add-at
+    mul-at
+    shared-slice-read-at
+    cast-at
+    add-operand
+    mul-operand
+    add-operand-2
+    operand-requires
+    returns-2)

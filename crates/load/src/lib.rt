@@ -1,0 +1,163 @@
+// Loading a stage or a reference that was read into its flat form, number by number. After this nothing looks at the bytes of a file.
+use gates::Kind;
+use netlist::Counts;
+use netlist::File;
+use netlist::Outcome;
+ghost use mathlib.Core.Path.{_≡_};
+ghost use Prim.Native.Nat.{_+_, _*_, _≤_, _<_};
+ghost use lib.ListN.{length};
+ghost use Rattle.netlist.specs.declared.File.the-variants as file;
+ghost use Rattle.netlist.specs.Reading.{readFile, stageLimits, referenceLimits};
+ghost use Rattle.netlist.specs.Read.{outcomeOf};
+ghost use Rattle.netlist.specs.Content.{stageOf, referenceOf};
+ghost use Rattle.circuit.specs.Stage.{netCount, stageIn, StageLoaded};
+ghost use Rattle.circuit.specs.Reference.{referenceIn, ReferenceLoaded};
+ghost use Rattle.load.specs.Load.{placesIn, FileRead, HoldsStage, HoldsReference, pinNumber, holdNumber, gateNumber, stageNumber, operatorNumber, referenceNumber};
+
+// The room that the flat forms of the largest stage and of the largest reference take.
+pub const STAGE_CODE: usize = 8 * netlist::STAGE_GATES + 2 * netlist::OUTPUTS;
+
+pub const REFERENCE_CODE: usize = 3 * netlist::REFERENCE_GATES + netlist::OUTPUTS;
+
+// ---- a stage
+
+// The net at pin i of the gate command at a place, or the ground where its kind lacks the pin.
+fn pin_number(s: &[u8], at: usize, pins: u8, ground: u16, i: usize) -> u16
+    requires { ⌜ (at + 10 ≤ length (now s)) × (i < 4) ⌝ }
+    ensures { λ r. ⌜ r ≡ pinNumber (now (s .entry)) at pins ground i ⌝ }
+{
+    if i < pins as usize {
+        return netlist::operand(s, at + 2 + 2 * i);
+    }
+    ground
+}
+
+// Number j of a gate with hold.
+fn hold_number(s: &[u8], at: usize, cell: u8, pins: u8, ground: u16, j: usize) -> u16
+    requires { ⌜ at + 10 ≤ length (now s) ⌝ }
+    ensures { λ r. ⌜ r ≡ holdNumber (now (s .entry)) at cell pins ground j ⌝ }
+{
+    match j {
+        0 => cell as u16,
+        1..=4 => pin_number(s, at, pins, ground, j - 1),
+        7 => 1,
+        _ => 0,
+    }
+}
+
+// Number j of the gate whose command stands at a place.
+fn gate_number(s: &[u8], at: usize, ground: u16, j: usize) -> u16
+    requires { ⌜ at + 10 ≤ length (now s) ⌝ }
+    ensures { λ r. ⌜ r ≡ gateNumber (now (s .entry)) at ground j ⌝ }
+{
+    let kind = gates::kind_of(s[at + 1]);
+    match kind {
+        Kind::Hold { cell, pins } => hold_number(s, at, cell, pins, ground, j),
+        Kind::Unknown => 0,
+    }
+}
+
+// Number i of the stage.
+fn stage_number(s: &[u8], places: &[u16], counts: Counts, i: usize) -> u16
+    requires { ⌜ FileRead file.Stage stageLimits (now s) (now places) counts × (i < 8 * counts .gates + 2 * counts .outputs) ⌝ }
+    ensures { λ r. ⌜ r ≡ stageNumber (now (s .entry)) (now (places .entry)) counts i ⌝ }
+{
+    let end = 8 * counts.gates;
+    if i < end {
+        let ground = (2 * counts.inputs + counts.gates) as u16;
+        return gate_number(s, places[i / 8] as usize, ground, i % 8);
+    }
+    let j = i - end;
+    let at = places[netlist::STAGE_GATES + j / 2] as usize;
+    netlist::operand(s, at + 1 + 2 * (j % 2))
+}
+
+// The stage that the file holds, in its flat form; its gates are in no order yet.
+pub fn load_stage(s: &[u8], places: &[u16], counts: Counts, code: &mut [u16])
+    requires { ⌜ FileRead file.Stage stageLimits (now s) (now places) counts × (8 * counts .gates + 2 * counts .outputs ≤ length (now code)) ⌝ }
+    ensures same { λ r. ⌜ stageIn counts (now (code .exit)) ≡ stageOf (now (s .entry)) (placesIn stageLimits counts (now (places .entry))) ⌝ }
+    ensures loaded { λ r. ⌜ StageLoaded counts (now (code .exit)) ⌝ }
+{
+    let end = 8 * counts.gates + 2 * counts.outputs;
+    let mut i: usize = 0;
+    while i < end {
+        code[i] = stage_number(s, places, counts, i);
+        i += 1;
+    }
+}
+
+// Reads a stage file, and loads the stage that it holds.
+pub fn read_stage(s: &[u8], code: &mut [u16]) -> Outcome
+    requires { ⌜ 8 * stageLimits .gates + 2 * stageLimits .outputs ≤ length (now code) ⌝ }
+    ensures answered { λ r. ⌜ r ≡ outcomeOf (readFile file.Stage stageLimits (now (s .entry))) ⌝ }
+    ensures loaded { λ r. ⌜ HoldsStage (now (s .entry)) (readFile file.Stage stageLimits (now (s .entry))) (now (code .exit)) ⌝ }
+{
+    let mut places = [0u16; netlist::STAGE_GATES + netlist::OUTPUTS];
+    let outcome = files::read_file(File::Stage, netlist::stage_limits(), s, &mut places);
+    if let Outcome::Readable(counts) = outcome {
+        load_stage(s, &places, counts, code);
+    }
+    outcome
+}
+
+// ---- a reference
+
+// Number j of the gate whose command stands at a place.
+fn operator_number(s: &[u8], at: usize, j: usize) -> u16
+    requires { ⌜ at + 6 ≤ length (now s) ⌝ }
+    ensures { λ r. ⌜ r ≡ operatorNumber (now (s .entry)) at j ⌝ }
+{
+    let operation = s[at + 1];
+    if j == 0 {
+        return operation as u16;
+    }
+    if j == 1 {
+        return netlist::operand(s, at + 2);
+    }
+    if operation == 1 {
+        return netlist::operand(s, at + 2);
+    }
+    netlist::operand(s, at + 4)
+}
+
+// Number i of the reference.
+fn reference_number(s: &[u8], places: &[u16], counts: Counts, i: usize) -> u16
+    requires { ⌜ FileRead file.Reference referenceLimits (now s) (now places) counts × (i < 3 * counts .gates + counts .outputs) ⌝ }
+    ensures { λ r. ⌜ r ≡ referenceNumber (now (s .entry)) (now (places .entry)) counts i ⌝ }
+{
+    let end = 3 * counts.gates;
+    if i < end {
+        return operator_number(s, places[i / 3] as usize, i % 3);
+    }
+    let j = i - end;
+    let at = places[netlist::REFERENCE_GATES + j] as usize;
+    netlist::operand(s, at + 1)
+}
+
+// The reference that the file holds, in its flat form.
+pub fn load_reference(s: &[u8], places: &[u16], counts: Counts, code: &mut [u16])
+    requires { ⌜ FileRead file.Reference referenceLimits (now s) (now places) counts × (3 * counts .gates + counts .outputs ≤ length (now code)) ⌝ }
+    ensures same { λ r. ⌜ referenceIn counts (now (code .exit)) ≡ referenceOf (now (s .entry)) (placesIn referenceLimits counts (now (places .entry))) ⌝ }
+    ensures loaded { λ r. ⌜ ReferenceLoaded counts (now (code .exit)) ⌝ }
+{
+    let end = 3 * counts.gates + counts.outputs;
+    let mut i: usize = 0;
+    while i < end {
+        code[i] = reference_number(s, places, counts, i);
+        i += 1;
+    }
+}
+
+// Reads a reference file, and loads the reference that it holds.
+pub fn read_reference(s: &[u8], code: &mut [u16]) -> Outcome
+    requires { ⌜ 3 * referenceLimits .gates + referenceLimits .outputs ≤ length (now code) ⌝ }
+    ensures answered { λ r. ⌜ r ≡ outcomeOf (readFile file.Reference referenceLimits (now (s .entry))) ⌝ }
+    ensures loaded { λ r. ⌜ HoldsReference (now (s .entry)) (readFile file.Reference referenceLimits (now (s .entry))) (now (code .exit)) ⌝ }
+{
+    let mut places = [0u16; netlist::REFERENCE_GATES + netlist::OUTPUTS];
+    let outcome = files::read_file(File::Reference, netlist::reference_limits(), s, &mut places);
+    if let Outcome::Readable(counts) = outcome {
+        load_reference(s, &places, counts, code);
+    }
+    outcome
+}
