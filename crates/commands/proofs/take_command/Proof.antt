@@ -5,7 +5,7 @@ use mathlib.Core.Path.{sym, _∙_}
 use borrow.Author.Tests.{le-leb, lt-leb}
 use borrow.Author.Needs.{needs}
 use Rattle.netlist.specs.Commands.{takeSort}
-use Rattle.commands.proofs.Forms.{few-bytes, gate-lead, inputs-wide}
+use Rattle.commands.proofs.Forms.{few-bytes, gate-lead, care-wide, inputs-wide}
 use Rattle.commands.proofs.Position.{by-sort, by-rest}
 use Rattle.commands.proofs.take_command.Statement.{statement}
 use Rattle.commands.proofs.take_command.Tie as tie
@@ -45,6 +45,17 @@ take-gate-requires c κs = omega (arith, gate-lead _ _ (c .before .before .befor
 enum-told-3 : tie.Need-enum-told-3
 enum-told-3 c = search needs
 
+enum-told-4 : tie.Need-enum-told-4
+enum-told-4 c = search needs
+
+add-take-care : tie.Need-add-take-care
+add-take-care c = search needs
+
+take-care-requires : tie.Need-take-care-requires
+take-care-requires c κs =
+    let start = c .before .before .before .before .before in
+    omega (arith, care-wide _ _ (start .pre .0) (c .before .enum-told4 .given .1), start .pre .1)
+
 returns-2 : tie.Need-returns-2
 unfolding takeSort
 returns-2 c =
@@ -72,7 +83,12 @@ returns-6 c =
     sym (by-sort _ _ _ _ _ _ _ (arm .before .before .width .ensures) _ (arm .enum-told3 .given .1) ∙ simp (lt-leb _ _ (c .if3 .left)))
 
 returns-7 : tie.Need-returns-7
-returns-7 c = by-rest _ _ _ _ _ _ _ (c .before .width .ensures) (c .match .keys4)
+unfolding takeSort
+returns-7 c =
+    c .take-care .ensures ∙ sym (by-sort _ _ _ _ _ _ _ (c .before .before .before .before .width .ensures) _ (c .before .before .enum-told4 .given .1))
+
+returns-8 : tie.Need-returns-8
+returns-8 c = by-rest _ _ _ _ _ _ _ (c .before .width .ensures) (c .match .keys5)
 
 pub take-command-spec : {M : Type 1} → statement M
 take-command-spec =
@@ -88,9 +104,13 @@ take-command-spec =
     enum-told-2
     take-gate-requires
     enum-told-3
+    enum-told-4
+    add-take-care
+    take-care-requires
     returns-2
     returns-3
     returns-4
     returns-5
     returns-6
-    returns-7)
+    returns-7
+    returns-8)
