@@ -1,2 +1,2 @@
-pub mod Circuits
+pub mod Judging
 pub mod Files

@@ -1,29 +1,60 @@
 -- `checker::judge` meets its contract. Assumes nothing.
+use mathlib.Core.Path.{sym, _∙_}
 use denote.Ref.{now}
-use Rattle.checker.proofs.Circuits.{is-10, is-11, is-judged, as-many-inputs}
+use Rattle.checker.proofs.Judging.{is-10, is-11, is-12, comparable, is-swept}
 use borrow.Author.Needs.{needs}
 use Rattle.checker.proofs.judge.Statement.{statement}
 use Rattle.checker.proofs.judge.Tie as tie
 
-answer-requires : tie.Need-answer-requires
-answer-requires c κs = search needs
-
 returns : tie.Need-returns
-returns c = let z = c .before .before .before .before .before .before .before .before in is-10 (now (z .args .s)) (now (z .args .places)) (now (z .args .outputs)) (now (z .args .t)) (now (z .args .operations)) (now (z .args .signals)) (z .args .inputs) (z .args .gates) (z .args .m) (z .args .k) _ (c .before .if1 .taken) (c .answer .ensures)
-
-answer-requires-2 : tie.Need-answer-requires-2
-answer-requires-2 c κs = search needs
+returns c = is-10 _ (now (c .before .before .before .before .before .args .code)) _ _ (c .if1 .taken)
 
 returns-2 : tie.Need-returns-2
-returns-2 c = let z = c .before .before .before .before .before .before .before .before .before in is-11 (now (z .args .s)) (now (z .args .places)) (now (z .args .outputs)) (now (z .args .t)) (now (z .args .operations)) (now (z .args .signals)) (z .args .inputs) (z .args .gates) (z .args .m) (z .args .k) _ (c .before .before .if1 .left) (c .before .if2 .taken) (c .answer2 .ensures)
+returns-2 c = is-11 _ (now (c .before .before .before .before .before .before .before .before .args .code)) _ _ (c .before .before .before .if1 .left) (c .if2 .taken)
 
-judge-alike-requires : tie.Need-judge-alike-requires
-judge-alike-requires c κs = let z = c .before .before .before .before .before .before .before .before in (z .pre .0, as-many-inputs _ _ _ _ _ _ (c .before .if1 .left) (z .pre .1), c .if2 .left)
+order-gates-requires : tie.Need-order-gates-requires
+order-gates-requires c κs = search needs
+
+enum-known-g : tie.Need-enum-known-g
+enum-known-g c = search needs
+
+same-length : tie.Need-same-length
+same-length c = search needs
 
 returns-3 : tie.Need-returns-3
-returns-3 c = let z = c .before .before .before .before .before .before .before .before .before in is-judged (now (z .args .s)) (now (z .args .places)) (now (z .args .outputs)) (now (z .args .t)) (now (z .args .operations)) (now (z .args .signals)) (z .args .inputs) (z .args .gates) (z .args .m) (z .args .k) _ (c .before .before .if1 .left) (c .before .if2 .left) (c .judge-alike .ensures)
+returns-3 c =
+    is-12 _ _ _ _ (c .before .before .before .before .before .before .before .before .before .before .if1 .left) (c .before .before .before .before .before .before .before .if2 .left) _ _
+    (c .before .before .before .before .before .order-gates .ensures) _ (c .before .g .given .1)
+
+enum-told : tie.Need-enum-told
+enum-told c = search needs
+
+sweep-all-requires : tie.Need-sweep-all-requires
+sweep-all-requires c κs =
+    comparable _ _ _ _ (c .before .before .before .before .before .before .before .before .before .before .if1 .left) (c .before .before .before .before .before .before .before .if2 .left) _ _
+    (c .before .before .before .before .before .order-gates .ensures) (c .before .enum-told .given .1)
+    (c .before .before .before .before .before .before .before .before .before .before .before .before .before .before .before .pre .1)
+
+same-length-2 : tie.Need-same-length-2
+same-length-2 c = search needs
+
+returns-4 : tie.Need-returns-4
+returns-4 c =
+    is-swept _ _ _ _ (c .before .before .before .before .before .before .before .before .before .before .before .if1 .left)
+    (c .before .before .before .before .before .before .before .before .if2 .left) _ _
+    (c .before .before .before .before .before .before .order-gates .ensures) (c .before .before .enum-told .given .1) _ (c .sweep-all .ensures)
 
 pub judge-spec : {M : Type 1} → statement M
 judge-spec =
     tie.close
-    (tie.spec answer-requires returns answer-requires-2 returns-2 judge-alike-requires returns-3)
+    (tie.spec
+    returns
+    returns-2
+    order-gates-requires
+    enum-known-g
+    same-length
+    returns-3
+    enum-told
+    sweep-all-requires
+    same-length-2
+    returns-4)

@@ -1,3 +1,0 @@
-pub mod Rails
-pub mod Illegal
-pub mod Cases

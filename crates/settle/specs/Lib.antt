@@ -1,4 +1,0 @@
-pub mod Pins
-pub mod Gates
-pub mod Order
-pub mod Settling
