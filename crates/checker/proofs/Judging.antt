@@ -10,16 +10,14 @@ use Rattle.netlist.specs.declared.Counts.{Counts}
 use Rattle.netlist.specs.declared.Found.{Found}
 use Rattle.netlist.specs.declared.Found.the-variants.{At, Nothing}
 use Rattle.netlist.specs.Content.{Stage, Reference}
-use Rattle.verdict.specs.declared.Verdict.{Verdict}
 use Rattle.verdict.specs.declared.Finding.{Finding}
 use Rattle.verdict.specs.declared.Finding.the-variants.{Fault, Passed}
-use Rattle.verdict.specs.Loops.{reachesItself}
-use Rattle.verdict.specs.Words.{numbers}
 use Rattle.verdict.specs.Checks.{verdict, first, atFault, sweep, finding, orLater, firstFault, unequal, looped, sweeps, checks}
 use Rattle.circuit.specs.Stage.{gatesIn, outputIn, outputsIn, stageIn}
 use Rattle.circuit.specs.Reference.{signalIn, signalsIn, referenceIn, ReferenceLoaded}
 use Rattle.circuit.proofs.Tabulate.{length-tabulate}
 use Rattle.loops.specs.Marks.{LoopFound}
+use Rattle.loops.proofs.Findings.{passed-on, faulty, loop-at, no-loop}
 use Rattle.words.specs.Loaded.{Comparable}
 
 -- ---- one check
@@ -31,15 +29,6 @@ differ number a b d = rw (ne-eqb a b d)
 agree : (number a b : ℕ) → a ≡ b → finding (unequal number a b) ≡ Passed
 unfolding finding sweep first atFault
 agree number a b e = rw (eq-eqb a b e)
-
--- where a check finds nothing those after it decide; where it finds a fault, that is it
-passed-on : (f later : Finding) → f ≡ Passed → orLater f later ≡ later
-unfolding orLater
-passed-on f later e = ap (λ (x : Finding). orLater x later) e
-
-faulty : (f later : Finding) (v : Verdict) → f ≡ Fault v → orLater f later ≡ Fault v
-unfolding orLater
-faulty f later v e = ap (λ (x : Finding). orLater x later) e
 
 module _ (c : Counts) (code : List ℕ) (sizes : Counts) (reference : List ℕ) where
   abbrev s : Stage
@@ -76,20 +65,14 @@ module _ (c : Counts) (code : List ℕ) (sizes : Counts) (reference : List ℕ) 
       after-11 : firstFault (checks s r) ≡ orLater (finding (looped s)) (firstFault (sweeps s r))
       after-11 = after-10 ∙ passed-on _ _ (agree 11 (c .outputs) (sizes .outputs) outputs)
 
-      loop-found : finding (looped s) ≡ atFault 12 1 0 found Passed
-      unfolding finding sweep
-      loop-found = ap (λ (f : Found). atFault 12 1 0 f Passed) (sym (l .least-loop))
-
       pub is-12 : (g : ℕ) → found ≡ At g → Fault (verdict 12 1 g 0) ≡ firstFault (checks s r)
-      unfolding atFault
-      is-12 g e = sym (after-11 ∙ faulty _ _ _ (loop-found ∙ ap (λ (f : Found). atFault 12 1 0 f Passed) e))
+      is-12 g e = sym (after-11 ∙ faulty _ _ _ (loop-at c code after found l g e))
 
       module _ (e : found ≡ Nothing) where
         pub comparable : ReferenceLoaded sizes reference → Comparable c after sizes reference
         comparable a = record { stage = l .loaded; ordered = l .in-order e; answers = a; enough = omega arith }
 
         pub is-swept : (f : Finding) → f ≡ firstFault (sweeps (stageIn c after) r) → f ≡ firstFault (checks s r)
-        unfolding atFault
         is-swept f q =
             q ∙ ap (λ (x : Stage). firstFault (sweeps x r)) (l .same)
-            ∙ sym (after-11 ∙ passed-on _ _ (loop-found ∙ ap (λ (f : Found). atFault 12 1 0 f Passed) e))
+            ∙ sym (after-11 ∙ passed-on _ _ (no-loop c code after found l e))

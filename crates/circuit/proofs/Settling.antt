@@ -3,10 +3,10 @@
 use Prim.Native.Nat.{ℕ, _+_, _-_, _*_, _≤_, _<_}
 use native.Mathlib.Omega.{arith}
 use native.Mathlib.Decide.{ℕ-discrete, decLt}
-use mathlib.Core.Path.{_≡_, sym, ap, _∙_, subst, fun-ext}
+use mathlib.Core.Path.{_≡_, sym, ap, ap₂, _∙_, subst, fun-ext}
 use mathlib.Core.List.{List, _++_, map}
 use lib.ListN.{length, getD, set, take, drop, length-map, length-set, length-drop, replicate, length-replicate, getD-replicate, List·getD-append}
-use lib.Seq.{getD-append-add, getD-set-same, getD-set-other, set-out, ext-getD, take-set-le, take-set-lt, drop-set-add, length-take-le, take-add, take-take, take-length, take-append-seam, getD-take}
+use lib.Seq.{getD-append-add, getD-set-same, getD-set-other, set-out, ext-getD, take-set-le, take-set-lt, drop-set-add, length-take-le, take-add, take-take, take-length, take-append-seam, drop-append-seam, getD-take}
 use lib.Dec.{ltb}
 use Rattle.netlist.specs.declared.Counts.{Counts}
 use Rattle.netlist.specs.Reading.{stageLimits, Within}
@@ -121,17 +121,18 @@ low-row c w = record { long = omega (arith, length-replicate {A = ℕ} rowSize 0
     low : (p : ℕ) → p ≤ netCount c → getD {A = ℕ} (replicate rowSize 0) p 0 ≡ 0
     low p h = getD-replicate rowSize p 0 0 (omega (arith, w .inputs-in, w .gates-in))
 
+-- what copying the first bytes of a list to the front of another leaves there
+pub copied-first : (size : ℕ) (row rest held : List ℕ) → size ≤ length row → held ≡ take (length (take size row)) (take size row) ++ rest → take size held ≡ take size row
+copied-first size row rest held h e =
+    ap (take size) (e ∙ ap (λ (l : List ℕ). l ++ rest) (take-length (take size row)))
+    ∙ ap (λ (n : ℕ). take n (take size row ++ rest)) (sym (length-take-le size row h))
+    ∙ take-append-seam (take size row) rest
+
 -- a row after the nets and the ground of another were copied to its front
 module _ (c : Counts) (row rest held : List ℕ) (r : RowFor c row) (long : netCount c < length held)
     (is : held ≡ take (length (take (netCount c + 1) row)) (take (netCount c + 1) row) ++ rest) where
-  abbrev front : List ℕ
-  front = take (netCount c + 1) row
-
-  same : take (netCount c + 1) held ≡ front
-  same =
-      ap (take (netCount c + 1)) (is ∙ ap (λ (l : List ℕ). l ++ rest) (take-length front))
-      ∙ ap (λ (n : ℕ). take n (front ++ rest)) (sym (length-take-le (netCount c + 1) row (omega (arith, r .long))))
-      ∙ take-append-seam front rest
+  same : take (netCount c + 1) held ≡ take (netCount c + 1) row
+  same = copied-first (netCount c + 1) row rest held (omega (arith, r .long)) is
 
   pub copied-nets : netsIn c held ≡ netsIn c row
   copied-nets = sym (take-take (netCount c) (netCount c + 1) held (omega arith)) ∙ ap (take (netCount c)) same ∙ take-take (netCount c) (netCount c + 1) row (omega arith)
@@ -148,6 +149,13 @@ module _ (c : Counts) (row : List ℕ) (r : RowFor c row) where
 
   pub length-levels : length (levelPart c row) ≡ c .gates
   length-levels = length-take-le (c .gates) (drop (2 * c .inputs) row) (omega (arith, length-drop (2 * c .inputs) row, r .long))
+
+  -- the levels of a row by its nets
+  pub levels-by : (rails levels : List ℕ) → length rails ≡ 2 * c .inputs → netsIn c row ≡ rails ++ levels → levelPart c row ≡ levels
+  levels-by rails levels e is =
+      sym (drop-append-seam (railPart c row) (levelPart c row))
+      ∙ ap₂ {C = List ℕ} (λ n l. drop n l) (length-rails ∙ sym e) (sym (take-add (2 * c .inputs) (c .gates) row) ∙ is)
+      ∙ drop-append-seam rails levels
 
   -- after a store of 0 or 1 at a net
   pub row-set : (p x : ℕ) → p < netCount c → x ≤ 1 → RowFor c (set row p x)

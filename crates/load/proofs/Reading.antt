@@ -126,3 +126,22 @@ module _ (s : List ℕ) where
   unfolding HoldsReference outcomeOf
   holds-no-reference (refused k p) number at code e = tt
   holds-no-reference (readable p) number at code e = absurd (let z : _≡_ {A = ℕ} 0 1 = cc in omega arith)
+
+-- ---- what a reading and what it left say together
+
+pub was-refused : (x : Reading) (number at : ℕ) → outcome.Refused number at ≡ outcomeOf x → x ≡ refused number at
+unfolding outcomeOf
+was-refused (refused k p) number at e = let a : k ≡ number = cc in let b : p ≡ at = cc in rw (a, b)
+was-refused (readable p) number at e = absurd (let z : _≡_ {A = ℕ} 0 1 = cc in omega arith)
+
+pub stage-held : (s : List ℕ) (x : Reading) (c : Counts) (code : List ℕ) → outcome.Readable c ≡ outcomeOf x → HoldsStage s x code →
+    (p : Places) × (x ≡ readable p) × (stageIn c code ≡ stageOf s p) × StageLoaded c code
+unfolding outcomeOf HoldsStage
+stage-held s (refused k p) c code e h = absurd (let z : _≡_ {A = ℕ} 0 1 = cc in omega arith)
+stage-held s (readable p) c code e h = let q : c ≡ countsOf p = cc in rw q (p, refl, h .1, h .0)
+
+pub reference-held : (s : List ℕ) (x : Reading) (c : Counts) (code : List ℕ) → outcome.Readable c ≡ outcomeOf x → HoldsReference s x code →
+    (p : Places) × (x ≡ readable p) × (referenceIn c code ≡ referenceOf s p) × ReferenceLoaded c code
+unfolding outcomeOf HoldsReference
+reference-held s (refused k p) c code e h = absurd (let z : _≡_ {A = ℕ} 0 1 = cc in omega arith)
+reference-held s (readable p) c code e h = let q : c ≡ countsOf p = cc in rw q (p, refl, h .1, h .0)

@@ -5,3 +5,4 @@ pub mod Placing
 pub mod Ordering
 pub mod Marking
 pub mod Searching
+pub mod Findings

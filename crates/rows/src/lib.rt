@@ -1,39 +1,26 @@
 // The settled-row call: the verdict on a stage's bytes and a lent row, one byte for each net, and the settled row in its place.
-use netlist::File;
+use netlist::Counts;
 use netlist::Found;
-use netlist::Limits;
 use netlist::Outcome;
 use verdict::Verdict;
 ghost use mathlib.Core.Path.{_≡_};
-ghost use mathlib.Core.List.{List};
-ghost use Prim.Native.Nat.{ℕ, _+_, _*_, _-_, _≤_, _<_};
-ghost use lib.ListN.{length, take};
+ghost use Prim.Native.Nat.{ℕ, _+_, _*_, _≤_, _<_};
+ghost use lib.ListN.{length, getD, take};
 ghost use Rattle.netlist.specs.Reading.{stageLimits};
-ghost use Rattle.netlist.specs.Content.{Pair};
-ghost use Rattle.verdict.specs.Checks as checks;
 ghost use Rattle.verdict.specs.Rows as rows;
+ghost use Rattle.verdict.specs.Search.{least};
+ghost use Rattle.verdict.specs.Checks as checks;
 ghost use Rattle.verdict.specs.Verdicts as verdicts;
 ghost use Rattle.verdict.specs.Demands.{DemandRow};
-ghost use Rattle.settle.specs.Gates.{gatesAt, GatesThere};
-ghost use Rattle.settle.specs.Settling.{Settleable};
-ghost use Rattle.rows.specs.Stages.{settleStage};
+ghost use Rattle.circuit.specs.Stage.{gatesIn, stageIn, StageLoaded};
+ghost use Rattle.circuit.specs.Order.{InOrder};
 
-// A verdict without a word.
-fn answer(number: u64, file: u64, at: usize) -> Verdict
-    ensures { λ r. ⌜ r ≡ checks.verdict number file at 0 ⌝ }
-{
-    Verdict {
-        number,
-        file,
-        at: at as u64,
-        word: 0,
-    }
-}
+// ---- 17
 
 // Whether a rail of input i is above 1, or both are 1.
 fn is_illegal(row: &[u8], i: usize) -> bool
     requires { ⌜ 2 * i + 1 < length (now row) ⌝ }
-    ensures { λ r. ⌜ r ≡ verdicts.illegalInput (now (row .entry)) i ⌝ }
+    ensures { λ r. ⌜ r ≡ checks.illegal (now (row .entry)) i ⌝ }
 {
     let rail0 = row[2 * i];
     let rail1 = row[2 * i + 1];
@@ -46,10 +33,10 @@ fn is_illegal(row: &[u8], i: usize) -> bool
     1 < rail0 + rail1
 }
 
-// 17: the least of the inputs that is illegal.
+// The least of the inputs that is illegal.
 fn illegal_input(row: &[u8], inputs: usize) -> Found
     requires { ⌜ 2 * inputs ≤ length (now row) ⌝ }
-    ensures { λ r. ⌜ r ≡ checks.least (verdicts.illegalInput (now (row .entry))) 0 inputs ⌝ }
+    ensures { λ r. ⌜ r ≡ least (checks.illegal (now (row .entry))) 0 inputs ⌝ }
 {
     let mut i: usize = 0;
     while i < inputs {
@@ -61,34 +48,70 @@ fn illegal_input(row: &[u8], inputs: usize) -> Found
     Found::Nothing
 }
 
-// The part of the row from the first gate's byte on is settled for the part before it.
-fn settle_gates(s: &[u8], places: &[u16], order: &[u16], first: usize, row: &mut [u8])
-    requires { ⌜ (first ≤ 20) × (first ≤ length (now row)) × Settleable (now s) (now places) (now order) (take first (now row)) (length (now row) - first) ⌝ }
-    ensures { λ r. ⌜ now (row .exit) ≡ rows.settled (gatesAt (now (s .entry)) (now (places .entry)) (length (now (row .entry)) - first)) (take first (now (row .entry))) ⌝ }
+// ---- settling
+
+// The lent part of a row, from the first gate's byte on, becomes the levels that settle for the rails. They settle in a row of its own.
+fn settle_part(code: &[u16], counts: Counts, rails: &[u8], part: &mut [u8])
+    requires { ⌜ StageLoaded counts (now code) × InOrder counts (now code) × (length (now rails) ≡ 2 * counts .inputs) × ((p : ℕ) → getD (now rails) p 0 ≤ 1) × (length (now part) ≡ counts .gates) ⌝ }
+    ensures { λ r. ⌜ now (part .exit) ≡ rows.settledLevels (gatesIn counts (now (code .entry))) (now (rails .entry)) ⌝ }
 {
-    let mut rails = [0u8; 20];
-    settle::copy_first(row, first, &mut rails);
-    settle::settle(s, places, order, &rails[..first], &mut row[first..]);
+    let mut row = [0u8; circuit::ROW];
+    bytes::copy(rails, &mut row);
+    circuit::settle(code, counts, &mut row);
+    let first = 2 * counts.inputs;
+    let end = first + counts.gates;
+    bytes::copy(&row[first..end], part);
 }
 
-// A stage that was read: 12, then 16, then 17, else the row settles. Its outputs play no part.
-fn settle_stage(s: &[u8], places: &[u16], inputs: usize, gates: usize, row: &mut [u8]) -> Verdict
-    requires { ⌜ (inputs ≤ 10) × (gates ≤ 128) × GatesThere (now s) (now places) gates ⌝ }
-    ensures { λ r. ⌜ ((outputs : List Pair) → verdicts.answerWith r (now (row .exit)) ≡ settleStage (record { inputs = inputs; gates = gatesAt (now (s .entry)) (now (places .entry)) gates; outputs = outputs }) (now (row .entry))) ⌝ }
+// The gates of a row settle for its rails, which stay: only the part after them is lent.
+fn settle_row(code: &[u16], counts: Counts, row: &mut [u8])
+    requires { ⌜ StageLoaded counts (now code) × InOrder counts (now code) × (length (now row) ≡ 2 * counts .inputs + counts .gates) × ((p : ℕ) → p < 2 * counts .inputs → getD (now row) p 0 ≤ 1) ⌝ }
+    ensures { λ r. ⌜ now (row .exit) ≡ rows.settled (gatesIn counts (now (code .entry))) (take (2 * counts .inputs) (now (row .entry))) ⌝ }
 {
-    let mut marks = [0u8; 128];
-    let mut order = [0u16; 128];
-    if let Found::At(g) = loops::find_loop(s, places, inputs, &mut marks[..gates], &mut order) {
-        return answer(12, 1, g);
+    let first = 2 * counts.inputs;
+    let mut rails = [0u8; 2 * netlist::INPUTS];
+    bytes::copy(&row[..first], &mut rails);
+    settle_part(code, counts, &rails[..first], &mut row[first..]);
+}
+
+// ---- the call
+
+// A stage that was loaded: 12, which puts its gates in order, then 16, then 17, else the row settles.
+fn settle_stage(code: &mut [u16], counts: Counts, row: &mut [u8]) -> Verdict
+    requires { ⌜ StageLoaded counts (now code) ⌝ }
+    ensures { λ r. ⌜ verdicts.answerWith r (now (row .exit)) ≡ verdicts.settleUnless (checks.firstFault (checks.rowChecks (stageIn counts (now (code .entry))) (now (row .entry)))) (stageIn counts (now (code .entry))) (now (row .entry)) ⌝ }
+{
+    if let Found::At(g) = loops::order_gates(code, counts) {
+        return Verdict {
+            number: 12,
+            file: 1,
+            at: g as u64,
+            word: 0,
+        };
     }
-    if row.len() != 2 * inputs + gates {
-        return answer(16, 3, row.len());
+    if row.len() != 2 * counts.inputs + counts.gates {
+        return Verdict {
+            number: 16,
+            file: 3,
+            at: row.len() as u64,
+            word: 0,
+        };
     }
-    if let Found::At(i) = illegal_input(row, inputs) {
-        return answer(17, 3, i);
+    if let Found::At(i) = illegal_input(row, counts.inputs) {
+        return Verdict {
+            number: 17,
+            file: 3,
+            at: i as u64,
+            word: 0,
+        };
     }
-    settle_gates(s, places, &order, 2 * inputs, row);
-    answer(0, 0, 0)
+    settle_row(code, counts, row);
+    Verdict {
+        number: 0,
+        file: 0,
+        at: 0,
+        word: 0,
+    }
 }
 
 // The verdict on a stage's bytes and a lent row. A refusal leaves the row as it was; else the bytes of the inputs keep their values
@@ -98,14 +121,14 @@ pub fn settled_row(stage: &[u8], row: &mut [u8]) -> Verdict
     ensures row { λ r. ⌜ now (row .exit) ≡ verdicts.settledRow (now (stage .entry)) (now (row .entry)) .row ⌝ }
     ensures demands { λ r. ⌜ DemandRow stageLimits (now (stage .entry)) (now (row .entry)) r (now (row .exit)) ⌝ }
 {
-    let mut places = [0u16; 144];
-    let most = Limits {
-        inputs: 10,
-        gates: 128,
-        outputs: 16,
-    };
-    match files::read_file(File::Stage, most, stage, &mut places) {
-        Outcome::Refused { number, at } => answer(number as u64, 1, at),
-        Outcome::Whole(counts) => settle_stage(stage, &places, counts.inputs, counts.gates, row),
+    let mut code = [0u16; load::STAGE_CODE];
+    match load::read_stage(stage, &mut code) {
+        Outcome::Refused { number, at } => Verdict {
+            number: number as u64,
+            file: 1,
+            at: at as u64,
+            word: 0,
+        },
+        Outcome::Readable(counts) => settle_stage(&mut code, counts, row),
     }
 }

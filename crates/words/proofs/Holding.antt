@@ -5,8 +5,8 @@ use native.Mathlib.Omega.{arith}
 use mathlib.Core.Path.{_≡_, sym, ap, _∙_, subst}
 use mathlib.Core.Bool.{Bool, true, false}
 use mathlib.Core.List.{List, _++_}
-use lib.ListN.{length, getD, take, drop}
-use lib.Seq.{getD-take, drop-append-seam, take-append-seam, take-add, take-take}
+use lib.ListN.{length, getD, take}
+use lib.Seq.{getD-take, take-append-seam, take-take}
 use borrow.Author.Tests.{lt-ltb, le-ltb}
 use Rattle.netlist.specs.declared.Counts.{Counts}
 use Rattle.netlist.specs.Content.{Gate, Pair}
@@ -17,7 +17,7 @@ use Rattle.verdict.proofs.Words.{bits-of-length, rails-length}
 use Rattle.circuit.specs.Stage.{netCount, placeOf, gatesIn, outputsIn, stageIn}
 use Rattle.circuit.specs.Order.{orderIn, InOrder}
 use Rattle.circuit.specs.Rows.{RowFor, netsIn, railPart, levelPart, SettledTo, SettledBefore, settledIn, settledHoldingIn}
-use Rattle.circuit.proofs.Settling.{holding-none, settled-before, length-gatesIn, length-rails, order-at}
+use Rattle.circuit.proofs.Settling.{holding-none, settled-before, length-gatesIn, length-rails, levels-by, order-at}
 use Rattle.words.specs.Finds.{unobserved}
 
 module _ (c : Counts) (code row : List ℕ) (ordered : InOrder c code) (r : RowFor c row) (is : netsIn c row ≡ settledIn c code row) (g : ℕ) (hg : g < c .gates) where
@@ -50,10 +50,7 @@ module _ (c : Counts) (code row : List ℕ) (ordered : InOrder c code) (r : RowF
 
   -- the levels of a settled row
   levels-settled : levelPart c row ≡ settledLevels gates R
-  levels-settled =
-      sym (drop-append-seam R (levelPart c row))
-      ∙ ap (drop (length R)) (sym (take-add (2 * c .inputs) (c .gates) row) ∙ is)
-      ∙ drop-append-seam R (settledLevels gates R)
+  levels-settled = levels-by c row r R (settledLevels gates R) (length-rails c row r) is
 
   -- what settling from g's place on asks for
   pub hold-before : SettledTo (placeOf code g) g c code row

@@ -1,7 +1,8 @@
 -- `checker::check` meets its contract. Assumes nothing.
 use mathlib.Core.Path.{sym, _∙_}
 use denote.Ref.{now}
-use Rattle.checker.proofs.Files.{stage-refused, stage-there, stage-judged, with-demands}
+use Rattle.load.proofs.Reading.{stage-held}
+use Rattle.checker.proofs.Files.{stage-refused, stage-judged, with-demands}
 use borrow.Author.Needs.{needs}
 use Rattle.checker.proofs.check.Statement.{statement}
 use Rattle.checker.proofs.check.Tie as tie
@@ -28,7 +29,7 @@ check-reference-requires : tie.Need-check-reference-requires
 check-reference-requires c κs =
     let z = c .before .before .before .before .before .before .before .before .before in
     let f = c .before .before .before .before .before .read-stage .ensures in
-    stage-there (now (z .args .stage)) (now (z .args .reference)) _ _ (sym (c .before .before .counts .given .1) ∙ f .0) (f .1)
+    stage-held (now (z .args .stage)) _ _ _ (sym (c .before .before .counts .given .1) ∙ f .0) (f .1) .3
 
 returns : tie.Need-returns
 returns c =

@@ -1,7 +1,8 @@
 -- `checker::check_reference` meets its contract. Assumes nothing.
 use mathlib.Core.Path.{sym, _∙_}
 use denote.Ref.{now}
-use Rattle.checker.proofs.Files.{reference-refused, reference-there, reference-judged}
+use Rattle.load.proofs.Reading.{reference-held}
+use Rattle.checker.proofs.Files.{reference-refused, reference-judged}
 use borrow.Author.Needs.{needs}
 use Rattle.checker.proofs.check_reference.Statement.{statement}
 use Rattle.checker.proofs.check_reference.Tie as tie
@@ -28,7 +29,7 @@ judge-requires : tie.Need-judge-requires
 judge-requires c κs =
     let z = c .before .before .before .before .before .before .before .before .before .before in
     let f = c .before .before .before .before .before .before .read-reference .ensures in
-    (z .pre, reference-there (now (z .args .reference)) _ _ _ (sym (c .before .before .before .sizes .given .1) ∙ f .0) (f .1))
+    (z .pre, reference-held (now (z .args .reference)) _ _ _ (sym (c .before .before .before .sizes .given .1) ∙ f .0) (f .1) .3)
 
 verdict-of-requires : tie.Need-verdict-of-requires
 verdict-of-requires c κs = search needs

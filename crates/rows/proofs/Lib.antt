@@ -1,0 +1,3 @@
+pub mod Illegal
+pub mod Settling
+pub mod Cases
