@@ -37,6 +37,9 @@ pub const STAGE_GATES: usize = 128;
 
 pub const REFERENCE_GATES: usize = 256;
 
+// How many words that many inputs have, and so the most care words.
+pub const WORDS: usize = 1 << INPUTS;
+
 // The limits of a stage file.
 pub fn stage_limits() -> Limits
     ensures { λ r. ⌜ r ≡ reading.stageLimits ⌝ }

@@ -25,11 +25,14 @@ mul-end-2 c = omega arith
 add-end : tie.Need-add-end Inv-loop μ-loop
 add-end c = omega arith
 
+add-end-2 : tie.Need-add-end-2 Inv-loop μ-loop
+add-end-2 c = omega arith
+
 loop-holds : tie.Need-loop-holds Inv-loop μ-loop
 loop-holds c = (refl, λ q h. absurd (omega arith))
 
 stage-number-requires : tie.Need-stage-number-requires Inv-loop μ-loop
-stage-number-requires c κs = let z = c .before .before .before .before .before .before .before in (z .pre .0, omega arith)
+stage-number-requires c κs = let z = c .before .before .before .before .before .before .before .before in (z .pre .0, omega arith)
 
 mul-code : tie.Need-mul-code Inv-loop μ-loop
 mul-code c = omega arith
@@ -53,7 +56,7 @@ same-length c = c .before .loop .inv .0
 
 returns : tie.Need-returns Inv-loop μ-loop
 returns c =
-    let z = c .before .before .before .before .before .before .before in
+    let z = c .before .before .before .before .before .before .before .before in
     let l = c .before .loop in (
       stage-same (now (z .args .s)) (now (z .args .places)) (z .args .counts) (l .code) (z .pre .0) (omega arith) (λ q h. l .inv .1 q (omega arith)),
       stage-loaded (now (z .args .s)) (now (z .args .places)) (z .args .counts) (l .code) (z .pre .0) (omega arith) (λ q h. l .inv .1 q (omega arith)),
@@ -68,6 +71,7 @@ load-stage-spec =
     mul-end
     mul-end-2
     add-end
+    add-end-2
     loop-holds
     stage-number-requires
     mul-code

@@ -6,6 +6,7 @@ use Rattle.netlist.specs.declared.File.the-variants as file
 use Rattle.netlist.specs.Reading.{readFile, referenceLimits}
 use Rattle.netlist.specs.Read.{outcomeOf}
 use Rattle.load.proofs.Reading.{reference-places, was-read-by, holds-reference, holds-no-reference}
+use Rattle.files.specs.Files.{mostCare}
 use borrow.Author.Needs.{needs}
 use Rattle.load.proofs.read_reference.Statement.{statement}
 use Rattle.load.proofs.read_reference.Tie as tie
@@ -26,6 +27,7 @@ slice-aggregate-load-reference : tie.Need-slice-aggregate-load-reference
 slice-aggregate-load-reference c = search needs
 
 load-reference-requires : tie.Need-load-reference-requires
+unfolding mostCare
 load-reference-requires c κs =
     let f = c .before .before .before .before .before .before .read-file in
     let z = c .before .before .before .before .before .before .before .before .before .before .before in
@@ -40,6 +42,7 @@ same-length : tie.Need-same-length
 same-length c = search needs
 
 returns : tie.Need-returns
+unfolding mostCare
 returns c =
     let f = c .before .before .before .before .before .before .before .before .before .read-file in
     let z = c .before .before .before .before .before .before .before .before .before .before .before .before .before .before in

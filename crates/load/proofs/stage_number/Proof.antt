@@ -4,7 +4,8 @@ use native.Mathlib.Omega.{arith}
 use mathlib.Core.Path.{_∙_}
 use denote.Ref.{now}
 use Rattle.netlist.specs.Reading.{stageLimits}
-use Rattle.load.proofs.Numbers.{stage-gate, stage-output}
+use Rattle.files.specs.Files.{mostCare}
+use Rattle.load.proofs.Numbers.{stage-gate, stage-output, stage-care}
 use Rattle.load.proofs.Reading.{gate-room, rails-room}
 use borrow.Author.Needs.{needs}
 use Rattle.load.proofs.stage_number.Statement.{statement}
@@ -37,6 +38,9 @@ gate-number-requires c κs = let z = c .before .before .before .before .before .
 returns : tie.Need-returns
 returns c = let z = c .before .before .before .before .before .before .before .before in c .gate-number .ensures ∙ stage-gate (now (z .args .s)) (now (z .args .places)) (z .args .counts) (z .args .i) (c .before .before .before .before .if1 .taken)
 
+mul-rails : tie.Need-mul-rails
+mul-rails c = search needs
+
 add-at : tie.Need-add-at
 add-at c = search needs
 
@@ -47,25 +51,44 @@ shared-slice-read-at : tie.Need-shared-slice-read-at
 shared-slice-read-at c = search needs
 
 cast-at : tie.Need-cast-at
-cast-at c = let z = c .before .before .before .before .before in omega (arith, c .shared-slice-known4 .given (stageLimits .gates + (z .args .i - 8 * z .args .counts .gates) / 2))
+cast-at c = let z = c .before .before .before .before .before .before .before in omega (arith, c .shared-slice-known4 .given (stageLimits .gates + (z .args .i - 8 * z .args .counts .gates) / 2))
 
 add-operand : tie.Need-add-operand
-add-operand c = let z = c .before .before .before .before .before in omega (arith, c .shared-slice-known4 .given (stageLimits .gates + (z .args .i - 8 * z .args .counts .gates) / 2))
+add-operand c = let z = c .before .before .before .before .before .before .before in omega (arith, c .shared-slice-known4 .given (stageLimits .gates + (z .args .i - 8 * z .args .counts .gates) / 2))
 
 mul-operand : tie.Need-mul-operand
 mul-operand c = search needs
 
 add-operand-2 : tie.Need-add-operand-2
-add-operand-2 c = let z = c .before .before .before .before .before in omega (arith, c .shared-slice-known4 .given (stageLimits .gates + (z .args .i - 8 * z .args .counts .gates) / 2))
+add-operand-2 c = let z = c .before .before .before .before .before .before .before in omega (arith, c .shared-slice-known4 .given (stageLimits .gates + (z .args .i - 8 * z .args .counts .gates) / 2))
 
 operand-requires : tie.Need-operand-requires
 operand-requires c κs =
-    let z = c .before .before .before .before .before in
+    let z = c .before .before .before .before .before .before .before in
     let j = z .args .i - 8 * z .args .counts .gates in
     omega (arith, rails-room (now (z .args .s)) (now (z .args .places)) (z .args .counts) (z .pre .0) (j / 2) (omega arith))
 
 returns-2 : tie.Need-returns-2
-returns-2 c = let z = c .before .before .before .before .before .before in c .operand .ensures ∙ stage-output (now (z .args .s)) (now (z .args .places)) (z .args .counts) (z .args .i) (omega arith)
+returns-2 c = let z = c .before .before .before .before .before .before .before .before in c .operand .ensures ∙ stage-output (now (z .args .s)) (now (z .args .places)) (z .args .counts) (z .args .i) (omega arith) (c .before .before .if2 .taken)
+
+-- the care word at its place in the slice
+add-result : tie.Need-add-result
+add-result c = search needs
+
+add-result-2 : tie.Need-add-result-2
+add-result-2 c = search needs
+
+mul-result : tie.Need-mul-result
+mul-result c = search needs
+
+shared-slice-read-result : tie.Need-shared-slice-read-result
+unfolding mostCare
+shared-slice-read-result c = search needs
+
+returns-3 : tie.Need-returns-3
+returns-3 c =
+    let z = c .before .before .before .before .before .before .before in
+    stage-care (now (z .args .s)) (now (z .args .places)) (z .args .counts) (z .args .i) (omega arith) (omega arith)
 
 pub stage-number-spec : {M : Type 1} → statement M
 stage-number-spec =
@@ -80,6 +103,7 @@ stage-number-spec =
     cast-gate-number
     gate-number-requires
     returns
+    mul-rails
     add-at
     mul-at
     shared-slice-read-at
@@ -88,4 +112,9 @@ stage-number-spec =
     mul-operand
     add-operand-2
     operand-requires
-    returns-2)
+    returns-2
+    add-result
+    add-result-2
+    mul-result
+    shared-slice-read-result
+    returns-3)
