@@ -32,11 +32,11 @@ fn word_at(code: &[u16], counts: Counts, k: usize) -> usize
     requires { ⌜ StageLoaded counts (now code) × (k < wordCount (stageIn counts (now code))) ⌝ }
     ensures { λ r. ⌜ r ≡ getD (words (stageIn counts (now (code .entry)))) k 0 ⌝ }
 {
-    if counts.care == 0 {
-        return k;
+    if counts.care != 0 {
+        let first = 8 * counts.gates + 2 * counts.outputs;
+        return code[first + k] as usize;
     }
-    let first = 8 * counts.gates + 2 * counts.outputs;
-    code[first + k] as usize
+    k
 }
 
 // The number of a check.

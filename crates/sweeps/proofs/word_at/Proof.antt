@@ -7,9 +7,6 @@ use Rattle.sweeps.proofs.Sweeping.{all-at, care-count, care-at}
 use Rattle.sweeps.proofs.word_at.Statement.{statement}
 use Rattle.sweeps.proofs.word_at.Tie as tie
 
-returns : tie.Need-returns
-returns c = let start = c .before .before in all-at (start .args .counts) (now (start .args .code)) (c .if1 .taken) (start .args .k) (start .pre .1)
-
 mul-first : tie.Need-mul-first
 mul-first c = search needs
 
@@ -23,38 +20,40 @@ add-result : tie.Need-add-result
 add-result c =
     let tested = c .before .before in
     let start = tested .before .before in
-    omega (arith, start .pre .1, care-count (start .args .counts) (now (start .args .code)) (tested .if1 .left), start .pre .0 .room)
+    omega (arith, start .pre .1, care-count (start .args .counts) (now (start .args .code)) (tested .if1 .taken), start .pre .0 .room)
 
 mul-result : tie.Need-mul-result
 mul-result c =
     let tested = c .before .before in
     let start = tested .before .before in
-    omega (arith, start .pre .1, care-count (start .args .counts) (now (start .args .code)) (tested .if1 .left), start .pre .0 .room)
+    omega (arith, start .pre .1, care-count (start .args .counts) (now (start .args .code)) (tested .if1 .taken), start .pre .0 .room)
 
 shared-slice-read-result : tie.Need-shared-slice-read-result
 shared-slice-read-result c =
     let tested = c .before .before .before in
     let start = tested .before .before in
-    omega (arith, start .pre .1, care-count (start .args .counts) (now (start .args .code)) (tested .if1 .left), start .pre .0 .room)
+    omega (arith, start .pre .1, care-count (start .args .counts) (now (start .args .code)) (tested .if1 .taken), start .pre .0 .room)
 
 cast-result : tie.Need-cast-result
 cast-result c =
     let start = c .before .before .before .before .before in
     omega (arith, c .shared-slice-known .given (8 * start .args .counts .gates + 2 * start .args .counts .outputs + start .args .k))
 
-returns-2 : tie.Need-returns-2
-returns-2 c =
+returns : tie.Need-returns
+returns c =
     let tested = c .before .before .before in
     let start = tested .before .before in
-    let some = tested .if1 .left in
+    let some = tested .if1 .taken in
     care-at (start .args .counts) (now (start .args .code)) some (start .args .k)
     (omega (arith, start .pre .1, care-count (start .args .counts) (now (start .args .code)) some))
+
+returns-2 : tie.Need-returns-2
+returns-2 c = let start = c .before .before in all-at (start .args .counts) (now (start .args .code)) (c .if1 .left) (start .args .k) (start .pre .1)
 
 pub word-at-spec : {M : Type 1} → statement M
 word-at-spec =
     tie.close
     (tie.spec
-    returns
     mul-first
     mul-first-2
     add-first
@@ -62,4 +61,5 @@ word-at-spec =
     mul-result
     shared-slice-read-result
     cast-result
+    returns
     returns-2)
