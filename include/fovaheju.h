@@ -23,26 +23,28 @@ extern "C" {
 /* The verdict: four numbers. All are 0 where the call accepts. */
 struct fovaheju_verdict {
     /* What was found: 0 accepted, 1 to 9 a file that cannot be read, 10 and 11 counts that differ, 12 a loop,
-       13 a wrong output, 14 not input-complete, 15 not observable, 16 and 17 a row that cannot be taken.
+       13 a wrong output, 14 not input-complete, 15 not observable, 16 and 17 a row that cannot be taken, 18 and 19 a
+       care word that cannot be taken.
        docs/VERDICTS.md has the list. */
     uint64_t number;
     /* In which file: 1 the stage, 2 the reference, 3 the row, 0 none. */
     uint64_t file;
-    /* At which place: a byte of the file for 1 to 9, the stage's count for 10 and 11, a gate for 12 and 15, an output
+    /* At which place: a byte of the file for 1 to 9, 18 and 19, the stage's count for 10 and 11, a gate for 12 and 15, an output
        for 13, an input for 14 and 17, the row's length for 16. */
     uint64_t at;
     /* In which input word for 13 to 15, bit i being input i; the reference's count for 10 and 11; else 0. */
     uint64_t word;
 };
 
-/* The verdict on a stage file and a reference file, given as their bytes. The numbers are 0 to 15. */
+/* The verdict on a stage file and a reference file, given as their bytes. The numbers are 0 to 15, 18
+   and 19. */
 struct fovaheju_verdict fovaheju_check(const uint8_t *stage, size_t stage_len,
                                        const uint8_t *reference, size_t reference_len);
 
 /* Settles a row of the stage: one byte for each net, two for each input (rail 0, rail 1), then one for each gate. The
    bytes of the inputs are 0 or 1 and not both 1; what the bytes of the gates hold is ignored. Where the number is 0,
    each gate's byte is then 1 if the gate is high and 0 if it is low, and the inputs' bytes are as before. Where the row
-   is refused, it is left as it was. The numbers are 0 to 9, 12, 16 and 17. */
+   is refused, it is left as it was. The numbers are 0 to 9, 12 and 16 to 19. */
 struct fovaheju_verdict fovaheju_settled_row(const uint8_t *stage, size_t stage_len,
                                              uint8_t *row, size_t row_len);
 
