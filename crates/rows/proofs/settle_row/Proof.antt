@@ -47,13 +47,10 @@ settle-part-requires : tie.Need-settle-part-requires
 settle-part-requires c κs =
     let z = c .before .before .before .before .before .before .before .before .before in
     let n = z .args .counts in
-    let e = copied-first (2 * n .inputs) (now (z .args .row)) _ _ (omega arith) (c .before .before .before .copy .ensures .1) in (
-      z .pre .0,
-      z .pre .1,
-      ap length e ∙ first-long n (now (z .args .row)) (z .pre .2),
-      (λ p. subst (λ (l : List ℕ). getD l p 0 ≤ 1) (sym e) (first-bits n (now (z .args .row)) (z .pre .2) (z .pre .3) p)),
-      part-long n (now (z .args .row)) (z .pre .2),
-    )
+    let e = copied-first (2 * n .inputs) (now (z .args .row)) _ _ (omega arith) (c .before .before .before .copy .ensures .1) in
+    (z .pre .0, z .pre .1, ap length e ∙ first-long n (now (z .args .row)) (z .pre .2),
+    (λ p. subst (λ (l : List ℕ). getD l p 0 ≤ 1) (sym e) (first-bits n (now (z .args .row)) (z .pre .2) (z .pre .3) p)),
+    part-long n (now (z .args .row)) (z .pre .2))
 
 same-length : tie.Need-same-length
 same-length c = search needs

@@ -59,12 +59,9 @@ settle-row-requires : tie.Need-settle-row-requires
 settle-row-requires c κs =
     let z = c .before .before .before .before .before .before .before .before .before .before .before .before .before .before .before .before .before in
     let l = c .before .before .before .before .before .before .before .before .before .before .before .before .before .order-gates .ensures in
-    let e = c .before .before .before .before .before .before .before .before .before .enum-told .given .1 in (
-      l .loaded,
-      l .in-order e,
-      c .before .before .before .before .before .before .if1 .left,
-      rails-bits (z .args .counts) (now (z .args .code)) _ (now (z .args .row)) _ l e (c .before .before .before .before .before .before .if1 .left) _ (c .before .before .before .before .illegal-input .ensures) (c .before .before .enum-told2 .given .1),
-    )
+    let e = c .before .before .before .before .before .before .before .before .before .enum-told .given .1 in
+    (l .loaded, l .in-order e, c .before .before .before .before .before .before .if1 .left,
+    rails-bits (z .args .counts) (now (z .args .code)) _ (now (z .args .row)) _ l e (c .before .before .before .before .before .before .if1 .left) _ (c .before .before .before .before .illegal-input .ensures) (c .before .before .enum-told2 .given .1))
 
 same-length-5 : tie.Need-same-length-5
 same-length-5 c = search needs
