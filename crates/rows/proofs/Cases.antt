@@ -103,6 +103,7 @@ module _ (bytes row : List ℕ) where
   -- the answer has the verdict and the row, and so the demands
   pub answered : (v : Verdict) (row′ : List ℕ) → answerWith v row′ ≡ settledRow bytes row →
       (v ≡ settledRow bytes row .verdict) × ((row′ ≡ settledRow bytes row .row) × DemandRow stageLimits bytes row v row′)
-  answered v row′ e =
-      (ap (λ (a : RowAnswer). a .verdict) e,
-      (ap (λ (a : RowAnswer). a .row) e, subst (λ (a : RowAnswer). DemandRow stageLimits bytes row (a .verdict) (a .row)) (sym e) (demand-row stageLimits bytes row)))
+  answered v row′ e = (
+    ap (λ (a : RowAnswer). a .verdict) e,
+    (ap (λ (a : RowAnswer). a .row) e, subst (λ (a : RowAnswer). DemandRow stageLimits bytes row (a .verdict) (a .row)) (sym e) (demand-row stageLimits bytes row)),
+  )

@@ -7,24 +7,6 @@ use borrow.Author.Needs.{needs}
 use Rattle.checker.proofs.check.Statement.{statement}
 use Rattle.checker.proofs.check.Tie as tie
 
-slice-aggregate-read-stage : tie.Need-slice-aggregate-read-stage
-slice-aggregate-read-stage c = search needs
-
-read-stage-requires : tie.Need-read-stage-requires
-read-stage-requires c κs = search needs
-
-enum-known-number : tie.Need-enum-known-number
-enum-known-number c = search needs
-
-cast-t11 : tie.Need-cast-t11
-cast-t11 c = search needs
-
-enum-known-counts : tie.Need-enum-known-counts
-enum-known-counts c = search needs
-
-slice-aggregate-check-reference : tie.Need-slice-aggregate-check-reference
-slice-aggregate-check-reference c = search needs
-
 check-reference-requires : tie.Need-check-reference-requires
 check-reference-requires c κs =
     let z = c .before .before .before .before .before .before .before .before .before in
@@ -48,12 +30,12 @@ pub check-spec : {M : Type 1} → statement M
 check-spec =
     tie.close
     (tie.spec
-    slice-aggregate-read-stage
-    read-stage-requires
-    enum-known-number
-    cast-t11
-    enum-known-counts
-    slice-aggregate-check-reference
+    (λ c. search needs)
+    (λ c κs. search needs)
+    (λ c. search needs)
+    (λ c. search needs)
+    (λ c. search needs)
+    (λ c. search needs)
     check-reference-requires
     returns
     returns-2)

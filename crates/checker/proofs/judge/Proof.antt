@@ -12,31 +12,16 @@ returns c = is-10 _ (now (c .before .before .before .before .before .args .code)
 returns-2 : tie.Need-returns-2
 returns-2 c = is-11 _ (now (c .before .before .before .before .before .before .before .before .args .code)) _ _ (c .before .before .before .if1 .left) (c .if2 .taken)
 
-order-gates-requires : tie.Need-order-gates-requires
-order-gates-requires c κs = search needs
-
-enum-known-g : tie.Need-enum-known-g
-enum-known-g c = search needs
-
-same-length : tie.Need-same-length
-same-length c = search needs
-
 returns-3 : tie.Need-returns-3
 returns-3 c =
     is-12 _ _ _ _ (c .before .before .before .before .before .before .before .before .before .before .if1 .left) (c .before .before .before .before .before .before .before .if2 .left) _ _
     (c .before .before .before .before .before .order-gates .ensures) _ (c .before .g .given .1)
-
-enum-told : tie.Need-enum-told
-enum-told c = search needs
 
 sweep-all-requires : tie.Need-sweep-all-requires
 sweep-all-requires c κs =
     comparable _ _ _ _ (c .before .before .before .before .before .before .before .before .before .before .if1 .left) (c .before .before .before .before .before .before .before .if2 .left) _ _
     (c .before .before .before .before .before .order-gates .ensures) (c .before .enum-told .given .1)
     (c .before .before .before .before .before .before .before .before .before .before .before .before .before .before .before .pre .1)
-
-same-length-2 : tie.Need-same-length-2
-same-length-2 c = search needs
 
 returns-4 : tie.Need-returns-4
 returns-4 c =
@@ -50,11 +35,11 @@ judge-spec =
     (tie.spec
     returns
     returns-2
-    order-gates-requires
-    enum-known-g
-    same-length
+    (λ c κs. search needs)
+    (λ c. search needs)
+    (λ c. search needs)
     returns-3
-    enum-told
+    (λ c. search needs)
     sweep-all-requires
-    same-length-2
+    (λ c. search needs)
     returns-4)

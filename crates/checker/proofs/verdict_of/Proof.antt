@@ -5,12 +5,6 @@ use borrow.Author.Needs.{needs}
 use Rattle.checker.proofs.verdict_of.Statement.{statement}
 use Rattle.checker.proofs.verdict_of.Tie as tie
 
-enum-known-finding : tie.Need-enum-known-finding
-enum-known-finding c = search needs
-
-enum-told : tie.Need-enum-told
-enum-told c = search needs
-
 returns : tie.Need-returns
 unfolding verdictOf
 returns c = sym (ap verdictOf (c .before .finding .given .1))
@@ -20,4 +14,4 @@ unfolding verdictOf
 returns-2 c = sym (ap verdictOf (c .enum-told .given .1))
 
 pub verdict-of-spec : {M : Type 1} → statement M
-verdict-of-spec = tie.close (tie.spec enum-known-finding enum-told returns returns-2)
+verdict-of-spec = tie.close (tie.spec (λ c. search needs) (λ c. search needs) returns returns-2)

@@ -6,15 +6,6 @@ use borrow.Author.Needs.{needs}
 use Rattle.circuit.proofs.all_data.Statement.{statement}
 use Rattle.circuit.proofs.all_data.Tie as tie
 
-first-not-data-requires : tie.Need-first-not-data-requires
-first-not-data-requires c κs = search needs
-
-enum-told : tie.Need-enum-told
-enum-told c = search needs
-
-enum-told-2 : tie.Need-enum-told-2
-enum-told-2 c = search needs
-
 returns : tie.Need-returns
 returns c = let z = c .before .before .before .before .before in not-all-data (netsIn (z .args .counts) (now (z .args .row))) (z .args .counts) (now (z .args .code)) _ (c .before .before .first-not-data .ensures) _ (c .enum-told .given .1)
 
@@ -23,4 +14,4 @@ returns-2 c = let z = c .before .before .before .before .before in all-data (net
 
 pub all-data-spec : {M : Type 1} → statement M
 all-data-spec =
-    tie.close (tie.spec first-not-data-requires enum-told enum-told-2 returns returns-2)
+    tie.close (tie.spec (λ c κs. search needs) (λ c. search needs) (λ c. search needs) returns returns-2)

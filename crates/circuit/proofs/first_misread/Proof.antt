@@ -19,20 +19,8 @@ Inv-loop code counts row reference values count first j₀ j = SoughtTo (misread
 abbrev μ-loop : tie.MeasureT-loop
 μ-loop code counts row reference values count first j₀ j = count - j
 
-mul-first : tie.Need-mul-first Inv-loop μ-loop
-mul-first c = omega arith
-
 loop-holds : tie.Need-loop-holds Inv-loop μ-loop
 loop-holds c = ap (least _ 0) (omega arith)
-
-add-level : tie.Need-add-level Inv-loop μ-loop
-add-level c = omega arith
-
-mul-level : tie.Need-mul-level Inv-loop μ-loop
-mul-level c = omega arith
-
-shared-slice-read-level : tie.Need-shared-slice-read-level Inv-loop μ-loop
-shared-slice-read-level c = omega arith
 
 level-requires : tie.Need-level-requires Inv-loop μ-loop
 level-requires c κs =
@@ -41,12 +29,6 @@ level-requires c κs =
 
 reads-as-requires : tie.Need-reads-as-requires Inv-loop μ-loop
 reads-as-requires c κs = let z = c .before .before .before .before .before .before .before .before .before in (z .pre .0, omega arith, z .pre .1, c .level .ensures .small)
-
-add-j : tie.Need-add-j Inv-loop μ-loop
-add-j c = omega arith
-
-loop-less : tie.Need-loop-less Inv-loop μ-loop
-loop-less c = omega arith
 
 loop-again : tie.Need-loop-again Inv-loop μ-loop
 loop-again c =
@@ -71,15 +53,15 @@ first-misread-spec =
     (tie.spec
     Inv-loop
     μ-loop
-    mul-first
+    (λ c. omega arith)
     loop-holds
-    add-level
-    mul-level
-    shared-slice-read-level
+    (λ c. omega arith)
+    (λ c. omega arith)
+    (λ c. omega arith)
     level-requires
     reads-as-requires
-    add-j
-    loop-less
+    (λ c. omega arith)
+    (λ c. omega arith)
     loop-again
     returns
     returns-2)

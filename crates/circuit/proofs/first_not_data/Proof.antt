@@ -21,12 +21,6 @@ loop-holds c = ap (least _ 0) (omega arith)
 is-data-requires : tie.Need-is-data-requires Inv-loop μ-loop
 is-data-requires c κs = let z = c .before .before .before .before in (z .pre .0, omega arith, z .pre .1)
 
-add-j : tie.Need-add-j Inv-loop μ-loop
-add-j c = omega arith
-
-loop-less : tie.Need-loop-less Inv-loop μ-loop
-loop-less c = omega arith
-
 loop-again : tie.Need-loop-again Inv-loop μ-loop
 loop-again c = sought-on _ _ _ (omega arith) (c .before .before .before .loop .inv) (ap not (sym (c .before .is-data .ensures) ∙ c .if1 .taken))
 
@@ -44,8 +38,8 @@ first-not-data-spec =
     μ-loop
     loop-holds
     is-data-requires
-    add-j
-    loop-less
+    (λ c. omega arith)
+    (λ c. omega arith)
     loop-again
     returns
     returns-2)

@@ -10,21 +10,6 @@ use borrow.Author.Needs.{needs}
 use Rattle.circuit.proofs.gate_level.Statement.{statement}
 use Rattle.circuit.proofs.gate_level.Tie as tie
 
-mul-cell : tie.Need-mul-cell
-mul-cell c = search needs
-
-mul-cell-2 : tie.Need-mul-cell-2
-mul-cell-2 c = search needs
-
-shared-slice-read-cell : tie.Need-shared-slice-read-cell
-shared-slice-read-cell c = search needs
-
-cast-cell : tie.Need-cast-cell
-cast-cell c = search needs
-
-pattern-requires : tie.Need-pattern-requires
-pattern-requires c κs = search needs
-
 sets-requires : tie.Need-sets-requires
 sets-requires c κs =
     let z = c .before .before .before .before in
@@ -45,10 +30,10 @@ pub gate-level-spec : {M : Type 1} → statement M
 gate-level-spec =
     tie.close
     (tie.spec
-    mul-cell
-    mul-cell-2
-    shared-slice-read-cell
-    cast-cell
-    pattern-requires
+    (λ c. search needs)
+    (λ c. search needs)
+    (λ c. search needs)
+    (λ c. search needs)
+    (λ c κs. search needs)
     sets-requires
     returns)

@@ -11,9 +11,6 @@ use Rattle.circuit.proofs.level_holding.Tie as tie
 returns : tie.Need-returns
 returns c = let z = c .before .before .before in (held-at (z .args .counts) (now (z .args .code)) (netsIn (z .args .counts) (now (z .args .row))) _ _ (z .pre .2) (c .if1 .taken), omega arith)
 
-gate-level-requires : tie.Need-gate-level-requires
-gate-level-requires c κs = search needs
-
 returns-2 : tie.Need-returns-2
 returns-2 c =
     let z = c .before .before .before .before in (
@@ -22,4 +19,4 @@ returns-2 c =
     )
 
 pub level-holding-spec : {M : Type 1} → statement M
-level-holding-spec = tie.close (tie.spec returns gate-level-requires returns-2)
+level-holding-spec = tie.close (tie.spec returns (λ c κs. search needs) returns-2)

@@ -8,30 +8,6 @@ use borrow.Author.Needs.{needs}
 use Rattle.circuit.proofs.operate.Statement.{statement}
 use Rattle.circuit.proofs.operate.Tie as tie
 
-sub-result : tie.Need-sub-result
-sub-result c = search needs
-
-both-requires : tie.Need-both-requires
-both-requires c κs = search needs
-
-either-requires : tie.Need-either-requires
-either-requires c κs = search needs
-
-add-result : tie.Need-add-result
-add-result c = search needs
-
-both-requires-2 : tie.Need-both-requires-2
-both-requires-2 c κs = search needs
-
-sub-result-2 : tie.Need-sub-result-2
-sub-result-2 c = search needs
-
-either-requires-2 : tie.Need-either-requires-2
-either-requires-2 c κs = search needs
-
-sub-result-3 : tie.Need-sub-result-3
-sub-result-3 c = search needs
-
 returns : tie.Need-returns
 unfolding answers.operate
 returns c = operate-at 1 _ _ _ _ (c .match .keys1) refl (omega arith)
@@ -63,14 +39,14 @@ pub operate-spec : {M : Type 1} → statement M
 operate-spec =
     tie.close
     (tie.spec
-    sub-result
-    both-requires
-    either-requires
-    add-result
-    both-requires-2
-    sub-result-2
-    either-requires-2
-    sub-result-3
+    (λ c. search needs)
+    (λ c κs. search needs)
+    (λ c κs. search needs)
+    (λ c. search needs)
+    (λ c κs. search needs)
+    (λ c. search needs)
+    (λ c κs. search needs)
+    (λ c. search needs)
     returns
     returns-2
     returns-3

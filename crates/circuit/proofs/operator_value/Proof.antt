@@ -12,41 +12,11 @@ use borrow.Author.Needs.{needs}
 use Rattle.circuit.proofs.operator_value.Statement.{statement}
 use Rattle.circuit.proofs.operator_value.Tie as tie
 
-mul-at : tie.Need-mul-at
-mul-at c = search needs
-
-mul-operate : tie.Need-mul-operate
-mul-operate c = search needs
-
-shared-slice-read-operate : tie.Need-shared-slice-read-operate
-shared-slice-read-operate c = search needs
-
-add-level : tie.Need-add-level
-add-level c = search needs
-
-mul-level : tie.Need-mul-level
-mul-level c = search needs
-
-shared-slice-read-level : tie.Need-shared-slice-read-level
-shared-slice-read-level c = search needs
-
 level-requires : tie.Need-level-requires
 level-requires c κs = let z = c .before .before .before .before in (omega (arith, z .pre .0 .operand (z .args .k) 0 (z .pre .1) (omega arith)), z .pre .3 _)
 
-add-level-2 : tie.Need-add-level-2
-add-level-2 c = search needs
-
-mul-level-2 : tie.Need-mul-level-2
-mul-level-2 c = search needs
-
-shared-slice-read-level-2 : tie.Need-shared-slice-read-level-2
-shared-slice-read-level-2 c = search needs
-
 level-requires-2 : tie.Need-level-requires-2
 level-requires-2 c κs = let z = c .before .before .before .before .before .before in (omega (arith, z .pre .0 .operand (z .args .k) 1 (z .pre .1) (omega arith)), z .pre .3 _)
-
-operate-requires : tie.Need-operate-requires
-operate-requires c κs = search needs
 
 returns : tie.Need-returns
 returns c =
@@ -64,16 +34,16 @@ pub operator-value-spec : {M : Type 1} → statement M
 operator-value-spec =
     tie.close
     (tie.spec
-    mul-at
-    mul-operate
-    shared-slice-read-operate
-    add-level
-    mul-level
-    shared-slice-read-level
+    (λ c. search needs)
+    (λ c. search needs)
+    (λ c. search needs)
+    (λ c. search needs)
+    (λ c. search needs)
+    (λ c. search needs)
     level-requires
-    add-level-2
-    mul-level-2
-    shared-slice-read-level-2
+    (λ c. search needs)
+    (λ c. search needs)
+    (λ c. search needs)
     level-requires-2
-    operate-requires
+    (λ c κs. search needs)
     returns)

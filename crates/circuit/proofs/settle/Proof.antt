@@ -9,12 +9,6 @@ use borrow.Author.Needs.{needs}
 use Rattle.circuit.proofs.settle.Statement.{statement}
 use Rattle.circuit.proofs.settle.Tie as tie
 
-settle-from-requires : tie.Need-settle-from-requires
-settle-from-requires c κs = search needs
-
-same-length : tie.Need-same-length
-same-length c = search needs
-
 returns : tie.Need-returns
 returns c =
     let z = c .before .before .before .before .before .before in
@@ -23,4 +17,4 @@ returns c =
     (s .0 ∙ ap (λ (l : List ℕ). rails ++ l) (settle-none (z .args .counts) (now (z .args .code)) rails), s .1)
 
 pub settle-spec : {M : Type 1} → statement M
-settle-spec = tie.close (tie.spec settle-from-requires same-length returns)
+settle-spec = tie.close (tie.spec (λ c κs. search needs) (λ c. search needs) returns)

@@ -18,23 +18,8 @@ abbrev μ-loop : tie.MeasureT-loop
 table-requires : tie.Need-table-requires Inv-loop μ-loop
 table-requires c κs = tt
 
-mul-first : tie.Need-mul-first Inv-loop μ-loop
-mul-first c = omega arith
-
 loop-holds : tie.Need-loop-holds Inv-loop μ-loop
 loop-holds c = let z = c .before .before .before .before in record { row-for = z .pre .2; same-long = refl; rails = refl; before = z .pre .3 }
-
-mul-k : tie.Need-mul-k Inv-loop μ-loop
-mul-k c = omega arith
-
-add-k : tie.Need-add-k Inv-loop μ-loop
-add-k c = omega arith
-
-mul-k-2 : tie.Need-mul-k-2 Inv-loop μ-loop
-mul-k-2 c = omega arith
-
-shared-slice-read-k : tie.Need-shared-slice-read-k Inv-loop μ-loop
-shared-slice-read-k c = omega arith
 
 cast-k : tie.Need-cast-k Inv-loop μ-loop
 cast-k c = omega (arith, c .shared-slice-known2 .given (8 * c .before .before .loop .i + 5))
@@ -55,12 +40,6 @@ slice-write-row c =
     let z = c .before .before .before .before .before .before .before .before .before .before in
     let l = c .before .before .before .before .before .loop in
     omega (arith, l .inv .row-for .long, order-gate (z .args .counts) (now (z .args .code)) (z .pre .1) (l .i) (omega arith))
-
-add-i : tie.Need-add-i Inv-loop μ-loop
-add-i c = omega arith
-
-loop-less : tie.Need-loop-less Inv-loop μ-loop
-loop-less c = omega arith
 
 loop-again : tie.Need-loop-again Inv-loop μ-loop
 loop-again c =
@@ -84,18 +63,18 @@ settle-from-spec =
     Inv-loop
     μ-loop
     table-requires
-    mul-first
+    (λ c. omega arith)
     loop-holds
-    mul-k
-    add-k
-    mul-k-2
-    shared-slice-read-k
+    (λ c. omega arith)
+    (λ c. omega arith)
+    (λ c. omega arith)
+    (λ c. omega arith)
     cast-k
     level-holding-requires
     add-row
     slice-write-row
-    add-i
-    loop-less
+    (λ c. omega arith)
+    (λ c. omega arith)
     loop-again
     same-length
     returns)

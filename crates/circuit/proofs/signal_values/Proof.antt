@@ -21,18 +21,6 @@ operator-value-requires c κs =
     let v = c .before .before .loop .inv in
     (z .pre .0, omega arith, omega (arith, v .same-long), v .bits)
 
-add-values : tie.Need-add-values Inv-loop μ-loop
-add-values c = omega arith
-
-slice-write-values : tie.Need-slice-write-values Inv-loop μ-loop
-slice-write-values c = omega arith
-
-add-k : tie.Need-add-k Inv-loop μ-loop
-add-k c = omega arith
-
-loop-less : tie.Need-loop-less Inv-loop μ-loop
-loop-less c = omega arith
-
 loop-again : tie.Need-loop-again Inv-loop μ-loop
 loop-again c =
     let z = c .before .before .before .before .before .before in
@@ -56,10 +44,10 @@ signal-values-spec =
     μ-loop
     loop-holds
     operator-value-requires
-    add-values
-    slice-write-values
-    add-k
-    loop-less
+    (λ c. omega arith)
+    (λ c. omega arith)
+    (λ c. omega arith)
+    (λ c. omega arith)
     loop-again
     same-length
     returns)

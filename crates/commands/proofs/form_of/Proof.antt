@@ -7,39 +7,6 @@ use Rattle.commands.proofs.Forms.{in-no-row}
 use Rattle.commands.proofs.form_of.Statement.{statement}
 use Rattle.commands.proofs.form_of.Tie as tie
 
-as-form-requires : tie.Need-as-form-requires
-as-form-requires c κs = search needs
-
-as-form-requires-2 : tie.Need-as-form-requires-2
-as-form-requires-2 c κs = search needs
-
-enum-told : tie.Need-enum-told
-enum-told c = search needs
-
-as-form-requires-3 : tie.Need-as-form-requires-3
-as-form-requires-3 c κs = search needs
-
-as-form-requires-4 : tie.Need-as-form-requires-4
-as-form-requires-4 c κs = search needs
-
-as-form-requires-5 : tie.Need-as-form-requires-5
-as-form-requires-5 c κs = search needs
-
-enum-told-2 : tie.Need-enum-told-2
-enum-told-2 c = search needs
-
-as-form-requires-6 : tie.Need-as-form-requires-6
-as-form-requires-6 c κs = search needs
-
-as-form-requires-7 : tie.Need-as-form-requires-7
-as-form-requires-7 c κs = search needs
-
-as-form-requires-8 : tie.Need-as-form-requires-8
-as-form-requires-8 c κs = search needs
-
-as-form-requires-9 : tie.Need-as-form-requires-9
-as-form-requires-9 c κs = search needs
-
 returns : tie.Need-returns
 unfolding commandTable ownCommands formIn
 returns c = rw (c .before .match .keys1) (c .as-form .ensures)
@@ -88,17 +55,17 @@ pub form-of-spec : {M : Type 1} → statement M
 form-of-spec =
     tie.close
     (tie.spec
-    as-form-requires
-    as-form-requires-2
-    enum-told
-    as-form-requires-3
-    as-form-requires-4
-    as-form-requires-5
-    as-form-requires-6
-    enum-told-2
-    as-form-requires-7
-    as-form-requires-8
-    as-form-requires-9
+    (λ c κs. search needs)
+    (λ c κs. search needs)
+    (λ c. search needs)
+    (λ c κs. search needs)
+    (λ c κs. search needs)
+    (λ c κs. search needs)
+    (λ c κs. search needs)
+    (λ c. search needs)
+    (λ c κs. search needs)
+    (λ c κs. search needs)
+    (λ c κs. search needs)
     returns
     returns-2
     returns-3

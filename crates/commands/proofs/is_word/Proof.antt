@@ -8,9 +8,6 @@ use borrow.Author.Needs.{needs}
 use Rattle.commands.proofs.is_word.Statement.{statement}
 use Rattle.commands.proofs.is_word.Tie as tie
 
-shl-result : tie.Need-shl-result
-shl-result c = search needs
-
 returns : tie.Need-returns
 returns c =
     let n = c .before .args .n in
@@ -24,4 +21,4 @@ returns-2 c =
     sym (lt-ltb w (2 ^ n) (omega (arith, pow-mono {i = 16} {j = n} (omega arith))))
 
 pub is-word-spec : {M : Type 1} → statement M
-is-word-spec = tie.close (tie.spec shl-result returns returns-2)
+is-word-spec = tie.close (tie.spec (λ c. search needs) returns returns-2)

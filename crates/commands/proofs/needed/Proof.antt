@@ -8,18 +8,6 @@ use Rattle.commands.proofs.Forms.{operation-two, operation-zero, operat
 use Rattle.commands.proofs.needed.Statement.{statement}
 use Rattle.commands.proofs.needed.Tie as tie
 
-enum-told : tie.Need-enum-told
-enum-told c = search needs
-
-kind-of-requires : tie.Need-kind-of-requires
-kind-of-requires c κs = search needs
-
-pins-needed-requires : tie.Need-pins-needed-requires
-pins-needed-requires c κs = search needs
-
-enum-told-2 : tie.Need-enum-told-2
-enum-told-2 c = search needs
-
 returns : tie.Need-returns
 unfolding needed
 returns c = rw (c .before .before .enum-told .given .1, ← c .before .kind-of .ensures) (c .pins-needed .ensures)
@@ -43,10 +31,10 @@ pub needed-spec : {M : Type 1} → statement M
 needed-spec =
     tie.close
     (tie.spec
-    enum-told
-    kind-of-requires
-    pins-needed-requires
-    enum-told-2
+    (λ c. search needs)
+    (λ c κs. search needs)
+    (λ c κs. search needs)
+    (λ c. search needs)
     returns
     returns-2
     returns-3

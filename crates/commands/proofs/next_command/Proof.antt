@@ -10,21 +10,9 @@ use Rattle.commands.proofs.next_command.Tie as tie
 returns : tie.Need-returns
 returns c = sym (next-past _ _ _ _ _ (c .if1 .taken))
 
-shared-slice-read-form-of : tie.Need-shared-slice-read-form-of
-shared-slice-read-form-of c = search needs
-
-form-of-requires : tie.Need-form-of-requires
-form-of-requires c κs = search needs
-
-stray-requires : tie.Need-stray-requires
-stray-requires c κs = search needs
-
 returns-2 : tie.Need-returns-2
 returns-2 c =
     sym (next-stray _ _ _ _ _ (c .before .before .before .before .if1 .left) _ (c .before .before .form-of .ensures) _ (c .before .stray .ensures) (c .if2 .taken))
-
-sub-if3 : tie.Need-sub-if3
-sub-if3 c = search needs
 
 width-requires : tie.Need-width-requires
 width-requires c κs = omega (arith, few-bytes _ _ (c .before .before .form-of .ensures))
@@ -33,9 +21,6 @@ returns-3 : tie.Need-returns-3
 returns-3 c =
     sym (next-cut _ _ _ _ _ (c .before .before .before .before .before .before .if1 .left) _ (c .before .before .before .before .form-of .ensures) _ (c .before .before .before .stray .ensures)
     (c .before .before .if2 .left) _ (c .before .width .ensures) (c .if3 .taken))
-
-take-command-requires : tie.Need-take-command-requires
-take-command-requires c κs = search needs
 
 returns-4 : tie.Need-returns-4
 returns-4 c =
@@ -47,12 +32,12 @@ next-command-spec =
     tie.close
     (tie.spec
     returns
-    shared-slice-read-form-of
-    form-of-requires
-    stray-requires
+    (λ c. search needs)
+    (λ c κs. search needs)
+    (λ c κs. search needs)
     returns-2
-    sub-if3
+    (λ c. search needs)
     width-requires
     returns-3
-    take-command-requires
+    (λ c κs. search needs)
     returns-4)

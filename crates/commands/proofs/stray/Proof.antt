@@ -8,12 +8,6 @@ use Rattle.commands.proofs.Arms.{arm}
 use Rattle.commands.proofs.stray.Statement.{statement}
 use Rattle.commands.proofs.stray.Tie as tie
 
-enum-told : tie.Need-enum-told
-enum-told c = search needs
-
-enum-told-2 : tie.Need-enum-told-2
-enum-told-2 c = search needs
-
 returns : tie.Need-returns
 unfolding stray
 returns c = rw (c .enum-told .given .1)
@@ -27,4 +21,4 @@ unfolding stray
 returns-3 c = arm (0 ∷ 2 ∷ 3 ∷ 4 ∷ []) (λ x. eqb (c .before .args .at) 0 ≡ stray (c .before .args .at) x) (refl, tt, refl, refl, refl, tt) (c .before .args .sort) (c .match .keys3)
 
 pub stray-spec : {M : Type 1} → statement M
-stray-spec = tie.close (tie.spec enum-told enum-told-2 returns returns-2 returns-3)
+stray-spec = tie.close (tie.spec (λ c. search needs) (λ c. search needs) returns returns-2 returns-3)

@@ -4,15 +4,6 @@ use Rattle.commands.proofs.Care.{care-high, care-low, care-passed}
 use Rattle.commands.proofs.take_care.Statement.{statement}
 use Rattle.commands.proofs.take_care.Tie as tie
 
-operand-requires : tie.Need-operand-requires
-operand-requires c κs = search needs
-
-is-word-requires : tie.Need-is-word-requires
-is-word-requires c κs = search needs
-
-cast-if2 : tie.Need-cast-if2
-cast-if2 c = search needs
-
 returns : tie.Need-returns
 returns c =
     let word = c .before .before in
@@ -31,4 +22,4 @@ returns-3 c =
     care-high _ _ (start .args .before) _ _ (c .before .before .operand .ensures) _ (c .before .is-word .ensures) (c .if1 .left)
 
 pub take-care-spec : {M : Type 1} → statement M
-take-care-spec = tie.close (tie.spec operand-requires is-word-requires cast-if2 returns returns-2 returns-3)
+take-care-spec = tie.close (tie.spec (λ c κs. search needs) (λ c κs. search needs) (λ c. search needs) returns returns-2 returns-3)

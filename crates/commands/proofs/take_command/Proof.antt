@@ -13,15 +13,6 @@ use Rattle.commands.proofs.take_command.Tie as tie
 width-requires : tie.Need-width-requires
 width-requires c κs = omega (arith, few-bytes _ _ (c .before .pre .0))
 
-add-after : tie.Need-add-after
-add-after c = search needs
-
-enum-told : tie.Need-enum-told
-enum-told c = search needs
-
-add-count : tie.Need-add-count
-add-count c = search needs
-
 shared-slice-read-n : tie.Need-shared-slice-read-n
 shared-slice-read-n c =
     let start = c .before .before .before .before .before in
@@ -36,20 +27,8 @@ returns c =
     let arm = c .before .before .before .before in
     sym (by-sort _ _ _ _ _ _ _ (arm .before .before .width .ensures) _ (arm .enum-told .given .1) ∙ simp (le-leb _ _ (c .before .before .if1 .taken), le-leb _ _ (c .if2 .taken)))
 
-enum-told-2 : tie.Need-enum-told-2
-enum-told-2 c = search needs
-
 take-gate-requires : tie.Need-take-gate-requires
 take-gate-requires c κs = omega (arith, gate-lead _ _ (c .before .before .before .before .pre .0) (c .enum-told2 .given .1), c .before .before .before .before .pre .1)
-
-enum-told-3 : tie.Need-enum-told-3
-enum-told-3 c = search needs
-
-enum-told-4 : tie.Need-enum-told-4
-enum-told-4 c = search needs
-
-add-take-care : tie.Need-add-take-care
-add-take-care c = search needs
 
 take-care-requires : tie.Need-take-care-requires
 take-care-requires c κs =
@@ -95,17 +74,17 @@ take-command-spec =
     tie.close
     (tie.spec
     width-requires
-    add-after
-    enum-told
-    add-count
+    (λ c. search needs)
+    (λ c. search needs)
+    (λ c. search needs)
     shared-slice-read-n
     cast-n
     returns
-    enum-told-2
+    (λ c. search needs)
     take-gate-requires
-    enum-told-3
-    enum-told-4
-    add-take-care
+    (λ c. search needs)
+    (λ c. search needs)
+    (λ c. search needs)
     take-care-requires
     returns-2
     returns-3

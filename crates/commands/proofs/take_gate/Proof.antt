@@ -9,30 +9,9 @@ returns : tie.Need-returns
 unfolding takeGate
 returns c = simp (le-leb _ _ (c .if1 .taken))
 
-add-code : tie.Need-add-code
-add-code c = search needs
-
-shared-slice-read-needed : tie.Need-shared-slice-read-needed
-shared-slice-read-needed c = search needs
-
-needed-requires : tie.Need-needed-requires
-needed-requires c κs = search needs
-
 returns-2 : tie.Need-returns-2
 unfolding takeGate
 returns-2 c = simp (lt-leb _ _ (c .before .before .before .if1 .left), ← (c .before .needed .ensures), eq-eqb _ _ (c .if2 .taken))
-
-add-first-misfit : tie.Need-add-first-misfit
-add-first-misfit c = search needs
-
-first-misfit-requires : tie.Need-first-misfit-requires
-first-misfit-requires c κs = search needs
-
-enum-known-found : tie.Need-enum-known-found
-enum-known-found c = search needs
-
-enum-told : tie.Need-enum-told
-enum-told c = search needs
 
 returns-3 : tie.Need-returns-3
 unfolding takeGate whenFound
@@ -61,13 +40,13 @@ take-gate-spec =
     tie.close
     (tie.spec
     returns
-    add-code
-    shared-slice-read-needed
-    needed-requires
+    (λ c. search needs)
+    (λ c. search needs)
+    (λ c κs. search needs)
     returns-2
-    add-first-misfit
-    first-misfit-requires
-    enum-known-found
-    enum-told
+    (λ c. search needs)
+    (λ c κs. search needs)
+    (λ c. search needs)
+    (λ c. search needs)
     returns-3
     returns-4)

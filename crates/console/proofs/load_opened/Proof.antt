@@ -9,18 +9,6 @@ use mir.ValLaws.{toZ-ofZ}
 use Rattle.console.proofs.load_opened.Statement.{statement}
 use Rattle.console.proofs.load_opened.Tie as tie
 
-returns : tie.Need-returns
-returns c = search needs
-
-read-full-requires : tie.Need-read-full-requires
-read-full-requires c κs = search needs
-
-close-requires : tie.Need-close-requires
-close-requires c κs = search needs
-
-same-length : tie.Need-same-length
-same-length c = search needs
-
 returns-2 : tie.Need-returns-2
 returns-2 c =
     let entry = c .before .before .before .before .before .before .before in
@@ -31,4 +19,4 @@ returns-2 c =
 
 pub load-opened-spec : {M : Type 1} → statement M
 load-opened-spec =
-    tie.close (tie.spec returns read-full-requires close-requires same-length returns-2)
+    tie.close (tie.spec (λ c. search needs) (λ c κs. search needs) (λ c κs. search needs) (λ c. search needs) returns-2)

@@ -19,28 +19,16 @@ abbrev μ-loop : tie.MeasureT-loop
 loop-holds : tie.Need-loop-holds Inv-loop μ-loop
 loop-holds c = search-starts _ _ _ _ (c .before .pre .1)
 
-shared-slice-read-form-of : tie.Need-shared-slice-read-form-of Inv-loop μ-loop
-shared-slice-read-form-of c = omega arith
-
-form-of-requires : tie.Need-form-of-requires Inv-loop μ-loop
-form-of-requires c κs = search needs
-
 nameless-at-requires : tie.Need-nameless-at-requires Inv-loop μ-loop
 nameless-at-requires c κs =
     let loop = c .before .before .before in
     ((c .form-of .ensures, command-room (loop .loop .inv) (c .before .before .loop-test .taken) (c .form-of .ensures)), (omega arith, omega (arith, loop .loop .inv, loop .before .before .good)))
-
-enum-known-place : tie.Need-enum-known-place Inv-loop μ-loop
-enum-known-place c = search needs
 
 returns : tie.Need-returns Inv-loop μ-loop
 returns c =
     let found = c .before .before .before in
     let inside = found .before .before .before in
     sym (search-found (inside .before .loop .inv) (inside .loop-test .taken) (found .before .form-of .ensures) (found .nameless-at .ensures) (c .before .place .given .1))
-
-enum-told : tie.Need-enum-told Inv-loop μ-loop
-enum-told c = search needs
 
 width-requires : tie.Need-width-requires Inv-loop μ-loop
 width-requires c κs = omega (arith, few-bytes _ _ (c .before .before .before .form-of .ensures))
@@ -49,12 +37,6 @@ add-after : tie.Need-add-after Inv-loop μ-loop
 add-after c =
     let read = c .before .before .before .before in
     omega (arith, c .width .ensures, command-room (read .before .before .before .loop .inv) (read .before .before .loop-test .taken) (read .form-of .ensures))
-
-enum-told-2 : tie.Need-enum-told-2 Inv-loop μ-loop
-enum-told-2 c = search needs
-
-add-k : tie.Need-add-k Inv-loop μ-loop
-add-k c = omega arith
 
 loop-less : tie.Need-loop-less Inv-loop μ-loop
 loop-less c = omega (arith, few-bytes _ _ (c .before .before .before .before .before .before .form-of .ensures), c .before .before .width .ensures)
@@ -90,16 +72,16 @@ find-nameless-spec =
     Inv-loop
     μ-loop
     loop-holds
-    shared-slice-read-form-of
-    form-of-requires
+    (λ c. omega arith)
+    (λ c κs. search needs)
     nameless-at-requires
-    enum-known-place
+    (λ c. search needs)
     returns
-    enum-told
+    (λ c. search needs)
     width-requires
     add-after
-    enum-told-2
-    add-k
+    (λ c. search needs)
+    (λ c. omega arith)
     loop-less
     loop-again
     loop-less-2

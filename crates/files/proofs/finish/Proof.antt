@@ -14,9 +14,6 @@ returns : tie.Need-returns
 unfolding outcomeOf
 returns c = λ p e. sym (ap outcomeOf (finish-8 _ _ _ p _ e (c .if1 .taken)))
 
-add-after : tie.Need-add-after
-add-after c = search needs
-
 returns-2 : tie.Need-returns-2
 unfolding outcomeOf
 returns-2 c = λ p e. sym (ap outcomeOf (finish-7 _ _ _ p _ e (c .before .if1 .left) (c .if2 .taken)))
@@ -27,17 +24,11 @@ find-nameless-requires c κs =
     let last : start .args .at + 1 ≡ length (start .args .s .now) = omega (arith, start .pre, c .if2 .left) in
     (start .pre .0, rw last at (start .pre .2))
 
-enum-known-place : tie.Need-enum-known-place
-enum-known-place c = search needs
-
 returns-3 : tie.Need-returns-3
 unfolding outcomeOf
 returns-3 c =
     λ p e. sym (ap outcomeOf (finish-9 _ _ _ p _ e (c .before .before .before .before .before .if1 .left) (c .before .before .before .before .if2 .left) _
     (c .before .before .before .find-nameless .ensures) _ (c .before .place .given .1)))
-
-enum-told : tie.Need-enum-told
-enum-told c = search needs
 
 returns-4 : tie.Need-returns-4
 unfolding outcomeOf
@@ -50,10 +41,10 @@ finish-spec =
     tie.close
     (tie.spec
     returns
-    add-after
+    (λ c. search needs)
     returns-2
     find-nameless-requires
-    enum-known-place
+    (λ c. search needs)
     returns-3
-    enum-told
+    (λ c. search needs)
     returns-4)

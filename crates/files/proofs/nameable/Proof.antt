@@ -5,9 +5,6 @@ use Rattle.netlist.specs.Reading.{nameable}
 use Rattle.files.proofs.nameable.Statement.{statement}
 use Rattle.files.proofs.nameable.Tie as tie
 
-enum-told : tie.Need-enum-told
-enum-told c = search needs
-
 mul-result : tie.Need-mul-result
 unfolding nameable
 mul-result c = omega (arith, rw (c .enum-told .given .1) at (c .before .before .pre))
@@ -16,22 +13,13 @@ add-result : tie.Need-add-result
 unfolding nameable
 add-result c = omega (arith, rw (c .enum-told .given .1) at (c .before .before .pre))
 
-enum-told-2 : tie.Need-enum-told-2
-enum-told-2 c = search needs
-
 add-result-2 : tie.Need-add-result-2
 unfolding nameable
 add-result-2 c = omega (arith, rw (c .enum-told2 .given .1) at (c .before .before .pre))
 
-enum-told-3 : tie.Need-enum-told-3
-enum-told-3 c = search needs
-
 add-result-3 : tie.Need-add-result-3
 unfolding nameable
 add-result-3 c = omega (arith, rw (c .enum-told3 .given .1) at (c .before .before .pre))
-
-enum-told-4 : tie.Need-enum-told-4
-enum-told-4 c = search needs
 
 returns : tie.Need-returns
 unfolding nameable
@@ -53,14 +41,14 @@ pub nameable-spec : {M : Type 1} → statement M
 nameable-spec =
     tie.close
     (tie.spec
-    enum-told
+    (λ c. search needs)
     mul-result
     add-result
-    enum-told-2
+    (λ c. search needs)
     add-result-2
-    enum-told-3
+    (λ c. search needs)
     add-result-3
-    enum-told-4
+    (λ c. search needs)
     returns
     returns-2
     returns-3

@@ -11,12 +11,6 @@ use Rattle.files.proofs.nameless_at.Tie as tie
 nameable-requires : tie.Need-nameable-requires
 nameable-requires c κs = nameable-fits _ _ _ _ (c .before .pre .1 .0) (c .before .pre .1 .1)
 
-used-operands-requires : tie.Need-used-operands-requires
-used-operands-requires c κs = search needs
-
-add-first-nameless : tie.Need-add-first-nameless
-add-first-nameless c = search needs
-
 first-nameless-requires : tie.Need-first-nameless-requires
 first-nameless-requires c κs =
     let start = c .before .before .before .before in
@@ -31,7 +25,7 @@ nameless-at-spec =
     tie.close
     (tie.spec
     nameable-requires
-    used-operands-requires
-    add-first-nameless
+    (λ c κs. search needs)
+    (λ c. search needs)
     first-nameless-requires
     returns)

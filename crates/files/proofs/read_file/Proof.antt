@@ -25,21 +25,6 @@ add-first-care c = omega (arith, c .before .before .before .pre .space, c .befor
 loop-holds : tie.Need-loop-holds Inv-loop μ-loop
 loop-holds c = walk-starts _ _ _ _
 
-take-next-requires : tie.Need-take-next-requires Inv-loop μ-loop
-take-next-requires c κs = search needs
-
-enum-known-next : tie.Need-enum-known-next Inv-loop μ-loop
-enum-known-next c = search needs
-
-enum-told : tie.Need-enum-told Inv-loop μ-loop
-enum-told c = search needs
-
-refusal-requires : tie.Need-refusal-requires Inv-loop μ-loop
-refusal-requires c κs = search needs
-
-same-length : tie.Need-same-length Inv-loop μ-loop
-same-length c = search needs
-
 returns : tie.Need-returns Inv-loop μ-loop
 unfolding outcomeOf
 returns c =
@@ -47,12 +32,6 @@ returns c =
     let told = c .before .enum-told .given .1 in
     let e = walk-stops (loop .before .before .before .before .pre) (loop .loop .inv) (c .before .before .before .take-next .ensures) _ _ told in
     (c .refusal .ensures _ _ told ∙ sym (ap outcomeOf e), refused-placed _ _ _ _ _ e)
-
-enum-told-2 : tie.Need-enum-told-2 Inv-loop μ-loop
-enum-told-2 c = search needs
-
-add-inputs : tie.Need-add-inputs Inv-loop μ-loop
-add-inputs c = search needs
 
 shared-slice-read-inputs : tie.Need-shared-slice-read-inputs Inv-loop μ-loop
 shared-slice-read-inputs c =
@@ -66,18 +45,12 @@ shared-slice-read-inputs c =
 cast-inputs : tie.Need-cast-inputs Inv-loop μ-loop
 cast-inputs c = omega (arith, c .shared-slice-known2 .given (c .before .before .before .before .before .before .before .before .loop .at + 1))
 
-enum-told-3 : tie.Need-enum-told-3 Inv-loop μ-loop
-enum-told-3 c = search needs
-
 cast-places : tie.Need-cast-places Inv-loop μ-loop
 cast-places c =
     let next = c .before .before .before in
     let loop = next .before .before .before .before in
     let room = loop .before .before .before .before .pre in
     omega (arith, place-fits room (loop .loop .inv))
-
-mul-places : tie.Need-mul-places Inv-loop μ-loop
-mul-places c = search needs
 
 slice-write-places : tie.Need-slice-write-places Inv-loop μ-loop
 slice-write-places c =
@@ -88,24 +61,12 @@ slice-write-places c =
     let read = read-as (next .next .given .1) (c .enum-told3 .given .1) in
     omega (arith, gate-room room (loop .loop .inv) is read, room .space, loop .loop .inv .long-same)
 
-add-gates : tie.Need-add-gates Inv-loop μ-loop
-add-gates c = search needs
-
-enum-told-4 : tie.Need-enum-told-4 Inv-loop μ-loop
-enum-told-4 c = search needs
-
 cast-places-2 : tie.Need-cast-places-2 Inv-loop μ-loop
 cast-places-2 c =
     let next = c .before .before .before in
     let loop = next .before .before .before .before in
     let room = loop .before .before .before .before .pre in
     omega (arith, place-fits room (loop .loop .inv))
-
-add-places : tie.Need-add-places Inv-loop μ-loop
-add-places c = search needs
-
-mul-places-2 : tie.Need-mul-places-2 Inv-loop μ-loop
-mul-places-2 c = search needs
 
 slice-write-places-2 : tie.Need-slice-write-places-2 Inv-loop μ-loop
 slice-write-places-2 c =
@@ -115,15 +76,6 @@ slice-write-places-2 c =
     let is = next .before .before .take-next .ensures in
     let read = read-as (next .next .given .1) (c .enum-told4 .given .1) in
     omega (arith, output-room room (loop .loop .inv) is read, room .space, loop .loop .inv .long-same)
-
-add-outputs : tie.Need-add-outputs Inv-loop μ-loop
-add-outputs c = search needs
-
-enum-told-5 : tie.Need-enum-told-5 Inv-loop μ-loop
-enum-told-5 c = search needs
-
-add-operand : tie.Need-add-operand Inv-loop μ-loop
-add-operand c = search needs
 
 operand-requires : tie.Need-operand-requires Inv-loop μ-loop
 operand-requires c κs =
@@ -170,15 +122,6 @@ add-care c =
     let read = read-as (next .next .given .1) (c .before .enum-told5 .given .1) in
     omega (arith, care-room room (loop .loop .inv) is read, room .space, loop .before .before .before .before .good)
 
-cast-floor : tie.Need-cast-floor Inv-loop μ-loop
-cast-floor c = search needs
-
-add-floor : tie.Need-add-floor Inv-loop μ-loop
-add-floor c = search needs
-
-enum-told-6 : tie.Need-enum-told-6 Inv-loop μ-loop
-enum-told-6 c = search needs
-
 finish-requires : tie.Need-finish-requires Inv-loop μ-loop
 finish-requires c κs =
     let next = c .before .before .before in
@@ -187,9 +130,6 @@ finish-requires c κs =
     let is = next .before .before .take-next .ensures in
     let read = read-as (next .next .given .1) (c .enum-told6 .given .1) in
     (sums-fit room (loop .loop .inv), next .before .before .before .loop-test .taken, walk-filled room (loop .loop .inv) is read)
-
-same-length-2 : tie.Need-same-length-2 Inv-loop μ-loop
-same-length-2 c = search needs
 
 returns-2 : tie.Need-returns-2 Inv-loop μ-loop
 unfolding outcomeOf
@@ -201,9 +141,6 @@ returns-2 c =
     let read = read-as (next .next .given .1) (c .before .enum-told6 .given .1) in
     let e = walk-ends room (loop .loop .inv) is read in
     (c .finish .ensures _ (standing-counts room (loop .loop .inv)) ∙ sym (ap outcomeOf e), walk-placed room (loop .loop .inv) is read)
-
-enum-told-7 : tie.Need-enum-told-7 Inv-loop μ-loop
-enum-told-7 c = search needs
 
 loop-less : tie.Need-loop-less Inv-loop μ-loop
 loop-less c =
@@ -290,9 +227,6 @@ loop-again-5 c =
     let read = read-as (next .next .given .1) (c .enum-told7 .given .1) in
     absurd (walk-unknown room (loop .loop .inv) is read)
 
-same-length-3 : tie.Need-same-length-3 Inv-loop μ-loop
-same-length-3 c = search needs
-
 returns-3 : tie.Need-returns-3 Inv-loop μ-loop
 unfolding outcomeOf
 returns-3 c =
@@ -307,41 +241,41 @@ read-file-spec =
     μ-loop
     add-first-care
     loop-holds
-    take-next-requires
-    enum-known-next
-    enum-told
-    refusal-requires
-    same-length
+    (λ c κs. search needs)
+    (λ c. search needs)
+    (λ c. search needs)
+    (λ c κs. search needs)
+    (λ c. search needs)
     returns
-    enum-told-2
-    add-inputs
+    (λ c. search needs)
+    (λ c. search needs)
     shared-slice-read-inputs
     cast-inputs
-    enum-told-3
+    (λ c. search needs)
     cast-places
-    mul-places
+    (λ c. search needs)
     slice-write-places
-    add-gates
-    enum-told-4
+    (λ c. search needs)
+    (λ c. search needs)
     cast-places-2
-    add-places
-    mul-places-2
+    (λ c. search needs)
+    (λ c. search needs)
     slice-write-places-2
-    add-outputs
-    enum-told-5
-    add-operand
+    (λ c. search needs)
+    (λ c. search needs)
+    (λ c. search needs)
     operand-requires
     add-places-2
     mul-places-3
     slice-write-places-3
     add-care
-    cast-floor
-    add-floor
-    enum-told-6
+    (λ c. search needs)
+    (λ c. search needs)
+    (λ c. search needs)
     finish-requires
-    same-length-2
+    (λ c. search needs)
     returns-2
-    enum-told-7
+    (λ c. search needs)
     loop-less
     loop-again
     loop-less-2
@@ -352,5 +286,5 @@ read-file-spec =
     loop-again-4
     loop-less-5
     loop-again-5
-    same-length-3
+    (λ c. search needs)
     returns-3)

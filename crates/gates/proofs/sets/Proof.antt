@@ -17,18 +17,6 @@ use Rattle.gates.proofs.sets.Tie as tie
 counted : (c₀ m : ℕ) → threshold c₀ ≡ m → eqb m 0 ≡ false → c₀ < 12 → (c p r : ℕ) → c ≡ c₀ → c ≤ 27 → p < 2 ^ pinCount c → r ≡ atLeast m p → r ≡ setBit c p
 counted c₀ m is some hc c p r e hi fits h = h ∙ count-decides c p m (ap threshold e ∙ is) some (omega arith) (pattern-in c p hi fits) fits
 
-at-least-requires : tie.Need-at-least-requires
-at-least-requires c κs = search needs
-
-at-least-requires-2 : tie.Need-at-least-requires-2
-at-least-requires-2 c κs = search needs
-
-at-least-requires-3 : tie.Need-at-least-requires-3
-at-least-requires-3 c κs = search needs
-
-at-least-requires-4 : tie.Need-at-least-requires-4
-at-least-requires-4 c κs = search needs
-
 entry-requires : tie.Need-entry-requires
 entry-requires c κs = (c .before .pre .0, omega arith, omega arith, pattern-in (c .before .args .cell) _ (omega arith) (c .before .pre .3))
 
@@ -62,20 +50,17 @@ returns-4 : tie.Need-returns-4
 unfolding threshold
 returns-4 c = let a = c .before .before in counted 11 4 refl refl (lit< tt) _ _ _ (c .before .match .keys4) (a .pre .2) (a .pre .3) (c .at-least4 .ensures)
 
-returns-5 : tie.Need-returns-5
-returns-5 c = search needs
-
 pub sets-spec : {M : Type 1} → statement M
 sets-spec =
     tie.close
     (tie.spec
-    at-least-requires
-    at-least-requires-2
-    at-least-requires-3
-    at-least-requires-4
+    (λ c κs. search needs)
+    (λ c κs. search needs)
+    (λ c κs. search needs)
+    (λ c κs. search needs)
     entry-requires
     returns
     returns-2
     returns-3
     returns-4
-    returns-5)
+    (λ c. search needs))

@@ -6,24 +6,6 @@ use borrow.Author.Needs.{needs}
 use Rattle.load.proofs.gate_number.Statement.{statement}
 use Rattle.load.proofs.gate_number.Tie as tie
 
-add-kind-of : tie.Need-add-kind-of
-add-kind-of c = search needs
-
-shared-slice-read-kind-of : tie.Need-shared-slice-read-kind-of
-shared-slice-read-kind-of c = search needs
-
-kind-of-requires : tie.Need-kind-of-requires
-kind-of-requires c κs = search needs
-
-enum-known-kind : tie.Need-enum-known-kind
-enum-known-kind c = search needs
-
-hold-number-requires : tie.Need-hold-number-requires
-hold-number-requires c κs = search needs
-
-enum-told : tie.Need-enum-told
-enum-told c = search needs
-
 returns : tie.Need-returns
 returns c = number-known _ _ _ _ _ _ _ (sym (c .before .before .kind .given .1) ∙ c .before .before .before .before .kind-of .ensures) (c .hold-number .ensures)
 
@@ -36,11 +18,11 @@ pub gate-number-spec : {M : Type 1} → statement M
 gate-number-spec =
     tie.close
     (tie.spec
-    add-kind-of
-    shared-slice-read-kind-of
-    kind-of-requires
-    enum-known-kind
-    hold-number-requires
-    enum-told
+    (λ c. search needs)
+    (λ c. search needs)
+    (λ c κs. search needs)
+    (λ c. search needs)
+    (λ c κs. search needs)
+    (λ c. search needs)
     returns
     returns-2)

@@ -7,12 +7,6 @@ use borrow.Author.Needs.{needs}
 use Rattle.load.proofs.hold_number.Statement.{statement}
 use Rattle.load.proofs.hold_number.Tie as tie
 
-sub-pin-number : tie.Need-sub-pin-number
-sub-pin-number c = search needs
-
-pin-number-requires : tie.Need-pin-number-requires
-pin-number-requires c κs = search needs
-
 returns : tie.Need-returns
 returns c = let z = c .before .before .args in number-cell (now (z .s)) (z .at) (z .ground) (z .cell) (z .pins) (z .j) (omega arith)
 
@@ -29,4 +23,4 @@ returns-4 c = let z = c .before .before .before .args in number-rest (now (z .s)
 
 pub hold-number-spec : {M : Type 1} → statement M
 hold-number-spec =
-    tie.close (tie.spec sub-pin-number pin-number-requires returns returns-2 returns-3 returns-4)
+    tie.close (tie.spec (λ c. search needs) (λ c κs. search needs) returns returns-2 returns-3 returns-4)

@@ -16,29 +16,11 @@ Inv-loop s places counts code₀ end i₀ code i = (length code ≡ length code�
 abbrev μ-loop : tie.MeasureT-loop
 μ-loop s places counts code₀ end i₀ code i = end - i
 
-mul-end : tie.Need-mul-end Inv-loop μ-loop
-mul-end c = omega arith
-
-add-end : tie.Need-add-end Inv-loop μ-loop
-add-end c = omega arith
-
 loop-holds : tie.Need-loop-holds Inv-loop μ-loop
 loop-holds c = (refl, λ q h. absurd (omega arith))
 
 reference-number-requires : tie.Need-reference-number-requires Inv-loop μ-loop
 reference-number-requires c κs = let z = c .before .before .before .before .before .before .before in (z .pre .0, omega arith)
-
-mul-code : tie.Need-mul-code Inv-loop μ-loop
-mul-code c = omega arith
-
-slice-write-code : tie.Need-slice-write-code Inv-loop μ-loop
-slice-write-code c = omega arith
-
-add-i : tie.Need-add-i Inv-loop μ-loop
-add-i c = omega arith
-
-loop-less : tie.Need-loop-less Inv-loop μ-loop
-loop-less c = omega arith
 
 loop-again : tie.Need-loop-again Inv-loop μ-loop
 loop-again c =
@@ -62,14 +44,14 @@ load-reference-spec =
     (tie.spec
     Inv-loop
     μ-loop
-    mul-end
-    add-end
+    (λ c. omega arith)
+    (λ c. omega arith)
     loop-holds
     reference-number-requires
-    mul-code
-    slice-write-code
-    add-i
-    loop-less
+    (λ c. omega arith)
+    (λ c. omega arith)
+    (λ c. omega arith)
+    (λ c. omega arith)
     loop-again
     same-length
     returns)

@@ -8,43 +8,19 @@ use borrow.Author.Needs.{needs}
 use Rattle.load.proofs.operator_number.Statement.{statement}
 use Rattle.load.proofs.operator_number.Tie as tie
 
-add-operation : tie.Need-add-operation
-add-operation c = search needs
-
-shared-slice-read-operation : tie.Need-shared-slice-read-operation
-shared-slice-read-operation c = search needs
-
 cast-result : tie.Need-cast-result
 cast-result c = omega (arith, c .before .shared-slice-known2 .given (c .before .before .before .args .at + 1))
 
 returns : tie.Need-returns
 returns c = let z = c .before .before .before .args in number-operation (now (z .s)) (z .at) (z .j) (c .if1 .taken)
 
-add-operand : tie.Need-add-operand
-add-operand c = search needs
-
-operand-requires : tie.Need-operand-requires
-operand-requires c κs = search needs
-
 returns-2 : tie.Need-returns-2
 returns-2 c = let z = c .before .before .before .before .before .args in c .operand .ensures ∙ number-first (now (z .s)) (z .at) (z .j) (c .before .if2 .taken)
-
-add-operand-2 : tie.Need-add-operand-2
-add-operand-2 c = search needs
-
-operand-requires-2 : tie.Need-operand-requires-2
-operand-requires-2 c κs = search needs
 
 returns-3 : tie.Need-returns-3
 returns-3 c =
     let z = c .before .before .before .before .before .before .args in
     c .operand2 .ensures ∙ number-again (now (z .s)) (z .at) (z .j) (c .before .before .before .if1 .left) (c .before .before .if2 .left) (c .before .if3 .taken)
-
-add-operand-3 : tie.Need-add-operand-3
-add-operand-3 c = search needs
-
-operand-requires-3 : tie.Need-operand-requires-3
-operand-requires-3 c κs = search needs
 
 returns-4 : tie.Need-returns-4
 returns-4 c =
@@ -55,16 +31,16 @@ pub operator-number-spec : {M : Type 1} → statement M
 operator-number-spec =
     tie.close
     (tie.spec
-    add-operation
-    shared-slice-read-operation
+    (λ c. search needs)
+    (λ c. search needs)
     cast-result
     returns
-    add-operand
-    operand-requires
+    (λ c. search needs)
+    (λ c κs. search needs)
     returns-2
-    add-operand-2
-    operand-requires-2
+    (λ c. search needs)
+    (λ c κs. search needs)
     returns-3
-    add-operand-3
-    operand-requires-3
+    (λ c. search needs)
+    (λ c κs. search needs)
     returns-4)

@@ -6,18 +6,6 @@ use borrow.Author.Needs.{needs}
 use Rattle.load.proofs.pin_number.Statement.{statement}
 use Rattle.load.proofs.pin_number.Tie as tie
 
-add-operand : tie.Need-add-operand
-add-operand c = search needs
-
-mul-operand : tie.Need-mul-operand
-mul-operand c = search needs
-
-add-operand-2 : tie.Need-add-operand-2
-add-operand-2 c = search needs
-
-operand-requires : tie.Need-operand-requires
-operand-requires c κs = search needs
-
 returns : tie.Need-returns
 returns c = let z = c .before .before .before in c .operand .ensures ∙ pin-there (now (z .args .s)) (z .args .at) (z .args .ground) _ _ (c .before .if1 .taken)
 
@@ -26,4 +14,4 @@ returns-2 c = let z = c .before .before in pin-absent (now (z .args .s)) (z .arg
 
 pub pin-number-spec : {M : Type 1} → statement M
 pin-number-spec =
-    tie.close (tie.spec add-operand mul-operand add-operand-2 operand-requires returns returns-2)
+    tie.close (tie.spec (λ c. search needs) (λ c. search needs) (λ c. search needs) (λ c κs. search needs) returns returns-2)

@@ -11,20 +11,8 @@ use borrow.Author.Needs.{needs}
 use Rattle.load.proofs.read_reference.Statement.{statement}
 use Rattle.load.proofs.read_reference.Tie as tie
 
-reference-limits-requires : tie.Need-reference-limits-requires
-reference-limits-requires c κs = search needs
-
-slice-aggregate-read-file : tie.Need-slice-aggregate-read-file
-slice-aggregate-read-file c = search needs
-
 read-file-requires : tie.Need-read-file-requires
 read-file-requires c κs = reference-places _ (c .before .reference-limits .ensures)
-
-enum-known-outcome : tie.Need-enum-known-outcome
-enum-known-outcome c = search needs
-
-slice-aggregate-load-reference : tie.Need-slice-aggregate-load-reference
-slice-aggregate-load-reference c = search needs
 
 load-reference-requires : tie.Need-load-reference-requires
 unfolding mostCare
@@ -34,12 +22,6 @@ load-reference-requires c κs =
     let w = was-read-by file.Reference _ referenceLimits (c .before .before .before .before .before .before .before .before .reference-limits .ensures) (now (z .args .s)) _ _ (omega arith) (sym (c .before .before .before .outcome .given .1) ∙ f .ensures .0) (f .ensures .1) in
     let n = w .file-read .within in
     (w .file-read, omega (arith, n .gates-in, n .outputs-in))
-
-enum-told : tie.Need-enum-told
-enum-told c = search needs
-
-same-length : tie.Need-same-length
-same-length c = search needs
 
 returns : tie.Need-returns
 unfolding mostCare
@@ -63,13 +45,13 @@ pub read-reference-spec : {M : Type 1} → statement M
 read-reference-spec =
     tie.close
     (tie.spec
-    reference-limits-requires
-    slice-aggregate-read-file
+    (λ c κs. search needs)
+    (λ c. search needs)
     read-file-requires
-    enum-known-outcome
-    slice-aggregate-load-reference
+    (λ c. search needs)
+    (λ c. search needs)
     load-reference-requires
-    enum-told
-    same-length
+    (λ c. search needs)
+    (λ c. search needs)
     returns
     returns-2)

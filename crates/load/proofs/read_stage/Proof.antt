@@ -11,20 +11,8 @@ use borrow.Author.Needs.{needs}
 use Rattle.load.proofs.read_stage.Statement.{statement}
 use Rattle.load.proofs.read_stage.Tie as tie
 
-stage-limits-requires : tie.Need-stage-limits-requires
-stage-limits-requires c κs = search needs
-
-slice-aggregate-read-file : tie.Need-slice-aggregate-read-file
-slice-aggregate-read-file c = search needs
-
 read-file-requires : tie.Need-read-file-requires
 read-file-requires c κs = stage-places _ (c .before .stage-limits .ensures)
-
-enum-known-outcome : tie.Need-enum-known-outcome
-enum-known-outcome c = search needs
-
-slice-aggregate-load-stage : tie.Need-slice-aggregate-load-stage
-slice-aggregate-load-stage c = search needs
 
 load-stage-requires : tie.Need-load-stage-requires
 unfolding mostCare
@@ -34,12 +22,6 @@ load-stage-requires c κs =
     let w = was-read-by file.Stage _ stageLimits (c .before .before .before .before .before .before .before .before .stage-limits .ensures) (now (z .args .s)) _ _ (omega arith) (sym (c .before .before .before .outcome .given .1) ∙ f .ensures .0) (f .ensures .1) in
     let n = w .file-read .within in
     (w .file-read, omega (arith, n .gates-in, n .outputs-in, w .file-read .few-care))
-
-enum-told : tie.Need-enum-told
-enum-told c = search needs
-
-same-length : tie.Need-same-length
-same-length c = search needs
 
 returns : tie.Need-returns
 unfolding mostCare
@@ -63,13 +45,13 @@ pub read-stage-spec : {M : Type 1} → statement M
 read-stage-spec =
     tie.close
     (tie.spec
-    stage-limits-requires
-    slice-aggregate-read-file
+    (λ c κs. search needs)
+    (λ c. search needs)
     read-file-requires
-    enum-known-outcome
-    slice-aggregate-load-stage
+    (λ c. search needs)
+    (λ c. search needs)
     load-stage-requires
-    enum-told
-    same-length
+    (λ c. search needs)
+    (λ c. search needs)
     returns
     returns-2)

@@ -10,15 +10,6 @@ use borrow.Author.Needs.{needs}
 use Rattle.load.proofs.reference_number.Statement.{statement}
 use Rattle.load.proofs.reference_number.Tie as tie
 
-mul-end : tie.Need-mul-end
-mul-end c = search needs
-
-mul-operator-number : tie.Need-mul-operator-number
-mul-operator-number c = search needs
-
-shared-slice-read-operator-number : tie.Need-shared-slice-read-operator-number
-shared-slice-read-operator-number c = search needs
-
 cast-operator-number : tie.Need-cast-operator-number
 cast-operator-number c = omega (arith, c .shared-slice-known3 .given (c .before .before .before .before .before .args .i / 3))
 
@@ -27,15 +18,6 @@ operator-number-requires c κs = let z = c .before .before .before .before .befo
 
 returns : tie.Need-returns
 returns c = let z = c .before .before .before .before .before .before in c .operator-number .ensures ∙ reference-gate (now (z .args .s)) (now (z .args .places)) (z .args .counts) (z .args .i) (c .before .before .if1 .taken)
-
-add-at : tie.Need-add-at
-add-at c = search needs
-
-mul-at : tie.Need-mul-at
-mul-at c = search needs
-
-shared-slice-read-at : tie.Need-shared-slice-read-at
-shared-slice-read-at c = search needs
 
 cast-at : tie.Need-cast-at
 cast-at c = let z = c .before .before .before .before .before in omega (arith, c .shared-slice-known4 .given (referenceLimits .gates + (z .args .i - 3 * z .args .counts .gates)))
@@ -56,15 +38,15 @@ pub reference-number-spec : {M : Type 1} → statement M
 reference-number-spec =
     tie.close
     (tie.spec
-    mul-end
-    mul-operator-number
-    shared-slice-read-operator-number
+    (λ c. search needs)
+    (λ c. search needs)
+    (λ c. search needs)
     cast-operator-number
     operator-number-requires
     returns
-    add-at
-    mul-at
-    shared-slice-read-at
+    (λ c. search needs)
+    (λ c. search needs)
+    (λ c. search needs)
     cast-at
     add-operand
     operand-requires

@@ -11,24 +11,6 @@ use borrow.Author.Needs.{needs}
 use Rattle.load.proofs.stage_number.Statement.{statement}
 use Rattle.load.proofs.stage_number.Tie as tie
 
-mul-end : tie.Need-mul-end
-mul-end c = search needs
-
-mul-ground : tie.Need-mul-ground
-mul-ground c = search needs
-
-add-ground : tie.Need-add-ground
-add-ground c = search needs
-
-cast-ground : tie.Need-cast-ground
-cast-ground c = search needs
-
-mul-gate-number : tie.Need-mul-gate-number
-mul-gate-number c = search needs
-
-shared-slice-read-gate-number : tie.Need-shared-slice-read-gate-number
-shared-slice-read-gate-number c = search needs
-
 cast-gate-number : tie.Need-cast-gate-number
 cast-gate-number c = omega (arith, c .shared-slice-known3 .given (c .before .before .before .before .before .before .before .args .i / 8))
 
@@ -38,26 +20,11 @@ gate-number-requires c κs = let z = c .before .before .before .before .before .
 returns : tie.Need-returns
 returns c = let z = c .before .before .before .before .before .before .before .before in c .gate-number .ensures ∙ stage-gate (now (z .args .s)) (now (z .args .places)) (z .args .counts) (z .args .i) (c .before .before .before .before .if1 .taken)
 
-mul-rails : tie.Need-mul-rails
-mul-rails c = search needs
-
-add-at : tie.Need-add-at
-add-at c = search needs
-
-mul-at : tie.Need-mul-at
-mul-at c = search needs
-
-shared-slice-read-at : tie.Need-shared-slice-read-at
-shared-slice-read-at c = search needs
-
 cast-at : tie.Need-cast-at
 cast-at c = let z = c .before .before .before .before .before .before .before in omega (arith, c .shared-slice-known4 .given (stageLimits .gates + (z .args .i - 8 * z .args .counts .gates) / 2))
 
 add-operand : tie.Need-add-operand
 add-operand c = let z = c .before .before .before .before .before .before .before in omega (arith, c .shared-slice-known4 .given (stageLimits .gates + (z .args .i - 8 * z .args .counts .gates) / 2))
-
-mul-operand : tie.Need-mul-operand
-mul-operand c = search needs
 
 add-operand-2 : tie.Need-add-operand-2
 add-operand-2 c = let z = c .before .before .before .before .before .before .before in omega (arith, c .shared-slice-known4 .given (stageLimits .gates + (z .args .i - 8 * z .args .counts .gates) / 2))
@@ -72,15 +39,6 @@ returns-2 : tie.Need-returns-2
 returns-2 c = let z = c .before .before .before .before .before .before .before .before in c .operand .ensures ∙ stage-output (now (z .args .s)) (now (z .args .places)) (z .args .counts) (z .args .i) (omega arith) (c .before .before .if2 .taken)
 
 -- the care word at its place in the slice
-add-result : tie.Need-add-result
-add-result c = search needs
-
-add-result-2 : tie.Need-add-result-2
-add-result-2 c = search needs
-
-mul-result : tie.Need-mul-result
-mul-result c = search needs
-
 shared-slice-read-result : tie.Need-shared-slice-read-result
 unfolding mostCare
 shared-slice-read-result c = search needs
@@ -94,27 +52,27 @@ pub stage-number-spec : {M : Type 1} → statement M
 stage-number-spec =
     tie.close
     (tie.spec
-    mul-end
-    mul-ground
-    add-ground
-    cast-ground
-    mul-gate-number
-    shared-slice-read-gate-number
+    (λ c. search needs)
+    (λ c. search needs)
+    (λ c. search needs)
+    (λ c. search needs)
+    (λ c. search needs)
+    (λ c. search needs)
     cast-gate-number
     gate-number-requires
     returns
-    mul-rails
-    add-at
-    mul-at
-    shared-slice-read-at
+    (λ c. search needs)
+    (λ c. search needs)
+    (λ c. search needs)
+    (λ c. search needs)
     cast-at
     add-operand
-    mul-operand
+    (λ c. search needs)
     add-operand-2
     operand-requires
     returns-2
-    add-result
-    add-result-2
-    mul-result
+    (λ c. search needs)
+    (λ c. search needs)
+    (λ c. search needs)
     shared-slice-read-result
     returns-3)

@@ -13,20 +13,8 @@ use Rattle.loops.proofs.is_ready.Reads as reads
 use Rattle.loops.proofs.is_ready.Lts as lts
 use Rattle.loops.proofs.fed.Reads as fed-reads
 
-mul-if1 : tie.Need-mul-if1
-mul-if1 c = search needs
-
-add-if1 : tie.Need-add-if1
-add-if1 c = search needs
-
-shared-slice-read-if1 : tie.Need-shared-slice-read-if1
-shared-slice-read-if1 c = search needs
-
 returns : tie.Need-returns
 returns c = rw (c .if1 .taken)
-
-fed-requires : tie.Need-fed-requires
-fed-requires c κs = search needs
 
 returns-2 : tie.Need-returns-2
 returns-2 c =
@@ -35,4 +23,4 @@ returns-2 c =
 
 pub is-ready-spec : {M : Type 1} → statement M
 is-ready-spec =
-    tie.close (tie.spec mul-if1 add-if1 shared-slice-read-if1 returns fed-requires returns-2)
+    tie.close (tie.spec (λ c. search needs) (λ c. search needs) (λ c. search needs) returns (λ c κs. search needs) returns-2)

@@ -18,17 +18,8 @@ abbrev μ-loop : tie.MeasureT-loop
 loop-holds : tie.Need-loop-holds Inv-loop μ-loop
 loop-holds c = let e : c .before .args .inputs - 0 ≡ c .before .args .inputs = omega arith in rw e
 
-is-illegal-requires : tie.Need-is-illegal-requires Inv-loop μ-loop
-is-illegal-requires c κs = search needs
-
 returns : tie.Need-returns Inv-loop μ-loop
 returns c = let l = c .before .before .before .loop in sought-here _ _ (l .i) (omega arith) (l .inv) (sym (c .before .is-illegal .ensures) ∙ c .if1 .taken)
-
-add-i : tie.Need-add-i Inv-loop μ-loop
-add-i c = search needs
-
-loop-less : tie.Need-loop-less Inv-loop μ-loop
-loop-less c = search needs
 
 loop-again : tie.Need-loop-again Inv-loop μ-loop
 loop-again c = let l = c .before .before .before .loop in sought-on _ _ (l .i) (omega arith) (l .inv) (sym (c .before .is-illegal .ensures) ∙ c .if1 .left)
@@ -43,9 +34,9 @@ illegal-input-spec =
     Inv-loop
     μ-loop
     loop-holds
-    is-illegal-requires
+    (λ c κs. search needs)
     returns
-    add-i
-    loop-less
+    (λ c. search needs)
+    (λ c. search needs)
     loop-again
     returns-2)

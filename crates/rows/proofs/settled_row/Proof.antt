@@ -7,24 +7,6 @@ use borrow.Author.Needs.{needs}
 use Rattle.rows.proofs.settled_row.Statement.{statement}
 use Rattle.rows.proofs.settled_row.Tie as tie
 
-slice-aggregate-read-stage : tie.Need-slice-aggregate-read-stage
-slice-aggregate-read-stage c = search needs
-
-read-stage-requires : tie.Need-read-stage-requires
-read-stage-requires c κs = search needs
-
-enum-known-number : tie.Need-enum-known-number
-enum-known-number c = search needs
-
-cast-t11 : tie.Need-cast-t11
-cast-t11 c = search needs
-
-enum-known-counts : tie.Need-enum-known-counts
-enum-known-counts c = search needs
-
-slice-aggregate-settle-stage : tie.Need-slice-aggregate-settle-stage
-slice-aggregate-settle-stage c = search needs
-
 settle-stage-requires : tie.Need-settle-stage-requires
 settle-stage-requires c κs = let z = c .before .before .before .before .before .before .before .before .before .before in let f = c .before .before .before .before .before .before .read-stage .ensures in stage-held (now (z .args .stage)) _ _ _ (sym (c .before .before .before .counts .given .1) ∙ f .0) (f .1) .3
 
@@ -33,9 +15,6 @@ returns c =
     let z = c .before .before .before .before .before .before .before .before in
     answered (now (z .args .stage)) (now (z .args .row)) _ _
     (by-refusal (now (z .args .stage)) (now (z .args .row)) _ _ (sym (c .before .number .given .1) ∙ c .before .before .before .before .read-stage .ensures .0))
-
-same-length : tie.Need-same-length
-same-length c = search needs
 
 returns-2 : tie.Need-returns-2
 returns-2 c =
@@ -48,13 +27,13 @@ pub settled-row-spec : {M : Type 1} → statement M
 settled-row-spec =
     tie.close
     (tie.spec
-    slice-aggregate-read-stage
-    read-stage-requires
-    enum-known-number
-    cast-t11
-    enum-known-counts
-    slice-aggregate-settle-stage
+    (λ c. search needs)
+    (λ c κs. search needs)
+    (λ c. search needs)
+    (λ c. search needs)
+    (λ c. search needs)
+    (λ c. search needs)
     settle-stage-requires
     returns
-    same-length
+    (λ c. search needs)
     returns-2)

@@ -10,24 +10,12 @@ Inv-loop i₀ i = i ≤ 1000
 abbrev μ-loop : tie.MeasureT-loop
 μ-loop i₀ i = 1000 - i
 
-loop-holds : tie.Need-loop-holds Inv-loop μ-loop
-loop-holds c = omega arith
-
 run-requires : tie.Need-run-requires Inv-loop μ-loop
 run-requires c κs = tt
-
-add-i : tie.Need-add-i Inv-loop μ-loop
-add-i c = omega arith
-
-loop-less : tie.Need-loop-less Inv-loop μ-loop
-loop-less c = omega arith
-
-loop-again : tie.Need-loop-again Inv-loop μ-loop
-loop-again c = omega arith
 
 returns : tie.Need-returns Inv-loop μ-loop
 returns c = tt
 
 pub main-spec : {M : Type 1} → statement M
 main-spec =
-    tie.close (tie.spec Inv-loop μ-loop loop-holds run-requires add-i loop-less loop-again returns)
+    tie.close (tie.spec Inv-loop μ-loop (λ c. omega arith) run-requires (λ c. omega arith) (λ c. omega arith) (λ c. omega arith) returns)

@@ -18,9 +18,6 @@ Inv-loop which code counts reference sizes number count k₀ k = SweptTo number 
 abbrev μ-loop : tie.MeasureT-loop
 μ-loop which code counts reference sizes number count k₀ k = count - k
 
-number-of-requires : tie.Need-number-of-requires Inv-loop μ-loop
-number-of-requires c κs = search needs
-
 word-count-requires : tie.Need-word-count-requires Inv-loop μ-loop
 word-count-requires c κs = c .before .before .before .pre .stage .within .inputs-in
 
@@ -35,9 +32,6 @@ word-at-requires c κs =
 find-requires : tie.Need-find-requires Inv-loop μ-loop
 find-requires c κs = c .before .before .before .before .before .before .before .pre
 
-enum-known-i : tie.Need-enum-known-i Inv-loop μ-loop
-enum-known-i c = search needs
-
 returns : tie.Need-returns Inv-loop μ-loop
 returns c =
     let word = c .before .before .before .before in
@@ -47,15 +41,6 @@ returns c =
     (loop .before .before .number-of .ensures)
     (swept-here _ _ _ (loop .loop .k) (omega (arith, loop .before .word-count .ensures (now (z .args .code)))) (loop .loop .inv) _ (word .word-at .ensures) _
     (sym (c .before .before .before .find .ensures) ∙ c .before .i .given .1))
-
-enum-told : tie.Need-enum-told Inv-loop μ-loop
-enum-told c = search needs
-
-add-k : tie.Need-add-k Inv-loop μ-loop
-add-k c = omega arith
-
-loop-less : tie.Need-loop-less Inv-loop μ-loop
-loop-less c = omega arith
 
 loop-again : tie.Need-loop-again Inv-loop μ-loop
 loop-again c =
@@ -79,15 +64,15 @@ sweep-words-spec =
     (tie.spec
     Inv-loop
     μ-loop
-    number-of-requires
+    (λ c κs. search needs)
     word-count-requires
     loop-holds
     word-at-requires
     find-requires
-    enum-known-i
+    (λ c. search needs)
     returns
-    enum-told
-    add-k
-    loop-less
+    (λ c. search needs)
+    (λ c. omega arith)
+    (λ c. omega arith)
     loop-again
     returns-2)

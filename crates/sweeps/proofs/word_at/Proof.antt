@@ -7,15 +7,6 @@ use Rattle.sweeps.proofs.Sweeping.{all-at, care-count, care-at}
 use Rattle.sweeps.proofs.word_at.Statement.{statement}
 use Rattle.sweeps.proofs.word_at.Tie as tie
 
-mul-first : tie.Need-mul-first
-mul-first c = search needs
-
-mul-first-2 : tie.Need-mul-first-2
-mul-first-2 c = search needs
-
-add-first : tie.Need-add-first
-add-first c = search needs
-
 add-result : tie.Need-add-result
 add-result c =
     let tested = c .before .before in
@@ -54,9 +45,9 @@ pub word-at-spec : {M : Type 1} → statement M
 word-at-spec =
     tie.close
     (tie.spec
-    mul-first
-    mul-first-2
-    add-first
+    (λ c. search needs)
+    (λ c. search needs)
+    (λ c. search needs)
     add-result
     mul-result
     shared-slice-read-result

@@ -7,9 +7,6 @@ use Rattle.sweeps.proofs.Sweeping.{all-count, care-count, few-words}
 use Rattle.sweeps.proofs.word_count.Statement.{statement}
 use Rattle.sweeps.proofs.word_count.Tie as tie
 
-shl-result : tie.Need-shl-result
-shl-result c = search needs
-
 returns : tie.Need-returns
 returns c =
     λ code.
@@ -22,4 +19,4 @@ returns-2 : tie.Need-returns-2
 returns-2 c = λ code. care-count (c .before .before .args .counts) code (c .if1 .left)
 
 pub word-count-spec : {M : Type 1} → statement M
-word-count-spec = tie.close (tie.spec shl-result returns returns-2)
+word-count-spec = tie.close (tie.spec (λ c. search needs) returns returns-2)

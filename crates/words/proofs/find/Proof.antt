@@ -6,24 +6,6 @@ use borrow.Author.Needs.{needs}
 use Rattle.words.proofs.find.Statement.{statement}
 use Rattle.words.proofs.find.Tie as tie
 
-enum-told : tie.Need-enum-told
-enum-told c = search needs
-
-wrong-output-requires : tie.Need-wrong-output-requires
-wrong-output-requires c κs = search needs
-
-enum-told-2 : tie.Need-enum-told-2
-enum-told-2 c = search needs
-
-missing-input-requires : tie.Need-missing-input-requires
-missing-input-requires c κs = search needs
-
-enum-told-3 : tie.Need-enum-told-3
-enum-told-3 c = search needs
-
-unobserved-gate-requires : tie.Need-unobserved-gate-requires
-unobserved-gate-requires c κs = search needs
-
 returns : tie.Need-returns
 returns c =
     let z = c .before .before .before .before .before in
@@ -43,12 +25,12 @@ pub find-spec : {M : Type 1} → statement M
 find-spec =
     tie.close
     (tie.spec
-    enum-told
-    wrong-output-requires
-    enum-told-2
-    missing-input-requires
-    enum-told-3
-    unobserved-gate-requires
+    (λ c. search needs)
+    (λ c κs. search needs)
+    (λ c. search needs)
+    (λ c κs. search needs)
+    (λ c. search needs)
+    (λ c κs. search needs)
     returns
     returns-2
     returns-3)

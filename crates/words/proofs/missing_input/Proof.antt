@@ -24,12 +24,6 @@ incomplete-requires c κs = let z = c .before .before .before in (z .pre .0, z .
 returns : tie.Need-returns Inv-loop μ-loop
 returns c = sought-here _ _ _ (omega arith) (c .before .before .before .loop .inv) (sym (c .before .incomplete .ensures) ∙ c .if1 .taken)
 
-add-i : tie.Need-add-i Inv-loop μ-loop
-add-i c = omega arith
-
-loop-less : tie.Need-loop-less Inv-loop μ-loop
-loop-less c = omega arith
-
 loop-again : tie.Need-loop-again Inv-loop μ-loop
 loop-again c = sought-on _ _ _ (omega arith) (c .before .before .before .loop .inv) (sym (c .before .incomplete .ensures) ∙ c .if1 .left)
 
@@ -45,7 +39,7 @@ missing-input-spec =
     loop-holds
     incomplete-requires
     returns
-    add-i
-    loop-less
+    (λ c. omega arith)
+    (λ c. omega arith)
     loop-again
     returns-2)

@@ -7,15 +7,6 @@ use borrow.Author.Needs.{needs}
 use Rattle.words.proofs.settle_word.Statement.{statement}
 use Rattle.words.proofs.settle_word.Tie as tie
 
-spell-word-requires : tie.Need-spell-word-requires
-spell-word-requires c κs = search needs
-
-settle-requires : tie.Need-settle-requires
-settle-requires c κs = search needs
-
-same-length : tie.Need-same-length
-same-length c = search needs
-
 returns : tie.Need-returns
 returns c =
     let z = c .before .before .before .before .before .before .before .before .before .before in
@@ -23,4 +14,4 @@ returns c =
     (s .0 ∙ ap (settled (gatesIn (z .args .counts) (now (z .args .code)))) (c .before .before .before .before .before .before .spell-word .ensures .0), s .1)
 
 pub settle-word-spec : {M : Type 1} → statement M
-settle-word-spec = tie.close (tie.spec spell-word-requires settle-requires same-length returns)
+settle-word-spec = tie.close (tie.spec (λ c κs. search needs) (λ c κs. search needs) (λ c. search needs) returns)

@@ -13,52 +13,19 @@ use borrow.Author.Needs.{needs}
 use Rattle.words.proofs.unobserved_at.Statement.{statement}
 use Rattle.words.proofs.unobserved_at.Tie as tie
 
-mul-first : tie.Need-mul-first
-mul-first c = search needs
-
-add-if1 : tie.Need-add-if1
-add-if1 c = search needs
-
-shared-slice-read-if1 : tie.Need-shared-slice-read-if1
-shared-slice-read-if1 c = search needs
-
 returns : tie.Need-returns
 returns c = let z = c .before .before .before .before .before in unobserved-low (z .args .counts) (now (z .args .code)) (now (z .args .row)) (z .pre .1) (z .pre .2) (z .pre .3) (z .args .g) (z .pre .4) (c .if1 .taken) _
 
-add-size : tie.Need-add-size
-add-size c = search needs
-
-add-size-2 : tie.Need-add-size-2
-add-size-2 c = search needs
-
 slice-aggregate-copy : tie.Need-slice-aggregate-copy
 slice-aggregate-copy c = let z = c .before .before .before .before .before .before .before in sym (length-take-le _ (now (z .args .row)) (omega (arith, z .pre .2 .long)))
-
-slice-aggregate-copy-2 : tie.Need-slice-aggregate-copy-2
-slice-aggregate-copy-2 c = search needs
 
 copy-requires : tie.Need-copy-requires
 copy-requires c κs =
     let z = c .before .before .before .before .before .before .before .before in
     omega (arith, length-take-le (netCount (z .args .counts) + 1) (now (z .args .row)) (omega (arith, z .pre .2 .long)), z .pre .0 .within .inputs-in, z .pre .0 .within .gates-in)
 
-mul-start : tie.Need-mul-start
-mul-start c = search needs
-
-add-start : tie.Need-add-start
-add-start c = search needs
-
-mul-start-2 : tie.Need-mul-start-2
-mul-start-2 c = search needs
-
-shared-slice-read-start : tie.Need-shared-slice-read-start
-shared-slice-read-start c = search needs
-
 cast-start : tie.Need-cast-start
 cast-start c = let z = c .before .before .before .before .before .before .before .before .before .before .before in omega (arith, z .pre .1 .place-in (z .args .g) (z .pre .4), z .pre .0 .within .gates-in)
-
-slice-aggregate-settle-from : tie.Need-slice-aggregate-settle-from
-slice-aggregate-settle-from c = search needs
 
 settle-from-requires : tie.Need-settle-from-requires
 settle-from-requires c κs =
@@ -73,12 +40,6 @@ settle-from-requires c κs =
       hold-before (z .args .counts) (now (z .args .code)) _ (z .pre .1) r (settled-same (z .args .counts) (now (z .args .code)) (now (z .args .row)) (z .pre .3) _ n) (z .args .g) (z .pre .4),
     )
 
-slice-aggregate-all-data : tie.Need-slice-aggregate-all-data
-slice-aggregate-all-data c = search needs
-
-all-data-requires : tie.Need-all-data-requires
-all-data-requires c κs = search needs
-
 returns-2 : tie.Need-returns-2
 returns-2 c =
     let z = c .before .before .before .before .before .before .before .before .before .before .before .before .before .before .before .before in
@@ -92,22 +53,22 @@ pub unobserved-at-spec : {M : Type 1} → statement M
 unobserved-at-spec =
     tie.close
     (tie.spec
-    mul-first
-    add-if1
-    shared-slice-read-if1
+    (λ c. search needs)
+    (λ c. search needs)
+    (λ c. search needs)
     returns
-    add-size
-    add-size-2
+    (λ c. search needs)
+    (λ c. search needs)
     slice-aggregate-copy
-    slice-aggregate-copy-2
+    (λ c. search needs)
     copy-requires
-    mul-start
-    add-start
-    mul-start-2
-    shared-slice-read-start
+    (λ c. search needs)
+    (λ c. search needs)
+    (λ c. search needs)
+    (λ c. search needs)
     cast-start
-    slice-aggregate-settle-from
+    (λ c. search needs)
     settle-from-requires
-    slice-aggregate-all-data
-    all-data-requires
+    (λ c. search needs)
+    (λ c κs. search needs)
     returns-2)

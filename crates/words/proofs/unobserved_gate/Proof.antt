@@ -20,17 +20,11 @@ Inv-loop code counts w row gates g₀ g = SoughtTo (unobservable (stageIn counts
 abbrev μ-loop : tie.MeasureT-loop
 μ-loop code counts w row gates g₀ g = gates - g
 
-slice-aggregate-settle-word : tie.Need-slice-aggregate-settle-word Inv-loop μ-loop
-slice-aggregate-settle-word c = search needs
-
 settle-word-requires : tie.Need-settle-word-requires Inv-loop μ-loop
 settle-word-requires c κs = let z = c .before .before in (z .pre .0, z .pre .1, low-row (z .args .counts) (z .pre .0 .within))
 
 loop-holds : tie.Need-loop-holds Inv-loop μ-loop
 loop-holds c = ap (least _ 0) (omega arith)
-
-slice-aggregate-unobserved-at : tie.Need-slice-aggregate-unobserved-at Inv-loop μ-loop
-slice-aggregate-unobserved-at c = search needs
 
 unobserved-at-requires : tie.Need-unobserved-at-requires Inv-loop μ-loop
 unobserved-at-requires c κs =
@@ -43,12 +37,6 @@ returns c =
     let z = c .before .before .before .before .before .before .before .before .before in
     let u = unobserved-word (z .args .counts) (now (z .args .code)) _ (z .args .w) (c .before .before .before .before .before .before .settle-word .ensures .0) _ in
     sought-here _ _ _ (omega arith) (c .before .before .before .before .loop .inv) (sym u ∙ sym (c .before .unobserved-at .ensures) ∙ c .if1 .taken)
-
-add-g : tie.Need-add-g Inv-loop μ-loop
-add-g c = omega arith
-
-loop-less : tie.Need-loop-less Inv-loop μ-loop
-loop-less c = omega arith
 
 loop-again : tie.Need-loop-again Inv-loop μ-loop
 loop-again c =
@@ -65,13 +53,13 @@ unobserved-gate-spec =
     (tie.spec
     Inv-loop
     μ-loop
-    slice-aggregate-settle-word
+    (λ c. search needs)
     settle-word-requires
     loop-holds
-    slice-aggregate-unobserved-at
+    (λ c. search needs)
     unobserved-at-requires
     returns
-    add-g
-    loop-less
+    (λ c. omega arith)
+    (λ c. omega arith)
     loop-again
     returns-2)

@@ -13,20 +13,8 @@ use borrow.Author.Needs.{needs}
 use Rattle.words.proofs.wrong_output.Statement.{statement}
 use Rattle.words.proofs.wrong_output.Tie as tie
 
-slice-aggregate-settle-word : tie.Need-slice-aggregate-settle-word
-slice-aggregate-settle-word c = search needs
-
 settle-word-requires : tie.Need-settle-word-requires
 settle-word-requires c κs = let z = c .before .before .before in (z .pre .stage, z .pre .ordered, low-row (z .args .counts) (z .pre .stage .within))
-
-slice-aggregate-word-bits : tie.Need-slice-aggregate-word-bits
-slice-aggregate-word-bits c = search needs
-
-word-bits-requires : tie.Need-word-bits-requires
-word-bits-requires c κs = search needs
-
-slice-aggregate-signal-values : tie.Need-slice-aggregate-signal-values
-slice-aggregate-signal-values c = search needs
 
 signal-values-requires : tie.Need-signal-values-requires
 signal-values-requires c κs =
@@ -36,15 +24,6 @@ signal-values-requires c κs =
       omega (arith, w .inputs-in, w .gates-in),
       λ i. subst (λ (l : List ℕ). getD l i 0 ≤ 1) (sym (c .before .before .word-bits .ensures)) (bits-of-bit _ (z .args .w) i),
     )
-
-slice-aggregate-first-misread : tie.Need-slice-aggregate-first-misread
-slice-aggregate-first-misread c = search needs
-
-slice-aggregate-first-misread-2 : tie.Need-slice-aggregate-first-misread-2
-slice-aggregate-first-misread-2 c = search needs
-
-first-misread-requires : tie.Need-first-misread-requires
-first-misread-requires c κs = search needs
 
 returns : tie.Need-returns
 returns c =
@@ -59,13 +38,13 @@ pub wrong-output-spec : {M : Type 1} → statement M
 wrong-output-spec =
     tie.close
     (tie.spec
-    slice-aggregate-settle-word
+    (λ c. search needs)
     settle-word-requires
-    slice-aggregate-word-bits
-    word-bits-requires
-    slice-aggregate-signal-values
+    (λ c. search needs)
+    (λ c κs. search needs)
+    (λ c. search needs)
     signal-values-requires
-    slice-aggregate-first-misread
-    slice-aggregate-first-misread-2
-    first-misread-requires
+    (λ c. search needs)
+    (λ c. search needs)
+    (λ c κs. search needs)
     returns)
