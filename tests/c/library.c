@@ -1,4 +1,4 @@
-/* The static library called from C: the stored examples, the struct by value, empty files and rows, null pointers.
+/* The static library called from C: the stored examples, the structs by value, empty files and rows, null pointers.
    Arguments: folders that hold stage.ncl, reference.ncl and verdict. The last line is 'N passed, M failed'. */
 
 #include "fovaheju.h"
@@ -61,6 +61,7 @@ static void stored(const char *folder)
         return;
     }
     same(folder, fovaheju_check(stage, stage_len, reference, reference_len), number, file, at, word);
+    same(folder, fovaheju_report(stage, stage_len, reference, reference_len).verdict, number, file, at, word);
 }
 
 static const uint8_t wire[] = {1, 1, 3, 0, 0, 1, 0, 0};
@@ -94,6 +95,49 @@ static void checks(void)
     same("a null reference", fovaheju_check(wire, sizeof wire, NULL, 0), 1, 2, 0, 0);
 }
 
+/* All that a report holds but its verdict is 0. */
+static int nothing_but_a_verdict(const struct fovaheju_report *report)
+{
+    size_t i;
+    for (i = 0; i < 1024; i++)
+        if (report->lines[i] != 0)
+            return 0;
+    return report->words == 0 && report->total == 0;
+}
+
+/* The whole case of document 01: an AND of two inputs. */
+static const uint8_t and_stage[] = {1, 2, 2, 2, 1, 0, 3, 0, 255, 255, 255, 255, 2, 26,
+                                    0, 0, 2, 0, 1, 0, 3, 0, 3,   5,   0,   4,   0, 0};
+static const uint8_t and_reference[] = {1, 2, 17, 2, 0, 0, 1, 0, 18, 2, 0, 0};
+
+static void reports(void)
+{
+    struct {
+        uint64_t before;
+        struct fovaheju_report report;
+        uint64_t after;
+    } kept = {0x1122334455667788, {{9, 9, 9, 9}, 9, 9, {9}}, 0x99AABBCCDDEEFF00};
+    struct fovaheju_report *report = &kept.report;
+    size_t i;
+
+    holds("a report has 2,096 bytes", sizeof *report == 2096);
+    kept.report = fovaheju_report(and_stage, sizeof and_stage, and_reference, sizeof and_reference);
+    same("the report of an AND", report->verdict, 0, 0, 0, 0);
+    holds("four words, a total of four", report->words == 4 && report->total == 4);
+    for (i = 0; i < 1024; i++)
+        holds("a line of the report of an AND", report->lines[i] == (i < 4 ? 1 : 0));
+    kept.report = fovaheju_report(wire, sizeof wire, wire_reference, sizeof wire_reference);
+    same("the report of a wire", report->verdict, 0, 0, 0, 0);
+    holds("two words without gates", report->words == 2 && report->total == 0 && report->lines[0] == 0);
+    kept.report = fovaheju_report(and_stage, sizeof and_stage, wire_reference, sizeof wire_reference);
+    same("the report of unequal counts", report->verdict, 10, 0, 2, 1);
+    holds("a refused pair has no lines", nothing_but_a_verdict(report));
+    holds("beside the report", kept.before == 0x1122334455667788 && kept.after == 0x99AABBCCDDEEFF00);
+    kept.report = fovaheju_report(NULL, 0, NULL, 0);
+    same("the report of null files", report->verdict, 1, 1, 0, 0);
+    holds("null files have no lines", nothing_but_a_verdict(report));
+}
+
 static void rows(void)
 {
     uint8_t row[6] = {0, 1, 7, 8, 9, 10};
@@ -122,6 +166,7 @@ int main(int count, char **folders)
     for (i = 1; i < count; i++)
         stored(folders[i]);
     checks();
+    reports();
     rows();
     printf("%d passed, %d failed\n", passed, failed);
     return failed != 0;

@@ -4,7 +4,7 @@
 //! library with C functions needs two wrappers of a line each. A program is run as a
 //! program, in a folder that holds the two files.
 
-use crate::files::{hex, verdict_from_line, verdict_line, FilePair, MOST_BYTES_READ};
+use crate::files::{hex, report_text, verdict_line, FilePair, MOST_BYTES_READ};
 use crate::generate::{pair, row_case, RowCase};
 use crate::judge::{self, Verdict};
 use std::fmt;
@@ -19,6 +19,32 @@ pub type Check = fn(&[u8], &[u8]) -> [u64; 4];
 
 /// The settled-row call: a stage file and a lent row.
 pub type SettledRow = fn(&[u8], &mut [u8]) -> [u64; 4];
+
+/// The numbers of a report as the library gives them: how many words have a line, their total,
+/// and 1,024 lines of which those past the words are 0. Of a refused pair all but the verdict is 0.
+#[derive(Clone, PartialEq, Eq, Debug)]
+pub struct Counts {
+    pub verdict: Verdict,
+    pub words: u64,
+    pub total: u64,
+    pub lines: Vec<u16>,
+}
+
+/// The report of a stage file and a reference file.
+pub type Report = fn(&[u8], &[u8]) -> Counts;
+
+/// The judge's report in these numbers.
+pub fn judged_counts(stage: &[u8], reference: &[u8]) -> Counts {
+    let report = judge::report(stage, reference);
+    let mut lines: Vec<u16> = report.lines.iter().map(|line| line.1 as u16).collect();
+    lines.resize(1024, 0);
+    Counts {
+        verdict: report.verdict,
+        words: report.lines.len() as u64,
+        total: report.total,
+        lines,
+    }
+}
 
 /// How often each verdict number came.
 pub type Histogram = [u64; 18];
@@ -52,9 +78,16 @@ pub enum Difference {
         judge: (Verdict, Vec<u8>),
         other: (Verdict, Vec<u8>),
     },
-    NoVerdict {
+    Reports {
         name: String,
         pair: FilePair,
+        judge: Box<Counts>,
+        other: Box<Counts>,
+    },
+    Printed {
+        name: String,
+        pair: FilePair,
+        expected: String,
         printed: String,
     },
 }
@@ -100,12 +133,29 @@ impl fmt::Display for Difference {
                 writeln!(f, "row of the judge: {}", hex(&judge.1))?;
                 writeln!(f, "row of the other: {}", hex(&other.1))
             }
-            Difference::NoVerdict {
+            Difference::Reports {
                 name,
                 pair,
+                judge,
+                other,
+            } => {
+                writeln!(f, "{name}: judge {judge:?}")?;
+                writeln!(f, "other {other:?}")?;
+                writeln!(f, "stage, {} bytes: {}", pair.stage.len(), hex(&pair.stage))?;
+                writeln!(
+                    f,
+                    "reference, {} bytes: {}",
+                    pair.reference.len(),
+                    hex(&pair.reference)
+                )
+            }
+            Difference::Printed {
+                name,
+                pair,
+                expected,
                 printed,
             } => {
-                writeln!(f, "{name}: no verdict line but {printed:?}")?;
+                writeln!(f, "{name}: judge {expected:?}, printed {printed:?}")?;
                 writeln!(f, "stage, {} bytes: {}", pair.stage.len(), hex(&pair.stage))?;
                 writeln!(
                     f,
@@ -131,6 +181,21 @@ pub fn compare_pair(other: Check, name: &str, pair: &FilePair) -> Result<u64, Bo
         pair,
         judge: judged,
         other: given,
+    }))
+}
+
+/// Compares the reports on one pair and gives the number they agree on.
+pub fn compare_report(other: Report, name: &str, pair: &FilePair) -> Result<u64, Box<Difference>> {
+    let judged = judged_counts(&pair.stage, &pair.reference);
+    let given = other(&pair.stage, &pair.reference);
+    if judged == given {
+        return Ok(judged.verdict[0]);
+    }
+    Err(Box::new(Difference::Reports {
+        name: name.to_string(),
+        pair: pair.clone(),
+        judge: Box::new(judged),
+        other: Box::new(given),
     }))
 }
 
@@ -213,6 +278,20 @@ pub fn compare_checks(other: Check, seed: u64, count: u64) -> Result<Histogram, 
     })
 }
 
+/// Compares the report on the first `count` pairs of a seed. The first difference is printed
+/// and given back.
+pub fn compare_reports(other: Report, seed: u64, count: u64) -> Result<Histogram, Box<Difference>> {
+    let mut histogram = Histogram::default();
+    for index in 0..count {
+        let generated = pair(seed, index);
+        let name = format!("report {index} of seed {seed} ({})", generated.family);
+        let number = compare_report(other, &name, &generated.pair)
+            .inspect_err(|difference| println!("{difference}"))?;
+        histogram[number as usize] += 1;
+    }
+    Ok(histogram)
+}
+
 /// Compares the settled-row call on the first `count` row cases of a seed. The first
 /// difference is printed and given back.
 pub fn compare_rows(
@@ -256,11 +335,15 @@ pub fn run_program(
     Ok(String::from_utf8_lossy(&output.stdout).into_owned())
 }
 
-/// Compares a program that prints a verdict line with the judge, on the first `count`
-/// pairs of a seed. The judge takes the first 8,192 bytes of each file, as the
-/// program is to do. The first difference is printed and given back.
+/// What a program is to print for a stage file and a reference file.
+pub type Expected = fn(&[u8], &[u8]) -> String;
+
+/// Compares what a program prints with what it is to print, on the first `count` pairs of a
+/// seed. The judge takes the first 8,192 bytes of each file, as the program is to do. The first
+/// difference is printed and given back.
 pub fn compare_program(
     program: &Path,
+    expected: Expected,
     folder: &Path,
     seed: u64,
     count: u64,
@@ -269,31 +352,32 @@ pub fn compare_program(
     let cut = |file: &[u8]| file[..file.len().min(MOST_BYTES_READ as usize)].to_vec();
     for index in 0..count {
         let generated = pair(seed, index);
-        let name = format!("pair {index} of seed {seed} ({})", generated.family);
+        let (stage, reference) = (cut(&generated.pair.stage), cut(&generated.pair.reference));
         let printed = run_program(program, folder, &generated.pair, index % 2 == 0)?;
-        let judged = judge::check(&cut(&generated.pair.stage), &cut(&generated.pair.reference));
-        let pair = generated.pair;
-        let difference = match verdict_from_line(&printed) {
-            Some(other) if other == judged => {
-                histogram[judged[0] as usize] += 1;
-                continue;
-            }
-            Some(other) => Difference::Verdicts {
-                name,
-                pair,
-                judge: judged,
-                other,
-            },
-            None => Difference::NoVerdict {
-                name,
-                pair,
-                printed,
-            },
+        let expected = expected(&stage, &reference);
+        if printed == expected {
+            histogram[judge::check(&stage, &reference)[0] as usize] += 1;
+            continue;
+        }
+        let difference = Difference::Printed {
+            name: format!("pair {index} of seed {seed} ({})", generated.family),
+            pair: generated.pair,
+            expected,
+            printed,
         };
         println!("{difference}");
         return Ok(Err(Box::new(difference)));
     }
     Ok(Ok(histogram))
+}
+
+/// What `ncl_check` and `ncl_report` are to print.
+pub fn expected_verdict(stage: &[u8], reference: &[u8]) -> String {
+    verdict_line(judge::check(stage, reference))
+}
+
+pub fn expected_report(stage: &[u8], reference: &[u8]) -> String {
+    report_text(&judge::report(stage, reference))
 }
 
 /// Seed and count for a test: a fixed seed, unless the environment names another.

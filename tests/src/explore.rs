@@ -271,6 +271,8 @@ pub struct Tried {
     /// Rows with all outputs DATA in a rise, and all NULL in a fall.
     pub all_data: u64,
     pub all_null: u64,
+    /// Gate switchings, each word rising and falling once.
+    pub gate_switchings: u64,
 }
 
 impl Tried {
@@ -282,6 +284,7 @@ impl Tried {
         self.fall_lists += more.fall_lists;
         self.all_data += more.all_data;
         self.all_null += more.all_null;
+        self.gate_switchings += more.gate_switchings;
     }
 }
 
@@ -354,11 +357,14 @@ pub fn promise_by_rules(
         return broken("rise: lists to one row have one length", 0);
     }
     for (&row, &length) in rise.rows.iter().zip(&rise.length) {
-        if rise.ends.contains(&row) && length != row.count_ones() {
-            return broken(
-                "rise: an end comes after as many switchings as nets are high",
-                row,
-            );
+        if rise.ends.contains(&row) {
+            if length != row.count_ones() {
+                return broken(
+                    "rise: an end comes after as many switchings as nets are high",
+                    row,
+                );
+            }
+            tried.gate_switchings += u64::from(length) - rules.inputs as u64;
         }
     }
     if rise.ends.len() != 1 {
@@ -408,6 +414,7 @@ pub fn promise_by_rules(
                     row,
                 );
             }
+            tried.gate_switchings += u64::from(length) - rules.inputs as u64;
         }
     }
     if fall.ends.is_empty() {
@@ -575,6 +582,15 @@ pub fn explore_pair(
     match (verdict[0], promised) {
         (_, None) => summary.too_large += 1,
         (0, Some(Ok(tried))) => {
+            // M-100: the total is half of all gate switchings.
+            let lines = crate::judge::report_lines(stage);
+            let total: u64 = lines.iter().map(|&(_, high)| high).sum();
+            if tried.gate_switchings != 2 * total {
+                return Err(format!(
+                    "a total of {total}, but {} gate switchings",
+                    tried.gate_switchings
+                ));
+            }
             summary.accepted += 1;
             summary.tried.add(tried);
         }

@@ -1,7 +1,7 @@
 //! Writing of stage and reference files, hexadecimal text, and the folders in
 //! which example pairs are stored.
 
-use crate::judge::{Boolean, Gate, Reference, Stage, Verdict, ABSENT, NOT};
+use crate::judge::{Boolean, Gate, Reference, Report, Stage, Verdict, ABSENT, ACCEPTED, NOT};
 use std::fs;
 use std::io::{self, Read};
 use std::path::{Path, PathBuf};
@@ -146,6 +146,19 @@ pub fn verdict_from_line(line: &str) -> Option<Verdict> {
         .collect::<Option<_>>()?;
     let verdict = numbers.try_into().ok()?;
     (verdict_line(verdict) == line).then_some(verdict)
+}
+
+/// What `ncl_report` prints: a line for each word and the total, or the verdict of a refused
+/// pair.
+pub fn report_text(report: &Report) -> String {
+    if report.verdict != ACCEPTED {
+        return verdict_line(report.verdict);
+    }
+    let mut text = String::new();
+    for (word, high) in &report.lines {
+        text += &format!("{word} {high}\n");
+    }
+    text + &format!("total {}\n", report.total)
 }
 
 /// A file as the program takes it: a missing file counts as empty, and at most

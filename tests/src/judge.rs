@@ -560,6 +560,48 @@ pub fn check_circuits(stage: &Stage, reference: &Reference) -> Verdict {
     ACCEPTED
 }
 
+/// The switching report of document 02, M-100.
+#[derive(Clone, PartialEq, Eq, Debug)]
+pub struct Report {
+    pub verdict: Verdict,
+    /// "One line per word in rising order, the word and the number of gates high at rest."
+    pub lines: Vec<(u64, u64)>,
+    /// "The total equals the sum of the printed lines."
+    pub total: u64,
+}
+
+/// "For an accepted pair one line per word, then `total` and a number. A refused pair prints
+/// its verdict line only."
+pub fn report(stage_file: &[u8], reference_file: &[u8]) -> Report {
+    let verdict = check(stage_file, reference_file);
+    let mut lines = Vec::new();
+    if verdict == ACCEPTED {
+        lines = report_lines(&read_stage(stage_file).expect("an accepted stage"));
+    }
+    let total = lines.iter().map(|&(_, high)| high).sum();
+    Report {
+        verdict,
+        lines,
+        total,
+    }
+}
+
+/// Each word and the number of gates high at its rest.
+pub fn report_lines(stage: &Stage) -> Vec<(u64, u64)> {
+    let mut lines = Vec::new();
+    for word in 0..1u64 << stage.inputs {
+        let row = settle(stage, &rails_of_word(stage.inputs, word), None);
+        let mut high = 0;
+        for gate in 0..stage.gates.len() {
+            if row[stage.net_of_gate(gate)] {
+                high += 1;
+            }
+        }
+        lines.push((word, high));
+    }
+    lines
+}
+
 /// The settled-row call: "a stage file and a lent row, one byte per net. Its
 /// refusals are 1 to 9, 12, 16, 17, in that order; each leaves the row unchanged."
 pub fn settled_row(stage_file: &[u8], row: &mut [u8]) -> Verdict {

@@ -10,6 +10,7 @@ pub mod generate;
 pub mod judge;
 #[cfg(feature = "library")]
 pub mod library;
+pub mod report_suite;
 pub mod row_suite;
 pub mod suite;
 

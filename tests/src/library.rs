@@ -1,5 +1,6 @@
 //! The proved calls of the static library, as safe functions. `include/fovaheju.h` says what they answer.
 
+use crate::compare::Counts;
 use crate::judge::Verdict;
 
 /// The four numbers as the library lays them out.
@@ -17,6 +18,15 @@ impl From<Numbers> for Verdict {
     }
 }
 
+/// A report as the library lays it out.
+#[repr(C)]
+struct Report {
+    verdict: Numbers,
+    words: u64,
+    total: u64,
+    lines: [u16; 1024],
+}
+
 extern "C" {
     fn fovaheju_check(
         stage: *const u8,
@@ -24,6 +34,12 @@ extern "C" {
         reference: *const u8,
         reference_len: usize,
     ) -> Numbers;
+    fn fovaheju_report(
+        stage: *const u8,
+        stage_len: usize,
+        reference: *const u8,
+        reference_len: usize,
+    ) -> Report;
     fn fovaheju_settled_row(
         stage: *const u8,
         stage_len: usize,
@@ -44,6 +60,25 @@ pub fn check(stage: &[u8], reference: &[u8]) -> Verdict {
         )
     }
     .into()
+}
+
+/// The report on a stage file and a reference file: verdict, words, total and all 1,024 lines.
+pub fn report(stage: &[u8], reference: &[u8]) -> Counts {
+    // Safety: the contract has no `requires`, and each pointer and length are of a slice.
+    let report = unsafe {
+        fovaheju_report(
+            stage.as_ptr(),
+            stage.len(),
+            reference.as_ptr(),
+            reference.len(),
+        )
+    };
+    Counts {
+        verdict: report.verdict.into(),
+        words: report.words,
+        total: report.total,
+        lines: report.lines.to_vec(),
+    }
 }
 
 /// The verdict on a stage file and a row, which is settled in place.

@@ -17,6 +17,7 @@ use crate::judge::{
     REFERENCE, STAGE, XOR,
 };
 use crate::row_suite::{self, cut, gate, output};
+use std::collections::BTreeSet;
 use std::fs;
 use std::io;
 use std::path::{Path, PathBuf};
@@ -79,6 +80,29 @@ pub fn store(folder: &Path, contents: &[(PathBuf, Vec<u8>)]) -> io::Result<()> {
         fs::write(folder.join(path), bytes)?;
     }
     Ok(())
+}
+
+/// Fails unless a crate holds these files, and no other data.
+pub fn is_stored(program: &str, contents: Vec<(PathBuf, Vec<u8>)>) {
+    let folder = crate_folder(program);
+    let mut described = BTreeSet::new();
+    for (path, bytes) in contents {
+        let stored = fs::read(folder.join(&path)).unwrap_or_else(|error| {
+            panic!(
+                "{}: {error}; the programs suite and report_suite of the tests store it",
+                path.display()
+            )
+        });
+        assert!(stored == bytes, "{} is not as described", path.display());
+        if let Ok(name) = path.strip_prefix("data") {
+            described.insert(name.to_path_buf());
+        }
+    }
+    let stored: BTreeSet<_> = fs::read_dir(folder.join("data"))
+        .unwrap()
+        .map(|entry| entry.unwrap().file_name().into())
+        .collect();
+    assert_eq!(stored, described);
 }
 
 struct Cases(Vec<Case>);

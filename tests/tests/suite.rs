@@ -2,32 +2,9 @@
 //! described, and the output that they are held to is the judge's.
 
 use fovaheju_tests::judge::check;
-use fovaheju_tests::suite::{cases, contents, contents_of_ncl_check, crate_folder};
+use fovaheju_tests::suite::{cases, contents, contents_of_ncl_check, crate_folder, is_stored};
 use std::collections::BTreeSet;
 use std::fs;
-use std::path::PathBuf;
-
-fn is_stored(program: &str, contents: Vec<(PathBuf, Vec<u8>)>) {
-    let folder = crate_folder(program);
-    let mut described = BTreeSet::new();
-    for (path, bytes) in contents {
-        let stored = fs::read(folder.join(&path)).unwrap_or_else(|error| {
-            panic!(
-                "{}: {error}; the program suite of the tests stores it",
-                path.display()
-            )
-        });
-        assert!(stored == bytes, "{} is not as described", path.display());
-        if let Ok(name) = path.strip_prefix("data") {
-            described.insert(name.to_path_buf());
-        }
-    }
-    let stored: BTreeSet<_> = fs::read_dir(folder.join("data"))
-        .unwrap()
-        .map(|entry| entry.unwrap().file_name().into())
-        .collect();
-    assert_eq!(stored, described);
-}
 
 #[test]
 fn stored_files_and_output() {

@@ -27,7 +27,8 @@ module _ (s : Stage) (t : List ℕ) (x : Reading) where
   unfolding judgeReference
   reference-refused number at e = sym (ap (judgeReference s t) (was-refused x number at e))
 
-  pub reference-judged : (sizes : Counts) (code : List ℕ) → outcome.Readable sizes ≡ outcomeOf x → HoldsReference t x code → (v : Verdict) (f : Finding) → v ≡ verdictOf f →
+  pub reference-judged : (sizes : Counts) (code : List ℕ) → outcome.Readable sizes ≡ outcomeOf x → HoldsReference t x code →
+      (v : Verdict) (f : Finding) → v ≡ verdictOf f →
       f ≡ firstFault (checks s (referenceIn sizes code)) → v ≡ judgeReference s t x
   unfolding judgeReference
   reference-judged sizes code e h v f a b =
@@ -53,6 +54,13 @@ module _ (s t : List ℕ) where
 
 -- ---- the demands
 
-pub with-demands : (s t : List ℕ) (v : Verdict) → v ≡ verdictOn s t → (v ≡ verdictOn s t) × (Demand2 stageLimits referenceLimits s t v × Demand3 stageLimits referenceLimits s t v)
-with-demands s t v e =
-    (e, (subst (Demand2 stageLimits referenceLimits s t) (sym e) (demand-2 stageLimits referenceLimits s t), subst (Demand3 stageLimits referenceLimits s t) (sym e) (demand-3 stageLimits referenceLimits s t)))
+pub with-demands : (s t : List ℕ) (v : Verdict) → v ≡ verdictOn s t →
+    (v ≡ verdictOn s t) × (Demand2 stageLimits referenceLimits s t v × Demand3 stageLimits referenceLimits s t v)
+with-demands s t v e = (
+  e,
+  (
+    subst (Demand2 stageLimits referenceLimits s t) (sym e) (demand-2 stageLimits referenceLimits s t),
+    subst
+        (Demand3 stageLimits referenceLimits s t) (sym e) (demand-3 stageLimits referenceLimits s t),
+  ),
+)

@@ -13,12 +13,12 @@ use Rattle.netlist.specs.Content.{Stage, Reference}
 use Rattle.verdict.specs.declared.Finding.{Finding}
 use Rattle.verdict.specs.declared.Finding.the-variants.{Fault, Passed}
 use Rattle.verdict.specs.Checks.{verdict, first, atFault, sweep, finding, orLater, firstFault, unequal, looped, sweeps, checks}
-use Rattle.circuit.specs.Stage.{gatesIn, outputIn, outputsIn, stageIn}
+use Rattle.circuit.specs.Stage.{stageGates, outputIn, stageOutputs, stageIn}
 use Rattle.circuit.specs.Reference.{signalIn, signalsIn, referenceIn, ReferenceLoaded}
 use Rattle.circuit.proofs.Tabulate.{length-tabulate}
 use Rattle.loops.specs.Marks.{LoopFound}
 use Rattle.loops.proofs.Findings.{passed-on, faulty, loop-at, no-loop}
-use Rattle.words.specs.Loaded.{Comparable}
+use Rattle.words.specs.Loaded.{BothLoaded}
 
 -- ---- one check
 
@@ -38,24 +38,27 @@ module _ (c : Counts) (code : List ℕ) (sizes : Counts) (reference : List ℕ) 
   r = referenceIn sizes reference
 
   stage-outputs : length (s .outputs) ≡ c .outputs
-  unfolding outputsIn
+  unfolding stageOutputs
   stage-outputs = length-tabulate (outputIn c code) (c .outputs)
 
   reference-outputs : length (r .outputs) ≡ sizes .outputs
   unfolding signalsIn
   reference-outputs = length-tabulate (signalIn sizes reference) (sizes .outputs)
 
-  in-order : firstFault (checks s r) ≡ orLater (finding (unequal 10 (c .inputs) (sizes .inputs))) (orLater (finding (unequal 11 (c .outputs) (sizes .outputs))) (orLater (finding (looped s)) (firstFault (sweeps s r))))
+  in-order : firstFault (checks s r) ≡ orLater (finding (unequal 10 (c .inputs) (sizes .inputs)))
+      (orLater (finding (unequal 11 (c .outputs) (sizes .outputs))) (orLater (finding (looped s)) (firstFault (sweeps s r))))
   unfolding firstFault checks
   in-order =
-      ap₂ (λ (a b : ℕ). orLater (finding (unequal 10 (c .inputs) (sizes .inputs))) (orLater (finding (unequal 11 a b)) (orLater (finding (looped s)) (firstFault (sweeps s r)))))
+      ap₂ (λ (a b : ℕ). orLater (finding (unequal 10 (c .inputs) (sizes .inputs)))
+      (orLater (finding (unequal 11 a b)) (orLater (finding (looped s)) (firstFault (sweeps s r)))))
       stage-outputs reference-outputs
 
   pub is-10 : (c .inputs ≡ sizes .inputs → ⊥) → Fault (verdict 10 0 (c .inputs) (sizes .inputs)) ≡ firstFault (checks s r)
   is-10 d = sym (in-order ∙ faulty _ _ _ (differ 10 (c .inputs) (sizes .inputs) d))
 
   module _ (inputs : c .inputs ≡ sizes .inputs) where
-    after-10 : firstFault (checks s r) ≡ orLater (finding (unequal 11 (c .outputs) (sizes .outputs))) (orLater (finding (looped s)) (firstFault (sweeps s r)))
+    after-10 : firstFault (checks s r) ≡ orLater (finding (unequal 11 (c .outputs) (sizes .outputs)))
+        (orLater (finding (looped s)) (firstFault (sweeps s r)))
     after-10 = in-order ∙ passed-on _ _ (agree 10 (c .inputs) (sizes .inputs) inputs)
 
     pub is-11 : (c .outputs ≡ sizes .outputs → ⊥) → Fault (verdict 11 0 (c .outputs) (sizes .outputs)) ≡ firstFault (checks s r)
@@ -69,7 +72,7 @@ module _ (c : Counts) (code : List ℕ) (sizes : Counts) (reference : List ℕ) 
       is-12 g e = sym (after-11 ∙ faulty _ _ _ (loop-at c code after found l g e))
 
       module _ (e : found ≡ Nothing) where
-        pub comparable : ReferenceLoaded sizes reference → Comparable c after sizes reference
+        pub comparable : ReferenceLoaded sizes reference → BothLoaded c after sizes reference
         comparable a = record { stage = l .loaded; ordered = l .in-order e; answers = a; enough = omega arith }
 
         pub is-swept : (f : Finding) → f ≡ firstFault (sweeps (stageIn c after) r) → f ≡ firstFault (checks s r)

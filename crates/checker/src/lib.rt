@@ -63,7 +63,8 @@ fn verdict_of(finding: Finding) -> Verdict
 // A stage that was loaded, and a reference file: its refusal is of file 2.
 fn check_reference(code: &mut [u16], counts: Counts, reference: &[u8]) -> Verdict
     requires { ⌜ StageLoaded counts (now code) ⌝ }
-    ensures { λ r. ⌜ r ≡ verdicts.judgeReference (stageIn counts (now (code .entry))) (now (reference .entry)) (readFile file.Reference referenceLimits (now (reference .entry))) ⌝ }
+    ensures { λ r. ⌜ r ≡ verdicts.judgeReference (stageIn counts (now (code .entry))) (now (reference .entry))
+        (readFile file.Reference referenceLimits (now (reference .entry))) ⌝ }
 {
     let mut loaded = [0u16; load::REFERENCE_CODE];
     match load::read_reference(reference, &mut loaded) {

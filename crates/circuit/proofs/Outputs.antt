@@ -15,7 +15,7 @@ use Rattle.netlist.specs.Content.{Pair}
 use Rattle.verdict.specs.Rows.{high, dualRail, pairIn, isData, spells, allData}
 use Rattle.verdict.specs.Search.{least}
 use Rattle.verdict.proofs.Least.{least-says}
-use Rattle.circuit.specs.Stage.{tabulate, outputIn, outputsIn, StageLoaded}
+use Rattle.circuit.specs.Stage.{tabulate, outputIn, stageOutputs, StageLoaded}
 use Rattle.circuit.specs.Rows.{RowFor, netsIn, LevelOf, notData}
 use Rattle.circuit.proofs.Pins.{net-there, level-in}
 
@@ -35,7 +35,8 @@ data-bits true false = refl
 data-bits false true = refl
 data-bits false false = refl
 
-spell-bits : (x y : Bool) (v : ℕ) → v ≤ 1 → (bit y ≡ v → eqb (bit x + v) 1 ≡ spells (dualRail x y) v) × ((bit y ≡ v → ⊥) → false ≡ spells (dualRail x y) v)
+spell-bits : (x y : Bool) (v : ℕ) → v ≤ 1 → (bit y ≡ v → eqb (bit x + v) 1 ≡ spells (dualRail x y) v) ×
+    ((bit y ≡ v → ⊥) → false ≡ spells (dualRail x y) v)
 spell-bits x y (suc (suc v)) h = absurd (omega arith)
 spell-bits true true zero h = ((λ e. absurd (omega arith)), λ d. refl)
 spell-bits true true (suc zero) h = ((λ e. refl), λ d. refl)
@@ -91,7 +92,8 @@ module _ (row : List ℕ) where
   each-data : (f : ℕ → Pair) (m : ℕ) → ((j : ℕ) → j < m → not (isData (pairIn row (f j))) ≡ false) → true ≡ allData row (tabulate f m)
   unfolding tabulate allData
   each-data f zero d = refl
-  each-data f (suc m) d = rw (not-not (isData (pairIn row (f 0))) false (d 0 (omega arith))) (each-data (λ i. f (suc i)) m (λ j h. d (suc j) (omega arith)))
+  each-data f (suc m) d =
+      rw (not-not (isData (pairIn row (f 0))) false (d 0 (omega arith))) (each-data (λ i. f (suc i)) m (λ j h. d (suc j) (omega arith)))
 
   one-not : (f : ℕ → Pair) (m j : ℕ) → j < m → not (isData (pairIn row (f j))) ≡ true → false ≡ allData row (tabulate f m)
   unfolding tabulate allData
@@ -104,10 +106,14 @@ module _ (row : List ℕ) where
       go false r = refl
 
   module _ (c : Counts) (code : List ℕ) (x : Found) (is : x ≡ least (notData c code row) 0 (c .outputs)) where
-    pub all-data : x ≡ Nothing → true ≡ allData row (outputsIn c code)
-    unfolding outputsIn
-    all-data e = let f = least-says (notData c code row) 0 (c .outputs) Nothing (sym is ∙ e) in each-data (outputIn c code) (c .outputs) (λ j h. f j (omega arith) (omega arith))
+    pub all-data : x ≡ Nothing → true ≡ allData row (stageOutputs c code)
+    unfolding stageOutputs
+    all-data e =
+        let f = least-says (notData c code row) 0 (c .outputs) Nothing (sym is ∙ e) in
+        each-data (outputIn c code) (c .outputs) (λ j h. f j (omega arith) (omega arith))
 
-    pub not-all-data : (j : ℕ) → x ≡ At j → false ≡ allData row (outputsIn c code)
-    unfolding outputsIn
-    not-all-data j e = let f = least-says (notData c code row) 0 (c .outputs) (At j) (sym is ∙ e) in one-not (outputIn c code) (c .outputs) j (omega (arith, f .below)) (f .passes)
+    pub not-all-data : (j : ℕ) → x ≡ At j → false ≡ allData row (stageOutputs c code)
+    unfolding stageOutputs
+    not-all-data j e =
+        let f = least-says (notData c code row) 0 (c .outputs) (At j) (sym is ∙ e) in
+        one-not (outputIn c code) (c .outputs) j (omega (arith, f .below)) (f .passes)

@@ -41,7 +41,8 @@ pins-few c lo hi =
 
 -- ---- four levels of which those from pin m on are low
 
-pattern-below : (m a b c d : ℕ) → 2 ≤ m → m ≤ 4 → a ≤ 1 → b ≤ 1 → c ≤ 1 → d ≤ 1 → (m ≤ 2 → c ≡ 0) → (m ≤ 3 → d ≡ 0) → a + 2 * b + 4 * c + 8 * d < 2 ^ m
+pattern-below : (m a b c d : ℕ) → 2 ≤ m → m ≤ 4 → a ≤ 1 → b ≤ 1 → c ≤ 1 → d ≤ 1 → (m ≤ 2 → c ≡ 0) → (m ≤ 3 → d ≡ 0) →
+    a + 2 * b + 4 * c + 8 * d < 2 ^ m
 pattern-below zero a b c d two four la lb lc ld c0 d0 = absurd (omega arith)
 pattern-below (suc zero) a b c d two four la lb lc ld c0 d0 = absurd (omega arith)
 pattern-below (suc (suc zero)) a b c d two four la lb lc ld c0 d0 = omega (arith, c0 (omega arith), d0 (omega arith))
@@ -77,7 +78,8 @@ module _ (c : Counts) (row : List ℕ) (r : RowFor c row) where
       go (yes l) = getD-take (netCount c) row p 0 l
       go (no l) =
           let e : netCount c ≡ p = omega arith in
-          List·getD-eq-default (netsIn c row) 0 (omega (arith, length-take-le (netCount c) row (omega (arith, r .long)))) ∙ sym (r .ground) ∙ ap (λ (q : ℕ). getD row q 0) e
+          List·getD-eq-default (netsIn c row) 0 (omega (arith, length-take-le (netCount c) row (omega (arith, r .long)))) ∙ sym (r .ground)
+          ∙ ap (λ (q : ℕ). getD row q 0) e
 
   pub net-there : (p : ℕ) → p ≤ netCount c → (p < length row) × (getD row p 0 ≤ 1)
   net-there p h = (omega (arith, r .long), r .bit p h)
@@ -109,7 +111,8 @@ module _ (c : Counts) (code row : List ℕ) (loaded : StageLoaded c code) (r : R
       let g = loaded .gate k h in
       let f = pins-few (cellIn code k) (g .low) (g .high) in
       pattern-below m (getD nets (pinIn code k 0) 0) (getD nets (pinIn code k 1) 0) (getD nets (pinIn code k 2) 0) (getD nets (pinIn code k 3) 0)
-      (f .0) (f .1) (bit-at 0 (omega arith)) (bit-at 1 (omega arith)) (bit-at 2 (omega arith)) (bit-at 3 (omega arith)) (λ a. low 2 a (omega arith)) (λ a. low 3 a (omega arith))
+      (f .0) (f .1) (bit-at 0 (omega arith)) (bit-at 1 (omega arith)) (bit-at 2 (omega arith)) (bit-at 3 (omega arith)) (λ a. low 2 a (omega arith))
+      (λ a. low 3 a (omega arith))
 
   -- pin i of the pattern is pin i of the gate
   pin-is : (i : ℕ) → i < 4 → getD (pinIn code k 0 ∷ pinIn code k 1 ∷ pinIn code k 2 ∷ pinIn code k 3 ∷ []) i 0 ≡ pinIn code k i →

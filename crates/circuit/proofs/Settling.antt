@@ -6,7 +6,8 @@ use native.Mathlib.Decide.{ℕ-discrete, decLt}
 use mathlib.Core.Path.{_≡_, sym, ap, ap₂, _∙_, subst, fun-ext}
 use mathlib.Core.List.{List, _++_, map}
 use lib.ListN.{length, getD, set, take, drop, length-map, length-set, length-drop, replicate, length-replicate, getD-replicate, List·getD-append}
-use lib.Seq.{getD-append-add, getD-set-same, getD-set-other, set-out, ext-getD, take-set-le, take-set-lt, drop-set-add, length-take-le, take-add, take-take, take-length, take-append-seam, drop-append-seam, getD-take}
+use lib.Seq.{getD-append-add, getD-set-same, getD-set-other, set-out, ext-getD, take-set-le, take-set-lt}
+use lib.Seq.{drop-set-add, length-take-le, take-add, take-take, take-length, take-append-seam, drop-append-seam, getD-take}
 use lib.Dec.{ltb}
 use Rattle.netlist.specs.declared.Counts.{Counts}
 use Rattle.netlist.specs.Reading.{stageLimits, Within}
@@ -17,7 +18,7 @@ use Rattle.verdict.specs.Loops.{In, pinsAt}
 use Rattle.verdict.proofs.Gates.{set-local}
 use Rattle.verdict.proofs.Reaching.{loopFree-noLoop}
 use Rattle.verdict.proofs.Settling.{held-one, holding-settled}
-use Rattle.circuit.specs.Stage.{netCount, gateIn, gateAtPlace, gatesIn}
+use Rattle.circuit.specs.Stage.{netCount, gateIn, gateAtPlace, stageGates}
 use Rattle.circuit.specs.Order.{TopologicalOrder, orderIn, InOrder}
 use Rattle.circuit.specs.Rows.{rowSize, RowFor, netsIn, railPart, levelPart, levelHolding, SettledBefore, SettledTo, settledHoldingIn}
 use Rattle.circuit.proofs.Tabulate.{length-tabulate, getD-tabulate, map-tabulate}
@@ -42,7 +43,8 @@ module _ (h : ℕ) (gates : List Gate) (row : List ℕ) (k : ℕ) where
   level-free d = getD-set-other (map (isSet row) gates) h k 0 0 d
 
 -- it depends on the gate's pins alone
-level-local : (h : ℕ) (gates : List Gate) (u v : List ℕ) (k : ℕ) → k < length gates → ((p : ℕ) → In p (pinsAt gates k) → high u p ≡ high v p) → levelHolding h gates u k ≡ levelHolding h gates v k
+level-local : (h : ℕ) (gates : List Gate) (u v : List ℕ) (k : ℕ) → k < length gates → ((p : ℕ) → In p (pinsAt gates k) → high u p ≡ high v p) →
+    levelHolding h gates u k ≡ levelHolding h gates v k
 level-local h gates u v k l same = go (ℕ-discrete k h)
   where
     go : Dec (k ≡ h) → levelHolding h gates u k ≡ levelHolding h gates v k
@@ -64,7 +66,9 @@ module _ (n h : ℕ) (gates : List Gate) (order rails : List ℕ) (t : Topologic
     pin-kept j hj p f = ap (λ (y : ℕ). ltb 0 y) (go (decLt p (length rails)) (ℕ-discrete (p - length rails) o))
       where
         gate-net : (v : List ℕ) → length rails ≤ p → getD (rails ++ v) p 0 ≡ getD v (p - length rails) 0
-        gate-net v h = let e : p ≡ length rails + (p - length rails) = omega arith in ap (λ (y : ℕ). getD (rails ++ v) y 0) e ∙ getD-append-add rails v (p - length rails) 0
+        gate-net v h =
+            let e : p ≡ length rails + (p - length rails) = omega arith in
+            ap (λ (y : ℕ). getD (rails ++ v) y 0) e ∙ getD-append-add rails v (p - length rails) 0
 
         go : Dec (p < length rails) → Dec (p - length rails ≡ o) → getD (rails ++ levels′) p 0 ≡ getD (rails ++ levels) p 0
         go (yes a) b = List·getD-append rails levels′ 0 p a ∙ sym (List·getD-append rails levels 0 p a)
@@ -77,7 +81,8 @@ module _ (n h : ℕ) (gates : List Gate) (order rails : List ℕ) (t : Topologic
     level-kept : (j : ℕ) → j ≤ i → levelHolding h gates (rails ++ levels′) (getD order j 0) ≡ levelHolding h gates (rails ++ levels) (getD order j 0)
     level-kept j hj = level-local h gates (rails ++ levels′) (rails ++ levels) (getD order j 0) (t .gate j (omega arith)) (pin-kept j hj)
 
-    settle-more : SettledBefore i h gates order rails levels → x ≡ levelHolding h gates (rails ++ levels) o → SettledBefore (i + 1) h gates order rails levels′
+    settle-more : SettledBefore i h gates order rails levels → x ≡ levelHolding h gates (rails ++ levels) o →
+        SettledBefore (i + 1) h gates order rails levels′
     settle-more before e j hj = go (ℕ-discrete j i)
       where
         go : Dec (j ≡ i) → getD levels′ (getD order j 0) 0 ≡ levelHolding h gates (rails ++ levels′) (getD order j 0)
@@ -104,7 +109,8 @@ module _ (n h : ℕ) (gates : List Gate) (order rails : List ℕ) (t : Topologic
         held-one gates h n (loopFree-noLoop n gates (order-no-loop n gates order t)) rails both levels (all-settled (λ j b. before j (omega arith)))
 
   -- settled levels, with a gate held or not, are right with another gate held at every place where neither gate stands
-  pub settled-before : (h′ m : ℕ) → m ≤ length gates → ((i : ℕ) → i < m → getD order i 0 ≡ h → ⊥) → ((i : ℕ) → i < m → getD order i 0 ≡ h′ → ⊥) → SettledBefore m h gates order rails (levelsHolding h′ gates rails)
+  pub settled-before : (h′ m : ℕ) → m ≤ length gates → ((i : ℕ) → i < m → getD order i 0 ≡ h → ⊥) → ((i : ℕ) → i < m → getD order i 0 ≡ h′ → ⊥) →
+      SettledBefore m h gates order rails (levelsHolding h′ gates rails)
   settled-before h′ m hm not-h not-h′ i hi =
       let levels = levelsHolding h′ gates rails in
       let k = getD order i 0 in
@@ -116,13 +122,18 @@ module _ (n h : ℕ) (gates : List Gate) (order rails : List ℕ) (t : Topologic
 
 -- all nets low
 pub low-row : (c : Counts) → Within stageLimits c → RowFor c (replicate rowSize 0)
-low-row c w = record { long = omega (arith, length-replicate {A = ℕ} rowSize 0, w .inputs-in, w .gates-in); bit = λ p h. omega (arith, low p h); ground = low (netCount c) (omega arith) }
+low-row c w = record {
+  long = omega (arith, length-replicate {A = ℕ} rowSize 0, w .inputs-in, w .gates-in);
+  bit = λ p h. omega (arith, low p h);
+  ground = low (netCount c) (omega arith);
+}
   where
     low : (p : ℕ) → p ≤ netCount c → getD {A = ℕ} (replicate rowSize 0) p 0 ≡ 0
     low p h = getD-replicate rowSize p 0 0 (omega (arith, w .inputs-in, w .gates-in))
 
 -- what copying the first bytes of a list to the front of another leaves there
-pub copied-first : (size : ℕ) (row rest held : List ℕ) → size ≤ length row → held ≡ take (length (take size row)) (take size row) ++ rest → take size held ≡ take size row
+pub copied-first : (size : ℕ) (row rest held : List ℕ) → size ≤ length row → held ≡ take (length (take size row)) (take size row) ++ rest →
+    take size held ≡ take size row
 copied-first size row rest held h e =
     ap (take size) (e ∙ ap (λ (l : List ℕ). l ++ rest) (take-length (take size row)))
     ∙ ap (λ (n : ℕ). take n (take size row ++ rest)) (sym (length-take-le size row h))
@@ -135,13 +146,18 @@ module _ (c : Counts) (row rest held : List ℕ) (r : RowFor c row) (long : netC
   same = copied-first (netCount c + 1) row rest held (omega (arith, r .long)) is
 
   pub copied-nets : netsIn c held ≡ netsIn c row
-  copied-nets = sym (take-take (netCount c) (netCount c + 1) held (omega arith)) ∙ ap (take (netCount c)) same ∙ take-take (netCount c) (netCount c + 1) row (omega arith)
+  copied-nets =
+      sym (take-take (netCount c) (netCount c + 1) held (omega arith)) ∙ ap (take (netCount c)) same
+      ∙ take-take (netCount c) (netCount c + 1) row (omega arith)
 
   copied-at : (p : ℕ) → p ≤ netCount c → getD held p 0 ≡ getD row p 0
-  copied-at p h = sym (getD-take (netCount c + 1) held p 0 (omega arith)) ∙ ap (λ (l : List ℕ). getD l p 0) same ∙ getD-take (netCount c + 1) row p 0 (omega arith)
+  copied-at p h =
+      sym (getD-take (netCount c + 1) held p 0 (omega arith)) ∙ ap (λ (l : List ℕ). getD l p 0) same
+      ∙ getD-take (netCount c + 1) row p 0 (omega arith)
 
   pub copied-row : RowFor c held
-  copied-row = record { long = long; bit = λ p h. omega (arith, copied-at p h, r .bit p h); ground = copied-at (netCount c) (omega arith) ∙ r .ground }
+  copied-row =
+      record { long = long; bit = λ p h. omega (arith, copied-at p h, r .bit p h); ground = copied-at (netCount c) (omega arith) ∙ r .ground }
 
 module _ (c : Counts) (row : List ℕ) (r : RowFor c row) where
   pub length-rails : length (railPart c row) ≡ 2 * c .inputs
@@ -171,24 +187,25 @@ module _ (c : Counts) (row : List ℕ) (r : RowFor c row) where
 
 -- ---- settling a row
 
-pub length-gatesIn : (c : Counts) (code : List ℕ) → length (gatesIn c code) ≡ c .gates
-unfolding gatesIn
-length-gatesIn c code = length-tabulate (gateIn code) (c .gates)
+pub length-stageGates : (c : Counts) (code : List ℕ) → length (stageGates c code) ≡ c .gates
+unfolding stageGates
+length-stageGates c code = length-tabulate (gateIn code) (c .gates)
 
 pub order-at : (c : Counts) (code : List ℕ) (i : ℕ) → i < c .gates → getD (orderIn c code) i 0 ≡ gateAtPlace code i
 unfolding orderIn
 order-at c code i h = getD-tabulate (gateAtPlace code) (c .gates) i 0 h
 
 module _ (c : Counts) (code row : List ℕ) (held k : ℕ) (h : k < c .gates) where
-  pub held-at : k ≡ held → 0 ≡ levelHolding held (gatesIn c code) row k
-  held-at e = sym (level-held held (gatesIn c code) row k (omega (arith, length-gatesIn c code)) e)
+  pub held-at : k ≡ held → 0 ≡ levelHolding held (stageGates c code) row k
+  held-at e = sym (level-held held (stageGates c code) row k (omega (arith, length-stageGates c code)) e)
 
-  pub set-at : (k ≡ held → ⊥) → (x : ℕ) → x ≡ isSet row (gateIn code k) → x ≡ levelHolding held (gatesIn c code) row k
-  unfolding gatesIn
+  pub set-at : (k ≡ held → ⊥) → (x : ℕ) → x ≡ isSet row (gateIn code k) → x ≡ levelHolding held (stageGates c code) row k
+  unfolding stageGates
   set-at d x e =
       e
-      ∙ sym (ap (λ (l : List ℕ). getD l k 0) (map-tabulate (isSet row) (gateIn code) (c .gates)) ∙ getD-tabulate (λ i. isSet row (gateIn code i)) (c .gates) k 0 h)
-      ∙ sym (level-free held (gatesIn c code) row k d)
+      ∙ sym (ap (λ (l : List ℕ). getD l k 0) (map-tabulate (isSet row) (gateIn code) (c .gates))
+      ∙ getD-tabulate (λ i. isSet row (gateIn code i)) (c .gates) k 0 h)
+      ∙ sym (level-free held (stageGates c code) row k d)
 
 -- the rails are those at the start, and the gates at the first i places have their levels
 pub record SettlingTo (c : Counts) (code : List ℕ) (held : ℕ) (start row : List ℕ) (i : ℕ) : Type 0 where
@@ -199,24 +216,33 @@ pub record SettlingTo (c : Counts) (code : List ℕ) (held : ℕ) (start row : L
 
 module _ (c : Counts) (code : List ℕ) (ordered : InOrder c code) where
   pub order-gate : (i : ℕ) → i < c .gates → gateAtPlace code i < c .gates
-  order-gate i h = omega (arith, order-at c code i h, length-gatesIn c code, ordered .ordered .gate i (omega (arith, length-gatesIn c code)))
+  order-gate i h = omega (arith, order-at c code i h, length-stageGates c code, ordered .ordered .gate i (omega (arith, length-stageGates c code)))
 
   module _ (held : ℕ) (start row : List ℕ) (i : ℕ) (s : SettlingTo c code held start row i) where
-    pub settling-turn : i < c .gates → (x : ℕ) → x ≡ levelHolding held (gatesIn c code) (netsIn c row) (gateAtPlace code i) → x ≤ 1 → SettlingTo c code held start (set row (2 * c .inputs + gateAtPlace code i) x) (i + 1)
+    pub settling-turn : i < c .gates → (x : ℕ) → x ≡ levelHolding held (stageGates c code) (netsIn c row) (gateAtPlace code i) → x ≤ 1 →
+        SettlingTo c code held start (set row (2 * c .inputs + gateAtPlace code i) x) (i + 1)
     settling-turn h x e l =
         let n = 2 * c .inputs in
         let r = s .row-for in
         let k = order-gate i h in
         let rails = take-set-le n row (n + gateAtPlace code i) x (omega arith) in
-        let y = e ∙ ap (λ (l : List ℕ). levelHolding held (gatesIn c code) l (gateAtPlace code i)) (take-add n (c .gates) row) in
+        let y = e ∙ ap (λ (l : List ℕ). levelHolding held (stageGates c code) l (gateAtPlace code i)) (take-add n (c .gates) row) in
         record {
           row-for = row-set c row r (n + gateAtPlace code i) x (omega arith) l;
           same-long = length-set row (n + gateAtPlace code i) x ∙ s .same-long;
           rails = rails ∙ s .rails;
           before =
-              rw (rails, drop-set-add n row (gateAtPlace code i) x, take-set-lt (c .gates) (drop n row) (gateAtPlace code i) x k, ← order-at c code i h)
-              (settle-more (c .inputs) held (gatesIn c code) (orderIn c code) (railPart c row) (ordered .ordered) (length-rails c row r) (levelPart c row)
-              (length-levels c row r ∙ sym (length-gatesIn c code)) i (omega (arith, length-gatesIn c code)) x (s .before) (rw (order-at c code i h) y));
+              rw (
+                rails,
+                drop-set-add n row (gateAtPlace code i) x,
+                take-set-lt (c .gates) (drop n row)
+                    (gateAtPlace code i) x k,
+                ← order-at c code i h,
+              )
+              (settle-more (c .inputs) held (stageGates c code) (orderIn c code) (railPart c row) (ordered .ordered) (length-rails c row r)
+              (levelPart c row)
+              (length-levels c row r ∙ sym (length-stageGates c code)) i (omega (arith, length-stageGates c code)) x (s .before)
+              (rw (order-at c code i h) y));
         }
 
     pub settling-done : c .gates ≤ i → netsIn c row ≡ settledHoldingIn held c code start
@@ -224,9 +250,10 @@ module _ (c : Counts) (code : List ℕ) (ordered : InOrder c code) where
         let r = s .row-for in
         take-add (2 * c .inputs) (c .gates) row
         ∙ ap (λ (l : List ℕ). railPart c row ++ l)
-        (settle-end (c .inputs) held (gatesIn c code) (orderIn c code) (railPart c row) (ordered .ordered) (length-rails c row r) (levelPart c row)
-        (length-levels c row r ∙ sym (length-gatesIn c code)) i (omega (arith, length-gatesIn c code)) (s .before))
-        ∙ ap (λ (l : List ℕ). l ++ levelsHolding held (gatesIn c code) l) (s .rails)
+        (settle-end (c .inputs) held (stageGates c code) (orderIn c code) (railPart c row) (ordered .ordered) (length-rails c row r) (levelPart c row)
+        (length-levels c row r ∙ sym (length-stageGates c code)) i (omega (arith, length-stageGates c code)) (s .before))
+        ∙ ap (λ (l : List ℕ). l ++ levelsHolding held (stageGates c code) l) (s .rails)
 
-pub settle-none : (c : Counts) (code rails : List ℕ) → levelsHolding (c .gates) (gatesIn c code) rails ≡ settledLevels (gatesIn c code) rails
-settle-none c code rails = ap (λ (m : ℕ). levelsHolding m (gatesIn c code) rails) (sym (length-gatesIn c code)) ∙ holding-none (gatesIn c code) rails
+pub settle-none : (c : Counts) (code rails : List ℕ) → levelsHolding (c .gates) (stageGates c code) rails ≡ settledLevels (stageGates c code) rails
+settle-none c code rails =
+    ap (λ (m : ℕ). levelsHolding m (stageGates c code) rails) (sym (length-stageGates c code)) ∙ holding-none (stageGates c code) rails

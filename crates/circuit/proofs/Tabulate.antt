@@ -19,4 +19,5 @@ unfolding tabulate
 tabulate-map f g [] zero e h = refl
 tabulate-map f g [] (suc m) e h = absurd (omega arith)
 tabulate-map f g (x ∷ l) zero e h = absurd (omega arith)
-tabulate-map f g (x ∷ l) (suc m) e h = ap₂ _∷_ (h 0 (omega arith)) (tabulate-map (λ i. f (suc i)) g l m (omega arith) (λ k b. h (suc k) (omega arith)))
+tabulate-map f g (x ∷ l) (suc m) e h =
+    ap₂ _∷_ (h 0 (omega arith)) (tabulate-map (λ i. f (suc i)) g l m (omega arith) (λ k b. h (suc k) (omega arith)))

@@ -40,7 +40,8 @@ pub operator-is : (op known : ℕ) (values : List ℕ) (p q : ℕ) → p < known
 unfolding operate
 operator-is op known values p q h l = go (ℕ-discrete op 1)
   where
-    go : Dec (op ≡ 1) → operate op (getD values p 0 ∷ getD values q 0 ∷ []) ≡ operate op (valuesAt (take known values) (take (cond (eqb op 1) 1 2) (p ∷ q ∷ [])))
+    go : Dec (op ≡ 1) → operate op (getD values p 0 ∷ getD values q 0 ∷ []) ≡ operate op
+        (valuesAt (take known values) (take (cond (eqb op 1) 1 2) (p ∷ q ∷ [])))
     go (yes e) = rw (e, getD-take known values p 0 h)
     go (no d) = rw (ne-eqb op 1 d, getD-take known values p 0 h, getD-take known values q 0 l)
 
@@ -71,7 +72,8 @@ module _ (c : Counts) (code : List ℕ) where
 
   module _ (start values : List ℕ) (k : ℕ) (v : ValuesTo start values k) where
     pub values-turn : c .inputs + c .gates ≤ length start → k < c .gates → (x : ℕ) →
-        (x ≡ operate (operatorIn code k .code) (valuesAt (take (c .inputs + k) values) (operatorIn code k .operands))) × (x ≤ 1) → ValuesTo start (set values (c .inputs + k) x) (k + 1)
+        (x ≡ operate (operatorIn code k .code) (valuesAt (take (c .inputs + k) values) (operatorIn code k .operands))) × (x ≤ 1) → ValuesTo start
+        (set values (c .inputs + k) x) (k + 1)
     unfolding signalValues
     values-turn room h x is =
         let at = c .inputs + k in
@@ -96,5 +98,6 @@ module _ (c : Counts) (code : List ℕ) where
     unfolding signalValues
     values-done h =
         let e : k ≡ c .gates = omega (arith, v .within) in
-        let z : drop k (operatorsIn c code) ≡ [] = ap (λ (m : ℕ). drop m (operatorsIn c code)) (e ∙ sym length-operators) ∙ drop-length (operatorsIn c code) in
+        let z : drop k (operatorsIn c code) ≡ [] = ap (λ (m : ℕ). drop m (operatorsIn c code)) (e ∙ sym length-operators)
+        ∙ drop-length (operatorsIn c code) in
         ap (λ (m : ℕ). take (c .inputs + m) values) (sym e) ∙ sym (ap (signalValues (take (c .inputs + k) values)) z) ∙ v .all

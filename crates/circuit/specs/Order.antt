@@ -6,7 +6,7 @@ use lib.ListN.{length, getD}
 use Rattle.netlist.specs.declared.Counts.{Counts}
 use Rattle.netlist.specs.Content.{Gate}
 use Rattle.verdict.specs.Loops.{Feeds}
-use Rattle.circuit.specs.Stage.{tabulate, gateAtPlace, placeOf, gatesIn}
+use Rattle.circuit.specs.Stage.{tabulate, gateAtPlace, placeOf, stageGates}
 
 -- gate k stands at one of the first m places of an order
 abbrev pub StandsIn : List ℕ → ℕ → ℕ → Type 0
@@ -26,6 +26,6 @@ orderIn c code = tabulate (gateAtPlace code) (c .gates)
 
 -- It is a topological order of the gates, and each gate's place in it is the one that stands at the gate.
 pub record InOrder (c : Counts) (code : List ℕ) : Type 0 where
-  pub ordered : TopologicalOrder (c .inputs) (gatesIn c code) (orderIn c code)
+  pub ordered : TopologicalOrder (c .inputs) (stageGates c code) (orderIn c code)
   pub place-in : (k : ℕ) → k < c .gates → placeOf code k < c .gates
   pub stands-there : (k : ℕ) → k < c .gates → gateAtPlace code (placeOf code k) ≡ k

@@ -8,7 +8,7 @@ use Rattle.netlist.specs.declared.Counts.{Counts}
 use Rattle.netlist.specs.Reading.{stageLimits}
 use Rattle.netlist.specs.Content.{Gate}
 use Rattle.verdict.specs.Rows as rows
-use Rattle.circuit.specs.Stage.{netCount, pinIn, gatesIn, outputIn}
+use Rattle.circuit.specs.Stage.{netCount, pinIn, stageGates, outputIn}
 use Rattle.circuit.specs.Order.{orderIn}
 
 -- room for a row of the largest stage
@@ -49,18 +49,19 @@ levelHolding h gates row k = getD (set (map (rows.isSet row) gates) h 0) k 0
 
 -- the gates at the first m places of an order have the levels that they are to have, with gate h held low
 abbrev pub SettledBefore : ℕ → ℕ → List Gate → List ℕ → List ℕ → List ℕ → Type 0
-SettledBefore m h gates order rails levels = (i : ℕ) → i < m → getD levels (getD order i 0) 0 ≡ levelHolding h gates (rails ++ levels) (getD order i 0)
+SettledBefore m h gates order rails levels =
+    (i : ℕ) → i < m → getD levels (getD order i 0) 0 ≡ levelHolding h gates (rails ++ levels) (getD order i 0)
 
 -- the same of a row in its flat form
 abbrev pub SettledTo : ℕ → ℕ → Counts → List ℕ → List ℕ → Type 0
-SettledTo m h c code row = SettledBefore m h (gatesIn c code) (orderIn c code) (railPart c row) (levelPart c row)
+SettledTo m h c code row = SettledBefore m h (stageGates c code) (orderIn c code) (railPart c row) (levelPart c row)
 
 -- the row of a stage that is settled, with the rails of a row
 abbrev pub settledIn : Counts → List ℕ → List ℕ → List ℕ
-settledIn c code row = rows.settled (gatesIn c code) (railPart c row)
+settledIn c code row = rows.settled (stageGates c code) (railPart c row)
 
 abbrev pub settledHoldingIn : ℕ → Counts → List ℕ → List ℕ → List ℕ
-settledHoldingIn h c code row = rows.settledHolding h (gatesIn c code) (railPart c row)
+settledHoldingIn h c code row = rows.settledHolding h (stageGates c code) (railPart c row)
 
 -- ---- outputs
 

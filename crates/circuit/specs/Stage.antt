@@ -44,26 +44,26 @@ gateIn code k = record {
   pins = take (pinCount (cellIn code k)) (pinIn code k 0 ∷ pinIn code k 1 ∷ pinIn code k 2 ∷ pinIn code k 3 ∷ []);
 }
 
-unfoldable pub gatesIn : Counts → List ℕ → List Gate
-gatesIn c code = tabulate (gateIn code) (c .gates)
+unfoldable pub stageGates : Counts → List ℕ → List Gate
+stageGates c code = tabulate (gateIn code) (c .gates)
 
 -- ---- outputs
 
 abbrev pub outputIn : Counts → List ℕ → ℕ → Pair
 outputIn c code j = record { rail0 = getD code (8 * c .gates + 2 * j) 0; rail1 = getD code (8 * c .gates + 2 * j + 1) 0 }
 
-unfoldable pub outputsIn : Counts → List ℕ → List Pair
-outputsIn c code = tabulate (outputIn c code) (c .outputs)
+unfoldable pub stageOutputs : Counts → List ℕ → List Pair
+stageOutputs c code = tabulate (outputIn c code) (c .outputs)
 
 -- ---- care words
 
-unfoldable pub careIn : Counts → List ℕ → List ℕ
-careIn c code = tabulate (λ i. getD code (8 * c .gates + 2 * c .outputs + i) 0) (c .care)
+unfoldable pub stageCare : Counts → List ℕ → List ℕ
+stageCare c code = tabulate (λ i. getD code (8 * c .gates + 2 * c .outputs + i) 0) (c .care)
 
 -- ---- the stage
 
 abbrev pub stageIn : Counts → List ℕ → Stage
-stageIn c code = record { inputs = c .inputs; gates = gatesIn c code; outputs = outputsIn c code; care = careIn c code }
+stageIn c code = record { inputs = c .inputs; gates = stageGates c code; outputs = stageOutputs c code; care = stageCare c code }
 
 -- gate k is of a known cell, with nets at its pins and the ground at those that it lacks
 pub record GateLoaded (c : Counts) (code : List ℕ) (k : ℕ) : Type 0 where

@@ -9,7 +9,7 @@ ghost use Rattle.gates.specs.Table.{GateTable};
 ghost use Rattle.verdict.specs.Rows as rows;
 ghost use Rattle.verdict.specs.Search.{least};
 ghost use Rattle.verdict.specs.Answers as answers;
-ghost use Rattle.circuit.specs.Stage.{gateIn, gatesIn, outputIn, outputsIn, StageLoaded};
+ghost use Rattle.circuit.specs.Stage.{gateIn, stageGates, outputIn, stageOutputs, StageLoaded};
 ghost use Rattle.circuit.specs.Order.{InOrder};
 ghost use Rattle.circuit.specs.Rows.{RowFor, netsIn, LevelOf, patternIn, levelHolding, SettledTo, settledIn, settledHoldingIn, notData, misread};
 ghost use Rattle.circuit.specs.Reference.{operatorIn, operatorsIn, signalIn, ReferenceLoaded};
@@ -60,7 +60,7 @@ fn level_holding(
     held: usize,
 ) -> u8
     requires { ⌜ GateTable (now entries) × StageLoaded counts (now code) × (k < counts .gates) × RowFor counts (now row) ⌝ }
-    ensures { λ r. ⌜ (r ≡ levelHolding held (gatesIn counts (now (code .entry))) (netsIn counts (now (row .entry))) k) × (r ≤ 1) ⌝ }
+    ensures { λ r. ⌜ (r ≡ levelHolding held (stageGates counts (now (code .entry))) (netsIn counts (now (row .entry))) k) × (r ≤ 1) ⌝ }
 {
     if k == held {
         return 0;
@@ -73,7 +73,8 @@ fn level_holding(
 // The gates from place `start` of the order on are evaluated once each, in the order; gate `held` is low. Where `held` is no gate,
 // none is. The gates before that place have their levels already.
 pub fn settle_from(code: &[u16], counts: Counts, row: &mut [u8], start: usize, held: usize)
-    requires { ⌜ StageLoaded counts (now code) × InOrder counts (now code) × RowFor counts (now row) × SettledTo start held counts (now code) (now row) ⌝ }
+    requires { ⌜ StageLoaded counts (now code) × InOrder counts (now code) × RowFor counts (now row)
+        × SettledTo start held counts (now code) (now row) ⌝ }
     ensures settled { λ r. ⌜ netsIn counts (now (row .exit)) ≡ settledHoldingIn held counts (now (code .entry)) (now (row .entry)) ⌝ }
     ensures row { λ r. ⌜ RowFor counts (now (row .exit)) ⌝ }
 {
@@ -129,7 +130,7 @@ pub fn first_not_data(code: &[u16], counts: Counts, row: &[u8]) -> Found
 // Whether all outputs are DATA.
 pub fn all_data(code: &[u16], counts: Counts, row: &[u8]) -> bool
     requires { ⌜ StageLoaded counts (now code) × RowFor counts (now row) ⌝ }
-    ensures { λ r. ⌜ r ≡ rows.allData (netsIn counts (now (row .entry))) (outputsIn counts (now (code .entry))) ⌝ }
+    ensures { λ r. ⌜ r ≡ rows.allData (netsIn counts (now (row .entry))) (stageOutputs counts (now (code .entry))) ⌝ }
 {
     match first_not_data(code, counts, row) {
         Found::At(_) => false,
@@ -171,8 +172,10 @@ fn operate(operation: u16, a: u8, b: u8) -> u8
 
 // The value of gate k, from the values of the signals before it.
 fn operator_value(code: &[u16], counts: Counts, k: usize, values: &[u8]) -> u8
-    requires { ⌜ ReferenceLoaded counts (now code) × (k < counts .gates) × (counts .inputs + k ≤ length (now values)) × ((i : ℕ) → getD (now values) i 0 ≤ 1) ⌝ }
-    ensures { λ r. ⌜ (r ≡ answers.operate (operatorIn (now (code .entry)) k .code) (answers.valuesAt (take (counts .inputs + k) (now (values .entry))) (operatorIn (now (code .entry)) k .operands))) × (r ≤ 1) ⌝ }
+    requires { ⌜ ReferenceLoaded counts (now code) × (k < counts .gates) × (counts .inputs + k ≤ length (now values))
+        × ((i : ℕ) → getD (now values) i 0 ≤ 1) ⌝ }
+    ensures { λ r. ⌜ (r ≡ answers.operate (operatorIn (now (code .entry)) k .code) (answers.valuesAt (take (counts .inputs + k) (now (values .entry)))
+        (operatorIn (now (code .entry)) k .operands))) × (r ≤ 1) ⌝ }
 {
     let at = 3 * k;
     operate(
@@ -184,8 +187,10 @@ fn operator_value(code: &[u16], counts: Counts, k: usize, values: &[u8]) -> u8
 
 // The values of all signals: the inputs' are there, and each gate's is written after those before it.
 pub fn signal_values(code: &[u16], counts: Counts, values: &mut [u8])
-    requires { ⌜ ReferenceLoaded counts (now code) × (counts .inputs + counts .gates ≤ length (now values)) × ((i : ℕ) → getD (now values) i 0 ≤ 1) ⌝ }
-    ensures { λ r. ⌜ (take (counts .inputs + counts .gates) (now (values .exit)) ≡ answers.signalValues (take (counts .inputs) (now (values .entry))) (operatorsIn counts (now (code .entry)))) × ((i : ℕ) → getD (now (values .exit)) i 0 ≤ 1) ⌝ }
+    requires { ⌜ ReferenceLoaded counts (now code) × (counts .inputs + counts .gates ≤ length (now values))
+        × ((i : ℕ) → getD (now values) i 0 ≤ 1) ⌝ }
+    ensures { λ r. ⌜ (take (counts .inputs + counts .gates) (now (values .exit)) ≡ answers.signalValues (take (counts .inputs) (now (values .entry)))
+        (operatorsIn counts (now (code .entry)))) × ((i : ℕ) → getD (now (values .exit)) i 0 ≤ 1) ⌝ }
 {
     let inputs = counts.inputs;
     let count = counts.gates;
@@ -220,8 +225,10 @@ pub fn first_misread(
     sizes: Counts,
     values: &[u8],
 ) -> Found
-    requires { ⌜ StageLoaded counts (now code) × RowFor counts (now row) × ReferenceLoaded sizes (now reference) × (counts .outputs ≤ sizes .outputs) × (sizes .inputs + sizes .gates ≤ length (now values)) × ((i : ℕ) → getD (now values) i 0 ≤ 1) ⌝ }
-    ensures { λ r. ⌜ r ≡ least (misread counts (now (code .entry)) (netsIn counts (now (row .entry))) (λ j. getD (now (values .entry)) (signalIn sizes (now (reference .entry)) j) 0)) 0 (counts .outputs) ⌝ }
+    requires { ⌜ StageLoaded counts (now code) × RowFor counts (now row) × ReferenceLoaded sizes (now reference) × (counts .outputs ≤ sizes .outputs)
+        × (sizes .inputs + sizes .gates ≤ length (now values)) × ((i : ℕ) → getD (now values) i 0 ≤ 1) ⌝ }
+    ensures { λ r. ⌜ r ≡ least (misread counts (now (code .entry)) (netsIn counts (now (row .entry))) (λ j. getD (now (values .entry))
+        (signalIn sizes (now (reference .entry)) j) 0)) 0 (counts .outputs) ⌝ }
 {
     let count = counts.outputs;
     let first = 3 * sizes.gates;

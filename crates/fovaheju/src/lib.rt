@@ -1,9 +1,12 @@
 // The public calls. Their contracts cite the definitions of crate `verdict` and ask nothing of the caller.
+use report::Report;
 use verdict::Verdict;
 ghost use mathlib.Core.Path.{_≡_};
 ghost use Rattle.netlist.specs.Reading.{stageLimits, referenceLimits};
 ghost use Rattle.verdict.specs.Verdicts.{verdictOn, settledRow};
 ghost use Rattle.verdict.specs.Demands.{Demand2, Demand3, DemandRow};
+ghost use Rattle.report.specs.Report.{reportOn};
+ghost use Rattle.report.specs.Activity.{ReportMeans};
 
 // The check of a stage file against a reference file. The verdict is the one that the definitions give, and demands 2 and 3 hold of it.
 pub fn check(stage: &[u8], reference: &[u8]) -> Verdict
@@ -12,6 +15,15 @@ pub fn check(stage: &[u8], reference: &[u8]) -> Verdict
     ensures runs { λ r. ⌜ Demand3 stageLimits referenceLimits (now (stage .entry)) (now (reference .entry)) r ⌝ }
 {
     checker::check(stage, reference)
+}
+
+// The switching report of a stage file against a reference file: the check's verdict, and of an accepted stage how many gates are high at the
+// rest of each word, and in all words together, which is half of all gate switchings when each word rises and falls once.
+pub fn report(stage: &[u8], reference: &[u8]) -> Report
+    ensures report { λ r. ⌜ r ≡ reportOn (now (stage .entry)) (now (reference .entry)) ⌝ }
+    ensures means { λ r. ⌜ ReportMeans (now (stage .entry)) (now (reference .entry)) r ⌝ }
+{
+    report::report_on(stage, reference)
 }
 
 // The settled-row call: the verdict on a stage file and a lent row, one byte for each net. A refusal leaves the row as it was; else the
@@ -32,6 +44,15 @@ pub extern "C" fn fovaheju_check(stage: &[u8], reference: &[u8]) -> Verdict
     ensures runs { λ r. ⌜ Demand3 stageLimits referenceLimits (now (stage .entry)) (now (reference .entry)) r ⌝ }
 {
     check(stage, reference)
+}
+
+// The report for callers in C and in Rust, with the contract of `report`.
+#[no_mangle]
+pub extern "C" fn fovaheju_report(stage: &[u8], reference: &[u8]) -> Report
+    ensures report { λ r. ⌜ r ≡ reportOn (now (stage .entry)) (now (reference .entry)) ⌝ }
+    ensures means { λ r. ⌜ ReportMeans (now (stage .entry)) (now (reference .entry)) r ⌝ }
+{
+    report(stage, reference)
 }
 
 // The settled-row call for callers in C and in Rust, with the contract of `settled_row`.

@@ -43,7 +43,8 @@ module _ (s : List ℕ) (at ground : ℕ) where
     unfolding holdNumber
     number-rest h d = rw (ne-eqb j 0 (λ e. omega arith), lt-leb j 4 h, ne-eqb j 7 d)
 
-  pub number-known : (cell pins j r : ℕ) → Hold cell pins ≡ kindOf (byte s (at + 1)) → r ≡ holdNumber s at cell pins ground j → r ≡ gateNumber s at ground j
+  pub number-known : (cell pins j r : ℕ) → Hold cell pins ≡ kindOf (byte s (at + 1)) → r ≡ holdNumber s at cell pins ground j →
+      r ≡ gateNumber s at ground j
   unfolding gateNumber kindNumber
   number-known cell pins j r k e = rw (← k) e
 
@@ -102,7 +103,8 @@ module _ (s places : List ℕ) (c : Counts) (i : ℕ) where
 abbrev pub WrittenTo : (ℕ → ℕ) → List ℕ → ℕ → Type 0
 WrittenTo number code i = (q : ℕ) → q < i → getD code q 0 ≡ number q
 
-pub write-more : (number : ℕ → ℕ) (code : List ℕ) (i x : ℕ) → i < length code → WrittenTo number code i → x ≡ number i → WrittenTo number (set code i x) (i + 1)
+pub write-more : (number : ℕ → ℕ) (code : List ℕ) (i x : ℕ) → i < length code → WrittenTo number code i → x ≡ number i →
+    WrittenTo number (set code i x) (i + 1)
 write-more number code i x h before e q l = go (ℕ-discrete q i)
   where
     go : Dec (q ≡ i) → getD (set code i x) q 0 ≡ number q

@@ -29,7 +29,8 @@ module _ (f : File) (most : Limits) (s places : List ℕ) (c : Counts) (r : File
   length-gates = length-take-le (c .gates) places (omega (arith, r .room, r .within .gates-in))
 
   pub length-outputs : length (take (c .outputs) (drop (most .gates) places)) ≡ c .outputs
-  length-outputs = length-take-le (c .outputs) (drop (most .gates) places) (omega (arith, length-drop (most .gates) places, r .room, r .within .outputs-in))
+  length-outputs =
+      length-take-le (c .outputs) (drop (most .gates) places) (omega (arith, length-drop (most .gates) places, r .room, r .within .outputs-in))
 
   pub care-word : (k : ℕ) → k < c .care → getD (take (c .care) (drop (most .gates + most .outputs) places)) k 0 ≡ getD places (most .gates + most .outputs + k) 0
   care-word k h = getD-take (c .care) (drop (most .gates + most .outputs) places) k 0 h ∙ getD-drop (most .gates + most .outputs) places k 0
@@ -124,20 +125,27 @@ unfolding commandTable ownCommands formIn mostCare
 reference-places most e = subst (λ (m : Limits). RoomFor file.Reference m (referenceLimits .gates + referenceLimits .outputs)) (sym e) (record { u16s = omega arith; space = omega arith })
 
 module _ (s : List ℕ) where
-  pub holds-stage : (places : List ℕ) (c : Counts) (code : List ℕ) → WasRead file.Stage stageLimits s places c → stageIn c code ≡ stageOf s (placesIn stageLimits c places) → StageLoaded c code →
+  pub holds-stage : (places : List ℕ) (c : Counts) (code : List ℕ) → WasRead file.Stage stageLimits s places c →
+      stageIn c code ≡ stageOf s (placesIn stageLimits c places) → StageLoaded c code →
       HoldsStage s (readFile file.Stage stageLimits s) code
   unfolding HoldsStage
-  holds-stage places c code w e l = subst (λ (x : Reading). HoldsStage s x code) (sym (w .reading)) (subst (λ (d : Counts). StageLoaded d code × (stageIn d code ≡ stageOf s (placesIn stageLimits c places))) (sym (w .counts)) (l, e))
+  holds-stage places c code w e l =
+      subst (λ (x : Reading). HoldsStage s x code) (sym (w .reading))
+      (subst (λ (d : Counts). StageLoaded d code × (stageIn d code ≡ stageOf s (placesIn stageLimits c places))) (sym (w .counts)) (l, e))
 
   pub holds-no-stage : (x : Reading) (number at : ℕ) (code : List ℕ) → outcome.Refused number at ≡ outcomeOf x → HoldsStage s x code
   unfolding HoldsStage outcomeOf
   holds-no-stage (refused k p) number at code e = tt
   holds-no-stage (readable p) number at code e = absurd (let z : _≡_ {A = ℕ} 0 1 = cc in omega arith)
 
-  pub holds-reference : (places : List ℕ) (c : Counts) (code : List ℕ) → WasRead file.Reference referenceLimits s places c → referenceIn c code ≡ referenceOf s (placesIn referenceLimits c places) → ReferenceLoaded c code →
+  pub holds-reference : (places : List ℕ) (c : Counts) (code : List ℕ) → WasRead file.Reference referenceLimits s places c →
+      referenceIn c code ≡ referenceOf s (placesIn referenceLimits c places) → ReferenceLoaded c code →
       HoldsReference s (readFile file.Reference referenceLimits s) code
   unfolding HoldsReference
-  holds-reference places c code w e l = subst (λ (x : Reading). HoldsReference s x code) (sym (w .reading)) (subst (λ (d : Counts). ReferenceLoaded d code × (referenceIn d code ≡ referenceOf s (placesIn referenceLimits c places))) (sym (w .counts)) (l, e))
+  holds-reference places c code w e l =
+      subst (λ (x : Reading). HoldsReference s x code) (sym (w .reading))
+      (subst (λ (d : Counts). ReferenceLoaded d code × (referenceIn d code ≡ referenceOf s (placesIn referenceLimits c places))) (sym (w .counts))
+      (l, e))
 
   pub holds-no-reference : (x : Reading) (number at : ℕ) (code : List ℕ) → outcome.Refused number at ≡ outcomeOf x → HoldsReference s x code
   unfolding HoldsReference outcomeOf

@@ -37,7 +37,8 @@ needs op lo hi =
     let e : 1 + (op - 1) ≡ op = omega arith in
     rw e at (eqb→eq (needed file.Reference (1 + (op - 1))) (cond (eqb (1 + (op - 1)) 1) 1 2) (every-at asCond 6 all-needs (op - 1) (omega arith)))
 
-module _ (s places : List ℕ) (c : Counts) (code : List ℕ) (r : FileRead file.Reference referenceLimits s places c) (room : 3 * c .gates + c .outputs ≤ length code)
+module _ (s places : List ℕ) (c : Counts) (code : List ℕ) (r : FileRead file.Reference referenceLimits s places c)
+    (room : 3 * c .gates + c .outputs ≤ length code)
     (written : WrittenTo (referenceNumber s places c) code (3 * c .gates + c .outputs)) where
   -- ---- gate k
 
@@ -81,13 +82,16 @@ module _ (s places : List ℕ) (c : Counts) (code : List ℕ) (r : FileRead file
 
     -- operand i of the command names an input or an earlier gate
     named : (i : ℕ) → i < needed file.Reference op → operand s (at + 2 + 2 * i) < c .inputs + k
-    named i l = named-earlier k (c .inputs) (c .gates) (operand s (at + 2 + 2 * i)) (gate-at file.Reference referenceLimits s places c r k h .named i l)
+    named i l =
+        named-earlier k (c .inputs) (c .gates) (operand s (at + 2 + 2 * i)) (gate-at file.Reference referenceLimits s places c r k h .named i l)
 
     operand-in : (i : ℕ) → i < 2 → operandIn code k i < c .inputs + k
     operand-in i l = go i l (ℕ-discrete i 0) (ℕ-discrete op 1)
       where
         first : operandIn code k 0 < c .inputs + k
-        first = let e : at + 2 + 2 * 0 ≡ at + 2 = omega arith in omega (arith, first-at, rw e at (named 0 (gate-at file.Reference referenceLimits s places c r k h .known)))
+        first =
+            let e : at + 2 + 2 * 0 ≡ at + 2 = omega arith in
+            omega (arith, first-at, rw e at (named 0 (gate-at file.Reference referenceLimits s places c r k h .known)))
 
         go : (i : ℕ) → i < 2 → Dec (i ≡ 0) → Dec (op ≡ 1) → operandIn code k i < c .inputs + k
         go i l (yes e) d = rw e first
@@ -122,9 +126,11 @@ module _ (s places : List ℕ) (c : Counts) (code : List ℕ) (r : FileRead file
   unfolding operatorsIn signalsIn referenceOf
   reference-same =
       ap₂ (λ (gs : List Coded) (os : List ℕ). record { inputs = c .inputs; gates = gs; outputs = os })
-      (tabulate-map (operatorIn code) (codedAt file.Reference s) (take (c .gates) places) (c .gates) (length-gates file.Reference referenceLimits s places c r)
+      (tabulate-map (operatorIn code) (codedAt file.Reference s) (take (c .gates) places) (c .gates)
+      (length-gates file.Reference referenceLimits s places c r)
       (λ k h. operator-same k h ∙ ap (codedAt file.Reference s) (sym (getD-take (c .gates) places k 0 h))))
-      (tabulate-map (signalIn c code) (λ at. operand s (at + 1)) (take (c .outputs) (drop (referenceLimits .gates) places)) (c .outputs) (length-outputs file.Reference referenceLimits s places c r)
+      (tabulate-map (signalIn c code) (λ at. operand s (at + 1)) (take (c .outputs) (drop (referenceLimits .gates) places)) (c .outputs)
+      (length-outputs file.Reference referenceLimits s places c r)
       (λ j h. signal-at j h ∙ ap (λ (at : ℕ). operand s (at + 1)) (sym (output-place file.Reference referenceLimits s places c r j h))))
 
   pub reference-loaded : ReferenceLoaded c code

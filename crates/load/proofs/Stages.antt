@@ -17,7 +17,7 @@ use Rattle.netlist.specs.Reading.{stageLimits}
 use Rattle.netlist.specs.Content.{Gate, Pair, gateOf, codedAt, pairAt, stageOf}
 use Rattle.netlist.proofs.Encoding.{kind-needs}
 use Rattle.netlist.proofs.Readable.{kind-read, named-pin, named-rail}
-use Rattle.circuit.specs.Stage.{netCount, cellIn, slot, pinIn, gateIn, gatesIn, outputIn, outputsIn, careIn, stageIn, GateLoaded, StageLoaded}
+use Rattle.circuit.specs.Stage.{netCount, cellIn, slot, pinIn, gateIn, stageGates, outputIn, stageOutputs, stageCare, stageIn, GateLoaded, StageLoaded}
 use Rattle.circuit.proofs.Tabulate.{tabulate-map}
 use Rattle.circuit.proofs.Pins.{pins-few}
 use Rattle.load.specs.Load.{placesIn, FileRead, pinNumber, holdNumber, kindNumber, gateNumber, stageNumber}
@@ -26,7 +26,8 @@ use Rattle.load.proofs.Reading.{length-gates, length-outputs, gate-at, 
 
 -- the operands that a gate of m pins needs are the first m of four
 operands-first : (s : List ℕ) (at ground m : ℕ) → 2 ≤ m → m ≤ 4 →
-    take m (pinNumber s at m ground 0 ∷ pinNumber s at m ground 1 ∷ pinNumber s at m ground 2 ∷ pinNumber s at m ground 3 ∷ []) ≡ operands s (at + 2) m
+    take m (pinNumber s at m ground 0 ∷ pinNumber s at m ground 1 ∷ pinNumber s at m ground 2 ∷ pinNumber s at m ground 3 ∷ []) ≡ operands s
+    (at + 2) m
 unfolding pinNumber operands
 operands-first s at ground zero two four = absurd (omega arith)
 operands-first s at ground (suc zero) two four = absurd (omega arith)
@@ -103,7 +104,13 @@ module _ (s places : List ℕ) (c : Counts) (code : List ℕ) (r : FileRead file
         go : Dec (i < pinCount kind) → pinIn code k i ≤ netCount c
         go (yes d) =
             let n = gate-at file.Stage stageLimits s places c r k h .named i (omega (arith, kind-needs kind (known .0) (known .1))) in
-            omega (arith, pin-at i l, pin-there s at (netCount c) (pinCount kind) i d, named-pin k (c .inputs) (c .gates) (operand s (at + 2 + 2 * i)) n)
+            omega (
+              arith,
+              pin-at i l,
+              pin-there s at (netCount c) (pinCount kind) i d,
+              named-pin k (c .inputs) (c .gates)
+                  (operand s (at + 2 + 2 * i)) n,
+            )
         go (no d) = omega (arith, pin-at i l, pin-absent s at (netCount c) (pinCount kind) i (omega arith))
 
     gate-loaded : GateLoaded c code k
@@ -154,15 +161,16 @@ module _ (s places : List ℕ) (c : Counts) (code : List ℕ) (r : FileRead file
   cares = take (c .care) (drop (stageLimits .gates + stageLimits .outputs) places)
 
   pub stage-same : stageIn c code ≡ stageOf s (placesIn stageLimits c places)
-  unfolding gatesIn outputsIn careIn stageOf
+  unfolding stageGates stageOutputs stageCare stageOf
   stage-same =
-      ap (λ (ws : List ℕ). record { inputs = c .inputs; gates = gatesIn c code; outputs = outputsIn c code; care = ws })
+      ap (λ (ws : List ℕ). record { inputs = c .inputs; gates = stageGates c code; outputs = stageOutputs c code; care = ws })
       (tabulate-map (λ k. getD code (8 * c .gates + 2 * c .outputs + k) 0) (λ w. w) cares (c .care) (length-care file.Stage stageLimits s places c r)
       (λ k h. care-at k h ∙ sym (care-word file.Stage stageLimits s places c r k h)) ∙ map-id cares)
       ∙ ap₂ (λ (gs : List Gate) (ps : List Pair). record { inputs = c .inputs; gates = gs; outputs = ps; care = cares })
       (tabulate-map (gateIn code) (λ at. gateOf (codedAt file.Stage s at)) (take (c .gates) places) (c .gates) (length-gates file.Stage stageLimits s places c r)
       (λ k h. gate-same k h ∙ ap (λ (at : ℕ). gateOf (codedAt file.Stage s at)) (sym (getD-take (c .gates) places k 0 h))))
-      (tabulate-map (outputIn c code) (pairAt s) (take (c .outputs) (drop (stageLimits .gates) places)) (c .outputs) (length-outputs file.Stage stageLimits s places c r)
+      (tabulate-map (outputIn c code) (pairAt s) (take (c .outputs) (drop (stageLimits .gates) places)) (c .outputs)
+      (length-outputs file.Stage stageLimits s places c r)
       (λ j h. output-same j h ∙ ap (pairAt s) (sym (output-place file.Stage stageLimits s places c r j h))))
 
   pub stage-loaded : StageLoaded c code

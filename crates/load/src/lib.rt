@@ -142,7 +142,8 @@ fn reference_number(s: &[u8], places: &[u16], counts: Counts, i: usize) -> u16
 // The reference that the file holds, in its flat form.
 pub fn load_reference(s: &[u8], places: &[u16], counts: Counts, code: &mut [u16])
     requires { ⌜ FileRead file.Reference referenceLimits (now s) (now places) counts × (3 * counts .gates + counts .outputs ≤ length (now code)) ⌝ }
-    ensures same { λ r. ⌜ referenceIn counts (now (code .exit)) ≡ referenceOf (now (s .entry)) (placesIn referenceLimits counts (now (places .entry))) ⌝ }
+    ensures same { λ r. ⌜ referenceIn counts (now (code .exit)) ≡ referenceOf (now (s .entry)) (placesIn referenceLimits counts (now
+        (places .entry))) ⌝ }
     ensures loaded { λ r. ⌜ ReferenceLoaded counts (now (code .exit)) ⌝ }
 {
     let end = 3 * counts.gates + counts.outputs;

@@ -16,15 +16,15 @@ use Rattle.netlist.specs.Content.{Gate}
 use Rattle.verdict.specs.Rows.{high}
 use Rattle.verdict.specs.Graph.{anyHigh}
 use Rattle.verdict.specs.Loops.{pinsAt}
-use Rattle.circuit.specs.Stage.{netCount, cellIn, pinIn, gateIn, gatesIn, StageLoaded}
+use Rattle.circuit.specs.Stage.{netCount, cellIn, pinIn, gateIn, stageGates, StageLoaded}
 use Rattle.circuit.specs.Rows.{RowFor, netsIn, patternIn}
 use Rattle.circuit.proofs.Pins.{pattern-nets}
 use Rattle.circuit.proofs.Tabulate.{getD-tabulate, map-tabulate}
 use Rattle.loops.specs.Marks.{MarksFor, fedBy}
 
-pub pinsAt-gatesIn : (c : Counts) (code : List ℕ) (k : ℕ) → k < c .gates → pinsAt (gatesIn c code) k ≡ gateIn code k .pins
-unfolding gatesIn
-pinsAt-gatesIn c code k h =
+pub pinsAt-stageGates : (c : Counts) (code : List ℕ) (k : ℕ) → k < c .gates → pinsAt (stageGates c code) k ≡ gateIn code k .pins
+unfolding stageGates
+pinsAt-stageGates c code k h =
     ap (λ (l : List (List ℕ)). getD l k []) (map-tabulate (λ (g : Gate). g .pins) (gateIn code) (c .gates))
     ∙ getD-tabulate (λ i. gateIn code i .pins) (c .gates) k [] h
 
@@ -83,9 +83,9 @@ module _ (c : Counts) (code marks : List ℕ) (loaded : StageLoaded c code) (m :
   low (suc (suc (suc zero))) a l = at 3 a l
   low (suc (suc (suc (suc i)))) a l = absurd (omega arith)
 
-  pub fed-pattern : ltb 0 (patternIn (netsIn c marks) code k) ≡ fedBy (gatesIn c code) marks k
+  pub fed-pattern : ltb 0 (patternIn (netsIn c marks) code k) ≡ fedBy (stageGates c code) marks k
   fed-pattern =
       ap (ltb 0) (sym (pattern-nets c code marks loaded (marks-row c marks m) k h))
       ∙ any-four (getD marks (pinIn code k 0) 0) (getD marks (pinIn code k 1) 0) (getD marks (pinIn code k 2) 0) (getD marks (pinIn code k 3) 0)
       ∙ any-first marks four (pinCount (cellIn code k)) low
-      ∙ ap (anyHigh marks) (sym (pinsAt-gatesIn c code k h))
+      ∙ ap (anyHigh marks) (sym (pinsAt-stageGates c code k h))

@@ -16,9 +16,9 @@ use Rattle.verdict.specs.Loops.{pinsAt, gateSteps, reachesItself}
 use Rattle.verdict.specs.Levels.{sum}
 use Rattle.verdict.proofs.Graph.{anyHigh-in, anyHigh-out, leads-trans}
 use Rattle.verdict.proofs.Reaching.{steps-gate, step-gate, reaches-sound, reaches-complete}
-use Rattle.circuit.specs.Stage.{netCount, gatesIn}
+use Rattle.circuit.specs.Stage.{netCount, stageGates}
 use Rattle.circuit.specs.Rows.{rowSize}
-use Rattle.circuit.proofs.Settling.{length-gatesIn}
+use Rattle.circuit.proofs.Settling.{length-stageGates}
 use Rattle.loops.proofs.Feeding.{marks-set}
 use Rattle.loops.specs.Marks.{MarksFor, Unmarked, fedBy, LeadsIn, Grown, Marking}
 use Rattle.loops.proofs.Sums.{sum-set, sum-bound}
@@ -61,13 +61,13 @@ module _ (c : Counts) (code before marks : List ℕ) (more : Bool) (k : ℕ) (w 
   inside = omega (arith, w .marks-for .long, w .marks-for .room)
 
   -- a net at a pin of gate k is marked, so the net of gate k leads to where that one does
-  feeds-back : fedBy (gatesIn c code) marks k ≡ true → (q : ℕ) × (high before q ≡ true) × LeadsIn c code q net
+  feeds-back : fedBy (stageGates c code) marks k ≡ true → (q : ℕ) × (high before q ≡ true) × LeadsIn c code q net
   feeds-back f =
-      let r = anyHigh-out marks (pinsAt (gatesIn c code) k) f in
+      let r = anyHigh-out marks (pinsAt (stageGates c code) k) f in
       let b = w .back (r .0) (r .2) in
-      (b .0, b .1, onward (subst (In (r .0)) (sym (steps-gate (c .inputs) (gatesIn c code) k)) (r .1)) (b .2))
+      (b .0, b .1, onward (subst (In (r .0)) (sym (steps-gate (c .inputs) (stageGates c code) k)) (r .1)) (b .2))
 
-  pub grow-mark : getD marks net 0 ≡ 0 → fedBy (gatesIn c code) marks k ≡ true → Grown c code before (set marks net 1) true (k + 1)
+  pub grow-mark : getD marks net 0 ≡ 0 → fedBy (stageGates c code) marks k ≡ true → Grown c code before (set marks net 1) true (k + 1)
   grow-mark z f = record {
     marks-for = marks-set c marks (w .marks-for) net 1 (omega arith) (omega arith);
     kept = λ p e. kept p (w .kept p e) (ℕ-discrete p net);
@@ -85,7 +85,7 @@ module _ (c : Counts) (code before marks : List ℕ) (more : Bool) (k : ℕ) (w 
       back p e (yes q) = rw q (feeds-back f)
       back p e (no d) = w .back p (sym (high-other marks net 1 p d) ∙ e)
 
-  grow-on : (fedBy (gatesIn c code) marks k ≡ true → high marks net ≡ true) → Grown c code before marks more (k + 1)
+  grow-on : (fedBy (stageGates c code) marks k ≡ true → high marks net ≡ true) → Grown c code before marks more (k + 1)
   grow-on now = record {
     marks-for = w .marks-for;
     kept = w .kept;
@@ -95,11 +95,11 @@ module _ (c : Counts) (code before marks : List ℕ) (more : Bool) (k : ℕ) (w 
     done = λ e j h. at e j h (ℕ-discrete j k);
   }
     where
-      at : more ≡ false → (j : ℕ) → j < k + 1 → Dec (j ≡ k) → fedBy (gatesIn c code) marks j ≡ true → high marks (2 * c .inputs + j) ≡ true
+      at : more ≡ false → (j : ℕ) → j < k + 1 → Dec (j ≡ k) → fedBy (stageGates c code) marks j ≡ true → high marks (2 * c .inputs + j) ≡ true
       at e j h (yes q) = rw q now
       at e j h (no d) = w .done e j (omega arith)
 
-  pub grow-unfed : fedBy (gatesIn c code) marks k ≡ false → Grown c code before marks more (k + 1)
+  pub grow-unfed : fedBy (stageGates c code) marks k ≡ false → Grown c code before marks more (k + 1)
   grow-unfed f = grow-on (λ e. absurd (never e f))
 
   pub grow-marked : ¬ (getD marks net 0 ≡ 0) → Grown c code before marks more (k + 1)
@@ -131,33 +131,33 @@ module _ (c : Counts) (code : List ℕ) (g : ℕ) (hg : g < c .gates) where
       self = w .kept (2 * c .inputs + g) (m .self);
       back = λ p e.
           let r = w .back p e in
-          leads-trans (gateSteps (c .inputs) (gatesIn c code)) (r .0) (2 * c .inputs + g) (r .2) (m .back (r .0) (r .1));
+          leads-trans (gateSteps (c .inputs) (stageGates c code)) (r .0) (2 * c .inputs + g) (r .2) (m .back (r .0) (r .1));
     }
 
     module _ (last : more ≡ false) where
       marked : {p : ℕ} → LeadsIn c code (2 * c .inputs + g) p → high after p ≡ true
       marked here = marking-more .self
       marked (onward {x = x} {z = z} i l) =
-          let s = step-gate (c .inputs) (gatesIn c code) x z i in
-          let f = anyHigh-in after (pinsAt (gatesIn c code) (s .0)) z (s .3) (marked l) in
-          rw (s .2) (w .done last (s .0) (omega (arith, s .1, length-gatesIn c code)) f)
+          let s = step-gate (c .inputs) (stageGates c code) x z i in
+          let f = anyHigh-in after (pinsAt (stageGates c code) (s .0)) z (s .3) (marked l) in
+          rw (s .2) (w .done last (s .0) (omega (arith, s .1, length-stageGates c code)) f)
 
       -- the gate is fed by the marks exactly if it reaches itself
-      pub marks-tell : fedBy (gatesIn c code) after g ≡ reachesItself (c .inputs) (gatesIn c code) g
-      marks-tell = same (fedBy (gatesIn c code) after g) (reachesItself (c .inputs) (gatesIn c code) g) there again
+      pub marks-tell : fedBy (stageGates c code) after g ≡ reachesItself (c .inputs) (stageGates c code) g
+      marks-tell = same (fedBy (stageGates c code) after g) (reachesItself (c .inputs) (stageGates c code) g) there again
         where
           same : (a b : Bool) → (a ≡ true → b ≡ true) → (b ≡ true → a ≡ true) → a ≡ b
           same true b f h = sym (f refl)
           same false true f h = h refl
           same false false f h = refl
 
-          there : fedBy (gatesIn c code) after g ≡ true → reachesItself (c .inputs) (gatesIn c code) g ≡ true
+          there : fedBy (stageGates c code) after g ≡ true → reachesItself (c .inputs) (stageGates c code) g ≡ true
           there f =
-              let r = anyHigh-out after (pinsAt (gatesIn c code) g) f in
-              reaches-complete (c .inputs) (gatesIn c code) g (omega (arith, length-gatesIn c code))
-              (r .0, subst (In (r .0)) (sym (steps-gate (c .inputs) (gatesIn c code) g)) (r .1), marking-more .back (r .0) (r .2))
+              let r = anyHigh-out after (pinsAt (stageGates c code) g) f in
+              reaches-complete (c .inputs) (stageGates c code) g (omega (arith, length-stageGates c code))
+              (r .0, subst (In (r .0)) (sym (steps-gate (c .inputs) (stageGates c code) g)) (r .1), marking-more .back (r .0) (r .2))
 
-          again : reachesItself (c .inputs) (gatesIn c code) g ≡ true → fedBy (gatesIn c code) after g ≡ true
+          again : reachesItself (c .inputs) (stageGates c code) g ≡ true → fedBy (stageGates c code) after g ≡ true
           again e =
-              let r = reaches-sound (c .inputs) (gatesIn c code) g e in
-              anyHigh-in after (pinsAt (gatesIn c code) g) (r .0) (subst (In (r .0)) (steps-gate (c .inputs) (gatesIn c code) g) (r .1)) (marked (r .2))
+              let r = reaches-sound (c .inputs) (stageGates c code) g e in
+              anyHigh-in after (pinsAt (stageGates c code) g) (r .0) (subst (In (r .0)) (steps-gate (c .inputs) (stageGates c code) g) (r .1)) (marked (r .2))

@@ -14,10 +14,10 @@ use Rattle.verdict.specs.Levels.{sum}
 use Rattle.verdict.specs.Loops.{pinsAt, Feeds, LoopFree}
 use Rattle.verdict.proofs.Graph.{anyHigh-out}
 use Rattle.verdict.proofs.Reaching.{rankOf, rank-pin, placed-free}
-use Rattle.circuit.specs.Stage.{gateAtPlace, placeOf, gatesIn}
+use Rattle.circuit.specs.Stage.{gateAtPlace, placeOf, stageGates}
 use Rattle.circuit.specs.Order.{orderIn, InOrder}
 use Rattle.circuit.proofs.Tabulate.{length-tabulate}
-use Rattle.circuit.proofs.Settling.{length-gatesIn, order-at}
+use Rattle.circuit.proofs.Settling.{length-stageGates, order-at}
 use Rattle.loops.specs.Placing.{Waits, Gone, Placing, PassTo, Ordered}
 use Rattle.loops.specs.Marks.{fedBy}
 use Rattle.loops.proofs.Sums.{get-≤-sum, sum-some}
@@ -29,8 +29,8 @@ module _ (c : Counts) (code waiting : List ℕ) (placed : ℕ) (p : Placing c co
     gone : (k : ℕ) → Gone c waiting k
     gone k = le-ltb 0 (getD waiting (2 * c .inputs + k) 0) (omega (arith, p .total, get-≤-sum waiting (2 * c .inputs + k)))
 
-    size : length (gatesIn c code) ≡ c .gates
-    size = length-gatesIn c code
+    size : length (stageGates c code) ≡ c .gates
+    size = length-stageGates c code
 
     order-long : length (orderIn c code) ≡ c .gates
     unfolding orderIn
@@ -39,19 +39,19 @@ module _ (c : Counts) (code waiting : List ℕ) (placed : ℕ) (p : Placing c co
     abbrev order : List ℕ
     order = orderIn c code
 
-    at : (i : ℕ) → i < length (gatesIn c code) → getD order i 0 ≡ gateAtPlace code i
+    at : (i : ℕ) → i < length (stageGates c code) → getD order i 0 ≡ gateAtPlace code i
     at i h = order-at c code i (omega (arith, size))
 
-    taken : (i : ℕ) → i < length (gatesIn c code) → (getD order i 0 < c .gates) × (placeOf code (getD order i 0) ≡ i)
+    taken : (i : ℕ) → i < length (stageGates c code) → (getD order i 0 < c .gates) × (placeOf code (getD order i 0) ≡ i)
     taken i h = let t = p .taken i (omega (arith, size)) in rw (at i h) (t .0, t .2)
 
-    stands : (k : ℕ) → k < length (gatesIn c code) → (placeOf code k < length (gatesIn c code)) × (getD order (placeOf code k) 0 ≡ k)
+    stands : (k : ℕ) → k < length (stageGates c code) → (placeOf code k < length (stageGates c code)) × (getD order (placeOf code k) 0 ≡ k)
     stands k h =
         let s = p .stands k (omega (arith, size)) (gone k) in
-        let l : placeOf code k < length (gatesIn c code) = omega (arith, s .0, size) in
+        let l : placeOf code k < length (stageGates c code) = omega (arith, s .0, size) in
         (l, at (placeOf code k) l ∙ s .1)
 
-    before : (j k : ℕ) → j < length (gatesIn c code) → k < length (gatesIn c code) → Feeds (c .inputs) (gatesIn c code) j k → placeOf code j < placeOf code k
+    before : (j k : ℕ) → j < length (stageGates c code) → k < length (stageGates c code) → Feeds (c .inputs) (stageGates c code) j k → placeOf code j < placeOf code k
     before j k hj hk f = p .earlier j k (omega (arith, size)) (omega (arith, size)) (gone k) f .1
 
     in-order : InOrder c code
@@ -69,29 +69,29 @@ module _ (c : Counts) (code waiting : List ℕ) (placed : ℕ) (p : Placing c co
       stands-there = λ k h. p .stands k h (gone k) .1;
     }
 
-    pub all-ordered : InOrder c code × LoopFree (c .inputs) (gatesIn c code)
-    all-ordered = (in-order, placed-free (c .inputs) (gatesIn c code) (placeOf code) before)
+    pub all-ordered : InOrder c code × LoopFree (c .inputs) (stageGates c code)
+    all-ordered = (in-order, placed-free (c .inputs) (stageGates c code) (placeOf code) before)
 
   -- ---- stuck: each gate that waits has one that waits, of lower rank, at a pin
 
   module _
-      (stuck : (k : ℕ) → k < c .gates → Waits c waiting k → fedBy (gatesIn c code) waiting k ≡ true)
-      (free : LoopFree (c .inputs) (gatesIn c code))
+      (stuck : (k : ℕ) → k < c .gates → Waits c waiting k → fedBy (stageGates c code) waiting k ≡ true)
+      (free : LoopFree (c .inputs) (stageGates c code))
     where
-      descent : (r q : ℕ) → high waiting q ≡ true → rankOf (c .inputs) (gatesIn c code) q < r → ⊥
+      descent : (r q : ℕ) → high waiting q ≡ true → rankOf (c .inputs) (stageGates c code) q < r → ⊥
       descent zero q w l = omega arith
       descent (suc r) q w l =
           let o = p .only q w in
-          let s = anyHigh-out waiting (pinsAt (gatesIn c code) (o .0)) (stuck (o .0) (o .1) (subst (λ (x : ℕ). high waiting x ≡ true) (o .2) w)) in
-          let e = ap (rankOf (c .inputs) (gatesIn c code)) (o .2) in
-          descent r (s .0) (s .2) (omega (arith, rank-pin (c .inputs) (gatesIn c code) free (s .0) (o .0) (s .1)))
+          let s = anyHigh-out waiting (pinsAt (stageGates c code) (o .0)) (stuck (o .0) (o .1) (subst (λ (x : ℕ). high waiting x ≡ true) (o .2) w)) in
+          let e = ap (rankOf (c .inputs) (stageGates c code)) (o .2) in
+          descent r (s .0) (s .2) (omega (arith, rank-pin (c .inputs) (stageGates c code) free (s .0) (o .0) (s .1)))
 
       -- so there is none
       stuck-full : placed ≡ c .gates
       stuck-full = go (decLt 0 (sum waiting))
         where
           go : Dec (0 < sum waiting) → placed ≡ c .gates
-          go (yes h) = let s = sum-some waiting h in absurd (descent (suc (rankOf (c .inputs) (gatesIn c code) (s .0))) (s .0) (s .1) (omega arith))
+          go (yes h) = let s = sum-some waiting h in absurd (descent (suc (rankOf (c .inputs) (stageGates c code) (s .0))) (s .0) (s .1) (omega arith))
           go (no h) = omega (arith, p .total)
 
   pub ordered-full : c .gates ≤ placed → Ordered c code placed

@@ -14,7 +14,7 @@ use Rattle.netlist.specs.declared.Counts.{Counts}
 use Rattle.verdict.specs.Rows.{high}
 use Rattle.verdict.specs.Loops.{pinsAt, Feeds}
 use Rattle.verdict.proofs.Graph.{anyHigh-in}
-use Rattle.circuit.specs.Stage.{gateAtPlace, placeOf, gatesIn, StageLoaded}
+use Rattle.circuit.specs.Stage.{gateAtPlace, placeOf, stageGates, StageLoaded}
 use Rattle.loops.proofs.Feeding.{marks-set}
 use Rattle.loops.specs.Marks.{Unmarked, fedBy}
 use Rattle.loops.specs.Placing.{Reordered, WaitTo, Waits, Gone, Placing, isReady, PassTo}
@@ -100,10 +100,10 @@ module _ (c : Counts) (code waiting : List ℕ) (placed : ℕ) (p : Placing c co
   net = 2 * c .inputs + k
 
   waits : Waits c waiting k
-  waits = ready (high waiting net) (fedBy (gatesIn c code) waiting k) r .0
+  waits = ready (high waiting net) (fedBy (stageGates c code) waiting k) r .0
 
-  unfed : fedBy (gatesIn c code) waiting k ≡ false
-  unfed = ready (high waiting net) (fedBy (gatesIn c code) waiting k) r .1
+  unfed : fedBy (stageGates c code) waiting k ≡ false
+  unfed = ready (high waiting net) (fedBy (stageGates c code) waiting k) r .1
 
   one : getD waiting net 0 ≡ 1
   one = omega (arith, ltb-true 0 (getD waiting net 0) waits, p .marks-for .bit net)
@@ -178,18 +178,18 @@ module _ (c : Counts) (code waiting : List ℕ) (placed : ℕ) (p : Placing c co
       let s = p .stands m h (sym (gone-old m d) ∙ g) in
       (omega (arith, s .0, place-old m d), ap (gateAtPlace code′) (place-old m d) ∙ gate-old (placeOf code m) (λ e. omega (arith, s .0)) ∙ s .1)
 
-  earlier′ : (j m : ℕ) → j < c .gates → m < c .gates → Gone c waiting′ m → Feeds (c .inputs) (gatesIn c code) j m → Dec (m ≡ k) →
+  earlier′ : (j m : ℕ) → j < c .gates → m < c .gates → Gone c waiting′ m → Feeds (c .inputs) (stageGates c code) j m → Dec (m ≡ k) →
       Gone c waiting′ j × (placeOf code′ j < placeOf code′ m)
   earlier′ j m hj hm g f (yes e) =
       let gone : Gone c waiting j = low-mark j (rw e at f) in
       let o = other j gone in
       (gone-old j o ∙ gone, rw e (omega (arith, p .stands j hj gone .0, place-old j o, place-new)))
     where
-      low-mark : (j : ℕ) → Feeds (c .inputs) (gatesIn c code) j k → Gone c waiting j
+      low-mark : (j : ℕ) → Feeds (c .inputs) (stageGates c code) j k → Gone c waiting j
       low-mark j f = go (high waiting (2 * c .inputs + j)) refl
         where
           go : (b : Bool) → high waiting (2 * c .inputs + j) ≡ b → b ≡ false
-          go true h = absurd (never (anyHigh-in waiting (pinsAt (gatesIn c code) k) (2 * c .inputs + j) f h) unfed)
+          go true h = absurd (never (anyHigh-in waiting (pinsAt (stageGates c code) k) (2 * c .inputs + j) f h) unfed)
           go false h = refl
   earlier′ j m hj hm g f (no d) =
       let e = p .earlier j m hj hm (sym (gone-old m d) ∙ g) f in
@@ -225,6 +225,6 @@ module _ (c : Counts) (code waiting : List ℕ) (before placed k : ℕ) where
   pub pass-skip : PassTo c code waiting before placed k → isReady c code waiting k ≡ false → PassTo c code waiting before placed (k + 1)
   pass-skip w r = record { placing = w .placing; more = w .more; none = λ e j h v. at e j h v (ℕ-discrete j k) }
     where
-      at : placed ≡ before → (j : ℕ) → j < k + 1 → Waits c waiting j → Dec (j ≡ k) → fedBy (gatesIn c code) waiting j ≡ true
-      at e j h v (yes q) = rw q (not-ready (high waiting (2 * c .inputs + k)) (fedBy (gatesIn c code) waiting k) r (rw q at v))
+      at : placed ≡ before → (j : ℕ) → j < k + 1 → Waits c waiting j → Dec (j ≡ k) → fedBy (stageGates c code) waiting j ≡ true
+      at e j h v (yes q) = rw q (not-ready (high waiting (2 * c .inputs + k)) (fedBy (stageGates c code) waiting k) r (rw q at v))
       at e j h v (no d) = w .none e j (omega arith) v

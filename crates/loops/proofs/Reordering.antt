@@ -8,7 +8,7 @@ use lib.ListN.{getD, set, length-set}
 use lib.Seq.{getD-set-other}
 use Rattle.netlist.specs.declared.Counts.{Counts}
 use Rattle.netlist.specs.Content.{Gate, Pair}
-use Rattle.circuit.specs.Stage.{tabulate, netCount, cellIn, slot, pinIn, gateIn, gatesIn, outputIn, outputsIn, careIn, stageIn, GateLoaded, StageLoaded}
+use Rattle.circuit.specs.Stage.{tabulate, netCount, cellIn, slot, pinIn, gateIn, stageGates, outputIn, stageOutputs, stageCare, stageIn, GateLoaded, StageLoaded}
 use Rattle.loops.specs.Placing.{Apart, Reordered}
 
 pub reordered-refl : (c : Counts) (code : List ℕ) → Reordered c code code
@@ -39,8 +39,8 @@ module _ (c : Counts) (before code : List ℕ) (r : Reordered c before code) whe
   gate-kept k =
       rw (cell-kept k, hold-kept k, pin-kept k 0 (omega arith), pin-kept k 1 (omega arith), pin-kept k 2 (omega arith), pin-kept k 3 (omega arith))
 
-  pub gates-kept : gatesIn c code ≡ gatesIn c before
-  unfolding gatesIn
+  pub gates-kept : stageGates c code ≡ stageGates c before
+  unfolding stageGates
   gates-kept = ap (λ (f : ℕ → Gate). tabulate f (c .gates)) (fun-ext gate-kept)
 
   output-kept : (j : ℕ) → outputIn c code j ≡ outputIn c before j
@@ -54,7 +54,7 @@ module _ (c : Counts) (before code : List ℕ) (r : Reordered c before code) whe
   care-kept i = r .kept (8 * c .gates + 2 * c .outputs + i) (λ m h. (λ e. omega arith, λ e. omega arith))
 
   pub stage-kept : stageIn c code ≡ stageIn c before
-  unfolding outputsIn careIn
+  unfolding stageOutputs stageCare
   stage-kept = rw (gates-kept, fun-ext output-kept, fun-ext care-kept)
 
   pub loaded-kept : StageLoaded c before → StageLoaded c code

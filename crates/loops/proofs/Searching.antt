@@ -15,8 +15,8 @@ use Rattle.verdict.specs.Words.{numbers}
 use Rattle.verdict.specs.Checks.{first}
 use Rattle.verdict.specs.Search.{least}
 use Rattle.verdict.proofs.Least.{least-later, least-says}
-use Rattle.circuit.specs.Stage.{gatesIn}
-use Rattle.circuit.proofs.Settling.{length-gatesIn}
+use Rattle.circuit.specs.Stage.{stageGates}
+use Rattle.circuit.proofs.Settling.{length-stageGates}
 use Rattle.loops.specs.Placing.{Reordered, Ordered}
 use Rattle.loops.specs.Marks.{LoopFound}
 use Rattle.loops.proofs.Reordering.{gates-kept, stage-kept}
@@ -32,13 +32,13 @@ module _ (c : Counts) (before code : List ℕ) (r : Reordered c before code) (pl
   leastIn gates = least (reachesItself (c .inputs) gates) 0 (length gates)
 
   abbrev test : ℕ → Bool
-  test = reachesItself (c .inputs) (gatesIn c code)
+  test = reachesItself (c .inputs) (stageGates c code)
 
   pub found-none : placed ≡ c .gates → LoopFound c before code Nothing
   found-none e = record {
     loaded = o .loaded;
     same = stage-kept c before code r;
-    least-loop = sym (none-least test 0 (length (gatesIn c code)) (λ k l b. o .all e .1 k (omega arith))) ∙ ap leastIn (gates-kept c before code r);
+    least-loop = sym (none-least test 0 (length (stageGates c code)) (λ k l b. o .all e .1 k (omega arith))) ∙ ap leastIn (gates-kept c before code r);
     in-order = λ q. o .all e .0;
   }
 
@@ -47,8 +47,8 @@ module _ (c : Counts) (before code : List ℕ) (r : Reordered c before code) (pl
     loaded = o .loaded;
     same = stage-kept c before code r;
     least-loop = f ∙ ap leastIn (gates-kept c before code r);
-    in-order = λ q. absurd (o .some d (λ g h. least-says test 0 (length (gatesIn c code)) Nothing (sym f ∙ q) g (omega arith) (omega arith)));
+    in-order = λ q. absurd (o .some d (λ g h. least-says test 0 (length (stageGates c code)) Nothing (sym f ∙ q) g (omega arith) (omega arith)));
   }
     where
-      f : found ≡ leastIn (gatesIn c code)
-      f = e ∙ ap (least test 0) (sym (length-gatesIn c code))
+      f : found ≡ leastIn (stageGates c code)
+      f = e ∙ ap (least test 0) (sym (length-stageGates c code))

@@ -13,7 +13,7 @@ use Rattle.verdict.specs.Graph.{Leads, anyHigh}
 use Rattle.verdict.specs.Loops.{pinsAt, gateSteps, reachesItself}
 use Rattle.verdict.specs.Search.{least}
 use Rattle.verdict.specs.Levels.{sum}
-use Rattle.circuit.specs.Stage.{netCount, gatesIn, stageIn, StageLoaded}
+use Rattle.circuit.specs.Stage.{netCount, stageGates, stageIn, StageLoaded}
 use Rattle.circuit.specs.Order.{InOrder}
 use Rattle.circuit.specs.Rows.{rowSize}
 
@@ -35,7 +35,7 @@ fedBy gates marks k = anyHigh marks (pinsAt gates k)
 
 -- through the pins of a loaded stage net p leads to net q
 abbrev pub LeadsIn : Counts → List ℕ → ℕ → ℕ → Type 0
-LeadsIn c code q p = Leads (gateSteps (c .inputs) (gatesIn c code)) q p
+LeadsIn c code q p = Leads (gateSteps (c .inputs) (stageGates c code)) q p
 
 -- In a pass the gates before k have had their turn: marks stay, new ones are on nets that lead to marked ones, and there are more of
 -- them, or each of these gates that has a marked net at a pin is marked.
@@ -45,7 +45,7 @@ pub record Grown (c : Counts) (code before marks : List ℕ) (more : Bool) (k : 
   pub back : (p : ℕ) → high marks p ≡ true → (q : ℕ) × (high before q ≡ true) × LeadsIn c code q p
   pub no-less : sum before ≤ sum marks
   pub rose : more ≡ true → sum before < sum marks
-  pub done : more ≡ false → (j : ℕ) → j < k → fedBy (gatesIn c code) marks j ≡ true → high marks (2 * c .inputs + j) ≡ true
+  pub done : more ≡ false → (j : ℕ) → j < k → fedBy (stageGates c code) marks j ≡ true → high marks (2 * c .inputs + j) ≡ true
 
 -- The net of gate g is marked, and marked nets lead to it.
 pub record Marking (c : Counts) (code : List ℕ) (g : ℕ) (marks : List ℕ) : Type 0 where
@@ -57,5 +57,5 @@ pub record Marking (c : Counts) (code : List ℕ) (g : ℕ) (marks : List ℕ) :
 pub record LoopFound (c : Counts) (before code : List ℕ) (found : Found) : Type 0 where
   pub loaded : StageLoaded c code
   pub same : stageIn c code ≡ stageIn c before
-  pub least-loop : found ≡ least (reachesItself (c .inputs) (gatesIn c before)) 0 (length (gatesIn c before))
+  pub least-loop : found ≡ least (reachesItself (c .inputs) (stageGates c before)) 0 (length (stageGates c before))
   pub in-order : found ≡ Nothing → InOrder c code

@@ -8,7 +8,7 @@ use Rattle.netlist.specs.declared.Counts.{Counts}
 use Rattle.verdict.specs.Rows.{high}
 use Rattle.verdict.specs.Loops.{Feeds, LoopFree}
 use Rattle.verdict.specs.Levels.{sum}
-use Rattle.circuit.specs.Stage.{gateAtPlace, placeOf, gatesIn, StageLoaded}
+use Rattle.circuit.specs.Stage.{gateAtPlace, placeOf, stageGates, StageLoaded}
 use Rattle.circuit.specs.Order.{InOrder}
 use Rattle.loops.specs.Marks.{MarksFor, fedBy}
 
@@ -44,21 +44,21 @@ pub record Placing (c : Counts) (code waiting : List ℕ) (placed : ℕ) : Type 
   pub taken : (i : ℕ) → i < placed →
       (gateAtPlace code i < c .gates) × Gone c waiting (gateAtPlace code i) × (placeOf code (gateAtPlace code i) ≡ i)
   pub stands : (k : ℕ) → k < c .gates → Gone c waiting k → (placeOf code k < placed) × (gateAtPlace code (placeOf code k) ≡ k)
-  pub earlier : (j k : ℕ) → j < c .gates → k < c .gates → Gone c waiting k → Feeds (c .inputs) (gatesIn c code) j k →
+  pub earlier : (j k : ℕ) → j < c .gates → k < c .gates → Gone c waiting k → Feeds (c .inputs) (stageGates c code) j k →
       Gone c waiting j × (placeOf code j < placeOf code k)
 
 -- gate k waits, and no waiting gate feeds it
 abbrev pub isReady : Counts → List ℕ → List ℕ → ℕ → Bool
-isReady c code waiting k = high waiting (2 * c .inputs + k) && not (fedBy (gatesIn c code) waiting k)
+isReady c code waiting k = high waiting (2 * c .inputs + k) && not (fedBy (stageGates c code) waiting k)
 
 -- In a pass the gates before k have had their turn: more gates are placed, or each of these that waits is fed by one that waits.
 pub record PassTo (c : Counts) (code waiting : List ℕ) (before placed k : ℕ) : Type 0 where
   pub placing : Placing c code waiting placed
   pub more : before ≤ placed
-  pub none : placed ≡ before → (j : ℕ) → j < k → Waits c waiting j → fedBy (gatesIn c code) waiting j ≡ true
+  pub none : placed ≡ before → (j : ℕ) → j < k → Waits c waiting j → fedBy (stageGates c code) waiting j ≡ true
 
 -- All gates are placed, and the code holds a topological order; or some are not, and there is a loop.
 pub record Ordered (c : Counts) (code : List ℕ) (placed : ℕ) : Type 0 where
   pub loaded : StageLoaded c code
-  pub all : placed ≡ c .gates → InOrder c code × LoopFree (c .inputs) (gatesIn c code)
-  pub some : ¬ (placed ≡ c .gates) → ¬ (LoopFree (c .inputs) (gatesIn c code))
+  pub all : placed ≡ c .gates → InOrder c code × LoopFree (c .inputs) (stageGates c code)
+  pub some : ¬ (placed ≡ c .gates) → ¬ (LoopFree (c .inputs) (stageGates c code))

@@ -8,14 +8,14 @@ ghost use Prim.Native.Nat.{ℕ, _+_, _<_};
 ghost use lib.ListN.{length};
 ghost use Rattle.verdict.specs.Loops.{reachesItself};
 ghost use Rattle.verdict.specs.Search.{least};
-ghost use Rattle.circuit.specs.Stage.{gatesIn, StageLoaded};
+ghost use Rattle.circuit.specs.Stage.{stageGates, StageLoaded};
 ghost use Rattle.loops.specs.Placing.{Placing, isReady, WaitTo, PassTo, Ordered, Reordered};
 ghost use Rattle.loops.specs.Marks.{MarksFor, Unmarked, fedBy, Marking, Grown, LoopFound};
 
 // Whether a marked net is at a pin of gate k.
 fn fed(code: &[u16], counts: Counts, k: usize, marks: &[u8]) -> bool
     requires { ⌜ StageLoaded counts (now code) × (k < counts .gates) × MarksFor counts (now marks) ⌝ }
-    ensures { λ r. ⌜ r ≡ fedBy (gatesIn counts (now (code .entry))) (now (marks .entry)) k ⌝ }
+    ensures { λ r. ⌜ r ≡ fedBy (stageGates counts (now (code .entry))) (now (marks .entry)) k ⌝ }
 {
     0 < circuit::pattern(code, counts, k, marks)
 }
@@ -113,7 +113,7 @@ fn mark_fed(code: &[u16], counts: Counts, marks: &mut [u8]) -> bool
 // Whether gate g reaches itself: it is marked, then what has a marked net at a pin, until there is none left to mark.
 fn reaches_itself(code: &[u16], counts: Counts, g: usize, marks: &mut [u8]) -> bool
     requires { ⌜ StageLoaded counts (now code) × (g < counts .gates) × Unmarked counts (now marks) ⌝ }
-    ensures { λ r. ⌜ r ≡ reachesItself (counts .inputs) (gatesIn counts (now (code .entry))) g ⌝ }
+    ensures { λ r. ⌜ r ≡ reachesItself (counts .inputs) (stageGates counts (now (code .entry))) g ⌝ }
 {
     marks[2 * counts.inputs + g] = 1;
     while mark_fed(code, counts, marks) {}
@@ -123,7 +123,7 @@ fn reaches_itself(code: &[u16], counts: Counts, g: usize, marks: &mut [u8]) -> b
 // The least gate that reaches itself, gate by gate.
 fn least_loop(code: &[u16], counts: Counts) -> Found
     requires { ⌜ StageLoaded counts (now code) ⌝ }
-    ensures { λ r. ⌜ r ≡ least (reachesItself (counts .inputs) (gatesIn counts (now (code .entry)))) 0 (counts .gates) ⌝ }
+    ensures { λ r. ⌜ r ≡ least (reachesItself (counts .inputs) (stageGates counts (now (code .entry)))) 0 (counts .gates) ⌝ }
 {
     let mut g: usize = 0;
     while g < counts.gates {

@@ -14,7 +14,7 @@ use Rattle.netlist.specs.Commands.{commandTable, ownCommands, formIn}
 use Rattle.netlist.specs.Reading.{nameable, Places, readFile, readable}
 use Rattle.netlist.specs.Content.{Coded, codedAt, Reference, referenceOf}
 use Rattle.netlist.specs.Writing.{widthFor, roleFor, Item, gate, output, care, gatesIn, outputsIn, careIn, ItemsFit, placesOf, writeFile, All, FileFits, referenceItems, writeReference}
-use Rattle.netlist.specs.Formed.{OperationFormed, InOrder, ReferenceFormed}
+use Rattle.netlist.specs.Formed.{OperationFormed, FormedFrom, ReferenceFormed}
 use Rattle.netlist.proofs.Lists.{Bytes, All-every, All-map}
 use Rattle.netlist.proofs.Encoding.{clash, operation-needs}
 use Rattle.netlist.proofs.Laid.{Laid, wiredAt}
@@ -27,7 +27,7 @@ use Rattle.netlist.proofs.GatesFirst.{GatesFirst, CareFirst, gatesIn-it
 -- ---- gates and outputs, coded and as a reference has them
 
 -- gate k by its number
-pub in-order-at : (below : ℕ) (cs : List Coded) → InOrder below cs → (k : ℕ) (d : Coded) → k < length cs → OperationFormed (below + k) (getD cs k d)
+pub in-order-at : (below : ℕ) (cs : List Coded) → FormedFrom below cs → (k : ℕ) (d : Coded) → k < length cs → OperationFormed (below + k) (getD cs k d)
 in-order-at below [] h k d l = absurd (omega arith)
 in-order-at below (c ∷ cs) h zero d l = let z : below + 0 ≡ below = omega arith in rw z (h .0)
 in-order-at below (c ∷ cs) h (suc k) d l = let z : below + suc k ≡ suc below + k = omega arith in rw z (in-order-at (suc below) cs (h .1) k d (omega arith))
@@ -43,7 +43,7 @@ signal-again (v ∷ w ∷ vs) e = absurd (omega arith)
 
 -- the gates and outputs of a reference file, coded and as a reference has them
 module _ (n g : ℕ) where
-  codes-order : (k : ℕ) (cs : List Coded) → GatesFormed file.Reference n g k cs → InOrder (n + k) cs
+  codes-order : (k : ℕ) (cs : List Coded) → GatesFormed file.Reference n g k cs → FormedFrom (n + k) cs
   codes-order k [] h = tt
   codes-order k (c ∷ cs) h =
       let z : n + suc k ≡ suc (n + k) = omega arith in (
@@ -138,7 +138,7 @@ module _ (most : Limits) (s : List ℕ) (p : Places) (e : readFile file.Referenc
 -- ---- a well-formed reference, and no other, fits a file
 
 module _ (n g : ℕ) (small : n + g ≤ absent) where
-  operations-fit : (k : ℕ) (cs : List Coded) (rest : List Item) → k + length cs ≤ g → InOrder (n + k) cs →
+  operations-fit : (k : ℕ) (cs : List Coded) (rest : List Item) → k + length cs ≤ g → FormedFrom (n + k) cs →
       ((k : ℕ) → ItemsFit file.Reference n g k rest) → ItemsFit file.Reference n g k (map gate cs ++ rest)
   unfolding nameable commandTable ownCommands formIn
   operations-fit k [] rest l h r = r k
@@ -169,7 +169,7 @@ module _ (most : Limits) (r : Reference) where
       let o : length (outputsIn (referenceItems r)) ≡ length (r .outputs) = ap length (outputsIn-items same same signalOf lone [] (r .gates) (r .outputs)) ∙ length-map (r .outputs) lone in
       let in-reach : r .inputs + length (r .gates) ≤ absent = omega (arith, h .inputs-in, h .gates-in) in
       let z : r .inputs ≡ r .inputs + 0 = omega arith in
-      let ordered : InOrder (r .inputs + 0) (r .gates) = subst (λ (b : ℕ). InOrder b (r .gates)) z (h .gates-formed) in
+      let ordered : FormedFrom (r .inputs + 0) (r .gates) = subst (λ (b : ℕ). FormedFrom b (r .gates)) z (h .gates-formed) in
       record {
         inputs-in = h .inputs-in;
         inputs-byte = omega (arith, h .inputs-in);

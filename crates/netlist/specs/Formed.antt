@@ -45,13 +45,13 @@ pub record OperationFormed (below : ℕ) (c : Coded) : Type 0 where
   pub operands-in : All (λ v. v < below) (c .operands)
 
 -- gates in order: the operands of each are inputs or earlier gates; the first drives signal `below`
-abbrev pub InOrder : ℕ → List Coded → Type 0
-InOrder below [] = Unit {0}
-InOrder below (c ∷ cs) = OperationFormed below c × InOrder (suc below) cs
+abbrev pub FormedFrom : ℕ → List Coded → Type 0
+FormedFrom below [] = Unit {0}
+FormedFrom below (c ∷ cs) = OperationFormed below c × FormedFrom (suc below) cs
 
 pub record ReferenceFormed (most : Limits) (r : Reference) : Type 0 where
   pub inputs-in : (1 ≤ r .inputs) × (r .inputs ≤ most .inputs)
   pub gates-in : length (r .gates) ≤ most .gates
   pub outputs-in : (1 ≤ length (r .outputs)) × (length (r .outputs) ≤ most .outputs)
-  pub gates-formed : InOrder (r .inputs) (r .gates)
+  pub gates-formed : FormedFrom (r .inputs) (r .gates)
   pub outputs-formed : All (λ v. v < r .inputs + length (r .gates)) (r .outputs)

@@ -1,2 +1,5 @@
 pub mod Counting
 pub mod Activity
+pub mod Summing
+pub mod Lines
+pub mod Reporting

@@ -2,15 +2,19 @@
 use Prim.Native.Nat.{ℕ, _+_, _*_}
 use mathlib.Core.Path.{_≡_}
 use mathlib.Core.Bool.{not}
-use mathlib.Core.List.{List, map}
+use mathlib.Core.List.{List, [], map}
 use lib.Dec.{ltb}
 use Rattle.runs.specs.Row.{low, after, tally, times}
 use Rattle.runs.specs.Net.{Net, rails, RiseList, RiseEnd, FallList, FallEnd}
+use Rattle.netlist.specs.Reading.{stageLimits}
 use Rattle.netlist.specs.Content.{Stage}
 use Rattle.verdict.specs.Levels.{sum}
 use Rattle.verdict.specs.Words.{IsWord}
 use Rattle.verdict.specs.Nets.{netOf, railsFor}
-use Rattle.report.specs.Report.{total}
+use Rattle.verdict.specs.Verdicts.{accepted, verdictOn}
+use Rattle.verdict.specs.Demands.{StageIs}
+use Rattle.report.specs.declared.Report.{Report}
+use Rattle.report.specs.Report.{total, lines, reportOf}
 
 -- how many switchings of a list are of gates: all but those of the inputs' rails
 abbrev pub gateSwitchings : Net → List ℕ → ℕ
@@ -37,3 +41,17 @@ pub record EachWordOnce (s : Stage) (order : List ℕ) : Type 0 where
 -- "It is also half of all gate switchings when each word rises and falls once, in any order": of the words, and of the switchings in each
 abbrev pub HalfOfAll : Stage → Type 0
 HalfOfAll s = (cycles : List (Cycle s)) → EachWordOnce s (map (λ (p : Cycle s). p .word) cycles) → sum (map (switchings s) cycles) ≡ 2 * total s
+
+-- the report of an accepted stage: each line is the number of gates high at the rest of its word, and the total, the sum of the lines, is
+-- half of all gate switchings
+pub record Reported (stage : List ℕ) (r : Report) : Type 0 where
+  pub circuit : Stage
+  pub circuit-is : StageIs stageLimits stage circuit
+  pub lines-are : r ≡ reportOf accepted (lines circuit)
+  pub half : HalfOfAll circuit
+
+-- What the report of two files means: it has the check's verdict, and of a refused pair it says no more.
+pub record ReportMeans (stage reference : List ℕ) (r : Report) : Type 0 where
+  pub verdict-is : r .verdict ≡ verdictOn stage reference
+  pub refused : ¬ (r .verdict ≡ accepted) → r ≡ reportOf (r .verdict) []
+  pub reported : r .verdict ≡ accepted → Reported stage r

@@ -24,8 +24,8 @@ use Rattle.verdict.specs.Verdicts.{RowAnswer, answerWith, accepted, settleUnles
 use Rattle.verdict.specs.Demands.{DemandRow}
 use Rattle.verdict.proofs.Least.{least-says}
 use Rattle.verdict.proofs.Demands.{demand-row}
-use Rattle.circuit.specs.Stage.{gatesIn, stageIn}
-use Rattle.circuit.proofs.Settling.{length-gatesIn}
+use Rattle.circuit.specs.Stage.{stageGates, stageIn}
+use Rattle.circuit.proofs.Settling.{length-stageGates}
 use Rattle.loops.specs.Marks.{LoopFound}
 use Rattle.loops.proofs.Findings.{passed-on, faulty, loop-at, no-loop}
 use Rattle.load.specs.Load.{HoldsStage}
@@ -42,7 +42,7 @@ module _ (c : Counts) (code after row : List ℕ) (found : Found) (l : LoopFound
   call = settleUnless (firstFault (rowChecks s row)) s row
 
   size : 2 * c .inputs + length (s .gates) ≡ 2 * c .inputs + c .gates
-  size = ap (λ (g : ℕ). 2 * c .inputs + g) (length-gatesIn c code)
+  size = ap (λ (g : ℕ). 2 * c .inputs + g) (length-stageGates c code)
 
   -- a fault of the checks leaves the row
   refusal : (v : Verdict) → firstFault (rowChecks s row) ≡ Fault v → answerWith v row ≡ call
@@ -58,7 +58,8 @@ module _ (c : Counts) (code after row : List ℕ) (found : Found) (l : LoopFound
     unfolding firstFault rowChecks finding sweep first atFault
     is-16 d =
         refusal (verdict 16 3 (length row) 0)
-        (passed-on _ _ (no-loop c code after found l e) ∙ faulty _ _ _ (rw (ne-eqb (length row) (2 * c .inputs + length (s .gates)) (λ q. d (q ∙ size)))))
+        (passed-on _ _ (no-loop c code after found l e) ∙ faulty _ _ _
+        (rw (ne-eqb (length row) (2 * c .inputs + length (s .gates)) (λ q. d (q ∙ size)))))
 
     module _ (long : length row ≡ 2 * c .inputs + c .gates) (illegal-at : Found) (i : illegal-at ≡ least (illegal row) 0 (c .inputs)) where
       after-16 : firstFault (rowChecks s row) ≡ orLater (atFault 17 3 0 illegal-at Passed) Passed
@@ -73,7 +74,7 @@ module _ (c : Counts) (code after row : List ℕ) (found : Found) (l : LoopFound
       is-17 k q = refusal (verdict 17 3 k 0) (after-16 ∙ ap (λ (f : Found). orLater (atFault 17 3 0 f Passed) Passed) q)
 
       module _ (q : illegal-at ≡ Nothing) where
-        pub is-0 : (row′ : List ℕ) → row′ ≡ settled (gatesIn c after) (take (2 * c .inputs) row) → answerWith accepted row′ ≡ call
+        pub is-0 : (row′ : List ℕ) → row′ ≡ settled (stageGates c after) (take (2 * c .inputs) row) → answerWith accepted row′ ≡ call
         unfolding atFault orLater settleUnless
         is-0 row′ f =
             ap (answerWith accepted) (f ∙ ap (λ (x : Stage). settled (x .gates) (take (2 * c .inputs) row)) (l .same))
@@ -93,7 +94,8 @@ module _ (bytes row : List ℕ) where
   unfolding settleReading settledRowWithin
   by-refusal number at e = sym (ap (settleReading bytes row) (was-refused reading number at e))
 
-  pub by-stage : (c : Counts) (code : List ℕ) → outcome.Readable c ≡ outcomeOf reading → HoldsStage bytes reading code → (v : Verdict) (row′ : List ℕ) →
+  pub by-stage : (c : Counts) (code : List ℕ) → outcome.Readable c ≡ outcomeOf reading → HoldsStage bytes reading code →
+      (v : Verdict) (row′ : List ℕ) →
       answerWith v row′ ≡ settleUnless (firstFault (rowChecks (stageIn c code) row)) (stageIn c code) row → answerWith v row′ ≡ settledRow bytes row
   unfolding settleReading settledRowWithin
   by-stage c code e h v row′ j =
@@ -105,5 +107,9 @@ module _ (bytes row : List ℕ) where
       (v ≡ settledRow bytes row .verdict) × ((row′ ≡ settledRow bytes row .row) × DemandRow stageLimits bytes row v row′)
   answered v row′ e = (
     ap (λ (a : RowAnswer). a .verdict) e,
-    (ap (λ (a : RowAnswer). a .row) e, subst (λ (a : RowAnswer). DemandRow stageLimits bytes row (a .verdict) (a .row)) (sym e) (demand-row stageLimits bytes row)),
+    (
+      ap (λ (a : RowAnswer). a .row) e,
+      subst (λ (a : RowAnswer). DemandRow stageLimits bytes row (a .verdict) (a .row)) (sym e)
+          (demand-row stageLimits bytes row),
+    ),
   )

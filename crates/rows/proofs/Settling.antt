@@ -10,7 +10,7 @@ use lib.Seq.{take-length, take-all, drop-length, take-append-seam, getD-append-a
 use Rattle.netlist.specs.declared.Counts.{Counts}
 use Rattle.netlist.specs.Reading.{stageLimits, Within}
 use Rattle.verdict.specs.Rows.{settledLevels, settled}
-use Rattle.circuit.specs.Stage.{netCount, gatesIn}
+use Rattle.circuit.specs.Stage.{netCount, stageGates}
 use Rattle.circuit.specs.Rows.{rowSize, RowFor, netsIn, railPart, levelPart, settledIn}
 use Rattle.circuit.proofs.Settling.{levels-by, length-levels}
 
@@ -37,7 +37,16 @@ module _ (c : Counts) (within : Within stageLimits c) (rails row : List ℕ) (bo
 
   pub rails-row : RowFor c row
   rails-row = record {
-    long = omega (arith, ap length whole, length-append rails low, length-drop (length rails) (replicate {A = ℕ} rowSize 0), length-replicate {A = ℕ} rowSize 0, within .inputs-in, within .gates-in);
+    long = omega (
+      arith,
+      ap length whole,
+      length-append rails low,
+      length-drop (length rails)
+          (replicate {A = ℕ} rowSize 0),
+      length-replicate {A = ℕ} rowSize 0,
+      within .inputs-in,
+      within .gates-in,
+    );
     bit = λ p h. bit-at p h (decLt p (2 * c .inputs));
     ground = after (netCount c) (omega arith) (omega arith);
   }
@@ -48,23 +57,27 @@ module _ (c : Counts) (within : Within stageLimits c) (rails row : List ℕ) (bo
 -- ---- the levels that settle
 
 -- the part of a settled row that was copied out is its levels
-pub part-settled : (c : Counts) (code rails row row′ : List ℕ) → RowFor c row′ → length rails ≡ 2 * c .inputs → railPart c row ≡ rails → netsIn c row′ ≡ settledIn c code row →
+pub part-settled : (c : Counts) (code rails row row′ : List ℕ) → RowFor c row′ → length rails ≡ 2 * c .inputs → railPart c row ≡ rails →
+    netsIn c row′ ≡ settledIn c code row →
     (first end : ℕ) → first ≡ 2 * c .inputs → end ≡ first + c .gates → (part part′ : List ℕ) → length part ≡ c .gates →
-    part′ ≡ take (length (take (end - first) (drop first row′))) (take (end - first) (drop first row′)) ++ drop (length (take (end - first) (drop first row′))) part →
-    part′ ≡ settledLevels (gatesIn c code) rails
+    part′ ≡ take (length (take (end - first) (drop first row′))) (take (end - first) (drop first row′)) ++ drop
+    (length (take (end - first) (drop first row′))) part →
+    part′ ≡ settledLevels (stageGates c code) rails
 part-settled c code rails row row′ r both same is first end a b part part′ long e =
     let g : end - first ≡ c .gates = omega arith in
     let levels : take (end - first) (drop first row′) ≡ levelPart c row′ = ap₂ {C = List ℕ} (λ n m. take n (drop m row′)) g a in
     let size : length (take (end - first) (drop first row′)) ≡ length part = ap length levels ∙ length-levels c row′ r ∙ sym long in
     e ∙ ap₂ {C = List ℕ} _++_ (take-length (take (end - first) (drop first row′)) ∙ levels) (ap (λ (n : ℕ). drop n part) size ∙ drop-length part)
     ∙ append-nil (levelPart c row′)
-    ∙ levels-by c row′ r rails (settledLevels (gatesIn c code) rails) both (is ∙ ap (settled (gatesIn c code)) same)
+    ∙ levels-by c row′ r rails (settledLevels (stageGates c code) rails) both (is ∙ ap (settled (stageGates c code)) same)
 
 -- ---- the row that is lent
 
 module _ (c : Counts) (row : List ℕ) (long : length row ≡ 2 * c .inputs + c .gates) where
   pub part-long : length (take (length row - 2 * c .inputs) (drop (2 * c .inputs) row)) ≡ c .gates
-  part-long = ap length (take-all (length row - 2 * c .inputs) (drop (2 * c .inputs) row) (omega (arith, length-drop (2 * c .inputs) row))) ∙ omega (arith, length-drop (2 * c .inputs) row)
+  part-long =
+      ap length (take-all (length row - 2 * c .inputs) (drop (2 * c .inputs) row) (omega (arith, length-drop (2 * c .inputs) row)))
+      ∙ omega (arith, length-drop (2 * c .inputs) row)
 
   pub first-long : length (take (2 * c .inputs) row) ≡ 2 * c .inputs
   first-long = length-take-le (2 * c .inputs) row (omega arith)
@@ -79,8 +92,9 @@ module _ (c : Counts) (row : List ℕ) (long : length row ≡ 2 * c .inputs + c 
   none-left : drop (length row - 2 * c .inputs) (drop (2 * c .inputs) row) ≡ []
   none-left = ap (λ (k : ℕ). drop k (drop (2 * c .inputs) row)) (sym (length-drop (2 * c .inputs) row)) ∙ drop-length (drop (2 * c .inputs) row)
 
-  pub row-settled : (code rails levels : List ℕ) → rails ≡ take (2 * c .inputs) row → levels ≡ settledLevels (gatesIn c code) rails →
-      take (2 * c .inputs) row ++ (levels ++ drop (length row - 2 * c .inputs) (drop (2 * c .inputs) row)) ≡ settled (gatesIn c code) (take (2 * c .inputs) row)
+  pub row-settled : (code rails levels : List ℕ) → rails ≡ take (2 * c .inputs) row → levels ≡ settledLevels (stageGates c code) rails →
+      take (2 * c .inputs) row ++ (levels ++ drop (length row - 2 * c .inputs) (drop (2 * c .inputs) row)) ≡ settled (stageGates c code)
+      (take (2 * c .inputs) row)
   row-settled code rails levels e f =
       ap (λ (l : List ℕ). take (2 * c .inputs) row ++ l)
-      (ap (λ (l : List ℕ). levels ++ l) none-left ∙ append-nil levels ∙ f ∙ ap (settledLevels (gatesIn c code)) e)
+      (ap (λ (l : List ℕ). levels ++ l) none-left ∙ append-nil levels ∙ f ∙ ap (settledLevels (stageGates c code)) e)

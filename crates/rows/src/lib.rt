@@ -12,7 +12,7 @@ ghost use Rattle.verdict.specs.Search.{least};
 ghost use Rattle.verdict.specs.Checks as checks;
 ghost use Rattle.verdict.specs.Verdicts as verdicts;
 ghost use Rattle.verdict.specs.Demands.{DemandRow};
-ghost use Rattle.circuit.specs.Stage.{gatesIn, stageIn, StageLoaded};
+ghost use Rattle.circuit.specs.Stage.{stageGates, stageIn, StageLoaded};
 ghost use Rattle.circuit.specs.Order.{InOrder};
 
 // ---- 17
@@ -52,8 +52,9 @@ fn illegal_input(row: &[u8], inputs: usize) -> Found
 
 // The lent part of a row, from the first gate's byte on, becomes the levels that settle for the rails. They settle in a row of its own.
 fn settle_part(code: &[u16], counts: Counts, rails: &[u8], part: &mut [u8])
-    requires { ⌜ StageLoaded counts (now code) × InOrder counts (now code) × (length (now rails) ≡ 2 * counts .inputs) × ((p : ℕ) → getD (now rails) p 0 ≤ 1) × (length (now part) ≡ counts .gates) ⌝ }
-    ensures { λ r. ⌜ now (part .exit) ≡ rows.settledLevels (gatesIn counts (now (code .entry))) (now (rails .entry)) ⌝ }
+    requires { ⌜ StageLoaded counts (now code) × InOrder counts (now code) × (length (now rails) ≡ 2 * counts .inputs)
+        × ((p : ℕ) → getD (now rails) p 0 ≤ 1) × (length (now part) ≡ counts .gates) ⌝ }
+    ensures { λ r. ⌜ now (part .exit) ≡ rows.settledLevels (stageGates counts (now (code .entry))) (now (rails .entry)) ⌝ }
 {
     let mut row = [0u8; circuit::ROW];
     bytes::copy(rails, &mut row);
@@ -65,8 +66,9 @@ fn settle_part(code: &[u16], counts: Counts, rails: &[u8], part: &mut [u8])
 
 // The gates of a row settle for its rails, which stay: only the part after them is lent.
 fn settle_row(code: &[u16], counts: Counts, row: &mut [u8])
-    requires { ⌜ StageLoaded counts (now code) × InOrder counts (now code) × (length (now row) ≡ 2 * counts .inputs + counts .gates) × ((p : ℕ) → p < 2 * counts .inputs → getD (now row) p 0 ≤ 1) ⌝ }
-    ensures { λ r. ⌜ now (row .exit) ≡ rows.settled (gatesIn counts (now (code .entry))) (take (2 * counts .inputs) (now (row .entry))) ⌝ }
+    requires { ⌜ StageLoaded counts (now code) × InOrder counts (now code) × (length (now row) ≡ 2 * counts .inputs + counts .gates)
+        × ((p : ℕ) → p < 2 * counts .inputs → getD (now row) p 0 ≤ 1) ⌝ }
+    ensures { λ r. ⌜ now (row .exit) ≡ rows.settled (stageGates counts (now (code .entry))) (take (2 * counts .inputs) (now (row .entry))) ⌝ }
 {
     let first = 2 * counts.inputs;
     let mut rails = [0u8; 2 * netlist::INPUTS];
@@ -79,7 +81,8 @@ fn settle_row(code: &[u16], counts: Counts, row: &mut [u8])
 // A stage that was loaded: 12, which puts its gates in order, then 16, then 17, else the row settles.
 fn settle_stage(code: &mut [u16], counts: Counts, row: &mut [u8]) -> Verdict
     requires { ⌜ StageLoaded counts (now code) ⌝ }
-    ensures { λ r. ⌜ verdicts.answerWith r (now (row .exit)) ≡ verdicts.settleUnless (checks.firstFault (checks.rowChecks (stageIn counts (now (code .entry))) (now (row .entry)))) (stageIn counts (now (code .entry))) (now (row .entry)) ⌝ }
+    ensures { λ r. ⌜ verdicts.answerWith r (now (row .exit)) ≡ verdicts.settleUnless (checks.firstFault (checks.rowChecks
+        (stageIn counts (now (code .entry))) (now (row .entry)))) (stageIn counts (now (code .entry))) (now (row .entry)) ⌝ }
 {
     if let Found::At(g) = loops::order_gates(code, counts) {
         return Verdict {

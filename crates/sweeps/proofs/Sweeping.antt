@@ -19,7 +19,7 @@ use Rattle.verdict.specs.Words.{numbers, caredFor, words}
 use Rattle.verdict.specs.Graph.{tabulate}
 use Rattle.verdict.proofs.Graph.{length-tabulate, getD-tabulate}
 use Rattle.netlist.specs.declared.Counts.{Counts}
-use Rattle.circuit.specs.Stage.{careIn, stageIn}
+use Rattle.circuit.specs.Stage.{stageCare, stageIn}
 use Rattle.verdict.specs.Checks.{verdict, first, atFault, sweep, finding, orLater, firstFault, sweeps}
 use Rattle.words.specs.declared.Sweep.{Sweep}
 use Rattle.words.specs.declared.Sweep.the-variants.{Wrong, Missing, Unobserved}
@@ -48,13 +48,13 @@ module _ (c : Counts) (code : List ℕ) where
   abbrev stage : Stage
   stage = stageIn c code
 
-  care-length : length (careIn c code) ≡ c .care
-  unfolding careIn
+  care-length : length (stageCare c code) ≡ c .care
+  unfolding stageCare
   care-length = length-tabulate (λ i. getD code (8 * c .gates + 2 * c .outputs + i) 0) (c .care)
 
   -- without a care list
   all-words : c .care ≡ 0 → words stage ≡ numbers 0 (2 ^ c .inputs)
-  unfolding words caredFor careIn tabulate
+  unfolding words caredFor stageCare tabulate
   all-words e = rw e
 
   pub all-count : c .care ≡ 0 → 2 ^ c .inputs ≡ wordCount stage
@@ -65,15 +65,15 @@ module _ (c : Counts) (code : List ℕ) where
 
   -- with one
   module _ (some : c .care ≡ 0 → ⊥) where
-    care-words : words stage ≡ careIn c code
+    care-words : words stage ≡ stageCare c code
     unfolding words
-    care-words = listed (c .inputs) (careIn c code) (λ z. some (sym care-length ∙ z))
+    care-words = listed (c .inputs) (stageCare c code) (λ z. some (sym care-length ∙ z))
 
     pub care-count : c .care ≡ wordCount stage
     care-count = sym (ap length care-words ∙ care-length)
 
     pub care-at : (k : ℕ) → k < c .care → getD code (8 * c .gates + 2 * c .outputs + k) 0 ≡ getD (words stage) k 0
-    unfolding careIn
+    unfolding stageCare
     care-at k h = sym (rw care-words (getD-tabulate (λ i. getD code (8 * c .gates + 2 * c .outputs + i) 0) (c .care) k 0 h))
 
 -- within the limits all words can be counted
@@ -140,4 +140,5 @@ module _ (s : Stage) (r : Reference) where
 
     pub first-unobserved : Passed ≡ swept Missing s r → (f : Finding) → f ≡ swept Unobserved s r → f ≡ firstFault (sweeps s r)
     unfolding orLater
-    first-unobserved q f u = u ∙ sym (last (swept Unobserved s r)) ∙ sym (then ∙ ap (λ (g : Finding). orLater g (orLater (swept Unobserved s r) Passed)) (sym q))
+    first-unobserved q f u =
+        u ∙ sym (last (swept Unobserved s r)) ∙ sym (then ∙ ap (λ (g : Finding). orLater g (orLater (swept Unobserved s r) Passed)) (sym q))

@@ -13,11 +13,11 @@ ghost use Rattle.verdict.specs.Words.{words};
 ghost use Rattle.verdict.specs.Checks as checks;
 ghost use Rattle.circuit.specs.Stage.{stageIn, StageLoaded};
 ghost use Rattle.circuit.specs.Reference.{referenceIn};
-ghost use Rattle.words.specs.Loaded.{Comparable};
+ghost use Rattle.words.specs.Loaded.{BothLoaded};
 ghost use Rattle.sweeps.specs.Sweeps.{wordCount, numberOf, swept};
 
 // How many words a stage has: its care words, or all that its inputs have.
-fn word_count(counts: Counts) -> usize
+pub fn word_count(counts: Counts) -> usize
     requires { ⌜ counts .inputs ≤ stageLimits .inputs ⌝ }
     ensures { λ r. ⌜ ((code : List ℕ) → r ≡ wordCount (stageIn counts code)) ⌝ }
 {
@@ -28,7 +28,7 @@ fn word_count(counts: Counts) -> usize
 }
 
 // Word k of a stage.
-fn word_at(code: &[u16], counts: Counts, k: usize) -> usize
+pub fn word_at(code: &[u16], counts: Counts, k: usize) -> usize
     requires { ⌜ StageLoaded counts (now code) × (k < wordCount (stageIn counts (now code))) ⌝ }
     ensures { λ r. ⌜ r ≡ getD (words (stageIn counts (now (code .entry)))) k 0 ⌝ }
 {
@@ -58,7 +58,7 @@ fn sweep_words(
     reference: &[u16],
     sizes: Counts,
 ) -> Finding
-    requires { ⌜ Comparable counts (now code) sizes (now reference) ⌝ }
+    requires { ⌜ BothLoaded counts (now code) sizes (now reference) ⌝ }
     ensures { λ r. ⌜ r ≡ swept which (stageIn counts (now (code .entry))) (referenceIn sizes (now (reference .entry))) ⌝ }
 {
     let number = number_of(which);
@@ -81,7 +81,7 @@ fn sweep_words(
 
 // 13, then 14, then 15.
 pub fn sweep_all(code: &[u16], counts: Counts, reference: &[u16], sizes: Counts) -> Finding
-    requires { ⌜ Comparable counts (now code) sizes (now reference) ⌝ }
+    requires { ⌜ BothLoaded counts (now code) sizes (now reference) ⌝ }
     ensures { λ r. ⌜ r ≡ checks.firstFault (checks.sweeps (stageIn counts (now (code .entry))) (referenceIn sizes (now (reference .entry)))) ⌝ }
 {
     if let Finding::Fault(v) = sweep_words(Sweep::Wrong, code, counts, reference, sizes) {

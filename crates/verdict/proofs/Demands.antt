@@ -223,6 +223,22 @@ module _ (stageMost referenceMost : Limits) (stage reference : List ℕ) where
           refused-in-reading _ (refused-number file.Reference referenceMost reference number at e)
       go (both-read {v = v} c j) = record { kept = λ e. kept c v e j; broken = λ h. broken c v (runs-from (v .number) h) j }
 
+  -- an accepted pair was read, and can be compared
+  pub accepted-contents : given .number ≡ 0 → (c : Contents stageMost referenceMost stage reference) × Comparable (c .circuit) (c .function)
+  accepted-contents e = go given (verdict-because stageMost referenceMost stage reference) e
+    where
+      judged-so : (c : Contents stageMost referenceMost stage reference) (v : Verdict) → v .number ≡ 0 → Judged (checks (c .circuit) (c .function)) v
+          → (c : Contents stageMost referenceMost stage reference) × Comparable (c .circuit) (c .function)
+      judged-so c v e (inl n) = absurd (omega (arith, checks-from (c .circuit) (c .function) v n))
+      judged-so c v e (inr a) = (c, found-nothing (c .circuit) (c .function) (a .0) .0)
+
+      go : (v : Verdict) → Because stageMost referenceMost stage reference v → v .number ≡ 0
+          → (c : Contents stageMost referenceMost stage reference) × Comparable (c .circuit) (c .function)
+      go v (demands.Because.stage-refused {number = number} {at = at} q) e = absurd (let n = refused-number file.Stage stageMost stage number at q in omega arith)
+      go v (demands.Because.reference-refused {number = number} {at = at} is q) e =
+          absurd (let n = refused-number file.Reference referenceMost reference number at q in omega arith)
+      go v (both-read c j) e = judged-so c v e j
+
 -- ---- the settled-row call
 
 -- the row that settling leaves

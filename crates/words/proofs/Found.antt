@@ -9,10 +9,10 @@ use Rattle.netlist.specs.declared.Found.{Found}
 use Rattle.netlist.specs.Content.{Stage, Reference}
 use Rattle.verdict.specs.Checks.{wrong, incomplete, unobservable}
 use Rattle.verdict.specs.Search.{least}
-use Rattle.circuit.specs.Stage.{outputIn, outputsIn, stageIn}
+use Rattle.circuit.specs.Stage.{outputIn, stageOutputs, stageIn}
 use Rattle.circuit.specs.Reference.{referenceIn}
 use Rattle.circuit.proofs.Tabulate.{length-tabulate}
-use Rattle.circuit.proofs.Settling.{length-gatesIn}
+use Rattle.circuit.proofs.Settling.{length-stageGates}
 use Rattle.words.specs.declared.Sweep.{Sweep}
 use Rattle.words.specs.declared.Sweep.the-variants.{Wrong, Missing, Unobserved}
 use Rattle.words.specs.Finds.{finds}
@@ -22,11 +22,11 @@ module _ (c : Counts) (code : List ℕ) (r : Reference) (w : ℕ) (found : Found
   s = stageIn c code
 
   pub found-wrong : found ≡ least (wrong s r w) 0 (c .outputs) → which ≡ Wrong → found ≡ finds which s r w
-  unfolding outputsIn
+  unfolding stageOutputs
   found-wrong e k = e ∙ ap (least (wrong s r w) 0) (sym (length-tabulate (outputIn c code) (c .outputs))) ∙ ap (λ (x : Sweep). finds x s r w) (sym k)
 
   pub found-missing : found ≡ least (incomplete s w) 0 (c .inputs) → which ≡ Missing → found ≡ finds which s r w
   found-missing e k = e ∙ ap (λ (x : Sweep). finds x s r w) (sym k)
 
   pub found-unobserved : found ≡ least (unobservable s w) 0 (c .gates) → which ≡ Unobserved → found ≡ finds which s r w
-  found-unobserved e k = e ∙ ap (least (unobservable s w) 0) (sym (length-gatesIn c code)) ∙ ap (λ (x : Sweep). finds x s r w) (sym k)
+  found-unobserved e k = e ∙ ap (least (unobservable s w) 0) (sym (length-stageGates c code)) ∙ ap (λ (x : Sweep). finds x s r w) (sym k)

@@ -14,21 +14,22 @@ use Rattle.verdict.specs.Words.{bitsOf, railsOf, railsIn}
 use Rattle.verdict.specs.Rows.{high, settledLevels, settled, settledHolding, allData}
 use Rattle.verdict.specs.Checks.{unobservable}
 use Rattle.verdict.proofs.Words.{bits-of-length, rails-length}
-use Rattle.circuit.specs.Stage.{netCount, placeOf, gatesIn, outputsIn, stageIn}
+use Rattle.circuit.specs.Stage.{netCount, placeOf, stageGates, stageOutputs, stageIn}
 use Rattle.circuit.specs.Order.{orderIn, InOrder}
 use Rattle.circuit.specs.Rows.{RowFor, netsIn, railPart, levelPart, SettledTo, SettledBefore, settledIn, settledHoldingIn}
-use Rattle.circuit.proofs.Settling.{holding-none, settled-before, length-gatesIn, length-rails, levels-by, order-at}
+use Rattle.circuit.proofs.Settling.{holding-none, settled-before, length-stageGates, length-rails, levels-by, order-at}
 use Rattle.words.specs.Finds.{unobserved}
 
-module _ (c : Counts) (code row : List ℕ) (ordered : InOrder c code) (r : RowFor c row) (is : netsIn c row ≡ settledIn c code row) (g : ℕ) (hg : g < c .gates) where
+module _ (c : Counts) (code row : List ℕ) (ordered : InOrder c code) (r : RowFor c row) (is : netsIn c row ≡ settledIn c code row) (g : ℕ)
+    (hg : g < c .gates) where
   abbrev gates : List Gate
-  gates = gatesIn c code
+  gates = stageGates c code
 
   abbrev R : List ℕ
   R = railPart c row
 
   size : length gates ≡ c .gates
-  size = length-gatesIn c code
+  size = length-stageGates c code
 
   level-same : getD row (2 * c .inputs + g) 0 ≡ getD (settled gates R) (length R + g) 0
   level-same =
@@ -41,7 +42,8 @@ module _ (c : Counts) (code row : List ℕ) (ordered : InOrder c code) (r : RowF
   unfolding unobserved
   unobserved-low z pairs = rw (le-ltb 0 (getD (settled gates R) (length R + g) 0) (omega (arith, level-same)), unobserved)
 
-  pub unobserved-high : (getD row (2 * c .inputs + g) 0 ≡ 0 → ⊥) → (pairs : List Pair) (held : List ℕ) (b : Bool) → railPart c held ≡ R → (nets : List ℕ) →
+  pub unobserved-high : (getD row (2 * c .inputs + g) 0 ≡ 0 → ⊥) → (pairs : List Pair) (held : List ℕ) (b : Bool) → railPart c held ≡ R →
+      (nets : List ℕ) →
       nets ≡ settledHoldingIn g c code held → b ≡ allData nets pairs → b ≡ unobserved gates pairs R g
   unfolding unobserved
   unobserved-high d pairs held b same nets e f =
@@ -57,40 +59,51 @@ module _ (c : Counts) (code row : List ℕ) (ordered : InOrder c code) (r : RowF
   hold-before =
       let at = ordered .place-in g hg in
       subst (SettledBefore (placeOf code g) g gates (orderIn c code) R) (holding-none gates R ∙ sym levels-settled)
-      (settled-before (c .inputs) g gates (orderIn c code) R (ordered .ordered) (length-rails c row r) (length gates) (placeOf code g) (omega (arith, size))
+      (settled-before (c .inputs) g gates (orderIn c code) R (ordered .ordered) (length-rails c row r) (length gates) (placeOf code g)
+      (omega (arith, size))
       (λ i h e.
-      omega (arith, ordered .ordered .once i (placeOf code g) (omega (arith, size)) (omega (arith, size)) (e ∙ sym (order-at c code (placeOf code g) at ∙ ordered .stands-there g hg))))
+      omega (
+        arith,
+        ordered .ordered .once i (placeOf code g) (omega (arith, size)) (omega (arith, size))
+            (e ∙ sym (order-at c code (placeOf code g) at ∙ ordered .stands-there g hg)),
+      ))
       (λ i h e. omega (arith, ordered .ordered .gate i (omega (arith, size)))))
 
 -- a copy of a settled row is settled
 module _ (c : Counts) (code row : List ℕ) (is : netsIn c row ≡ settledIn c code row) (held : List ℕ) (same : netsIn c held ≡ netsIn c row) where
   pub rails-same : railPart c held ≡ railPart c row
-  rails-same = sym (take-take (2 * c .inputs) (netCount c) held (omega arith)) ∙ ap (take (2 * c .inputs)) same ∙ take-take (2 * c .inputs) (netCount c) row (omega arith)
+  rails-same =
+      sym (take-take (2 * c .inputs) (netCount c) held (omega arith)) ∙ ap (take (2 * c .inputs)) same
+      ∙ take-take (2 * c .inputs) (netCount c) row (omega arith)
 
   pub settled-same : netsIn c held ≡ settledIn c code held
-  settled-same = same ∙ is ∙ ap (settled (gatesIn c code)) (sym rails-same)
+  settled-same = same ∙ is ∙ ap (settled (stageGates c code)) (sym rails-same)
 
 -- ---- the row of word w
 
 word-length : (n w : ℕ) → length (railsOf (bitsOf n w)) ≡ 2 * n
 word-length n w = rails-length (bitsOf n w) ∙ ap (λ (k : ℕ). 2 * k) (bits-of-length n w)
 
-module _ (c : Counts) (code row : List ℕ) (w : ℕ) (is : netsIn c row ≡ settled (gatesIn c code) (railsIn (stageIn c code) w)) where
+module _ (c : Counts) (code row : List ℕ) (w : ℕ) (is : netsIn c row ≡ settled (stageGates c code) (railsIn (stageIn c code) w)) where
   pub word-rails : railPart c row ≡ railsIn (stageIn c code) w
   word-rails =
       let rails = railsIn (stageIn c code) w in
       sym (take-take (2 * c .inputs) (netCount c) row (omega arith))
       ∙ ap (take (2 * c .inputs)) is
-      ∙ ap (λ (n : ℕ). take n (settled (gatesIn c code) rails)) (sym (word-length (c .inputs) w))
-      ∙ take-append-seam rails (settledLevels (gatesIn c code) rails)
+      ∙ ap (λ (n : ℕ). take n (settled (stageGates c code) rails)) (sym (word-length (c .inputs) w))
+      ∙ take-append-seam rails (settledLevels (stageGates c code) rails)
 
   pub settled-word : netsIn c row ≡ settledIn c code row
-  settled-word = is ∙ ap (settled (gatesIn c code)) (sym word-rails)
+  settled-word = is ∙ ap (settled (stageGates c code)) (sym word-rails)
 
-  pub unobserved-word : (g : ℕ) → unobserved (gatesIn c code) (outputsIn c code) (railPart c row) g ≡ unobservable (stageIn c code) w g
+  pub levels-word : RowFor c row → levelPart c row ≡ settledLevels (stageGates c code) (railsIn (stageIn c code) w)
+  levels-word r = levels-by c row r (railsIn (stageIn c code) w) (settledLevels (stageGates c code) (railsIn (stageIn c code) w)) (word-length (c .inputs) w) is
+
+  pub unobserved-word : (g : ℕ) → unobserved (stageGates c code) (stageOutputs c code) (railPart c row) g ≡ unobservable (stageIn c code) w g
   unfolding unobserved unobservable
   unobserved-word g =
       let s = stageIn c code in
       ap (λ (l : List ℕ). unobserved (s .gates) (s .outputs) l g) word-rails
-      ∙ ap (λ (n : ℕ). elim (high (settled (s .gates) (railsIn s w)) (n + g)) as (λ b. Bool) [ true ↦ allData (settledHolding g (s .gates) (railsIn s w)) (s .outputs) | false ↦ false ])
+      ∙ ap (λ (n : ℕ). elim (high (settled (s .gates) (railsIn s w)) (n + g)) as
+      (λ b. Bool) [ true ↦ allData (settledHolding g (s .gates) (railsIn s w)) (s .outputs) | false ↦ false ])
       (word-length (c .inputs) w)

@@ -13,7 +13,7 @@ use Rattle.netlist.specs.declared.Counts.{Counts}
 use Rattle.verdict.specs.Words.{bitsOf, railsOf}
 use Rattle.verdict.specs.Rows.{withNull, settled, allData}
 use Rattle.verdict.specs.Checks.{incomplete}
-use Rattle.circuit.specs.Stage.{gatesIn, outputsIn, stageIn}
+use Rattle.circuit.specs.Stage.{stageGates, stageOutputs, stageIn}
 use Rattle.circuit.specs.Rows.{RowFor, railPart, settledIn}
 use Rattle.circuit.proofs.Settling.{length-rails, row-set}
 
@@ -27,18 +27,21 @@ null-none (a ∷ b ∷ rails) = ap (λ (l : List ℕ). a ∷ b ∷ l) (null-none
 -- an input after the first is missing
 null-later : (i a b : ℕ) (rails : List ℕ) → withNull (only (suc i)) (a ∷ b ∷ rails) ≡ a ∷ b ∷ withNull (only i) rails
 unfolding withNull
-null-later i a b rails = ap₂ (λ (t : Bool) (m : ℕ → Bool). cond t (0 ∷ 0 ∷ withNull m rails) (a ∷ b ∷ withNull m rails)) (eqb·zero-suc i) (fun-ext (λ k. eqb·suc-suc k i))
+null-later i a b rails =
+    ap₂ (λ (t : Bool) (m : ℕ → Bool). cond t (0 ∷ 0 ∷ withNull m rails) (a ∷ b ∷ withNull m rails)) (eqb·zero-suc i) (fun-ext (λ k. eqb·suc-suc k i))
 
 -- rail 0 of input i stands at 2 i
 pub null-input : (rails : List ℕ) (i : ℕ) → 2 * i + 1 < length rails → set (set rails (2 * i) 0) (2 * i + 1) 0 ≡ withNull (only i) rails
 unfolding withNull
 null-input [] i h = absurd (omega arith)
 null-input (a ∷ []) i h = absurd (omega arith)
-null-input (a ∷ b ∷ rails) zero h = sym (ap (λ (m : ℕ → Bool). 0 ∷ 0 ∷ withNull m rails) (fun-ext (λ k. eqb·suc-zero k)) ∙ ap (λ (l : List ℕ). 0 ∷ 0 ∷ l) (null-none rails))
+null-input (a ∷ b ∷ rails) zero h =
+    sym (ap (λ (m : ℕ → Bool). 0 ∷ 0 ∷ withNull m rails) (fun-ext (λ k. eqb·suc-zero k)) ∙ ap (λ (l : List ℕ). 0 ∷ 0 ∷ l) (null-none rails))
 null-input (a ∷ b ∷ rails) (suc i) h =
     let e : 2 * suc i ≡ suc (suc (2 * i)) = omega arith in
     let f : 2 * suc i + 1 ≡ suc (suc (2 * i + 1)) = omega arith in
-    ap₂ (λ (x y : ℕ). set (set (a ∷ b ∷ rails) x 0) y 0) e f ∙ ap (λ (l : List ℕ). a ∷ b ∷ l) (null-input rails i (omega arith)) ∙ sym (null-later i a b rails)
+    ap₂ (λ (x y : ℕ). set (set (a ∷ b ∷ rails) x 0) y 0) e f ∙ ap (λ (l : List ℕ). a ∷ b ∷ l) (null-input rails i (omega arith))
+    ∙ sym (null-later i a b rails)
 
 -- ---- 14
 
@@ -52,9 +55,10 @@ module _ (c : Counts) (row : List ℕ) (r : RowFor c row) (i : ℕ) (h : i < c .
       ∙ ap (λ (l : List ℕ). set l (2 * i + 1) 0) (take-set-lt (2 * c .inputs) row (2 * i) 0 (omega arith))
       ∙ null-input (railPart c row) i (omega (arith, length-rails c row r))
 
-  pub null-word : (code : List ℕ) (w : ℕ) → railPart c row ≡ railsOf (bitsOf (c .inputs) w) → (nets : List ℕ) → nets ≡ settledIn c code (set (set row (2 * i) 0) (2 * i + 1) 0) →
-      (b : Bool) → b ≡ allData nets (outputsIn c code) → b ≡ incomplete (stageIn c code) w i
+  pub null-word : (code : List ℕ) (w : ℕ) → railPart c row ≡ railsOf (bitsOf (c .inputs) w) → (nets : List ℕ) →
+      nets ≡ settledIn c code (set (set row (2 * i) 0) (2 * i + 1) 0) →
+      (b : Bool) → b ≡ allData nets (stageOutputs c code) → b ≡ incomplete (stageIn c code) w i
   unfolding incomplete
   null-word code w spelt nets is b e =
-      e ∙ ap (λ (l : List ℕ). allData l (outputsIn c code)) is
-      ∙ ap (λ (l : List ℕ). allData (settled (gatesIn c code) l) (outputsIn c code)) (null-rails ∙ ap (withNull (only i)) spelt)
+      e ∙ ap (λ (l : List ℕ). allData l (stageOutputs c code)) is
+      ∙ ap (λ (l : List ℕ). allData (settled (stageGates c code) l) (stageOutputs c code)) (null-rails ∙ ap (withNull (only i)) spelt)

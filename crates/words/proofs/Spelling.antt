@@ -39,7 +39,8 @@ module _ (w long : ℕ) (bits : List ℕ) (rest i : ℕ) (b : BitsTo w long bits
         within = omega arith;
         same-long = length-set bits i (rest % 2) ∙ b .same-long;
         all =
-            ap (λ (l : List ℕ). l ++ bitsOf (long - (i + 1)) (rest / 2)) (ap (λ (n : ℕ). take n (set bits i (rest % 2))) (add-one i) ∙ take-suc-set bits i (rest % 2) (omega (arith, b .same-long)))
+            ap (λ (l : List ℕ). l ++ bitsOf (long - (i + 1)) (rest / 2))
+            (ap (λ (n : ℕ). take n (set bits i (rest % 2))) (add-one i) ∙ take-suc-set bits i (rest % 2) (omega (arith, b .same-long)))
             ∙ append-assoc (take i bits) (rest % 2 ∷ []) (bitsOf (long - (i + 1)) (rest / 2))
             ∙ sym (ap (λ (n : ℕ). take i bits ++ bitsOf n rest) e)
             ∙ b .all;
@@ -64,7 +65,8 @@ pub record SpeltTo (c : Counts) (w : ℕ) (start row : List ℕ) (rest i : ℕ) 
 pub spelt-start : (c : Counts) (w : ℕ) (row : List ℕ) → RowFor c row → SpeltTo c w row row w 0
 spelt-start c w row r = record { row-for = r; same-long = refl; within = omega arith; all = ap (λ (n : ℕ). railsOf (bitsOf n w)) (omega arith) }
 
-take-two : (row : List ℕ) (i x y : ℕ) → 2 * i + 1 < length row → take (2 * (i + 1)) (set (set row (2 * i) x) (2 * i + 1) y) ≡ take (2 * i) row ++ (x ∷ y ∷ [])
+take-two : (row : List ℕ) (i x y : ℕ) → 2 * i + 1 < length row →
+    take (2 * (i + 1)) (set (set row (2 * i) x) (2 * i + 1) y) ≡ take (2 * i) row ++ (x ∷ y ∷ [])
 take-two row i x y h =
     let e : 2 * (i + 1) ≡ suc (2 * i + 1) = omega arith in
     ap (λ (n : ℕ). take n (set (set row (2 * i) x) (2 * i + 1) y)) e
@@ -79,7 +81,8 @@ module _ (c : Counts) (w : ℕ) (start row : List ℕ) (rest i : ℕ) (s : Spelt
       let b = rest % 2 in
       let e : c .inputs - i ≡ suc (c .inputs - (i + 1)) = omega arith in
       record {
-        row-for = row-set c (set row (2 * i) (1 - b)) (row-set c row (s .row-for) (2 * i) (1 - b) (omega arith) (omega arith)) (2 * i + 1) b (omega arith) (omega arith);
+        row-for = row-set c (set row (2 * i) (1 - b)) (row-set c row (s .row-for) (2 * i) (1 - b) (omega arith) (omega arith)) (2 * i + 1) b
+            (omega arith) (omega arith);
         same-long = simp length-set (s .same-long);
         within = omega arith;
         all =

@@ -7,7 +7,7 @@ use Rattle.circuit.specs.Order.{InOrder}
 use Rattle.circuit.specs.Reference.{ReferenceLoaded}
 
 -- both are loaded, the stage's gates are in order, and the reference has an output for each of the stage's
-pub record Comparable (c : Counts) (code : List ℕ) (sizes : Counts) (reference : List ℕ) : Type 0 where
+pub record BothLoaded (c : Counts) (code : List ℕ) (sizes : Counts) (reference : List ℕ) : Type 0 where
   pub stage : StageLoaded c code
   pub ordered : InOrder c code
   pub answers : ReferenceLoaded sizes reference

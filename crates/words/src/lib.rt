@@ -9,12 +9,12 @@ ghost use Rattle.verdict.specs.Words.{bitsOf, railsOf, railsIn};
 ghost use Rattle.verdict.specs.Rows.{settled};
 ghost use Rattle.verdict.specs.Checks as checks;
 ghost use Rattle.verdict.specs.Search.{least};
-ghost use Rattle.circuit.specs.Stage.{gatesIn, outputsIn, stageIn, StageLoaded};
+ghost use Rattle.circuit.specs.Stage.{stageGates, stageOutputs, stageIn, StageLoaded};
 ghost use Rattle.circuit.specs.Order.{InOrder};
 ghost use Rattle.circuit.specs.Rows.{RowFor, netsIn, railPart, settledIn};
 ghost use Rattle.circuit.specs.Reference.{referenceIn};
 ghost use Rattle.words.specs.Finds.{finds, unobserved};
-ghost use Rattle.words.specs.Loaded.{Comparable};
+ghost use Rattle.words.specs.Loaded.{BothLoaded};
 
 // The checks that go over all words: 13, 14 and 15.
 pub enum Sweep {
@@ -59,9 +59,10 @@ fn spell_word(counts: Counts, w: usize, row: &mut [u8])
 }
 
 // The stage settles in word w.
-fn settle_word(code: &[u16], counts: Counts, w: usize, row: &mut [u8])
+pub fn settle_word(code: &[u16], counts: Counts, w: usize, row: &mut [u8])
     requires { ⌜ StageLoaded counts (now code) × InOrder counts (now code) × RowFor counts (now row) ⌝ }
-    ensures settled { λ r. ⌜ netsIn counts (now (row .exit)) ≡ settled (gatesIn counts (now (code .entry))) (railsIn (stageIn counts (now (code .entry))) w) ⌝ }
+    ensures settled { λ r. ⌜ netsIn counts (now (row .exit)) ≡ settled (stageGates counts (now (code .entry))) (railsIn (stageIn counts
+        (now (code .entry))) w) ⌝ }
     ensures row { λ r. ⌜ RowFor counts (now (row .exit)) ⌝ }
 {
     spell_word(counts, w, row);
@@ -72,8 +73,9 @@ fn settle_word(code: &[u16], counts: Counts, w: usize, row: &mut [u8])
 
 // The least output that is not the reference's DATA in word w.
 fn wrong_output(code: &[u16], counts: Counts, reference: &[u16], sizes: Counts, w: usize) -> Found
-    requires { ⌜ Comparable counts (now code) sizes (now reference) ⌝ }
-    ensures { λ r. ⌜ r ≡ least (checks.wrong (stageIn counts (now (code .entry))) (referenceIn sizes (now (reference .entry))) w) 0 (counts .outputs) ⌝ }
+    requires { ⌜ BothLoaded counts (now code) sizes (now reference) ⌝ }
+    ensures { λ r. ⌜ r ≡ least (checks.wrong (stageIn counts (now (code .entry))) (referenceIn sizes (now (reference .entry))) w) 0
+        (counts .outputs) ⌝ }
 {
     let mut row = [0u8; circuit::ROW];
     settle_word(code, counts, w, &mut row);
@@ -119,8 +121,10 @@ fn missing_input(code: &[u16], counts: Counts, w: usize) -> Found
 // Whether gate g is high in a settled row and all outputs are still DATA once the stage has settled with it held low. Only the gates from its
 // place on are evaluated anew: those before it keep their levels.
 fn unobserved_at(code: &[u16], counts: Counts, row: &[u8], g: usize) -> bool
-    requires { ⌜ StageLoaded counts (now code) × InOrder counts (now code) × RowFor counts (now row) × (netsIn counts (now row) ≡ settledIn counts (now code) (now row)) × (g < counts .gates) ⌝ }
-    ensures { λ r. ⌜ r ≡ unobserved (gatesIn counts (now (code .entry))) (outputsIn counts (now (code .entry))) (railPart counts (now (row .entry))) g ⌝ }
+    requires { ⌜ StageLoaded counts (now code) × InOrder counts (now code) × RowFor counts (now row)
+        × (netsIn counts (now row) ≡ settledIn counts (now code) (now row)) × (g < counts .gates) ⌝ }
+    ensures { λ r. ⌜ r ≡ unobserved (stageGates counts (now (code .entry))) (stageOutputs counts (now (code .entry))) (railPart counts (now
+        (row .entry))) g ⌝ }
 {
     let first = 2 * counts.inputs;
     if row[first + g] == 0 {
@@ -163,7 +167,7 @@ pub fn find(
     sizes: Counts,
     w: usize,
 ) -> Found
-    requires { ⌜ Comparable counts (now code) sizes (now reference) ⌝ }
+    requires { ⌜ BothLoaded counts (now code) sizes (now reference) ⌝ }
     ensures { λ r. ⌜ r ≡ finds which (stageIn counts (now (code .entry))) (referenceIn sizes (now (reference .entry))) w ⌝ }
 {
     match which {

@@ -1,15 +1,17 @@
-//! compare PROGRAM [COUNT [SEED]]: runs a program on generated pairs of files, each as
-//! `stage.ncl` and `reference.ncl` in a folder of its own, and compares what it prints
-//! with the judge. Prints how many pairs had each number, or the first difference.
+//! compare [--report] PROGRAM [COUNT [SEED]]: runs a program on generated pairs of files, each as
+//! `stage.ncl` and `reference.ncl` in a folder of its own, and compares what it prints with the
+//! judge's verdict, or with `--report` with its report. Prints how many pairs had each number, or
+//! the first difference.
 
-use fovaheju_tests::compare::compare_program;
+use fovaheju_tests::compare::{compare_program, expected_report, expected_verdict, Expected};
 use std::path::PathBuf;
 use std::process::ExitCode;
 
 fn main() -> std::io::Result<ExitCode> {
-    let mut arguments = std::env::args().skip(1);
+    let mut arguments = std::env::args().skip(1).peekable();
+    let report = arguments.next_if(|word| word == "--report").is_some();
     let Some(program) = arguments.next().map(PathBuf::from) else {
-        eprintln!("usage: compare PROGRAM [COUNT [SEED]]");
+        eprintln!("usage: compare [--report] PROGRAM [COUNT [SEED]]");
         return Ok(ExitCode::from(2));
     };
     let mut number = |otherwise: u64| {
@@ -18,9 +20,14 @@ fn main() -> std::io::Result<ExitCode> {
             .map_or(otherwise, |text| text.parse().expect("a number"))
     };
     let (count, seed) = (number(1000), number(20_261_115));
+    let expected: Expected = if report {
+        expected_report
+    } else {
+        expected_verdict
+    };
     let folder = std::env::temp_dir().join(format!("fovaheju-compare-{}", std::process::id()));
     std::fs::create_dir_all(&folder)?;
-    let result = compare_program(&program.canonicalize()?, &folder, seed, count);
+    let result = compare_program(&program.canonicalize()?, expected, &folder, seed, count);
     std::fs::remove_dir_all(&folder)?;
     Ok(match result? {
         Ok(histogram) => {

@@ -1,10 +1,10 @@
-//! compare_library [SEED [COUNT]]: compares both calls of the proved library with the judge,
+//! compare_library [SEED [COUNT]]: compares all calls of the proved library with the judge,
 //! on the stored examples and on as many generated pairs and rows. Prints how many had each
 //! number, or the first difference. Fails too if some number never came or too few were accepted.
 
 use fovaheju_tests::compare::{
-    compare_checks, compare_pair, compare_rows, lack, Difference, Histogram, CHECK_NUMBERS,
-    ROW_NUMBERS,
+    compare_checks, compare_pair, compare_report, compare_reports, compare_rows, lack, Difference,
+    Histogram, CHECK_NUMBERS, ROW_NUMBERS,
 };
 use fovaheju_tests::files::{examples_folder, load_example, stored_examples};
 use fovaheju_tests::library;
@@ -31,6 +31,7 @@ fn compare(seed: u64, count: u64) -> Result<bool, Box<Difference>> {
     for name in &names {
         let (pair, _) = load_example(&examples_folder(), name).expect("an example");
         compare_pair(library::check, name, &pair)
+            .and_then(|_| compare_report(library::report, name, &pair))
             .inspect_err(|difference| println!("{difference}"))?;
     }
     println!("{} examples alike", names.len());
@@ -38,9 +39,12 @@ fn compare(seed: u64, count: u64) -> Result<bool, Box<Difference>> {
     let checks = compare_checks(library::check, seed, count)?;
     let checks = tell("pairs", &checks, &CHECK_NUMBERS, start);
     let start = Instant::now();
+    let reports = compare_reports(library::report, seed, count)?;
+    let reports = tell("reports", &reports, &CHECK_NUMBERS, start);
+    let start = Instant::now();
     let rows = compare_rows(library::settled_row, seed, count)?;
     let rows = tell("rows", &rows, &ROW_NUMBERS, start);
-    Ok(checks && rows)
+    Ok(checks && reports && rows)
 }
 
 fn main() -> ExitCode {

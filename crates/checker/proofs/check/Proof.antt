@@ -17,14 +17,16 @@ returns : tie.Need-returns
 returns c =
     let z = c .before .before .before .before .before .before .before .before in
     with-demands (now (z .args .stage)) (now (z .args .reference)) _
-    (stage-refused (now (z .args .stage)) (now (z .args .reference)) _ _ (sym (c .before .number .given .1) ∙ c .before .before .before .before .read-stage .ensures .0))
+    (stage-refused (now (z .args .stage)) (now (z .args .reference)) _ _
+    (sym (c .before .number .given .1) ∙ c .before .before .before .before .read-stage .ensures .0))
 
 returns-2 : tie.Need-returns-2
 returns-2 c =
     let z = c .before .before .before .before .before .before .before .before .before .before .before in
     let f = c .before .before .before .before .before .before .before .read-stage .ensures in
     with-demands (now (z .args .stage)) (now (z .args .reference)) _
-    (stage-judged (now (z .args .stage)) (now (z .args .reference)) _ _ (sym (c .before .before .before .before .counts .given .1) ∙ f .0) (f .1) _ (c .before .check-reference .ensures))
+    (stage-judged (now (z .args .stage)) (now (z .args .reference)) _ _ (sym (c .before .before .before .before .counts .given .1) ∙ f .0) (f .1) _
+    (c .before .check-reference .ensures))
 
 pub check-spec : {M : Type 1} → statement M
 check-spec =

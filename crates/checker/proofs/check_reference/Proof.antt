@@ -20,7 +20,8 @@ returns-2 : tie.Need-returns-2
 returns-2 c =
     let z = c .before .before .before .before .before .before .before .before .before .before .before .before .before .before in
     let f = c .before .before .before .before .before .before .before .before .before .before .read-reference .ensures in
-    reference-judged _ (now (z .args .reference)) _ _ _ (sym (c .before .before .before .before .before .before .before .sizes .given .1) ∙ f .0) (f .1) _ _ (c .verdict-of .ensures) (c .before .before .before .judge .ensures)
+    reference-judged _ (now (z .args .reference)) _ _ _ (sym (c .before .before .before .before .before .before .before .sizes .given .1) ∙ f .0)
+    (f .1) _ _ (c .verdict-of .ensures) (c .before .before .before .judge .ensures)
 
 pub check-reference-spec : {M : Type 1} → statement M
 check-reference-spec =

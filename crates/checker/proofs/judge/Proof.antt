@@ -10,16 +10,20 @@ returns : tie.Need-returns
 returns c = is-10 _ (now (c .before .before .before .before .before .args .code)) _ _ (c .if1 .taken)
 
 returns-2 : tie.Need-returns-2
-returns-2 c = is-11 _ (now (c .before .before .before .before .before .before .before .before .args .code)) _ _ (c .before .before .before .if1 .left) (c .if2 .taken)
+returns-2 c =
+    is-11 _ (now (c .before .before .before .before .before .before .before .before .args .code)) _ _ (c .before .before .before .if1 .left)
+    (c .if2 .taken)
 
 returns-3 : tie.Need-returns-3
 returns-3 c =
-    is-12 _ _ _ _ (c .before .before .before .before .before .before .before .before .before .before .if1 .left) (c .before .before .before .before .before .before .before .if2 .left) _ _
+    is-12 _ _ _ _ (c .before .before .before .before .before .before .before .before .before .before .if1 .left)
+    (c .before .before .before .before .before .before .before .if2 .left) _ _
     (c .before .before .before .before .before .order-gates .ensures) _ (c .before .g .given .1)
 
 sweep-all-requires : tie.Need-sweep-all-requires
 sweep-all-requires c κs =
-    comparable _ _ _ _ (c .before .before .before .before .before .before .before .before .before .before .if1 .left) (c .before .before .before .before .before .before .before .if2 .left) _ _
+    comparable _ _ _ _ (c .before .before .before .before .before .before .before .before .before .before .if1 .left)
+    (c .before .before .before .before .before .before .before .if2 .left) _ _
     (c .before .before .before .before .before .order-gates .ensures) (c .before .enum-told .given .1)
     (c .before .before .before .before .before .before .before .before .before .before .before .before .before .before .before .pre .1)
 

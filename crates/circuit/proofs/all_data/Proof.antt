@@ -7,10 +7,16 @@ use Rattle.circuit.proofs.all_data.Statement.{statement}
 use Rattle.circuit.proofs.all_data.Tie as tie
 
 returns : tie.Need-returns
-returns c = let z = c .before .before .before .before .before in not-all-data (netsIn (z .args .counts) (now (z .args .row))) (z .args .counts) (now (z .args .code)) _ (c .before .before .first-not-data .ensures) _ (c .enum-told .given .1)
+returns c =
+    let z = c .before .before .before .before .before in
+    not-all-data (netsIn (z .args .counts) (now (z .args .row))) (z .args .counts) (now (z .args .code)) _
+    (c .before .before .first-not-data .ensures) _ (c .enum-told .given .1)
 
 returns-2 : tie.Need-returns-2
-returns-2 c = let z = c .before .before .before .before .before in all-data (netsIn (z .args .counts) (now (z .args .row))) (z .args .counts) (now (z .args .code)) _ (c .before .before .first-not-data .ensures) (c .enum-told2 .given .1)
+returns-2 c =
+    let z = c .before .before .before .before .before in
+    all-data (netsIn (z .args .counts) (now (z .args .row))) (z .args .counts) (now (z .args .code)) _ (c .before .before .first-not-data .ensures)
+    (c .enum-told2 .given .1)
 
 pub all-data-spec : {M : Type 1} → statement M
 all-data-spec =

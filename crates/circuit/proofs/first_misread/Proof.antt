@@ -14,7 +14,8 @@ use Rattle.circuit.proofs.first_misread.Statement.{statement}
 use Rattle.circuit.proofs.first_misread.Tie as tie
 
 abbrev Inv-loop : tie.InvT-loop
-Inv-loop code counts row reference values count first j₀ j = SoughtTo (misread counts code (netsIn counts row) (λ i. getD values (getD reference (first + i) 0) 0)) (counts .outputs) j
+Inv-loop code counts row reference values count first j₀ j =
+    SoughtTo (misread counts code (netsIn counts row) (λ i. getD values (getD reference (first + i) 0) 0)) (counts .outputs) j
 
 abbrev μ-loop : tie.MeasureT-loop
 μ-loop code counts row reference values count first j₀ j = count - j
@@ -28,20 +29,24 @@ level-requires c κs =
     (omega (arith, z .pre .2 .signal (c .before .before .loop .j) (omega arith)), z .pre .5 _)
 
 reads-as-requires : tie.Need-reads-as-requires Inv-loop μ-loop
-reads-as-requires c κs = let z = c .before .before .before .before .before .before .before .before .before in (z .pre .0, omega arith, z .pre .1, c .level .ensures .small)
+reads-as-requires c κs =
+    let z = c .before .before .before .before .before .before .before .before .before in
+    (z .pre .0, omega arith, z .pre .1, c .level .ensures .small)
 
 loop-again : tie.Need-loop-again Inv-loop μ-loop
 loop-again c =
     let z = c .before .before .before .before .before .before .before .before .before .before .before in
     let l = c .before .before .before .before .before .loop in
-    let e = ap (spells (pairIn (netsIn (z .args .counts) (now (z .args .row))) (outputIn (z .args .counts) (now (z .args .code)) (l .j)))) (c .before .before .level .ensures .is) in
+    let e = ap (spells (pairIn (netsIn (z .args .counts) (now (z .args .row))) (outputIn (z .args .counts) (now (z .args .code)) (l .j))))
+    (c .before .before .level .ensures .is) in
     sought-on _ _ _ (omega arith) (l .inv) (ap not (sym e ∙ sym (c .before .reads-as .ensures) ∙ c .if1 .taken))
 
 returns : tie.Need-returns Inv-loop μ-loop
 returns c =
     let z = c .before .before .before .before .before .before .before .before .before .before .before in
     let l = c .before .before .before .before .before .loop in
-    let e = ap (spells (pairIn (netsIn (z .args .counts) (now (z .args .row))) (outputIn (z .args .counts) (now (z .args .code)) (l .j)))) (c .before .before .level .ensures .is) in
+    let e = ap (spells (pairIn (netsIn (z .args .counts) (now (z .args .row))) (outputIn (z .args .counts) (now (z .args .code)) (l .j))))
+    (c .before .before .level .ensures .is) in
     sought-here _ _ _ (omega arith) (l .inv) (ap not (sym e ∙ sym (c .before .reads-as .ensures) ∙ c .if1 .left))
 
 returns-2 : tie.Need-returns-2 Inv-loop μ-loop

@@ -15,7 +15,13 @@ sets-requires c κs =
     let z = c .before .before .before .before in
     let g = z .pre .1 .gate (z .args .k) (z .pre .2) in
     let e : cellIn (now (z .args .code)) (z .args .k) % 256 ≡ cellIn (now (z .args .code)) (z .args .k) = omega (arith, g .high) in
-    rw e (z .pre .0, g .low, g .high, rw (c .pattern .ensures) (pattern-small (z .args .counts) (now (z .args .code)) (now (z .args .row)) (z .pre .1) (z .pre .3) (z .args .k) (z .pre .2)))
+    rw e (
+      z .pre .0,
+      g .low,
+      g .high,
+      rw (c .pattern .ensures)
+          (pattern-small (z .args .counts) (now (z .args .code)) (now (z .args .row)) (z .pre .1) (z .pre .3) (z .args .k) (z .pre .2)),
+    )
 
 returns : tie.Need-returns
 returns c =

@@ -9,12 +9,15 @@ use Rattle.circuit.proofs.level_holding.Statement.{statement}
 use Rattle.circuit.proofs.level_holding.Tie as tie
 
 returns : tie.Need-returns
-returns c = let z = c .before .before .before in (held-at (z .args .counts) (now (z .args .code)) (netsIn (z .args .counts) (now (z .args .row))) _ _ (z .pre .2) (c .if1 .taken), omega arith)
+returns c =
+    let z = c .before .before .before in
+    (held-at (z .args .counts) (now (z .args .code)) (netsIn (z .args .counts) (now (z .args .row))) _ _ (z .pre .2) (c .if1 .taken), omega arith)
 
 returns-2 : tie.Need-returns-2
 returns-2 c =
     let z = c .before .before .before .before in (
-      set-at (z .args .counts) (now (z .args .code)) (netsIn (z .args .counts) (now (z .args .row))) _ _ (z .pre .2) (c .before .if1 .left) _ (c .gate-level .ensures),
+      set-at (z .args .counts) (now (z .args .code)) (netsIn (z .args .counts) (now (z .args .row))) _ _ (z .pre .2) (c .before .if1 .left) _
+          (c .gate-level .ensures),
       rw (c .gate-level .ensures) (isSet-binary _ _),
     )
 

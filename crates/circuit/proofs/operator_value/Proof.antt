@@ -13,10 +13,14 @@ use Rattle.circuit.proofs.operator_value.Statement.{statement}
 use Rattle.circuit.proofs.operator_value.Tie as tie
 
 level-requires : tie.Need-level-requires
-level-requires c κs = let z = c .before .before .before .before in (omega (arith, z .pre .0 .operand (z .args .k) 0 (z .pre .1) (omega arith)), z .pre .3 _)
+level-requires c κs =
+    let z = c .before .before .before .before in
+    (omega (arith, z .pre .0 .operand (z .args .k) 0 (z .pre .1) (omega arith)), z .pre .3 _)
 
 level-requires-2 : tie.Need-level-requires-2
-level-requires-2 c κs = let z = c .before .before .before .before .before .before in (omega (arith, z .pre .0 .operand (z .args .k) 1 (z .pre .1) (omega arith)), z .pre .3 _)
+level-requires-2 c κs =
+    let z = c .before .before .before .before .before .before in
+    (omega (arith, z .pre .0 .operand (z .args .k) 1 (z .pre .1) (omega arith)), z .pre .3 _)
 
 returns : tie.Need-returns
 returns c =
@@ -24,7 +28,8 @@ returns c =
     let code = now (z .args .code) in
     let k = z .args .k in (
       c .operate .ensures .0
-          ∙ ap₂ (λ (a b : ℕ). answers.operate (operationIn code k) (a ∷ b ∷ [])) (c .before .before .before .level .ensures .is) (c .before .level2 .ensures .is)
+          ∙ ap₂ (λ (a b : ℕ). answers.operate (operationIn code k) (a ∷ b ∷ [])) (c .before .before .before .level .ensures .is)
+          (c .before .level2 .ensures .is)
           ∙ operator-is (operationIn code k) (z .args .counts .inputs + k) (now (z .args .values)) (operandIn code k 0) (operandIn code k 1)
           (z .pre .0 .operand k 0 (z .pre .1) (omega arith)) (z .pre .0 .operand k 1 (z .pre .1) (omega arith)),
       c .operate .ensures .1,

@@ -7,16 +7,24 @@ use Rattle.circuit.proofs.pattern.Statement.{statement}
 use Rattle.circuit.proofs.pattern.Tie as tie
 
 level-requires : tie.Need-level-requires
-level-requires c κs = let z = c .before .before .before in net-there (z .args .counts) (now (z .args .row)) (z .pre .2) _ (z .pre .0 .gate (z .args .k) (z .pre .1) .pin 0 (omega arith))
+level-requires c κs =
+    let z = c .before .before .before in
+    net-there (z .args .counts) (now (z .args .row)) (z .pre .2) _ (z .pre .0 .gate (z .args .k) (z .pre .1) .pin 0 (omega arith))
 
 level-requires-2 : tie.Need-level-requires-2
-level-requires-2 c κs = let z = c .before .before .before .before .before in net-there (z .args .counts) (now (z .args .row)) (z .pre .2) _ (z .pre .0 .gate (z .args .k) (z .pre .1) .pin 1 (omega arith))
+level-requires-2 c κs =
+    let z = c .before .before .before .before .before in
+    net-there (z .args .counts) (now (z .args .row)) (z .pre .2) _ (z .pre .0 .gate (z .args .k) (z .pre .1) .pin 1 (omega arith))
 
 level-requires-3 : tie.Need-level-requires-3
-level-requires-3 c κs = let z = c .before .before .before .before .before .before .before in net-there (z .args .counts) (now (z .args .row)) (z .pre .2) _ (z .pre .0 .gate (z .args .k) (z .pre .1) .pin 2 (omega arith))
+level-requires-3 c κs =
+    let z = c .before .before .before .before .before .before .before in
+    net-there (z .args .counts) (now (z .args .row)) (z .pre .2) _ (z .pre .0 .gate (z .args .k) (z .pre .1) .pin 2 (omega arith))
 
 level-requires-4 : tie.Need-level-requires-4
-level-requires-4 c κs = let z = c .before .before .before .before .before .before .before .before .before in net-there (z .args .counts) (now (z .args .row)) (z .pre .2) _ (z .pre .0 .gate (z .args .k) (z .pre .1) .pin 3 (omega arith))
+level-requires-4 c κs =
+    let z = c .before .before .before .before .before .before .before .before .before in
+    net-there (z .args .counts) (now (z .args .row)) (z .pre .2) _ (z .pre .0 .gate (z .args .k) (z .pre .1) .pin 3 (omega arith))
 
 returns : tie.Need-returns
 returns c =

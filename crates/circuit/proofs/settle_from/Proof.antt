@@ -27,13 +27,23 @@ cast-k c = omega (arith, c .shared-slice-known2 .given (8 * c .before .before .l
 level-holding-requires : tie.Need-level-holding-requires Inv-loop μ-loop
 level-holding-requires c κs =
     let z = c .before .before .before .before .before .before .before .before .before in
-    let l = c .before .before .before .before .loop in
-    (c .before .before .before .before .before .before .table .ensures, z .pre .0, order-gate (z .args .counts) (now (z .args .code)) (z .pre .1) (l .i) (omega arith), l .inv .row-for)
+    let l = c .before .before .before .before .loop in (
+      c .before .before .before .before .before .before .table .ensures,
+      z .pre .0,
+      order-gate (z .args .counts) (now (z .args .code)) (z .pre .1)
+          (l .i) (omega arith),
+      l .inv .row-for,
+    )
 
 add-row : tie.Need-add-row Inv-loop μ-loop
 add-row c =
     let z = c .before .before .before .before .before .before .before .before .before .before in
-    omega (arith, z .pre .2 .long, order-gate (z .args .counts) (now (z .args .code)) (z .pre .1) (c .before .before .before .before .before .loop .i) (omega arith))
+    omega (
+      arith,
+      z .pre .2 .long,
+      order-gate (z .args .counts) (now (z .args .code)) (z .pre .1) (c .before .before .before .before .before .loop .i)
+          (omega arith),
+    )
 
 slice-write-row : tie.Need-slice-write-row Inv-loop μ-loop
 slice-write-row c =
@@ -45,7 +55,8 @@ loop-again : tie.Need-loop-again Inv-loop μ-loop
 loop-again c =
     let z = c .before .before .before .before .before .before .before .before .before .before in
     let l = c .before .before .before .before .before .loop in
-    settling-turn (z .args .counts) (now (z .args .code)) (z .pre .1) (z .args .held) (now (z .args .row)) (l .row) (l .i) (l .inv) (omega arith) _ (c .level-holding .ensures .0) (c .level-holding .ensures .1)
+    settling-turn (z .args .counts) (now (z .args .code)) (z .pre .1) (z .args .held) (now (z .args .row)) (l .row) (l .i) (l .inv) (omega arith) _
+    (c .level-holding .ensures .0) (c .level-holding .ensures .1)
 
 same-length : tie.Need-same-length Inv-loop μ-loop
 same-length c = c .before .loop .inv .same-long
@@ -53,8 +64,11 @@ same-length c = c .before .loop .inv .same-long
 returns : tie.Need-returns Inv-loop μ-loop
 returns c =
     let z = c .before .before .before .before .before .before in
-    let l = c .before .loop in
-    (settling-done (z .args .counts) (now (z .args .code)) (z .pre .1) (z .args .held) (now (z .args .row)) (l .row) (l .i) (l .inv) (omega arith), l .inv .row-for)
+    let l = c .before .loop in (
+      settling-done (z .args .counts) (now (z .args .code)) (z .pre .1) (z .args .held) (now (z .args .row)) (l .row) (l .i) (l .inv)
+          (omega arith),
+      l .inv .row-for,
+    )
 
 pub settle-from-spec : {M : Type 1} → statement M
 settle-from-spec =

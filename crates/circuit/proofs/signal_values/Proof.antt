@@ -25,7 +25,8 @@ loop-again : tie.Need-loop-again Inv-loop μ-loop
 loop-again c =
     let z = c .before .before .before .before .before .before in
     let l = c .before .before .before .loop in
-    values-turn (z .args .counts) (now (z .args .code)) (now (z .args .values)) (l .values) (l .k) (l .inv) (z .pre .1) (omega arith) _ (c .operator-value .ensures)
+    values-turn (z .args .counts) (now (z .args .code)) (now (z .args .values)) (l .values) (l .k) (l .inv) (z .pre .1) (omega arith) _
+    (c .operator-value .ensures)
 
 same-length : tie.Need-same-length Inv-loop μ-loop
 same-length c = c .before .loop .inv .same-long

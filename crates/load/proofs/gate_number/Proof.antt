@@ -7,12 +7,15 @@ use Rattle.load.proofs.gate_number.Statement.{statement}
 use Rattle.load.proofs.gate_number.Tie as tie
 
 returns : tie.Need-returns
-returns c = number-known _ _ _ _ _ _ _ (sym (c .before .before .kind .given .1) ∙ c .before .before .before .before .kind-of .ensures) (c .hold-number .ensures)
+returns c =
+    number-known _ _ _ _ _ _ _ (sym (c .before .before .kind .given .1) ∙ c .before .before .before .before .kind-of .ensures)
+    (c .hold-number .ensures)
 
 returns-2 : tie.Need-returns-2
 returns-2 c =
     let z = c .before .before .before .before .before in
-    number-unknown (now (z .args .s)) (z .args .at) (z .args .ground) (z .args .j) (sym (c .enum-told .given .1) ∙ c .before .before .kind-of .ensures)
+    number-unknown (now (z .args .s)) (z .args .at) (z .args .ground) (z .args .j)
+    (sym (c .enum-told .given .1) ∙ c .before .before .kind-of .ensures)
 
 pub gate-number-spec : {M : Type 1} → statement M
 gate-number-spec =

@@ -19,7 +19,9 @@ returns-3 c =
     c .pin-number .ensures ∙ number-pin (now (z .s)) (z .at) (z .ground) (z .cell) (z .pins) (z .j) (omega arith) (omega arith)
 
 returns-4 : tie.Need-returns-4
-returns-4 c = let z = c .before .before .before .args in number-rest (now (z .s)) (z .at) (z .ground) (z .cell) (z .pins) (z .j) (omega arith) (λ e. omega arith)
+returns-4 c =
+    let z = c .before .before .before .args in
+    number-rest (now (z .s)) (z .at) (z .ground) (z .cell) (z .pins) (z .j) (omega arith) (λ e. omega arith)
 
 pub hold-number-spec : {M : Type 1} → statement M
 hold-number-spec =

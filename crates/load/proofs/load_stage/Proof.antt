@@ -35,7 +35,8 @@ returns c =
     let z = c .before .before .before .before .before .before .before .before in
     let l = c .before .loop in (
       stage-same (now (z .args .s)) (now (z .args .places)) (z .args .counts) (l .code) (z .pre .0) (omega arith) (λ q h. l .inv .1 q (omega arith)),
-      stage-loaded (now (z .args .s)) (now (z .args .places)) (z .args .counts) (l .code) (z .pre .0) (omega arith) (λ q h. l .inv .1 q (omega arith)),
+      stage-loaded (now (z .args .s)) (now (z .args .places)) (z .args .counts) (l .code) (z .pre .0) (omega arith)
+          (λ q h. l .inv .1 q (omega arith)),
     )
 
 pub load-stage-spec : {M : Type 1} → statement M

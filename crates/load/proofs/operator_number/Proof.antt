@@ -15,17 +15,21 @@ returns : tie.Need-returns
 returns c = let z = c .before .before .before .args in number-operation (now (z .s)) (z .at) (z .j) (c .if1 .taken)
 
 returns-2 : tie.Need-returns-2
-returns-2 c = let z = c .before .before .before .before .before .args in c .operand .ensures ∙ number-first (now (z .s)) (z .at) (z .j) (c .before .if2 .taken)
+returns-2 c =
+    let z = c .before .before .before .before .before .args in
+    c .operand .ensures ∙ number-first (now (z .s)) (z .at) (z .j) (c .before .if2 .taken)
 
 returns-3 : tie.Need-returns-3
 returns-3 c =
     let z = c .before .before .before .before .before .before .args in
-    c .operand2 .ensures ∙ number-again (now (z .s)) (z .at) (z .j) (c .before .before .before .if1 .left) (c .before .before .if2 .left) (c .before .if3 .taken)
+    c .operand2 .ensures ∙ number-again (now (z .s)) (z .at) (z .j) (c .before .before .before .if1 .left) (c .before .before .if2 .left)
+    (c .before .if3 .taken)
 
 returns-4 : tie.Need-returns-4
 returns-4 c =
     let z = c .before .before .before .before .before .before .args in
-    c .operand3 .ensures ∙ number-second (now (z .s)) (z .at) (z .j) (c .before .before .before .if1 .left) (c .before .before .if2 .left) (c .before .if3 .left)
+    c .operand3 .ensures ∙ number-second (now (z .s)) (z .at) (z .j) (c .before .before .before .if1 .left) (c .before .before .if2 .left)
+    (c .before .if3 .left)
 
 pub operator-number-spec : {M : Type 1} → statement M
 operator-number-spec =

@@ -7,7 +7,9 @@ use Rattle.load.proofs.pin_number.Statement.{statement}
 use Rattle.load.proofs.pin_number.Tie as tie
 
 returns : tie.Need-returns
-returns c = let z = c .before .before .before in c .operand .ensures ∙ pin-there (now (z .args .s)) (z .args .at) (z .args .ground) _ _ (c .before .if1 .taken)
+returns c =
+    let z = c .before .before .before in
+    c .operand .ensures ∙ pin-there (now (z .args .s)) (z .args .at) (z .args .ground) _ _ (c .before .if1 .taken)
 
 returns-2 : tie.Need-returns-2
 returns-2 c = let z = c .before .before in pin-absent (now (z .args .s)) (z .args .at) (z .args .ground) _ _ (c .if1 .left)

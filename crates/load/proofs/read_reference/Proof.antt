@@ -19,7 +19,9 @@ unfolding mostCare
 load-reference-requires c κs =
     let f = c .before .before .before .before .before .before .read-file in
     let z = c .before .before .before .before .before .before .before .before .before .before .before in
-    let w = was-read-by file.Reference _ referenceLimits (c .before .before .before .before .before .before .before .before .reference-limits .ensures) (now (z .args .s)) _ _ (omega arith) (sym (c .before .before .before .outcome .given .1) ∙ f .ensures .0) (f .ensures .1) in
+    let m = c .before .before .before .before .before .before .before .before .reference-limits .ensures in
+    let w = was-read-by file.Reference _ referenceLimits m (now (z .args .s)) _ _ (omega arith)
+    (sym (c .before .before .before .outcome .given .1) ∙ f .ensures .0) (f .ensures .1) in
     let n = w .file-read .within in
     (w .file-read, omega (arith, n .gates-in, n .outputs-in))
 
@@ -38,7 +40,8 @@ returns-2 : tie.Need-returns-2
 returns-2 c =
     let f = c .before .before .before .read-file in
     let z = c .before .before .before .before .before .before .before .before in
-    let e = f .ensures .0 ∙ ap (λ m. outcomeOf (readFile file.Reference m (now (z .args .s)))) (c .before .before .before .before .before .reference-limits .ensures) in
+    let e = f .ensures .0 ∙ ap (λ m. outcomeOf (readFile file.Reference m (now (z .args .s))))
+    (c .before .before .before .before .before .reference-limits .ensures) in
     (e, holds-no-reference (now (z .args .s)) _ _ _ _ (sym (c .enum-told .given .1) ∙ e))
 
 pub read-reference-spec : {M : Type 1} → statement M

@@ -19,7 +19,8 @@ unfolding mostCare
 load-stage-requires c κs =
     let f = c .before .before .before .before .before .before .read-file in
     let z = c .before .before .before .before .before .before .before .before .before .before .before in
-    let w = was-read-by file.Stage _ stageLimits (c .before .before .before .before .before .before .before .before .stage-limits .ensures) (now (z .args .s)) _ _ (omega arith) (sym (c .before .before .before .outcome .given .1) ∙ f .ensures .0) (f .ensures .1) in
+    let w = was-read-by file.Stage _ stageLimits (c .before .before .before .before .before .before .before .before .stage-limits .ensures)
+    (now (z .args .s)) _ _ (omega arith) (sym (c .before .before .before .outcome .given .1) ∙ f .ensures .0) (f .ensures .1) in
     let n = w .file-read .within in
     (w .file-read, omega (arith, n .gates-in, n .outputs-in, w .file-read .few-care))
 
@@ -38,7 +39,8 @@ returns-2 : tie.Need-returns-2
 returns-2 c =
     let f = c .before .before .before .read-file in
     let z = c .before .before .before .before .before .before .before .before in
-    let e = f .ensures .0 ∙ ap (λ m. outcomeOf (readFile file.Stage m (now (z .args .s)))) (c .before .before .before .before .before .stage-limits .ensures) in
+    let e = f .ensures .0 ∙ ap (λ m. outcomeOf (readFile file.Stage m (now (z .args .s))))
+    (c .before .before .before .before .before .stage-limits .ensures) in
     (e, holds-no-stage (now (z .args .s)) _ _ _ _ (sym (c .enum-told .given .1) ∙ e))
 
 pub read-stage-spec : {M : Type 1} → statement M

@@ -14,16 +14,25 @@ cast-operator-number : tie.Need-cast-operator-number
 cast-operator-number c = omega (arith, c .shared-slice-known3 .given (c .before .before .before .before .before .args .i / 3))
 
 operator-number-requires : tie.Need-operator-number-requires
-operator-number-requires c κs = let z = c .before .before .before .before .before in operator-room (now (z .args .s)) (now (z .args .places)) (z .args .counts) (z .pre .0) (z .args .i / 3) (omega arith)
+operator-number-requires c κs =
+    let z = c .before .before .before .before .before in
+    operator-room (now (z .args .s)) (now (z .args .places)) (z .args .counts) (z .pre .0) (z .args .i / 3) (omega arith)
 
 returns : tie.Need-returns
-returns c = let z = c .before .before .before .before .before .before in c .operator-number .ensures ∙ reference-gate (now (z .args .s)) (now (z .args .places)) (z .args .counts) (z .args .i) (c .before .before .if1 .taken)
+returns c =
+    let z = c .before .before .before .before .before .before in
+    c .operator-number .ensures ∙ reference-gate (now (z .args .s)) (now (z .args .places)) (z .args .counts) (z .args .i)
+    (c .before .before .if1 .taken)
 
 cast-at : tie.Need-cast-at
-cast-at c = let z = c .before .before .before .before .before in omega (arith, c .shared-slice-known4 .given (referenceLimits .gates + (z .args .i - 3 * z .args .counts .gates)))
+cast-at c =
+    let z = c .before .before .before .before .before in
+    omega (arith, c .shared-slice-known4 .given (referenceLimits .gates + (z .args .i - 3 * z .args .counts .gates)))
 
 add-operand : tie.Need-add-operand
-add-operand c = let z = c .before .before .before .before .before in omega (arith, c .shared-slice-known4 .given (referenceLimits .gates + (z .args .i - 3 * z .args .counts .gates)))
+add-operand c =
+    let z = c .before .before .before .before .before in
+    omega (arith, c .shared-slice-known4 .given (referenceLimits .gates + (z .args .i - 3 * z .args .counts .gates)))
 
 operand-requires : tie.Need-operand-requires
 operand-requires c κs =
@@ -32,7 +41,9 @@ operand-requires c κs =
     omega (arith, signal-room (now (z .args .s)) (now (z .args .places)) (z .args .counts) (z .pre .0) j (omega arith))
 
 returns-2 : tie.Need-returns-2
-returns-2 c = let z = c .before .before .before .before .before .before in c .operand .ensures ∙ reference-output (now (z .args .s)) (now (z .args .places)) (z .args .counts) (z .args .i) (omega arith)
+returns-2 c =
+    let z = c .before .before .before .before .before .before in
+    c .operand .ensures ∙ reference-output (now (z .args .s)) (now (z .args .places)) (z .args .counts) (z .args .i) (omega arith)
 
 pub reference-number-spec : {M : Type 1} → statement M
 reference-number-spec =

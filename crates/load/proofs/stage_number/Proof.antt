@@ -15,7 +15,9 @@ cast-gate-number : tie.Need-cast-gate-number
 cast-gate-number c = omega (arith, c .shared-slice-known3 .given (c .before .before .before .before .before .before .before .args .i / 8))
 
 gate-number-requires : tie.Need-gate-number-requires
-gate-number-requires c κs = let z = c .before .before .before .before .before .before .before in gate-room (now (z .args .s)) (now (z .args .places)) (z .args .counts) (z .pre .0) (z .args .i / 8) (omega arith)
+gate-number-requires c κs =
+    let z = c .before .before .before .before .before .before .before in
+    gate-room (now (z .args .s)) (now (z .args .places)) (z .args .counts) (z .pre .0) (z .args .i / 8) (omega arith)
 
 returns : tie.Need-returns
 returns c = let z = c .before .before .before .before .before .before .before .before in c .gate-number .ensures ∙ stage-gate (now (z .args .s)) (now (z .args .places)) (z .args .counts) (z .args .i) (c .before .before .before .before .if1 .taken)

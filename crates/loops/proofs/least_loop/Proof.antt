@@ -5,7 +5,7 @@ use native.Mathlib.Omega.{arith}
 use borrow.Author.Needs.{needs}
 use Rattle.verdict.specs.Loops.{reachesItself}
 use Rattle.verdict.proofs.Least.{SoughtTo, sought-on, sought-here, sought-none}
-use Rattle.circuit.specs.Stage.{gatesIn}
+use Rattle.circuit.specs.Stage.{stageGates}
 use Rattle.loops.proofs.Marking.{fresh}
 use Rattle.loops.proofs.least_loop.Statement.{statement}
 use Rattle.loops.proofs.least_loop.Tie as tie
@@ -14,7 +14,7 @@ use Rattle.loops.proofs.least_loop.Lts as lts
 use Rattle.loops.proofs.reaches_itself.Reads as reaches-itself-reads
 
 abbrev Inv-loop : tie.InvT-loop
-Inv-loop code counts g₀ g = SoughtTo (reachesItself (counts .inputs) (gatesIn counts code)) (counts .gates) g
+Inv-loop code counts g₀ g = SoughtTo (reachesItself (counts .inputs) (stageGates counts code)) (counts .gates) g
 
 abbrev μ-loop : tie.MeasureT-loop
 μ-loop code counts g₀ g = counts .gates - g

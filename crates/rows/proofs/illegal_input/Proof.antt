@@ -19,10 +19,14 @@ loop-holds : tie.Need-loop-holds Inv-loop μ-loop
 loop-holds c = let e : c .before .args .inputs - 0 ≡ c .before .args .inputs = omega arith in rw e
 
 returns : tie.Need-returns Inv-loop μ-loop
-returns c = let l = c .before .before .before .loop in sought-here _ _ (l .i) (omega arith) (l .inv) (sym (c .before .is-illegal .ensures) ∙ c .if1 .taken)
+returns c =
+    let l = c .before .before .before .loop in
+    sought-here _ _ (l .i) (omega arith) (l .inv) (sym (c .before .is-illegal .ensures) ∙ c .if1 .taken)
 
 loop-again : tie.Need-loop-again Inv-loop μ-loop
-loop-again c = let l = c .before .before .before .loop in sought-on _ _ (l .i) (omega arith) (l .inv) (sym (c .before .is-illegal .ensures) ∙ c .if1 .left)
+loop-again c =
+    let l = c .before .before .before .loop in
+    sought-on _ _ (l .i) (omega arith) (l .inv) (sym (c .before .is-illegal .ensures) ∙ c .if1 .left)
 
 returns-2 : tie.Need-returns-2 Inv-loop μ-loop
 returns-2 c = let l = c .before .loop in sought-none _ _ (l .i) (omega arith) (l .inv)

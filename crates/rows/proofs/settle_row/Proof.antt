@@ -15,12 +15,15 @@ slice-aggregate-copy : tie.Need-slice-aggregate-copy
 slice-aggregate-copy c = let z = c .before .before .before .before in sym (first-long (z .args .counts) (now (z .args .row)) (z .pre .2))
 
 copy-requires : tie.Need-copy-requires
-copy-requires c κs = let z = c .before .before .before .before .before in omega (arith, first-long (z .args .counts) (now (z .args .row)) (z .pre .2), z .pre .0 .within .inputs-in)
+copy-requires c κs =
+    let z = c .before .before .before .before .before in
+    omega (arith, first-long (z .args .counts) (now (z .args .row)) (z .pre .2), z .pre .0 .within .inputs-in)
 
 slice-aggregate-settle-part : tie.Need-slice-aggregate-settle-part
 slice-aggregate-settle-part c =
     let z = c .before .before .before .before .before .before .before .before in
-    sym (ap length (copied-first (2 * z .args .counts .inputs) (now (z .args .row)) _ _ (omega arith) (c .before .before .copy .ensures .1)) ∙ first-long (z .args .counts) (now (z .args .row)) (z .pre .2))
+    sym (ap length (copied-first (2 * z .args .counts .inputs) (now (z .args .row)) _ _ (omega arith) (c .before .before .copy .ensures .1))
+    ∙ first-long (z .args .counts) (now (z .args .row)) (z .pre .2))
 
 settle-part-requires : tie.Need-settle-part-requires
 settle-part-requires c κs =
@@ -37,7 +40,8 @@ settle-part-requires c κs =
 returns : tie.Need-returns
 returns c =
     let z = c .before .before .before .before .before .before .before .before .before .before .before .before in
-    let e = copied-first (2 * z .args .counts .inputs) (now (z .args .row)) _ _ (omega arith) (c .before .before .before .before .before .before .copy .ensures .1) in
+    let e = copied-first (2 * z .args .counts .inputs) (now (z .args .row)) _ _ (omega arith)
+    (c .before .before .before .before .before .before .copy .ensures .1) in
     row-settled (z .args .counts) (now (z .args .row)) (z .pre .2) (now (z .args .code)) _ _ e (c .before .before .settle-part .ensures)
 
 pub settle-row-spec : {M : Type 1} → statement M

@@ -8,20 +8,26 @@ use Rattle.rows.proofs.settled_row.Statement.{statement}
 use Rattle.rows.proofs.settled_row.Tie as tie
 
 settle-stage-requires : tie.Need-settle-stage-requires
-settle-stage-requires c κs = let z = c .before .before .before .before .before .before .before .before .before .before in let f = c .before .before .before .before .before .before .read-stage .ensures in stage-held (now (z .args .stage)) _ _ _ (sym (c .before .before .before .counts .given .1) ∙ f .0) (f .1) .3
+settle-stage-requires c κs =
+    let z = c .before .before .before .before .before .before .before .before .before .before in
+    let f = c .before .before .before .before .before .before .read-stage .ensures in
+    stage-held (now (z .args .stage)) _ _ _ (sym (c .before .before .before .counts .given .1) ∙ f .0) (f .1) .3
 
 returns : tie.Need-returns
 returns c =
     let z = c .before .before .before .before .before .before .before .before in
     answered (now (z .args .stage)) (now (z .args .row)) _ _
-    (by-refusal (now (z .args .stage)) (now (z .args .row)) _ _ (sym (c .before .number .given .1) ∙ c .before .before .before .before .read-stage .ensures .0))
+    (by-refusal (now (z .args .stage)) (now (z .args .row)) _ _
+    (sym (c .before .number .given .1) ∙ c .before .before .before .before .read-stage .ensures .0))
 
 returns-2 : tie.Need-returns-2
 returns-2 c =
     let z = c .before .before .before .before .before .before .before .before .before .before .before .before .before .before in
     let f = c .before .before .before .before .before .before .before .before .before .before .read-stage .ensures in
     answered (now (z .args .stage)) (now (z .args .row)) _ _
-    (by-stage (now (z .args .stage)) (now (z .args .row)) _ _ (sym (c .before .before .before .before .before .before .before .counts .given .1) ∙ f .0) (f .1) _ _ (c .before .before .before .settle-stage .ensures))
+    (by-stage (now (z .args .stage)) (now (z .args .row)) _ _
+    (sym (c .before .before .before .before .before .before .before .counts .given .1) ∙ f .0) (f .1) _ _
+    (c .before .before .before .settle-stage .ensures))
 
 pub settled-row-spec : {M : Type 1} → statement M
 settled-row-spec =

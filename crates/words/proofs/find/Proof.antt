@@ -9,17 +9,20 @@ use Rattle.words.proofs.find.Tie as tie
 returns : tie.Need-returns
 returns c =
     let z = c .before .before .before .before .before in
-    found-wrong (z .args .counts) (now (z .args .code)) (referenceIn (z .args .sizes) (now (z .args .reference))) (z .args .w) _ _ (c .wrong-output .ensures) (c .before .enum-told .given .1)
+    found-wrong (z .args .counts) (now (z .args .code)) (referenceIn (z .args .sizes) (now (z .args .reference))) (z .args .w) _ _
+    (c .wrong-output .ensures) (c .before .enum-told .given .1)
 
 returns-2 : tie.Need-returns-2
 returns-2 c =
     let z = c .before .before .before .before .before in
-    found-missing (z .args .counts) (now (z .args .code)) (referenceIn (z .args .sizes) (now (z .args .reference))) (z .args .w) _ _ (c .missing-input .ensures) (c .before .enum-told2 .given .1)
+    found-missing (z .args .counts) (now (z .args .code)) (referenceIn (z .args .sizes) (now (z .args .reference))) (z .args .w) _ _
+    (c .missing-input .ensures) (c .before .enum-told2 .given .1)
 
 returns-3 : tie.Need-returns-3
 returns-3 c =
     let z = c .before .before .before .before .before in
-    found-unobserved (z .args .counts) (now (z .args .code)) (referenceIn (z .args .sizes) (now (z .args .reference))) (z .args .w) _ _ (c .unobserved-gate .ensures) (c .before .enum-told3 .given .1)
+    found-unobserved (z .args .counts) (now (z .args .code)) (referenceIn (z .args .sizes) (now (z .args .reference))) (z .args .w) _ _
+    (c .unobserved-gate .ensures) (c .before .enum-told3 .given .1)
 
 pub find-spec : {M : Type 1} → statement M
 find-spec =

@@ -18,7 +18,8 @@ returns : tie.Need-returns
 returns c =
     let z = c .before .before .before .before .before .before .before .before .before in
     let s = c .before .before .before .before .before .before .spell-word in
-    null-word (z .args .counts) _ (s .ensures .1) (z .args .i) (z .pre .2) (now (z .args .code)) (z .args .w) (s .ensures .0) _ (c .before .before .before .settle .ensures .0) _ (c .all-data .ensures)
+    null-word (z .args .counts) _ (s .ensures .1) (z .args .i) (z .pre .2) (now (z .args .code)) (z .args .w) (s .ensures .0) _
+    (c .before .before .before .settle .ensures .0) _ (c .all-data .ensures)
 
 pub incomplete-spec : {M : Type 1} → statement M
 incomplete-spec =

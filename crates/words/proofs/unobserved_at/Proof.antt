@@ -14,18 +14,31 @@ use Rattle.words.proofs.unobserved_at.Statement.{statement}
 use Rattle.words.proofs.unobserved_at.Tie as tie
 
 returns : tie.Need-returns
-returns c = let z = c .before .before .before .before .before in unobserved-low (z .args .counts) (now (z .args .code)) (now (z .args .row)) (z .pre .1) (z .pre .2) (z .pre .3) (z .args .g) (z .pre .4) (c .if1 .taken) _
+returns c =
+    let z = c .before .before .before .before .before in
+    unobserved-low (z .args .counts) (now (z .args .code)) (now (z .args .row)) (z .pre .1) (z .pre .2) (z .pre .3) (z .args .g) (z .pre .4)
+    (c .if1 .taken) _
 
 slice-aggregate-copy : tie.Need-slice-aggregate-copy
-slice-aggregate-copy c = let z = c .before .before .before .before .before .before .before in sym (length-take-le _ (now (z .args .row)) (omega (arith, z .pre .2 .long)))
+slice-aggregate-copy c =
+    let z = c .before .before .before .before .before .before .before in
+    sym (length-take-le _ (now (z .args .row)) (omega (arith, z .pre .2 .long)))
 
 copy-requires : tie.Need-copy-requires
 copy-requires c κs =
     let z = c .before .before .before .before .before .before .before .before in
-    omega (arith, length-take-le (netCount (z .args .counts) + 1) (now (z .args .row)) (omega (arith, z .pre .2 .long)), z .pre .0 .within .inputs-in, z .pre .0 .within .gates-in)
+    omega (
+      arith,
+      length-take-le (netCount (z .args .counts) + 1) (now (z .args .row))
+          (omega (arith, z .pre .2 .long)),
+      z .pre .0 .within .inputs-in,
+      z .pre .0 .within .gates-in,
+    )
 
 cast-start : tie.Need-cast-start
-cast-start c = let z = c .before .before .before .before .before .before .before .before .before .before .before in omega (arith, z .pre .1 .place-in (z .args .g) (z .pre .4), z .pre .0 .within .gates-in)
+cast-start c =
+    let z = c .before .before .before .before .before .before .before .before .before .before .before in
+    omega (arith, z .pre .1 .place-in (z .args .g) (z .pre .4), z .pre .0 .within .gates-in)
 
 settle-from-requires : tie.Need-settle-from-requires
 settle-from-requires c κs =
@@ -37,17 +50,20 @@ settle-from-requires c κs =
       z .pre .0,
       z .pre .1,
       r,
-      hold-before (z .args .counts) (now (z .args .code)) _ (z .pre .1) r (settled-same (z .args .counts) (now (z .args .code)) (now (z .args .row)) (z .pre .3) _ n) (z .args .g) (z .pre .4),
+      hold-before (z .args .counts) (now (z .args .code)) _ (z .pre .1) r
+          (settled-same (z .args .counts) (now (z .args .code)) (now (z .args .row)) (z .pre .3) _ n) (z .args .g) (z .pre .4),
     )
 
 returns-2 : tie.Need-returns-2
 returns-2 c =
     let z = c .before .before .before .before .before .before .before .before .before .before .before .before .before .before .before .before in
     let w = z .pre .0 .within in
-    let n = copied-nets (z .args .counts) (now (z .args .row)) _ _ (z .pre .2) (omega (arith, w .inputs-in, w .gates-in)) (c .before .before .before .before .before .before .before .copy .ensures .1) in
+    let n = copied-nets (z .args .counts) (now (z .args .row)) _ _ (z .pre .2) (omega (arith, w .inputs-in, w .gates-in))
+    (c .before .before .before .before .before .before .before .copy .ensures .1) in
     unobserved-high (z .args .counts) (now (z .args .code)) (now (z .args .row)) (z .pre .1) (z .pre .2) (z .pre .3) (z .args .g) (z .pre .4)
     (c .before .before .before .before .before .before .before .before .before .before .before .if1 .left) _ _ _
-    (rails-same (z .args .counts) (now (z .args .code)) (now (z .args .row)) (z .pre .3) _ n) _ (c .before .before .before .settle-from .ensures .0) (c .all-data .ensures)
+    (rails-same (z .args .counts) (now (z .args .code)) (now (z .args .row)) (z .pre .3) _ n) _ (c .before .before .before .settle-from .ensures .0)
+    (c .all-data .ensures)
 
 pub unobserved-at-spec : {M : Type 1} → statement M
 unobserved-at-spec =

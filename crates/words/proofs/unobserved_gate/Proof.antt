@@ -35,13 +35,15 @@ unobserved-at-requires c κs =
 returns : tie.Need-returns Inv-loop μ-loop
 returns c =
     let z = c .before .before .before .before .before .before .before .before .before in
-    let u = unobserved-word (z .args .counts) (now (z .args .code)) _ (z .args .w) (c .before .before .before .before .before .before .settle-word .ensures .0) _ in
+    let u = unobserved-word (z .args .counts) (now (z .args .code)) _ (z .args .w)
+    (c .before .before .before .before .before .before .settle-word .ensures .0) _ in
     sought-here _ _ _ (omega arith) (c .before .before .before .before .loop .inv) (sym u ∙ sym (c .before .unobserved-at .ensures) ∙ c .if1 .taken)
 
 loop-again : tie.Need-loop-again Inv-loop μ-loop
 loop-again c =
     let z = c .before .before .before .before .before .before .before .before .before in
-    let u = unobserved-word (z .args .counts) (now (z .args .code)) _ (z .args .w) (c .before .before .before .before .before .before .settle-word .ensures .0) _ in
+    let u = unobserved-word (z .args .counts) (now (z .args .code)) _ (z .args .w)
+    (c .before .before .before .before .before .before .settle-word .ensures .0) _ in
     sought-on _ _ _ (omega arith) (c .before .before .before .before .loop .inv) (sym u ∙ sym (c .before .unobserved-at .ensures) ∙ c .if1 .left)
 
 returns-2 : tie.Need-returns-2 Inv-loop μ-loop

@@ -1,0 +1,25 @@
+// Reads stage.ncl and reference.ncl, at most 8,192 bytes of each, and prints the switching report: for each word of an accepted stage a
+// line with the word and the number of gates high at its rest, then a line with the total. Of a refused pair it prints the verdict.
+use libc::STDOUT_FILENO;
+
+fn main() {
+    let mut stage = [0u8; 8192];
+    let stage_len = console::load(b"stage.ncl", &mut stage);
+    let mut reference = [0u8; 8192];
+    let reference_len = console::load(b"reference.ncl", &mut reference);
+    let report = fovaheju::report(&stage[..stage_len], &reference[..reference_len]);
+    if report.verdict.number == 0 {
+        let mut w: usize = 0;
+        while w < report.lines.len() && (w as u64) < report.words {
+            io::print_decimal(STDOUT_FILENO, w as u64);
+            console::print_next(report.lines[w] as u64);
+            io::write_all(STDOUT_FILENO, b"\n");
+            w += 1;
+        }
+        io::write_all(STDOUT_FILENO, b"total");
+        console::print_next(report.total);
+    } else {
+        console::print_verdict(report.verdict);
+    }
+    io::write_all(STDOUT_FILENO, b"\n");
+}

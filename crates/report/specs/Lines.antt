@@ -1,0 +1,25 @@
+-- What the code's loops over levels and lines have done so far.
+use Prim.Native.Nat.{ℕ, _+_, _*_, _≤_, _<_}
+use mathlib.Core.Path.{_≡_}
+use mathlib.Core.List.{List}
+use lib.ListN.{length, getD, take}
+use Rattle.netlist.specs.declared.File.the-variants as file
+use Rattle.netlist.specs.Reading.{Places, readable, readFile, stageLimits}
+use Rattle.netlist.specs.Content.{Stage, stageOf}
+use Rattle.verdict.specs.Levels.{sum}
+use Rattle.verdict.specs.Loops.{NoLoop}
+use Rattle.report.specs.Report.{lines, mostLines}
+
+-- the lines of the first m words are written, their sum is known, and what stands behind them is 0
+pub record LinesTo (s : Stage) (m : ℕ) (written : List ℕ) (sum-so-far : ℕ) : Type 0 where
+  pub long : length written ≡ mostLines
+  pub line : (k : ℕ) → k < m → getD written k 0 ≡ getD (lines s) k 0
+  pub later : (k : ℕ) → m ≤ k → getD written k 0 ≡ 0
+  pub sum-is : sum-so-far ≡ sum (take m (lines s))
+  pub small : sum-so-far ≤ 0x10000 * m
+
+-- a stage file that reads, and whose stage has no loop
+pub record LoopFreeFile (stage : List ℕ) : Type 0 where
+  pub places : Places
+  pub reads : readFile file.Stage stageLimits stage ≡ readable places
+  pub free : NoLoop (stageOf stage places .inputs) (stageOf stage places .gates)

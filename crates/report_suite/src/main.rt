@@ -1,0 +1,40 @@
+// Reports on each pair of files that data/ holds. Prints a line for each: the case, then w:n for each word w with n gates high at its rest
+// and the total, or the verdict that refuses. The cases, and the lines that an independent judge gives them, are written by
+// tests/src/bin/report_suite.rs.
+use libc::STDOUT_FILENO;
+
+const CASES: usize = 78;
+
+// Case i is in the files iii.s, the stage, and iii.r, the reference.
+fn run(i: usize) {
+    let hundreds = b'0' + (i / 100 % 10) as u8;
+    let tens = b'0' + (i / 10 % 10) as u8;
+    let ones = b'0' + (i % 10) as u8;
+    let mut stage = [0u8; 8192];
+    let stage_len = console::load(&[hundreds, tens, ones, b'.', b's'], &mut stage);
+    let mut reference = [0u8; 8192];
+    let reference_len = console::load(&[hundreds, tens, ones, b'.', b'r'], &mut reference);
+    io::write_all(STDOUT_FILENO, &[hundreds, tens, ones, b' ']);
+    let report = fovaheju::report(&stage[..stage_len], &reference[..reference_len]);
+    if report.verdict.number == 0 {
+        let mut w: usize = 0;
+        while w < report.lines.len() && (w as u64) < report.words {
+            io::print_decimal(STDOUT_FILENO, w as u64);
+            io::write_all(STDOUT_FILENO, b":");
+            io::print_decimal(STDOUT_FILENO, report.lines[w] as u64);
+            io::write_all(STDOUT_FILENO, b" ");
+            w += 1;
+        }
+        io::write_all(STDOUT_FILENO, b"total");
+        console::print_next(report.total);
+    } else {
+        console::print_verdict(report.verdict);
+    }
+    io::write_all(STDOUT_FILENO, b"\n");
+}
+
+fn main() {
+    for i in 0..CASES {
+        run(i);
+    }
+}

@@ -1,0 +1,195 @@
+//! The cases of the program `report_suite`: pairs of a stage and a reference, the folder in
+//! which the program finds them, and the lines that it has to print. Also what the crate of the
+//! program `ncl_report` holds.
+//!
+//! The lines are the judge's; what a case prints is also written by hand where it is short.
+
+use crate::catalogue::{examples, MARKED};
+use crate::circuits::{ReferenceBuilder, Signal, StageBuilder};
+use crate::files::{report_text, unhex, verdict_line, write_pair, FilePair};
+use crate::generate;
+use crate::judge::{report, ACCEPTED};
+use std::path::PathBuf;
+
+pub struct Case {
+    pub about: String,
+    pub pair: FilePair,
+    /// The line without the case's number, where it is known without the judge.
+    pub known: Option<&'static str>,
+}
+
+/// What the program `report_suite` reads and what it must print: paths in its crate, with
+/// contents.
+pub fn contents() -> Vec<(PathBuf, Vec<u8>)> {
+    let mut list = Vec::new();
+    let mut stdout = String::new();
+    for (index, case) in cases().iter().enumerate() {
+        list.push((format!("data/{index:03}.s").into(), case.pair.stage.clone()));
+        list.push((
+            format!("data/{index:03}.r").into(),
+            case.pair.reference.clone(),
+        ));
+        stdout += &format!("{index:03} {}\n", line(&case.pair));
+    }
+    list.push(("stdout".into(), stdout.into_bytes()));
+    list
+}
+
+/// The same for the program `ncl_report`: one of the examples.
+pub fn contents_of_ncl_report() -> Vec<(PathBuf, Vec<u8>)> {
+    let example = examples()
+        .into_iter()
+        .find(|example| example.name == "full-adder")
+        .expect("an example");
+    let text = report_text(&report(&example.pair.stage, &example.pair.reference));
+    vec![
+        ("data/stage.ncl".into(), example.pair.stage),
+        ("data/reference.ncl".into(), example.pair.reference),
+        ("stdout".into(), text.into_bytes()),
+    ]
+}
+
+/// A pair's report in one line: each word, a colon and its number, each followed by a space,
+/// then `total` and the total; of a refused pair the four numbers.
+pub fn line(pair: &FilePair) -> String {
+    let report = report(&pair.stage, &pair.reference);
+    if report.verdict != ACCEPTED {
+        return verdict_line(report.verdict).trim_end().to_string();
+    }
+    let lines = report.lines.iter();
+    let lines: String = lines
+        .map(|(word, high)| format!("{word}:{high} "))
+        .collect();
+    format!("{lines}total {}", report.total)
+}
+
+struct Cases(Vec<Case>);
+
+impl Cases {
+    /// A pair that is there already is left out.
+    fn add(&mut self, about: impl Into<String>, pair: FilePair, known: Option<&'static str>) {
+        if self.0.iter().all(|case| case.pair != pair) {
+            self.0.push(Case {
+                about: about.into(),
+                pair,
+                known,
+            });
+        }
+    }
+}
+
+pub fn cases() -> Vec<Case> {
+    let mut cases = Cases(Vec::new());
+    marked_cases(&mut cases);
+    refused(&mut cases);
+    stored_examples(&mut cases);
+    unequal_words(&mut cases);
+    cases.0
+}
+
+/// What the marked cases of document 01 report; the words of case 11 are 1,024 lines.
+const MARKED_LINES: [Option<&str>; 12] = [
+    Some("0:1 1:1 2:1 3:1 total 4"),
+    Some("0:0 1:0 total 0"),
+    Some("13 1 0 0"),
+    Some("0:0 1:0 total 0"),
+    Some("13 1 0 0"),
+    Some("14 1 0 0"),
+    Some("14 1 1 0"),
+    Some("15 1 0 0"),
+    Some("12 1 0 0"),
+    Some("1 1 0 0"),
+    None,
+    Some("3 1 1 0"),
+];
+
+fn marked_cases(cases: &mut Cases) {
+    for (case, (about, stage, reference, _)) in MARKED.into_iter().enumerate() {
+        let pair = FilePair {
+            stage: unhex(stage),
+            reference: unhex(reference),
+        };
+        let about = format!("marked case {}: {about}", case + 1);
+        cases.add(about, pair, MARKED_LINES[case]);
+    }
+}
+
+/// Refusals of either file and of their counts.
+fn refused(cases: &mut Cases) {
+    const WIRE: &str = "01 01 03 00 00 01 00 00";
+    for (about, stage, reference, known) in [
+        (
+            "2: the files exchanged",
+            "01 01 12 00 00 00",
+            WIRE,
+            "2 1 2 0",
+        ),
+        (
+            "7: a byte after the stage",
+            "01 01 03 00 00 01 00 00 00",
+            "",
+            "7 1 8 0",
+        ),
+        ("9: an absent net", "01 01 03 00 00 02 00 00", "", "9 1 5 0"),
+        ("1: an empty reference", WIRE, "", "1 2 0 0"),
+        ("9: an absent signal", WIRE, "01 01 12 01 00 00", "9 2 3 0"),
+        ("10: 1 against 2", WIRE, "01 02 12 00 00 00", "10 0 1 2"),
+        (
+            "11: 1 against 3",
+            WIRE,
+            "01 01 12 00 00 12 00 00 12 00 00 00",
+            "11 0 1 3",
+        ),
+    ] {
+        let pair = FilePair {
+            stage: unhex(stage),
+            reference: unhex(reference),
+        };
+        cases.add(about, pair, Some(known));
+    }
+}
+
+/// The examples of at most six inputs, and few larger ones: their reports have up to 1,024 words.
+fn stored_examples(cases: &mut Cases) {
+    for example in examples() {
+        let inputs = example.pair.stage.get(1).copied().unwrap_or(0);
+        let large = [
+            "timing-network",
+            "timing-network-last-word",
+            "multiplier-4x4",
+        ];
+        if inputs <= 6 || large.contains(&example.name.as_str()) {
+            let about = format!("{}: {}", example.name, example.about);
+            cases.add(about, example.pair, None);
+        }
+    }
+}
+
+/// Stages whose words report unequal numbers: a chain of gates on rail 1 of each input, of i + 1
+/// gates for input i, so that a word reports the sum over its bits; and generated ones.
+fn unequal_words(cases: &mut Cases) {
+    for inputs in [1, 3, 10] {
+        let mut s = StageBuilder::new(inputs);
+        let mut r = ReferenceBuilder::new(inputs);
+        for (i, input) in s.inputs().into_iter().enumerate() {
+            let mut rail_1 = input.rail_1;
+            for _ in 0..=i {
+                rail_1 = s.gate("TH22", &[rail_1, rail_1]);
+            }
+            s.output(Signal { rail_1, ..input });
+            r.output(i);
+        }
+        let about = format!("{inputs} inputs, i + 1 gates on rail 1 of input i");
+        let known = (inputs == 3).then_some("0:0 1:1 2:2 3:3 4:3 5:4 6:5 7:6 total 24");
+        cases.add(about, write_pair(&s.stage, &r.reference), known);
+    }
+    for index in 0..300 {
+        let pair = generate::pair(2026, index).pair;
+        let report = report(&pair.stage, &pair.reference);
+        let mut numbers: Vec<u64> = report.lines.iter().map(|line| line.1).collect();
+        numbers.dedup();
+        if numbers.len() > 2 && pair.stage.len().max(pair.reference.len()) <= 8192 {
+            cases.add(format!("generated, number {index}"), pair, None);
+        }
+    }
+}
