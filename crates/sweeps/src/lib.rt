@@ -28,15 +28,15 @@ pub fn word_count(counts: Counts) -> usize
 }
 
 // Word k of a stage.
-pub fn word_at(code: &[u16], counts: Counts, k: usize) -> usize
+pub fn word_at(code: &[u16], counts: Counts, k: usize) -> u16
     requires { ⌜ StageLoaded counts (now code) × (k < wordCount (stageIn counts (now code))) ⌝ }
     ensures { λ r. ⌜ r ≡ getD (words (stageIn counts (now (code .entry)))) k 0 ⌝ }
 {
     if counts.care != 0 {
         let first = 8 * counts.gates + 2 * counts.outputs;
-        return code[first + k] as usize;
+        return code[first + k];
     }
-    k
+    k as u16
 }
 
 // The number of a check.
@@ -65,7 +65,7 @@ fn sweep_words(
     let count = word_count(counts);
     let mut k: usize = 0;
     while k < count {
-        let w = word_at(code, counts, k);
+        let w = word_at(code, counts, k) as usize;
         if let Found::At(i) = words::find(which, code, counts, reference, sizes, w) {
             return Finding::Fault(Verdict {
                 number,

@@ -40,9 +40,11 @@ loop-less c = omega arith
 loop-again : tie.Need-loop-again Inv-loop μ-loop
 loop-again c =
     let z = c .before .before .before in
-    let l = c .before .before .loop in
-    (omega (arith, l .inv .0, sum-part (now (z .args .row)) (z .args .from) (l .i) (omega (arith, z .pre .0))),
-    omega (arith, z .pre .2 (z .args .from + l .i) (omega arith)), omega arith)
+    let l = c .before .before .loop in (
+      omega (arith, l .inv .0, sum-part (now (z .args .row)) (z .args .from) (l .i) (omega (arith, z .pre .0))),
+      omega (arith, z .pre .2 (z .args .from + l .i) (omega arith)),
+      omega arith,
+    )
 
 returns : tie.Need-returns Inv-loop μ-loop
 returns c =

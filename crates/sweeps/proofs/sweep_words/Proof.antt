@@ -68,6 +68,7 @@ sweep-words-spec =
     word-count-requires
     loop-holds
     word-at-requires
+    (λ c. search needs)
     find-requires
     (λ c. search needs)
     returns

@@ -3,7 +3,7 @@ use Prim.Native.Nat.{_+_, _*_}
 use native.Mathlib.Omega.{arith}
 use borrow.Author.Needs.{needs}
 use denote.Ref.{now}
-use Rattle.sweeps.proofs.Sweeping.{all-at, care-count, care-at}
+use Rattle.sweeps.proofs.Sweeping.{all-count, all-at, care-count, care-at, few-words}
 use Rattle.sweeps.proofs.word_at.Statement.{statement}
 use Rattle.sweeps.proofs.word_at.Tie as tie
 
@@ -27,8 +27,9 @@ shared-slice-read-result c =
 
 cast-result : tie.Need-cast-result
 cast-result c =
-    let start = c .before .before .before .before .before in
-    omega (arith, c .shared-slice-known .given (8 * start .args .counts .gates + 2 * start .args .counts .outputs + start .args .k))
+    let start = c .before .before in
+    let all = all-count (start .args .counts) (now (start .args .code)) (c .if1 .left) in
+    omega (arith, start .pre .1, all, few-words (start .args .counts .inputs) (start .pre .0 .within .inputs-in))
 
 returns : tie.Need-returns
 returns c =
@@ -51,6 +52,6 @@ word-at-spec =
     add-result
     mul-result
     shared-slice-read-result
-    cast-result
     returns
+    cast-result
     returns-2)
