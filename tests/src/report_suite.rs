@@ -57,7 +57,9 @@ pub fn line(pair: &FilePair) -> String {
         return verdict_line(report.verdict).trim_end().to_string();
     }
     let lines = report.lines.iter();
-    let lines: String = lines.map(|(word, high)| format!("{word}:{high} ")).collect();
+    let lines: String = lines
+        .map(|(word, high)| format!("{word}:{high} "))
+        .collect();
     format!("{lines}total {}", report.total)
 }
 
@@ -119,13 +121,28 @@ fn marked_cases(cases: &mut Cases) {
 fn refused(cases: &mut Cases) {
     const WIRE: &str = "01 01 03 00 00 01 00 00";
     for (about, stage, reference, known) in [
-        ("2: the files exchanged", "01 01 12 00 00 00", WIRE, "2 1 2 0"),
-        ("7: a byte after the stage", "01 01 03 00 00 01 00 00 00", "", "7 1 8 0"),
+        (
+            "2: the files exchanged",
+            "01 01 12 00 00 00",
+            WIRE,
+            "2 1 2 0",
+        ),
+        (
+            "7: a byte after the stage",
+            "01 01 03 00 00 01 00 00 00",
+            "",
+            "7 1 8 0",
+        ),
         ("9: an absent net", "01 01 03 00 00 02 00 00", "", "9 1 5 0"),
         ("1: an empty reference", WIRE, "", "1 2 0 0"),
         ("9: an absent signal", WIRE, "01 01 12 01 00 00", "9 2 3 0"),
         ("10: 1 against 2", WIRE, "01 02 12 00 00 00", "10 0 1 2"),
-        ("11: 1 against 3", WIRE, "01 01 12 00 00 12 00 00 12 00 00 00", "11 0 1 3"),
+        (
+            "11: 1 against 3",
+            WIRE,
+            "01 01 12 00 00 12 00 00 12 00 00 00",
+            "11 0 1 3",
+        ),
     ] {
         let pair = FilePair {
             stage: unhex(stage),
@@ -139,7 +156,11 @@ fn refused(cases: &mut Cases) {
 fn stored_examples(cases: &mut Cases, examples: Vec<Example>) {
     for example in examples {
         let inputs = example.pair.stage.get(1).copied().unwrap_or(0);
-        let large = ["timing-network", "timing-network-last-word", "multiplier-4x4"];
+        let large = [
+            "timing-network",
+            "timing-network-last-word",
+            "multiplier-4x4",
+        ];
         if inputs <= 6 || large.contains(&example.name.as_str()) {
             let about = format!("{}: {}", example.name, example.about);
             cases.add(about, example.pair, None);

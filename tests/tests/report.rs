@@ -207,7 +207,10 @@ fn lines_of_the_cases() {
     let lines: Vec<String> = cases().iter().map(|case| line(&case.pair)).collect();
     let words = |line: &String| line.matches(':').count();
     for count in [2, 4, 8, 16, 64, 256, 1024] {
-        assert!(lines.iter().any(|line| words(line) == count), "{count} words");
+        assert!(
+            lines.iter().any(|line| words(line) == count),
+            "{count} words"
+        );
     }
     let numbers = ["1 ", "2 ", "3 ", "7 ", "9 ", "10 ", "11 ", "12 ", "13 ", "14 ", "15 ", "18 ", "19 "];
     for number in numbers {
