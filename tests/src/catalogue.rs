@@ -387,7 +387,8 @@ fn nand_9_reference() -> Reference {
 
 /// The file examples/LIST.md: every pair with its verdict and what it is.
 pub fn listing() -> String {
-    let mut text = String::from("# All pairs\n\n| Folder | Verdict | What it is |\n|---|---|---|\n");
+    let mut text =
+        String::from("# All pairs\n\n| Folder | Verdict | What it is |\n|---|---|---|\n");
     for example in examples() {
         let verdict = judge::check(&example.pair.stage, &example.pair.reference);
         text += &format!(
@@ -422,8 +423,13 @@ fn decimal(outputs: &[Vec<bool>]) -> Stage {
 /// asked; the reference has 0 there.
 fn increment_values() -> Vec<Vec<bool>> {
     let next = |word: usize| if word < 9 { word + 1 } else { 0 };
-    let bits = (0..4).map(|bit| (0..16).map(|word| word < 10 && next(word) >> bit & 1 == 1).collect());
-    bits.chain([(0..16).map(|word| word == 9).collect()]).collect()
+    let bits = (0..4).map(|bit| {
+        (0..16)
+            .map(|word| word < 10 && next(word) >> bit & 1 == 1)
+            .collect()
+    });
+    bits.chain([(0..16).map(|word| word == 9).collect()])
+        .collect()
 }
 
 /// Stages with care lists (document 02, M-101).
@@ -545,7 +551,13 @@ fn care_examples() -> Vec<Example> {
         care: vec![0, 1, 2, 3],
         ..dual_rail(&and)
     };
-    add("and-all-words", "AND, a list of all four words", 0, &all, &and);
+    add(
+        "and-all-words",
+        "AND, a list of all four words",
+        0,
+        &all,
+        &and,
+    );
     let mut s = StageBuilder::new(2);
     let out = s.and_incomplete(s.input(0), s.input(1));
     s.output(out);
@@ -569,12 +581,24 @@ fn care_examples() -> Vec<Example> {
         care: vec![3, 4],
         ..dual_rail(&and)
     };
-    add("and-word-4", "AND, word 4 of two inputs", 18, &too_high, &and);
+    add(
+        "and-word-4",
+        "AND, word 4 of two inputs",
+        18,
+        &too_high,
+        &and,
+    );
     let falling = Stage {
         care: vec![0, 2, 1],
         ..dual_rail(&and)
     };
-    add("and-falling-list", "AND, word 1 after word 2", 19, &falling, &and);
+    add(
+        "and-falling-list",
+        "AND, word 1 after word 2",
+        19,
+        &falling,
+        &and,
+    );
     list
 }
 

@@ -10,8 +10,8 @@ use crate::circuits::{
     ripple_adder_reference, Products, ReferenceBuilder, StageBuilder,
 };
 use crate::files::{
-    care_word, file_of, reference_commands, reference_gate, reference_output, stage_commands, stage_gate,
-    stage_output, write_reference, write_stage, FilePair,
+    care_word, file_of, reference_commands, reference_gate, reference_output, stage_commands,
+    stage_gate, stage_output, write_reference, write_stage, FilePair,
 };
 use crate::judge::{
     answer, pin_count, rails_of_word, read_stage, settle, Boolean, Gate, Reference, Stage, Verdict,
@@ -1550,6 +1550,7 @@ fn crossed(random: &mut Random) -> Generated {
     // A refusal in reading stands whatever the other file is, the stage's first.
     let known = match (first.known, second.known) {
         (Known::Verdict([1..=9, 1, _, _]), _) => first.known,
+        (Known::Nothing, _) => Known::Nothing,
         (_, Known::Verdict([1..=9, 2, _, _])) => second.known,
         _ => Known::Nothing,
     };

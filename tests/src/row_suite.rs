@@ -838,12 +838,7 @@ fn care_words(cases: &mut Cases) {
         0,
     );
     cases.refused("1: only the care command", unhex("01 01 06"), 1, 3);
-    cases.refused(
-        "1 before 18: word FF.., cut",
-        unhex("01 01 06 FF"),
-        1,
-        4,
-    );
+    cases.refused("1 before 18: word FF.., cut", unhex("01 01 06 FF"), 1, 4);
     cases.refused(
         "1 before 19: word 0 after word 1, cut",
         unhex("01 02 06 01 00 06 00"),
@@ -868,12 +863,7 @@ fn care_words(cases: &mut Cases) {
         18,
         3,
     );
-    cases.refused(
-        "18 before 8: no output",
-        file_of(1, &[care_word(2)]),
-        18,
-        3,
-    );
+    cases.refused("18 before 8: no output", file_of(1, &[care_word(2)]), 18, 3);
     cases.refused(
         "8: a care word and no output",
         file_of(1, &[care_word(1)]),
@@ -910,13 +900,7 @@ fn care_words(cases: &mut Cases) {
     );
     let mut listed = whole_case();
     listed.splice(2..2, [care_word(0), care_word(2)].concat());
-    cases.row(
-        "16 with a care list",
-        &listed,
-        vec![0, 1, 0, 1, 5],
-        16,
-        5,
-    );
+    cases.row("16 with a care list", &listed, vec![0, 1, 0, 1, 5], 16, 5);
     cases.row(
         "17 with a care list",
         &listed,

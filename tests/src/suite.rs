@@ -1116,7 +1116,12 @@ fn care_words(cases: &mut Cases) {
         }
         file_of(1, &commands)
     };
-    for (list, at, word) in [(vec![], 0, 0), (vec![0, 1], 0, 0), (vec![0], 0, 0), (vec![1], 1, 1)] {
+    for (list, at, word) in [
+        (vec![], 0, 0),
+        (vec![0, 1], 0, 0),
+        (vec![0], 0, 0),
+        (vec![1], 1, 1),
+    ] {
         cases.add(
             &format!("15: an idle gate for each word, list {list:?}"),
             &idle(&list),
@@ -1157,14 +1162,34 @@ fn care_words(cases: &mut Cases) {
     let all: Vec<u64> = (0..1024).collect();
     let others: Vec<u64> = (0..1024).filter(|&word| word != 1000).collect();
     let wrong = [13, STAGE, 9, 1000];
-    cases.add("13: ten wires, all words listed", &ten(&all), &turned, wrong);
-    cases.add("13: ten wires, word 1000 alone", &ten(&[1000]), &turned, wrong);
+    cases.add(
+        "13: ten wires, all words listed",
+        &ten(&all),
+        &turned,
+        wrong,
+    );
+    cases.add(
+        "13: ten wires, word 1000 alone",
+        &ten(&[1000]),
+        &turned,
+        wrong,
+    );
     cases.add(
         "13: ten wires, the last of three words",
         &ten(&[0, 512, 1000]),
         &turned,
         wrong,
     );
-    cases.add("ten wires, all words but 1000", &ten(&others), &turned, ACCEPTED);
-    cases.add("ten wires, word 1023 alone", &ten(&[1023]), &turned, ACCEPTED);
+    cases.add(
+        "ten wires, all words but 1000",
+        &ten(&others),
+        &turned,
+        ACCEPTED,
+    );
+    cases.add(
+        "ten wires, word 1023 alone",
+        &ten(&[1023]),
+        &turned,
+        ACCEPTED,
+    );
 }

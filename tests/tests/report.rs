@@ -212,7 +212,9 @@ fn lines_of_the_cases() {
             "{count} words"
         );
     }
-    let numbers = ["1 ", "2 ", "3 ", "7 ", "9 ", "10 ", "11 ", "12 ", "13 ", "14 ", "15 ", "18 ", "19 "];
+    let numbers = [
+        "1 ", "2 ", "3 ", "7 ", "9 ", "10 ", "11 ", "12 ", "13 ", "14 ", "15 ", "18 ", "19 ",
+    ];
     for number in numbers {
         let refused = lines.iter().any(|line| line.starts_with(number));
         assert!(refused, "no case of {number}");
