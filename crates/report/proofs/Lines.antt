@@ -37,14 +37,15 @@ module _ (l : List ℕ) where
 
   module _ (few : length l ≤ mostLines) (m : ℕ) (written : List ℕ) (to : ListedTo l m written) where
     listed-more : m < length l → (x : ℕ) → x ≡ getD l m 0 → ListedTo l (m + 1) (set written m x)
-    listed-more h x e = record {
+    listed-more below x e = record {
       long = length-set written m x ∙ to .long;
       member = λ k h. at k h (ℕ-discrete k m);
       later = λ k h. getD-set-other written m k x 0 (λ q. omega arith) ∙ to .later k (omega arith);
     }
       where
         at : (k : ℕ) → k < m + 1 → Dec (k ≡ m) → getD (set written m x) k 0 ≡ getD l k 0
-        at k h (yes q) = ap (λ (i : ℕ). getD (set written m x) i 0) q ∙ getD-set-same written m x 0 (omega (arith, to .long)) ∙ e ∙ ap (λ (i : ℕ). getD l i 0) (sym q)
+        at k h (yes q) = ap (λ (i : ℕ). getD (set written m x) i 0) q ∙ getD-set-same written m x 0 (omega (arith, to .long, below, few)) ∙ e
+            ∙ ap (λ (i : ℕ). getD l i 0) (sym q)
         at k h (no d) = getD-set-other written m k x 0 d ∙ to .member k (omega arith)
 
     listed-done : m ≡ length l → written ≡ padded l
