@@ -41,10 +41,28 @@ struct fovaheju_verdict {
 struct fovaheju_verdict fovaheju_check(const uint8_t *stage, size_t stage_len,
                                        const uint8_t *reference, size_t reference_len);
 
+/* The switching report: the verdict, and of an accepted stage how many gates are high at the rest of each word. */
+struct fovaheju_report {
+    /* As fovaheju_check answers. Where it refuses, all that follows is 0. */
+    struct fovaheju_verdict verdict;
+    /* How many words the stage has: its care words, or without them 2 to the power of its inputs. */
+    uint64_t words;
+    /* The sum of the lines; half of all gate switchings when each word rises and falls once. */
+    uint64_t total;
+    /* lines[k] is how many gates are high at the rest of word names[k]; 0 behind the last word's line. */
+    uint16_t lines[1024];
+    /* The words, rising; 0 behind the last. */
+    uint16_t names[1024];
+};
+
+/* The report of a stage file against a reference file. */
+struct fovaheju_report fovaheju_report(const uint8_t *stage, size_t stage_len,
+                                       const uint8_t *reference, size_t reference_len);
+
 /* Settles a row of the stage: one byte for each net, two for each input (rail 0, rail 1), then one for each gate. The
    bytes of the inputs are 0 or 1 and not both 1; what the bytes of the gates hold is ignored. Where the number is 0,
-   each gate's byte is then 1 if the gate is high and 0 if it is low, and the inputs' bytes are as before. Where the row
-   is refused, it is left as it was. The numbers are 0 to 9, 12 and 16 to 19. */
+   each gate's byte is then 1 if the gate is high and 0 if it is low, and the inputs' bytes are as before. Where the
+   number is another, the row is left as it was. The numbers are 0 to 9, 12 and 16 to 19. */
 struct fovaheju_verdict fovaheju_settled_row(const uint8_t *stage, size_t stage_len,
                                              uint8_t *row, size_t row_len);
 

@@ -65,7 +65,7 @@ stageCare c code = tabulate (λ i. getD code (8 * c .gates + 2 * c .outputs + i)
 abbrev pub stageIn : Counts → List ℕ → Stage
 stageIn c code = record { inputs = c .inputs; gates = stageGates c code; outputs = stageOutputs c code; care = stageCare c code }
 
--- gate k is of a known cell, with nets at its pins and the ground at those that it lacks
+-- gate k is of a known cell, and at each of its four pins stands a net or the ground
 pub record GateLoaded (c : Counts) (code : List ℕ) (k : ℕ) : Type 0 where
   pub low : 1 ≤ cellIn code k
   pub high : cellIn code k ≤ 27

@@ -70,8 +70,8 @@ fn level_holding(
 
 // ---- settling
 
-// The gates from place `start` of the order on are evaluated once each, in the order; gate `held` is low. Where `held` is no gate,
-// none is. The gates before that place have their levels already.
+// The gates from place `start` of the order on are evaluated once each, in the order; gate `held` stays low. A `held` that
+// is no gate holds none. The gates before that place have their levels already.
 pub fn settle_from(code: &[u16], counts: Counts, row: &mut [u8], start: usize, held: usize)
     requires { ⌜ StageLoaded counts (now code) × InOrder counts (now code) × RowFor counts (now row)
         × SettledTo start held counts (now code) (now row) ⌝ }

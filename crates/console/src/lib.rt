@@ -1,5 +1,6 @@
 // What the programs share: the start of a file, and numbers on standard output. No contract can say what is read or written.
 use libc::STDOUT_FILENO;
+use report::Report;
 use verdict::Verdict;
 ghost use Rattle.io.specs.Counts.{Counts};
 ghost use mathlib.Core.Path.{_≡_};
@@ -40,4 +41,33 @@ pub fn print_verdict(v: Verdict) {
     print_next(v.file);
     print_next(v.at);
     print_next(v.word);
+}
+
+// A number, some bytes, another number and some bytes: the line of a word in a report.
+fn print_line(word: u64, high: u64, between: &[u8], after: &[u8]) {
+    io::print_decimal(STDOUT_FILENO, word);
+    io::write_all(STDOUT_FILENO, between);
+    io::print_decimal(STDOUT_FILENO, high);
+    io::write_all(STDOUT_FILENO, after);
+}
+
+// The first so many lines of a report, each with its word.
+fn print_lines(lines: &[u16], names: &[u16], words: u64, between: &[u8], after: &[u8]) {
+    let mut k: usize = 0;
+    while k < lines.len() && k < names.len() && (k as u64) < words {
+        print_line(names[k] as u64, lines[k] as u64, between, after);
+        k += 1;
+    }
+}
+
+// The lines of a report, each as the word, `between`, the number of gates high at its rest and `after`; then the total. Of a refused pair
+// the verdict alone.
+pub fn print_report(report: Report, between: &[u8], after: &[u8]) {
+    if report.verdict.number == 0 {
+        print_lines(&report.lines, &report.names, report.words, between, after);
+        io::write_all(STDOUT_FILENO, b"total");
+        print_next(report.total);
+    } else {
+        print_verdict(report.verdict);
+    }
 }

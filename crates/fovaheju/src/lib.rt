@@ -1,4 +1,5 @@
-// The public calls. Their contracts cite the definitions of crate `verdict` and ask nothing of the caller.
+// The public calls. Their contracts cite the definitions of crates `verdict` and `report`, at the limits of crate `netlist`, and ask
+// nothing of the caller.
 use report::Report;
 use verdict::Verdict;
 ghost use mathlib.Core.Path.{_≡_};

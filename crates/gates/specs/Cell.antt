@@ -50,7 +50,7 @@ cells =
     cell "TH24comp" 4 (A · C ∔ B · C ∔ A · D ∔ B · D) ∷
     []
 
--- a number outside 1 to 27: no name, no pins
+-- a number outside 1 to 27: no name, and no pins, so that its expression never holds
 abbrev noCell : Cell
 noCell = cell "" 0 A
 

@@ -8,18 +8,6 @@ fn main() {
     let mut reference = [0u8; 8192];
     let reference_len = console::load(b"reference.ncl", &mut reference);
     let report = fovaheju::report(&stage[..stage_len], &reference[..reference_len]);
-    if report.verdict.number == 0 {
-        let mut w: usize = 0;
-        while w < report.lines.len() && (w as u64) < report.words {
-            io::print_decimal(STDOUT_FILENO, w as u64);
-            console::print_next(report.lines[w] as u64);
-            io::write_all(STDOUT_FILENO, b"\n");
-            w += 1;
-        }
-        io::write_all(STDOUT_FILENO, b"total");
-        console::print_next(report.total);
-    } else {
-        console::print_verdict(report.verdict);
-    }
+    console::print_report(report, b" ", b"\n");
     io::write_all(STDOUT_FILENO, b"\n");
 }

@@ -20,7 +20,7 @@ whenFound Nothing there none = none
 
 -- ---- the command table
 
--- two sorts are the same
+-- a number for each sort, to compare them by
 abbrev pub sortNumber : Sort → ℕ
 sortNumber sort.End = 0
 sortNumber sort.Inputs = 1

@@ -67,8 +67,8 @@ pub struct Cursor {
     pub at: usize,
 }
 
-// What stands before a position: the count of the inputs command; how many gates, outputs and care words; and the least that the
-// next care word may be.
+// The count of the inputs command, how many gates, outputs and care words there are, and the least that the next care word may be:
+// before a position of a file, or in all.
 pub struct Counts {
     pub inputs: usize,
     pub gates: usize,

@@ -3,7 +3,7 @@
 // tests/src/bin/report_suite.rs.
 use libc::STDOUT_FILENO;
 
-const CASES: usize = 78;
+const CASES: usize = 103;
 
 // Case i is in the files iii.s, the stage, and iii.r, the reference.
 fn run(i: usize) {
@@ -16,20 +16,7 @@ fn run(i: usize) {
     let reference_len = console::load(&[hundreds, tens, ones, b'.', b'r'], &mut reference);
     io::write_all(STDOUT_FILENO, &[hundreds, tens, ones, b' ']);
     let report = fovaheju::report(&stage[..stage_len], &reference[..reference_len]);
-    if report.verdict.number == 0 {
-        let mut w: usize = 0;
-        while w < report.lines.len() && (w as u64) < report.words {
-            io::print_decimal(STDOUT_FILENO, w as u64);
-            io::write_all(STDOUT_FILENO, b":");
-            io::print_decimal(STDOUT_FILENO, report.lines[w] as u64);
-            io::write_all(STDOUT_FILENO, b" ");
-            w += 1;
-        }
-        io::write_all(STDOUT_FILENO, b"total");
-        console::print_next(report.total);
-    } else {
-        console::print_verdict(report.verdict);
-    }
+    console::print_report(report, b":", b" ");
     io::write_all(STDOUT_FILENO, b"\n");
 }
 

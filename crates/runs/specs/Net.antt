@@ -37,7 +37,7 @@ abbrev pub inputRail : ℕ → Bool → ℕ
 inputRail i false = 2 * i
 inputRail i true = 2 * i + 1
 
--- AllPins nets of a list are low.
+-- All nets of a list are low.
 abbrev pub allLow : Row → List ℕ → Bool
 allLow r [] = true
 allLow r (p ∷ ps) = not (r p) && allLow r ps

@@ -93,7 +93,7 @@ unobservable s w =
     let row = settled (s .gates) rails in
     λ g. elim (high row (2 * s .inputs + g)) [ true ↦ allData (settledHolding g (s .gates) rails) (s .outputs) | false ↦ false ]
 
--- ---- the same in the paper's words
+-- ---- the same as statements about the rows at rest; that these rows are the settled ones of a loop-free stage is shown in proofs/Bridge
 
 abbrev pub WrongAt : Stage → Reference → ℕ → ℕ → Type 0
 WrongAt s r w j = ¬ (DataOf (restRow s w) (netOf s .rail j) (answerBits r w j))
@@ -118,7 +118,7 @@ abbrev pub looped : Stage → Check
 looped s =
     check 12 1 (0 ∷ []) (numbers 0 (length (s .gates))) (λ w. reachesItself (s .inputs) (s .gates)) (λ w. ReachesItself (s .inputs) (s .gates)) unsaid
 
--- the checks of a stage against a reference, in their order: those of the counts and of loops, and those that sweep the words
+-- the checks that sweep the words, in their order
 unfoldable pub sweeps : Stage → Reference → List Check
 sweeps s r =
     check 13 1 (words s) (numbers 0 (length (s .outputs))) (wrong s r) (WrongAt s r)

@@ -9,7 +9,7 @@ pub struct Verdict {
     pub word: u64,
 }
 
-// What a check finds: its least fault, or none.
+// What a check finds, or the first of several checks that finds something: its least fault, or none.
 pub enum Finding {
     Fault(Verdict),
     Passed,
