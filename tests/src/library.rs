@@ -25,6 +25,7 @@ struct Report {
     words: u64,
     total: u64,
     lines: [u16; 1024],
+    names: [u16; 1024],
 }
 
 extern "C" {
