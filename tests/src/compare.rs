@@ -28,6 +28,7 @@ pub struct Counts {
     pub words: u64,
     pub total: u64,
     pub lines: Vec<u16>,
+    pub names: Vec<u16>,
 }
 
 /// The report of a stage file and a reference file.
@@ -38,11 +39,14 @@ pub fn judged_counts(stage: &[u8], reference: &[u8]) -> Counts {
     let report = judge::report(stage, reference);
     let mut lines: Vec<u16> = report.lines.iter().map(|line| line.1 as u16).collect();
     lines.resize(1024, 0);
+    let mut names: Vec<u16> = report.lines.iter().map(|line| line.0 as u16).collect();
+    names.resize(1024, 0);
     Counts {
         verdict: report.verdict,
         words: report.lines.len() as u64,
         total: report.total,
         lines,
+        names,
     }
 }
 
