@@ -64,7 +64,8 @@ fn print_lines(lines: &[u16], names: &[u16], words: u64, between: &[u8], after: 
 // the verdict alone.
 pub fn print_report(report: Report, between: &[u8], after: &[u8]) {
     if report.verdict.number == 0 {
-        print_lines(&report.lines, &report.names, report.words, between, after);
+        let names = report.names;
+        print_lines(&report.lines, &names, report.words, between, after);
         io::write_all(STDOUT_FILENO, b"total");
         print_next(report.total);
     } else {
