@@ -3,7 +3,7 @@
 
    Each call takes byte strings as a pointer and then a length. The bytes may be any; that they are there, that nothing
    else writes them during the call, and that a row does not overlap the stage is all that is asked. Each call returns,
-   keeps nothing for later calls, and touches no other memory but some kilobytes of stack. So calls may run at the same
+   keeps nothing for later calls, and touches no other memory but its answer and some kilobytes of stack. So calls may run at the same
    time in several threads, each with a row of its own.
 
    A pointer that goes with the length 0 is not read through. What is proved is about pointers that are not null; with

@@ -11,8 +11,8 @@ use lib.Seq.{getD-append-add}
 use lib.Dec.{eqb, ltb}
 use borrow.Author.Tests.{lt-ltb, le-ltb, eq-eqb}
 use Rattle.runs.specs.Row.{Row, low, after, tally, times}
-use Rattle.runs.specs.Net.{rails}
-use Rattle.runs.specs.Promise.{Promise}
+use Rattle.runs.specs.Net.{rails, RiseList, RiseEnd}
+use Rattle.runs.specs.Promise.{Rest, Promise}
 use Rattle.netlist.specs.declared.Limits.{Limits}
 use Rattle.netlist.specs.Reading.{Rising}
 use Rattle.netlist.specs.Content.{Stage, Reference}
@@ -28,7 +28,7 @@ use Rattle.verdict.proofs.Settling.{settled-bits}
 use Rattle.verdict.proofs.Words.{words-rise}
 use Rattle.verdict.proofs.OneWord.{wires-length}
 use Rattle.report.specs.Report.{gatesHigh, lines, total}
-use Rattle.report.specs.Activity.{gateSwitchings, Cycle, switchings, EachWordOnce, HalfOfAll}
+use Rattle.report.specs.Activity.{gateSwitchings, Cycle, switchings, EachWordOnce, Cycled, HalfOfAll}
 use Rattle.report.proofs.Counting.{upTo, upTo-same, upTo-zero, upTo-split, upTo-levels, weigh, weigh-zero, sum-times, sum-same, times-rising}
 
 -- ---- one list
@@ -79,16 +79,47 @@ module _ (s : Stage) (w : ℕ) (l : List ℕ) (once : (k : ℕ) → times k l �
 
 -- ---- one word
 
--- a rise and a fall of a word in which the promise is kept: twice the gates high at its rest
-cycle-twice : (s : Stage) (r : Reference) (p : Cycle s) → Promise (netOf s) (railsFor s (p .word)) (answerBits r (p .word))
-    → RisesTo s (railsFor s (p .word)) (restRow s (p .word)) → switchings s p ≡ 2 * gatesHigh s (p .word)
-cycle-twice s r p promise rises =
-    let end = rises .end-is (p .rise) (p .rise-legal) (p .rise-ended) in
-    let rest = promise .lists (p .rise) (p .rise-legal) .end-rest (p .rise-ended) in
-    let fall = rest .falls (p .fall) (p .fall-legal) .end-switched (p .fall-ended) in
-    let up = list-gates s (p .word) (p .rise) (λ i. rest .switched .once i ∙ ap (λ (R : Row). tally (R i) 0) end) in
-    let down = list-gates s (p .word) (p .fall) (λ i. fall .once i ∙ ap (λ (R : Row). tally (R i) 0) end) in
-    omega (arith, up, down)
+-- a word in which the promise is kept: it has cycles, and each switches the gates high at its rest, up and down again
+module _ (s : Stage) (r : Reference) (w : ℕ) (promise : Promise (netOf s) (railsFor s w) (answerBits r w)) (rises : RisesTo s (railsFor s w) (restRow s w)) where
+  module _ (p : Cycle s) (e : p .word ≡ w) where
+    legal : RiseList (netOf s) (railsFor s w) (p .rise)
+    legal = subst (λ (v : ℕ). RiseList (netOf s) (railsFor s v) (p .rise)) e (p .rise-legal)
+
+    ended : RiseEnd (netOf s) (railsFor s w) (p .rise)
+    ended = subst (λ (v : ℕ). RiseEnd (netOf s) (railsFor s v) (p .rise)) e (p .rise-ended)
+
+    rest : Rest (netOf s) (railsFor s w) (answerBits r w) (p .rise)
+    rest = promise .lists (p .rise) legal .end-rest ended
+
+    high-there : (i : ℕ) → tally (after low (p .rise) i) 0 ≡ tally (restRow s w i) 0
+    high-there i = ap (λ (R : Row). tally (R i) 0) (rises .end-is (p .rise) legal ended)
+
+    rise-gates : gateSwitchings (netOf s) (p .rise) ≡ gatesHigh s w
+    rise-gates = list-gates s w (p .rise) (λ i. rest .switched .once i ∙ high-there i)
+
+    fall-gates : gateSwitchings (netOf s) (p .fall) ≡ gatesHigh s w
+    fall-gates = list-gates s w (p .fall) (λ i. rest .falls (p .fall) (p .fall-legal) .end-switched (p .fall-ended) .once i ∙ high-there i)
+
+  pub cycled : Cycled s w
+  cycled = record {
+    some =
+        let up = promise .lists [] tt .goes-on in
+        let down = promise .lists (up .more) (up .legal) .end-rest (up .ended) .falls [] tt .goes-on in (
+          record {
+            word = w;
+            rise = up .more;
+            rise-legal = up .legal;
+            rise-ended = up .ended;
+            fall = down .more;
+            fall-legal = down .legal;
+            fall-ended = down .ended;
+          },
+          refl,
+        );
+    rises = rise-gates;
+    falls = fall-gates;
+    back = λ p e. rest p e .falls (p .fall) (p .fall-legal) .end-low (p .fall-ended);
+  }
 
 -- ---- all words
 
@@ -124,8 +155,12 @@ module _ (s : Stage) (care : Rising (2 ^ s .inputs) 0 (s .care)) (cycle : (p : C
       as-often w (inr h) = each .none w (h .0) ∙ sym (h .1)
 
 -- of the stage of an accepted pair of files
-pub accepted-half : (stageMost referenceMost : Limits) (stage reference : List ℕ) (k : Kept stageMost referenceMost stage reference) → HalfOfAll (k .contents .circuit)
-accepted-half stageMost referenceMost stage reference k =
-    let is = k .contents .circuit-is in
-    let formed = subst (StageFormed stageMost) (is .content) (stage-formed stageMost stage (is .places) (is .reads)) in
-    half (k .contents .circuit) (formed .care-in) (λ p h. cycle-twice (k .contents .circuit) (k .contents .function) p (k .promise (p .word) h) (k .rest (p .word) h))
+module _ (stageMost referenceMost : Limits) (stage reference : List ℕ) (k : Kept stageMost referenceMost stage reference) where
+  pub accepted-cycled : (w : ℕ) → IsWord (k .contents .circuit) w → Cycled (k .contents .circuit) w
+  accepted-cycled w h = cycled (k .contents .circuit) (k .contents .function) w (k .promise w h) (k .rest w h)
+
+  pub accepted-half : HalfOfAll (k .contents .circuit)
+  accepted-half =
+      let is = k .contents .circuit-is in
+      let formed = subst (StageFormed stageMost) (is .content) (stage-formed stageMost stage (is .places) (is .reads)) in
+      half (k .contents .circuit) (formed .care-in) (λ p h. let c = accepted-cycled (p .word) h in omega (arith, c .rises p refl, c .falls p refl))

@@ -42,7 +42,7 @@ use Rattle.report.specs.Report.{gatesHigh, lines, total, mostLines, padd
 use Rattle.report.specs.Activity.{Reported, ReportMeans}
 use Rattle.report.specs.Lines.{LoopFreeFile}
 use Rattle.report.proofs.Lines.{words-few}
-use Rattle.report.proofs.Activity.{accepted-half}
+use Rattle.report.proofs.Activity.{accepted-cycled, accepted-half}
 
 -- ---- a file that reads, and whose stage has no loop
 
@@ -164,5 +164,6 @@ module _ (stage reference : List ℕ) where
             lines-are = e ∙ sym (ap (λ (x : Verdict). reportReading x stage (readFile file.Stage stageLimits stage)) is)
                 ∙ reading-zero (r .verdict) (readFile file.Stage stageLimits stage) (c .places) n (c .reads)
                 ∙ ap (λ (x : Verdict). stageReport x (stageOf stage (c .places))) a ∙ ap (stageReport accepted) (c .content);
+            cycled = accepted-cycled stageLimits referenceLimits stage reference k;
             half = accepted-half stageLimits referenceLimits stage reference k;
           }

@@ -6,6 +6,7 @@ use mathlib.Core.List.{List, [], map}
 use lib.Dec.{ltb}
 use Rattle.runs.specs.Row.{low, after, tally, times}
 use Rattle.runs.specs.Net.{Net, rails, RiseList, RiseEnd, FallList, FallEnd}
+use Rattle.runs.specs.Pair.{AllLow}
 use Rattle.netlist.specs.Reading.{stageLimits}
 use Rattle.netlist.specs.Content.{Stage}
 use Rattle.verdict.specs.Levels.{sum}
@@ -14,7 +15,7 @@ use Rattle.verdict.specs.Nets.{netOf, railsFor}
 use Rattle.verdict.specs.Verdicts.{accepted, verdictOn}
 use Rattle.verdict.specs.Demands.{StageIs}
 use Rattle.report.specs.declared.Report.{Report}
-use Rattle.report.specs.Report.{total, refusedReport, stageReport}
+use Rattle.report.specs.Report.{gatesHigh, total, refusedReport, stageReport}
 
 -- how many switchings of a list are of gates: all but those of the inputs' rails
 abbrev pub gateSwitchings : Net → List ℕ → ℕ
@@ -42,15 +43,24 @@ pub record EachWordOnce (s : Stage) (order : List ℕ) : Type 0 where
 abbrev pub HalfOfAll : Stage → Type 0
 HalfOfAll s = (cycles : List (Cycle s)) → EachWordOnce s (map (λ (p : Cycle s). p .word) cycles) → sum (map (switchings s) cycles) ≡ 2 * total s
 
--- the report of an accepted stage: each line is the number of gates high at the rest of its word, and the total, the sum of the lines, is
--- half of all gate switchings
+-- Of a word: it has a cycle; the rise and the fall of each of its cycles switch as many gates as its line says; and at the end every input
+-- and gate is low, so that another word can follow.
+pub record Cycled (s : Stage) (w : ℕ) : Type 0 where
+  pub some : (p : Cycle s) × (p .word ≡ w)
+  pub rises : (p : Cycle s) → p .word ≡ w → gateSwitchings (netOf s) (p .rise) ≡ gatesHigh s w
+  pub falls : (p : Cycle s) → p .word ≡ w → gateSwitchings (netOf s) (p .fall) ≡ gatesHigh s w
+  pub back : (p : Cycle s) → p .word ≡ w → AllLow (netOf s) (after (after low (p .rise)) (p .fall))
+
+-- the report of an accepted stage: its lines are those of the stage that the file holds, each what the cycles of its word switch, and the
+-- total, the sum of the lines, is half of all gate switchings
 pub record Reported (stage : List ℕ) (r : Report) : Type 0 where
   pub circuit : Stage
   pub circuit-is : StageIs stageLimits stage circuit
   pub lines-are : r ≡ stageReport accepted circuit
+  pub cycled : (w : ℕ) → IsWord circuit w → Cycled circuit w
   pub half : HalfOfAll circuit
 
--- What the report of two files means: it has the check's verdict, and of a refused pair it says no more.
+-- What the report of two files means: it has the check's verdict, of a refused pair it says no more, and of an accepted one what was said.
 pub record ReportMeans (stage reference : List ℕ) (r : Report) : Type 0 where
   pub verdict-is : r .verdict ≡ verdictOn stage reference
   pub refused : ¬ (r .verdict ≡ accepted) → r ≡ refusedReport (r .verdict)

@@ -1,4 +1,4 @@
--- What the code's loops over levels and lines have done so far.
+-- What the code's loop over the lines has done so far, and what it needs of a file.
 use Prim.Native.Nat.{ℕ, _+_, _*_, _≤_, _<_}
 use mathlib.Core.Path.{_≡_}
 use mathlib.Core.List.{List}

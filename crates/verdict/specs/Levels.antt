@@ -20,7 +20,7 @@ Below [] (y ∷ ys) = ⊥
 Below (x ∷ xs) [] = ⊥
 Below (x ∷ xs) (y ∷ ys) = (x ≤ y) × Below xs ys
 
--- of levels that are 0 and 1: how many are high
+-- the sum; of levels that are 0 and 1, how many are high
 abbrev pub sum : List ℕ → ℕ
 sum [] = 0
 sum (x ∷ xs) = x + sum xs
