@@ -23,19 +23,21 @@ extern "C" {
 /* The verdict: four numbers. All are 0 where the call accepts. */
 struct fovaheju_verdict {
     /* What was found: 0 accepted, 1 to 9 a file that cannot be read, 10 and 11 counts that differ, 12 a loop,
-       13 a wrong output, 14 not input-complete, 15 not observable, 16 and 17 a row that cannot be taken.
+       13 a wrong output, 14 not input-complete, 15 not observable, 16 and 17 a row that cannot be taken, 18 and 19 a
+       care word that cannot be taken.
        docs/VERDICTS.md has the list. */
     uint64_t number;
     /* In which file: 1 the stage, 2 the reference, 3 the row, 0 none. */
     uint64_t file;
-    /* At which place: a byte of the file for 1 to 9, the stage's count for 10 and 11, a gate for 12 and 15, an output
+    /* At which place: a byte of the file for 1 to 9, 18 and 19, the stage's count for 10 and 11, a gate for 12 and 15, an output
        for 13, an input for 14 and 17, the row's length for 16. */
     uint64_t at;
     /* In which input word for 13 to 15, bit i being input i; the reference's count for 10 and 11; else 0. */
     uint64_t word;
 };
 
-/* The verdict on a stage file and a reference file, given as their bytes. The numbers are 0 to 15. */
+/* The verdict on a stage file and a reference file, given as their bytes. The numbers are 0 to 15, 18
+   and 19. */
 struct fovaheju_verdict fovaheju_check(const uint8_t *stage, size_t stage_len,
                                        const uint8_t *reference, size_t reference_len);
 
@@ -43,12 +45,14 @@ struct fovaheju_verdict fovaheju_check(const uint8_t *stage, size_t stage_len,
 struct fovaheju_report {
     /* As fovaheju_check answers. Where it refuses, all that follows is 0. */
     struct fovaheju_verdict verdict;
-    /* How many words the stage has: 2 to the power of its inputs. */
+    /* How many words the stage has: its care words, or without them 2 to the power of its inputs. */
     uint64_t words;
     /* The sum of the lines; half of all gate switchings when each word rises and falls once. */
     uint64_t total;
-    /* lines[w] is how many gates are high at the rest of word w; 0 behind the last word's line. */
+    /* lines[k] is how many gates are high at the rest of word names[k]; 0 behind the last word's line. */
     uint16_t lines[1024];
+    /* The words, rising; 0 behind the last. */
+    uint16_t names[1024];
 };
 
 /* The report of a stage file against a reference file. */
@@ -58,7 +62,7 @@ struct fovaheju_report fovaheju_report(const uint8_t *stage, size_t stage_len,
 /* Settles a row of the stage: one byte for each net, two for each input (rail 0, rail 1), then one for each gate. The
    bytes of the inputs are 0 or 1 and not both 1; what the bytes of the gates hold is ignored. Where the number is 0,
    each gate's byte is then 1 if the gate is high and 0 if it is low, and the inputs' bytes are as before. Where the
-   number is another, the row is left as it was. The numbers are 0 to 9, 12, 16 and 17. */
+   number is another, the row is left as it was. The numbers are 0 to 9, 12 and 16 to 19. */
 struct fovaheju_verdict fovaheju_settled_row(const uint8_t *stage, size_t stage_len,
                                              uint8_t *row, size_t row_len);
 

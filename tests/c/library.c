@@ -100,7 +100,7 @@ static int nothing_but_a_verdict(const struct fovaheju_report *report)
 {
     size_t i;
     for (i = 0; i < 1024; i++)
-        if (report->lines[i] != 0)
+        if (report->lines[i] != 0 || report->names[i] != 0)
             return 0;
     return report->words == 0 && report->total == 0;
 }
@@ -116,16 +116,16 @@ static void reports(void)
         uint64_t before;
         struct fovaheju_report report;
         uint64_t after;
-    } kept = {0x1122334455667788, {{9, 9, 9, 9}, 9, 9, {9}}, 0x99AABBCCDDEEFF00};
+    } kept = {0x1122334455667788, {{9, 9, 9, 9}, 9, 9, {9}, {9}}, 0x99AABBCCDDEEFF00};
     struct fovaheju_report *report = &kept.report;
     size_t i;
 
-    holds("a report has 2,096 bytes", sizeof *report == 2096);
+    holds("a report has 4,144 bytes", sizeof *report == 4144);
     kept.report = fovaheju_report(and_stage, sizeof and_stage, and_reference, sizeof and_reference);
     same("the report of an AND", report->verdict, 0, 0, 0, 0);
     holds("four words, a total of four", report->words == 4 && report->total == 4);
     for (i = 0; i < 1024; i++)
-        holds("a line of the report of an AND", report->lines[i] == (i < 4 ? 1 : 0));
+        holds("a line of the report of an AND", report->lines[i] == (i < 4 ? 1 : 0) && report->names[i] == (i < 4 ? i : 0));
     kept.report = fovaheju_report(wire, sizeof wire, wire_reference, sizeof wire_reference);
     same("the report of a wire", report->verdict, 0, 0, 0, 0);
     holds("two words without gates", report->words == 2 && report->total == 0 && report->lines[0] == 0);

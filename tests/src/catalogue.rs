@@ -387,7 +387,8 @@ fn nand_9_reference() -> Reference {
 
 /// The file examples/LIST.md: every pair with its verdict and what it is.
 pub fn listing() -> String {
-    let mut text = String::from("# All pairs\n\n| Folder | Verdict | What it is |\n|---|---|---|\n");
+    let mut text =
+        String::from("# All pairs\n\n| Folder | Verdict | What it is |\n|---|---|---|\n");
     for example in examples() {
         let verdict = judge::check(&example.pair.stage, &example.pair.reference);
         text += &format!(
@@ -402,6 +403,207 @@ pub fn listing() -> String {
 
 /// All pairs that are stored under examples/.
 pub fn examples() -> Vec<Example> {
+    let mut list = examples_of_document_01();
+    list.extend(care_examples());
+    list
+}
+
+/// Words of four inputs that are decimal digits.
+const DIGITS: [u64; 10] = [0, 1, 2, 3, 4, 5, 6, 7, 8, 9];
+
+/// A stage with a gate for each decimal digit.
+fn decimal(outputs: &[Vec<bool>]) -> Stage {
+    let mut s = StageBuilder::new(4);
+    s.stage.care = DIGITS.to_vec();
+    s.sum_of_words(outputs);
+    s.stage
+}
+
+/// The digit after a decimal digit, and whether it is carried to 0. Of other words nothing is
+/// asked; the reference has 0 there.
+fn increment_values() -> Vec<Vec<bool>> {
+    let next = |word: usize| if word < 9 { word + 1 } else { 0 };
+    let bits = (0..4).map(|bit| {
+        (0..16)
+            .map(|word| word < 10 && next(word) >> bit & 1 == 1)
+            .collect()
+    });
+    bits.chain([(0..16).map(|word| word == 9).collect()])
+        .collect()
+}
+
+/// Stages with care lists (document 02, M-101).
+fn care_examples() -> Vec<Example> {
+    let mut list: Vec<Example> = Vec::new();
+    let mut add =
+        |name: &str, about: &'static str, number: u64, stage: &Stage, reference: &Reference| {
+            let pair = write_pair(stage, reference);
+            list.push(Example {
+                name: name.to_string(),
+                about,
+                number,
+                pair,
+            });
+        };
+    let without_list = |stage: &Stage| Stage {
+        care: vec![],
+        ..stage.clone()
+    };
+    let segments = segment_reference();
+    let digit = decimal(&segment_values());
+    add(
+        "decimal-segments",
+        "decimal digit to seven segments, words 0 to 9 cared for, a gate for each",
+        0,
+        &digit,
+        &segments,
+    );
+    add(
+        "decimal-segments-no-list",
+        "the same without its care list: word 10 has no gate",
+        13,
+        &without_list(&digit),
+        &segments,
+    );
+    let mut wide = digit.clone();
+    wide.care.extend([13, 15]);
+    add(
+        "decimal-segments-more-words",
+        "the same with words 13 and 15 cared for as well",
+        13,
+        &wide,
+        &segments,
+    );
+    let mut fault = digit.clone();
+    fault.gates[9] = Gate {
+        kind: kind_named("TH33"),
+        pins: vec![1, 4, 7],
+    };
+    add(
+        "decimal-segments-incomplete",
+        "the gate of word 9 does not wait for input 1",
+        14,
+        &fault,
+        &segments,
+    );
+    let increment = reference_by_words(4, &increment_values());
+    let incrementer = decimal(&increment_values());
+    add(
+        "decimal-increment",
+        "the next decimal digit and a carry, words 0 to 9 cared for",
+        0,
+        &incrementer,
+        &increment,
+    );
+    add(
+        "decimal-increment-no-list",
+        "the same without its care list",
+        13,
+        &without_list(&incrementer),
+        &increment,
+    );
+    let mut swapped = incrementer.clone();
+    swapped.outputs[4].swap(0, 1);
+    add(
+        "decimal-increment-carry",
+        "the rails of the carry swapped",
+        13,
+        &swapped,
+        &increment,
+    );
+    // A gate that rises in words 10, 11, 14 and 15 and feeds nothing.
+    let mut spare = incrementer.clone();
+    spare.gates.push(Gate {
+        kind: kind_named("TH22"),
+        pins: vec![3, 7],
+    });
+    add(
+        "decimal-increment-spare",
+        "and a gate that feeds nothing and rises in no decimal digit",
+        0,
+        &spare,
+        &increment,
+    );
+    spare.gates.last_mut().expect("a gate").pins = vec![1, 7];
+    add(
+        "decimal-increment-spare-9",
+        "the same, the gate rising in word 9",
+        15,
+        &spare,
+        &increment,
+    );
+    // The next digit is odd where the digit is even.
+    let mut s = StageBuilder::new(4);
+    s.stage.care = DIGITS.to_vec();
+    let values = increment_values();
+    s.output(s.input(0).inverted());
+    s.sum_of_words(&values[1..]);
+    let wired = s.stage;
+    add(
+        "decimal-increment-wire",
+        "bit 0 by a wire, the others by a gate for each digit",
+        0,
+        &wired,
+        &reference_by_words(4, &values),
+    );
+    let and = one_operation(AND);
+    let all = Stage {
+        care: vec![0, 1, 2, 3],
+        ..dual_rail(&and)
+    };
+    add(
+        "and-all-words",
+        "AND, a list of all four words",
+        0,
+        &all,
+        &and,
+    );
+    let mut s = StageBuilder::new(2);
+    let out = s.and_incomplete(s.input(0), s.input(1));
+    s.output(out);
+    s.stage.care = vec![3];
+    add(
+        "and-one-word",
+        "Figure 6 of source document 001, complete in the one word 3",
+        0,
+        &s.stage,
+        &and,
+    );
+    s.stage.care = vec![1, 3];
+    add(
+        "and-two-words",
+        "the same with word 1 as well",
+        14,
+        &s.stage,
+        &and,
+    );
+    let too_high = Stage {
+        care: vec![3, 4],
+        ..dual_rail(&and)
+    };
+    add(
+        "and-word-4",
+        "AND, word 4 of two inputs",
+        18,
+        &too_high,
+        &and,
+    );
+    let falling = Stage {
+        care: vec![0, 2, 1],
+        ..dual_rail(&and)
+    };
+    add(
+        "and-falling-list",
+        "AND, word 1 after word 2",
+        19,
+        &falling,
+        &and,
+    );
+    list
+}
+
+/// The pairs of document 01's language alone.
+pub fn examples_of_document_01() -> Vec<Example> {
     let mut list: Vec<Example> = Vec::new();
     let mut add =
         |name: &str, about: &'static str, number: u64, stage: &Stage, reference: &Reference| {

@@ -176,11 +176,14 @@ impl StageBuilder {
 
     /// Delay-insensitive sum of products: one gate for each word of the inputs,
     /// and each output rail the OR of the words that call for it.
-    /// `outputs[j][w]` is output j's value in word w. For 1 to 4 inputs.
+    /// `outputs[j][w]` is output j's value in word w. For 1 to 4 inputs. Where there is a care
+    /// list, other words have no gate.
     pub fn sum_of_words(&mut self, outputs: &[Vec<bool>]) {
         let n = self.stage.inputs;
-        let words: Vec<usize> = (0..1 << n)
-            .map(|word: usize| {
+        let cared_for: Vec<usize> = self.stage.words().iter().map(|&w| w as usize).collect();
+        let words: Vec<usize> = cared_for
+            .iter()
+            .map(|&word| {
                 let rails: Vec<usize> = (0..n).map(|i| 2 * i + (word >> i & 1)).collect();
                 match n {
                     1 => rails[0],
@@ -195,7 +198,7 @@ impl StageBuilder {
             let mut rails = [0, 0];
             for (rail, net) in rails.iter_mut().enumerate() {
                 let calling: Vec<usize> = (0..words.len())
-                    .filter(|&w| values[w] == (rail == 1))
+                    .filter(|&w| values[cared_for[w]] == (rail == 1))
                     .map(|w| words[w])
                     .collect();
                 // A rail that no word calls for stays low: no input has both
@@ -360,6 +363,7 @@ pub fn reordered(stage: &Stage, order: &[usize]) -> Stage {
         inputs: stage.inputs,
         gates,
         outputs,
+        care: stage.care.clone(),
     }
 }
 
@@ -442,6 +446,7 @@ pub fn stage_from_netlist(inputs: &[&str], outputs: &[&str], text: &str) -> Stag
         inputs: inputs.len(),
         gates,
         outputs,
+        care: vec![],
     }
 }
 

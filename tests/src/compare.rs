@@ -28,6 +28,7 @@ pub struct Counts {
     pub words: u64,
     pub total: u64,
     pub lines: Vec<u16>,
+    pub names: Vec<u16>,
 }
 
 /// The report of a stage file and a reference file.
@@ -38,20 +39,24 @@ pub fn judged_counts(stage: &[u8], reference: &[u8]) -> Counts {
     let report = judge::report(stage, reference);
     let mut lines: Vec<u16> = report.lines.iter().map(|line| line.1 as u16).collect();
     lines.resize(1024, 0);
+    let mut names: Vec<u16> = report.lines.iter().map(|line| line.0 as u16).collect();
+    names.resize(1024, 0);
     Counts {
         verdict: report.verdict,
         words: report.lines.len() as u64,
         total: report.total,
         lines,
+        names,
     }
 }
 
 /// How often each verdict number came.
-pub type Histogram = [u64; 18];
+pub type Histogram = [u64; 20];
 
 /// The numbers of the check, and those of the settled-row call.
-pub const CHECK_NUMBERS: [usize; 16] = [0, 1, 2, 3, 4, 5, 6, 7, 8, 9, 10, 11, 12, 13, 14, 15];
-pub const ROW_NUMBERS: [usize; 13] = [0, 1, 2, 3, 4, 5, 6, 7, 8, 9, 12, 16, 17];
+pub const CHECK_NUMBERS: [usize; 18] =
+    [0, 1, 2, 3, 4, 5, 6, 7, 8, 9, 18, 19, 10, 11, 12, 13, 14, 15];
+pub const ROW_NUMBERS: [usize; 15] = [0, 1, 2, 3, 4, 5, 6, 7, 8, 9, 18, 19, 12, 16, 17];
 
 /// What cases lack that a comparison rests on: one of the numbers never came, or fewer
 /// than a fifth of the cases are accepted.

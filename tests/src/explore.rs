@@ -423,10 +423,10 @@ pub fn promise_by_rules(
     Some(Ok(tried))
 }
 
-/// Every sentence that demand 3 says of an accepted stage, for all words.
+/// Every sentence that demand 3 says of an accepted stage, for all words cared for.
 pub fn promise(stage: &Stage, reference: &Reference) -> Option<Result<Tried, Broken>> {
     let mut tried = Tried::default();
-    for word in 0..1 << stage.inputs {
+    for word in stage.words() {
         match promise_of_word(stage, reference, word)? {
             Ok(more) => tried.add(more),
             broken => return Some(broken),
@@ -486,7 +486,7 @@ fn shows(rules: &Rules, rise: &Reach, values: &[bool], number: u64, at: usize) -
 pub fn verdict_by_runs(stage: &Stage, reference: &Reference) -> Option<Verdict> {
     let rules = Rules::new(stage)?;
     let mut rises = Vec::new();
-    for word in 0..1u64 << stage.inputs {
+    for word in stage.words() {
         let rise = reach(
             &rules,
             0,
@@ -607,6 +607,9 @@ pub fn explore_pair(
             // The named word is one that breaks the promise, as the paper says.
             if witness(stage, reference, verdict) != Some(true) {
                 return Err(format!("{verdict:?}, but its runs do not show it"));
+            }
+            if !stage.words().contains(&verdict[3]) {
+                return Err(format!("{verdict:?}, but its word is not cared for"));
             }
             if !matches!(promise_of_word(stage, reference, verdict[3]), Some(Err(_))) {
                 return Err(format!("{verdict:?}, but its word breaks no sentence"));

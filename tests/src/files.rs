@@ -38,6 +38,13 @@ pub fn stage_output(rails: [usize; 2]) -> Vec<u8> {
     bytes
 }
 
+/// The care command of a stage file.
+pub fn care_word(word: u64) -> Vec<u8> {
+    let mut bytes = vec![0x06];
+    put_u16(&mut bytes, word as usize);
+    bytes
+}
+
 /// The gate command of a reference file.
 pub fn reference_gate(gate: &Boolean) -> Vec<u8> {
     let mut bytes = vec![0x11, gate.operation as u8];
@@ -90,9 +97,11 @@ pub fn file_of(inputs: usize, commands: &[Vec<u8>]) -> Vec<u8> {
     bytes
 }
 
-/// A stage file with all gates before all outputs.
+/// A stage file: the care list, then all gates, then all outputs.
 pub fn write_stage(stage: &Stage) -> Vec<u8> {
-    let (mut commands, outputs) = stage_commands(stage);
+    let mut commands: Vec<Vec<u8>> = stage.care.iter().map(|&word| care_word(word)).collect();
+    let (gates, outputs) = stage_commands(stage);
+    commands.extend(gates);
     commands.extend(outputs);
     file_of(stage.inputs, &commands)
 }

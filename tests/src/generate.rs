@@ -10,8 +10,8 @@ use crate::circuits::{
     ripple_adder_reference, Products, ReferenceBuilder, StageBuilder,
 };
 use crate::files::{
-    file_of, reference_commands, reference_gate, reference_output, stage_commands, stage_gate,
-    stage_output, write_reference, write_stage, FilePair,
+    care_word, file_of, reference_commands, reference_gate, reference_output, stage_commands,
+    stage_gate, stage_output, write_reference, write_stage, FilePair,
 };
 use crate::judge::{
     answer, pin_count, rails_of_word, read_stage, settle, Boolean, Gate, Reference, Stage, Verdict,
@@ -369,13 +369,18 @@ fn mixed<T>(random: &mut Random, first: Vec<T>, second: Vec<T>) -> Vec<T> {
         .collect()
 }
 
-/// A stage file; gates and outputs may be mixed.
+/// A stage file; gates, outputs and care words may be mixed.
 fn stage_file(random: &mut Random, stage: &Stage) -> Vec<u8> {
     if random.chance(1, 2) {
         return write_stage(stage);
     }
     let (gates, outputs) = stage_commands(stage);
-    file_of(stage.inputs, &mixed(random, gates, outputs))
+    let mut commands = mixed(random, gates, outputs);
+    if !stage.care.is_empty() {
+        let care = stage.care.iter().map(|&word| care_word(word)).collect();
+        commands = mixed(random, commands, care);
+    }
+    file_of(stage.inputs, &commands)
 }
 
 fn reference_file(random: &mut Random, reference: &Reference) -> Vec<u8> {
@@ -607,22 +612,30 @@ fn without_idle_gates(stage: &Stage) -> Stage {
             .iter()
             .map(|rails| rails.map(renamed))
             .collect(),
+        care: stage.care.clone(),
     }
 }
 
 /// A stage of random gates whose outputs are pairs of nets that happen to hold DATA
-/// in every word, against the reference that they spell.
-fn found_pairs(random: &mut Random, size: Size) -> (Stage, Reference) {
+/// in every word, against the reference that they spell. `cared_for` gives a care list for a
+/// number of inputs; it may be empty.
+fn found_pairs(
+    random: &mut Random,
+    size: Size,
+    cared_for: fn(&mut Random, usize) -> Vec<u64>,
+) -> (Stage, Reference) {
     let inputs = random.from_to(1, if size == Size::Small { 2 } else { 4 });
     let gates = random.from_to(1, if size == Size::Small { 6 } else { 14 });
     let mut stage = random_stage(random, inputs, gates, 0);
+    stage.care = cared_for(random, inputs);
     let rows: Vec<Vec<bool>> = (0..1 << inputs)
         .map(|word| settle(&stage, &rails_of_word(inputs, word), None))
         .collect();
     let mut pairs = Vec::new();
     for rail_0 in 0..stage.nets() {
         for rail_1 in 0..stage.nets() {
-            if rows.iter().all(|row| row[rail_0] != row[rail_1]) {
+            let data = |&word: &u64| rows[word as usize][rail_0] != rows[word as usize][rail_1];
+            if stage.words().iter().all(data) {
                 pairs.push([rail_0, rail_1]);
             }
         }
@@ -664,6 +677,7 @@ fn starts_of(file: &[u8]) -> Vec<usize> {
         0x01 => 1,
         0x02 => 9,
         0x03 => 4,
+        0x06 => 2,
         0x11 => 5,
         0x12 => 2,
         _ => 0,
@@ -851,10 +865,16 @@ fn refused_in_reading(random: &mut Random, number: u64, which: u64) -> Generated
             at
         }
     };
+    // Document 02 knows command 06 in a stage.
+    let known = if number == 2 && in_stage && at > 0 && pair.stage[at] == 0x06 {
+        Known::Nothing
+    } else {
+        Known::Verdict([number, which, at as u64, 0])
+    };
     Generated {
         family: "one refusal in reading",
         pair,
-        known: Known::Verdict([number, which, at as u64, 0]),
+        known,
     }
 }
 
@@ -1474,7 +1494,8 @@ pub fn spelt_reference(stage: &Stage) -> Option<Reference> {
         .collect();
     let mut values = Vec::new();
     for &[rail_0, rail_1] in &stage.outputs {
-        if rows.iter().any(|row| row[rail_0] == row[rail_1]) {
+        let data = |&word: &u64| rows[word as usize][rail_0] != rows[word as usize][rail_1];
+        if !stage.words().iter().all(data) {
             return None;
         }
         values.push(rows.iter().map(|row| row[rail_1]).collect::<Vec<bool>>());
@@ -1488,8 +1509,12 @@ pub fn spelt_reference(stage: &Stage) -> Option<Reference> {
     (reference.gates.len() <= 256).then_some(reference)
 }
 
-fn found_pair(random: &mut Random, size: Size) -> Generated {
-    let (stage, reference) = found_pairs(random, size);
+fn found_pair(
+    random: &mut Random,
+    size: Size,
+    cared_for: fn(&mut Random, usize) -> Vec<u64>,
+) -> Generated {
+    let (stage, reference) = found_pairs(random, size, cared_for);
     Generated {
         family: "found pairs",
         pair: files_of(random, &stage, &reference),
@@ -1525,6 +1550,7 @@ fn crossed(random: &mut Random) -> Generated {
     // A refusal in reading stands whatever the other file is, the stage's first.
     let known = match (first.known, second.known) {
         (Known::Verdict([1..=9, 1, _, _]), _) => first.known,
+        (Known::Nothing, _) => Known::Nothing,
         (_, Known::Verdict([1..=9, 2, _, _])) => second.known,
         _ => Known::Nothing,
     };
@@ -1539,8 +1565,212 @@ fn crossed(random: &mut Random) -> Generated {
     }
 }
 
-/// Pair number `index` of a seed.
+// ---------------------------------------------------------------------------
+// Care lists (document 02, M-101).
+
+fn no_list(_: &mut Random, _: usize) -> Vec<u64> {
+    vec![]
+}
+
+/// A care list with at least one word.
+fn some_list(random: &mut Random, inputs: usize) -> Vec<u64> {
+    let words = 1 << inputs;
+    let mut list: Vec<u64> = match random.below(6) {
+        // All words, one, the first so many, the last so many, or some of them.
+        0 => (0..words).collect(),
+        1 => vec![],
+        2 => (0..random.from_to(1, words as usize) as u64).collect(),
+        3 => (random.below(words as usize) as u64..words).collect(),
+        part => {
+            let whole = if part == 4 { 2 } else { 8 };
+            (0..words).filter(|_| random.chance(1, whole)).collect()
+        }
+    };
+    if list.is_empty() {
+        list.push(random.below(words as usize) as u64);
+    }
+    list
+}
+
+/// A generated pair whose stage is given a care list. What is known of one fault stays known.
+fn with_list(random: &mut Random, generated: Generated) -> Generated {
+    let Ok(stage) = read_stage(&generated.pair.stage) else {
+        return generated;
+    };
+    let list = some_list(random, stage.inputs);
+    let known = match generated.known {
+        // There is no other word in which it is wrong, or its gate idle.
+        Known::Verdict([13, .., word]) if !list.contains(&word) => Known::Verdict(ACCEPTED),
+        Known::Verdict([15, .., word]) if !list.contains(&word) => Known::Verdict(ACCEPTED),
+        Known::Verdict([14, ..]) => Known::Nothing,
+        known @ Known::Verdict([0 | 10 | 11 | 12 | 13 | 15, ..]) => known,
+        known @ Known::Verdict([_, 2, ..]) => known,
+        _ => Known::Nothing,
+    };
+    let (file, _) = insert_list(random, &generated.pair.stage, &list);
+    Generated {
+        family: "care list",
+        pair: FilePair {
+            stage: file,
+            ..generated.pair
+        },
+        known,
+    }
+}
+
+/// A readable stage file with care commands in places of their own, and where each operand is.
+fn insert_list(random: &mut Random, file: &[u8], list: &[u64]) -> (Vec<u8>, Vec<usize>) {
+    let starts = starts_of(file);
+    let mut places: Vec<usize> = list.iter().map(|_| random.pick(&starts[1..])).collect();
+    if random.chance(1, 2) {
+        let together = places[0];
+        places.fill(together);
+    }
+    places.sort();
+    let mut result = Vec::new();
+    let mut operands = Vec::new();
+    let mut next = 0;
+    for (&word, &place) in list.iter().zip(&places) {
+        result.extend(&file[next..place]);
+        next = place;
+        operands.push(result.len() + 1);
+        result.extend(care_word(word));
+    }
+    result.extend(&file[next..]);
+    (result, operands)
+}
+
+/// A stage with one fault in its care commands: 18, 19, 1, 2 or 7.
+fn faulty_list(random: &mut Random) -> Generated {
+    let (stage, reference) = accepted(random, Size::Small);
+    let pair = files_of(random, &stage, &reference);
+    let mut list = some_list(random, stage.inputs);
+    let words = 1u64 << stage.inputs;
+    let place = random.below(list.len());
+    let mut number = random.pick(&[18, 18, 19, 19, 19, 1, 2, 7]);
+    match number {
+        18 => list[place] = random.pick(&[words, words, words + 1, 0x0100 * words, 0xFFFF]),
+        19 => {
+            // Again, or a lesser word behind a greater one.
+            let word = random.pick(&list[..=place]);
+            list.insert(place + 1, word);
+        }
+        _ => {}
+    }
+    let (mut file, operands) = insert_list(random, &pair.stage, &list);
+    let at = match number {
+        18 => operands[place],
+        19 => operands[place + 1],
+        1 => {
+            file.truncate(operands[place] + random.below(2));
+            file.len()
+        }
+        2 => {
+            file = [care_word(list[0]), file].concat();
+            0
+        }
+        _ => {
+            file.extend(care_word(list[0]));
+            number = 7;
+            file.len() - 3
+        }
+    };
+    // Whatever comes behind does not count.
+    if number == 18 && random.chance(1, 3) {
+        file.truncate(random.from_to(at + 2, file.len()));
+    }
+    Generated {
+        family: "faulty care list",
+        pair: FilePair {
+            stage: file,
+            ..pair
+        },
+        known: Known::Verdict([number, 1, at as u64, 0]),
+    }
+}
+
+/// A care command in a reference, or care commands anywhere in any bytes.
+fn misplaced_list(random: &mut Random, generated: Generated) -> Generated {
+    let mut pair = generated.pair;
+    let word = random.below(20) as u64;
+    let file = if random.chance(1, 2) {
+        &mut pair.stage
+    } else {
+        &mut pair.reference
+    };
+    let at = random.below(file.len() + 1);
+    file.splice(at..at, care_word(word));
+    Generated {
+        family: "misplaced care word",
+        pair,
+        known: Known::Nothing,
+    }
+}
+
+/// A stage with a gate for each word cared for and for no other.
+fn only_cared_for(random: &mut Random) -> Generated {
+    let inputs = random.from_to(2, 4);
+    let outputs = random.from_to(1, 3);
+    let values = random_values(random, inputs, outputs);
+    let mut builder = StageBuilder::new(inputs);
+    builder.stage.care = some_list(random, inputs);
+    builder.sum_of_words(&values);
+    let mut stage = builder.stage;
+    let mut known = Known::Verdict(ACCEPTED);
+    rewrite(random, &mut stage);
+    if random.chance(1, 4) {
+        stage.care.clear();
+        known = Known::Nothing;
+    } else if random.chance(1, 3) {
+        mutate_stage(random, &mut stage);
+        known = Known::Nothing;
+    }
+    Generated {
+        family: "only words cared for",
+        pair: files_of(random, &stage, &reference_of_values(inputs, &values)),
+        known,
+    }
+}
+
+/// All words, and then more care commands, up to a length past the 8,192 bytes that are read.
+fn long_list(random: &mut Random) -> Generated {
+    let inputs = random.from_to(1, 10);
+    let (number, start) = random.pick(&[(18, 1 << inputs), (19, 0), (19, (1 << inputs) - 1)]);
+    let mut file = vec![0x01, inputs as u8];
+    for word in (0..1 << inputs).chain(start..) {
+        file.extend(care_word(word));
+        if file.len() >= 8_200 {
+            break;
+        }
+    }
+    let reference = random_reference(random, inputs, 2);
+    Generated {
+        family: "long care list",
+        pair: FilePair {
+            stage: file,
+            reference: write_reference(&reference),
+        },
+        known: Known::Verdict([number, 1, 3 + (3 << inputs), 0]),
+    }
+}
+
+/// Pair number `index` of a seed: of document 01's language, or with a care list.
 pub fn pair(seed: u64, index: u64) -> Generated {
+    let generated = pair_of_document_01(seed, index);
+    let random = &mut Random::new(seed ^ 0xCA4E, index);
+    match random.below(100) {
+        0..=14 => with_list(random, generated),
+        15..=18 => only_cared_for(random),
+        19 | 20 => found_pair(random, Size::Medium, some_list),
+        21..=24 => faulty_list(random),
+        26 if random.chance(1, 4) => long_list(random),
+        25 => misplaced_list(random, generated),
+        _ => generated,
+    }
+}
+
+/// Pair number `index` of a seed, in document 01's language.
+pub fn pair_of_document_01(seed: u64, index: u64) -> Generated {
     let random = &mut Random::new(seed, index);
     let size = size(random);
     match random.below(100) {
@@ -1548,7 +1778,7 @@ pub fn pair(seed: u64, index: u64) -> Generated {
         21..=23 => several_faults(random),
         24..=27 => crossed(random),
         28..=47 => mutated_pair(random, size),
-        48..=53 => found_pair(random, size),
+        48..=53 => found_pair(random, size, no_list),
         54..=57 => random_pair(random, size),
         58..=72 => {
             let number = random.from_to(1, 9) as u64;
@@ -1580,11 +1810,17 @@ pub fn pair_to_explore(seed: u64, index: u64) -> Generated {
     } else {
         Size::Small
     };
-    match random.below(10) {
+    match random.below(16) {
         0..=3 => accepted_pair(random, size),
         4..=6 => mutated_pair(random, size),
-        7 | 8 => found_pair(random, size),
-        _ => random_pair(random, size),
+        7 | 8 => found_pair(random, size, no_list),
+        9 => random_pair(random, size),
+        10 | 11 => found_pair(random, size, some_list),
+        12 => only_cared_for(random),
+        _ => {
+            let generated = mutated_pair(random, size);
+            with_list(random, generated)
+        }
     }
 }
 

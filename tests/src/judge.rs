@@ -1,4 +1,4 @@
-//! The check of document 01 in the plainest way.
+//! The check of document 01 in the plainest way, with what document 02 adds to it.
 //!
 //! Everything here follows the paper's sentences one by one and computes by
 //! definition: all words are swept, a row is settled by raising low gates until
@@ -98,9 +98,20 @@ pub struct Stage {
     pub inputs: usize,
     pub gates: Vec<Gate>,
     pub outputs: Vec<[usize; 2]>,
+    /// The care list of document 02, M-101, empty where there is none.
+    pub care: Vec<u64>,
 }
 
 impl Stage {
+    /// The words that are cared for: "without it every word is cared for".
+    pub fn words(&self) -> Vec<u64> {
+        if self.care.is_empty() {
+            (0..1 << self.inputs).collect()
+        } else {
+            self.care.clone()
+        }
+    }
+
     pub fn nets(&self) -> usize {
         2 * self.inputs + self.gates.len()
     }
@@ -138,7 +149,7 @@ impl Reference {
     }
 }
 
-/// Number and place (a byte offset) of a refusal 1 to 9.
+/// Number and place (a byte offset) of a refusal 1 to 9, 18 or 19.
 pub type Refusal = (u64, usize);
 
 /// "A u16 operand has its low byte first."
@@ -149,7 +160,7 @@ fn u16_at(file: &[u8], at: usize) -> usize {
 /// Reads a stage file, or says which refusal comes first and where.
 ///
 /// "Within a command the order is 2, 1, then 6, then 3 or 4, then 5 by operand.
-/// At the end command: 8, 7, then 9."
+/// At the end command: 8, 7, then 9." Of a care word: 2, 1, 18, 19.
 pub fn read_stage(file: &[u8]) -> Result<Stage, Refusal> {
     let mut stage = Stage::default();
     let mut first = true;
@@ -167,6 +178,7 @@ pub fn read_stage(file: &[u8]) -> Result<Stage, Refusal> {
             0x01 => 1,
             0x02 => 1 + 4 * 2,
             0x03 => 2 * 2,
+            0x06 => 2,
             0x00 => 0,
             _ => return Err((2, place)),
         };
@@ -224,6 +236,18 @@ pub fn read_stage(file: &[u8]) -> Result<Stage, Refusal> {
                 named.push((place + 1, rails[0]));
                 named.push((place + 3, rails[1]));
                 stage.outputs.push(rails);
+            }
+            0x06 => {
+                // 18, a care word not below 2 to the power n.
+                let word = u16_at(file, place + 1) as u64;
+                if word >= 1 << stage.inputs {
+                    return Err((18, place + 1));
+                }
+                // 19, a care word not above the one before.
+                if stage.care.last().is_some_and(|&before| word <= before) {
+                    return Err((19, place + 1));
+                }
+                stage.care.push(word);
             }
             _ => {
                 // 8, no output.
@@ -515,12 +539,12 @@ pub fn check(stage_file: &[u8], reference_file: &[u8]) -> Verdict {
 }
 
 /// The checks 13 to 15 of a loop-free stage against a reference with as many
-/// inputs and outputs.
+/// inputs and outputs: they "cover care words only".
 pub fn check_circuits(stage: &Stage, reference: &Reference) -> Verdict {
-    let words = 1u64 << stage.inputs;
+    let words = stage.words();
 
     // 13: "settled output pair is not the reference's DATA".
-    for word in 0..words {
+    for &word in &words {
         let row = settle(stage, &rails_of_word(stage.inputs, word), None);
         let values = answer(reference, word);
         for (output, &value) in values.iter().enumerate() {
@@ -531,7 +555,7 @@ pub fn check_circuits(stage: &Stage, reference: &Reference) -> Verdict {
     }
 
     // 14: "with w given and input i NULL, all settled outputs are DATA".
-    for word in 0..words {
+    for &word in &words {
         for input in 0..stage.inputs {
             let mut rails = rails_of_word(stage.inputs, word);
             rails[2 * input] = false;
@@ -544,7 +568,7 @@ pub fn check_circuits(stage: &Stage, reference: &Reference) -> Verdict {
     }
 
     // 15: "a gate high in w; settled with it held low, all outputs still DATA".
-    for word in 0..words {
+    for &word in &words {
         let rails = rails_of_word(stage.inputs, word);
         let row = settle(stage, &rails, None);
         for gate in 0..stage.gates.len() {
@@ -589,7 +613,7 @@ pub fn report(stage_file: &[u8], reference_file: &[u8]) -> Report {
 /// Each word and the number of gates high at its rest.
 pub fn report_lines(stage: &Stage) -> Vec<(u64, u64)> {
     let mut lines = Vec::new();
-    for word in 0..1u64 << stage.inputs {
+    for word in stage.words() {
         let row = settle(stage, &rails_of_word(stage.inputs, word), None);
         let mut high = 0;
         for gate in 0..stage.gates.len() {

@@ -25,6 +25,7 @@ struct Report {
     words: u64,
     total: u64,
     lines: [u16; 1024],
+    names: [u16; 1024],
 }
 
 extern "C" {
@@ -62,7 +63,7 @@ pub fn check(stage: &[u8], reference: &[u8]) -> Verdict {
     .into()
 }
 
-/// The report on a stage file and a reference file: verdict, words, total and all 1,024 lines.
+/// The report on a stage file and a reference file: verdict, words, total, all 1,024 lines and their words.
 pub fn report(stage: &[u8], reference: &[u8]) -> Counts {
     // Safety: the contract has no `requires`, and each pointer and length are of a slice.
     let report = unsafe {
@@ -78,6 +79,7 @@ pub fn report(stage: &[u8], reference: &[u8]) -> Counts {
         words: report.words,
         total: report.total,
         lines: report.lines.to_vec(),
+        names: report.names.to_vec(),
     }
 }
 

@@ -4,7 +4,7 @@
 //!
 //! The lines are the judge's; what a case prints is also written by hand where it is short.
 
-use crate::catalogue::{examples, MARKED};
+use crate::catalogue::{examples, examples_of_document_01, Example, MARKED};
 use crate::circuits::{ReferenceBuilder, Signal, StageBuilder};
 use crate::files::{report_text, unhex, verdict_line, write_pair, FilePair};
 use crate::generate;
@@ -82,8 +82,11 @@ pub fn cases() -> Vec<Case> {
     let mut cases = Cases(Vec::new());
     marked_cases(&mut cases);
     refused(&mut cases);
-    stored_examples(&mut cases);
+    stored_examples(&mut cases, examples_of_document_01());
     unequal_words(&mut cases);
+    // What document 02 adds stands behind, so that the cases above keep their numbers.
+    stored_examples(&mut cases, examples());
+    care_words(&mut cases);
     cases.0
 }
 
@@ -150,8 +153,8 @@ fn refused(cases: &mut Cases) {
 }
 
 /// The examples of at most six inputs, and few larger ones: their reports have up to 1,024 words.
-fn stored_examples(cases: &mut Cases) {
-    for example in examples() {
+fn stored_examples(cases: &mut Cases, examples: Vec<Example>) {
+    for example in examples {
         let inputs = example.pair.stage.get(1).copied().unwrap_or(0);
         let large = [
             "timing-network",
@@ -165,26 +168,56 @@ fn stored_examples(cases: &mut Cases) {
     }
 }
 
+fn chains(inputs: usize, care: &[u64]) -> FilePair {
+    let mut s = StageBuilder::new(inputs);
+    let mut r = ReferenceBuilder::new(inputs);
+    for (i, input) in s.inputs().into_iter().enumerate() {
+        let mut rail_1 = input.rail_1;
+        for _ in 0..=i {
+            rail_1 = s.gate("TH22", &[rail_1, rail_1]);
+        }
+        s.output(Signal { rail_1, ..input });
+        r.output(i);
+    }
+    s.stage.care = care.to_vec();
+    write_pair(&s.stage, &r.reference)
+}
+
+/// Lists of care words: the lines are theirs, and a refused list prints its verdict.
+fn care_words(cases: &mut Cases) {
+    let mut add = |inputs, care: &[u64], known| {
+        let about = format!("{inputs} inputs, {} care words", care.len());
+        cases.add(about, chains(inputs, care), known);
+    };
+    add(3, &[0, 5, 6], Some("0:0 5:4 6:5 total 9"));
+    add(3, &[7], Some("7:6 total 6"));
+    add(3, &[0], Some("0:0 total 0"));
+    let all: Vec<u64> = (0..8).collect();
+    add(3, &all, Some("0:0 1:1 2:2 3:3 4:3 5:4 6:5 7:6 total 24"));
+    add(3, &[8], Some("18 1 3 0"));
+    add(3, &[1, 1], Some("19 1 6 0"));
+    add(10, &[1023], Some("1023:55 total 55"));
+    add(
+        10,
+        &[512, 1000, 1001],
+        Some("512:10 1000:44 1001:45 total 99"),
+    );
+    let all: Vec<u64> = (0..1024).collect();
+    add(10, &all, None);
+    let odd: Vec<u64> = (0..1024).filter(|word| word % 2 == 1).collect();
+    add(10, &odd, None);
+}
+
 /// Stages whose words report unequal numbers: a chain of gates on rail 1 of each input, of i + 1
 /// gates for input i, so that a word reports the sum over its bits; and generated ones.
 fn unequal_words(cases: &mut Cases) {
     for inputs in [1, 3, 10] {
-        let mut s = StageBuilder::new(inputs);
-        let mut r = ReferenceBuilder::new(inputs);
-        for (i, input) in s.inputs().into_iter().enumerate() {
-            let mut rail_1 = input.rail_1;
-            for _ in 0..=i {
-                rail_1 = s.gate("TH22", &[rail_1, rail_1]);
-            }
-            s.output(Signal { rail_1, ..input });
-            r.output(i);
-        }
         let about = format!("{inputs} inputs, i + 1 gates on rail 1 of input i");
         let known = (inputs == 3).then_some("0:0 1:1 2:2 3:3 4:3 5:4 6:5 7:6 total 24");
-        cases.add(about, write_pair(&s.stage, &r.reference), known);
+        cases.add(about, chains(inputs, &[]), known);
     }
     for index in 0..300 {
-        let pair = generate::pair(2026, index).pair;
+        let pair = generate::pair_of_document_01(2026, index).pair;
         let report = report(&pair.stage, &pair.reference);
         let mut numbers: Vec<u64> = report.lines.iter().map(|line| line.1).collect();
         numbers.dedup();

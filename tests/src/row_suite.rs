@@ -4,7 +4,9 @@
 //! A case's verdict is written by hand from document 01, and the test holds the
 //! judge to it. The bytes of the row after the call are the judge's.
 
-use crate::files::{file_of, stage_gate, stage_output, unhex, verdict_line, write_stage};
+use crate::files::{
+    care_word, file_of, stage_gate, stage_output, unhex, verdict_line, write_stage,
+};
 use crate::judge::{pin_count, settled_row, Gate, Stage, Verdict, ACCEPTED, ROW, STAGE};
 use std::fs;
 use std::io;
@@ -27,21 +29,21 @@ pub fn contents() -> Vec<(PathBuf, Vec<u8>)> {
     let mut list = Vec::new();
     let mut stdout = String::new();
     for (index, case) in cases().iter().enumerate() {
-        list.push((format!("data/{index:02}.ncl").into(), case.stage.clone()));
-        list.push((format!("data/{index:02}.row").into(), case.row.clone()));
+        list.push((format!("data/{index:03}.ncl").into(), case.stage.clone()));
+        list.push((format!("data/{index:03}.row").into(), case.row.clone()));
         stdout += &line(index, case);
     }
     list.push(("stdout".into(), stdout.into_bytes()));
     list
 }
 
-/// A case's line: its index in two digits, the judge's four numbers, a colon, and
+/// A case's line: its index in three digits, the judge's four numbers, a colon, and
 /// the bytes of the row after the judge's call, each number after a space.
 pub fn line(index: usize, case: &Case) -> String {
     let mut row = case.row.clone();
     let verdict = verdict_line(settled_row(&case.stage, &mut row));
     let bytes: String = row.iter().map(|byte| format!(" {byte}")).collect();
-    format!("{index:02} {}:{bytes}\n", verdict.trim_end())
+    format!("{index:03} {}:{bytes}\n", verdict.trim_end())
 }
 
 /// Writes the files of all cases and the expected output into a folder.
@@ -111,6 +113,12 @@ const TH44: usize = 11;
 const X: u16 = 0xFFFF;
 
 pub fn cases() -> Vec<Case> {
+    let mut cases = Cases(cases_of_document_01());
+    care_words(&mut cases);
+    cases.0
+}
+
+pub fn cases_of_document_01() -> Vec<Case> {
     let mut cases = Cases(Vec::new());
     examples_of_the_paper(&mut cases);
     refusals_of_the_file(&mut cases);
@@ -713,6 +721,7 @@ fn scattered() -> Stage {
         inputs: 10,
         gates,
         outputs: (0..16).map(|j| [20 + 8 * j, 24 + 8 * j]).collect(),
+        care: vec![],
     }
 }
 
@@ -765,5 +774,159 @@ fn large_stages(cases: &mut Cases) {
         (0..147).collect(),
         16,
         147,
+    );
+}
+
+/// Document 02, M-101: the order within the command is 2, 1, 18, 19, both at the operand; a list
+/// that can be read makes no difference to the row.
+fn care_words(cases: &mut Cases) {
+    let wire = output(0, 1);
+    cases.refused(
+        "18: word 2 of one input",
+        file_of(1, &[care_word(2), wire.clone()]),
+        18,
+        3,
+    );
+    cases.refused(
+        "18: word FFFF, after an output",
+        file_of(1, &[wire.clone(), care_word(0xFFFF)]),
+        18,
+        8,
+    );
+    cases.refused(
+        "18: word 256 of two inputs, whose low byte is 0",
+        file_of(2, &[care_word(256), wire.clone()]),
+        18,
+        3,
+    );
+    cases.refused(
+        "18: word 1024 of ten inputs, after word 1023",
+        file_of(10, &[care_word(1023), care_word(1024), wire.clone()]),
+        18,
+        6,
+    );
+    cases.refused(
+        "19: word 0 twice",
+        file_of(1, &[care_word(0), care_word(0), wire.clone()]),
+        19,
+        6,
+    );
+    cases.refused(
+        "19: a lesser word, a gate and an output between",
+        file_of(
+            2,
+            &[
+                care_word(2),
+                gate(TH12, &[0, 1]),
+                wire.clone(),
+                care_word(1),
+            ],
+        ),
+        19,
+        21,
+    );
+    cases.refused(
+        "19: word 255 after word 256",
+        file_of(10, &[care_word(256), care_word(255), wire.clone()]),
+        19,
+        6,
+    );
+    cases.refused(
+        "2 before 1 and 18: a care word first, cut",
+        unhex("06 FF"),
+        2,
+        0,
+    );
+    cases.refused("1: only the care command", unhex("01 01 06"), 1, 3);
+    cases.refused("1 before 18: word FF.., cut", unhex("01 01 06 FF"), 1, 4);
+    cases.refused(
+        "1 before 19: word 0 after word 1, cut",
+        unhex("01 02 06 01 00 06 00"),
+        1,
+        7,
+    );
+    cases.refused(
+        "the earlier command first: 19, then 18",
+        file_of(1, &[care_word(1), care_word(0), care_word(9), wire.clone()]),
+        19,
+        6,
+    );
+    cases.refused(
+        "the earlier command first: 18, then 19",
+        file_of(1, &[care_word(0), care_word(2), care_word(0), wire.clone()]),
+        18,
+        6,
+    );
+    cases.refused(
+        "the earlier command first: 18, then kind 28",
+        file_of(1, &[care_word(2), raw_gate(28, [0, 1, X, X]), wire.clone()]),
+        18,
+        3,
+    );
+    cases.refused("18 before 8: no output", file_of(1, &[care_word(2)]), 18, 3);
+    cases.refused(
+        "8: a care word and no output",
+        file_of(1, &[care_word(1)]),
+        8,
+        5,
+    );
+    cases.refused(
+        "19 before 7 and 9: a byte after end, an absent net",
+        [
+            file_of(1, &[output(0, 7), care_word(1), care_word(1)]),
+            vec![0],
+        ]
+        .concat(),
+        19,
+        11,
+    );
+    cases.refused(
+        "7: a care word after end",
+        unhex("01 01 03 00 00 01 00 00 06 00 00"),
+        7,
+        8,
+    );
+    cases.refused(
+        "9 behind a care word: its operand is no net",
+        file_of(4, &[care_word(15), output(0, 8)]),
+        9,
+        8,
+    );
+    cases.refused(
+        "12 with a care list",
+        file_of(1, &[care_word(0), gate(TH12, &[2, 0]), wire.clone()]),
+        12,
+        0,
+    );
+    let mut listed = whole_case();
+    listed.splice(2..2, [care_word(0), care_word(2)].concat());
+    cases.row("16 with a care list", &listed, vec![0, 1, 0, 1, 5], 16, 5);
+    cases.row(
+        "17 with a care list",
+        &listed,
+        vec![1, 1, 0, 1, 5, 6],
+        17,
+        0,
+    );
+    cases.settles(
+        "a word that is not cared for",
+        &listed,
+        vec![0, 1, 0, 1, 5, 6],
+    );
+    cases.settles("the same, cared for", &listed, vec![1, 0, 0, 1, 5, 6]);
+    cases.settles("the same, NULL", &listed, vec![0, 0, 0, 0, 1, 1]);
+    let mut all: Vec<Vec<u8>> = (0..1024).map(care_word).collect();
+    all.extend((0..10).map(|i| output(2 * i, 2 * i + 1)));
+    cases.settles(
+        "a list of all 1,024 words",
+        &file_of(10, &all),
+        vec![0, 1, 1, 0, 0, 0, 0, 1, 1, 0, 1, 0, 0, 0, 0, 0, 0, 1, 0, 1],
+    );
+    all.insert(700, care_word(698));
+    cases.refused(
+        "19: word 698 after word 699 of 1,024",
+        file_of(10, &all),
+        19,
+        2 + 3 * 700 + 1,
     );
 }

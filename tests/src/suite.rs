@@ -6,10 +6,10 @@
 //! made here are also written by hand from document 01, and the test holds the judge
 //! to them.
 
-use crate::catalogue::{examples, MARKED};
+use crate::catalogue::{examples, examples_of_document_01, Example, MARKED};
 use crate::circuits::{kind_named, ReferenceBuilder, Signal, StageBuilder};
 use crate::files::{
-    file_of, reference_gate, reference_output, unhex, verdict_line, write_pair, FilePair,
+    care_word, file_of, reference_gate, reference_output, unhex, verdict_line, write_pair, FilePair,
 };
 use crate::generate::{self, Known};
 use crate::judge::{
@@ -181,8 +181,8 @@ pub fn cases() -> Vec<Case> {
     let mut cases = Cases(Vec::new());
     marked_cases(&mut cases);
     table_of_verdicts(&mut cases);
-    stored_examples(&mut cases);
-    refusals_of_the_stage(&mut cases);
+    stored_examples(&mut cases, examples_of_document_01());
+    refusals_of_the_stage(&mut cases, row_suite::cases_of_document_01());
     refusals_of_the_reference(&mut cases);
     two_faults_in_the_reference(&mut cases);
     one_check_before_another(&mut cases);
@@ -192,6 +192,10 @@ pub fn cases() -> Vec<Case> {
     limits(&mut cases);
     all_kinds(&mut cases);
     generated(&mut cases);
+    // What document 02 adds stands behind, so that the cases above keep their numbers.
+    stored_examples(&mut cases, examples());
+    refusals_of_the_stage(&mut cases, row_suite::cases());
+    care_words(&mut cases);
     cases.0
 }
 
@@ -265,8 +269,8 @@ fn table_of_verdicts(cases: &mut Cases) {
 }
 
 /// All pairs under examples/.
-fn stored_examples(cases: &mut Cases) {
-    for example in examples() {
+fn stored_examples(cases: &mut Cases, examples: Vec<Example>) {
+    for example in examples {
         cases.push(
             format!("{}: {}", example.name, example.about),
             example.pair,
@@ -277,8 +281,8 @@ fn stored_examples(cases: &mut Cases) {
 
 /// The stages that the settled-row call refuses by 1 to 9 and 12 are refused here in
 /// the same words, where the reference is readable and has as many inputs and outputs.
-fn refusals_of_the_stage(cases: &mut Cases) {
-    for case in row_suite::cases() {
+fn refusals_of_the_stage(cases: &mut Cases, rows: Vec<row_suite::Case>) {
+    for case in rows {
         if case.verdict[1] != STAGE {
             continue;
         }
@@ -979,7 +983,7 @@ fn all_kinds(cases: &mut Cases) {
 /// Pairs of all families of the generator.
 fn generated(cases: &mut Cases) {
     for index in 0..160 {
-        let generated = generate::pair(2026, index);
+        let generated = generate::pair_of_document_01(2026, index);
         if generated
             .pair
             .stage
@@ -994,4 +998,198 @@ fn generated(cases: &mut Cases) {
             );
         }
     }
+}
+
+/// Document 02, M-101: the checks go over the words cared for, and name the least of these.
+fn care_words(cases: &mut Cases) {
+    let not = |list: &[u64]| {
+        let mut commands: Vec<Vec<u8>> = list.iter().map(|&word| care_word(word)).collect();
+        commands.push(output(1, 0));
+        file_of(1, &commands)
+    };
+    cases.reference(
+        "2: a care word in a reference",
+        &file_of(1, &[care_word(0), signal(0)]),
+        2,
+        2,
+    );
+    cases.add(
+        "13: wire swapped, word 1 cared for",
+        &not(&[1]),
+        &wire_reference(),
+        [13, STAGE, 0, 1],
+    );
+    cases.add(
+        "13: wire swapped, a list of both words",
+        &not(&[0, 1]),
+        &wire_reference(),
+        [13, STAGE, 0, 0],
+    );
+    cases.add(
+        "wire swapped against NOT, one word",
+        &not(&[0]),
+        &file_of(1, &[op(NOT, &[0]), signal(1)]),
+        ACCEPTED,
+    );
+    cases.add(
+        "10 with a care list",
+        &not(&[1]),
+        &file_of(2, &[signal(0)]),
+        [10, NONE, 1, 2],
+    );
+    cases.add(
+        "18 before a refused reference",
+        &not(&[2]),
+        &[],
+        [18, STAGE, 3, 0],
+    );
+    cases.add(
+        "a refused reference behind a care list",
+        &not(&[1]),
+        &[],
+        [1, REFERENCE, 0, 0],
+    );
+    // Rail 0 is input 0's, rail 1 never rises: right in words 0 and 2 only.
+    let constant = |list: &[u64]| {
+        let mut commands: Vec<Vec<u8>> = list.iter().map(|&word| care_word(word)).collect();
+        commands.extend([gate(TH22, &[0, 1]), output(0, 4), through(1)]);
+        file_of(2, &commands)
+    };
+    let zero = file_of(2, &[op(XOR, &[0, 0]), signal(2), signal(1)]);
+    cases.add("0 in words 0 and 2", &constant(&[0, 2]), &zero, ACCEPTED);
+    cases.add("0 in word 2 alone", &constant(&[2]), &zero, ACCEPTED);
+    cases.add(
+        "13: 0 in words 1 and 3, the least cared for is 3",
+        &constant(&[0, 3]),
+        &zero,
+        [13, STAGE, 0, 3],
+    );
+    cases.add(
+        "13: 0 without a list",
+        &constant(&[]),
+        &zero,
+        [13, STAGE, 0, 1],
+    );
+    // Of two inputs one is wired out.
+    let unread = |list: &[u64]| {
+        let mut commands: Vec<Vec<u8>> = list.iter().map(|&word| care_word(word)).collect();
+        commands.push(through(0));
+        file_of(2, &commands)
+    };
+    cases.add(
+        "14: an unread input, the least word cared for is 2",
+        &unread(&[2, 3]),
+        &file_of(2, &[signal(0)]),
+        [14, STAGE, 1, 2],
+    );
+    // AND by TH12 and TH22: incomplete where an input is 0.
+    let and = |list: &[u64]| {
+        let mut commands = vec![gate(TH12, &[0, 2]), gate(TH22, &[1, 3]), output(4, 5)];
+        commands.extend(list.iter().map(|&word| care_word(word)));
+        file_of(2, &commands)
+    };
+    let and_reference = file_of(2, &[op(AND, &[0, 1]), signal(2)]);
+    cases.add(
+        "AND by TH12, only word 3 cared for",
+        &and(&[3]),
+        &and_reference,
+        ACCEPTED,
+    );
+    cases.add(
+        "14: AND by TH12, words 1 and 3: only input 1 may be missing in word 1",
+        &and(&[1, 3]),
+        &and_reference,
+        [14, STAGE, 0, 1],
+    );
+    cases.add(
+        "14: AND by TH12, words 2 and 3",
+        &and(&[2, 3]),
+        &and_reference,
+        [14, STAGE, 1, 2],
+    );
+    // A gate that rises in word 0 only, and one that rises in word 1 only; both feed nothing.
+    let idle = |list: &[u64]| {
+        let mut commands = vec![gate(TH22, &[0, 0]), gate(TH22, &[1, 1]), output(0, 1)];
+        let places = list.iter().enumerate();
+        for (place, &word) in places {
+            commands.insert(2 * place, care_word(word));
+        }
+        file_of(1, &commands)
+    };
+    for (list, at, word) in [
+        (vec![], 0, 0),
+        (vec![0, 1], 0, 0),
+        (vec![0], 0, 0),
+        (vec![1], 1, 1),
+    ] {
+        cases.add(
+            &format!("15: an idle gate for each word, list {list:?}"),
+            &idle(&list),
+            &wire_reference(),
+            [15, STAGE, at, word],
+        );
+    }
+    let one_idle = |list: &[u64]| {
+        let mut commands: Vec<Vec<u8>> = list.iter().map(|&word| care_word(word)).collect();
+        commands.extend([gate(TH22, &[1, 1]), output(0, 1)]);
+        file_of(1, &commands)
+    };
+    cases.add(
+        "an idle gate that rises in no word cared for",
+        &one_idle(&[0]),
+        &wire_reference(),
+        ACCEPTED,
+    );
+    cases.add(
+        "15: the same with both words",
+        &one_idle(&[0, 1]),
+        &wire_reference(),
+        [15, STAGE, 0, 1],
+    );
+    // Ten wires, the last output turned over in word 1000 by the reference.
+    let ten = |list: &[u64]| {
+        let mut commands: Vec<Vec<u8>> = list.iter().map(|&word| care_word(word)).collect();
+        commands.extend((0..10).map(through));
+        file_of(10, &commands)
+    };
+    let mut r = ReferenceBuilder::new(10);
+    let one = r.one_word(1000);
+    let turned = r.xor(9, one);
+    for signal in (0..9).chain([turned]) {
+        r.output(signal);
+    }
+    let turned = crate::files::write_reference(&r.reference);
+    let all: Vec<u64> = (0..1024).collect();
+    let others: Vec<u64> = (0..1024).filter(|&word| word != 1000).collect();
+    let wrong = [13, STAGE, 9, 1000];
+    cases.add(
+        "13: ten wires, all words listed",
+        &ten(&all),
+        &turned,
+        wrong,
+    );
+    cases.add(
+        "13: ten wires, word 1000 alone",
+        &ten(&[1000]),
+        &turned,
+        wrong,
+    );
+    cases.add(
+        "13: ten wires, the last of three words",
+        &ten(&[0, 512, 1000]),
+        &turned,
+        wrong,
+    );
+    cases.add(
+        "ten wires, all words but 1000",
+        &ten(&others),
+        &turned,
+        ACCEPTED,
+    );
+    cases.add(
+        "ten wires, word 1023 alone",
+        &ten(&[1023]),
+        &turned,
+        ACCEPTED,
+    );
 }

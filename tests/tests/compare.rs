@@ -25,10 +25,11 @@ fn the_judge_agrees_with_itself() {
 /// Cases that lack a number, or are nearly all refused, show too little.
 #[test]
 fn a_lack_is_told() {
-    let full: Histogram = [40, 9, 9, 9, 9, 9, 9, 9, 9, 9, 9, 9, 9, 9, 9, 9, 9, 9];
+    let mut full: Histogram = [9; 20];
+    full[0] = 45;
     assert_eq!(lack(&full, &CHECK_NUMBERS), None);
     assert_eq!(lack(&full, &ROW_NUMBERS), None);
-    for number in 0..18 {
+    for number in 0..20 {
         let mut histogram = full;
         histogram[number] = 0;
         for numbers in [&CHECK_NUMBERS[..], &ROW_NUMBERS[..]] {
@@ -39,10 +40,10 @@ fn a_lack_is_told() {
         }
     }
     let mut histogram = full;
-    histogram[0] = 38;
+    histogram[0] = 42;
     assert_eq!(
         lack(&histogram, &CHECK_NUMBERS),
-        Some("only 38 of 191 are accepted".to_string())
+        Some("only 42 of 213 are accepted".to_string())
     );
 }
 
@@ -152,7 +153,7 @@ fn sweep(
 fn the_pieces_used_here_are_right() {
     let right: Check = |stage, reference| {
         with_other_sweep(stage, reference, |stage, reference| {
-            sweep(stage, reference, 0..1 << stage.inputs)
+            sweep(stage, reference, stage.words().into_iter())
         })
     };
     compare_checks(right, 7, 1_000).unwrap();
@@ -162,13 +163,51 @@ fn the_pieces_used_here_are_right() {
 fn wrong_checks_are_told() {
     let wrong: Vec<(&str, Check)> = vec![
         ("sweeps word 0 and assumes the rest", |s, r| {
-            with_other_sweep(s, r, |s, r| sweep(s, r, 0..1))
+            with_other_sweep(s, r, |s, r| sweep(s, r, s.words().into_iter().take(1)))
         }),
         ("leaves out the last word", |s, r| {
-            with_other_sweep(s, r, |s, r| sweep(s, r, 0..(1 << s.inputs) - 1))
+            with_other_sweep(s, r, |s, r| {
+                let words = s.words();
+                sweep(s, r, words[..words.len() - 1].to_vec().into_iter())
+            })
         }),
         ("takes words from the last on", |s, r| {
-            with_other_sweep(s, r, |s, r| sweep(s, r, (0..1 << s.inputs).rev()))
+            with_other_sweep(s, r, |s, r| sweep(s, r, s.words().into_iter().rev()))
+        }),
+        ("sweeps all words where a list is given", |s, r| {
+            with_other_sweep(s, r, |s, r| sweep(s, r, 0..1 << s.inputs))
+        }),
+        ("sweeps the first so many words", |s, r| {
+            with_other_sweep(s, r, |s, r| sweep(s, r, 0..s.words().len() as u64))
+        }),
+        ("names the place in the list for the word", |s, r| {
+            with_other_sweep(s, r, |stage, reference| {
+                let [number, file, at, word] = check_circuits(stage, reference);
+                let words = stage.words();
+                let place = words.iter().position(|&other| other == word).unwrap_or(0);
+                [number, file, at, if number == 0 { 0 } else { place as u64 }]
+            })
+        }),
+        ("lets an equal word pass", |s, r| match check(s, r) {
+            [19, 1, at, 0] => {
+                let at = at as usize;
+                let mut shorter = s.to_vec();
+                shorter.drain(at - 1..at + 2);
+                match check(&shorter, r) {
+                    [0, ..] => ACCEPTED,
+                    _ => [19, 1, at as u64, 0],
+                }
+            }
+            verdict => verdict,
+        }),
+        ("exchanges 18 and 19", |s, r| match check(s, r) {
+            [18, 1, at, 0] => [19, 1, at, 0],
+            [19, 1, at, 0] => [18, 1, at, 0],
+            verdict => verdict,
+        }),
+        ("points at the care command", |s, r| match check(s, r) {
+            [number @ (18 | 19), 1, at, 0] => [number, 1, at - 1, 0],
+            verdict => verdict,
         }),
         ("accepts every readable pair", |s, r| {
             with_other_sweep(s, r, |_, _| ACCEPTED)
@@ -191,7 +230,7 @@ fn wrong_checks_are_told() {
         }),
         ("does all checks word by word", |s, r| {
             with_other_sweep(s, r, |stage, reference| {
-                for word in 0..1 << stage.inputs {
+                for word in stage.words() {
                     let verdict = sweep(stage, reference, word..word + 1);
                     if verdict != ACCEPTED {
                         return verdict;
@@ -202,7 +241,7 @@ fn wrong_checks_are_told() {
         }),
         ("counts two high rails as DATA", |s, r| {
             with_other_sweep(s, r, |stage, reference| {
-                for word in 0..1 << stage.inputs {
+                for word in stage.words() {
                     let row = settle(stage, &rails_of_word(stage.inputs, word), None);
                     for (output, value) in answer(reference, word).into_iter().enumerate() {
                         if !row[stage.outputs[output][usize::from(value)]] {
@@ -220,7 +259,9 @@ fn wrong_checks_are_told() {
             with_other_sweep(s, r, |stage, reference| {
                 match check_circuits(stage, reference) {
                     [14, ..] => {
-                        let first = (0..1 << stage.inputs)
+                        let first = stage
+                            .words()
+                            .into_iter()
                             .find_map(|word| Some((word, unobserved_gate(stage, word, |_| true)?)));
                         first.map_or(ACCEPTED, |(word, gate)| [15, 1, gate, word])
                     }
@@ -239,7 +280,9 @@ fn wrong_checks_are_told() {
                                 .flatten()
                                 .any(|&net| net == stage.net_of_gate(gate))
                         };
-                        let first = (0..1 << stage.inputs)
+                        let first = stage
+                            .words()
+                            .into_iter()
                             .find_map(|word| Some((word, unobserved_gate(stage, word, next)?)));
                         first.map_or(ACCEPTED, |(word, gate)| [15, 1, gate, word])
                     }
@@ -251,7 +294,7 @@ fn wrong_checks_are_told() {
             with_other_sweep(s, r, |stage, reference| {
                 let verdict = check_circuits(stage, reference);
                 let idle = |gate: &usize| {
-                    (0..1 << stage.inputs).all(|word| {
+                    stage.words().into_iter().all(|word| {
                         !settle(stage, &rails_of_word(stage.inputs, word), None)
                             [stage.net_of_gate(*gate)]
                     })
@@ -487,7 +530,7 @@ fn wrong_rows_are_told() {
 /// Refusals 1 to 9 of a file, where several faults of one command are weighed by
 /// `order`, and absent nets are looked for by `absent`.
 struct Reading {
-    order: [u64; 9],
+    order: [u64; 11],
     absent: Absent,
     /// Operands at fault by 5 are looked for from the last on.
     five_from_the_last: bool,
@@ -501,7 +544,7 @@ enum Absent {
 }
 
 const RIGHT: Reading = Reading {
-    order: [2, 1, 6, 3, 4, 5, 8, 7, 9],
+    order: [2, 1, 6, 3, 4, 5, 18, 19, 8, 7, 9],
     absent: Absent::InFileOrder,
     five_from_the_last: false,
 };
@@ -515,6 +558,7 @@ fn refusal(reading: &Reading, file: &[u8], which: u64) -> Option<(u64, usize)> {
     let u16_at = |at: usize| usize::from(file[at]) + 256 * usize::from(file[at + 1]);
     let mut place = 0;
     let (mut inputs, mut gates, mut outputs) = (0, 0, 0);
+    let mut care: Option<usize> = None;
     // Place, number, whether in a gate, and of a reference gate its number.
     let mut named: Vec<(usize, usize, bool, usize)> = Vec::new();
     loop {
@@ -528,12 +572,14 @@ fn refusal(reading: &Reading, file: &[u8], which: u64) -> Option<(u64, usize)> {
             1 => 1,
             2 => 9,
             3 => 4,
+            6 => 2,
             0x11 => 5,
             0x12 => 2,
             _ => return Some((2, place)),
         };
         let mut faults: Vec<(u64, usize)> = Vec::new();
-        let here = command < 2 || is_gate || is_output;
+        let is_care = command == 6 && which == 1;
+        let here = command < 2 || is_gate || is_output || is_care;
         if !here || (place == 0) != (command == 1) {
             faults.push((2, place));
         }
@@ -582,6 +628,16 @@ fn refusal(reading: &Reading, file: &[u8], which: u64) -> Option<(u64, usize)> {
                 )
             }));
         }
+        if is_care && left >= width {
+            let word = u16_at(place + 1);
+            if word >= 1 << inputs {
+                faults.push((18, place + 1));
+            }
+            if care.is_some_and(|before| word <= before) {
+                faults.push((19, place + 1));
+            }
+            care = Some(word);
+        }
         if command == 0 {
             if outputs == 0 {
                 faults.push((8, place));
@@ -622,7 +678,8 @@ fn refusal(reading: &Reading, file: &[u8], which: u64) -> Option<(u64, usize)> {
             0 => return None,
             1 => inputs = file[place + 1].into(),
             _ if is_gate => gates += 1,
-            _ => outputs += 1,
+            _ if is_output => outputs += 1,
+            _ => {}
         }
         place += 1 + width;
     }
@@ -647,7 +704,7 @@ fn wrong_reading_is_told() {
                 s,
                 r,
                 &Reading {
-                    order: [1, 2, 6, 3, 4, 5, 8, 7, 9],
+                    order: [1, 2, 6, 3, 4, 5, 8, 7, 9, 18, 19],
                     ..RIGHT
                 },
             )
@@ -657,7 +714,7 @@ fn wrong_reading_is_told() {
                 s,
                 r,
                 &Reading {
-                    order: [2, 6, 1, 3, 4, 5, 8, 7, 9],
+                    order: [2, 6, 1, 3, 4, 5, 8, 7, 9, 18, 19],
                     ..RIGHT
                 },
             )
@@ -667,7 +724,7 @@ fn wrong_reading_is_told() {
                 s,
                 r,
                 &Reading {
-                    order: [2, 4, 1, 6, 3, 5, 8, 7, 9],
+                    order: [2, 4, 1, 6, 3, 5, 8, 7, 9, 18, 19],
                     ..RIGHT
                 },
             )
@@ -677,7 +734,7 @@ fn wrong_reading_is_told() {
                 s,
                 r,
                 &Reading {
-                    order: [2, 1, 3, 4, 6, 5, 8, 7, 9],
+                    order: [2, 1, 3, 4, 6, 5, 8, 7, 9, 18, 19],
                     ..RIGHT
                 },
             )
@@ -687,7 +744,7 @@ fn wrong_reading_is_told() {
                 s,
                 r,
                 &Reading {
-                    order: [2, 1, 5, 6, 3, 4, 8, 7, 9],
+                    order: [2, 1, 5, 6, 3, 4, 8, 7, 9, 18, 19],
                     ..RIGHT
                 },
             )
@@ -697,7 +754,7 @@ fn wrong_reading_is_told() {
                 s,
                 r,
                 &Reading {
-                    order: [2, 1, 6, 3, 4, 5, 7, 8, 9],
+                    order: [2, 1, 6, 3, 4, 5, 7, 8, 9, 18, 19],
                     ..RIGHT
                 },
             )
@@ -707,7 +764,7 @@ fn wrong_reading_is_told() {
                 s,
                 r,
                 &Reading {
-                    order: [2, 1, 6, 3, 4, 5, 9, 8, 7],
+                    order: [2, 1, 6, 3, 4, 5, 9, 8, 7, 18, 19],
                     ..RIGHT
                 },
             )
@@ -717,7 +774,7 @@ fn wrong_reading_is_told() {
                 s,
                 r,
                 &Reading {
-                    order: [2, 1, 6, 3, 4, 5, 8, 9, 7],
+                    order: [2, 1, 6, 3, 4, 5, 8, 9, 7, 18, 19],
                     ..RIGHT
                 },
             )

@@ -78,6 +78,7 @@ fn lists_of_the_whole_case() {
             },
         ],
         outputs: vec![[5, 4]],
+        care: vec![],
     };
     let reference = Reference {
         inputs: 2,
@@ -149,7 +150,7 @@ fn falls_without_hold_break() {
             continue;
         }
         let rules = Rules::new(&stage).unwrap().without_hold();
-        let broken = (0..1 << stage.inputs).find_map(|word| {
+        let broken = stage.words().into_iter().find_map(|word| {
             promise_by_rules(&rules, &stage, &reference, word)
                 .unwrap()
                 .err()
@@ -203,6 +204,7 @@ fn every_choice_of_gates(inputs: usize, gates: usize) -> Vec<Stage> {
                 inputs,
                 gates,
                 outputs: vec![],
+                care: vec![],
             };
             if least_gate_on_a_loop(&stage).is_none() {
                 stages.push(stage);
@@ -336,6 +338,7 @@ fn every_gate_on_two_inputs() {
                 inputs: 2,
                 gates: vec![Gate { kind, pins }],
                 outputs: vec![],
+                care: vec![],
             };
             for output in data_outputs(&stage)
                 .into_iter()

@@ -54,8 +54,11 @@ fn every_verdict_comes_and_known_ones_agree() {
                 );
             }
         }
-        for (number, file) in [(0, 0), (10, 0), (11, 0), (12, 1), (13, 1), (14, 1), (15, 1)] {
-            assert!(histogram.contains_key(&(number, file)), "{number}");
+        for number in [10, 11] {
+            assert!(histogram.contains_key(&(number, 0)), "{number}");
+        }
+        for number in [12, 13, 14, 15, 18, 19] {
+            assert!(histogram.contains_key(&(number, 1)), "{number}");
         }
         assert!(2 * small >= count, "half of the pairs are small");
         assert!(4 * histogram[&(0, 0)] >= count, "a good part is accepted");
@@ -92,7 +95,7 @@ fn rows_settle_or_stay() {
     }
     println!("{count} rows of seed {seed}: {histogram:?}");
     if count >= 10_000 {
-        for number in [0, 1, 2, 3, 4, 5, 6, 7, 8, 9, 12, 16, 17] {
+        for number in [0, 1, 2, 3, 4, 5, 6, 7, 8, 9, 18, 19, 12, 16, 17] {
             assert!(histogram.contains_key(&number), "{number}");
         }
     }

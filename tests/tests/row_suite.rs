@@ -66,7 +66,7 @@ fn verdicts_and_rows() {
 #[test]
 fn what_the_cases_cover() {
     let cases = cases();
-    for number in [0, 1, 2, 3, 4, 5, 6, 7, 8, 9, 12, 16, 17] {
+    for number in [0, 1, 2, 3, 4, 5, 6, 7, 8, 9, 18, 19, 12, 16, 17] {
         let count = cases.iter().filter(|c| c.verdict[0] == number).count();
         assert!(count >= 3, "{count} cases of {number}");
     }

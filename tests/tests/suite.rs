@@ -57,7 +57,18 @@ fn what_the_cases_cover() {
             assert!(count >= 3, "{count} cases of {number} in file {file}");
         }
     }
-    for (number, file) in [(0, 0), (10, 0), (11, 0), (12, 1), (13, 1), (14, 1), (15, 1)] {
+    let others = [
+        (0, 0),
+        (10, 0),
+        (11, 0),
+        (12, 1),
+        (13, 1),
+        (14, 1),
+        (15, 1),
+        (18, 1),
+        (19, 1),
+    ];
+    for (number, file) in others {
         let count = count(number, file);
         assert!(count >= 5, "{count} cases of {number}");
     }

@@ -228,6 +228,38 @@ refused =
     case swapped (1 ∷ 1 ∷ 0x12 ∷ 1 ∷ 0 ∷ inverters 1 (0 ∷ [])) (verdict 0 0 0 0) ∷
     []
 
+-- ---- care words
+
+-- a care command
+abbrev cared : ℕ → List ℕ → List ℕ
+cared w rest = 6 ∷ w ∷ 0 ∷ rest
+
+-- case 6 without its inputs command
+earlyGates : List ℕ
+earlyGates = twoPins 1 0 2 (twoPins 2 1 3 (pair 4 5 (0 ∷ [])))
+
+pub care : List Case
+care =
+    -- 18; 19, where the word is below the one before and where it is the same; a command that is cut is 1
+    case (1 ∷ 1 ∷ cared 2 []) wireReference (verdict 18 1 3 0) ∷
+    case (1 ∷ 2 ∷ cared 2 (cared 1 [])) wireReference (verdict 19 1 6 0) ∷
+    case (1 ∷ 1 ∷ cared 1 (cared 1 [])) wireReference (verdict 19 1 6 0) ∷
+    case (1 ∷ 1 ∷ 6 ∷ 2 ∷ []) wireReference (verdict 1 1 4 0) ∷
+    -- 2 before the inputs and in a reference
+    case (cared 0 []) wireReference (verdict 2 1 0 0) ∷
+    case wire (1 ∷ 1 ∷ cared 0 []) (verdict 2 2 2 0) ∷
+    -- the high byte counts
+    case (1 ∷ 1 ∷ 6 ∷ 0 ∷ 1 ∷ []) wireReference (verdict 18 1 3 0) ∷
+    -- a list of one word that shows no fault, one whose second word shows one, and one of all words; between gates and after outputs too
+    case (1 ∷ 2 ∷ cared 3 earlyGates) andReference (verdict 0 0 0 0) ∷
+    case (1 ∷ 2 ∷ twoPins 1 0 2 (cared 3 (twoPins 2 1 3 (pair 4 5 (0 ∷ []))))) andReference (verdict 0 0 0 0) ∷
+    case (1 ∷ 2 ∷ twoPins 1 0 2 (twoPins 2 1 3 (pair 4 5 (cared 3 (0 ∷ []))))) andReference (verdict 0 0 0 0) ∷
+    case (1 ∷ 2 ∷ cared 1 (cared 3 earlyGates)) andReference (verdict 14 1 0 1) ∷
+    case (1 ∷ 2 ∷ cared 0 (cared 1 (cared 2 (cared 3 earlyGates)))) andReference (verdict 14 1 0 0) ∷
+    -- a care word is not its place in the list: word 2 is the first of which something is found, and is named
+    case (1 ∷ 2 ∷ cared 2 earlyGates) andReference (verdict 14 1 1 2) ∷
+    []
+
 abbrev judged : List Case → List Verdict
 judged cases = map (λ (x : Case). verdictOn (x .stage) (x .reference)) cases
 
@@ -252,6 +284,9 @@ rowExamples =
     rowCase wire (1 ∷ 0 ∷ 0 ∷ []) (answerWith (verdict 16 3 3 0) (1 ∷ 0 ∷ 0 ∷ [])) ∷
     rowCase wire (1 ∷ 1 ∷ []) (answerWith (verdict 17 3 0 0) (1 ∷ 1 ∷ [])) ∷
     rowCase wire (0 ∷ 2 ∷ []) (answerWith (verdict 17 3 0 0) (0 ∷ 2 ∷ [])) ∷
+    -- a care list is read, with its refusals, and not used
+    rowCase (1 ∷ 1 ∷ cared 0 (cared 0 [])) (0 ∷ 0 ∷ []) (answerWith (verdict 19 1 6 0) (0 ∷ 0 ∷ [])) ∷
+    rowCase (1 ∷ 2 ∷ cared 3 earlyGates) (1 ∷ 0 ∷ 0 ∷ 0 ∷ 9 ∷ 9 ∷ []) (answerWith (verdict 0 0 0 0) (1 ∷ 0 ∷ 0 ∷ 0 ∷ 1 ∷ 0 ∷ [])) ∷
     -- old gate bytes are ignored; then with input 1 NULL
     rowCase wholeStage (0 ∷ 1 ∷ 0 ∷ 1 ∷ 9 ∷ 9 ∷ []) (answerWith (verdict 0 0 0 0) (0 ∷ 1 ∷ 0 ∷ 1 ∷ 1 ∷ 0 ∷ [])) ∷
     rowCase wholeStage (1 ∷ 0 ∷ 0 ∷ 0 ∷ 9 ∷ 9 ∷ []) (answerWith (verdict 0 0 0 0) (1 ∷ 0 ∷ 0 ∷ 0 ∷ 0 ∷ 0 ∷ [])) ∷
@@ -265,17 +300,18 @@ Computed =
     × (judged examples ≡ expected examples)
     × (judged ordered ≡ expected ordered)
     × (judged refused ≡ expected refused)
+    × (judged care ≡ expected care)
     × (map (λ (x : RowCase). settledRow (x .stage) (x .row)) rowExamples ≡ map (λ (x : RowCase). x .expected) rowExamples)
 
 computed : Computed
-unfolding twelve examples ordered refused rowExamples wire wireReference wholeStage andReference swapped notReference earlyAnd wires wireSignals
+unfolding twelve examples ordered refused care earlyGates rowExamples wire wireReference wholeStage andReference swapped notReference earlyAnd wires wireSignals
     outputs firstInput gates inverters c.cells c.cellAt c.pinCount c.setExpression c.kindOf b.operand b.operands
-    k.whenFound k.ownCommands k.commandTable k.formIn k.pinsNeeded k.needed k.stray k.misfit k.misfitFrom k.takeGate k.takeSort k.takeCommand k.nextAt
-    r.nameable r.nameless r.usedOperands r.namelessAt r.namelessFrom r.noted r.finish r.onNext r.readFrom r.readFile t.stageOf t.referenceOf o.withNull o.isSet o.rounds o.settledLevels o.levelsHolding o.allData
-    g.tabulate g.leading l.gateSteps l.reachesItself w.numbers w.words w.bitsOf w.railsOf a.operate a.signalValues a.answer h.first h.atFault h.sweep
+    k.whenFound k.ownCommands k.commandTable k.formIn k.pinsNeeded k.needed k.stray k.misfit k.misfitFrom k.takeGate k.takeCare k.takeSort k.takeCommand k.nextAt
+    r.nameable r.nameless r.usedOperands r.namelessAt r.namelessFrom r.floorAfter r.noted r.finish r.onNext r.readFrom r.readFile t.stageOf t.referenceOf o.withNull o.isSet o.rounds o.settledLevels o.levelsHolding o.allData
+    g.tabulate g.leading l.gateSteps l.reachesItself w.numbers w.caredFor w.words w.bitsOf w.railsOf a.operate a.signalValues a.answer h.first h.atFault h.sweep
     h.finding h.orLater h.firstFault h.wrong h.incomplete h.unobservable h.sweeps h.checks h.illegal h.rowChecks v.verdictOf v.judgeReference
     v.judgeStage v.verdictWithin v.settleUnless v.settleReading v.settledRowWithin
-computed = (refl, refl, refl, refl, refl)
+computed = (refl, refl, refl, refl, refl, refl)
 
 pub twelve-cases : judged twelve ≡ expected twelve
 twelve-cases = computed .0
@@ -289,5 +325,8 @@ named-first = computed .2
 pub refused-first : judged refused ≡ expected refused
 refused-first = computed .3
 
+pub care-cases : judged care ≡ expected care
+care-cases = computed .4
+
 pub row-cases : map (λ (x : RowCase). settledRow (x .stage) (x .row)) rowExamples ≡ map (λ (x : RowCase). x .expected) rowExamples
-row-cases = computed .4
+row-cases = computed .5

@@ -1,6 +1,6 @@
 -- A byte that is in no row of the table, how many bytes a command has at most, and which bytes are an operation.
 -- Assumes nothing.
-use Prim.Native.Nat.{ℕ, zero, suc, _^_, _≤_, _<_}
+use Prim.Native.Nat.{ℕ, zero, suc, _+_, _^_, _≤_, _<_}
 use native.Mathlib.Omega.{arith}
 use mathlib.Core.Path.{_≡_, refl, sym, ap, _∙_}
 use mathlib.Core.List.{List, [], _∷_}
@@ -14,7 +14,7 @@ use Rattle.netlist.specs.declared.Role.the-variants.{Number}
 use Rattle.netlist.specs.declared.Form.{Form}
 use Rattle.netlist.specs.Commands.{asForm, commandTable, ownCommands, formIn, formOf, width, needed}
 use Rattle.netlist.specs.Writing.{formFor, All}
-use Rattle.netlist.proofs.Encoding.{form-for, gate-form, inputs-form, width-in}
+use Rattle.netlist.proofs.Encoding.{form-for, gate-form, inputs-form, care-form, care-stage, width-in}
 
 pub in-no-row : (rs : List (ℕ × Form)) (b : ℕ) → All (λ r. b ≡ r .0 → ⊥) rs → asForm sort.Unknown 1 0 Number ≡ formIn rs b
 unfolding formIn
@@ -36,6 +36,12 @@ module _ (f : File) (b : ℕ) {form : Form} (is : form ≡ formOf f b) where
 
   pub gate-lead : form .sort ≡ sort.Gate → form .lead ≡ 2
   gate-lead e = ap (λ (x : Form). x .lead) (form-sort e ∙ gate-form f)
+
+  pub care-wide : form .sort ≡ sort.Care → form .lead + 2 ≡ width form
+  care-wide e =
+      let is-care = form-sort e in
+      let row = is-care ∙ care-form f (care-stage f (ap (λ (x : Form). x .sort) (sym is-care) ∙ e)) in
+      rw row
 
   pub inputs-wide : form .sort ≡ sort.Inputs → width form ≡ 2
   inputs-wide e = ap width (form-sort e ∙ inputs-form f)

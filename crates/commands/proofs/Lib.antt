@@ -1,4 +1,5 @@
 pub mod Forms
 pub mod Misfits
 pub mod Position
+pub mod Care
 pub mod Arms

@@ -52,6 +52,6 @@ module _ (f : File) (most : Limits) (s : List ℕ) (at : ℕ) (before : Counts) 
     by-sort c told = rw (← wide) (ap (takeSort f most s at before form taken) told)
 
     -- the end command, and what stands for no command: nothing is refused here
-    pub by-rest : OneOf (0 ∷ 4 ∷ []) (tagOf the-type (form .sort)) → taken ≡ takeCommand f most s at before form
+    pub by-rest : OneOf (0 ∷ 5 ∷ []) (tagOf the-type (form .sort)) → taken ≡ takeCommand f most s at before form
     unfolding takeSort
-    by-rest keys = arm (0 ∷ 4 ∷ []) (λ c. taken ≡ takeSort f most s at before form taken c) (refl, tt, tt, tt, refl) (form .sort) keys ∙ sym (by-sort (form .sort) refl)
+    by-rest keys = arm (0 ∷ 5 ∷ []) (λ c. taken ≡ takeSort f most s at before form taken c) (refl, tt, tt, tt, tt, refl) (form .sort) keys ∙ sym (by-sort (form .sort) refl)

@@ -12,6 +12,7 @@ use netlist::Sort;
 ghost use mathlib.Core.Path.{_≡_};
 ghost use Prim.Native.Nat.{_+_, _*_, _^_, _<_, _≤_};
 ghost use lib.ListN.{length};
+ghost use lib.Dec.{ltb};
 ghost use Rattle.netlist.specs.Bytes as bytes;
 ghost use Rattle.netlist.specs.Commands as commands;
 
@@ -40,6 +41,7 @@ pub fn form_of(file: File, command: u8) -> Form
             File::Stage => match command {
                 0x02 => as_form(Sort::Gate, 2, 4, Role::AnyNet),
                 0x03 => as_form(Sort::Output, 1, 2, Role::AnyNet),
+                0x06 => as_form(Sort::Care, 1, 1, Role::Number),
                 _ => as_form(Sort::Unknown, 1, 0, Role::Number),
             },
             File::Reference => match command {
@@ -154,6 +156,37 @@ fn take_gate(
     }
 }
 
+// A number is a word of n inputs. A u16 is one of 16 inputs or more.
+fn is_word(w: u16, n: usize) -> bool
+    ensures { λ r. ⌜ r ≡ ltb w (2 ^ n) ⌝ }
+{
+    if n < 16 {
+        return (w as usize) < 1 << n;
+    }
+    true
+}
+
+// A care word at a place: 18, then 19.
+fn take_care(s: &[u8], place: usize, before: Counts, taken: Next) -> Next
+    requires { ⌜ place + 1 < length (now s) ⌝ }
+    ensures { λ r. ⌜ r ≡ commands.takeCare (now (s .entry)) place before taken ⌝ }
+{
+    let w = netlist::operand(s, place);
+    if is_word(w, before.inputs) {
+        if (w as usize) < before.floor {
+            return Next::Refused {
+                number: 19,
+                at: place,
+            };
+        }
+        return taken;
+    }
+    Next::Refused {
+        number: 18,
+        at: place,
+    }
+}
+
 // A command all of whose bytes are there, by its sort: its refusals, or the command with the position after it. Inputs: 3 where
 // the count is not in 1 to the limit. An output: 6.
 fn take_command(file: File, most: Limits, s: &[u8], at: usize, before: Counts, form: Form) -> Next
@@ -185,6 +218,7 @@ fn take_command(file: File, most: Limits, s: &[u8], at: usize, before: Counts, f
                 taken
             }
         }
+        Sort::Care => take_care(s, at + form.lead, before, taken),
         Sort::End | Sort::Unknown => taken,
     }
 }

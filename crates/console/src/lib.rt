@@ -52,11 +52,11 @@ fn print_line(word: u64, high: u64, between: &[u8], after: &[u8]) {
 }
 
 // The first so many lines of a report, each with its word.
-fn print_lines(lines: &[u16], words: u64, between: &[u8], after: &[u8]) {
-    let mut w: usize = 0;
-    while w < lines.len() && (w as u64) < words {
-        print_line(w as u64, lines[w] as u64, between, after);
-        w += 1;
+fn print_lines(lines: &[u16], names: &[u16], words: u64, between: &[u8], after: &[u8]) {
+    let mut k: usize = 0;
+    while k < lines.len() && k < names.len() && (k as u64) < words {
+        print_line(names[k] as u64, lines[k] as u64, between, after);
+        k += 1;
     }
 }
 
@@ -64,7 +64,8 @@ fn print_lines(lines: &[u16], words: u64, between: &[u8], after: &[u8]) {
 // the verdict alone.
 pub fn print_report(report: Report, between: &[u8], after: &[u8]) {
     if report.verdict.number == 0 {
-        print_lines(&report.lines, report.words, between, after);
+        let names = report.names;
+        print_lines(&report.lines, &names, report.words, between, after);
         io::write_all(STDOUT_FILENO, b"total");
         print_next(report.total);
     } else {

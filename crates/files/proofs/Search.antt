@@ -65,14 +65,15 @@ used-in f b code {form} is = go (form .sort) refl
     go : (c : Sort) → form .sort ≡ c → usedOperands f code (form .operands) c ≤ form .operands
     go sort.Gate e = rw (ap (λ (x : Form). x .operands) (form-sort f b is e)) (needed-in f code)
     go sort.Output e = omega arith
+    go sort.Care e = omega arith
     go sort.End e = omega arith
     go sort.Inputs e = omega arith
     go sort.Unknown e = omega arith
 
 -- a command that is no gate uses all of its operands
-pub used-all : (f : File) (code all : ℕ) (c : Sort) → OneOf (0 ∷ 1 ∷ 3 ∷ 4 ∷ []) (tagOf the-type c) → all ≡ usedOperands f code all c
+pub used-all : (f : File) (code all : ℕ) (c : Sort) → OneOf (0 ∷ 1 ∷ 3 ∷ 4 ∷ 5 ∷ []) (tagOf the-type c) → all ≡ usedOperands f code all c
 unfolding usedOperands
-used-all f code all = arm (0 ∷ 1 ∷ 3 ∷ 4 ∷ []) (λ c. all ≡ usedOperands f code all c) (refl, refl, tt, refl, refl)
+used-all f code all = arm (0 ∷ 1 ∷ 3 ∷ 4 ∷ 5 ∷ []) (λ c. all ≡ usedOperands f code all c) (refl, refl, tt, refl, refl, refl)
 
 -- ---- the commands of a file, one after the other
 
@@ -83,8 +84,8 @@ gatesAfter k c = cond (isSort sort.Gate c) (k + 1) k
 pub after-gate : (k : ℕ) {c : Sort} → c ≡ sort.Gate → gatesAfter k c ≡ k + 1
 after-gate k e = rw e
 
-pub after-other : (k : ℕ) (c : Sort) → OneOf (0 ∷ 1 ∷ 3 ∷ 4 ∷ []) (tagOf the-type c) → gatesAfter k c ≡ k
-after-other k = arm (0 ∷ 1 ∷ 3 ∷ 4 ∷ []) (λ c. gatesAfter k c ≡ k) (refl, refl, tt, refl, refl)
+pub after-other : (k : ℕ) (c : Sort) → OneOf (0 ∷ 1 ∷ 3 ∷ 4 ∷ 5 ∷ []) (tagOf the-type c) → gatesAfter k c ≡ k
+after-other k = arm (0 ∷ 1 ∷ 3 ∷ 4 ∷ 5 ∷ []) (λ c. gatesAfter k c ≡ k) (refl, refl, tt, refl, refl, refl)
 
 -- the search comes to a position after k gates; whole commands follow, and the fuel lasts to the end of the file
 pub record Searched (f : File) (n g : ℕ) (s : List ℕ) (at k : ℕ) : Type 0 where

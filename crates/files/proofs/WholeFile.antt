@@ -5,14 +5,16 @@ use Prim.Native.Nat.{ℕ, zero, suc, _+_, _*_, _-_, _^_, _≤_, _<_}
 use native.Mathlib.Omega.{arith}
 use native.Mathlib.Numerals.{add-one}
 use native.Mathlib.Nat.{mul-le-mul-right}
+use lib.Pow.{pow-mono}
 use mathlib.Core.Path.{_≡_, refl, sym, ap, ap₂, subst, _∙_}
 use mathlib.Core.Bool.{Bool, true, false, cond}
-use mathlib.Core.List.{List}
-use lib.ListN.{length, take, drop, set, length-set, length-drop}
-use lib.Seq.{length-take-le, take-suc-set, take-set-le, drop-set-lt, drop-set-add}
+use mathlib.Core.List.{List, [], _∷_, _++_}
+use lib.ListN.{length, take, drop, set, length-append, length-set, length-drop}
+use lib.Seq.{take-suc-set, take-set-le, drop-set-lt, drop-set-add}
 use lib.Dec.{eqb, ltb}
 use borrow.Author.Tests.{lt-ltb, le-ltb, eq-eqb, ne-eqb}
 use Rattle.netlist.specs.declared.File.{File}
+use Rattle.netlist.specs.declared.File.the-variants as file
 use Rattle.netlist.specs.declared.Sort.{Sort}
 use Rattle.netlist.specs.declared.Sort.the-variants as sort
 use Rattle.netlist.specs.declared.Limits.{Limits}
@@ -22,14 +24,14 @@ use Rattle.netlist.specs.declared.Next.{Next}
 use Rattle.netlist.specs.declared.Next.the-variants.{Command, Refused}
 use Rattle.netlist.specs.declared.Found.{Found}
 use Rattle.netlist.specs.declared.Found.the-variants.{At, Nothing}
-use Rattle.netlist.specs.Bytes.{byte}
+use Rattle.netlist.specs.Bytes.{byte, operand}
 use Rattle.netlist.specs.Commands.{whenFound, isSort, formOf, width, stray, nextAt}
-use Rattle.netlist.specs.Reading.{namelessFrom, Places, countsOf, noted, Reading, refused, readable, finish, onNext, readFrom, readFile}
+use Rattle.netlist.specs.Reading.{namelessFrom, Places, floorAfter, countsOf, noted, Reading, refused, readable, finish, onNext, readFrom, readFile}
 use Rattle.netlist.specs.Writing.{commandByte, widthFor}
-use Rattle.files.specs.Files.{Follow, FilledTo, Countable, RoomFor, Placed}
-use Rattle.netlist.proofs.Encoding.{clash, width-in, width-inputs, width-end}
+use Rattle.files.specs.Files.{Follow, FilledTo, Countable, mostCare, RoomFor, standing, Placed}
+use Rattle.netlist.proofs.Encoding.{clash, care-stage, care-form, width-in, width-inputs, width-end}
 use Rattle.netlist.proofs.OneCommand.{There, next-there}
-use Rattle.netlist.proofs.Walk.{first-inputs, Near, near-start, near-far}
+use Rattle.netlist.proofs.Walk.{floor-snoc, care-taken, Near, near-start, near-far, near-noted}
 
 -- ---- at the end command
 
@@ -62,16 +64,16 @@ module _ (f : File) (s : List ℕ) (at : ℕ) (p : Places) (c : Counts) (e : cou
       unfolding finish whenFound
       finish-readable q = rw (tested, le-ltb (at + 1) (length s) last, searched, q)
 
-module _ (from : ℕ) (places : List ℕ) where
-  pub refused-placed : (r : Reading) (number at : ℕ) → r ≡ refused number at → Placed from r places
+module _ (most : Limits) (places : List ℕ) where
+  pub refused-placed : (r : Reading) (number at : ℕ) → r ≡ refused number at → Placed most r places
   unfolding Placed
-  refused-placed r number at e = subst (λ (x : Reading). Placed from x places) (sym e) tt
+  refused-placed r number at e = subst (λ (x : Reading). Placed most x places) (sym e) tt
 
-  finish-placed : (f : File) (s : List ℕ) (at : ℕ) (p : Places) → Placed from (readable p) places → Placed from (finish f s at p) places
+  finish-placed : (f : File) (s : List ℕ) (at : ℕ) (p : Places) → Placed most (readable p) places → Placed most (finish f s at p) places
   unfolding finish whenFound Placed
   finish-placed f s at p h = go (eqb (length (p .outputs)) 0) (ltb (at + 1) (length s)) (namelessFrom (length s) f (p .inputs) (length (p .gates)) s 0 0)
     where
-      go : (x y : Bool) (found : Found) → Placed from (cond x (refused 8 at) (cond y (refused 7 (at + 1)) (whenFound found (refused 9) (readable p)))) places
+      go : (x y : Bool) (found : Found) → Placed most (cond x (refused 8 at) (cond y (refused 7 (at + 1)) (whenFound found (refused 9) (readable p)))) places
       go true y found = tt
       go false true found = tt
       go false false (At place) = tt
@@ -95,32 +97,30 @@ module _ (f : File) (s : List ℕ) where
 -- ---- the walk over the commands
 
 -- the counts before a position, as the code has them
-abbrev pub counts : ℕ → ℕ → ℕ → Counts
-counts n g o = record { inputs = n; gates = g; outputs = o }
+abbrev pub counts : ℕ → ℕ → ℕ → ℕ → ℕ → Counts
+counts n g o k w = record { inputs = n; gates = g; outputs = o; care = k; floor = w }
 
--- the places that stand in a lent list: those of the gates from index 0 on, those of the outputs from a fixed index on
-abbrev pub standing : Limits → List ℕ → Counts → Places
-standing most places c = record { inputs = c .inputs; gates = take (c .gates) places; outputs = take (c .outputs) (drop (most .gates) places) }
-
--- The reading goes on from a position with the places that stand in the lent list. The position is near enough to 0 for a u16, whole commands fill
+-- The reading goes on from a position with what stands in the lent list. The position is near enough to 0 for a u16, whole commands fill
 -- the file up to it, and the fuel lasts to the end of the file.
 pub record Walking (f : File) (most : Limits) (s : List ℕ) (long : ℕ) (places : List ℕ) (at : ℕ) (c : Counts) : Type 0 where
   pub within : at ≤ length s
   pub inputs-byte : c .inputs < 256
   pub near : Near f most at c
   pub long-same : length places ≡ long
+  pub counted : countsOf (standing most places c) ≡ c
   pub filled : FilledTo f s at
   pub fuel : ℕ
   pub enough : length s < at + fuel
   pub same : readFile f most s ≡ readFrom fuel f most s at (standing most places c)
 
-pub walk-starts : (f : File) (most : Limits) (s places : List ℕ) → Walking f most s (length places) places 0 (counts 0 0 0)
-unfolding readFile
+pub walk-starts : (f : File) (most : Limits) (s places : List ℕ) → Walking f most s (length places) places 0 (counts 0 0 0 0 0)
+unfolding readFile floorAfter
 walk-starts f most s places = record {
   within = omega arith;
   inputs-byte = omega arith;
   near = near-start f most;
   long-same = refl;
+  counted = refl;
   filled = filled-none f s;
   fuel = suc (length s);
   enough = omega arith;
@@ -131,15 +131,13 @@ walk-starts f most s places = record {
 pub read-as : {x : Next} {c c′ : Sort} {next : Cursor} → x ≡ Command c next → c ≡ c′ → x ≡ Command c′ next
 read-as {next} e told = e ∙ ap (λ (y : Sort). Command y next) told
 
+-- one more of a list that is counted
+one-more : (xs : List ℕ) (x k : ℕ) → length xs ≡ k → length (xs ++ (x ∷ [])) ≡ k + 1
+one-more xs x k e = omega (arith, length-append xs (x ∷ []))
+
 module _ {f : File} {most : Limits} {s : List ℕ} {long : ℕ} {places : List ℕ} {at : ℕ} {c : Counts} (room : RoomFor f most long) (w : Walking f most s long places at c) where
-  gates-length : length (take (c .gates) places) ≡ c .gates
-  gates-length = length-take-le (c .gates) places (omega (arith, room .space, w .long-same, w .near .gates-in))
-
-  outputs-length : length (take (c .outputs) (drop (most .gates) places)) ≡ c .outputs
-  outputs-length = length-take-le (c .outputs) (drop (most .gates) places) (simp length-drop (omega (arith, room .space, w .long-same, w .near .outputs-in)))
-
   pub standing-counts : countsOf (standing most places c) ≡ c
-  standing-counts = ap₂ (counts (c .inputs)) gates-length outputs-length
+  standing-counts = w .counted
 
   -- the position fits a u16
   pub place-fits : at < 2 ^ 16
@@ -156,7 +154,7 @@ module _ {f : File} {most : Limits} {s : List ℕ} {long : ℕ} {places : List �
     walk-step =
         let p : w .fuel ≡ suc (w .fuel - 1) = omega (arith, w .enough, w .within) in
         w .same ∙ ap (λ (k : ℕ). readFrom k f most s at (standing most places c)) p
-        ∙ ap (onNext (readFrom (w .fuel - 1) f most s) f s at (standing most places c)) (ap (nextAt f most s at) standing-counts ∙ sym is)
+        ∙ ap (onNext (readFrom (w .fuel - 1) f most s) f s at (standing most places c)) (ap (nextAt f most s at) (w .counted) ∙ sym is)
 
     pub walk-stops : (number place : ℕ) → x ≡ Refused number place → readFile f most s ≡ refused number place
     unfolding onNext
@@ -181,20 +179,24 @@ module _ {f : File} {most : Limits} {s : List ℕ} {long : ℕ} {places : List �
           let e : at + width (formOf f (byte s at)) ≡ next .at = omega (arith, after, form-wide) in
           rw e at (filled-next f s (w .filled) (omega (arith, walk-further)))
 
-      -- the reading goes on with the places that the code has then
-      walk-on : isSort sort.End k ≡ false → (places′ : List ℕ) (c′ : Counts) → length places′ ≡ length places →
-          standing most places′ c′ ≡ noted k s at (standing most places c) → c′ .inputs < 256 → Near f most (at + widthFor f k) c′ → Walking f most s long places′ (next .at) c′
+      -- the reading goes on with what the code has then
+      walk-on : isSort sort.End k ≡ false → (places′ : List ℕ) (c′ : Counts) → length places′ ≡ length places → standing most places′ c′ ≡ noted k s at (standing most places c) →
+          countsOf (noted k s at (standing most places c)) ≡ c′ → c′ .inputs < 256 → Walking f most s long places′ (next .at) c′
       unfolding onNext
-      walk-on more places′ c′ same-length e small near = record {
-        within = walk-further .1;
-        inputs-byte = small;
-        near = rw after near;
-        long-same = same-length ∙ w .long-same;
-        filled = filled-after;
-        fuel = w .fuel - 1;
-        enough = omega (arith, walk-further, w .enough);
-        same = walk-step ∙ rw (read, more) (ap (readFrom (w .fuel - 1) f most s (next .at)) (sym e));
-      }
+      walk-on more places′ c′ same-length e made small =
+          let stood = standing most places c in
+          let near = subst (λ (x : Counts). Near f most at x × There f most s at x k) (sym (w .counted)) (w .near, there) in
+          record {
+            within = walk-further .1;
+            inputs-byte = small;
+            near = rw after (subst (Near f most (at + widthFor f k)) made (near-noted f most s at stood k more (near .0) (near .1)));
+            long-same = same-length ∙ w .long-same;
+            counted = ap countsOf e ∙ made;
+            filled = filled-after;
+            fuel = w .fuel - 1;
+            enough = omega (arith, walk-further, w .enough);
+            same = walk-step ∙ rw (read, more) (ap (readFrom (w .fuel - 1) f most s (next .at)) (sym e));
+          }
 
     module _ {next : Cursor} where
       pub inputs-room : x ≡ Command sort.Inputs next → at + 2 ≤ length s
@@ -206,32 +208,76 @@ module _ {f : File} {most : Limits} {s : List ℕ} {long : ℕ} {places : List �
       pub output-room : x ≡ Command sort.Output next → c .outputs < most .outputs
       output-room read = there read .taken
 
-      pub walk-inputs : x ≡ Command sort.Inputs next → byte s (at + 1) < 256 → Walking f most s long places (next .at) (counts (byte s (at + 1)) (c .gates) (c .outputs))
+      -- a care word follows those before it, and there are no more than words of the inputs
+      pub care-room : x ≡ Command sort.Care next → (at + 3 ≤ length s) × (operand s (at + 1) < 2 ^ most .inputs) × (c .care < mostCare f most)
+      unfolding mostCare
+      care-room read =
+          let t = there read in
+          let stage = care-stage f (t .own) in
+          let taken = care-taken f most s at c t in
+          let most-words : mostCare f most ≡ 2 ^ most .inputs = ap (λ (x : File). mostCare x most) stage in
+          omega (arith, t .room, ap width (care-form f stage), taken, w .near .care-in, most-words, pow-mono {i = c .inputs} {j = most .inputs} (w .near .inputs-in))
+
+      pub walk-inputs : x ≡ Command sort.Inputs next → byte s (at + 1) < 256 → Walking f most s long places (next .at) (counts (byte s (at + 1)) (c .gates) (c .outputs) (c .care) (c .floor))
       unfolding noted
       walk-inputs read small =
-          walk-on read refl places (counts (byte s (at + 1)) (c .gates) (c .outputs)) refl refl small
-          (record { place = omega (arith, width-inputs f, first-inputs at (there read .ordered)); gates-in = w .near .gates-in; outputs-in = w .near .outputs-in })
+          walk-on read refl places (counts (byte s (at + 1)) (c .gates) (c .outputs) (c .care) (c .floor)) refl refl
+          (ap (λ (x : Counts). counts (byte s (at + 1)) (x .gates) (x .outputs) (x .care) (x .floor)) (w .counted)) small
 
-      pub walk-gate : x ≡ Command sort.Gate next → Walking f most s long (set places (c .gates) at) (next .at) (counts (c .inputs) (c .gates + 1) (c .outputs))
+      pub walk-gate : x ≡ Command sort.Gate next → Walking f most s long (set places (c .gates) at) (next .at) (counts (c .inputs) (c .gates + 1) (c .outputs) (c .care) (c .floor))
       unfolding noted
       walk-gate read =
           let inside : c .gates < length places = omega (arith, gate-room read, room .space, w .long-same) in
-          walk-on read refl (set places (c .gates) at) (counts (c .inputs) (c .gates + 1) (c .outputs)) (length-set places (c .gates) at)
-          (rw (add-one, take-suc-set places (c .gates) at inside, drop-set-lt (most .gates) places (c .gates) at (gate-room read))) (w .inputs-byte)
-          (record { place = omega (arith, w .near .place); gates-in = omega (arith, gate-room read); outputs-in = w .near .outputs-in })
+          walk-on read refl (set places (c .gates) at) (counts (c .inputs) (c .gates + 1) (c .outputs) (c .care) (c .floor)) (length-set places (c .gates) at)
+          (rw (
+            add-one,
+            take-suc-set places (c .gates) at inside,
+            drop-set-lt (most .gates) places (c .gates) at (gate-room read),
+            drop-set-lt (most .gates + most .outputs) places (c .gates) at (omega (arith, gate-room read)),
+          ))
+          (ap₂ (λ (g : ℕ) (x : Counts). counts (c .inputs) g (x .outputs) (x .care) (x .floor))
+          (one-more (take (c .gates) places) at (c .gates) (ap (λ (x : Counts). x .gates) (w .counted))) (w .counted))
+          (w .inputs-byte)
 
-      pub walk-output : x ≡ Command sort.Output next → Walking f most s long (set places (most .gates + c .outputs) at) (next .at) (counts (c .inputs) (c .gates) (c .outputs + 1))
+      pub walk-output : x ≡ Command sort.Output next → Walking f most s long (set places (most .gates + c .outputs) at) (next .at) (counts (c .inputs) (c .gates) (c .outputs + 1) (c .care) (c .floor))
       unfolding noted
       walk-output read =
           let inside : c .outputs < length (drop (most .gates) places) = simp length-drop (omega (arith, output-room read, room .space, w .long-same)) in
-          walk-on read refl (set places (most .gates + c .outputs) at) (counts (c .inputs) (c .gates) (c .outputs + 1)) (length-set places (most .gates + c .outputs) at)
+          walk-on read refl (set places (most .gates + c .outputs) at) (counts (c .inputs) (c .gates) (c .outputs + 1) (c .care) (c .floor)) (length-set places (most .gates + c .outputs) at)
           (rw (
             add-one,
             take-set-le (c .gates) places (most .gates + c .outputs) at (omega (arith, w .near .gates-in)),
             drop-set-add (most .gates) places (c .outputs) at,
             take-suc-set (drop (most .gates) places) (c .outputs) at inside,
-          )) (w .inputs-byte)
-          (record { place = omega (arith, w .near .place); gates-in = w .near .gates-in; outputs-in = omega (arith, output-room read) })
+            drop-set-lt (most .gates + most .outputs) places (most .gates + c .outputs) at (omega (arith, output-room read)),
+          ))
+          (ap₂ (λ (o : ℕ) (x : Counts). counts (c .inputs) (x .gates) o (x .care) (x .floor))
+          (one-more (take (c .outputs) (drop (most .gates) places)) at (c .outputs) (ap (λ (x : Counts). x .outputs) (w .counted))) (w .counted))
+          (w .inputs-byte)
+
+      pub walk-care : x ≡ Command sort.Care next → {v : ℕ} → v ≡ operand s (at + 1) →
+          Walking f most s long (set places (most .gates + most .outputs + c .care) v) (next .at) (counts (c .inputs) (c .gates) (c .outputs) (c .care + 1) (v + 1))
+      unfolding noted
+      walk-care read {v} is-word =
+          let first : ℕ = most .gates + most .outputs in
+          let stood = drop first places in
+          let further : first + c .care ≡ most .gates + (most .outputs + c .care) = omega arith in
+          let kept : take (c .outputs) (drop (most .gates) (set places (first + c .care) v)) ≡ take (c .outputs) (drop (most .gates) places) =
+          rw (further, drop-set-add (most .gates) places (most .outputs + c .care) v, take-set-le (c .outputs) (drop (most .gates) places) (most .outputs + c .care) v (omega (arith, w .near .outputs-in))) in
+          let inside : c .care < length stood = simp length-drop (omega (arith, care-room read, room .space, w .long-same)) in
+          walk-on read refl (set places (first + c .care) v) (counts (c .inputs) (c .gates) (c .outputs) (c .care + 1) (v + 1)) (length-set places (first + c .care) v)
+          (rw (
+            ← is-word,
+            add-one,
+            kept,
+            take-set-le (c .gates) places (first + c .care) v (omega (arith, w .near .gates-in)),
+            drop-set-add first places (c .care) v,
+            take-suc-set stood (c .care) v inside,
+          ))
+          (rw (← is-word, floor-snoc 0 (take (c .care) stood) v)
+          (ap₂ (λ (k : ℕ) (x : Counts). counts (c .inputs) (x .gates) (x .outputs) k (v + 1))
+          (one-more (take (c .care) stood) v (c .care) (ap (λ (x : Counts). x .care) (w .counted))) (w .counted)))
+          (w .inputs-byte)
 
       -- a byte that stands for no command is refused
       pub walk-unknown : x ≡ Command sort.Unknown next → ⊥
@@ -246,8 +292,6 @@ module _ {f : File} {most : Limits} {s : List ℕ} {long : ℕ} {places : List �
         pub walk-filled : FilledTo f s (at + 1)
         walk-filled = let e : next .at ≡ at + 1 = omega (arith, after read, width-end f) in rw e at (filled-after read)
 
-        pub walk-placed : Placed (most .gates) (readFile f most s) places
+        pub walk-placed : Placed most (readFile f most s) places
         unfolding Placed
-        walk-placed =
-            rw walk-ends (finish-placed (most .gates) places f s at (standing most places c)
-            (ap (λ (k : ℕ). take k places) gates-length, ap (λ (k : ℕ). take k (drop (most .gates) places)) outputs-length))
+        walk-placed = rw walk-ends (finish-placed most places f s at (standing most places c) (ap (standing most places) (w .counted)))

@@ -140,17 +140,20 @@ fn finish(file: File, s: &[u8], at: usize, counts: Counts) -> Outcome
 }
 
 // Reads a whole file, one command at a time. The places of its gates go into the lent slice from index 0 on, those of its
-// outputs from index most.gates on.
+// outputs from index most.gates on, and its care words behind room for the most outputs.
 pub fn read_file(file: File, most: Limits, s: &[u8], places: &mut [u16]) -> Outcome
     requires { ⌜ files.RoomFor file most (length (now places)) ⌝ }
     ensures answered { λ r. ⌜ r ≡ read.outcomeOf (reading.readFile file most (now (s .entry))) ⌝ }
-    ensures placed { λ r. ⌜ files.Placed (most .gates) (reading.readFile file most (now (s .entry))) (now (places .exit)) ⌝ }
+    ensures placed { λ r. ⌜ files.Placed most (reading.readFile file most (now (s .entry))) (now (places .exit)) ⌝ }
 {
     let first_output = most.gates;
+    let first_care = most.gates + most.outputs;
     let mut at: usize = 0;
     let mut inputs: usize = 0;
     let mut gates: usize = 0;
     let mut outputs: usize = 0;
+    let mut care: usize = 0;
+    let mut floor: usize = 0;
     while at < s.len() {
         let next = reader::take_next(
             file,
@@ -161,6 +164,8 @@ pub fn read_file(file: File, most: Limits, s: &[u8], places: &mut [u16]) -> Outc
                 inputs,
                 gates,
                 outputs,
+                care,
+                floor,
             },
         );
         let Next::Command(sort, after) = next else {
@@ -178,6 +183,12 @@ pub fn read_file(file: File, most: Limits, s: &[u8], places: &mut [u16]) -> Outc
                 places[first_output + outputs] = at as u16;
                 outputs += 1;
             }
+            Sort::Care => {
+                let w = netlist::operand(s, at + 1);
+                places[first_care + care] = w;
+                care += 1;
+                floor = w as usize + 1;
+            }
             Sort::End => {
                 return finish(
                     file,
@@ -187,6 +198,8 @@ pub fn read_file(file: File, most: Limits, s: &[u8], places: &mut [u16]) -> Outc
                         inputs,
                         gates,
                         outputs,
+                        care,
+                        floor,
                     },
                 );
             }

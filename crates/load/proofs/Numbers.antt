@@ -79,9 +79,15 @@ module _ (s places : List ℕ) (c : Counts) (i : ℕ) where
   unfolding stageNumber
   stage-gate h = rw (lt-ltb i (8 * c .gates) h)
 
-  pub stage-output : 8 * c .gates ≤ i → operand s (getD places (stageLimits .gates + (i - 8 * c .gates) / 2) 0 + 1 + 2 * ((i - 8 * c .gates) % 2)) ≡ stageNumber s places c i
+  pub stage-output : 8 * c .gates ≤ i → i - 8 * c .gates < 2 * c .outputs →
+      operand s (getD places (stageLimits .gates + (i - 8 * c .gates) / 2) 0 + 1 + 2 * ((i - 8 * c .gates) % 2)) ≡ stageNumber s places c i
   unfolding stageNumber
-  stage-output h = rw (le-ltb i (8 * c .gates) h)
+  stage-output h l = rw (le-ltb i (8 * c .gates) h, lt-ltb (i - 8 * c .gates) (2 * c .outputs) l)
+
+  pub stage-care : 8 * c .gates ≤ i → 2 * c .outputs ≤ i - 8 * c .gates →
+      getD places (stageLimits .gates + stageLimits .outputs + (i - 8 * c .gates - 2 * c .outputs)) 0 ≡ stageNumber s places c i
+  unfolding stageNumber
+  stage-care h l = rw (le-ltb i (8 * c .gates) h, le-ltb (i - 8 * c .gates) (2 * c .outputs) l)
 
   pub reference-gate : i < 3 * c .gates → operatorNumber s (getD places (i / 3) 0) (i % 3) ≡ referenceNumber s places c i
   unfolding referenceNumber

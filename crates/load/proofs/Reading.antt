@@ -1,7 +1,8 @@
 -- What a file that was read says of the command at each of its places, and what reading and loading leave.
 -- Assumes nothing.
-use Prim.Native.Nat.{ℕ, _+_, _≤_, _<_}
+use Prim.Native.Nat.{ℕ, _+_, _^_, _≤_, _<_}
 use native.Mathlib.Omega.{arith}
+use lib.Pow.{pow-mono}
 use mathlib.Core.Path.{_≡_, refl, sym, ap, ap₂, _∙_, subst, subst₂}
 use mathlib.Core.List.{List}
 use lib.ListN.{length, getD, take, drop, length-drop}
@@ -16,8 +17,9 @@ use Rattle.netlist.specs.declared.Outcome.the-variants as outcome
 use Rattle.netlist.specs.Reading.{Places, countsOf, Reading, refused, readable, readFile, Within, stageLimits, referenceLimits}
 use Rattle.netlist.specs.Read.{GateRead, OutputRead, Read, outcomeOf}
 use Rattle.netlist.specs.Content.{stageOf, referenceOf}
-use Rattle.netlist.proofs.Readable.{readable-read}
-use Rattle.files.specs.Files.{RoomFor, Placed}
+use Rattle.netlist.proofs.Readable.{readable-read, rising-length}
+use Rattle.netlist.proofs.References.{no-care}
+use Rattle.files.specs.Files.{mostCare, RoomFor, Placed}
 use Rattle.circuit.specs.Stage.{stageIn, StageLoaded}
 use Rattle.circuit.specs.Reference.{referenceIn, ReferenceLoaded}
 use Rattle.load.specs.Load.{placesIn, FileRead, HoldsStage, HoldsReference}
@@ -29,6 +31,12 @@ module _ (f : File) (most : Limits) (s places : List ℕ) (c : Counts) (r : File
   pub length-outputs : length (take (c .outputs) (drop (most .gates) places)) ≡ c .outputs
   length-outputs =
       length-take-le (c .outputs) (drop (most .gates) places) (omega (arith, length-drop (most .gates) places, r .room, r .within .outputs-in))
+
+  pub care-word : (k : ℕ) → k < c .care → getD (take (c .care) (drop (most .gates + most .outputs) places)) k 0 ≡ getD places (most .gates + most .outputs + k) 0
+  care-word k h = getD-take (c .care) (drop (most .gates + most .outputs) places) k 0 h ∙ getD-drop (most .gates + most .outputs) places k 0
+
+  pub length-care : length (take (c .care) (drop (most .gates + most .outputs) places)) ≡ c .care
+  length-care = length-take-le (c .care) (drop (most .gates + most .outputs) places) (omega (arith, length-drop (most .gates + most .outputs) places, r .room, r .few-care))
 
   pub gate-at : (k : ℕ) → k < c .gates → GateRead f s (c .inputs) (c .gates) k (getD places k 0)
   gate-at k h =
@@ -71,22 +79,29 @@ pub record WasRead (f : File) (most : Limits) (s places : List ℕ) (c : Counts)
   pub reading : readFile f most s ≡ readable (placesIn most c places)
   pub counts : countsOf (placesIn most c places) ≡ c
 
-pub was-read : (f : File) (most : Limits) (s places : List ℕ) (c : Counts) → most .gates + most .outputs ≤ length places →
-    outcome.Readable c ≡ outcomeOf (readFile f most s) →
-    Placed (most .gates) (readFile f most s) places → WasRead f most s places c
+-- there are no more care words than words of the inputs, and none in a reference
+few-care : (f : File) (most : Limits) (s : List ℕ) (p : Places) → readFile f most s ≡ readable p → length (p .care) ≤ mostCare f most
+unfolding mostCare
+few-care file.Stage most s p e =
+    let r = readable-read file.Stage most s p e in
+    omega (arith, rising-length (2 ^ p .inputs) 0 (p .care) (r .care-in), pow-mono {i = p .inputs} {j = most .inputs} (r .inputs-in .1))
+few-care file.Reference most s p e = omega (arith, ap length (no-care most s p e))
+
+pub was-read : (f : File) (most : Limits) (s places : List ℕ) (c : Counts) → most .gates + most .outputs + mostCare f most ≤ length places → outcome.Readable c ≡ outcomeOf (readFile f most s) →
+    Placed most (readFile f most s) places → WasRead f most s places c
 unfolding outcomeOf Placed
 was-read f most s places c room e placed = go (readFile f most s) refl e placed
   where
-    go : (x : Reading) → readFile f most s ≡ x → outcome.Readable c ≡ outcomeOf x → Placed (most .gates) x places → WasRead f most s places c
+    go : (x : Reading) → readFile f most s ≡ x → outcome.Readable c ≡ outcomeOf x → Placed most x places → WasRead f most s places c
     go (refused number at) is e t = absurd (let z : _≡_ {A = ℕ} 0 1 = cc in omega arith)
     go (readable p) is e t =
         let q : countsOf p ≡ c = cc in
-        let same : placesIn most (countsOf p) places ≡ p = ap₂ (λ (gs os : List ℕ). record { inputs = p .inputs; gates = gs; outputs = os }) (t .0)
-        (t .1) in
+        let same : placesIn most (countsOf p) places ≡ p = t in
         let r = readable-read f most s p is in
         subst (WasRead f most s places) q (record {
           file-read = record {
             within = record { inputs-in = r .inputs-in .1; gates-in = r .gates-in; outputs-in = r .outputs-in .1 };
+            few-care = few-care f most s p is;
             room = room;
             read = subst (Read f most s) (sym same) r;
           };
@@ -95,23 +110,19 @@ was-read f most s places c room e placed = go (readFile f most s) refl e placed
         })
 
 -- the same where the limits that were handed on are these
-pub was-read-by : (f : File) (given most : Limits) → given ≡ most → (s places : List ℕ) (c : Counts) → most .gates + most .outputs ≤ length places →
-    outcome.Readable c ≡ outcomeOf (readFile f given s) → Placed (given .gates) (readFile f given s) places → WasRead f most s places c
+pub was-read-by : (f : File) (given most : Limits) → given ≡ most → (s places : List ℕ) (c : Counts) → most .gates + most .outputs + mostCare f most ≤ length places →
+    outcome.Readable c ≡ outcomeOf (readFile f given s) → Placed given (readFile f given s) places → WasRead f most s places c
 was-read-by f given most e s places c room a b =
-    let t = subst (λ (m : Limits). (outcome.Readable c ≡ outcomeOf (readFile f m s)) × Placed (m .gates) (readFile f m s) places) e (a, b) in
+    let t = subst (λ (m : Limits). (outcome.Readable c ≡ outcomeOf (readFile f m s)) × Placed m (readFile f m s) places) e (a, b) in
     was-read f most s places c room (t .0) (t .1)
 
-pub stage-places : (most : Limits) → most ≡ stageLimits → RoomFor file.Stage most (stageLimits .gates + stageLimits .outputs)
-unfolding commandTable ownCommands formIn
-stage-places most e =
-    subst (λ (m : Limits). RoomFor file.Stage m (stageLimits .gates + stageLimits .outputs)) (sym e)
-    (record { u16s = omega arith; space = omega arith })
+pub stage-places : (most : Limits) → most ≡ stageLimits → RoomFor file.Stage most (stageLimits .gates + stageLimits .outputs + 2 ^ stageLimits .inputs)
+unfolding commandTable ownCommands formIn mostCare
+stage-places most e = subst (λ (m : Limits). RoomFor file.Stage m (stageLimits .gates + stageLimits .outputs + 2 ^ stageLimits .inputs)) (sym e) (record { u16s = omega arith; space = omega arith })
 
 pub reference-places : (most : Limits) → most ≡ referenceLimits → RoomFor file.Reference most (referenceLimits .gates + referenceLimits .outputs)
-unfolding commandTable ownCommands formIn
-reference-places most e =
-    subst (λ (m : Limits). RoomFor file.Reference m (referenceLimits .gates + referenceLimits .outputs)) (sym e)
-    (record { u16s = omega arith; space = omega arith })
+unfolding commandTable ownCommands formIn mostCare
+reference-places most e = subst (λ (m : Limits). RoomFor file.Reference m (referenceLimits .gates + referenceLimits .outputs)) (sym e) (record { u16s = omega arith; space = omega arith })
 
 module _ (s : List ℕ) where
   pub holds-stage : (places : List ℕ) (c : Counts) (code : List ℕ) → WasRead file.Stage stageLimits s places c →

@@ -4,7 +4,7 @@ use Prim.Native.Nat.{ℕ, zero, suc, _+_, _-_, _*_, _/_, _%_, _≤_, _<_}
 use native.Mathlib.Omega.{arith}
 use native.Mathlib.Decide.{decLt}
 use mathlib.Core.Path.{_≡_, refl, sym, ap, ap₂, _∙_, subst}
-use mathlib.Core.List.{List, [], _∷_, map}
+use mathlib.Core.List.{List, [], _∷_, map, map-id}
 use lib.ListN.{length, getD, take, drop}
 use lib.Seq.{getD-take}
 use Rattle.gates.specs.Cell.{kindOf, pinCount}
@@ -17,12 +17,12 @@ use Rattle.netlist.specs.Reading.{stageLimits}
 use Rattle.netlist.specs.Content.{Gate, Pair, gateOf, codedAt, pairAt, stageOf}
 use Rattle.netlist.proofs.Encoding.{kind-needs}
 use Rattle.netlist.proofs.Readable.{kind-read, named-pin, named-rail}
-use Rattle.circuit.specs.Stage.{netCount, cellIn, slot, pinIn, gateIn, stageGates, outputIn, stageOutputs, stageIn, GateLoaded, StageLoaded}
+use Rattle.circuit.specs.Stage.{netCount, cellIn, slot, pinIn, gateIn, stageGates, outputIn, stageOutputs, stageCare, stageIn, GateLoaded, StageLoaded}
 use Rattle.circuit.proofs.Tabulate.{tabulate-map}
 use Rattle.circuit.proofs.Pins.{pins-few}
 use Rattle.load.specs.Load.{placesIn, FileRead, pinNumber, holdNumber, kindNumber, gateNumber, stageNumber}
-use Rattle.load.proofs.Numbers.{WrittenTo, pin-there, pin-absent, number-cell, number-pin, number-hold, stage-gate, stage-output}
-use Rattle.load.proofs.Reading.{length-gates, length-outputs, gate-at, output-place, output-at}
+use Rattle.load.proofs.Numbers.{WrittenTo, pin-there, pin-absent, number-cell, number-pin, number-hold, stage-gate, stage-output, stage-care}
+use Rattle.load.proofs.Reading.{length-gates, length-outputs, gate-at, output-place, output-at, care-word, length-care}
 
 -- the operands that a gate of m pins needs are the first m of four
 operands-first : (s : List ℕ) (at ground m : ℕ) → 2 ≤ m → m ≤ 4 →
@@ -48,9 +48,8 @@ operands-first s at ground (suc (suc (suc (suc zero)))) two four =
     rw (a, b, c, d)
 operands-first s at ground (suc (suc (suc (suc (suc m))))) two four = absurd (omega arith)
 
-module _ (s places : List ℕ) (c : Counts) (code : List ℕ) (r : FileRead file.Stage stageLimits s places c)
-    (room : 8 * c .gates + 2 * c .outputs ≤ length code)
-    (written : WrittenTo (stageNumber s places c) code (8 * c .gates + 2 * c .outputs)) where
+module _ (s places : List ℕ) (c : Counts) (code : List ℕ) (r : FileRead file.Stage stageLimits s places c) (room : 8 * c .gates + 2 * c .outputs + c .care ≤ length code)
+    (written : WrittenTo (stageNumber s places c) code (8 * c .gates + 2 * c .outputs + c .care)) where
   -- ---- gate k
 
   module _ (k : ℕ) (h : k < c .gates) where
@@ -132,7 +131,7 @@ module _ (s places : List ℕ) (c : Counts) (code : List ℕ) (r : FileRead file
     rail-at i b e l =
         let p : (i - 8 * c .gates) / 2 ≡ j = omega arith in
         let q : (i - 8 * c .gates) % 2 ≡ b = omega arith in
-        written i (omega arith) ∙ sym (stage-output s places c i (omega arith)) ∙ rw (p, q)
+        written i (omega arith) ∙ sym (stage-output s places c i (omega arith) (omega arith)) ∙ rw (p, q)
 
     rail-in : (i b : ℕ) → i ≡ 8 * c .gates + 2 * j + b → b < 2 → getD code i 0 < netCount c
     unfolding commandTable ownCommands formIn
@@ -148,14 +147,27 @@ module _ (s places : List ℕ) (c : Counts) (code : List ℕ) (r : FileRead file
         (rail-at (8 * c .gates + 2 * j) 0 (omega arith) (omega arith) ∙ ap (operand s) a)
         (rail-at (8 * c .gates + 2 * j + 1) 1 refl (omega arith) ∙ ap (operand s) b)
 
+  -- ---- care words
+
+  care-at : (k : ℕ) → k < c .care → getD code (8 * c .gates + 2 * c .outputs + k) 0 ≡ getD places (stageLimits .gates + stageLimits .outputs + k) 0
+  care-at k h =
+      let i : ℕ = 8 * c .gates + 2 * c .outputs + k in
+      let e : i - 8 * c .gates - 2 * c .outputs ≡ k = omega arith in
+      written i (omega arith) ∙ sym (stage-care s places c i (omega arith) (omega arith)) ∙ rw e
+
   -- ---- the stage
 
+  abbrev cares : List ℕ
+  cares = take (c .care) (drop (stageLimits .gates + stageLimits .outputs) places)
+
   pub stage-same : stageIn c code ≡ stageOf s (placesIn stageLimits c places)
-  unfolding stageGates stageOutputs stageOf
+  unfolding stageGates stageOutputs stageCare stageOf
   stage-same =
-      ap₂ (λ (gs : List Gate) (ps : List Pair). record { inputs = c .inputs; gates = gs; outputs = ps })
-      (tabulate-map (gateIn code) (λ at. gateOf (codedAt file.Stage s at)) (take (c .gates) places) (c .gates)
-      (length-gates file.Stage stageLimits s places c r)
+      ap (λ (ws : List ℕ). record { inputs = c .inputs; gates = stageGates c code; outputs = stageOutputs c code; care = ws })
+      (tabulate-map (λ k. getD code (8 * c .gates + 2 * c .outputs + k) 0) (λ w. w) cares (c .care) (length-care file.Stage stageLimits s places c r)
+      (λ k h. care-at k h ∙ sym (care-word file.Stage stageLimits s places c r k h)) ∙ map-id cares)
+      ∙ ap₂ (λ (gs : List Gate) (ps : List Pair). record { inputs = c .inputs; gates = gs; outputs = ps; care = cares })
+      (tabulate-map (gateIn code) (λ at. gateOf (codedAt file.Stage s at)) (take (c .gates) places) (c .gates) (length-gates file.Stage stageLimits s places c r)
       (λ k h. gate-same k h ∙ ap (λ (at : ℕ). gateOf (codedAt file.Stage s at)) (sym (getD-take (c .gates) places k 0 h))))
       (tabulate-map (outputIn c code) (pairAt s) (take (c .outputs) (drop (stageLimits .gates) places)) (c .outputs)
       (length-outputs file.Stage stageLimits s places c r)

@@ -3,7 +3,7 @@ use Prim.Native.Nat.{ℕ, _+_, _-_, _*_, _/_, _%_, _≤_}
 use mathlib.Core.Path.{_≡_}
 use mathlib.Core.Bool.{cond}
 use mathlib.Core.List.{List}
-use lib.ListN.{length, getD, take, drop}
+use lib.ListN.{length, getD}
 use lib.Dec.{eqb, leb, ltb}
 use Rattle.gates.specs.Cell.{kindOf}
 use Rattle.gates.specs.declared.Kind.{Kind}
@@ -15,17 +15,19 @@ use Rattle.netlist.specs.Bytes.{byte, operand}
 use Rattle.netlist.specs.Reading.{Places, countsOf, Reading, refused, readable, Within, stageLimits, referenceLimits}
 use Rattle.netlist.specs.Content.{stageOf, referenceOf}
 use Rattle.netlist.specs.Read.{Read}
+use Rattle.files.specs.Files.{mostCare, standing}
 use Rattle.circuit.specs.Stage.{netCount, stageIn, StageLoaded}
 use Rattle.circuit.specs.Reference.{referenceIn, ReferenceLoaded}
 
--- the places that reading left in a lent slice: those of the gates first, those of the outputs from the most gates on
+-- the places that reading left in a lent slice
 abbrev pub placesIn : Limits → Counts → List ℕ → Places
-placesIn most c places = record { inputs = c .inputs; gates = take (c .gates) places; outputs = take (c .outputs) (drop (most .gates) places) }
+placesIn most c places = standing most places c
 
 -- a file was read, and its places are there
 pub record FileRead (f : File) (most : Limits) (s places : List ℕ) (c : Counts) : Type 0 where
   pub within : Within most c
-  pub room : most .gates + most .outputs ≤ length places
+  pub few-care : c .care ≤ mostCare f most
+  pub room : most .gates + most .outputs + mostCare f most ≤ length places
   pub read : Read f most s (placesIn most c places)
 
 -- what a reading leaves in a flat form: the stage, or the reference, where there is one
@@ -54,13 +56,15 @@ kindNumber Unknown s at ground j = 0
 unfoldable pub gateNumber : List ℕ → ℕ → ℕ → ℕ → ℕ
 gateNumber s at ground j = kindNumber (kindOf (byte s (at + 1))) s at ground j
 
--- number i of the stage: those of its gates, then the rails of its outputs
+-- number i of the stage: those of its gates, then the rails of its outputs, then its care words
 unfoldable pub stageNumber : List ℕ → List ℕ → Counts → ℕ → ℕ
 stageNumber s places c i =
     let j = i - 8 * c .gates in
     cond (ltb i (8 * c .gates))
     (gateNumber s (getD places (i / 8) 0) (netCount c) (i % 8))
+    (cond (ltb j (2 * c .outputs))
     (operand s (getD places (stageLimits .gates + j / 2) 0 + 1 + 2 * (j % 2)))
+    (getD places (stageLimits .gates + stageLimits .outputs + (j - 2 * c .outputs)) 0))
 
 -- ---- a reference, number by number
 

@@ -4,7 +4,7 @@ use netlist::Counts;
 use netlist::File;
 use netlist::Outcome;
 ghost use mathlib.Core.Path.{_≡_};
-ghost use Prim.Native.Nat.{_+_, _*_, _≤_, _<_};
+ghost use Prim.Native.Nat.{_+_, _*_, _^_, _≤_, _<_};
 ghost use lib.ListN.{length};
 ghost use Rattle.netlist.specs.declared.File.the-variants as file;
 ghost use Rattle.netlist.specs.Reading.{readFile, stageLimits, referenceLimits};
@@ -15,7 +15,7 @@ ghost use Rattle.circuit.specs.Reference.{referenceIn, ReferenceLoaded};
 ghost use Rattle.load.specs.Load.{placesIn, FileRead, HoldsStage, HoldsReference, pinNumber, holdNumber, gateNumber, stageNumber, operatorNumber, referenceNumber};
 
 // The room that the flat forms of the largest stage and of the largest reference take.
-pub const STAGE_CODE: usize = 8 * netlist::STAGE_GATES + 2 * netlist::OUTPUTS;
+pub const STAGE_CODE: usize = 8 * netlist::STAGE_GATES + 2 * netlist::OUTPUTS + netlist::WORDS;
 
 pub const REFERENCE_CODE: usize = 3 * netlist::REFERENCE_GATES + netlist::OUTPUTS;
 
@@ -59,7 +59,7 @@ fn gate_number(s: &[u8], at: usize, ground: u16, j: usize) -> u16
 
 // Number i of the stage.
 fn stage_number(s: &[u8], places: &[u16], counts: Counts, i: usize) -> u16
-    requires { ⌜ FileRead file.Stage stageLimits (now s) (now places) counts × (i < 8 * counts .gates + 2 * counts .outputs) ⌝ }
+    requires { ⌜ FileRead file.Stage stageLimits (now s) (now places) counts × (i < 8 * counts .gates + 2 * counts .outputs + counts .care) ⌝ }
     ensures { λ r. ⌜ r ≡ stageNumber (now (s .entry)) (now (places .entry)) counts i ⌝ }
 {
     let end = 8 * counts.gates;
@@ -68,17 +68,22 @@ fn stage_number(s: &[u8], places: &[u16], counts: Counts, i: usize) -> u16
         return gate_number(s, places[i / 8] as usize, ground, i % 8);
     }
     let j = i - end;
-    let at = places[netlist::STAGE_GATES + j / 2] as usize;
-    netlist::operand(s, at + 1 + 2 * (j % 2))
+    let rails = 2 * counts.outputs;
+    if j < rails {
+        let at = places[netlist::STAGE_GATES + j / 2] as usize;
+        return netlist::operand(s, at + 1 + 2 * (j % 2));
+    }
+    let k = j - rails;
+    places[netlist::STAGE_GATES + netlist::OUTPUTS + k]
 }
 
 // The stage that the file holds, in its flat form; its gates are in no order yet.
 pub fn load_stage(s: &[u8], places: &[u16], counts: Counts, code: &mut [u16])
-    requires { ⌜ FileRead file.Stage stageLimits (now s) (now places) counts × (8 * counts .gates + 2 * counts .outputs ≤ length (now code)) ⌝ }
+    requires { ⌜ FileRead file.Stage stageLimits (now s) (now places) counts × (8 * counts .gates + 2 * counts .outputs + counts .care ≤ length (now code)) ⌝ }
     ensures same { λ r. ⌜ stageIn counts (now (code .exit)) ≡ stageOf (now (s .entry)) (placesIn stageLimits counts (now (places .entry))) ⌝ }
     ensures loaded { λ r. ⌜ StageLoaded counts (now (code .exit)) ⌝ }
 {
-    let end = 8 * counts.gates + 2 * counts.outputs;
+    let end = 8 * counts.gates + 2 * counts.outputs + counts.care;
     let mut i: usize = 0;
     while i < end {
         code[i] = stage_number(s, places, counts, i);
@@ -88,11 +93,11 @@ pub fn load_stage(s: &[u8], places: &[u16], counts: Counts, code: &mut [u16])
 
 // Reads a stage file, and loads the stage that it holds.
 pub fn read_stage(s: &[u8], code: &mut [u16]) -> Outcome
-    requires { ⌜ 8 * stageLimits .gates + 2 * stageLimits .outputs ≤ length (now code) ⌝ }
+    requires { ⌜ 8 * stageLimits .gates + 2 * stageLimits .outputs + 2 ^ stageLimits .inputs ≤ length (now code) ⌝ }
     ensures answered { λ r. ⌜ r ≡ outcomeOf (readFile file.Stage stageLimits (now (s .entry))) ⌝ }
     ensures loaded { λ r. ⌜ HoldsStage (now (s .entry)) (readFile file.Stage stageLimits (now (s .entry))) (now (code .exit)) ⌝ }
 {
-    let mut places = [0u16; netlist::STAGE_GATES + netlist::OUTPUTS];
+    let mut places = [0u16; netlist::STAGE_GATES + netlist::OUTPUTS + netlist::WORDS];
     let outcome = files::read_file(File::Stage, netlist::stage_limits(), s, &mut places);
     if let Outcome::Readable(counts) = outcome {
         load_stage(s, &places, counts, code);

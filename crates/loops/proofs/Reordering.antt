@@ -4,11 +4,11 @@ use Prim.Native.Nat.{ℕ, _+_, _*_, _<_}
 use native.Mathlib.Omega.{arith}
 use mathlib.Core.Path.{_≡_, refl, sym, ap, _∙_, subst, fun-ext}
 use mathlib.Core.List.{List}
-use lib.ListN.{set, length-set}
+use lib.ListN.{getD, set, length-set}
 use lib.Seq.{getD-set-other}
 use Rattle.netlist.specs.declared.Counts.{Counts}
 use Rattle.netlist.specs.Content.{Gate, Pair}
-use Rattle.circuit.specs.Stage.{tabulate, netCount, cellIn, slot, pinIn, gateIn, stageGates, outputIn, stageOutputs, stageIn, GateLoaded, StageLoaded}
+use Rattle.circuit.specs.Stage.{tabulate, netCount, cellIn, slot, pinIn, gateIn, stageGates, outputIn, stageOutputs, stageCare, stageIn, GateLoaded, StageLoaded}
 use Rattle.loops.specs.Placing.{Apart, Reordered}
 
 pub reordered-refl : (c : Counts) (code : List ℕ) → Reordered c code code
@@ -50,9 +50,12 @@ module _ (c : Counts) (before code : List ℕ) (r : Reordered c before code) whe
         r .kept (8 * c .gates + 2 * j + 1) (λ m h. (λ e. omega arith, λ e. omega arith)),
       )
 
+  care-kept : (i : ℕ) → getD code (8 * c .gates + 2 * c .outputs + i) 0 ≡ getD before (8 * c .gates + 2 * c .outputs + i) 0
+  care-kept i = r .kept (8 * c .gates + 2 * c .outputs + i) (λ m h. (λ e. omega arith, λ e. omega arith))
+
   pub stage-kept : stageIn c code ≡ stageIn c before
-  unfolding stageOutputs
-  stage-kept = rw (gates-kept, fun-ext output-kept)
+  unfolding stageOutputs stageCare
+  stage-kept = rw (gates-kept, fun-ext output-kept, fun-ext care-kept)
 
   pub loaded-kept : StageLoaded c before → StageLoaded c code
   loaded-kept l = record {

@@ -1,6 +1,6 @@
 -- Bytes that stand further on than any command that can be read do not change the reading: a file may be cut there.
 -- Assumes nothing.
-use Prim.Native.Nat.{ℕ, zero, suc, _+_, _*_, _≤_, _<_}
+use Prim.Native.Nat.{ℕ, zero, suc, _+_, _*_, _^_, _≤_, _<_}
 use native.Mathlib.Omega.{arith}
 use native.Mathlib.Decide.{decLt}
 use mathlib.Core.Path.{_≡_, refl, sym, ap, _∙_}
@@ -13,11 +13,11 @@ use Rattle.netlist.specs.Types.{File, Sort, Form, Limits, Counts, Cursor
 use Rattle.netlist.specs.Types.file
 use Rattle.netlist.specs.Types.sort
 use Rattle.netlist.specs.Bytes.{byte, operand}
-use Rattle.netlist.specs.Commands.{isSort, commandTable, ownCommands, formIn, formOf, width, needed, stray, misfitFrom, takeGate, takeSort, takeCommand, nextAt}
+use Rattle.netlist.specs.Commands.{isSort, commandTable, ownCommands, formIn, formOf, width, needed, stray, misfitFrom, takeGate, takeCare, takeSort, takeCommand, nextAt}
 use Rattle.netlist.specs.Reading.{Reading, Places, noPlaces, countsOf, noted, finish, onNext, readFrom, readFile, stageLimits, referenceLimits}
 use Rattle.netlist.specs.Writing.{widthFor}
 use Rattle.netlist.specs.Read.{farthest, mostBytes}
-use Rattle.netlist.proofs.Encoding.{width-in, width-gate}
+use Rattle.netlist.proofs.Encoding.{width-in, wide-gate, width-gate}
 use Rattle.netlist.proofs.OneCommand.{There, next-there}
 use Rattle.netlist.proofs.Walk.{finish-more, Near, near-start, near-far, near-noted}
 
@@ -48,14 +48,15 @@ module _ (f : File) (most : Limits) (s : List ℕ) (m : ℕ) (far : farthest f m
   misfit-cut k i at (suc j) l = rw (operand-cut at (omega arith), misfit-cut k (i + 1) (at + 2) j (omega arith))
 
   module _ (at : ℕ) (room : at + widthFor f sort.Gate ≤ m) where
-    sort-cut : (before : Counts) (form : Form) → at + width form ≤ m → (taken : Next) (c : Sort) → takeSort f most cut at before form taken c ≡ takeSort f most s at before form taken c
-    unfolding takeSort takeGate
-    sort-cut before form l taken sort.Inputs = rw (byte-cut (at + 1) (omega (arith, width-gate f)))
-    sort-cut before form l taken sort.Gate =
+    sort-cut : (before : Counts) (form : Form) → at + width form ≤ m → at + form .lead + 2 ≤ m → (taken : Next) (c : Sort) → takeSort f most cut at before form taken c ≡ takeSort f most s at before form taken c
+    unfolding takeSort takeGate takeCare
+    sort-cut before form l o taken sort.Inputs = rw (byte-cut (at + 1) (omega (arith, width-gate f)))
+    sort-cut before form l o taken sort.Gate =
         rw (byte-cut (at + 1) (omega (arith, width-gate f)), misfit-cut (needed f (byte s (at + 1))) 0 (at + form .lead) (form .operands) (omega arith))
-    sort-cut before form l taken sort.Output = refl
-    sort-cut before form l taken sort.End = refl
-    sort-cut before form l taken sort.Unknown = refl
+    sort-cut before form l o taken sort.Output = refl
+    sort-cut before form l o taken sort.Care = rw (operand-cut (at + form .lead) o)
+    sort-cut before form l o taken sort.End = refl
+    sort-cut before form l o taken sort.Unknown = refl
 
     next-cut : (before : Counts) → nextAt f most cut at before ≡ nextAt f most s at before
     unfolding takeCommand
@@ -65,7 +66,7 @@ module _ (f : File) (most : Limits) (s : List ℕ) (m : ℕ) (far : farthest f m
         let taken = Command (form .sort) (record { at = at + width form }) in
         in-room f most cut at m before room inside (omega (arith, length-cut))
         ∙ ap (λ (b : ℕ). cond (stray at (formOf f b .sort)) (Refused 2 at) (takeCommand f most cut at before (formOf f b))) (byte-cut at inside)
-        ∙ ap (λ (x : Next). cond (stray at (form .sort)) (Refused 2 at) x) (sort-cut before form (omega (arith, width-in f (byte s at))) taken (form .sort))
+        ∙ ap (λ (x : Next). cond (stray at (form .sort)) (Refused 2 at) x) (sort-cut before form (omega (arith, width-in f (byte s at))) (omega (arith, width-in f (byte s at))) taken (form .sort))
         ∙ sym (in-room f most s at m before room inside long)
 
     finish-cut : (p : Places) → finish f cut at p ≡ finish f s at p
@@ -79,6 +80,7 @@ module _ (f : File) (most : Limits) (s : List ℕ) (m : ℕ) (far : farthest f m
   noted-cut at p sort.Inputs room = rw (byte-cut (at + 1) (omega (arith, width-gate f)))
   noted-cut at p sort.Gate room = refl
   noted-cut at p sort.Output room = refl
+  noted-cut at p sort.Care room = rw (operand-cut (at + 1) (omega (arith, wide-gate f)))
   noted-cut at p sort.End room = refl
   noted-cut at p sort.Unknown room = refl
 
@@ -98,6 +100,7 @@ module _ (f : File) (most : Limits) (s : List ℕ) (m : ℕ) (far : farthest f m
     command-cut sort.Inputs next a t = goes-on sort.Inputs next a t refl
     command-cut sort.Gate next a t = goes-on sort.Gate next a t refl
     command-cut sort.Output next a t = goes-on sort.Output next a t refl
+    command-cut sort.Care next a t = goes-on sort.Care next a t refl
     command-cut sort.End next a t = finish-cut at (near-room at p near) p
     command-cut sort.Unknown next a t = goes-on sort.Unknown next a t refl
 

@@ -37,21 +37,24 @@ table-all P u (r ∷ rs) h b = go (ℕ-discrete b (r .0)) (table-all P u rs (h .
 -- a row is the only one of its sort in its file
 pub form-for : (f : File) (b : ℕ) → formOf f b ≡ formFor f (formOf f b .sort)
 unfolding commandTable ownCommands formIn
-form-for file.Stage = table-all (λ b form. form ≡ formFor file.Stage (form .sort)) (λ b. refl) (commandTable file.Stage) (refl, (refl, (refl, (refl, tt))))
+form-for file.Stage = table-all (λ b form. form ≡ formFor file.Stage (form .sort)) (λ b. refl) (commandTable file.Stage) (refl, (refl, (refl, (refl, (refl, tt)))))
 form-for file.Reference = table-all (λ b form. form ≡ formFor file.Reference (form .sort)) (λ b. refl) (commandTable file.Reference) (refl, (refl, (refl, (refl, tt))))
 
-pub sort-for : (f : File) (c : Sort) → formFor f c .sort ≡ c
+-- either file has each sort of command, but for care words, which a stage alone has
+pub sort-for : (f : File) (c : Sort) → isSort sort.Care c ≡ false → formFor f c .sort ≡ c
 unfolding commandTable ownCommands formIn
-sort-for file.Stage sort.End = refl
-sort-for file.Stage sort.Inputs = refl
-sort-for file.Stage sort.Gate = refl
-sort-for file.Stage sort.Output = refl
-sort-for file.Stage sort.Unknown = refl
-sort-for file.Reference sort.End = refl
-sort-for file.Reference sort.Inputs = refl
-sort-for file.Reference sort.Gate = refl
-sort-for file.Reference sort.Output = refl
-sort-for file.Reference sort.Unknown = refl
+sort-for file.Stage sort.End e = refl
+sort-for file.Stage sort.Inputs e = refl
+sort-for file.Stage sort.Gate e = refl
+sort-for file.Stage sort.Output e = refl
+sort-for file.Stage sort.Unknown e = refl
+sort-for file.Stage sort.Care e = absurd (clash (cc))
+sort-for file.Reference sort.End e = refl
+sort-for file.Reference sort.Inputs e = refl
+sort-for file.Reference sort.Gate e = refl
+sort-for file.Reference sort.Output e = refl
+sort-for file.Reference sort.Unknown e = refl
+sort-for file.Reference sort.Care e = absurd (clash (cc))
 
 -- and only its byte stands for it
 abbrev Only : File → ℕ → Form → Type 0
@@ -60,13 +63,14 @@ Only f b form = isSort sort.Unknown (form .sort) ≡ false → b ≡ commandByte
 only-byte : (f : File) (b : ℕ) → Only f b (formOf f b)
 unfolding commandTable ownCommands
 only-byte file.Stage =
-    table-all (Only file.Stage) (λ b e. absurd (clash (cc))) (commandTable file.Stage) ((λ e. refl), ((λ e. refl), ((λ e. refl), ((λ e. refl), tt))))
+    table-all (Only file.Stage) (λ b e. absurd (clash (cc))) (commandTable file.Stage)
+    ((λ e. refl), ((λ e. refl), ((λ e. refl), ((λ e. refl), ((λ e. refl), tt)))))
 only-byte file.Reference =
     table-all (Only file.Reference) (λ b e. absurd (clash (cc))) (commandTable file.Reference) ((λ e. refl), ((λ e. refl), ((λ e. refl), ((λ e. refl), tt))))
 
-pub byte-for : (f : File) (b : ℕ) (c : Sort) → formOf f b ≡ formFor f c → isSort sort.Unknown c ≡ false → b ≡ commandByte f c
-byte-for f b c e known =
-    let s : formOf f b .sort ≡ c = ap (λ (x : Form). x .sort) e ∙ sort-for f c in
+pub byte-for : (f : File) (b : ℕ) (c : Sort) → formOf f b ≡ formFor f c → formFor f c .sort ≡ c → isSort sort.Unknown c ≡ false → b ≡ commandByte f c
+byte-for f b c e own known =
+    let s : formOf f b .sort ≡ c = ap (λ (x : Form). x .sort) e ∙ own in
     rw s at (only-byte f b (rw s known))
 
 -- the commandTable of the four sorts in either file
@@ -88,6 +92,20 @@ pub end-form : (f : File) → formFor f sort.End ≡ asForm sort.End 1 0 Number
 unfolding commandTable ownCommands formIn
 end-form f = refl
 
+pub care-stage : (f : File) → formFor f sort.Care .sort ≡ sort.Care → f ≡ file.Stage
+unfolding commandTable ownCommands formIn
+care-stage file.Stage e = refl
+care-stage file.Reference e = absurd (clash (cc))
+
+pub care-form : (f : File) → f ≡ file.Stage → formFor f sort.Care ≡ asForm sort.Care 1 1 Number
+unfolding commandTable ownCommands formIn
+care-form f e = rw e
+
+pub width-care : (f : File) → widthFor f sort.Care ≡ 1 + 2 * operandCount f sort.Care
+unfolding commandTable ownCommands formIn
+width-care file.Stage = refl
+width-care file.Reference = refl
+
 module _ (f : File) where
   pub width-gate : widthFor f sort.Gate ≡ 2 + 2 * operandCount f sort.Gate
   width-gate = ap width (gate-form f)
@@ -101,14 +119,21 @@ module _ (f : File) where
   pub width-end : widthFor f sort.End ≡ 1
   width-end = ap width (end-form f)
 
--- every command has a byte, and none is wider than a gate
+-- every command has a byte, none is wider than a gate, and no first operand ends further on
 abbrev Sized : File → Form → Type 0
-Sized f form = (1 ≤ width form) × (width form ≤ widthFor f sort.Gate)
+Sized f form = (1 ≤ width form) × (width form ≤ widthFor f sort.Gate) × (form .lead + 2 ≤ widthFor f sort.Gate)
 
 pub width-in : (f : File) (b : ℕ) → Sized f (formOf f b)
 unfolding commandTable ownCommands formIn
-width-in file.Stage = table-all (λ b form. Sized file.Stage form) (λ b. omega arith) (commandTable file.Stage) (omega arith, (omega arith, (omega arith, (omega arith, tt))))
+width-in file.Stage =
+    table-all (λ b form. Sized file.Stage form) (λ b. omega arith) (commandTable file.Stage)
+    (omega arith, (omega arith, (omega arith, (omega arith, (omega arith, tt)))))
 width-in file.Reference = table-all (λ b form. Sized file.Reference form) (λ b. omega arith) (commandTable file.Reference) (omega arith, (omega arith, (omega arith, (omega arith, tt))))
+
+pub wide-gate : (f : File) → 3 ≤ widthFor f sort.Gate
+unfolding commandTable ownCommands formIn
+wide-gate file.Stage = omega arith
+wide-gate file.Reference = omega arith
 
 -- ---- kinds and operations
 

@@ -10,7 +10,7 @@ use Rattle.netlist.specs.Bytes.{byte, operands}
 use Rattle.netlist.specs.Commands.{needed}
 use Rattle.netlist.specs.Reading.{nameable, Places, readFile, readable}
 use Rattle.netlist.specs.Content.{Coded, codedAt}
-use Rattle.netlist.specs.Writing.{widthFor, operandCount, roleFor, Item, gate, output, gatesIn, outputsIn, All, ItemsFit}
+use Rattle.netlist.specs.Writing.{widthFor, operandCount, roleFor, Item, gate, output, care, gatesIn, outputsIn, All, ItemsFit}
 use Rattle.netlist.proofs.Operands.{length-operands}
 use Rattle.netlist.proofs.Laid.{Laid, Named, wiredAt, laid-code, laid-operands, laid-gates, laid-outputs, length-gatePlaces}
 use Rattle.netlist.proofs.Walk.{readable-laid}
@@ -45,6 +45,7 @@ module _ (f : File) (n g : ℕ) where
   fits-formed k (output vs ∷ items) h =
       let r = fits-formed k items (h .1) in
       (r .0, (record { whole = h .0 .whole; named = rw (output-names f n g k) (h .0 .named) }, r .1))
+  fits-formed k (care w ∷ items) h = fits-formed k items (h .1)
 
   laid-formed : (s : List ℕ) (at k : ℕ) (items : List Item) → Laid f s at items → Named f n g k items → ItemsFormed f n g k items
   laid-formed s at k [] h m = (tt, tt)
@@ -55,6 +56,7 @@ module _ (f : File) (n g : ℕ) where
   laid-formed s at k (output vs ∷ items) h m =
       let r = laid-formed s (at + widthFor f sort.Output) k items (h .1) (m .1) in
       (r .0, (record { whole = ap length (sym (h .0 .content)) ∙ length-operands s (at + 1) (operandCount f sort.Output); named = rw (output-names f n g k) (m .0) }, r .1))
+  laid-formed s at k (care w ∷ items) h m = laid-formed s (at + widthFor f sort.Care) k items (h .1) (m .1)
 
 pub readable-formed : (f : File) (most : Limits) (s : List ℕ) (p : Places) → readFile f most s ≡ readable p →
     GatesFormed f (p .inputs) (length (p .gates)) 0 (map (codedAt f s) (p .gates)) × All (OutputFormed f (p .inputs) (length (p .gates))) (map (wiredAt f s) (p .outputs))

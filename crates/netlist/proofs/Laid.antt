@@ -1,18 +1,19 @@
 -- Items that stand in a file from a place on, as the reader finds them: no bound on the elements of the file is asked.
 -- Assumes nothing.
-use Prim.Native.Nat.{ℕ, suc, _+_, _*_, _≤_, _<_}
+use Prim.Native.Nat.{ℕ, suc, _+_, _*_, _^_, _≤_, _<_}
 use native.Mathlib.Omega.{arith}
 use mathlib.Core.Path.{_≡_, refl, ap, ap₂}
 use mathlib.Core.Bool.{false}
 use mathlib.Core.List.{List, [], _∷_, map}
 use lib.ListN.{length}
 use Rattle.netlist.specs.Types.{File, Limits, Nothing}
+use Rattle.netlist.specs.Types.file
 use Rattle.netlist.specs.Types.sort
 use Rattle.netlist.specs.Bytes.{byte, operand, operands, absent}
 use Rattle.netlist.specs.Commands.{formOf, needed, misfit, misfitFrom}
-use Rattle.netlist.specs.Reading.{nameable}
+use Rattle.netlist.specs.Reading.{nameable, Rising}
 use Rattle.netlist.specs.Content.{Coded, codedAt}
-use Rattle.netlist.specs.Writing.{formFor, widthFor, operandCount, roleFor, Item, gate, output, gatesIn, outputsIn, gatePlaces, outputPlaces, All}
+use Rattle.netlist.specs.Writing.{formFor, widthFor, operandCount, roleFor, Item, gate, output, care, gatesIn, outputsIn, careIn, gatePlaces, outputPlaces, All}
 use Rattle.netlist.proofs.Operands.{misfit-none, needed-there, bare-absent}
 use Rattle.netlist.proofs.Encoding.{needed-in}
 
@@ -51,6 +52,13 @@ pub record OutputLaid (f : File) (s : List ℕ) (at : ℕ) (vs : List ℕ) : Typ
   pub room : at + widthFor f sort.Output ≤ length s
   pub content : wiredAt f s at ≡ vs
 
+-- a care command, in a stage
+pub record CareLaid (f : File) (s : List ℕ) (at w : ℕ) : Type 0 where
+  pub stage : f ≡ file.Stage
+  pub command : formOf f (byte s at) ≡ formFor f sort.Care
+  pub room : at + widthFor f sort.Care ≤ length s
+  pub content : operand s (at + 1) ≡ w
+
 -- the end command, as the last byte
 pub record EndLaid (f : File) (s : List ℕ) (at : ℕ) : Type 0 where
   pub command : formOf f (byte s at) ≡ formFor f sort.End
@@ -61,12 +69,14 @@ abbrev pub Laid : File → List ℕ → ℕ → List Item → Type 0
 Laid f s at [] = EndLaid f s at
 Laid f s at (gate c ∷ items) = GateLaid f s at c × Laid f s (at + widthFor f sort.Gate) items
 Laid f s at (output vs ∷ items) = OutputLaid f s at vs × Laid f s (at + widthFor f sort.Output) items
+Laid f s at (care w ∷ items) = CareLaid f s at w × Laid f s (at + widthFor f sort.Care) items
 
--- after k gates, with n inputs and g gates in all: each operand names what its role asks for
+-- after k gates, with n inputs and g gates in all: each operand names what its role asks for; a care word is a u16
 abbrev pub Named : File → ℕ → ℕ → ℕ → List Item → Type 0
 Named f n g k [] = Unit {0}
 Named f n g k (gate c ∷ items) = All (λ v. v < nameable (roleFor f sort.Gate) n g k) (c .operands) × Named f n g (suc k) items
 Named f n g k (output vs ∷ items) = All (λ v. v < nameable (roleFor f sort.Output) n g k) vs × Named f n g k items
+Named f n g k (care w ∷ items) = (w < 65536) × Named f n g k items
 
 -- the whole file
 pub record FileLaid (f : File) (most : Limits) (s : List ℕ) (n : ℕ) (items : List Item) : Type 0 where
@@ -75,6 +85,7 @@ pub record FileLaid (f : File) (most : Limits) (s : List ℕ) (n : ℕ) (items :
   pub inputs-in : (1 ≤ n) × (n ≤ most .inputs)
   pub gates-in : length (gatesIn items) ≤ most .gates
   pub outputs-in : (1 ≤ length (outputsIn items)) × (length (outputsIn items) ≤ most .outputs)
+  pub care-in : Rising (2 ^ n) 0 (careIn items)
   pub laid : Laid f s 2 items
   pub named : Named f n (length (gatesIn items)) 0 items
 
@@ -84,11 +95,13 @@ pub length-gatePlaces : (f : File) (at : ℕ) (items : List Item) → length (ga
 length-gatePlaces f at [] = refl
 length-gatePlaces f at (gate c ∷ items) = ap suc (length-gatePlaces f (at + widthFor f sort.Gate) items)
 length-gatePlaces f at (output vs ∷ items) = length-gatePlaces f (at + widthFor f sort.Output) items
+length-gatePlaces f at (care w ∷ items) = length-gatePlaces f (at + widthFor f sort.Care) items
 
 pub length-outputPlaces : (f : File) (at : ℕ) (items : List Item) → length (outputPlaces f at items) ≡ length (outputsIn items)
 length-outputPlaces f at [] = refl
 length-outputPlaces f at (gate c ∷ items) = length-outputPlaces f (at + widthFor f sort.Gate) items
 length-outputPlaces f at (output vs ∷ items) = ap suc (length-outputPlaces f (at + widthFor f sort.Output) items)
+length-outputPlaces f at (care w ∷ items) = length-outputPlaces f (at + widthFor f sort.Care) items
 
 module _ (f : File) (s : List ℕ) where
   -- what the places show is the content
@@ -96,14 +109,18 @@ module _ (f : File) (s : List ℕ) where
   laid-gates at [] h = refl
   laid-gates at (gate c ∷ items) h = ap₂ (λ (x : Coded) (xs : List Coded). x ∷ xs) (h .0 .content) (laid-gates (at + widthFor f sort.Gate) items (h .1))
   laid-gates at (output vs ∷ items) h = laid-gates (at + widthFor f sort.Output) items (h .1)
+  laid-gates at (care w ∷ items) h = laid-gates (at + widthFor f sort.Care) items (h .1)
 
   pub laid-outputs : (at : ℕ) (items : List Item) → Laid f s at items → map (wiredAt f s) (outputPlaces f at items) ≡ outputsIn items
   laid-outputs at [] h = refl
   laid-outputs at (gate c ∷ items) h = laid-outputs (at + widthFor f sort.Gate) items (h .1)
   laid-outputs at (output vs ∷ items) h = ap₂ (λ (x : List ℕ) (xs : List (List ℕ)). x ∷ xs) (h .0 .content) (laid-outputs (at + widthFor f sort.Output) items (h .1))
+  laid-outputs at (care w ∷ items) h = laid-outputs (at + widthFor f sort.Care) items (h .1)
 
   -- nothing but the items and the end command stands there
-  pub laid-length : (at : ℕ) (items : List Item) → Laid f s at items → length s ≡ at + 1 + widthFor f sort.Gate * length (gatesIn items) + widthFor f sort.Output * length (outputsIn items)
+  pub laid-length : (at : ℕ) (items : List Item) → Laid f s at items →
+      length s ≡ at + 1 + widthFor f sort.Gate * length (gatesIn items) + widthFor f sort.Output * length (outputsIn items) + widthFor f sort.Care * length (careIn items)
   laid-length at [] h = omega (arith, h .last)
   laid-length at (gate c ∷ items) h = omega (arith, laid-length (at + widthFor f sort.Gate) items (h .1))
   laid-length at (output vs ∷ items) h = omega (arith, laid-length (at + widthFor f sort.Output) items (h .1))
+  laid-length at (care w ∷ items) h = omega (arith, laid-length (at + widthFor f sort.Care) items (h .1))

@@ -1,19 +1,19 @@
 -- The command at a position: the reader takes it exactly where it is there, in order, whole, and as its sort asks.
 -- Assumes nothing.
-use Prim.Native.Nat.{ℕ, _+_, _≤_, _<_}
+use Prim.Native.Nat.{ℕ, _+_, _^_, _≤_, _<_}
 use native.Mathlib.Omega.{arith}
 use mathlib.Core.Path.{_≡_, refl, sym, ap, subst, subst₂, _∙_}
 use mathlib.Core.Bool.{Bool, true, false, cond, _&&_}
 use mathlib.Core.List.{List}
 use lib.ListN.{length}
 use lib.Dec.{eqb, leb, ltb}
-use borrow.Author.Tests.{le-leb, lt-leb, le-ltb, ne-eqb, leb-true, leb-false, ltb-false, eqb-false}
+use borrow.Author.Tests.{le-leb, lt-leb, lt-ltb, le-ltb, ne-eqb, leb-true, leb-false, ltb-true, ltb-false, eqb-false}
 use Rattle.netlist.specs.Types.{File, Sort, Form, Limits, Counts, Cursor, Next, Command, Refused, Found, At, Nothing}
 use Rattle.netlist.specs.Types.sort
-use Rattle.netlist.specs.Bytes.{byte}
-use Rattle.netlist.specs.Commands.{whenFound, formOf, width, needed, stray, misfitFrom, takeGate, takeSort, takeCommand, nextAt}
+use Rattle.netlist.specs.Bytes.{byte, operand}
+use Rattle.netlist.specs.Commands.{whenFound, formOf, width, needed, stray, misfitFrom, takeGate, takeCare, takeSort, takeCommand, nextAt}
 use Rattle.netlist.specs.Writing.{formFor, widthFor}
-use Rattle.netlist.proofs.Encoding.{clash, form-for, sort-for, width-in}
+use Rattle.netlist.proofs.Encoding.{clash, form-for, width-in}
 
 -- ---- tests that were passed
 
@@ -45,11 +45,13 @@ Taken f most s at before form sort.Gate =
     × (1 ≤ needed f (byte s (at + 1)))
     × (misfitFrom (needed f (byte s (at + 1))) 0 s (at + form .lead) (form .operands) ≡ Nothing)
 Taken f most s at before form sort.Output = before .outputs < most .outputs
+Taken f most s at before form sort.Care = (operand s (at + form .lead) < 2 ^ before .inputs) × (before .floor ≤ operand s (at + form .lead))
 Taken f most s at before form sort.End = Unit {0}
 Taken f most s at before form sort.Unknown = Unit {0}
 
--- it stands there, where it may stand, with all of its bytes
+-- it is a command of the file and stands there, where it may stand, with all of its bytes
 pub record There (f : File) (most : Limits) (s : List ℕ) (at : ℕ) (before : Counts) (c : Sort) : Type 0 where
+  pub own : formFor f c .sort ≡ c
   pub command : formOf f (byte s at) ≡ formFor f c
   pub ordered : stray at c ≡ false
   pub room : at + widthFor f c ≤ length s
@@ -58,7 +60,7 @@ pub record There (f : File) (most : Limits) (s : List ℕ) (at : ℕ) (before : 
 module _ (f : File) (most : Limits) (s : List ℕ) (at : ℕ) (before : Counts) where
   module _ (form : Form) {later : Next} where
     sort-taken : {k : Sort} {next : Cursor} (c : Sort) → takeSort f most s at before form later c ≡ Command k next → (later ≡ Command k next) × Taken f most s at before form c
-    unfolding takeSort takeGate
+    unfolding takeSort takeGate takeCare
     sort-taken sort.Inputs e =
         let t = met (leb 1 (byte s (at + 1)) && leb (byte s (at + 1)) (most .inputs)) 3 (at + 1) e in
         let b = &&-both (leb 1 (byte s (at + 1))) (leb (byte s (at + 1)) (most .inputs)) (t .0) in
@@ -70,14 +72,20 @@ module _ (f : File) (most : Limits) (s : List ℕ) (at : ℕ) (before : Counts) 
         let some = eqb-false (needed f (byte s (at + 1))) 0 (known .0) in
         (fit .1, (leb-false (most .gates) (before .gates) (room .0), omega arith, fit .0))
     sort-taken sort.Output e = let t = passed (leb (most .outputs) (before .outputs)) 6 at e in (t .1, leb-false (most .outputs) (before .outputs) (t .0))
+    sort-taken sort.Care e =
+        let w = operand s (at + form .lead) in
+        let t = met (ltb w (2 ^ before .inputs)) 18 (at + form .lead) e in
+        let u = passed (ltb w (before .floor)) 19 (at + form .lead) (t .1) in
+        (u .1, (ltb-true w (2 ^ before .inputs) (t .0), ltb-false w (before .floor) (u .0)))
     sort-taken sort.End e = (e, tt)
     sort-taken sort.Unknown e = (e, tt)
 
     taken-sort : (c : Sort) → Taken f most s at before form c → takeSort f most s at before form later c ≡ later
-    unfolding takeSort takeGate whenFound
+    unfolding takeSort takeGate takeCare whenFound
     taken-sort sort.Inputs t = rw (le-leb 1 (byte s (at + 1)) (t .0), le-leb (byte s (at + 1)) (most .inputs) (t .1))
     taken-sort sort.Gate t = rw (lt-leb (most .gates) (before .gates) (t .0), ne-eqb (needed f (byte s (at + 1))) 0 (λ z. omega (arith, t .1)), t .2)
     taken-sort sort.Output t = rw (lt-leb (most .outputs) (before .outputs) t)
+    taken-sort sort.Care t = rw (lt-ltb (operand s (at + form .lead)) (2 ^ before .inputs) (t .0), le-ltb (operand s (at + form .lead)) (before .floor) (t .1))
     taken-sort sort.End t = refl
     taken-sort sort.Unknown t = refl
 
@@ -96,6 +104,7 @@ module _ (f : File) (most : Limits) (s : List ℕ) (at : ℕ) (before : Counts) 
       let is : form ≡ formFor f k = form-for f (byte s at) ∙ ap (formFor f) k-same in (
         sym (ap (λ (x : Cursor). x .at) after) ∙ ap (λ (x : Form). at + width x) is,
         record {
+          own = sym (ap (λ (x : Form). x .sort) is) ∙ k-same;
           command = is;
           ordered = rw k-same at (ordered .0);
           room = rw is at (ltb-false (length s) (at + width form) (room .0));
@@ -114,5 +123,5 @@ module _ (f : File) (most : Limits) (s : List ℕ) (at : ℕ) (before : Counts) 
   unfolding nextAt
   there-next c t =
       let one = rw (t .command) at (width-in f (byte s at)) in
-      rw (t .command, lt-leb (length s) at (omega (arith, t .room, one)), ap (stray at) (sort-for f c) ∙ t .ordered, le-ltb (length s) (at + widthFor f c) (t .room))
-      (command-taken (formFor f c) c (sort-for f c) (t .taken))
+      rw (t .command, lt-leb (length s) at (omega (arith, t .room, one)), ap (stray at) (t .own) ∙ t .ordered, le-ltb (length s) (at + widthFor f c) (t .room))
+      (command-taken (formFor f c) c (t .own) (t .taken))

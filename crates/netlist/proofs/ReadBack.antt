@@ -5,21 +5,21 @@ use native.Mathlib.Omega.{arith}
 use mathlib.Core.Path.{_≡_, refl, sym, ap, ap₂, _∙_}
 use mathlib.Core.Logic.{_↔_}
 use mathlib.Core.List.{List, [], _∷_, _++_, append-assoc, map}
-use lib.ListN.{length, drop, length-append, drop-of-length-le}
-use Rattle.netlist.specs.Types.{File, Sort, Limits}
+use lib.ListN.{length, drop, getD, length-append, drop-of-length-le}
+use Rattle.netlist.specs.Types.{File, Sort, Form, Limits}
 use Rattle.netlist.specs.Types.file
 use Rattle.netlist.specs.Types.sort
-use Rattle.netlist.specs.Bytes.{byte, operands, absent}
+use Rattle.netlist.specs.Bytes.{byte, operand, operands, absent}
 use Rattle.netlist.specs.Commands.{formOf, needed}
 use Rattle.netlist.specs.Reading.{nameable, Places, readFile, readable}
 use Rattle.netlist.specs.Content.{Coded, codedAt}
-use Rattle.netlist.specs.Writing.{commandByte, widthFor, operandCount, roleFor, Item, gate, output, gatesIn, outputsIn, gatePlaces, outputPlaces, placesOf}
-use Rattle.netlist.specs.Writing.{writeOperands, writeItem, writeItems, writeFile, All, GateFits, OutputFits, ItemsFit, FileFits}
+use Rattle.netlist.specs.Writing.{commandByte, widthFor, operandCount, roleFor, Item, gate, output, care, gatesIn, outputsIn, careIn, gatePlaces, outputPlaces, placesOf}
+use Rattle.netlist.specs.Writing.{writeOperands, writeItem, writeItems, writeFile, All, GateFits, OutputFits, CareFits, ItemsFit, FileFits}
 use Rattle.netlist.proofs.Lists.{Bytes, All-++, All-map, byte-small}
 use Rattle.netlist.proofs.Operands.{bytes-written, operand-small, length-operands, each-operands, byte-after, drop-after, length-after}
 use Rattle.netlist.proofs.Operands.{length-written, operands-written, fits-written, drop-one, drop-two, written-operands}
-use Rattle.netlist.proofs.Encoding.{byte-for, width-gate, width-output, needed-in}
-use Rattle.netlist.proofs.Laid.{GateLaid, OutputLaid, Laid, Named, FileLaid, wiredAt, laid-code, laid-operands, laid-used, laid-bare, laid-gates, laid-outputs, laid-length}
+use Rattle.netlist.proofs.Encoding.{byte-for, sort-for, care-form, width-gate, width-output, width-care, needed-in}
+use Rattle.netlist.proofs.Laid.{GateLaid, OutputLaid, CareLaid, Laid, Named, FileLaid, wiredAt, laid-code, laid-operands, laid-used, laid-bare, laid-gates, laid-outputs, laid-length}
 use Rattle.netlist.proofs.Walk.{readable-laid, laid-readable}
 
 abbrev coded : ℕ → List ℕ → Coded
@@ -28,10 +28,16 @@ coded c vs = record { code = c; operands = vs }
 abbrev itemSort : Item → Sort
 itemSort (gate c) = sort.Gate
 itemSort (output vs) = sort.Output
+itemSort (care w) = sort.Care
 
 length-item : (f : File) (i : Item) → length (writeItem f i) ≡ widthFor f (itemSort i)
 length-item f (gate c) = omega (arith, width-gate f, length-written (operandCount f sort.Gate) (c .operands))
 length-item f (output vs) = omega (arith, width-output f, length-written (operandCount f sort.Output) vs)
+length-item f (care w) = omega (arith, width-care f, length-written (operandCount f sort.Care) (w ∷ []))
+
+-- the operands of a care command
+care-one : (f : File) → f ≡ file.Stage → operandCount f sort.Care ≡ 1
+care-one f e = ap (λ (x : Form). x .operands) (care-form f e)
 
 -- ---- written items are laid
 
@@ -68,6 +74,21 @@ module _ (f : File) (s : List ℕ) where
           content = ap (operands s (at + 1)) (sym (h .whole)) ∙ operands-written s rest (at + 1) m vs (omega (arith, h .whole)) e′;
         }
 
+    written-care : (w : ℕ) → CareFits f w → drop at s ≡ writeItem f (care w) ++ rest → CareLaid f s at w
+    unfolding operands
+    written-care w h e =
+        let m = operandCount f sort.Care in
+        let one : m ≡ 1 = care-one f (h .stage) in
+        let tail = writeOperands m (w ∷ []) ++ rest in
+        let e′ : drop (at + 1) s ≡ tail = drop-after s at (commandByte f sort.Care ∷ []) tail 1 e refl in
+        let size : length s ≡ at + suc (length tail) = length-after s at (commandByte f sort.Care) tail e in
+        record {
+          stage = h .stage;
+          command = ap (formOf f) (byte-at at (commandByte f sort.Care) tail e);
+          room = omega (arith, width-care f, length-append (writeOperands m (w ∷ [])) rest, length-written m (w ∷ []));
+          content = ap (λ (l : List ℕ). getD l 0 0) (operands-written s rest (at + 1) m (w ∷ []) (omega arith) e′);
+        }
+
   -- an item stands first, and the others after it
   module _ (at : ℕ) (i : Item) (items : List Item) (e : drop at s ≡ writeItems f (i ∷ items) ++ (0 ∷ [])) where
     item-first : drop at s ≡ writeItem f i ++ (writeItems f items ++ (0 ∷ []))
@@ -84,6 +105,9 @@ module _ (f : File) (s : List ℕ) where
   written-laid n g k at (output vs ∷ items) h e =
       let r = written-laid n g k (at + widthFor f sort.Output) items (h .1) (items-after at (output vs) items e) in
       ((written-output n g k at (writeItems f items ++ (0 ∷ [])) vs (h .0) (item-first at (output vs) items e), r .0), (h .0 .named, r .1))
+  written-laid n g k at (care w ∷ items) h e =
+      let r = written-laid n g k (at + widthFor f sort.Care) items (h .1) (items-after at (care w) items e) in
+      ((written-care n g k at (writeItems f items ++ (0 ∷ [])) w (h .0) (item-first at (care w) items e), r .0), (h .0 .u16, r .1))
 
 command-bytes : (f : File) → (commandByte f sort.Gate < 256) × (commandByte f sort.Output < 256)
 command-bytes file.Stage = omega arith
@@ -99,6 +123,9 @@ bytes-items f n g k (gate c ∷ items) h =
 bytes-items f n g k (output vs ∷ items) h =
     let m = operandCount f sort.Output in
     (command-bytes f .1, All-++ (λ b. b < 256) (writeOperands m vs) (writeItems f items) (bytes-written m vs (h .0 .u16s)) (bytes-items f n g k items (h .1)))
+bytes-items f n g k (care w ∷ items) h =
+    let m = operandCount f sort.Care in
+    (omega arith, All-++ (λ b. b < 256) (writeOperands m (w ∷ [])) (writeItems f items) (bytes-written m (w ∷ []) (h .0 .u16, tt)) (bytes-items f n g k items (h .1)))
 
 -- ---- items that are laid are what is written
 
@@ -107,7 +134,7 @@ module _ (f : File) (s : List ℕ) (small : Bytes s) where
     laid-gate : (c : Coded) → GateLaid f s at c → drop at s ≡ writeItem f (gate c) ++ drop (at + widthFor f sort.Gate) s
     laid-gate c h =
         let m = operandCount f sort.Gate in
-        let is : byte s at ≡ commandByte f sort.Gate = byte-for f (byte s at) sort.Gate (h .command) refl in
+        let is : byte s at ≡ commandByte f sort.Gate = byte-for f (byte s at) sort.Gate (h .command) (sort-for f sort.Gate refl) refl in
         let w : at + widthFor f sort.Gate ≡ at + 2 + 2 * m = omega (arith, width-gate f) in
         drop-two s at (omega (arith, h .room, width-gate f))
         ∙ rw (is, laid-code h, w)
@@ -116,11 +143,23 @@ module _ (f : File) (s : List ℕ) (small : Bytes s) where
     laid-output : (vs : List ℕ) → OutputLaid f s at vs → drop at s ≡ writeItem f (output vs) ++ drop (at + widthFor f sort.Output) s
     laid-output vs h =
         let m = operandCount f sort.Output in
-        let is : byte s at ≡ commandByte f sort.Output = byte-for f (byte s at) sort.Output (h .command) refl in
+        let is : byte s at ≡ commandByte f sort.Output = byte-for f (byte s at) sort.Output (h .command) (sort-for f sort.Output refl) refl in
         let w : at + widthFor f sort.Output ≡ at + 1 + 2 * m = omega (arith, width-output f) in
         drop-one s at (omega (arith, h .room, width-output f))
         ∙ rw (is, w)
         (ap (λ (l : List ℕ). commandByte f sort.Output ∷ l) (rw (h .content) at (written-operands s small (at + 1) m m (omega (arith, h .room)) (λ j a b. absurd (omega arith)))))
+
+    laid-care : (w : ℕ) → CareLaid f s at w → drop at s ≡ writeItem f (care w) ++ drop (at + widthFor f sort.Care) s
+    unfolding operands
+    laid-care w h =
+        let m = operandCount f sort.Care in
+        let one : m ≡ 1 = care-one f (h .stage) in
+        let own = ap (λ (x : Form). x .sort) (care-form f (h .stage)) in
+        let is : byte s at ≡ commandByte f sort.Care = byte-for f (byte s at) sort.Care (h .command) own refl in
+        let e : at + widthFor f sort.Care ≡ at + 1 + 2 * m = omega (arith, width-care f) in
+        drop-one s at (omega (arith, h .room, width-care f))
+        ∙ rw (is, e)
+        (ap (λ (l : List ℕ). commandByte f sort.Care ∷ l) (rw (h .content) at (written-operands s small (at + 1) m 1 (omega (arith, h .room)) (λ j a b. absurd (omega arith)))))
 
     gate-fits : (n g k : ℕ) (c : Coded) → GateLaid f s at c → All (λ v. v < nameable (roleFor f sort.Gate) n g k) (c .operands) → GateFits f n g k c
     gate-fits n g k c h named =
@@ -146,10 +185,11 @@ module _ (f : File) (s : List ℕ) (small : Bytes s) where
   laid-fits n g k at [] h m = tt
   laid-fits n g k at (gate c ∷ items) h m = (gate-fits at n g k c (h .0) (m .0), laid-fits n g (suc k) (at + widthFor f sort.Gate) items (h .1) (m .1))
   laid-fits n g k at (output vs ∷ items) h m = (output-fits at n g k vs (h .0) (m .0), laid-fits n g k (at + widthFor f sort.Output) items (h .1) (m .1))
+  laid-fits n g k at (care w ∷ items) h m = (record { stage = h .0 .stage; u16 = m .0 }, laid-fits n g k (at + widthFor f sort.Care) items (h .1) (m .1))
 
   laid-written : (at : ℕ) (items : List Item) → Laid f s at items → drop at s ≡ writeItems f items ++ (0 ∷ [])
   laid-written at [] h =
-      let is : byte s at ≡ 0 = byte-for f (byte s at) sort.End (h .command) refl in
+      let is : byte s at ≡ 0 = byte-for f (byte s at) sort.End (h .command) (sort-for f sort.End refl) refl in
       drop-one s at (omega (arith, h .last)) ∙ ap₂ (λ (x : ℕ) (xs : List ℕ). x ∷ xs) is (drop-of-length-le s {i = at + 1} (omega (arith, h .last)))
   laid-written at (gate c ∷ items) h =
       laid-gate at c (h .0) ∙ ap (λ (l : List ℕ). writeItem f (gate c) ++ l) (laid-written (at + widthFor f sort.Gate) items (h .1))
@@ -157,6 +197,9 @@ module _ (f : File) (s : List ℕ) (small : Bytes s) where
   laid-written at (output vs ∷ items) h =
       laid-output at vs (h .0) ∙ ap (λ (l : List ℕ). writeItem f (output vs) ++ l) (laid-written (at + widthFor f sort.Output) items (h .1))
       ∙ sym (append-assoc (writeItem f (output vs)) (writeItems f items) (0 ∷ []))
+  laid-written at (care w ∷ items) h =
+      laid-care at w (h .0) ∙ ap (λ (l : List ℕ). writeItem f (care w) ++ l) (laid-written (at + widthFor f sort.Care) items (h .1))
+      ∙ sym (append-assoc (writeItem f (care w)) (writeItems f items) (0 ∷ []))
 
 -- ---- the whole file
 
@@ -171,6 +214,7 @@ module _ (f : File) (most : Limits) where
         inputs-in = h .inputs-in;
         gates-in = h .gates-in;
         outputs-in = h .outputs-in;
+        care-in = h .care-in;
         laid = r .0;
         named = r .1;
       }
@@ -178,7 +222,7 @@ module _ (f : File) (most : Limits) where
   laid-file : (s : List ℕ) → Bytes s → (n : ℕ) (items : List Item) → FileLaid f most s n items → (s ≡ writeFile f n items) × FileFits f most n items
   unfolding writeFile
   laid-file s small n items h =
-      let is : byte s 0 ≡ 1 = byte-for f (byte s 0) sort.Inputs (h .command) refl in
+      let is : byte s 0 ≡ 1 = byte-for f (byte s 0) sort.Inputs (h .command) (sort-for f sort.Inputs refl) refl in
       let size = laid-length f s 2 items (h .laid) in (
         drop-two s 0 (omega arith) ∙ rw (is, h .count) (ap (λ (l : List ℕ). 1 ∷ n ∷ l) (laid-written f s small 2 items (h .laid))),
         record {
@@ -186,6 +230,7 @@ module _ (f : File) (most : Limits) where
           inputs-byte = rw (h .count) at (byte-small s small 1);
           gates-in = h .gates-in;
           outputs-in = h .outputs-in;
+          care-in = h .care-in;
           items-fit = laid-fits f s small n (length (gatesIn items)) 0 2 items (h .laid) (h .named);
         },
       )
@@ -216,6 +261,7 @@ module _ (f : File) (most : Limits) where
     pub item-places : p ≡ placesOf f (p .inputs) items
     pub gates : map (codedAt f s) (p .gates) ≡ gatesIn items
     pub outputs : map (wiredAt f s) (p .outputs) ≡ outputsIn items
+    pub cares : p .care ≡ careIn items
     pub fits : Bytes s → FileFits f most (p .inputs) items
     pub bytes : Bytes s → s ≡ writeFile f (p .inputs) items
 
@@ -228,6 +274,7 @@ module _ (f : File) (most : Limits) where
         item-places = r .item-places;
         gates = ap (λ (x : Places). map (codedAt f s) (x .gates)) (r .item-places) ∙ laid-gates f s 2 i (r .file-laid .laid);
         outputs = ap (λ (x : Places). map (wiredAt f s) (x .outputs)) (r .item-places) ∙ laid-outputs f s 2 i (r .file-laid .laid);
+        cares = ap (λ (x : Places). x .care) (r .item-places);
         fits = λ small. laid-file s small (p .inputs) i (r .file-laid) .1;
         bytes = λ small. laid-file s small (p .inputs) i (r .file-laid) .0;
       }

@@ -1,8 +1,9 @@
 -- What may be relied on in a readable file, whatever its elements: by the places of its commands, and in the stage or reference that it holds.
 -- Assumes nothing.
-use Prim.Native.Nat.{ℕ, zero, suc, _+_, _*_, _≤_, _<_}
+use Prim.Native.Nat.{ℕ, zero, suc, _+_, _-_, _*_, _^_, _≤_, _<_}
 use native.Mathlib.Omega.{arith}
 use native.Mathlib.Nat.{mul-le-mul-left}
+use lib.Pow.{pow-mono}
 use mathlib.Core.Path.{_≡_, refl, sym, ap, subst, subst₂, _∙_}
 use mathlib.Core.List.{List, [], _∷_}
 use lib.ListN.{length, getD}
@@ -11,8 +12,8 @@ use Rattle.netlist.specs.Types.file
 use Rattle.netlist.specs.Types.sort
 use Rattle.netlist.specs.Bytes.{byte}
 use Rattle.netlist.specs.Commands.{commandTable, ownCommands, formIn, needed}
-use Rattle.netlist.specs.Reading.{nameable, Places, readFile, readable}
-use Rattle.netlist.specs.Writing.{widthFor, operandCount, roleFor, Item, gate, output, gatesIn, outputsIn, gatePlaces, outputPlaces}
+use Rattle.netlist.specs.Reading.{nameable, Places, Rising, readFile, readable}
+use Rattle.netlist.specs.Writing.{widthFor, operandCount, roleFor, Item, gate, output, care, gatesIn, outputsIn, careIn, gatePlaces, outputPlaces}
 use Rattle.netlist.specs.Read.{GateRead, OutputRead, Read}
 use Rattle.netlist.proofs.Operands.{operands-each}
 use Rattle.netlist.proofs.Encoding.{kind-in, operation-needs}
@@ -51,6 +52,11 @@ unfolding nameable commandTable ownCommands formIn
 output-names file.Stage n g k = refl
 output-names file.Reference n g k = refl
 
+-- there are no more rising words than numbers
+pub rising-length : (below floor : ℕ) (ws : List ℕ) → Rising below floor ws → length ws ≤ below - floor
+rising-length below floor [] h = omega arith
+rising-length below floor (w ∷ ws) h = omega (arith, h .0, h .1, rising-length below (w + 1) ws (h .2))
+
 module _ (f : File) (s : List ℕ) (n g : ℕ) where
   gate-read : (at k : ℕ) (items : List Item) → 2 ≤ at → Laid f s at items → Named f n g k items → (i : ℕ) → i < length (gatesIn items) → GateRead f s n g (k + i) (getD (gatePlaces f at items) i 0)
   gate-read at k [] two h m i l = absurd (omega arith)
@@ -68,10 +74,12 @@ module _ (f : File) (s : List ℕ) (n g : ℕ) where
       let z : k + suc i ≡ suc k + i = omega arith in
       rw z (gate-read (at + widthFor f sort.Gate) (suc k) items (omega arith) (h .1) (m .1) i (omega arith))
   gate-read at k (output vs ∷ items) two h m i l = gate-read (at + widthFor f sort.Output) k items (omega arith) (h .1) (m .1) i l
+  gate-read at k (care w ∷ items) two h m i l = gate-read (at + widthFor f sort.Care) k items (omega arith) (h .1) (m .1) i l
 
   output-read : (at k : ℕ) (items : List Item) → 2 ≤ at → Laid f s at items → Named f n g k items → (i : ℕ) → i < length (outputsIn items) → OutputRead f s n g (getD (outputPlaces f at items) i 0)
   output-read at k [] two h m i l = absurd (omega arith)
   output-read at k (gate c ∷ items) two h m i l = output-read (at + widthFor f sort.Gate) (suc k) items (omega arith) (h .1) (m .1) i l
+  output-read at k (care w ∷ items) two h m i l = output-read (at + widthFor f sort.Care) k items (omega arith) (h .1) (m .1) i l
   output-read at k (output vs ∷ items) two h m zero l =
       record {
         first = two;
@@ -90,6 +98,9 @@ module _ (f : File) (most : Limits) (s : List ℕ) (p : Places) (e : readFile f 
   count-outputs : length (p .outputs) ≡ length (outputsIn (found .items))
   count-outputs = ap (λ (x : Places). length (x .outputs)) (found .item-places) ∙ length-outputPlaces f 2 (found .items)
 
+  count-care : length (p .care) ≡ length (careIn (found .items))
+  count-care = ap (λ (x : Places). length (x .care)) (found .item-places)
+
   named-found : Named f (p .inputs) (length (p .gates)) 0 (found .items)
   named-found = rw count-gates (found .file-laid .named)
 
@@ -101,7 +112,8 @@ module _ (f : File) (most : Limits) (s : List ℕ) (p : Places) (e : readFile f 
         inputs-at = sym (h .count);
         gates-in = omega (arith, count-gates, h .gates-in);
         outputs-in = omega (arith, count-outputs, h .outputs-in);
-        size = rw (count-gates, count-outputs) (laid-length f s 2 (found .items) (h .laid));
+        care-in = subst (λ (ws : List ℕ). Rising (2 ^ p .inputs) 0 ws) (sym (ap (λ (x : Places). x .care) (found .item-places))) (h .care-in);
+        size = rw (count-gates, count-outputs, count-care) (laid-length f s 2 (found .items) (h .laid));
         gate-at = λ k l.
             let z : 0 + k ≡ k = omega arith in
             let r = gate-read f s (p .inputs) (length (p .gates)) 2 0 (found .items) (omega arith) (h .laid) named-found k (omega (arith, count-gates)) in
@@ -111,8 +123,16 @@ module _ (f : File) (most : Limits) (s : List ℕ) (p : Places) (e : readFile f 
             subst (λ (os : List ℕ). OutputRead f s (p .inputs) (length (p .gates)) (getD os j 0)) (sym (ap (λ (x : Places). x .outputs) (found .item-places))) r;
       }
 
-  -- no readable file is longer than its most gates and outputs make it
-  pub readable-length : length s ≤ 3 + widthFor f sort.Gate * most .gates + widthFor f sort.Output * most .outputs
+  -- no readable file is longer than its most gates, outputs and care words make it
+  pub readable-length : length s ≤ 3 + widthFor f sort.Gate * most .gates + widthFor f sort.Output * most .outputs + widthFor f sort.Care * 2 ^ most .inputs
   readable-length =
       let r = readable-read in
-      omega (arith, r .size, mul-le-mul-left (widthFor f sort.Gate) (r .gates-in), mul-le-mul-left (widthFor f sort.Output) (r .outputs-in .1))
+      let words : length (p .care) ≤ 2 ^ p .inputs = omega (arith, rising-length (2 ^ p .inputs) 0 (p .care) (r .care-in)) in
+      let few : length (p .care) ≤ 2 ^ most .inputs = omega (arith, pow-mono {i = p .inputs} {j = most .inputs} (r .inputs-in .1)) in
+      omega (
+        arith,
+        r .size,
+        mul-le-mul-left (widthFor f sort.Gate) (r .gates-in),
+        mul-le-mul-left (widthFor f sort.Output) (r .outputs-in .1),
+        mul-le-mul-left (widthFor f sort.Care) few,
+      )

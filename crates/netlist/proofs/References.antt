@@ -1,7 +1,7 @@
 -- References: one that is written is read back, readable bytes with the gates first are what writing their reference gives, and the reference of a
 -- readable file is well-formed.
 -- Assumes nothing.
-use Prim.Native.Nat.{ℕ, zero, suc, _+_, _≤_, _<_}
+use Prim.Native.Nat.{ℕ, zero, suc, _+_, _*_, _≤_, _<_}
 use native.Mathlib.Omega.{arith}
 use mathlib.Core.Path.{_≡_, refl, ap, ap₂, subst, _∙_}
 use mathlib.Core.List.{List, [], _∷_, _++_, map, map-map}
@@ -13,15 +13,16 @@ use Rattle.netlist.specs.Bytes.{operand, operands, absent}
 use Rattle.netlist.specs.Commands.{commandTable, ownCommands, formIn}
 use Rattle.netlist.specs.Reading.{nameable, Places, readFile, readable}
 use Rattle.netlist.specs.Content.{Coded, codedAt, Reference, referenceOf}
-use Rattle.netlist.specs.Writing.{roleFor, Item, gate, output, gatesIn, outputsIn, ItemsFit, placesOf, All, FileFits, referenceItems, writeReference}
+use Rattle.netlist.specs.Writing.{widthFor, roleFor, Item, gate, output, care, gatesIn, outputsIn, careIn, ItemsFit, placesOf, writeFile, All, FileFits, referenceItems, writeReference}
 use Rattle.netlist.specs.Formed.{OperationFormed, FormedFrom, ReferenceFormed}
 use Rattle.netlist.proofs.Lists.{Bytes, All-every, All-map}
-use Rattle.netlist.proofs.Encoding.{operation-needs}
-use Rattle.netlist.proofs.Laid.{wiredAt}
+use Rattle.netlist.proofs.Encoding.{clash, operation-needs}
+use Rattle.netlist.proofs.Laid.{Laid, wiredAt}
+use Rattle.netlist.proofs.Walk.{readable-laid}
 use Rattle.netlist.proofs.ReadBack.{read-write}
 use Rattle.netlist.proofs.Readable.{readable-read, named-earlier, named-signal}
 use Rattle.netlist.proofs.Formed.{GatesFormed, OutputFormed, readable-formed}
-use Rattle.netlist.proofs.GatesFirst.{GatesFirst, gatesIn-items, outputsIn-items, gates-back, outputs-back, write-back, circuit}
+use Rattle.netlist.proofs.GatesFirst.{GatesFirst, CareFirst, gatesIn-items, outputsIn-items, careIn-items, gates-back, outputs-back, write-back}
 
 -- ---- gates and outputs, coded and as a reference has them
 
@@ -88,18 +89,33 @@ module _ (most : Limits) (r : Reference) (fits : FileFits file.Reference most (r
   pub referenceOf-writeReference : referenceOf (writeReference r) (placesOf file.Reference (r .inputs) (referenceItems r)) ≡ r
   unfolding writeReference referenceOf
   referenceOf-writeReference =
-      ap₂ (circuit (r .inputs))
-      (gates-back same same signalOf lone file.Reference most (r .inputs) (r .gates) (r .outputs) fits (All-every (λ c. c ≡ c) (λ c. refl) (r .gates)))
+      ap₂ (λ (gs : List Coded) (os : List ℕ). record { inputs = r .inputs; gates = gs; outputs = os })
+      (gates-back same same signalOf lone file.Reference most (r .inputs) [] (r .gates) (r .outputs) fits (All-every (λ c. c ≡ c) (λ c. refl) (r .gates)))
       (signals-view (writeReference r) (placesOf file.Reference (r .inputs) (referenceItems r) .outputs)
-      ∙ outputs-back same same signalOf lone file.Reference most (r .inputs) (r .gates) (r .outputs) fits (All-every (λ v. v ≡ v) (λ v. refl) (r .outputs)))
+      ∙ outputs-back same same signalOf lone file.Reference most (r .inputs) [] (r .gates) (r .outputs) fits (All-every (λ v. v ≡ v) (λ v. refl) (r .outputs)))
 
 module _ (most : Limits) (s : List ℕ) (p : Places) (e : readFile file.Reference most s ≡ readable p) where
+  -- a reference has no care words
+  pub no-care : p .care ≡ []
+  no-care = let r = readable-laid file.Reference most s p e in ap (λ (x : Places). x .care) (r .item-places) ∙ go 2 (r .items) (r .file-laid .laid)
+    where
+      go : (at : ℕ) (items : List Item) → Laid file.Reference s at items → careIn items ≡ []
+      go at [] h = refl
+      go at (gate c ∷ items) h = go (at + widthFor file.Reference sort.Gate) items (h .1)
+      go at (output vs ∷ items) h = go (at + widthFor file.Reference sort.Output) items (h .1)
+      go at (care w ∷ items) h = let stage = h .0 .stage in absurd (clash (cc))
+
   -- readable bytes with the gates first are what writing their reference gives
   pub writeReference-referenceOf : Bytes s → GatesFirst (p .gates) (p .outputs) → s ≡ writeReference (referenceOf s p)
-  unfolding writeReference referenceOf
+  unfolding writeReference referenceOf operands commandTable ownCommands formIn
   writeReference-referenceOf small first =
-      rw (signals-view s (p .outputs))
-      (write-back same same signalOf lone file.Reference most s small p e first (λ cs h. All-every (λ c. c ≡ c) (λ c. refl) cs) (signals-again (p .inputs) (length (p .gates))))
+      let r = readable-read file.Reference most s p e in
+      let none = no-care in
+      let z : 2 + widthFor file.Reference sort.Care * length (p .care) ≡ 2 = rw none (omega arith) in
+      let before : CareFirst file.Reference 2 (length (p .care)) (p .gates) (p .outputs) = rw z ((λ k l. r .gate-at k l .first), (λ j l. r .output-at j l .first)) in
+      subst (λ (ws : List ℕ). s ≡ writeFile file.Reference (p .inputs) (map care ws ++ referenceItems (referenceOf s p)))
+      none
+      (write-back same same signalOf lone file.Reference most s small p e before first (λ cs h. All-every (λ c. c ≡ c) (λ c. refl) cs) (signals-again (p .inputs) (length (p .gates))))
 
   pub reference-formed : ReferenceFormed most (referenceOf s p)
   unfolding referenceOf
@@ -149,8 +165,8 @@ module _ (n g : ℕ) (small : n + g ≤ absent) where
 module _ (most : Limits) (r : Reference) where
   pub reference-fits : most .inputs < 256 → most .inputs + most .gates ≤ absent → ReferenceFormed most r → FileFits file.Reference most (r .inputs) (referenceItems r)
   reference-fits low small h =
-      let g : length (gatesIn (referenceItems r)) ≡ length (r .gates) = ap length (gatesIn-items same same signalOf lone (r .gates) (r .outputs)) ∙ length-map (r .gates) same in
-      let o : length (outputsIn (referenceItems r)) ≡ length (r .outputs) = ap length (outputsIn-items same same signalOf lone (r .gates) (r .outputs)) ∙ length-map (r .outputs) lone in
+      let g : length (gatesIn (referenceItems r)) ≡ length (r .gates) = ap length (gatesIn-items same same signalOf lone [] (r .gates) (r .outputs)) ∙ length-map (r .gates) same in
+      let o : length (outputsIn (referenceItems r)) ≡ length (r .outputs) = ap length (outputsIn-items same same signalOf lone [] (r .gates) (r .outputs)) ∙ length-map (r .outputs) lone in
       let in-reach : r .inputs + length (r .gates) ≤ absent = omega (arith, h .inputs-in, h .gates-in) in
       let z : r .inputs ≡ r .inputs + 0 = omega arith in
       let ordered : FormedFrom (r .inputs + 0) (r .gates) = subst (λ (b : ℕ). FormedFrom b (r .gates)) z (h .gates-formed) in
@@ -159,6 +175,7 @@ module _ (most : Limits) (r : Reference) where
         inputs-byte = omega (arith, h .inputs-in);
         gates-in = rw g (h .gates-in);
         outputs-in = rw o (h .outputs-in);
+        care-in = rw (careIn-items same same signalOf lone [] (r .gates) (r .outputs)) tt;
         items-fit = rw g (operations-fit (r .inputs) (length (r .gates)) in-reach 0 (r .gates) (map (λ v. output (v ∷ [])) (r .outputs)) (omega arith) ordered
             (signals-fit (r .inputs) (length (r .gates)) in-reach (r .outputs) (h .outputs-formed)));
       }

@@ -1,12 +1,13 @@
--- Stages: one that is written is read back, readable bytes with the gates first are what writing their stage gives, and the stage of a readable file
--- is well-formed.
+-- Stages: one that is written is read back, readable bytes with the care words and the gates first are what writing their stage gives, and
+-- the stage of a readable file is well-formed.
 -- Assumes nothing.
-use Prim.Native.Nat.{ℕ, suc, _+_, _*_, _≤_, _<_}
+use Prim.Native.Nat.{ℕ, suc, _+_, _*_, _^_, _≤_, _<_}
 use native.Mathlib.Omega.{arith}
 use mathlib.Core.Path.{_≡_, refl, sym, ap, ap₂, subst, _∙_, fun-ext}
 use mathlib.Core.Bool.{Bool, true}
 use mathlib.Core.List.{List, [], _∷_, _++_, map, map-map}
 use lib.ListN.{length, getD, length-map}
+use lib.Pow.{pow-mono}
 use Rattle.gates.specs.Cell.{pinCount}
 use Rattle.gates.proofs.Ranges.{kind-known}
 use Rattle.netlist.specs.Types.{Limits}
@@ -14,9 +15,9 @@ use Rattle.netlist.specs.Types.file
 use Rattle.netlist.specs.Types.sort
 use Rattle.netlist.specs.Bytes.{operands, absent}
 use Rattle.netlist.specs.Commands.{commandTable, ownCommands, formIn, needed}
-use Rattle.netlist.specs.Reading.{nameable, Places, readFile, readable}
+use Rattle.netlist.specs.Reading.{nameable, Places, Rising, readFile, readable}
 use Rattle.netlist.specs.Content.{Coded, codedAt, Gate, Pair, Stage, gateOf, pairAt, stageOf}
-use Rattle.netlist.specs.Writing.{roleFor, Item, gate, output, outputsIn, ItemsFit, gatesIn, placesOf, All, FileFits, codedGate, pairOperands, stageItems, writeStage}
+use Rattle.netlist.specs.Writing.{roleFor, Item, gate, output, care, outputsIn, ItemsFit, gatesIn, careIn, placesOf, All, FileFits, codedGate, pairOperands, stageItems, writeStage}
 use Rattle.netlist.specs.Formed.{CellFormed, RailsFormed, nets, StageFormed}
 use Rattle.netlist.proofs.Lists.{Bytes, All-every, All-map}
 use Rattle.netlist.proofs.Encoding.{kind-in, kind-needs, kind-some}
@@ -24,7 +25,7 @@ use Rattle.netlist.proofs.Laid.{wiredAt}
 use Rattle.netlist.proofs.ReadBack.{read-write}
 use Rattle.netlist.proofs.Readable.{readable-read, named-pin, named-rail}
 use Rattle.netlist.proofs.Formed.{GatesFormed, OutputFormed, fits-formed, readable-formed}
-use Rattle.netlist.proofs.GatesFirst.{GatesFirst, gatesIn-items, outputsIn-items, gates-back, outputs-back, write-back, circuit}
+use Rattle.netlist.proofs.GatesFirst.{GatesFirst, CareFirst, gatesIn-items, outputsIn-items, careIn-items, gates-back, outputs-back, write-back}
 
 -- ---- gates and outputs, coded and as a stage has them
 
@@ -91,6 +92,9 @@ module _ (n g : ℕ) where
 pairs-view : (s os : List ℕ) → map (pairAt s) os ≡ map (λ p. pairOf (wiredAt file.Stage s p)) os
 pairs-view s os = ap (λ (h : ℕ → Pair). map h os) (fun-ext (λ p. sym (pairAt-wiredAt s p)))
 
+abbrev stage : ℕ → List Gate → List Pair → List ℕ → Stage
+stage n gs os ws = record { inputs = n; gates = gs; outputs = os; care = ws }
+
 -- a stage that is written is read back
 module _ (most : Limits) (c : Stage) (fits : FileFits file.Stage most (c .inputs) (stageItems c)) where
   pub read-writeStage : readFile file.Stage most (writeStage c) ≡ readable (placesOf file.Stage (c .inputs) (stageItems c))
@@ -102,19 +106,21 @@ module _ (most : Limits) (c : Stage) (fits : FileFits file.Stage most (c .inputs
   stageOf-writeStage hold =
       let codes = fits-formed file.Stage (c .inputs) (length (gatesIn (stageItems c))) 0 (stageItems c) (fits .items-fit) .0 in
       let g = length (gatesIn (stageItems c)) in
-      let known = known-back (c .inputs) g 0 (c .gates) (subst (GatesFormed file.Stage (c .inputs) g 0) (gatesIn-items gateOf codedGate pairOf pairOperands (c .gates) (c .outputs)) codes) hold in
-      ap₂ (circuit (c .inputs))
-      (gates-back gateOf codedGate pairOf pairOperands file.Stage most (c .inputs) (c .gates) (c .outputs) fits known)
+      let known = known-back (c .inputs) g 0 (c .gates) (subst (GatesFormed file.Stage (c .inputs) g 0) (gatesIn-items gateOf codedGate pairOf pairOperands (c .care) (c .gates) (c .outputs)) codes) hold in
+      ap₂ (λ (gs : List Gate) (os : List Pair). stage (c .inputs) gs os (careIn (stageItems c)))
+      (gates-back gateOf codedGate pairOf pairOperands file.Stage most (c .inputs) (c .care) (c .gates) (c .outputs) fits known)
       (pairs-view (writeStage c) (placesOf file.Stage (c .inputs) (stageItems c) .outputs)
-      ∙ outputs-back gateOf codedGate pairOf pairOperands file.Stage most (c .inputs) (c .gates) (c .outputs) fits (All-every (λ p. pairOf (pairOperands p) ≡ p) (λ p. refl) (c .outputs)))
+      ∙ outputs-back gateOf codedGate pairOf pairOperands file.Stage most (c .inputs) (c .care) (c .gates) (c .outputs) fits (All-every (λ p. pairOf (pairOperands p) ≡ p) (λ p. refl) (c .outputs)))
+      ∙ ap (stage (c .inputs) (c .gates) (c .outputs)) (careIn-items gateOf codedGate pairOf pairOperands (c .care) (c .gates) (c .outputs))
 
 module _ (most : Limits) (s : List ℕ) (p : Places) (e : readFile file.Stage most s ≡ readable p) where
-  -- readable bytes with the gates first are what writing their stage gives
-  pub writeStage-stageOf : Bytes s → GatesFirst (p .gates) (p .outputs) → s ≡ writeStage (stageOf s p)
+  -- readable bytes with the care words and then the gates first are what writing their stage gives
+  pub writeStage-stageOf : Bytes s → CareFirst file.Stage 2 (length (p .care)) (p .gates) (p .outputs) → GatesFirst (p .gates) (p .outputs) →
+      s ≡ writeStage (stageOf s p)
   unfolding writeStage stageOf
-  writeStage-stageOf small first =
+  writeStage-stageOf small before first =
       rw (pairs-view s (p .outputs))
-      (write-back gateOf codedGate pairOf pairOperands file.Stage most s small p e first (known-again (p .inputs) (length (p .gates)) 0) (wired-again (p .inputs) (length (p .gates))))
+      (write-back gateOf codedGate pairOf pairOperands file.Stage most s small p e before first (known-again (p .inputs) (length (p .gates)) 0) (wired-again (p .inputs) (length (p .gates))))
 
   pub stage-formed : StageFormed most (stageOf s p)
   unfolding stageOf
@@ -130,6 +136,7 @@ module _ (most : Limits) (s : List ℕ) (p : Places) (e : readFile file.Stage mo
         gates-in = rw g (r .gates-in);
         outputs-in = rw o (r .outputs-in);
         gates-formed = rw g (rw (map-map gateOf (codedAt file.Stage s) gs) at (codes-gates (p .inputs) (length gs) 0 (map (codedAt file.Stage s) gs) (formed .0)));
+        care-in = r .care-in;
         outputs-formed = rw (g, pairs-view s os) (rw (map-map pairOf (wiredAt file.Stage s) os) at (wires-pairs (p .inputs) (length gs) (map (wiredAt file.Stage s) os) (formed .1)));
       }
 
@@ -166,20 +173,30 @@ module _ (n g : ℕ) (small : 2 * n + g ≤ absent) where
         rails-fit ps (h .1) k,
       )
 
+-- care words of at most 16 inputs are u16
+words-fit : (n g m floor : ℕ) (ws : List ℕ) (rest : List Item) → m ≤ 16 → Rising (2 ^ m) floor ws → ItemsFit file.Stage n g 0 rest → ItemsFit file.Stage n g 0 (map care ws ++ rest)
+words-fit n g m floor [] rest l h r = r
+words-fit n g m floor (w ∷ ws) rest l h r =
+    let u16 : w < 65536 = omega (arith, h .1, pow-mono {i = m} {j = 16} l) in
+    (record { stage = refl; u16 = u16 }, words-fit n g m (w + 1) ws rest l (h .2) r)
+
 module _ (most : Limits) (c : Stage) where
-  pub stage-fits : most .inputs < 256 → 2 * most .inputs + most .gates ≤ absent → StageFormed most c → FileFits file.Stage most (c .inputs) (stageItems c)
+  pub stage-fits : most .inputs ≤ 16 → 2 * most .inputs + most .gates ≤ absent → StageFormed most c → FileFits file.Stage most (c .inputs) (stageItems c)
   stage-fits low small h =
-      let g : length (gatesIn (stageItems c)) ≡ length (c .gates) = ap length (gatesIn-items gateOf codedGate pairOf pairOperands (c .gates) (c .outputs)) ∙ length-map (c .gates) codedGate in
+      let g : length (gatesIn (stageItems c)) ≡ length (c .gates) = ap length (gatesIn-items gateOf codedGate pairOf pairOperands (c .care) (c .gates) (c .outputs)) ∙ length-map (c .gates) codedGate in
       let o : length (outputsIn (stageItems c)) ≡ length (c .outputs) =
-      ap length (outputsIn-items gateOf codedGate pairOf pairOperands (c .gates) (c .outputs)) ∙ length-map (c .outputs) pairOperands in
+      ap length (outputsIn-items gateOf codedGate pairOf pairOperands (c .care) (c .gates) (c .outputs)) ∙ length-map (c .outputs) pairOperands in
       let in-reach : nets c ≤ absent = omega (arith, h .inputs-in, h .gates-in) in
+      let wired = map (λ g. gate (codedGate g)) (c .gates) ++ map (λ p. output (pairOperands p)) (c .outputs) in
       record {
         inputs-in = h .inputs-in;
         inputs-byte = omega (arith, h .inputs-in);
         gates-in = rw g (h .gates-in);
         outputs-in = rw o (h .outputs-in);
-        items-fit = rw g (cells-fit (c .inputs) (length (c .gates)) in-reach 0 (c .gates) (map (λ p. output (pairOperands p)) (c .outputs)) (h .gates-formed)
-            (rails-fit (c .inputs) (length (c .gates)) in-reach (c .outputs) (h .outputs-formed)));
+        care-in = rw (careIn-items gateOf codedGate pairOf pairOperands (c .care) (c .gates) (c .outputs)) (h .care-in);
+        items-fit = rw g (words-fit (c .inputs) (length (c .gates)) (c .inputs) 0 (c .care) wired (omega (arith, h .inputs-in)) (h .care-in)
+            (cells-fit (c .inputs) (length (c .gates)) in-reach 0 (c .gates) (map (λ p. output (pairOperands p)) (c .outputs)) (h .gates-formed)
+            (rails-fit (c .inputs) (length (c .gates)) in-reach (c .outputs) (h .outputs-formed))));
       }
 
   pub fits-stage : FileFits file.Stage most (c .inputs) (stageItems c) → All (λ g. g .hold ≡ true) (c .gates) → StageFormed most c

@@ -1,26 +1,28 @@
 -- A file is readable exactly where items are laid in it; the walk of the reader over the commands is followed once, both ways.
 -- Assumes nothing.
-use Prim.Native.Nat.{ℕ, zero, suc, _+_, _-_, _*_, _≤_, _<_}
+use Prim.Native.Nat.{ℕ, zero, suc, _+_, _-_, _*_, _^_, _≤_, _<_}
 use native.Mathlib.Omega.{arith}
 use native.Mathlib.Nat.{mul-le-mul-left}
-use mathlib.Core.Path.{_≡_, refl, sym, ap, ap₂, _∙_}
+use mathlib.Core.Path.{_≡_, refl, sym, ap, ap₂, subst, _∙_}
 use mathlib.Core.Bool.{Bool, true, false, cond}
 use mathlib.Core.List.{List, [], _∷_, _++_, append-nil}
 use lib.ListN.{length, length-append, List·getD-eq-default}
 use lib.Seq.{append-snoc}
+use lib.Pow.{pow-mono}
 use lib.Dec.{eqb, ltb}
 use borrow.Author.Tests.{lt-ltb, le-ltb, ne-eqb, ltb-false, eqb-true, eqb-false, not-false}
 use Rattle.netlist.specs.Types.{File, Sort, Form, Limits, Counts, Cursor, Next, Command, Refused, Found, At, Nothing}
+use Rattle.netlist.specs.Types.file
 use Rattle.netlist.specs.Types.sort
-use Rattle.netlist.specs.Bytes.{byte}
+use Rattle.netlist.specs.Bytes.{byte, operand, operands}
 use Rattle.netlist.specs.Commands.{whenFound, isSort, formOf, width, needed, stray, nextAt}
-use Rattle.netlist.specs.Reading.{nameable, nameless, usedOperands, namelessAt, namelessFrom, Places, noPlaces, countsOf, noted, Reading, refused, readable, finish, onNext, readFrom, readFile}
+use Rattle.netlist.specs.Reading.{nameable, nameless, usedOperands, namelessAt, namelessFrom, Places, noPlaces, floorAfter, Rising, countsOf, noted, Reading, refused, readable, finish, onNext, readFrom, readFile}
 use Rattle.netlist.specs.Content.{codedAt}
-use Rattle.netlist.specs.Writing.{formFor, widthFor, operandCount, roleFor, Item, gate, output, gatesIn, outputsIn, gatePlaces, outputPlaces, placesOf}
+use Rattle.netlist.specs.Writing.{formFor, widthFor, operandCount, roleFor, Item, gate, output, care, gatesIn, outputsIn, careIn, gatePlaces, outputPlaces, placesOf}
 use Rattle.netlist.specs.Read.{farthest}
 use Rattle.netlist.proofs.Operands.{nameless-named, named-nameless}
-use Rattle.netlist.proofs.Encoding.{clash, gate-form, output-form, inputs-form, end-form, width-gate, width-output, width-inputs, width-end}
-use Rattle.netlist.proofs.OneCommand.{There, there-next, next-there}
+use Rattle.netlist.proofs.Encoding.{clash, sort-for, care-stage, care-form, gate-form, output-form, inputs-form, end-form, width-gate, width-output, width-inputs, width-end}
+use Rattle.netlist.proofs.OneCommand.{Taken, There, there-next, next-there}
 use Rattle.netlist.proofs.Laid.{Laid, Named, FileLaid, wiredAt, laid-operands, length-gatePlaces, length-outputPlaces, laid-length}
 
 -- ---- the end command
@@ -50,48 +52,94 @@ first-inputs at e = eqb-true at 0 (not-false (eqb at 0) e)
 
 -- ---- places with those of some items after them
 
-abbrev added : File → ℕ → List Item → Places → Places
-added f at items p = record { inputs = p .inputs; gates = p .gates ++ gatePlaces f at items; outputs = p .outputs ++ outputPlaces f at items }
+abbrev places : ℕ → List ℕ → List ℕ → List ℕ → Places
+places n gs os ws = record { inputs = n; gates = gs; outputs = os; care = ws }
 
-abbrev places : ℕ → List ℕ → List ℕ → Places
-places n gs os = record { inputs = n; gates = gs; outputs = os }
+abbrev added : File → ℕ → List Item → Places → Places
+added f at items p = places (p .inputs) (p .gates ++ gatePlaces f at items) (p .outputs ++ outputPlaces f at items) (p .care ++ careIn items)
 
 module _ (f : File) (s : List ℕ) (at : ℕ) (p : Places) where
   added-nil : added f at [] p ≡ p
-  added-nil = ap₂ (places (p .inputs)) (append-nil (p .gates)) (append-nil (p .outputs))
+  added-nil = rw (append-nil (p .gates), append-nil (p .outputs), append-nil (p .care))
 
   module _ (items : List Item) where
-    added-gate : (at′ : ℕ) → added f at′ items (noted sort.Gate s at p) ≡ places (p .inputs) (p .gates ++ (at ∷ gatePlaces f at′ items)) (p .outputs ++ outputPlaces f at′ items)
+    added-gate : added f (at + widthFor f sort.Gate) items (noted sort.Gate s at p) ≡ added f at (gate (codedAt f s at) ∷ items) p
     unfolding noted
-    added-gate at′ = ap (λ (gs : List ℕ). places (p .inputs) gs (p .outputs ++ outputPlaces f at′ items)) (append-snoc (p .gates) at (gatePlaces f at′ items))
+    added-gate = rw (append-snoc (p .gates) at (gatePlaces f (at + widthFor f sort.Gate) items))
 
-    added-output : (at′ : ℕ) → added f at′ items (noted sort.Output s at p) ≡ places (p .inputs) (p .gates ++ gatePlaces f at′ items) (p .outputs ++ (at ∷ outputPlaces f at′ items))
+    added-output : added f (at + widthFor f sort.Output) items (noted sort.Output s at p) ≡ added f at (output (wiredAt f s at) ∷ items) p
     unfolding noted
-    added-output at′ = ap (places (p .inputs) (p .gates ++ gatePlaces f at′ items)) (append-snoc (p .outputs) at (outputPlaces f at′ items))
+    added-output = rw (append-snoc (p .outputs) at (outputPlaces f (at + widthFor f sort.Output) items))
+
+    added-care : added f (at + widthFor f sort.Care) items (noted sort.Care s at p) ≡ added f at (care (operand s (at + 1)) ∷ items) p
+    unfolding noted
+    added-care = rw (append-snoc (p .care) (operand s (at + 1)) (careIn items))
+
+-- ---- care words
+
+pub floor-snoc : (floor : ℕ) (ws : List ℕ) (w : ℕ) → floorAfter floor (ws ++ (w ∷ [])) ≡ w + 1
+unfolding floorAfter
+floor-snoc floor [] w = refl
+floor-snoc floor (v ∷ ws) w = floor-snoc (v + 1) ws w
+
+-- what the reader asks of a care command
+pub care-taken : (f : File) (most : Limits) (s : List ℕ) (at : ℕ) (before : Counts) → There f most s at before sort.Care →
+    (operand s (at + 1) < 2 ^ before .inputs) × (before .floor ≤ operand s (at + 1))
+care-taken f most s at before t = subst (λ (form : Form). Taken f most s at before form sort.Care) (care-form f (care-stage f (t .own))) (t .taken)
 
 -- ---- where commands stand
 
--- the place of a command, after the gates and outputs before it, of which there are no more than there may be
+-- the place of a command, after the gates, outputs and care words before it, of which there are no more than there may be
 pub record Near (f : File) (most : Limits) (at : ℕ) (c : Counts) : Type 0 where
-  pub place : at ≤ 2 + widthFor f sort.Gate * c .gates + widthFor f sort.Output * c .outputs
+  pub place : at ≤ 2 + widthFor f sort.Gate * c .gates + widthFor f sort.Output * c .outputs + widthFor f sort.Care * c .care
+  pub inputs-in : c .inputs ≤ most .inputs
   pub gates-in : c .gates ≤ most .gates
   pub outputs-in : c .outputs ≤ most .outputs
+  pub care-in : (c .care ≤ c .floor) × (c .floor ≤ 2 ^ most .inputs)
 
 module _ (f : File) (most : Limits) where
   pub near-start : Near f most 0 (countsOf noPlaces)
-  near-start = record { place = omega arith; gates-in = omega arith; outputs-in = omega arith }
+  unfolding floorAfter
+  near-start = record { place = omega arith; inputs-in = omega arith; gates-in = omega arith; outputs-in = omega arith; care-in = omega arith }
 
   pub near-far : {at : ℕ} {c : Counts} → Near f most at c → at + widthFor f sort.Gate ≤ farthest f most
-  near-far h = omega (arith, h .place, mul-le-mul-left (widthFor f sort.Gate) (h .gates-in), mul-le-mul-left (widthFor f sort.Output) (h .outputs-in))
+  near-far {c} h =
+      let few : c .care ≤ 2 ^ most .inputs = omega (arith, h .care-in) in
+      omega (
+        arith,
+        h .place,
+        mul-le-mul-left (widthFor f sort.Gate) (h .gates-in),
+        mul-le-mul-left (widthFor f sort.Output) (h .outputs-in),
+        mul-le-mul-left (widthFor f sort.Care) few,
+      )
 
   pub near-noted : (s : List ℕ) (at : ℕ) (p : Places) (c : Sort) → isSort sort.End c ≡ false → Near f most at (countsOf p) → There f most s at (countsOf p) c →
       Near f most (at + widthFor f c) (countsOf (noted c s at p))
   unfolding noted stray
-  near-noted s at p sort.Inputs more h t = record { place = omega (arith, width-inputs f, first-inputs at (t .ordered)); gates-in = h .gates-in; outputs-in = h .outputs-in }
+  near-noted s at p sort.Inputs more h t = record {
+    place = omega (arith, width-inputs f, first-inputs at (t .ordered));
+    inputs-in = t .taken .1;
+    gates-in = h .gates-in;
+    outputs-in = h .outputs-in;
+    care-in = h .care-in;
+  }
   near-noted s at p sort.Gate more h t =
-      rw (length-append (p .gates) (at ∷ [])) (record { place = omega (arith, h .place); gates-in = omega (arith, t .taken .0); outputs-in = h .outputs-in })
+      rw (length-append (p .gates) (at ∷ []))
+      (record { place = omega (arith, h .place); inputs-in = h .inputs-in; gates-in = omega (arith, t .taken .0); outputs-in = h .outputs-in; care-in = h .care-in })
   near-noted s at p sort.Output more h t =
-      rw (length-append (p .outputs) (at ∷ [])) (record { place = omega (arith, h .place); gates-in = h .gates-in; outputs-in = omega (arith, t .taken) })
+      rw (length-append (p .outputs) (at ∷ []))
+      (record { place = omega (arith, h .place); inputs-in = h .inputs-in; gates-in = h .gates-in; outputs-in = omega (arith, t .taken); care-in = h .care-in })
+  near-noted s at p sort.Care more h t =
+      let w = operand s (at + 1) in
+      let taken = care-taken f most s at (countsOf p) t in
+      rw (length-append (p .care) (w ∷ []), floor-snoc 0 (p .care) w)
+      (record {
+        place = omega (arith, h .place);
+        inputs-in = h .inputs-in;
+        gates-in = h .gates-in;
+        outputs-in = h .outputs-in;
+        care-in = omega (arith, h .care-in, taken, pow-mono {i = p .inputs} {j = most .inputs} (h .inputs-in));
+      })
   near-noted s at p sort.End more h t = absurd (clash (cc))
   near-noted s at p sort.Unknown more h t = absurd (clash (let o = t .ordered in cc))
 
@@ -109,6 +157,7 @@ module _ (f : File) (most : Limits) (s : List ℕ) (P : Places) where
     pub items : List Item
     pub laid : Laid f s at items
     pub same : P ≡ added f at items p
+    pub care-in : Rising (2 ^ p .inputs) (floorAfter 0 (p .care)) (careIn items)
     pub at-end : Ended f most s P
 
   -- a reading that goes on from later places finds what stands there
@@ -117,14 +166,15 @@ module _ (f : File) (most : Limits) (s : List ℕ) (P : Places) where
 
   module _ (go : ℕ → Places → Reading) (later : Walks go) (at : ℕ) (p : Places) (further : 1 ≤ at) (near : Near f most at (countsOf p)) where
     walked-command : (c : Sort) (next : Cursor) → next .at ≡ at + widthFor f c → There f most s at (countsOf p) c → onNext go f s at p (Command c next) ≡ readable P → Walked at p
-    unfolding onNext finish stray
+    unfolding onNext finish stray noted
     walked-command sort.Inputs next a t e = absurd (omega (arith, first-inputs at (t .ordered)))
     walked-command sort.Gate next a t e =
         let w = later (at + widthFor f sort.Gate) (noted sort.Gate s at p) (omega arith) (near-noted f most s at p sort.Gate refl near t) (rw a at e) in
         record {
           items = gate (codedAt f s at) ∷ w .items;
           laid = (record { command = t .command; room = t .room; content = refl; known = t .taken .1; fits = rw (gate-form f) at (t .taken .2) }, w .laid);
-          same = w .same ∙ added-gate f s at p (w .items) (at + widthFor f sort.Gate);
+          same = w .same ∙ added-gate f s at p (w .items);
+          care-in = w .care-in;
           at-end = w .at-end;
         }
     walked-command sort.Output next a t e =
@@ -132,7 +182,18 @@ module _ (f : File) (most : Limits) (s : List ℕ) (P : Places) where
         record {
           items = output (wiredAt f s at) ∷ w .items;
           laid = (record { command = t .command; room = t .room; content = refl }, w .laid);
-          same = w .same ∙ added-output f s at p (w .items) (at + widthFor f sort.Output);
+          same = w .same ∙ added-output f s at p (w .items);
+          care-in = w .care-in;
+          at-end = w .at-end;
+        }
+    walked-command sort.Care next a t e =
+        let w = later (at + widthFor f sort.Care) (noted sort.Care s at p) (omega arith) (near-noted f most s at p sort.Care refl near t) (rw a at e) in
+        let taken = care-taken f most s at (countsOf p) t in
+        record {
+          items = care (operand s (at + 1)) ∷ w .items;
+          laid = (record { stage = care-stage f (t .own); command = t .command; room = t .room; content = refl }, w .laid);
+          same = w .same ∙ added-care f s at p (w .items);
+          care-in = (taken .1, taken .0, rw (floor-snoc 0 (p .care) (operand s (at + 1))) at (w .care-in));
           at-end = w .at-end;
         }
     walked-command sort.End next a t e =
@@ -142,6 +203,7 @@ module _ (f : File) (most : Limits) (s : List ℕ) (P : Places) where
           items = [];
           laid = record { command = t .command; last = omega (arith, t .room, width-end f, ltb-false (at + 1) (length s) (d .1)) };
           same = sym (added-nil f s at p ∙ d .3);
+          care-in = tt;
           at-end = rw (d .3) at (let x : Ended f most s p = record { gates-in = near .gates-in; outputs-in = (omega arith, near .outputs-in); all-named = d .2 } in x);
         }
     walked-command sort.Unknown next a t e = absurd (clash (let o = t .ordered in cc))
@@ -159,7 +221,7 @@ module _ (f : File) (most : Limits) (s : List ℕ) (P : Places) where
 
   -- the first command is the count of inputs
   abbrev Started : Type 0
-  Started = There f most s 0 (countsOf noPlaces) sort.Inputs × Walked 2 (places (byte s 1) [] [])
+  Started = There f most s 0 (countsOf noPlaces) sort.Inputs × Walked 2 (places (byte s 1) [] [] [])
 
   started : readFile f most s ≡ readable P → Started
   unfolding readFile readFrom onNext stray noted
@@ -168,10 +230,12 @@ module _ (f : File) (most : Limits) (s : List ℕ) (P : Places) where
       first : (c : Sort) (next : Cursor) → next .at ≡ 0 + widthFor f c → There f most s 0 (countsOf noPlaces) c →
           onNext (readFrom (length s) f most s) f s 0 noPlaces (Command c next) ≡ readable P → Started
       first sort.Inputs next a t q =
-          let b : next .at ≡ 2 = omega (arith, width-inputs f) in
-          (t, walked (length s) 2 (places (byte s 1) [] []) (omega arith) (record { place = omega arith; gates-in = omega arith; outputs-in = omega arith }) (rw b at q))
+          let two : 0 + widthFor f sort.Inputs ≡ 2 = omega (arith, width-inputs f) in
+          let near = rw two at (near-noted f most s 0 noPlaces sort.Inputs refl (near-start f most) t) in
+          (t, walked (length s) 2 (places (byte s 1) [] [] []) (omega arith) near (rw (a, two) at q))
       first sort.Gate next a t q = absurd (clash (let o = t .ordered in cc))
       first sort.Output next a t q = absurd (clash (let o = t .ordered in cc))
+      first sort.Care next a t q = absurd (clash (let o = t .ordered in cc))
       first sort.End next a t q = absurd (clash (let o = t .ordered in cc))
       first sort.Unknown next a t q = absurd (clash (let o = t .ordered in cc))
 
@@ -187,12 +251,15 @@ or-later (At p) later e = absurd (clash (cc))
 or-later Nothing later e = (refl, e)
 
 module _ (f : File) (n g : ℕ) (s : List ℕ) (fuel at k : ℕ) where
-  -- what is found in the operands of a gate and of an output, and after a command of some bytes
+  -- what is found in the operands of a gate, of an output and of a care command, and after a command of some bytes
   abbrev inGate : Found
   inGate = nameless (nameable (roleFor f sort.Gate) n g k) s (at + 2) (needed f (byte s (at + 1)))
 
   abbrev inOutput : Found
   inOutput = nameless (nameable (roleFor f sort.Output) n g k) s (at + 1) (operandCount f sort.Output)
+
+  abbrev inCare : Found
+  inCare = nameless 0x10000 s (at + 1) 1
 
   abbrev onFrom : ℕ → ℕ → Found
   onFrom w k′ = namelessFrom fuel f n g s (at + w) k′
@@ -211,6 +278,10 @@ module _ (f : File) (n g : ℕ) (s : List ℕ) (fuel at k : ℕ) where
   unfolding namelessFrom namelessAt usedOperands step
   step-output e = ap step (e ∙ output-form f) ∙ ap (λ (w : ℕ). whenFound inOutput At (onFrom w k)) (sym (width-output f))
 
+  step-care : f ≡ file.Stage → formOf f (byte s at) ≡ formFor f sort.Care → namelessFrom (suc fuel) f n g s at k ≡ whenFound inCare At (onFrom (widthFor f sort.Care) k)
+  unfolding namelessFrom namelessAt usedOperands step nameable
+  step-care stage e = ap step (e ∙ care-form f stage) ∙ ap (λ (w : ℕ). whenFound inCare At (onFrom w k)) (sym (ap width (care-form f stage)))
+
   step-inputs : formOf f (byte s at) ≡ formFor f sort.Inputs → namelessFrom (suc fuel) f n g s at k ≡ onFrom 2 k
   unfolding namelessFrom namelessAt usedOperands step nameless whenFound
   step-inputs e = ap step (e ∙ inputs-form f)
@@ -226,6 +297,10 @@ module _ (f : File) (n g : ℕ) (s : List ℕ) (fuel at k : ℕ) where
   output-none : formOf f (byte s at) ≡ formFor f sort.Output → namelessFrom (suc fuel) f n g s at k ≡ Nothing → (inOutput ≡ Nothing) × (onFrom (widthFor f sort.Output) k ≡ Nothing)
   output-none e none = or-later inOutput (onFrom (widthFor f sort.Output) k) (sym (step-output e) ∙ none)
 
+  care-none : f ≡ file.Stage → formOf f (byte s at) ≡ formFor f sort.Care → namelessFrom (suc fuel) f n g s at k ≡ Nothing →
+      (inCare ≡ Nothing) × (onFrom (widthFor f sort.Care) k ≡ Nothing)
+  care-none stage e none = or-later inCare (onFrom (widthFor f sort.Care) k) (sym (step-care stage e) ∙ none)
+
 -- past the last byte nothing is found
 pub nameless-past : (f : File) (n g : ℕ) (s : List ℕ) (fuel at k : ℕ) → length s ≤ at → namelessFrom fuel f n g s at k ≡ Nothing
 unfolding namelessFrom
@@ -236,9 +311,11 @@ nameless-past f n g s (suc fuel) at k h =
 module _ (f : File) (n g : ℕ) (s : List ℕ) where
   -- the test for 9 finds nothing exactly where each operand names what it has to name
   named-walk : (fuel at k : ℕ) (items : List Item) → Laid f s at items → length s ≤ at + fuel → namelessFrom fuel f n g s at k ≡ Nothing → Named f n g k items
+  unfolding operands
   named-walk fuel at k [] h l e = tt
   named-walk zero at k (gate c ∷ items) h l e = absurd (omega (arith, h .0 .room, width-gate f))
   named-walk zero at k (output vs ∷ items) h l e = absurd (omega (arith, h .0 .room, width-output f))
+  named-walk zero at k (care w ∷ items) h l e = absurd (omega (arith, h .0 .room, ap width (care-form f (h .0 .stage))))
   named-walk (suc fuel) at k (gate c ∷ items) h l e =
       let d = gate-none f n g s fuel at k (h .0 .command) e in (
         rw (laid-operands (h .0)) at (nameless-named (nameable (roleFor f sort.Gate) n g k) s (at + 2) (needed f (byte s (at + 1))) (d .0)),
@@ -249,9 +326,14 @@ module _ (f : File) (n g : ℕ) (s : List ℕ) where
         rw (h .0 .content) at (nameless-named (nameable (roleFor f sort.Output) n g k) s (at + 1) (operandCount f sort.Output) (d .0)),
         named-walk fuel (at + widthFor f sort.Output) k items (h .1) (omega (arith, width-output f)) (d .1),
       )
+  named-walk (suc fuel) at k (care w ∷ items) h l e =
+      let d = care-none f n g s fuel at k (h .0 .stage) (h .0 .command) e in (
+        rw (h .0 .content) at (nameless-named 0x10000 s (at + 1) 1 (d .0) .0),
+        named-walk fuel (at + widthFor f sort.Care) k items (h .1) (omega (arith, ap width (care-form f (h .0 .stage)))) (d .1),
+      )
 
   walk-named : (fuel at k : ℕ) (items : List Item) → Laid f s at items → Named f n g k items → namelessFrom fuel f n g s at k ≡ Nothing
-  unfolding namelessFrom whenFound
+  unfolding namelessFrom whenFound operands
   walk-named zero at k items h m = refl
   walk-named (suc fuel) at k [] h m = step-end f n g s fuel at k (h .command) ∙ nameless-past f n g s fuel (at + 1) k (omega (arith, h .last))
   walk-named (suc fuel) at k (gate c ∷ items) h m =
@@ -262,6 +344,10 @@ module _ (f : File) (n g : ℕ) (s : List ℕ) where
       step-output f n g s fuel at k (h .0 .command)
       ∙ rw (named-nameless (nameable (roleFor f sort.Output) n g k) s (at + 1) (operandCount f sort.Output) (rw (h .0 .content) (m .0)))
       (walk-named fuel (at + widthFor f sort.Output) k items (h .1) (m .1))
+  walk-named (suc fuel) at k (care w ∷ items) h m =
+      step-care f n g s fuel at k (h .0 .stage) (h .0 .command)
+      ∙ rw (named-nameless 0x10000 s (at + 1) 1 (rw (h .0 .content) (m .0), tt))
+      (walk-named fuel (at + widthFor f sort.Care) k items (h .1) (m .1))
 
 -- ---- from items to a readable file
 
@@ -269,28 +355,56 @@ module _ (f : File) (most : Limits) (s : List ℕ) (last : ℕ) (ends : length s
   -- the walk over the items comes to the end command, the last byte
   walk-laid : (fuel at : ℕ) (p : Places) (items : List Item) → Laid f s at items → 1 ≤ at → length s < at + fuel →
       length (p .gates) + length (gatesIn items) ≤ most .gates → length (p .outputs) + length (outputsIn items) ≤ most .outputs →
+      Rising (2 ^ p .inputs) (floorAfter 0 (p .care)) (careIn items) →
       readFrom fuel f most s at p ≡ finish f s last (added f at items p)
   unfolding readFrom onNext noted stray
-  walk-laid zero at p [] h i l few thin = absurd (omega (arith, h .last))
-  walk-laid zero at p (gate c ∷ items) h i l few thin = absurd (omega (arith, h .0 .room, width-gate f))
-  walk-laid zero at p (output vs ∷ items) h i l few thin = absurd (omega (arith, h .0 .room, width-output f))
-  walk-laid (suc fuel) at p [] h i l few thin =
+  walk-laid zero at p [] h i l few thin up = absurd (omega (arith, h .last))
+  walk-laid zero at p (gate c ∷ items) h i l few thin up = absurd (omega (arith, h .0 .room, width-gate f))
+  walk-laid zero at p (output vs ∷ items) h i l few thin up = absurd (omega (arith, h .0 .room, width-output f))
+  walk-laid zero at p (care w ∷ items) h i l few thin up = absurd (omega (arith, h .0 .room, ap width (care-form f (h .0 .stage))))
+  walk-laid (suc fuel) at p [] h i l few thin up =
       let e : at ≡ last = omega (arith, h .last) in
-      rw (there-next f most s at (countsOf p) sort.End (record { command = h .command; ordered = not-first at i; room = omega (arith, h .last, width-end f); taken = tt }))
-      (ap₂ (finish f s) e (sym (added-nil f s at p)))
-  walk-laid (suc fuel) at p (gate c ∷ items) h i l few thin =
+      let t : There f most s at (countsOf p) sort.End = record {
+        own = sort-for f sort.End refl;
+        command = h .command;
+        ordered = not-first at i;
+        room = omega (arith, h .last, width-end f);
+        taken = tt;
+      } in
+      rw (there-next f most s at (countsOf p) sort.End t) (ap₂ (finish f s) e (sym (added-nil f s at p)))
+  walk-laid (suc fuel) at p (gate c ∷ items) h i l few thin up =
       rw (there-next f most s at (countsOf p) sort.Gate (record {
+        own = sort-for f sort.Gate refl;
         command = h .0 .command;
         ordered = not-first at i;
         room = h .0 .room;
         taken = (omega arith, h .0 .known, rw (gate-form f) (h .0 .fits));
       }))
-      (walk-laid fuel (at + widthFor f sort.Gate) (noted sort.Gate s at p) items (h .1) (omega arith) (omega (arith, width-gate f)) (omega (arith, length-append (p .gates) (at ∷ []))) thin
-      ∙ ap (finish f s last) (added-gate f s at p items (at + widthFor f sort.Gate)))
-  walk-laid (suc fuel) at p (output vs ∷ items) h i l few thin =
-      rw (there-next f most s at (countsOf p) sort.Output (record { command = h .0 .command; ordered = not-first at i; room = h .0 .room; taken = omega arith }))
-      (walk-laid fuel (at + widthFor f sort.Output) (noted sort.Output s at p) items (h .1) (omega arith) (omega (arith, width-output f)) few (omega (arith, length-append (p .outputs) (at ∷ [])))
-      ∙ ap (finish f s last) (added-output f s at p items (at + widthFor f sort.Output)))
+      (walk-laid fuel (at + widthFor f sort.Gate) (noted sort.Gate s at p) items (h .1) (omega arith) (omega (arith, width-gate f)) (omega (arith, length-append (p .gates) (at ∷ []))) thin up
+      ∙ ap (finish f s last) (added-gate f s at p items))
+  walk-laid (suc fuel) at p (output vs ∷ items) h i l few thin up =
+      rw (there-next f most s at (countsOf p) sort.Output (record {
+        own = sort-for f sort.Output refl;
+        command = h .0 .command;
+        ordered = not-first at i;
+        room = h .0 .room;
+        taken = omega arith;
+      }))
+      (walk-laid fuel (at + widthFor f sort.Output) (noted sort.Output s at p) items (h .1) (omega arith) (omega (arith, width-output f)) few (omega (arith, length-append (p .outputs) (at ∷ []))) up
+      ∙ ap (finish f s last) (added-output f s at p items))
+  walk-laid (suc fuel) at p (care w ∷ items) h i l few thin up =
+      let v = operand s (at + 1) in
+      let form = care-form f (h .0 .stage) in
+      let rest = rw (← h .0 .content, ← floor-snoc 0 (p .care) v) at (up .2) in
+      rw (there-next f most s at (countsOf p) sort.Care (record {
+        own = ap (λ (x : Form). x .sort) form;
+        command = h .0 .command;
+        ordered = not-first at i;
+        room = h .0 .room;
+        taken = rw (form, h .0 .content) (up .1, up .0);
+      }))
+      (walk-laid fuel (at + widthFor f sort.Care) (noted sort.Care s at p) items (h .1) (omega arith) (omega (arith, ap width form)) few thin rest
+      ∙ ap (finish f s last) (added-care f s at p items ∙ ap (λ (x : ℕ). added f at (care x ∷ items) p) (h .0 .content)))
 
   finish-readable : (p : Places) → 1 ≤ length (p .outputs) → namelessFrom (length s) f (p .inputs) (length (p .gates)) s 0 0 ≡ Nothing → finish f s last p ≡ readable p
   unfolding finish whenFound
@@ -312,6 +426,7 @@ module _ (f : File) (most : Limits) (s : List ℕ) where
     pub item-places : p ≡ placesOf f (p .inputs) items
 
   pub readable-laid : (p : Places) → readFile f most s ≡ readable p → LaidItems p
+  unfolding floorAfter
   readable-laid p e =
       let r = started f most s p e in
       let t = r .0 in
@@ -329,6 +444,7 @@ module _ (f : File) (most : Limits) (s : List ℕ) where
           count = sym n;
           inputs-in = rw n (t .taken);
           gates-in = omega (arith, w .at-end .gates-in);
+          care-in = subst (λ (m : ℕ). Rising (2 ^ m) 0 (careIn (w .items))) (sym n) (w .care-in);
           outputs-in = omega (arith, w .at-end .outputs-in);
           laid = w .laid;
           named = named-walk f (p .inputs) (length (gatesIn (w .items))) s (length s - 1) 2 0 (w .items) (w .laid) (omega arith) none;
@@ -338,7 +454,7 @@ module _ (f : File) (most : Limits) (s : List ℕ) where
 
   -- and a file with items is readable
   pub laid-readable : (n : ℕ) (items : List Item) → FileLaid f most s n items → readFile f most s ≡ readable (placesOf f n items)
-  unfolding readFile readFrom onNext noted stray
+  unfolding readFile readFrom onNext noted stray floorAfter
   laid-readable n items h =
       let size = laid-length f s 2 items (h .laid) in
       let two : 0 + widthFor f sort.Inputs ≡ 2 = omega (arith, width-inputs f) in
@@ -347,9 +463,9 @@ module _ (f : File) (most : Limits) (s : List ℕ) where
       let ends : length s ≡ last + 1 = omega arith in
       let few : length (p .gates) ≡ length (gatesIn items) = length-gatePlaces f 2 items in
       let named : Named f n (length (p .gates)) 0 items = rw few (h .named) in
-      let t : There f most s 0 (countsOf noPlaces) sort.Inputs = record { command = h .command; ordered = refl; room = omega (arith, width-inputs f); taken = rw (h .count) (h .inputs-in) } in
+      let t : There f most s 0 (countsOf noPlaces) sort.Inputs = record { own = sort-for f sort.Inputs refl; command = h .command; ordered = refl; room = omega (arith, width-inputs f); taken = rw (h .count) (h .inputs-in) } in
       rw (there-next f most s 0 (countsOf noPlaces) sort.Inputs t)
-      (ap₂ (λ (at m : ℕ). readFrom (length s) f most s at (places m [] [])) two (h .count)
-      ∙ walk-laid f most s last ends (length s) 2 (places n [] []) items (h .laid) (omega arith) (omega arith) (omega (arith, h .gates-in)) (omega (arith, h .outputs-in))
+      (ap₂ (λ (at m : ℕ). readFrom (length s) f most s at (places m [] [] [])) two (h .count)
+      ∙ walk-laid f most s last ends (length s) 2 (places n [] [] []) items (h .laid) (omega arith) (omega arith) (omega (arith, h .gates-in)) (omega (arith, h .outputs-in)) (h .care-in)
       ∙ finish-readable f most s last ends p (omega (arith, length-outputPlaces f 2 items, h .outputs-in))
       (past-inputs n (length (p .gates)) (omega arith) (h .command) ∙ walk-named f n (length (p .gates)) s (length s - 1) 2 0 items (h .laid) named))

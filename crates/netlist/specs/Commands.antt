@@ -1,6 +1,6 @@
 -- The commands of the two files: the table that says what a command byte calls for, and the command that stands at a position or
 -- the refusal, 1 to 6, with its place.
-use Prim.Native.Nat.{ℕ, zero, suc, _+_, _*_}
+use Prim.Native.Nat.{ℕ, zero, suc, _+_, _*_, _^_}
 use mathlib.Core.Bool.{Bool, cond, not, _&&_, _||_}
 use mathlib.Core.List.{List, [], _∷_}
 use lib.ListN.{length, getD}
@@ -26,7 +26,8 @@ sortNumber sort.End = 0
 sortNumber sort.Inputs = 1
 sortNumber sort.Gate = 2
 sortNumber sort.Output = 3
-sortNumber sort.Unknown = 4
+sortNumber sort.Care = 4
+sortNumber sort.Unknown = 5
 
 abbrev pub isSort : Sort → Sort → Bool
 isSort c d = eqb (sortNumber c) (sortNumber d)
@@ -38,7 +39,11 @@ asForm c lead operands role = record { sort = c; lead = lead; operands = operand
 -- The table: a row for each command byte of a file. The command byte counts among the bytes before the operands, and so do the count
 -- of inputs and a gate's kind or operation.
 unfoldable pub ownCommands : File → List (ℕ × Form)
-ownCommands Stage = (0x02, asForm sort.Gate 2 4 AnyNet) ∷ (0x03, asForm sort.Output 1 2 AnyNet) ∷ []
+ownCommands Stage =
+    (0x02, asForm sort.Gate 2 4 AnyNet) ∷
+    (0x03, asForm sort.Output 1 2 AnyNet) ∷
+    (0x06, asForm sort.Care 1 1 Number) ∷
+    []
 ownCommands Reference = (0x11, asForm sort.Gate 2 2 EarlierSignal) ∷ (0x12, asForm sort.Output 1 1 AnySignal) ∷ []
 
 unfoldable pub commandTable : File → List (ℕ × Form)
@@ -90,11 +95,19 @@ takeGate f most s at g form taken =
     (cond (eqb k 0) (Refused 4 (at + 1))
     (whenFound (misfitFrom k 0 s (at + form .lead) (form .operands)) (λ place. Refused 5 place) taken))
 
+-- a care word at a place, where some commands stand before it: 18 where it is no word of the inputs, 19 where it is not above the one before
+unfoldable pub takeCare : List ℕ → ℕ → Counts → Next → Next
+takeCare s place before taken =
+    cond (ltb (operand s place) (2 ^ before .inputs))
+    (cond (ltb (operand s place) (before .floor)) (Refused 19 place) taken)
+    (Refused 18 place)
+
 -- a command all of whose bytes are there, by its sort. Inputs: 3 where the count is not in 1 to the limit. An output: 6
 unfoldable pub takeSort : File → Limits → List ℕ → ℕ → Counts → Form → Next → Sort → Next
 takeSort f most s at before form taken sort.Inputs = cond (leb 1 (byte s (at + 1)) && leb (byte s (at + 1)) (most .inputs)) taken (Refused 3 (at + 1))
 takeSort f most s at before form taken sort.Gate = takeGate f most s at (before .gates) form taken
 takeSort f most s at before form taken sort.Output = cond (leb (most .outputs) (before .outputs)) (Refused 6 at) taken
+takeSort f most s at before form taken sort.Care = takeCare s (at + form .lead) before taken
 takeSort f most s at before form taken sort.End = taken
 takeSort f most s at before form taken sort.Unknown = taken
 

@@ -11,12 +11,6 @@ use Rattle.netlist.specs.Bytes.{byte, operand, operands}
 use Rattle.netlist.specs.Commands.{needed}
 use Rattle.netlist.specs.Reading.{Places}
 
--- a circuit with gates G and outputs O
-pub record Circuit (G O : Type 0) : Type 0 where
-  pub inputs : ℕ
-  pub gates : List G
-  pub outputs : List O
-
 -- a gate command's kind or operation, and the operands that it needs
 pub record Coded : Type 0 where
   pub code : ℕ
@@ -36,8 +30,12 @@ pub record Pair : Type 0 where
   pub rail0 : ℕ
   pub rail1 : ℕ
 
-abbrev pub Stage : Type 0
-Stage = Circuit Gate Pair
+-- the care words of a stage are those that are cared for; where it has none, every word is
+pub record Stage : Type 0 where
+  pub inputs : ℕ
+  pub gates : List Gate
+  pub outputs : List Pair
+  pub care : List ℕ
 
 abbrev pub cellOf : Kind → ℕ
 cellOf (Hold cell pins) = cell
@@ -54,11 +52,18 @@ abbrev pub pairAt : List ℕ → ℕ → Pair
 pairAt s at = record { rail0 = operand s (at + 1); rail1 = operand s (at + 3) }
 
 unfoldable pub stageOf : List ℕ → Places → Stage
-stageOf s p = record { inputs = p .inputs; gates = map (λ at. gateOf (codedAt file.Stage s at)) (p .gates); outputs = map (pairAt s) (p .outputs) }
+stageOf s p = record {
+  inputs = p .inputs;
+  gates = map (λ at. gateOf (codedAt file.Stage s at)) (p .gates);
+  outputs = map (pairAt s) (p .outputs);
+  care = p .care;
+}
 
 -- a gate of a reference is its operation, 1 to 6, with one or two signals; an output is a signal
-abbrev pub Reference : Type 0
-Reference = Circuit Coded ℕ
+pub record Reference : Type 0 where
+  pub inputs : ℕ
+  pub gates : List Coded
+  pub outputs : List ℕ
 
 unfoldable pub referenceOf : List ℕ → Places → Reference
 referenceOf s p = record { inputs = p .inputs; gates = map (codedAt file.Reference s) (p .gates); outputs = map (λ at. operand s (at + 1)) (p .outputs) }

@@ -1,5 +1,5 @@
 -- Well-formed stages and references: what those of readable files are, and what a file can hold.
-use Prim.Native.Nat.{ℕ, suc, _+_, _*_, _≤_, _<_}
+use Prim.Native.Nat.{ℕ, suc, _+_, _*_, _^_, _≤_, _<_}
 use mathlib.Core.Path.{_≡_}
 use mathlib.Core.Bool.{true}
 use mathlib.Core.List.{List, [], _∷_}
@@ -8,6 +8,7 @@ use Rattle.gates.specs.Cell.{pinCount}
 use Rattle.netlist.specs.Types.{Limits}
 use Rattle.netlist.specs.Types.file
 use Rattle.netlist.specs.Commands.{needed}
+use Rattle.netlist.specs.Reading.{Rising}
 use Rattle.netlist.specs.Content.{Coded, Gate, Pair, Stage, Reference}
 use Rattle.netlist.specs.Writing.{All}
 
@@ -33,6 +34,7 @@ pub record StageFormed (most : Limits) (c : Stage) : Type 0 where
   pub outputs-in : (1 ≤ length (c .outputs)) × (length (c .outputs) ≤ most .outputs)
   pub gates-formed : All (CellFormed (nets c)) (c .gates)
   pub outputs-formed : All (RailsFormed (nets c)) (c .outputs)
+  pub care-in : Rising (2 ^ c .inputs) 0 (c .care)
 
 -- ---- references
 

@@ -1,5 +1,5 @@
 -- What holds of a readable file by the places of its commands, whatever its elements; and a reading as the code answers it.
-use Prim.Native.Nat.{ℕ, _+_, _*_, _≤_, _<_}
+use Prim.Native.Nat.{ℕ, _+_, _*_, _^_, _≤_, _<_}
 use mathlib.Core.Path.{_≡_}
 use mathlib.Core.List.{List}
 use lib.ListN.{length, getD}
@@ -8,7 +8,7 @@ use Rattle.netlist.specs.Types.sort
 use Rattle.netlist.specs.Types.outcome
 use Rattle.netlist.specs.Bytes.{byte, operand, absent}
 use Rattle.netlist.specs.Commands.{needed}
-use Rattle.netlist.specs.Reading.{nameable, Places, countsOf, Reading, refused, readable}
+use Rattle.netlist.specs.Reading.{nameable, Places, Rising, countsOf, Reading, refused, readable}
 use Rattle.netlist.specs.Writing.{widthFor, operandCount, roleFor}
 
 -- with n inputs and g gates: gate k stands at a place, its code is known, and each operand that it needs is there and names what it has
@@ -31,7 +31,9 @@ pub record Read (f : File) (most : Limits) (s : List ℕ) (p : Places) : Type 0 
   pub inputs-at : p .inputs ≡ byte s 1
   pub gates-in : length (p .gates) ≤ most .gates
   pub outputs-in : (1 ≤ length (p .outputs)) × (length (p .outputs) ≤ most .outputs)
-  pub size : length s ≡ 3 + widthFor f sort.Gate * length (p .gates) + widthFor f sort.Output * length (p .outputs)
+  pub care-in : Rising (2 ^ p .inputs) 0 (p .care)
+  pub size : length s ≡
+      3 + widthFor f sort.Gate * length (p .gates) + widthFor f sort.Output * length (p .outputs) + widthFor f sort.Care * length (p .care)
   pub gate-at : (k : ℕ) → k < length (p .gates) → GateRead f s (p .inputs) (length (p .gates)) k (getD (p .gates) k 0)
   pub output-at : (j : ℕ) → j < length (p .outputs) → OutputRead f s (p .inputs) (length (p .gates)) (getD (p .outputs) j 0)
 
@@ -40,9 +42,10 @@ unfoldable pub outcomeOf : Reading → Outcome
 outcomeOf (refused number at) = outcome.Refused number at
 outcomeOf (readable p) = outcome.Readable (countsOf p)
 
--- where a command can end that is read, or refused, after as many gates and outputs as there may be
+-- where a command can end that is read, or refused, after as many gates, outputs and care words as there may be
 abbrev pub farthest : File → Limits → ℕ
-farthest f most = 2 + widthFor f sort.Gate * (most .gates + 1) + widthFor f sort.Output * most .outputs
+farthest f most =
+    2 + widthFor f sort.Gate * (most .gates + 1) + widthFor f sort.Output * most .outputs + widthFor f sort.Care * 2 ^ most .inputs
 
 -- the program reads at most so many bytes of each file
 abbrev pub mostBytes : ℕ

@@ -1,5 +1,5 @@
 -- Reading a whole file: its commands one after the other, the refusals 7 to 9 at the end command, and what a readable file gives.
-use Prim.Native.Nat.{ℕ, zero, suc, _+_, _*_, _≤_}
+use Prim.Native.Nat.{ℕ, zero, suc, _+_, _*_, _≤_, _<_}
 use mathlib.Core.Bool.{cond}
 use mathlib.Core.List.{List, [], _∷_, _++_}
 use lib.ListN.{length}
@@ -44,23 +44,41 @@ namelessFrom (suc fuel) f n g s at k =
 
 -- ---- the whole file
 
--- what stands before a position: the count of inputs, and the places of the gate and output commands, in file order
+-- what stands before a position: the count of inputs, the places of the gate and output commands, and the care words, in file order
 pub record Places : Type 0 where
   pub inputs : ℕ
   pub gates : List ℕ
   pub outputs : List ℕ
+  pub care : List ℕ
 
 abbrev pub noPlaces : Places
-noPlaces = record { inputs = 0; gates = []; outputs = [] }
+noPlaces = record { inputs = 0; gates = []; outputs = []; care = [] }
+
+-- the least that may follow some care words, of which those before are all below a floor: one more than the last
+unfoldable pub floorAfter : ℕ → List ℕ → ℕ
+floorAfter floor [] = floor
+floorAfter floor (w ∷ ws) = floorAfter (w + 1) ws
+
+-- care words that rise from a floor on, all below some number
+abbrev pub Rising : ℕ → ℕ → List ℕ → Type 0
+Rising below floor [] = Unit {0}
+Rising below floor (w ∷ ws) = (floor ≤ w) × (w < below) × Rising below (w + 1) ws
 
 abbrev pub countsOf : Places → Counts
-countsOf p = record { inputs = p .inputs; gates = length (p .gates); outputs = length (p .outputs) }
+countsOf p = record {
+  inputs = p .inputs;
+  gates = length (p .gates);
+  outputs = length (p .outputs);
+  care = length (p .care);
+  floor = floorAfter 0 (p .care);
+}
 
 -- what stands before the next command, where a command of a sort stands at a position
 unfoldable pub noted : Sort → List ℕ → ℕ → Places → Places
-noted sort.Inputs s at p = record { inputs = byte s (at + 1); gates = p .gates; outputs = p .outputs }
-noted sort.Gate s at p = record { inputs = p .inputs; gates = p .gates ++ (at ∷ []); outputs = p .outputs }
-noted sort.Output s at p = record { inputs = p .inputs; gates = p .gates; outputs = p .outputs ++ (at ∷ []) }
+noted sort.Inputs s at p = record { inputs = byte s (at + 1); gates = p .gates; outputs = p .outputs; care = p .care }
+noted sort.Gate s at p = record { inputs = p .inputs; gates = p .gates ++ (at ∷ []); outputs = p .outputs; care = p .care }
+noted sort.Output s at p = record { inputs = p .inputs; gates = p .gates; outputs = p .outputs ++ (at ∷ []); care = p .care }
+noted sort.Care s at p = record { inputs = p .inputs; gates = p .gates; outputs = p .outputs; care = p .care ++ (operand s (at + 1) ∷ []) }
 noted sort.End s at p = p
 noted sort.Unknown s at p = p
 

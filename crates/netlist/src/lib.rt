@@ -17,6 +17,7 @@ pub enum Sort {
     Inputs,
     Gate,
     Output,
+    Care,
     Unknown,
 }
 
@@ -35,6 +36,9 @@ pub const OUTPUTS: usize = 16;
 pub const STAGE_GATES: usize = 128;
 
 pub const REFERENCE_GATES: usize = 256;
+
+// How many words that many inputs have, and so the most care words.
+pub const WORDS: usize = 1 << INPUTS;
 
 // The limits of a stage file.
 pub fn stage_limits() -> Limits
@@ -63,11 +67,14 @@ pub struct Cursor {
     pub at: usize,
 }
 
-// The count of the inputs command, and how many gates and outputs there are: before a position of a file, or in all.
+// The count of the inputs command, how many gates, outputs and care words there are, and the least that the next care word may be:
+// before a position of a file, or in all.
 pub struct Counts {
     pub inputs: usize,
     pub gates: usize,
     pub outputs: usize,
+    pub care: usize,
+    pub floor: usize,
 }
 
 // What stands at a position: a command, with the position after it, or the refusal that ends the reading.

@@ -14,7 +14,10 @@ use Rattle.runs.specs.Row.{Row, low, after, tally, times}
 use Rattle.runs.specs.Net.{rails, RiseList, RiseEnd}
 use Rattle.runs.specs.Promise.{Rest, Promise}
 use Rattle.netlist.specs.declared.Limits.{Limits}
+use Rattle.netlist.specs.Reading.{Rising}
 use Rattle.netlist.specs.Content.{Stage, Reference}
+use Rattle.netlist.specs.Formed.{StageFormed}
+use Rattle.netlist.proofs.Stages.{stage-formed}
 use Rattle.verdict.specs.Levels.{Bits, sum}
 use Rattle.verdict.specs.Rows.{high, settled, settledLevels}
 use Rattle.verdict.specs.Words.{words, IsWord, railsIn}
@@ -22,10 +25,11 @@ use Rattle.verdict.specs.Nets.{netOf, rowOf, railsFor, answerBits, restRow}
 use Rattle.verdict.specs.Demands.{RisesTo, Kept}
 use Rattle.verdict.proofs.Levels.{bits-length, bits-get}
 use Rattle.verdict.proofs.Settling.{settled-bits}
+use Rattle.verdict.proofs.Words.{words-rise}
 use Rattle.verdict.proofs.OneWord.{wires-length}
 use Rattle.report.specs.Report.{gatesHigh, lines, total}
 use Rattle.report.specs.Activity.{gateSwitchings, Cycle, switchings, EachWordOnce, Cycled, HalfOfAll}
-use Rattle.report.proofs.Counting.{upTo, upTo-same, upTo-zero, upTo-split, upTo-levels, weigh, weigh-zero, sum-times, sum-same, times-numbers}
+use Rattle.report.proofs.Counting.{upTo, upTo-same, upTo-zero, upTo-split, upTo-levels, weigh, weigh-zero, sum-times, sum-same, times-rising}
 
 -- ---- one list
 
@@ -120,18 +124,17 @@ module _ (s : Stage) (r : Reference) (w : ℕ) (promise : Promise (netOf s) (rai
 -- ---- all words
 
 -- each word stands once in the list of words
-words-once : (s : Stage) (w : ℕ) → (IsWord s w × (times w (words s) ≡ 1)) ⊎ ((¬ (IsWord s w)) × (times w (words s) ≡ 0))
-unfolding words
-words-once s w = times-numbers 0 (2 ^ s .inputs) w
+words-once : (s : Stage) → Rising (2 ^ s .inputs) 0 (s .care) → (w : ℕ) → (IsWord s w × (times w (words s) ≡ 1)) ⊎ ((¬ (IsWord s w)) × (times w (words s) ≡ 0))
+words-once s care = times-rising (2 ^ s .inputs) 0 (words s) (words-rise s care)
 
-module _ (s : Stage) (cycle : (p : Cycle s) → IsWord s (p .word) → switchings s p ≡ 2 * gatesHigh s (p .word)) where
+module _ (s : Stage) (care : Rising (2 ^ s .inputs) 0 (s .care)) (cycle : (p : Cycle s) → IsWord s (p .word) → switchings s p ≡ 2 * gatesHigh s (p .word)) where
   abbrev wordOf : Cycle s → ℕ
   wordOf p = p .word
 
   cycles-twice : (cycles : List (Cycle s)) → ((w : ℕ) → ¬ (IsWord s w) → times w (map wordOf cycles) ≡ 0)
       → sum (map (switchings s) cycles) ≡ 2 * sum (map (gatesHigh s) (map wordOf cycles))
   cycles-twice [] none = refl
-  cycles-twice (p ∷ cycles) none = omega (arith, cycle p (first (words-once s (p .word))), cycles-twice cycles (λ w n. tail w (eqb w (p .word)) (none w n)))
+  cycles-twice (p ∷ cycles) none = omega (arith, cycle p (first (words-once s care (p .word))), cycles-twice cycles (λ w n. tail w (eqb w (p .word)) (none w n)))
     where
       later : ℕ → ℕ
       later w = times w (map wordOf cycles)
@@ -145,7 +148,7 @@ module _ (s : Stage) (cycle : (p : Cycle s) → IsWord s (p .word) → switching
       tail w false e = e
 
   half : HalfOfAll s
-  half cycles each = omega (arith, cycles-twice cycles (each .none), sum-same (gatesHigh s) (map wordOf cycles) (words s) (λ w. as-often w (words-once s w)))
+  half cycles each = omega (arith, cycles-twice cycles (each .none), sum-same (gatesHigh s) (map wordOf cycles) (words s) (λ w. as-often w (words-once s care w)))
     where
       as-often : (w : ℕ) → (IsWord s w × (times w (words s) ≡ 1)) ⊎ ((¬ (IsWord s w)) × (times w (words s) ≡ 0)) → times w (map wordOf cycles) ≡ times w (words s)
       as-often w (inl h) = each .once w (h .0) ∙ sym (h .1)
@@ -157,4 +160,7 @@ module _ (stageMost referenceMost : Limits) (stage reference : List ℕ) (k : Ke
   accepted-cycled w h = cycled (k .contents .circuit) (k .contents .function) w (k .promise w h) (k .rest w h)
 
   pub accepted-half : HalfOfAll (k .contents .circuit)
-  accepted-half = half (k .contents .circuit) (λ p h. let c = accepted-cycled (p .word) h in omega (arith, c .rises p refl, c .falls p refl))
+  accepted-half =
+      let is = k .contents .circuit-is in
+      let formed = subst (StageFormed stageMost) (is .content) (stage-formed stageMost stage (is .places) (is .reads)) in
+      half (k .contents .circuit) (formed .care-in) (λ p h. let c = accepted-cycled (p .word) h in omega (arith, c .rises p refl, c .falls p refl))

@@ -13,8 +13,8 @@ use borrow.Author.Tests.{eq-eqb, ne-eqb}
 use Rattle.runs.specs.Row.{tally, times}
 use Rattle.verdict.specs.Levels.{sum}
 use Rattle.verdict.specs.Loops.{In}
-use Rattle.verdict.specs.Words.{numbers}
-use Rattle.verdict.proofs.Words.{numbers-in}
+use Rattle.netlist.specs.Reading.{Rising}
+use Rattle.verdict.proofs.Words.{rising-in}
 
 -- ---- below a bound
 
@@ -108,18 +108,14 @@ sum-same f l m e =
     ∙ upTo-same past _ _ (λ k h. ap (λ (n : ℕ). weigh n (f k)) (e k))
     ∙ sym (sum-times f past m (λ k h. past-sum m k (omega arith)))
 
--- how often a number stands in a list of numbers
-pub times-numbers : (j m k : ℕ) → (In k (numbers j m) × (times k (numbers j m) ≡ 1)) ⊎ ((¬ (In k (numbers j m))) × (times k (numbers j m) ≡ 0))
-unfolding numbers
-times-numbers j zero k = inr ((λ h. h), refl)
-times-numbers j (suc m) k = go (ℕ-discrete k j) (times-numbers (suc j) m k)
+-- how often a number stands in a rising list
+pub times-rising : (below floor : ℕ) (ws : List ℕ) → Rising below floor ws → (k : ℕ) → (In k ws × (times k ws ≡ 1)) ⊎ ((¬ (In k ws)) × (times k ws ≡ 0))
+times-rising below floor [] r k = inr ((λ h. h), refl)
+times-rising below floor (w ∷ ws) r k = go (ℕ-discrete k w) (times-rising below (w + 1) ws (r .2) k)
   where
-    later : List ℕ
-    later = numbers (suc j) m
-
-    go : Dec (k ≡ j) → (In k later × (times k later ≡ 1)) ⊎ ((¬ (In k later)) × (times k later ≡ 0))
-        → (In k (j ∷ later) × (tally (eqb k j) (times k later) ≡ 1)) ⊎ ((¬ (In k (j ∷ later))) × (tally (eqb k j) (times k later) ≡ 0))
-    go (yes e) (inl h) = absurd (omega (arith, numbers-in (suc j) m k (h .0) .0))
-    go (yes e) (inr h) = inl (inl e, ap (λ b. tally b (times k later)) (eq-eqb k j e) ∙ ap suc (h .1))
-    go (no d) (inl h) = inl (inr (h .0), ap (λ b. tally b (times k later)) (ne-eqb k j d) ∙ h .1)
-    go (no d) (inr h) = inr (⊎-elim d (h .0), ap (λ b. tally b (times k later)) (ne-eqb k j d) ∙ h .1)
+    go : Dec (k ≡ w) → (In k ws × (times k ws ≡ 1)) ⊎ ((¬ (In k ws)) × (times k ws ≡ 0))
+        → (In k (w ∷ ws) × (tally (eqb k w) (times k ws) ≡ 1)) ⊎ ((¬ (In k (w ∷ ws))) × (tally (eqb k w) (times k ws) ≡ 0))
+    go (yes e) (inl h) = absurd (omega (arith, rising-in below (w + 1) ws (r .2) k (h .0)))
+    go (yes e) (inr h) = inl (inl e, ap (λ b. tally b (times k ws)) (eq-eqb k w e) ∙ ap suc (h .1))
+    go (no d) (inl h) = inl (inr (h .0), ap (λ b. tally b (times k ws)) (ne-eqb k w d) ∙ h .1)
+    go (no d) (inr h) = inr (⊎-elim d (h .0), ap (λ b. tally b (times k ws)) (ne-eqb k w d) ∙ h .1)

@@ -1,6 +1,6 @@
 -- The report of a stage file that was read, and what the report of two files means.
 -- Assumes nothing.
-use Prim.Native.Nat.{ℕ, zero, suc, _+_, _-_, _*_, _<_}
+use Prim.Native.Nat.{ℕ, zero, suc, _+_, _-_, _*_, _≤_, _<_}
 use native.Mathlib.Omega.{arith}
 use native.Mathlib.Decide.{ℕ-discrete}
 use mathlib.Core.Path.{_≡_, refl, sym, ap, _∙_, subst}
@@ -19,6 +19,8 @@ use Rattle.netlist.specs.declared.Outcome.the-variants as outcome
 use Rattle.netlist.specs.Reading.{Places, countsOf, Reading, refused, readable, readFile, stageLimits, referenceLimits}
 use Rattle.netlist.specs.Read.{outcomeOf}
 use Rattle.netlist.specs.Content.{Gate, Stage, stageOf}
+use Rattle.netlist.specs.Formed.{StageFormed}
+use Rattle.netlist.proofs.Stages.{stage-formed}
 use Rattle.verdict.specs.declared.Verdict.{Verdict}
 use Rattle.verdict.specs.Levels.{sum}
 use Rattle.verdict.specs.Loops.{NoLoop, reachesItself}
@@ -36,9 +38,10 @@ use Rattle.load.specs.Load.{HoldsStage}
 use Rattle.loops.specs.Marks.{LoopFound}
 use Rattle.sweeps.specs.Sweeps.{wordCount}
 use Rattle.report.specs.declared.Report.{Report}
-use Rattle.report.specs.Report.{gatesHigh, lines, total, mostLines, reportOf, reportReading, reportOn}
+use Rattle.report.specs.Report.{gatesHigh, lines, total, mostLines, padded, refusedReport, stageReport, reportReading, reportOn}
 use Rattle.report.specs.Activity.{Reported, ReportMeans}
 use Rattle.report.specs.Lines.{LoopFreeFile}
+use Rattle.report.proofs.Lines.{words-few}
 use Rattle.report.proofs.Activity.{accepted-cycled, accepted-half}
 
 -- ---- a file that reads, and whose stage has no loop
@@ -72,19 +75,26 @@ module _ (stage : List ℕ) (f : LoopFreeFile stage) (c : Counts) (code : List �
   same-stage = ap (λ (x : Counts). stageIn x code) same-counts ∙ held .1
 
   module _ (code′ : List ℕ) (found : Found) (o : LoopFound c code code′ found) where
+    -- its care words rise, so that there is a line for each word
+    pub opened-few : wordCount (stageIn c code′) ≤ mostLines
+    opened-few =
+        let formed = subst (StageFormed stageLimits) (sym (o .same ∙ same-stage)) (stage-formed stageLimits stage (f .places) (f .reads)) in
+        words-few (stageIn c code′) (formed .inputs-in .1) (formed .care-in)
+
     pub opened-order : InOrder c code′
     opened-order =
         o .in-order (o .least-loop ∙ none-loops (stageIn c code .inputs) (stageIn c code .gates) (subst (λ (s : Stage). NoLoop (s .inputs) (s .gates)) (sym same-stage) (f .free)))
 
     -- what is reported of the loaded stage is reported of the file's
-    pub opened-report : (v : Verdict) (count sum-of : ℕ) (l : List ℕ) → count ≡ wordCount (stageIn c code′) → sum-of ≡ total (stageIn c code′)
-        → l ≡ lines (stageIn c code′) ++ replicate (mostLines - length (lines (stageIn c code′))) 0
-        → (p : Places) → readFile file.Stage stageLimits stage ≡ readable p → record { verdict = v; words = count; total = sum-of; lines = l } ≡ reportOf v (lines (stageOf stage p))
-    opened-report v count sum-of l a b d p r =
+    pub opened-report : (v : Verdict) (count sum-of : ℕ) (l ws : List ℕ) → count ≡ wordCount (stageIn c code′)
+        → (sum-of ≡ total (stageIn c code′)) × (l ≡ padded (lines (stageIn c code′))) × (ws ≡ padded (words (stageIn c code′)))
+        → (p : Places) → readFile file.Stage stageLimits stage ≡ readable p
+        → record { verdict = v; words = count; total = sum-of; lines = l; names = ws } ≡ stageReport v (stageOf stage p)
+    opened-report v count sum-of l ws a b p r =
         let q : f .places ≡ p = let z : readable (f .places) ≡ readable p = sym (f .reads) ∙ r in cc in
         let s : stageIn c code′ ≡ stageOf stage p = o .same ∙ same-stage ∙ ap (stageOf stage) q in
         let n : count ≡ length (lines (stageIn c code′)) = a ∙ sym (length-map (words (stageIn c code′)) (gatesHigh (stageIn c code′))) in
-        rw (n, b, d) (ap (λ (x : Stage). reportOf v (lines x)) s)
+        rw (n, b .0, b .1, b .2) (ap (stageReport v) s)
 
 -- ---- two files
 
@@ -96,22 +106,22 @@ module _ (stage reference : List ℕ) where
       let is = a .0 .circuit-is in
       record { places = is .places; reads = is .reads; free = subst (λ (s : Stage). NoLoop (s .inputs) (s .gates)) (sym (is .content)) (a .1 .loop-free) }
 
-  reading-zero : (v : Verdict) (x : Reading) (p : Places) → v .number ≡ 0 → x ≡ readable p → reportReading v stage x ≡ reportOf v (lines (stageOf stage p))
+  reading-zero : (v : Verdict) (x : Reading) (p : Places) → v .number ≡ 0 → x ≡ readable p → reportReading v stage x ≡ stageReport v (stageOf stage p)
   unfolding reportReading
   reading-zero v x p n e = rw (e, reportReading, eq-eqb (v .number) 0 n)
 
-  reading-other : (v : Verdict) (x : Reading) → ¬ (v .number ≡ 0) → reportReading v stage x ≡ reportOf v []
+  reading-other : (v : Verdict) (x : Reading) → ¬ (v .number ≡ 0) → reportReading v stage x ≡ refusedReport v
   unfolding reportReading
   reading-other v (refused k at) d = refl
   reading-other v (readable p) d = rw (ne-eqb (v .number) 0 d)
 
   pub report-accepted : (v : Verdict) → v ≡ verdictOn stage reference → (n : v .number ≡ 0) → (r : Report)
-      → ((p : Places) → readFile file.Stage stageLimits stage ≡ readable p → r ≡ reportOf v (lines (stageOf stage p))) → r ≡ reportOn stage reference
+      → ((p : Places) → readFile file.Stage stageLimits stage ≡ readable p → r ≡ stageReport v (stageOf stage p)) → r ≡ reportOn stage reference
   report-accepted v e n r is =
       let f = accepted-file v e n in
       is (f .places) (f .reads) ∙ sym (reading-zero v (readFile file.Stage stageLimits stage) (f .places) n (f .reads)) ∙ ap (λ (x : Verdict). reportReading x stage (readFile file.Stage stageLimits stage)) e
 
-  pub report-refused : (v : Verdict) → v ≡ verdictOn stage reference → ¬ (v .number ≡ 0) → reportOf v [] ≡ reportOn stage reference
+  pub report-refused : (v : Verdict) → v ≡ verdictOn stage reference → ¬ (v .number ≡ 0) → refusedReport v ≡ reportOn stage reference
   report-refused v e d = sym (reading-other v (readFile file.Stage stageLimits stage) d) ∙ ap (λ (x : Verdict). reportReading x stage (readFile file.Stage stageLimits stage)) e
 
   reading-verdict : (v : Verdict) (x : Reading) → reportReading v stage x .verdict ≡ v
@@ -119,7 +129,7 @@ module _ (stage reference : List ℕ) where
   reading-verdict v (refused k at) = refl
   reading-verdict v (readable p) = go (eqb (v .number) 0)
     where
-      go : (b : Bool) → cond b (reportOf v (lines (stageOf stage p))) (reportOf v []) .verdict ≡ v
+      go : (b : Bool) → cond b (stageReport v (stageOf stage p)) (refusedReport v) .verdict ≡ v
       go true = refl
       go false = refl
 
@@ -139,7 +149,7 @@ module _ (stage reference : List ℕ) where
           let k = demand-3 stageLimits referenceLimits stage reference .kept (sym (ap (λ (x : Verdict). x .number) is) ∙ n) in
           (is ∙ k .0, k .1)
 
-      refuse : ¬ (r .verdict ≡ accepted) → Dec (r .verdict .number ≡ 0) → r ≡ reportOf (r .verdict) []
+      refuse : ¬ (r .verdict ≡ accepted) → Dec (r .verdict .number ≡ 0) → r ≡ refusedReport (r .verdict)
       refuse d (yes n) = absurd (d (kept n .0))
       refuse d (no n) = e ∙ sym (report-refused (r .verdict) is n)
 
@@ -153,7 +163,7 @@ module _ (stage reference : List ℕ) where
             circuit-is = c;
             lines-are = e ∙ sym (ap (λ (x : Verdict). reportReading x stage (readFile file.Stage stageLimits stage)) is)
                 ∙ reading-zero (r .verdict) (readFile file.Stage stageLimits stage) (c .places) n (c .reads)
-                ∙ ap (λ (x : Verdict). reportOf x (lines (stageOf stage (c .places)))) a ∙ ap (λ (s : Stage). reportOf accepted (lines s)) (c .content);
+                ∙ ap (λ (x : Verdict). stageReport x (stageOf stage (c .places))) a ∙ ap (stageReport accepted) (c .content);
             cycled = accepted-cycled stageLimits referenceLimits stage reference k;
             half = accepted-half stageLimits referenceLimits stage reference k;
           }

@@ -15,7 +15,7 @@ use Rattle.verdict.specs.Nets.{netOf, railsFor}
 use Rattle.verdict.specs.Verdicts.{accepted, verdictOn}
 use Rattle.verdict.specs.Demands.{StageIs}
 use Rattle.report.specs.declared.Report.{Report}
-use Rattle.report.specs.Report.{gatesHigh, total, lines, reportOf}
+use Rattle.report.specs.Report.{gatesHigh, total, refusedReport, stageReport}
 
 -- how many switchings of a list are of gates: all but those of the inputs' rails
 abbrev pub gateSwitchings : Net → List ℕ → ℕ
@@ -56,12 +56,12 @@ pub record Cycled (s : Stage) (w : ℕ) : Type 0 where
 pub record Reported (stage : List ℕ) (r : Report) : Type 0 where
   pub circuit : Stage
   pub circuit-is : StageIs stageLimits stage circuit
-  pub lines-are : r ≡ reportOf accepted (lines circuit)
+  pub lines-are : r ≡ stageReport accepted circuit
   pub cycled : (w : ℕ) → IsWord circuit w → Cycled circuit w
   pub half : HalfOfAll circuit
 
 -- What the report of two files means: it has the check's verdict, of a refused pair it says no more, and of an accepted one what was said.
 pub record ReportMeans (stage reference : List ℕ) (r : Report) : Type 0 where
   pub verdict-is : r .verdict ≡ verdictOn stage reference
-  pub refused : ¬ (r .verdict ≡ accepted) → r ≡ reportOf (r .verdict) []
+  pub refused : ¬ (r .verdict ≡ accepted) → r ≡ refusedReport (r .verdict)
   pub reported : r .verdict ≡ accepted → Reported stage r

@@ -8,13 +8,19 @@ use Rattle.netlist.specs.Reading.{Places, readable, readFile, stageLimits}
 use Rattle.netlist.specs.Content.{Stage, stageOf}
 use Rattle.verdict.specs.Levels.{sum}
 use Rattle.verdict.specs.Loops.{NoLoop}
+use Rattle.verdict.specs.Words.{words}
 use Rattle.report.specs.Report.{lines, mostLines}
 
--- the lines of the first m words are written, their sum is known, and what stands behind them is 0
-pub record LinesTo (s : Stage) (m : ℕ) (written : List ℕ) (sum-so-far : ℕ) : Type 0 where
+-- the first m members of a list are written, and what stands behind them is 0
+pub record ListedTo (l : List ℕ) (m : ℕ) (written : List ℕ) : Type 0 where
   pub long : length written ≡ mostLines
-  pub line : (k : ℕ) → k < m → getD written k 0 ≡ getD (lines s) k 0
+  pub member : (k : ℕ) → k < m → getD written k 0 ≡ getD l k 0
   pub later : (k : ℕ) → m ≤ k → getD written k 0 ≡ 0
+
+-- the first m words and their lines are written, and the sum of the lines is known
+pub record LinesTo (s : Stage) (m : ℕ) (names written : List ℕ) (sum-so-far : ℕ) : Type 0 where
+  pub words-to : ListedTo (words s) m names
+  pub lines-to : ListedTo (lines s) m written
   pub sum-is : sum-so-far ≡ sum (take m (lines s))
   pub small : sum-so-far ≤ 0x10000 * m
 

@@ -33,14 +33,25 @@ total s = sum (lines s)
 abbrev pub mostLines : ℕ
 mostLines = 2 ^ stageLimits .inputs
 
--- a verdict with some lines: how many they are, their sum, and the lines with 0 behind the last
-abbrev pub reportOf : Verdict → List ℕ → Report
-reportOf v l = record { verdict = v; words = length l; total = sum l; lines = l ++ replicate (mostLines - length l) 0 }
+-- with 0 behind the last
+abbrev pub padded : List ℕ → List ℕ
+padded l = l ++ replicate (mostLines - length l) 0
+
+-- a verdict with some words and a line for each: how many lines they are, their sum, the lines, and the words by name
+abbrev pub reportOf : Verdict → List ℕ → List ℕ → Report
+reportOf v ws l = record { verdict = v; words = length l; total = sum l; lines = padded l; names = padded ws }
+
+-- of a refused pair, and of a stage
+abbrev pub refusedReport : Verdict → Report
+refusedReport v = reportOf v [] []
+
+abbrev pub stageReport : Verdict → Stage → Report
+stageReport v s = reportOf v (words s) (lines s)
 
 -- an accepted stage has its lines, a refused pair none
 unfoldable pub reportReading : Verdict → List ℕ → Reading → Report
-reportReading v stage (refused number at) = reportOf v []
-reportReading v stage (readable p) = cond (eqb (v .number) 0) (reportOf v (lines (stageOf stage p))) (reportOf v [])
+reportReading v stage (refused number at) = refusedReport v
+reportReading v stage (readable p) = cond (eqb (v .number) 0) (stageReport v (stageOf stage p)) (refusedReport v)
 
 abbrev pub reportOn : List ℕ → List ℕ → Report
 reportOn stage reference = reportReading (verdictOn stage reference) stage (readFile file.Stage stageLimits stage)

@@ -9,8 +9,10 @@ ghost use Rattle.netlist.specs.declared.File.the-variants as file;
 ghost use Rattle.netlist.specs.Reading.{Places, readable, readFile, stageLimits};
 ghost use Rattle.netlist.specs.Content.{stageOf};
 ghost use Rattle.verdict.specs.Levels.{sum};
+ghost use Rattle.verdict.specs.Words.{words};
 ghost use Rattle.circuit.specs.Stage.{stageIn, StageLoaded};
 ghost use Rattle.circuit.specs.Order.{InOrder};
+ghost use Rattle.sweeps.specs.Sweeps.{wordCount};
 ghost use Rattle.report.specs.Report as spec;
 ghost use Rattle.report.specs.Activity.{ReportMeans};
 ghost use Rattle.report.specs.Lines.{LoopFreeFile};
@@ -19,14 +21,15 @@ ghost use Rattle.report.specs.Lines.{LoopFreeFile};
 pub const LINES: usize = 1 << netlist::INPUTS;
 
 // The verdict on the two files; and of an accepted stage how many words it has, how many gates are high at the rest of each, in the order
-// of the words, and how many that makes. What stands behind the last word's line is 0, and so is all of it where the pair is refused. Laid
-// out as C does: the C function of crate `fovaheju` answers one.
+// of the words, how many that makes, and which words they are. What stands behind the last word is 0, and so is all of it where the pair is
+// refused. Laid out as C does: the C function of crate `fovaheju` answers one.
 #[repr(C)]
 pub struct Report {
     pub verdict: Verdict,
     pub words: u64,
     pub total: u64,
     pub lines: [u16; LINES],
+    pub names: [u16; LINES],
 }
 
 // How many of so many levels, from a place of a row on, are high.
@@ -53,19 +56,24 @@ fn gates_high(code: &[u16], counts: Counts, w: usize) -> u16
     count_high(&row, 2 * counts.inputs, counts.gates)
 }
 
-// The lines of all words, and their sum.
-fn fill_lines(code: &[u16], counts: Counts, lines: &mut [u16]) -> u64
-    requires { ⌜ StageLoaded counts (now code) × InOrder counts (now code) × (now lines ≡ replicate spec.mostLines 0) ⌝ }
-    ensures { λ r. ⌜ (r ≡ spec.total (stageIn counts (now (code .entry)))) × (now (lines .exit) ≡ spec.reportOf (record { number = 0; file = 0; at = 0; word = 0 }) (spec.lines (stageIn counts (now (code .entry)))) .lines) ⌝ }
+// All words and their lines, and the sum of the lines.
+fn fill_lines(code: &[u16], counts: Counts, lines: &mut [u16], names: &mut [u16]) -> u64
+    requires { ⌜ StageLoaded counts (now code) × InOrder counts (now code) × (wordCount (stageIn counts (now code)) ≤ spec.mostLines)
+        × (now lines ≡ replicate spec.mostLines 0) × (now names ≡ replicate spec.mostLines 0) ⌝ }
+    ensures { λ r. ⌜ (r ≡ spec.total (stageIn counts (now (code .entry))))
+        × (now (lines .exit) ≡ spec.padded (spec.lines (stageIn counts (now (code .entry)))))
+        × (now (names .exit) ≡ spec.padded (words (stageIn counts (now (code .entry))))) ⌝ }
 {
-    let count = sweeps::word_count(counts.inputs);
+    let count = sweeps::word_count(counts);
     let mut total: u64 = 0;
-    let mut w: usize = 0;
-    while w < count {
-        let high = gates_high(code, counts, w);
-        lines[w] = high;
+    let mut k: usize = 0;
+    while k < count {
+        let w = sweeps::word_at(code, counts, k);
+        let high = gates_high(code, counts, w as usize);
+        lines[k] = high;
+        names[k] = w;
         total += high as u64;
-        w += 1;
+        k += 1;
     }
     total
 }
@@ -74,19 +82,21 @@ fn fill_lines(code: &[u16], counts: Counts, lines: &mut [u16]) -> u64
 fn report_stage(stage: &[u8], verdict: Verdict) -> Report
     requires { ⌜ LoopFreeFile (now stage) ⌝ }
     ensures { λ r. ⌜ ((p : Places) → readFile file.Stage stageLimits (now (stage .entry)) ≡ readable p
-        → r ≡ spec.reportOf verdict (spec.lines (stageOf (now (stage .entry)) p))) ⌝ }
+        → r ≡ spec.stageReport verdict (stageOf (now (stage .entry)) p)) ⌝ }
 {
     let mut lines = [0u16; LINES];
+    let mut names = [0u16; LINES];
     let mut code = [0u16; load::STAGE_CODE];
     if let Outcome::Readable(counts) = load::read_stage(stage, &mut code) {
         loops::order_gates(&mut code, counts);
-        let total = fill_lines(&code, counts, &mut lines);
-        let words = sweeps::word_count(counts.inputs) as u64;
+        let total = fill_lines(&code, counts, &mut lines, &mut names);
+        let words = sweeps::word_count(counts) as u64;
         return Report {
             verdict,
             words,
             total,
             lines,
+            names,
         };
     }
     Report {
@@ -94,6 +104,7 @@ fn report_stage(stage: &[u8], verdict: Verdict) -> Report
         words: 0,
         total: 0,
         lines,
+        names,
     }
 }
 
@@ -111,5 +122,6 @@ pub fn report_on(stage: &[u8], reference: &[u8]) -> Report
         words: 0,
         total: 0,
         lines: [0u16; LINES],
+        names: [0u16; LINES],
     }
 }

@@ -2,7 +2,7 @@
 // the call. The cases, and the lines that an independent judge gives them, are written by tests/src/bin/row_suite.rs.
 use libc::STDOUT_FILENO;
 
-const CASES: usize = 96;
+const CASES: usize = 123;
 
 fn print_byte(byte: u8) {
     console::print_next(byte as u64);
@@ -24,15 +24,16 @@ fn call(stage: &[u8], row: &mut [u8]) {
     io::write_all(STDOUT_FILENO, b"\n");
 }
 
-// Case i is in the files ii.ncl, the stage, and ii.row, the row that is lent.
+// Case i is in the files iii.ncl, the stage, and iii.row, the row that is lent.
 fn run(i: usize) {
+    let hundreds = b'0' + (i / 100 % 10) as u8;
     let tens = b'0' + (i / 10 % 10) as u8;
     let ones = b'0' + (i % 10) as u8;
     let mut stage = [0u8; 8192];
-    let stage_len = console::load(&[tens, ones, b'.', b'n', b'c', b'l'], &mut stage);
+    let stage_len = console::load(&[hundreds, tens, ones, b'.', b'n', b'c', b'l'], &mut stage);
     let mut row = [0u8; 512];
-    let row_len = console::load(&[tens, ones, b'.', b'r', b'o', b'w'], &mut row);
-    io::write_all(STDOUT_FILENO, &[tens, ones, b' ']);
+    let row_len = console::load(&[hundreds, tens, ones, b'.', b'r', b'o', b'w'], &mut row);
+    io::write_all(STDOUT_FILENO, &[hundreds, tens, ones, b' ']);
     call(&stage[..stage_len], &mut row[..row_len]);
 }
 

@@ -1,13 +1,13 @@
 -- All words: how many there are, word by word, and check by check.
 -- Assumes nothing.
-use Prim.Native.Nat.{ℕ, zero, suc, _+_, _-_, _*_, _^_, _≤_, _<_}
+use Prim.Native.Nat.{ℕ, zero, suc, _+_, _*_, _^_, _≤_, _<_}
 use native.Mathlib.Omega.{arith}
-use native.Mathlib.Nat.{pow-suc}
 use native.Mathlib.Numerals.{add-one}
 use lib.Pow.{pow-mono}
 use mathlib.Core.Path.{_≡_, refl, sym, ap, _∙_}
 use mathlib.Core.List.{List, [], _∷_}
-use lib.ListN.{length}
+use lib.ListN.{length, getD, drop, drop-of-length-le}
+use lib.Seq.{drop-cons}
 use Rattle.netlist.specs.Reading.{stageLimits}
 use Rattle.netlist.specs.Content.{Stage, Reference}
 use Rattle.netlist.specs.declared.Found.{Found}
@@ -15,74 +15,103 @@ use Rattle.netlist.specs.declared.Found.the-variants.{At, Nothing}
 use Rattle.verdict.specs.declared.Finding.{Finding}
 use Rattle.verdict.specs.declared.Finding.the-variants.{Fault, Passed}
 use Rattle.verdict.specs.declared.Verdict.{Verdict}
-use Rattle.verdict.specs.Words.{numbers, words}
+use Rattle.verdict.specs.Words.{numbers, caredFor, words}
+use Rattle.verdict.specs.Graph.{tabulate}
+use Rattle.verdict.proofs.Graph.{length-tabulate, getD-tabulate}
+use Rattle.netlist.specs.declared.Counts.{Counts}
+use Rattle.circuit.specs.Stage.{stageCare, stageIn}
 use Rattle.verdict.specs.Checks.{verdict, first, atFault, sweep, finding, orLater, firstFault, sweeps}
 use Rattle.words.specs.declared.Sweep.{Sweep}
 use Rattle.words.specs.declared.Sweep.the-variants.{Wrong, Missing, Unobserved}
 use Rattle.words.specs.Finds.{finds}
 use Rattle.sweeps.specs.Sweeps.{wordCount, numberOf, swept}
 
--- ---- how many words there are
+-- ---- the words of a stage in its flat form
 
 length-numbers : (j m : ℕ) → length (numbers j m) ≡ m
 unfolding numbers
 length-numbers j zero = refl
 length-numbers j (suc m) = ap suc (length-numbers (suc j) m)
 
-pub word-count : (s : Stage) → wordCount s ≡ 2 ^ s .inputs
-unfolding words
-word-count s = length-numbers 0 (2 ^ s .inputs)
+getD-numbers : (j m k : ℕ) → k < m → getD (numbers j m) k 0 ≡ j + k
+unfolding numbers
+getD-numbers j zero k h = absurd (omega arith)
+getD-numbers j (suc m) zero h = omega arith
+getD-numbers j (suc m) (suc k) h = omega (arith, getD-numbers (suc j) m k (omega arith))
 
-all-words : (s : Stage) → numbers 0 (wordCount s) ≡ words s
-unfolding words
-all-words s = ap (numbers 0) (word-count s)
+listed : (n : ℕ) (ws : List ℕ) → (length ws ≡ 0 → ⊥) → caredFor n ws ≡ ws
+unfolding caredFor
+listed n [] d = absurd (d refl)
+listed n (w ∷ ws) d = refl
 
--- one input more has twice as many; within the limits they can be counted
-pub twice : (i : ℕ) → 2 * 2 ^ i ≡ 2 ^ (i + 1)
-twice i = let e : 2 * 2 ^ i ≡ 2 ^ i * 2 = omega arith in e ∙ sym (pow-suc 2 i) ∙ ap (λ (k : ℕ). 2 ^ k) (sym (add-one i))
+module _ (c : Counts) (code : List ℕ) where
+  abbrev stage : Stage
+  stage = stageIn c code
 
+  care-length : length (stageCare c code) ≡ c .care
+  unfolding stageCare
+  care-length = length-tabulate (λ i. getD code (8 * c .gates + 2 * c .outputs + i) 0) (c .care)
+
+  -- without a care list
+  all-words : c .care ≡ 0 → words stage ≡ numbers 0 (2 ^ c .inputs)
+  unfolding words caredFor stageCare tabulate
+  all-words e = rw e
+
+  pub all-count : c .care ≡ 0 → 2 ^ c .inputs ≡ wordCount stage
+  all-count e = sym (ap length (all-words e) ∙ length-numbers 0 (2 ^ c .inputs))
+
+  pub all-at : c .care ≡ 0 → (k : ℕ) → k < wordCount stage → k ≡ getD (words stage) k 0
+  all-at e k h = sym (rw (all-words e) (getD-numbers 0 (2 ^ c .inputs) k (omega (arith, all-count e)) ∙ omega arith))
+
+  -- with one
+  module _ (some : c .care ≡ 0 → ⊥) where
+    care-words : words stage ≡ stageCare c code
+    unfolding words
+    care-words = listed (c .inputs) (stageCare c code) (λ z. some (sym care-length ∙ z))
+
+    pub care-count : c .care ≡ wordCount stage
+    care-count = sym (ap length care-words ∙ care-length)
+
+    pub care-at : (k : ℕ) → k < c .care → getD code (8 * c .gates + 2 * c .outputs + k) 0 ≡ getD (words stage) k 0
+    unfolding stageCare
+    care-at k h = sym (rw care-words (getD-tabulate (λ i. getD code (8 * c .gates + 2 * c .outputs + i) 0) (c .care) k 0 h))
+
+-- within the limits all words can be counted
 pub few-words : (i : ℕ) → i ≤ stageLimits .inputs → 2 ^ i ≤ 2 ^ stageLimits .inputs
 few-words i h = pow-mono {i = i} {j = stageLimits .inputs} h
 
 -- ---- word by word
 
-module _ (number : ℕ) (find : ℕ → Found) (m w : ℕ) where
-  -- nothing is found in the words before w
+module _ (number : ℕ) (find : ℕ → Found) (ws : List ℕ) (k : ℕ) where
+  -- nothing is found in the words before word k
   abbrev pub SweptTo : Type 0
-  SweptTo = sweep number 1 find (numbers 0 m) ≡ sweep number 1 find (numbers w (m - w))
+  SweptTo = sweep number 1 find ws ≡ sweep number 1 find (drop k ws)
 
-  -- what is found in word w and after it
-  now-at : w < m → SweptTo → (f : Found) → find w ≡ f → sweep number 1 find (numbers 0 m) ≡ atFault number 1 w f
-      (sweep number 1 find (numbers (w + 1) (m - (w + 1))))
-  unfolding sweep numbers
-  now-at h s f e =
-      let a : m - w ≡ suc (m - (w + 1)) = omega arith in
-      s ∙ ap (λ (k : ℕ). sweep number 1 find (numbers w k)) a
-      ∙ ap (λ (k : ℕ). atFault number 1 w (find w) (sweep number 1 find (numbers k (m - (w + 1))))) (sym (add-one w))
-      ∙ ap (λ (g : Found). atFault number 1 w g (sweep number 1 find (numbers (w + 1) (m - (w + 1))))) e
+  -- what is found in word k, which is w, and after it
+  module _ (h : k < length ws) (s : SweptTo) (w : ℕ) (is : w ≡ getD ws k 0) where
+    now-at : (f : Found) → find w ≡ f → sweep number 1 find ws ≡ atFault number 1 w f (sweep number 1 find (drop (k + 1) ws))
+    unfolding sweep
+    now-at f e =
+        s ∙ ap (sweep number 1 find) (drop-cons ws k 0 h) ∙ rw (← is, e, add-one)
 
-  pub swept-on : w < m → SweptTo → find w ≡ Nothing → sweep number 1 find (numbers 0 m) ≡ sweep number 1 find (numbers (w + 1) (m - (w + 1)))
-  unfolding atFault
-  swept-on h s e = now-at h s Nothing e
+    pub swept-on : find w ≡ Nothing → sweep number 1 find ws ≡ sweep number 1 find (drop (k + 1) ws)
+    unfolding atFault
+    swept-on e = now-at Nothing e
 
-  pub swept-here : (i : ℕ) → w < m → SweptTo → find w ≡ At i → Fault (verdict number 1 i w) ≡ sweep number 1 find (numbers 0 m)
-  unfolding atFault
-  swept-here i h s e = sym (now-at h s (At i) e)
+    pub swept-here : (i : ℕ) → find w ≡ At i → Fault (verdict number 1 i w) ≡ sweep number 1 find ws
+    unfolding atFault
+    swept-here i e = sym (now-at (At i) e)
 
-  pub swept-none : m ≤ w → SweptTo → Passed ≡ sweep number 1 find (numbers 0 m)
-  unfolding sweep numbers
-  swept-none h s = let a : m - w ≡ 0 = omega arith in sym (s ∙ ap (λ (k : ℕ). sweep number 1 find (numbers w k)) a)
+  pub swept-none : length ws ≤ k → SweptTo → Passed ≡ sweep number 1 find ws
+  unfolding sweep
+  swept-none h s = sym (s ∙ ap (sweep number 1 find) (drop-of-length-le ws {i = k} h))
 
-pub swept-start : (number : ℕ) (find : ℕ → Found) (m : ℕ) → SweptTo number find m 0
-swept-start number find m = ap (λ (k : ℕ). sweep number 1 find (numbers 0 k)) (omega arith)
+pub swept-start : (number : ℕ) (find : ℕ → Found) (ws : List ℕ) → SweptTo number find ws 0
+swept-start number find ws = refl
 
--- in all words of a stage
-pub swept-words : (which : Sweep) (s : Stage) (r : Reference) (number count : ℕ) (f : Finding) → number ≡ numberOf which → count ≡ wordCount s →
-    f ≡ sweep number 1 (finds which s r) (numbers 0 count) → f ≡ swept which s r
-swept-words which s r number count f a b e =
-    e
-    ∙ ap (λ (k : ℕ). sweep k 1 (finds which s r) (numbers 0 count)) a
-    ∙ ap (sweep (numberOf which) 1 (finds which s r)) (ap (numbers 0) b ∙ all-words s)
+-- in the words of a stage, by the number of the check
+pub swept-words : (which : Sweep) (s : Stage) (r : Reference) (number : ℕ) (f : Finding) → number ≡ numberOf which → f ≡ sweep number 1 (finds which s r) (words s) → f ≡ swept which s r
+swept-words which s r number f a e = e ∙ ap (λ (k : ℕ). sweep k 1 (finds which s r) (words s)) a
 
 -- ---- check by check
 

@@ -1,31 +1,42 @@
-// The sweeps of 13, 14 and 15 over all words of a stage and a reference in their flat forms.
+// The sweeps of 13, 14 and 15 over the words of a stage and a reference in their flat forms.
 use netlist::Counts;
 use netlist::Found;
 use verdict::Finding;
 use verdict::Verdict;
 use words::Sweep;
 ghost use mathlib.Core.Path.{_≡_};
-ghost use Prim.Native.Nat.{_≤_};
+ghost use Prim.Native.Nat.{ℕ, _≤_, _<_};
+ghost use mathlib.Core.List.{List};
+ghost use lib.ListN.{getD};
 ghost use Rattle.netlist.specs.Reading.{stageLimits};
-ghost use Rattle.netlist.specs.Content.{Stage};
+ghost use Rattle.verdict.specs.Words.{words};
 ghost use Rattle.verdict.specs.Checks as checks;
-ghost use Rattle.circuit.specs.Stage.{stageIn};
+ghost use Rattle.circuit.specs.Stage.{stageIn, StageLoaded};
 ghost use Rattle.circuit.specs.Reference.{referenceIn};
 ghost use Rattle.words.specs.Loaded.{BothLoaded};
 ghost use Rattle.sweeps.specs.Sweeps.{wordCount, numberOf, swept};
 
-// How many words so many inputs have.
-pub fn word_count(inputs: usize) -> usize
-    requires { ⌜ inputs ≤ stageLimits .inputs ⌝ }
-    ensures { λ r. ⌜ ((s : Stage) → s .inputs ≡ inputs → r ≡ wordCount s) ⌝ }
+// How many words a stage has: its care words, or all that its inputs have.
+pub fn word_count(counts: Counts) -> usize
+    requires { ⌜ counts .inputs ≤ stageLimits .inputs ⌝ }
+    ensures { λ r. ⌜ ((code : List ℕ) → r ≡ wordCount (stageIn counts code)) ⌝ }
 {
-    let mut count: usize = 1;
-    let mut i: usize = 0;
-    while i < inputs {
-        count = 2 * count;
-        i += 1;
+    if counts.care == 0 {
+        return 1 << counts.inputs;
     }
-    count
+    counts.care
+}
+
+// Word k of a stage.
+pub fn word_at(code: &[u16], counts: Counts, k: usize) -> u16
+    requires { ⌜ StageLoaded counts (now code) × (k < wordCount (stageIn counts (now code))) ⌝ }
+    ensures { λ r. ⌜ r ≡ getD (words (stageIn counts (now (code .entry)))) k 0 ⌝ }
+{
+    if counts.care != 0 {
+        let first = 8 * counts.gates + 2 * counts.outputs;
+        return code[first + k];
+    }
+    k as u16
 }
 
 // The number of a check.
@@ -51,9 +62,10 @@ fn sweep_words(
     ensures { λ r. ⌜ r ≡ swept which (stageIn counts (now (code .entry))) (referenceIn sizes (now (reference .entry))) ⌝ }
 {
     let number = number_of(which);
-    let count = word_count(counts.inputs);
-    let mut w: usize = 0;
-    while w < count {
+    let count = word_count(counts);
+    let mut k: usize = 0;
+    while k < count {
+        let w = word_at(code, counts, k) as usize;
         if let Found::At(i) = words::find(which, code, counts, reference, sizes, w) {
             return Finding::Fault(Verdict {
                 number,
@@ -62,7 +74,7 @@ fn sweep_words(
                 word: w as u64,
             });
         }
-        w += 1;
+        k += 1;
     }
     Finding::Passed
 }

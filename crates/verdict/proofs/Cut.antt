@@ -1,6 +1,6 @@
 -- Cutting a longer file at what the program reads of it changes no verdict and no settled row.
 -- Assumes nothing.
-use Prim.Native.Nat.{ℕ, _+_, _*_, _≤_}
+use Prim.Native.Nat.{ℕ, _+_, _*_, _^_, _≤_}
 use native.Mathlib.Omega.{arith}
 use mathlib.Core.Path.{_≡_, refl, ap, _∙_}
 use mathlib.Core.List.{List}
@@ -20,7 +20,8 @@ use Rattle.netlist.proofs.Cut.{stage-cut, reference-cut}
 use Rattle.verdict.specs.Verdicts.{judgeReference, judgeStage, verdictWithin, verdictOn, settleReading, settledRowWithin, settledRow}
 
 -- a readable file is not cut
-short : (f : File) (most : Limits) → 3 + widthFor f sort.Gate * most .gates + widthFor f sort.Output * most .outputs ≤ mostBytes
+short : (f : File) (most : Limits) →
+    3 + widthFor f sort.Gate * most .gates + widthFor f sort.Output * most .outputs + widthFor f sort.Care * 2 ^ most .inputs ≤ mostBytes
     → (s : List ℕ) (p : Places) → readFile f most s ≡ readable p → take mostBytes s ≡ s
 short f most h s p e = take-all mostBytes s (omega (arith, readable-length f most s p e))
 

@@ -38,7 +38,7 @@ use Rattle.verdict.proofs.Words.{index-in, in-index}
 use Rattle.verdict.proofs.Bridge.{stageIn, settled-row}
 use Rattle.verdict.proofs.Sweeps.{FirstFault, first-fault, judged, Showable, named-shown, shown-by, none-named, named-from}
 use Rattle.verdict.proofs.Because.{checks-mean, row-checks-mean, holds, verdict-because}
-use Rattle.verdict.proofs.Refusals.{refused-number}
+use Rattle.verdict.proofs.Refusals.{InTable, refused-number}
 use Rattle.verdict.proofs.OneWord.{CleanIn, rises-to, clean-conforms, conforms-clean, clean-promise, word-rises, wrong-broken, incomplete-broken, unobservable-broken}
 
 -- ---- what a readable stage has
@@ -143,6 +143,13 @@ runs-from n (inr (inl e)) = omega arith
 runs-from n (inr (inr (inl e))) = omega arith
 runs-from n (inr (inr (inr h))) = absurd h
 
+-- no file is refused in reading by such a number
+not-read : (n : ℕ) → In n (13 ∷ 14 ∷ 15 ∷ []) → InTable n → ⊥
+not-read n (inl e) t = omega (arith, t .2 (omega arith))
+not-read n (inr (inl e)) t = omega (arith, t .2 (omega arith))
+not-read n (inr (inr (inl e))) t = omega (arith, t .2 (omega arith))
+not-read n (inr (inr (inr h))) t = absurd h
+
 -- ---- the verdict on two files
 
 module _ (stageMost referenceMost : Limits) (stage reference : List ℕ) where
@@ -201,9 +208,9 @@ module _ (stageMost referenceMost : Limits) (stage reference : List ℕ) where
   broken c v h (inl n) = (c, shown (c .circuit) (c .function) v n)
   broken c v h (inr a) = absurd (omega (arith, number-of (a .1)))
 
-  -- a file that is refused in reading has a number below those that demand 3 speaks of
-  refused-in-reading : (v : Verdict) → 1 ≤ v .number → v .number ≤ 9 → Demand3 stageMost referenceMost stage reference v
-  refused-in-reading v a b = record { kept = λ e. absurd (omega arith); broken = λ h. absurd (omega (arith, runs-from (v .number) h)) }
+  -- a file that is refused in reading has none of the numbers that demand 3 speaks of
+  refused-in-reading : (v : Verdict) → InTable (v .number) → Demand3 stageMost referenceMost stage reference v
+  refused-in-reading v t = record { kept = λ e. absurd (omega (arith, t .0)); broken = λ h. absurd (not-read (v .number) h t) }
 
   -- Demand 3 holds of the verdict, whatever the two files hold.
   pub demand-3 : Demand3 stageMost referenceMost stage reference given
@@ -211,9 +218,9 @@ module _ (stageMost referenceMost : Limits) (stage reference : List ℕ) where
     where
       go : {v : Verdict} → Because stageMost referenceMost stage reference v → Demand3 stageMost referenceMost stage reference v
       go (demands.Because.stage-refused {number = number} {at = at} e) =
-          let n = refused-number file.Stage stageMost stage number at e in refused-in-reading _ (n .0) (n .1)
+          refused-in-reading _ (refused-number file.Stage stageMost stage number at e)
       go (demands.Because.reference-refused {number = number} {at = at} is e) =
-          let n = refused-number file.Reference referenceMost reference number at e in refused-in-reading _ (n .0) (n .1)
+          refused-in-reading _ (refused-number file.Reference referenceMost reference number at e)
       go (both-read {v = v} c j) = record { kept = λ e. kept c v e j; broken = λ h. broken c v (runs-from (v .number) h) j }
 
   -- an accepted pair was read, and can be compared

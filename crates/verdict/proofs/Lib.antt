@@ -14,3 +14,4 @@ pub mod Because
 pub mod OneWord
 pub mod Demands
 pub mod Cut
+pub mod Careless

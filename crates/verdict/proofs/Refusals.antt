@@ -1,6 +1,6 @@
--- A file that is refused is refused by one of the numbers 1 to 9.
+-- A file that is refused is refused by one of the numbers 1 to 9, 18 and 19.
 -- Assumes nothing.
-use Prim.Native.Nat.{ℕ, zero, suc, _+_, _≤_}
+use Prim.Native.Nat.{ℕ, zero, suc, _+_, _^_, _≤_, _<_}
 use native.Mathlib.Omega.{arith}
 use mathlib.Core.Path.{_≡_, subst}
 use mathlib.Core.Bool.{Bool, true, false, cond, _&&_}
@@ -17,12 +17,12 @@ use Rattle.netlist.specs.declared.Next.{Next}
 use Rattle.netlist.specs.declared.Next.the-variants.{Command, Refused}
 use Rattle.netlist.specs.declared.Found.{Found}
 use Rattle.netlist.specs.declared.Found.the-variants.{At, Nothing}
-use Rattle.netlist.specs.Bytes.{byte}
-use Rattle.netlist.specs.Commands.{whenFound, isSort, formOf, width, needed, stray, misfitFrom, takeGate, takeSort, takeCommand, nextAt}
+use Rattle.netlist.specs.Bytes.{byte, operand}
+use Rattle.netlist.specs.Commands.{whenFound, isSort, formOf, width, needed, stray, misfitFrom, takeGate, takeCare, takeSort, takeCommand, nextAt}
 use Rattle.netlist.specs.Reading.{Places, noPlaces, Reading, refused, readable, namelessFrom, finish, onNext, noted, countsOf, readFrom, readFile}
 
-abbrev InTable : ℕ → Type 0
-InTable number = (1 ≤ number) × (number ≤ 9)
+abbrev pub InTable : ℕ → Type 0
+InTable number = (1 ≤ number) × (number ≤ 19) × (9 < number → 18 ≤ number)
 
 abbrev NextNumbered : Next → Type 0
 NextNumbered (Refused number at) = InTable number
@@ -43,7 +43,7 @@ unless-found P Nothing there none p q = q
 
 module _ (f : File) (most : Limits) (s : List ℕ) (at : ℕ) (before : Counts) where
   sort-numbered : (form : Form) (taken : Next) → NextNumbered taken → (c : Sort) → NextNumbered (takeSort f most s at before form taken c)
-  unfolding takeSort takeGate
+  unfolding takeSort takeGate takeCare
   sort-numbered form taken h sort.Inputs = either NextNumbered (leb 1 (byte s (at + 1)) && leb (byte s (at + 1)) (most .inputs)) taken _ h (omega arith)
   sort-numbered form taken h sort.Gate =
       let k = needed f (byte s (at + 1)) in
@@ -51,6 +51,10 @@ module _ (f : File) (most : Limits) (s : List ℕ) (at : ℕ) (before : Counts) 
       (either NextNumbered (eqb k 0) (Refused 4 (at + 1)) _ (omega arith)
       (unless-found NextNumbered (misfitFrom k 0 s (at + form .lead) (form .operands)) (λ place. Refused 5 place) taken (λ place. omega arith) h))
   sort-numbered form taken h sort.Output = either NextNumbered (leb (most .outputs) (before .outputs)) (Refused 6 at) taken (omega arith) h
+  sort-numbered form taken h sort.Care =
+      let w = operand s (at + form .lead) in
+      either NextNumbered (ltb w (2 ^ before .inputs)) _ (Refused 18 (at + form .lead))
+      (either NextNumbered (ltb w (before .floor)) (Refused 19 (at + form .lead)) taken (omega arith) h) (omega arith)
   sort-numbered form taken h sort.End = h
   sort-numbered form taken h sort.Unknown = h
 

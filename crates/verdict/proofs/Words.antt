@@ -2,7 +2,7 @@
 -- Assumes nothing.
 use Prim.Native.Nat.{ℕ, zero, suc, _+_, _-_, _*_, _/_, _%_, _^_, _≤_, _<_, min, max}
 use native.Mathlib.Omega.{arith}
-use mathlib.Core.Path.{_≡_, refl, sym, ap, _∙_}
+use mathlib.Core.Path.{_≡_, refl, sym, ap, subst, _∙_}
 use mathlib.Core.Bool.{Bool, true, false, cond, not, _&&_}
 use mathlib.Core.Logic.{_⊎_, inl, inr}
 use mathlib.Core.List.{List, [], _∷_, _++_, map}
@@ -15,7 +15,8 @@ use Rattle.runs.specs.Theory.{wordRails}
 use Rattle.netlist.specs.Content.{Coded, Stage, Reference}
 use Rattle.verdict.specs.Rows.{high, withNull}
 use Rattle.verdict.specs.Loops.{In}
-use Rattle.verdict.specs.Words.{numbers, words, IsWord, bitsOf, railsOf}
+use Rattle.netlist.specs.Reading.{Rising}
+use Rattle.verdict.specs.Words.{numbers, caredFor, words, IsWord, bitsOf, railsOf}
 use Rattle.verdict.specs.Answers.{operate, valuesAt, signalValues, answer}
 use Rattle.verdict.specs.Demands.{FirstOf}
 
@@ -146,33 +147,62 @@ index-in m k h = in-numbers 0 m k (omega arith) (omega arith)
 pub in-index : (m k : ℕ) → In k (numbers 0 m) → k < m
 in-index m k h = omega (arith, numbers-in 0 m k h .1)
 
--- a word is below 2 to the number of inputs
-pub word-below : (s : Stage) (w : ℕ) → IsWord s w → w < 2 ^ s .inputs
-unfolding words
-word-below s = in-index (2 ^ s .inputs)
+pub in-middle : (before later : List ℕ) (x : ℕ) → In x (before ++ (x ∷ later))
+in-middle [] later x = inl refl
+in-middle (b ∷ before) later x = inr (in-middle before later x)
 
-pub below-word : (s : Stage) (w : ℕ) → w < 2 ^ s .inputs → IsWord s w
-unfolding words
-below-word s = index-in (2 ^ s .inputs)
+-- ---- rising lists: in them each stands once, and what is less stands before
 
--- in a list of numbers those that are less stand before: the first of which something holds is the least
-less-before : (j m : ℕ) (before later : List ℕ) (x : ℕ) → numbers j m ≡ before ++ (x ∷ later) → (y : ℕ) → j ≤ y → y < x → In y before
+module _ (below : ℕ) where
+  pub rising-in : (floor : ℕ) (ws : List ℕ) → Rising below floor ws → (v : ℕ) → In v ws → (floor ≤ v) × (v < below)
+  rising-in floor [] h v i = absurd i
+  rising-in floor (w ∷ ws) h v (inl e) = omega (arith, h .0, h .1)
+  rising-in floor (w ∷ ws) h v (inr i) = omega (arith, h .0, rising-in (w + 1) ws (h .2) v i)
+
+  -- the first of which something holds is the least
+  less-before : (floor : ℕ) (ws before later : List ℕ) (x : ℕ) → Rising below floor ws → ws ≡ before ++ (x ∷ later) → (y : ℕ) → In y ws → y < x → In y before
+  less-before floor [] [] later x h e y i l = absurd i
+  less-before floor [] (b ∷ before) later x h e y i l = absurd i
+  less-before floor (w ∷ ws) [] later x h e y (inl q) l = absurd (let z : w ≡ x = cc in omega arith)
+  less-before floor (w ∷ ws) [] later x h e y (inr i) l = absurd (let z : w ≡ x = cc in omega (arith, rising-in (w + 1) ws (h .2) y i))
+  less-before floor (w ∷ ws) (b ∷ before) later x h e y (inl q) l = inl (q ∙ (let z : w ≡ b = cc in z))
+  less-before floor (w ∷ ws) (b ∷ before) later x h e y (inr i) l = inr (less-before (w + 1) ws before later x (h .2) (let z : ws ≡ before ++ (x ∷ later) = cc in z) y i l)
+
+  pub first-rising : (P : ℕ → Type 0) (floor : ℕ) (ws : List ℕ) (x : ℕ) → Rising below floor ws → FirstOf P ws x → (y : ℕ) → In y ws → y < x → ¬ (P y)
+  first-rising P floor ws x h f y i l = f .none y (less-before floor ws (f .before) (f .later) x h (f .stands) y i l)
+
+numbers-rise : (j m : ℕ) → Rising (j + m) j (numbers j m)
 unfolding numbers
-less-before j zero [] later x e y h l = absurd (let z : _≡_ {A = ℕ} 0 (suc (length later)) = ap length e in omega arith)
-less-before j zero (b ∷ before) later x e y h l = absurd (let z : _≡_ {A = ℕ} 0 (suc (length (before ++ (x ∷ later)))) = ap length e in omega arith)
-less-before j (suc m) [] later x e y h l = absurd (let z : j ≡ x = cc in omega arith)
-less-before j (suc m) (b ∷ before) later x e y h l =
-    let head : j ≡ b = cc in
-    let tail : numbers (suc j) m ≡ before ++ (x ∷ later) = cc in
-    go head (λ g. less-before (suc j) m before later x tail y g l) (ℕ-discrete y j)
-  where
-    go : j ≡ b → (suc j ≤ y → In y before) → Dec (y ≡ j) → In y (b ∷ before)
-    go head rest (yes q) = inl (q ∙ head)
-    go head rest (no d) = inr (rest (omega arith))
+numbers-rise j zero = tt
+numbers-rise j (suc m) =
+    let e : suc j + m ≡ j + suc m = omega arith in
+    let one : suc j ≡ j + 1 = omega arith in
+    (omega arith, omega arith, subst (λ (i : ℕ). Rising (j + suc m) i (numbers (suc j) m)) one (rw e at (numbers-rise (suc j) m)))
 
 pub first-least : (P : ℕ → Type 0) (m x : ℕ) → FirstOf P (numbers 0 m) x → (y : ℕ) → y < x → ¬ (P y)
-first-least P m x f y h = f .none y (less-before 0 m (f .before) (f .later) x (f .stands) y (omega arith) h)
+first-least P m x f y h =
+    let x-in = in-index m x (subst (In x) (sym (f .stands)) (in-middle (f .before) (f .later) x)) in
+    first-rising (0 + m) P 0 (numbers 0 m) x (numbers-rise 0 m) f y (index-in m y (omega arith)) h
 
-pub first-word-least : (P : ℕ → Type 0) (s : Stage) (w : ℕ) → FirstOf P (words s) w → (v : ℕ) → v < w → ¬ (P v)
-unfolding words
-first-word-least P s = first-least P (2 ^ s .inputs)
+-- ---- the words of a stage whose care words rise, as those of a readable file do
+
+module _ (s : Stage) (care : Rising (2 ^ s .inputs) 0 (s .care)) where
+  pub words-rise : Rising (2 ^ s .inputs) 0 (words s)
+  unfolding words caredFor
+  words-rise = go (s .care) care
+    where
+      go : (ws : List ℕ) → Rising (2 ^ s .inputs) 0 ws → Rising (2 ^ s .inputs) 0 (caredFor (s .inputs) ws)
+      go [] h = let e : 0 + 2 ^ s .inputs ≡ 2 ^ s .inputs = omega arith in rw e at (numbers-rise 0 (2 ^ s .inputs))
+      go (w ∷ ws) h = h
+
+  -- a word is below 2 to the number of inputs
+  pub word-below : (w : ℕ) → IsWord s w → w < 2 ^ s .inputs
+  word-below w i = rising-in (2 ^ s .inputs) 0 (words s) words-rise w i .1
+
+  pub first-word-least : (P : ℕ → Type 0) (w : ℕ) → FirstOf P (words s) w → (v : ℕ) → IsWord s v → v < w → ¬ (P v)
+  first-word-least P w = first-rising (2 ^ s .inputs) P 0 (words s) w words-rise
+
+-- without a care list every word of the inputs is a word of the stage
+pub below-word : (s : Stage) → s .care ≡ [] → (w : ℕ) → w < 2 ^ s .inputs → IsWord s w
+unfolding words caredFor
+below-word s none w h = rw none (index-in (2 ^ s .inputs) w h)

@@ -9,9 +9,14 @@ unfoldable pub numbers : ℕ → ℕ → List ℕ
 numbers j zero = []
 numbers j (suc m) = j ∷ numbers (suc j) m
 
--- the words of a stage: every word of its inputs, the least first
+-- the words that a care list stands for, with n inputs: those of the list, or every word where it is empty
+unfoldable pub caredFor : ℕ → List ℕ → List ℕ
+caredFor n [] = numbers 0 (2 ^ n)
+caredFor n (w ∷ ws) = w ∷ ws
+
+-- the words of a stage, the least first
 unfoldable pub words : Stage → List ℕ
-words s = numbers 0 (2 ^ s .inputs)
+words s = caredFor (s .inputs) (s .care)
 
 abbrev pub IsWord : Stage → ℕ → Type 0
 IsWord s w = In w (words s)

@@ -56,7 +56,9 @@ fn netlists() -> Vec<(String, FilePair)> {
 /// The gate evaluations of the check as document 01 words it: each word settles the gates once
 /// for 13, once for each input for 14, and once for each high gate for 15.
 fn evaluations(stage: &Stage) -> usize {
-    (0..1 << stage.inputs)
+    let words = stage.words();
+    words
+        .into_iter()
         .map(|word| {
             let row = settle(stage, &rails_of_word(stage.inputs, word), None);
             let high = row[2 * stage.inputs..].iter().filter(|&&high| high).count();

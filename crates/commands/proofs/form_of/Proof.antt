@@ -25,27 +25,31 @@ returns-4 c = rw (c .before .before .enum-told .given .1, c .before .match3 .key
 
 returns-5 : tie.Need-returns-5
 unfolding commandTable ownCommands formIn
-returns-5 c =
-    let outer = c .before .before .before .before .match .rest in
-    let inner = c .before .match3 .rest in
-    rw (c .before .before .enum-told .given .1)
-    (c .as-form5 .ensures ∙ in-no-row (commandTable file.Stage) (c .before .before .before .before .before .args .command) (outer .0 .1, (outer .1, (inner .0 .1, (inner .1, tt)))))
+returns-5 c = rw (c .before .before .enum-told .given .1, c .before .match3 .keys3) (c .as-form5 .ensures)
 
 returns-6 : tie.Need-returns-6
 unfolding commandTable ownCommands formIn
-returns-6 c = rw (c .before .before .enum-told2 .given .1, c .before .match4 .keys1) (c .as-form6 .ensures)
+returns-6 c =
+    let outer = c .before .before .before .before .match .rest in
+    let inner = c .before .match3 .rest in
+    rw (c .before .before .enum-told .given .1)
+    (c .as-form6 .ensures ∙ in-no-row (commandTable file.Stage) (c .before .before .before .before .before .args .command) (outer .0 .1, (outer .1, (inner .0 .0 .1, (inner .0 .1, (inner .1, tt))))))
 
 returns-7 : tie.Need-returns-7
 unfolding commandTable ownCommands formIn
-returns-7 c = rw (c .before .before .enum-told2 .given .1, c .before .match4 .keys2) (c .as-form7 .ensures)
+returns-7 c = rw (c .before .before .enum-told2 .given .1, c .before .match4 .keys1) (c .as-form7 .ensures)
 
 returns-8 : tie.Need-returns-8
 unfolding commandTable ownCommands formIn
-returns-8 c =
+returns-8 c = rw (c .before .before .enum-told2 .given .1, c .before .match4 .keys2) (c .as-form8 .ensures)
+
+returns-9 : tie.Need-returns-9
+unfolding commandTable ownCommands formIn
+returns-9 c =
     let outer = c .before .before .before .before .match .rest in
     let inner = c .before .match4 .rest in
     rw (c .before .before .enum-told2 .given .1)
-    (c .as-form8 .ensures ∙ in-no-row (commandTable file.Reference) (c .before .before .before .before .before .args .command) (outer .0 .1, (outer .1, (inner .0 .1, (inner .1, tt)))))
+    (c .as-form9 .ensures ∙ in-no-row (commandTable file.Reference) (c .before .before .before .before .before .args .command) (outer .0 .1, (outer .1, (inner .0 .1, (inner .1, tt)))))
 
 pub form-of-spec : {M : Type 1} → statement M
 form-of-spec =
@@ -54,6 +58,7 @@ form-of-spec =
     (λ c κs. search needs)
     (λ c κs. search needs)
     (λ c. search needs)
+    (λ c κs. search needs)
     (λ c κs. search needs)
     (λ c κs. search needs)
     (λ c κs. search needs)
@@ -68,4 +73,5 @@ form-of-spec =
     returns-5
     returns-6
     returns-7
-    returns-8)
+    returns-8
+    returns-9)

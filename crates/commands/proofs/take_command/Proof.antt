@@ -5,7 +5,7 @@ use mathlib.Core.Path.{sym, _∙_}
 use borrow.Author.Tests.{le-leb, lt-leb}
 use borrow.Author.Needs.{needs}
 use Rattle.netlist.specs.Commands.{takeSort}
-use Rattle.commands.proofs.Forms.{few-bytes, gate-lead, inputs-wide}
+use Rattle.commands.proofs.Forms.{few-bytes, gate-lead, care-wide, inputs-wide}
 use Rattle.commands.proofs.Position.{by-sort, by-rest}
 use Rattle.commands.proofs.take_command.Statement.{statement}
 use Rattle.commands.proofs.take_command.Tie as tie
@@ -29,6 +29,11 @@ returns c =
 
 take-gate-requires : tie.Need-take-gate-requires
 take-gate-requires c κs = omega (arith, gate-lead _ _ (c .before .before .before .before .pre .0) (c .enum-told2 .given .1), c .before .before .before .before .pre .1)
+
+take-care-requires : tie.Need-take-care-requires
+take-care-requires c κs =
+    let start = c .before .before .before .before .before in
+    omega (arith, care-wide _ _ (start .pre .0) (c .before .enum-told4 .given .1), start .pre .1)
 
 returns-2 : tie.Need-returns-2
 unfolding takeSort
@@ -57,7 +62,12 @@ returns-6 c =
     sym (by-sort _ _ _ _ _ _ _ (arm .before .before .width .ensures) _ (arm .enum-told3 .given .1) ∙ simp (lt-leb _ _ (c .if3 .left)))
 
 returns-7 : tie.Need-returns-7
-returns-7 c = by-rest _ _ _ _ _ _ _ (c .before .width .ensures) (c .match .keys4)
+unfolding takeSort
+returns-7 c =
+    c .take-care .ensures ∙ sym (by-sort _ _ _ _ _ _ _ (c .before .before .before .before .width .ensures) _ (c .before .before .enum-told4 .given .1))
+
+returns-8 : tie.Need-returns-8
+returns-8 c = by-rest _ _ _ _ _ _ _ (c .before .width .ensures) (c .match .keys5)
 
 pub take-command-spec : {M : Type 1} → statement M
 take-command-spec =
@@ -73,9 +83,13 @@ take-command-spec =
     (λ c. search needs)
     take-gate-requires
     (λ c. search needs)
+    (λ c. search needs)
+    (λ c. search needs)
+    take-care-requires
     returns-2
     returns-3
     returns-4
     returns-5
     returns-6
-    returns-7)
+    returns-7
+    returns-8)

@@ -1,4 +1,4 @@
--- `console::print_lines` is safe and ends: w goes up to the number of lines.
+-- `console::print_lines` is safe and ends: k goes up to the number of lines.
 use borrow.Author.Needs.{needs}
 use Prim.Native.Nat.{_-_, _≤_}
 use native.Mathlib.Omega.{arith}
@@ -7,22 +7,16 @@ use Rattle.console.proofs.print_lines.Statement.{statement}
 use Rattle.console.proofs.print_lines.Tie as tie
 
 abbrev Inv-loop : tie.InvT-loop
-Inv-loop lines words between after w₀ w = w ≤ length lines
+Inv-loop lines names words between after k₀ k = k ≤ length lines
 
 abbrev μ-loop : tie.MeasureT-loop
-μ-loop lines words between after w₀ w = length lines - w
+μ-loop lines names words between after k₀ k = length lines - k
 
 cast-print-line : tie.Need-cast-print-line Inv-loop μ-loop
-cast-print-line c = omega (arith, c .shared-slice-known4 .given (c .before .before .before .loop .w))
+cast-print-line c = omega (arith, c .shared-slice-known5 .given (c .before .before .before .before .loop .k))
 
-print-line-requires : tie.Need-print-line-requires Inv-loop μ-loop
-print-line-requires c κs = tt
-
-returns : tie.Need-returns Inv-loop μ-loop
-returns c = tt
-
-returns-2 : tie.Need-returns-2 Inv-loop μ-loop
-returns-2 c = tt
+cast-print-line-2 : tie.Need-cast-print-line-2 Inv-loop μ-loop
+cast-print-line-2 c = omega (arith, c .shared-slice-known6 .given (c .before .before .before .before .before .loop .k))
 
 pub print-lines-spec : {M : Type 1} → statement M
 print-lines-spec =
@@ -34,9 +28,13 @@ print-lines-spec =
     (λ c. search needs)
     (λ c. search needs)
     cast-print-line
-    print-line-requires
+    (λ c. search needs)
+    (λ c. search needs)
+    cast-print-line-2
+    (λ c κs. tt)
     (λ c. search needs)
     (λ c. omega arith)
     (λ c. omega arith)
-    returns
-    returns-2)
+    (λ c. tt)
+    (λ c. tt)
+    (λ c. tt))

@@ -20,7 +20,7 @@ loop-holds : tie.Need-loop-holds Inv-loop μ-loop
 loop-holds c = (refl, λ q h. absurd (omega arith))
 
 stage-number-requires : tie.Need-stage-number-requires Inv-loop μ-loop
-stage-number-requires c κs = let z = c .before .before .before .before .before .before .before in (z .pre .0, omega arith)
+stage-number-requires c κs = let z = c .before .before .before .before .before .before .before .before in (z .pre .0, omega arith)
 
 loop-again : tie.Need-loop-again Inv-loop μ-loop
 loop-again c =
@@ -32,7 +32,7 @@ same-length c = c .before .loop .inv .0
 
 returns : tie.Need-returns Inv-loop μ-loop
 returns c =
-    let z = c .before .before .before .before .before .before .before in
+    let z = c .before .before .before .before .before .before .before .before in
     let l = c .before .loop in (
       stage-same (now (z .args .s)) (now (z .args .places)) (z .args .counts) (l .code) (z .pre .0) (omega arith) (λ q h. l .inv .1 q (omega arith)),
       stage-loaded (now (z .args .s)) (now (z .args .places)) (z .args .counts) (l .code) (z .pre .0) (omega arith)
@@ -45,6 +45,7 @@ load-stage-spec =
     (tie.spec
     Inv-loop
     μ-loop
+    (λ c. omega arith)
     (λ c. omega arith)
     (λ c. omega arith)
     (λ c. omega arith)

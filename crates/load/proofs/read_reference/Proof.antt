@@ -6,6 +6,7 @@ use Rattle.netlist.specs.declared.File.the-variants as file
 use Rattle.netlist.specs.Reading.{readFile, referenceLimits}
 use Rattle.netlist.specs.Read.{outcomeOf}
 use Rattle.load.proofs.Reading.{reference-places, was-read-by, holds-reference, holds-no-reference}
+use Rattle.files.specs.Files.{mostCare}
 use borrow.Author.Needs.{needs}
 use Rattle.load.proofs.read_reference.Statement.{statement}
 use Rattle.load.proofs.read_reference.Tie as tie
@@ -14,6 +15,7 @@ read-file-requires : tie.Need-read-file-requires
 read-file-requires c κs = reference-places _ (c .before .reference-limits .ensures)
 
 load-reference-requires : tie.Need-load-reference-requires
+unfolding mostCare
 load-reference-requires c κs =
     let f = c .before .before .before .before .before .before .read-file in
     let z = c .before .before .before .before .before .before .before .before .before .before .before in
@@ -24,6 +26,7 @@ load-reference-requires c κs =
     (w .file-read, omega (arith, n .gates-in, n .outputs-in))
 
 returns : tie.Need-returns
+unfolding mostCare
 returns c =
     let f = c .before .before .before .before .before .before .before .before .before .read-file in
     let z = c .before .before .before .before .before .before .before .before .before .before .before .before .before .before in

@@ -6,6 +6,7 @@ use Rattle.netlist.specs.declared.File.the-variants as file
 use Rattle.netlist.specs.Reading.{readFile, stageLimits}
 use Rattle.netlist.specs.Read.{outcomeOf}
 use Rattle.load.proofs.Reading.{stage-places, was-read-by, holds-stage, holds-no-stage}
+use Rattle.files.specs.Files.{mostCare}
 use borrow.Author.Needs.{needs}
 use Rattle.load.proofs.read_stage.Statement.{statement}
 use Rattle.load.proofs.read_stage.Tie as tie
@@ -14,15 +15,17 @@ read-file-requires : tie.Need-read-file-requires
 read-file-requires c κs = stage-places _ (c .before .stage-limits .ensures)
 
 load-stage-requires : tie.Need-load-stage-requires
+unfolding mostCare
 load-stage-requires c κs =
     let f = c .before .before .before .before .before .before .read-file in
     let z = c .before .before .before .before .before .before .before .before .before .before .before in
     let w = was-read-by file.Stage _ stageLimits (c .before .before .before .before .before .before .before .before .stage-limits .ensures)
     (now (z .args .s)) _ _ (omega arith) (sym (c .before .before .before .outcome .given .1) ∙ f .ensures .0) (f .ensures .1) in
     let n = w .file-read .within in
-    (w .file-read, omega (arith, n .gates-in, n .outputs-in))
+    (w .file-read, omega (arith, n .gates-in, n .outputs-in, w .file-read .few-care))
 
 returns : tie.Need-returns
+unfolding mostCare
 returns c =
     let f = c .before .before .before .before .before .before .before .before .before .read-file in
     let z = c .before .before .before .before .before .before .before .before .before .before .before .before .before .before in

@@ -31,12 +31,6 @@ cast-high c = let z = c .before .before .before in omega (arith, z .pre .2 (z .a
 add-high-2 : tie.Need-add-high-2 Inv-loop μ-loop
 add-high-2 c = let z = c .before .before .before in omega (arith, z .pre .1, z .pre .2 (z .args .from + c .before .before .loop .i) (omega arith))
 
-add-i : tie.Need-add-i Inv-loop μ-loop
-add-i c = omega arith
-
-loop-less : tie.Need-loop-less Inv-loop μ-loop
-loop-less c = omega arith
-
 loop-again : tie.Need-loop-again Inv-loop μ-loop
 loop-again c =
     let z = c .before .before .before in
@@ -63,7 +57,7 @@ count-high-spec =
     shared-slice-read-high
     cast-high
     add-high-2
-    add-i
-    loop-less
+    (λ c. omega arith)
+    (λ c. omega arith)
     loop-again
     returns)

@@ -1,89 +1,102 @@
--- `report::fill_lines` meets its contract. The loop's invariant: the lines of the words before w are written, and their sum is known.
+-- `report::fill_lines` meets its contract. The loop's invariant: the words before word k and their lines
+-- are written, and the sum of the lines is known.
 -- Assumes nothing.
 use Prim.Native.Nat.{ℕ, _-_, _≤_, _<_}
-use lib.ListN.{length, length-replicate}
+use lib.ListN.{length, replicate, length-replicate}
 use mathlib.Core.Path.{_≡_, refl, sym, ap, _∙_, subst}
 use native.Mathlib.Omega.{arith}
 use denote.Ref.{now}
 use Rattle.circuit.specs.Stage.{stageIn}
 use Rattle.report.specs.Report.{mostLines}
 use Rattle.report.specs.Lines.{LinesTo}
-use Rattle.report.proofs.Lines.{lines-few, lines-start, lines-more, lines-done}
+use Rattle.report.proofs.Lines.{lines-start, lines-more, lines-done}
 use Rattle.report.proofs.fill_lines.Statement.{statement}
 use Rattle.report.proofs.fill_lines.Tie as tie
 
 abbrev Inv-loop : tie.InvT-loop
-Inv-loop code counts lines₀ count total₀ w₀ lines total w = LinesTo (stageIn counts code) w lines total × (w ≤ count)
+Inv-loop code counts lines₀ names₀ count total₀ k₀ lines names total k = LinesTo (stageIn counts code) k names lines total × (k ≤ count)
 
 abbrev μ-loop : tie.MeasureT-loop
-μ-loop code counts lines₀ count total₀ w₀ lines total w = count - w
+μ-loop code counts lines₀ names₀ count total₀ k₀ lines names total k = count - k
 
 word-count-requires : tie.Need-word-count-requires Inv-loop μ-loop
-word-count-requires c κs = c .before .before .pre .0 .within .inputs-in
+word-count-requires c κs = c .before .before .before .pre .0 .within .inputs-in
 
 loop-holds : tie.Need-loop-holds Inv-loop μ-loop
 loop-holds c =
-    let z = c .before .before .before in
-    let s = stageIn (z .args .counts) (now (z .args .code)) in
-    (subst (λ l. LinesTo s 0 l 0) (sym (z .pre .2)) (lines-start s), omega arith)
+    let z = c .before .before .before .before in
+    let s = stageIn (z .args .counts) (now (z .args .code)) in (
+      subst (λ l. LinesTo s 0 l (now (z .args .lines)) 0) (sym (z .pre .4))
+          (subst (λ l. LinesTo s 0 (replicate mostLines 0) l 0) (sym (z .pre .3)) (lines-start s)),
+      omega arith,
+    )
+
+word-at-requires : tie.Need-word-at-requires Inv-loop μ-loop
+word-at-requires c κs =
+    let z = c .before .before .before .before .before .before in
+    (z .pre .0, omega (arith, c .before .before .word-count .ensures (now (z .args .code))))
 
 gates-high-requires : tie.Need-gates-high-requires Inv-loop μ-loop
-gates-high-requires c κs = let z = c .before .before .before .before .before in (z .pre .0, z .pre .1)
+gates-high-requires c κs = let z = c .before .before .before .before .before .before .before in (z .pre .0, z .pre .1)
 
 mul-lines : tie.Need-mul-lines Inv-loop μ-loop
 mul-lines c =
-    let z = c .before .before .before .before .before .before in
-    let l = c .before .before .loop in
-    let s = stageIn (z .args .counts) (now (z .args .code)) in
-    let n = c .before .before .before .word-count .ensures s refl in
-    let few = lines-few s (z .pre .0 .within .inputs-in) in
-    omega (arith, n, few)
+    let z = c .before .before .before .before .before .before .before .before in
+    let l = c .before .before .before .loop in
+    omega (arith, c .before .before .before .before .word-count .ensures (now (z .args .code)), z .pre .2)
 
 slice-write-lines : tie.Need-slice-write-lines Inv-loop μ-loop
 slice-write-lines c =
-    let z = c .before .before .before .before .before .before in
-    let l = c .before .before .loop in
-    let s = stageIn (z .args .counts) (now (z .args .code)) in
-    let n = c .before .before .before .word-count .ensures s refl in
-    let few = lines-few s (z .pre .0 .within .inputs-in) in
-    omega (arith, n, few, l .inv .0 .long)
+    let z = c .before .before .before .before .before .before .before .before in
+    let l = c .before .before .before .loop in
+    omega (arith, c .before .before .before .before .word-count .ensures (now (z .args .code)), z .pre .2, l .inv .0 .lines-to .long)
 
-cast-total : tie.Need-cast-total Inv-loop μ-loop
-cast-total c = omega arith
+mul-names : tie.Need-mul-names Inv-loop μ-loop
+mul-names c =
+    let z = c .before .before .before .before .before .before .before .before in
+    let l = c .before .before .before .loop in
+    omega (arith, c .before .before .before .before .word-count .ensures (now (z .args .code)), z .pre .2)
+
+slice-write-names : tie.Need-slice-write-names Inv-loop μ-loop
+slice-write-names c =
+    let z = c .before .before .before .before .before .before .before .before in
+    let l = c .before .before .before .loop in
+    omega (arith, c .before .before .before .before .word-count .ensures (now (z .args .code)), z .pre .2, l .inv .0 .words-to .long)
 
 add-total : tie.Need-add-total Inv-loop μ-loop
 add-total c =
-    let z = c .before .before .before .before .before .before in
-    let l = c .before .before .loop in
-    let s = stageIn (z .args .counts) (now (z .args .code)) in
-    let n = c .before .before .before .word-count .ensures s refl in
-    let few = lines-few s (z .pre .0 .within .inputs-in) in
-    omega (arith, n, few, l .inv .0 .small)
-
-add-w : tie.Need-add-w Inv-loop μ-loop
-add-w c = omega arith
-
-loop-less : tie.Need-loop-less Inv-loop μ-loop
-loop-less c = omega arith
+    let z = c .before .before .before .before .before .before .before .before in
+    let l = c .before .before .before .loop in
+    omega (arith, c .before .before .before .before .word-count .ensures (now (z .args .code)), z .pre .2, l .inv .0 .small)
 
 loop-again : tie.Need-loop-again Inv-loop μ-loop
 loop-again c =
-    let z = c .before .before .before .before .before .before in
-    let l = c .before .before .loop in
+    let z = c .before .before .before .before .before .before .before .before in
+    let l = c .before .before .before .loop in
     let s = stageIn (z .args .counts) (now (z .args .code)) in
-    let n = c .before .before .before .word-count .ensures s refl in
-    let few = lines-few s (z .pre .0 .within .inputs-in) in
-    (lines-more s (l .w) (l .lines) (l .total) (l .inv .0) (omega (arith, n)) few (c .gates-high .result) (c .gates-high .ensures) (omega arith), omega arith)
+    let n = c .before .before .before .before .word-count .ensures (now (z .args .code)) in (
+      lines-more s (z .pre .2) (l .k) (l .names) (l .lines) (l .total) (l .inv .0) (omega (arith, n)) (c .before .word-at .result) (c .gates-high .result)
+          (c .before .word-at .ensures) (c .gates-high .ensures) (omega arith),
+      omega arith,
+    )
 
 same-length : tie.Need-same-length Inv-loop μ-loop
-same-length c = let z = c .before .before .before .before .before in omega (arith, c .before .loop .inv .0 .long, ap length (z .pre .2), length-replicate {A = ℕ} mostLines 0)
+same-length c =
+    let z = c .before .before .before .before .before .before in
+    omega (arith, c .before .loop .inv .0 .lines-to .long, ap length (z .pre .3), length-replicate {A = ℕ} mostLines 0)
+
+same-length-2 : tie.Need-same-length-2 Inv-loop μ-loop
+same-length-2 c =
+    let z = c .before .before .before .before .before .before in
+    omega (arith, c .before .loop .inv .0 .words-to .long, ap length (z .pre .4), length-replicate {A = ℕ} mostLines 0)
 
 returns : tie.Need-returns Inv-loop μ-loop
 returns c =
-    let z = c .before .before .before .before .before in
+    let z = c .before .before .before .before .before .before in
     let l = c .before .loop in
     let s = stageIn (z .args .counts) (now (z .args .code)) in
-    lines-done s (l .w) (l .lines) (l .total) (l .inv .0) (omega (arith, c .before .before .word-count .ensures s refl, l .inv .1)) (lines-few s (z .pre .0 .within .inputs-in))
+    lines-done s (z .pre .2) (l .k) (l .names) (l .lines) (l .total) (l .inv .0)
+    (omega (arith, c .before .before .word-count .ensures (now (z .args .code)), l .inv .1))
 
 pub fill-lines-spec : {M : Type 1} → statement M
 fill-lines-spec =
@@ -93,13 +106,18 @@ fill-lines-spec =
     μ-loop
     word-count-requires
     loop-holds
+    word-at-requires
+    (λ c. omega arith)
     gates-high-requires
     mul-lines
     slice-write-lines
-    cast-total
+    mul-names
+    slice-write-names
+    (λ c. omega arith)
     add-total
-    add-w
-    loop-less
+    (λ c. omega arith)
+    (λ c. omega arith)
     loop-again
     same-length
+    same-length-2
     returns)

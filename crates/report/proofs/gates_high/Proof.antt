@@ -12,9 +12,6 @@ use Rattle.report.proofs.gates_high.Tie as tie
 settle-word-requires : tie.Need-settle-word-requires
 settle-word-requires c κs = let z = c .before .before in (z .pre .0, z .pre .1, low-row (z .args .counts) (z .pre .0 .within))
 
-mul-count-high : tie.Need-mul-count-high
-mul-count-high c = search needs
-
 count-high-requires : tie.Need-count-high-requires
 count-high-requires c κs =
     let z = c .before .before .before .before .before .before in
@@ -33,6 +30,6 @@ gates-high-spec =
     (λ c. search needs)
     settle-word-requires
     (λ c. search needs)
-    mul-count-high
+    (λ c. search needs)
     count-high-requires
     returns)

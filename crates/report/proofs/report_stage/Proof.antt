@@ -5,7 +5,7 @@ use mathlib.Core.Path.{_≡_, refl, sym, ap, _∙_}
 use Prim.Native.Nat.{ℕ}
 use denote.Ref.{now}
 use Rattle.netlist.specs.Read.{outcomeOf}
-use Rattle.report.proofs.Reporting.{opened, opened-order, opened-report, not-refused}
+use Rattle.report.proofs.Reporting.{opened, opened-order, opened-few, opened-report, not-refused}
 use borrow.Author.Needs.{needs}
 use Rattle.report.proofs.report_stage.Statement.{statement}
 use Rattle.report.proofs.report_stage.Tie as tie
@@ -18,19 +18,19 @@ order-gates-requires c κs =
 
 fill-lines-requires : tie.Need-fill-lines-requires
 fill-lines-requires c κs =
-    let z = c .before .before .before .before .before .before .before .before .before .before .before .before in
-    let f = c .before .before .before .before .before .before .before .before .before .read-stage .ensures in
-    let o = c .before .before .before .order-gates .ensures in
-    (o .loaded, opened-order (now (z .args .stage)) (z .pre) _ _ (sym (c .before .before .before .before .before .before .counts .given .1) ∙ f .0) (f .1) _ _ o, refl)
+    let z = c .before .before .before .before .before .before .before .before .before .before .before .before .before in
+    let f = c .before .before .before .before .before .before .before .before .before .before .read-stage .ensures in
+    let o = c .before .before .before .before .order-gates .ensures in
+    let e = sym (c .before .before .before .before .before .before .before .counts .given .1) ∙ f .0 in
+    (o .loaded, opened-order (now (z .args .stage)) (z .pre) _ _ e (f .1) _ _ o, opened-few (now (z .args .stage)) (z .pre) _ _ e (f .1) _ _ o, refl, refl)
 
 returns : tie.Need-returns
 returns c =
-    let z = c .before .before .before .before .before .before .before .before .before .before .before .before .before .before .before in
-    let f = c .before .before .before .before .before .before .before .before .before .before .before .before .read-stage .ensures in
-    let o = c .before .before .before .before .before .before .order-gates .ensures in
-    let lines = c .before .before .fill-lines .ensures in
-    opened-report (now (z .args .stage)) (z .pre) _ _ (sym (c .before .before .before .before .before .before .before .before .before .counts .given .1) ∙ f .0) (f .1) _ _ o
-    (z .args .verdict) _ _ _ (c .word-count .ensures _ refl) (lines .0) (lines .1)
+    let z = c .before .before .before .before .before .before .before .before .before .before .before .before .before .before .before .before .before in
+    let f = c .before .before .before .before .before .before .before .before .before .before .before .before .before .before .read-stage .ensures in
+    let o = c .before .before .before .before .before .before .before .before .order-gates .ensures in
+    opened-report (now (z .args .stage)) (z .pre) _ _ (sym (c .before .before .before .before .before .before .before .before .before .before .before .counts .given .1) ∙ f .0) (f .1) _ _ o
+    (z .args .verdict) _ _ _ _ (c .word-count .ensures _) (c .before .before .before .fill-lines .ensures)
 
 returns-2 : tie.Need-returns-2
 returns-2 c =
@@ -46,6 +46,7 @@ report-stage-spec =
     (λ c. search needs)
     (λ c. search needs)
     order-gates-requires
+    (λ c. search needs)
     (λ c. search needs)
     (λ c. search needs)
     fill-lines-requires

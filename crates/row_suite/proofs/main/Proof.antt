@@ -1,14 +1,14 @@
--- `row_suite::main` is safe and ends: i goes up to the number of cases, which is at most 100.
+-- `row_suite::main` is safe and ends: i goes up to the number of cases, which is at most 1000.
 use Prim.Native.Nat.{_≤_, _-_}
 use native.Mathlib.Omega.{arith}
 use Rattle.row_suite.proofs.main.Statement.{statement}
 use Rattle.row_suite.proofs.main.Tie as tie
 
 abbrev Inv-loop : tie.InvT-loop
-Inv-loop i₀ i = i ≤ 100
+Inv-loop i₀ i = i ≤ 1000
 
 abbrev μ-loop : tie.MeasureT-loop
-μ-loop i₀ i = 100 - i
+μ-loop i₀ i = 1000 - i
 
 run-requires : tie.Need-run-requires Inv-loop μ-loop
 run-requires c κs = tt

@@ -1,33 +1,22 @@
--- `sweeps::word_count` meets its contract. The loop's invariant: the count is that of i inputs. Assumes nothing.
-use Prim.Native.Nat.{ℕ, _*_, _-_, _^_, _≤_}
+-- `sweeps::word_count` meets its contract: with no care list as many as the inputs have. Assumes nothing.
+use Prim.Native.Nat.{_*_, _%_, _^_}
 use native.Mathlib.Omega.{arith}
-use mathlib.Core.Path.{_≡_, refl, sym, ap, _∙_}
-use Rattle.sweeps.proofs.Sweeping.{word-count, twice, few-words}
+use mathlib.Core.Path.{_≡_, _∙_}
+use borrow.Author.Needs.{needs}
+use Rattle.sweeps.proofs.Sweeping.{all-count, care-count, few-words}
 use Rattle.sweeps.proofs.word_count.Statement.{statement}
 use Rattle.sweeps.proofs.word_count.Tie as tie
 
-abbrev Inv-loop : tie.InvT-loop
-Inv-loop inputs count₀ i₀ count i = (i ≤ inputs) × (count ≡ 2 ^ i)
-
-abbrev μ-loop : tie.MeasureT-loop
-μ-loop inputs count₀ i₀ count i = inputs - i
-
-loop-holds : tie.Need-loop-holds Inv-loop μ-loop
-loop-holds c = (omega arith, refl)
-
-mul-count : tie.Need-mul-count Inv-loop μ-loop
-mul-count c = let l = c .before .loop in omega (arith, l .inv .1, few-words (l .i) (omega (arith, l .inv .0, c .before .before .pre)))
-
-loop-again : tie.Need-loop-again Inv-loop μ-loop
-loop-again c = let l = c .before .loop in (omega arith, ap (λ n. 2 * n) (l .inv .1) ∙ twice (l .i))
-
-returns : tie.Need-returns Inv-loop μ-loop
+returns : tie.Need-returns
 returns c =
-    λ s e.
-    let l = c .before .loop in
-    let i : l .i ≡ s .inputs = omega (arith, l .inv .0) in
-    l .inv .1 ∙ ap (λ n. 2 ^ n) i ∙ sym (word-count s)
+    λ code.
+    let start = c .before .before .before in
+    let n = start .args .counts .inputs in
+    let e : 1 * 2 ^ n % 2 ^ 64 ≡ 2 ^ n = omega (arith, few-words n (start .pre)) in
+    e ∙ all-count (start .args .counts) code (c .before .if1 .taken)
+
+returns-2 : tie.Need-returns-2
+returns-2 c = λ code. care-count (c .before .before .args .counts) code (c .if1 .left)
 
 pub word-count-spec : {M : Type 1} → statement M
-word-count-spec =
-    tie.close (tie.spec Inv-loop μ-loop loop-holds mul-count (λ c. omega arith) (λ c. omega arith) loop-again returns)
+word-count-spec = tie.close (tie.spec (λ c. search needs) returns returns-2)
