@@ -16,6 +16,7 @@ use Rattle.netlist.proofs.Lists.{Bytes, map-back, map-again}
 use Rattle.netlist.proofs.Encoding.{width-output, width-care}
 use Rattle.netlist.proofs.Laid.{wiredAt, length-gatePlaces}
 use Rattle.netlist.proofs.ReadBack.{gates-write, outputs-write, write-read}
+use Rattle.netlist.proofs.Readable.{readable-read}
 use Rattle.netlist.proofs.Formed.{GatesFormed, OutputFormed, readable-formed}
 
 -- ---- items with the gates first
@@ -60,6 +61,14 @@ AllFrom from places = (k : ℕ) → k < length places → from ≤ getD places k
 
 abbrev pub CareFirst : File → ℕ → ℕ → List ℕ → List ℕ → Type 0
 CareFirst f at m gs os = AllFrom (at + widthFor f sort.Care * m) gs × AllFrom (at + widthFor f sort.Care * m) os
+
+-- where a readable file has none, that is so
+pub none-first : (f : File) (most : Limits) (s : List ℕ) (p : Places) → readFile f most s ≡ readable p → p .care ≡ [] →
+    CareFirst f 2 (length (p .care)) (p .gates) (p .outputs)
+none-first f most s p e none =
+    let r = readable-read f most s p e in
+    let z : 2 + widthFor f sort.Care * length (p .care) ≡ 2 = rw none (omega arith) in
+    rw z ((λ k l. r .gate-at k l .first), (λ j l. r .output-at j l .first))
 
 -- none is left where one stands at the place itself
 none-left : (f : File) (at : ℕ) (ws : List ℕ) → at + widthFor f sort.Care * length ws ≤ at → ws ≡ []
@@ -106,18 +115,15 @@ module _ {G O : Type 0} (toG : Coded → G) (fromG : G → Coded) (toO : List �
   module _ (f : File) (most : Limits) where
     -- a content that is written is what its places show
     module _ (n : ℕ) (ws : List ℕ) (gs : List G) (os : List O) (fits : FileFits f most n (itemsOf ws gs os)) where
-      abbrev pub written : List ℕ
-      written = writeFile f n (itemsOf ws gs os)
-
-      pub gates-back : All (λ g. toG (fromG g) ≡ g) gs → map (λ p. toG (codedAt f written p)) (gatePlaces f 2 (itemsOf ws gs os)) ≡ gs
+      pub gates-back : All (λ g. toG (fromG g) ≡ g) gs → map (λ p. toG (codedAt f (writeFile f n (itemsOf ws gs os)) p)) (gatePlaces f 2 (itemsOf ws gs os)) ≡ gs
       gates-back h =
-          sym (map-map toG (codedAt f written) (gatePlaces f 2 (itemsOf ws gs os)))
+          sym (map-map toG (codedAt f (writeFile f n (itemsOf ws gs os))) (gatePlaces f 2 (itemsOf ws gs os)))
           ∙ ap (map toG) (gates-write f most n (itemsOf ws gs os) fits ∙ gatesIn-items ws gs os)
           ∙ map-back toG fromG gs h
 
-      pub outputs-back : All (λ o. toO (fromO o) ≡ o) os → map (λ p. toO (wiredAt f written p)) (outputPlaces f 2 (itemsOf ws gs os)) ≡ os
+      pub outputs-back : All (λ o. toO (fromO o) ≡ o) os → map (λ p. toO (wiredAt f (writeFile f n (itemsOf ws gs os)) p)) (outputPlaces f 2 (itemsOf ws gs os)) ≡ os
       outputs-back h =
-          sym (map-map toO (wiredAt f written) (outputPlaces f 2 (itemsOf ws gs os)))
+          sym (map-map toO (wiredAt f (writeFile f n (itemsOf ws gs os))) (outputPlaces f 2 (itemsOf ws gs os)))
           ∙ ap (map toO) (outputs-write f most n (itemsOf ws gs os) fits ∙ outputsIn-items ws gs os)
           ∙ map-back toO fromO os h
 

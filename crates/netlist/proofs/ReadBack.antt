@@ -279,7 +279,7 @@ module _ (f : File) (most : Limits) where
         bytes = λ small. laid-file s small (p .inputs) i (r .file-laid) .0;
       }
 
-  -- Refusals 1 to 9 come exactly where no content was written.
+  -- A file is refused in reading exactly where no content was written.
   abbrev pub Readable : List ℕ → Type 0
   Readable s = (p : Places) × (readFile f most s ≡ readable p)
 

@@ -22,7 +22,7 @@ use Rattle.netlist.proofs.Walk.{readable-laid}
 use Rattle.netlist.proofs.ReadBack.{read-write}
 use Rattle.netlist.proofs.Readable.{readable-read, named-earlier, named-signal}
 use Rattle.netlist.proofs.Formed.{GatesFormed, OutputFormed, readable-formed}
-use Rattle.netlist.proofs.GatesFirst.{GatesFirst, CareFirst, gatesIn-items, outputsIn-items, careIn-items, gates-back, outputs-back, write-back}
+use Rattle.netlist.proofs.GatesFirst.{GatesFirst, none-first, gatesIn-items, outputsIn-items, careIn-items, gates-back, outputs-back, write-back}
 
 -- ---- gates and outputs, coded and as a reference has them
 
@@ -109,13 +109,9 @@ module _ (most : Limits) (s : List ℕ) (p : Places) (e : readFile file.Referenc
   pub writeReference-referenceOf : Bytes s → GatesFirst (p .gates) (p .outputs) → s ≡ writeReference (referenceOf s p)
   unfolding writeReference referenceOf operands commandTable ownCommands formIn
   writeReference-referenceOf small first =
-      let r = readable-read file.Reference most s p e in
-      let none = no-care in
-      let z : 2 + widthFor file.Reference sort.Care * length (p .care) ≡ 2 = rw none (omega arith) in
-      let before : CareFirst file.Reference 2 (length (p .care)) (p .gates) (p .outputs) = rw z ((λ k l. r .gate-at k l .first), (λ j l. r .output-at j l .first)) in
       subst (λ (ws : List ℕ). s ≡ writeFile file.Reference (p .inputs) (map care ws ++ referenceItems (referenceOf s p)))
-      none
-      (write-back same same signalOf lone file.Reference most s small p e before first (λ cs h. All-every (λ c. c ≡ c) (λ c. refl) cs) (signals-again (p .inputs) (length (p .gates))))
+      no-care
+      (write-back same same signalOf lone file.Reference most s small p e (none-first file.Reference most s p e no-care) first (λ cs h. All-every (λ c. c ≡ c) (λ c. refl) cs) (signals-again (p .inputs) (length (p .gates))))
 
   pub reference-formed : ReferenceFormed most (referenceOf s p)
   unfolding referenceOf

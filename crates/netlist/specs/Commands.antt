@@ -1,5 +1,5 @@
 -- The commands of the two files: the table that says what a command byte calls for, and the command that stands at a position or
--- the refusal, 1 to 6, with its place.
+-- the refusal, 1 to 6, 18 or 19, with its place.
 use Prim.Native.Nat.{ℕ, zero, suc, _+_, _*_, _^_}
 use mathlib.Core.Bool.{Bool, cond, not, _&&_, _||_}
 use mathlib.Core.List.{List, [], _∷_}

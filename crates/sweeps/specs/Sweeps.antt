@@ -1,4 +1,4 @@
--- The checks 13, 14 and 15 over all words.
+-- The checks 13, 14 and 15 over the words of a stage.
 use Prim.Native.Nat.{ℕ}
 use lib.ListN.{length}
 use Rattle.netlist.specs.Content.{Stage, Reference}
@@ -19,6 +19,6 @@ numberOf Wrong = 13
 numberOf Missing = 14
 numberOf Unobserved = 15
 
--- what it finds in all words
+-- what it finds in the words of a stage
 abbrev pub swept : Sweep → Stage → Reference → Finding
 swept which s r = sweep (numberOf which) 1 (finds which s r) (words s)

@@ -50,7 +50,7 @@ fn number_of(which: Sweep) -> u64
     }
 }
 
-// What one of the checks finds in all words: the least word with a fault, and the least fault in it.
+// What one of the checks finds in the words of a stage: the least word with a fault, and the least fault in it.
 fn sweep_words(
     which: Sweep,
     code: &[u16],

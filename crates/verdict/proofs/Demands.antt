@@ -39,7 +39,7 @@ use Rattle.verdict.proofs.Bridge.{stageIn, settled-row}
 use Rattle.verdict.proofs.Sweeps.{FirstFault, first-fault, judged, Showable, named-shown, shown-by, none-named, named-from}
 use Rattle.verdict.proofs.Because.{checks-mean, row-checks-mean, holds, verdict-because}
 use Rattle.verdict.proofs.Refusals.{InTable, refused-number}
-use Rattle.verdict.proofs.OneWord.{CleanIn, rises-to, clean-conforms, conforms-clean, clean-promise, word-rises, wrong-broken, incomplete-broken, unobservable-broken}
+use Rattle.verdict.proofs.OneWord.{CleanIn, rises-to, rows-are, clean-conforms, conforms-clean, clean-promise, word-rises, wrong-broken, incomplete-broken, unobservable-broken}
 
 -- ---- what a readable stage has
 
@@ -169,7 +169,7 @@ module _ (stageMost referenceMost : Limits) (stage reference : List ℕ) where
 
   -- Demand 2 holds of the verdict, whatever the two files hold.
   pub demand-2 : Demand2 stageMost referenceMost stage reference given
-  demand-2 = record { exactly = λ c m. (λ e. forth c given e (verdict-judged c), λ a. back c given m a (verdict-judged c)); least = verdict-because stageMost referenceMost stage reference }
+  demand-2 = record { exactly = λ c m. (λ e. forth c given e (verdict-judged c), λ a. back c given m a (verdict-judged c)); least = verdict-because stageMost referenceMost stage reference; rows = λ c n w. rows-are (c .circuit) w (noLoop-loopFree (c .circuit .inputs) (c .circuit .gates) n) }
     where
       forth : (c : Contents stageMost referenceMost stage reference) (v : Verdict) → v ≡ accepted → Judged (checks (c .circuit) (c .function)) v
           → Acceptable (c .circuit) (c .function)

@@ -29,7 +29,7 @@ use Rattle.verdict.specs.Loops.{LoopFree}
 use Rattle.verdict.specs.Words.{bitsOf, railsIn}
 use Rattle.verdict.specs.Nets.{netOf, rowOf, railsFor, answerBits, restRow, missingRow, heldRow}
 use Rattle.verdict.specs.Checks.{WrongAt, IncompleteAt, UnobservableAt, Broken}
-use Rattle.verdict.specs.Demands.{RisesTo}
+use Rattle.verdict.specs.Demands.{RisesTo, RowsAre}
 use Rattle.verdict.proofs.Words.{bits-of-length, bits-of-bit, rails-length, rails-word}
 use Rattle.verdict.proofs.Bridge.{stageIn, settled-row, held-row, missing-row}
 
@@ -73,6 +73,14 @@ module _ (s : Stage) (w : ℕ) where
   module _ (free : LoopFree (s .inputs) (s .gates)) where
     rest-one : (R : Row) → Settled (netOf s) (railsFor s w) R → R ≡ restRow s w
     rest-one R h = settled-one (stageIn s free) (railsFor s w) R (restRow s w) h rest-settled
+
+    -- the rows of which the conditions speak are the settled ones, and there are no others
+    pub rows-are : RowsAre s w
+    rows-are = record {
+      rest = (rest-settled, rest-one);
+      missing = λ i. (missing-settled i, λ R h. settled-one (stageIn s free) _ R (missingRow s w i) h (missing-settled i));
+      held = λ g hg. (held-settled g hg, λ R h. held-one (stageIn s free) (railsFor s w) (only (2 * s .inputs + g)) R (heldRow s w g) h (held-settled g hg));
+    }
 
     module _ (r : Reference) where
       -- the conditions hold nowhere in the word exactly if it passes in the theory of runs

@@ -206,3 +206,12 @@ module _ (s : Stage) (care : Rising (2 ^ s .inputs) 0 (s .care)) where
 pub below-word : (s : Stage) → s .care ≡ [] → (w : ℕ) → w < 2 ^ s .inputs → IsWord s w
 unfolding words caredFor
 below-word s none w h = rw none (index-in (2 ^ s .inputs) w h)
+
+-- a list of all words says the same as none
+pub list-of-all : (n : ℕ) → caredFor n (numbers 0 (2 ^ n)) ≡ caredFor n []
+unfolding caredFor numbers
+list-of-all n = go (2 ^ n) refl
+  where
+    go : (m : ℕ) → m ≡ 2 ^ n → caredFor n (numbers 0 m) ≡ numbers 0 (2 ^ n)
+    go zero e = refl
+    go (suc m) e = ap (numbers 0) e

@@ -93,7 +93,7 @@ unobservable s w =
     let row = settled (s .gates) rails in
     λ g. elim (high row (2 * s .inputs + g)) [ true ↦ allData (settledHolding g (s .gates) rails) (s .outputs) | false ↦ false ]
 
--- ---- the same as statements about the rows at rest; that these rows are the settled ones of a loop-free stage is shown in proofs/Bridge
+-- ---- the same in the paper's words; that these rows are the settled ones of a loop-free stage is said in Demands (`RowsAre`)
 
 abbrev pub WrongAt : Stage → Reference → ℕ → ℕ → Type 0
 WrongAt s r w j = ¬ (DataOf (restRow s w) (netOf s .rail j) (answerBits r w j))

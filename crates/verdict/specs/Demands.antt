@@ -1,12 +1,12 @@
 -- Demands 2 and 3 of the customer, as statements about two files, and what is said of the settled-row call.
-use Prim.Native.Nat.{ℕ, _+_, _*_, _≤_}
+use Prim.Native.Nat.{ℕ, _+_, _*_, _≤_, _<_}
 use mathlib.Core.Path.{_≡_}
 use mathlib.Core.List.{List, [], _∷_, _++_}
 use mathlib.Core.Logic.{_⊎_, _↔_}
 use lib.ListN.{length, getD, take}
-use Rattle.runs.specs.Row.{Row, low, after}
-use Rattle.runs.specs.Net.{RiseList, RiseEnd, riseStep}
-use Rattle.runs.specs.Settled.{Settled}
+use Rattle.runs.specs.Row.{Row, low, after, only, _∖_}
+use Rattle.runs.specs.Net.{RiseList, RiseEnd, riseStep, railsOfInputs}
+use Rattle.runs.specs.Settled.{Settled, SettledHeld}
 use Rattle.runs.specs.Complete.{Conforms}
 use Rattle.runs.specs.Promise.{Goes-on, Promise}
 use Rattle.netlist.specs.declared.File.{File}
@@ -17,7 +17,7 @@ use Rattle.netlist.specs.Content.{Stage, Reference, stageOf, referenceOf}
 use Rattle.verdict.specs.declared.Verdict.{Verdict}
 use Rattle.verdict.specs.Loops.{In, NoLoop}
 use Rattle.verdict.specs.Words.{IsWord}
-use Rattle.verdict.specs.Nets.{netOf, rowOf, railsFor, answerBits, restRow}
+use Rattle.verdict.specs.Nets.{netOf, rowOf, railsFor, answerBits, restRow, missingRow, heldRow}
 use Rattle.verdict.specs.Checks.{verdict, Check, checks, rowChecks}
 use Rattle.verdict.specs.Verdicts.{accepted}
 
@@ -95,16 +95,28 @@ pub record Comparable (s : Stage) (r : Reference) : Type 0 where
   pub outputs : length (s .outputs) ≡ length (r .outputs)
   pub loop-free : NoLoop (s .inputs) (s .gates)
 
--- "for every input word, its settled outputs spell the reference's answer and it is input-complete and observable as NCL defines these"
+-- "for every input word", of M-101 every care word, "its settled outputs spell the reference's answer and it is input-complete and observable as NCL defines these"
 abbrev pub Acceptable : Stage → Reference → Type 0
 Acceptable s r = (w : ℕ) → IsWord s w → Conforms (netOf s) (railsFor s w) (answerBits r w)
 
+-- R is a row of some sort, and the only one
+abbrev pub TheOnly : (Row → Type 0) → Row → Type 0
+TheOnly P R = P R × ((r : Row) → P r → r ≡ R)
+
+-- The rows of word w of which the conditions of 13, 14 and 15 speak are the paper's: "settled for given rails", the same with input i NULL, and
+-- "settled with g held low".
+pub record RowsAre (s : Stage) (w : ℕ) : Type 0 where
+  pub rest : TheOnly (Settled (netOf s) (railsFor s w)) (restRow s w)
+  pub missing : (i : ℕ) → TheOnly (Settled (netOf s) (railsFor s w ∖ railsOfInputs (netOf s) (only i))) (missingRow s w i)
+  pub held : (g : ℕ) → g < length (s .gates) → TheOnly (SettledHeld (netOf s) (railsFor s w) (only (2 * s .inputs + g))) (heldRow s w g)
+
 -- What demand 2 says of a verdict on two files: a comparable stage "is accepted exactly if" it is acceptable; "otherwise the verdict names
--- the earliest failing check and its least case".
+-- the earliest failing check and its least case", where the conditions of 13 to 15 are about the settled rows of a loop-free stage.
 pub record Demand2 (stageMost referenceMost : Limits) (stage reference : List ℕ) (v : Verdict) : Type 0 where
   pub exactly : (c : Contents stageMost referenceMost stage reference) → Comparable (c .circuit) (c .function)
       → (v ≡ accepted) ↔ Acceptable (c .circuit) (c .function)
   pub least : Because stageMost referenceMost stage reference v
+  pub rows : (c : Contents stageMost referenceMost stage reference) → NoLoop (c .circuit .inputs) (c .circuit .gates) → (w : ℕ) → RowsAre (c .circuit) w
 
 -- ---- demand 3
 

@@ -1,4 +1,4 @@
--- The checks that go over all words, by one name for each.
+-- The checks that go over the words of a stage, by one name for each.
 use Prim.Native.Nat.{ℕ, _+_}
 use mathlib.Core.Bool.{Bool, true, false}
 use mathlib.Core.List.{List}

@@ -16,7 +16,7 @@ ghost use Rattle.circuit.specs.Reference.{referenceIn};
 ghost use Rattle.words.specs.Finds.{finds, unobserved};
 ghost use Rattle.words.specs.Loaded.{BothLoaded};
 
-// The checks that go over all words: 13, 14 and 15.
+// The checks that go over the words of a stage: 13, 14 and 15.
 pub enum Sweep {
     Wrong,
     Missing,
