@@ -1,6 +1,7 @@
 -- Demands 2 and 3 of the customer, as statements about two files, and what is said of the settled-row call.
 use Prim.Native.Nat.{ℕ, _+_, _*_, _≤_, _<_}
 use mathlib.Core.Path.{_≡_}
+use mathlib.Core.Bool.{true}
 use mathlib.Core.List.{List, [], _∷_, _++_}
 use mathlib.Core.Logic.{_⊎_, _↔_}
 use lib.ListN.{length, getD, take}
@@ -17,7 +18,7 @@ use Rattle.netlist.specs.Content.{Stage, Reference, stageOf, referenceOf}
 use Rattle.verdict.specs.declared.Verdict.{Verdict}
 use Rattle.verdict.specs.Loops.{In, NoLoop}
 use Rattle.verdict.specs.Words.{IsWord}
-use Rattle.verdict.specs.Nets.{netOf, rowOf, railsFor, answerBits, restRow, missingRow, heldRow}
+use Rattle.verdict.specs.Nets.{noGate, netOf, rowOf, railsFor, answerBits, restRow, missingRow, heldRow}
 use Rattle.verdict.specs.Checks.{verdict, Check, checks, rowChecks}
 use Rattle.verdict.specs.Verdicts.{accepted}
 
@@ -144,11 +145,21 @@ ShownBy [] v = ⊥
 ShownBy (c ∷ later) v = Shown c v ⊎ ShownBy later v
 
 -- What demand 3 says of a verdict on two files, by its number: of an accepted stage; and of one that is "refused as wrong, incomplete or
--- unobservable", 13, 14 and 15.
+-- unobservable", 13, 14 and 15 in its rise, 20 and 21 in its fall.
 pub record Demand3 (stageMost referenceMost : Limits) (stage reference : List ℕ) (v : Verdict) : Type 0 where
   pub kept : v .number ≡ 0 → (v ≡ accepted) × Kept stageMost referenceMost stage reference
-  pub broken : In (v .number) (13 ∷ 14 ∷ 15 ∷ [])
+  pub broken : In (v .number) (13 ∷ 14 ∷ 15 ∷ 20 ∷ 21 ∷ [])
       → (c : Contents stageMost referenceMost stage reference) × ShownBy (checks (c .circuit) (c .function)) v
+
+-- ---- stages without relaxed kinds
+
+-- every gate has hold
+abbrev pub WithHold : Stage → Type 0
+WithHold s = (g : ℕ) → g < length (s .gates) → getD (s .gates) g noGate .hold ≡ true
+
+-- What is said of a verdict on a stage file without relaxed kinds: it is none of the refusals of the fall.
+abbrev pub NoFallRefusal : Limits → List ℕ → Verdict → Type 0
+NoFallRefusal most stage v = (s : Stage) → StageIs most stage s → WithHold s → ¬ (In (v .number) (20 ∷ 21 ∷ []))
 
 -- ---- the settled-row call
 
