@@ -1,5 +1,5 @@
--- Demands 2 and 3 in one word: where the conditions of 13, 14 and 15 hold nowhere the stage conforms and keeps the promise, and a condition
--- that holds is shown by a run. And a settled row is what the gate rule gives.
+-- Demands 2 and 3 in one word: where the conditions of 13, 14, 15, 20 and 21 hold nowhere the stage conforms and keeps the promise, and a
+-- condition that holds is shown by a run. And a settled row is what the gate rule gives.
 -- Assumes nothing.
 use Prim.Native.Nat.{ℕ, _+_, _-_, _*_, _/_, _<_}
 use native.Mathlib.Omega.{arith}
