@@ -405,6 +405,165 @@ pub fn listing() -> String {
 pub fn examples() -> Vec<Example> {
     let mut list = examples_of_document_01();
     list.extend(care_examples());
+    list.extend(relaxed_examples());
+    list
+}
+
+/// Stages with relaxed gates (document 02, M-102).
+pub fn relaxed_examples() -> Vec<Example> {
+    let mut list: Vec<Example> = Vec::new();
+    let mut add =
+        |name: &str, about: &'static str, number: u64, stage: &Stage, reference: &Reference| {
+            let pair = write_pair(stage, reference);
+            list.push(Example {
+                name: name.to_string(),
+                about,
+                number,
+                pair,
+            });
+        };
+    let relaxed = |stage: &Stage, gates: &[usize]| {
+        let mut stage = stage.clone();
+        for &gate in gates {
+            stage.gates[gate].kind += 128;
+        }
+        stage
+    };
+    let and = one_operation(AND);
+    let and_stage = dual_rail(&and);
+    add(
+        "and-relaxed",
+        "AND of two relaxed gates: DATA is gone with the first input",
+        20,
+        &relaxed(&and_stage, &[0, 1]),
+        &and,
+    );
+    add(
+        "and-relaxed-rail-1",
+        "AND, rail 1 relaxed",
+        20,
+        &relaxed(&and_stage, &[0]),
+        &and,
+    );
+    let word_0 = Stage {
+        care: vec![0],
+        ..relaxed(&and_stage, &[0])
+    };
+    add(
+        "and-relaxed-one-word",
+        "the same, only word 0 cared for, in which it stays low",
+        0,
+        &word_0,
+        &and,
+    );
+    let mut s = StageBuilder::new(2);
+    let (sum, carry) = s.half_adder(s.input(0), s.input(1));
+    s.output(sum);
+    s.output(carry);
+    let mut r = ReferenceBuilder::new(2);
+    let (sum, carry) = r.half_adder(0, 1);
+    r.output(sum);
+    r.output(carry);
+    add(
+        "half-adder-relaxed",
+        "Figure 9 of source document 001, the incomplete AND of its carry relaxed",
+        0,
+        &relaxed(&s.stage, &[2, 3]),
+        &r.reference,
+    );
+    add(
+        "half-adder-relaxed-sum",
+        "the same with the sum relaxed as well",
+        20,
+        &relaxed(&s.stage, &[0, 1, 2, 3]),
+        &r.reference,
+    );
+    let multiplier = multiplier_of_the_source();
+    let product = multiplier_reference(3, 3);
+    let off_diagonal = [2, 3, 4, 5, 6, 7, 10, 11, 12, 13, 14, 15];
+    let inner = relaxed(&multiplier, &off_diagonal);
+    add(
+        "multiplier-3x3-relaxed",
+        "the multiplier of source document 001, its incomplete ANDs relaxed",
+        0,
+        &inner,
+        &product,
+    );
+    add(
+        "multiplier-3x3-relaxed-product",
+        "the same with a complete AND relaxed as well",
+        20,
+        &relaxed(&inner, &[0, 1]),
+        &product,
+    );
+    add(
+        "multiplier-3x3-relaxed-sum",
+        "the same with a gate of the first sum relaxed",
+        21,
+        &relaxed(&inner, &[18]),
+        &product,
+    );
+    let hamming = hamming_reference();
+    let hamming_stage = dual_rail(&hamming);
+    add(
+        "hamming-4-relaxed",
+        "four wires and three check bits, the first XOR of each relaxed",
+        0,
+        &relaxed(&hamming_stage, &[0, 1, 4, 5, 8, 9]),
+        &hamming,
+    );
+    add(
+        "hamming-4-relaxed-all",
+        "the same with all XORs relaxed: a first XOR may stay high",
+        21,
+        &relaxed(&hamming_stage, &[0, 1, 2, 3, 4, 5, 6, 7, 8, 9, 10, 11]),
+        &hamming,
+    );
+    let mut digit = StageBuilder::new(4);
+    digit.sum_of_words(&segment_values());
+    let joins: Vec<usize> = (16..digit.stage.gates.len()).collect();
+    add(
+        "seven-segment-relaxed",
+        "hexadecimal digit, a holding gate for each word and relaxed ORs",
+        0,
+        &relaxed(&digit.stage, &joins),
+        &segment_reference(),
+    );
+    let digit = decimal(&segment_values());
+    let joins: Vec<usize> = (10..digit.gates.len()).collect();
+    add(
+        "decimal-segments-relaxed",
+        "decimal digit, a holding gate for each word and relaxed ORs",
+        0,
+        &relaxed(&digit, &joins),
+        &segment_reference(),
+    );
+    // A wire whose rails wait for a gate of both: it may stay high once they have fallen.
+    let mut wire = StageBuilder::new(1);
+    let input = wire.input(0);
+    let here = wire.gate("TH12", &[input.rail_0, input.rail_1]);
+    let rail_0 = wire.gate("rTH22", &[here, input.rail_0]);
+    let rail_1 = wire.gate("rTH22", &[here, input.rail_1]);
+    wire.output(Signal { rail_0, rail_1 });
+    let mut r = ReferenceBuilder::new(1);
+    r.output(0);
+    add(
+        "wire-relaxed",
+        "relaxed rails that wait for a holding gate, and then not for its fall",
+        21,
+        &wire.stage,
+        &r.reference,
+    );
+    let mut spare = StageBuilder::new(1);
+    spare.gate("rTH12", &[0, 1]);
+    spare.output(spare.input(0));
+    add(
+        "marked-08-relaxed",
+        "wire and a relaxed gate that feeds nothing: refused for the rise, as marked case 8",
+        15,
+        &spare.stage,
+        &r.reference,
+    );
     list
 }
 
@@ -433,7 +592,7 @@ fn increment_values() -> Vec<Vec<bool>> {
 }
 
 /// Stages with care lists (document 02, M-101).
-fn care_examples() -> Vec<Example> {
+pub fn care_examples() -> Vec<Example> {
     let mut list: Vec<Example> = Vec::new();
     let mut add =
         |name: &str, about: &'static str, number: u64, stage: &Stage, reference: &Reference| {

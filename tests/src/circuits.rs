@@ -4,8 +4,12 @@
 use crate::judge::{Boolean, Gate, Reference, Stage, AND, KINDS, NAND, NOR, NOT, OR, XOR};
 use std::collections::HashMap;
 
-/// The number of a kind, its name in capital or small letters.
+/// The number of a kind, its name in capital or small letters; a leading `r` is the relaxed kind
+/// (M-109 of document 02).
 pub fn kind_named(name: &str) -> usize {
+    if let Some(cell) = name.strip_prefix('r') {
+        return 128 + kind_named(cell);
+    }
     let place = KINDS
         .iter()
         .position(|(kind, _)| kind.eq_ignore_ascii_case(name));

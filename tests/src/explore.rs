@@ -12,8 +12,8 @@
 //! two lengths, then so could an end, since every list can be carried on to one).
 
 use crate::judge::{
-    answer, pair_state, pin_count, rails_of_word, settle, PairState, Reference, Stage, Verdict,
-    ACCEPTED, KINDS,
+    answer, cell, is_relaxed, pair_state, pin_count, rails_of_word, settle, PairState, Reference,
+    Stage, Verdict, ACCEPTED, KINDS,
 };
 use std::collections::HashMap;
 use std::hash::{BuildHasherDefault, Hasher};
@@ -50,6 +50,8 @@ struct Cell {
     products: Vec<Row>,
     /// The bits of all pins that the kind has.
     pins: Row,
+    /// Whether the gate, once high, waits for all of its pins.
+    hold: bool,
 }
 
 /// A stage prepared for playing steps on it.
@@ -58,8 +60,6 @@ pub struct Rules {
     pub nets: usize,
     cells: Vec<Cell>,
     outputs: Vec<[Row; 2]>,
-    /// Whether a high gate waits for all of its pins, as document 01 has it.
-    hold: bool,
 }
 
 impl Rules {
@@ -71,7 +71,7 @@ impl Rules {
         let bit = |net: usize| 1 << net;
         let cells = stage.gates.iter().enumerate().map(|(k, gate)| {
             assert_eq!(gate.pins.len(), pin_count(gate.kind));
-            let products = KINDS[gate.kind - 1].1.split('+').map(|product| {
+            let products = KINDS[cell(gate.kind) - 1].1.split('+').map(|product| {
                 product.bytes().fold(0, |bits, letter| {
                     bits | bit(gate.pins[usize::from(letter - b'A')])
                 })
@@ -80,6 +80,7 @@ impl Rules {
                 own: bit(stage.net_of_gate(k)),
                 products: products.collect(),
                 pins: gate.pins.iter().fold(0, |bits, &net| bits | bit(net)),
+                hold: !is_relaxed(gate.kind),
             }
         });
         Some(Rules {
@@ -87,17 +88,16 @@ impl Rules {
             nets: stage.nets(),
             cells: cells.collect(),
             outputs: stage.outputs.iter().map(|rails| rails.map(bit)).collect(),
-            hold: true,
         })
     }
 
     /// The misreading that document 01 bars: a gate falls as soon as its set
     /// expression is false. Only to show that the sentences on falls can break.
-    pub fn without_hold(self) -> Rules {
-        Rules {
-            hold: false,
-            ..self
+    pub fn without_hold(mut self) -> Rules {
+        for cell in &mut self.cells {
+            cell.hold = false;
         }
+        self
     }
 
     fn set_expression(&self, gate: usize, row: Row) -> bool {
@@ -108,12 +108,13 @@ impl Rules {
     }
 
     /// "A low gate may rise exactly if its set expression holds. A high gate may
-    /// fall exactly if all the pins its kind has are low."
+    /// fall exactly if all the pins its kind has are low", a relaxed one "as soon as the set
+    /// expression is false".
     fn may_switch(&self, gate: usize, row: Row) -> bool {
         let cell = &self.cells[gate];
         if row & cell.own == 0 {
             self.set_expression(gate, row)
-        } else if self.hold {
+        } else if cell.hold {
             row & cell.pins == 0
         } else {
             !self.set_expression(gate, row)
@@ -435,16 +436,16 @@ pub fn promise(stage: &Stage, reference: &Reference) -> Option<Result<Tried, Bro
     Some(Ok(tried))
 }
 
-/// What the paper says of runs under 13, 14 and 15, for one index and word.
+/// What the papers say of runs under 13, 14, 15, 20 and 21, for one index and word.
 pub fn witness(stage: &Stage, reference: &Reference, verdict: Verdict) -> Option<bool> {
     let [number, _, at, word] = verdict;
     let rules = Rules::new(stage)?;
-    let rise = reach(
-        &rules,
-        0,
-        bits_of(&rails_of_word(stage.inputs, word)),
-        Way::Rise,
-    )?;
+    let rails = bits_of(&rails_of_word(stage.inputs, word));
+    let rise = reach(&rules, 0, rails, Way::Rise)?;
+    if number >= 20 {
+        let fall = reach(&rules, rise.ends[0], rails, Way::Fall)?;
+        return Some(rise.ends.len() == 1 && falls_early(&rules, &fall, number, at as usize));
+    }
     Some(shows(
         &rules,
         &rise,
@@ -452,6 +453,18 @@ pub fn witness(stage: &Stage, reference: &Reference, verdict: Verdict) -> Option
         number,
         at as usize,
     ))
+}
+
+/// "Under 20 and 21 some list of the named word's fall leaves all outputs NULL, but input `at`
+/// DATA or gate `at` high."
+fn falls_early(rules: &Rules, fall: &Reach, number: u64, at: usize) -> bool {
+    fall.rows.iter().any(|&row| {
+        rules.all_outputs(row, |state| state == PairState::Null)
+            && match number {
+                20 => is_data(rules.input(row, at)),
+                _ => row & rules.cells[at].own != 0,
+            }
+    })
 }
 
 fn shows(rules: &Rules, rise: &Reach, values: &[bool], number: u64, at: usize) -> bool {
@@ -480,7 +493,7 @@ fn shows(rules: &Rules, rise: &Reach, values: &[bool], number: u64, at: usize) -
     }
 }
 
-/// The verdict 13 to 15 or 0 of a loop-free stage found by playing runs only,
+/// The verdict 13 to 15, 20, 21 or 0 of a loop-free stage found by playing runs only,
 /// without settling anything: the earliest check that a run breaks, the least word
 /// in which one does, the least index. None if there are too many rows.
 pub fn verdict_by_runs(stage: &Stage, reference: &Reference) -> Option<Verdict> {
@@ -500,6 +513,20 @@ pub fn verdict_by_runs(stage: &Stage, reference: &Reference) -> Option<Verdict> 
         for (word, rise, values) in &rises {
             for at in 0..indices {
                 if shows(&rules, rise, values, number, at) {
+                    return Some([number, 1, at as u64, *word]);
+                }
+            }
+        }
+    }
+    let mut falls = Vec::new();
+    for (word, rise, _) in &rises {
+        let rails = bits_of(&rails_of_word(stage.inputs, *word));
+        falls.push((*word, reach(&rules, rise.ends[0], rails, Way::Fall)?));
+    }
+    for (number, indices) in [(20, stage.inputs), (21, stage.gates.len())] {
+        for (word, fall) in &falls {
+            for at in 0..indices {
+                if falls_early(&rules, fall, number, at) {
                     return Some([number, 1, at as u64, *word]);
                 }
             }
@@ -529,6 +556,11 @@ pub struct Summary {
     pub wrong: u64,
     pub incomplete: u64,
     pub unobservable: u64,
+    /// Pairs refused by 20 and 21.
+    pub incomplete_fall: u64,
+    pub unobservable_fall: u64,
+    /// Accepted pairs with relaxed gates.
+    pub accepted_relaxed: u64,
     /// What was tried on accepted pairs.
     pub tried: Tried,
     /// Sets of rails with NULL inputs whose runs were played.
@@ -542,6 +574,11 @@ impl std::fmt::Display for Summary {
             f,
             "{} pairs: {} with a loop, {} too large, {} accepted, {} wrong, {} incomplete, {} unobservable",
             self.pairs, self.with_loop, self.too_large, self.accepted, self.wrong, self.incomplete, self.unobservable
+        )?;
+        writeln!(
+            f,
+            "{} accepted with relaxed gates, {} refused by 20, {} by 21",
+            self.accepted_relaxed, self.incomplete_fall, self.unobservable_fall
         )?;
         writeln!(
             f,
@@ -592,6 +629,8 @@ pub fn explore_pair(
                 ));
             }
             summary.accepted += 1;
+            let relaxed = stage.gates.iter().any(|gate| is_relaxed(gate.kind));
+            summary.accepted_relaxed += u64::from(relaxed);
             summary.tried.add(tried);
         }
         (0, Some(Err(broken))) => return Err(format!("accepted, but broken: {broken:?}")),
@@ -599,7 +638,9 @@ pub fn explore_pair(
             *match number {
                 13 => &mut summary.wrong,
                 14 => &mut summary.incomplete,
-                _ => &mut summary.unobservable,
+                15 => &mut summary.unobservable,
+                20 => &mut summary.incomplete_fall,
+                _ => &mut summary.unobservable_fall,
             } += 1;
             if promised.is_ok() {
                 return Err(format!("{verdict:?}, but no sentence is broken"));

@@ -14,8 +14,8 @@ use crate::files::{
     stage_gate, stage_output, write_reference, write_stage, FilePair,
 };
 use crate::judge::{
-    answer, pin_count, rails_of_word, read_stage, settle, Boolean, Gate, Reference, Stage, Verdict,
-    ABSENT, ACCEPTED, AND, NAND, NOR, NOT, OR, SET, XOR,
+    answer, cell, check_circuits, pin_count, rails_of_word, read_stage, settle, Boolean, Gate,
+    Reference, Stage, Verdict, ABSENT, ACCEPTED, AND, NAND, NOR, NOT, OR, SET, XOR,
 };
 
 /// A small generator of numbers (splitmix64).
@@ -217,7 +217,7 @@ fn same_function(random: &mut Random, gate: &Gate) -> Gate {
                     .iter()
                     .rev()
                     .fold(0, |pins, place| 2 * pins + (pattern >> place & 1));
-                SET[gate.kind][pins]
+                SET[cell(gate.kind)][pins]
             })
             .fold(0, |function, pattern: usize| function | 1 << pattern)
     };
@@ -865,11 +865,11 @@ fn refused_in_reading(random: &mut Random, number: u64, which: u64) -> Generated
             at
         }
     };
-    // Document 02 knows command 06 in a stage.
-    let known = if number == 2 && in_stage && at > 0 && pair.stage[at] == 0x06 {
-        Known::Nothing
-    } else {
-        Known::Verdict([number, which, at as u64, 0])
+    // Document 02 knows command 06 and relaxed kinds in a stage.
+    let known = match (number, which) {
+        (2, 1) if at > 0 && pair.stage[at] == 0x06 => Known::Nothing,
+        (4, 1) if matches!(pair.stage[at], 129..=155) => Known::Nothing,
+        _ => Known::Verdict([number, which, at as u64, 0]),
     };
     Generated {
         family: "one refusal in reading",
@@ -1755,7 +1755,7 @@ fn long_list(random: &mut Random) -> Generated {
 }
 
 /// Pair number `index` of a seed: of document 01's language, or with a care list.
-pub fn pair(seed: u64, index: u64) -> Generated {
+pub fn pair_without_relaxed(seed: u64, index: u64) -> Generated {
     let generated = pair_of_document_01(seed, index);
     let random = &mut Random::new(seed ^ 0xCA4E, index);
     match random.below(100) {
@@ -1765,6 +1765,101 @@ pub fn pair(seed: u64, index: u64) -> Generated {
         21..=24 => faulty_list(random),
         26 if random.chance(1, 4) => long_list(random),
         25 => misplaced_list(random, generated),
+        _ => generated,
+    }
+}
+
+// ---------------------------------------------------------------------------
+// Relaxed kinds (document 02, M-102).
+
+/// The places of the kinds in a stage file that can be read.
+fn kind_places(file: &[u8]) -> Vec<usize> {
+    let starts = starts_of(file).into_iter();
+    let gates = starts.filter(|&start| file[start] == 0x02);
+    gates.map(|start| start + 1).collect()
+}
+
+/// A generated pair some of whose gates are relaxed: rises are judged as before.
+fn with_relaxed(random: &mut Random, generated: Generated) -> Generated {
+    if read_stage(&generated.pair.stage).is_err() {
+        return generated;
+    }
+    let mut pair = generated.pair;
+    let places = kind_places(&pair.stage);
+    let whole = random.pick(&[1, 2, 4, places.len().max(1)]);
+    let mut relaxed = false;
+    for place in places {
+        if random.chance(1, whole) {
+            pair.stage[place] |= 128;
+            relaxed = true;
+        }
+    }
+    let known = match generated.known {
+        Known::Verdict(ACCEPTED) if relaxed => Known::Nothing,
+        known => known,
+    };
+    Generated {
+        family: "relaxed",
+        pair,
+        known,
+    }
+}
+
+/// An accepted pair of few inputs all of whose gates are relaxed, one after the other, where it
+/// is still accepted; and then perhaps one more.
+fn relaxed_where_it_may(random: &mut Random) -> Generated {
+    let (mut stage, reference) = loop {
+        let size = random.pick(&[Size::Small, Size::Small, Size::Medium]);
+        let circuits = accepted(random, size);
+        if circuits.0.inputs <= 4 && circuits.0.gates.len() <= 24 {
+            break circuits;
+        }
+    };
+    if random.chance(1, 4) {
+        stage.care = some_list(random, stage.inputs);
+    }
+    for gate in random.order(stage.gates.len()) {
+        stage.gates[gate].kind += 128;
+        if check_circuits(&stage, &reference) != ACCEPTED {
+            stage.gates[gate].kind -= 128;
+        }
+    }
+    let mut known = Known::Verdict(ACCEPTED);
+    if !stage.gates.is_empty() && random.chance(1, 4) {
+        let gate = random.below(stage.gates.len());
+        stage.gates[gate].kind |= 128;
+        known = Known::Nothing;
+    }
+    Generated {
+        family: "relaxed where it may",
+        pair: files_of(random, &stage, &reference),
+        known,
+    }
+}
+
+/// A gate of a kind next to the known ones.
+fn unknown_kind(random: &mut Random, generated: Generated) -> Generated {
+    if read_stage(&generated.pair.stage).is_err() || kind_places(&generated.pair.stage).is_empty() {
+        return generated;
+    }
+    let mut pair = generated.pair;
+    let at = random.pick(&kind_places(&pair.stage));
+    pair.stage[at] = random.pick(&[0, 28, 127, 128, 156, 157, 255]);
+    Generated {
+        family: "unknown kind",
+        pair,
+        known: Known::Verdict([4, 1, at as u64, 0]),
+    }
+}
+
+/// Pair number `index` of a seed.
+pub fn pair(seed: u64, index: u64) -> Generated {
+    let generated = pair_without_relaxed(seed, index);
+    let random = &mut Random::new(seed ^ 0x4E1A, index);
+    match random.below(100) {
+        0..=19 => with_relaxed(random, generated),
+        20..=29 => relaxed_where_it_may(random),
+        30 => unknown_kind(random, generated),
         _ => generated,
     }
 }
@@ -1810,17 +1905,23 @@ pub fn pair_to_explore(seed: u64, index: u64) -> Generated {
     } else {
         Size::Small
     };
-    match random.below(16) {
+    let generated = match random.below(18) {
         0..=3 => accepted_pair(random, size),
         4..=6 => mutated_pair(random, size),
         7 | 8 => found_pair(random, size, no_list),
         9 => random_pair(random, size),
         10 | 11 => found_pair(random, size, some_list),
         12 => only_cared_for(random),
+        13 | 14 => return relaxed_where_it_may(random),
         _ => {
             let generated = mutated_pair(random, size);
             with_list(random, generated)
         }
+    };
+    if random.chance(1, 3) {
+        with_relaxed(random, generated)
+    } else {
+        generated
     }
 }
 

@@ -53,9 +53,23 @@ pub const KINDS: [(&str, &str); 27] = [
     ("TH24comp", "AC+BC+AD+BD"),
 ];
 
+/// Document 02, M-102: "Kinds 129 to 155 are kinds 1 to 27 whose output falls as soon as the set
+/// expression is false." Such a kind is relaxed; the kind of its expression is its cell.
+pub fn is_relaxed(kind: usize) -> bool {
+    kind > 128
+}
+
+pub fn cell(kind: usize) -> usize {
+    if is_relaxed(kind) {
+        kind - 128
+    } else {
+        kind
+    }
+}
+
 /// The pins that a kind has: the letters of its set expression, from A on.
 pub fn pin_count(kind: usize) -> usize {
-    let expression = KINDS[kind - 1].1;
+    let expression = KINDS[cell(kind) - 1].1;
     ["A", "B", "C", "D"]
         .iter()
         .filter(|letter| expression.contains(*letter))
@@ -207,7 +221,7 @@ pub fn read_stage(file: &[u8]) -> Result<Stage, Refusal> {
                 }
                 // 4, the kind is unknown.
                 let kind = usize::from(file[place + 1]);
-                if !(1..=27).contains(&kind) {
+                if !(1..=27).contains(&kind) && !(129..=155).contains(&kind) {
                     return Err((4, place + 1));
                 }
                 // 5, a pin that the kind has holds FFFF, or one it lacks does not.
@@ -386,7 +400,7 @@ pub fn set_expression_holds(gate: &Gate, row: &[bool]) -> bool {
         }
         pin += 1;
     }
-    SET[gate.kind][pattern]
+    SET[cell(gate.kind)][pattern]
 }
 
 /// 12: the least gate that reaches itself through pins.
@@ -430,6 +444,46 @@ pub fn settle(stage: &Stage, rails: &[bool], held_low: Option<usize>) -> Vec<boo
             return row;
         }
         order.reverse();
+    }
+}
+
+/// Whether a high gate may fall: "exactly if all the pins its kind has are low", and a relaxed
+/// one exactly if its set expression is false.
+pub fn may_fall(gate: &Gate, row: &[bool]) -> bool {
+    if is_relaxed(gate.kind) {
+        !set_expression_holds(gate, row)
+    } else {
+        gate.pins.iter().all(|&net| !row[net])
+    }
+}
+
+/// "All inputs fallen but i, every gate settled by the fall rule", from the rest of a word; or
+/// all inputs fallen, and a gate held high.
+pub fn settle_fall(
+    stage: &Stage,
+    rest: &[bool],
+    input_kept: Option<usize>,
+    held_high: Option<usize>,
+) -> Vec<bool> {
+    let mut row = rest.to_vec();
+    for input in 0..stage.inputs {
+        if input_kept != Some(input) {
+            row[2 * input] = false;
+            row[2 * input + 1] = false;
+        }
+    }
+    loop {
+        let mut changed = false;
+        for (k, gate) in stage.gates.iter().enumerate() {
+            let net = stage.net_of_gate(k);
+            if row[net] && held_high != Some(k) && may_fall(gate, &row) {
+                row[net] = false;
+                changed = true;
+            }
+        }
+        if !changed {
+            return row;
+        }
     }
 }
 
@@ -482,6 +536,10 @@ fn output_state(stage: &Stage, row: &[bool], output: usize) -> PairState {
 fn all_outputs_data(stage: &Stage, row: &[bool]) -> bool {
     (0..stage.outputs.len())
         .all(|output| matches!(output_state(stage, row, output), PairState::Data(_)))
+}
+
+fn all_outputs_null(stage: &Stage, row: &[bool]) -> bool {
+    (0..stage.outputs.len()).all(|output| output_state(stage, row, output) == PairState::Null)
 }
 
 /// "Signal i is bit i of w, each gate's signal is its operation on its operands'
@@ -538,7 +596,7 @@ pub fn check(stage_file: &[u8], reference_file: &[u8]) -> Verdict {
     check_circuits(&stage, &reference)
 }
 
-/// The checks 13 to 15 of a loop-free stage against a reference with as many
+/// The checks 13 to 15, 20 and 21 of a loop-free stage against a reference with as many
 /// inputs and outputs: they "cover care words only".
 pub fn check_circuits(stage: &Stage, reference: &Reference) -> Verdict {
     let words = stage.words();
@@ -576,6 +634,32 @@ pub fn check_circuits(stage: &Stage, reference: &Reference) -> Verdict {
                 let held = settle(stage, &rails, Some(gate));
                 if all_outputs_data(stage, &held) {
                     return [15, STAGE, gate as u64, word];
+                }
+            }
+        }
+    }
+
+    // 20: "all inputs fallen but i, which keeps its DATA, every gate settled by the fall rule,
+    // all outputs NULL".
+    for &word in &words {
+        let rest = settle(stage, &rails_of_word(stage.inputs, word), None);
+        for input in 0..stage.inputs {
+            let row = settle_fall(stage, &rest, Some(input), None);
+            if all_outputs_null(stage, &row) {
+                return [20, STAGE, input as u64, word];
+            }
+        }
+    }
+
+    // 21: "a gate high in w is held high, all inputs fallen, every other gate settled so, all
+    // outputs NULL".
+    for &word in &words {
+        let rest = settle(stage, &rails_of_word(stage.inputs, word), None);
+        for gate in 0..stage.gates.len() {
+            if rest[stage.net_of_gate(gate)] {
+                let row = settle_fall(stage, &rest, None, Some(gate));
+                if all_outputs_null(stage, &row) {
+                    return [21, STAGE, gate as u64, word];
                 }
             }
         }

@@ -4,7 +4,9 @@
 //!
 //! The lines are the judge's; what a case prints is also written by hand where it is short.
 
-use crate::catalogue::{examples, examples_of_document_01, Example, MARKED};
+use crate::catalogue::{
+    care_examples, examples, examples_of_document_01, relaxed_examples, Example, MARKED,
+};
 use crate::circuits::{ReferenceBuilder, Signal, StageBuilder};
 use crate::files::{report_text, unhex, verdict_line, write_pair, FilePair};
 use crate::generate;
@@ -85,8 +87,9 @@ pub fn cases() -> Vec<Case> {
     stored_examples(&mut cases, examples_of_document_01());
     unequal_words(&mut cases);
     // What document 02 adds stands behind, so that the cases above keep their numbers.
-    stored_examples(&mut cases, examples());
+    stored_examples(&mut cases, care_examples());
     care_words(&mut cases);
+    stored_examples(&mut cases, relaxed_examples());
     cases.0
 }
 

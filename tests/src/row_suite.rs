@@ -113,8 +113,22 @@ const TH44: usize = 11;
 const X: u16 = 0xFFFF;
 
 pub fn cases() -> Vec<Case> {
-    let mut cases = Cases(cases_of_document_01());
+    let mut cases = cases_of_document_01();
+    cases.extend(care_cases());
+    cases.extend(relaxed_cases());
+    cases
+}
+
+/// What document 02 adds: M-101, M-102.
+pub fn care_cases() -> Vec<Case> {
+    let mut cases = Cases(Vec::new());
     care_words(&mut cases);
+    cases.0
+}
+
+pub fn relaxed_cases() -> Vec<Case> {
+    let mut cases = Cases(Vec::new());
+    relaxed_kinds(&mut cases);
     cases.0
 }
 
@@ -656,36 +670,113 @@ fn small_stages(cases: &mut Cases) {
 /// inputs 0 to 3, and likewise of the inputs 4 to 7. Each pattern of pins comes up
 /// with its complement, so four words show all 16 patterns to every kind.
 fn all_kinds(cases: &mut Cases) {
-    let mut commands = Vec::new();
-    for kind in 1..=27 {
-        for rails in [[1, 3, 5, 7], [0, 2, 4, 6], [9, 11, 13, 15], [8, 10, 12, 14]] {
-            commands.push(gate(kind, &rails[..pin_count(kind)]));
-        }
-    }
-    commands.push(output(16, 123));
-    let stage = file_of(8, &commands);
-    let row = |word: usize, null: usize| -> Vec<u8> {
-        let inputs = (0..8).flat_map(|i| match (null >> i & 1, word >> i & 1) {
-            (0, 0) => [1, 0],
-            (0, _) => [0, 1],
-            _ => [0, 0],
-        });
-        let old = (0..108).map(|k| (k * 7 + word) as u8);
-        inputs.chain(old).collect()
-    };
+    let stage = four_of_each(0);
     for low in 0..4 {
         let word = low + 16 * (low + 4);
         cases.settles(
             format!("four gates of each of the 27 kinds, word {word}"),
             &stage,
-            row(word, 0),
+            row_of(word, 0),
         );
     }
     cases.settles(
         "four gates of each of the 27 kinds, inputs 1, 3, 4 and 7 NULL",
         &stage,
-        row(101, 0b1001_1010),
+        row_of(101, 0b1001_1010),
     );
+}
+
+/// The stage, `more` added to all kinds.
+fn four_of_each(more: usize) -> Vec<u8> {
+    let mut commands = Vec::new();
+    for kind in 1..=27 {
+        for rails in [[1, 3, 5, 7], [0, 2, 4, 6], [9, 11, 13, 15], [8, 10, 12, 14]] {
+            commands.push(gate(kind + more, &rails[..pin_count(kind)]));
+        }
+    }
+    commands.push(output(16, 123));
+    file_of(8, &commands)
+}
+
+/// A row of it: a word, and the inputs that are NULL; the gates' old bytes are of all sorts.
+fn row_of(word: usize, null: usize) -> Vec<u8> {
+    let inputs = (0..8).flat_map(|i| match (null >> i & 1, word >> i & 1) {
+        (0, 0) => [1, 0],
+        (0, _) => [0, 1],
+        _ => [0, 0],
+    });
+    let old = (0..108).map(|k| (k * 7 + word) as u8);
+    inputs.chain(old).collect()
+}
+
+/// Document 02, M-102: kinds 129 to 155 settle as 1 to 27 do.
+fn relaxed_kinds(cases: &mut Cases) {
+    for kind in [128, 156, 157, 255] {
+        cases.refused(
+            &format!("4: kind {kind}"),
+            file_of(1, &[raw_gate(kind, [0, 1, X, X]), output(0, 1)]),
+            4,
+            3,
+        );
+    }
+    cases.refused("1 before 4: kind 156, cut", unhex("01 01 02 9C 00"), 1, 5);
+    cases.refused(
+        "5: relaxed TH22 without pin B",
+        file_of(1, &[raw_gate(130, [0, X, X, X]), output(0, 1)]),
+        5,
+        6,
+    );
+    cases.refused(
+        "5: relaxed TH12 with a pin C",
+        file_of(1, &[raw_gate(129, [0, 1, 0, X]), output(0, 1)]),
+        5,
+        8,
+    );
+    cases.refused(
+        "5: the last relaxed kind without pin D",
+        file_of(2, &[raw_gate(155, [0, 1, 2, X]), output(0, 1)]),
+        5,
+        10,
+    );
+    cases.refused(
+        "9: an absent net on a relaxed gate",
+        file_of(1, &[gate(130, &[0, 3]), output(0, 1)]),
+        9,
+        6,
+    );
+    cases.refused(
+        "12: a loop of a relaxed gate and a holding one",
+        file_of(1, &[gate(TH12, &[0, 3]), gate(129, &[2, 1]), output(0, 1)]),
+        12,
+        0,
+    );
+    let mut many = vec![gate(TH12, &[0, 1]); 128];
+    many.extend([gate(129, &[0, 1]), output(0, 1)]);
+    cases.refused("6: the 129th gate is relaxed", file_of(1, &many), 6, 1282);
+    let stage = four_of_each(128);
+    for low in 0..4 {
+        let word = low + 16 * (low + 4);
+        cases.settles(
+            format!("four gates of each relaxed kind, word {word}"),
+            &stage,
+            row_of(word, 0),
+        );
+    }
+    cases.settles(
+        "four gates of each relaxed kind, inputs 1, 3, 4 and 7 NULL",
+        &stage,
+        row_of(101, 0b1001_1010),
+    );
+    let and = file_of(
+        2,
+        &[gate(130, &[1, 3]), gate(154, &[0, 2, 1, 3]), output(5, 4)],
+    );
+    cases.settles(
+        "a relaxed AND, one input DATA1, its gates were high",
+        &and,
+        vec![0, 1, 0, 0, 1, 1],
+    );
+    cases.row("17: a relaxed AND", &and, vec![1, 0, 1, 1, 0, 0], 17, 1);
 }
 
 /// A stage of 10 inputs, 128 gates and 16 outputs without loops. The gates stand in

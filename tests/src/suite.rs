@@ -6,15 +6,17 @@
 //! made here are also written by hand from document 01, and the test holds the judge
 //! to them.
 
-use crate::catalogue::{examples, examples_of_document_01, Example, MARKED};
+use crate::catalogue::{
+    care_examples, examples, examples_of_document_01, relaxed_examples, Example, MARKED,
+};
 use crate::circuits::{kind_named, ReferenceBuilder, Signal, StageBuilder};
 use crate::files::{
     care_word, file_of, reference_gate, reference_output, unhex, verdict_line, write_pair, FilePair,
 };
 use crate::generate::{self, Known};
 use crate::judge::{
-    check, expression_holds, pin_count, Boolean, Verdict, ACCEPTED, AND, KINDS, NONE, NOR, NOT, OR,
-    REFERENCE, STAGE, XOR,
+    check, expression_holds, pin_count, Boolean, Reference, Stage, Verdict, ACCEPTED, AND, KINDS,
+    NONE, NOR, NOT, OR, REFERENCE, STAGE, XOR,
 };
 use crate::row_suite::{self, cut, gate, output};
 use std::collections::BTreeSet;
@@ -193,9 +195,12 @@ pub fn cases() -> Vec<Case> {
     all_kinds(&mut cases);
     generated(&mut cases);
     // What document 02 adds stands behind, so that the cases above keep their numbers.
-    stored_examples(&mut cases, examples());
-    refusals_of_the_stage(&mut cases, row_suite::cases());
+    stored_examples(&mut cases, care_examples());
+    refusals_of_the_stage(&mut cases, row_suite::care_cases());
     care_words(&mut cases);
+    stored_examples(&mut cases, relaxed_examples());
+    refusals_of_the_stage(&mut cases, row_suite::relaxed_cases());
+    relaxed_kinds(&mut cases);
     cases.0
 }
 
@@ -930,38 +935,18 @@ fn limits(cases: &mut Cases) {
 fn all_kinds(cases: &mut Cases) {
     for (index, (name, expression)) in KINDS.iter().enumerate() {
         let kind = index + 1;
+        let (stage, reference) = kind_as_rail_1(name, expression);
+        assert_eq!(kind_named(name), kind);
+        cases.push(
+            format!("{name} as rail 1 of its function"),
+            write_pair(&stage, &reference),
+            Known::Verdict(ACCEPTED),
+        );
+        // The same with its least word of value 1 taken for 0 by the reference.
         let n = pin_count(kind);
         let value = |word: usize| {
             expression_holds(expression, [0, 1, 2, 3].map(|pin| word >> pin & 1 == 1))
         };
-        let mut s = StageBuilder::new(n);
-        let inputs = s.inputs();
-        let pins: Vec<usize> = inputs.iter().map(|input| input.rail_1).collect();
-        let rail_1 = s.gate(name, &pins);
-        let others: Vec<usize> = (0..1 << n)
-            .filter(|&word| !value(word))
-            .map(|word| {
-                let rails: Vec<usize> = (0..n).map(|i| 2 * i + (word >> i & 1)).collect();
-                s.gate(["TH22", "TH33", "TH44"][n - 2], &rails)
-            })
-            .collect();
-        let rail_0 = s.any_of(&others).expect("word 0 is one of them");
-        s.output(Signal { rail_0, rail_1 });
-        let mut r = ReferenceBuilder::new(n);
-        let values: Vec<bool> = (0..1 << n).map(value).collect();
-        let function = r.by_words(&values);
-        r.output(function);
-        for (input, &wire) in inputs.iter().enumerate() {
-            s.output(wire);
-            r.output(input);
-        }
-        assert_eq!(kind_named(name), kind);
-        cases.push(
-            format!("{name} as rail 1 of its function"),
-            write_pair(&s.stage, &r.reference),
-            Known::Verdict(ACCEPTED),
-        );
-        // The same with its least word of value 1 taken for 0 by the reference.
         let least = (0..1 << n)
             .find(|&word| value(word))
             .expect("all pins high");
@@ -974,10 +959,38 @@ fn all_kinds(cases: &mut Cases) {
         }
         cases.push(
             format!("13: {name} against its function less word {least}"),
-            write_pair(&s.stage, &r.reference),
+            write_pair(&stage, &r.reference),
             Known::Verdict([13, STAGE, 0, least as u64]),
         );
     }
+}
+
+fn kind_as_rail_1(name: &str, expression: &str) -> (Stage, Reference) {
+    let n = pin_count(kind_named(name));
+    let value =
+        |word: usize| expression_holds(expression, [0, 1, 2, 3].map(|pin| word >> pin & 1 == 1));
+    let mut s = StageBuilder::new(n);
+    let inputs = s.inputs();
+    let pins: Vec<usize> = inputs.iter().map(|input| input.rail_1).collect();
+    let rail_1 = s.gate(name, &pins);
+    let others: Vec<usize> = (0..1 << n)
+        .filter(|&word| !value(word))
+        .map(|word| {
+            let rails: Vec<usize> = (0..n).map(|i| 2 * i + (word >> i & 1)).collect();
+            s.gate(["TH22", "TH33", "TH44"][n - 2], &rails)
+        })
+        .collect();
+    let rail_0 = s.any_of(&others).expect("word 0 is one of them");
+    s.output(Signal { rail_0, rail_1 });
+    let mut r = ReferenceBuilder::new(n);
+    let values: Vec<bool> = (0..1 << n).map(value).collect();
+    let function = r.by_words(&values);
+    r.output(function);
+    for (input, &wire) in inputs.iter().enumerate() {
+        s.output(wire);
+        r.output(input);
+    }
+    (s.stage, r.reference)
 }
 
 /// Pairs of all families of the generator.
@@ -1190,6 +1203,202 @@ fn care_words(cases: &mut Cases) {
         "ten wires, word 1023 alone",
         &ten(&[1023]),
         &turned,
+        ACCEPTED,
+    );
+}
+
+/// Document 02, M-102: checks 20 and 21, after 15, the least word and index; rises as before.
+fn relaxed_kinds(cases: &mut Cases) {
+    const R: usize = 128;
+    for (name, expression) in KINDS {
+        let (stage, reference) = kind_as_rail_1(&format!("r{name}"), expression);
+        cases.push(
+            format!("r{name} as rail 1 of its function, the inputs wired out"),
+            write_pair(&stage, &reference),
+            Known::Verdict(ACCEPTED),
+        );
+    }
+    // AND of TH22(1, 3) and THand0(0, 2, 1, 3), either relaxed or not.
+    let and_gates = |first: usize, second: usize| {
+        vec![
+            gate(TH22 + first, &[1, 3]),
+            gate(26 + second, &[0, 2, 1, 3]),
+        ]
+    };
+    let and = |list: &[u64], first, second| {
+        let mut commands: Vec<Vec<u8>> = list.iter().map(|&word| care_word(word)).collect();
+        commands.extend(and_gates(first, second));
+        commands.push(output(5, 4));
+        file_of(2, &commands)
+    };
+    let and_reference = file_of(2, &[op(AND, &[0, 1]), signal(2)]);
+    for (list, first, second, verdict) in [
+        (vec![], R, 0, [20, STAGE, 0, 3]),
+        (vec![], 0, R, [20, STAGE, 0, 0]),
+        (vec![], R, R, [20, STAGE, 0, 0]),
+        (vec![3], R, R, [20, STAGE, 0, 3]),
+        (vec![1, 3], R, R, [20, STAGE, 0, 1]),
+        (vec![0, 1, 2], R, 0, ACCEPTED),
+        (vec![3], 0, R, ACCEPTED),
+        (vec![2, 3], R, 0, [20, STAGE, 0, 3]),
+    ] {
+        let about = format!("20: AND, rails relaxed {first} {second}, care list {list:?}");
+        cases.add(&about, &and(&list, first, second), &and_reference, verdict);
+    }
+    // With one input wired out the other one is named.
+    for input in 0..2 {
+        let mut commands = and_gates(R, R);
+        commands.extend([output(5, 4), through(input)]);
+        cases.add(
+            &format!("20: relaxed AND, input {input} wired out"),
+            &file_of(2, &commands),
+            &file_of(2, &[op(AND, &[0, 1]), signal(2), signal(input)]),
+            [20, STAGE, 1 - input as u64, 0],
+        );
+    }
+    let mut commands = and_gates(R, R);
+    commands.extend([output(5, 4), through(0), through(1)]);
+    cases.add(
+        "relaxed AND, both inputs wired out",
+        &file_of(2, &commands),
+        &file_of(2, &[op(AND, &[0, 1]), signal(2), signal(0), signal(1)]),
+        ACCEPTED,
+    );
+    // Rises are judged as before, and first.
+    let mut commands = and_gates(R, R);
+    commands.push(output(4, 5));
+    cases.add(
+        "13 before 20: relaxed AND, rails swapped",
+        &file_of(2, &commands),
+        &and_reference,
+        [13, STAGE, 0, 0],
+    );
+    cases.add(
+        "14 before 20: AND by relaxed TH12 and TH22",
+        &file_of(
+            2,
+            &[
+                gate(TH12 + R, &[0, 2]),
+                gate(TH22 + R, &[1, 3]),
+                output(4, 5),
+            ],
+        ),
+        &and_reference,
+        [14, STAGE, 0, 0],
+    );
+    let mut commands = and_gates(R, R);
+    commands.extend([output(5, 4), gate(TH22, &[1, 3])]);
+    cases.add(
+        "15 before 20: relaxed AND and a gate that feeds nothing",
+        &file_of(2, &commands),
+        &and_reference,
+        [15, STAGE, 2, 3],
+    );
+    cases.add(
+        "12 before 20: a relaxed gate on its own net",
+        &file_of(1, &[gate(TH12 + R, &[2, 0]), output(0, 1)]),
+        &wire_reference(),
+        [12, STAGE, 0, 0],
+    );
+    cases.add(
+        "15: wire and a relaxed gate that rises in word 1 and feeds nothing",
+        &file_of(1, &[gate(TH22 + R, &[1, 1]), output(0, 1)]),
+        &wire_reference(),
+        [15, STAGE, 0, 1],
+    );
+    // One input whose rails wait for a TH12 of both; rails relaxed or not.
+    let joined = |list: &[u64], here: usize, first: usize, second: usize| {
+        let mut commands: Vec<Vec<u8>> = list.iter().map(|&word| care_word(word)).collect();
+        commands.extend([
+            gate(TH12 + here, &[0, 1]),
+            gate(TH22 + first, &[2, 0]),
+            gate(TH22 + second, &[2, 1]),
+            output(3, 4),
+        ]);
+        file_of(1, &commands)
+    };
+    for (list, here, first, second, verdict) in [
+        (vec![], 0, 0, 0, ACCEPTED),
+        (vec![], R, 0, 0, ACCEPTED),
+        (vec![], 0, R, R, [21, STAGE, 0, 0]),
+        (vec![], R, R, R, [21, STAGE, 0, 0]),
+        (vec![], 0, R, 0, [21, STAGE, 0, 0]),
+        (vec![], 0, 0, R, [21, STAGE, 0, 1]),
+        (vec![1], 0, R, 0, ACCEPTED),
+        (vec![0], 0, 0, R, ACCEPTED),
+        (vec![1], 0, R, R, [21, STAGE, 0, 1]),
+    ] {
+        let about = format!(
+            "21: rails that wait for a TH12, relaxed {here} {first} {second}, care list {list:?}"
+        );
+        let stage = joined(&list, here, first, second);
+        cases.add(&about, &stage, &wire_reference(), verdict);
+    }
+    // A chain of two before the rails, and the gates in another order.
+    cases.add(
+        "21: two gates may stay high, the least is named",
+        &file_of(
+            1,
+            &[
+                gate(TH22 + R, &[3, 0]),
+                gate(TH12, &[4, 4]),
+                gate(TH12, &[0, 1]),
+                gate(TH22 + R, &[3, 1]),
+                output(2, 5),
+            ],
+        ),
+        &wire_reference(),
+        [21, STAGE, 1, 0],
+    );
+    cases.add(
+        "21: only the last of the chain is let go early",
+        &file_of(
+            1,
+            &[
+                gate(TH12, &[0, 1]),
+                gate(TH22 + R, &[2, 2]),
+                gate(TH22, &[3, 0]),
+                gate(TH22, &[3, 1]),
+                output(4, 5),
+            ],
+        ),
+        &wire_reference(),
+        ACCEPTED,
+    );
+    // 20 in word 3, 21 in word 0 of another pair: 20 sweeps all words first.
+    let mut commands = and_gates(R, 0);
+    commands.extend([
+        gate(TH12, &[4, 5]),
+        gate(TH22 + R, &[6, 5]),
+        gate(TH22, &[6, 4]),
+        output(7, 8),
+    ]);
+    cases.add(
+        "20 before 21: in a later word",
+        &file_of(2, &commands),
+        &and_reference,
+        [20, STAGE, 0, 3],
+    );
+    let mut commands = and_gates(0, 0);
+    commands.extend([
+        gate(TH12, &[4, 5]),
+        gate(TH22 + R, &[6, 5]),
+        gate(TH22, &[6, 4]),
+        output(7, 8),
+    ]);
+    cases.add(
+        "21: the same with its first gate holding",
+        &file_of(2, &commands),
+        &and_reference,
+        [21, STAGE, 2, 0],
+    );
+    let mut chain: Vec<Vec<u8>> = vec![gate(TH22 + R, &[1, 1])];
+    chain.extend((1..128).map(|k| gate(TH22 + R, &[1 + k, 1 + k])));
+    chain.push(output(0, 129));
+    cases.add(
+        "a chain of 128 relaxed gates",
+        &file_of(1, &chain),
+        &wire_reference(),
         ACCEPTED,
     );
 }

@@ -25,11 +25,11 @@ fn the_judge_agrees_with_itself() {
 /// Cases that lack a number, or are nearly all refused, show too little.
 #[test]
 fn a_lack_is_told() {
-    let mut full: Histogram = [9; 20];
-    full[0] = 45;
+    let mut full: Histogram = [9; 22];
+    full[0] = 49;
     assert_eq!(lack(&full, &CHECK_NUMBERS), None);
     assert_eq!(lack(&full, &ROW_NUMBERS), None);
-    for number in 0..20 {
+    for number in 0..22 {
         let mut histogram = full;
         histogram[number] = 0;
         for numbers in [&CHECK_NUMBERS[..], &ROW_NUMBERS[..]] {
@@ -40,10 +40,10 @@ fn a_lack_is_told() {
         }
     }
     let mut histogram = full;
-    histogram[0] = 42;
+    histogram[0] = 47;
     assert_eq!(
         lack(&histogram, &CHECK_NUMBERS),
-        Some("only 42 of 213 are accepted".to_string())
+        Some("only 47 of 236 are accepted".to_string())
     );
 }
 
@@ -76,7 +76,7 @@ fn with_other_sweep(
     sweep: fn(&Stage, &Reference) -> [u64; 4],
 ) -> [u64; 4] {
     let verdict = check(stage, reference);
-    if !matches!(verdict[0], 0 | 13..=15) {
+    if !matches!(verdict[0], 0 | 13..=15 | 20 | 21) {
         return verdict;
     }
     sweep(
@@ -141,12 +141,101 @@ fn sweep(
             return [14, 1, input, word];
         }
     }
-    for word in words {
+    for word in words.clone() {
         if let Some(gate) = unobserved_gate(stage, word, |_| true) {
             return [15, 1, gate, word];
         }
     }
+    falls(stage, words, &FALL)
+}
+
+/// How a fall is judged; `FALL` is right.
+#[derive(Clone, Copy)]
+struct Fall {
+    holds: fn(usize) -> bool,
+    numbers: [u64; 2],
+    /// Whether under 20 the input named keeps its DATA.
+    input_kept: bool,
+    /// Whether all gates are high at the start, and not those of the rest only.
+    from_all_high: bool,
+    /// Whether 21 is tried on relaxed gates only.
+    relaxed_only: bool,
+}
+
+const FALL: Fall = Fall {
+    holds: |kind| kind < 128,
+    numbers: [20, 21],
+    input_kept: true,
+    from_all_high: false,
+    relaxed_only: false,
+};
+
+/// The nets that are still high where the inputs have fallen but one, if any, and a gate is held
+/// high, if any: from each gate to its pins, each net once.
+fn still_high(
+    stage: &Stage,
+    rest: &[bool],
+    net: usize,
+    (input, held): (Option<usize>, Option<usize>),
+    fall: &Fall,
+    seen: &mut [Option<bool>],
+) -> bool {
+    if let Some(high) = seen[net] {
+        return high;
+    }
+    let first = 2 * stage.inputs;
+    let high = if net < first {
+        rest[net] && input == Some(net / 2)
+    } else if held == Some(net - first) {
+        true
+    } else {
+        let gate = &stage.gates[net - first];
+        let mut row = vec![false; stage.nets()];
+        for &pin in &gate.pins {
+            row[pin] = still_high(stage, rest, pin, (input, held), fall, seen);
+        }
+        (rest[net] || fall.from_all_high)
+            && if (fall.holds)(gate.kind) {
+                row.contains(&true)
+            } else {
+                set_expression_holds(gate, &row)
+            }
+    };
+    seen[net] = Some(high);
+    high
+}
+
+fn falls(stage: &Stage, words: impl Iterator<Item = u64> + Clone, fall: &Fall) -> [u64; 4] {
+    for number in fall.numbers {
+        for word in words.clone() {
+            let rest = settle(stage, &rails_of_word(stage.inputs, word), None);
+            let count = [stage.inputs, stage.gates.len()][usize::from(number == 21)];
+            for at in 0..count {
+                let kept = match number {
+                    20 => (Some(at).filter(|_| fall.input_kept), None),
+                    _ if !rest[stage.net_of_gate(at)] => continue,
+                    _ if fall.relaxed_only && stage.gates[at].kind < 128 => continue,
+                    _ => (None, Some(at)),
+                };
+                let mut nets = stage.outputs.iter().flatten();
+                let seen = &mut vec![None; stage.nets()];
+                if !nets.any(|&net| still_high(stage, &rest, net, kept, fall, seen)) {
+                    return [number, 1, at as u64, word];
+                }
+            }
+        }
+    }
     ACCEPTED
+}
+
+/// The check with its falls judged otherwise.
+fn with_other_falls(stage: &[u8], reference: &[u8], fall: &Fall) -> [u64; 4] {
+    let verdict = check(stage, reference);
+    if !matches!(verdict[0], 0 | 20 | 21) {
+        return verdict;
+    }
+    let stage = read_stage(stage).unwrap();
+    falls(&stage, stage.words().into_iter(), fall)
 }
 
 #[test]
@@ -208,6 +297,56 @@ fn wrong_checks_are_told() {
         ("points at the care command", |s, r| match check(s, r) {
             [number @ (18 | 19), 1, at, 0] => [number, 1, at - 1, 0],
             verdict => verdict,
+        }),
+        ("takes relaxed gates for holding ones", |s, r| {
+            let holds = |_| true;
+            with_other_falls(s, r, &Fall { holds, ..FALL })
+        }),
+        ("takes holding gates for relaxed ones", |s, r| {
+            let holds = |_| false;
+            with_other_falls(s, r, &Fall { holds, ..FALL })
+        }),
+        ("tries 21 before 20", |s, r| {
+            let numbers = [21, 20];
+            with_other_falls(s, r, &Fall { numbers, ..FALL })
+        }),
+        ("leaves 20 out", |s, r| {
+            let numbers = [21, 21];
+            with_other_falls(s, r, &Fall { numbers, ..FALL })
+        }),
+        ("leaves 21 out", |s, r| {
+            let numbers = [20, 20];
+            with_other_falls(s, r, &Fall { numbers, ..FALL })
+        }),
+        ("tries 20 with all inputs fallen", |s, r| {
+            let input_kept = false;
+            with_other_falls(s, r, &Fall { input_kept, ..FALL })
+        }),
+        ("starts the fall from all high", |s, r| {
+            let from_all_high = true;
+            with_other_falls(
+                s,
+                r,
+                &Fall {
+                    from_all_high,
+                    ..FALL
+                },
+            )
+        }),
+        ("tries 21 on relaxed gates only", |s, r| {
+            let relaxed_only = true;
+            with_other_falls(
+                s,
+                r,
+                &Fall {
+                    relaxed_only,
+                    ..FALL
+                },
+            )
+        }),
+        ("does not know relaxed kinds", |s, r| match read_stage(s) {
+            Ok(stage) if stage.gates.iter().any(|gate| gate.kind > 128) => [4, 1, 0, 0],
+            _ => check(s, r),
         }),
         ("accepts every readable pair", |s, r| {
             with_other_sweep(s, r, |_, _| ACCEPTED)
@@ -595,7 +734,8 @@ fn refusal(reading: &Reading, file: &[u8], which: u64) -> Option<(u64, usize)> {
         }
         if is_gate && left >= 1 {
             let kind = usize::from(file[place + 1]);
-            if !(1..=kinds).contains(&kind) {
+            let relaxed = which == 1 && (129..=155).contains(&kind);
+            if !(1..=kinds).contains(&kind) && !relaxed {
                 faults.push((4, place + 1));
             } else if left >= width {
                 let needed = if which == 1 {

@@ -8,8 +8,8 @@ use fovaheju_tests::explore::{
 };
 use fovaheju_tests::generate::spelt_reference;
 use fovaheju_tests::judge::{
-    check, check_circuits, least_gate_on_a_loop, pin_count, rails_of_word, read_reference,
-    read_stage, settle, Boolean, Gate, Reference, Stage, AND, NOT, XOR,
+    check, check_circuits, is_relaxed, least_gate_on_a_loop, pin_count, rails_of_word,
+    read_reference, read_stage, settle, Boolean, Gate, Reference, Stage, AND, NOT, XOR,
 };
 
 #[test]
@@ -23,6 +23,11 @@ fn generated_pairs() {
             summary.wrong >= 200 && summary.incomplete >= 200 && summary.unobservable >= 200,
             "{summary}"
         );
+        assert!(
+            summary.accepted_relaxed >= 200 && summary.incomplete_fall >= 100,
+            "{summary}"
+        );
+        assert!(summary.unobservable_fall >= 10, "{summary}");
     }
 }
 
@@ -33,7 +38,7 @@ fn small_examples() {
     let mut explored = Vec::new();
     for example in examples() {
         let verdict = check(&example.pair.stage, &example.pair.reference);
-        if !matches!(verdict[0], 0 | 13 | 14 | 15) {
+        if !matches!(verdict[0], 0 | 13 | 14 | 15 | 20 | 21) {
             continue;
         }
         let stage = read_stage(&example.pair.stage).unwrap();
@@ -146,7 +151,8 @@ fn falls_without_hold_break() {
         }
         let stage = read_stage(&example.pair.stage).unwrap();
         let reference = read_reference(&example.pair.reference).unwrap();
-        if stage.nets() > 16 {
+        let relaxed = stage.gates.iter().any(|gate| is_relaxed(gate.kind));
+        if stage.nets() > 16 || relaxed {
             continue;
         }
         let rules = Rules::new(&stage).unwrap().without_hold();

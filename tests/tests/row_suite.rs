@@ -1,7 +1,7 @@
 //! The stored cases of the program `row_suite`: its files are those described, and the
 //! output that it is held to is the judge's.
 
-use fovaheju_tests::judge::{is_settled, pin_count, read_stage, settled_row, SET};
+use fovaheju_tests::judge::{cell, is_settled, pin_count, read_stage, settled_row, SET};
 use fovaheju_tests::row_suite::{cases, contents, crate_folder};
 use std::collections::BTreeSet;
 use std::fs;
@@ -80,12 +80,12 @@ fn what_the_cases_cover() {
             met.insert((gate.kind, pattern));
         }
     }
-    for kind in 1..=27 {
+    for kind in (1..=27).chain(129..=155) {
         for pattern in 0..1 << pin_count(kind) {
             assert!(
                 met.contains(&(kind, pattern)),
                 "kind {kind}, pattern {pattern}, level {}",
-                SET[kind][pattern]
+                SET[cell(kind)][pattern]
             );
         }
     }

@@ -1,4 +1,4 @@
--- The twelve marked cases of the paper, the examples of its table, and cases that show which fault is named, computed from the
+-- The twelve marked cases of the paper, the examples of its table, cases that show which fault is named, and relaxed gates, computed from the
 -- definitions alone.
 use Prim.Native.Nat.{ℕ, zero, suc, _+_, _*_}
 use mathlib.Core.Path.{_≡_, refl}
@@ -14,6 +14,7 @@ use Rattle.verdict.specs.Graph as g
 use Rattle.verdict.specs.Loops as l
 use Rattle.verdict.specs.Words as w
 use Rattle.verdict.specs.Answers as a
+use Rattle.verdict.specs.Falls as f
 use Rattle.verdict.specs.Checks as h
 use Rattle.verdict.specs.Checks.{verdict}
 use Rattle.verdict.specs.Verdicts as v
@@ -260,6 +261,36 @@ care =
     case (1 ∷ 2 ∷ cared 2 earlyGates) andReference (verdict 14 1 1 2) ∷
     []
 
+-- ---- relaxed gates, kinds 129 to 155, and the fall
+
+-- a buffer for each rail of one input
+abbrev buffers : ℕ → List ℕ → List ℕ
+buffers kind rest = twoPins kind 0 0 (twoPins kind 1 1 rest)
+
+-- the whole case with these kinds of its two gates
+abbrev andOf : ℕ → ℕ → List ℕ
+andOf one zero′ = 1 ∷ 2 ∷ twoPins one 1 3 (2 ∷ zero′ ∷ 0 ∷ 0 ∷ 2 ∷ 0 ∷ 1 ∷ 0 ∷ 3 ∷ 0 ∷ pair 5 4 (0 ∷ []))
+
+pub relaxed : List Case
+relaxed =
+    -- kinds 128 and 156 do not exist; 130 has two pins
+    case (1 ∷ 1 ∷ twoPins 0x80 0 1 (pair 0 1 (0 ∷ []))) wireReference (verdict 4 1 3 0) ∷
+    case (1 ∷ 1 ∷ twoPins 0x9C 0 1 (pair 0 1 (0 ∷ []))) wireReference (verdict 4 1 3 0) ∷
+    case (1 ∷ 1 ∷ 2 ∷ 0x82 ∷ 0 ∷ 0 ∷ FFFF ++ FFFF ++ FFFF) wireReference (verdict 5 1 6 0) ∷
+    -- two relaxed buffers, accepted
+    case (1 ∷ 1 ∷ buffers 0x81 (pair 2 3 (0 ∷ []))) wireReference (verdict 0 0 0 0) ∷
+    -- the rise is judged as before: case 8 with a relaxed gate
+    case (1 ∷ 1 ∷ twoPins 0x81 0 1 (pair 0 1 (0 ∷ []))) wireReference (verdict 15 1 0 0) ∷
+    -- the AND of the whole case: its relaxed TH22 falls with the first of its pins, in word 3 only; its relaxed THand0 in word 0 already
+    case (andOf 0x82 0x1A) andReference (verdict 20 1 0 3) ∷
+    case (andOf 2 0x9A) andReference (verdict 20 1 0 0) ∷
+    case (andOf 0x82 0x9A) andReference (verdict 20 1 0 0) ∷
+    -- a buffer with hold whose output gate does not wait for its fall, and one that does
+    case (1 ∷ 1 ∷ buffers 1 (twoPins 0x82 2 0 (twoPins 0x82 3 1 (pair 4 5 (0 ∷ []))))) wireReference (verdict 21 1 0 0) ∷
+    case (1 ∷ 1 ∷ buffers 1 (twoPins 2 2 0 (twoPins 2 3 1 (pair 4 5 (0 ∷ []))))) wireReference (verdict 0 0 0 0) ∷
+    case (1 ∷ 1 ∷ buffers 0x81 (twoPins 2 2 0 (twoPins 2 3 1 (pair 4 5 (0 ∷ []))))) wireReference (verdict 0 0 0 0) ∷
+    []
+
 abbrev judged : List Case → List Verdict
 judged cases = map (λ (x : Case). verdictOn (x .stage) (x .reference)) cases
 
@@ -301,17 +332,18 @@ Computed =
     × (judged ordered ≡ expected ordered)
     × (judged refused ≡ expected refused)
     × (judged care ≡ expected care)
+    × (judged relaxed ≡ expected relaxed)
     × (map (λ (x : RowCase). settledRow (x .stage) (x .row)) rowExamples ≡ map (λ (x : RowCase). x .expected) rowExamples)
 
 computed : Computed
-unfolding twelve examples ordered refused care earlyGates rowExamples wire wireReference wholeStage andReference swapped notReference earlyAnd wires wireSignals
+unfolding twelve examples ordered refused care earlyGates relaxed rowExamples wire wireReference wholeStage andReference swapped notReference earlyAnd wires wireSignals
     outputs firstInput gates inverters c.cells c.cellAt c.pinCount c.setExpression c.kindOf b.operand b.operands
     k.whenFound k.ownCommands k.commandTable k.formIn k.pinsNeeded k.needed k.stray k.misfit k.misfitFrom k.takeGate k.takeCare k.takeSort k.takeCommand k.nextAt
-    r.nameable r.nameless r.usedOperands r.namelessAt r.namelessFrom r.floorAfter r.noted r.finish r.onNext r.readFrom r.readFile t.stageOf t.referenceOf o.withNull o.isSet o.rounds o.settledLevels o.levelsHolding o.allData
+    r.nameable r.nameless r.usedOperands r.namelessAt r.namelessFrom r.floorAfter r.noted r.finish r.onNext r.readFrom r.readFile t.stageOf t.referenceOf o.withNull o.isSet o.rounds o.settledLevels o.levelsHolding o.everyPair
     g.tabulate g.leading l.gateSteps l.reachesItself w.numbers w.caredFor w.words w.bitsOf w.railsOf a.operate a.signalValues a.answer h.first h.atFault h.sweep
-    h.finding h.orLater h.firstFault h.wrong h.incomplete h.unobservable h.sweeps h.checks h.illegal h.rowChecks v.verdictOf v.judgeReference
+    h.finding h.orLater h.firstFault h.wrong h.incomplete h.unobservable h.fallIncomplete h.fallUnobservable h.riseSweeps h.fallSweeps f.stays f.fallenLevels f.fallen h.checks h.illegal h.rowChecks v.verdictOf v.judgeReference
     v.judgeStage v.verdictWithin v.settleUnless v.settleReading v.settledRowWithin
-computed = (refl, refl, refl, refl, refl, refl)
+computed = (refl, refl, refl, refl, refl, refl, refl)
 
 pub twelve-cases : judged twelve ≡ expected twelve
 twelve-cases = computed .0
@@ -328,5 +360,8 @@ refused-first = computed .3
 pub care-cases : judged care ≡ expected care
 care-cases = computed .4
 
+pub relaxed-cases : judged relaxed ≡ expected relaxed
+relaxed-cases = computed .5
+
 pub row-cases : map (λ (x : RowCase). settledRow (x .stage) (x .row)) rowExamples ≡ map (λ (x : RowCase). x .expected) rowExamples
-row-cases = computed .5
+row-cases = computed .6

@@ -2,5 +2,6 @@ pub mod Tabulate
 pub mod Pins
 pub mod Order
 pub mod Settling
+pub mod Falling
 pub mod Outputs
 pub mod Values

@@ -1,4 +1,4 @@
--- What two levels say of the pair that they are the rails of; and that all outputs are DATA exactly if none is the least that is not.
+-- What two levels say of the pair that they are the rails of; and that all outputs pass a test exactly if none is the least that fails it.
 -- Assumes nothing.
 use Prim.Native.Nat.{ℕ, zero, suc, _+_, _≤_, _<_}
 use native.Mathlib.Omega.{arith}
@@ -12,11 +12,11 @@ use Rattle.netlist.specs.declared.Counts.{Counts}
 use Rattle.netlist.specs.declared.Found.{Found}
 use Rattle.netlist.specs.declared.Found.the-variants.{At, Nothing}
 use Rattle.netlist.specs.Content.{Pair}
-use Rattle.verdict.specs.Rows.{high, dualRail, pairIn, isData, spells, allData}
+use Rattle.verdict.specs.Rows.{DualRail, high, dualRail, pairIn, isData, isNull, spells, everyPair}
 use Rattle.verdict.specs.Search.{least}
 use Rattle.verdict.proofs.Least.{least-says}
 use Rattle.circuit.specs.Stage.{tabulate, outputIn, stageOutputs, StageLoaded}
-use Rattle.circuit.specs.Rows.{RowFor, netsIn, LevelOf, notData}
+use Rattle.circuit.specs.Rows.{RowFor, netsIn, LevelOf, outputFails}
 use Rattle.circuit.proofs.Pins.{net-there, level-in}
 
 -- ---- two rails
@@ -35,8 +35,13 @@ data-bits true false = refl
 data-bits false true = refl
 data-bits false false = refl
 
-spell-bits : (x y : Bool) (v : ℕ) → v ≤ 1 → (bit y ≡ v → eqb (bit x + v) 1 ≡ spells (dualRail x y) v) ×
-    ((bit y ≡ v → ⊥) → false ≡ spells (dualRail x y) v)
+null-bits : (x y : Bool) → eqb (bit x + bit y) 0 ≡ isNull (dualRail x y)
+null-bits true true = refl
+null-bits true false = refl
+null-bits false true = refl
+null-bits false false = refl
+
+spell-bits : (x y : Bool) (v : ℕ) → v ≤ 1 → (bit y ≡ v → eqb (bit x + v) 1 ≡ spells (dualRail x y) v) × ((bit y ≡ v → ⊥) → false ≡ spells (dualRail x y) v)
 spell-bits x y (suc (suc v)) h = absurd (omega arith)
 spell-bits true true zero h = ((λ e. absurd (omega arith)), λ d. refl)
 spell-bits true true (suc zero) h = ((λ e. refl), λ d. refl)
@@ -74,6 +79,10 @@ module _ (c : Counts) (code row : List ℕ) (loaded : StageLoaded c code) (r : R
     pub levels-data : not (eqb x y) ≡ isData (pairIn nets (outputIn c code j))
     levels-data = ap₂ (λ (u v : ℕ). not (eqb u v)) bit0 bit1 ∙ data-bits (high nets p) (high nets q)
 
+    -- neither of them is
+    pub levels-null : eqb (x + y) 0 ≡ isNull (pairIn nets (outputIn c code j))
+    levels-null = ap₂ (λ (u v : ℕ). eqb (u + v) 0) bit0 bit1 ∙ null-bits (high nets p) (high nets q)
+
     -- rail 1 is the value: the pair spells it exactly if rail 0 is the other bit
     pub levels-spell : (v : ℕ) → v ≤ 1 → y ≡ v → eqb (x + v) 1 ≡ spells (pairIn nets (outputIn c code j)) v
     levels-spell v l e = ap (λ (u : ℕ). eqb (u + v) 1) bit0 ∙ spell-bits (high nets p) (high nets q) v l .0 (sym bit1 ∙ e)
@@ -88,32 +97,31 @@ not-not : (b c : Bool) → not b ≡ c → b ≡ not c
 not-not true c e = ap not e
 not-not false c e = ap not e
 
-module _ (row : List ℕ) where
-  each-data : (f : ℕ → Pair) (m : ℕ) → ((j : ℕ) → j < m → not (isData (pairIn row (f j))) ≡ false) → true ≡ allData row (tabulate f m)
-  unfolding tabulate allData
-  each-data f zero d = refl
-  each-data f (suc m) d =
-      rw (not-not (isData (pairIn row (f 0))) false (d 0 (omega arith))) (each-data (λ i. f (suc i)) m (λ j h. d (suc j) (omega arith)))
+module _ (test : DualRail → Bool) (row : List ℕ) where
+  each-passes : (f : ℕ → Pair) (m : ℕ) → ((j : ℕ) → j < m → not (test (pairIn row (f j))) ≡ false) → true ≡ everyPair test row (tabulate f m)
+  unfolding tabulate everyPair
+  each-passes f zero d = refl
+  each-passes f (suc m) d = rw (not-not (test (pairIn row (f 0))) false (d 0 (omega arith))) (each-passes (λ i. f (suc i)) m (λ j h. d (suc j) (omega arith)))
 
-  one-not : (f : ℕ → Pair) (m j : ℕ) → j < m → not (isData (pairIn row (f j))) ≡ true → false ≡ allData row (tabulate f m)
-  unfolding tabulate allData
-  one-not f zero j h e = absurd (omega arith)
-  one-not f (suc m) zero h e = rw (not-not (isData (pairIn row (f 0))) true e)
-  one-not f (suc m) (suc j) h e = go (isData (pairIn row (f 0))) (one-not (λ i. f (suc i)) m j (omega arith) e)
+  one-fails : (f : ℕ → Pair) (m j : ℕ) → j < m → not (test (pairIn row (f j))) ≡ true → false ≡ everyPair test row (tabulate f m)
+  unfolding tabulate everyPair
+  one-fails f zero j h e = absurd (omega arith)
+  one-fails f (suc m) zero h e = rw (not-not (test (pairIn row (f 0))) true e)
+  one-fails f (suc m) (suc j) h e = go (test (pairIn row (f 0))) (one-fails (λ i. f (suc i)) m j (omega arith) e)
     where
-      go : (b : Bool) → false ≡ allData row (tabulate (λ i. f (suc i)) m) → false ≡ cond b (allData row (tabulate (λ i. f (suc i)) m)) false
+      go : (b : Bool) → false ≡ everyPair test row (tabulate (λ i. f (suc i)) m) → false ≡ cond b (everyPair test row (tabulate (λ i. f (suc i)) m)) false
       go true r = r
       go false r = refl
 
-  module _ (c : Counts) (code : List ℕ) (x : Found) (is : x ≡ least (notData c code row) 0 (c .outputs)) where
-    pub all-data : x ≡ Nothing → true ≡ allData row (stageOutputs c code)
+  module _ (c : Counts) (code : List ℕ) (x : Found) (is : x ≡ least (outputFails test c code row) 0 (c .outputs)) where
+    pub all-pass : x ≡ Nothing → true ≡ everyPair test row (stageOutputs c code)
     unfolding stageOutputs
-    all-data e =
-        let f = least-says (notData c code row) 0 (c .outputs) Nothing (sym is ∙ e) in
-        each-data (outputIn c code) (c .outputs) (λ j h. f j (omega arith) (omega arith))
+    all-pass e =
+        let f = least-says (outputFails test c code row) 0 (c .outputs) Nothing (sym is ∙ e) in
+        each-passes (outputIn c code) (c .outputs) (λ j h. f j (omega arith) (omega arith))
 
-    pub not-all-data : (j : ℕ) → x ≡ At j → false ≡ allData row (stageOutputs c code)
+    pub not-all-pass : (j : ℕ) → x ≡ At j → false ≡ everyPair test row (stageOutputs c code)
     unfolding stageOutputs
-    not-all-data j e =
-        let f = least-says (notData c code row) 0 (c .outputs) (At j) (sym is ∙ e) in
-        one-not (outputIn c code) (c .outputs) j (omega (arith, f .below)) (f .passes)
+    not-all-pass j e =
+        let f = least-says (outputFails test c code row) 0 (c .outputs) (At j) (sym is ∙ e) in
+        one-fails (outputIn c code) (c .outputs) j (omega (arith, f .below)) (f .passes)

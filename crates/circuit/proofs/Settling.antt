@@ -13,14 +13,16 @@ use Rattle.netlist.specs.declared.Counts.{Counts}
 use Rattle.netlist.specs.Reading.{stageLimits, Within}
 use Rattle.netlist.specs.Content.{Gate}
 use Rattle.verdict.specs.Rows.{high, isSet, rounds, settledLevels, levelsHolding}
-use Rattle.verdict.specs.Levels.{LevelsHeld}
-use Rattle.verdict.specs.Loops.{In, pinsAt}
-use Rattle.verdict.proofs.Gates.{set-local}
-use Rattle.verdict.proofs.Reaching.{loopFree-noLoop}
-use Rattle.verdict.proofs.Settling.{held-one, holding-settled}
+use Rattle.runs.specs.Row.{only}
+use Rattle.verdict.specs.Levels.{levelHolding}
+use Rattle.verdict.specs.Falls.{levelFalling, fallenLevels}
+use Rattle.verdict.specs.Loops.{In, pinsAt, LoopFree}
+use Rattle.verdict.proofs.Fixed.{Local, Fixed}
+use Rattle.verdict.proofs.Settling.{level-held, level-free, holding-settled, holding-local, holding-one}
+use Rattle.verdict.proofs.Falls.{falling-local, falling-one}
 use Rattle.circuit.specs.Stage.{netCount, gateIn, gateAtPlace, stageGates}
 use Rattle.circuit.specs.Order.{TopologicalOrder, orderIn, InOrder}
-use Rattle.circuit.specs.Rows.{rowSize, RowFor, netsIn, railPart, levelPart, levelHolding, SettledBefore, SettledTo, settledHoldingIn}
+use Rattle.circuit.specs.Rows.{rowSize, RowFor, netsIn, railPart, levelPart, SettledBefore, settledHoldingIn, fallenIn}
 use Rattle.circuit.proofs.Tabulate.{length-tabulate, getD-tabulate, map-tabulate}
 use Rattle.circuit.proofs.Order.{order-no-loop}
 
@@ -31,29 +33,9 @@ holding-none gates rails =
     ap (λ (step : List ℕ → List ℕ). rounds step (length gates) (length gates))
     (fun-ext (λ v. set-out (map (isSet (rails ++ v)) gates) (length gates) 0 (omega (arith, length-map gates (isSet (rails ++ v))))))
 
--- ---- the level that a gate is to have
+-- ---- one gate after the other, by a rule that looks at a gate's pins alone
 
-module _ (h : ℕ) (gates : List Gate) (row : List ℕ) (k : ℕ) where
-  pub level-held : k < length gates → k ≡ h → levelHolding h gates row k ≡ 0
-  level-held l e =
-      ap (λ (x : ℕ). getD (set (map (isSet row) gates) x 0) k 0) (sym e)
-      ∙ getD-set-same (map (isSet row) gates) k 0 0 (omega (arith, length-map gates (isSet row)))
-
-  pub level-free : (k ≡ h → ⊥) → levelHolding h gates row k ≡ getD (map (isSet row) gates) k 0
-  level-free d = getD-set-other (map (isSet row) gates) h k 0 0 d
-
--- it depends on the gate's pins alone
-level-local : (h : ℕ) (gates : List Gate) (u v : List ℕ) (k : ℕ) → k < length gates → ((p : ℕ) → In p (pinsAt gates k) → high u p ≡ high v p) →
-    levelHolding h gates u k ≡ levelHolding h gates v k
-level-local h gates u v k l same = go (ℕ-discrete k h)
-  where
-    go : Dec (k ≡ h) → levelHolding h gates u k ≡ levelHolding h gates v k
-    go (yes e) = level-held h gates u k l e ∙ sym (level-held h gates v k l e)
-    go (no d) = level-free h gates u k d ∙ set-local u v gates k same ∙ sym (level-free h gates v k d)
-
--- ---- one gate after the other
-
-module _ (n h : ℕ) (gates : List Gate) (order rails : List ℕ) (t : TopologicalOrder n gates order) (both : length rails ≡ 2 * n) where
+module _ (n : ℕ) (gates : List Gate) (rule : List ℕ → ℕ → ℕ) (local : Local gates rule) (order rails : List ℕ) (t : TopologicalOrder n gates order) (both : length rails ≡ 2 * n) where
   module _ (levels : List ℕ) (long : length levels ≡ length gates) (i : ℕ) (hi : i < length gates) (x : ℕ) where
     abbrev o : ℕ
     o = getD order i 0
@@ -78,14 +60,13 @@ module _ (n h : ℕ) (gates : List Gate) (order rails : List ℕ) (t : Topologic
             let s = t .earlier j o (omega arith) (t .gate i hi) (subst (λ (y : ℕ). In y (pinsAt gates (getD order j 0))) q f) in
             absurd (omega (arith, s .1, t .once (s .0) i (omega (arith, s .1)) hi (s .2)))
 
-    level-kept : (j : ℕ) → j ≤ i → levelHolding h gates (rails ++ levels′) (getD order j 0) ≡ levelHolding h gates (rails ++ levels) (getD order j 0)
-    level-kept j hj = level-local h gates (rails ++ levels′) (rails ++ levels) (getD order j 0) (t .gate j (omega arith)) (pin-kept j hj)
+    level-kept : (j : ℕ) → j ≤ i → rule (rails ++ levels′) (getD order j 0) ≡ rule (rails ++ levels) (getD order j 0)
+    level-kept j hj = local (rails ++ levels′) (rails ++ levels) (getD order j 0) (t .gate j (omega arith)) (pin-kept j hj)
 
-    settle-more : SettledBefore i h gates order rails levels → x ≡ levelHolding h gates (rails ++ levels) o →
-        SettledBefore (i + 1) h gates order rails levels′
+    settle-more : SettledBefore i rule order rails levels → x ≡ rule (rails ++ levels) o → SettledBefore (i + 1) rule order rails levels′
     settle-more before e j hj = go (ℕ-discrete j i)
       where
-        go : Dec (j ≡ i) → getD levels′ (getD order j 0) 0 ≡ levelHolding h gates (rails ++ levels′) (getD order j 0)
+        go : Dec (j ≡ i) → getD levels′ (getD order j 0) 0 ≡ rule (rails ++ levels′) (getD order j 0)
         go (yes q) =
             rw q (getD-set-same levels o x 0 (omega (arith, t .gate i hi)) ∙ e ∙ sym (level-kept i (omega arith)))
         go (no d) =
@@ -93,30 +74,23 @@ module _ (n h : ℕ) (gates : List Gate) (order rails : List ℕ) (t : Topologic
             ∙ before j (omega arith)
             ∙ sym (level-kept j (omega arith))
 
-  module _ (levels : List ℕ) (long : length levels ≡ length gates) where
-    all-settled : SettledBefore (length gates) h gates order rails levels → LevelsHeld h gates rails levels
-    all-settled before =
-        ext-getD 0 (set (map (isSet (rails ++ levels)) gates) h 0) levels (size ∙ sym long)
-        (λ k b.
-        let s = t .stands k (omega (arith, size)) in
-        sym (subst (λ (y : ℕ). getD levels y 0 ≡ levelHolding h gates (rails ++ levels) y) (s .2) (before (s .0) (s .1))))
-      where
-        size : length (set (map (isSet (rails ++ levels)) gates) h 0) ≡ length gates
-        size = length-set (map (isSet (rails ++ levels)) gates) h 0 ∙ length-map gates (isSet (rails ++ levels))
+  all-settled : (levels : List ℕ) → length levels ≡ length gates → (i : ℕ) → length gates ≤ i → SettledBefore i rule order rails levels → Fixed gates rule rails levels
+  all-settled levels long i l before = record {
+    long = long;
+    at = λ k b.
+        let s = t .stands k b in
+        subst (λ (y : ℕ). getD levels y 0 ≡ rule (rails ++ levels) y) (s .2) (before (s .0) (omega (arith, s .1)));
+  }
 
-    settle-end : (i : ℕ) → length gates ≤ i → SettledBefore i h gates order rails levels → levels ≡ levelsHolding h gates rails
-    settle-end i l before =
-        held-one gates h n (loopFree-noLoop n gates (order-no-loop n gates order t)) rails both levels (all-settled (λ j b. before j (omega arith)))
-
-  -- settled levels, with a gate held or not, are right with another gate held at every place where neither gate stands
-  pub settled-before : (h′ m : ℕ) → m ≤ length gates → ((i : ℕ) → i < m → getD order i 0 ≡ h → ⊥) → ((i : ℕ) → i < m → getD order i 0 ≡ h′ → ⊥) →
-      SettledBefore m h gates order rails (levelsHolding h′ gates rails)
-  settled-before h′ m hm not-h not-h′ i hi =
-      let levels = levelsHolding h′ gates rails in
-      let k = getD order i 0 in
-      ap (λ (v : List ℕ). getD v k 0) (sym (holding-settled h′ gates rails))
-      ∙ level-free h′ gates (rails ++ levels) k (not-h′ i hi)
-      ∙ sym (level-free h gates (rails ++ levels) k (not-h i hi))
+-- settled levels, with a gate held or not, are right with another gate held at every place where neither gate stands
+pub settled-before : (h : ℕ) (gates : List Gate) (order rails : List ℕ) (h′ m : ℕ) → ((i : ℕ) → i < m → getD order i 0 ≡ h → ⊥) →
+    ((i : ℕ) → i < m → getD order i 0 ≡ h′ → ⊥) → SettledBefore m (levelHolding h gates) order rails (levelsHolding h′ gates rails)
+settled-before h gates order rails h′ m not-h not-h′ i hi =
+    let levels = levelsHolding h′ gates rails in
+    let k = getD order i 0 in
+    ap (λ (v : List ℕ). getD v k 0) (sym (holding-settled h′ gates rails))
+    ∙ level-free h′ gates (rails ++ levels) k (not-h′ i hi)
+    ∙ sym (level-free h gates (rails ++ levels) k (not-h i hi))
 
 -- ---- rows of a flat form
 
@@ -207,52 +181,63 @@ module _ (c : Counts) (code row : List ℕ) (held k : ℕ) (h : k < c .gates) wh
       ∙ getD-tabulate (λ i. isSet row (gateIn code i)) (c .gates) k 0 h)
       ∙ sym (level-free held (stageGates c code) row k d)
 
--- the rails are those at the start, and the gates at the first i places have their levels
-pub record SettlingTo (c : Counts) (code : List ℕ) (held : ℕ) (start row : List ℕ) (i : ℕ) : Type 0 where
+-- the rails are those at the start, and the gates at the first i places have their levels by a rule
+pub record SettlingTo (c : Counts) (code : List ℕ) (rule : List ℕ → ℕ → ℕ) (start row : List ℕ) (i : ℕ) : Type 0 where
   pub row-for : RowFor c row
   pub same-long : length row ≡ length start
   pub rails : railPart c row ≡ railPart c start
-  pub before : SettledTo i held c code row
+  pub before : SettledBefore i rule (orderIn c code) (railPart c row) (levelPart c row)
 
 module _ (c : Counts) (code : List ℕ) (ordered : InOrder c code) where
   pub order-gate : (i : ℕ) → i < c .gates → gateAtPlace code i < c .gates
   order-gate i h = omega (arith, order-at c code i h, length-stageGates c code, ordered .ordered .gate i (omega (arith, length-stageGates c code)))
 
-  module _ (held : ℕ) (start row : List ℕ) (i : ℕ) (s : SettlingTo c code held start row i) where
-    pub settling-turn : i < c .gates → (x : ℕ) → x ≡ levelHolding held (stageGates c code) (netsIn c row) (gateAtPlace code i) → x ≤ 1 →
-        SettlingTo c code held start (set row (2 * c .inputs + gateAtPlace code i) x) (i + 1)
+  module _ (rule : List ℕ → ℕ → ℕ) (local : Local (stageGates c code) rule) (start row : List ℕ) (i : ℕ) (s : SettlingTo c code rule start row i) where
+    pub settling-turn : i < c .gates → (x : ℕ) → x ≡ rule (netsIn c row) (gateAtPlace code i) → x ≤ 1 → SettlingTo c code rule start (set row (2 * c .inputs + gateAtPlace code i) x) (i + 1)
     settling-turn h x e l =
         let n = 2 * c .inputs in
         let r = s .row-for in
         let k = order-gate i h in
         let rails = take-set-le n row (n + gateAtPlace code i) x (omega arith) in
-        let y = e ∙ ap (λ (l : List ℕ). levelHolding held (stageGates c code) l (gateAtPlace code i)) (take-add n (c .gates) row) in
+        let y = e ∙ ap (λ (l : List ℕ). rule l (gateAtPlace code i)) (take-add n (c .gates) row) in
         record {
           row-for = row-set c row r (n + gateAtPlace code i) x (omega arith) l;
           same-long = length-set row (n + gateAtPlace code i) x ∙ s .same-long;
           rails = rails ∙ s .rails;
           before =
-              rw (
-                rails,
-                drop-set-add n row (gateAtPlace code i) x,
-                take-set-lt (c .gates) (drop n row)
-                    (gateAtPlace code i) x k,
-                ← order-at c code i h,
-              )
-              (settle-more (c .inputs) held (stageGates c code) (orderIn c code) (railPart c row) (ordered .ordered) (length-rails c row r)
-              (levelPart c row)
-              (length-levels c row r ∙ sym (length-stageGates c code)) i (omega (arith, length-stageGates c code)) x (s .before)
-              (rw (order-at c code i h) y));
+              rw (rails, drop-set-add n row (gateAtPlace code i) x, take-set-lt (c .gates) (drop n row) (gateAtPlace code i) x k, ← order-at c code i h)
+              (settle-more (c .inputs) (stageGates c code) rule local (orderIn c code) (railPart c row) (ordered .ordered) (length-rails c row r) (levelPart c row)
+              (length-levels c row r ∙ sym (length-stageGates c code)) i (omega (arith, length-stageGates c code)) x (s .before) (rw (order-at c code i h) y));
         }
 
-    pub settling-done : c .gates ≤ i → netsIn c row ≡ settledHoldingIn held c code start
-    settling-done h =
-        let r = s .row-for in
-        take-add (2 * c .inputs) (c .gates) row
-        ∙ ap (λ (l : List ℕ). railPart c row ++ l)
-        (settle-end (c .inputs) held (stageGates c code) (orderIn c code) (railPart c row) (ordered .ordered) (length-rails c row r) (levelPart c row)
-        (length-levels c row r ∙ sym (length-stageGates c code)) i (omega (arith, length-stageGates c code)) (s .before))
-        ∙ ap (λ (l : List ℕ). l ++ levelsHolding held (stageGates c code) l) (s .rails)
+    -- in the end all gates have
+    module _ (h : c .gates ≤ i) where
+      settling-fixed : Fixed (stageGates c code) rule (railPart c row) (levelPart c row)
+      settling-fixed =
+          let r = s .row-for in
+          all-settled (c .inputs) (stageGates c code) rule local (orderIn c code) (railPart c row) (ordered .ordered) (length-rails c row r) (levelPart c row)
+          (length-levels c row r ∙ sym (length-stageGates c code)) i (omega (arith, length-stageGates c code)) (s .before)
+
+      -- which are the only ones
+      settling-done : (levels : List ℕ → List ℕ) →
+          ((rails v : List ℕ) → length rails ≡ 2 * c .inputs → Fixed (stageGates c code) rule rails v → v ≡ levels rails) → netsIn c row ≡ railPart c start ++ levels (railPart c start)
+      settling-done levels one =
+          take-add (2 * c .inputs) (c .gates) row
+          ∙ ap (λ (l : List ℕ). railPart c row ++ l) (one (railPart c row) (levelPart c row) (length-rails c row (s .row-for)) settling-fixed)
+          ∙ ap (λ (l : List ℕ). l ++ levels l) (s .rails)
+
+  free : LoopFree (c .inputs) (stageGates c code)
+  free = order-no-loop (c .inputs) (stageGates c code) (orderIn c code) (ordered .ordered)
+
+  pub holding-done : (h : ℕ) (start row : List ℕ) (i : ℕ) → SettlingTo c code (levelHolding h (stageGates c code)) start row i → c .gates ≤ i → netsIn c row ≡ settledHoldingIn h c code start
+  holding-done h start row i s l =
+      settling-done (levelHolding h (stageGates c code)) (holding-local h (stageGates c code)) start row i s l (levelsHolding h (stageGates c code))
+      (λ rails v both f. holding-one h (stageGates c code) (c .inputs) free rails both v f)
+
+  pub falling-done : (h : ℕ) (start row : List ℕ) (i : ℕ) → SettlingTo c code (levelFalling (only h) (stageGates c code) (levelPart c start)) start row i → c .gates ≤ i → netsIn c row ≡ fallenIn h c code start
+  falling-done h start row i s l =
+      settling-done (levelFalling (only h) (stageGates c code) (levelPart c start)) (falling-local (only h) (stageGates c code) (levelPart c start)) start row i s l
+      (fallenLevels (only h) (stageGates c code) (levelPart c start)) (λ rails v both f. falling-one (only h) (stageGates c code) (levelPart c start) (c .inputs) free rails both v f)
 
 pub settle-none : (c : Counts) (code rails : List ℕ) → levelsHolding (c .gates) (stageGates c code) rails ≡ settledLevels (stageGates c code) rails
 settle-none c code rails =

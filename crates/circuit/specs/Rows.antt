@@ -2,12 +2,14 @@
 use Prim.Native.Nat.{ℕ, _+_, _*_, _≤_, _<_}
 use mathlib.Core.Path.{_≡_}
 use mathlib.Core.Bool.{Bool, not}
-use mathlib.Core.List.{List, _++_, map}
-use lib.ListN.{length, getD, set, take, drop}
+use mathlib.Core.List.{List, _++_}
+use lib.ListN.{length, getD, take, drop}
+use Rattle.runs.specs.Row.{only}
 use Rattle.netlist.specs.declared.Counts.{Counts}
 use Rattle.netlist.specs.Reading.{stageLimits}
-use Rattle.netlist.specs.Content.{Gate}
 use Rattle.verdict.specs.Rows as rows
+use Rattle.verdict.specs.Levels.{levelHolding}
+use Rattle.verdict.specs.Falls.{fallenLevels}
 use Rattle.circuit.specs.Stage.{netCount, pinIn, stageGates, outputIn}
 use Rattle.circuit.specs.Order.{orderIn}
 
@@ -43,18 +45,13 @@ patternIn row code k =
 
 -- ---- settling in the order
 
--- the level that gate k is to have in a row, with gate h held low: 1 where its set expression holds, else 0
-abbrev pub levelHolding : ℕ → List Gate → List ℕ → ℕ → ℕ
-levelHolding h gates row k = getD (set (map (rows.isSet row) gates) h 0) k 0
+-- the gates at the first m places of an order have the levels that a rule says of each gate in a row
+abbrev pub SettledBefore : ℕ → (List ℕ → ℕ → ℕ) → List ℕ → List ℕ → List ℕ → Type 0
+SettledBefore m rule order rails levels = (i : ℕ) → i < m → getD levels (getD order i 0) 0 ≡ rule (rails ++ levels) (getD order i 0)
 
--- the gates at the first m places of an order have the levels that they are to have, with gate h held low
-abbrev pub SettledBefore : ℕ → ℕ → List Gate → List ℕ → List ℕ → List ℕ → Type 0
-SettledBefore m h gates order rails levels =
-    (i : ℕ) → i < m → getD levels (getD order i 0) 0 ≡ levelHolding h gates (rails ++ levels) (getD order i 0)
-
--- the same of a row in its flat form
+-- the same of a row in its flat form, with gate h held low
 abbrev pub SettledTo : ℕ → ℕ → Counts → List ℕ → List ℕ → Type 0
-SettledTo m h c code row = SettledBefore m h (stageGates c code) (orderIn c code) (railPart c row) (levelPart c row)
+SettledTo m h c code row = SettledBefore m (levelHolding h (stageGates c code)) (orderIn c code) (railPart c row) (levelPart c row)
 
 -- the row of a stage that is settled, with the rails of a row
 abbrev pub settledIn : Counts → List ℕ → List ℕ → List ℕ
@@ -63,11 +60,15 @@ settledIn c code row = rows.settled (stageGates c code) (railPart c row)
 abbrev pub settledHoldingIn : ℕ → Counts → List ℕ → List ℕ → List ℕ
 settledHoldingIn h c code row = rows.settledHolding h (stageGates c code) (railPart c row)
 
+-- the row that is settled by the fall rule with the rails of a row, whose levels are the rest's, and gate h kept high
+abbrev pub fallenIn : ℕ → Counts → List ℕ → List ℕ → List ℕ
+fallenIn h c code row = railPart c row ++ fallenLevels (only h) (stageGates c code) (levelPart c row) (railPart c row)
+
 -- ---- outputs
 
--- output j is not DATA in a row
-abbrev pub notData : Counts → List ℕ → List ℕ → ℕ → Bool
-notData c code row j = not (rows.isData (rows.pairIn row (outputIn c code j)))
+-- output j fails a test in a row
+abbrev pub outputFails : (rows.DualRail → Bool) → Counts → List ℕ → List ℕ → ℕ → Bool
+outputFails test c code row j = not (test (rows.pairIn row (outputIn c code j)))
 
 -- output j does not read as a value
 abbrev pub misread : Counts → List ℕ → List ℕ → (ℕ → ℕ) → ℕ → Bool

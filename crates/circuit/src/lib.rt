@@ -6,12 +6,15 @@ ghost use mathlib.Core.List.{_∷_, []};
 ghost use Prim.Native.Nat.{ℕ, _+_, _≤_, _<_, min, max};
 ghost use lib.ListN.{length, getD, take};
 ghost use Rattle.gates.specs.Table.{GateTable};
+ghost use Rattle.runs.specs.Row.{only};
 ghost use Rattle.verdict.specs.Rows as rows;
+ghost use Rattle.verdict.specs.Levels.{levelHolding};
+ghost use Rattle.verdict.specs.Falls.{levelFalling};
 ghost use Rattle.verdict.specs.Search.{least};
 ghost use Rattle.verdict.specs.Answers as answers;
 ghost use Rattle.circuit.specs.Stage.{gateIn, stageGates, outputIn, stageOutputs, StageLoaded};
 ghost use Rattle.circuit.specs.Order.{InOrder};
-ghost use Rattle.circuit.specs.Rows.{RowFor, netsIn, LevelOf, patternIn, levelHolding, SettledTo, settledIn, settledHoldingIn, notData, misread};
+ghost use Rattle.circuit.specs.Rows.{RowFor, netsIn, levelPart, LevelOf, patternIn, SettledTo, settledIn, settledHoldingIn, fallenIn, outputFails, misread};
 ghost use Rattle.circuit.specs.Reference.{operatorIn, operatorsIn, signalIn, ReferenceLoaded};
 
 // A byte for each net of the largest stage, and one for the ground.
@@ -99,6 +102,55 @@ pub fn settle(code: &[u16], counts: Counts, row: &mut [u8])
     settle_from(code, counts, row, 0, none)
 }
 
+// ---- falling
+
+// The level that gate k is to have on the way back to NULL: a high gate stays high where it is kept, with hold while some pin is high, and
+// without hold while its set expression holds.
+fn level_falling(
+    entries: &[[u8; 16]; 27],
+    code: &[u16],
+    counts: Counts,
+    k: usize,
+    row: &[u8],
+    kept: usize,
+) -> u8
+    requires { ⌜ GateTable (now entries) × StageLoaded counts (now code) × (k < counts .gates) × RowFor counts (now row) ⌝ }
+    ensures { λ r. ⌜ (r ≡ levelFalling (only kept) (stageGates counts (now (code .entry))) (levelPart counts (now (row .entry))) (netsIn counts (now (row .entry))) k) × (r ≤ 1) ⌝ }
+{
+    let net = 2 * counts.inputs + k;
+    if row[net] == 0 {
+        return 0u8;
+    }
+    if k == kept {
+        return 1u8;
+    }
+    if code[8 * k + 7] == 1 {
+        if pattern(code, counts, k, row) == 0 {
+            return 0u8;
+        }
+        return 1u8;
+    }
+    gate_level(entries, code, counts, k, row)
+}
+
+// The gates settle by the fall rule for the rails in the row, where their levels are the rest's: each is evaluated once, in the order. Gate
+// `kept` stays high; where it is no gate, none is kept.
+pub fn fall(code: &[u16], counts: Counts, row: &mut [u8], kept: usize)
+    requires { ⌜ StageLoaded counts (now code) × InOrder counts (now code) × RowFor counts (now row) ⌝ }
+    ensures settled { λ r. ⌜ netsIn counts (now (row .exit)) ≡ fallenIn kept counts (now (code .entry)) (now (row .entry)) ⌝ }
+    ensures row { λ r. ⌜ RowFor counts (now (row .exit)) ⌝ }
+{
+    let entries = gates::table();
+    let first = 2 * counts.inputs;
+    let count = counts.gates;
+    let mut i: usize = 0;
+    while i < count {
+        let k = code[8 * i + 5] as usize;
+        row[first + k] = level_falling(&entries, code, counts, k, row, kept);
+        i += 1;
+    }
+}
+
 // ---- outputs
 
 // Whether output j is DATA: exactly one of its rails is high.
@@ -113,7 +165,7 @@ fn is_data(code: &[u16], counts: Counts, row: &[u8], j: usize) -> bool
 // The least output that is not DATA.
 pub fn first_not_data(code: &[u16], counts: Counts, row: &[u8]) -> Found
     requires { ⌜ StageLoaded counts (now code) × RowFor counts (now row) ⌝ }
-    ensures { λ r. ⌜ r ≡ least (notData counts (now (code .entry)) (netsIn counts (now (row .entry)))) 0 (counts .outputs) ⌝ }
+    ensures { λ r. ⌜ r ≡ least (outputFails rows.isData counts (now (code .entry)) (netsIn counts (now (row .entry)))) 0 (counts .outputs) ⌝ }
 {
     let count = counts.outputs;
     let mut j: usize = 0;
@@ -133,6 +185,43 @@ pub fn all_data(code: &[u16], counts: Counts, row: &[u8]) -> bool
     ensures { λ r. ⌜ r ≡ rows.allData (netsIn counts (now (row .entry))) (stageOutputs counts (now (code .entry))) ⌝ }
 {
     match first_not_data(code, counts, row) {
+        Found::At(_) => false,
+        Found::Nothing => true,
+    }
+}
+
+// Whether output j is NULL: neither of its rails is high.
+fn is_null(code: &[u16], counts: Counts, row: &[u8], j: usize) -> bool
+    requires { ⌜ StageLoaded counts (now code) × (j < counts .outputs) × RowFor counts (now row) ⌝ }
+    ensures { λ r. ⌜ r ≡ rows.isNull (rows.pairIn (netsIn counts (now (row .entry))) (outputIn counts (now (code .entry)) j)) ⌝ }
+{
+    let at = 8 * counts.gates + 2 * j;
+    level(row, code[at]) + level(row, code[at + 1]) == 0
+}
+
+// The least output that is not NULL.
+fn first_not_null(code: &[u16], counts: Counts, row: &[u8]) -> Found
+    requires { ⌜ StageLoaded counts (now code) × RowFor counts (now row) ⌝ }
+    ensures { λ r. ⌜ r ≡ least (outputFails rows.isNull counts (now (code .entry)) (netsIn counts (now (row .entry)))) 0 (counts .outputs) ⌝ }
+{
+    let count = counts.outputs;
+    let mut j: usize = 0;
+    while j < count {
+        if is_null(code, counts, row, j) {
+            j += 1;
+        } else {
+            return Found::At(j);
+        }
+    }
+    Found::Nothing
+}
+
+// Whether all outputs are NULL.
+pub fn all_null(code: &[u16], counts: Counts, row: &[u8]) -> bool
+    requires { ⌜ StageLoaded counts (now code) × RowFor counts (now row) ⌝ }
+    ensures { λ r. ⌜ r ≡ rows.allNull (netsIn counts (now (row .entry))) (stageOutputs counts (now (code .entry))) ⌝ }
+{
+    match first_not_null(code, counts, row) {
         Found::At(_) => false,
         Found::Nothing => true,
     }

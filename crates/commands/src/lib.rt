@@ -67,6 +67,7 @@ fn pins_needed(kind: Kind) -> usize
 {
     match kind {
         Kind::Hold { cell: _, pins } => pins as usize,
+        Kind::Relaxed { cell: _, pins } => pins as usize,
         Kind::Unknown => 0,
     }
 }

@@ -4,13 +4,13 @@ use Prim.Native.Nat.{ℕ, _+_, _-_, _^_, _≤_, _<_}
 use native.Mathlib.Omega.{arith}
 use mathlib.Core.Path.{_≡_, refl, sym, _∙_, ap, subst}
 use native.Mathlib.Decide.{decLt}
-use mathlib.Core.Bool.{Bool, false, cond, _&&_}
+use mathlib.Core.Bool.{Bool, true, false, cond, _&&_}
 use lib.Dec.{T, lit<, eqb, eqb→eq, leb, leb→le}
 use borrow.Author.Tests.{le-leb, lt-leb, ne-eqb}
-use Rattle.gates.specs.Cell.{cells, cellAt, pinCount, setBit, atLeast, threshold, kindOf}
+use Rattle.gates.specs.Cell.{cells, cellAt, pinCount, setBit, atLeast, threshold, kindOf, kindByte, asKind}
 use Rattle.gates.specs.Unweighted.{Unweighted, unweightedCells, SetByCount, AllByCount}
 use Rattle.gates.specs.declared.Kind.{Kind}
-use Rattle.gates.specs.declared.Kind.the-variants.{Hold, Unknown}
+use Rattle.gates.specs.declared.Kind.the-variants.{Hold, Relaxed, Unknown}
 use Rattle.gates.proofs.Every.{every, every-at}
 use Rattle.gates.proofs.Patterns.{count-decides}
 
@@ -35,19 +35,40 @@ pub four-pins : RangeHas 8 20 4
 unfolding pinCount cellAt cells
 four-pins = tt
 
--- a kind of the range is a cell with hold, of so many pins
-pub kind-known : (k n : ℕ) → 1 ≤ k → k ≤ 27 → pinCount k ≡ n → kindOf k ≡ Hold k n
+-- the kind of a cell, with hold or relaxed, is that cell with its pins
+pub kind-known : (hold : Bool) (c n : ℕ) → 1 ≤ c → c ≤ 27 → pinCount c ≡ n → kindOf (kindByte c hold) ≡ asKind hold c n
 unfolding kindOf
-kind-known k n lo hi e = rw (le-leb 1 k lo, le-leb k 27 hi) (ap (Hold k) e)
+kind-known true c n lo hi e = rw (le-leb 1 c lo, le-leb c 27 hi) (ap (Hold c) e)
+kind-known false c n lo hi e =
+    let back : c + 128 - 128 ≡ c = omega arith in
+    rw (le-leb 1 (c + 128) (omega arith), lt-leb (c + 128) 27 (omega arith), le-leb 129 (c + 128) (omega arith), le-leb (c + 128) 155 (omega arith), back) (ap (Relaxed c) e)
 
-pub kind-unknown : (k : ℕ) → (1 ≤ k → k ≤ 27 → ⊥) → kindOf k ≡ Unknown
+-- what a kind byte stands for
+pub data KindCases (k : ℕ) : Type 0 where
+  of-cell : (hold : Bool) (c : ℕ) → 1 ≤ c → c ≤ 27 → k ≡ kindByte c hold → KindCases k
+  no-kind : kindOf k ≡ Unknown → KindCases k
+
+pub kind-cases : (k : ℕ) → KindCases k
 unfolding kindOf
-kind-unknown k out = go (decLt k 1) (decLt 27 k)
+kind-cases k = go (decLt k 1) (decLt 27 k) (decLt k 129) (decLt 155 k)
   where
-    go : Dec (k < 1) → Dec (27 < k) → cond (leb 1 k && leb k 27) (Hold k (pinCount k)) Unknown ≡ Unknown
-    go (yes h) d = rw (lt-leb 1 k h)
-    go (no h) (yes l) = rw (le-leb 1 k (omega arith), lt-leb k 27 l)
-    go (no h) (no l) = absurd (out (omega arith) (omega arith))
+    go : Dec (k < 1) → Dec (27 < k) → Dec (k < 129) → Dec (155 < k) → KindCases k
+    go (yes a) b c d = no-kind (rw (lt-leb 1 k a, lt-leb 129 k (omega arith)))
+    go (no a) (no b) c d = of-cell true k (omega arith) (omega arith) refl
+    go (no a) (yes b) (yes c) d = no-kind (rw (le-leb 1 k (omega arith), lt-leb k 27 b, lt-leb 129 k c))
+    go (no a) (yes b) (no c) (no d) = of-cell false (k - 128) (omega arith) (omega arith) (omega arith)
+    go (no a) (yes b) (no c) (yes d) = no-kind (rw (le-leb 1 k (omega arith), lt-leb k 27 b, le-leb 129 k (omega arith), lt-leb k 155 d))
+
+pub kind-at : (hold : Bool) (k c n : ℕ) → k ≡ kindByte c hold → 1 ≤ c → c ≤ 27 → pinCount c ≡ n → kindOf k ≡ asKind hold c n
+kind-at hold k c n e lo hi f = ap kindOf e ∙ kind-known hold c n lo hi f
+
+pub kind-none : (k : ℕ) → ((c : ℕ) → 1 ≤ c → c ≤ 27 → k ≡ c → ⊥) → ((c : ℕ) → 1 ≤ c → c ≤ 27 → k ≡ c + 128 → ⊥) → kindOf k ≡ Unknown
+kind-none k held relaxed = go (kind-cases k)
+  where
+    go : KindCases k → kindOf k ≡ Unknown
+    go (of-cell true c lo hi e) = absurd (held c lo hi e)
+    go (of-cell false c lo hi e) = absurd (relaxed c lo hi e)
+    go (no-kind e) = e
 
 all-small : T (every (λ c. leb (2 ^ pinCount c) 16) 28)
 unfolding pinCount cellAt cells

@@ -1,5 +1,5 @@
 -- The 27 fundamental NCL gates: name, pins and set expression of each, in the paper's order; and what a kind byte stands for.
-use Prim.Native.Nat.{ℕ, _+_, _*_, _/_, _%_, _^_}
+use Prim.Native.Nat.{ℕ, _+_, _-_, _*_, _/_, _%_, _^_}
 use Prim.Native.String.{String}
 use mathlib.Core.Bool.{Bool, true, false, cond, _&&_}
 use mathlib.Core.List.{List, [], _∷_}
@@ -8,7 +8,7 @@ use lib.ListN.{getD}
 use lib.Count.{ones}
 use Rattle.gates.specs.Expression.{Expression, A, B, C, D, _·_, _∔_, holds}
 use Rattle.gates.specs.declared.Kind.{Kind}
-use Rattle.gates.specs.declared.Kind.the-variants.{Hold, Unknown}
+use Rattle.gates.specs.declared.Kind.the-variants.{Hold, Relaxed, Unknown}
 
 pub record Cell : Type 0 where
   pub name : String
@@ -88,6 +88,17 @@ threshold c = getD (0 ∷ 1 ∷ 2 ∷ 1 ∷ 2 ∷ 3 ∷ 0 ∷ 0 ∷ 1 ∷ 2 ∷ 
 
 -- ---- kind bytes
 
--- kinds 1 to 27 are the cells of these numbers, with hold
+-- kinds 1 to 27 are the cells of these numbers, with hold; kinds 129 to 155 are the same cells, relaxed
 unfoldable pub kindOf : ℕ → Kind
-kindOf k = cond (leb 1 k && leb k 27) (Hold k (pinCount k)) Unknown
+kindOf k =
+    cond (leb 1 k && leb k 27) (Hold k (pinCount k))
+    (cond (leb 129 k && leb k 155) (Relaxed (k - 128) (pinCount (k - 128))) Unknown)
+
+-- the kind of a cell, with hold or relaxed
+abbrev pub kindByte : ℕ → Bool → ℕ
+kindByte cell true = cell
+kindByte cell false = cell + 128
+
+abbrev pub asKind : Bool → ℕ → ℕ → Kind
+asKind true cell pins = Hold cell pins
+asKind false cell pins = Relaxed cell pins

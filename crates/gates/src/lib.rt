@@ -4,9 +4,11 @@ ghost use Prim.Native.Nat.{_<_, _≤_, _^_};
 ghost use Rattle.gates.specs.Cell.{setBit, atLeast, pinCount, kindOf};
 ghost use Rattle.gates.specs.Table.{GateTable};
 
-// What a kind byte stands for: a cell with hold, which falls when all of its pins are low, or no kind.
+// What a kind byte stands for: a cell with hold, which falls when all of its pins are low; a relaxed one, which falls as soon as its set
+// expression is false; or no kind.
 pub enum Kind {
     Hold { cell: u8, pins: u8 },
+    Relaxed { cell: u8, pins: u8 },
     Unknown,
 }
 
@@ -127,6 +129,18 @@ pub fn kind_of(kind: u8) -> Kind
         },
         8..=27 => Kind::Hold {
             cell: kind,
+            pins: 4,
+        },
+        129..=130 => Kind::Relaxed {
+            cell: kind - 128,
+            pins: 2,
+        },
+        131..=135 => Kind::Relaxed {
+            cell: kind - 128,
+            pins: 3,
+        },
+        136..=155 => Kind::Relaxed {
+            cell: kind - 128,
             pins: 4,
         },
         _ => Kind::Unknown,

@@ -10,12 +10,12 @@ use lib.Seq.{getD-set-same, getD-set-other}
 use borrow.Author.Tests.{eq-eqb, ne-eqb, lt-ltb, le-ltb, le-leb, lt-leb}
 use Rattle.gates.specs.Cell.{kindOf}
 use Rattle.gates.specs.declared.Kind.{Kind}
-use Rattle.gates.specs.declared.Kind.the-variants.{Hold, Unknown}
+use Rattle.gates.specs.declared.Kind.the-variants.{Hold, Relaxed, Unknown}
 use Rattle.netlist.specs.declared.Counts.{Counts}
 use Rattle.netlist.specs.Bytes.{byte, operand}
 use Rattle.netlist.specs.Reading.{stageLimits, referenceLimits}
 use Rattle.circuit.specs.Stage.{netCount}
-use Rattle.load.specs.Load.{pinNumber, holdNumber, kindNumber, gateNumber, stageNumber, operatorNumber, referenceNumber}
+use Rattle.load.specs.Load.{pinNumber, cellNumber, kindNumber, gateNumber, stageNumber, operatorNumber, referenceNumber}
 
 module _ (s : List ℕ) (at ground : ℕ) where
   pub pin-there : (pins i : ℕ) → i < pins → operand s (at + 2 + 2 * i) ≡ pinNumber s at pins ground i
@@ -26,27 +26,30 @@ module _ (s : List ℕ) (at ground : ℕ) where
   unfolding pinNumber
   pin-absent pins i h = rw (le-ltb i pins h)
 
-  module _ (cell pins j : ℕ) where
-    pub number-cell : j ≡ 0 → cell ≡ holdNumber s at cell pins ground j
-    unfolding holdNumber
+  module _ (cell pins hold j : ℕ) where
+    pub number-cell : j ≡ 0 → cell ≡ cellNumber s at cell pins hold ground j
+    unfolding cellNumber
     number-cell e = rw e
 
-    pub number-pin : 1 ≤ j → j ≤ 4 → pinNumber s at pins ground (j - 1) ≡ holdNumber s at cell pins ground j
-    unfolding holdNumber
+    pub number-pin : 1 ≤ j → j ≤ 4 → pinNumber s at pins ground (j - 1) ≡ cellNumber s at cell pins hold ground j
+    unfolding cellNumber
     number-pin l h = rw (ne-eqb j 0 (λ e. omega arith), le-leb j 4 h)
 
-    pub number-hold : j ≡ 7 → 1 ≡ holdNumber s at cell pins ground j
-    unfolding holdNumber
+    pub number-hold : j ≡ 7 → hold ≡ cellNumber s at cell pins hold ground j
+    unfolding cellNumber
     number-hold e = rw e
 
-    pub number-rest : 4 < j → (j ≡ 7 → ⊥) → 0 ≡ holdNumber s at cell pins ground j
-    unfolding holdNumber
+    pub number-rest : 4 < j → (j ≡ 7 → ⊥) → 0 ≡ cellNumber s at cell pins hold ground j
+    unfolding cellNumber
     number-rest h d = rw (ne-eqb j 0 (λ e. omega arith), lt-leb j 4 h, ne-eqb j 7 d)
 
-  pub number-known : (cell pins j r : ℕ) → Hold cell pins ≡ kindOf (byte s (at + 1)) → r ≡ holdNumber s at cell pins ground j →
-      r ≡ gateNumber s at ground j
+  pub number-held : (cell pins j r : ℕ) → Hold cell pins ≡ kindOf (byte s (at + 1)) → r ≡ cellNumber s at cell pins 1 ground j → r ≡ gateNumber s at ground j
   unfolding gateNumber kindNumber
-  number-known cell pins j r k e = rw (← k) e
+  number-held cell pins j r k e = rw (← k) e
+
+  pub number-relaxed : (cell pins j r : ℕ) → Relaxed cell pins ≡ kindOf (byte s (at + 1)) → r ≡ cellNumber s at cell pins 0 ground j → r ≡ gateNumber s at ground j
+  unfolding gateNumber kindNumber
+  number-relaxed cell pins j r k e = rw (← k) e
 
   pub number-unknown : (j : ℕ) → Unknown ≡ kindOf (byte s (at + 1)) → 0 ≡ gateNumber s at ground j
   unfolding gateNumber kindNumber

@@ -4,23 +4,25 @@ use Prim.Native.Nat.{ℕ, zero, suc, _+_, _-_, _*_, _/_, _%_, _≤_, _<_}
 use native.Mathlib.Omega.{arith}
 use native.Mathlib.Decide.{decLt}
 use mathlib.Core.Path.{_≡_, refl, sym, ap, ap₂, _∙_, subst}
+use mathlib.Core.Bool.{Bool, true, false}
 use mathlib.Core.List.{List, [], _∷_, map, map-id}
 use lib.ListN.{length, getD, take, drop}
 use lib.Seq.{getD-take}
-use Rattle.gates.specs.Cell.{kindOf, pinCount}
-use Rattle.gates.proofs.Ranges.{kind-known}
+use lib.Dec.{eqb}
+use Rattle.gates.specs.Cell.{kindOf, kindByte, asKind, pinCount, bit}
+use Rattle.gates.proofs.Ranges.{kind-at}
 use Rattle.netlist.specs.declared.File.the-variants as file
 use Rattle.netlist.specs.declared.Counts.{Counts}
 use Rattle.netlist.specs.Bytes.{byte, operand, operands}
 use Rattle.netlist.specs.Commands.{commandTable, ownCommands, formIn, needed, pinsNeeded}
 use Rattle.netlist.specs.Reading.{stageLimits}
-use Rattle.netlist.specs.Content.{Gate, Pair, gateOf, codedAt, pairAt, stageOf}
-use Rattle.netlist.proofs.Encoding.{kind-needs}
+use Rattle.netlist.specs.Content.{Gate, Pair, cellOf, holdOf, gateOf, codedAt, pairAt, stageOf}
+use Rattle.netlist.proofs.Encoding.{KindOfCell, kind-needs}
 use Rattle.netlist.proofs.Readable.{kind-read, named-pin, named-rail}
 use Rattle.circuit.specs.Stage.{netCount, cellIn, slot, pinIn, gateIn, stageGates, outputIn, stageOutputs, stageCare, stageIn, GateLoaded, StageLoaded}
 use Rattle.circuit.proofs.Tabulate.{tabulate-map}
 use Rattle.circuit.proofs.Pins.{pins-few}
-use Rattle.load.specs.Load.{placesIn, FileRead, pinNumber, holdNumber, kindNumber, gateNumber, stageNumber}
+use Rattle.load.specs.Load.{placesIn, FileRead, pinNumber, cellNumber, kindNumber, gateNumber, stageNumber}
 use Rattle.load.proofs.Numbers.{WrittenTo, pin-there, pin-absent, number-cell, number-pin, number-hold, stage-gate, stage-output, stage-care}
 use Rattle.load.proofs.Reading.{length-gates, length-outputs, gate-at, output-place, output-at, care-word, length-care}
 
@@ -59,66 +61,80 @@ module _ (s places : List ℕ) (c : Counts) (code : List ℕ) (r : FileRead file
     abbrev kind : ℕ
     kind = byte s (at + 1)
 
-    known : (1 ≤ kind) × (kind ≤ 27)
-    known = kind-read (gate-at file.Stage stageLimits s places c r k h)
+    of : KindOfCell kind
+    of = kind-read (gate-at file.Stage stageLimits s places c r k h)
+
+    abbrev cell : ℕ
+    cell = of .cell
+
+    kind-of : kindOf kind ≡ asKind (of .hold) cell (pinCount cell)
+    kind-of = kind-at (of .hold) kind cell (pinCount cell) (of .kind-is) (of .cell-in .0) (of .cell-in .1) refl
+
+    needs-pins : needed file.Stage kind ≡ pinCount cell
+    needs-pins = ap (needed file.Stage) (of .kind-is) ∙ kind-needs (of .hold) cell (of .cell-in .0) (of .cell-in .1)
 
     -- number j of the gate stands where i says
-    number-at : (i j : ℕ) → i ≡ 8 * k + j → j < 8 → getD code i 0 ≡ holdNumber s at kind (pinCount kind) (netCount c) j
+    number-at : (i j : ℕ) → i ≡ 8 * k + j → j < 8 → getD code i 0 ≡ cellNumber s at cell (pinCount cell) (bit (of .hold)) (netCount c) j
     unfolding gateNumber kindNumber
     number-at i j e l =
         let a : i / 8 ≡ k = omega arith in
         let b : i % 8 ≡ j = omega arith in
-        written i (omega arith) ∙ sym (stage-gate s places c i (omega arith)) ∙ rw (a, b, kind-known kind (pinCount kind) (known .0) (known .1) refl)
+        written i (omega arith) ∙ sym (stage-gate s places c i (omega arith)) ∙ rw (a, b, kind-of) (go (of .hold))
+      where
+        go : (hold : Bool) → kindNumber (asKind hold cell (pinCount cell)) s at (netCount c) j ≡ cellNumber s at cell (pinCount cell) (bit hold) (netCount c) j
+        go true = refl
+        go false = refl
 
-    cell-at : cellIn code k ≡ kind
-    cell-at = number-at (8 * k) 0 (omega arith) (omega arith) ∙ sym (number-cell s at (netCount c) kind (pinCount kind) 0 refl)
+    cell-at : cellIn code k ≡ cell
+    cell-at = number-at (8 * k) 0 (omega arith) (omega arith) ∙ sym (number-cell s at (netCount c) cell (pinCount cell) (bit (of .hold)) 0 refl)
 
-    pin-at : (i : ℕ) → i < 4 → pinIn code k i ≡ pinNumber s at (pinCount kind) (netCount c) i
+    pin-at : (i : ℕ) → i < 4 → pinIn code k i ≡ pinNumber s at (pinCount cell) (netCount c) i
     pin-at i l =
         let e : 1 + i - 1 ≡ i = omega arith in
         number-at (8 * k + (1 + i)) (1 + i) refl (omega arith)
-        ∙ sym (number-pin s at (netCount c) kind (pinCount kind) (1 + i) (omega arith) (omega arith))
-        ∙ ap (pinNumber s at (pinCount kind) (netCount c)) e
+        ∙ sym (number-pin s at (netCount c) cell (pinCount cell) (bit (of .hold)) (1 + i) (omega arith) (omega arith))
+        ∙ ap (pinNumber s at (pinCount cell) (netCount c)) e
 
-    hold-at : slot code k 7 ≡ 1
-    hold-at = number-at (8 * k + 7) 7 refl (omega arith) ∙ sym (number-hold s at (netCount c) kind (pinCount kind) 7 refl)
+    hold-at : slot code k 7 ≡ bit (of .hold)
+    hold-at = number-at (8 * k + 7) 7 refl (omega arith) ∙ sym (number-hold s at (netCount c) cell (pinCount cell) (bit (of .hold)) 7 refl)
+
+    -- the cell and the hold of its kind
+    kind-says : (hold : Bool) → (cellOf (asKind hold cell (pinCount cell)) ≡ cell) × (holdOf (asKind hold cell (pinCount cell)) ≡ eqb (bit hold) 1)
+    kind-says true = (refl, refl)
+    kind-says false = (refl, refl)
 
     gate-same : gateIn code k ≡ gateOf (codedAt file.Stage s at)
     gate-same =
-        let few = pins-few kind (known .0) (known .1) in
+        let few = pins-few cell (of .cell-in .0) (of .cell-in .1) in
         rw (
-          kind-known kind (pinCount kind) (known .0) (known .1) refl,
-          kind-needs kind (known .0) (known .1),
+          kind-of,
+          kind-says (of .hold) .0,
+          kind-says (of .hold) .1,
+          needs-pins,
           cell-at,
           hold-at,
           pin-at 0 (omega arith),
           pin-at 1 (omega arith),
           pin-at 2 (omega arith),
           pin-at 3 (omega arith),
-          operands-first s at (netCount c) (pinCount kind) (few .0) (few .1),
+          operands-first s at (netCount c) (pinCount cell) (few .0) (few .1),
         )
 
     pin-in : (i : ℕ) → i < 4 → pinIn code k i ≤ netCount c
-    pin-in i l = go (decLt i (pinCount kind))
+    pin-in i l = go (decLt i (pinCount cell))
       where
-        go : Dec (i < pinCount kind) → pinIn code k i ≤ netCount c
+        go : Dec (i < pinCount cell) → pinIn code k i ≤ netCount c
         go (yes d) =
-            let n = gate-at file.Stage stageLimits s places c r k h .named i (omega (arith, kind-needs kind (known .0) (known .1))) in
-            omega (
-              arith,
-              pin-at i l,
-              pin-there s at (netCount c) (pinCount kind) i d,
-              named-pin k (c .inputs) (c .gates)
-                  (operand s (at + 2 + 2 * i)) n,
-            )
-        go (no d) = omega (arith, pin-at i l, pin-absent s at (netCount c) (pinCount kind) i (omega arith))
+            let n = gate-at file.Stage stageLimits s places c r k h .named i (omega (arith, needs-pins)) in
+            omega (arith, pin-at i l, pin-there s at (netCount c) (pinCount cell) i d, named-pin k (c .inputs) (c .gates) (operand s (at + 2 + 2 * i)) n)
+        go (no d) = omega (arith, pin-at i l, pin-absent s at (netCount c) (pinCount cell) i (omega arith))
 
     gate-loaded : GateLoaded c code k
     gate-loaded = record {
-      low = omega (arith, cell-at, known .0);
-      high = omega (arith, cell-at, known .1);
+      low = omega (arith, cell-at, of .cell-in .0);
+      high = omega (arith, cell-at, of .cell-in .1);
       pin = pin-in;
-      absent = λ i l b. pin-at i b ∙ sym (pin-absent s at (netCount c) (pinCount kind) i (subst (λ (x : ℕ). pinCount x ≤ i) cell-at l));
+      absent = λ i l b. pin-at i b ∙ sym (pin-absent s at (netCount c) (pinCount cell) i (subst (λ (x : ℕ). pinCount x ≤ i) cell-at l));
     }
 
   -- ---- output j

@@ -7,7 +7,7 @@ use lib.ListN.{length, getD}
 use lib.Dec.{eqb, leb, ltb}
 use Rattle.gates.specs.Cell.{kindOf}
 use Rattle.gates.specs.declared.Kind.{Kind}
-use Rattle.gates.specs.declared.Kind.the-variants.{Hold, Unknown}
+use Rattle.gates.specs.declared.Kind.the-variants.{Hold, Relaxed, Unknown}
 use Rattle.netlist.specs.declared.File.{File}
 use Rattle.netlist.specs.declared.Limits.{Limits}
 use Rattle.netlist.specs.declared.Counts.{Counts}
@@ -45,12 +45,13 @@ HoldsReference s (readable p) code = ReferenceLoaded (countsOf p) code × (refer
 unfoldable pub pinNumber : List ℕ → ℕ → ℕ → ℕ → ℕ → ℕ
 pinNumber s at pins ground i = cond (ltb i pins) (operand s (at + 2 + 2 * i)) ground
 
--- number j of a gate: its cell, its pins, its places in the order, which are not known yet, and 1 for hold
-unfoldable pub holdNumber : List ℕ → ℕ → ℕ → ℕ → ℕ → ℕ → ℕ
-holdNumber s at cell pins ground j = cond (eqb j 0) cell (cond (leb j 4) (pinNumber s at pins ground (j - 1)) (cond (eqb j 7) 1 0))
+-- number j of a gate: its cell, its pins, its places in the order, which are not known yet, and 1 for hold or 0
+unfoldable pub cellNumber : List ℕ → ℕ → ℕ → ℕ → ℕ → ℕ → ℕ → ℕ
+cellNumber s at cell pins hold ground j = cond (eqb j 0) cell (cond (leb j 4) (pinNumber s at pins ground (j - 1)) (cond (eqb j 7) hold 0))
 
 unfoldable pub kindNumber : Kind → List ℕ → ℕ → ℕ → ℕ → ℕ
-kindNumber (Hold cell pins) s at ground j = holdNumber s at cell pins ground j
+kindNumber (Hold cell pins) s at ground j = cellNumber s at cell pins 1 ground j
+kindNumber (Relaxed cell pins) s at ground j = cellNumber s at cell pins 0 ground j
 kindNumber Unknown s at ground j = 0
 
 unfoldable pub gateNumber : List ℕ → ℕ → ℕ → ℕ → ℕ

@@ -12,7 +12,7 @@ ghost use Rattle.netlist.specs.Read.{outcomeOf};
 ghost use Rattle.netlist.specs.Content.{stageOf, referenceOf};
 ghost use Rattle.circuit.specs.Stage.{netCount, stageIn, StageLoaded};
 ghost use Rattle.circuit.specs.Reference.{referenceIn, ReferenceLoaded};
-ghost use Rattle.load.specs.Load.{placesIn, FileRead, HoldsStage, HoldsReference, pinNumber, holdNumber, gateNumber, stageNumber, operatorNumber, referenceNumber};
+ghost use Rattle.load.specs.Load.{placesIn, FileRead, HoldsStage, HoldsReference, pinNumber, cellNumber, gateNumber, stageNumber, operatorNumber, referenceNumber};
 
 // The room that the flat forms of the largest stage and of the largest reference take.
 pub const STAGE_CODE: usize = 8 * netlist::STAGE_GATES + 2 * netlist::OUTPUTS + netlist::WORDS;
@@ -32,15 +32,15 @@ fn pin_number(s: &[u8], at: usize, pins: u8, ground: u16, i: usize) -> u16
     ground
 }
 
-// Number j of a gate with hold.
-fn hold_number(s: &[u8], at: usize, cell: u8, pins: u8, ground: u16, j: usize) -> u16
+// Number j of a gate of a cell, with hold 1 or 0.
+fn cell_number(s: &[u8], at: usize, cell: u8, pins: u8, hold: u16, ground: u16, j: usize) -> u16
     requires { ⌜ at + 10 ≤ length (now s) ⌝ }
-    ensures { λ r. ⌜ r ≡ holdNumber (now (s .entry)) at cell pins ground j ⌝ }
+    ensures { λ r. ⌜ r ≡ cellNumber (now (s .entry)) at cell pins hold ground j ⌝ }
 {
     match j {
         0 => cell as u16,
         1..=4 => pin_number(s, at, pins, ground, j - 1),
-        7 => 1,
+        7 => hold,
         _ => 0,
     }
 }
@@ -52,7 +52,8 @@ fn gate_number(s: &[u8], at: usize, ground: u16, j: usize) -> u16
 {
     let kind = gates::kind_of(s[at + 1]);
     match kind {
-        Kind::Hold { cell, pins } => hold_number(s, at, cell, pins, ground, j),
+        Kind::Hold { cell, pins } => cell_number(s, at, cell, pins, 1, ground, j),
+        Kind::Relaxed { cell, pins } => cell_number(s, at, cell, pins, 0, ground, j),
         Kind::Unknown => 0,
     }
 }

@@ -4,13 +4,13 @@ use Prim.Native.Nat.{ℕ, zero, suc, _+_, _-_, _*_, _≤_, _<_}
 use native.Mathlib.Omega.{arith}
 use native.Mathlib.Decide.{ℕ-discrete, decLt}
 use mathlib.Core.Path.{_≡_, refl, ap, _∙_}
-use mathlib.Core.Bool.{false}
+use mathlib.Core.Bool.{Bool, true, false}
 use mathlib.Core.List.{List, [], _∷_}
 use lib.Dec.{T, leb, leb→le}
 use borrow.Author.Tests.{eq-eqb, ne-eqb}
-use Rattle.gates.specs.Cell.{cells, cellAt, pinCount}
+use Rattle.gates.specs.Cell.{cells, cellAt, pinCount, kindOf, kindByte, asKind}
 use Rattle.gates.proofs.Every.{every, every-at}
-use Rattle.gates.proofs.Ranges.{kind-known, kind-unknown}
+use Rattle.gates.proofs.Ranges.{kind-known, KindCases, of-cell, no-kind, kind-cases}
 use Rattle.netlist.specs.Types.{File, Sort, Number, Form}
 use Rattle.netlist.specs.Types.file
 use Rattle.netlist.specs.Types.sort
@@ -145,29 +145,36 @@ some-pins : T (every (λ c. leb 1 (pinCount (c + 1))) 27)
 unfolding pinCount cellAt cells
 some-pins = tt
 
--- in a stage: kinds 1 to 27, and each needs the pins of its cell
-module _ (c : ℕ) where
-  kind-out : (1 ≤ c → c ≤ 27 → ⊥) → needed file.Stage c ≡ 0
+-- in a stage: the kind of a cell, with hold or relaxed, needs the cell's pins
+module _ (hold : Bool) (c : ℕ) (lo : 1 ≤ c) (hi : c ≤ 27) where
+  pub kind-needs : needed file.Stage (kindByte c hold) ≡ pinCount c
   unfolding needed pinsNeeded
-  kind-out out = rw (kind-unknown c out)
-
-  pub kind-needs : 1 ≤ c → c ≤ 27 → needed file.Stage c ≡ pinCount c
-  unfolding needed pinsNeeded
-  kind-needs lo hi = rw (kind-known c (pinCount c) lo hi refl)
-
-  pub kind-in : 1 ≤ needed file.Stage c → (1 ≤ c) × (c ≤ 27)
-  kind-in h = go (decLt c 1) (decLt 27 c)
+  kind-needs = rw (kind-known hold c (pinCount c) lo hi refl) (go hold)
     where
-      go : Dec (c < 1) → Dec (27 < c) → (1 ≤ c) × (c ≤ 27)
-      go (yes l) d = absurd (omega (arith, kind-out (λ lo hi. omega arith)))
-      go (no l) (yes d) = absurd (omega (arith, kind-out (λ lo hi. omega arith)))
-      go (no l) (no d) = omega arith
+      go : (h : Bool) → pinsNeeded (asKind h c (pinCount c)) ≡ pinCount c
+      go true = refl
+      go false = refl
 
-  pub kind-some : 1 ≤ c → c ≤ 27 → 1 ≤ needed file.Stage c
-  kind-some lo hi =
+  pub kind-some : 1 ≤ needed file.Stage (kindByte c hold)
+  kind-some =
       let e : c - 1 + 1 ≡ c = omega arith in
       let some : 1 ≤ pinCount (c - 1 + 1) = leb→le 1 (pinCount (c - 1 + 1)) (every-at (λ x. leb 1 (pinCount (x + 1))) 27 some-pins (c - 1) (omega arith)) in
-      rw (kind-needs lo hi) (rw e at some)
+      rw kind-needs (rw e at some)
+
+-- a kind that needs a pin is one of these
+pub record KindOfCell (k : ℕ) : Type 0 where
+  pub hold : Bool
+  pub cell : ℕ
+  pub cell-in : (1 ≤ cell) × (cell ≤ 27)
+  pub kind-is : k ≡ kindByte cell hold
+
+pub kind-in : (k : ℕ) → 1 ≤ needed file.Stage k → KindOfCell k
+unfolding needed pinsNeeded
+kind-in k h = go (kind-cases k)
+  where
+    go : KindCases k → KindOfCell k
+    go (of-cell hold c lo hi e) = record { hold = hold; cell = c; cell-in = (lo, hi); kind-is = e }
+    go (no-kind e) = absurd (let z : pinsNeeded (kindOf k) ≡ 0 = ap pinsNeeded e in omega arith)
 
 -- in a reference: operations 1 to 6, and none needs more than two
 pub operation-needs : (c : ℕ) → (needed file.Reference c ≤ 2) × (1 ≤ needed file.Reference c → (1 ≤ c) × (c ≤ 6)) × (1 ≤ c → c ≤ 6 → 1 ≤ needed file.Reference c)
@@ -189,7 +196,7 @@ needed-in file.Stage c = go (decLt 0 (needed file.Stage c))
     go : Dec (0 < needed file.Stage c) → needed file.Stage c ≤ 4
     go (no h) = omega arith
     go (yes h) =
-        let inside = kind-in c h in
-        let four : pinCount c ≤ 4 = leb→le (pinCount c) 4 (every-at (λ x. leb (pinCount x) 4) 28 few-pins c (omega arith)) in
-        omega (arith, kind-needs c (inside .0) (inside .1))
+        let k = kind-in c h in
+        let four : pinCount (k .cell) ≤ 4 = leb→le (pinCount (k .cell)) 4 (every-at (λ x. leb (pinCount x) 4) 28 few-pins (k .cell) (omega (arith, k .cell-in .1))) in
+        omega (arith, ap (needed file.Stage) (k .kind-is), kind-needs (k .hold) (k .cell) (k .cell-in .0) (k .cell-in .1))
 needed-in file.Reference c = operation-needs c .0

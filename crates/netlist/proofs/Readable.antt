@@ -16,7 +16,7 @@ use Rattle.netlist.specs.Reading.{nameable, Places, Rising, readFile, re
 use Rattle.netlist.specs.Writing.{widthFor, operandCount, roleFor, Item, gate, output, care, gatesIn, outputsIn, careIn, gatePlaces, outputPlaces}
 use Rattle.netlist.specs.Read.{GateRead, OutputRead, Read}
 use Rattle.netlist.proofs.Operands.{operands-each}
-use Rattle.netlist.proofs.Encoding.{kind-in, operation-needs}
+use Rattle.netlist.proofs.Encoding.{KindOfCell, kind-in, operation-needs}
 use Rattle.netlist.proofs.Laid.{Laid, Named, laid-operands, laid-used, laid-length, length-gatePlaces, length-outputPlaces}
 use Rattle.netlist.proofs.Walk.{LaidItems, readable-laid}
 
@@ -40,7 +40,7 @@ unfolding nameable commandTable ownCommands formIn
 named-signal k n g v h = h
 
 -- a gate's kind is one of 27, its operation one of 6
-pub kind-read : {s : List ℕ} {n g k at : ℕ} → GateRead file.Stage s n g k at → (1 ≤ byte s (at + 1)) × (byte s (at + 1) ≤ 27)
+pub kind-read : {s : List ℕ} {n g k at : ℕ} → GateRead file.Stage s n g k at → KindOfCell (byte s (at + 1))
 kind-read {s} {at} r = kind-in (byte s (at + 1)) (r .known)
 
 pub operation-read : {s : List ℕ} {n g k at : ℕ} → GateRead file.Reference s n g k at → (1 ≤ byte s (at + 1)) × (byte s (at + 1) ≤ 6)

@@ -4,11 +4,11 @@
 use Prim.Native.Nat.{ℕ, suc, _+_, _*_, _^_, _≤_, _<_}
 use native.Mathlib.Omega.{arith}
 use mathlib.Core.Path.{_≡_, refl, sym, ap, ap₂, subst, _∙_, fun-ext}
-use mathlib.Core.Bool.{Bool, true}
+use mathlib.Core.Bool.{Bool, true, false}
 use mathlib.Core.List.{List, [], _∷_, _++_, map, map-map}
 use lib.ListN.{length, getD, length-map}
 use lib.Pow.{pow-mono}
-use Rattle.gates.specs.Cell.{pinCount}
+use Rattle.gates.specs.Cell.{pinCount, kindByte}
 use Rattle.gates.proofs.Ranges.{kind-known}
 use Rattle.netlist.specs.Types.{Limits}
 use Rattle.netlist.specs.Types.file
@@ -20,7 +20,7 @@ use Rattle.netlist.specs.Content.{Coded, codedAt, Gate, Pair, Stage, gat
 use Rattle.netlist.specs.Writing.{roleFor, Item, gate, output, care, outputsIn, ItemsFit, gatesIn, careIn, placesOf, All, FileFits, codedGate, pairOperands, stageItems, writeStage}
 use Rattle.netlist.specs.Formed.{CellFormed, RailsFormed, nets, StageFormed}
 use Rattle.netlist.proofs.Lists.{Bytes, All-every, All-map}
-use Rattle.netlist.proofs.Encoding.{kind-in, kind-needs, kind-some}
+use Rattle.netlist.proofs.Encoding.{KindOfCell, kind-in, kind-needs, kind-some}
 use Rattle.netlist.proofs.Laid.{wiredAt}
 use Rattle.netlist.proofs.ReadBack.{read-write}
 use Rattle.netlist.proofs.Readable.{readable-read, named-pin, named-rail}
@@ -33,13 +33,22 @@ use Rattle.netlist.proofs.GatesFirst.{GatesFirst, CareFirst, none-first
 abbrev pairOf : List ℕ → Pair
 pairOf vs = record { rail0 = getD vs 0 0; rail1 = getD vs 1 0 }
 
--- a known kind is a cell with hold
+-- a gate of a known kind is that cell
+cell-of : (hold : Bool) (c : ℕ) (pins : List ℕ) → 1 ≤ c → c ≤ 27 → gateOf (record { code = kindByte c hold; operands = pins }) ≡ record { cell = c; hold = hold; pins = pins }
+cell-of true c pins lo hi = rw (kind-known true c (pinCount c) lo hi refl)
+cell-of false c pins lo hi = rw (kind-known false c (pinCount c) lo hi refl)
+
 module _ (c : Coded) (known : 1 ≤ needed file.Stage (c .code)) where
-  gate-cell : gateOf c ≡ record { cell = c .code; hold = true; pins = c .operands }
-  gate-cell = let r = kind-in (c .code) known in rw (kind-known (c .code) (pinCount (c .code)) (r .0) (r .1) refl)
+  abbrev kind : KindOfCell (c .code)
+  kind = kind-in (c .code) known
+
+  gate-cell : gateOf c ≡ record { cell = kind .cell; hold = kind .hold; pins = c .operands }
+  gate-cell =
+      ap (λ (k : ℕ). gateOf (record { code = k; operands = c .operands })) (kind .kind-is)
+      ∙ cell-of (kind .hold) (kind .cell) (c .operands) (kind .cell-in .0) (kind .cell-in .1)
 
   codedGate-gateOf : codedGate (gateOf c) ≡ c
-  codedGate-gateOf = ap codedGate gate-cell
+  codedGate-gateOf = ap codedGate gate-cell ∙ ap (λ (k : ℕ). record { code = k; operands = c .operands }) (sym (kind .kind-is))
 
 pairAt-wiredAt : (s : List ℕ) (p : ℕ) → pairOf (wiredAt file.Stage s p) ≡ pairAt s p
 unfolding operands commandTable ownCommands formIn
@@ -53,10 +62,6 @@ pairOperands-pairOf (a ∷ b ∷ c ∷ vs) e = absurd (omega arith)
 
 -- the gates and outputs of a stage file, coded and as a stage has them
 module _ (n g : ℕ) where
-  known-back : (k : ℕ) (gs : List Gate) → GatesFormed file.Stage n g k (map codedGate gs) → All (λ x. x .hold ≡ true) gs → All (λ x. gateOf (codedGate x) ≡ x) gs
-  known-back k [] h t = tt
-  known-back k (x ∷ gs) h t = (gate-cell (codedGate x) (h .0 .known) ∙ ap (λ (b : Bool). record { cell = x .cell; hold = b; pins = x .pins }) (sym (t .0)), known-back (suc k) gs (h .1) (t .1))
-
   known-again : (k : ℕ) (cs : List Coded) → GatesFormed file.Stage n g k cs → All (λ c. codedGate (gateOf c) ≡ c) cs
   known-again k [] h = tt
   known-again k (c ∷ cs) h = (codedGate-gateOf c (h .0 .known), known-again (suc k) cs (h .1))
@@ -66,16 +71,15 @@ module _ (n g : ℕ) where
   wired-again = All-map (OutputFormed file.Stage n g) (λ vs. pairOperands (pairOf vs) ≡ vs) (λ vs w. pairOperands-pairOf vs (w .whole))
 
   codes-gates : (k : ℕ) (cs : List Coded) → GatesFormed file.Stage n g k cs → All (CellFormed (2 * n + g)) (map gateOf cs)
-  codes-gates k [] h = tt
-  codes-gates k (c ∷ cs) h =
-      let r = kind-in (c .code) (h .0 .known) in
-      let formed : CellFormed (2 * n + g) (record { cell = c .code; hold = true; pins = c .operands }) = record {
-        cell-in = r;
-        holds = refl;
-        whole = h .0 .whole ∙ kind-needs (c .code) (r .0) (r .1);
-        pins-in = All-map (λ v. v < nameable (roleFor file.Stage sort.Gate) n g k) (λ v. v < 2 * n + g) (named-pin k n g) (c .operands) (h .0 .named);
+  codes-gates i [] h = tt
+  codes-gates i (c ∷ cs) h =
+      let k = kind-in (c .code) (h .0 .known) in
+      let formed : CellFormed (2 * n + g) (record { cell = k .cell; hold = k .hold; pins = c .operands }) = record {
+        cell-in = k .cell-in;
+        whole = h .0 .whole ∙ ap (needed file.Stage) (k .kind-is) ∙ kind-needs (k .hold) (k .cell) (k .cell-in .0) (k .cell-in .1);
+        pins-in = All-map (λ v. v < nameable (roleFor file.Stage sort.Gate) n g i) (λ v. v < 2 * n + g) (named-pin i n g) (c .operands) (h .0 .named);
       } in
-      (subst (CellFormed (2 * n + g)) (sym (gate-cell c (h .0 .known))) formed, codes-gates (suc k) cs (h .1))
+      (subst (CellFormed (2 * n + g)) (sym (gate-cell c (h .0 .known))) formed, codes-gates (suc i) cs (h .1))
 
   wires-pairs : (vss : List (List ℕ)) → All (OutputFormed file.Stage n g) vss → All (RailsFormed (2 * n + g)) (map pairOf vss)
   unfolding commandTable ownCommands formIn
@@ -95,20 +99,24 @@ pairs-view s os = ap (λ (h : ℕ → Pair). map h os) (fun-ext (λ p. sym (pair
 abbrev stage : ℕ → List Gate → List Pair → List ℕ → Stage
 stage n gs os ws = record { inputs = n; gates = gs; outputs = os; care = ws }
 
+-- the cells of a stage are among the 27
+abbrev pub CellsIn : List Gate → Type 0
+CellsIn = All (λ g. (1 ≤ g .cell) × (g .cell ≤ 27))
+
+cells-back : (gs : List Gate) → CellsIn gs → All (λ g. gateOf (codedGate g) ≡ g) gs
+cells-back = All-map (λ g. (1 ≤ g .cell) × (g .cell ≤ 27)) (λ g. gateOf (codedGate g) ≡ g) (λ g h. cell-of (g .hold) (g .cell) (g .pins) (h .0) (h .1))
+
 -- a stage that is written is read back
 module _ (most : Limits) (c : Stage) (fits : FileFits file.Stage most (c .inputs) (stageItems c)) where
   pub read-writeStage : readFile file.Stage most (writeStage c) ≡ readable (placesOf file.Stage (c .inputs) (stageItems c))
   unfolding writeStage
   read-writeStage = read-write file.Stage most (c .inputs) (stageItems c) fits
 
-  pub stageOf-writeStage : All (λ g. g .hold ≡ true) (c .gates) → stageOf (writeStage c) (placesOf file.Stage (c .inputs) (stageItems c)) ≡ c
+  pub stageOf-writeStage : CellsIn (c .gates) → stageOf (writeStage c) (placesOf file.Stage (c .inputs) (stageItems c)) ≡ c
   unfolding writeStage stageOf
-  stageOf-writeStage hold =
-      let codes = fits-formed file.Stage (c .inputs) (length (gatesIn (stageItems c))) 0 (stageItems c) (fits .items-fit) .0 in
-      let g = length (gatesIn (stageItems c)) in
-      let known = known-back (c .inputs) g 0 (c .gates) (subst (GatesFormed file.Stage (c .inputs) g 0) (gatesIn-items gateOf codedGate pairOf pairOperands (c .care) (c .gates) (c .outputs)) codes) hold in
+  stageOf-writeStage cells =
       ap₂ (λ (gs : List Gate) (os : List Pair). stage (c .inputs) gs os (careIn (stageItems c)))
-      (gates-back gateOf codedGate pairOf pairOperands file.Stage most (c .inputs) (c .care) (c .gates) (c .outputs) fits known)
+      (gates-back gateOf codedGate pairOf pairOperands file.Stage most (c .inputs) (c .care) (c .gates) (c .outputs) fits (cells-back (c .gates) cells))
       (pairs-view (writeStage c) (placesOf file.Stage (c .inputs) (stageItems c) .outputs)
       ∙ outputs-back gateOf codedGate pairOf pairOperands file.Stage most (c .inputs) (c .care) (c .gates) (c .outputs) fits (All-every (λ p. pairOf (pairOperands p) ≡ p) (λ p. refl) (c .outputs)))
       ∙ ap (stage (c .inputs) (c .gates) (c .outputs)) (careIn-items gateOf codedGate pairOf pairOperands (c .care) (c .gates) (c .outputs))
@@ -146,6 +154,10 @@ module _ (most : Limits) (s : List ℕ) (p : Places) (e : readFile file.Stage mo
 
 -- ---- a well-formed stage, and no other, fits a file
 
+kind-small : (hold : Bool) (c : ℕ) → c ≤ 27 → kindByte c hold < 256
+kind-small true c h = omega arith
+kind-small false c h = omega arith
+
 module _ (n g : ℕ) (small : 2 * n + g ≤ absent) where
   cells-fit : (k : ℕ) (xs : List Gate) (rest : List Item) → All (CellFormed (2 * n + g)) xs →
       ((k : ℕ) → ItemsFit file.Stage n g k rest) → ItemsFit file.Stage n g k (map (λ x. gate (codedGate x)) xs ++ rest)
@@ -154,9 +166,9 @@ module _ (n g : ℕ) (small : 2 * n + g ≤ absent) where
   cells-fit k (x ∷ xs) rest h r =
       let inside = h .0 .cell-in in (
         record {
-          code-byte = omega arith;
-          known = kind-some (x .cell) (inside .0) (inside .1);
-          whole = h .0 .whole ∙ sym (kind-needs (x .cell) (inside .0) (inside .1));
+          code-byte = kind-small (x .hold) (x .cell) (inside .1);
+          known = kind-some (x .hold) (x .cell) (inside .0) (inside .1);
+          whole = h .0 .whole ∙ sym (kind-needs (x .hold) (x .cell) (inside .0) (inside .1));
           used = All-map (λ v. v < 2 * n + g) (λ v. v < absent) (λ v l. omega arith) (x .pins) (h .0 .pins-in);
           named = h .0 .pins-in;
         },
@@ -203,7 +215,7 @@ module _ (most : Limits) (c : Stage) where
             (rails-fit (c .inputs) (length (c .gates)) in-reach (c .outputs) (h .outputs-formed))));
       }
 
-  pub fits-stage : FileFits file.Stage most (c .inputs) (stageItems c) → All (λ g. g .hold ≡ true) (c .gates) → StageFormed most c
-  fits-stage fits hold =
-      subst (StageFormed most) (stageOf-writeStage most c fits hold)
+  pub fits-stage : FileFits file.Stage most (c .inputs) (stageItems c) → CellsIn (c .gates) → StageFormed most c
+  fits-stage fits cells =
+      subst (StageFormed most) (stageOf-writeStage most c fits cells)
       (stage-formed most (writeStage c) (placesOf file.Stage (c .inputs) (stageItems c)) (read-writeStage most c fits))

@@ -7,7 +7,7 @@ use lib.ListN.{length, getD}
 use lib.Dec.{eqb, leb, ltb}
 use Rattle.gates.specs.Cell.{kindOf}
 use Rattle.gates.specs.declared.Kind.{Kind}
-use Rattle.gates.specs.declared.Kind.the-variants.{Hold, Unknown}
+use Rattle.gates.specs.declared.Kind.the-variants.{Hold, Relaxed, Unknown}
 use Rattle.netlist.specs.Types.{File, Sort, Role, AnyNet, EarlierSignal, AnySignal, Number, Form, Limits, Counts, Next, Command, Refused, Found, At, Nothing}
 use Rattle.netlist.specs.Types.file.{Stage, Reference}
 use Rattle.netlist.specs.Types.sort
@@ -64,6 +64,7 @@ width form = form .lead + 2 * form .operands
 -- the pins of a kind; 0 for no kind
 unfoldable pub pinsNeeded : Kind → ℕ
 pinsNeeded (Hold cell pins) = pins
+pinsNeeded (Relaxed cell pins) = pins
 pinsNeeded Unknown = 0
 
 -- how many of a gate's operands its kind or operation needs, from the first on; 0 where there is no such kind or operation.

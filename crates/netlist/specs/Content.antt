@@ -4,7 +4,7 @@ use mathlib.Core.Bool.{Bool, true, false}
 use mathlib.Core.List.{List, map}
 use Rattle.gates.specs.Cell.{kindOf}
 use Rattle.gates.specs.declared.Kind.{Kind}
-use Rattle.gates.specs.declared.Kind.the-variants.{Hold, Unknown}
+use Rattle.gates.specs.declared.Kind.the-variants.{Hold, Relaxed, Unknown}
 use Rattle.netlist.specs.Types.{File}
 use Rattle.netlist.specs.Types.file
 use Rattle.netlist.specs.Bytes.{byte, operand, operands}
@@ -39,10 +39,12 @@ pub record Stage : Type 0 where
 
 abbrev pub cellOf : Kind → ℕ
 cellOf (Hold cell pins) = cell
+cellOf (Relaxed cell pins) = cell
 cellOf Unknown = 0
 
 abbrev pub holdOf : Kind → Bool
 holdOf (Hold cell pins) = true
+holdOf (Relaxed cell pins) = false
 holdOf Unknown = false
 
 abbrev pub gateOf : Coded → Gate

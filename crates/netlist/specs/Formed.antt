@@ -14,10 +14,9 @@ use Rattle.netlist.specs.Writing.{All}
 
 -- ---- stages
 
--- with so many nets: a cell of the 27, with hold, and a net at each of its pins
+-- with so many nets: a cell of the 27, and a net at each of its pins
 pub record CellFormed (nets : ℕ) (g : Gate) : Type 0 where
   pub cell-in : (1 ≤ g .cell) × (g .cell ≤ 27)
-  pub holds : g .hold ≡ true
   pub whole : length (g .pins) ≡ pinCount (g .cell)
   pub pins-in : All (λ v. v < nets) (g .pins)
 

@@ -3,6 +3,7 @@ use Prim.Native.Nat.{ℕ, zero, suc, _+_, _/_, _%_, _^_, _≤_, _<_}
 use mathlib.Core.Path.{_≡_}
 use mathlib.Core.List.{List, [], _∷_, _++_, map}
 use lib.ListN.{length}
+use Rattle.gates.specs.Cell.{kindByte}
 use Rattle.netlist.specs.Types.{File, Sort, Role, Form, Limits}
 use Rattle.netlist.specs.Types.file
 use Rattle.netlist.specs.Types.sort
@@ -141,9 +142,9 @@ pub record FileFits (f : File) (most : Limits) (n : ℕ) (items : List Item) : T
 
 -- ---- stages and references: care words, then gates, then outputs
 
--- a gate as its command has it: the kinds of the cells with hold are the cells' numbers
+-- a gate as its command has it
 abbrev pub codedGate : Gate → Coded
-codedGate g = record { code = g .cell; operands = g .pins }
+codedGate g = record { code = kindByte (g .cell) (g .hold); operands = g .pins }
 
 abbrev pub pairOperands : Pair → List ℕ
 pairOperands p = p .rail0 ∷ p .rail1 ∷ []

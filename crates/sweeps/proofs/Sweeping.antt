@@ -8,8 +8,10 @@ use mathlib.Core.Path.{_≡_, refl, sym, ap, _∙_}
 use mathlib.Core.List.{List, [], _∷_}
 use lib.ListN.{length, getD, drop, drop-of-length-le}
 use lib.Seq.{drop-cons}
+use borrow.Author.Tests.{eq-eqb}
 use Rattle.netlist.specs.Reading.{stageLimits}
-use Rattle.netlist.specs.Content.{Stage, Reference}
+use Rattle.netlist.specs.Content.{Gate, Stage, Reference}
+use Rattle.netlist.specs.declared.Counts.{Counts}
 use Rattle.netlist.specs.declared.Found.{Found}
 use Rattle.netlist.specs.declared.Found.the-variants.{At, Nothing}
 use Rattle.verdict.specs.declared.Finding.{Finding}
@@ -17,12 +19,18 @@ use Rattle.verdict.specs.declared.Finding.the-variants.{Fault, Passed}
 use Rattle.verdict.specs.declared.Verdict.{Verdict}
 use Rattle.verdict.specs.Words.{numbers, caredFor, words}
 use Rattle.verdict.specs.Graph.{tabulate}
-use Rattle.verdict.proofs.Graph.{length-tabulate, getD-tabulate}
-use Rattle.netlist.specs.declared.Counts.{Counts}
-use Rattle.circuit.specs.Stage.{stageCare, stageIn}
-use Rattle.verdict.specs.Checks.{verdict, first, atFault, sweep, finding, orLater, firstFault, sweeps}
+use Rattle.verdict.specs.Checks.{verdict, first, atFault, sweep, finding, orLater, firstFault, riseSweeps, fallSweeps, sweeps}
+use Rattle.verdict.specs.Nets.{noGate}
+use Rattle.verdict.specs.Demands.{WithHold}
+use Rattle.verdict.proofs.Reaching.{loopFree-noLoop}
+use Rattle.verdict.proofs.Sweeps.{fault-++}
+use Rattle.verdict.proofs.Demands.{hold-passes}
+use Rattle.circuit.specs.Stage.{slot, gateIn, stageGates, stageCare, stageIn}
+use Rattle.circuit.specs.Order.{orderIn, InOrder}
+use Rattle.circuit.proofs.Order.{order-no-loop}
+use Rattle.circuit.proofs.Tabulate.{length-tabulate, getD-tabulate}
 use Rattle.words.specs.declared.Sweep.{Sweep}
-use Rattle.words.specs.declared.Sweep.the-variants.{Wrong, Missing, Unobserved}
+use Rattle.words.specs.declared.Sweep.the-variants.{Wrong, Missing, Unobserved, Remaining, StillHigh}
 use Rattle.words.specs.Finds.{finds}
 use Rattle.sweeps.specs.Sweeps.{wordCount, numberOf, swept}
 
@@ -115,30 +123,60 @@ swept-words which s r number f a e = e ∙ ap (λ (k : ℕ). sweep k 1 (finds wh
 
 -- ---- check by check
 
+later-none : (f : Finding) → orLater f Passed ≡ f
+unfolding orLater
+later-none (Fault v) = refl
+later-none Passed = refl
+
+later-fault : (later : Finding) {v : Verdict} {f : Finding} → Fault v ≡ f → orLater f later ≡ Fault v
+unfolding orLater
+later-fault later e = ap (λ (x : Finding). orLater x later) (sym e)
+
+later-passed : (later : Finding) {f : Finding} → Passed ≡ f → orLater f later ≡ later
+unfolding orLater
+later-passed later e = ap (λ (x : Finding). orLater x later) (sym e)
+
 module _ (s : Stage) (r : Reference) where
-  in-order : firstFault (sweeps s r) ≡ orLater (swept Wrong s r) (orLater (swept Missing s r) (orLater (swept Unobserved s r) Passed))
-  unfolding firstFault sweeps finding
-  in-order = refl
+  rises : firstFault (riseSweeps s r) ≡ orLater (swept Wrong s r) (orLater (swept Missing s r) (swept Unobserved s r))
+  unfolding firstFault riseSweeps finding
+  rises = ap (λ (f : Finding). orLater (swept Wrong s r) (orLater (swept Missing s r) f)) (later-none (swept Unobserved s r))
 
-  last : (f : Finding) → orLater f Passed ≡ f
-  unfolding orLater
-  last (Fault v) = refl
-  last Passed = refl
+  falls : firstFault (fallSweeps s r) ≡ orLater (swept Remaining s r) (swept StillHigh s r)
+  unfolding firstFault fallSweeps finding
+  falls = ap (orLater (swept Remaining s r)) (later-none (swept StillHigh s r))
 
-  pub first-wrong : (v : Verdict) → Fault v ≡ swept Wrong s r → Fault v ≡ firstFault (sweeps s r)
-  unfolding orLater
-  first-wrong v e = sym (in-order ∙ ap (λ (f : Finding). orLater f (orLater (swept Missing s r) (orLater (swept Unobserved s r) Passed))) (sym e))
+  pub first-wrong : (v : Verdict) → Fault v ≡ swept Wrong s r → Fault v ≡ firstFault (riseSweeps s r)
+  first-wrong v e = sym (rises ∙ later-fault _ e)
 
-  module _ (e : Passed ≡ swept Wrong s r) where
-    then : firstFault (sweeps s r) ≡ orLater (swept Missing s r) (orLater (swept Unobserved s r) Passed)
-    unfolding orLater
-    then = in-order ∙ ap (λ (f : Finding). orLater f (orLater (swept Missing s r) (orLater (swept Unobserved s r) Passed))) (sym e)
+  pub first-missing : Passed ≡ swept Wrong s r → (v : Verdict) → Fault v ≡ swept Missing s r → Fault v ≡ firstFault (riseSweeps s r)
+  first-missing e v q = sym (rises ∙ later-passed _ e ∙ later-fault _ q)
 
-    pub first-missing : (v : Verdict) → Fault v ≡ swept Missing s r → Fault v ≡ firstFault (sweeps s r)
-    unfolding orLater
-    first-missing v q = sym (then ∙ ap (λ (f : Finding). orLater f (orLater (swept Unobserved s r) Passed)) (sym q))
+  pub first-unobserved : Passed ≡ swept Wrong s r → Passed ≡ swept Missing s r → (f : Finding) → f ≡ swept Unobserved s r → f ≡ firstFault (riseSweeps s r)
+  first-unobserved e q f u = sym (rises ∙ later-passed _ e ∙ later-passed _ q ∙ sym u)
 
-    pub first-unobserved : Passed ≡ swept Missing s r → (f : Finding) → f ≡ swept Unobserved s r → f ≡ firstFault (sweeps s r)
-    unfolding orLater
-    first-unobserved q f u =
-        u ∙ sym (last (swept Unobserved s r)) ∙ sym (then ∙ ap (λ (g : Finding). orLater g (orLater (swept Unobserved s r) Passed)) (sym q))
+  pub first-remaining : (v : Verdict) → Fault v ≡ swept Remaining s r → Fault v ≡ firstFault (fallSweeps s r)
+  first-remaining v e = sym (falls ∙ later-fault _ e)
+
+  pub first-still-high : Passed ≡ swept Remaining s r → (f : Finding) → f ≡ swept StillHigh s r → f ≡ firstFault (fallSweeps s r)
+  first-still-high e f u = sym (falls ∙ later-passed _ e ∙ sym u)
+
+  -- the rise, then the fall
+  pub rise-fault : (v : Verdict) → Fault v ≡ firstFault (riseSweeps s r) → Fault v ≡ firstFault (sweeps s r)
+  rise-fault v e = sym (fault-++ (riseSweeps s r) (fallSweeps s r) ∙ later-fault _ e)
+
+  pub then-fall : Passed ≡ firstFault (riseSweeps s r) → (f : Finding) → f ≡ firstFault (fallSweeps s r) → f ≡ firstFault (sweeps s r)
+  then-fall e f q = sym (fault-++ (riseSweeps s r) (fallSweeps s r) ∙ later-passed _ e ∙ sym q)
+
+-- a stage with hold everywhere passes the fall where it passes the rise
+pub no-fall : (c : Counts) (code : List ℕ) → InOrder c code → WithHold (stageIn c code) → (r : Reference) → Passed ≡ firstFault (riseSweeps (stageIn c code) r) → Passed ≡ firstFault (sweeps (stageIn c code) r)
+no-fall c code o hold r e =
+    let s = stageIn c code in
+    let l = loopFree-noLoop (c .inputs) (stageGates c code) (order-no-loop (c .inputs) (stageGates c code) (orderIn c code) (o .ordered)) in
+    then-fall s r e Passed (sym (hold-passes s r l hold (sym e)))
+
+-- each of the gates of a flat form has hold
+pub hold-all : (c : Counts) (code : List ℕ) → ((k : ℕ) → k < c .gates → slot code k 7 ≡ 1) → WithHold (stageIn c code)
+unfolding stageGates
+hold-all c code all k h =
+    let b : k < c .gates = omega (arith, length-tabulate (gateIn code) (c .gates)) in
+    ap (λ (g : Gate). g .hold) (getD-tabulate (gateIn code) (c .gates) k noGate b) ∙ eq-eqb (slot code k 7) 1 (all k b)

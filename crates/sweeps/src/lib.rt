@@ -1,16 +1,18 @@
-// The sweeps of 13, 14 and 15 over the words of a stage and a reference in their flat forms.
+// The sweeps of 13, 14 and 15, and of 20 and 21, over the words of a stage and a reference in their flat forms.
 use netlist::Counts;
 use netlist::Found;
 use verdict::Finding;
 use verdict::Verdict;
 use words::Sweep;
 ghost use mathlib.Core.Path.{_≡_};
+ghost use mathlib.Core.Bool.{true};
 ghost use Prim.Native.Nat.{ℕ, _≤_, _<_};
 ghost use mathlib.Core.List.{List};
 ghost use lib.ListN.{getD};
 ghost use Rattle.netlist.specs.Reading.{stageLimits};
 ghost use Rattle.verdict.specs.Words.{words};
 ghost use Rattle.verdict.specs.Checks as checks;
+ghost use Rattle.verdict.specs.Demands.{WithHold};
 ghost use Rattle.circuit.specs.Stage.{stageIn, StageLoaded};
 ghost use Rattle.circuit.specs.Reference.{referenceIn};
 ghost use Rattle.words.specs.Loaded.{BothLoaded};
@@ -47,6 +49,8 @@ fn number_of(which: Sweep) -> u64
         Sweep::Wrong => 13,
         Sweep::Missing => 14,
         Sweep::Unobserved => 15,
+        Sweep::Remaining => 20,
+        Sweep::StillHigh => 21,
     }
 }
 
@@ -79,10 +83,10 @@ fn sweep_words(
     Finding::Passed
 }
 
-// 13, then 14, then 15.
-pub fn sweep_all(code: &[u16], counts: Counts, reference: &[u16], sizes: Counts) -> Finding
+// The rise: 13, then 14, then 15.
+fn sweep_rises(code: &[u16], counts: Counts, reference: &[u16], sizes: Counts) -> Finding
     requires { ⌜ BothLoaded counts (now code) sizes (now reference) ⌝ }
-    ensures { λ r. ⌜ r ≡ checks.firstFault (checks.sweeps (stageIn counts (now (code .entry))) (referenceIn sizes (now (reference .entry)))) ⌝ }
+    ensures { λ r. ⌜ r ≡ checks.firstFault (checks.riseSweeps (stageIn counts (now (code .entry))) (referenceIn sizes (now (reference .entry)))) ⌝ }
 {
     if let Finding::Fault(v) = sweep_words(Sweep::Wrong, code, counts, reference, sizes) {
         return Finding::Fault(v);
@@ -91,4 +95,46 @@ pub fn sweep_all(code: &[u16], counts: Counts, reference: &[u16], sizes: Counts)
         return Finding::Fault(v);
     }
     sweep_words(Sweep::Unobserved, code, counts, reference, sizes)
+}
+
+// The fall: 20, then 21.
+fn sweep_falls(code: &[u16], counts: Counts, reference: &[u16], sizes: Counts) -> Finding
+    requires { ⌜ BothLoaded counts (now code) sizes (now reference) ⌝ }
+    ensures { λ r. ⌜ r ≡ checks.firstFault (checks.fallSweeps (stageIn counts (now (code .entry))) (referenceIn sizes (now (reference .entry)))) ⌝ }
+{
+    if let Finding::Fault(v) = sweep_words(Sweep::Remaining, code, counts, reference, sizes) {
+        return Finding::Fault(v);
+    }
+    sweep_words(Sweep::StillHigh, code, counts, reference, sizes)
+}
+
+// Whether every gate has hold.
+fn all_hold(code: &[u16], counts: Counts) -> bool
+    requires { ⌜ StageLoaded counts (now code) ⌝ }
+    ensures { λ r. ⌜ (r ≡ true → WithHold (stageIn counts (now (code .entry)))) ⌝ }
+{
+    let gates = counts.gates;
+    let mut k: usize = 0;
+    while k < gates {
+        if code[8 * k + 7] == 1 {
+            k += 1;
+        } else {
+            return false;
+        }
+    }
+    true
+}
+
+// The rise, then the fall. Where every gate has hold, a stage whose rise passes is not refused for its fall.
+pub fn sweep_all(code: &[u16], counts: Counts, reference: &[u16], sizes: Counts) -> Finding
+    requires { ⌜ BothLoaded counts (now code) sizes (now reference) ⌝ }
+    ensures { λ r. ⌜ r ≡ checks.firstFault (checks.sweeps (stageIn counts (now (code .entry))) (referenceIn sizes (now (reference .entry)))) ⌝ }
+{
+    if let Finding::Fault(v) = sweep_rises(code, counts, reference, sizes) {
+        return Finding::Fault(v);
+    }
+    if all_hold(code, counts) {
+        return Finding::Passed;
+    }
+    sweep_falls(code, counts, reference, sizes)
 }

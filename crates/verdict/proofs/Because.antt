@@ -17,45 +17,53 @@ use Rattle.netlist.specs.declared.File.the-variants as file
 use Rattle.netlist.specs.declared.Limits.{Limits}
 use Rattle.netlist.specs.Reading.{Places, Reading, refused, readable, readFile}
 use Rattle.netlist.specs.Content.{Pair, Stage, Reference, stageOf, referenceOf}
-use Rattle.verdict.specs.Rows.{high, withNull, settled, settledHolding, pairIn, isData, spells, allData}
+use Rattle.verdict.specs.Rows.{high, withNull, settled, settledHolding, DualRail, pairIn, isData, isNull, spells, everyPair, allData, allNull}
 use Rattle.verdict.specs.Loops.{In, reachesItself}
 use Rattle.verdict.specs.Words.{numbers, words, bitsOf, railsIn}
 use Rattle.verdict.specs.Answers.{answer}
-use Rattle.verdict.specs.Nets.{noPair, outputPair, netOf, rowOf}
-use Rattle.verdict.specs.Checks.{Check, check, wrong, incomplete, unobservable, WrongAt, IncompleteAt, UnobservableAt, unequal, looped, sweeps, checks, illegal, IllegalAt, rowChecks}
+use Rattle.verdict.specs.Nets.{noPair, outputPair, netOf, rowOf, restRow}
+use Rattle.verdict.specs.Falls.{fallenBut, fallenKeeping}
+use Rattle.verdict.specs.Checks.{Check, check, wrong, incomplete, unobservable, fallIncomplete, fallUnobservable, WrongAt, IncompleteAt, UnobservableAt, FallIncompleteAt, FallUnobservableAt, unequal, looped, riseSweeps, fallSweeps, checks, illegal, IllegalAt, rowChecks}
 use Rattle.verdict.specs.Verdicts.{judgeReference, judgeStage, verdictWithin}
 use Rattle.verdict.specs.Demands.{Holds, EachOf, Because, stage-refused, reference-refused, both-read}
 use Rattle.verdict.proofs.Reaching.{reaches-sound, reaches-complete}
 use Rattle.verdict.proofs.Words.{in-index, bits-of-bit, answer-bit}
-use Rattle.verdict.proofs.Bridge.{data-in, data-out, spells-in, spells-out}
-use Rattle.verdict.proofs.Sweeps.{Means, judged}
+use Rattle.verdict.proofs.Bridge.{data-in, data-out, null-in, null-out, spells-in, spells-out}
+use Rattle.verdict.proofs.Sweeps.{Means, each-++, judged}
 use Rattle.verdict.proofs.Illegal.{illegal-true, illegal-says}
 
--- ---- all outputs DATA, tested and said
+-- ---- every output passes a test
 
-all-data-out : (row : List ℕ) (pairs : List Pair) → allData row pairs ≡ true → (j : ℕ) → j < length pairs → isData (pairIn row (getD pairs j noPair)) ≡ true
-unfolding allData
-all-data-out row [] e j h = absurd (omega arith)
-all-data-out row (p ∷ pairs) e j h = go (isData (pairIn row p)) refl e (all-data-out row pairs) j h
-  where
-    go : (b : Bool) → isData (pairIn row p) ≡ b → cond b (allData row pairs) false ≡ true
-        → (allData row pairs ≡ true → (j : ℕ) → j < length pairs → isData (pairIn row (getD pairs j noPair)) ≡ true)
-        → (j : ℕ) → j < suc (length pairs) → isData (pairIn row (getD (p ∷ pairs) j noPair)) ≡ true
-    go true q e later zero h = q
-    go true q e later (suc j) h = later e j (omega arith)
-    go false q e later j h = absurd (clash e refl)
+module _ (test : DualRail → Bool) (row : List ℕ) where
+  every-out : (pairs : List Pair) → everyPair test row pairs ≡ true → (j : ℕ) → j < length pairs → test (pairIn row (getD pairs j noPair)) ≡ true
+  unfolding everyPair
+  every-out [] e j h = absurd (omega arith)
+  every-out (p ∷ pairs) e j h = go (test (pairIn row p)) refl e (every-out pairs) j h
+    where
+      go : (b : Bool) → test (pairIn row p) ≡ b → cond b (everyPair test row pairs) false ≡ true
+          → (everyPair test row pairs ≡ true → (j : ℕ) → j < length pairs → test (pairIn row (getD pairs j noPair)) ≡ true)
+          → (j : ℕ) → j < suc (length pairs) → test (pairIn row (getD (p ∷ pairs) j noPair)) ≡ true
+      go true q e later zero h = q
+      go true q e later (suc j) h = later e j (omega arith)
+      go false q e later j h = absurd (clash e refl)
 
-all-data-in : (row : List ℕ) (pairs : List Pair) → ((j : ℕ) → j < length pairs → isData (pairIn row (getD pairs j noPair)) ≡ true) → allData row pairs ≡ true
-unfolding allData
-all-data-in row [] f = refl
-all-data-in row (p ∷ pairs) f = rw (f 0 (omega arith)) (all-data-in row pairs (λ j h. f (suc j) (omega arith)))
+  every-in : (pairs : List Pair) → ((j : ℕ) → j < length pairs → test (pairIn row (getD pairs j noPair)) ≡ true) → everyPair test row pairs ≡ true
+  unfolding everyPair
+  every-in [] f = refl
+  every-in (p ∷ pairs) f = rw (f 0 (omega arith)) (every-in pairs (λ j h. f (suc j) (omega arith)))
 
 module _ (s : Stage) (row : List ℕ) where
   data-true : allData row (s .outputs) ≡ true → pair.AllData (netOf s) (rowOf row)
-  data-true e j h = data-in row (outputPair s j) (all-data-out row (s .outputs) e j h)
+  data-true e j h = data-in row (outputPair s j) (every-out isData row (s .outputs) e j h)
 
   true-data : pair.AllData (netOf s) (rowOf row) → allData row (s .outputs) ≡ true
-  true-data d = all-data-in row (s .outputs) (λ j h. data-out row (outputPair s j) (d j h))
+  true-data d = every-in isData row (s .outputs) (λ j h. data-out row (outputPair s j) (d j h))
+
+  null-true : allNull row (s .outputs) ≡ true → pair.AllNull (netOf s) (rowOf row)
+  null-true e j h = null-in row (outputPair s j) (every-out isNull row (s .outputs) e j h)
+
+  true-null : pair.AllNull (netOf s) (rowOf row) → allNull row (s .outputs) ≡ true
+  true-null d = every-in isNull row (s .outputs) (λ j h. null-out row (outputPair s j) (d j h))
 
 -- ---- each check
 
@@ -85,36 +93,61 @@ module _ (s : Stage) (r : Reference) (places : List ℕ) (Shows : ℕ → ℕ �
     occurs = λ w j h n. ap not (not-true (spells (pairIn (row w) (outputPair s j)) (value w j)) (λ e. n (spells-in (row w) (outputPair s j) (value w j) e)));
   }
 
+-- a gate that is high in w, and a row that passes a test
+module _ (s : Stage) (w g : ℕ) (test : Bool) {P : Type 0} (passes : test ≡ true → P) (holds-so : P → test ≡ true) where
+  high-passes : (elim (high (settled (s .gates) (railsIn s w)) (2 * s .inputs + g)) as (λ b. Bool) [ true ↦ test | false ↦ false ]) ≡ true
+      → (restRow s w (2 * s .inputs + g) ≡ true) × P
+  high-passes = go (high (settled (s .gates) (railsIn s w)) (2 * s .inputs + g)) refl
+    where
+      go : (b : Bool) → high (settled (s .gates) (railsIn s w)) (2 * s .inputs + g) ≡ b → (elim b as (λ b. Bool) [ true ↦ test | false ↦ false ]) ≡ true
+          → (restRow s w (2 * s .inputs + g) ≡ true) × P
+      go true e f = (e, passes f)
+      go false e f = absurd (clash f refl)
+
+  passes-high : (restRow s w (2 * s .inputs + g) ≡ true) × P
+      → (elim (high (settled (s .gates) (railsIn s w)) (2 * s .inputs + g)) as (λ b. Bool) [ true ↦ test | false ↦ false ]) ≡ true
+  passes-high u = rw (u .0) (holds-so (u .1))
+
 module _ (s : Stage) (places : List ℕ) (Shows : ℕ → ℕ → Type 0) where
   incomplete-means : Means (check 14 1 (words s) places (incomplete s) (IncompleteAt s) Shows)
   unfolding incomplete
   incomplete-means = record {
-    passes = λ w i h e. data-true s (settled (s .gates) (withNull (only i) (railsIn s w))) e;
-    occurs = λ w i h d. true-data s (settled (s .gates) (withNull (only i) (railsIn s w))) d;
+    passes = λ w i h. data-true s (settled (s .gates) (withNull (only i) (railsIn s w)));
+    occurs = λ w i h. true-data s (settled (s .gates) (withNull (only i) (railsIn s w)));
   }
 
   unobservable-means : Means (check 15 1 (words s) places (unobservable s) (UnobservableAt s) Shows)
   unfolding unobservable
   unobservable-means = record {
-    passes = λ w g h e. passes w g (high (settled (s .gates) (railsIn s w)) (2 * s .inputs + g)) refl e;
-    occurs = λ w g h u. rw (u .0, unobservable) (true-data s (settledHolding g (s .gates) (railsIn s w)) (u .1));
+    passes = λ w g h. let row = settledHolding g (s .gates) (railsIn s w) in high-passes s w g (allData row (s .outputs)) (data-true s row) (true-data s row);
+    occurs = λ w g h. let row = settledHolding g (s .gates) (railsIn s w) in passes-high s w g (allData row (s .outputs)) (data-true s row) (true-data s row);
   }
-    where
-      passes : (w g : ℕ) (b : Bool) → high (settled (s .gates) (railsIn s w)) (2 * s .inputs + g) ≡ b
-          → (elim b as (λ b. Bool) [ true ↦ allData (settledHolding g (s .gates) (railsIn s w)) (s .outputs) | false ↦ false ]) ≡ true → UnobservableAt s w g
-      passes w g true e f = (e, data-true s (settledHolding g (s .gates) (railsIn s w)) f)
-      passes w g false e f = absurd (clash f refl)
+
+  fall-incomplete-means : Means (check 20 1 (words s) places (fallIncomplete s) (FallIncompleteAt s) Shows)
+  unfolding fallIncomplete
+  fall-incomplete-means = record { passes = λ w i h. null-true s (fallenBut s w i); occurs = λ w i h. true-null s (fallenBut s w i) }
+
+  fall-unobservable-means : Means (check 21 1 (words s) places (fallUnobservable s) (FallUnobservableAt s) Shows)
+  unfolding fallUnobservable
+  fall-unobservable-means = record {
+    passes = λ w g h. let row = fallenKeeping s w g in high-passes s w g (allNull row (s .outputs)) (null-true s row) (true-null s row);
+    occurs = λ w g h. let row = fallenKeeping s w g in passes-high s w g (allNull row (s .outputs)) (null-true s row) (true-null s row);
+  }
 
 -- ---- the lists of checks
 
-sweeps-mean : (s : Stage) (r : Reference) → EachOf Means (sweeps s r)
-unfolding sweeps
-sweeps-mean s r = (wrong-means s r _ _, (incomplete-means s _ _, (unobservable-means s _ _, tt)))
+pub rises-mean : (s : Stage) (r : Reference) → EachOf Means (riseSweeps s r)
+unfolding riseSweeps
+rises-mean s r = (wrong-means s r _ _, (incomplete-means s _ _, (unobservable-means s _ _, tt)))
+
+pub falls-mean : (s : Stage) (r : Reference) → EachOf Means (fallSweeps s r)
+unfolding fallSweeps
+falls-mean s r = (fall-incomplete-means s _ _, (fall-unobservable-means s _ _, tt))
 
 pub checks-mean : (s : Stage) (r : Reference) → EachOf Means (checks s r)
 unfolding checks
 checks-mean s r =
-    (unequal-means 10 (s .inputs) (r .inputs), (unequal-means 11 (length (s .outputs)) (length (r .outputs)), (looped-means s, sweeps-mean s r)))
+    (unequal-means 10 (s .inputs) (r .inputs), (unequal-means 11 (length (s .outputs)) (length (r .outputs)), (looped-means s, each-++ Means (riseSweeps s r) (fallSweeps s r) (rises-mean s r) (falls-mean s r))))
 
 pub row-checks-mean : (s : Stage) (row : List ℕ) → EachOf Means (rowChecks s row)
 unfolding rowChecks

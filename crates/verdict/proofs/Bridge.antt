@@ -24,7 +24,7 @@ use Rattle.runs.specs.Pair as pair
 use Rattle.runs.specs.Acyclic.{Acyclic, AllPins}
 use Rattle.runs.proofs.Rise.{settled-by, held-by, settled-cong}
 use Rattle.netlist.specs.Content.{Gate, Pair, Stage, Reference}
-use Rattle.verdict.specs.Rows.{high, withNull, isSet, settledLevels, levelsHolding, settled, settledHolding, DualRail, null, data0, data1, both, dualRail, pairIn, isData, spells}
+use Rattle.verdict.specs.Rows.{high, withNull, isSet, settledLevels, levelsHolding, settled, settledHolding, DualRail, null, data0, data1, both, dualRail, pairIn, isData, isNull, spells}
 use Rattle.verdict.specs.Levels.{LevelsSettled, LevelsHeld}
 use Rattle.verdict.specs.Loops.{In, pinsAt, LoopFree}
 use Rattle.verdict.specs.Nets.{noGate, driver, setIn, railOf, netOf, rowOf}
@@ -94,7 +94,7 @@ module _ (s : Stage) (free : LoopFree (s .inputs) (s .gates)) where
 
 -- ---- settled rows
 
-high-bit : (b : Bool) → ltb 0 (bit b) ≡ b
+pub high-bit : (b : Bool) → ltb 0 (bit b) ≡ b
 high-bit true = refl
 high-bit false = refl
 
@@ -106,15 +106,15 @@ set-at row (g ∷ gates) zero h = high-bit (holds (setExpression (g .cell)) (λ 
 set-at row (g ∷ gates) (suc k) h = set-at row gates k (omega arith)
 
 module _ (s : Stage) (wires : List ℕ) (long : length wires ≡ 2 * s .inputs) where
-  rail-high : (levels : List ℕ) (k : ℕ) → k < 2 * s .inputs → high (wires ++ levels) k ≡ high wires k
+  pub rail-high : (levels : List ℕ) (k : ℕ) → k < 2 * s .inputs → high (wires ++ levels) k ≡ high wires k
   rail-high levels k h = ap (λ (x : ℕ). ltb 0 x) (List·getD-append wires levels 0 k (omega arith))
 
-  gate-high : (levels : List ℕ) (k : ℕ) → 2 * s .inputs ≤ k → high (wires ++ levels) k ≡ high levels (k - 2 * s .inputs)
+  pub gate-high : (levels : List ℕ) (k : ℕ) → 2 * s .inputs ≤ k → high (wires ++ levels) k ≡ high levels (k - 2 * s .inputs)
   gate-high levels k h =
       let e : k ≡ length wires + (k - 2 * s .inputs) = omega arith in
       ap (λ (x : ℕ). high (wires ++ levels) x) e ∙ ap (λ (x : ℕ). ltb 0 x) (getD-append-add wires levels (k - 2 * s .inputs) 0)
 
-  past-low : (levels : List ℕ) → length levels ≡ length (s .gates) → (k : ℕ) → 2 * s .inputs + length (s .gates) ≤ k → high (wires ++ levels) k ≡ false
+  pub past-low : (levels : List ℕ) → length levels ≡ length (s .gates) → (k : ℕ) → 2 * s .inputs + length (s .gates) ≤ k → high (wires ++ levels) k ≡ false
   past-low levels e k h = ap (λ (x : ℕ). ltb 0 x) (List·getD-eq-default (wires ++ levels) 0 (omega (arith, length-append wires levels)))
 
   -- the computed row is settled for its rails
@@ -188,7 +188,16 @@ module _ (row : List ℕ) (p : Pair) where
       go false true e = refl
       go false false e = absurd (clash e refl)
 
-  pub null-out : pair.Null (rowOf row) (railOf p) → pairIn row p ≡ null
+  pub null-in : isNull (pairIn row p) ≡ true → pair.Null (rowOf row) (railOf p)
+  null-in e = go (high row (p .rail0)) (high row (p .rail1)) e
+    where
+      go : (a b : Bool) → isNull (dualRail a b) ≡ true → (a ≡ false) × (b ≡ false)
+      go true true e = absurd (clash e refl)
+      go true false e = absurd (clash e refl)
+      go false true e = absurd (clash e refl)
+      go false false e = (refl, refl)
+
+  pub null-out : pair.Null (rowOf row) (railOf p) → isNull (pairIn row p) ≡ true
   null-out h = rw (h .0, h .1)
 
   -- the pair spells a bit exactly if it is that bit's DATA

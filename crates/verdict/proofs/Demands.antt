@@ -27,31 +27,19 @@ use Rattle.verdict.specs.Rows.{settledLevels, settled}
 use Rattle.verdict.specs.Loops.{In, NoLoop}
 use Rattle.verdict.specs.Words.{numbers, words, IsWord}
 use Rattle.verdict.specs.Nets.{noGate, netOf, rowOf, railsFor, answerBits}
-use Rattle.verdict.specs.Checks.{Check, unequal, looped, sweeps, firstFault, checks, rowChecks}
+use Rattle.verdict.specs.Checks.{Check, unequal, looped, riseSweeps, fallSweeps, sweeps, firstFault, checks, rowChecks}
 use Rattle.verdict.specs.Verdicts.{accepted, verdictOf, judgeReference, judgeStage, verdictWithin, RowAnswer, settleUnless, settleReading, settledRowWithin}
 use Rattle.verdict.specs.Demands as demands
-use Rattle.verdict.specs.Demands.{StageIs, ReferenceIs, Contents, Nowhere, NamedBy, Named, EachOf, Judged, Because, both-read, Comparable, Acceptable, Demand2, Kept, Shown, ShownBy, Demand3, RowGiven, DemandRow, row-refused, row-settled}
+use Rattle.verdict.specs.Demands.{StageIs, ReferenceIs, Contents, Nowhere, NamedBy, Named, EachOf, Judged, Because, both-read, Comparable, Acceptable, Demand2, Kept, Shown, ShownBy, Demand3, WithHold, RowGiven, DemandRow, row-refused, row-settled}
 use Rattle.verdict.proofs.Levels.{bits-length, bits-get}
 use Rattle.verdict.proofs.Reaching.{noLoop-loopFree}
 use Rattle.verdict.proofs.Settling.{settled-bits}
 use Rattle.verdict.proofs.Words.{index-in, in-index}
 use Rattle.verdict.proofs.Bridge.{stageIn, settled-row}
-use Rattle.verdict.proofs.Sweeps.{FirstFault, first-fault, judged, Showable, named-shown, shown-by, none-named, named-from}
-use Rattle.verdict.proofs.Because.{checks-mean, row-checks-mean, holds, verdict-because}
+use Rattle.verdict.proofs.Sweeps.{FirstFault, first-fault, judged, each-++, named-number, passed-nowhere, nowhere-passed, Showable, named-shown, shown-by, none-named, named-from}
+use Rattle.verdict.proofs.Because.{rises-mean, falls-mean, checks-mean, row-checks-mean, holds, verdict-because}
 use Rattle.verdict.proofs.Refusals.{InTable, refused-number}
-use Rattle.verdict.proofs.OneWord.{CleanIn, rises-to, rows-are, clean-conforms, conforms-clean, clean-promise, word-rises, wrong-broken, incomplete-broken, unobservable-broken}
-
--- ---- what a readable stage has
-
-gates-hold : (n : ℕ) (gates : List Gate) → All (CellFormed n) gates → (k : ℕ) → getD gates k noGate .hold ≡ true
-gates-hold n [] h k = refl
-gates-hold n (g ∷ gates) h zero = h .0 .holds
-gates-hold n (g ∷ gates) h (suc k) = gates-hold n gates (h .1) k
-
-stage-holds : (most : Limits) (bytes : List ℕ) (s : Stage) → StageIs most bytes s → AllHold (netOf s)
-stage-holds most bytes s is k h =
-    let f : StageFormed most s = subst (StageFormed most) (is .content) (stage-formed most bytes (is .places) (is .reads)) in
-    gates-hold (2 * s .inputs + length (s .gates)) (s .gates) (f .gates-formed) (k - 2 * s .inputs)
+use Rattle.verdict.proofs.OneWord.{CleanRise, CleanFall, CleanIn, hold-clean, rises-to, rows-are, clean-conforms, conforms-clean, clean-promise, word-rises, wrong-broken, incomplete-broken, unobservable-broken, fall-incomplete-broken, fall-unobservable-broken}
 
 -- ---- what checks that find nothing say
 
@@ -71,6 +59,19 @@ nowhere-loop s n g h p = n 0 (inl refl) (g, index-in (length (s .gates)) g h, p)
 number-of : {v : Verdict} → v ≡ accepted → v .number ≡ 0
 number-of e = ap (λ (v : Verdict). v .number) e
 
+-- a file holds one stage
+stage-one : {most : Limits} {bytes : List ℕ} {s s′ : Stage} → StageIs most bytes s → StageIs most bytes s′ → s ≡ s′
+stage-one {bytes = bytes} a b =
+    let r : readable (a .places) ≡ readable (b .places) = sym (a .reads) ∙ b .reads in
+    let e : a .places ≡ b .places = cc in
+    sym (a .content) ∙ ap (stageOf bytes) e ∙ b .content
+
+-- the numbers of the refusals of the fall
+fall-numbers : (n : ℕ) → In n (20 ∷ 21 ∷ []) → 20 ≤ n
+fall-numbers n (inl e) = omega arith
+fall-numbers n (inr (inl e)) = omega arith
+fall-numbers n (inr (inr h)) = absurd h
+
 -- ---- a stage and a reference that were read
 
 -- the sweeps find nothing in any word
@@ -78,17 +79,28 @@ abbrev Clean : Stage → Reference → Type 0
 Clean s r = (w : ℕ) → IsWord s w → CleanIn s r w
 
 module _ (s : Stage) (r : Reference) where
-  sweeps-clean : EachOf Nowhere (sweeps s r) → Clean s r
-  unfolding sweeps
-  sweeps-clean (x, (y, (z, e))) w h = record {
+  rises-clean : EachOf Nowhere (riseSweeps s r) → (w : ℕ) → IsWord s w → CleanRise s r w
+  unfolding riseSweeps
+  rises-clean (x, (y, (z, e))) w h = record {
     right = λ j hj f. x w h (j, index-in (length (s .outputs)) j hj, f);
     complete = λ i hi f. y w h (i, index-in (s .inputs) i hi, f);
     observable = λ g hg f. z w h (g, index-in (length (s .gates)) g hg, f);
   }
 
-  clean-sweeps : Clean s r → EachOf Nowhere (sweeps s r)
-  unfolding sweeps
-  clean-sweeps c = (
+  falls-clean : EachOf Nowhere (fallSweeps s r) → (w : ℕ) → IsWord s w → CleanFall s w
+  unfolding fallSweeps
+  falls-clean (p, (q, e)) w h = record {
+    complete = λ i hi f. p w h (i, index-in (s .inputs) i hi, f);
+    observable = λ g hg f. q w h (g, index-in (length (s .gates)) g hg, f);
+  }
+
+  sweeps-clean : EachOf Nowhere (sweeps s r) → Clean s r
+  unfolding riseSweeps
+  sweeps-clean (x, (y, (z, e))) w h = (rises-clean (x, (y, (z, tt))) w h, falls-clean e w h)
+
+  clean-rises : ((w : ℕ) → IsWord s w → CleanRise s r w) → EachOf Nowhere (riseSweeps s r)
+  unfolding riseSweeps
+  clean-rises c = (
     λ w h f. c w h .right (f .0) (in-index (length (s .outputs)) (f .0) (f .1)) (f .2),
     (
       λ w h f. c w h .complete (f .0) (in-index (s .inputs) (f .0) (f .1)) (f .2),
@@ -96,22 +108,38 @@ module _ (s : Stage) (r : Reference) where
     ),
   )
 
+  clean-falls : ((w : ℕ) → IsWord s w → CleanFall s w) → EachOf Nowhere (fallSweeps s r)
+  unfolding fallSweeps
+  clean-falls c = (
+    λ w h f. c w h .complete (f .0) (in-index (s .inputs) (f .0) (f .1)) (f .2),
+    (λ w h f. c w h .observable (f .0) (in-index (length (s .gates)) (f .0) (f .1)) (f .2), tt),
+  )
+
+  clean-sweeps : Clean s r → EachOf Nowhere (sweeps s r)
+  clean-sweeps c = each-++ Nowhere (riseSweeps s r) (fallSweeps s r) (clean-rises (λ w h. c w h .0)) (clean-falls (λ w h. c w h .1))
+
   sweeps-showable : NoLoop (s .inputs) (s .gates) → EachOf Showable (sweeps s r)
-  unfolding sweeps
+  unfolding riseSweeps fallSweeps
   sweeps-showable l =
       let free = noLoop-loopFree (s .inputs) (s .gates) l in (
         record { shows = λ w j hw hj. wrong-broken s w free r j (in-index (length (s .outputs)) j hj) },
         (
           record { shows = λ w i hw hi. incomplete-broken s w free r i (in-index (s .inputs) i hi) },
-          (record { shows = λ w g hw hg. unobservable-broken s w free r g (in-index (length (s .gates)) g hg) }, tt),
+          (
+            record { shows = λ w g hw hg. unobservable-broken s w free r g (in-index (length (s .gates)) g hg) },
+            (
+              record { shows = λ w i hw hi. fall-incomplete-broken s w free r i (in-index (s .inputs) i hi) },
+              (record { shows = λ w g hw hg. fall-unobservable-broken s w free r g (in-index (length (s .gates)) g hg) }, tt),
+            ),
+          ),
         ),
       )
 
   -- ---- all checks
 
   checks-from : (v : Verdict) → Named (checks s r) v → 10 ≤ v .number
-  unfolding checks sweeps
-  checks-from v n = named-from 10 (checks s r) v (omega arith, (omega arith, (omega arith, (omega arith, (omega arith, (omega arith, tt)))))) n
+  unfolding checks riseSweeps fallSweeps
+  checks-from v n = named-from 10 (checks s r) v (omega arith, (omega arith, (omega arith, (omega arith, (omega arith, (omega arith, (omega arith, (omega arith, tt)))))))) n
 
   -- they find nothing exactly if the two can be compared and every word is clean
   found-nothing : EachOf Nowhere (checks s r) → Comparable s r × Clean s r
@@ -128,6 +156,29 @@ module _ (s : Stage) (r : Reference) where
     (λ w h f. f .2 (m .outputs), (λ w h f. m .loop-free (f .0) (in-index (length (s .gates)) (f .0) (f .1)) (f .2), clean-sweeps c)),
   )
 
+  -- a stage with hold everywhere whose rise passes is not refused for its fall
+  module _ (l : NoLoop (s .inputs) (s .gates)) (hold : WithHold s) where
+    hold-falls : EachOf Nowhere (riseSweeps s r) → EachOf Nowhere (fallSweeps s r)
+    hold-falls e = clean-falls (λ w h. hold-clean s w (noLoop-loopFree (s .inputs) (s .gates) l) r (λ k is. hold (k - 2 * s .inputs) (omega (arith, is .0, is .1))) (rises-clean e w h))
+
+    pub hold-passes : firstFault (riseSweeps s r) ≡ Passed → firstFault (fallSweeps s r) ≡ Passed
+    hold-passes e = nowhere-passed (fallSweeps s r) (falls-mean s r) (hold-falls (passed-nowhere (riseSweeps s r) (rises-mean s r) e))
+
+    -- so no such check is named
+    hold-named : (v : Verdict) → Named (sweeps s r) v → ¬ (In (v .number) (20 ∷ 21 ∷ []))
+    unfolding riseSweeps
+    hold-named v (inl n) h = omega (arith, named-number n, fall-numbers (v .number) h)
+    hold-named v (inr (x, inl n)) h = omega (arith, named-number n, fall-numbers (v .number) h)
+    hold-named v (inr (x, inr (y, inl n))) h = omega (arith, named-number n, fall-numbers (v .number) h)
+    hold-named v (inr (x, inr (y, inr (z, n)))) h = none-named (fallSweeps s r) v (hold-falls (x, (y, (z, tt)))) n
+
+  hold-not-named : WithHold s → (v : Verdict) → Named (checks s r) v → ¬ (In (v .number) (20 ∷ 21 ∷ []))
+  unfolding checks
+  hold-not-named hold v (inl n) h = omega (arith, named-number n, fall-numbers (v .number) h)
+  hold-not-named hold v (inr (a, inl n)) h = omega (arith, named-number n, fall-numbers (v .number) h)
+  hold-not-named hold v (inr (a, inr (b, inl n))) h = omega (arith, named-number n, fall-numbers (v .number) h)
+  hold-not-named hold v (inr (a, inr (b, inr (l, n)))) h = hold-named (nowhere-loop s l) hold v n h
+
   -- the check that is named shows what it says
   shown : (v : Verdict) → Named (checks s r) v → ShownBy (checks s r) v
   unfolding checks
@@ -137,18 +188,22 @@ module _ (s : Stage) (r : Reference) where
   shown v (inr (a, inr (b, inr (l, n)))) = inr (inr (inr (shown-by (sweeps s r) v (sweeps-showable (nowhere-loop s l)) n)))
 
 -- the least number of a check that speaks of runs
-runs-from : (n : ℕ) → In n (13 ∷ 14 ∷ 15 ∷ []) → 13 ≤ n
+runs-from : (n : ℕ) → In n (13 ∷ 14 ∷ 15 ∷ 20 ∷ 21 ∷ []) → 13 ≤ n
 runs-from n (inl e) = omega arith
 runs-from n (inr (inl e)) = omega arith
 runs-from n (inr (inr (inl e))) = omega arith
-runs-from n (inr (inr (inr h))) = absurd h
+runs-from n (inr (inr (inr (inl e)))) = omega arith
+runs-from n (inr (inr (inr (inr (inl e))))) = omega arith
+runs-from n (inr (inr (inr (inr (inr h))))) = absurd h
 
 -- no file is refused in reading by such a number
-not-read : (n : ℕ) → In n (13 ∷ 14 ∷ 15 ∷ []) → InTable n → ⊥
+not-read : (n : ℕ) → In n (13 ∷ 14 ∷ 15 ∷ 20 ∷ 21 ∷ []) → InTable n → ⊥
 not-read n (inl e) t = omega (arith, t .2 (omega arith))
 not-read n (inr (inl e)) t = omega (arith, t .2 (omega arith))
 not-read n (inr (inr (inl e))) t = omega (arith, t .2 (omega arith))
-not-read n (inr (inr (inr h))) t = absurd h
+not-read n (inr (inr (inr (inl e)))) t = omega (arith, t .1)
+not-read n (inr (inr (inr (inr (inl e))))) t = omega (arith, t .1)
+not-read n (inr (inr (inr (inr (inr h))))) t = absurd h
 
 -- ---- the verdict on two files
 
@@ -167,9 +222,24 @@ module _ (stageMost referenceMost : Limits) (stage reference : List ℕ) where
       (subst (λ (x : Reference). Judged (checks (c .circuit) (c .function)) (verdictOf (firstFault (checks (c .circuit) x)))) (sym (ir .content))
       (judged (checks (c .circuit) (c .function)) (checks-mean (c .circuit) (c .function)))))
 
+  -- A stage file without relaxed kinds never gets 20 or 21, whatever the reference's file holds.
+  hold-never-falls : (s : Stage) → StageIs stageMost stage s → WithHold s → ¬ (In (given .number) (20 ∷ 21 ∷ []))
+  hold-never-falls s is hold = go (verdict-because stageMost referenceMost stage reference)
+    where
+      judged-so : (c : Contents stageMost referenceMost stage reference) {v : Verdict} → Judged (checks (c .circuit) (c .function)) v → ¬ (In (v .number) (20 ∷ 21 ∷ []))
+      judged-so c (inr a) h = omega (arith, number-of (a .1), fall-numbers _ h)
+      judged-so c {v} (inl n) h = hold-not-named (c .circuit) (c .function) (subst WithHold (stage-one is (c .circuit-is)) hold) v n h
+
+      go : {v : Verdict} → Because stageMost referenceMost stage reference v → ¬ (In (v .number) (20 ∷ 21 ∷ []))
+      go (demands.Because.stage-refused {number = number} {at = at} e) h =
+          omega (arith, refused-number file.Stage stageMost stage number at e .1, fall-numbers number h)
+      go (demands.Because.reference-refused {number = number} {at = at} x e) h =
+          omega (arith, refused-number file.Reference referenceMost reference number at e .1, fall-numbers number h)
+      go (both-read c j) h = judged-so c j h
+
   -- Demand 2 holds of the verdict, whatever the two files hold.
   pub demand-2 : Demand2 stageMost referenceMost stage reference given
-  demand-2 = record { exactly = λ c m. (λ e. forth c given e (verdict-judged c), λ a. back c given m a (verdict-judged c)); least = verdict-because stageMost referenceMost stage reference; rows = λ c n w. rows-are (c .circuit) w (noLoop-loopFree (c .circuit .inputs) (c .circuit .gates) n) }
+  demand-2 = record { exactly = λ c m. (λ e. forth c given e (verdict-judged c), λ a. back c given m a (verdict-judged c)); least = verdict-because stageMost referenceMost stage reference; rows = λ c n w. rows-are (c .circuit) w (noLoop-loopFree (c .circuit .inputs) (c .circuit .gates) n); hold-only = hold-never-falls }
     where
       forth : (c : Contents stageMost referenceMost stage reference) (v : Verdict) → v ≡ accepted → Judged (checks (c .circuit) (c .function)) v
           → Acceptable (c .circuit) (c .function)
@@ -177,14 +247,14 @@ module _ (stageMost referenceMost : Limits) (stage reference : List ℕ) where
       forth c v e (inr a) = λ w h.
           let s = c .circuit in
           let f = found-nothing s (c .function) (a .0) in
-          clean-conforms s w (noLoop-loopFree (s .inputs) (s .gates) (f .0 .loop-free)) (c .function) (stage-holds stageMost stage s (c .circuit-is)) (f .1 w h)
+          clean-conforms s w (noLoop-loopFree (s .inputs) (s .gates) (f .0 .loop-free)) (c .function) (f .1 w h)
 
       back : (c : Contents stageMost referenceMost stage reference) (v : Verdict) → Comparable (c .circuit) (c .function) → Acceptable (c .circuit) (c .function)
           → Judged (checks (c .circuit) (c .function)) v → v ≡ accepted
       back c v m a (inl n) =
           let s = c .circuit in
           let clean : Clean s (c .function) = λ w h.
-          conforms-clean s w (noLoop-loopFree (s .inputs) (s .gates) (m .loop-free)) (c .function) (stage-holds stageMost stage s (c .circuit-is)) (a w h) in
+          conforms-clean s w (noLoop-loopFree (s .inputs) (s .gates) (m .loop-free)) (c .function) (a w h) in
           absurd (none-named (checks s (c .function)) v (nothing-found s (c .function) m clean) n)
       back c v m a (inr b) = b .1
 
@@ -198,7 +268,7 @@ module _ (stageMost referenceMost : Limits) (stage reference : List ℕ) where
         a .1,
         record {
           contents = c;
-          promise = λ w h. clean-promise s w free (c .function) (stage-holds stageMost stage s (c .circuit-is)) (f .1 w h);
+          promise = λ w h. clean-promise s w free (c .function) (f .1 w h);
           rest = λ w h. word-rises s w free (c .function);
         },
       )

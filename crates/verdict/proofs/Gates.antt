@@ -13,9 +13,10 @@ use Rattle.netlist.specs.Content.{Gate}
 use Rattle.verdict.specs.Rows.{high, pinHigh, isSet}
 use Rattle.verdict.specs.Loops.{In, pinsAt}
 use Rattle.verdict.specs.Levels.{Bits, Below}
+use Rattle.verdict.specs.Nets.{noGate}
 use Rattle.verdict.proofs.Levels.{high-mono, bit-≤-1, bit-mono, below-get}
 
-pins-mono : (u v : List ℕ) → Below u v → (pins : List ℕ) (i : ℕ) → getD (map (high u) pins) i false ≡ true → getD (map (high v) pins) i false ≡ true
+pub pins-mono : (u v : List ℕ) → Below u v → (pins : List ℕ) (i : ℕ) → getD (map (high u) pins) i false ≡ true → getD (map (high v) pins) i false ≡ true
 pins-mono u v h [] i e = e
 pins-mono u v h (p ∷ pins) zero e = high-mono u v (below-get u v h) p e
 pins-mono u v h (p ∷ pins) (suc i) e = pins-mono u v h pins i e
@@ -38,7 +39,7 @@ set-bits u (g ∷ gates) = (isSet-binary u g, set-bits u gates)
 
 -- ---- one gate
 
-map-local : (u v pins : List ℕ) → ((p : ℕ) → In p pins → high u p ≡ high v p) → map (high u) pins ≡ map (high v) pins
+pub map-local : (u v pins : List ℕ) → ((p : ℕ) → In p pins → high u p ≡ high v p) → map (high u) pins ≡ map (high v) pins
 map-local u v [] h = refl
 map-local u v (p ∷ pins) h = ap₂ {C = List Bool} (λ a b. a ∷ b) (h p (inl refl)) (map-local u v pins (λ q i. h q (inr i)))
 
@@ -51,3 +52,9 @@ pub set-local : (u v : List ℕ) (gates : List Gate) (k : ℕ) → ((p : ℕ) �
 set-local u v [] k h = refl
 set-local u v (g ∷ gates) zero h = isSet-local u v g h
 set-local u v (g ∷ gates) (suc k) h = set-local u v gates k h
+
+-- the pins of gate k
+pub pins-at : (gates : List Gate) (k : ℕ) → pinsAt gates k ≡ getD gates k noGate .pins
+pins-at [] k = refl
+pins-at (g ∷ gates) zero = refl
+pins-at (g ∷ gates) (suc k) = pins-at gates k

@@ -65,12 +65,12 @@ getD-tabulate f zero k d h = absurd (omega arith)
 getD-tabulate f (suc m) zero d h = refl
 getD-tabulate f (suc m) (suc k) d h = getD-tabulate (λ i. f (suc i)) m k d (omega arith)
 
-bits-tabulate : (f : ℕ → Bool) (m : ℕ) → Bits m (tabulate (λ x. bit (f x)) m)
+pub bits-tabulate : (f : ℕ → Bool) (m : ℕ) → Bits m (tabulate (λ x. bit (f x)) m)
 unfolding tabulate
 bits-tabulate f zero = tt
 bits-tabulate f (suc m) = (bit-≤-1 (f 0), bits-tabulate (λ i. f (suc i)) m)
 
-below-tabulate : (f g : ℕ → Bool) → ((x : ℕ) → f x ≡ true → g x ≡ true) → (m : ℕ) → Below (tabulate (λ x. bit (f x)) m) (tabulate (λ x. bit (g x)) m)
+pub below-tabulate : (f g : ℕ → Bool) → ((x : ℕ) → f x ≡ true → g x ≡ true) → (m : ℕ) → Below (tabulate (λ x. bit (f x)) m) (tabulate (λ x. bit (g x)) m)
 unfolding tabulate
 below-tabulate f g h zero = tt
 below-tabulate f g h (suc m) = (bit-mono (f 0) (g 0) (h 0), below-tabulate (λ i. f (suc i)) (λ i. g (suc i)) (λ i. h (suc i)) m)

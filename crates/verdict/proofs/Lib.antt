@@ -3,11 +3,13 @@ pub mod Rounds
 pub mod Graph
 pub mod Gates
 pub mod Reaching
+pub mod Fixed
 pub mod Settling
 pub mod Least
 pub mod Sweeps
 pub mod Words
 pub mod Bridge
+pub mod Falls
 pub mod Refusals
 pub mod Illegal
 pub mod Because
@@ -15,3 +17,4 @@ pub mod OneWord
 pub mod Demands
 pub mod Cut
 pub mod Careless
+pub mod Rises

@@ -1,22 +1,22 @@
 -- Settled rows: the computed levels are settled, grow with the rails, and in a stage without loops are the only settled ones,
 -- with or without a gate held low.
 -- Assumes nothing.
-use Prim.Native.Nat.{ℕ, zero, suc, _+_, _-_, _*_, _<_}
+use Prim.Native.Nat.{ℕ, _*_, _<_}
 use native.Mathlib.Omega.{arith}
-use native.Mathlib.Decide.{ℕ-discrete, decLt}
-use mathlib.Core.Path.{_≡_, sym, ap, _∙_, subst}
+use native.Mathlib.Decide.{ℕ-discrete}
+use mathlib.Core.Path.{_≡_, sym, ap, _∙_}
 use mathlib.Core.List.{List, _++_, map}
-use lib.ListN.{length, getD, set, length-append, length-map, length-set, List·getD-eq-default, List·getD-append}
-use lib.Seq.{getD-set-same, getD-set-other, getD-append-add, set-out, ext-getD}
-use lib.Dec.{ltb}
+use lib.ListN.{length, getD, set, length-map, length-set}
+use lib.Seq.{getD-set-same, getD-set-other, set-out}
 use Rattle.netlist.specs.Content.{Gate}
-use Rattle.verdict.specs.Rows.{high, isSet, settledLevels, levelsHolding, settled, settledHolding}
-use Rattle.verdict.specs.Loops.{In, pinsAt, Feeds, LoopFree, NoLoop}
-use Rattle.verdict.specs.Levels.{Bits, Below, LevelsSettled, LevelsHeld}
+use Rattle.verdict.specs.Rows.{isSet, settledLevels, levelsHolding, settled, settledHolding}
+use Rattle.verdict.specs.Loops.{LoopFree, NoLoop}
+use Rattle.verdict.specs.Levels.{Bits, Below, levelHolding, LevelsSettled, LevelsHeld}
 use Rattle.verdict.proofs.Levels.{below-refl, below-++, below-set, bits-set}
 use Rattle.verdict.proofs.Rounds.{rounds-bits, rounds-fixed, rounds-mono}
 use Rattle.verdict.proofs.Gates.{set-rises, set-bits, set-local}
-use Rattle.verdict.proofs.Reaching.{noLoop-loopFree, rankOf, rank-pin}
+use Rattle.verdict.proofs.Reaching.{noLoop-loopFree}
+use Rattle.verdict.proofs.Fixed.{Local, Fixed, fixed-one}
 
 -- ---- gate h held low; where h is no gate, none is held
 
@@ -47,55 +47,30 @@ module _ (h : ℕ) (gates : List Gate) where
 
   -- ---- one settled row
 
-  settled-length : (rails v : List ℕ) → LevelsHeld h gates rails v → length v ≡ length gates
-  settled-length rails v s = ap length (sym s) ∙ length-set (map (isSet (rails ++ v)) gates) h 0 ∙ length-map gates (isSet (rails ++ v))
+  pub level-held : (row : List ℕ) (k : ℕ) → k < length gates → k ≡ h → levelHolding h gates row k ≡ 0
+  level-held row k l e =
+      ap (λ (x : ℕ). getD (set (map (isSet row) gates) x 0) k 0) (sym e)
+      ∙ getD-set-same (map (isSet row) gates) k 0 0 (omega (arith, length-map gates (isSet row)))
 
-  module _ (n : ℕ) (free : LoopFree n gates) (rails : List ℕ) (long : length rails ≡ 2 * n) (u v : List ℕ) (su : LevelsHeld h gates rails u) (sv : LevelsHeld h gates rails v) where
-    -- a net is alike in both rows if it is a rail, or the level of a gate that is
-    net-alike : (p : ℕ) → ((j : ℕ) → j < length gates → p ≡ 2 * n + j → getD u j 0 ≡ getD v j 0) → high (rails ++ u) p ≡ high (rails ++ v) p
-    net-alike p same = ap (λ (x : ℕ). ltb 0 x) (go (decLt p (length rails)) (decLt (p - length rails) (length gates)))
-      where
-        go : Dec (p < length rails) → Dec (p - length rails < length gates) → getD (rails ++ u) p 0 ≡ getD (rails ++ v) p 0
-        go (yes a) b = List·getD-append rails u 0 p a ∙ sym (List·getD-append rails v 0 p a)
-        go (no a) (yes b) =
-            let e : p ≡ length rails + (p - length rails) = omega arith in
-            ap (λ (x : ℕ). getD (rails ++ u) x 0) e ∙ getD-append-add rails u (p - length rails) 0
-            ∙ same (p - length rails) b (omega arith)
-            ∙ sym (ap (λ (x : ℕ). getD (rails ++ v) x 0) e ∙ getD-append-add rails v (p - length rails) 0)
-        go (no a) (no b) = past u (settled-length rails u su) ∙ sym (past v (settled-length rails v sv))
-          where
-            past : (w : List ℕ) → length w ≡ length gates → getD (rails ++ w) p 0 ≡ 0
-            past w l = List·getD-eq-default (rails ++ w) 0 (omega (arith, length-append rails w))
+  pub level-free : (row : List ℕ) (k : ℕ) → (k ≡ h → ⊥) → levelHolding h gates row k ≡ getD (map (isSet row) gates) k 0
+  level-free row k d = getD-set-other (map (isSet row) gates) h k 0 0 d
 
-    level-alike : (k : ℕ) → ((j : ℕ) → j < length gates → Feeds n gates j k → getD u j 0 ≡ getD v j 0) → getD u k 0 ≡ getD v k 0
-    level-alike k same =
-        ap (λ (w : List ℕ). getD w k 0) (sym su) ∙ go (ℕ-discrete k h) ∙ ap (λ (w : List ℕ). getD w k 0) sv
-      where
-        pins : getD (map (isSet (rails ++ u)) gates) k 0 ≡ getD (map (isSet (rails ++ v)) gates) k 0
-        pins = set-local (rails ++ u) (rails ++ v) gates k (λ p i. net-alike p (λ j b e. same j b (subst (λ (x : ℕ). In x (pinsAt gates k)) e i)))
+  pub holding-local : Local gates (levelHolding h gates)
+  holding-local u v k l same = go (ℕ-discrete k h)
+    where
+      go : Dec (k ≡ h) → levelHolding h gates u k ≡ levelHolding h gates v k
+      go (yes e) = level-held u k l e ∙ sym (level-held v k l e)
+      go (no d) = level-free u k d ∙ set-local u v gates k same ∙ sym (level-free v k d)
 
-        go : Dec (k ≡ h) → getD (set (map (isSet (rails ++ u)) gates) h 0) k 0 ≡ getD (set (map (isSet (rails ++ v)) gates) h 0) k 0
-        go (yes e) = rw e (held (decLt h (length gates)))
-          where
-            held : Dec (h < length gates) → getD (set (map (isSet (rails ++ u)) gates) h 0) h 0 ≡ getD (set (map (isSet (rails ++ v)) gates) h 0) h 0
-            held (yes b) =
-                getD-set-same (map (isSet (rails ++ u)) gates) h 0 0 (omega (arith, length-map gates (isSet (rails ++ u))))
-                ∙ sym (getD-set-same (map (isSet (rails ++ v)) gates) h 0 0 (omega (arith, length-map gates (isSet (rails ++ v)))))
-            held (no b) = past (rails ++ u) ∙ sym (past (rails ++ v))
-              where
-                past : (row : List ℕ) → getD (set (map (isSet row) gates) h 0) h 0 ≡ 0
-                past row = List·getD-eq-default (set (map (isSet row) gates) h 0) 0 (omega (arith, length-set (map (isSet row) gates) h 0, length-map gates (isSet row)))
-        go (no d) =
-            getD-set-other (map (isSet (rails ++ u)) gates) h k 0 0 d ∙ pins ∙ sym (getD-set-other (map (isSet (rails ++ v)) gates) h k 0 0 d)
+  pub held-fixed : (rails v : List ℕ) → LevelsHeld h gates rails v → Fixed gates (levelHolding h gates) rails v
+  held-fixed rails v s = record {
+    long = ap length (sym s) ∙ length-set (map (isSet (rails ++ v)) gates) h 0 ∙ length-map gates (isSet (rails ++ v));
+    at = λ k b. ap (λ (w : List ℕ). getD w k 0) (sym s);
+  }
 
-    alike-upto : (r k : ℕ) → k < length gates → rankOf n gates (2 * n + k) < r → getD u k 0 ≡ getD v k 0
-    alike-upto zero k hk b = absurd (omega arith)
-    alike-upto (suc r) k hk b = level-alike k (λ j hj f. alike-upto r j hj (omega (arith, rank-pin n gates free (2 * n + j) k f)))
-
-    pub holding-one : u ≡ v
-    holding-one =
-        ext-getD 0 u v (settled-length rails u su ∙ sym (settled-length rails v sv))
-        (λ k b. alike-upto (suc (rankOf n gates (2 * n + k))) k (omega (arith, settled-length rails u su)) (omega arith))
+  -- a stage without loops has exactly one row that is settled with gate h held low: the computed one
+  pub holding-one : (n : ℕ) → LoopFree n gates → (rails : List ℕ) → length rails ≡ 2 * n → (v : List ℕ) → Fixed gates (levelHolding h gates) rails v → v ≡ levelsHolding h gates rails
+  holding-one n free rails both v f = fixed-one n free holding-local both f (held-fixed rails (levelsHolding h gates rails) (holding-settled rails))
 
 -- ---- no gate held: the same with h past the gates
 
@@ -125,10 +100,12 @@ module _ (gates : List Gate) where
       below-++ rails rails′ (settledLevels gates rails) (settledLevels gates rails′) p
       (rounds-mono (λ v. map (isSet (rails ++ v)) gates) (λ v. map (isSet (rails′ ++ v)) gates) (plain-rises rails rails′ p) (length gates) (length gates))
 
-  -- a stage without loops has exactly one settled row for given rails: the computed one; and exactly one with gate h held low
+  -- a stage without loops has exactly one settled row for given rails: the computed one
   pub settled-one : (n : ℕ) → NoLoop n gates → (rails : List ℕ) → length rails ≡ 2 * n → (v : List ℕ) → LevelsSettled gates rails v → v ≡ settledLevels gates rails
-  settled-one n none rails long v s =
-      holding-one (length gates) gates n (noLoop-loopFree n gates none) rails long v (settledLevels gates rails) (unheld rails v ∙ s) (unheld rails (settledLevels gates rails) ∙ settled-is rails)
+  settled-one n none rails both v s =
+      let h = length gates in
+      fixed-one n (noLoop-loopFree n gates none) (holding-local h gates) both (held-fixed h gates rails v (unheld rails v ∙ s))
+      (held-fixed h gates rails (settledLevels gates rails) (unheld rails (settledLevels gates rails) ∙ settled-is rails))
 
   pub held-one : (h n : ℕ) → NoLoop n gates → (rails : List ℕ) → length rails ≡ 2 * n → (v : List ℕ) → LevelsHeld h gates rails v → v ≡ levelsHolding h gates rails
-  held-one h n none rails long v s = holding-one h gates n (noLoop-loopFree n gates none) rails long v (levelsHolding h gates rails) s (holding-settled h gates rails)
+  held-one h n none rails both v s = holding-one h gates n (noLoop-loopFree n gates none) rails both v (held-fixed h gates rails v s)

@@ -135,6 +135,10 @@ module _ (c : Check) (means : Means c) where
       go (at-word {w = w} {i = i} f e) = record { is = refl; word = first-alike f (FailsIn c) (λ v h. fails-in v) (λ v h. finds-in v); place = place w i e }
       go (nowhere f) = λ w h. none w (f w h)
 
+pub each-++ : (P : Check → Type 0) (cs ds : List Check) → EachOf P cs → EachOf P ds → EachOf P (cs ++ ds)
+each-++ P [] ds a b = b
+each-++ P (c ∷ cs) ds a b = (a .0, each-++ P cs ds (a .1) b)
+
 -- the first fault of a list of checks has its reason
 abbrev pub FirstFault : List Check → Finding → Type 0
 FirstFault cs (Fault v) = Named cs v
@@ -149,6 +153,16 @@ first-fault (c ∷ cs) m = go (finding c) (outcome c (m .0)) (firstFault cs) (fi
     go (Fault v) o y r = inl o
     go Passed o (Fault v) r = inr (o, r)
     go Passed o Passed r = (o, r)
+
+-- of two lists: the first list's, or else the second's
+pub fault-++ : (cs ds : List Check) → firstFault (cs ++ ds) ≡ orLater (firstFault cs) (firstFault ds)
+unfolding firstFault orLater
+fault-++ [] ds = refl
+fault-++ (c ∷ cs) ds = go (finding c) (fault-++ cs ds)
+  where
+    go : (x : Finding) → firstFault (cs ++ ds) ≡ orLater (firstFault cs) (firstFault ds) → orLater x (firstFault (cs ++ ds)) ≡ orLater (orLater x (firstFault cs)) (firstFault ds)
+    go (Fault v) e = refl
+    go Passed e = e
 
 -- and so has the verdict
 pub judged : (cs : List Check) → EachOf Means cs → Judged cs (verdictOf (firstFault cs))
@@ -190,6 +204,18 @@ pub none-named : (cs : List Check) (v : Verdict) → EachOf Nowhere cs → Named
 none-named [] v a n = n
 none-named (c ∷ cs) v a (inl n) = named-fails n (a .0)
 none-named (c ∷ cs) v a (inr n) = none-named cs v (a .1) (n .1)
+
+-- nothing is found exactly if the conditions hold nowhere
+module _ (cs : List Check) (m : EachOf Means cs) where
+  pub passed-nowhere : firstFault cs ≡ Passed → EachOf Nowhere cs
+  passed-nowhere e = subst (FirstFault cs) e (first-fault cs m)
+
+  pub nowhere-passed : EachOf Nowhere cs → firstFault cs ≡ Passed
+  nowhere-passed a = go (firstFault cs) (first-fault cs m)
+    where
+      go : (x : Finding) → FirstFault cs x → x ≡ Passed
+      go (Fault v) n = absurd (none-named cs v a n)
+      go Passed r = refl
 
 -- the number of a named check is one of the list's
 pub named-from : (least : ℕ) (cs : List Check) (v : Verdict) → EachOf (λ c. least ≤ c .number) cs → Named cs v → least ≤ v .number

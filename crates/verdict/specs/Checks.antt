@@ -3,24 +3,26 @@ use Prim.Native.Nat.{ℕ, _+_, _*_, _<_}
 use mathlib.Core.Path.{_≡_}
 use mathlib.Core.Bool.{Bool, true, false, cond, not, _&&_, _||_}
 use mathlib.Core.Logic.{_⊎_}
-use mathlib.Core.List.{List, [], _∷_}
+use mathlib.Core.List.{List, [], _∷_, _++_}
 use lib.ListN.{length, getD}
 use lib.Dec.{eqb, ltb}
 use Rattle.runs.specs.Row.{only}
-use Rattle.runs.specs.Pair.{DataOf, AllData}
+use Rattle.runs.specs.Pair.{DataOf, AllData, AllNull}
 use Rattle.runs.specs.Promise.{Promise}
 use Rattle.runs.specs.Witness.{Wrong, Incomplete, Unobservable}
+use Rattle.runs.specs.FallWitness.{Fall-incomplete, Fall-unobservable}
 use Rattle.netlist.specs.declared.Found.{Found}
 use Rattle.netlist.specs.declared.Found.the-variants.{At, Nothing}
 use Rattle.netlist.specs.Content.{Stage, Reference}
 use Rattle.verdict.specs.declared.Verdict.{Verdict}
 use Rattle.verdict.specs.declared.Finding.{Finding}
 use Rattle.verdict.specs.declared.Finding.the-variants.{Fault, Passed}
-use Rattle.verdict.specs.Rows.{high, withNull, settled, settledHolding, pairIn, spells, allData}
+use Rattle.verdict.specs.Rows.{high, withNull, settled, settledHolding, pairIn, spells, allData, allNull}
 use Rattle.verdict.specs.Loops.{ReachesItself, reachesItself}
 use Rattle.verdict.specs.Words.{numbers, words, bitsOf, railsIn}
 use Rattle.verdict.specs.Answers.{answer}
-use Rattle.verdict.specs.Nets.{outputPair, netOf, railsFor, answerBits, restRow, missingRow, heldRow}
+use Rattle.verdict.specs.Nets.{outputPair, netOf, rowOf, railsFor, answerBits, restRow, missingRow, heldRow}
+use Rattle.verdict.specs.Falls.{fallenBut, fallenKeeping}
 
 abbrev pub verdict : ℕ → ℕ → ℕ → ℕ → Verdict
 verdict number file at word = record { number = number; file = file; at = at; word = word }
@@ -93,6 +95,18 @@ unobservable s w =
     let row = settled (s .gates) rails in
     λ g. elim (high row (2 * s .inputs + g)) [ true ↦ allData (settledHolding g (s .gates) rails) (s .outputs) | false ↦ false ]
 
+-- ---- 20 and 21 in word w, computed
+
+-- with all inputs fallen but i and the gates settled by the fall rule, all outputs are NULL
+unfoldable pub fallIncomplete : Stage → ℕ → ℕ → Bool
+fallIncomplete s w i = allNull (fallenBut s w i) (s .outputs)
+
+-- gate g is high in w, and with it held high, all inputs fallen and the other gates settled so, all outputs are NULL
+unfoldable pub fallUnobservable : Stage → ℕ → ℕ → Bool
+fallUnobservable s w =
+    let row = settled (s .gates) (railsIn s w) in
+    λ g. elim (high row (2 * s .inputs + g)) [ true ↦ allNull (fallenKeeping s w g) (s .outputs) | false ↦ false ]
+
 -- ---- the same in the paper's words; that these rows are the settled ones of a loop-free stage is said in Demands (`RowsAre`)
 
 abbrev pub WrongAt : Stage → Reference → ℕ → ℕ → Type 0
@@ -103,6 +117,12 @@ IncompleteAt s w i = AllData (netOf s) (missingRow s w i)
 
 abbrev pub UnobservableAt : Stage → ℕ → ℕ → Type 0
 UnobservableAt s w g = (restRow s w (2 * s .inputs + g) ≡ true) × AllData (netOf s) (heldRow s w g)
+
+abbrev pub FallIncompleteAt : Stage → ℕ → ℕ → Type 0
+FallIncompleteAt s w i = AllNull (netOf s) (rowOf (fallenBut s w i))
+
+abbrev pub FallUnobservableAt : Stage → ℕ → ℕ → Type 0
+FallUnobservableAt s w g = (restRow s w (2 * s .inputs + g) ≡ true) × AllNull (netOf s) (rowOf (fallenKeeping s w g))
 
 -- some run of word w shows it, and the promise is broken
 pub record Broken (s : Stage) (r : Reference) (w : ℕ) (Run : Type 0) : Type 0 where
@@ -118,9 +138,9 @@ abbrev pub looped : Stage → Check
 looped s =
     check 12 1 (0 ∷ []) (numbers 0 (length (s .gates))) (λ w. reachesItself (s .inputs) (s .gates)) (λ w. ReachesItself (s .inputs) (s .gates)) unsaid
 
--- the checks that sweep the words, in their order
-unfoldable pub sweeps : Stage → Reference → List Check
-sweeps s r =
+-- the checks of a stage against a reference that sweep the words: those of its rise and those of its fall
+unfoldable pub riseSweeps : Stage → Reference → List Check
+riseSweeps s r =
     check 13 1 (words s) (numbers 0 (length (s .outputs))) (wrong s r) (WrongAt s r)
     (λ w j. Broken s r w (Wrong (netOf s) (railsFor s w) (answerBits r w) j)) ∷
     check 14 1 (words s) (numbers 0 (s .inputs)) (incomplete s) (IncompleteAt s)
@@ -129,6 +149,18 @@ sweeps s r =
     (λ w g. Broken s r w (Unobservable (netOf s) (railsFor s w) (2 * s .inputs + g))) ∷
     []
 
+unfoldable pub fallSweeps : Stage → Reference → List Check
+fallSweeps s r =
+    check 20 1 (words s) (numbers 0 (s .inputs)) (fallIncomplete s) (FallIncompleteAt s)
+    (λ w i. Broken s r w (Fall-incomplete (netOf s) (railsFor s w) i)) ∷
+    check 21 1 (words s) (numbers 0 (length (s .gates))) (fallUnobservable s) (FallUnobservableAt s)
+    (λ w g. Broken s r w (Fall-unobservable (netOf s) (railsFor s w) (2 * s .inputs + g))) ∷
+    []
+
+abbrev pub sweeps : Stage → Reference → List Check
+sweeps s r = riseSweeps s r ++ fallSweeps s r
+
+-- all checks, in their order: those of the counts and of loops, and those that sweep the words
 unfoldable pub checks : Stage → Reference → List Check
 checks s r =
     unequal 10 (s .inputs) (r .inputs) ∷

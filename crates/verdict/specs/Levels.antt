@@ -2,7 +2,7 @@
 use Prim.Native.Nat.{ℕ, zero, suc, _+_, _≤_}
 use mathlib.Core.Path.{_≡_}
 use mathlib.Core.List.{List, [], _∷_, _++_, map}
-use lib.ListN.{set}
+use lib.ListN.{getD, set}
 use Rattle.netlist.specs.Content.{Gate}
 use Rattle.verdict.specs.Rows.{isSet}
 
@@ -24,6 +24,10 @@ Below (x ∷ xs) (y ∷ ys) = (x ≤ y) × Below xs ys
 abbrev pub sum : List ℕ → ℕ
 sum [] = 0
 sum (x ∷ xs) = x + sum xs
+
+-- the level that gate k is to have in a row, with gate h held low: 1 where its set expression holds, else 0
+abbrev pub levelHolding : ℕ → List Gate → List ℕ → ℕ → ℕ
+levelHolding h gates row k = getD (set (map (isSet row) gates) h 0) k 0
 
 -- each gate's level is 1 exactly if its set expression holds in the row, which is the rails and then the levels
 abbrev pub LevelsSettled : List Gate → List ℕ → List ℕ → Type 0

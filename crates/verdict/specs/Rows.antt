@@ -79,6 +79,19 @@ spells data0 value = eqb value 0
 spells data1 value = eqb value 1
 spells both value = false
 
-unfoldable pub allData : List ℕ → List Pair → Bool
-allData row [] = true
-allData row (p ∷ pairs) = let later = allData row pairs in cond (isData (pairIn row p)) later false
+abbrev pub isNull : DualRail → Bool
+isNull null = true
+isNull data0 = false
+isNull data1 = false
+isNull both = false
+
+-- every pair passes a test in a row
+unfoldable pub everyPair : (DualRail → Bool) → List ℕ → List Pair → Bool
+everyPair test row [] = true
+everyPair test row (p ∷ pairs) = let later = everyPair test row pairs in cond (test (pairIn row p)) later false
+
+abbrev pub allData : List ℕ → List Pair → Bool
+allData = everyPair isData
+
+abbrev pub allNull : List ℕ → List Pair → Bool
+allNull = everyPair isNull

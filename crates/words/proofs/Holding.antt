@@ -12,6 +12,7 @@ use Rattle.netlist.specs.declared.Counts.{Counts}
 use Rattle.netlist.specs.Content.{Gate, Pair}
 use Rattle.verdict.specs.Words.{bitsOf, railsOf, railsIn}
 use Rattle.verdict.specs.Rows.{high, settledLevels, settled, settledHolding, allData}
+use Rattle.verdict.specs.Levels.{levelHolding}
 use Rattle.verdict.specs.Checks.{unobservable}
 use Rattle.verdict.proofs.Words.{bits-of-length, rails-length}
 use Rattle.circuit.specs.Stage.{netCount, placeOf, stageGates, stageOutputs, stageIn}
@@ -50,17 +51,12 @@ module _ (c : Counts) (code row : List ℕ) (ordered : InOrder c code) (r : RowF
       rw (lt-ltb 0 (getD (settled gates R) (length R + g) 0) (omega (arith, level-same, d)), unobserved)
       (f ∙ ap (λ (l : List ℕ). allData l pairs) e ∙ ap (λ (l : List ℕ). allData (settledHolding g gates l) pairs) same)
 
-  -- the levels of a settled row
-  levels-settled : levelPart c row ≡ settledLevels gates R
-  levels-settled = levels-by c row r R (settledLevels gates R) (length-rails c row r) is
-
   -- what settling from g's place on asks for
   pub hold-before : SettledTo (placeOf code g) g c code row
   hold-before =
       let at = ordered .place-in g hg in
-      subst (SettledBefore (placeOf code g) g gates (orderIn c code) R) (holding-none gates R ∙ sym levels-settled)
-      (settled-before (c .inputs) g gates (orderIn c code) R (ordered .ordered) (length-rails c row r) (length gates) (placeOf code g)
-      (omega (arith, size))
+      subst (SettledBefore (placeOf code g) (levelHolding g gates) (orderIn c code) R) (holding-none gates R ∙ sym (levels-by c row r R (settledLevels gates R) (length-rails c row r) is))
+      (settled-before g gates (orderIn c code) R (length gates) (placeOf code g)
       (λ i h e.
       omega (
         arith,
@@ -81,7 +77,7 @@ module _ (c : Counts) (code row : List ℕ) (is : netsIn c row ≡ settledIn c c
 
 -- ---- the row of word w
 
-word-length : (n w : ℕ) → length (railsOf (bitsOf n w)) ≡ 2 * n
+pub word-length : (n w : ℕ) → length (railsOf (bitsOf n w)) ≡ 2 * n
 word-length n w = rails-length (bitsOf n w) ∙ ap (λ (k : ℕ). 2 * k) (bits-of-length n w)
 
 module _ (c : Counts) (code row : List ℕ) (w : ℕ) (is : netsIn c row ≡ settled (stageGates c code) (railsIn (stageIn c code) w)) where
@@ -96,8 +92,8 @@ module _ (c : Counts) (code row : List ℕ) (w : ℕ) (is : netsIn c row ≡ set
   pub settled-word : netsIn c row ≡ settledIn c code row
   settled-word = is ∙ ap (settled (stageGates c code)) (sym word-rails)
 
-  pub levels-word : RowFor c row → levelPart c row ≡ settledLevels (stageGates c code) (railsIn (stageIn c code) w)
-  levels-word r = levels-by c row r (railsIn (stageIn c code) w) (settledLevels (stageGates c code) (railsIn (stageIn c code) w)) (word-length (c .inputs) w) is
+  pub word-levels : RowFor c row → levelPart c row ≡ settledLevels (stageGates c code) (railsIn (stageIn c code) w)
+  word-levels r = let rails = railsIn (stageIn c code) w in levels-by c row r rails (settledLevels (stageGates c code) rails) (word-length (c .inputs) w) is
 
   pub unobserved-word : (g : ℕ) → unobserved (stageGates c code) (stageOutputs c code) (railPart c row) g ≡ unobservable (stageIn c code) w g
   unfolding unobserved unobservable

@@ -3,14 +3,15 @@ use Prim.Native.Nat.{ℕ, _-_}
 use mathlib.Core.Path.{sym, ap, _∙_}
 use mathlib.Core.Bool.{not}
 use native.Mathlib.Omega.{arith}
+use Rattle.verdict.specs.Rows.{isData}
 use Rattle.verdict.specs.Search.{least}
 use Rattle.verdict.proofs.Least.{SoughtTo, sought-on, sought-here, sought-none}
-use Rattle.circuit.specs.Rows.{netsIn, notData}
+use Rattle.circuit.specs.Rows.{netsIn, outputFails}
 use Rattle.circuit.proofs.first_not_data.Statement.{statement}
 use Rattle.circuit.proofs.first_not_data.Tie as tie
 
 abbrev Inv-loop : tie.InvT-loop
-Inv-loop code counts row count j₀ j = SoughtTo (notData counts code (netsIn counts row)) (counts .outputs) j
+Inv-loop code counts row count j₀ j = SoughtTo (outputFails isData counts code (netsIn counts row)) (counts .outputs) j
 
 abbrev μ-loop : tie.MeasureT-loop
 μ-loop code counts row count j₀ j = count - j

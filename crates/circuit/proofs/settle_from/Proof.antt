@@ -5,12 +5,15 @@ use native.Mathlib.Omega.{arith}
 use mathlib.Core.Path.{refl}
 use lib.ListN.{length-set}
 use denote.Ref.{now}
-use Rattle.circuit.proofs.Settling.{SettlingTo, order-gate, settling-turn, settling-done}
+use Rattle.verdict.specs.Levels.{levelHolding}
+use Rattle.verdict.proofs.Settling.{holding-local}
+use Rattle.circuit.specs.Stage.{stageGates}
+use Rattle.circuit.proofs.Settling.{SettlingTo, order-gate, settling-turn, holding-done}
 use Rattle.circuit.proofs.settle_from.Statement.{statement}
 use Rattle.circuit.proofs.settle_from.Tie as tie
 
 abbrev Inv-loop : tie.InvT-loop
-Inv-loop code counts row₀ start held entries first count i₀ row i = SettlingTo counts code held row₀ row i
+Inv-loop code counts row₀ start held entries first count i₀ row i = SettlingTo counts code (levelHolding held (stageGates counts code)) row₀ row i
 
 abbrev μ-loop : tie.MeasureT-loop
 μ-loop code counts row₀ start held entries first count i₀ row i = count - i
@@ -55,8 +58,8 @@ loop-again : tie.Need-loop-again Inv-loop μ-loop
 loop-again c =
     let z = c .before .before .before .before .before .before .before .before .before .before in
     let l = c .before .before .before .before .before .loop in
-    settling-turn (z .args .counts) (now (z .args .code)) (z .pre .1) (z .args .held) (now (z .args .row)) (l .row) (l .i) (l .inv) (omega arith) _
-    (c .level-holding .ensures .0) (c .level-holding .ensures .1)
+    settling-turn (z .args .counts) (now (z .args .code)) (z .pre .1) _ (holding-local (z .args .held) (stageGates (z .args .counts) (now
+    (z .args .code)))) (now (z .args .row)) (l .row) (l .i) (l .inv) (omega arith) _ (c .level-holding .ensures .0) (c .level-holding .ensures .1)
 
 same-length : tie.Need-same-length Inv-loop μ-loop
 same-length c = c .before .loop .inv .same-long
@@ -64,11 +67,8 @@ same-length c = c .before .loop .inv .same-long
 returns : tie.Need-returns Inv-loop μ-loop
 returns c =
     let z = c .before .before .before .before .before .before in
-    let l = c .before .loop in (
-      settling-done (z .args .counts) (now (z .args .code)) (z .pre .1) (z .args .held) (now (z .args .row)) (l .row) (l .i) (l .inv)
-          (omega arith),
-      l .inv .row-for,
-    )
+    let l = c .before .loop in
+    (holding-done (z .args .counts) (now (z .args .code)) (z .pre .1) (z .args .held) (now (z .args .row)) (l .row) (l .i) (l .inv) (omega arith), l .inv .row-for)
 
 pub settle-from-spec : {M : Type 1} → statement M
 settle-from-spec =

@@ -10,7 +10,12 @@ returns c = rw (c .before .kind .given .1)
 
 returns-2 : tie.Need-returns-2
 unfolding pinsNeeded
-returns-2 c = rw (c .enum-told .given .1)
+returns-2 c = rw (c .before .kind2 .given .1)
+
+returns-3 : tie.Need-returns-3
+unfolding pinsNeeded
+returns-3 c = rw (c .enum-told .given .1)
 
 pub pins-needed-spec : {M : Type 1} → statement M
-pins-needed-spec = tie.close (tie.spec (λ c. search needs) (λ c. search needs) (λ c. search needs) returns returns-2)
+pins-needed-spec =
+    tie.close (tie.spec (λ c. search needs) (λ c. search needs) (λ c. search needs) (λ c. search needs) (λ c. search needs) returns returns-2 returns-3)

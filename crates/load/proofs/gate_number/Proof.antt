@@ -1,18 +1,19 @@
 -- `load::gate_number` meets its contract. Assumes nothing.
 use mathlib.Core.Path.{sym, _∙_}
 use denote.Ref.{now}
-use Rattle.load.proofs.Numbers.{number-known, number-unknown}
+use Rattle.load.proofs.Numbers.{number-held, number-relaxed, number-unknown}
 use borrow.Author.Needs.{needs}
 use Rattle.load.proofs.gate_number.Statement.{statement}
 use Rattle.load.proofs.gate_number.Tie as tie
 
 returns : tie.Need-returns
-returns c =
-    number-known _ _ _ _ _ _ _ (sym (c .before .before .kind .given .1) ∙ c .before .before .before .before .kind-of .ensures)
-    (c .hold-number .ensures)
+returns c = number-held _ _ _ _ _ _ _ (sym (c .before .before .kind .given .1) ∙ c .before .before .before .before .kind-of .ensures) (c .cell-number .ensures)
 
 returns-2 : tie.Need-returns-2
-returns-2 c =
+returns-2 c = number-relaxed _ _ _ _ _ _ _ (sym (c .before .before .kind2 .given .1) ∙ c .before .before .before .before .kind-of .ensures) (c .cell-number2 .ensures)
+
+returns-3 : tie.Need-returns-3
+returns-3 c =
     let z = c .before .before .before .before .before in
     number-unknown (now (z .args .s)) (z .args .at) (z .args .ground) (z .args .j)
     (sym (c .enum-told .given .1) ∙ c .before .before .kind-of .ensures)
@@ -27,5 +28,8 @@ gate-number-spec =
     (λ c. search needs)
     (λ c κs. search needs)
     (λ c. search needs)
+    (λ c κs. search needs)
+    (λ c. search needs)
     returns
-    returns-2)
+    returns-2
+    returns-3)

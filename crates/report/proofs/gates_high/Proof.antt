@@ -4,7 +4,7 @@ use native.Mathlib.Omega.{arith}
 use denote.Ref.{now}
 use Rattle.verdict.specs.Levels.{sum}
 use Rattle.circuit.proofs.Settling.{low-row}
-use Rattle.words.proofs.Holding.{levels-word}
+use Rattle.words.proofs.Holding.{word-levels}
 use borrow.Author.Needs.{needs}
 use Rattle.report.proofs.gates_high.Statement.{statement}
 use Rattle.report.proofs.gates_high.Tie as tie
@@ -21,7 +21,7 @@ count-high-requires c κs =
 returns : tie.Need-returns
 returns c =
     let z = c .before .before .before .before .before .before .before in
-    c .count-high .ensures ∙ ap sum (levels-word (z .args .counts) (now (z .args .code)) _ (z .args .w) (c .before .before .before .before .settle-word .ensures .0) (c .before .before .before .before .settle-word .ensures .1))
+    c .count-high .ensures ∙ ap sum (word-levels (z .args .counts) (now (z .args .code)) _ (z .args .w) (c .before .before .before .before .settle-word .ensures .0) (c .before .before .before .before .settle-word .ensures .1))
 
 pub gates-high-spec : {M : Type 1} → statement M
 gates-high-spec =

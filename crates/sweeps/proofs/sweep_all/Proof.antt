@@ -1,24 +1,22 @@
--- `sweeps::sweep_all` meets its contract. Assumes nothing.
+-- `sweeps::sweep_all` meets its contract: with hold everywhere the fall passes where the rise does. Assumes nothing.
 use mathlib.Core.Path.{sym, _∙_}
-use Rattle.sweeps.proofs.Sweeping.{first-wrong, first-missing, first-unobserved}
+use denote.Ref.{now}
+use Rattle.sweeps.proofs.Sweeping.{rise-fault, then-fall, no-fall}
 use borrow.Author.Needs.{needs}
 use Rattle.sweeps.proofs.sweep_all.Statement.{statement}
 use Rattle.sweeps.proofs.sweep_all.Tie as tie
 
 returns : tie.Need-returns
-returns c = first-wrong _ _ _ (sym (c .before .v .given .1) ∙ c .before .before .before .sweep-words .ensures)
+returns c = rise-fault _ _ _ (sym (c .before .v .given .1) ∙ c .before .before .before .sweep-rises .ensures)
 
 returns-2 : tie.Need-returns-2
 returns-2 c =
-    first-missing _ _ (sym (c .before .before .before .before .enum-told .given .1)
-    ∙ c .before .before .before .before .before .before .sweep-words .ensures) _
-    (sym (c .before .v2 .given .1) ∙ c .before .before .before .sweep-words2 .ensures)
+    let z = c .before .before .before .before .before .before .before in
+    no-fall (z .args .counts) (now (z .args .code)) (z .pre .ordered) (c .before .all-hold .ensures (c .if1 .taken)) _ (sym
+    (c .before .before .enum-told .given .1) ∙ c .before .before .before .before .sweep-rises .ensures)
 
 returns-3 : tie.Need-returns-3
-returns-3 c =
-    first-unobserved _ _ (sym (c .before .before .before .before .enum-told .given .1)
-    ∙ c .before .before .before .before .before .before .sweep-words .ensures)
-    (sym (c .before .enum-told2 .given .1) ∙ c .before .before .before .sweep-words2 .ensures) _ (c .sweep-words3 .ensures)
+returns-3 c = then-fall _ _ (sym (c .before .before .before .enum-told .given .1) ∙ c .before .before .before .before .before .sweep-rises .ensures) _ (c .sweep-falls .ensures)
 
 pub sweep-all-spec : {M : Type 1} → statement M
 sweep-all-spec =
@@ -29,8 +27,6 @@ sweep-all-spec =
     returns
     (λ c. search needs)
     (λ c κs. search needs)
-    (λ c. search needs)
     returns-2
-    (λ c. search needs)
     (λ c κs. search needs)
     returns-3)

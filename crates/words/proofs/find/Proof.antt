@@ -1,7 +1,7 @@
 -- `words::find` meets its contract. Assumes nothing.
 use denote.Ref.{now}
 use Rattle.circuit.specs.Reference.{referenceIn}
-use Rattle.words.proofs.Found.{found-wrong, found-missing, found-unobserved}
+use Rattle.words.proofs.Found.{found-wrong, found-missing, found-unobserved, found-remaining, found-still-high}
 use borrow.Author.Needs.{needs}
 use Rattle.words.proofs.find.Statement.{statement}
 use Rattle.words.proofs.find.Tie as tie
@@ -24,6 +24,16 @@ returns-3 c =
     found-unobserved (z .args .counts) (now (z .args .code)) (referenceIn (z .args .sizes) (now (z .args .reference))) (z .args .w) _ _
     (c .unobserved-gate .ensures) (c .before .enum-told3 .given .1)
 
+returns-4 : tie.Need-returns-4
+returns-4 c =
+    let z = c .before .before .before .before .before in
+    found-remaining (z .args .counts) (now (z .args .code)) (referenceIn (z .args .sizes) (now (z .args .reference))) (z .args .w) _ _ (c .remaining-input .ensures) (c .before .enum-told4 .given .1)
+
+returns-5 : tie.Need-returns-5
+returns-5 c =
+    let z = c .before .before .before .before .before in
+    found-still-high (z .args .counts) (now (z .args .code)) (referenceIn (z .args .sizes) (now (z .args .reference))) (z .args .w) _ _ (c .still-high-gate .ensures) (c .before .enum-told5 .given .1)
+
 pub find-spec : {M : Type 1} → statement M
 find-spec =
     tie.close
@@ -34,6 +44,12 @@ find-spec =
     (λ c κs. search needs)
     (λ c. search needs)
     (λ c κs. search needs)
+    (λ c. search needs)
+    (λ c κs. search needs)
+    (λ c. search needs)
+    (λ c κs. search needs)
     returns
     returns-2
-    returns-3)
+    returns-3
+    returns-4
+    returns-5)
