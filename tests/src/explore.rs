@@ -123,7 +123,7 @@ impl Rules {
 
     /// The rows that one step leads to. `rails` are the rails that the word calls
     /// for; in a fall they are lowered instead of raised.
-    fn steps(&self, row: Row, rails: Row, way: Way, next: &mut Vec<Row>) {
+    pub fn steps(&self, row: Row, rails: Row, way: Way, next: &mut Vec<Row>) {
         next.clear();
         for net in 0..2 * self.inputs {
             let rail = 1 << net;
@@ -252,7 +252,7 @@ pub fn reach(rules: &Rules, start: Row, rails: Row, way: Way) -> Option<Reach> {
     })
 }
 
-fn bits_of(row: &[bool]) -> Row {
+pub fn bits_of(row: &[bool]) -> Row {
     row.iter()
         .enumerate()
         .fold(0, |bits, (net, &high)| bits | Row::from(high) << net)
@@ -561,6 +561,8 @@ pub struct Summary {
     pub unobservable_fall: u64,
     /// Accepted pairs with relaxed gates.
     pub accepted_relaxed: u64,
+    /// Exchanges of neighbours in recorded runs of accepted pairs, each list tried.
+    pub exchanges: u64,
     /// What was tried on accepted pairs.
     pub tried: Tried,
     /// Sets of rails with NULL inputs whose runs were played.
@@ -594,8 +596,8 @@ impl std::fmt::Display for Summary {
         )?;
         write!(
             f,
-            "{} sets of rails with NULL inputs, at most {} nets",
-            self.partial_rails, self.most_nets
+            "{} sets of rails with NULL inputs, at most {} nets, {} exchanges of neighbours",
+            self.partial_rails, self.most_nets, self.exchanges
         )
     }
 }
@@ -631,6 +633,7 @@ pub fn explore_pair(
             summary.accepted += 1;
             let relaxed = stage.gates.iter().any(|gate| is_relaxed(gate.kind));
             summary.accepted_relaxed += u64::from(relaxed);
+            summary.exchanges += crate::exchange::turn_recorded_runs(stage)?;
             summary.tried.add(tried);
         }
         (0, Some(Err(broken))) => return Err(format!("accepted, but broken: {broken:?}")),

@@ -8,10 +8,10 @@ use native.Mathlib.Omega.{arith}
 use lib.Dec.{eqb}
 use Rattle.runs.specs.Row.{Row, toggle, after, Legal, Ended, tally, count}
 use Rattle.runs.specs.Theory.{_⊑_, Reached}
-use Rattle.runs.specs.Exchange.{Exchanged, done, swap}
 use Rattle.runs.specs.Promise.{Goes-on}
 use Rattle.runs.proofs.Test.{clash, not-false}
 use Rattle.runs.proofs.System.{System, can, complement, dual}
+use Rattle.runs.proofs.Exchange.{Swapped, done, swap}
 
 pub complement-complement : (r : Row) → complement (complement r) ≡ r
 complement-complement r = fun-ext (λ k. Bool·not-not (r k))
@@ -63,7 +63,7 @@ module _ (S : System) where
   pub dual-ended : (r : Row) (l : List ℕ) → Ended (can (dual S)) (after (complement r) l) → Ended (can S) (after r l)
   dual-ended r l e k = sym (can-dual (after r l) k) ∙ (rw after-complement at e) k
 
-  pub dual-exchanged : (r : Row) {l m : List ℕ} → Exchanged (can (dual S)) (complement r) l m → Exchanged (can S) r l m
+  pub dual-exchanged : (r : Row) {l m : List ℕ} → Swapped (can (dual S)) (complement r) l m → Swapped (can S) r l m
   dual-exchanged r done = done
   dual-exchanged r (swap a i k b p x) = swap a i k b (dual-legal r (a ++ k ∷ i ∷ b) p) (dual-exchanged r x)
 

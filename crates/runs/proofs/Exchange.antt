@@ -2,21 +2,30 @@
 -- Assumes nothing.
 use mathlib.Core.Path.{_≡_, refl, sym, ap, _∙_, subst}
 use mathlib.Core.Logic.{_⊎_, inl, inr, _≢_}
-use mathlib.Core.Bool.{true}
+use mathlib.Core.Bool.{Bool, true, false}
 use mathlib.Core.List.{List, [], _∷_, _++_}
-use Prim.Native.Nat.{ℕ}
-use Rattle.runs.specs.Row.{Row, Rule, toggle, after, Legal, Ended}
-use Rattle.runs.specs.Exchange.{Exchanged, done, swap}
+use Prim.Native.Nat.{ℕ, _≤_}
+use native.Mathlib.Omega.{arith}
+use lib.Dec.{eqb}
+use Rattle.runs.specs.Row.{Row, Rule, toggle, after, Legal, Ended, tally, times}
+use Rattle.runs.specs.Exchange as runs
+use Rattle.runs.specs.Exchange.{FullRun, SameSwitchings, Exchanged, OneFromAnother}
 use Rattle.runs.proofs.Test.{clash, same?}
 use Rattle.runs.proofs.Row.{toggle-comm}
 use Rattle.runs.proofs.System.{System, can, Quiet}
 use Rattle.runs.proofs.Persistent.{can-rise, quiet-toggle, persistent, ⊑-after, ended-full}
 
-pub exchanged-trans : (can : Rule) (r : Row) {l m n : List ℕ} → Exchanged can r l m → Exchanged can r m n → Exchanged can r l n
+-- a list is another's rearrangement by exchanging neighbours, each time to a list that is legal
+pub data Swapped (can : Rule) (r : Row) : List ℕ → List ℕ → Type 0 where
+  done : {l : List ℕ} → Swapped can r l l
+  swap : {m : List ℕ} (a : List ℕ) (i k : ℕ) (b : List ℕ) → Legal can r (a ++ k ∷ i ∷ b) → Swapped can r (a ++ k ∷ i ∷ b) m
+      → Swapped can r (a ++ i ∷ k ∷ b) m
+
+pub exchanged-trans : (can : Rule) (r : Row) {l m n : List ℕ} → Swapped can r l m → Swapped can r m n → Swapped can r l n
 exchanged-trans can r done y = y
 exchanged-trans can r (swap a i k b p x) y = swap a i k b p (exchanged-trans can r x y)
 
-pub exchanged-∷ : (can : Rule) (r : Row) (n : ℕ) {l m : List ℕ} → can r n ≡ true → Exchanged can (toggle r n) l m → Exchanged can r (n ∷ l) (n ∷ m)
+pub exchanged-∷ : (can : Rule) (r : Row) (n : ℕ) {l m : List ℕ} → can r n ≡ true → Swapped can (toggle r n) l m → Swapped can r (n ∷ l) (n ∷ m)
 exchanged-∷ can r n h done = done
 exchanged-∷ can r n h (swap a i k b p x) = swap (n ∷ a) i k b (h, p) (exchanged-∷ can r n h x)
 
@@ -25,16 +34,61 @@ after-swap r [] i k b = ap (λ (s : Row). after s b) (toggle-comm r i k)
 after-swap r (n ∷ a) i k b = after-swap (toggle r n) a i k b
 
 -- every list on the way leaves the same row
-pub exchanged-after : (can : Rule) (r : Row) {l m : List ℕ} → Exchanged can r l m → after r l ≡ after r m
+pub exchanged-after : (can : Rule) (r : Row) {l m : List ℕ} → Swapped can r l m → after r l ≡ after r m
 exchanged-after can r done = refl
 exchanged-after can r (swap a i k b p x) = after-swap r a i k b ∙ exchanged-after can r x
+
+-- of a full run: every list on the way is one, with the same end
+pub exchanged-runs : (can : Rule) (r e : Row) {l m : List ℕ} → FullRun can r e l → Swapped can r l m → Exchanged (FullRun can r e) l m
+exchanged-runs can r e f done = runs.done f
+exchanged-runs can r e f (swap a i k b p x) =
+    let same = sym (after-swap r a i k b) in
+    runs.swap a i k b f (exchanged-runs can r e (record { legal = p; ended = subst (Ended can) (sym same) (f .ended); arrives = same ∙ f .arrives }) x)
+
+-- ---- what the two notions give
+
+-- both lists are runs, as is every list on the way, since the rest of the way is itself such an exchange
+pub exchanged-both : {Run : List ℕ → Type 0} {l m : List ℕ} → Exchanged Run l m → Run l × Run m
+exchanged-both (runs.done f) = (f, f)
+exchanged-both (runs.swap a i k b f x) = (f, exchanged-both x .1)
+
+-- no net stands twice in either list
+pub each-once : {l m : List ℕ} → SameSwitchings l m → (k : ℕ) → (times k l ≤ 1) × (times k m ≤ 1)
+each-once h k = (h .once k, subst (λ (n : ℕ). n ≤ 1) (h .same k) (h .once k))
+
+tally-comm : (a b : Bool) (n : ℕ) → tally a (tally b n) ≡ tally b (tally a n)
+tally-comm true true n = refl
+tally-comm true false n = refl
+tally-comm false true n = refl
+tally-comm false false n = refl
+
+times-swap : (n : ℕ) (a : List ℕ) (i k : ℕ) (b : List ℕ) → times n (a ++ i ∷ k ∷ b) ≡ times n (a ++ k ∷ i ∷ b)
+times-swap n [] i k b = tally-comm (eqb n i) (eqb n k) (times n b)
+times-swap n (x ∷ a) i k b = ap (tally (eqb n x)) (times-swap n a i k b)
+
+times-exchanged : (can : Rule) (r : Row) {l m : List ℕ} → Swapped can r l m → (n : ℕ) → times n l ≡ times n m
+times-exchanged can r done n = refl
+times-exchanged can r (swap a i k b p x) n = times-swap n a i k b ∙ times-exchanged can r x n
+
+-- no net stands twice in a list that has one switching for each net of a set
+pub at-most-once : (b : Bool) (n : ℕ) → n ≡ tally b 0 → n ≤ 1
+at-most-once true n e = omega arith
+at-most-once false n e = omega arith
+
+-- where any two full runs are rearrangements of one another, and no net stands twice in a list
+pub one-from-another : (can : Rule) (s : Row) → ((l m : List ℕ) → Legal can s l → Legal can s m → Ended can (after s l) → Ended can (after s m) → Swapped can s m l)
+    → ((l : List ℕ) → Legal can s l → (k : ℕ) → times k l ≤ 1) → OneFromAnother can s
+one-from-another can s path once = record {
+  same = λ e f l m p q. record { same = times-exchanged can s (path m l (q .legal) (p .legal) (q .ended) (p .ended)); once = once l (p .legal) };
+  exchanged = λ e f l m p q. exchanged-runs can s e p (path m l (q .legal) (p .legal) (q .ended) (p .ended));
+}
 
 module _ (S : System) where
   -- the list with k brought to its front
   record Fronted (r : Row) (k : ℕ) (l : List ℕ) : Type 0 where
     rest : List ℕ
     legal : Legal (can S) r (k ∷ rest)
-    path : Exchanged (can S) r l (k ∷ rest)
+    path : Swapped (can S) r l (k ∷ rest)
 
   front : (r : Row) (k : ℕ) (l : List ℕ) → Quiet S r → Legal (can S) r l → can S r k ≡ true → after r l k ≡ true → Fronted r k l
   front r k [] q p c h = absurd (clash h (can-rise S r k q c .0))
@@ -53,7 +107,7 @@ module _ (S : System) where
 
   -- from the full list m to the full list l: bring the head of l to the front of m, and go on with the tails
   pub exchange : (r : Row) (l m : List ℕ) → Quiet S r → Legal (can S) r l → Legal (can S) r m → Ended (can S) (after r l)
-      → Ended (can S) (after r m) → Exchanged (can S) r m l
+      → Ended (can S) (after r m) → Swapped (can S) r m l
   exchange r [] [] q p p′ e e′ = done
   exchange r [] (k ∷ m) q p p′ e e′ = absurd (clash (p′ .0) (e k))
   exchange r (k ∷ l) m q p p′ e e′ =

@@ -8,6 +8,7 @@ use mathlib.Core.List.{List}
 use Prim.Native.Nat.{ℕ, _+_, _≤_, _<_}
 use native.Mathlib.Omega.{arith}
 use lib.ListN.{length}
+use Rattle.runs.specs.Exchange.{OneFromAnother}
 use Rattle.runs.specs.Row.{Row, _∖_, low, toggle, after, Legal, tally, count, times}
 use Rattle.runs.specs.Net.{Net, rails, nets, IsGate, mayFall, fallUp, fallDown, fallStep, FallList, FallEnd}
 use Rattle.runs.specs.Theory.{_⊑_, Reached}
@@ -15,14 +16,13 @@ use Rattle.runs.specs.Settled.{Settled, SettledKept}
 use Rattle.runs.specs.Acyclic.{Acyclic}
 use Rattle.runs.specs.Tight.{Released}
 use Rattle.runs.specs.Promise.{Goes-on, Switched}
-use Rattle.runs.specs.Exchange.{Exchanged}
 use Rattle.runs.proofs.Test.{clash, true?, not-false, and-left}
 use Rattle.runs.proofs.Row.{count-∖}
 use Rattle.runs.proofs.System.{can, Quiet, SupportedFrom, SettledFrom, Ranked, mask, mask-ranked, complement}
 use Rattle.runs.proofs.Persistent.{can-rise, persistent, quiet-after, ⊑-after, length-after, times-after, goes-on}
 use Rattle.runs.proofs.Settled as General
 use Rattle.runs.proofs.Dual.{complement-complement, ⊑-complement, toggle-complement, after-complement, count-complement, can-dual, legal-dual, ended-dual, dual-goes-on, dual-reached, dual-exchanged}
-use Rattle.runs.proofs.Exchange.{exchange}
+use Rattle.runs.proofs.Exchange.{Swapped, exchange, at-most-once, one-from-another}
 use Rattle.runs.proofs.Net.{Place, rail, gate, none, place, byNet-rail, byNet-gate, byNet-none, mayFall-low}
 use Rattle.runs.proofs.Moves.{fall, fallen, fallen-ranked, kept-dual, dual-kept, released-dual, dual-released, settled-dual-quiet}
 use Rattle.runs.proofs.Rise.{settled-inside}
@@ -179,5 +179,9 @@ module _ (S : Acyclic) (c R : Row) (rest : Settled (S .net) c R) where
 
   -- any two full falls, one from the other by exchanging neighbours
   pub fall-exchange : (l m : List ℕ) → FallList (S .net) R l → FallList (S .net) R m → FallEnd (S .net) R l → FallEnd (S .net) R m
-      → Exchanged (fallStep (S .net)) R m l
+      → Swapped (fallStep (S .net)) R m l
   fall-exchange l m p q d e = dual-exchanged (fall S) R (exchange (fallen S) (complement R) l m quiet (up l p) (up m q) (ended-dual (fall S) R l d) (ended-dual (fall S) R m e))
+
+  -- any two full falls
+  pub falls-alike : OneFromAnother (fallStep (S .net)) R
+  falls-alike = one-from-another (fallStep (S .net)) R fall-exchange (λ l p k. at-most-once ((R ∖ after R l) k) (times k l) (fall-switched l p .once k))

@@ -6,7 +6,8 @@ use mathlib.Core.Bool.{Bool, true, false, not, _&&_, and-false}
 use mathlib.Core.List.{List}
 use Prim.Native.Nat.{ℕ, _≤_, _<_}
 use native.Mathlib.Omega.{arith}
-use Rattle.runs.specs.Row.{Row, Rule, _∖_, low, only, toggle, after, Ended}
+use Rattle.runs.specs.Exchange.{OneFromAnother}
+use Rattle.runs.specs.Row.{times, Row, Rule, _∖_, low, only, toggle, after, Ended}
 use Rattle.runs.specs.Net.{Net, rails, nets, IsGate, inputRail, riseUp, riseStep, RiseList, RiseEnd}
 use Rattle.runs.specs.Theory.{_⊑_, Reached}
 use Rattle.runs.specs.Settled.{Settled, SettledHeld}
@@ -14,13 +15,12 @@ use Rattle.runs.specs.Pair.{InputsData}
 use Rattle.runs.specs.Acyclic.{Acyclic}
 use Rattle.runs.specs.Tight.{Supported}
 use Rattle.runs.specs.Promise.{Goes-on, Switched}
-use Rattle.runs.specs.Exchange.{Exchanged}
 use Rattle.runs.proofs.Test.{eqb-same, eqb-other, same?}
 use Rattle.runs.proofs.Row.{∖-same, count-low}
 use Rattle.runs.proofs.System.{Quiet, mask, mask-ranked}
 use Rattle.runs.proofs.Persistent.{can-rise, persistent, quiet-low, quiet-after, length-after, times-after, full-ended, one-end, goes-on}
 use Rattle.runs.proofs.Settled as General
-use Rattle.runs.proofs.Exchange.{exchange}
+use Rattle.runs.proofs.Exchange.{Swapped, exchange, at-most-once, one-from-another}
 use Rattle.runs.proofs.Net.{Place, rail, gate, none, place, riseUp-cong, byNet-rail, byNet-gate, byNet-none, byNet-inside, byNet-mono, inputRail-inside}
 use Rattle.runs.proofs.Moves.{rise, rise-ranked}
 
@@ -62,8 +62,12 @@ module _ (S : Acyclic) (c : Row) where
 
   -- any two full rises, one from the other by exchanging neighbours
   pub rise-exchange : (l m : List ℕ) → RiseList (S .net) c l → RiseList (S .net) c m → RiseEnd (S .net) c l → RiseEnd (S .net) c m
-      → Exchanged (riseStep (S .net) c) low m l
+      → Swapped (riseStep (S .net) c) low m l
   rise-exchange l m p q d e = exchange (rise S c) low l m quiet p q d e
+
+  -- any two full rises
+  pub rises-alike : OneFromAnother (riseStep (S .net) c) low
+  rises-alike = one-from-another (riseStep (S .net) c) low rise-exchange (λ l p k. at-most-once (after low l k) (times k l) (rise-switched l p .once k))
 
   -- ---- the settled row
 

@@ -1,5 +1,5 @@
--- Promises of the papers rest on Row, Net, Settled, Pair, Complete, Promise, Witness and FallWitness. Acyclic is what the theory asks of a net;
--- Theory, Checks and Tight carry the argument; Acknowledged and Exchange are for later uses.
+-- Promises of the papers rest on Row, Net, Settled, Pair, Complete, Promise, Exchange, Witness and FallWitness. Acyclic is what the theory asks of
+-- a net; Theory, Checks and Tight carry the argument; Acknowledged is for later uses.
 pub mod Row
 pub mod Net
 pub mod Theory

@@ -39,7 +39,7 @@ use Rattle.verdict.proofs.Bridge.{stageIn, settled-row}
 use Rattle.verdict.proofs.Sweeps.{FirstFault, first-fault, judged, each-++, named-number, passed-nowhere, nowhere-passed, Showable, named-shown, shown-by, none-named, named-from}
 use Rattle.verdict.proofs.Because.{rises-mean, falls-mean, checks-mean, row-checks-mean, holds, verdict-because}
 use Rattle.verdict.proofs.Refusals.{InTable, refused-number}
-use Rattle.verdict.proofs.OneWord.{CleanRise, CleanFall, CleanIn, hold-clean, rises-to, rows-are, clean-conforms, conforms-clean, clean-promise, word-rises, wrong-broken, incomplete-broken, unobservable-broken, fall-incomplete-broken, fall-unobservable-broken}
+use Rattle.verdict.proofs.OneWord.{CleanRise, CleanFall, CleanIn, hold-clean, rises-to, rows-are, clean-conforms, conforms-clean, clean-promise, word-rises, word-rises-alike, word-falls-alike, wrong-broken, incomplete-broken, unobservable-broken, fall-incomplete-broken, fall-unobservable-broken}
 
 -- ---- what checks that find nothing say
 
@@ -270,6 +270,8 @@ module _ (stageMost referenceMost : Limits) (stage reference : List ℕ) where
           contents = c;
           promise = λ w h. clean-promise s w free (c .function) (f .1 w h);
           rest = λ w h. word-rises s w free (c .function);
+          rises = λ w h. word-rises-alike s w free (c .function);
+          falls = λ w h. word-falls-alike s w free (c .function);
         },
       )
 

@@ -10,8 +10,9 @@ use mathlib.Core.List.{List}
 use lib.ListN.{length}
 use lib.Dec.{eqb}
 use borrow.Author.Tests.{eq-eqb, lt-ltb, le-ltb}
-use Rattle.runs.specs.Row.{Row, _∖_, only}
-use Rattle.runs.specs.Net.{IsGate, railsOfInputs, inputRail}
+use Rattle.runs.specs.Row.{Row, _∖_, only, low}
+use Rattle.runs.specs.Net.{IsGate, railsOfInputs, inputRail, riseStep, fallStep}
+use Rattle.runs.specs.Exchange.{OneFromAnother}
 use Rattle.runs.specs.Theory.{wordRails, AllHold}
 use Rattle.runs.specs.Settled.{Settled, SettledHeld, SettledKept}
 use Rattle.runs.specs.Pair.{DataOf, AllData, AllNull, InputsData}
@@ -22,8 +23,8 @@ use Rattle.runs.specs.Witness.{Wrong, Incomplete, Unobservable}
 use Rattle.runs.specs.FallWitness.{Fall-incomplete, Fall-unobservable}
 use Rattle.runs.proofs.Test.{not-true, not-false, clash, eqb-other, same?}
 use Rattle.runs.proofs.Pair.{wordRails-data}
-use Rattle.runs.proofs.Rise.{settled-one, held-one, rise-end-is, rise-goes-on}
-use Rattle.runs.proofs.Fall.{kept-one}
+use Rattle.runs.proofs.Rise.{settled-one, held-one, rise-end-is, rise-goes-on, rises-alike}
+use Rattle.runs.proofs.Fall.{kept-one, falls-alike}
 use Rattle.runs.proofs.Promise.{passes-promise, promise-not-wrong, promise-not-incomplete, promise-not-unobservable, promise-not-fall-incomplete, promise-not-fall-unobservable}
 use Rattle.runs.proofs.Clear.{hold-fall-passes}
 use Rattle.runs.proofs.Complete.{checks-conforms}
@@ -183,6 +184,12 @@ module _ (s : Stage) (w : ℕ) where
 
       pub word-rises : RisesTo s (railsFor s w) (restRow s w)
       word-rises = rises-to s free (railsFor s w) (restRow s w) rest-settled
+
+      pub word-rises-alike : OneFromAnother (riseStep (netOf s) (railsFor s w)) low
+      word-rises-alike = rises-alike (stageIn s free) (railsFor s w)
+
+      pub word-falls-alike : OneFromAnother (fallStep (netOf s)) (restRow s w)
+      word-falls-alike = falls-alike (stageIn s free) (railsFor s w) (restRow s w) rest-settled
 
       -- ---- the witnesses
 

@@ -6,10 +6,11 @@ use mathlib.Core.List.{List, [], _∷_, _++_}
 use mathlib.Core.Logic.{_⊎_, _↔_}
 use lib.ListN.{length, getD, take}
 use Rattle.runs.specs.Row.{Row, low, after, only, _∖_}
-use Rattle.runs.specs.Net.{RiseList, RiseEnd, riseStep, railsOfInputs}
+use Rattle.runs.specs.Net.{RiseList, RiseEnd, riseStep, fallStep, railsOfInputs}
 use Rattle.runs.specs.Settled.{Settled, SettledHeld, SettledKept}
 use Rattle.runs.specs.Complete.{Conforms}
 use Rattle.runs.specs.Promise.{Goes-on, Promise}
+use Rattle.runs.specs.Exchange.{OneFromAnother}
 use Rattle.netlist.specs.declared.File.{File}
 use Rattle.netlist.specs.declared.File.the-variants as file
 use Rattle.netlist.specs.declared.Limits.{Limits}
@@ -135,12 +136,15 @@ pub record RisesTo (s : Stage) (rails : Row) (end : Row) : Type 0 where
   pub goes-on : (l : List ℕ) → RiseList (netOf s) rails l → Goes-on (riseStep (netOf s) rails) low l
   pub end-is : (l : List ℕ) → RiseList (netOf s) rails l → RiseEnd (netOf s) rails l → after low l ≡ end
 
--- accepted: both files read, and for every word the promise is kept; all ends of its rises are the paper's "rest"
+-- accepted: both files read, and for every word the promise is kept; all ends of its rises are the paper's "rest"; and any two full rises,
+-- and any two full falls from the rest, list the same switchings and are turned into one another by exchanging neighbours
 pub record Kept (stageMost referenceMost : Limits) (stage reference : List ℕ) : Type 0 where
   pub contents : Contents stageMost referenceMost stage reference
   pub promise : (w : ℕ) → IsWord (contents .circuit) w
       → Promise (netOf (contents .circuit)) (railsFor (contents .circuit) w) (answerBits (contents .function) w)
   pub rest : (w : ℕ) → IsWord (contents .circuit) w → RisesTo (contents .circuit) (railsFor (contents .circuit) w) (restRow (contents .circuit) w)
+  pub rises : (w : ℕ) → IsWord (contents .circuit) w → OneFromAnother (riseStep (netOf (contents .circuit)) (railsFor (contents .circuit) w)) low
+  pub falls : (w : ℕ) → IsWord (contents .circuit) w → OneFromAnother (fallStep (netOf (contents .circuit))) (restRow (contents .circuit) w)
 
 -- the check of the verdict's number, in a word and at a place of its own, shows what it says
 pub record Shown (c : Check) (v : Verdict) : Type 0 where
