@@ -1,5 +1,6 @@
 -- Promises of the papers rest on Row, Net, Settled, Pair, Complete, Promise and Witness. Acyclic is what the theory asks of a net; Theory, Checks
--- and Tight carry the argument; FallWitness, Acknowledged and Exchange are for gates without hold and for later uses.
+-- and Tight carry the argument; FallWitness, Acknowledged and Exchange are for gates without hold and for later
+-- uses; Series is for the join of two stages.
 pub mod Row
 pub mod Net
 pub mod Theory
@@ -14,3 +15,4 @@ pub mod FallWitness
 pub mod Tight
 pub mod Acknowledged
 pub mod Exchange
+pub mod Series
