@@ -167,3 +167,78 @@ module _ (most : Limits) (first second : Stage) (formed : StageFormed most first
         (λ p h. record { rail0-in = moved-below (p .rail0) (h .rail0-in); rail1-in = moved-below (p .rail1) (h .rail1-in) }) (second .outputs) (formed′ .outputs-formed);
     care-in = formed .care-in;
   }
+
+  -- ---- no loop
+
+  abbrev n : ℕ
+  n = first .inputs
+
+  abbrev m : ℕ
+  m = length (first .gates)
+
+  whole-gates : List Gate
+  whole-gates = joinedStage first second .gates
+
+  pins-first : (k : ℕ) → k < m → pinsAt whole-gates k ≡ pinsAt (first .gates) k
+  unfolding whole-gates
+  pins-first k h =
+      map-get (λ (g : Gate). g .pins) (joinedStage first second .gates) k noGate [] (omega (arith, gates-length first second))
+      ∙ ap (λ (g : Gate). g .pins) (gate-first first second k h)
+      ∙ sym (map-get (λ (g : Gate). g .pins) (first .gates) k noGate [] h)
+
+  pins-second : (k : ℕ) → k < length (second .gates) → pinsAt whole-gates (m + k) ≡ map (netInWhole first second) (pinsAt (second .gates) k)
+  unfolding whole-gates
+  pins-second k h =
+      map-get (λ (g : Gate). g .pins) (joinedStage first second .gates) (m + k) noGate [] (omega (arith, gates-length first second))
+      ∙ ap (λ (g : Gate). g .pins) (gate-second first second k h)
+      ∙ ap (map (netInWhole first second)) (sym (map-get (λ (g : Gate). g .pins) (second .gates) k noGate [] h))
+
+  -- the first part's gates by their rank, then the second part's by theirs
+  rank-second : ℕ → ℕ
+  rank-second k = nets first + 1 + rankOf (second .inputs) (second .gates) (2 * second .inputs + k)
+
+  place : ℕ → ℕ
+  place k = cond (ltb k m) (rankOf n (first .gates) (2 * n + k)) (rank-second (k - m))
+
+  place-first : (k : ℕ) → k < m → place k ≡ rankOf n (first .gates) (2 * n + k)
+  unfolding place
+  place-first k h = rw (lt-ltb k m h)
+
+  place-second : (k : ℕ) → place (m + k) ≡ rank-second k
+  unfolding place
+  place-second k = let e : m + k - m ≡ k = omega arith in rw (le-ltb (m + k) m (omega arith), e)
+
+  module _ (free : LoopFree (first .inputs) (first .gates)) (free′ : LoopFree (second .inputs) (second .gates)) where
+    first-before : (j k : ℕ) → k < m → In (2 * n + j) (pinsAt whole-gates k) → place j < place k
+    first-before j k h i =
+        let i′ : In (2 * n + j) (pinsAt (first .gates) k) = rw (pins-first k h) at i in
+        let named = All-get (CellFormed (nets first)) (first .gates) (formed .gates-formed) k noGate h .pins-in in
+        let pins : pinsAt (first .gates) k ≡ getD (first .gates) k noGate .pins = map-get (λ (g : Gate). g .pins) (first .gates) k noGate [] h in
+        let below : 2 * n + j < nets first = All-in (λ v. v < nets first) (getD (first .gates) k noGate .pins) named (2 * n + j) (rw pins at i′) in
+        omega (arith, place-first j (omega arith), place-first k h, rank-pin n (first .gates) free (2 * n + j) k i′)
+
+    second-before : (j k : ℕ) → k < length (second .gates) → In (2 * n + j) (pinsAt whole-gates (m + k)) → place j < place (m + k)
+    unfolding rank-second
+    second-before j k h i =
+        let x = in-map (netInWhole first second) (pinsAt (second .gates) k) (2 * n + j) (rw (pins-second k h) at i) in
+        go (x .0) (x .1) (x .2) (decLt j m) (decLt (x .0) (2 * second .inputs))
+      where
+        go : (p : ℕ) → In p (pinsAt (second .gates) k) → 2 * n + j ≡ netInWhole first second p → Dec (j < m) → Dec (p < 2 * second .inputs) → place j < place (m + k)
+        go p i e (yes l) d = omega (arith, place-first j l, place-second k, rankOf-≤ n (first .gates) (2 * n + j))
+        go p i e (no l) (yes l′) = absurd (omega (arith, input-below p l′))
+        go p i e (no l) (no l′) =
+            let a : j ≡ m + (j - m) = omega arith in
+            let b : 2 * second .inputs + (j - m) ≡ p = omega (arith, net-in-whole first second p (omega arith)) in
+            let s : place j ≡ rank-second (j - m) = ap place a ∙ place-second (j - m) in
+            let r : rankOf (second .inputs) (second .gates) (2 * second .inputs + (j - m)) ≡ rankOf (second .inputs) (second .gates) p = ap (rankOf (second .inputs) (second .gates)) b in
+            omega (arith, place-second k, rank-pin (second .inputs) (second .gates) free′ p k i)
+
+    pub joined-free : LoopFree (joinedStage first second .inputs) (joinedStage first second .gates)
+    unfolding joinedStage whole-gates
+    joined-free = placed-free n whole-gates place (λ j k hj hk f. go j k hk f (decLt k m))
+      where
+        go : (j k : ℕ) → k < length whole-gates → Feeds n whole-gates j k → Dec (k < m) → place j < place k
+        go j k h f (yes l) = first-before j k l f
+        go j k h f (no l) =
+            let e : m + (k - m) ≡ k = omega arith in
+            subst (λ (x : ℕ). place j < place x) e (second-before j (k - m) (omega (arith, gates-length first second)) (subst (λ (x : ℕ). In (2 * n + j) (pinsAt whole-gates x)) (sym e) f))
