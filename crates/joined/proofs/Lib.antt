@@ -1,2 +1,4 @@
 pub mod Lists
 pub mod Stages
+pub mod References
+pub mod Words
