@@ -2,3 +2,4 @@ pub mod Lists
 pub mod Stages
 pub mod References
 pub mod Words
+pub mod Joining

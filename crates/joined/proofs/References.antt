@@ -78,6 +78,10 @@ follow-one move whole part x f next = record { inside = inside; same = λ p h. s
         ap (λ (i : ℕ). getD (whole ++ (x ∷ [])) i 0) m ∙ getD-append-seam whole x [] 0 ∙ sym (ap (λ (i : ℕ). getD (part ++ (x ∷ [])) i 0) e ∙ getD-append-seam part x [] 0)
 
 module _ (first second : Reference) where
+  pub outputs-length : length (joinedReference first second .outputs) ≡ length (second .outputs)
+  unfolding joinedReference
+  outputs-length = length-map (second .outputs) (signalInWhole first second)
+
   -- ---- signals of the second part in the whole
 
   input-signal : (p : ℕ) → p < second .inputs → signalInWhole first second p ≡ getD (first .outputs) p 0
@@ -139,11 +143,10 @@ module _ (first second : Reference) where
     joined-formed whole room =
         let y : second .inputs ≡ second .inputs + 0 = omega arith in
         let z : first .inputs + length (first .gates) + 0 ≡ first .inputs + length (first .gates) = omega arith in
-        let outputs = length-map (second .outputs) (signalInWhole first second) in
         record {
           inputs-in = omega (arith, formed .inputs-in, room .inputs);
           gates-in = omega (arith, gates-length, formed .gates-in, formed′ .gates-in, room .gates);
-          outputs-in = omega (arith, outputs, formed′ .outputs-in, room .outputs);
+          outputs-in = omega (arith, outputs-length, formed′ .outputs-in, room .outputs);
           gates-formed = formed-++ (first .inputs) (first .gates) (map (operationInWhole first second) (second .gates)) (formed .gates-formed)
               (rw z at (moved-formed 0 (second .gates) (rw y at (formed′ .gates-formed))));
           outputs-formed = All-mapped (λ v. v < second .inputs + length (second .gates)) (λ v. v < first .inputs + length (joinedReference first second .gates)) (signalInWhole first second)

@@ -60,8 +60,11 @@ unfoldable pub refusalOf : Verdict → Finding
 refusalOf v = cond (eqb (v .number) 0) Passed (Fault v)
 
 -- "the second's with 3 added to its file"
+abbrev pub threeAdded : Verdict → Verdict
+threeAdded v = verdict (v .number) (v .file + 3) (v .at) (v .word)
+
 unfoldable pub ofSecond : Finding → Finding
-ofSecond (Fault v) = Fault (verdict (v .number) (v .file + 3) (v .at) (v .word))
+ofSecond (Fault v) = Fault (threeAdded v)
 ofSecond Passed = Passed
 
 -- ---- the seam
@@ -114,9 +117,15 @@ pub record JoinAnswer : Type 0 where
   pub reference : List ℕ
 
 -- "refusals write nothing"
+abbrev pub joinRefused : Verdict → JoinAnswer
+joinRefused v = record { verdict = v; stage = []; reference = [] }
+
+abbrev pub joinWritten : Part → Part → JoinAnswer
+joinWritten first second = record { verdict = accepted; stage = stageBytes first second; reference = referenceBytes first second }
+
 unfoldable pub joinUnless : Finding → Part → Part → JoinAnswer
-joinUnless (Fault v) first second = record { verdict = v; stage = []; reference = [] }
-joinUnless Passed first second = record { verdict = accepted; stage = stageBytes first second; reference = referenceBytes first second }
+joinUnless (Fault v) first second = joinRefused v
+joinUnless Passed first second = joinWritten first second
 
 -- the first part is judged first, then the second, then the checks of the join follow
 unfoldable pub joinFault : Limits → Limits → Files → Files → ℕ → ℕ → Finding
