@@ -1,11 +1,10 @@
 -- Why the join gives its answer; and that what it writes for two parts is accepted and keeps the promise.
 -- Assumes nothing.
-use Prim.Native.Nat.{ℕ, _+_, _≤_, _<_}
+use Prim.Native.Nat.{ℕ, _≤_}
 use native.Mathlib.Omega.{arith}
-use mathlib.Core.Path.{_≡_, refl, sym, ap, _∙_, subst}
-use mathlib.Core.Bool.{Bool, true, false, not, cond, _||_}
+use mathlib.Core.Path.{_≡_, refl, sym, ap, _∙_}
+use mathlib.Core.Bool.{Bool, true, false, not, cond}
 use mathlib.Core.Logic.{_⊎_, inl, inr, ⊎-elim}
-use mathlib.Core.List.{List, [], _∷_}
 use lib.ListN.{length}
 use lib.Dec.{eqb, ltb}
 use Rattle.runs.proofs.Test.{clash, true?, not-true, of-not, or-left, or-right, or-cases, eqb-eq, eqb-same, ltb-true, lt-ltb}
@@ -13,16 +12,15 @@ use Rattle.netlist.specs.declared.Limits.{Limits}
 use Rattle.verdict.specs.declared.Verdict.{Verdict}
 use Rattle.verdict.specs.declared.Finding.{Finding}
 use Rattle.verdict.specs.declared.Finding.the-variants.{Fault, Passed}
-use Rattle.verdict.specs.Loops.{In}
 use Rattle.verdict.specs.Words.{caredFor, IsWord}
-use Rattle.verdict.specs.Checks.{Check, orLater, firstFault}
+use Rattle.verdict.specs.Checks.{orLater, firstFault}
 use Rattle.verdict.specs.Verdicts.{accepted, verdictWithin}
 use Rattle.verdict.specs.Demands.{Named, Nowhere, EachOf}
 use Rattle.verdict.proofs.Sweeps.{Means, FirstFault, first-fault, named-from}
 use Rattle.verdict.proofs.Because.{unequal-means}
 use Rattle.verdict.proofs.Demands.{demand-3, nowhere-equal}
-use Rattle.joined.specs.Join.{Files, Part, partIn, refusalOf, threeAdded, ofSecond, isIn, answerWord, CaresFor, caresFor, stageBytes, referenceBytes, joinChecks, JoinAnswer, joinRefused, joinUnless, joinFault, joinWithin}
-use Rattle.joined.specs.Demand.{RoomForTwo, Joinable, Joined, JoinKept, JoinBecause, first-refused, second-refused, join-refused, joined}
+use Rattle.joined.specs.Join.{Files, Part, partIn, refusalOf, ofSecond, answerWord, CaresFor, caresFor, stageBytes, referenceBytes, joinChecks, JoinAnswer, joinUnless, joinFault, joinWithin}
+use Rattle.joined.specs.Demand.{RoomForTwo, JoinKept, JoinBecause, first-refused, second-refused, join-refused, joined}
 use Rattle.joined.proofs.Words.{isIn-in, in-isIn}
 use Rattle.joined.proofs.Joining.{join-accepted}
 

@@ -1,17 +1,13 @@
 -- The join of two accepted parts is accepted and keeps the promise: shown from the parts, with no look at the words of the whole but one by one.
 -- Assumes nothing.
-use Prim.Native.Nat.{ℕ, zero, suc, _+_, _*_, _≤_, _<_}
+use Prim.Native.Nat.{ℕ, _≤_, _<_}
 use native.Mathlib.Omega.{arith}
-use mathlib.Core.Path.{_≡_, refl, sym, ap, _∙_, subst, fun-ext}
-use mathlib.Core.Bool.{Bool, true, false}
-use mathlib.Core.List.{List, [], _∷_}
+use mathlib.Core.Path.{_≡_, sym, ap, _∙_, subst, fun-ext}
+use mathlib.Core.List.{List}
 use lib.ListN.{length, getD}
 use lib.Dec.{eqb}
-use Rattle.runs.specs.Row.{Row}
 use Rattle.runs.specs.Net.{inputRail}
-use Rattle.runs.specs.Settled.{Settled}
-use Rattle.runs.specs.Pair.{DataOf, Reads}
-use Rattle.runs.specs.Acyclic.{Acyclic}
+use Rattle.runs.specs.Pair.{DataOf}
 use Rattle.runs.specs.Tight.{Tight, Clear}
 use Rattle.runs.specs.Complete.{Conforms}
 use Rattle.runs.proofs.Tight.{passes-tight}
@@ -20,16 +16,15 @@ use Rattle.runs.proofs.Complete.{tight-conforms, conforms-passes, conforms-fall
 use Rattle.runs.proofs.Series.{series-tight, series-clear}
 use Rattle.netlist.specs.declared.File.the-variants as file
 use Rattle.netlist.specs.declared.Limits.{Limits}
-use Rattle.netlist.specs.Reading.{Reading, readable, readFile}
-use Rattle.netlist.specs.Content.{Gate, Stage, Reference, stageOf, referenceOf}
-use Rattle.netlist.specs.Writing.{All, placesOf, stageItems, referenceItems, writeStage, writeReference}
+use Rattle.netlist.specs.Content.{Stage, Reference}
+use Rattle.netlist.specs.Writing.{placesOf, stageItems, referenceItems}
 use Rattle.netlist.specs.Formed.{CellFormed, nets, StageFormed, ReferenceFormed}
 use Rattle.netlist.proofs.Lists.{All-map}
 use Rattle.netlist.proofs.Stages.{read-writeStage, stageOf-writeStage, stage-formed, stage-fits}
 use Rattle.netlist.proofs.References.{read-writeReference, referenceOf-writeReference, reference-formed, reference-fits}
 use Rattle.verdict.specs.declared.Verdict.{Verdict}
 use Rattle.verdict.specs.Loops.{LoopFree}
-use Rattle.verdict.specs.Words.{caredFor, words, IsWord, bitsOf, railsOf, railsIn}
+use Rattle.verdict.specs.Words.{words, IsWord, bitsOf, railsOf}
 use Rattle.verdict.specs.Answers.{answer}
 use Rattle.verdict.specs.Nets.{netOf, rowOf, railsFor, answerBits}
 use Rattle.verdict.specs.Verdicts.{accepted, verdictWithin}
@@ -40,9 +35,9 @@ use Rattle.verdict.proofs.Bridge.{stageIn}
 use Rattle.verdict.proofs.OneWord.{wires-data}
 use Rattle.verdict.proofs.Demands.{demand-2, demand-3, accepted-contents}
 use Rattle.joined.specs.Whole.{netInWhole, joinedStage, joinedReference}
-use Rattle.joined.specs.Join.{Files, stageRead, referenceRead, Part, partIn, wordOf, answerWord, CaresFor, stageBytes, referenceBytes}
+use Rattle.joined.specs.Join.{Files, stageRead, referenceRead, Part, partIn, answerWord, CaresFor, stageBytes, referenceBytes}
 use Rattle.joined.specs.Demand.{RoomForTwo, Joinable, Joined}
-use Rattle.joined.proofs.Stages.{stage-named, in-series, joined-free, gates-length, outputs-length}
+use Rattle.joined.proofs.Stages.{stage-named, in-series, joined-free, outputs-length}
 use Rattle.joined.proofs.Stages as stages
 use Rattle.joined.proofs.References.{answer-length, joined-answer}
 use Rattle.joined.proofs.References as references

@@ -4,3 +4,4 @@ pub mod References
 pub mod Words
 pub mod Joining
 pub mod Because
+pub mod Cases

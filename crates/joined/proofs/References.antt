@@ -1,10 +1,9 @@
 -- The joined reference: it is well-formed, and it answers what the second part answers to the answer of the first.
 -- Assumes nothing.
-use Prim.Native.Nat.{ℕ, zero, suc, _+_, _-_, _*_, _≤_, _<_}
+use Prim.Native.Nat.{ℕ, suc, _+_, _-_, _≤_, _<_}
 use native.Mathlib.Omega.{arith}
 use native.Mathlib.Decide.{decLt}
 use mathlib.Core.Path.{_≡_, refl, sym, ap, ap₂, _∙_, subst}
-use mathlib.Core.Logic.{_⊎_, inl, inr}
 use mathlib.Core.List.{List, [], _∷_, _++_, map}
 use lib.ListN.{length, getD, length-append, length-map, List·getD-append}
 use lib.Seq.{getD-append-seam}
@@ -12,7 +11,7 @@ use Rattle.runs.proofs.Test.{lt-ltb, le-ltb}
 use Rattle.netlist.specs.declared.Limits.{Limits}
 use Rattle.netlist.specs.Content.{Coded, Reference}
 use Rattle.netlist.specs.Writing.{All}
-use Rattle.netlist.specs.Formed.{OperationFormed, FormedFrom, ReferenceFormed}
+use Rattle.netlist.specs.Formed.{FormedFrom, ReferenceFormed}
 use Rattle.verdict.specs.Answers.{operate, valuesAt, signalValues, answer}
 use Rattle.joined.specs.Whole.{signalInWhole, operationInWhole, joinedReference}
 use Rattle.joined.specs.Demand.{RoomForTwo}

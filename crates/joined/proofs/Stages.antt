@@ -1,6 +1,6 @@
 -- The joined stage: it is well-formed, it has no loop, and its net is the parts' nets in series.
 -- Assumes nothing.
-use Prim.Native.Nat.{ℕ, zero, suc, _+_, _-_, _*_, _/_, _%_, _≤_, _<_}
+use Prim.Native.Nat.{ℕ, _+_, _-_, _*_, _/_, _%_, _≤_, _<_}
 use native.Mathlib.Omega.{arith}
 use native.Mathlib.Decide.{decLt}
 use mathlib.Core.Path.{_≡_, refl, sym, ap, ap₂, _∙_, subst}
@@ -12,12 +12,11 @@ use lib.Dec.{eqb, ltb}
 use Rattle.gates.specs.Expression.{holds}
 use Rattle.gates.specs.Cell.{setExpression}
 use Rattle.runs.specs.Row.{Row}
-use Rattle.runs.specs.Net.{IsGate, inputRail, mayFall, allLow}
+use Rattle.runs.specs.Net.{IsGate, inputRail, allLow}
 use Rattle.runs.specs.Series.{Named, InSeries}
 use Rattle.runs.proofs.Test.{lt-ltb, le-ltb}
 use Rattle.netlist.specs.declared.Limits.{Limits}
 use Rattle.netlist.specs.Content.{Gate, Pair, Stage}
-use Rattle.netlist.specs.Writing.{All}
 use Rattle.netlist.specs.Formed.{CellFormed, RailsFormed, nets, StageFormed}
 use Rattle.netlist.proofs.Lists.{All-++, All-map}
 use Rattle.verdict.specs.Loops.{In, pinsAt, Feeds, LoopFree}

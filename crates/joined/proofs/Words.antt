@@ -2,16 +2,15 @@
 -- Assumes nothing.
 use Prim.Native.Nat.{ℕ, zero, suc, _+_, _*_, _/_, _%_, _≤_, _<_}
 use native.Mathlib.Omega.{arith}
-use mathlib.Core.Path.{_≡_, refl, sym, ap, ap₂, _∙_, subst}
-use mathlib.Core.Bool.{Bool, true, false, not, _||_}
-use mathlib.Core.Logic.{_⊎_, inl, inr, ⊎-elim}
+use mathlib.Core.Path.{_≡_, refl, ap, _∙_}
+use mathlib.Core.Bool.{Bool, true, false, not}
+use mathlib.Core.Logic.{inl, inr, ⊎-elim}
 use mathlib.Core.List.{List, [], _∷_}
 use lib.ListN.{length, getD}
 use lib.Dec.{eqb, ltb}
 use Rattle.runs.specs.Net.{inputRail}
-use Rattle.runs.specs.Theory.{wordRails}
 use Rattle.runs.specs.Pair.{DataOf}
-use Rattle.runs.proofs.Test.{clash, true?, eqb-same, eqb-eq, eqb-other, lt-ltb, or-left, or-right, or-cases, same?}
+use Rattle.runs.proofs.Test.{clash, eqb-same, eqb-eq, or-left, or-right, or-cases}
 use Rattle.runs.proofs.Net.{wordRails-0, wordRails-1}
 use Rattle.verdict.specs.Rows.{high}
 use Rattle.verdict.specs.Loops.{In}

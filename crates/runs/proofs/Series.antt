@@ -1,8 +1,8 @@
 -- Two stages in a row that are tight and clear are tight and clear as one.
 -- Assumes nothing.
-use mathlib.Core.Path.{_≡_, refl, sym, ap, _∙_, subst, fun-ext}
+use mathlib.Core.Path.{_≡_, refl, sym, ap, _∙_, fun-ext}
 use mathlib.Core.Bool.{Bool, true, false, not, _&&_}
-use Prim.Native.Nat.{ℕ, _+_, _-_, _*_, _/_, _≤_, _<_}
+use Prim.Native.Nat.{ℕ, _+_, _-_, _/_, _≤_, _<_}
 use native.Mathlib.Omega.{arith}
 use lib.Dec.{ltb}
 use Rattle.runs.specs.Row.{Row, low}
@@ -13,10 +13,10 @@ use Rattle.runs.specs.Pair.{DataOf, AllData, AllNull, Reads}
 use Rattle.runs.specs.Acyclic.{Acyclic, AllPins}
 use Rattle.runs.specs.Tight.{Supported, Tight, Released, Clear}
 use Rattle.runs.specs.Series.{Named, InSeries}
-use Rattle.runs.proofs.Test.{clash, not-true, and-in, and-left, and-right, ltb-true, lt-ltb, le-ltb}
-use Rattle.runs.proofs.Net.{Place, rail, gate, none, place, byNet-rail, byNet-gate, byNet-none, byNet-inside, rail-of-input, inputRail-inside, AllPins-map, mayFall-local}
+use Rattle.runs.proofs.Test.{clash, not-true, and-left, and-right, ltb-true, lt-ltb, le-ltb}
+use Rattle.runs.proofs.Net.{Place, rail, gate, none, place, byNet-rail, byNet-gate, byNet-none, rail-of-input, inputRail-inside, AllPins-map, mayFall-local}
 use Rattle.runs.proofs.Pair.{reads-data}
-use Rattle.runs.proofs.Rise.{supported-⊑-settled, settled-inside, settled-by, settled-rail, settled-gate}
+use Rattle.runs.proofs.Rise.{supported-⊑-settled, settled-inside}
 
 -- two pairs that are DATA of one bit agree in each rail
 data-same : (r s : Row) (p q : Bool → ℕ) (x : Bool) → DataOf r p x → DataOf s q x → (b : Bool) → r (p b) ≡ s (q b)
