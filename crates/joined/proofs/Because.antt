@@ -1,9 +1,9 @@
 -- Why the join gives its answer; and that what it writes for two parts is accepted and keeps the promise.
 -- Assumes nothing.
-use Prim.Native.Nat.{ℕ, _≤_}
+use Prim.Native.Nat.{ℕ, _≤_, _<_}
 use native.Mathlib.Omega.{arith}
 use mathlib.Core.Path.{_≡_, refl, sym, ap, _∙_}
-use mathlib.Core.Bool.{Bool, true, false, not, cond}
+use mathlib.Core.Bool.{Bool, true, false, not, cond, _||_}
 use mathlib.Core.Logic.{_⊎_, inl, inr, ⊎-elim}
 use lib.ListN.{length}
 use lib.Dec.{eqb, ltb}
@@ -12,7 +12,7 @@ use Rattle.netlist.specs.declared.Limits.{Limits}
 use Rattle.verdict.specs.declared.Verdict.{Verdict}
 use Rattle.verdict.specs.declared.Finding.{Finding}
 use Rattle.verdict.specs.declared.Finding.the-variants.{Fault, Passed}
-use Rattle.verdict.specs.Words.{caredFor, IsWord}
+use Rattle.verdict.specs.Words.{IsWord}
 use Rattle.verdict.specs.Checks.{orLater, firstFault}
 use Rattle.verdict.specs.Verdicts.{accepted, verdictWithin}
 use Rattle.verdict.specs.Demands.{Named, Nowhere, EachOf}
@@ -21,17 +21,29 @@ use Rattle.verdict.proofs.Because.{unequal-means}
 use Rattle.verdict.proofs.Demands.{demand-3, nowhere-equal}
 use Rattle.joined.specs.Join.{Files, Part, partIn, refusalOf, ofSecond, answerWord, CaresFor, caresFor, stageBytes, referenceBytes, joinChecks, JoinAnswer, joinUnless, joinFault, joinWithin}
 use Rattle.joined.specs.Demand.{RoomForTwo, JoinKept, JoinBecause, first-refused, second-refused, join-refused, joined}
-use Rattle.joined.proofs.Words.{isIn-in, in-isIn}
+use Rattle.joined.proofs.Words.{caresFor-cares, cares-caresFor}
 use Rattle.joined.proofs.Joining.{join-accepted}
 
 -- ---- the checks of the join
 
 module _ (first second : Part) (stageRoom referenceRoom : ℕ) where
-  abbrev long : Bool
-  long = ltb stageRoom (length (stageBytes first second))
+  -- the answer to word w as a word of the second part
+  abbrev next : ℕ → ℕ
+  next w = answerWord (first .function) w
 
-  abbrev long′ : Bool
-  long′ = ltb referenceRoom (length (referenceBytes first second))
+  abbrev stageLong : ℕ
+  stageLong = length (stageBytes first second)
+
+  abbrev referenceLong : ℕ
+  referenceLong = length (referenceBytes first second)
+
+  short-says : (ltb stageRoom stageLong || ltb referenceRoom referenceLong) ≡ true → (stageRoom < stageLong) ⊎ (referenceRoom < referenceLong)
+  short-says e =
+      ⊎-elim (λ t. inl (ltb-true stageRoom stageLong t)) (λ t. inr (ltb-true referenceRoom referenceLong t)) (or-cases (ltb stageRoom stageLong) (ltb referenceRoom referenceLong) e)
+
+  says-short : (stageRoom < stageLong) ⊎ (referenceRoom < referenceLong) → (ltb stageRoom stageLong || ltb referenceRoom referenceLong) ≡ true
+  says-short (inl l) = or-left (ltb stageRoom stageLong) (ltb referenceRoom referenceLong) (lt-ltb stageRoom stageLong l)
+  says-short (inr l) = or-right (ltb stageRoom stageLong) (ltb referenceRoom referenceLong) (lt-ltb referenceRoom referenceLong l)
 
   join-checks-mean : EachOf Means (joinChecks first second stageRoom referenceRoom)
   unfolding joinChecks
@@ -39,29 +51,23 @@ module _ (first second : Part) (stageRoom referenceRoom : ℕ) where
     unequal-means 22 (length (first .circuit .outputs)) (second .circuit .inputs),
     (
       record {
-        passes = λ w i h e d. clash (in-isIn (answerWord (first .function) w) (caredFor (second .circuit .inputs) (second .circuit .care)) d) (of-not (caresFor (second .circuit) (answerWord (first .function) w)) e);
-        occurs = λ w i h n. ap not (not-true (caresFor (second .circuit) (answerWord (first .function) w)) (λ e. n (isIn-in (answerWord (first .function) w) (caredFor (second .circuit .inputs) (second .circuit .care)) e)));
+        passes = λ w i h e c. clash (cares-caresFor (second .circuit) (next w) c) (of-not (caresFor (second .circuit) (next w)) e);
+        occurs = λ w i h n. ap not (not-true (caresFor (second .circuit) (next w)) (λ e. n (caresFor-cares (second .circuit) (next w) e)));
       },
-      (
-        record {
-          passes = λ w i h e. ⊎-elim (λ t. inl (ltb-true stageRoom (length (stageBytes first second)) t)) (λ t. inr (ltb-true referenceRoom (length (referenceBytes first second)) t)) (or-cases long long′ e);
-          occurs = λ w i h c. ⊎-elim (λ l. or-left long long′ (lt-ltb stageRoom (length (stageBytes first second)) l)) (λ l. or-right long long′ (lt-ltb referenceRoom (length (referenceBytes first second)) l)) c;
-        },
-        tt,
-      ),
+      (record { passes = λ w i h e. short-says e; occurs = λ w i h s. says-short s }, tt),
     ),
   )
 
   -- where they find nothing, the seam fits
   seam-fits : EachOf Nowhere (joinChecks first second stageRoom referenceRoom)
-      → (length (first .circuit .outputs) ≡ second .circuit .inputs) × ((w : ℕ) → IsWord (first .circuit) w → CaresFor (second .circuit) (answerWord (first .function) w))
+      → (length (first .circuit .outputs) ≡ second .circuit .inputs) × ((w : ℕ) → IsWord (first .circuit) w → CaresFor (second .circuit) (next w))
   unfolding joinChecks
-  seam-fits (a, (b, c)) = (nowhere-equal 22 (length (first .circuit .outputs)) (second .circuit .inputs) a, λ w h. go w h (true? (caresFor (second .circuit) (answerWord (first .function) w))))
+  seam-fits (a, (b, c)) = (nowhere-equal 22 (length (first .circuit .outputs)) (second .circuit .inputs) a, λ w h. go w h (true? (caresFor (second .circuit) (next w))))
     where
-      go : (w : ℕ) → IsWord (first .circuit) w → (caresFor (second .circuit) (answerWord (first .function) w) ≡ true) ⊎ (caresFor (second .circuit) (answerWord (first .function) w) ≡ false)
-          → CaresFor (second .circuit) (answerWord (first .function) w)
-      go w h (inl e) = isIn-in (answerWord (first .function) w) (caredFor (second .circuit .inputs) (second .circuit .care)) e
-      go w h (inr e) = absurd (b w h (0, inl refl, λ i. clash (in-isIn (answerWord (first .function) w) (caredFor (second .circuit .inputs) (second .circuit .care)) i) e))
+      go : (w : ℕ) → IsWord (first .circuit) w → (caresFor (second .circuit) (next w) ≡ true) ⊎ (caresFor (second .circuit) (next w) ≡ false)
+          → CaresFor (second .circuit) (next w)
+      go w h (inl e) = caresFor-cares (second .circuit) (next w) e
+      go w h (inr e) = absurd (b w h (0, inl refl, λ i. clash (cares-caresFor (second .circuit) (next w) i) e))
 
   join-from : (v : Verdict) → Named (joinChecks first second stageRoom referenceRoom) v → 22 ≤ v .number
   unfolding joinChecks
