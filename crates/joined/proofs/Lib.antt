@@ -3,3 +3,4 @@ pub mod Stages
 pub mod References
 pub mod Words
 pub mod Joining
+pub mod Because
