@@ -3,6 +3,8 @@
 //! Each entry says by which number it is expected to be refused (0 if accepted);
 //! file, place and word come from the judge and are stored with the pair.
 
+pub mod joins;
+
 use crate::circuits::{
     dual_rail, kind_named, multiplier, multiplier_reference, reordered, ripple_adder,
     ripple_adder_reference, stage_from_netlist, Products, ReferenceBuilder, Signal, StageBuilder,
@@ -406,6 +408,7 @@ pub fn examples() -> Vec<Example> {
     let mut list = examples_of_document_01();
     list.extend(care_examples());
     list.extend(relaxed_examples());
+    list.extend(joins::parts_and_wholes());
     list
 }
 

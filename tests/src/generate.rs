@@ -5,6 +5,8 @@
 //! fault whose verdict is known by the way they are made, and pairs of which nothing
 //! is known beforehand: mutated circuits, random circuits, damaged bytes.
 
+pub mod joins;
+
 use crate::circuits::{
     dual_rail, kind_named, multiplier, multiplier_reference, reordered, ripple_adder,
     ripple_adder_reference, Products, ReferenceBuilder, StageBuilder,
@@ -1805,6 +1807,16 @@ fn with_relaxed(random: &mut Random, generated: Generated) -> Generated {
     }
 }
 
+/// The gates of an accepted stage are relaxed, one after the other, where it is still accepted.
+fn relax(random: &mut Random, stage: &mut Stage, reference: &Reference) {
+    for gate in random.order(stage.gates.len()) {
+        stage.gates[gate].kind += 128;
+        if check_circuits(stage, reference) != ACCEPTED {
+            stage.gates[gate].kind -= 128;
+        }
+    }
+}
+
 /// An accepted pair of few inputs all of whose gates are relaxed, one after the other, where it
 /// is still accepted; and then perhaps one more.
 fn relaxed_where_it_may(random: &mut Random) -> Generated {
@@ -1818,12 +1830,7 @@ fn relaxed_where_it_may(random: &mut Random) -> Generated {
     if random.chance(1, 4) {
         stage.care = some_list(random, stage.inputs);
     }
-    for gate in random.order(stage.gates.len()) {
-        stage.gates[gate].kind += 128;
-        if check_circuits(&stage, &reference) != ACCEPTED {
-            stage.gates[gate].kind -= 128;
-        }
-    }
+    relax(random, &mut stage, &reference);
     let mut known = Known::Verdict(ACCEPTED);
     if !stage.gates.is_empty() && random.chance(1, 4) {
         let gate = random.below(stage.gates.len());

@@ -3,7 +3,7 @@
 
 use fovaheju_tests::compare::{
     compare_checks, compare_pair, compare_rows, first_difference, lack, run_program, shrink, Check,
-    Difference, Histogram, SettledRow, CHECK_NUMBERS, ROW_NUMBERS,
+    Difference, Histogram, SettledRow, CHECK_NUMBERS, JOIN_NUMBERS, ROW_NUMBERS,
 };
 use fovaheju_tests::files::{as_the_program_reads, unhex, verdict_from_line, FilePair};
 use fovaheju_tests::generate::pair;
@@ -25,14 +25,15 @@ fn the_judge_agrees_with_itself() {
 /// Cases that lack a number, or are nearly all refused, show too little.
 #[test]
 fn a_lack_is_told() {
-    let mut full: Histogram = [9; 22];
-    full[0] = 49;
+    let mut full: Histogram = [9; 25];
+    full[0] = 56;
     assert_eq!(lack(&full, &CHECK_NUMBERS), None);
     assert_eq!(lack(&full, &ROW_NUMBERS), None);
-    for number in 0..22 {
+    assert_eq!(lack(&full, &JOIN_NUMBERS), None);
+    for number in 0..full.len() {
         let mut histogram = full;
         histogram[number] = 0;
-        for numbers in [&CHECK_NUMBERS[..], &ROW_NUMBERS[..]] {
+        for numbers in [&CHECK_NUMBERS[..], &ROW_NUMBERS[..], &JOIN_NUMBERS[..]] {
             assert_eq!(
                 lack(&histogram, numbers).is_some(),
                 numbers.contains(&number)
@@ -40,10 +41,10 @@ fn a_lack_is_told() {
         }
     }
     let mut histogram = full;
-    histogram[0] = 47;
+    histogram[0] = 53;
     assert_eq!(
         lack(&histogram, &CHECK_NUMBERS),
-        Some("only 47 of 236 are accepted".to_string())
+        Some("only 53 of 269 are accepted".to_string())
     );
 }
 
