@@ -1,21 +1,28 @@
 // The join of two stages with their references: output j of the first is tied to input j of the second, and the whole is written into two
 // buffers that the caller lends.
 use netlist::Counts;
+use verdict::Finding;
+use verdict::Verdict;
 ghost use mathlib.Core.Path.{_≡_};
 ghost use mathlib.Core.Bool.{cond};
-ghost use mathlib.Core.List.{map};
+ghost use mathlib.Core.List.{List, map};
 ghost use Prim.Native.Nat.{ℕ, _+_, _*_, _≤_, _<_};
-ghost use lib.ListN.{length};
+ghost use lib.ListN.{length, getD};
 ghost use lib.Dec.{eqb, ltb};
 ghost use Rattle.gates.specs.Cell.{pinCount, kindByte};
 ghost use Rattle.netlist.specs.declared.File.the-variants as file;
 ghost use Rattle.netlist.specs.Bytes.{absent};
 ghost use Rattle.netlist.specs.Writing as writing;
+ghost use Rattle.verdict.specs.Answers.{valuesAt};
+ghost use Rattle.verdict.specs.Checks.{finding};
+ghost use Rattle.joined.specs.Whole.{joinedStage, joinedReference};
+ghost use Rattle.joined.specs.Join.{wordOf, answerWord, caresFor};
 ghost use Rattle.writing.specs.Put.{Put};
 ghost use Rattle.writing.specs.Parts.{gateItem, pairItem, signalItem, bytesOf};
 ghost use Rattle.circuit.specs.Stage.{cellIn, slot, pinIn, gateIn, stageGates, stageOutputs, stageCare, stageIn, StageLoaded};
 ghost use Rattle.circuit.specs.Reference.{operatorIn, operatorsIn, signalsIn, referenceIn, ReferenceLoaded};
 ghost use Rattle.join.specs.Moved.{netMoved, gateMoved, pairMoved, StageMoves, signalMoved, operationMoved, ReferenceMoves};
+ghost use Rattle.join.specs.Seam.{Few, uncaredCheck};
 
 // Where a part stands in the whole: how many of its inputs are outputs of the first part, and where its other nets, or signals, start.
 pub struct Move {
@@ -254,4 +261,150 @@ fn put_signals(
         writing::put_reference_output(buffer, at + 3 * j, signal);
         j += 1;
     }
+}
+
+// ---- the two files of the whole
+
+// How many bytes the joined stage takes.
+fn stage_length(sizes: Counts, counts: Counts) -> usize
+    requires { ⌜ Few sizes × Few counts ⌝ }
+    ensures { λ r. ⌜ ((first second : List ℕ) → r ≡ length (writing.writeStage (joinedStage (stageIn sizes first) (stageIn counts second)))) ⌝ }
+{
+    3 + 3 * sizes.care + 10 * (sizes.gates + counts.gates) + 5 * counts.outputs
+}
+
+// How many bytes the joined reference takes.
+fn reference_length(sizes: Counts, counts: Counts) -> usize
+    requires { ⌜ Few sizes × Few counts ⌝ }
+    ensures { λ r. ⌜ ((first second : List ℕ) → r ≡ length (writing.writeReference (joinedReference (referenceIn sizes first) (referenceIn counts second)))) ⌝ }
+{
+    3 + 6 * (sizes.gates + counts.gates) + 3 * counts.outputs
+}
+
+// The joined stage, from the start of a buffer: inputs, the first part's care words, gates (first part first), the second's outputs, end.
+fn put_stage(buffer: &mut [u8], first: &[u16], sizes: Counts, second: &[u16], counts: Counts)
+    requires { ⌜ StageLoaded sizes (now first) × StageLoaded counts (now second) × (counts .inputs ≡ sizes .outputs)
+        × (length (writing.writeStage (joinedStage (stageIn sizes (now first)) (stageIn counts (now second)))) ≤ length (now buffer)) ⌝ }
+    ensures { λ _. ⌜ Put (now (buffer .entry)) 0 (writing.writeStage (joinedStage (stageIn sizes (now (first .entry))) (stageIn counts (now (second .entry)))))
+        (now (buffer .exit)) ⌝ }
+{
+    let stays = Move {
+        inputs: 0,
+        start: 0,
+    };
+    let moved = Move {
+        inputs: counts.inputs,
+        start: 2 * sizes.inputs + sizes.gates,
+    };
+    let gates = 2 + 3 * sizes.care;
+    let others = gates + 10 * sizes.gates;
+    let outputs = others + 10 * counts.gates;
+    let end = outputs + 5 * counts.outputs;
+    writing::put_inputs(buffer, 0, sizes.inputs);
+    put_care_words(buffer, 2, first, sizes);
+    put_gates(buffer, gates, first, sizes, first, sizes, stays);
+    put_gates(buffer, others, second, counts, first, sizes, moved);
+    put_outputs(buffer, outputs, second, counts, first, sizes, moved);
+    writing::put_end(buffer, end);
+}
+
+// The joined reference, from the start of a buffer.
+fn put_reference(buffer: &mut [u8], first: &[u16], sizes: Counts, second: &[u16], counts: Counts)
+    requires { ⌜ ReferenceLoaded sizes (now first) × ReferenceLoaded counts (now second) × (counts .inputs ≡ sizes .outputs)
+        × (length (writing.writeReference (joinedReference (referenceIn sizes (now first)) (referenceIn counts (now second)))) ≤ length (now buffer)) ⌝ }
+    ensures { λ _. ⌜ Put (now (buffer .entry)) 0 (writing.writeReference (joinedReference (referenceIn sizes (now (first .entry))) (referenceIn counts (now
+        (second .entry))))) (now (buffer .exit)) ⌝ }
+{
+    let stays = Move {
+        inputs: 0,
+        start: 0,
+    };
+    let moved = Move {
+        inputs: counts.inputs,
+        start: sizes.inputs + sizes.gates,
+    };
+    let others = 2 + 6 * sizes.gates;
+    let outputs = others + 6 * counts.gates;
+    let end = outputs + 3 * counts.outputs;
+    writing::put_inputs(buffer, 0, sizes.inputs);
+    put_operations(buffer, 2, first, sizes, first, sizes, stays);
+    put_operations(buffer, others, second, counts, first, sizes, moved);
+    put_signals(buffer, outputs, second, counts, first, sizes, moved);
+    writing::put_end(buffer, end);
+}
+
+// ---- 23: words whose answer the second part does not care for
+
+// The word that the outputs of a reference spell, from the values of its signals: output j is bit j.
+fn spelled(reference: &[u16], sizes: Counts, values: &[u8]) -> usize
+    requires { ⌜ ReferenceLoaded sizes (now reference) × (sizes .inputs + sizes .gates ≤ length (now values)) × ((i : ℕ) → getD (now values) i 0 ≤ 1) ⌝ }
+    ensures { λ r. ⌜ r ≡ wordOf (valuesAt (now (values .entry)) (signalsIn sizes (now (reference .entry)))) ⌝ }
+{
+    let from = 3 * sizes.gates;
+    let mut word: usize = 0;
+    let mut j = sizes.outputs;
+    while 0 < j {
+        j -= 1;
+        let signal = reference[from + j] as usize;
+        word = values[signal] as usize + 2 * word;
+    }
+    word
+}
+
+// The reference's answer to word w, as a word.
+fn answer_word(reference: &[u16], sizes: Counts, w: usize) -> usize
+    requires { ⌜ ReferenceLoaded sizes (now reference) ⌝ }
+    ensures { λ r. ⌜ r ≡ answerWord (referenceIn sizes (now (reference .entry))) w ⌝ }
+{
+    let mut values = [0u8; words::SIGNALS];
+    words::word_bits(w, &mut values);
+    circuit::signal_values(reference, sizes, &mut values);
+    spelled(reference, sizes, &values)
+}
+
+// Whether a stage cares for word w.
+fn cares_for(code: &[u16], counts: Counts, w: usize) -> bool
+    requires { ⌜ StageLoaded counts (now code) ⌝ }
+    ensures { λ r. ⌜ r ≡ caresFor (stageIn counts (now (code .entry))) w ⌝ }
+{
+    let count = sweeps::word_count(counts);
+    let mut k: usize = 0;
+    while k < count {
+        if sweeps::word_at(code, counts, k) as usize == w {
+            return true;
+        }
+        k += 1;
+    }
+    false
+}
+
+// The least word of the first part whose answer the second does not care for.
+fn uncared(
+    first: &[u16],
+    counts: Counts,
+    reference: &[u16],
+    sizes: Counts,
+    second: &[u16],
+    others: Counts,
+) -> Finding
+    requires { ⌜ StageLoaded counts (now first) × ReferenceLoaded sizes (now reference) × StageLoaded others (now second) ⌝ }
+    ensures { λ r. ⌜ r ≡ finding (uncaredCheck (stageIn counts (now (first .entry))) (referenceIn sizes (now (reference .entry))) (stageIn others (now
+        (second .entry)))) ⌝ }
+{
+    let count = sweeps::word_count(counts);
+    let mut k: usize = 0;
+    while k < count {
+        let w = sweeps::word_at(first, counts, k) as usize;
+        if cares_for(second, others, answer_word(reference, sizes, w)) {
+            k += 1;
+        } else {
+            return Finding::Fault(Verdict {
+                number: 23,
+                file: 0,
+                at: 0,
+                word: w as u64,
+            });
+        }
+    }
+    Finding::Passed
 }
