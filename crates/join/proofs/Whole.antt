@@ -78,6 +78,28 @@ reference-long first second = omega (
   length-map (second .outputs) (signalInWhole first second),
 )
 
+module _ (sizes : Counts) (first : List ℕ) (counts : Counts) (second : List ℕ) where
+  pub stage-long-in : length (writeStage (joinedStage (stageIn sizes first) (stageIn counts second)))
+      ≡ 3 + 3 * sizes .care + 10 * (sizes .gates + counts .gates) + 5 * counts .outputs
+  stage-long-in = omega (
+    arith,
+    stage-long (stageIn sizes first) (stageIn counts second),
+    care-count sizes first,
+    gates-count sizes first,
+    gates-count counts second,
+    outputs-count counts second,
+  )
+
+  pub reference-long-in : length (writeReference (joinedReference (referenceIn sizes first) (referenceIn counts second)))
+      ≡ 3 + 6 * (sizes .gates + counts .gates) + 3 * counts .outputs
+  reference-long-in = omega (
+    arith,
+    reference-long (referenceIn sizes first) (referenceIn counts second),
+    operators-count sizes first,
+    operators-count counts second,
+    signals-count counts second,
+  )
+
 -- ---- moves
 
 module _ (first : Stage) (m : Move) where
@@ -133,12 +155,12 @@ pub record StagePlaces (first second : Stage) (p1 p2 p3 p4 p5 : ℕ) : Type 0 wh
   pub end : p5 ≡ p4 + 5 * length (second .outputs)
 
 module _ (first second : Stage) {b0 b1 b2 b3 b4 b5 b6 : List ℕ} {p1 p2 p3 p4 p5 : ℕ} where
-  pub stage-put : StagePlaces first second p1 p2 p3 p4 p5 → Put b0 0 (0x01 ∷ first .inputs ∷ []) b1 → Put b1 p1 (bytesOf file.Stage care (first .care)) b2 →
+  pub stage-put : Put b0 0 (0x01 ∷ first .inputs ∷ []) b1 → Put b1 p1 (bytesOf file.Stage care (first .care)) b2 →
       Put b2 p2 (bytesOf file.Stage gateItem (first .gates)) b3 → Put b3 p3 (bytesOf file.Stage gateItem (map (gateInWhole first second) (second .gates))) b4 →
       Put b4 p4 (bytesOf file.Stage pairItem (map (pairInWhole first second) (second .outputs))) b5 → Put b5 p5 (0x00 ∷ []) b6 →
-      Put b0 0 (writeStage (joinedStage first second)) b6
+      StagePlaces first second p1 p2 p3 p4 p5 → Put b0 0 (writeStage (joinedStage first second)) b6
   unfolding joinedStage
-  stage-put at a b c d e f =
+  stage-put a b c d e f at =
       let cares = bytesOf file.Stage care (first .care) in
       let gates = bytesOf file.Stage gateItem (first .gates) in
       let others = bytesOf file.Stage gateItem (map (gateInWhole first second) (second .gates)) in
@@ -164,12 +186,12 @@ pub record ReferencePlaces (first second : Reference) (p1 p2 p3 p4 : ℕ) : Type
   pub end : p4 ≡ p3 + 3 * length (second .outputs)
 
 module _ (first second : Reference) {b0 b1 b2 b3 b4 b5 : List ℕ} {p1 p2 p3 p4 : ℕ} where
-  pub reference-put : ReferencePlaces first second p1 p2 p3 p4 → Put b0 0 (0x01 ∷ first .inputs ∷ []) b1 → Put b1 p1 (bytesOf file.Reference gate (first .gates)) b2 →
+  pub reference-put : Put b0 0 (0x01 ∷ first .inputs ∷ []) b1 → Put b1 p1 (bytesOf file.Reference gate (first .gates)) b2 →
       Put b2 p2 (bytesOf file.Reference gate (map (operationInWhole first second) (second .gates))) b3 →
       Put b3 p3 (bytesOf file.Reference signalItem (map (signalInWhole first second) (second .outputs))) b4 → Put b4 p4 (0x00 ∷ []) b5 →
-      Put b0 0 (writeReference (joinedReference first second)) b5
+      ReferencePlaces first second p1 p2 p3 p4 → Put b0 0 (writeReference (joinedReference first second)) b5
   unfolding joinedReference
-  reference-put at a c d e f =
+  reference-put a c d e f at =
       let gates = bytesOf file.Reference gate (first .gates) in
       let others = bytesOf file.Reference gate (map (operationInWhole first second) (second .gates)) in
       let outputs = bytesOf file.Reference signalItem (map (signalInWhole first second) (second .outputs)) in

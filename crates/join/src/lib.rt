@@ -1,28 +1,32 @@
 // The join of two stages with their references: output j of the first is tied to input j of the second, and the whole is written into two
 // buffers that the caller lends.
 use netlist::Counts;
+use netlist::Outcome;
 use verdict::Finding;
 use verdict::Verdict;
 ghost use mathlib.Core.Path.{_≡_};
 ghost use mathlib.Core.Bool.{cond};
 ghost use mathlib.Core.List.{List, map};
-ghost use Prim.Native.Nat.{ℕ, _+_, _*_, _≤_, _<_};
+ghost use Prim.Native.Nat.{ℕ, _+_, _*_, _^_, _≤_, _<_};
 ghost use lib.ListN.{length, getD};
 ghost use lib.Dec.{eqb, ltb};
 ghost use Rattle.gates.specs.Cell.{pinCount, kindByte};
 ghost use Rattle.netlist.specs.declared.File.the-variants as file;
 ghost use Rattle.netlist.specs.Bytes.{absent};
+ghost use Rattle.netlist.specs.Reading.{readFile, stageLimits, referenceLimits, partStageLimits, partReferenceLimits, Within};
 ghost use Rattle.netlist.specs.Writing as writing;
 ghost use Rattle.verdict.specs.Answers.{valuesAt};
 ghost use Rattle.verdict.specs.Checks.{finding};
+ghost use Rattle.verdict.specs.Verdicts.{accepted, verdictWithin};
 ghost use Rattle.joined.specs.Whole.{joinedStage, joinedReference};
-ghost use Rattle.joined.specs.Join.{wordOf, answerWord, caresFor};
+ghost use Rattle.joined.specs.Join.{files, stageRead, referenceRead, wordOf, answerWord, caresFor};
+ghost use Rattle.joined.specs.Demand.{JoinKept, JoinBecause};
 ghost use Rattle.writing.specs.Put.{Put};
 ghost use Rattle.writing.specs.Parts.{gateItem, pairItem, signalItem, bytesOf};
 ghost use Rattle.circuit.specs.Stage.{cellIn, slot, pinIn, gateIn, stageGates, stageOutputs, stageCare, stageIn, StageLoaded};
 ghost use Rattle.circuit.specs.Reference.{operatorIn, operatorsIn, signalsIn, referenceIn, ReferenceLoaded};
 ghost use Rattle.join.specs.Moved.{netMoved, gateMoved, pairMoved, StageMoves, signalMoved, operationMoved, ReferenceMoves};
-ghost use Rattle.join.specs.Seam.{Few, uncaredCheck};
+ghost use Rattle.join.specs.Call.{uncaredCheck, answerWith, joinOn, joinParts, partOf, partLoaded, PartsLoaded, Leaves};
 
 // Where a part stands in the whole: how many of its inputs are outputs of the first part, and where its other nets, or signals, start.
 pub struct Move {
@@ -267,7 +271,7 @@ fn put_signals(
 
 // How many bytes the joined stage takes.
 fn stage_length(sizes: Counts, counts: Counts) -> usize
-    requires { ⌜ Few sizes × Few counts ⌝ }
+    requires { ⌜ Within stageLimits sizes × Within stageLimits counts × (sizes .care ≤ 0x10000) ⌝ }
     ensures { λ r. ⌜ ((first second : List ℕ) → r ≡ length (writing.writeStage (joinedStage (stageIn sizes first) (stageIn counts second)))) ⌝ }
 {
     3 + 3 * sizes.care + 10 * (sizes.gates + counts.gates) + 5 * counts.outputs
@@ -275,7 +279,7 @@ fn stage_length(sizes: Counts, counts: Counts) -> usize
 
 // How many bytes the joined reference takes.
 fn reference_length(sizes: Counts, counts: Counts) -> usize
-    requires { ⌜ Few sizes × Few counts ⌝ }
+    requires { ⌜ Within referenceLimits sizes × Within referenceLimits counts ⌝ }
     ensures { λ r. ⌜ ((first second : List ℕ) → r ≡ length (writing.writeReference (joinedReference (referenceIn sizes first) (referenceIn counts second)))) ⌝ }
 {
     3 + 6 * (sizes.gates + counts.gates) + 3 * counts.outputs
@@ -407,4 +411,212 @@ fn uncared(
         }
     }
     Finding::Passed
+}
+
+// ---- the call
+
+// The verdict of the join, and how many bytes it wrote into each of the two buffers. Laid out as C does: the C function of crate `fovaheju`
+// answers one.
+#[repr(C)]
+pub struct JoinAnswer {
+    pub verdict: Verdict,
+    pub stage_count: u64,
+    pub reference_count: u64,
+}
+
+// The counts of the four files.
+pub struct Sizes {
+    pub stage1: Counts,
+    pub reference1: Counts,
+    pub stage2: Counts,
+    pub reference2: Counts,
+}
+
+// A refusal: neither buffer is written.
+fn refusal(verdict: Verdict) -> JoinAnswer
+    ensures { λ r. ⌜ r ≡ answerWith verdict 0 0 ⌝ }
+{
+    JoinAnswer {
+        verdict,
+        stage_count: 0,
+        reference_count: 0,
+    }
+}
+
+// Reads and loads the stage of a part; what cannot be read counts for nothing.
+fn load_part(s: &[u8], code: &mut [u16]) -> Counts
+    requires { ⌜ 8 * stageLimits .gates + 2 * stageLimits .outputs + 2 ^ stageLimits .inputs ≤ length (now code) ⌝ }
+    ensures { λ r. ⌜ StageLoaded r (now (code .exit)) × (stageIn r (now (code .exit)) ≡ stageRead (now (s .entry)) (readFile file.Stage partStageLimits (now (s .entry)))) ⌝ }
+{
+    match load::read_stage_within(s, netlist::part_stage_limits(), code) {
+        Outcome::Readable(counts) => counts,
+        Outcome::Refused { number: _, at: _ } => Counts {
+            inputs: 0,
+            gates: 0,
+            outputs: 0,
+            care: 0,
+            floor: 0,
+        },
+    }
+}
+
+// The same of a part's reference.
+fn load_function(s: &[u8], code: &mut [u16]) -> Counts
+    requires { ⌜ 3 * referenceLimits .gates + referenceLimits .outputs ≤ length (now code) ⌝ }
+    ensures { λ r. ⌜ ReferenceLoaded r (now (code .exit)) × (referenceIn r (now (code .exit)) ≡ referenceRead (now (s .entry)) (readFile file.Reference
+        partReferenceLimits (now (s .entry)))) ⌝ }
+{
+    match load::read_reference_within(s, netlist::part_reference_limits(), code) {
+        Outcome::Readable(counts) => counts,
+        Outcome::Refused { number: _, at: _ } => Counts {
+            inputs: 0,
+            gates: 0,
+            outputs: 0,
+            care: 0,
+            floor: 0,
+        },
+    }
+}
+
+// 22, 23, 24, or the whole: two parts that were loaded, and buffers for their join. Both lengths are looked at before a byte is written.
+fn join_loaded(
+    stage1: &[u16],
+    reference1: &[u16],
+    stage2: &[u16],
+    reference2: &[u16],
+    sizes: Sizes,
+    stage_out: &mut [u8],
+    reference_out: &mut [u8],
+) -> JoinAnswer
+    requires { ⌜ PartsLoaded sizes (now stage1) (now reference1) (now stage2) (now reference2) ⌝ }
+    ensures { λ r. ⌜ Leaves (joinParts (partLoaded (sizes .stage1) (now (stage1 .entry)) (sizes .reference1) (now (reference1 .entry))) (partLoaded (sizes .stage2)
+        (now (stage2 .entry)) (sizes .reference2) (now (reference2 .entry))) (length (now («stage_out» .entry))) (length (now («reference_out» .entry)))) r
+        (now («stage_out» .entry)) (now («reference_out» .entry)) (now («stage_out» .exit)) (now («reference_out» .exit)) ⌝ }
+{
+    let first = sizes.stage1;
+    let function = sizes.reference1;
+    let second = sizes.stage2;
+    let others = sizes.reference2;
+    if first.outputs != second.inputs {
+        return refusal(Verdict {
+            number: 22,
+            file: 0,
+            at: first.outputs as u64,
+            word: second.inputs as u64,
+        });
+    }
+    if let Finding::Fault(v) = uncared(stage1, first, reference1, function, stage2, second) {
+        return refusal(v);
+    }
+    let stage_count = stage_length(first, second);
+    let reference_count = reference_length(function, others);
+    if stage_out.len() < stage_count {
+        return refusal(Verdict {
+            number: 24,
+            file: 3,
+            at: 0,
+            word: 0,
+        });
+    }
+    if reference_out.len() < reference_count {
+        return refusal(Verdict {
+            number: 24,
+            file: 3,
+            at: 0,
+            word: 0,
+        });
+    }
+    put_stage(stage_out, stage1, first, stage2, second);
+    put_reference(reference_out, reference1, function, reference2, others);
+    JoinAnswer {
+        verdict: Verdict {
+            number: 0,
+            file: 0,
+            at: 0,
+            word: 0,
+        },
+        stage_count: stage_count as u64,
+        reference_count: reference_count as u64,
+    }
+}
+
+// The join of two parts that are accepted.
+fn join_accepted(
+    stage1: &[u8],
+    reference1: &[u8],
+    stage2: &[u8],
+    reference2: &[u8],
+    stage_out: &mut [u8],
+    reference_out: &mut [u8],
+) -> JoinAnswer
+    requires { ⌜ (verdictWithin partStageLimits partReferenceLimits (now stage1) (now reference1) ≡ accepted) × (verdictWithin partStageLimits partReferenceLimits
+        (now stage2) (now reference2) ≡ accepted) ⌝ }
+    ensures { λ r. ⌜ Leaves (joinParts (partOf (now (stage1 .entry)) (now (reference1 .entry))) (partOf (now (stage2 .entry)) (now (reference2 .entry)))
+        (length (now («stage_out» .entry))) (length (now («reference_out» .entry)))) r (now («stage_out» .entry)) (now («reference_out» .entry))
+        (now («stage_out» .exit)) (now («reference_out» .exit)) ⌝ }
+{
+    let mut first = [0u16; load::STAGE_CODE];
+    let mut function = [0u16; load::REFERENCE_CODE];
+    let mut second = [0u16; load::STAGE_CODE];
+    let mut others = [0u16; load::REFERENCE_CODE];
+    let sizes = Sizes {
+        stage1: load_part(stage1, &mut first),
+        reference1: load_function(reference1, &mut function),
+        stage2: load_part(stage2, &mut second),
+        reference2: load_function(reference2, &mut others),
+    };
+    join_loaded(
+        &first,
+        &function,
+        &second,
+        &others,
+        sizes,
+        stage_out,
+        reference_out,
+    )
+}
+
+// The join of two stages with their references into two buffers. A part's own refusal is passed on, first part first, the second's with 3
+// added to its file; 22, 23 and 24 follow.
+pub fn join(
+    stage1: &[u8],
+    reference1: &[u8],
+    stage2: &[u8],
+    reference2: &[u8],
+    stage_out: &mut [u8],
+    reference_out: &mut [u8],
+) -> JoinAnswer
+    ensures answer { λ r. ⌜ Leaves (joinOn (now (stage1 .entry)) (now (reference1 .entry)) (now (stage2 .entry)) (now (reference2 .entry))
+        (length (now («stage_out» .entry))) (length (now («reference_out» .entry)))) r (now («stage_out» .entry)) (now («reference_out» .entry))
+        (now («stage_out» .exit)) (now («reference_out» .exit)) ⌝ }
+    ensures kept { λ r. ⌜ JoinKept stageLimits referenceLimits (partOf (now (stage1 .entry)) (now (reference1 .entry))) (partOf (now (stage2 .entry)) (now
+        (reference2 .entry))) (joinOn (now (stage1 .entry)) (now (reference1 .entry)) (now (stage2 .entry)) (now (reference2 .entry)) (length (now
+        («stage_out» .entry))) (length (now («reference_out» .entry)))) ⌝ }
+    ensures because { λ r. ⌜ JoinBecause partStageLimits partReferenceLimits (files (now (stage1 .entry)) (now (reference1 .entry))) (files (now
+        (stage2 .entry)) (now (reference2 .entry))) (length (now («stage_out» .entry))) (length (now («reference_out» .entry))) (joinOn (now (stage1 .entry))
+        (now (reference1 .entry)) (now (stage2 .entry)) (now (reference2 .entry)) (length (now («stage_out» .entry))) (length (now («reference_out» .entry)))) ⌝ }
+{
+    let most = netlist::part_stage_limits();
+    let reference_most = netlist::part_reference_limits();
+    let first = checker::check_within(stage1, reference1, most, reference_most);
+    if first.number != 0 {
+        return refusal(first);
+    }
+    let second = checker::check_within(stage2, reference2, most, reference_most);
+    if second.number != 0 {
+        return refusal(Verdict {
+            number: second.number,
+            file: second.file + 3,
+            at: second.at,
+            word: second.word,
+        });
+    }
+    join_accepted(
+        stage1,
+        reference1,
+        stage2,
+        reference2,
+        stage_out,
+        reference_out,
+    )
 }

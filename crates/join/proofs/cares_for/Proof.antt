@@ -1,51 +1,50 @@
+-- `join::cares_for` meets its contract. The loop's invariant: the words before word k are others. Assumes nothing.
+use Prim.Native.Nat.{_-_}
+use native.Mathlib.Omega.{arith}
+use mathlib.Core.Path.{refl}
+use denote.Ref.{now}
+use Rattle.verdict.specs.Words.{words}
+use Rattle.circuit.specs.Stage.{stageIn}
+use Rattle.join.proofs.Answers.{LookedTo, looked-here, looked-on, looked-none, cares}
+use borrow.Author.Needs.{needs}
 use Rattle.join.proofs.cares_for.Statement.{statement}
 use Rattle.join.proofs.cares_for.Tie as tie
-use Rattle.join.proofs.cares_for.Reads as reads
-use Rattle.join.proofs.cares_for.Lts as lts
-use Rattle.sweeps.proofs.word_at.Reads as word-at-reads
-use Rattle.sweeps.proofs.word_count.Reads as word-count-reads
 
 abbrev Inv-loop : tie.InvT-loop
-Inv-loop code counts w count k₀ k = ?
+Inv-loop code counts w count k₀ k = LookedTo w (words (stageIn counts code)) k
 
 abbrev μ-loop : tie.MeasureT-loop
-μ-loop code counts w count k₀ k = ?
+μ-loop code counts w count k₀ k = count - k
 
--- src/lib.rt:370:9
 word-count-requires : tie.Need-word-count-requires Inv-loop μ-loop
-word-count-requires c κs = ?
+word-count-requires c κs = c .before .pre .within .inputs-in
 
--- src/lib.rt:372:5
 loop-holds : tie.Need-loop-holds Inv-loop μ-loop
-loop-holds c = ?
+loop-holds c = refl
 
--- src/lib.rt:373:12
 word-at-requires : tie.Need-word-at-requires Inv-loop μ-loop
-word-at-requires c κs = ?
+word-at-requires c κs = let z = c .before .before .before .before in (z .pre, omega (arith, c .before .before .word-count .ensures (now (z .args .code))))
 
--- src/lib.rt:373:12
-cast-if1 : tie.Need-cast-if1 Inv-loop μ-loop
-cast-if1 c = ?
-
--- src/lib.rt:374:13
 returns : tie.Need-returns Inv-loop μ-loop
-returns c = ?
+returns c =
+    let z = c .before .before .before .before .before .before in
+    let s = stageIn (z .args .counts) (now (z .args .code)) in
+    let l = c .before .before .before .loop in
+    cares s (z .args .w) _ (looked-here (z .args .w) (words s) (l .k) (l .inv) (omega (arith, c .before .before .before .before .word-count .ensures (now (z .args .code)))) _ (c .before .word-at .ensures) (c .if1 .taken))
 
--- src/lib.rt:376:9
-add-k : tie.Need-add-k Inv-loop μ-loop
-add-k c = ?
-
--- src/lib.rt:372:5
-loop-less : tie.Need-loop-less Inv-loop μ-loop
-loop-less c = ?
-
--- src/lib.rt:372:5
 loop-again : tie.Need-loop-again Inv-loop μ-loop
-loop-again c = ?
+loop-again c =
+    let z = c .before .before .before .before .before .before in
+    let s = stageIn (z .args .counts) (now (z .args .code)) in
+    let l = c .before .before .before .loop in
+    looked-on (z .args .w) (words s) (l .k) (l .inv) (omega (arith, c .before .before .before .before .word-count .ensures (now (z .args .code)))) _ (c .before .word-at .ensures) (c .if1 .left)
 
--- src/lib.rt:366:1
 returns-2 : tie.Need-returns-2 Inv-loop μ-loop
-returns-2 c = ?
+returns-2 c =
+    let z = c .before .before .before .before in
+    let s = stageIn (z .args .counts) (now (z .args .code)) in
+    let l = c .before .loop in
+    cares s (z .args .w) _ (looked-none (z .args .w) (words s) (l .k) (l .inv) (omega (arith, c .before .before .word-count .ensures (now (z .args .code)))))
 
 pub cares-for-spec : {M : Type 1} → statement M
 cares-for-spec =
@@ -56,9 +55,9 @@ cares-for-spec =
     word-count-requires
     loop-holds
     word-at-requires
-    cast-if1
+    (λ c. search needs)
     returns
-    add-k
-    loop-less
+    (λ c. search needs)
+    (λ c. search needs)
     loop-again
     returns-2)

@@ -1,69 +1,59 @@
+-- `join::spelled` meets its contract. The loop's invariant: the outputs from output j on spell `word`. Assumes nothing.
+use Prim.Native.Nat.{ℕ, _+_, _-_, _*_, _≤_}
+use native.Mathlib.Omega.{arith}
+use mathlib.Core.Path.{_≡_, ap, _∙_}
+use lib.ListN.{getD}
+use denote.Ref.{now}
+use Rattle.circuit.specs.Reference.{signalsIn}
+use Rattle.join.proofs.Answers.{wordFrom, word-none, word-few, word-more}
+use borrow.Author.Needs.{needs}
 use Rattle.join.proofs.spelled.Statement.{statement}
 use Rattle.join.proofs.spelled.Tie as tie
-use Rattle.join.proofs.spelled.Reads as reads
-use Rattle.join.proofs.spelled.Lts as lts
 
 abbrev Inv-loop : tie.InvT-loop
-Inv-loop reference values from word₀ j₀ word j = ?
+Inv-loop reference values from word₀ j₀ word j =
+    (j ≤ j₀) × (word ≡ wordFrom (λ v. getD values v 0) (λ i. getD reference (from + i) 0) j₀ j)
 
 abbrev μ-loop : tie.MeasureT-loop
-μ-loop reference values from word₀ j₀ word j = ?
+μ-loop reference values from word₀ j₀ word j = j
 
--- src/lib.rt:343:16
-mul-from : tie.Need-mul-from Inv-loop μ-loop
-mul-from c = ?
-
--- src/lib.rt:346:5
 loop-holds : tie.Need-loop-holds Inv-loop μ-loop
-loop-holds c = ?
+loop-holds c = let z = c .before in (omega arith, word-none (λ v. getD (now (z .args .values)) v 0) (λ i. getD (now (z .args .reference)) (3 * z .args .sizes .gates + i) 0) (z .args .sizes .outputs))
 
--- src/lib.rt:347:9
-sub-j : tie.Need-sub-j Inv-loop μ-loop
-sub-j c = ?
-
--- src/lib.rt:348:32
-add-signal : tie.Need-add-signal Inv-loop μ-loop
-add-signal c = ?
-
--- src/lib.rt:348:22
-mul-signal : tie.Need-mul-signal Inv-loop μ-loop
-mul-signal c = ?
-
--- src/lib.rt:348:22
 shared-slice-read-signal : tie.Need-shared-slice-read-signal Inv-loop μ-loop
-shared-slice-read-signal c = ?
+shared-slice-read-signal c = omega (arith, c .before .before .before .before .pre .0 .room)
 
--- src/lib.rt:348:22
-cast-signal : tie.Need-cast-signal Inv-loop μ-loop
-cast-signal c = ?
-
--- src/lib.rt:349:16
 shared-slice-read-word : tie.Need-shared-slice-read-word Inv-loop μ-loop
-shared-slice-read-word c = ?
+shared-slice-read-word c = let z = c .before .before .before .before .before in omega (arith, z .pre .0 .signal (c .before .before .before .loop .j - 1) (omega arith), z .pre .1)
 
--- src/lib.rt:349:16
 cast-word : tie.Need-cast-word Inv-loop μ-loop
-cast-word c = ?
+cast-word c = omega (arith, c .before .before .before .before .before .pre .2 _)
 
--- src/lib.rt:349:42
 mul-word : tie.Need-mul-word Inv-loop μ-loop
-mul-word c = ?
+mul-word c =
+    let z = c .before .before .before .before .before in
+    let l = c .before .before .before .loop in
+    omega (arith, l .inv .1, word-few (λ v. getD (now (z .args .values)) v 0) (λ i. getD (now (z .args .reference)) (3 * z .args .sizes .gates + i) 0) (z .args .sizes .outputs) (l .j) (z .pre .2) (omega (arith, z .pre .0 .within .outputs-in)))
 
--- src/lib.rt:349:16
 add-word : tie.Need-add-word Inv-loop μ-loop
-add-word c = ?
+add-word c =
+    let z = c .before .before .before .before .before in
+    let l = c .before .before .before .loop in
+    omega (arith, z .pre .2 (getD (now (z .args .reference)) (3 * z .args .sizes .gates + (l .j - 1)) 0), l .inv .1, word-few (λ v. getD (now (z .args .values)) v 0) (λ i. getD (now (z .args .reference)) (3 * z .args .sizes .gates + i) 0) (z .args .sizes .outputs) (l .j) (z .pre .2) (omega (arith, z .pre .0 .within .outputs-in)))
 
--- src/lib.rt:346:5
-loop-less : tie.Need-loop-less Inv-loop μ-loop
-loop-less c = ?
-
--- src/lib.rt:346:5
 loop-again : tie.Need-loop-again Inv-loop μ-loop
-loop-again c = ?
+loop-again c =
+    let z = c .before .before .before .before .before in
+    let l = c .before .before .before .loop in
+    (omega arith, word-more (λ v. getD (now (z .args .values)) v 0) (λ i. getD (now (z .args .reference)) (3 * z .args .sizes .gates + i) 0) (z .args .sizes .outputs) (l .j) (l .word) (omega arith) (l .inv .0) (l .inv .1))
 
--- src/lib.rt:339:1
 returns : tie.Need-returns Inv-loop μ-loop
-returns c = ?
+unfolding signalsIn
+returns c =
+    let z = c .before .before .before in
+    let l = c .before .loop in
+    let e : l .j ≡ 0 = omega arith in
+    l .inv .1 ∙ ap (wordFrom (λ v. getD (now (z .args .values)) v 0) (λ i. getD (now (z .args .reference)) (3 * z .args .sizes .gates + i) 0) (z .args .sizes .outputs)) e
 
 pub spelled-spec : {M : Type 1} → statement M
 spelled-spec =
@@ -71,17 +61,17 @@ spelled-spec =
     (tie.spec
     Inv-loop
     μ-loop
-    mul-from
+    (λ c. search needs)
     loop-holds
-    sub-j
-    add-signal
-    mul-signal
+    (λ c. search needs)
+    (λ c. search needs)
+    (λ c. search needs)
     shared-slice-read-signal
-    cast-signal
+    (λ c. search needs)
     shared-slice-read-word
     cast-word
     mul-word
     add-word
-    loop-less
+    (λ c. search needs)
     loop-again
     returns)
