@@ -57,8 +57,8 @@ module _ (value : ℕ → ℕ) where
   word-more signal m j word pos most e =
       let s : suc (j - 1) ≡ j = omega arith in
       let d : drop (j - 1) (tabulate signal m) ≡ signal (j - 1) ∷ drop j (tabulate signal m) =
-          drop-cons (tabulate signal m) (j - 1) 0 (omega (arith, length-tabulate signal m))
-          ∙ ap₂ (λ (v i : ℕ). v ∷ drop i (tabulate signal m)) (getD-tabulate signal m (j - 1) 0 (omega arith)) s in
+      drop-cons (tabulate signal m) (j - 1) 0 (omega (arith, length-tabulate signal m))
+      ∙ ap₂ (λ (v i : ℕ). v ∷ drop i (tabulate signal m)) (getD-tabulate signal m (j - 1) 0 (omega arith)) s in
       rw d (ap (λ (n : ℕ). value (signal (j - 1)) + 2 * n) e)
 
 -- ---- the answer of a reference

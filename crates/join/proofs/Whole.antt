@@ -166,10 +166,10 @@ module _ (first second : Stage) {b0 b1 b2 b3 b4 b5 b6 : List ℕ} {p1 p2 p3 p4 p
       let others = bytesOf file.Stage gateItem (map (gateInWhole first second) (second .gates)) in
       let outputs = bytesOf file.Stage pairItem (map (pairInWhole first second) (second .outputs)) in
       let whole : writeStage (joinedStage first second) ≡ (0x01 ∷ first .inputs ∷ []) ++ (cares ++ (gates ++ (others ++ (outputs ++ (0x00 ∷ []))))) =
-          stage-parts (joinedStage first second)
-          ∙ ap (λ (l : List ℕ). (0x01 ∷ first .inputs ∷ []) ++ (cares ++ l))
-          (ap (λ (l : List ℕ). l ++ (outputs ++ (0x00 ∷ []))) (bytes-++ file.Stage gateItem (first .gates) (map (gateInWhole first second) (second .gates)))
-          ∙ append-assoc gates others (outputs ++ (0x00 ∷ []))) in
+      stage-parts (joinedStage first second)
+      ∙ ap (λ (l : List ℕ). (0x01 ∷ first .inputs ∷ []) ++ (cares ++ l))
+      (ap (λ (l : List ℕ). l ++ (outputs ++ (0x00 ∷ []))) (bytes-++ file.Stage gateItem (first .gates) (map (gateInWhole first second) (second .gates)))
+      ∙ append-assoc gates others (outputs ++ (0x00 ∷ []))) in
       put-same (sym whole)
       (put-++ a (put-++ b (put-++ c (put-++ d (put-++ e f
       (at .end ∙ ap (λ (n : ℕ). p4 + n) (sym (bytes-length file.Stage pairItem 5 (λ p. stage-output-width (pairOperands p)) _ ∙ ap (λ (n : ℕ). 5 * n) (length-map (second .outputs) (pairInWhole first second))))))
@@ -196,10 +196,10 @@ module _ (first second : Reference) {b0 b1 b2 b3 b4 b5 : List ℕ} {p1 p2 p3 p4 
       let others = bytesOf file.Reference gate (map (operationInWhole first second) (second .gates)) in
       let outputs = bytesOf file.Reference signalItem (map (signalInWhole first second) (second .outputs)) in
       let whole : writeReference (joinedReference first second) ≡ (0x01 ∷ first .inputs ∷ []) ++ (gates ++ (others ++ (outputs ++ (0x00 ∷ [])))) =
-          reference-parts (joinedReference first second)
-          ∙ ap (λ (l : List ℕ). (0x01 ∷ first .inputs ∷ []) ++ l)
-          (ap (λ (l : List ℕ). l ++ (outputs ++ (0x00 ∷ []))) (bytes-++ file.Reference gate (first .gates) (map (operationInWhole first second) (second .gates)))
-          ∙ append-assoc gates others (outputs ++ (0x00 ∷ []))) in
+      reference-parts (joinedReference first second)
+      ∙ ap (λ (l : List ℕ). (0x01 ∷ first .inputs ∷ []) ++ l)
+      (ap (λ (l : List ℕ). l ++ (outputs ++ (0x00 ∷ []))) (bytes-++ file.Reference gate (first .gates) (map (operationInWhole first second) (second .gates)))
+      ∙ append-assoc gates others (outputs ++ (0x00 ∷ []))) in
       put-same (sym whole)
       (put-++ a (put-++ c (put-++ d (put-++ e f
       (at .end ∙ ap (λ (n : ℕ). p3 + n) (sym (bytes-length file.Reference signalItem 3 (λ v. reference-output-width (v ∷ [])) _ ∙ ap (λ (n : ℕ). 3 * n) (length-map (second .outputs) (signalInWhole first second))))))

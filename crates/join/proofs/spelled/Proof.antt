@@ -23,11 +23,16 @@ loop-holds c = let z = c .before in (omega arith, word-none (λ v. getD (now (z 
 shared-slice-read-signal : tie.Need-shared-slice-read-signal Inv-loop μ-loop
 shared-slice-read-signal c = omega (arith, c .before .before .before .before .pre .0 .room)
 
+cast-signal : tie.Need-cast-signal Inv-loop μ-loop
+cast-signal c = omega (arith, c .shared-slice-known .given (3 * c .before .before .before .before .args .sizes .gates + (c .before .before .loop .j - 1)))
+
 shared-slice-read-word : tie.Need-shared-slice-read-word Inv-loop μ-loop
 shared-slice-read-word c = let z = c .before .before .before .before .before in omega (arith, z .pre .0 .signal (c .before .before .before .loop .j - 1) (omega arith), z .pre .1)
 
 cast-word : tie.Need-cast-word Inv-loop μ-loop
-cast-word c = omega (arith, c .before .before .before .before .before .pre .2 _)
+cast-word c =
+    let z = c .before .before .before .before .before in
+    omega (arith, z .pre .2 (getD (now (z .args .reference)) (3 * z .args .sizes .gates + (c .before .before .before .loop .j - 1)) 0))
 
 mul-word : tie.Need-mul-word Inv-loop μ-loop
 mul-word c =
@@ -67,7 +72,7 @@ spelled-spec =
     (λ c. search needs)
     (λ c. search needs)
     shared-slice-read-signal
-    (λ c. search needs)
+    cast-signal
     shared-slice-read-word
     cast-word
     mul-word
