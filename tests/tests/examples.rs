@@ -1,14 +1,16 @@
 //! The stored example pairs: their files are those described, and their verdicts those
 //! of the judge.
 
+use fovaheju_tests::catalogue::joins::{self, joined, joints};
 use fovaheju_tests::catalogue::{
     address_compare_reference, comparator_reference, examples, listing, mac_of_the_source,
     mac_reference, multiplier_of_the_source, parity_reference, MARKED,
 };
 use fovaheju_tests::circuits::{multiplier_reference, ripple_adder_reference};
 use fovaheju_tests::files::{examples_folder, load_example, stored_examples};
-use fovaheju_tests::judge::{answer, check};
+use fovaheju_tests::judge::{answer, check, rails_of_word, read_stage, settle, Stage};
 use fovaheju_tests::read;
+use std::collections::BTreeSet;
 
 #[test]
 fn stored_files_and_verdicts() {
@@ -37,6 +39,41 @@ fn stored_files_and_verdicts() {
     assert_eq!(list, listing(), "examples/LIST.md");
 }
 
+/// The joins of stored pairs have the verdicts that they are meant to have, and write the pairs
+/// that are stored for them.
+#[test]
+fn joins_of_stored_pairs() {
+    let examples = examples();
+    let mut numbers = BTreeSet::new();
+    for joint in joints() {
+        let about = format!("{} and {}: {}", joint.first, joint.second, joint.about);
+        let (verdict, written) = joined(&joint, &examples);
+        assert_eq!(verdict[0], joint.number, "{about}");
+        numbers.insert((verdict[0], verdict[1]));
+        let folder = examples_folder();
+        let whole = joint
+            .whole
+            .map(|name| load_example(&folder, name).unwrap().0);
+        assert_eq!(written, whole, "{about}");
+    }
+    for place in [
+        (0, 0),
+        (22, 0),
+        (23, 0),
+        (14, 1),
+        (9, 2),
+        (10, 0),
+        (14, 4),
+        (9, 5),
+        (10, 3),
+        (11, 3),
+    ] {
+        assert!(numbers.contains(&place), "{place:?}");
+    }
+    let list = std::fs::read_to_string(examples_folder().join("JOINS.md")).unwrap();
+    assert_eq!(list, joins::listing(), "examples/JOINS.md");
+}
+
 /// The bytes that the blocks of a document spell: in each line the pairs of hexadecimal digits at its
 /// start, or after its first word.
 fn spelt(document: &str) -> Vec<u8> {
@@ -60,7 +97,11 @@ fn spelt(document: &str) -> Vec<u8> {
 fn the_documents_spell_the_and() {
     let (pair, _) = load_example(&examples_folder(), "and").unwrap();
     for path in ["README.md", "docs/FILES.md"] {
-        assert_eq!(spelt(&read(path)), [pair.stage.clone(), pair.reference.clone()].concat(), "{path}");
+        assert_eq!(
+            spelt(&read(path)),
+            [pair.stage.clone(), pair.reference.clone()].concat(),
+            "{path}"
+        );
     }
 }
 
@@ -139,4 +180,46 @@ fn netlists_of_the_source() {
     // Lines 3 to 44 of Figure 12(a), lines 3 to 38 of Figure 15(a).
     assert_eq!(multiplier_of_the_source().gates.len(), 42);
     assert_eq!(mac_of_the_source().gates.len(), 36);
+}
+
+/// The pairs that a loop looks at which ends at the first that is not DATA.
+fn looked_at(stage: &Stage, row: &[bool]) -> usize {
+    let mut pairs = stage.outputs.iter();
+    let first = pairs.position(|&[rail_0, rail_1]| row[rail_0] == row[rail_1]);
+    first.map_or(stage.outputs.len(), |pair| pair + 1)
+}
+
+/// M-104: in one stage the first pair alone is NULL whichever input is, in the other the last. How
+/// many pairs 14 and 15 look at in all words.
+#[test]
+fn one_null_pair() {
+    let cases = [
+        ("null-pair-first", 0, [10_240, 162_816]),
+        ("null-pair-last", 15, [163_840, 516_096]),
+    ];
+    for (name, null, pairs) in cases {
+        let (pair, verdict) = load_example(&examples_folder(), name).unwrap();
+        assert_eq!(verdict, [0; 4]);
+        let stage = read_stage(&pair.stage).unwrap();
+        assert_eq!((stage.inputs, stage.outputs.len()), (10, 16));
+        let mut looked = [0, 0];
+        for word in 0..1024 {
+            for input in 0..10 {
+                let mut rails = rails_of_word(10, word);
+                rails[2 * input] = false;
+                rails[2 * input + 1] = false;
+                let row = settle(&stage, &rails, None);
+                for (output, &[rail_0, rail_1]) in stage.outputs.iter().enumerate() {
+                    assert_eq!(row[rail_0] || row[rail_1], output != null);
+                }
+                looked[0] += looked_at(&stage, &row);
+            }
+            let rails = rails_of_word(10, word);
+            let rest = settle(&stage, &rails, None);
+            for gate in (0..stage.gates.len()).filter(|gate| rest[20 + gate]) {
+                looked[1] += looked_at(&stage, &settle(&stage, &rails, Some(gate)));
+            }
+        }
+        assert_eq!(looked, pairs, "{name}");
+    }
 }

@@ -17,3 +17,4 @@ pub mod OneWord
 pub mod Demands
 pub mod Cut
 pub mod Careless
+pub mod Rises
