@@ -24,7 +24,7 @@ use Rattle.verdict.specs.Verdicts.{accepted}
 use Rattle.joined.specs.Whole as x
 use Rattle.joined.specs.Whole.{joinedStage, joinedReference}
 use Rattle.joined.specs.Join as j
-use Rattle.joined.specs.Join.{Files, files, JoinAnswer, joinRefused, joinWithin}
+use Rattle.joined.specs.Join.{Files, files, JoinAnswer, joinWithin}
 
 -- ---- the content: (a AND b) XOR c, where the first part hands c on
 
@@ -165,12 +165,15 @@ case first second stageRoom referenceRoom expected =
 abbrev written : List ℕ → List ℕ → JoinAnswer
 written stage reference = record { verdict = accepted; stage = stage; reference = reference }
 
+abbrev refusal : ℕ → ℕ → ℕ → ℕ → JoinAnswer
+refusal number file at word = record { verdict = verdict number file at word; stage = []; reference = [] }
+
 pub joins : List Case
 joins =
     -- two wires in a row, in buffers that are just long enough; then one buffer or the other is too short
     case (files wire wireReference) (files wire wireReference) 8 6 (written wire wireReference) ∷
-    case (files wire wireReference) (files wire wireReference) 7 6 (joinRefused (verdict 24 3 0 0)) ∷
-    case (files wire wireReference) (files wire wireReference) 8 5 (joinRefused (verdict 24 3 0 0)) ∷
+    case (files wire wireReference) (files wire wireReference) 7 6 (refusal 24 3 0 0) ∷
+    case (files wire wireReference) (files wire wireReference) 8 5 (refusal 24 3 0 0) ∷
     -- NAND: AND, then NOT
     case and not 100 100
     (written (1 ∷ 2 ∷ andOf (3 ∷ 4 ∷ 0 ∷ 5 ∷ 0 ∷ 0 ∷ []))
@@ -183,23 +186,23 @@ joins =
     (inputs 2 ++ care 0 ++ care 1 ++ care 2 ++ gate 2 1 2 ++ gate 2 0 3 ++ gate 0x81 4 5 ++ gate 2 0 2 ++ gate 2 7 7 ++ gate 2 6 6 ++ gate 2 8 7 ++ output 9 10 ++ output 6 7 ++ end)
     (inputs 2 ++ operate 3 0 1 ++ operate 6 2 2 ++ signal 3 ++ signal 3 ++ end)) ∷
     -- 22, with more outputs or fewer, also where 23 would be found, and where the buffers are too short
-    case (files twoWires twoWiresReference) (files wire wireReference) 100 100 (joinRefused (verdict 22 0 2 1)) ∷
-    case (files wire wireReference) and 100 100 (joinRefused (verdict 22 0 1 2)) ∷
-    case (files wire wireReference) (cared (6 ∷ 2 ∷ 0 ∷ [])) 0 0 (joinRefused (verdict 22 0 1 2)) ∷
+    case (files twoWires twoWiresReference) (files wire wireReference) 100 100 (refusal 22 0 2 1) ∷
+    case (files wire wireReference) and 100 100 (refusal 22 0 1 2) ∷
+    case (files wire wireReference) (cared (6 ∷ 2 ∷ 0 ∷ [])) 0 0 (refusal 22 0 1 2) ∷
     -- 23 at the least word whose answer is not cared for
-    case (files twoWires twoWiresReference) (cared (6 ∷ 0 ∷ 0 ∷ 6 ∷ 1 ∷ 0 ∷ [])) 0 0 (joinRefused (verdict 23 0 0 2)) ∷
-    case (cared (6 ∷ 1 ∷ 0 ∷ 6 ∷ 3 ∷ 0 ∷ [])) (cared (6 ∷ 0 ∷ 0 ∷ 6 ∷ 1 ∷ 0 ∷ [])) 0 0 (joinRefused (verdict 23 0 0 3)) ∷
+    case (files twoWires twoWiresReference) (cared (6 ∷ 0 ∷ 0 ∷ 6 ∷ 1 ∷ 0 ∷ [])) 0 0 (refusal 23 0 0 2) ∷
+    case (cared (6 ∷ 1 ∷ 0 ∷ 6 ∷ 3 ∷ 0 ∷ [])) (cared (6 ∷ 0 ∷ 0 ∷ 6 ∷ 1 ∷ 0 ∷ [])) 0 0 (refusal 23 0 0 3) ∷
     -- a part's own refusal: the first part's before the second's, the second's with 3 added to its file
-    case (files wire []) (files [] []) 0 0 (joinRefused (verdict 1 2 0 0)) ∷
-    case (files wire wireReference) (files [] []) 0 0 (joinRefused (verdict 1 4 0 0)) ∷
-    case (files wire wireReference) (files wire []) 0 0 (joinRefused (verdict 1 5 0 0)) ∷
-    case (files wire wireReference) (files wire twoWiresReference) 0 0 (joinRefused (verdict 10 3 1 2)) ∷
-    case (files wire wireReference) (files wire (inputs 1 ++ signal 0 ++ signal 0 ++ end)) 0 0 (joinRefused (verdict 11 3 1 2)) ∷
-    case (files twoWires twoWiresReference) (files (not .stage) wireReference) 0 0 (joinRefused (verdict 13 4 0 0)) ∷
+    case (files wire []) (files [] []) 0 0 (refusal 1 2 0 0) ∷
+    case (files wire wireReference) (files [] []) 0 0 (refusal 1 4 0 0) ∷
+    case (files wire wireReference) (files wire []) 0 0 (refusal 1 5 0 0) ∷
+    case (files wire wireReference) (files wire twoWiresReference) 0 0 (refusal 10 3 1 2) ∷
+    case (files wire wireReference) (files wire (inputs 1 ++ signal 0 ++ signal 0 ++ end)) 0 0 (refusal 11 3 1 2) ∷
+    case (files twoWires twoWiresReference) (files (not .stage) wireReference) 0 0 (refusal 13 4 0 0) ∷
     -- a gate more than a part may have
-    case (files fiveGates wireReference) (files wire wireReference) 100 100 (joinRefused (verdict 6 1 42 0)) ∷
-    case (files wire wireReference) (files fiveGates wireReference) 100 100 (joinRefused (verdict 6 4 42 0)) ∷
-    case (files wire wireReference) (files wire fiveOperations) 100 100 (joinRefused (verdict 6 5 26 0)) ∷
+    case (files fiveGates wireReference) (files wire wireReference) 100 100 (refusal 6 1 42 0) ∷
+    case (files wire wireReference) (files fiveGates wireReference) 100 100 (refusal 6 4 42 0) ∷
+    case (files wire wireReference) (files wire fiveOperations) 100 100 (refusal 6 5 26 0) ∷
     []
 
 pub answers : List Case → List JoinAnswer
