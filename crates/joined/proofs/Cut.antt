@@ -37,7 +37,7 @@ module _ (stageMost referenceMost : Limits) (far : farthest file.Stage stageMost
         readFile-take file.Stage stageMost (f .stage) mostBytes far,
         readFile-take file.Reference referenceMost (f .reference) mostBytes far′,
         stage-same (f .stage) (readFile file.Stage stageMost (f .stage)) refl,
-        reference-same (f .reference) (readFile file.Reference referenceMost (f .reference)) refl
+        reference-same (f .reference) (readFile file.Reference referenceMost (f .reference)) refl,
       ) refl
 
   join-within-cut : (first second : Files) (stageRoom referenceRoom : ℕ)
@@ -48,7 +48,7 @@ module _ (stageMost referenceMost : Limits) (far : farthest file.Stage stageMost
         within-cut stageMost referenceMost far far′ (first .stage) (first .reference),
         within-cut stageMost referenceMost far far′ (second .stage) (second .reference),
         part-cut first,
-        part-cut second
+        part-cut second,
       ) refl
 
 pub join-cut : (first second : Files) (stageRoom referenceRoom : ℕ)

@@ -8,12 +8,10 @@ use lib.ListN.{take}
 use lib.Seq.{take-all}
 use Rattle.netlist.specs.declared.File.{File}
 use Rattle.netlist.specs.declared.File.the-variants as file
-use Rattle.netlist.specs.declared.Sort.the-variants as sort
 use Rattle.netlist.specs.declared.Limits.{Limits}
 use Rattle.netlist.specs.Commands.{ownCommands, commandTable, formIn}
 use Rattle.netlist.specs.Reading.{Places, Reading, refused, readable, readFile, stageLimits, referenceLimits}
 use Rattle.netlist.specs.Read.{farthest, mostBytes}
-use Rattle.netlist.specs.Writing.{widthFor}
 use Rattle.netlist.specs.Content.{Stage, stageOf}
 use Rattle.netlist.proofs.Encoding.{width-gate}
 use Rattle.netlist.proofs.Readable.{readable-length}
