@@ -1,13 +1,18 @@
-// The public calls. Their contracts cite the definitions of crates `verdict` and `report`, at the limits of crate `netlist`, and ask
-// nothing of the caller.
+// The public calls. Their contracts cite the definitions of crates `verdict`, `report`, `joined` and `join`, at the limits of crate `netlist`,
+// and ask nothing of the caller.
+use join::JoinAnswer;
 use report::Report;
 use verdict::Verdict;
 ghost use mathlib.Core.Path.{_≡_};
-ghost use Rattle.netlist.specs.Reading.{stageLimits, referenceLimits};
+ghost use lib.ListN.{length};
+ghost use Rattle.netlist.specs.Reading.{stageLimits, referenceLimits, partStageLimits, partReferenceLimits};
 ghost use Rattle.verdict.specs.Verdicts.{verdictOn, settledRow};
 ghost use Rattle.verdict.specs.Demands.{Demand2, Demand3, DemandRow};
 ghost use Rattle.report.specs.Report.{reportOn};
 ghost use Rattle.report.specs.Activity.{ReportMeans};
+ghost use Rattle.joined.specs.Join.{files};
+ghost use Rattle.joined.specs.Demand.{JoinKept, JoinBecause};
+ghost use Rattle.join.specs.Call.{joinOn, partOf, Leaves};
 
 // The check of a stage file against a reference file. The verdict is the one that the definitions give, and demands 2 and 3 hold of it,
 // with one run from another for an accepted stage.
@@ -38,6 +43,36 @@ pub fn settled_row(stage: &[u8], row: &mut [u8]) -> Verdict
     rows::settled_row(stage, row)
 }
 
+// The join of two stages with their references: output j of the first is tied to input j of the second, and the joined stage and reference are
+// written at the start of two lent buffers. A refusal leaves both as they were.
+pub fn join(
+    stage1: &[u8],
+    reference1: &[u8],
+    stage2: &[u8],
+    reference2: &[u8],
+    stage_out: &mut [u8],
+    reference_out: &mut [u8],
+) -> JoinAnswer
+    ensures answer { λ r. ⌜ Leaves (joinOn (now (stage1 .entry)) (now (reference1 .entry)) (now (stage2 .entry)) (now (reference2 .entry))
+        (length (now («stage_out» .entry))) (length (now («reference_out» .entry)))) r (now («stage_out» .entry)) (now («reference_out» .entry))
+        (now («stage_out» .exit)) (now («reference_out» .exit)) ⌝ }
+    ensures kept { λ r. ⌜ JoinKept stageLimits referenceLimits (partOf (now (stage1 .entry)) (now (reference1 .entry))) (partOf (now (stage2 .entry)) (now
+        (reference2 .entry))) (joinOn (now (stage1 .entry)) (now (reference1 .entry)) (now (stage2 .entry)) (now (reference2 .entry)) (length (now
+        («stage_out» .entry))) (length (now («reference_out» .entry)))) ⌝ }
+    ensures because { λ r. ⌜ JoinBecause partStageLimits partReferenceLimits (files (now (stage1 .entry)) (now (reference1 .entry))) (files (now
+        (stage2 .entry)) (now (reference2 .entry))) (length (now («stage_out» .entry))) (length (now («reference_out» .entry))) (joinOn (now (stage1 .entry))
+        (now (reference1 .entry)) (now (stage2 .entry)) (now (reference2 .entry)) (length (now («stage_out» .entry))) (length (now («reference_out» .entry)))) ⌝ }
+{
+    join::join(
+        stage1,
+        reference1,
+        stage2,
+        reference2,
+        stage_out,
+        reference_out,
+    )
+}
+
 // The check for callers in C and in Rust, with the contract of `check`.
 #[no_mangle]
 pub extern "C" fn fovaheju_check(stage: &[u8], reference: &[u8]) -> Verdict
@@ -65,4 +100,34 @@ pub extern "C" fn fovaheju_settled_row(stage: &[u8], row: &mut [u8]) -> Verdict
     ensures demands { λ r. ⌜ DemandRow stageLimits (now (stage .entry)) (now (row .entry)) r (now (row .exit)) ⌝ }
 {
     settled_row(stage, row)
+}
+
+// The join for callers in C and in Rust, with the contract of `join`.
+#[no_mangle]
+pub extern "C" fn fovaheju_join(
+    stage1: &[u8],
+    reference1: &[u8],
+    stage2: &[u8],
+    reference2: &[u8],
+    stage_out: &mut [u8],
+    reference_out: &mut [u8],
+) -> JoinAnswer
+    ensures answer { λ r. ⌜ Leaves (joinOn (now (stage1 .entry)) (now (reference1 .entry)) (now (stage2 .entry)) (now (reference2 .entry))
+        (length (now («stage_out» .entry))) (length (now («reference_out» .entry)))) r (now («stage_out» .entry)) (now («reference_out» .entry))
+        (now («stage_out» .exit)) (now («reference_out» .exit)) ⌝ }
+    ensures kept { λ r. ⌜ JoinKept stageLimits referenceLimits (partOf (now (stage1 .entry)) (now (reference1 .entry))) (partOf (now (stage2 .entry)) (now
+        (reference2 .entry))) (joinOn (now (stage1 .entry)) (now (reference1 .entry)) (now (stage2 .entry)) (now (reference2 .entry)) (length (now
+        («stage_out» .entry))) (length (now («reference_out» .entry)))) ⌝ }
+    ensures because { λ r. ⌜ JoinBecause partStageLimits partReferenceLimits (files (now (stage1 .entry)) (now (reference1 .entry))) (files (now
+        (stage2 .entry)) (now (reference2 .entry))) (length (now («stage_out» .entry))) (length (now («reference_out» .entry))) (joinOn (now (stage1 .entry))
+        (now (reference1 .entry)) (now (stage2 .entry)) (now (reference2 .entry)) (length (now («stage_out» .entry))) (length (now («reference_out» .entry)))) ⌝ }
+{
+    join(
+        stage1,
+        reference1,
+        stage2,
+        reference2,
+        stage_out,
+        reference_out,
+    )
 }
