@@ -21,7 +21,8 @@ use Rattle.verdict.specs.Demands.{Named, Nowhere, EachOf}
 use Rattle.verdict.proofs.Sweeps.{Means, FirstFault, first-fault, none-named, named-from}
 use Rattle.verdict.proofs.Because.{unequal-means}
 use Rattle.verdict.proofs.Demands.{demand-3, nowhere-equal}
-use Rattle.joined.specs.Join.{Files, Part, partIn, refusalOf, ofSecond, answerWord, CaresFor, caresFor, stageBytes, referenceBytes, joinChecks, JoinAnswer, joinWritten, joinUnless, joinFault, joinWithin}
+use Rattle.joined.specs.Join.{Files, Part, partIn, refusalOf, ofSecond, answerWord, CaresFor, caresFor, stageBytes, referenceBytes, joinChecks}
+use Rattle.joined.specs.Join.{JoinAnswer, joinWritten, joinUnless, joinFault, joinWithin}
 use Rattle.joined.specs.Demand.{RoomForTwo, Joinable, JoinKept, JoinBecause, first-refused, second-refused, join-refused, joined}
 use Rattle.joined.proofs.Words.{caresFor-cares, cares-caresFor}
 use Rattle.joined.proofs.Joining.{join-accepted}
