@@ -4,15 +4,13 @@ use join::JoinAnswer;
 use report::Report;
 use verdict::Verdict;
 ghost use mathlib.Core.Path.{_≡_};
-ghost use lib.ListN.{length};
-ghost use Rattle.netlist.specs.Reading.{stageLimits, referenceLimits, partStageLimits, partReferenceLimits};
+ghost use Rattle.netlist.specs.Reading.{stageLimits, referenceLimits};
 ghost use Rattle.verdict.specs.Verdicts.{verdictOn, settledRow};
 ghost use Rattle.verdict.specs.Demands.{Demand2, Demand3, DemandRow};
 ghost use Rattle.report.specs.Report.{reportOn};
 ghost use Rattle.report.specs.Activity.{ReportMeans};
 ghost use Rattle.joined.specs.Join.{files};
-ghost use Rattle.joined.specs.Demand.{JoinKept, JoinBecause};
-ghost use Rattle.join.specs.Call.{joinOn, partOf, Leaves};
+ghost use Rattle.join.specs.Call.{JoinDemand};
 
 // The check of a stage file against a reference file. The verdict is the one that the definitions give, and demands 2 and 3 hold of it,
 // with one run from another for an accepted stage.
@@ -53,15 +51,8 @@ pub fn join(
     stage_out: &mut [u8],
     reference_out: &mut [u8],
 ) -> JoinAnswer
-    ensures answer { λ r. ⌜ Leaves (joinOn (now (stage1 .entry)) (now (reference1 .entry)) (now (stage2 .entry)) (now (reference2 .entry))
-        (length (now («stage_out» .entry))) (length (now («reference_out» .entry)))) r (now («stage_out» .entry)) (now («reference_out» .entry))
-        (now («stage_out» .exit)) (now («reference_out» .exit)) ⌝ }
-    ensures kept { λ r. ⌜ JoinKept stageLimits referenceLimits (partOf (now (stage1 .entry)) (now (reference1 .entry))) (partOf (now (stage2 .entry)) (now
-        (reference2 .entry))) (joinOn (now (stage1 .entry)) (now (reference1 .entry)) (now (stage2 .entry)) (now (reference2 .entry)) (length (now
-        («stage_out» .entry))) (length (now («reference_out» .entry)))) ⌝ }
-    ensures because { λ r. ⌜ JoinBecause partStageLimits partReferenceLimits (files (now (stage1 .entry)) (now (reference1 .entry))) (files (now
-        (stage2 .entry)) (now (reference2 .entry))) (length (now («stage_out» .entry))) (length (now («reference_out» .entry))) (joinOn (now (stage1 .entry))
-        (now (reference1 .entry)) (now (stage2 .entry)) (now (reference2 .entry)) (length (now («stage_out» .entry))) (length (now («reference_out» .entry)))) ⌝ }
+    ensures { λ r. ⌜ JoinDemand (files (now (stage1 .entry)) (now (reference1 .entry))) (files (now (stage2 .entry)) (now (reference2 .entry)))
+        (now («stage_out» .entry)) (now («reference_out» .entry)) r (now («stage_out» .exit)) (now («reference_out» .exit)) ⌝ }
 {
     join::join(
         stage1,
@@ -112,15 +103,8 @@ pub extern "C" fn fovaheju_join(
     stage_out: &mut [u8],
     reference_out: &mut [u8],
 ) -> JoinAnswer
-    ensures answer { λ r. ⌜ Leaves (joinOn (now (stage1 .entry)) (now (reference1 .entry)) (now (stage2 .entry)) (now (reference2 .entry))
-        (length (now («stage_out» .entry))) (length (now («reference_out» .entry)))) r (now («stage_out» .entry)) (now («reference_out» .entry))
-        (now («stage_out» .exit)) (now («reference_out» .exit)) ⌝ }
-    ensures kept { λ r. ⌜ JoinKept stageLimits referenceLimits (partOf (now (stage1 .entry)) (now (reference1 .entry))) (partOf (now (stage2 .entry)) (now
-        (reference2 .entry))) (joinOn (now (stage1 .entry)) (now (reference1 .entry)) (now (stage2 .entry)) (now (reference2 .entry)) (length (now
-        («stage_out» .entry))) (length (now («reference_out» .entry)))) ⌝ }
-    ensures because { λ r. ⌜ JoinBecause partStageLimits partReferenceLimits (files (now (stage1 .entry)) (now (reference1 .entry))) (files (now
-        (stage2 .entry)) (now (reference2 .entry))) (length (now («stage_out» .entry))) (length (now («reference_out» .entry))) (joinOn (now (stage1 .entry))
-        (now (reference1 .entry)) (now (stage2 .entry)) (now (reference2 .entry)) (length (now («stage_out» .entry))) (length (now («reference_out» .entry)))) ⌝ }
+    ensures { λ r. ⌜ JoinDemand (files (now (stage1 .entry)) (now (reference1 .entry))) (files (now (stage2 .entry)) (now (reference2 .entry)))
+        (now («stage_out» .entry)) (now («reference_out» .entry)) r (now («stage_out» .exit)) (now («reference_out» .exit)) ⌝ }
 {
     join(
         stage1,

@@ -5,12 +5,13 @@ use mathlib.Core.Bool.{not}
 use mathlib.Core.List.{List, [], _∷_}
 use lib.ListN.{length}
 use Rattle.netlist.specs.declared.Counts.{Counts}
-use Rattle.netlist.specs.Reading.{partStageLimits, partReferenceLimits}
+use Rattle.netlist.specs.Reading.{stageLimits, referenceLimits, partStageLimits, partReferenceLimits}
 use Rattle.netlist.specs.Content.{Stage, Reference}
 use Rattle.verdict.specs.declared.Verdict.{Verdict}
 use Rattle.verdict.specs.Words.{words}
 use Rattle.verdict.specs.Checks.{Check, check, unsaid, firstFault}
 use Rattle.joined.specs.Join as joined
+use Rattle.joined.specs.Demand.{JoinBecause, JoinKept}
 use Rattle.writing.specs.Written.{holding}
 use Rattle.circuit.specs.Stage.{stageIn, StageLoaded}
 use Rattle.circuit.specs.Reference.{referenceIn, ReferenceLoaded}
@@ -23,10 +24,6 @@ use Rattle.join.specs.declared.Sizes.{Sizes}
 abbrev pub partOf : List ℕ → List ℕ → joined.Part
 partOf stage reference = joined.partIn partStageLimits partReferenceLimits (joined.files stage reference)
 
--- the join of two parts, of a stage file and a reference file each, into buffers of two lengths
-abbrev pub joinOn : List ℕ → List ℕ → List ℕ → List ℕ → ℕ → ℕ → joined.JoinAnswer
-joinOn stage1 reference1 stage2 reference2 = joined.joinWithin partStageLimits partReferenceLimits (joined.files stage1 reference1) (joined.files stage2 reference2)
-
 abbrev pub answerWith : Verdict → ℕ → ℕ → JoinAnswer
 answerWith v stage reference = record { verdict = v; «stage_count» = stage; «reference_count» = reference }
 
@@ -37,6 +34,15 @@ pub record Leaves (a : joined.JoinAnswer) (r : JoinAnswer) (stage reference stag
   pub reference-count : r .«reference_count» ≡ length (a .reference)
   pub stage-bytes : stageAfter ≡ holding (a .stage) stage
   pub reference-bytes : referenceAfter ≡ holding (a .reference) reference
+
+-- What is said of the join, by the files of its parts, the two buffers, its answer and the buffers after it: the answer and every byte are those
+-- defined; the earliest reason of the answer is named; and where it accepts, the whole is accepted and its runs obey everything said of a stage.
+pub record JoinDemand (first second : joined.Files) (stage reference : List ℕ) (r : JoinAnswer) (stageAfter referenceAfter : List ℕ) : Type 0 where
+  pub answer : Leaves (joined.joinWithin partStageLimits partReferenceLimits first second (length stage) (length reference)) r stage reference stageAfter referenceAfter
+  pub because : JoinBecause partStageLimits partReferenceLimits first second (length stage) (length reference)
+      (joined.joinWithin partStageLimits partReferenceLimits first second (length stage) (length reference))
+  pub kept : JoinKept stageLimits referenceLimits (joined.partIn partStageLimits partReferenceLimits first) (joined.partIn partStageLimits partReferenceLimits second)
+      (joined.joinWithin partStageLimits partReferenceLimits first second (length stage) (length reference))
 
 -- ---- between its functions
 

@@ -20,13 +20,12 @@ ghost use Rattle.verdict.specs.Checks.{finding};
 ghost use Rattle.verdict.specs.Verdicts.{accepted, verdictWithin};
 ghost use Rattle.joined.specs.Whole.{joinedStage, joinedReference};
 ghost use Rattle.joined.specs.Join.{files, stageRead, referenceRead, wordOf, answerWord, caresFor};
-ghost use Rattle.joined.specs.Demand.{JoinKept, JoinBecause};
 ghost use Rattle.writing.specs.Put.{Put};
 ghost use Rattle.writing.specs.Parts.{gateItem, pairItem, signalItem, bytesOf};
 ghost use Rattle.circuit.specs.Stage.{cellIn, slot, pinIn, gateIn, stageGates, stageOutputs, stageCare, stageIn, StageLoaded};
 ghost use Rattle.circuit.specs.Reference.{operatorIn, operatorsIn, signalsIn, referenceIn, ReferenceLoaded};
 ghost use Rattle.join.specs.Moved.{netMoved, gateMoved, pairMoved, StageMoves, signalMoved, operationMoved, ReferenceMoves};
-ghost use Rattle.join.specs.Call.{uncaredCheck, answerWith, joinOn, joinParts, partOf, partLoaded, PartsLoaded, Leaves};
+ghost use Rattle.join.specs.Call.{uncaredCheck, answerWith, joinParts, partOf, partLoaded, PartsLoaded, Leaves, JoinDemand};
 
 // Where a part stands in the whole: how many of its inputs are outputs of the first part, and where its other nets, or signals, start.
 pub struct Move {
@@ -586,15 +585,8 @@ pub fn join(
     stage_out: &mut [u8],
     reference_out: &mut [u8],
 ) -> JoinAnswer
-    ensures answer { λ r. ⌜ Leaves (joinOn (now (stage1 .entry)) (now (reference1 .entry)) (now (stage2 .entry)) (now (reference2 .entry))
-        (length (now («stage_out» .entry))) (length (now («reference_out» .entry)))) r (now («stage_out» .entry)) (now («reference_out» .entry))
-        (now («stage_out» .exit)) (now («reference_out» .exit)) ⌝ }
-    ensures kept { λ r. ⌜ JoinKept stageLimits referenceLimits (partOf (now (stage1 .entry)) (now (reference1 .entry))) (partOf (now (stage2 .entry)) (now
-        (reference2 .entry))) (joinOn (now (stage1 .entry)) (now (reference1 .entry)) (now (stage2 .entry)) (now (reference2 .entry)) (length (now
-        («stage_out» .entry))) (length (now («reference_out» .entry)))) ⌝ }
-    ensures because { λ r. ⌜ JoinBecause partStageLimits partReferenceLimits (files (now (stage1 .entry)) (now (reference1 .entry))) (files (now
-        (stage2 .entry)) (now (reference2 .entry))) (length (now («stage_out» .entry))) (length (now («reference_out» .entry))) (joinOn (now (stage1 .entry))
-        (now (reference1 .entry)) (now (stage2 .entry)) (now (reference2 .entry)) (length (now («stage_out» .entry))) (length (now («reference_out» .entry)))) ⌝ }
+    ensures { λ r. ⌜ JoinDemand (files (now (stage1 .entry)) (now (reference1 .entry))) (files (now (stage2 .entry)) (now (reference2 .entry)))
+        (now («stage_out» .entry)) (now («reference_out» .entry)) r (now («stage_out» .exit)) (now («reference_out» .exit)) ⌝ }
 {
     let most = netlist::part_stage_limits();
     let reference_most = netlist::part_reference_limits();

@@ -47,10 +47,8 @@ returns c =
     let a = z .args in
     let f = files (now (a .stage1)) (now (a .reference1)) in
     let g = files (now (a .stage2)) (now (a .reference2)) in
-    let v = judged-by _ _ _ _ _ (c .before .before .before .check-within .ensures .0) (c .before .before .before .before .before .part-stage-limits .ensures) (c .before .before .before .before .part-reference-limits .ensures) in (
-      leaves-refused _ _ _ (first-refuses f g _ _ _ v (c .before .if1 .taken)) (c .refusal .ensures),
-      (join-kept partStageLimits partReferenceLimits f g _ _ stageLimits referenceLimits room-for-stage room-for-reference, join-because partStageLimits partReferenceLimits f g _ _),
-    )
+    let v = judged-by _ _ _ _ _ (c .before .before .before .check-within .ensures .0) (c .before .before .before .before .before .part-stage-limits .ensures) (c .before .before .before .before .part-reference-limits .ensures) in
+    record { answer = leaves-refused _ _ _ (first-refuses f g _ _ _ v (c .before .if1 .taken)) (c .refusal .ensures); because = join-because partStageLimits partReferenceLimits f g _ _; kept = join-kept partStageLimits partReferenceLimits f g _ _ stageLimits referenceLimits room-for-stage room-for-reference }
 
 returns-2 : tie.Need-returns-2
 returns-2 c =
@@ -61,10 +59,8 @@ returns-2 c =
     let m = c .before .before .before .before .before .before .before .before .before .part-stage-limits .ensures in
     let n = c .before .before .before .before .before .before .before .before .part-reference-limits .ensures in
     let v = judged-by _ _ _ _ _ (c .before .before .before .before .before .before .before .check-within .ensures .0) m n in
-    let w = judged-by _ _ _ _ _ (c .before .before .before .before .check-within2 .ensures .0) m n in (
-      leaves-refused _ _ _ (second-refuses f g _ _ _ v (omega (arith, c .before .before .before .before .before .if1 .left)) _ w (c .before .before .if2 .taken)) (c .refusal2 .ensures),
-      (join-kept partStageLimits partReferenceLimits f g _ _ stageLimits referenceLimits room-for-stage room-for-reference, join-because partStageLimits partReferenceLimits f g _ _),
-    )
+    let w = judged-by _ _ _ _ _ (c .before .before .before .before .check-within2 .ensures .0) m n in
+    record { answer = leaves-refused _ _ _ (second-refuses f g _ _ _ v (omega (arith, c .before .before .before .before .before .if1 .left)) _ w (c .before .before .if2 .taken)) (c .refusal2 .ensures); because = join-because partStageLimits partReferenceLimits f g _ _; kept = join-kept partStageLimits partReferenceLimits f g _ _ stageLimits referenceLimits room-for-stage room-for-reference }
 
 returns-3 : tie.Need-returns-3
 returns-3 c =
@@ -75,10 +71,8 @@ returns-3 c =
     let m = c .before .before .before .before .before .before .before .before .before .before .before .before .before .before .part-stage-limits .ensures in
     let n = c .before .before .before .before .before .before .before .before .before .before .before .before .before .part-reference-limits .ensures in
     let v = judged-by _ _ _ _ _ (c .before .before .before .before .before .before .before .before .before .before .before .before .check-within .ensures .0) m n in
-    let w = judged-by _ _ _ _ _ (c .before .before .before .before .before .before .before .before .before .check-within2 .ensures .0) m n in (
-      leaves-all (both-accepted f g _ _ _ v (omega (arith, c .before .before .before .before .before .before .before .before .before .before .if1 .left)) _ w (omega (arith, c .before .before .before .before .before .before .before .if2 .left))) (c .before .before .before .before .join-accepted .ensures),
-      (join-kept partStageLimits partReferenceLimits f g _ _ stageLimits referenceLimits room-for-stage room-for-reference, join-because partStageLimits partReferenceLimits f g _ _),
-    )
+    let w = judged-by _ _ _ _ _ (c .before .before .before .before .before .before .before .before .before .check-within2 .ensures .0) m n in
+    record { answer = leaves-all (both-accepted f g _ _ _ v (omega (arith, c .before .before .before .before .before .before .before .before .before .before .if1 .left)) _ w (omega (arith, c .before .before .before .before .before .before .before .if2 .left))) (c .before .before .before .before .join-accepted .ensures); because = join-because partStageLimits partReferenceLimits f g _ _; kept = join-kept partStageLimits partReferenceLimits f g _ _ stageLimits referenceLimits room-for-stage room-for-reference }
 
 pub join-spec : {M : Type 1} → statement M
 join-spec =
