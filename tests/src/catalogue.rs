@@ -1126,8 +1126,8 @@ pub fn examples_of_document_01() -> Vec<Example> {
     );
     add(
         "multiplier-5x5",
-        "its 130 gates are two too many",
-        6,
+        "half-adders and full adders, mixed ANDs: 130 gates",
+        0,
         &multiplier(5, 5, Products::Mixed),
         &multiplier_reference(5, 5),
     );

@@ -173,11 +173,11 @@ pub struct Limits {
     pub reference_gates: usize,
 }
 
-/// "A stage has 0 to 128 gates, a reference 0 to 256 gates": of the check, the report and the
-/// settled-row call.
+/// Document 02, M-105: "The reader's limits rise to 256 stage and 512 reference gates": of the
+/// check, the report and the settled-row call.
 pub const LIMITS: Limits = Limits {
-    stage_gates: 128,
-    reference_gates: 256,
+    stage_gates: 256,
+    reference_gates: 512,
 };
 
 /// "A u16 operand has its low byte first."

@@ -516,19 +516,19 @@ fn wrong_checks_are_told() {
                 verdict => verdict,
             },
         ),
-        ("takes 129 gates", |s, r| match check(s, r) {
-            [6, 1, at, 0] if at >= 1282 => ACCEPTED,
+        ("takes 257 gates", |s, r| match check(s, r) {
+            [6, 1, at, 0] if at >= 2562 => ACCEPTED,
             verdict => verdict,
         }),
-        ("takes 127 gates only", |s, r| {
+        ("takes 255 gates only", |s, r| {
             match (check(s, r), read_stage(s)) {
-                (ACCEPTED, Ok(stage)) if stage.gates.len() == 128 => [6, 1, 0, 0],
+                (ACCEPTED, Ok(stage)) if stage.gates.len() == 256 => [6, 1, 0, 0],
                 (verdict, _) => verdict,
             }
         }),
-        ("takes 255 reference gates only", |s, r| {
+        ("takes 511 reference gates only", |s, r| {
             match (check(s, r), read_reference(r)) {
-                (ACCEPTED, Ok(reference)) if reference.gates.len() == 256 => [6, 2, 0, 0],
+                (ACCEPTED, Ok(reference)) if reference.gates.len() == 512 => [6, 2, 0, 0],
                 (verdict, _) => verdict,
             }
         }),
@@ -691,9 +691,9 @@ const RIGHT: Reading = Reading {
 
 fn refusal(reading: &Reading, file: &[u8], which: u64) -> Option<(u64, usize)> {
     let (gate_byte, output_byte, gates_allowed, kinds) = if which == 1 {
-        (2, 3, 128, 27)
+        (2, 3, 256, 27)
     } else {
-        (0x11, 0x12, 256, 6)
+        (0x11, 0x12, 512, 6)
     };
     let u16_at = |at: usize| usize::from(file[at]) + 256 * usize::from(file[at + 1]);
     let mut place = 0;

@@ -57,7 +57,7 @@ pub fn joints() -> Vec<Joint> {
             "decimal-excess-3",
             "decimal-segments",
             23,
-            "7 is given as 10, which is no decimal digit",
+            "7, 8 and 9 are given as 10, 11 and 12, which are no decimal digits",
         ),
         refused(
             "half-adder",
