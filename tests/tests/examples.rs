@@ -8,7 +8,7 @@ use fovaheju_tests::catalogue::{
 };
 use fovaheju_tests::circuits::{multiplier_reference, ripple_adder_reference};
 use fovaheju_tests::files::{examples_folder, load_example, stored_examples};
-use fovaheju_tests::judge::{answer, check};
+use fovaheju_tests::judge::{answer, check, rails_of_word, read_stage, settle, Stage};
 use fovaheju_tests::read;
 use std::collections::BTreeSet;
 
@@ -180,4 +180,46 @@ fn netlists_of_the_source() {
     // Lines 3 to 44 of Figure 12(a), lines 3 to 38 of Figure 15(a).
     assert_eq!(multiplier_of_the_source().gates.len(), 42);
     assert_eq!(mac_of_the_source().gates.len(), 36);
+}
+
+/// The pairs that a loop looks at which ends at the first that is not DATA.
+fn looked_at(stage: &Stage, row: &[bool]) -> usize {
+    let mut pairs = stage.outputs.iter();
+    let first = pairs.position(|&[rail_0, rail_1]| row[rail_0] == row[rail_1]);
+    first.map_or(stage.outputs.len(), |pair| pair + 1)
+}
+
+/// M-104: in one stage the first pair alone is NULL whichever input is, in the other the last. How
+/// many pairs 14 and 15 look at in all words.
+#[test]
+fn one_null_pair() {
+    let cases = [
+        ("null-pair-first", 0, [10_240, 162_816]),
+        ("null-pair-last", 15, [163_840, 516_096]),
+    ];
+    for (name, null, pairs) in cases {
+        let (pair, verdict) = load_example(&examples_folder(), name).unwrap();
+        assert_eq!(verdict, [0; 4]);
+        let stage = read_stage(&pair.stage).unwrap();
+        assert_eq!((stage.inputs, stage.outputs.len()), (10, 16));
+        let mut looked = [0, 0];
+        for word in 0..1024 {
+            for input in 0..10 {
+                let mut rails = rails_of_word(10, word);
+                rails[2 * input] = false;
+                rails[2 * input + 1] = false;
+                let row = settle(&stage, &rails, None);
+                for (output, &[rail_0, rail_1]) in stage.outputs.iter().enumerate() {
+                    assert_eq!(row[rail_0] || row[rail_1], output != null);
+                }
+                looked[0] += looked_at(&stage, &row);
+            }
+            let rails = rails_of_word(10, word);
+            let rest = settle(&stage, &rails, None);
+            for gate in (0..stage.gates.len()).filter(|gate| rest[20 + gate]) {
+                looked[1] += looked_at(&stage, &settle(&stage, &rails, Some(gate)));
+            }
+        }
+        assert_eq!(looked, pairs, "{name}");
+    }
 }

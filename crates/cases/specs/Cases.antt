@@ -279,7 +279,7 @@ andOf one zero′ = 1 ∷ 2 ∷ twoPins one 1 3 (2 ∷ zero′ ∷ 0 ∷ 0 ∷ 2
 
 pub relaxed : List Case
 relaxed =
-    -- kinds 0, 28, 128 and 156 do not exist; 130 has two pins
+    -- kinds 128 and 156 do not exist; 130 has two pins
     case (1 ∷ 1 ∷ twoPins 0x80 0 1 (pair 0 1 (0 ∷ []))) wireReference (verdict 4 1 3 0) ∷
     case (1 ∷ 1 ∷ twoPins 0x9C 0 1 (pair 0 1 (0 ∷ []))) wireReference (verdict 4 1 3 0) ∷
     case (1 ∷ 1 ∷ 2 ∷ 0x82 ∷ 0 ∷ 0 ∷ FFFF ++ FFFF ++ FFFF) wireReference (verdict 5 1 6 0) ∷

@@ -1,4 +1,4 @@
-// The check of two files: both are read and loaded, then the checks 10 to 15 follow in their order.
+// The check of two files: both are read and loaded, then the checks 10 to 15, 20 and 21 follow in their order.
 use netlist::Counts;
 use netlist::Found;
 use netlist::Limits;
@@ -14,7 +14,7 @@ ghost use Rattle.verdict.specs.Demands.{Demand2, Demand3};
 ghost use Rattle.circuit.specs.Stage.{stageIn, StageLoaded};
 ghost use Rattle.circuit.specs.Reference.{referenceIn, ReferenceLoaded};
 
-// 10, then 11, then 12, which puts the gates in order, then 13, 14 and 15.
+// 10, then 11, then 12, which puts the gates in order, then those that sweep the words.
 fn judge(code: &mut [u16], counts: Counts, reference: &[u16], sizes: Counts) -> Finding
     requires { ⌜ StageLoaded counts (now code) × ReferenceLoaded sizes (now reference) ⌝ }
     ensures { λ r. ⌜ r ≡ checks.firstFault (checks.checks (stageIn counts (now (code .entry))) (referenceIn sizes (now (reference .entry)))) ⌝ }

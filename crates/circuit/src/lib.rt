@@ -162,18 +162,18 @@ fn is_data(code: &[u16], counts: Counts, row: &[u8], j: usize) -> bool
     level(row, code[at]) != level(row, code[at + 1])
 }
 
-// The least output that is not DATA.
+// The least output that is not DATA, or that there is none: the pairs are taken in turn, and the loop ends at that one. In 14 and 15 it decides.
 pub fn first_not_data(code: &[u16], counts: Counts, row: &[u8]) -> Found
     requires { ⌜ StageLoaded counts (now code) × RowFor counts (now row) ⌝ }
     ensures { λ r. ⌜ r ≡ least (outputFails rows.isData counts (now (code .entry)) (netsIn counts (now (row .entry)))) 0 (counts .outputs) ⌝ }
 {
     let count = counts.outputs;
-    let mut j: usize = 0;
-    while j < count {
-        if is_data(code, counts, row, j) {
-            j += 1;
+    let mut pair: usize = 0;
+    while pair < count {
+        if is_data(code, counts, row, pair) {
+            pair += 1;
         } else {
-            return Found::At(j);
+            return Found::At(pair);
         }
     }
     Found::Nothing
@@ -199,7 +199,7 @@ fn is_null(code: &[u16], counts: Counts, row: &[u8], j: usize) -> bool
     level(row, code[at]) + level(row, code[at + 1]) == 0
 }
 
-// The least output that is not NULL.
+// The least output that is not NULL, or that there is none, found in the same way. In 20 and 21 it decides.
 fn first_not_null(code: &[u16], counts: Counts, row: &[u8]) -> Found
     requires { ⌜ StageLoaded counts (now code) × RowFor counts (now row) ⌝ }
     ensures { λ r. ⌜ r ≡ least (outputFails rows.isNull counts (now (code .entry)) (netsIn counts (now (row .entry)))) 0 (counts .outputs) ⌝ }

@@ -14,7 +14,8 @@ ghost use Rattle.joined.specs.Join.{files};
 ghost use Rattle.joined.specs.Demand.{JoinKept, JoinBecause};
 ghost use Rattle.join.specs.Call.{joinOn, partOf, Leaves};
 
-// The check of a stage file against a reference file. The verdict is the one that the definitions give, and demands 2 and 3 hold of it.
+// The check of a stage file against a reference file. The verdict is the one that the definitions give, and demands 2 and 3 hold of it,
+// with one run from another for an accepted stage.
 pub fn check(stage: &[u8], reference: &[u8]) -> Verdict
     ensures verdict { λ r. ⌜ r ≡ verdictOn (now (stage .entry)) (now (reference .entry)) ⌝ }
     ensures demand2 { λ r. ⌜ Demand2 stageLimits referenceLimits (now (stage .entry)) (now (reference .entry)) r ⌝ }

@@ -1,17 +1,14 @@
--- The join of two accepted parts is accepted and keeps the promise: shown from the parts, with no look at the words of the whole but one by one.
+-- The join of two accepted parts is accepted and keeps the promise: in each word this follows from what holds of the parts in theirs.
 -- Assumes nothing.
-use Prim.Native.Nat.{ℕ, zero, suc, _+_, _*_, _≤_, _<_}
+use Prim.Native.Nat.{ℕ, _≤_, _<_}
 use native.Mathlib.Omega.{arith}
-use mathlib.Core.Path.{_≡_, refl, sym, ap, _∙_, subst, fun-ext}
-use mathlib.Core.Bool.{Bool, true, false}
-use mathlib.Core.List.{List, [], _∷_}
+use mathlib.Core.Path.{_≡_, sym, ap, _∙_, subst, fun-ext}
+use mathlib.Core.Bool.{Bool}
+use mathlib.Core.List.{List}
 use lib.ListN.{length, getD}
 use lib.Dec.{eqb}
-use Rattle.runs.specs.Row.{Row}
 use Rattle.runs.specs.Net.{inputRail}
-use Rattle.runs.specs.Settled.{Settled}
-use Rattle.runs.specs.Pair.{DataOf, Reads}
-use Rattle.runs.specs.Acyclic.{Acyclic}
+use Rattle.runs.specs.Pair.{DataOf}
 use Rattle.runs.specs.Tight.{Tight, Clear}
 use Rattle.runs.specs.Complete.{Conforms}
 use Rattle.runs.proofs.Tight.{passes-tight}
@@ -20,16 +17,15 @@ use Rattle.runs.proofs.Complete.{tight-conforms, conforms-passes, conforms-fall
 use Rattle.runs.proofs.Series.{series-tight, series-clear}
 use Rattle.netlist.specs.declared.File.the-variants as file
 use Rattle.netlist.specs.declared.Limits.{Limits}
-use Rattle.netlist.specs.Reading.{Reading, readable, readFile}
-use Rattle.netlist.specs.Content.{Gate, Stage, Reference, stageOf, referenceOf}
-use Rattle.netlist.specs.Writing.{All, placesOf, stageItems, referenceItems, writeStage, writeReference}
+use Rattle.netlist.specs.Content.{Stage, Reference}
+use Rattle.netlist.specs.Writing.{placesOf, stageItems, referenceItems}
 use Rattle.netlist.specs.Formed.{CellFormed, nets, StageFormed, ReferenceFormed}
 use Rattle.netlist.proofs.Lists.{All-map}
 use Rattle.netlist.proofs.Stages.{read-writeStage, stageOf-writeStage, stage-formed, stage-fits}
 use Rattle.netlist.proofs.References.{read-writeReference, referenceOf-writeReference, reference-formed, reference-fits}
 use Rattle.verdict.specs.declared.Verdict.{Verdict}
 use Rattle.verdict.specs.Loops.{LoopFree}
-use Rattle.verdict.specs.Words.{caredFor, words, IsWord, bitsOf, railsOf, railsIn}
+use Rattle.verdict.specs.Words.{words, IsWord, bitsOf, railsOf}
 use Rattle.verdict.specs.Answers.{answer}
 use Rattle.verdict.specs.Nets.{netOf, rowOf, railsFor, answerBits}
 use Rattle.verdict.specs.Verdicts.{accepted, verdictWithin}
@@ -40,9 +36,9 @@ use Rattle.verdict.proofs.Bridge.{stageIn}
 use Rattle.verdict.proofs.OneWord.{wires-data}
 use Rattle.verdict.proofs.Demands.{demand-2, demand-3, accepted-contents}
 use Rattle.joined.specs.Whole.{netInWhole, joinedStage, joinedReference}
-use Rattle.joined.specs.Join.{Files, stageRead, referenceRead, Part, partIn, wordOf, answerWord, CaresFor, stageBytes, referenceBytes}
+use Rattle.joined.specs.Join.{Files, stageRead, referenceRead, Part, partIn, answerWord, CaresFor, stageBytes, referenceBytes}
 use Rattle.joined.specs.Demand.{RoomForTwo, Joinable, Joined}
-use Rattle.joined.proofs.Stages.{stage-named, in-series, joined-free, gates-length, outputs-length}
+use Rattle.joined.proofs.Stages.{stage-named, in-series, joined-free, outputs-length}
 use Rattle.joined.proofs.Stages as stages
 use Rattle.joined.proofs.References.{answer-length, joined-answer}
 use Rattle.joined.proofs.References as references
@@ -77,9 +73,18 @@ module _ (stageMost referenceMost : Limits) (f : Files) where
         acceptable = demand-2 stageMost referenceMost (f .stage) (f .reference) .exactly c (r .1) .0 e;
       })
 
+-- a word in which a stage conforms
+module _ (s : Stage) (free : LoopFree (s .inputs) (s .gates)) (w : ℕ) (answer : ℕ → Bool) (k : Conforms (netOf s) (railsFor s w) answer) where
+  word-tight : Tight (netOf s) (railsFor s w) answer
+  word-tight = passes-tight (stageIn s free) (railsFor s w) answer (wires-data s w) (conforms-passes (stageIn s free) (railsFor s w) answer k)
+
+  word-clear : Clear (netOf s) (railsFor s w)
+  word-clear = fall-passes-clear (stageIn s free) (railsFor s w) (wires-data s w) (conforms-fall-passes (stageIn s free) (railsFor s w) answer k)
+
 -- ---- two good parts
 
-module _ (stageMost referenceMost : Limits) (first second : Part) (good : GoodPart stageMost referenceMost first) (good′ : GoodPart stageMost referenceMost second) (counts : length (first .circuit .outputs) ≡ second .circuit .inputs) where
+module _ (stageMost referenceMost : Limits) (first second : Part) (good : GoodPart stageMost referenceMost first) (good′ : GoodPart stageMost referenceMost second)
+    (counts : length (first .circuit .outputs) ≡ second .circuit .inputs) where
   abbrev whole : Stage
   whole = joinedStage (first .circuit) (second .circuit)
 
@@ -149,19 +154,17 @@ module _ (stageMost referenceMost : Limits) (first second : Part) (good : GoodPa
         let c = railsFor (first .circuit) w in
         let v = answerBits (first .function) w in
         let d = railsFor (second .circuit) next in
-        let k = good .acceptable w h in
-        let k′ = subst (Conforms (netOf (second .circuit)) d) answers-next (good′ .acceptable next h′) in
-        let ta : Tight (netOf (first .circuit)) c v = passes-tight A c v (wires-data (first .circuit) w) (conforms-passes A c v k) in
-        let tb : Tight (netOf (second .circuit)) d (answerBits function w) = passes-tight B d (answerBits function w) (wires-data (second .circuit) next) (conforms-passes B d (answerBits function w) k′) in
-        let ca : Clear (netOf (first .circuit)) c = fall-passes-clear A c (wires-data (first .circuit) w) (conforms-fall-passes A c v k) in
-        let cb : Clear (netOf (second .circuit)) d = fall-passes-clear B d (wires-data (second .circuit) next) (conforms-fall-passes B d (answerBits function w) k′) in
+        let ka : Conforms (netOf (first .circuit)) c v = good .acceptable w h in
+        let kb : Conforms (netOf (second .circuit)) d (answerBits function w) = subst (Conforms (netOf (second .circuit)) d) answers-next (good′ .acceptable next h′) in
+        let ta = word-tight (first .circuit) free w v ka in
+        let tb = word-tight (second .circuit) free′ next (answerBits function w) kb in
         let namedA = stage-named stageMost (first .circuit) (good .formed) in
         let namedB = stage-named stageMost (second .circuit) (good′ .formed) in
         let s = in-series stageMost (first .circuit) (second .circuit) (good .formed) (good′ .formed) seam in
         let move = netInWhole (first .circuit) (second .circuit) in
         tight-conforms W c (answerBits function w) (wires-data whole w)
         (series-tight A B W move namedA namedB s c v d spelt (answerBits function w) ta tb)
-        (series-clear A B W move namedA namedB s c v d spelt (ta .right) ca cb)
+        (series-clear A B W move namedA namedB s c v d spelt (ta .right) (word-clear (first .circuit) free w v ka) (word-clear (second .circuit) free′ next (answerBits function w) kb))
 
   -- ---- the whole
 
@@ -190,7 +193,8 @@ module _ (stageMost referenceMost : Limits) (first second : Part) (good : GoodPa
 
     reference-held : ReferenceIs wholeReference (referenceBytes first second) function
     reference-held =
-        let formed : ReferenceFormed wholeReference function = references.joined-formed (first .function) (second .function) referenceMost (good .ordered) (good′ .ordered) signals wholeReference room′ in
+        let formed : ReferenceFormed wholeReference function =
+        references.joined-formed (first .function) (second .function) referenceMost (good .ordered) (good′ .ordered) signals wholeReference room′ in
         let fits = reference-fits wholeReference function (omega (arith, room′ .words)) (omega (arith, room′ .nets)) formed in
         record {
           places = placesOf file.Reference (function .inputs) (referenceItems function);

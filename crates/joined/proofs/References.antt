@@ -1,10 +1,9 @@
 -- The joined reference: it is well-formed, and it answers what the second part answers to the answer of the first.
 -- Assumes nothing.
-use Prim.Native.Nat.{ℕ, zero, suc, _+_, _-_, _*_, _≤_, _<_}
+use Prim.Native.Nat.{ℕ, suc, _+_, _-_, _≤_, _<_}
 use native.Mathlib.Omega.{arith}
 use native.Mathlib.Decide.{decLt}
 use mathlib.Core.Path.{_≡_, refl, sym, ap, ap₂, _∙_, subst}
-use mathlib.Core.Logic.{_⊎_, inl, inr}
 use mathlib.Core.List.{List, [], _∷_, _++_, map}
 use lib.ListN.{length, getD, length-append, length-map, List·getD-append}
 use lib.Seq.{getD-append-seam}
@@ -12,7 +11,7 @@ use Rattle.runs.proofs.Test.{lt-ltb, le-ltb}
 use Rattle.netlist.specs.declared.Limits.{Limits}
 use Rattle.netlist.specs.Content.{Coded, Reference}
 use Rattle.netlist.specs.Writing.{All}
-use Rattle.netlist.specs.Formed.{OperationFormed, FormedFrom, ReferenceFormed}
+use Rattle.netlist.specs.Formed.{FormedFrom, ReferenceFormed}
 use Rattle.verdict.specs.Answers.{operate, valuesAt, signalValues, answer}
 use Rattle.joined.specs.Whole.{signalInWhole, operationInWhole, joinedReference}
 use Rattle.joined.specs.Demand.{RoomForTwo}
@@ -104,7 +103,8 @@ module _ (first second : Reference) where
       values-follow (signalInWhole first second) whole part f (c .operands) (subst (λ (n : ℕ). All (λ v. v < n) (c .operands)) (sym lp) (h .0 .operands-in)) in
       let z : suc (second .inputs + k) ≡ second .inputs + suc k = omega arith in
       let next : signalInWhole first second (length part) ≡ length whole = omega (arith, gate-signal (length part) (omega arith)) in
-      subst (λ (vs : List ℕ). Follows (signalInWhole first second) (signalValues (whole ++ (operate (c .code) vs ∷ [])) (map (operationInWhole first second) cs)) (signalValues (part ++ (x ∷ [])) cs)) (sym e)
+      let moved = map (operationInWhole first second) cs in
+      subst (λ (vs : List ℕ). Follows (signalInWhole first second) (signalValues (whole ++ (operate (c .code) vs ∷ [])) moved) (signalValues (part ++ (x ∷ [])) cs)) (sym e)
       (gates-follow (suc k) cs (whole ++ (x ∷ [])) (part ++ (x ∷ [])) (omega (arith, length-append whole (x ∷ []))) (omega (arith, length-append part (x ∷ []))) (rw z at (h .1))
       (follow-one (signalInWhole first second) whole part x f next))
 
@@ -136,7 +136,9 @@ module _ (first second : Reference) where
 
     gates-length : length (joinedReference first second .gates) ≡ length (first .gates) + length (second .gates)
     unfolding joinedReference
-    gates-length = length-append (first .gates) (map (operationInWhole first second) (second .gates)) ∙ ap (λ (n : ℕ). length (first .gates) + n) (length-map (second .gates) (operationInWhole first second))
+    gates-length =
+        length-append (first .gates) (map (operationInWhole first second) (second .gates))
+        ∙ ap (λ (n : ℕ). length (first .gates) + n) (length-map (second .gates) (operationInWhole first second))
 
     pub joined-formed : (whole : Limits) → RoomForTwo most whole → ReferenceFormed whole (joinedReference first second)
     unfolding joinedReference

@@ -1,6 +1,6 @@
 -- The joined stage: it is well-formed, it has no loop, and its net is the parts' nets in series.
 -- Assumes nothing.
-use Prim.Native.Nat.{ℕ, zero, suc, _+_, _-_, _*_, _/_, _%_, _≤_, _<_}
+use Prim.Native.Nat.{ℕ, _+_, _-_, _*_, _/_, _%_, _≤_, _<_}
 use native.Mathlib.Omega.{arith}
 use native.Mathlib.Decide.{decLt}
 use mathlib.Core.Path.{_≡_, refl, sym, ap, ap₂, _∙_, subst}
@@ -8,16 +8,16 @@ use mathlib.Core.Bool.{Bool, true, false, not, cond, _&&_}
 use mathlib.Core.List.{List, [], _∷_, _++_, map, map-map}
 use lib.ListN.{length, getD, length-append, length-map, List·getD-append}
 use lib.Seq.{getD-append-add}
-use lib.Dec.{eqb, ltb}
+use lib.Dec.{ltb}
 use Rattle.gates.specs.Expression.{holds}
 use Rattle.gates.specs.Cell.{setExpression}
 use Rattle.runs.specs.Row.{Row}
-use Rattle.runs.specs.Net.{IsGate, inputRail, mayFall, allLow}
+use Rattle.runs.specs.Net.{IsGate, inputRail, allLow}
 use Rattle.runs.specs.Series.{Named, InSeries}
 use Rattle.runs.proofs.Test.{lt-ltb, le-ltb}
+use Rattle.runs.proofs.Net.{rail-of-input}
 use Rattle.netlist.specs.declared.Limits.{Limits}
 use Rattle.netlist.specs.Content.{Gate, Pair, Stage}
-use Rattle.netlist.specs.Writing.{All}
 use Rattle.netlist.specs.Formed.{CellFormed, RailsFormed, nets, StageFormed}
 use Rattle.netlist.proofs.Lists.{All-++, All-map}
 use Rattle.verdict.specs.Loops.{In, pinsAt, Feeds, LoopFree}
@@ -30,23 +30,20 @@ use Rattle.joined.proofs.Lists.{All-get, All-in, All-pins, All-mapped, 
 -- ---- nets of the second part in the whole
 
 module _ (first second : Stage) where
-  rail-in-whole : (net : ℕ) → net < 2 * second .inputs → netInWhole first second net ≡ railOf (outputPair first (net / 2)) (eqb (net % 2) 1)
-  unfolding netInWhole
-  rail-in-whole net h = rw (lt-ltb net (2 * second .inputs) h)
-
   net-in-whole : (net : ℕ) → 2 * second .inputs ≤ net → netInWhole first second net ≡ nets first + (net - 2 * second .inputs)
   unfolding netInWhole
   net-in-whole net h = rw (le-ltb net (2 * second .inputs) h)
 
   input-in-whole : (j : ℕ) → j < second .inputs → (b : Bool) → netInWhole first second (inputRail j b) ≡ railOf (outputPair first j) b
+  unfolding netInWhole
   input-in-whole j h false =
       let a : 2 * j / 2 ≡ j = omega arith in
       let b : 2 * j % 2 ≡ 0 = omega arith in
-      rail-in-whole (2 * j) (omega arith) ∙ rw (a, b)
+      rw (lt-ltb (2 * j) (2 * second .inputs) (omega arith), a, b)
   input-in-whole j h true =
       let a : (2 * j + 1) / 2 ≡ j = omega arith in
       let b : (2 * j + 1) % 2 ≡ 1 = omega arith in
-      rail-in-whole (2 * j + 1) (omega arith) ∙ rw (a, b)
+      rw (lt-ltb (2 * j + 1) (2 * second .inputs) (omega arith), a, b)
 
   -- ---- how many
 
@@ -136,7 +133,10 @@ module _ (most : Limits) (first second : Stage) (formed : StageFormed most first
   -- a rail of the second part is a net of the first
   input-below : (net : ℕ) → net < 2 * second .inputs → netInWhole first second net < nets first
   input-below net h =
-      rw (rail-in-whole first second net h) (stage-named most first formed .outs (net / 2) (omega arith) (eqb (net % 2) 1))
+      let i = rail-of-input net in
+      let e : netInWhole first second net ≡ railOf (outputPair first (net / 2)) (i .0) =
+      ap (netInWhole first second) (i .1) ∙ input-in-whole first second (net / 2) (omega arith) (i .0) in
+      rw e (stage-named most first formed .outs (net / 2) (omega arith) (i .0))
 
   moved-below : (net : ℕ) → net < nets second → netInWhole first second net < nets (joinedStage first second)
   unfolding joinedStage

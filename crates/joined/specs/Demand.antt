@@ -11,7 +11,7 @@ use Rattle.verdict.specs.Words.{IsWord}
 use Rattle.verdict.specs.Verdicts.{accepted, verdictWithin}
 use Rattle.verdict.specs.Demands.{StageIs, ReferenceIs, Nowhere, Named, EachOf, Kept}
 use Rattle.joined.specs.Whole.{joinedStage, joinedReference}
-use Rattle.joined.specs.Join.{Files, Part, partIn, threeAdded, answerWord, CaresFor, stageBytes, referenceBytes, joinChecks, JoinAnswer, joinRefused, joinWritten}
+use Rattle.joined.specs.Join.{Files, Part, partIn, threeAdded, answerWord, CaresFor, joinChecks, JoinAnswer, joinRefused, joinWritten}
 
 -- limits of a whole that have room for two parts, and whose words and nets a file can name
 pub record RoomForTwo (part whole : Limits) : Type 0 where

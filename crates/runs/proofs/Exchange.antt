@@ -9,7 +9,7 @@ use native.Mathlib.Omega.{arith}
 use lib.Dec.{eqb}
 use Rattle.runs.specs.Row.{Row, Rule, toggle, after, Legal, Ended, tally, times}
 use Rattle.runs.specs.Exchange as runs
-use Rattle.runs.specs.Exchange.{FullRun, Exchanged, OneFromAnother}
+use Rattle.runs.specs.Exchange.{FullRun, SameSwitchings, Exchanged, OneFromAnother}
 use Rattle.runs.proofs.Test.{clash, same?}
 use Rattle.runs.proofs.Row.{toggle-comm}
 use Rattle.runs.proofs.System.{System, can, Quiet}
@@ -44,6 +44,17 @@ exchanged-runs can r e f done = runs.done f
 exchanged-runs can r e f (swap a i k b p x) =
     let same = sym (after-swap r a i k b) in
     runs.swap a i k b f (exchanged-runs can r e (record { legal = p; ended = subst (Ended can) (sym same) (f .ended); arrives = same ∙ f .arrives }) x)
+
+-- ---- what the two notions give
+
+-- both lists are runs, as is every list on the way, since the rest of the way is itself such an exchange
+pub exchanged-both : {Run : List ℕ → Type 0} {l m : List ℕ} → Exchanged Run l m → Run l × Run m
+exchanged-both (runs.done f) = (f, f)
+exchanged-both (runs.swap a i k b f x) = (f, exchanged-both x .1)
+
+-- no net stands twice in either list
+pub each-once : {l m : List ℕ} → SameSwitchings l m → (k : ℕ) → (times k l ≤ 1) × (times k m ≤ 1)
+each-once h k = (h .once k, subst (λ (n : ℕ). n ≤ 1) (h .same k) (h .once k))
 
 tally-comm : (a b : Bool) (n : ℕ) → tally a (tally b n) ≡ tally b (tally a n)
 tally-comm true true n = refl

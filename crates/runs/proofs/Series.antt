@@ -1,8 +1,8 @@
 -- Two stages in a row that are tight and clear are tight and clear as one.
 -- Assumes nothing.
-use mathlib.Core.Path.{_≡_, refl, sym, ap, _∙_, subst, fun-ext}
+use mathlib.Core.Path.{_≡_, refl, sym, ap, _∙_, fun-ext}
 use mathlib.Core.Bool.{Bool, true, false, not, _&&_}
-use Prim.Native.Nat.{ℕ, _+_, _-_, _*_, _/_, _≤_, _<_}
+use Prim.Native.Nat.{ℕ, _+_, _-_, _/_, _≤_, _<_}
 use native.Mathlib.Omega.{arith}
 use lib.Dec.{ltb}
 use Rattle.runs.specs.Row.{Row, low}
@@ -13,10 +13,10 @@ use Rattle.runs.specs.Pair.{DataOf, AllData, AllNull, Reads}
 use Rattle.runs.specs.Acyclic.{Acyclic, AllPins}
 use Rattle.runs.specs.Tight.{Supported, Tight, Released, Clear}
 use Rattle.runs.specs.Series.{Named, InSeries}
-use Rattle.runs.proofs.Test.{clash, not-true, and-in, and-left, and-right, ltb-true, lt-ltb, le-ltb}
-use Rattle.runs.proofs.Net.{Place, rail, gate, none, place, byNet-rail, byNet-gate, byNet-none, byNet-inside, rail-of-input, inputRail-inside, AllPins-map, mayFall-local}
+use Rattle.runs.proofs.Test.{clash, not-true, and-left, and-right, ltb-true, lt-ltb, le-ltb}
+use Rattle.runs.proofs.Net.{Place, rail, gate, none, place, byNet-rail, byNet-gate, byNet-none, rail-of-input, inputRail-inside, AllPins-map, mayFall-local}
 use Rattle.runs.proofs.Pair.{reads-data}
-use Rattle.runs.proofs.Rise.{supported-⊑-settled, settled-inside, settled-by, settled-rail, settled-gate}
+use Rattle.runs.proofs.Rise.{supported-⊑-settled, settled-inside}
 
 -- two pairs that are DATA of one bit agree in each rail
 data-same : (r s : Row) (p q : Bool → ℕ) (x : Bool) → DataOf r p x → DataOf s q x → (b : Bool) → r (p b) ≡ s (q b)
@@ -101,6 +101,33 @@ module _ (SA SB SW : Acyclic) (move : ℕ → ℕ) (namedA : Named (SA .net)) (n
           ap r (sym (i .2)) ∙ sym (second-in r (i .0) (i .1 .1)) ∙ ap (λ (x : Row). x (i .0)) g ∙ second-in t (i .0) (i .1 .1) ∙ ap t (i .2)
       go k (none h) (none l) = past k l
 
+  -- ---- outputs of the whole and of the parts
+
+  -- an output of the whole is one of the second part
+  at-output : (r : Row) (j : ℕ) → j < B .outputs → (b : Bool) → second r (B .rail j b) ≡ r (W .rail j b)
+  at-output r j h b = second-in r (B .rail j b) (namedB .outs j h b) ∙ ap r (sym (s .rail j h b))
+
+  second-reads : (R : Row) (answer : ℕ → Bool) → Reads B (second R) answer → Reads W R answer
+  second-reads R answer f j h =
+      let l : j < B .outputs = omega (arith, s .outputs) in
+      (sym (at-output R j l (answer j)) ∙ f j l .0, sym (at-output R j l (not (answer j))) ∙ f j l .1)
+
+  second-data : (r : Row) → AllData W r → AllData B (second r)
+  second-data r x j h = at-output r j h false ∙ x j (omega (arith, s .outputs)) ∙ ap not (sym (at-output r j h true))
+
+  -- where the second part's inputs are as in a row that shows the first part's answer, all outputs of the first part are DATA
+  first-data : (r R : Row) (v : ℕ → Bool) → Reads A (first R) v → second r ≡ second R → AllData A (first r)
+  first-data r R v reads e j h = same false ∙ reads-data A (first R) v reads j h ∙ ap not (sym (same true))
+    where
+      same : (b : Bool) → first r (A .rail j b) ≡ first R (A .rail j b)
+      same b = at-seam r j h b ∙ ap (λ (x : Row). x (inputRail j b)) e ∙ sym (at-seam R j h b)
+
+  second-null : (r : Row) → AllNull W r → AllNull B (second r)
+  second-null r x j h = let n = x j (omega (arith, s .outputs)) in (at-output r j h false ∙ n .0, at-output r j h true ∙ n .1)
+
+  first-null : (r : Row) → second r ≡ low → AllNull A (first r)
+  first-null r e j h = (at-seam r j h false ∙ ap (λ (x : Row). x (inputRail j false)) e, at-seam r j h true ∙ ap (λ (x : Row). x (inputRail j true)) e)
+
   -- ---- the rules of the whole are those of the parts
 
   first-byNet : (k : ℕ) → k < nets A → (a x y : Bool) → (IsGate A k → x ≡ y) → byNet W k a x ≡ byNet A k a y
@@ -155,6 +182,10 @@ module _ (SA SB SW : Acyclic) (move : ℕ → ℕ) (namedA : Named (SA .net)) (n
     first-released : (R r : Row) → Released W R r → Released A (first R) (first r)
     first-released R r f k e z = let h = first-high R k e in sym (first-down r k (h .0)) ∙ f k (h .1) (sym (first-in r k (h .0)) ∙ z)
 
+    -- nothing is high past the nets
+    past-low : (R : Row) → Settled W c R → (r : Row) → r ⊑ R → (k : ℕ) → nets W ≤ k → r k ≡ false
+    past-low R rest r o k h = not-true (r k) (λ e. omega (arith, settled-inside W c R rest k (o k e)))
+
     -- the rails d of the second part spell what the first part answers
     module _ (v : ℕ → Bool) (d : Row) (spelt : (j : ℕ) → j < B .inputs → DataOf d (inputRail j) (v j)) (R : Row) (rest : Settled W c R) (reads : Reads A (first R) v) where
       rail-is : (k : ℕ) → k < rails B → second R k ≡ d k
@@ -191,36 +222,6 @@ module _ (SA SB SW : Acyclic) (move : ℕ → ℕ) (namedA : Named (SA .net)) (n
           go x (gate h) = sym (second-down r k h) ∙ f (move k) (x .1) (sym (second-in r k (x .0)) ∙ z)
           go x (none h) = absurd (omega (arith, x .0))
 
-      -- nothing is high past the nets
-      past-low : (r : Row) → r ⊑ R → (k : ℕ) → nets W ≤ k → r k ≡ false
-      past-low r o k h = not-true (r k) (λ e. omega (arith, settled-inside W c R rest k (o k e)))
-
-      -- an output of the whole is one of the second part
-      at-output : (r : Row) (j : ℕ) → j < B .outputs → (b : Bool) → second r (B .rail j b) ≡ r (W .rail j b)
-      at-output r j h b = second-in r (B .rail j b) (namedB .outs j h b) ∙ ap r (sym (s .rail j h b))
-
-      second-reads : (answer : ℕ → Bool) → Reads B (second R) answer → Reads W R answer
-      second-reads answer f j h =
-          let l : j < B .outputs = omega (arith, s .outputs) in
-          (sym (at-output R j l (answer j)) ∙ f j l .0, sym (at-output R j l (not (answer j))) ∙ f j l .1)
-
-      module _ (r : Row) where
-        second-data : AllData W r → AllData B (second r)
-        second-data x j h = at-output r j h false ∙ x j (omega (arith, s .outputs)) ∙ ap not (sym (at-output r j h true))
-
-        -- where the second part's inputs are as at rest, all outputs of the first part are DATA
-        first-data : second r ≡ second R → AllData A (first r)
-        first-data e j h = same false ∙ reads-data A (first R) v reads j h ∙ ap not (sym (same true))
-          where
-            same : (b : Bool) → first r (A .rail j b) ≡ first R (A .rail j b)
-            same b = at-seam r j h b ∙ ap (λ (x : Row). x (inputRail j b)) e ∙ sym (at-seam R j h b)
-
-        second-null : AllNull W r → AllNull B (second r)
-        second-null x j h = let n = x j (omega (arith, s .outputs)) in (at-output r j h false ∙ n .0, at-output r j h true ∙ n .1)
-
-        first-null : second r ≡ low → AllNull A (first r)
-        first-null e j h = (at-seam r j h false ∙ ap (λ (x : Row). x (inputRail j false)) e, at-seam r j h true ∙ ap (λ (x : Row). x (inputRail j true)) e)
-
   -- ---- tight and clear in a row
 
   low-first : first low ≡ low
@@ -237,20 +238,25 @@ module _ (SA SB SW : Acyclic) (move : ℕ → ℕ) (namedA : Named (SA .net)) (n
         reads : (R : Row) → Settled W c R → Reads A (first R) v
         reads R rest = ta .right (first R) (first-settled c R rest)
 
+        second-rest : (R : Row) → Settled W c R → Settled B d (second R)
+        second-rest R rest = second-settled c v d spelt R rest (reads R rest)
+
         right : (R : Row) → Settled W c R → Reads W R answer
-        right R rest = second-reads c v d spelt R rest (reads R rest) answer (tb .right (second R) (second-settled c v d spelt R rest (reads R rest)))
+        right R rest = second-reads R answer (tb .right (second R) (second-rest R rest))
 
         tight : (R : Row) → Settled W c R → (r : Row) → Supported W c r → AllData W r → r ≡ R
         tight R rest r u x =
             let o : r ⊑ R = supported-⊑-settled SW c r R u rest in
-            let g : second r ≡ second R = tb .tight (second R) (second-settled c v d spelt R rest (reads R rest)) (second r) (second-supported c v d spelt R rest (reads R rest) r u) (second-data c v d spelt R rest (reads R rest) r x) in
-            let f : first r ≡ first R = ta .tight (first R) (first-settled c R rest) (first r) (first-supported c r u) (first-data c v d spelt R rest (reads R rest) r g) in
-            glue r R f g (λ k h. past-low c v d spelt R rest (reads R rest) r o k h ∙ sym (past-low c v d spelt R rest (reads R rest) R (λ i e. e) k h))
+            let u′ = second-supported c v d spelt R rest (reads R rest) r u in
+            let g : second r ≡ second R = tb .tight (second R) (second-rest R rest) (second r) u′ (second-data r x) in
+            let f : first r ≡ first R = ta .tight (first R) (first-settled c R rest) (first r) (first-supported c r u) (first-data r R v (reads R rest) g) in
+            glue r R f g (λ k h. past-low c R rest r o k h ∙ sym (past-low c R rest R (λ i e. e) k h))
 
     -- Two stages in a row that are clear are clear as one, where the first shows what it answers.
     pub series-clear : ((R : Row) → Settled A c R → Reads A R v) → Clear A c → Clear B d → Clear W c
     series-clear shows ca cb R rest r o f n =
         let reads : Reads A (first R) v = shows (first R) (first-settled c R rest) in
-        let g : second r ≡ low = cb (second R) (second-settled c v d spelt R rest reads) (second r) (second-⊑ r R o) (second-released c v d spelt R rest reads r f) (second-null c v d spelt R rest reads r n) in
-        let e : first r ≡ low = ca (first R) (first-settled c R rest) (first r) (first-⊑ r R o) (first-released c R r f) (first-null c v d spelt R rest reads r g) in
-        glue r low (e ∙ sym low-first) (g ∙ sym low-second) (past-low c v d spelt R rest reads r o)
+        let f′ = second-released c v d spelt R rest reads r f in
+        let g : second r ≡ low = cb (second R) (second-settled c v d spelt R rest reads) (second r) (second-⊑ r R o) f′ (second-null r n) in
+        let e : first r ≡ low = ca (first R) (first-settled c R rest) (first r) (first-⊑ r R o) (first-released c R r f) (first-null r g) in
+        glue r low (e ∙ sym low-first) (g ∙ sym low-second) (past-low c R rest r o)

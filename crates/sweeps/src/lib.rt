@@ -113,9 +113,9 @@ fn all_hold(code: &[u16], counts: Counts) -> bool
     requires { ⌜ StageLoaded counts (now code) ⌝ }
     ensures { λ r. ⌜ (r ≡ true → WithHold (stageIn counts (now (code .entry)))) ⌝ }
 {
-    let count = counts.gates;
+    let gates = counts.gates;
     let mut k: usize = 0;
-    while k < count {
+    while k < gates {
         if code[8 * k + 7] == 1 {
             k += 1;
         } else {

@@ -30,7 +30,7 @@ use Rattle.verdict.specs.Nets.{noGate, netOf, rowOf, railsFor, answerBit
 use Rattle.verdict.specs.Checks.{Check, unequal, looped, riseSweeps, fallSweeps, sweeps, firstFault, checks, rowChecks}
 use Rattle.verdict.specs.Verdicts.{accepted, verdictOf, judgeReference, judgeStage, verdictWithin, RowAnswer, settleUnless, settleReading, settledRowWithin}
 use Rattle.verdict.specs.Demands as demands
-use Rattle.verdict.specs.Demands.{StageIs, ReferenceIs, Contents, Nowhere, NamedBy, Named, EachOf, Judged, Because, both-read, Comparable, Acceptable, Demand2, Kept, Shown, ShownBy, Demand3, WithHold, NoFallRefusal, RowGiven, DemandRow, row-refused, row-settled}
+use Rattle.verdict.specs.Demands.{StageIs, ReferenceIs, Contents, Nowhere, NamedBy, Named, EachOf, Judged, Because, both-read, Comparable, Acceptable, Demand2, Kept, Shown, ShownBy, Demand3, WithHold, RowGiven, DemandRow, row-refused, row-settled}
 use Rattle.verdict.proofs.Levels.{bits-length, bits-get}
 use Rattle.verdict.proofs.Reaching.{noLoop-loopFree}
 use Rattle.verdict.proofs.Settling.{settled-bits}
@@ -222,9 +222,24 @@ module _ (stageMost referenceMost : Limits) (stage reference : List ℕ) where
       (subst (λ (x : Reference). Judged (checks (c .circuit) (c .function)) (verdictOf (firstFault (checks (c .circuit) x)))) (sym (ir .content))
       (judged (checks (c .circuit) (c .function)) (checks-mean (c .circuit) (c .function)))))
 
+  -- A stage file without relaxed kinds never gets 20 or 21, whatever the reference's file holds.
+  hold-never-falls : (s : Stage) → StageIs stageMost stage s → WithHold s → ¬ (In (given .number) (20 ∷ 21 ∷ []))
+  hold-never-falls s is hold = go (verdict-because stageMost referenceMost stage reference)
+    where
+      judged-so : (c : Contents stageMost referenceMost stage reference) {v : Verdict} → Judged (checks (c .circuit) (c .function)) v → ¬ (In (v .number) (20 ∷ 21 ∷ []))
+      judged-so c (inr a) h = omega (arith, number-of (a .1), fall-numbers _ h)
+      judged-so c {v} (inl n) h = hold-not-named (c .circuit) (c .function) (subst WithHold (stage-one is (c .circuit-is)) hold) v n h
+
+      go : {v : Verdict} → Because stageMost referenceMost stage reference v → ¬ (In (v .number) (20 ∷ 21 ∷ []))
+      go (demands.Because.stage-refused {number = number} {at = at} e) h =
+          omega (arith, refused-number file.Stage stageMost stage number at e .1, fall-numbers number h)
+      go (demands.Because.reference-refused {number = number} {at = at} x e) h =
+          omega (arith, refused-number file.Reference referenceMost reference number at e .1, fall-numbers number h)
+      go (both-read c j) h = judged-so c j h
+
   -- Demand 2 holds of the verdict, whatever the two files hold.
   pub demand-2 : Demand2 stageMost referenceMost stage reference given
-  demand-2 = record { exactly = λ c m. (λ e. forth c given e (verdict-judged c), λ a. back c given m a (verdict-judged c)); least = verdict-because stageMost referenceMost stage reference; rows = λ c n w. rows-are (c .circuit) w (noLoop-loopFree (c .circuit .inputs) (c .circuit .gates) n) }
+  demand-2 = record { exactly = λ c m. (λ e. forth c given e (verdict-judged c), λ a. back c given m a (verdict-judged c)); least = verdict-because stageMost referenceMost stage reference; rows = λ c n w. rows-are (c .circuit) w (noLoop-loopFree (c .circuit .inputs) (c .circuit .gates) n); hold-only = hold-never-falls }
     where
       forth : (c : Contents stageMost referenceMost stage reference) (v : Verdict) → v ≡ accepted → Judged (checks (c .circuit) (c .function)) v
           → Acceptable (c .circuit) (c .function)
@@ -295,21 +310,6 @@ module _ (stageMost referenceMost : Limits) (stage reference : List ℕ) where
       go v (demands.Because.reference-refused {number = number} {at = at} is q) e =
           absurd (let n = refused-number file.Reference referenceMost reference number at q in omega arith)
       go v (both-read c j) e = judged-so c v e j
-
-  -- A stage file without relaxed kinds never gets 20 or 21, whatever the reference's file holds.
-  pub hold-never-falls : NoFallRefusal stageMost stage given
-  hold-never-falls s is hold = go (verdict-because stageMost referenceMost stage reference)
-    where
-      judged-so : (c : Contents stageMost referenceMost stage reference) {v : Verdict} → Judged (checks (c .circuit) (c .function)) v → ¬ (In (v .number) (20 ∷ 21 ∷ []))
-      judged-so c (inr a) h = omega (arith, number-of (a .1), fall-numbers _ h)
-      judged-so c {v} (inl n) h = hold-not-named (c .circuit) (c .function) (subst WithHold (stage-one is (c .circuit-is)) hold) v n h
-
-      go : {v : Verdict} → Because stageMost referenceMost stage reference v → ¬ (In (v .number) (20 ∷ 21 ∷ []))
-      go (demands.Because.stage-refused {number = number} {at = at} e) h =
-          omega (arith, refused-number file.Stage stageMost stage number at e .1, fall-numbers number h)
-      go (demands.Because.reference-refused {number = number} {at = at} x e) h =
-          omega (arith, refused-number file.Reference referenceMost reference number at e .1, fall-numbers number h)
-      go (both-read c j) h = judged-so c j h
 
 -- ---- the settled-row call
 

@@ -18,3 +18,4 @@ pub mod Demands
 pub mod Bounds
 pub mod Cut
 pub mod Careless
+pub mod Rises

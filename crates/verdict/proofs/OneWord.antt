@@ -1,5 +1,5 @@
--- Demands 2 and 3 in one word: where the conditions of 13, 14 and 15 hold nowhere the stage conforms and keeps the promise, and a condition
--- that holds is shown by a run. And a settled row is what the gate rule gives.
+-- Demands 2 and 3 in one word: where the conditions of 13, 14, 15, 20 and 21 hold nowhere the stage conforms and keeps the promise, and a
+-- condition that holds is shown by a run. And a settled row is what the gate rule gives.
 -- Assumes nothing.
 use Prim.Native.Nat.{ℕ, _+_, _-_, _*_, _/_, _<_}
 use native.Mathlib.Omega.{arith}
@@ -112,6 +112,8 @@ module _ (s : Stage) (w : ℕ) where
       rest = (rest-settled, rest-one);
       missing = λ i. (missing-settled i, λ R h. settled-one (stageIn s free) _ R (missingRow s w i) h (missing-settled i));
       held = λ g hg. (held-settled g hg, λ R h. held-one (stageIn s free) (railsFor s w) (only (2 * s .inputs + g)) R (heldRow s w g) h (held-settled g hg));
+      remaining = λ i. (but-settled i, λ R h. kept-one (stageIn s free) (railsOfInputs (netOf s) (only i)) (restRow s w) R (rowOf (fallenBut s w i)) h (but-settled i));
+      kept = λ g. (keeping-settled g, λ R h. kept-one (stageIn s free) (only (2 * s .inputs + g)) (restRow s w) R (rowOf (fallenKeeping s w g)) h (keeping-settled g));
     }
 
     module _ (r : Reference) where

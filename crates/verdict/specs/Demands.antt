@@ -7,7 +7,7 @@ use mathlib.Core.Logic.{_⊎_, _↔_}
 use lib.ListN.{length, getD, take}
 use Rattle.runs.specs.Row.{Row, low, after, only, _∖_}
 use Rattle.runs.specs.Net.{RiseList, RiseEnd, riseStep, fallStep, railsOfInputs}
-use Rattle.runs.specs.Settled.{Settled, SettledHeld}
+use Rattle.runs.specs.Settled.{Settled, SettledHeld, SettledKept}
 use Rattle.runs.specs.Complete.{Conforms}
 use Rattle.runs.specs.Promise.{Goes-on, Promise}
 use Rattle.runs.specs.Exchange.{OneFromAnother}
@@ -20,6 +20,7 @@ use Rattle.verdict.specs.declared.Verdict.{Verdict}
 use Rattle.verdict.specs.Loops.{In, NoLoop}
 use Rattle.verdict.specs.Words.{IsWord}
 use Rattle.verdict.specs.Nets.{noGate, netOf, rowOf, railsFor, answerBits, restRow, missingRow, heldRow}
+use Rattle.verdict.specs.Falls.{fallenBut, fallenKeeping}
 use Rattle.verdict.specs.Checks.{verdict, Check, checks, rowChecks}
 use Rattle.verdict.specs.Verdicts.{accepted}
 
@@ -105,20 +106,28 @@ Acceptable s r = (w : ℕ) → IsWord s w → Conforms (netOf s) (railsFor s w) 
 abbrev pub TheOnly : (Row → Type 0) → Row → Type 0
 TheOnly P R = P R × ((r : Row) → P r → r ≡ R)
 
--- The rows of word w of which the conditions of 13, 14 and 15 speak are the paper's: "settled for given rails", the same with input i NULL, and
--- "settled with g held low".
+-- The rows of word w of which the conditions of 13, 14, 15, 20 and 21 speak are the paper's: "settled for given rails", the same with input i
+-- NULL, "settled with g held low"; and settled by the fall rule from the rest, "all inputs fallen but i", or "held high, all inputs fallen".
 pub record RowsAre (s : Stage) (w : ℕ) : Type 0 where
   pub rest : TheOnly (Settled (netOf s) (railsFor s w)) (restRow s w)
   pub missing : (i : ℕ) → TheOnly (Settled (netOf s) (railsFor s w ∖ railsOfInputs (netOf s) (only i))) (missingRow s w i)
   pub held : (g : ℕ) → g < length (s .gates) → TheOnly (SettledHeld (netOf s) (railsFor s w) (only (2 * s .inputs + g))) (heldRow s w g)
+  pub remaining : (i : ℕ) → TheOnly (SettledKept (netOf s) (railsOfInputs (netOf s) (only i)) (restRow s w)) (rowOf (fallenBut s w i))
+  pub kept : (g : ℕ) → TheOnly (SettledKept (netOf s) (only (2 * s .inputs + g)) (restRow s w)) (rowOf (fallenKeeping s w g))
+
+-- every gate has hold
+abbrev pub WithHold : Stage → Type 0
+WithHold s = (g : ℕ) → g < length (s .gates) → getD (s .gates) g noGate .hold ≡ true
 
 -- What demand 2 says of a verdict on two files: a comparable stage "is accepted exactly if" it is acceptable; "otherwise the verdict names
--- the earliest failing check and its least case", where the conditions of 13 to 15 are about the settled rows of a loop-free stage.
+-- the earliest failing check and its least case", where the conditions of 13 to 15, 20 and 21 are about the settled rows of a loop-free
+-- stage. Of M-102: "a stage without relaxed kinds" is "never to meet the two fall refusals".
 pub record Demand2 (stageMost referenceMost : Limits) (stage reference : List ℕ) (v : Verdict) : Type 0 where
   pub exactly : (c : Contents stageMost referenceMost stage reference) → Comparable (c .circuit) (c .function)
       → (v ≡ accepted) ↔ Acceptable (c .circuit) (c .function)
   pub least : Because stageMost referenceMost stage reference v
   pub rows : (c : Contents stageMost referenceMost stage reference) → NoLoop (c .circuit .inputs) (c .circuit .gates) → (w : ℕ) → RowsAre (c .circuit) w
+  pub hold-only : (s : Stage) → StageIs stageMost stage s → WithHold s → ¬ (In (v .number) (20 ∷ 21 ∷ []))
 
 -- ---- demand 3
 
@@ -154,16 +163,6 @@ pub record Demand3 (stageMost referenceMost : Limits) (stage reference : List �
   pub kept : v .number ≡ 0 → (v ≡ accepted) × Kept stageMost referenceMost stage reference
   pub broken : In (v .number) (13 ∷ 14 ∷ 15 ∷ 20 ∷ 21 ∷ [])
       → (c : Contents stageMost referenceMost stage reference) × ShownBy (checks (c .circuit) (c .function)) v
-
--- ---- stages without relaxed kinds
-
--- every gate has hold
-abbrev pub WithHold : Stage → Type 0
-WithHold s = (g : ℕ) → g < length (s .gates) → getD (s .gates) g noGate .hold ≡ true
-
--- What is said of a verdict on a stage file without relaxed kinds: it is none of the refusals of the fall.
-abbrev pub NoFallRefusal : Limits → List ℕ → Verdict → Type 0
-NoFallRefusal most stage v = (s : Stage) → StageIs most stage s → WithHold s → ¬ (In (v .number) (20 ∷ 21 ∷ []))
 
 -- ---- the settled-row call
 

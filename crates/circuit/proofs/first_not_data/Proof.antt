@@ -1,4 +1,4 @@
--- `circuit::first_not_data` meets its contract. The loop's invariant: the outputs before j are DATA. Assumes nothing.
+-- `circuit::first_not_data` meets its contract. The loop's invariant: the outputs before `pair` are DATA. Assumes nothing.
 use Prim.Native.Nat.{ℕ, _-_}
 use mathlib.Core.Path.{sym, ap, _∙_}
 use mathlib.Core.Bool.{not}
@@ -11,10 +11,10 @@ use Rattle.circuit.proofs.first_not_data.Statement.{statement}
 use Rattle.circuit.proofs.first_not_data.Tie as tie
 
 abbrev Inv-loop : tie.InvT-loop
-Inv-loop code counts row count j₀ j = SoughtTo (outputFails isData counts code (netsIn counts row)) (counts .outputs) j
+Inv-loop code counts row count pair₀ pair = SoughtTo (outputFails isData counts code (netsIn counts row)) (counts .outputs) pair
 
 abbrev μ-loop : tie.MeasureT-loop
-μ-loop code counts row count j₀ j = count - j
+μ-loop code counts row count pair₀ pair = count - pair
 
 loop-holds : tie.Need-loop-holds Inv-loop μ-loop
 loop-holds c = ap (least _ 0) (omega arith)
