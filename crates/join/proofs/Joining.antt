@@ -30,7 +30,8 @@ use Rattle.circuit.specs.Reference.{operatorsIn, signalsIn, referenceIn, Refere
 use Rattle.load.specs.Load.{HoldsStage, HoldsReference}
 use Rattle.load.proofs.Reading.{was-refused, stage-held, reference-held}
 use Rattle.joined.specs.Join as joined
-use Rattle.joined.specs.Join.{Part, Files, partIn, stageRead, referenceRead, refusalOf, ofSecond, threeAdded, stageBytes, referenceBytes, joinChecks, joinUnless, joinFault, joinWithin, joinRefused, joinWritten}
+use Rattle.joined.specs.Join.{Part, Files, partIn, stageRead, referenceRead, refusalOf, ofSecond, threeAdded}
+use Rattle.joined.specs.Join.{stageBytes, referenceBytes, joinChecks, joinUnless, joinFault, joinWithin, joinRefused, joinWritten}
 use Rattle.joined.specs.Demand.{RoomForTwo}
 use Rattle.writing.specs.Put.{Put}
 use Rattle.writing.proofs.Joining.{put-holding}
@@ -115,7 +116,12 @@ module _ (p q : Part) (stageRoom referenceRoom : ℕ) where
       pub at-reference-room : length (stageBytes p q) ≤ stageRoom → referenceRoom < length (referenceBytes p q) → answer ≡ joinRefused (verdict 24 3 0 0)
       unfolding joinUnless orLater
       at-reference-room h l =
-          let f : firstFault (joinChecks p q stageRoom referenceRoom) ≡ Fault (verdict 24 3 0 0) = found-is ∙ rw (seam-found true (eq-eqb _ _ same), ← passed, short-found true (rw (le-ltb _ _ h, lt-ltb _ _ l))) in
+          let f : firstFault (joinChecks p q stageRoom referenceRoom) ≡ Fault (verdict 24 3 0 0) = found-is ∙ rw (
+            seam-found true (eq-eqb _ _ same),
+            ← passed,
+            short-found true (rw
+                (le-ltb _ _ h, lt-ltb _ _ l)),
+          ) in
           ap (λ (f : Finding). joinUnless f p q) f
 
       pub at-none : length (stageBytes p q) ≤ stageRoom → length (referenceBytes p q) ≤ referenceRoom → answer ≡ joinWritten p q
@@ -242,7 +248,25 @@ module _ (s t : List ℕ) where
   unfolding checks riseSweeps fallSweeps
   because-file (demands.Because.stage-refused e) = omega arith
   because-file (demands.Because.reference-refused is e) = omega arith
-  because-file (both-read {v = v} c (inl n)) = named-file (checks (c .circuit) (c .function)) v (omega arith, (omega arith, (omega arith, (omega arith, (omega arith, (omega arith, (omega arith, (omega arith, tt)))))))) n
+  because-file (both-read {v = v} c (inl n)) = named-file (checks (c .circuit) (c .function)) v (
+    omega arith,
+    (
+      omega arith,
+      (
+        omega arith,
+        (
+          omega arith,
+          (
+            omega arith,
+            (
+              omega arith,
+              (omega arith, (omega arith, tt)),
+            ),
+          ),
+        ),
+      ),
+    ),
+  ) n
   because-file (both-read {v = v} c (inr a)) = omega (arith, ap (λ (u : Verdict). u .file) (a .1))
 
   pub file-few : (v : Verdict) → v ≡ verdictWithin partStageLimits partReferenceLimits s t → v .file ≤ 2

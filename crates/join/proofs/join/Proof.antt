@@ -29,7 +29,11 @@ check-within-requires-2 c κs = (
 add-t12 : tie.Need-add-t12
 add-t12 c =
     let z = c .before .before .before .before .before .before .before .before .before .before .before .before .before .before .before in
-    omega (arith, file-few (now (z .args .stage2)) (now (z .args .reference2)) _ (judged-by _ _ _ _ _ (c .before .before .before .check-within2 .ensures .0) (c .before .before .before .before .before .before .before .before .part-stage-limits .ensures) (c .before .before .before .before .before .before .before .part-reference-limits .ensures)))
+    omega (
+      arith,
+      file-few (now (z .args .stage2)) (now (z .args .reference2)) _ (judged-by _ _ _ _ _ (c .before .before .before .check-within2 .ensures .0)
+          (c .before .before .before .before .before .before .before .before .part-stage-limits .ensures) (c .before .before .before .before .before .before .before .part-reference-limits .ensures)),
+    )
 
 join-accepted-requires : tie.Need-join-accepted-requires
 join-accepted-requires c κs =
@@ -37,7 +41,10 @@ join-accepted-requires c κs =
     let a = z .args in
     let m = c .before .before .before .before .before .before .before .before .before .part-stage-limits .ensures in
     let n = c .before .before .before .before .before .before .before .before .part-reference-limits .ensures in (
-      accepts-zero (now (a .stage1)) (now (a .reference1)) _ (judged-by _ _ _ _ _ (c .before .before .before .before .before .before .before .check-within .ensures .0) m n) (omega (arith, c .before .before .before .before .before .if1 .left)),
+      accepts-zero (now (a .stage1)) (now (a .reference1)) _ (judged-by _ _ _ _ _ (c .before .before .before .before .before .before .before .check-within .ensures .0) m n) (omega (
+        arith,
+        c .before .before .before .before .before .if1 .left,
+      )),
       accepts-zero (now (a .stage2)) (now (a .reference2)) _ (judged-by _ _ _ _ _ (c .before .before .before .before .check-within2 .ensures .0) m n) (omega (arith, c .before .before .if2 .left)),
     )
 
@@ -47,7 +54,8 @@ returns c =
     let a = z .args in
     let f = files (now (a .stage1)) (now (a .reference1)) in
     let g = files (now (a .stage2)) (now (a .reference2)) in
-    let v = judged-by _ _ _ _ _ (c .before .before .before .check-within .ensures .0) (c .before .before .before .before .before .part-stage-limits .ensures) (c .before .before .before .before .part-reference-limits .ensures) in (
+    let v = judged-by _ _ _ _ _ (c .before .before .before .check-within .ensures .0) (c .before .before .before .before .before .part-stage-limits .ensures)
+    (c .before .before .before .before .part-reference-limits .ensures) in (
       leaves-refused _ _ _ (first-refuses f g _ _ _ v (c .before .if1 .taken)) (c .refusal .ensures),
       (join-kept partStageLimits partReferenceLimits f g _ _ stageLimits referenceLimits room-for-stage room-for-reference, join-because partStageLimits partReferenceLimits f g _ _),
     )
@@ -76,7 +84,10 @@ returns-3 c =
     let n = c .before .before .before .before .before .before .before .before .before .before .before .before .before .part-reference-limits .ensures in
     let v = judged-by _ _ _ _ _ (c .before .before .before .before .before .before .before .before .before .before .before .before .check-within .ensures .0) m n in
     let w = judged-by _ _ _ _ _ (c .before .before .before .before .before .before .before .before .before .check-within2 .ensures .0) m n in (
-      leaves-all (both-accepted f g _ _ _ v (omega (arith, c .before .before .before .before .before .before .before .before .before .before .if1 .left)) _ w (omega (arith, c .before .before .before .before .before .before .before .if2 .left))) (c .before .before .before .before .join-accepted .ensures),
+      leaves-all (both-accepted f g _ _ _ v (omega (arith, c .before .before .before .before .before .before .before .before .before .before .if1 .left)) _ w (omega (
+        arith,
+        c .before .before .before .before .before .before .before .if2 .left,
+      ))) (c .before .before .before .before .join-accepted .ensures),
       (join-kept partStageLimits partReferenceLimits f g _ _ stageLimits referenceLimits room-for-stage room-for-reference, join-because partStageLimits partReferenceLimits f g _ _),
     )
 
