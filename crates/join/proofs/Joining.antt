@@ -30,21 +30,24 @@ use Rattle.circuit.specs.Reference.{operatorsIn, signalsIn, referenceIn, Refere
 use Rattle.load.specs.Load.{HoldsStage, HoldsReference}
 use Rattle.load.proofs.Reading.{was-refused, stage-held, reference-held}
 use Rattle.joined.specs.Join as joined
-use Rattle.joined.specs.Join.{Part, Files, partIn, stageRead, referenceRead, refusalOf, ofSecond, threeAdded, stageBytes, referenceBytes, joinChecks, joinUnless, joinFault, joinWithin, joinRefused, joinWritten}
-use Rattle.joined.specs.Demand.{RoomForTwo}
+use Rattle.joined.specs.Join.{Part, Files, partIn, stageRead, referenceRead, refusalOf, ofSecond, threeAdded}
+use Rattle.joined.specs.Join.{stageBytes, referenceBytes, joinChecks, joinUnless, joinFault, joinWithin, joinRefused, joinWritten}
+use Rattle.joined.proofs.Because.{join-because, join-kept, parts-fit}
 use Rattle.writing.specs.Put.{Put}
 use Rattle.writing.proofs.Joining.{put-holding}
 use Rattle.join.specs.declared.JoinAnswer.{JoinAnswer}
-use Rattle.join.specs.Call.{uncaredCheck, answerWith, joinParts, partOf, partLoaded, Leaves}
+use Rattle.join.specs.Call.{uncaredCheck, answerWith, joinParts, partOf, partLoaded, Leaves, JoinDemand}
 use Rattle.join.proofs.Whole.{outputs-count, signals-count}
 
--- ---- room for two parts in a file
-
-pub room-for-stage : RoomForTwo partStageLimits stageLimits
-room-for-stage = record { inputs = omega arith; gates = omega arith; outputs = omega arith; words = omega arith; nets = omega arith }
-
-pub room-for-reference : RoomForTwo partReferenceLimits referenceLimits
-room-for-reference = record { inputs = omega arith; gates = omega arith; outputs = omega arith; words = omega arith; nets = omega arith }
+-- what is said of the join beside what it leaves holds of the answer as it is defined
+pub join-demand : (f g : Files) (stage reference : List ℕ) (r : JoinAnswer) (stageAfter referenceAfter : List ℕ)
+    → Leaves (joinWithin partStageLimits partReferenceLimits f g (length stage) (length reference)) r stage reference stageAfter referenceAfter
+    → JoinDemand f g stage reference r stageAfter referenceAfter
+join-demand f g stage reference r stageAfter referenceAfter h = record {
+  answer = h;
+  because = join-because partStageLimits partReferenceLimits f g (length stage) (length reference);
+  kept = join-kept partStageLimits partReferenceLimits f g (length stage) (length reference) stageLimits referenceLimits (parts-fit .0) (parts-fit .1);
+}
 
 -- ---- what is left in the buffers
 
@@ -115,7 +118,12 @@ module _ (p q : Part) (stageRoom referenceRoom : ℕ) where
       pub at-reference-room : length (stageBytes p q) ≤ stageRoom → referenceRoom < length (referenceBytes p q) → answer ≡ joinRefused (verdict 24 3 0 0)
       unfolding joinUnless orLater
       at-reference-room h l =
-          let f : firstFault (joinChecks p q stageRoom referenceRoom) ≡ Fault (verdict 24 3 0 0) = found-is ∙ rw (seam-found true (eq-eqb _ _ same), ← passed, short-found true (rw (le-ltb _ _ h, lt-ltb _ _ l))) in
+          let f : firstFault (joinChecks p q stageRoom referenceRoom) ≡ Fault (verdict 24 3 0 0) = found-is ∙ rw (
+            seam-found true (eq-eqb _ _ same),
+            ← passed,
+            short-found true (rw
+                (le-ltb _ _ h, lt-ltb _ _ l)),
+          ) in
           ap (λ (f : Finding). joinUnless f p q) f
 
       pub at-none : length (stageBytes p q) ≤ stageRoom → length (referenceBytes p q) ≤ referenceRoom → answer ≡ joinWritten p q
@@ -242,7 +250,25 @@ module _ (s t : List ℕ) where
   unfolding checks riseSweeps fallSweeps
   because-file (demands.Because.stage-refused e) = omega arith
   because-file (demands.Because.reference-refused is e) = omega arith
-  because-file (both-read {v = v} c (inl n)) = named-file (checks (c .circuit) (c .function)) v (omega arith, (omega arith, (omega arith, (omega arith, (omega arith, (omega arith, (omega arith, (omega arith, tt)))))))) n
+  because-file (both-read {v = v} c (inl n)) = named-file (checks (c .circuit) (c .function)) v (
+    omega arith,
+    (
+      omega arith,
+      (
+        omega arith,
+        (
+          omega arith,
+          (
+            omega arith,
+            (
+              omega arith,
+              (omega arith, (omega arith, tt)),
+            ),
+          ),
+        ),
+      ),
+    ),
+  ) n
   because-file (both-read {v = v} c (inr a)) = omega (arith, ap (λ (u : Verdict). u .file) (a .1))
 
   pub file-few : (v : Verdict) → v ≡ verdictWithin partStageLimits partReferenceLimits s t → v .file ≤ 2

@@ -17,7 +17,8 @@ use Rattle.joined.specs.Whole.{netInWhole, gateInWhole, pairInWhole, joinedStag
 use Rattle.writing.specs.Put.{Put}
 use Rattle.writing.specs.Parts.{gateItem, pairItem, signalItem, bytesOf}
 use Rattle.writing.proofs.Joining.{put-++}
-use Rattle.writing.proofs.Files.{bytes-++, bytes-length, care-width, stage-gate-width, stage-output-width, reference-gate-width, reference-output-width, stage-parts, stage-length, reference-parts, reference-length}
+use Rattle.writing.proofs.Files.{bytes-++, bytes-length, care-width, stage-gate-width, stage-output-width}
+use Rattle.writing.proofs.Files.{reference-gate-width, reference-output-width, stage-parts, stage-length, reference-parts, reference-length}
 use Rattle.circuit.specs.Stage.{stageGates, stageOutputs, stageCare, stageIn}
 use Rattle.circuit.specs.Reference.{operatorsIn, signalsIn, referenceIn}
 use Rattle.circuit.proofs.Tabulate.{length-tabulate}
@@ -172,8 +173,10 @@ module _ (first second : Stage) {b0 b1 b2 b3 b4 b5 b6 : List ℕ} {p1 p2 p3 p4 p
       ∙ append-assoc gates others (outputs ++ (0x00 ∷ []))) in
       put-same (sym whole)
       (put-++ a (put-++ b (put-++ c (put-++ d (put-++ e f
-      (at .end ∙ ap (λ (n : ℕ). p4 + n) (sym (bytes-length file.Stage pairItem 5 (λ p. stage-output-width (pairOperands p)) _ ∙ ap (λ (n : ℕ). 5 * n) (length-map (second .outputs) (pairInWhole first second))))))
-      (at .outputs ∙ ap (λ (n : ℕ). p3 + n) (sym (bytes-length file.Stage gateItem 10 (λ g. stage-gate-width (codedGate g)) _ ∙ ap (λ (n : ℕ). 10 * n) (length-map (second .gates) (gateInWhole first second))))))
+      (at .end ∙ ap (λ (n : ℕ). p4 + n) (sym (bytes-length file.Stage pairItem 5 (λ p. stage-output-width (pairOperands p)) _ ∙ ap (λ (n : ℕ). 5 * n) (length-map (second .outputs)
+      (pairInWhole first second))))))
+      (at .outputs ∙ ap (λ (n : ℕ). p3 + n) (sym (bytes-length file.Stage gateItem 10 (λ g. stage-gate-width (codedGate g)) _ ∙ ap (λ (n : ℕ). 10 * n) (length-map (second .gates)
+      (gateInWhole first second))))))
       (at .others ∙ ap (λ (n : ℕ). p2 + n) (sym (bytes-length file.Stage gateItem 10 (λ g. stage-gate-width (codedGate g)) (first .gates)))))
       (at .gates ∙ ap (λ (n : ℕ). p1 + n) (sym (bytes-length file.Stage care 3 care-width (first .care)))))
       (at .cares))
@@ -202,7 +205,8 @@ module _ (first second : Reference) {b0 b1 b2 b3 b4 b5 : List ℕ} {p1 p2 p3 p4 
       ∙ append-assoc gates others (outputs ++ (0x00 ∷ []))) in
       put-same (sym whole)
       (put-++ a (put-++ c (put-++ d (put-++ e f
-      (at .end ∙ ap (λ (n : ℕ). p3 + n) (sym (bytes-length file.Reference signalItem 3 (λ v. reference-output-width (v ∷ [])) _ ∙ ap (λ (n : ℕ). 3 * n) (length-map (second .outputs) (signalInWhole first second))))))
+      (at .end ∙ ap (λ (n : ℕ). p3 + n) (sym (bytes-length file.Reference signalItem 3 (λ v. reference-output-width (v ∷ [])) _ ∙ ap (λ (n : ℕ). 3 * n) (length-map (second .outputs)
+      (signalInWhole first second))))))
       (at .outputs ∙ ap (λ (n : ℕ). p2 + n) (sym (bytes-length file.Reference gate 6 reference-gate-width _ ∙ ap (λ (n : ℕ). 6 * n) (length-map (second .gates) (operationInWhole first second))))))
       (at .others ∙ ap (λ (n : ℕ). p1 + n) (sym (bytes-length file.Reference gate 6 reference-gate-width (first .gates)))))
       (at .gates))

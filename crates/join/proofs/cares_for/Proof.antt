@@ -30,7 +30,8 @@ returns c =
     let z = c .before .before .before .before .before .before in
     let s = stageIn (z .args .counts) (now (z .args .code)) in
     let l = c .before .before .before .loop in
-    cares s (z .args .w) _ (looked-here (z .args .w) (words s) (l .k) (l .inv) (omega (arith, c .before .before .before .before .word-count .ensures (now (z .args .code)))) _ (c .before .word-at .ensures) (c .if1 .taken))
+    cares s (z .args .w) _ (looked-here (z .args .w) (words s) (l .k) (l .inv) (omega (arith, c .before .before .before .before .word-count .ensures (now (z .args .code)))) _
+    (c .before .word-at .ensures) (c .if1 .taken))
 
 loop-again : tie.Need-loop-again Inv-loop μ-loop
 loop-again c =

@@ -8,8 +8,7 @@ use Rattle.netlist.specs.Reading.{stageLimits, referenceLimits, partStageLimits
 use Rattle.netlist.proofs.Bounds.{part-stage-less, part-reference-less}
 use Rattle.verdict.specs.Verdicts.{verdictWithin}
 use Rattle.joined.specs.Join.{files}
-use Rattle.joined.proofs.Because.{join-because, join-kept}
-use Rattle.join.proofs.Joining.{judged-by, room-for-stage, room-for-reference, leaves-refused, leaves-all, first-refuses, second-refuses, both-accepted, accepts-zero, file-few}
+use Rattle.join.proofs.Joining.{judged-by, leaves-refused, leaves-all, first-refuses, second-refuses, both-accepted, accepts-zero, file-few, join-demand}
 use borrow.Author.Needs.{needs}
 use Rattle.join.proofs.join.Statement.{statement}
 use Rattle.join.proofs.join.Tie as tie
@@ -29,7 +28,11 @@ check-within-requires-2 c κs = (
 add-t12 : tie.Need-add-t12
 add-t12 c =
     let z = c .before .before .before .before .before .before .before .before .before .before .before .before .before .before .before in
-    omega (arith, file-few (now (z .args .stage2)) (now (z .args .reference2)) _ (judged-by _ _ _ _ _ (c .before .before .before .check-within2 .ensures .0) (c .before .before .before .before .before .before .before .before .part-stage-limits .ensures) (c .before .before .before .before .before .before .before .part-reference-limits .ensures)))
+    omega (
+      arith,
+      file-few (now (z .args .stage2)) (now (z .args .reference2)) _ (judged-by _ _ _ _ _ (c .before .before .before .check-within2 .ensures .0)
+          (c .before .before .before .before .before .before .before .before .part-stage-limits .ensures) (c .before .before .before .before .before .before .before .part-reference-limits .ensures)),
+    )
 
 join-accepted-requires : tie.Need-join-accepted-requires
 join-accepted-requires c κs =
@@ -37,7 +40,10 @@ join-accepted-requires c κs =
     let a = z .args in
     let m = c .before .before .before .before .before .before .before .before .before .part-stage-limits .ensures in
     let n = c .before .before .before .before .before .before .before .before .part-reference-limits .ensures in (
-      accepts-zero (now (a .stage1)) (now (a .reference1)) _ (judged-by _ _ _ _ _ (c .before .before .before .before .before .before .before .check-within .ensures .0) m n) (omega (arith, c .before .before .before .before .before .if1 .left)),
+      accepts-zero (now (a .stage1)) (now (a .reference1)) _ (judged-by _ _ _ _ _ (c .before .before .before .before .before .before .before .check-within .ensures .0) m n) (omega (
+        arith,
+        c .before .before .before .before .before .if1 .left,
+      )),
       accepts-zero (now (a .stage2)) (now (a .reference2)) _ (judged-by _ _ _ _ _ (c .before .before .before .before .check-within2 .ensures .0) m n) (omega (arith, c .before .before .if2 .left)),
     )
 
@@ -47,8 +53,11 @@ returns c =
     let a = z .args in
     let f = files (now (a .stage1)) (now (a .reference1)) in
     let g = files (now (a .stage2)) (now (a .reference2)) in
-    let v = judged-by _ _ _ _ _ (c .before .before .before .check-within .ensures .0) (c .before .before .before .before .before .part-stage-limits .ensures) (c .before .before .before .before .part-reference-limits .ensures) in
-    record { answer = leaves-refused _ _ _ (first-refuses f g _ _ _ v (c .before .if1 .taken)) (c .refusal .ensures); because = join-because partStageLimits partReferenceLimits f g _ _; kept = join-kept partStageLimits partReferenceLimits f g _ _ stageLimits referenceLimits room-for-stage room-for-reference }
+    let v = judged-by _ _ _ _ _ (c .before .before .before .check-within .ensures .0) (c .before .before .before .before .before .part-stage-limits .ensures)
+    (c .before .before .before .before .part-reference-limits .ensures) in
+    join-demand f g _ _ _ _ _ (
+      leaves-refused _ _ _ (first-refuses f g _ _ _ v (c .before .if1 .taken)) (c .refusal .ensures)
+    )
 
 returns-2 : tie.Need-returns-2
 returns-2 c =
@@ -60,7 +69,7 @@ returns-2 c =
     let n = c .before .before .before .before .before .before .before .before .part-reference-limits .ensures in
     let v = judged-by _ _ _ _ _ (c .before .before .before .before .before .before .before .check-within .ensures .0) m n in
     let w = judged-by _ _ _ _ _ (c .before .before .before .before .check-within2 .ensures .0) m n in
-    record { answer = leaves-refused _ _ _ (second-refuses f g _ _ _ v (omega (arith, c .before .before .before .before .before .if1 .left)) _ w (c .before .before .if2 .taken)) (c .refusal2 .ensures); because = join-because partStageLimits partReferenceLimits f g _ _; kept = join-kept partStageLimits partReferenceLimits f g _ _ stageLimits referenceLimits room-for-stage room-for-reference }
+    join-demand f g _ _ _ _ _ (leaves-refused _ _ _ (second-refuses f g _ _ _ v (omega (arith, c .before .before .before .before .before .if1 .left)) _ w (c .before .before .if2 .taken)) (c .refusal2 .ensures))
 
 returns-3 : tie.Need-returns-3
 returns-3 c =
@@ -72,7 +81,12 @@ returns-3 c =
     let n = c .before .before .before .before .before .before .before .before .before .before .before .before .before .part-reference-limits .ensures in
     let v = judged-by _ _ _ _ _ (c .before .before .before .before .before .before .before .before .before .before .before .before .check-within .ensures .0) m n in
     let w = judged-by _ _ _ _ _ (c .before .before .before .before .before .before .before .before .before .check-within2 .ensures .0) m n in
-    record { answer = leaves-all (both-accepted f g _ _ _ v (omega (arith, c .before .before .before .before .before .before .before .before .before .before .if1 .left)) _ w (omega (arith, c .before .before .before .before .before .before .before .if2 .left))) (c .before .before .before .before .join-accepted .ensures); because = join-because partStageLimits partReferenceLimits f g _ _; kept = join-kept partStageLimits partReferenceLimits f g _ _ stageLimits referenceLimits room-for-stage room-for-reference }
+    join-demand f g _ _ _ _ _ (
+      leaves-all (both-accepted f g _ _ _ v (omega (arith, c .before .before .before .before .before .before .before .before .before .before .if1 .left)) _ w (omega (
+        arith,
+        c .before .before .before .before .before .before .before .if2 .left,
+      ))) (c .before .before .before .before .join-accepted .ensures)
+    )
 
 pub join-spec : {M : Type 1} → statement M
 join-spec =

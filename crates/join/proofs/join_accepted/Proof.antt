@@ -9,7 +9,8 @@ use Rattle.join.proofs.join_accepted.Tie as tie
 
 join-loaded-requires : tie.Need-join-loaded-requires
 join-loaded-requires c κs =
-    let z = c .before .before .before .before .before .before .before .before .before .before .before .before .before .before .before .before .before .before .before .before .before .before .before .before in
+    let z = c .before .before .before .before .before .before .before .before .before .before .before .before .before .before .before .before .before .before .before .before .before .before
+    .before .before in
     let a = z .args in
     let p = c .before .before .before .before .before .before .before .before .before .before .before .before .before .before .before .before .load-part .ensures in
     let f = c .before .before .before .before .before .before .before .before .before .before .before .before .before .load-function .ensures in
@@ -27,9 +28,11 @@ join-loaded-requires c κs =
 
 returns : tie.Need-returns
 returns c =
-    let z = c .before .before .before .before .before .before .before .before .before .before .before .before .before .before .before .before .before .before .before .before .before .before .before .before .before .before .before .before .before in
+    let z = c .before .before .before .before .before .before .before .before .before .before .before .before .before .before .before .before .before .before .before .before .before .before
+    .before .before .before .before .before .before .before in
     let a = z .args in
-    let p = c .before .before .before .before .before .before .before .before .before .before .before .before .before .before .before .before .before .before .before .before .before .load-part .ensures in
+    let p = c .before .before .before .before .before .before .before .before .before .before .before .before .before .before .before .before .before .before .before .before .before
+    .load-part .ensures in
     let f = c .before .before .before .before .before .before .before .before .before .before .before .before .before .before .before .before .before .before .load-function .ensures in
     let q = c .before .before .before .before .before .before .before .before .before .before .before .before .before .before .before .load-part2 .ensures in
     let g = c .before .before .before .before .before .before .before .before .before .before .before .before .load-function2 .ensures in

@@ -17,12 +17,14 @@ read-reference-within-requires c κs =
 returns : tie.Need-returns
 returns c =
     let f = c .before .before .before .before .before .read-reference-within .ensures in
-    reference-read _ (now (c .before .before .before .before .before .before .before .before .before .before .args .s)) _ _ (sym (c .before .counts .given .1) ∙ f .0) (f .1) (c .before .before .before .before .before .before .before .part-reference-limits .ensures)
+    reference-read _ (now (c .before .before .before .before .before .before .before .before .before .before .args .s)) _ _ (sym (c .before .counts .given .1) ∙ f .0) (f .1)
+    (c .before .before .before .before .before .before .before .part-reference-limits .ensures)
 
 returns-2 : tie.Need-returns-2
 returns-2 c =
     let f = c .before .before .before .before .read-reference-within .ensures in
-    reference-unread _ (now (c .before .before .before .before .before .before .before .before .before .args .s)) _ _ _ (sym (c .enum-told .given .1) ∙ f .0) (c .before .before .before .before .before .before .part-reference-limits .ensures) _ refl
+    reference-unread _ (now (c .before .before .before .before .before .before .before .before .before .args .s)) _ _ _ (sym (c .enum-told .given .1) ∙ f .0)
+    (c .before .before .before .before .before .before .part-reference-limits .ensures) _ refl
 
 pub load-function-spec : {M : Type 1} → statement M
 load-function-spec =

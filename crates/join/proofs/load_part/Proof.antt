@@ -17,12 +17,14 @@ read-stage-within-requires c κs =
 returns : tie.Need-returns
 returns c =
     let f = c .before .before .before .before .before .read-stage-within .ensures in
-    stage-read _ (now (c .before .before .before .before .before .before .before .before .before .before .args .s)) _ _ (sym (c .before .counts .given .1) ∙ f .0) (f .1) (c .before .before .before .before .before .before .before .part-stage-limits .ensures)
+    stage-read _ (now (c .before .before .before .before .before .before .before .before .before .before .args .s)) _ _ (sym (c .before .counts .given .1) ∙ f .0) (f .1)
+    (c .before .before .before .before .before .before .before .part-stage-limits .ensures)
 
 returns-2 : tie.Need-returns-2
 returns-2 c =
     let f = c .before .before .before .before .read-stage-within .ensures in
-    stage-unread _ (now (c .before .before .before .before .before .before .before .before .before .args .s)) _ _ _ (sym (c .enum-told .given .1) ∙ f .0) (c .before .before .before .before .before .before .part-stage-limits .ensures) _ refl
+    stage-unread _ (now (c .before .before .before .before .before .before .before .before .before .args .s)) _ _ _ (sym (c .enum-told .given .1) ∙ f .0)
+    (c .before .before .before .before .before .before .part-stage-limits .ensures) _ refl
 
 pub load-part-spec : {M : Type 1} → statement M
 load-part-spec =

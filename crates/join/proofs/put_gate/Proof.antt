@@ -29,7 +29,9 @@ returns c =
     let k = z .args .k in
     let g = z .pre .0 .gate k (z .pre .2) in
     put-same
-    (five-equal (c .before .before .before .kind-at .ensures) (c .before .before .before .before .before .before .before .before .pin-in-whole .ensures) (c .before .before .before .before .before .before .before .pin-in-whole2 .ensures) (c .before .before .before .before .before .before .pin-in-whole3 .ensures) (c .before .before .before .before .before .pin-in-whole4 .ensures)
+    (five-equal (c .before .before .before .kind-at .ensures) (c .before .before .before .before .before .before .before .before .pin-in-whole .ensures)
+    (c .before .before .before .before .before .before .before .pin-in-whole2 .ensures) (c .before .before .before .before .before .before .pin-in-whole3 .ensures)
+    (c .before .before .before .before .before .pin-in-whole4 .ensures)
     ∙ four-operands _ (pinCount (cellIn code k)) (netMoved (stageIn (z .args .sizes) (now (z .args .first))) (z .args .moved)) (pinIn code k) (pins-of (cellIn code k) (g .low) (g .high)))
     (c .before .before .put-stage-gate .ensures)
 

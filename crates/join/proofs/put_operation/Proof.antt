@@ -30,7 +30,8 @@ returns c =
     let k = z .args .k in
     let e : operationIn code k % 256 ≡ operationIn code k = omega (arith, z .pre .0 .high k (z .pre .2)) in
     put-same
-    (one-operand (signalMoved (referenceIn (z .args .sizes) (now (z .args .first))) (z .args .moved)) (operandIn code k 0) (operandIn code k 1) e (sym e ∙ c .before .before .before .before .if1 .taken) (c .before .before .before .before .before .signal-in-whole .ensures))
+    (one-operand (signalMoved (referenceIn (z .args .sizes) (now (z .args .first))) (z .args .moved)) (operandIn code k 0) (operandIn code k 1) e
+    (sym e ∙ c .before .before .before .before .if1 .taken) (c .before .before .before .before .before .signal-in-whole .ensures))
     (c .before .before .put-reference-gate .ensures)
 
 returns-2 : tie.Need-returns-2
@@ -40,7 +41,9 @@ returns-2 c =
     let k = z .args .k in
     let e : operationIn code k % 256 ≡ operationIn code k = omega (arith, z .pre .0 .high k (z .pre .2)) in
     put-same
-    (two-operands (signalMoved (referenceIn (z .args .sizes) (now (z .args .first))) (z .args .moved)) (operandIn code k 0) (operandIn code k 1) e (λ o. c .before .before .before .before .before .before .if1 .left (e ∙ o)) (c .before .before .before .before .before .before .before .signal-in-whole .ensures) (c .before .before .before .before .signal-in-whole2 .ensures))
+    (two-operands (signalMoved (referenceIn (z .args .sizes) (now (z .args .first))) (z .args .moved)) (operandIn code k 0) (operandIn code k 1) e
+    (λ o. c .before .before .before .before .before .before .if1 .left (e ∙ o)) (c .before .before .before .before .before .before .before .signal-in-whole .ensures)
+    (c .before .before .before .before .signal-in-whole2 .ensures))
     (c .before .before .put-reference-gate2 .ensures)
 
 pub put-operation-spec : {M : Type 1} → statement M

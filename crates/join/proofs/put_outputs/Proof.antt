@@ -52,7 +52,8 @@ loop-again : tie.Need-loop-again Inv-loop μ-loop
 loop-again c =
     put-more _ _ _ _ _ _ (c .before .before .before .before .before .before .before .before .before .loop .inv) (c .before .before .before .before .before .before .before .before .loop-test .taken)
     (put-same
-    (ap₂ (λ (a b : ℕ). writeItem file.Stage (pairItem (record { rail0 = a; rail1 = b }))) (c .before .before .before .before .before .before .net-in-whole .ensures) (c .before .before .before .before .net-in-whole2 .ensures))
+    (ap₂ (λ (a b : ℕ). writeItem file.Stage (pairItem (record { rail0 = a; rail1 = b }))) (c .before .before .before .before .before .before .net-in-whole .ensures)
+    (c .before .before .before .before .net-in-whole2 .ensures))
     (c .before .before .put-stage-output .ensures))
 
 same-length : tie.Need-same-length Inv-loop μ-loop

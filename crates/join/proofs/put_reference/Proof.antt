@@ -51,13 +51,23 @@ put-signals-requires c κs =
 
 put-end-requires : tie.Need-put-end-requires
 put-end-requires c κs =
-    let z = c .before .before .before .before .before .before .before .before .before .before .before .before .before .before .before .before .before .before .before .before .before .before .before .before in
+    let z = c .before .before .before .before .before .before .before .before .before .before .before .before .before .before .before .before .before .before .before .before .before .before
+    .before .before in
     let long = reference-long-in (z .args .sizes) (now (z .args .first)) (z .args .counts) (now (z .args .second)) in
-    omega (arith, long, z .pre .3, c .before .before .before .put-signals .ensures .long, c .before .before .before .before .before .before .before .put-operations2 .ensures .long, c .before .before .before .before .before .before .before .before .before .before .before .put-operations .ensures .long, c .before .before .before .before .before .before .before .before .before .before .before .before .before .before .before .put-inputs .ensures .long)
+    omega (
+      arith,
+      long,
+      z .pre .3,
+      c .before .before .before .put-signals .ensures .long,
+      c .before .before .before .before .before .before .before .put-operations2 .ensures .long,
+      c .before .before .before .before .before .before .before .before .before .before .before .put-operations .ensures .long,
+      c .before .before .before .before .before .before .before .before .before .before .before .before .before .before .before .put-inputs .ensures .long,
+    )
 
 returns : tie.Need-returns
 returns c =
-    let z = c .before .before .before .before .before .before .before .before .before .before .before .before .before .before .before .before .before .before .before .before .before .before .before .before .before .before .before in
+    let z = c .before .before .before .before .before .before .before .before .before .before .before .before .before .before .before .before .before .before .before .before .before .before
+    .before .before .before .before .before in
     let sizes = z .args .sizes in
     let counts = z .args .counts in
     let first = now (z .args .first) in
@@ -68,9 +78,12 @@ returns c =
     let signals = bytesOf file.Reference signalItem in
     let start : sizes .inputs + sizes .gates ≡ A .inputs + length (A .gates) = omega (arith, operators-count sizes first) in
     reference-put A B (c .before .before .before .before .before .before .before .before .before .before .before .before .before .before .before .before .before .before .put-inputs .ensures)
-    (put-same (ap gates (operations-stay A (record { inputs = 0; start = 0 }) refl refl (A .gates))) (c .before .before .before .before .before .before .before .before .before .before .before .before .before .before .put-operations .ensures))
-    (put-same (ap gates (operations-move A (record { inputs = counts .inputs; start = sizes .inputs + sizes .gates }) B refl start (B .gates))) (c .before .before .before .before .before .before .before .before .before .before .put-operations2 .ensures))
-    (put-same (ap signals (signals-move A (record { inputs = counts .inputs; start = sizes .inputs + sizes .gates }) B refl start (B .outputs))) (c .before .before .before .before .before .before .put-signals .ensures))
+    (put-same (ap gates (operations-stay A (record { inputs = 0; start = 0 }) refl refl (A .gates)))
+    (c .before .before .before .before .before .before .before .before .before .before .before .before .before .before .put-operations .ensures))
+    (put-same (ap gates (operations-move A (record { inputs = counts .inputs; start = sizes .inputs + sizes .gates }) B refl start (B .gates)))
+    (c .before .before .before .before .before .before .before .before .before .before .put-operations2 .ensures))
+    (put-same (ap signals (signals-move A (record { inputs = counts .inputs; start = sizes .inputs + sizes .gates }) B refl start (B .outputs)))
+    (c .before .before .before .before .before .before .put-signals .ensures))
     (c .before .before .put-end .ensures)
     (record {
       gates = refl;

@@ -45,24 +45,44 @@ put-gates-requires-2 c κs =
 
 put-outputs-requires : tie.Need-put-outputs-requires
 put-outputs-requires c κs =
-    let z = c .before .before .before .before .before .before .before .before .before .before .before .before .before .before .before .before .before .before .before .before .before .before .before .before .before .before in
+    let z = c .before .before .before .before .before .before .before .before .before .before .before .before .before .before .before .before .before .before .before .before .before .before
+    .before .before .before .before in
     let long = stage-long-in (z .args .sizes) (now (z .args .first)) (z .args .counts) (now (z .args .second)) in
     let w = z .pre .0 .within in
     let v = z .pre .1 .within in (
       z .pre .1,
       record { loaded = z .pre .0; outputs = omega (arith, z .pre .2); fits = omega (arith, w .inputs-in, w .gates-in, v .inputs-in, v .gates-in) },
-      omega (arith, long, z .pre .3, c .before .before .before .put-gates2 .ensures .long, c .before .before .before .before .before .before .before .put-gates .ensures .long, c .before .before .before .before .before .before .before .before .before .before .before .put-care-words .ensures .long, c .before .before .before .before .before .before .before .before .before .before .before .before .before .before .before .put-inputs .ensures .long),
+      omega (
+        arith,
+        long,
+        z .pre .3,
+        c .before .before .before .put-gates2 .ensures .long,
+        c .before .before .before .before .before .before .before .put-gates .ensures .long,
+        c .before .before .before .before .before .before .before .before .before .before .before .put-care-words .ensures .long,
+        c .before .before .before .before .before .before .before .before .before .before .before .before .before .before .before .put-inputs .ensures .long,
+      ),
     )
 
 put-end-requires : tie.Need-put-end-requires
 put-end-requires c κs =
-    let z = c .before .before .before .before .before .before .before .before .before .before .before .before .before .before .before .before .before .before .before .before .before .before .before .before .before .before .before .before .before .before in
+    let z = c .before .before .before .before .before .before .before .before .before .before .before .before .before .before .before .before .before .before .before .before .before .before
+    .before .before .before .before .before .before .before .before in
     let long = stage-long-in (z .args .sizes) (now (z .args .first)) (z .args .counts) (now (z .args .second)) in
-    omega (arith, long, z .pre .3, c .before .before .before .put-outputs .ensures .long, c .before .before .before .before .before .before .before .put-gates2 .ensures .long, c .before .before .before .before .before .before .before .before .before .before .before .put-gates .ensures .long, c .before .before .before .before .before .before .before .before .before .before .before .before .before .before .before .put-care-words .ensures .long, c .before .before .before .before .before .before .before .before .before .before .before .before .before .before .before .before .before .before .before .put-inputs .ensures .long)
+    omega (
+      arith,
+      long,
+      z .pre .3,
+      c .before .before .before .put-outputs .ensures .long,
+      c .before .before .before .before .before .before .before .put-gates2 .ensures .long,
+      c .before .before .before .before .before .before .before .before .before .before .before .put-gates .ensures .long,
+      c .before .before .before .before .before .before .before .before .before .before .before .before .before .before .before .put-care-words .ensures .long,
+      c .before .before .before .before .before .before .before .before .before .before .before .before .before .before .before .before .before .before .before .put-inputs .ensures .long,
+    )
 
 returns : tie.Need-returns
 returns c =
-    let z = c .before .before .before .before .before .before .before .before .before .before .before .before .before .before .before .before .before .before .before .before .before .before .before .before .before .before .before .before .before .before .before .before .before in
+    let z = c .before .before .before .before .before .before .before .before .before .before .before .before .before .before .before .before .before .before .before .before .before .before
+    .before .before .before .before .before .before .before .before .before .before .before in
     let sizes = z .args .sizes in
     let counts = z .args .counts in
     let first = now (z .args .first) in
@@ -72,10 +92,15 @@ returns c =
     let gate = bytesOf file.Stage gateItem in
     let pair = bytesOf file.Stage pairItem in
     let start : 2 * sizes .inputs + sizes .gates ≡ nets A = omega (arith, gates-count sizes first) in
-    stage-put A B (c .before .before .before .before .before .before .before .before .before .before .before .before .before .before .before .before .before .before .before .before .before .before .put-inputs .ensures) (c .before .before .before .before .before .before .before .before .before .before .before .before .before .before .before .before .before .before .put-care-words .ensures)
-    (put-same (ap gate (gates-stay A (record { inputs = 0; start = 0 }) refl refl (A .gates))) (c .before .before .before .before .before .before .before .before .before .before .before .before .before .before .put-gates .ensures))
-    (put-same (ap gate (gates-move A (record { inputs = counts .inputs; start = 2 * sizes .inputs + sizes .gates }) B refl start (B .gates))) (c .before .before .before .before .before .before .before .before .before .before .put-gates2 .ensures))
-    (put-same (ap pair (pairs-move A (record { inputs = counts .inputs; start = 2 * sizes .inputs + sizes .gates }) B refl start (B .outputs))) (c .before .before .before .before .before .before .put-outputs .ensures))
+    stage-put A B (c .before .before .before .before .before .before .before .before .before .before .before .before .before .before .before .before .before .before .before .before .before
+    .before .put-inputs .ensures)
+    (c .before .before .before .before .before .before .before .before .before .before .before .before .before .before .before .before .before .before .put-care-words .ensures)
+    (put-same (ap gate (gates-stay A (record { inputs = 0; start = 0 }) refl refl (A .gates)))
+    (c .before .before .before .before .before .before .before .before .before .before .before .before .before .before .put-gates .ensures))
+    (put-same (ap gate (gates-move A (record { inputs = counts .inputs; start = 2 * sizes .inputs + sizes .gates }) B refl start (B .gates)))
+    (c .before .before .before .before .before .before .before .before .before .before .put-gates2 .ensures))
+    (put-same (ap pair (pairs-move A (record { inputs = counts .inputs; start = 2 * sizes .inputs + sizes .gates }) B refl start (B .outputs)))
+    (c .before .before .before .before .before .before .put-outputs .ensures))
     (c .before .before .put-end .ensures)
     (record {
       cares = refl;

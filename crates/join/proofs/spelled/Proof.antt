@@ -38,19 +38,33 @@ mul-word : tie.Need-mul-word Inv-loop μ-loop
 mul-word c =
     let z = c .before .before .before .before .before in
     let l = c .before .before .before .loop in
-    omega (arith, l .inv .1, word-few (λ v. getD (now (z .args .values)) v 0) (λ i. getD (now (z .args .reference)) (3 * z .args .sizes .gates + i) 0) (z .args .sizes .outputs) (l .j) (z .pre .2) (omega (arith, z .pre .0 .within .outputs-in)))
+    omega (
+      arith,
+      l .inv .1,
+      word-few (λ v. getD (now (z .args .values)) v 0) (λ i. getD (now (z .args .reference)) (3 * z .args .sizes .gates + i) 0) (z .args .sizes .outputs) (l .j)
+          (z .pre .2) (omega (arith, z .pre .0 .within .outputs-in)),
+    )
 
 add-word : tie.Need-add-word Inv-loop μ-loop
 add-word c =
     let z = c .before .before .before .before .before in
     let l = c .before .before .before .loop in
-    omega (arith, z .pre .2 (getD (now (z .args .reference)) (3 * z .args .sizes .gates + (l .j - 1)) 0), l .inv .1, word-few (λ v. getD (now (z .args .values)) v 0) (λ i. getD (now (z .args .reference)) (3 * z .args .sizes .gates + i) 0) (z .args .sizes .outputs) (l .j) (z .pre .2) (omega (arith, z .pre .0 .within .outputs-in)))
+    omega (
+      arith,
+      z .pre .2 (getD (now (z .args .reference)) (3 * z .args .sizes .gates + (l .j - 1)) 0),
+      l .inv .1,
+      word-few (λ v. getD (now (z .args .values)) v 0) (λ i. getD (now
+          (z .args .reference)) (3 * z .args .sizes .gates + i) 0) (z .args .sizes .outputs) (l .j) (z .pre .2) (omega (arith, z .pre .0 .within .outputs-in)),
+    )
 
 loop-again : tie.Need-loop-again Inv-loop μ-loop
 loop-again c =
     let z = c .before .before .before .before .before in
-    let l = c .before .before .before .loop in
-    (omega arith, word-more (λ v. getD (now (z .args .values)) v 0) (λ i. getD (now (z .args .reference)) (3 * z .args .sizes .gates + i) 0) (z .args .sizes .outputs) (l .j) (l .word) (omega arith) (l .inv .0) (l .inv .1))
+    let l = c .before .before .before .loop in (
+      omega arith,
+      word-more (λ v. getD (now (z .args .values)) v 0) (λ i. getD (now (z .args .reference)) (3 * z .args .sizes .gates + i) 0) (z .args .sizes .outputs) (l .j) (l .word)
+          (omega arith) (l .inv .0) (l .inv .1),
+    )
 
 returns : tie.Need-returns Inv-loop μ-loop
 unfolding signalsIn
