@@ -54,13 +54,13 @@ module _ (first second : Part) (stageRoom referenceRoom : ℕ) where
   join-checks-mean : EachOf Means (joinChecks first second stageRoom referenceRoom)
   unfolding joinChecks
   join-checks-mean = (
-    unequal-means 22 (length (first .circuit .outputs)) (second .circuit .inputs),
+    unequal-means 22 _ _,
     (
       record {
         passes = λ w i h e c. clash (cares-caresFor (second .circuit) (next w) c) (of-not (caresFor (second .circuit) (next w)) e);
         occurs = λ w i h n. ap not (not-true (caresFor (second .circuit) (next w)) (λ e. n (caresFor-cares (second .circuit) (next w) e)));
       },
-      (record { passes = λ w i h e. short-says stageRoom stageLong referenceRoom referenceLong e; occurs = λ w i h s. says-short stageRoom stageLong referenceRoom referenceLong s }, tt),
+      (record { passes = λ w i h e. short-says _ _ _ _ e; occurs = λ w i h s. says-short _ _ _ _ s }, tt),
     ),
   )
 
@@ -68,7 +68,7 @@ module _ (first second : Part) (stageRoom referenceRoom : ℕ) where
   seam-fits : EachOf Nowhere (joinChecks first second stageRoom referenceRoom)
       → (length (first .circuit .outputs) ≡ second .circuit .inputs) × ((w : ℕ) → IsWord (first .circuit) w → CaresFor (second .circuit) (next w))
   unfolding joinChecks
-  seam-fits (a, (b, c)) = (nowhere-equal 22 (length (first .circuit .outputs)) (second .circuit .inputs) a, λ w h. go w h (true? (caresFor (second .circuit) (next w))))
+  seam-fits (a, (b, c)) = (omega (arith, nowhere-equal 22 _ _ a), λ w h. go w h (true? (caresFor (second .circuit) (next w))))
     where
       go : (w : ℕ) → IsWord (first .circuit) w → (caresFor (second .circuit) (next w) ≡ true) ⊎ (caresFor (second .circuit) (next w) ≡ false)
           → CaresFor (second .circuit) (next w)
@@ -85,7 +85,7 @@ module _ (first second : Part) (stageRoom referenceRoom : ℕ) where
       → stageLong ≤ stageRoom → referenceLong ≤ referenceRoom → EachOf Nowhere (joinChecks first second stageRoom referenceRoom)
   unfolding joinChecks
   nothing-found counts cared fits fits′ = (
-    λ w h f. f .2 counts,
+    λ w h f. f .2 (omega (arith, counts)),
     (λ w h f. f .2 (cared w h), (λ w h f. ⊎-elim (λ l. omega (arith, l, fits)) (λ l. omega (arith, l, fits′)) (f .2), tt)),
   )
 

@@ -192,6 +192,7 @@ joins =
     -- 23 at the least word whose answer is not cared for
     case (files twoWires twoWiresReference) (cared (6 ∷ 0 ∷ 0 ∷ 6 ∷ 1 ∷ 0 ∷ [])) 0 0 (refusal 23 0 0 2) ∷
     case (cared (6 ∷ 1 ∷ 0 ∷ 6 ∷ 3 ∷ 0 ∷ [])) (cared (6 ∷ 0 ∷ 0 ∷ 6 ∷ 1 ∷ 0 ∷ [])) 0 0 (refusal 23 0 0 3) ∷
+    case not (files (inputs 1 ++ care 0 ++ output 0 1 ++ end) wireReference) 0 0 (refusal 23 0 0 0) ∷
     -- a part's own refusal: the first part's before the second's, the second's with 3 added to its file
     case (files wire []) (files [] []) 0 0 (refusal 1 2 0 0) ∷
     case (files wire wireReference) (files [] []) 0 0 (refusal 1 4 0 0) ∷
