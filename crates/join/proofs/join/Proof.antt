@@ -56,7 +56,7 @@ returns c =
     let v = judged-by _ _ _ _ _ (c .before .before .before .check-within .ensures .0) (c .before .before .before .before .before .part-stage-limits .ensures)
     (c .before .before .before .before .part-reference-limits .ensures) in
     join-demand f g _ _ _ _ _ (
-      leaves-refused _ _ _ (first-refuses f g _ _ _ v (c .before .if1 .taken)) (c .refusal .ensures)
+    leaves-refused _ _ _ (first-refuses f g _ _ _ v (c .before .if1 .taken)) (c .refusal .ensures)
     )
 
 returns-2 : tie.Need-returns-2
@@ -82,10 +82,10 @@ returns-3 c =
     let v = judged-by _ _ _ _ _ (c .before .before .before .before .before .before .before .before .before .before .before .before .check-within .ensures .0) m n in
     let w = judged-by _ _ _ _ _ (c .before .before .before .before .before .before .before .before .before .check-within2 .ensures .0) m n in
     join-demand f g _ _ _ _ _ (
-      leaves-all (both-accepted f g _ _ _ v (omega (arith, c .before .before .before .before .before .before .before .before .before .before .if1 .left)) _ w (omega (
-        arith,
-        c .before .before .before .before .before .before .before .if2 .left,
-      ))) (c .before .before .before .before .join-accepted .ensures)
+    leaves-all (both-accepted f g _ _ _ v (omega (arith, c .before .before .before .before .before .before .before .before .before .before .if1 .left)) _ w (omega (
+      arith,
+      c .before .before .before .before .before .before .before .if2 .left,
+    ))) (c .before .before .before .before .join-accepted .ensures)
     )
 
 pub join-spec : {M : Type 1} → statement M
