@@ -3,6 +3,8 @@
 //! Each entry says by which number it is expected to be refused (0 if accepted);
 //! file, place and word come from the judge and are stored with the pair.
 
+pub mod joins;
+
 use crate::circuits::{
     dual_rail, kind_named, multiplier, multiplier_reference, reordered, ripple_adder,
     ripple_adder_reference, stage_from_netlist, Products, ReferenceBuilder, Signal, StageBuilder,
@@ -407,6 +409,7 @@ pub fn examples() -> Vec<Example> {
     list.extend(care_examples());
     list.extend(relaxed_examples());
     list.extend(pair_examples());
+    list.extend(joins::parts_and_wholes());
     list
 }
 
@@ -1198,8 +1201,8 @@ pub fn examples_of_document_01() -> Vec<Example> {
     );
     add(
         "multiplier-5x5",
-        "its 130 gates are two too many",
-        6,
+        "half-adders and full adders, mixed ANDs: 130 gates",
+        0,
         &multiplier(5, 5, Products::Mixed),
         &multiplier_reference(5, 5),
     );

@@ -5,7 +5,9 @@
 //! program, in a folder that holds the two files.
 
 use crate::files::{hex, report_text, verdict_line, FilePair, MOST_BYTES_READ};
+use crate::generate::joins::{join_case, JoinCase};
 use crate::generate::{pair, row_case, RowCase};
+use crate::join::{self, Joined};
 use crate::judge::{self, Verdict};
 use std::fmt;
 use std::fs;
@@ -19,6 +21,9 @@ pub type Check = fn(&[u8], &[u8]) -> [u64; 4];
 
 /// The settled-row call: a stage file and a lent row.
 pub type SettledRow = fn(&[u8], &mut [u8]) -> [u64; 4];
+
+/// The join of two pairs of files into two lent buffers, for the stage and the reference.
+pub type Join = fn(&FilePair, &FilePair, &mut [u8], &mut [u8]) -> Joined;
 
 /// The numbers of a report as the library gives them: how many words have a line, their total,
 /// and 1,024 lines of which those past the words are 0. Of a refused pair all but the verdict is 0.
@@ -51,13 +56,16 @@ pub fn judged_counts(stage: &[u8], reference: &[u8]) -> Counts {
 }
 
 /// How often each verdict number came.
-pub type Histogram = [u64; 22];
+pub type Histogram = [u64; 25];
 
-/// The numbers of the check, and those of the settled-row call.
+/// The numbers of the check, of the settled-row call, and of the join.
 pub const CHECK_NUMBERS: [usize; 20] = [
     0, 1, 2, 3, 4, 5, 6, 7, 8, 9, 18, 19, 10, 11, 12, 13, 14, 15, 20, 21,
 ];
 pub const ROW_NUMBERS: [usize; 15] = [0, 1, 2, 3, 4, 5, 6, 7, 8, 9, 18, 19, 12, 16, 17];
+pub const JOIN_NUMBERS: [usize; 23] = [
+    0, 1, 2, 3, 4, 5, 6, 7, 8, 9, 18, 19, 10, 11, 12, 13, 14, 15, 20, 21, 22, 23, 24,
+];
 
 /// What cases lack that a comparison rests on: one of the numbers never came, or fewer
 /// than a fifth of the cases are accepted.
@@ -96,7 +104,16 @@ pub enum Difference {
         expected: String,
         printed: String,
     },
+    Joins {
+        name: String,
+        case: Box<JoinCase>,
+        judge: Answer,
+        other: Answer,
+    },
 }
+
+/// What a join answers, and both buffers after it.
+pub type Answer = (Joined, Vec<u8>, Vec<u8>);
 
 impl fmt::Display for Difference {
     fn fmt(&self, f: &mut fmt::Formatter<'_>) -> fmt::Result {
@@ -170,6 +187,36 @@ impl fmt::Display for Difference {
                     hex(&pair.reference)
                 )
             }
+            Difference::Joins {
+                name,
+                case,
+                judge,
+                other,
+            } => {
+                writeln!(f, "{name}")?;
+                for (which, bytes) in [
+                    ("first stage", &case.first.stage),
+                    ("first reference", &case.first.reference),
+                    ("second stage", &case.second.stage),
+                    ("second reference", &case.second.reference),
+                    ("stage buffer before", &case.stage),
+                    ("reference buffer before", &case.reference),
+                ] {
+                    writeln!(f, "{which}, {} bytes: {}", bytes.len(), hex(bytes))?;
+                }
+                for (who, (joined, stage, reference)) in [("judge", judge), ("other", other)] {
+                    writeln!(
+                        f,
+                        "{who}: {}, {} and {} bytes",
+                        line(joined.verdict),
+                        joined.stage_len,
+                        joined.reference_len
+                    )?;
+                    writeln!(f, "stage buffer of the {who}: {}", hex(stage))?;
+                    writeln!(f, "reference buffer of the {who}: {}", hex(reference))?;
+                }
+                Ok(())
+            }
         }
     }
 }
@@ -218,6 +265,28 @@ pub fn compare_row(other: SettledRow, name: &str, case: &RowCase) -> Result<u64,
         case: case.clone(),
         judge: (judged_verdict, judged),
         other: (given_verdict, given),
+    }))
+}
+
+/// What a join answers on a case.
+fn answer_of(join: Join, case: &JoinCase) -> Answer {
+    let (mut stage, mut reference) = (case.stage.clone(), case.reference.clone());
+    let joined = join(&case.first, &case.second, &mut stage, &mut reference);
+    (joined, stage, reference)
+}
+
+/// Compares the verdict, the lengths and every byte of both buffers of one case.
+pub fn compare_join(other: Join, name: &str, case: &JoinCase) -> Result<u64, Box<Difference>> {
+    let judged = answer_of(join::join, case);
+    let given = answer_of(other, case);
+    if judged == given {
+        return Ok(judged.0.verdict[0]);
+    }
+    Err(Box::new(Difference::Joins {
+        name: name.to_string(),
+        case: Box::new(case.clone()),
+        judge: judged,
+        other: given,
     }))
 }
 
@@ -309,6 +378,20 @@ pub fn compare_rows(
     for index in 0..count {
         let name = format!("row case {index} of seed {seed}");
         let number = compare_row(other, &name, &row_case(seed, index))
+            .inspect_err(|difference| println!("{difference}"))?;
+        histogram[number as usize] += 1;
+    }
+    Ok(histogram)
+}
+
+/// Compares the join on the first `count` joins of a seed. The first difference is printed and
+/// given back.
+pub fn compare_joins(other: Join, seed: u64, count: u64) -> Result<Histogram, Box<Difference>> {
+    let mut histogram = Histogram::default();
+    for index in 0..count {
+        let generated = join_case(seed, index);
+        let name = format!("join {index} of seed {seed} ({})", generated.family);
+        let number = compare_join(other, &name, &generated.case)
             .inspect_err(|difference| println!("{difference}"))?;
         histogram[number as usize] += 1;
     }

@@ -5,6 +5,8 @@
 //! fault whose verdict is known by the way they are made, and pairs of which nothing
 //! is known beforehand: mutated circuits, random circuits, damaged bytes.
 
+pub mod joins;
+
 use crate::circuits::{
     dual_rail, kind_named, multiplier, multiplier_reference, reordered, ripple_adder,
     ripple_adder_reference, Products, ReferenceBuilder, StageBuilder,
@@ -15,7 +17,7 @@ use crate::files::{
 };
 use crate::judge::{
     answer, cell, check_circuits, pin_count, rails_of_word, read_stage, settle, Boolean, Gate,
-    Reference, Stage, Verdict, ABSENT, ACCEPTED, AND, NAND, NOR, NOT, OR, SET, XOR,
+    Reference, Stage, Verdict, ABSENT, ACCEPTED, AND, LIMITS, NAND, NOR, NOT, OR, SET, XOR,
 };
 
 /// A small generator of numbers (splitmix64).
@@ -490,7 +492,7 @@ pub fn mutate_stage(random: &mut Random, stage: &mut Stage) {
         }
         // A gate duplicated, some of its readers moved to the copy.
         11 => {
-            if stage.gates.len() < 128 {
+            if stage.gates.len() < LIMITS.stage_gates {
                 let (from, to) = (stage.net_of_gate(gate), nets);
                 for reader in &mut stage.gates {
                     for pin in &mut reader.pins {
@@ -509,7 +511,7 @@ pub fn mutate_stage(random: &mut Random, stage: &mut Stage) {
         }
         // A gate added.
         12 => {
-            if stage.gates.len() < 128 {
+            if stage.gates.len() < LIMITS.stage_gates {
                 stage.gates.push(random_gate(random, nets));
             }
         }
@@ -710,14 +712,14 @@ fn refused_in_reading(random: &mut Random, number: u64, which: u64) -> Generated
         // So many gates or outputs that one is too many, and more behind it.
         let more = random.pick(&[1, 1, 2, 9]);
         if in_stage && random.chance(1, 2) {
-            while stage.gates.len() < 128 + more {
+            while stage.gates.len() < LIMITS.stage_gates + more {
                 let gate = random_gate(random, 2 * stage.inputs);
                 stage.gates.push(gate);
             }
         } else if in_stage {
             stage.outputs.resize(16 + more, [0, 1]);
         } else if random.chance(1, 2) {
-            while reference.gates.len() < 256 + more {
+            while reference.gates.len() < LIMITS.reference_gates + more {
                 reference.gates.push(Boolean {
                     operation: NOT,
                     operands: vec![0],
@@ -800,7 +802,11 @@ fn refused_in_reading(random: &mut Random, number: u64, which: u64) -> Generated
             at
         }
         6 => {
-            let (gate_limit, output_byte) = if in_stage { (128, 0x03) } else { (256, 0x12) };
+            let (gate_limit, output_byte) = if in_stage {
+                (LIMITS.stage_gates, 0x03)
+            } else {
+                (LIMITS.reference_gates, 0x12)
+            };
             let outputs: Vec<usize> = starts
                 .iter()
                 .copied()
@@ -957,7 +963,7 @@ fn wrong_in_one_word(random: &mut Random, size: Size) -> Generated {
     let only_there = builder.one_word(word);
     let turned = builder.xor(builder.reference.outputs[output], only_there);
     builder.reference.outputs[output] = turned;
-    let known = if builder.reference.gates.len() <= 256 {
+    let known = if builder.reference.gates.len() <= LIMITS.reference_gates {
         Known::Verdict([13, 1, output as u64, word])
     } else {
         Known::Number(6)
@@ -1043,7 +1049,7 @@ fn incomplete_in_one_word(random: &mut Random) -> Generated {
 fn idle_in_one_word(random: &mut Random, size: Size) -> Generated {
     let (mut stage, reference) = loop {
         let circuits = accepted(random, size);
-        if circuits.0.inputs <= 4 && circuits.0.gates.len() < 128 {
+        if circuits.0.inputs <= 4 && circuits.0.gates.len() < LIMITS.stage_gates {
             break circuits;
         }
     };
@@ -1308,7 +1314,12 @@ fn several_faults(random: &mut Random) -> Generated {
     let gate = random.chance(3, 4);
     let full = random.chance(2, 3);
     if full && gate {
-        while gates.len() < if in_stage { 128 } else { 256 } {
+        let limit = if in_stage {
+            LIMITS.stage_gates
+        } else {
+            LIMITS.reference_gates
+        };
+        while gates.len() < limit {
             gates.push(one_gate(random));
         }
     } else if full {
@@ -1392,7 +1403,8 @@ fn long(random: &mut Random) -> Generated {
 
 fn accepted_pair(random: &mut Random, size: Size) -> Generated {
     let (stage, reference) = accepted(random, size);
-    let fits = stage.gates.len() <= 128 && reference.gates.len() <= 256;
+    let fits =
+        stage.gates.len() <= LIMITS.stage_gates && reference.gates.len() <= LIMITS.reference_gates;
     let known = if fits {
         Known::Verdict(ACCEPTED)
     } else {
@@ -1416,13 +1428,13 @@ fn at_the_limits(random: &mut Random) -> Generated {
     };
     let about = |random: &mut Random, limit: usize| limit - 1 + random.pick(&[0, 1, 1, 1, 2]);
     if random.chance(2, 3) {
-        let gates = about(random, 128);
+        let gates = about(random, LIMITS.stage_gates);
         while stage.gates.len() < gates {
             insert_buffer(random, &mut stage);
         }
     }
     if random.chance(2, 3) {
-        let gates = about(random, 256);
+        let gates = about(random, LIMITS.reference_gates);
         while reference.gates.len() < gates {
             let operand = random.below(reference.signals());
             reference.gates.push(Boolean {
@@ -1439,8 +1451,9 @@ fn at_the_limits(random: &mut Random) -> Generated {
             reference.outputs.push(reference.outputs[output]);
         }
     }
-    let fits =
-        stage.gates.len() <= 128 && reference.gates.len() <= 256 && stage.outputs.len() <= 16;
+    let fits = stage.gates.len() <= LIMITS.stage_gates
+        && reference.gates.len() <= LIMITS.reference_gates
+        && stage.outputs.len() <= 16;
     let known = if fits {
         Known::Verdict(ACCEPTED)
     } else {
@@ -1506,7 +1519,7 @@ pub fn spelt_reference(stage: &Stage) -> Option<Reference> {
             == values.iter().map(|values| values[word]).collect::<Vec<_>>()
     });
     assert!(right, "the reference answers what the stage spells");
-    (reference.gates.len() <= 256).then_some(reference)
+    (reference.gates.len() <= LIMITS.reference_gates).then_some(reference)
 }
 
 fn found_pair(
@@ -1805,6 +1818,16 @@ fn with_relaxed(random: &mut Random, generated: Generated) -> Generated {
     }
 }
 
+/// The gates of an accepted stage are relaxed, one after the other, where it is still accepted.
+fn relax(random: &mut Random, stage: &mut Stage, reference: &Reference) {
+    for gate in random.order(stage.gates.len()) {
+        stage.gates[gate].kind += 128;
+        if check_circuits(stage, reference) != ACCEPTED {
+            stage.gates[gate].kind -= 128;
+        }
+    }
+}
+
 /// An accepted pair of few inputs all of whose gates are relaxed, one after the other, where it
 /// is still accepted; and then perhaps one more.
 fn relaxed_where_it_may(random: &mut Random) -> Generated {
@@ -1818,12 +1841,7 @@ fn relaxed_where_it_may(random: &mut Random) -> Generated {
     if random.chance(1, 4) {
         stage.care = some_list(random, stage.inputs);
     }
-    for gate in random.order(stage.gates.len()) {
-        stage.gates[gate].kind += 128;
-        if check_circuits(&stage, &reference) != ACCEPTED {
-            stage.gates[gate].kind -= 128;
-        }
-    }
+    relax(random, &mut stage, &reference);
     let mut known = Known::Verdict(ACCEPTED);
     if !stage.gates.is_empty() && random.chance(1, 4) {
         let gate = random.below(stage.gates.len());

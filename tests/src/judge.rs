@@ -166,16 +166,35 @@ impl Reference {
 /// Number and place (a byte offset) of a refusal 1 to 9, 18 or 19.
 pub type Refusal = (u64, usize);
 
+/// How many gates a file may have.
+#[derive(Clone, Copy, PartialEq, Eq, Debug)]
+pub struct Limits {
+    pub stage_gates: usize,
+    pub reference_gates: usize,
+}
+
+/// Document 02, M-105: "The reader's limits rise to 256 stage and 512 reference gates": of the
+/// check, the report and the settled-row call.
+pub const LIMITS: Limits = Limits {
+    stage_gates: 256,
+    reference_gates: 512,
+};
+
 /// "A u16 operand has its low byte first."
 fn u16_at(file: &[u8], at: usize) -> usize {
     usize::from(file[at]) + 256 * usize::from(file[at + 1])
 }
 
 /// Reads a stage file, or says which refusal comes first and where.
+pub fn read_stage(file: &[u8]) -> Result<Stage, Refusal> {
+    read_stage_within(LIMITS, file)
+}
+
+/// The same within other limits.
 ///
 /// "Within a command the order is 2, 1, then 6, then 3 or 4, then 5 by operand.
 /// At the end command: 8, 7, then 9." Of a care word: 2, 1, 18, 19.
-pub fn read_stage(file: &[u8]) -> Result<Stage, Refusal> {
+pub fn read_stage_within(limits: Limits, file: &[u8]) -> Result<Stage, Refusal> {
     let mut stage = Stage::default();
     let mut first = true;
     // Every operand that names a net: its place and the net, in file order.
@@ -215,8 +234,8 @@ pub fn read_stage(file: &[u8]) -> Result<Stage, Refusal> {
                 stage.inputs = n;
             }
             0x02 => {
-                // 6, one gate too many: a stage has at most 128.
-                if stage.gates.len() == 128 {
+                // 6, one gate too many.
+                if stage.gates.len() == limits.stage_gates {
                     return Err((6, place));
                 }
                 // 4, the kind is unknown.
@@ -287,6 +306,11 @@ pub fn read_stage(file: &[u8]) -> Result<Stage, Refusal> {
 
 /// Reads a reference file, or says which refusal comes first and where.
 pub fn read_reference(file: &[u8]) -> Result<Reference, Refusal> {
+    read_reference_within(LIMITS, file)
+}
+
+/// The same within other limits.
+pub fn read_reference_within(limits: Limits, file: &[u8]) -> Result<Reference, Refusal> {
     let mut reference = Reference::default();
     let mut first = true;
     // Every operand that names a signal, in file order: its place, the signal
@@ -326,8 +350,8 @@ pub fn read_reference(file: &[u8]) -> Result<Reference, Refusal> {
                 reference.inputs = n;
             }
             0x11 => {
-                // 6, one gate too many: a reference has at most 256.
-                if reference.gates.len() == 256 {
+                // 6, one gate too many.
+                if reference.gates.len() == limits.reference_gates {
                     return Err((6, place));
                 }
                 // 4, the operation is unknown.
@@ -567,15 +591,20 @@ pub fn answer(reference: &Reference, word: u64) -> Vec<bool> {
 }
 
 /// The check of a stage file against a reference file.
+pub fn check(stage_file: &[u8], reference_file: &[u8]) -> Verdict {
+    check_within(LIMITS, stage_file, reference_file)
+}
+
+/// The same within other limits.
 ///
 /// "The stage is read first, then the reference, then 10 to 15 follow in order. A
 /// word or index named is the least: least word, then least index."
-pub fn check(stage_file: &[u8], reference_file: &[u8]) -> Verdict {
-    let stage = match read_stage(stage_file) {
+pub fn check_within(limits: Limits, stage_file: &[u8], reference_file: &[u8]) -> Verdict {
+    let stage = match read_stage_within(limits, stage_file) {
         Ok(stage) => stage,
         Err((number, at)) => return [number, STAGE, at as u64, 0],
     };
-    let reference = match read_reference(reference_file) {
+    let reference = match read_reference_within(limits, reference_file) {
         Ok(reference) => reference,
         Err((number, at)) => return [number, REFERENCE, at as u64, 0],
     };

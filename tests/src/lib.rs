@@ -8,6 +8,8 @@ pub mod exchange;
 pub mod explore;
 pub mod files;
 pub mod generate;
+pub mod join;
+pub mod join_suite;
 pub mod judge;
 #[cfg(feature = "library")]
 pub mod library;

@@ -335,9 +335,9 @@ fn refusals_of_the_file(cases: &mut Cases) {
         10,
     );
 
-    let mut many = vec![gate(TH12, &[0, 1]); 129];
+    let mut many = vec![gate(TH12, &[0, 1]); 257];
     many.push(output(0, 1));
-    cases.refused("6: 129 gates", file_of(1, &many), 6, 1282);
+    cases.refused("6: 257 gates", file_of(1, &many), 6, 2562);
     let mut outputs = vec![output(2, 3); 16];
     outputs.extend([gate(TH12, &[0, 1]), gate(TH22, &[0, 1]), output(0, 1)]);
     cases.refused(
@@ -401,14 +401,14 @@ fn two_faults_in_one_file(cases: &mut Cases) {
         6,
         82,
     );
-    let mut many = vec![gate(TH12, &[0, 1]); 128];
+    let mut many = vec![gate(TH12, &[0, 1]); 256];
     many.push(raw_gate(0, [X; 4]));
     many.push(output(0, 1));
     cases.refused(
-        "6 before 4: the 129th gate is of kind 0",
+        "6 before 4: the 257th gate is of kind 0",
         file_of(1, &many),
         6,
-        1282,
+        2562,
     );
     cases.refused(
         "4 before 5: kind 0 without pins",
@@ -509,11 +509,11 @@ fn loops(cases: &mut Cases) {
         12,
         1,
     );
-    let mut ring: Vec<Vec<u8>> = (0..128)
-        .map(|k| gate(TH12, &[0, 2 + (k + 1) % 128]))
+    let mut ring: Vec<Vec<u8>> = (0..256)
+        .map(|k| gate(TH12, &[0, 2 + (k + 1) % 256]))
         .collect();
     ring.push(output(0, 1));
-    cases.refused("12: a ring of 128 gates", file_of(1, &ring), 12, 0);
+    cases.refused("12: a ring of 256 gates", file_of(1, &ring), 12, 0);
     let own = file_of(1, &[gate(TH12, &[0, 1]), gate(TH22, &[1, 3]), output(2, 3)]);
     cases.add(
         "12 before 17: a row of the right length with both rails 1",
@@ -750,9 +750,9 @@ fn relaxed_kinds(cases: &mut Cases) {
         12,
         0,
     );
-    let mut many = vec![gate(TH12, &[0, 1]); 128];
+    let mut many = vec![gate(TH12, &[0, 1]); 256];
     many.extend([gate(129, &[0, 1]), output(0, 1)]);
-    cases.refused("6: the 129th gate is relaxed", file_of(1, &many), 6, 1282);
+    cases.refused("6: the 257th gate is relaxed", file_of(1, &many), 6, 2562);
     let stage = four_of_each(128);
     for low in 0..4 {
         let word = low + 16 * (low + 4);
@@ -779,12 +779,12 @@ fn relaxed_kinds(cases: &mut Cases) {
     cases.row("17: a relaxed AND", &and, vec![1, 0, 1, 1, 0, 0], 17, 1);
 }
 
-/// A stage of 10 inputs, 128 gates and 16 outputs without loops. The gates stand in
+/// A stage of 10 inputs, 256 gates and 16 outputs without loops. The gates stand in
 /// the file in another order than that in which they can settle, so pins name later
 /// gates as well as earlier ones.
 fn scattered() -> Stage {
-    // The k-th gate to settle stands at place (37 k + 5) mod 128.
-    let place = |k: usize| (37 * k + 5) % 128;
+    // The k-th gate to settle stands at place (37 k + 5) mod 256.
+    let place = |k: usize| (37 * k + 5) % 256;
     let mut state = 1u32;
     let mut below = |bound: usize| {
         state = state.wrapping_mul(1_664_525).wrapping_add(1_013_904_223);
@@ -794,8 +794,8 @@ fn scattered() -> Stage {
         kind: TH12,
         pins: vec![],
     };
-    let mut gates = vec![absent; 128];
-    for k in 0..128 {
+    let mut gates = vec![absent; 256];
+    for k in 0..256 {
         let kind = 1 + k % 27;
         let pins = (0..pin_count(kind))
             .map(|_| {
@@ -811,7 +811,7 @@ fn scattered() -> Stage {
     Stage {
         inputs: 10,
         gates,
-        outputs: (0..16).map(|j| [20 + 8 * j, 24 + 8 * j]).collect(),
+        outputs: (0..16).map(|j| [20 + 16 * j, 28 + 16 * j]).collect(),
         care: vec![],
     }
 }
@@ -819,52 +819,52 @@ fn scattered() -> Stage {
 fn large_stages(cases: &mut Cases) {
     // Gate k is fed by gate k + 1, the last one by input 0.
     let chain = |last: Vec<u8>| {
-        let mut commands: Vec<Vec<u8>> = (0..127).map(|k| gate(TH22, &[3 + k, 3 + k])).collect();
+        let mut commands: Vec<Vec<u8>> = (0..255).map(|k| gate(TH22, &[3 + k, 3 + k])).collect();
         commands.extend([last, output(0, 2)]);
         file_of(1, &commands)
     };
     let upward = chain(gate(TH12, &[0, 1]));
     cases.settles(
-        "128 gates in a chain, each naming the next: high from end to end",
+        "256 gates in a chain, each naming the next: high from end to end",
         &upward,
-        [vec![1, 0], vec![0; 128]].concat(),
+        [vec![1, 0], vec![0; 256]].concat(),
     );
     cases.settles(
         "the same chain low, its gates were high",
         &upward,
-        [vec![0, 0], vec![1; 128]].concat(),
+        [vec![0, 0], vec![1; 256]].concat(),
     );
     let stage = write_stage(&scattered());
     let row = |rails: fn(usize) -> [u8; 2], old: fn(usize) -> u8| -> Vec<u8> {
         let inputs = (0..10).flat_map(rails);
-        inputs.chain((0..128).map(old)).collect()
+        inputs.chain((0..256).map(old)).collect()
     };
     cases.settles(
-        "10 inputs, 128 gates, 16 outputs: word 0",
+        "10 inputs, 256 gates, 16 outputs: word 0",
         &stage,
         row(|_| [1, 0], |k| k as u8),
     );
     cases.settles(
-        "10 inputs, 128 gates, 16 outputs: word 341",
+        "10 inputs, 256 gates, 16 outputs: word 341",
         &stage,
         row(|i| [(i % 2) as u8, 1 - (i % 2) as u8], |_| 255),
     );
     cases.settles(
-        "10 inputs, 128 gates, 16 outputs: every third input NULL",
+        "10 inputs, 256 gates, 16 outputs: every third input NULL",
         &stage,
         row(|i| [[0, 0], [1, 0], [0, 1]][i % 3], |k| (k % 2) as u8),
     );
     cases.settles(
-        "10 inputs, 128 gates, 16 outputs: all inputs NULL",
+        "10 inputs, 256 gates, 16 outputs: all inputs NULL",
         &stage,
         row(|_| [0, 0], |_| 1),
     );
     cases.row(
-        "10 inputs, 128 gates, a row of 147",
+        "10 inputs, 256 gates, a row of 275",
         &stage,
-        (0..147).collect(),
+        (0..275).map(|k| k as u8).collect(),
         16,
-        147,
+        275,
     );
 }
 

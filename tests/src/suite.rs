@@ -373,9 +373,9 @@ fn refusals_of_the_reference(cases: &mut Cases) {
         12,
     );
 
-    let mut many = vec![op(NOT, &[0]); 257];
+    let mut many = vec![op(NOT, &[0]); 513];
     many.push(signal(0));
-    cases.reference("6: 257 gates", &file_of(1, &many), 6, 1538);
+    cases.reference("6: 513 gates", &file_of(1, &many), 6, 3074);
     cases.reference("6: 17 outputs", &file_of(1, &vec![signal(0); 17]), 6, 50);
     let mut outputs = vec![signal(0); 16];
     outputs.extend([op(NOT, &[0]), op(NOT, &[1]), signal(0)]);
@@ -448,13 +448,13 @@ fn two_faults_in_the_reference(cases: &mut Cases) {
         6,
         50,
     );
-    let mut many = vec![op(NOT, &[0]); 256];
+    let mut many = vec![op(NOT, &[0]); 512];
     many.extend([raw_op(0, X, X), signal(0)]);
     cases.reference(
-        "6 before 4: the 257th gate is of operation 0",
+        "6 before 4: the 513th gate is of operation 0",
         &file_of(1, &many),
         6,
-        1538,
+        3074,
     );
     cases.reference(
         "4 before 5: operation 0 without operands",
@@ -867,24 +867,24 @@ fn unobservable_stages(cases: &mut Cases) {
         0,
     );
     let mut chain: Vec<Vec<u8>> = vec![gate(TH22, &[1, 1])];
-    chain.extend((1..128).map(|k| gate(TH22, &[1 + k, 1 + k])));
-    idle("a chain of 128 gates", 1, &chain, [0, 129], None, 0);
+    chain.extend((1..256).map(|k| gate(TH22, &[1 + k, 1 + k])));
+    idle("a chain of 256 gates", 1, &chain, [0, 257], None, 0);
     idle(
-        "15: the last of 128 gates",
+        "15: the last of 256 gates",
         1,
         &chain,
-        [0, 128],
-        Some(127),
+        [0, 256],
+        Some(255),
         1,
     );
-    let backward: Vec<Vec<u8>> = (0..128)
+    let backward: Vec<Vec<u8>> = (0..256)
         .map(|k| match k {
-            127 => gate(TH33, &[1, 1, 1]),
+            255 => gate(TH33, &[1, 1, 1]),
             _ => gate(TH22, &[3 + k, 3 + k]),
         })
         .collect();
     idle(
-        "a chain of 128 gates, each naming the next",
+        "a chain of 256 gates, each naming the next",
         1,
         &backward,
         [0, 2],
@@ -900,10 +900,10 @@ fn limits(cases: &mut Cases) {
         &file_of(1, &vec![signal(0); 16]),
         ACCEPTED,
     );
-    let mut nots: Vec<Vec<u8>> = (0..256).map(|k| op(NOT, &[k])).collect();
-    nots.push(signal(256));
+    let mut nots: Vec<Vec<u8>> = (0..512).map(|k| op(NOT, &[k])).collect();
+    nots.push(signal(512));
     cases.add(
-        "a reference of 256 gates",
+        "a reference of 512 gates",
         &wire(),
         &file_of(1, &nots),
         ACCEPTED,
@@ -914,9 +914,9 @@ fn limits(cases: &mut Cases) {
         &file_of(1, &nots),
         [13, STAGE, 0, 0],
     );
-    nots[256] = signal(255);
+    nots[512] = signal(511);
     cases.add(
-        "the last but one of 256 gates",
+        "the last but one of 512 gates",
         &file_of(1, &[output(1, 0)]),
         &file_of(1, &nots),
         ACCEPTED,
@@ -1395,10 +1395,10 @@ fn relaxed_kinds(cases: &mut Cases) {
         [21, STAGE, 2, 0],
     );
     let mut chain: Vec<Vec<u8>> = vec![gate(TH22 + R, &[1, 1])];
-    chain.extend((1..128).map(|k| gate(TH22 + R, &[1 + k, 1 + k])));
-    chain.push(output(0, 129));
+    chain.extend((1..256).map(|k| gate(TH22 + R, &[1 + k, 1 + k])));
+    chain.push(output(0, 257));
     cases.add(
-        "a chain of 128 relaxed gates",
+        "a chain of 256 relaxed gates",
         &file_of(1, &chain),
         &wire_reference(),
         ACCEPTED,

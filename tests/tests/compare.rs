@@ -3,7 +3,7 @@
 
 use fovaheju_tests::compare::{
     compare_checks, compare_pair, compare_rows, first_difference, lack, run_program, shrink, Check,
-    Difference, Histogram, SettledRow, CHECK_NUMBERS, ROW_NUMBERS,
+    Difference, Histogram, SettledRow, CHECK_NUMBERS, JOIN_NUMBERS, ROW_NUMBERS,
 };
 use fovaheju_tests::files::{as_the_program_reads, unhex, verdict_from_line, FilePair};
 use fovaheju_tests::generate::pair;
@@ -25,14 +25,15 @@ fn the_judge_agrees_with_itself() {
 /// Cases that lack a number, or are nearly all refused, show too little.
 #[test]
 fn a_lack_is_told() {
-    let mut full: Histogram = [9; 22];
-    full[0] = 49;
+    let mut full: Histogram = [9; 25];
+    full[0] = 56;
     assert_eq!(lack(&full, &CHECK_NUMBERS), None);
     assert_eq!(lack(&full, &ROW_NUMBERS), None);
-    for number in 0..22 {
+    assert_eq!(lack(&full, &JOIN_NUMBERS), None);
+    for number in 0..full.len() {
         let mut histogram = full;
         histogram[number] = 0;
-        for numbers in [&CHECK_NUMBERS[..], &ROW_NUMBERS[..]] {
+        for numbers in [&CHECK_NUMBERS[..], &ROW_NUMBERS[..], &JOIN_NUMBERS[..]] {
             assert_eq!(
                 lack(&histogram, numbers).is_some(),
                 numbers.contains(&number)
@@ -40,10 +41,10 @@ fn a_lack_is_told() {
         }
     }
     let mut histogram = full;
-    histogram[0] = 47;
+    histogram[0] = 53;
     assert_eq!(
         lack(&histogram, &CHECK_NUMBERS),
-        Some("only 47 of 236 are accepted".to_string())
+        Some("only 53 of 269 are accepted".to_string())
     );
 }
 
@@ -515,19 +516,19 @@ fn wrong_checks_are_told() {
                 verdict => verdict,
             },
         ),
-        ("takes 129 gates", |s, r| match check(s, r) {
-            [6, 1, at, 0] if at >= 1282 => ACCEPTED,
+        ("takes 257 gates", |s, r| match check(s, r) {
+            [6, 1, at, 0] if at >= 2562 => ACCEPTED,
             verdict => verdict,
         }),
-        ("takes 127 gates only", |s, r| {
+        ("takes 255 gates only", |s, r| {
             match (check(s, r), read_stage(s)) {
-                (ACCEPTED, Ok(stage)) if stage.gates.len() == 128 => [6, 1, 0, 0],
+                (ACCEPTED, Ok(stage)) if stage.gates.len() == 256 => [6, 1, 0, 0],
                 (verdict, _) => verdict,
             }
         }),
-        ("takes 255 reference gates only", |s, r| {
+        ("takes 511 reference gates only", |s, r| {
             match (check(s, r), read_reference(r)) {
-                (ACCEPTED, Ok(reference)) if reference.gates.len() == 256 => [6, 2, 0, 0],
+                (ACCEPTED, Ok(reference)) if reference.gates.len() == 512 => [6, 2, 0, 0],
                 (verdict, _) => verdict,
             }
         }),
@@ -690,9 +691,9 @@ const RIGHT: Reading = Reading {
 
 fn refusal(reading: &Reading, file: &[u8], which: u64) -> Option<(u64, usize)> {
     let (gate_byte, output_byte, gates_allowed, kinds) = if which == 1 {
-        (2, 3, 128, 27)
+        (2, 3, 256, 27)
     } else {
-        (0x11, 0x12, 256, 6)
+        (0x11, 0x12, 512, 6)
     };
     let u16_at = |at: usize| usize::from(file[at]) + 256 * usize::from(file[at + 1]);
     let mut place = 0;

@@ -1,6 +1,7 @@
 //! The stored example pairs: their files are those described, and their verdicts those
 //! of the judge.
 
+use fovaheju_tests::catalogue::joins::{self, joined, joints};
 use fovaheju_tests::catalogue::{
     address_compare_reference, comparator_reference, examples, listing, mac_of_the_source,
     mac_reference, multiplier_of_the_source, parity_reference, MARKED,
@@ -9,6 +10,7 @@ use fovaheju_tests::circuits::{multiplier_reference, ripple_adder_reference};
 use fovaheju_tests::files::{examples_folder, load_example, stored_examples};
 use fovaheju_tests::judge::{answer, check, rails_of_word, read_stage, settle, Stage};
 use fovaheju_tests::read;
+use std::collections::BTreeSet;
 
 #[test]
 fn stored_files_and_verdicts() {
@@ -37,6 +39,41 @@ fn stored_files_and_verdicts() {
     assert_eq!(list, listing(), "examples/LIST.md");
 }
 
+/// The joins of stored pairs have the verdicts that they are meant to have, and write the pairs
+/// that are stored for them.
+#[test]
+fn joins_of_stored_pairs() {
+    let examples = examples();
+    let mut numbers = BTreeSet::new();
+    for joint in joints() {
+        let about = format!("{} and {}: {}", joint.first, joint.second, joint.about);
+        let (verdict, written) = joined(&joint, &examples);
+        assert_eq!(verdict[0], joint.number, "{about}");
+        numbers.insert((verdict[0], verdict[1]));
+        let folder = examples_folder();
+        let whole = joint
+            .whole
+            .map(|name| load_example(&folder, name).unwrap().0);
+        assert_eq!(written, whole, "{about}");
+    }
+    for place in [
+        (0, 0),
+        (22, 0),
+        (23, 0),
+        (14, 1),
+        (9, 2),
+        (10, 0),
+        (14, 4),
+        (9, 5),
+        (10, 3),
+        (11, 3),
+    ] {
+        assert!(numbers.contains(&place), "{place:?}");
+    }
+    let list = std::fs::read_to_string(examples_folder().join("JOINS.md")).unwrap();
+    assert_eq!(list, joins::listing(), "examples/JOINS.md");
+}
+
 /// The bytes that the blocks of a document spell: in each line the pairs of hexadecimal digits at its
 /// start, or after its first word.
 fn spelt(document: &str) -> Vec<u8> {
@@ -60,7 +97,11 @@ fn spelt(document: &str) -> Vec<u8> {
 fn the_documents_spell_the_and() {
     let (pair, _) = load_example(&examples_folder(), "and").unwrap();
     for path in ["README.md", "docs/FILES.md"] {
-        assert_eq!(spelt(&read(path)), [pair.stage.clone(), pair.reference.clone()].concat(), "{path}");
+        assert_eq!(
+            spelt(&read(path)),
+            [pair.stage.clone(), pair.reference.clone()].concat(),
+            "{path}"
+        );
     }
 }
 

@@ -151,60 +151,60 @@ fn order_within_a_command() {
     // 1 before 6, 6 before 4, 4 before 5.
     let gates = |count: usize| " 02 01 00 00 01 00 FF FF FF FF".repeat(count);
     assert_eq!(
-        stage(&format!("01 01{} 02 1C", gates(128))),
-        [1, 1, 1284, 0]
+        stage(&format!("01 01{} 02 1C", gates(256))),
+        [1, 1, 2564, 0]
     );
     assert_eq!(
         stage(&format!(
             "01 01{} 02 1C FF FF FF FF 00 00 00 00",
-            gates(128)
+            gates(256)
         )),
-        [6, 1, 1282, 0]
+        [6, 1, 2562, 0]
     );
     assert_eq!(
         stage(&format!(
             "01 01{} 02 1C FF FF FF FF 00 00 00 00",
-            gates(127)
+            gates(255)
         )),
-        [4, 1, 1273, 0]
+        [4, 1, 2553, 0]
     );
     assert_eq!(
         stage(&format!(
             "01 01{} 02 02 FF FF FF FF 00 00 00 00",
-            gates(127)
+            gates(255)
         )),
-        [5, 1, 1274, 0]
+        [5, 1, 2554, 0]
     );
     assert_eq!(
         stage(&format!(
             "01 01{} 02 02 00 00 01 00 FF FF 00 00",
-            gates(127)
+            gates(255)
         )),
-        [5, 1, 1280, 0]
+        [5, 1, 2560, 0]
     );
     let not_gates = |count: usize| " 11 01 00 00 FF FF".repeat(count);
     assert_eq!(
-        reference(&format!("01 01{} 11 07 FF FF FF FF", not_gates(256))),
-        [6, 2, 1538, 0]
+        reference(&format!("01 01{} 11 07 FF FF FF FF", not_gates(512))),
+        [6, 2, 3074, 0]
     );
     assert_eq!(
-        reference(&format!("01 01{} 11 07 FF FF FF FF", not_gates(255))),
-        [4, 2, 1533, 0]
+        reference(&format!("01 01{} 11 07 FF FF FF FF", not_gates(511))),
+        [4, 2, 3069, 0]
     );
     assert_eq!(
-        reference(&format!("01 01{} 11 01 FF FF 00 00", not_gates(255))),
-        [5, 2, 1534, 0]
+        reference(&format!("01 01{} 11 01 FF FF 00 00", not_gates(511))),
+        [5, 2, 3070, 0]
     );
     assert_eq!(
-        reference(&format!("01 01{} 11 01 00 00 00 00", not_gates(255))),
-        [5, 2, 1536, 0]
+        reference(&format!("01 01{} 11 01 00 00 00 00", not_gates(511))),
+        [5, 2, 3072, 0]
     );
     assert_eq!(
-        reference(&format!("01 01{} 11 02 00 00 FF FF", not_gates(255))),
-        [5, 2, 1536, 0]
+        reference(&format!("01 01{} 11 02 00 00 FF FF", not_gates(511))),
+        [5, 2, 3072, 0]
     );
     assert_eq!(
-        reference(&format!("01 01{} 12 00 00 00", not_gates(256))),
+        reference(&format!("01 01{} 12 00 00 00", not_gates(512))),
         [0, 0, 0, 0]
     );
     // 8, 7, then 9.

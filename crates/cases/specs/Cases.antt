@@ -183,7 +183,7 @@ ordered =
     case (1 ∷ 2 ∷ twoPins 2 0 1 (pair 0 1 (pair 2 3 (0 ∷ [])))) (1 ∷ 2 ∷ 0x12 ∷ 0 ∷ 0 ∷ 0x12 ∷ 1 ∷ 0 ∷ 0 ∷ []) (verdict 0 0 0 0) ∷
     []
 
--- ---- which of 1 to 9 is named, and where
+-- ---- one gate more than there may be
 
 -- m gates TH12(0, 1)
 gates : ℕ → List ℕ → List ℕ
@@ -195,11 +195,17 @@ inverters : ℕ → List ℕ → List ℕ
 inverters zero rest = rest
 inverters (suc m) rest = 0x11 ∷ 1 ∷ 0 ∷ 0 ∷ FFFF ++ inverters m rest
 
+-- the 257th gate of a stage and the 513th of a reference, whose kind and operation do not exist either
+pub manyGates : List Case
+manyGates = case (1 ∷ 1 ∷ gates 256 (2 ∷ 0x1C ∷ FFFF ++ FFFF ++ FFFF ++ FFFF)) wireReference (verdict 6 1 2562 0) ∷ []
+
+pub manyOperations : List Case
+manyOperations = case wire (1 ∷ 1 ∷ inverters 512 (0x11 ∷ 7 ∷ FFFF ++ FFFF)) (verdict 6 2 3074 0) ∷ []
+
+-- ---- which of 1 to 9 is named, and where
+
 pub refused : List Case
 refused =
-    -- the 129th gate of a stage and the 257th of a reference, whose kind and operation do not exist either
-    case (1 ∷ 1 ∷ gates 128 (2 ∷ 0x1C ∷ FFFF ++ FFFF ++ FFFF ++ FFFF)) wireReference (verdict 6 1 1282 0) ∷
-    case wire (1 ∷ 1 ∷ inverters 256 (0x11 ∷ 7 ∷ FFFF ++ FFFF)) (verdict 6 2 1538 0) ∷
     -- a kind that does not exist, with all pins absent: 4
     case (1 ∷ 1 ∷ 2 ∷ 0 ∷ FFFF ++ FFFF ++ FFFF ++ FFFF) wireReference (verdict 4 1 3 0) ∷
     -- two pins that are needed and absent: the first
@@ -323,7 +329,20 @@ rowExamples =
     rowCase wholeStage (1 ∷ 0 ∷ 0 ∷ 0 ∷ 9 ∷ 9 ∷ []) (answerWith (verdict 0 0 0 0) (1 ∷ 0 ∷ 0 ∷ 0 ∷ 0 ∷ 0 ∷ [])) ∷
     []
 
--- ---- computed, all at once
+-- ---- computed, the two long files each by itself and all others at once
+
+pub many-gates : judged manyGates ≡ expected manyGates
+unfolding manyGates gates c.cells c.cellAt c.pinCount c.kindOf b.operand
+    k.whenFound k.ownCommands k.commandTable k.formIn k.pinsNeeded k.needed k.stray k.misfit k.misfitFrom k.takeGate k.takeSort k.takeCommand k.nextAt
+    r.floorAfter r.noted r.onNext r.readFrom r.readFile v.judgeStage v.verdictWithin
+many-gates = refl
+
+pub many-operations : judged manyOperations ≡ expected manyOperations
+unfolding manyOperations wire inverters b.operand b.operands
+    k.whenFound k.ownCommands k.commandTable k.formIn k.needed k.stray k.misfit k.misfitFrom k.takeGate k.takeSort k.takeCommand k.nextAt
+    r.nameable r.nameless r.usedOperands r.namelessAt r.namelessFrom r.floorAfter r.noted r.finish r.onNext r.readFrom r.readFile t.stageOf
+    v.judgeReference v.judgeStage v.verdictWithin
+many-operations = refl
 
 abbrev Computed : Type 0
 Computed =
@@ -337,7 +356,7 @@ Computed =
 
 computed : Computed
 unfolding twelve examples ordered refused care earlyGates relaxed rowExamples wire wireReference wholeStage andReference swapped notReference earlyAnd wires wireSignals
-    outputs firstInput gates inverters c.cells c.cellAt c.pinCount c.setExpression c.kindOf b.operand b.operands
+    outputs firstInput inverters c.cells c.cellAt c.pinCount c.setExpression c.kindOf b.operand b.operands
     k.whenFound k.ownCommands k.commandTable k.formIn k.pinsNeeded k.needed k.stray k.misfit k.misfitFrom k.takeGate k.takeCare k.takeSort k.takeCommand k.nextAt
     r.nameable r.nameless r.usedOperands r.namelessAt r.namelessFrom r.floorAfter r.noted r.finish r.onNext r.readFrom r.readFile t.stageOf t.referenceOf o.withNull o.isSet o.rounds o.settledLevels o.levelsHolding o.everyPair
     g.tabulate g.leading l.gateSteps l.reachesItself w.numbers w.caredFor w.words w.bitsOf w.railsOf a.operate a.signalValues a.answer h.first h.atFault h.sweep

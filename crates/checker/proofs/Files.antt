@@ -4,15 +4,16 @@ use Prim.Native.Nat.{ℕ}
 use mathlib.Core.Path.{_≡_, sym, ap, subst, _∙_}
 use mathlib.Core.List.{List}
 use Rattle.netlist.specs.declared.File.the-variants as file
+use Rattle.netlist.specs.declared.Limits.{Limits}
 use Rattle.netlist.specs.declared.Counts.{Counts}
 use Rattle.netlist.specs.declared.Outcome.the-variants as outcome
-use Rattle.netlist.specs.Reading.{Reading, refused, readable, readFile, stageLimits, referenceLimits}
+use Rattle.netlist.specs.Reading.{Reading, refused, readable, readFile}
 use Rattle.netlist.specs.Read.{outcomeOf}
 use Rattle.netlist.specs.Content.{Stage, Reference}
 use Rattle.verdict.specs.declared.Verdict.{Verdict}
 use Rattle.verdict.specs.declared.Finding.{Finding}
 use Rattle.verdict.specs.Checks.{verdict, firstFault, checks}
-use Rattle.verdict.specs.Verdicts.{verdictOf, judgeReference, judgeStage, verdictWithin, verdictOn}
+use Rattle.verdict.specs.Verdicts.{verdictOf, judgeReference, judgeStage, verdictWithin}
 use Rattle.verdict.specs.Demands.{Demand2, Demand3}
 use Rattle.verdict.proofs.Demands.{demand-2, demand-3}
 use Rattle.circuit.specs.Stage.{stageIn}
@@ -37,30 +38,40 @@ module _ (s : Stage) (t : List ℕ) (x : Reading) where
 
 -- ---- the stage
 
-module _ (s t : List ℕ) where
+module _ (stageMost referenceMost : Limits) (s t : List ℕ) where
   abbrev reading : Reading
-  reading = readFile file.Stage stageLimits s
+  reading = readFile file.Stage stageMost s
 
-  pub stage-refused : (number at : ℕ) → outcome.Refused number at ≡ outcomeOf reading → verdict number 1 at 0 ≡ verdictOn s t
+  pub stage-refused : (number at : ℕ) → outcome.Refused number at ≡ outcomeOf reading → verdict number 1 at 0 ≡ verdictWithin stageMost referenceMost s t
   unfolding judgeStage verdictWithin
-  stage-refused number at e = sym (ap (judgeStage referenceLimits s t) (was-refused reading number at e))
+  stage-refused number at e = sym (ap (judgeStage referenceMost s t) (was-refused reading number at e))
 
   pub stage-judged : (c : Counts) (code : List ℕ) → outcome.Readable c ≡ outcomeOf reading → HoldsStage s reading code → (v : Verdict) →
-      v ≡ judgeReference (stageIn c code) t (readFile file.Reference referenceLimits t) → v ≡ verdictOn s t
+      v ≡ judgeReference (stageIn c code) t (readFile file.Reference referenceMost t) → v ≡ verdictWithin stageMost referenceMost s t
   unfolding judgeStage verdictWithin
   stage-judged c code e h v j =
       let r = stage-held s reading c code e h in
-      j ∙ ap (λ (y : Stage). judgeReference y t (readFile file.Reference referenceLimits t)) (r .2) ∙ sym (ap (judgeStage referenceLimits s t) (r .1))
+      j ∙ ap (λ (y : Stage). judgeReference y t (readFile file.Reference referenceMost t)) (r .2) ∙ sym (ap (judgeStage referenceMost s t) (r .1))
 
 -- ---- the demands
 
-pub with-demands : (s t : List ℕ) (v : Verdict) → v ≡ verdictOn s t →
-    (v ≡ verdictOn s t) × (Demand2 stageLimits referenceLimits s t v × Demand3 stageLimits referenceLimits s t v)
-with-demands s t v e = (
+-- what the check answers within some limits
+abbrev pub Checked : Limits → Limits → List ℕ → List ℕ → Verdict → Type 0
+Checked stageMost referenceMost s t v =
+    (v ≡ verdictWithin stageMost referenceMost s t) × (Demand2 stageMost referenceMost s t v × Demand3 stageMost referenceMost s t v)
+
+pub with-demands : (stageMost referenceMost : Limits) (s t : List ℕ) (v : Verdict) → v ≡ verdictWithin stageMost referenceMost s t →
+    Checked stageMost referenceMost s t v
+with-demands stageMost referenceMost s t v e = (
   e,
   (
-    subst (Demand2 stageLimits referenceLimits s t) (sym e) (demand-2 stageLimits referenceLimits s t),
-    subst
-        (Demand3 stageLimits referenceLimits s t) (sym e) (demand-3 stageLimits referenceLimits s t),
+    subst (Demand2 stageMost referenceMost s t) (sym e) (demand-2 stageMost referenceMost s t),
+    subst (Demand3 stageMost referenceMost s t) (sym e) (demand-3 stageMost referenceMost s t),
   ),
 )
+
+-- the same where the limits are those that were handed on
+pub checked-by : (given most given′ most′ : Limits) (s t : List ℕ) (v : Verdict) → given ≡ most → given′ ≡ most′ →
+    Checked given given′ s t v → Checked most most′ s t v
+checked-by given most given′ most′ s t v e e′ c =
+    subst (λ (m : Limits). Checked most m s t v) e′ (subst (λ (m : Limits). Checked m given′ s t v) e c)

@@ -1,12 +1,13 @@
 // The check of two files: both are read and loaded, then the checks 10 to 15, 20 and 21 follow in their order.
 use netlist::Counts;
 use netlist::Found;
+use netlist::Limits;
 use netlist::Outcome;
 use verdict::Finding;
 use verdict::Verdict;
 ghost use mathlib.Core.Path.{_≡_};
 ghost use Rattle.netlist.specs.declared.File.the-variants as file;
-ghost use Rattle.netlist.specs.Reading.{readFile, stageLimits, referenceLimits};
+ghost use Rattle.netlist.specs.Reading.{readFile, stageLimits, referenceLimits, NoMore};
 ghost use Rattle.verdict.specs.Checks as checks;
 ghost use Rattle.verdict.specs.Verdicts as verdicts;
 ghost use Rattle.verdict.specs.Demands.{Demand2, Demand3};
@@ -60,14 +61,14 @@ fn verdict_of(finding: Finding) -> Verdict
     }
 }
 
-// A stage that was loaded, and a reference file: its refusal is of file 2.
-fn check_reference(code: &mut [u16], counts: Counts, reference: &[u8]) -> Verdict
-    requires { ⌜ StageLoaded counts (now code) ⌝ }
+// A stage that was loaded, and a reference file, which is read within some limits: its refusal is of file 2.
+fn check_reference(code: &mut [u16], counts: Counts, reference: &[u8], most: Limits) -> Verdict
+    requires { ⌜ StageLoaded counts (now code) × NoMore most referenceLimits ⌝ }
     ensures { λ r. ⌜ r ≡ verdicts.judgeReference (stageIn counts (now (code .entry))) (now (reference .entry))
-        (readFile file.Reference referenceLimits (now (reference .entry))) ⌝ }
+        (readFile file.Reference most (now (reference .entry))) ⌝ }
 {
     let mut loaded = [0u16; load::REFERENCE_CODE];
-    match load::read_reference(reference, &mut loaded) {
+    match load::read_reference_within(reference, most, &mut loaded) {
         Outcome::Refused { number, at } => Verdict {
             number: number as u64,
             file: 2,
@@ -78,20 +79,40 @@ fn check_reference(code: &mut [u16], counts: Counts, reference: &[u8]) -> Verdic
     }
 }
 
-// The verdict on a stage file and a reference file.
-pub fn check(stage: &[u8], reference: &[u8]) -> Verdict
-    ensures verdict { λ r. ⌜ r ≡ verdicts.verdictOn (now (stage .entry)) (now (reference .entry)) ⌝ }
-    ensures demand2 { λ r. ⌜ Demand2 stageLimits referenceLimits (now (stage .entry)) (now (reference .entry)) r ⌝ }
-    ensures runs { λ r. ⌜ Demand3 stageLimits referenceLimits (now (stage .entry)) (now (reference .entry)) r ⌝ }
+// The verdict on a stage file and a reference file, which are read within some limits.
+pub fn check_within(
+    stage: &[u8],
+    reference: &[u8],
+    stage_most: Limits,
+    reference_most: Limits,
+) -> Verdict
+    requires { ⌜ NoMore «stage_most» stageLimits × NoMore «reference_most» referenceLimits ⌝ }
+    ensures verdict { λ r. ⌜ r ≡ verdicts.verdictWithin «stage_most» «reference_most» (now (stage .entry)) (now (reference .entry)) ⌝ }
+    ensures demand2 { λ r. ⌜ Demand2 «stage_most» «reference_most» (now (stage .entry)) (now (reference .entry)) r ⌝ }
+    ensures runs { λ r. ⌜ Demand3 «stage_most» «reference_most» (now (stage .entry)) (now (reference .entry)) r ⌝ }
 {
     let mut code = [0u16; load::STAGE_CODE];
-    match load::read_stage(stage, &mut code) {
+    match load::read_stage_within(stage, stage_most, &mut code) {
         Outcome::Refused { number, at } => Verdict {
             number: number as u64,
             file: 1,
             at: at as u64,
             word: 0,
         },
-        Outcome::Readable(counts) => check_reference(&mut code, counts, reference),
+        Outcome::Readable(counts) => check_reference(&mut code, counts, reference, reference_most),
     }
+}
+
+// The same within the limits of the two files.
+pub fn check(stage: &[u8], reference: &[u8]) -> Verdict
+    ensures verdict { λ r. ⌜ r ≡ verdicts.verdictOn (now (stage .entry)) (now (reference .entry)) ⌝ }
+    ensures demand2 { λ r. ⌜ Demand2 stageLimits referenceLimits (now (stage .entry)) (now (reference .entry)) r ⌝ }
+    ensures runs { λ r. ⌜ Demand3 stageLimits referenceLimits (now (stage .entry)) (now (reference .entry)) r ⌝ }
+{
+    check_within(
+        stage,
+        reference,
+        netlist::stage_limits(),
+        netlist::reference_limits(),
+    )
 }

@@ -13,7 +13,7 @@ use Rattle.gates.specs.declared.Kind.{Kind}
 use Rattle.gates.specs.declared.Kind.the-variants.{Hold, Relaxed, Unknown}
 use Rattle.netlist.specs.declared.Counts.{Counts}
 use Rattle.netlist.specs.Bytes.{byte, operand}
-use Rattle.netlist.specs.Reading.{stageLimits, referenceLimits}
+use Rattle.netlist.specs.declared.Limits.{Limits}
 use Rattle.circuit.specs.Stage.{netCount}
 use Rattle.load.specs.Load.{pinNumber, cellNumber, kindNumber, gateNumber, stageNumber, operatorNumber, referenceNumber}
 
@@ -77,26 +77,26 @@ module _ (s : List ℕ) (at j : ℕ) where
 
 -- ---- gates, then outputs
 
-module _ (s places : List ℕ) (c : Counts) (i : ℕ) where
-  pub stage-gate : i < 8 * c .gates → gateNumber s (getD places (i / 8) 0) (netCount c) (i % 8) ≡ stageNumber s places c i
+module _ (most : Limits) (s places : List ℕ) (c : Counts) (i : ℕ) where
+  pub stage-gate : i < 8 * c .gates → gateNumber s (getD places (i / 8) 0) (netCount c) (i % 8) ≡ stageNumber most s places c i
   unfolding stageNumber
   stage-gate h = rw (lt-ltb i (8 * c .gates) h)
 
   pub stage-output : 8 * c .gates ≤ i → i - 8 * c .gates < 2 * c .outputs →
-      operand s (getD places (stageLimits .gates + (i - 8 * c .gates) / 2) 0 + 1 + 2 * ((i - 8 * c .gates) % 2)) ≡ stageNumber s places c i
+      operand s (getD places (most .gates + (i - 8 * c .gates) / 2) 0 + 1 + 2 * ((i - 8 * c .gates) % 2)) ≡ stageNumber most s places c i
   unfolding stageNumber
   stage-output h l = rw (le-ltb i (8 * c .gates) h, lt-ltb (i - 8 * c .gates) (2 * c .outputs) l)
 
   pub stage-care : 8 * c .gates ≤ i → 2 * c .outputs ≤ i - 8 * c .gates →
-      getD places (stageLimits .gates + stageLimits .outputs + (i - 8 * c .gates - 2 * c .outputs)) 0 ≡ stageNumber s places c i
+      getD places (most .gates + most .outputs + (i - 8 * c .gates - 2 * c .outputs)) 0 ≡ stageNumber most s places c i
   unfolding stageNumber
   stage-care h l = rw (le-ltb i (8 * c .gates) h, le-ltb (i - 8 * c .gates) (2 * c .outputs) l)
 
-  pub reference-gate : i < 3 * c .gates → operatorNumber s (getD places (i / 3) 0) (i % 3) ≡ referenceNumber s places c i
+  pub reference-gate : i < 3 * c .gates → operatorNumber s (getD places (i / 3) 0) (i % 3) ≡ referenceNumber most s places c i
   unfolding referenceNumber
   reference-gate h = rw (lt-ltb i (3 * c .gates) h)
 
-  pub reference-output : 3 * c .gates ≤ i → operand s (getD places (referenceLimits .gates + (i - 3 * c .gates)) 0 + 1) ≡ referenceNumber s places c i
+  pub reference-output : 3 * c .gates ≤ i → operand s (getD places (most .gates + (i - 3 * c .gates)) 0 + 1) ≡ referenceNumber most s places c i
   unfolding referenceNumber
   reference-output h = rw (le-ltb i (3 * c .gates) h)
 

@@ -13,13 +13,14 @@ use Rattle.netlist.specs.declared.Sort.the-variants as sort
 use Rattle.netlist.specs.declared.Limits.{Limits}
 use Rattle.netlist.specs.declared.Counts.{Counts}
 use Rattle.netlist.specs.Commands.{commandTable, ownCommands, formIn}
+use Rattle.netlist.specs.declared.Outcome.{Outcome}
 use Rattle.netlist.specs.declared.Outcome.the-variants as outcome
-use Rattle.netlist.specs.Reading.{Places, countsOf, Reading, refused, readable, readFile, Within, stageLimits, referenceLimits}
+use Rattle.netlist.specs.Reading.{Places, countsOf, Reading, refused, readable, readFile, Within}
 use Rattle.netlist.specs.Read.{GateRead, OutputRead, Read, outcomeOf}
 use Rattle.netlist.specs.Content.{stageOf, referenceOf}
 use Rattle.netlist.proofs.Readable.{readable-read, rising-length}
 use Rattle.netlist.proofs.References.{no-care}
-use Rattle.files.specs.Files.{mostCare, RoomFor, Placed}
+use Rattle.files.specs.Files.{mostCare, Placed}
 use Rattle.circuit.specs.Stage.{stageIn, StageLoaded}
 use Rattle.circuit.specs.Reference.{referenceIn, ReferenceLoaded}
 use Rattle.load.specs.Load.{placesIn, FileRead, HoldsStage, HoldsReference}
@@ -53,23 +54,23 @@ module _ (f : File) (most : Limits) (s places : List ℕ) (c : Counts) (r : File
 
 -- ---- the bytes of each command are in the file
 
-module _ (s places : List ℕ) (c : Counts) (r : FileRead file.Stage stageLimits s places c) where
+module _ (most : Limits) (s places : List ℕ) (c : Counts) (r : FileRead file.Stage most s places c) where
   pub gate-room : (k : ℕ) → k < c .gates → getD places k 0 + 10 ≤ length s
   unfolding commandTable ownCommands formIn
-  gate-room k h = gate-at file.Stage stageLimits s places c r k h .room
+  gate-room k h = gate-at file.Stage most s places c r k h .room
 
-  pub rails-room : (j : ℕ) → j < c .outputs → getD places (stageLimits .gates + j) 0 + 5 ≤ length s
+  pub rails-room : (j : ℕ) → j < c .outputs → getD places (most .gates + j) 0 + 5 ≤ length s
   unfolding commandTable ownCommands formIn
-  rails-room j h = output-at file.Stage stageLimits s places c r j h .room
+  rails-room j h = output-at file.Stage most s places c r j h .room
 
-module _ (s places : List ℕ) (c : Counts) (r : FileRead file.Reference referenceLimits s places c) where
+module _ (most : Limits) (s places : List ℕ) (c : Counts) (r : FileRead file.Reference most s places c) where
   pub operator-room : (k : ℕ) → k < c .gates → getD places k 0 + 6 ≤ length s
   unfolding commandTable ownCommands formIn
-  operator-room k h = gate-at file.Reference referenceLimits s places c r k h .room
+  operator-room k h = gate-at file.Reference most s places c r k h .room
 
-  pub signal-room : (j : ℕ) → j < c .outputs → getD places (referenceLimits .gates + j) 0 + 3 ≤ length s
+  pub signal-room : (j : ℕ) → j < c .outputs → getD places (most .gates + j) 0 + 3 ≤ length s
   unfolding commandTable ownCommands formIn
-  signal-room j h = output-at file.Reference referenceLimits s places c r j h .room
+  signal-room j h = output-at file.Reference most s places c r j h .room
 
 -- ---- what reading answers
 
@@ -109,48 +110,41 @@ was-read f most s places c room e placed = go (readFile f most s) refl e placed
           counts = ap countsOf same;
         })
 
--- the same where the limits that were handed on are these
-pub was-read-by : (f : File) (given most : Limits) → given ≡ most → (s places : List ℕ) (c : Counts) → most .gates + most .outputs + mostCare f most ≤ length places →
-    outcome.Readable c ≡ outcomeOf (readFile f given s) → Placed given (readFile f given s) places → WasRead f most s places c
-was-read-by f given most e s places c room a b =
-    let t = subst (λ (m : Limits). (outcome.Readable c ≡ outcomeOf (readFile f m s)) × Placed m (readFile f m s) places) e (a, b) in
-    was-read f most s places c room (t .0) (t .1)
-
-pub stage-places : (most : Limits) → most ≡ stageLimits → RoomFor file.Stage most (stageLimits .gates + stageLimits .outputs + 2 ^ stageLimits .inputs)
-unfolding commandTable ownCommands formIn mostCare
-stage-places most e = subst (λ (m : Limits). RoomFor file.Stage m (stageLimits .gates + stageLimits .outputs + 2 ^ stageLimits .inputs)) (sym e) (record { u16s = omega arith; space = omega arith })
-
-pub reference-places : (most : Limits) → most ≡ referenceLimits → RoomFor file.Reference most (referenceLimits .gates + referenceLimits .outputs)
-unfolding commandTable ownCommands formIn mostCare
-reference-places most e = subst (λ (m : Limits). RoomFor file.Reference m (referenceLimits .gates + referenceLimits .outputs)) (sym e) (record { u16s = omega arith; space = omega arith })
-
-module _ (s : List ℕ) where
-  pub holds-stage : (places : List ℕ) (c : Counts) (code : List ℕ) → WasRead file.Stage stageLimits s places c →
-      stageIn c code ≡ stageOf s (placesIn stageLimits c places) → StageLoaded c code →
-      HoldsStage s (readFile file.Stage stageLimits s) code
+module _ (most : Limits) (s : List ℕ) where
+  pub holds-stage : (places : List ℕ) (c : Counts) (code : List ℕ) → WasRead file.Stage most s places c →
+      stageIn c code ≡ stageOf s (placesIn most c places) → StageLoaded c code →
+      HoldsStage s (readFile file.Stage most s) code
   unfolding HoldsStage
   holds-stage places c code w e l =
       subst (λ (x : Reading). HoldsStage s x code) (sym (w .reading))
-      (subst (λ (d : Counts). StageLoaded d code × (stageIn d code ≡ stageOf s (placesIn stageLimits c places))) (sym (w .counts)) (l, e))
+      (subst (λ (d : Counts). StageLoaded d code × (stageIn d code ≡ stageOf s (placesIn most c places))) (sym (w .counts)) (l, e))
 
+  pub holds-reference : (places : List ℕ) (c : Counts) (code : List ℕ) → WasRead file.Reference most s places c →
+      referenceIn c code ≡ referenceOf s (placesIn most c places) → ReferenceLoaded c code →
+      HoldsReference s (readFile file.Reference most s) code
+  unfolding HoldsReference
+  holds-reference places c code w e l =
+      subst (λ (x : Reading). HoldsReference s x code) (sym (w .reading))
+      (subst (λ (d : Counts). ReferenceLoaded d code × (referenceIn d code ≡ referenceOf s (placesIn most c places))) (sym (w .counts))
+      (l, e))
+
+module _ (s : List ℕ) where
   pub holds-no-stage : (x : Reading) (number at : ℕ) (code : List ℕ) → outcome.Refused number at ≡ outcomeOf x → HoldsStage s x code
   unfolding HoldsStage outcomeOf
   holds-no-stage (refused k p) number at code e = tt
   holds-no-stage (readable p) number at code e = absurd (let z : _≡_ {A = ℕ} 0 1 = cc in omega arith)
 
-  pub holds-reference : (places : List ℕ) (c : Counts) (code : List ℕ) → WasRead file.Reference referenceLimits s places c →
-      referenceIn c code ≡ referenceOf s (placesIn referenceLimits c places) → ReferenceLoaded c code →
-      HoldsReference s (readFile file.Reference referenceLimits s) code
-  unfolding HoldsReference
-  holds-reference places c code w e l =
-      subst (λ (x : Reading). HoldsReference s x code) (sym (w .reading))
-      (subst (λ (d : Counts). ReferenceLoaded d code × (referenceIn d code ≡ referenceOf s (placesIn referenceLimits c places))) (sym (w .counts))
-      (l, e))
-
   pub holds-no-reference : (x : Reading) (number at : ℕ) (code : List ℕ) → outcome.Refused number at ≡ outcomeOf x → HoldsReference s x code
   unfolding HoldsReference outcomeOf
   holds-no-reference (refused k p) number at code e = tt
   holds-no-reference (readable p) number at code e = absurd (let z : _≡_ {A = ℕ} 0 1 = cc in omega arith)
+
+-- the same where the limits are those that were handed on
+pub stage-read-by : (given most : Limits) (s : List ℕ) (r : Outcome) (code : List ℕ) → given ≡ most →
+    (r ≡ outcomeOf (readFile file.Stage given s)) × HoldsStage s (readFile file.Stage given s) code →
+    (r ≡ outcomeOf (readFile file.Stage most s)) × HoldsStage s (readFile file.Stage most s) code
+stage-read-by given most s r code e h =
+    subst (λ (m : Limits). (r ≡ outcomeOf (readFile file.Stage m s)) × HoldsStage s (readFile file.Stage m s) code) e h
 
 -- ---- what a reading and what it left say together
 

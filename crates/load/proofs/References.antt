@@ -12,11 +12,13 @@ use lib.Dec.{T, eqb, eqb→eq}
 use borrow.Author.Tests.{eq-eqb, ne-eqb}
 use Rattle.gates.proofs.Every.{every, every-at}
 use Rattle.netlist.specs.declared.File.the-variants as file
+use Rattle.netlist.specs.declared.Limits.{Limits}
 use Rattle.netlist.specs.declared.Counts.{Counts}
 use Rattle.netlist.specs.Bytes.{byte, operand, operands}
 use Rattle.netlist.specs.Commands.{commandTable, ownCommands, formIn, needed}
-use Rattle.netlist.specs.Reading.{referenceLimits}
+use Rattle.netlist.specs.Reading.{referenceLimits, NoMore}
 use Rattle.netlist.specs.Content.{Coded, codedAt, referenceOf}
+use Rattle.netlist.proofs.Bounds.{within-more}
 use Rattle.netlist.proofs.Readable.{operation-read, named-earlier, named-signal}
 use Rattle.circuit.specs.Reference.{operationIn, operandIn, operatorIn, operatorsIn, signalIn, signalsIn, referenceIn, ReferenceLoaded}
 use Rattle.circuit.proofs.Tabulate.{tabulate-map}
@@ -37,9 +39,9 @@ needs op lo hi =
     let e : 1 + (op - 1) ≡ op = omega arith in
     rw e at (eqb→eq (needed file.Reference (1 + (op - 1))) (cond (eqb (1 + (op - 1)) 1) 1 2) (every-at asCond 6 all-needs (op - 1) (omega arith)))
 
-module _ (s places : List ℕ) (c : Counts) (code : List ℕ) (r : FileRead file.Reference referenceLimits s places c)
+module _ (most : Limits) (s places : List ℕ) (c : Counts) (code : List ℕ) (r : FileRead file.Reference most s places c)
     (room : 3 * c .gates + c .outputs ≤ length code)
-    (written : WrittenTo (referenceNumber s places c) code (3 * c .gates + c .outputs)) where
+    (written : WrittenTo (referenceNumber most s places c) code (3 * c .gates + c .outputs)) where
   -- ---- gate k
 
   module _ (k : ℕ) (h : k < c .gates) where
@@ -50,13 +52,13 @@ module _ (s places : List ℕ) (c : Counts) (code : List ℕ) (r : FileRead file
     op = byte s (at + 1)
 
     known : (1 ≤ op) × (op ≤ 6)
-    known = operation-read (gate-at file.Reference referenceLimits s places c r k h)
+    known = operation-read (gate-at file.Reference most s places c r k h)
 
     number-at : (i j : ℕ) → i ≡ 3 * k + j → j < 3 → getD code i 0 ≡ operatorNumber s at j
     number-at i j e l =
         let a : i / 3 ≡ k = omega arith in
         let b : i % 3 ≡ j = omega arith in
-        written i (omega arith) ∙ sym (reference-gate s places c i (omega arith)) ∙ rw (a, b)
+        written i (omega arith) ∙ sym (reference-gate most s places c i (omega arith)) ∙ rw (a, b)
 
     operation-at : operationIn code k ≡ op
     operation-at = number-at (3 * k) 0 (omega arith) (omega arith) ∙ sym (number-operation s at 0 refl)
@@ -83,7 +85,7 @@ module _ (s places : List ℕ) (c : Counts) (code : List ℕ) (r : FileRead file
     -- operand i of the command names an input or an earlier gate
     named : (i : ℕ) → i < needed file.Reference op → operand s (at + 2 + 2 * i) < c .inputs + k
     named i l =
-        named-earlier k (c .inputs) (c .gates) (operand s (at + 2 + 2 * i)) (gate-at file.Reference referenceLimits s places c r k h .named i l)
+        named-earlier k (c .inputs) (c .gates) (operand s (at + 2 + 2 * i)) (gate-at file.Reference most s places c r k h .named i l)
 
     operand-in : (i : ℕ) → i < 2 → operandIn code k i < c .inputs + k
     operand-in i l = go i l (ℕ-discrete i 0) (ℕ-discrete op 1)
@@ -91,7 +93,7 @@ module _ (s places : List ℕ) (c : Counts) (code : List ℕ) (r : FileRead file
         first : operandIn code k 0 < c .inputs + k
         first =
             let e : at + 2 + 2 * 0 ≡ at + 2 = omega arith in
-            omega (arith, first-at, rw e at (named 0 (gate-at file.Reference referenceLimits s places c r k h .known)))
+            omega (arith, first-at, rw e at (named 0 (gate-at file.Reference most s places c r k h .known)))
 
         go : (i : ℕ) → i < 2 → Dec (i ≡ 0) → Dec (op ≡ 1) → operandIn code k i < c .inputs + k
         go i l (yes e) d = rw e first
@@ -106,36 +108,36 @@ module _ (s places : List ℕ) (c : Counts) (code : List ℕ) (r : FileRead file
 
   module _ (j : ℕ) (h : j < c .outputs) where
     abbrev place : ℕ
-    place = getD places (referenceLimits .gates + j) 0
+    place = getD places (most .gates + j) 0
 
     signal-at : signalIn c code j ≡ operand s (place + 1)
     signal-at =
         let e : 3 * c .gates + j - 3 * c .gates ≡ j = omega arith in
-        written (3 * c .gates + j) (omega arith) ∙ sym (reference-output s places c (3 * c .gates + j) (omega arith)) ∙ rw e
+        written (3 * c .gates + j) (omega arith) ∙ sym (reference-output most s places c (3 * c .gates + j) (omega arith)) ∙ rw e
 
     signal-in : signalIn c code j < c .inputs + c .gates
     unfolding commandTable ownCommands formIn
     signal-in =
         let e : place + 1 + 2 * 0 ≡ place + 1 = omega arith in
-        let n = output-at file.Reference referenceLimits s places c r j h .named 0 (omega arith) in
+        let n = output-at file.Reference most s places c r j h .named 0 (omega arith) in
         omega (arith, signal-at, rw e at (named-signal (c .gates) (c .inputs) (c .gates) (operand s (place + 1 + 2 * 0)) n))
 
   -- ---- the reference
 
-  pub reference-same : referenceIn c code ≡ referenceOf s (placesIn referenceLimits c places)
+  pub reference-same : referenceIn c code ≡ referenceOf s (placesIn most c places)
   unfolding operatorsIn signalsIn referenceOf
   reference-same =
       ap₂ (λ (gs : List Coded) (os : List ℕ). record { inputs = c .inputs; gates = gs; outputs = os })
       (tabulate-map (operatorIn code) (codedAt file.Reference s) (take (c .gates) places) (c .gates)
-      (length-gates file.Reference referenceLimits s places c r)
+      (length-gates file.Reference most s places c r)
       (λ k h. operator-same k h ∙ ap (codedAt file.Reference s) (sym (getD-take (c .gates) places k 0 h))))
-      (tabulate-map (signalIn c code) (λ at. operand s (at + 1)) (take (c .outputs) (drop (referenceLimits .gates) places)) (c .outputs)
-      (length-outputs file.Reference referenceLimits s places c r)
-      (λ j h. signal-at j h ∙ ap (λ (at : ℕ). operand s (at + 1)) (sym (output-place file.Reference referenceLimits s places c r j h))))
+      (tabulate-map (signalIn c code) (λ at. operand s (at + 1)) (take (c .outputs) (drop (most .gates) places)) (c .outputs)
+      (length-outputs file.Reference most s places c r)
+      (λ j h. signal-at j h ∙ ap (λ (at : ℕ). operand s (at + 1)) (sym (output-place file.Reference most s places c r j h))))
 
-  pub reference-loaded : ReferenceLoaded c code
-  reference-loaded = record {
-    within = r .within;
+  pub reference-loaded : NoMore most referenceLimits → ReferenceLoaded c code
+  reference-loaded less = record {
+    within = within-more less (r .within);
     room = room;
     low = λ k h. omega (arith, operation-at k h, known k h .0);
     high = λ k h. omega (arith, operation-at k h, known k h .1);

@@ -12,11 +12,13 @@ use lib.Dec.{eqb}
 use Rattle.gates.specs.Cell.{kindOf, kindByte, asKind, pinCount, bit}
 use Rattle.gates.proofs.Ranges.{kind-at}
 use Rattle.netlist.specs.declared.File.the-variants as file
+use Rattle.netlist.specs.declared.Limits.{Limits}
 use Rattle.netlist.specs.declared.Counts.{Counts}
 use Rattle.netlist.specs.Bytes.{byte, operand, operands}
 use Rattle.netlist.specs.Commands.{commandTable, ownCommands, formIn, needed, pinsNeeded}
-use Rattle.netlist.specs.Reading.{stageLimits}
+use Rattle.netlist.specs.Reading.{stageLimits, NoMore}
 use Rattle.netlist.specs.Content.{Gate, Pair, cellOf, holdOf, gateOf, codedAt, pairAt, stageOf}
+use Rattle.netlist.proofs.Bounds.{within-more}
 use Rattle.netlist.proofs.Encoding.{KindOfCell, kind-needs}
 use Rattle.netlist.proofs.Readable.{kind-read, named-pin, named-rail}
 use Rattle.circuit.specs.Stage.{netCount, cellIn, slot, pinIn, gateIn, stageGates, outputIn, stageOutputs, stageCare, stageIn, GateLoaded, StageLoaded}
@@ -50,8 +52,8 @@ operands-first s at ground (suc (suc (suc (suc zero)))) two four =
     rw (a, b, c, d)
 operands-first s at ground (suc (suc (suc (suc (suc m))))) two four = absurd (omega arith)
 
-module _ (s places : List ℕ) (c : Counts) (code : List ℕ) (r : FileRead file.Stage stageLimits s places c) (room : 8 * c .gates + 2 * c .outputs + c .care ≤ length code)
-    (written : WrittenTo (stageNumber s places c) code (8 * c .gates + 2 * c .outputs + c .care)) where
+module _ (most : Limits) (s places : List ℕ) (c : Counts) (code : List ℕ) (r : FileRead file.Stage most s places c) (room : 8 * c .gates + 2 * c .outputs + c .care ≤ length code)
+    (written : WrittenTo (stageNumber most s places c) code (8 * c .gates + 2 * c .outputs + c .care)) where
   -- ---- gate k
 
   module _ (k : ℕ) (h : k < c .gates) where
@@ -62,7 +64,7 @@ module _ (s places : List ℕ) (c : Counts) (code : List ℕ) (r : FileRead file
     kind = byte s (at + 1)
 
     of : KindOfCell kind
-    of = kind-read (gate-at file.Stage stageLimits s places c r k h)
+    of = kind-read (gate-at file.Stage most s places c r k h)
 
     abbrev cell : ℕ
     cell = of .cell
@@ -79,7 +81,7 @@ module _ (s places : List ℕ) (c : Counts) (code : List ℕ) (r : FileRead file
     number-at i j e l =
         let a : i / 8 ≡ k = omega arith in
         let b : i % 8 ≡ j = omega arith in
-        written i (omega arith) ∙ sym (stage-gate s places c i (omega arith)) ∙ rw (a, b, kind-of) (go (of .hold))
+        written i (omega arith) ∙ sym (stage-gate most s places c i (omega arith)) ∙ rw (a, b, kind-of) (go (of .hold))
       where
         go : (hold : Bool) → kindNumber (asKind hold cell (pinCount cell)) s at (netCount c) j ≡ cellNumber s at cell (pinCount cell) (bit hold) (netCount c) j
         go true = refl
@@ -125,7 +127,7 @@ module _ (s places : List ℕ) (c : Counts) (code : List ℕ) (r : FileRead file
       where
         go : Dec (i < pinCount cell) → pinIn code k i ≤ netCount c
         go (yes d) =
-            let n = gate-at file.Stage stageLimits s places c r k h .named i (omega (arith, needs-pins)) in
+            let n = gate-at file.Stage most s places c r k h .named i (omega (arith, needs-pins)) in
             omega (arith, pin-at i l, pin-there s at (netCount c) (pinCount cell) i d, named-pin k (c .inputs) (c .gates) (operand s (at + 2 + 2 * i)) n)
         go (no d) = omega (arith, pin-at i l, pin-absent s at (netCount c) (pinCount cell) i (omega arith))
 
@@ -141,18 +143,18 @@ module _ (s places : List ℕ) (c : Counts) (code : List ℕ) (r : FileRead file
 
   module _ (j : ℕ) (h : j < c .outputs) where
     abbrev place : ℕ
-    place = getD places (stageLimits .gates + j) 0
+    place = getD places (most .gates + j) 0
 
     rail-at : (i b : ℕ) → i ≡ 8 * c .gates + 2 * j + b → b < 2 → getD code i 0 ≡ operand s (place + 1 + 2 * b)
     rail-at i b e l =
         let p : (i - 8 * c .gates) / 2 ≡ j = omega arith in
         let q : (i - 8 * c .gates) % 2 ≡ b = omega arith in
-        written i (omega arith) ∙ sym (stage-output s places c i (omega arith) (omega arith)) ∙ rw (p, q)
+        written i (omega arith) ∙ sym (stage-output most s places c i (omega arith) (omega arith)) ∙ rw (p, q)
 
     rail-in : (i b : ℕ) → i ≡ 8 * c .gates + 2 * j + b → b < 2 → getD code i 0 < netCount c
     unfolding commandTable ownCommands formIn
     rail-in i b e l =
-        let n = output-at file.Stage stageLimits s places c r j h .named b l in
+        let n = output-at file.Stage most s places c r j h .named b l in
         omega (arith, rail-at i b e l, named-rail (c .gates) (c .inputs) (c .gates) (operand s (place + 1 + 2 * b)) n)
 
     output-same : outputIn c code j ≡ pairAt s place
@@ -165,33 +167,33 @@ module _ (s places : List ℕ) (c : Counts) (code : List ℕ) (r : FileRead file
 
   -- ---- care words
 
-  care-at : (k : ℕ) → k < c .care → getD code (8 * c .gates + 2 * c .outputs + k) 0 ≡ getD places (stageLimits .gates + stageLimits .outputs + k) 0
+  care-at : (k : ℕ) → k < c .care → getD code (8 * c .gates + 2 * c .outputs + k) 0 ≡ getD places (most .gates + most .outputs + k) 0
   care-at k h =
       let i : ℕ = 8 * c .gates + 2 * c .outputs + k in
       let e : i - 8 * c .gates - 2 * c .outputs ≡ k = omega arith in
-      written i (omega arith) ∙ sym (stage-care s places c i (omega arith) (omega arith)) ∙ rw e
+      written i (omega arith) ∙ sym (stage-care most s places c i (omega arith) (omega arith)) ∙ rw e
 
   -- ---- the stage
 
   abbrev cares : List ℕ
-  cares = take (c .care) (drop (stageLimits .gates + stageLimits .outputs) places)
+  cares = take (c .care) (drop (most .gates + most .outputs) places)
 
-  pub stage-same : stageIn c code ≡ stageOf s (placesIn stageLimits c places)
+  pub stage-same : stageIn c code ≡ stageOf s (placesIn most c places)
   unfolding stageGates stageOutputs stageCare stageOf
   stage-same =
       ap (λ (ws : List ℕ). record { inputs = c .inputs; gates = stageGates c code; outputs = stageOutputs c code; care = ws })
-      (tabulate-map (λ k. getD code (8 * c .gates + 2 * c .outputs + k) 0) (λ w. w) cares (c .care) (length-care file.Stage stageLimits s places c r)
-      (λ k h. care-at k h ∙ sym (care-word file.Stage stageLimits s places c r k h)) ∙ map-id cares)
+      (tabulate-map (λ k. getD code (8 * c .gates + 2 * c .outputs + k) 0) (λ w. w) cares (c .care) (length-care file.Stage most s places c r)
+      (λ k h. care-at k h ∙ sym (care-word file.Stage most s places c r k h)) ∙ map-id cares)
       ∙ ap₂ (λ (gs : List Gate) (ps : List Pair). record { inputs = c .inputs; gates = gs; outputs = ps; care = cares })
-      (tabulate-map (gateIn code) (λ at. gateOf (codedAt file.Stage s at)) (take (c .gates) places) (c .gates) (length-gates file.Stage stageLimits s places c r)
+      (tabulate-map (gateIn code) (λ at. gateOf (codedAt file.Stage s at)) (take (c .gates) places) (c .gates) (length-gates file.Stage most s places c r)
       (λ k h. gate-same k h ∙ ap (λ (at : ℕ). gateOf (codedAt file.Stage s at)) (sym (getD-take (c .gates) places k 0 h))))
-      (tabulate-map (outputIn c code) (pairAt s) (take (c .outputs) (drop (stageLimits .gates) places)) (c .outputs)
-      (length-outputs file.Stage stageLimits s places c r)
-      (λ j h. output-same j h ∙ ap (pairAt s) (sym (output-place file.Stage stageLimits s places c r j h))))
+      (tabulate-map (outputIn c code) (pairAt s) (take (c .outputs) (drop (most .gates) places)) (c .outputs)
+      (length-outputs file.Stage most s places c r)
+      (λ j h. output-same j h ∙ ap (pairAt s) (sym (output-place file.Stage most s places c r j h))))
 
-  pub stage-loaded : StageLoaded c code
-  stage-loaded = record {
-    within = r .within;
+  pub stage-loaded : NoMore most stageLimits → StageLoaded c code
+  stage-loaded less = record {
+    within = within-more less (r .within);
     room = room;
     gate = gate-loaded;
     rail0-net = λ j h. rail-in j h (8 * c .gates + 2 * j) 0 (omega arith) (omega arith);

@@ -12,7 +12,7 @@ use Rattle.netlist.specs.declared.File.{File}
 use Rattle.netlist.specs.declared.Limits.{Limits}
 use Rattle.netlist.specs.declared.Counts.{Counts}
 use Rattle.netlist.specs.Bytes.{byte, operand}
-use Rattle.netlist.specs.Reading.{Places, countsOf, Reading, refused, readable, Within, stageLimits, referenceLimits}
+use Rattle.netlist.specs.Reading.{Places, countsOf, Reading, refused, readable, Within}
 use Rattle.netlist.specs.Content.{stageOf, referenceOf}
 use Rattle.netlist.specs.Read.{Read}
 use Rattle.files.specs.Files.{mostCare, standing}
@@ -57,15 +57,15 @@ kindNumber Unknown s at ground j = 0
 unfoldable pub gateNumber : List ℕ → ℕ → ℕ → ℕ → ℕ
 gateNumber s at ground j = kindNumber (kindOf (byte s (at + 1))) s at ground j
 
--- number i of the stage: those of its gates, then the rails of its outputs, then its care words
-unfoldable pub stageNumber : List ℕ → List ℕ → Counts → ℕ → ℕ
-stageNumber s places c i =
+-- number i of the stage, whose places were left within some limits: those of its gates, then the rails of its outputs, then its care words
+unfoldable pub stageNumber : Limits → List ℕ → List ℕ → Counts → ℕ → ℕ
+stageNumber most s places c i =
     let j = i - 8 * c .gates in
     cond (ltb i (8 * c .gates))
     (gateNumber s (getD places (i / 8) 0) (netCount c) (i % 8))
     (cond (ltb j (2 * c .outputs))
-    (operand s (getD places (stageLimits .gates + j / 2) 0 + 1 + 2 * (j % 2)))
-    (getD places (stageLimits .gates + stageLimits .outputs + (j - 2 * c .outputs)) 0))
+    (operand s (getD places (most .gates + j / 2) 0 + 1 + 2 * (j % 2)))
+    (getD places (most .gates + most .outputs + (j - 2 * c .outputs)) 0))
 
 -- ---- a reference, number by number
 
@@ -76,9 +76,9 @@ operatorNumber s at j =
     (cond (eqb j 1) (operand s (at + 2)) (operand s (at + cond (eqb (byte s (at + 1)) 1) 2 4)))
 
 -- number i of the reference: those of its gates, then the signals of its outputs
-unfoldable pub referenceNumber : List ℕ → List ℕ → Counts → ℕ → ℕ
-referenceNumber s places c i =
+unfoldable pub referenceNumber : Limits → List ℕ → List ℕ → Counts → ℕ → ℕ
+referenceNumber most s places c i =
     let j = i - 3 * c .gates in
     cond (ltb i (3 * c .gates))
     (operatorNumber s (getD places (i / 3) 0) (i % 3))
-    (operand s (getD places (referenceLimits .gates + j) 0 + 1))
+    (operand s (getD places (most .gates + j) 0 + 1))

@@ -2,12 +2,13 @@
 use gates::Kind;
 use netlist::Counts;
 use netlist::File;
+use netlist::Limits;
 use netlist::Outcome;
 ghost use mathlib.Core.Path.{_≡_};
 ghost use Prim.Native.Nat.{_+_, _*_, _^_, _≤_, _<_};
 ghost use lib.ListN.{length};
 ghost use Rattle.netlist.specs.declared.File.the-variants as file;
-ghost use Rattle.netlist.specs.Reading.{readFile, stageLimits, referenceLimits};
+ghost use Rattle.netlist.specs.Reading.{readFile, stageLimits, referenceLimits, NoMore};
 ghost use Rattle.netlist.specs.Read.{outcomeOf};
 ghost use Rattle.netlist.specs.Content.{stageOf, referenceOf};
 ghost use Rattle.circuit.specs.Stage.{netCount, stageIn, StageLoaded};
@@ -59,9 +60,10 @@ fn gate_number(s: &[u8], at: usize, ground: u16, j: usize) -> u16
 }
 
 // Number i of the stage.
-fn stage_number(s: &[u8], places: &[u16], counts: Counts, i: usize) -> u16
-    requires { ⌜ FileRead file.Stage stageLimits (now s) (now places) counts × (i < 8 * counts .gates + 2 * counts .outputs + counts .care) ⌝ }
-    ensures { λ r. ⌜ r ≡ stageNumber (now (s .entry)) (now (places .entry)) counts i ⌝ }
+fn stage_number(s: &[u8], places: &[u16], most: Limits, counts: Counts, i: usize) -> u16
+    requires { ⌜ FileRead file.Stage most (now s) (now places) counts × NoMore most stageLimits
+        × (i < 8 * counts .gates + 2 * counts .outputs + counts .care) ⌝ }
+    ensures { λ r. ⌜ r ≡ stageNumber most (now (s .entry)) (now (places .entry)) counts i ⌝ }
 {
     let end = 8 * counts.gates;
     if i < end {
@@ -71,39 +73,49 @@ fn stage_number(s: &[u8], places: &[u16], counts: Counts, i: usize) -> u16
     let j = i - end;
     let rails = 2 * counts.outputs;
     if j < rails {
-        let at = places[netlist::STAGE_GATES + j / 2] as usize;
+        let at = places[most.gates + j / 2] as usize;
         return netlist::operand(s, at + 1 + 2 * (j % 2));
     }
     let k = j - rails;
-    places[netlist::STAGE_GATES + netlist::OUTPUTS + k]
+    places[most.gates + most.outputs + k]
 }
 
 // The stage that the file holds, in its flat form; its gates are in no order yet.
-pub fn load_stage(s: &[u8], places: &[u16], counts: Counts, code: &mut [u16])
-    requires { ⌜ FileRead file.Stage stageLimits (now s) (now places) counts × (8 * counts .gates + 2 * counts .outputs + counts .care ≤ length (now code)) ⌝ }
-    ensures same { λ r. ⌜ stageIn counts (now (code .exit)) ≡ stageOf (now (s .entry)) (placesIn stageLimits counts (now (places .entry))) ⌝ }
+pub fn load_stage(s: &[u8], places: &[u16], most: Limits, counts: Counts, code: &mut [u16])
+    requires { ⌜ FileRead file.Stage most (now s) (now places) counts × NoMore most stageLimits
+        × (8 * counts .gates + 2 * counts .outputs + counts .care ≤ length (now code)) ⌝ }
+    ensures same { λ r. ⌜ stageIn counts (now (code .exit)) ≡ stageOf (now (s .entry)) (placesIn most counts (now (places .entry))) ⌝ }
     ensures loaded { λ r. ⌜ StageLoaded counts (now (code .exit)) ⌝ }
 {
     let end = 8 * counts.gates + 2 * counts.outputs + counts.care;
     let mut i: usize = 0;
     while i < end {
-        code[i] = stage_number(s, places, counts, i);
+        code[i] = stage_number(s, places, most, counts, i);
         i += 1;
     }
 }
 
-// Reads a stage file, and loads the stage that it holds.
+// Reads a stage file within some limits, and loads the stage that it holds.
+pub fn read_stage_within(s: &[u8], most: Limits, code: &mut [u16]) -> Outcome
+    requires { ⌜ NoMore most stageLimits × (8 * stageLimits .gates + 2 * stageLimits .outputs + 2 ^ stageLimits .inputs ≤ length (now code)) ⌝ }
+    ensures answered { λ r. ⌜ r ≡ outcomeOf (readFile file.Stage most (now (s .entry))) ⌝ }
+    ensures loaded { λ r. ⌜ HoldsStage (now (s .entry)) (readFile file.Stage most (now (s .entry))) (now (code .exit)) ⌝ }
+{
+    let mut places = [0u16; netlist::STAGE_GATES + netlist::OUTPUTS + netlist::WORDS];
+    let outcome = files::read_file(File::Stage, most, s, &mut places);
+    if let Outcome::Readable(counts) = outcome {
+        load_stage(s, &places, most, counts, code);
+    }
+    outcome
+}
+
+// The same within the limits of a stage file.
 pub fn read_stage(s: &[u8], code: &mut [u16]) -> Outcome
     requires { ⌜ 8 * stageLimits .gates + 2 * stageLimits .outputs + 2 ^ stageLimits .inputs ≤ length (now code) ⌝ }
     ensures answered { λ r. ⌜ r ≡ outcomeOf (readFile file.Stage stageLimits (now (s .entry))) ⌝ }
     ensures loaded { λ r. ⌜ HoldsStage (now (s .entry)) (readFile file.Stage stageLimits (now (s .entry))) (now (code .exit)) ⌝ }
 {
-    let mut places = [0u16; netlist::STAGE_GATES + netlist::OUTPUTS + netlist::WORDS];
-    let outcome = files::read_file(File::Stage, netlist::stage_limits(), s, &mut places);
-    if let Outcome::Readable(counts) = outcome {
-        load_stage(s, &places, counts, code);
-    }
-    outcome
+    read_stage_within(s, netlist::stage_limits(), code)
 }
 
 // ---- a reference
@@ -127,44 +139,44 @@ fn operator_number(s: &[u8], at: usize, j: usize) -> u16
 }
 
 // Number i of the reference.
-fn reference_number(s: &[u8], places: &[u16], counts: Counts, i: usize) -> u16
-    requires { ⌜ FileRead file.Reference referenceLimits (now s) (now places) counts × (i < 3 * counts .gates + counts .outputs) ⌝ }
-    ensures { λ r. ⌜ r ≡ referenceNumber (now (s .entry)) (now (places .entry)) counts i ⌝ }
+fn reference_number(s: &[u8], places: &[u16], most: Limits, counts: Counts, i: usize) -> u16
+    requires { ⌜ FileRead file.Reference most (now s) (now places) counts × NoMore most referenceLimits × (i < 3 * counts .gates + counts .outputs) ⌝ }
+    ensures { λ r. ⌜ r ≡ referenceNumber most (now (s .entry)) (now (places .entry)) counts i ⌝ }
 {
     let end = 3 * counts.gates;
     if i < end {
         return operator_number(s, places[i / 3] as usize, i % 3);
     }
     let j = i - end;
-    let at = places[netlist::REFERENCE_GATES + j] as usize;
+    let at = places[most.gates + j] as usize;
     netlist::operand(s, at + 1)
 }
 
 // The reference that the file holds, in its flat form.
-pub fn load_reference(s: &[u8], places: &[u16], counts: Counts, code: &mut [u16])
-    requires { ⌜ FileRead file.Reference referenceLimits (now s) (now places) counts × (3 * counts .gates + counts .outputs ≤ length (now code)) ⌝ }
-    ensures same { λ r. ⌜ referenceIn counts (now (code .exit)) ≡ referenceOf (now (s .entry)) (placesIn referenceLimits counts (now
-        (places .entry))) ⌝ }
+pub fn load_reference(s: &[u8], places: &[u16], most: Limits, counts: Counts, code: &mut [u16])
+    requires { ⌜ FileRead file.Reference most (now s) (now places) counts × NoMore most referenceLimits
+        × (3 * counts .gates + counts .outputs ≤ length (now code)) ⌝ }
+    ensures same { λ r. ⌜ referenceIn counts (now (code .exit)) ≡ referenceOf (now (s .entry)) (placesIn most counts (now (places .entry))) ⌝ }
     ensures loaded { λ r. ⌜ ReferenceLoaded counts (now (code .exit)) ⌝ }
 {
     let end = 3 * counts.gates + counts.outputs;
     let mut i: usize = 0;
     while i < end {
-        code[i] = reference_number(s, places, counts, i);
+        code[i] = reference_number(s, places, most, counts, i);
         i += 1;
     }
 }
 
-// Reads a reference file, and loads the reference that it holds.
-pub fn read_reference(s: &[u8], code: &mut [u16]) -> Outcome
-    requires { ⌜ 3 * referenceLimits .gates + referenceLimits .outputs ≤ length (now code) ⌝ }
-    ensures answered { λ r. ⌜ r ≡ outcomeOf (readFile file.Reference referenceLimits (now (s .entry))) ⌝ }
-    ensures loaded { λ r. ⌜ HoldsReference (now (s .entry)) (readFile file.Reference referenceLimits (now (s .entry))) (now (code .exit)) ⌝ }
+// Reads a reference file within some limits, and loads the reference that it holds.
+pub fn read_reference_within(s: &[u8], most: Limits, code: &mut [u16]) -> Outcome
+    requires { ⌜ NoMore most referenceLimits × (3 * referenceLimits .gates + referenceLimits .outputs ≤ length (now code)) ⌝ }
+    ensures answered { λ r. ⌜ r ≡ outcomeOf (readFile file.Reference most (now (s .entry))) ⌝ }
+    ensures loaded { λ r. ⌜ HoldsReference (now (s .entry)) (readFile file.Reference most (now (s .entry))) (now (code .exit)) ⌝ }
 {
     let mut places = [0u16; netlist::REFERENCE_GATES + netlist::OUTPUTS];
-    let outcome = files::read_file(File::Reference, netlist::reference_limits(), s, &mut places);
+    let outcome = files::read_file(File::Reference, most, s, &mut places);
     if let Outcome::Readable(counts) = outcome {
-        load_reference(s, &places, counts, code);
+        load_reference(s, &places, most, counts, code);
     }
     outcome
 }

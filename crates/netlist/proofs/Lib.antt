@@ -10,4 +10,5 @@ pub mod Formed
 pub mod GatesFirst
 pub mod Stages
 pub mod References
+pub mod Bounds
 pub mod Cut

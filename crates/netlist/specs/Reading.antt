@@ -109,10 +109,23 @@ readFile f most s = readFrom (suc (length s)) f most s 0 noPlaces
 -- ---- limits
 
 abbrev pub stageLimits : Limits
-stageLimits = record { inputs = 10; gates = 128; outputs = 16 }
+stageLimits = record { inputs = 10; gates = 256; outputs = 16 }
 
 abbrev pub referenceLimits : Limits
-referenceLimits = record { inputs = 10; gates = 256; outputs = 16 }
+referenceLimits = record { inputs = 10; gates = 512; outputs = 16 }
+
+-- those of a part that is to be joined with another
+abbrev pub partStageLimits : Limits
+partStageLimits = record { inputs = 10; gates = 128; outputs = 16 }
+
+abbrev pub partReferenceLimits : Limits
+partReferenceLimits = record { inputs = 10; gates = 256; outputs = 16 }
+
+-- limits that allow no more than others
+pub record NoMore (few most : Limits) : Type 0 where
+  pub inputs-in : few .inputs ≤ most .inputs
+  pub gates-in : few .gates ≤ most .gates
+  pub outputs-in : few .outputs ≤ most .outputs
 
 -- counts within some limits
 pub record Within (most : Limits) (c : Counts) : Type 0 where

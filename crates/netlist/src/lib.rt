@@ -33,9 +33,14 @@ pub const INPUTS: usize = 10;
 
 pub const OUTPUTS: usize = 16;
 
-pub const STAGE_GATES: usize = 128;
+pub const STAGE_GATES: usize = 256;
 
-pub const REFERENCE_GATES: usize = 256;
+pub const REFERENCE_GATES: usize = 512;
+
+// The gates that the files of a part may have, which is to be joined with another.
+const PART_STAGE_GATES: usize = 128;
+
+const PART_REFERENCE_GATES: usize = 256;
 
 // How many words that many inputs have, and so the most care words.
 pub const WORDS: usize = 1 << INPUTS;
@@ -58,6 +63,28 @@ pub fn reference_limits() -> Limits
     Limits {
         inputs: INPUTS,
         gates: REFERENCE_GATES,
+        outputs: OUTPUTS,
+    }
+}
+
+// The limits of a part's stage file.
+pub fn part_stage_limits() -> Limits
+    ensures { λ r. ⌜ r ≡ reading.partStageLimits ⌝ }
+{
+    Limits {
+        inputs: INPUTS,
+        gates: PART_STAGE_GATES,
+        outputs: OUTPUTS,
+    }
+}
+
+// The limits of a part's reference file.
+pub fn part_reference_limits() -> Limits
+    ensures { λ r. ⌜ r ≡ reading.partReferenceLimits ⌝ }
+{
+    Limits {
+        inputs: INPUTS,
+        gates: PART_REFERENCE_GATES,
         outputs: OUTPUTS,
     }
 }

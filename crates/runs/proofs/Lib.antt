@@ -17,3 +17,4 @@ pub mod Complete
 pub mod Promise
 pub mod Witness
 pub mod Wire
+pub mod Series

@@ -67,7 +67,7 @@ module _ (s : Stage) (row : List ℕ) where
 
 -- ---- each check
 
-unequal-means : (number mine theirs : ℕ) → Means (unequal number mine theirs)
+pub unequal-means : (number mine theirs : ℕ) → Means (unequal number mine theirs)
 unequal-means number mine theirs = record {
   passes = λ w i h e. eqb-false mine theirs (of-not (eqb mine theirs) e);
   occurs = λ w i h d. ap not (not-true (eqb mine theirs) (λ e. d (eqb-true mine theirs e)));

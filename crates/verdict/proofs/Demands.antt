@@ -50,7 +50,7 @@ same-or m n f = go (ℕ-discrete m n)
     go (yes e) = e
     go (no d) = absurd (f d)
 
-nowhere-equal : (number mine theirs : ℕ) → Nowhere (unequal number mine theirs) → mine ≡ theirs
+pub nowhere-equal : (number mine theirs : ℕ) → Nowhere (unequal number mine theirs) → mine ≡ theirs
 nowhere-equal number mine theirs n = same-or mine theirs (λ d. n theirs (inl refl) (mine, inl refl, d))
 
 nowhere-loop : (s : Stage) → Nowhere (looped s) → NoLoop (s .inputs) (s .gates)

@@ -14,7 +14,7 @@ use Rattle.gates.specs.Cell.{bit}
 use Rattle.verdict.specs.Rows.{high, rounds}
 use Rattle.verdict.specs.Graph.{In, Leads, here, onward, OnLoop, anyHigh, tabulate, leading, leads, onLoop}
 use Rattle.verdict.specs.Levels.{Bits, Below, sum}
-use Rattle.verdict.proofs.Levels.{bit-≤-1, bit-mono, below-get, below-split, bits-length, high-mono}
+use Rattle.verdict.proofs.Levels.{bit-≤-1, bit-mono, below-get, below-split, bits-length, bits-sum, high-mono}
 use Rattle.verdict.proofs.Rounds.{rounds-bits, rounds-fixed}
 
 -- ---- levels by tests
@@ -166,6 +166,10 @@ module _ (next : ℕ → List ℕ) (size : ℕ) (inside : (u v : ℕ) → In v (
 
   pub rank : ℕ → ℕ
   rank x = sum (reached x)
+
+  pub rank-≤ : (x : ℕ) → rank x ≤ size
+  unfolding rank
+  rank-≤ x = bits-sum size (reached x) (bits-tabulate (λ y. leads next (eqb y) size x) size)
 
   -- a step from u to v: u leads to whatever v does, and to itself
   pub rank-falls : (u v : ℕ) → ¬ (OnLoop next u) → In v (next u) → rank v < rank u

@@ -15,6 +15,7 @@ pub mod Illegal
 pub mod Because
 pub mod OneWord
 pub mod Demands
+pub mod Bounds
 pub mod Cut
 pub mod Careless
 pub mod Rises

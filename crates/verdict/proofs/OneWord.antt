@@ -66,7 +66,7 @@ module _ (s : Stage) (w : ℕ) where
   pub wires-length : length (railsIn s w) ≡ 2 * s .inputs
   wires-length = rails-length (bitsOf (s .inputs) w) ∙ ap (λ (n : ℕ). 2 * n) (bits-of-length (s .inputs) w)
 
-  wires-data : InputsData (netOf s) (railsFor s w)
+  pub wires-data : InputsData (netOf s) (railsFor s w)
   wires-data i h = wire (inputRail i false) (omega arith) ∙ wordRails-data (netOf s) (high (bitsOf (s .inputs) w)) i h ∙ ap not (sym (wire (inputRail i true) (omega arith)))
     where
       wire : (k : ℕ) → k < 2 * s .inputs → high (railsIn s w) k ≡ wordRails (high (bitsOf (s .inputs) w)) k

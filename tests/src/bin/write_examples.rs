@@ -1,5 +1,5 @@
-//! Writes all example pairs with their verdicts and a list of them into the folder
-//! examples/, or into the folder given, and prints the list.
+//! Writes all example pairs with their verdicts, a list of them and a list of the joins of some
+//! into the folder examples/, or into the folder given, and prints the list.
 
 use fovaheju_tests::{catalogue, files, judge};
 use std::path::PathBuf;
@@ -23,5 +23,6 @@ fn main() -> std::io::Result<()> {
             example.about
         );
     }
-    std::fs::write(folder.join("LIST.md"), catalogue::listing())
+    std::fs::write(folder.join("LIST.md"), catalogue::listing())?;
+    std::fs::write(folder.join("JOINS.md"), catalogue::joins::listing())
 }

@@ -1,43 +1,20 @@
 -- `checker::check` meets its contract. Assumes nothing.
-use mathlib.Core.Path.{sym, _∙_}
 use denote.Ref.{now}
-use Rattle.load.proofs.Reading.{stage-held}
-use Rattle.checker.proofs.Files.{stage-refused, stage-judged, with-demands}
+use Rattle.netlist.specs.Reading.{stageLimits, referenceLimits}
+use Rattle.netlist.proofs.Bounds.{no-more}
+use Rattle.checker.proofs.Files.{checked-by}
 use borrow.Author.Needs.{needs}
 use Rattle.checker.proofs.check.Statement.{statement}
 use Rattle.checker.proofs.check.Tie as tie
 
-check-reference-requires : tie.Need-check-reference-requires
-check-reference-requires c κs =
-    let z = c .before .before .before .before .before .before .before .before .before in
-    let f = c .before .before .before .before .before .read-stage .ensures in
-    stage-held (now (z .args .stage)) _ _ _ (sym (c .before .before .counts .given .1) ∙ f .0) (f .1) .3
+check-within-requires : tie.Need-check-within-requires
+check-within-requires c κs = (no-more _ stageLimits (c .before .stage-limits .ensures), no-more _ referenceLimits (c .reference-limits .ensures))
 
 returns : tie.Need-returns
 returns c =
-    let z = c .before .before .before .before .before .before .before .before in
-    with-demands (now (z .args .stage)) (now (z .args .reference)) _
-    (stage-refused (now (z .args .stage)) (now (z .args .reference)) _ _
-    (sym (c .before .number .given .1) ∙ c .before .before .before .before .read-stage .ensures .0))
-
-returns-2 : tie.Need-returns-2
-returns-2 c =
-    let z = c .before .before .before .before .before .before .before .before .before .before .before in
-    let f = c .before .before .before .before .before .before .before .read-stage .ensures in
-    with-demands (now (z .args .stage)) (now (z .args .reference)) _
-    (stage-judged (now (z .args .stage)) (now (z .args .reference)) _ _ (sym (c .before .before .before .before .counts .given .1) ∙ f .0) (f .1) _
-    (c .before .check-reference .ensures))
+    let z = c .before .before .before .before .before in
+    checked-by _ stageLimits _ referenceLimits (now (z .args .stage)) (now (z .args .reference)) _ (c .before .before .stage-limits .ensures) (c .before .reference-limits .ensures)
+    (c .check-within .ensures)
 
 pub check-spec : {M : Type 1} → statement M
-check-spec =
-    tie.close
-    (tie.spec
-    (λ c. search needs)
-    (λ c κs. search needs)
-    (λ c. search needs)
-    (λ c. search needs)
-    (λ c. search needs)
-    (λ c. search needs)
-    check-reference-requires
-    returns
-    returns-2)
+check-spec = tie.close (tie.spec (λ c κs. search needs) (λ c κs. search needs) check-within-requires returns)

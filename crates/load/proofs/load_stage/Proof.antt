@@ -11,16 +11,16 @@ use Rattle.load.proofs.load_stage.Statement.{statement}
 use Rattle.load.proofs.load_stage.Tie as tie
 
 abbrev Inv-loop : tie.InvT-loop
-Inv-loop s places counts code₀ end i₀ code i = (length code ≡ length code₀) × WrittenTo (stageNumber s places counts) code i
+Inv-loop s places most counts code₀ end i₀ code i = (length code ≡ length code₀) × WrittenTo (stageNumber most s places counts) code i
 
 abbrev μ-loop : tie.MeasureT-loop
-μ-loop s places counts code₀ end i₀ code i = end - i
+μ-loop s places most counts code₀ end i₀ code i = end - i
 
 loop-holds : tie.Need-loop-holds Inv-loop μ-loop
 loop-holds c = (refl, λ q h. absurd (omega arith))
 
 stage-number-requires : tie.Need-stage-number-requires Inv-loop μ-loop
-stage-number-requires c κs = let z = c .before .before .before .before .before .before .before .before in (z .pre .0, omega arith)
+stage-number-requires c κs = let z = c .before .before .before .before .before .before .before .before in (z .pre .0, z .pre .1, omega arith)
 
 loop-again : tie.Need-loop-again Inv-loop μ-loop
 loop-again c =
@@ -34,9 +34,9 @@ returns : tie.Need-returns Inv-loop μ-loop
 returns c =
     let z = c .before .before .before .before .before .before .before .before in
     let l = c .before .loop in (
-      stage-same (now (z .args .s)) (now (z .args .places)) (z .args .counts) (l .code) (z .pre .0) (omega arith) (λ q h. l .inv .1 q (omega arith)),
-      stage-loaded (now (z .args .s)) (now (z .args .places)) (z .args .counts) (l .code) (z .pre .0) (omega arith)
-          (λ q h. l .inv .1 q (omega arith)),
+      stage-same (z .args .most) (now (z .args .s)) (now (z .args .places)) (z .args .counts) (l .code) (z .pre .0) (omega arith) (λ q h. l .inv .1 q (omega arith)),
+      stage-loaded (z .args .most) (now (z .args .s)) (now (z .args .places)) (z .args .counts) (l .code) (z .pre .0) (omega arith)
+          (λ q h. l .inv .1 q (omega arith)) (z .pre .1),
     )
 
 pub load-stage-spec : {M : Type 1} → statement M

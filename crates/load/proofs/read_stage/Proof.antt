@@ -1,59 +1,17 @@
 -- `load::read_stage` meets its contract. Assumes nothing.
-use native.Mathlib.Omega.{arith}
-use mathlib.Core.Path.{sym, ap, _∙_}
 use denote.Ref.{now}
-use Rattle.netlist.specs.declared.File.the-variants as file
-use Rattle.netlist.specs.Reading.{readFile, stageLimits}
-use Rattle.netlist.specs.Read.{outcomeOf}
-use Rattle.load.proofs.Reading.{stage-places, was-read-by, holds-stage, holds-no-stage}
-use Rattle.files.specs.Files.{mostCare}
+use Rattle.netlist.specs.Reading.{stageLimits}
+use Rattle.netlist.proofs.Bounds.{no-more}
+use Rattle.load.proofs.Reading.{stage-read-by}
 use borrow.Author.Needs.{needs}
 use Rattle.load.proofs.read_stage.Statement.{statement}
 use Rattle.load.proofs.read_stage.Tie as tie
 
-read-file-requires : tie.Need-read-file-requires
-read-file-requires c κs = stage-places _ (c .before .stage-limits .ensures)
-
-load-stage-requires : tie.Need-load-stage-requires
-unfolding mostCare
-load-stage-requires c κs =
-    let f = c .before .before .before .before .before .before .read-file in
-    let z = c .before .before .before .before .before .before .before .before .before .before .before in
-    let w = was-read-by file.Stage _ stageLimits (c .before .before .before .before .before .before .before .before .stage-limits .ensures)
-    (now (z .args .s)) _ _ (omega arith) (sym (c .before .before .before .outcome .given .1) ∙ f .ensures .0) (f .ensures .1) in
-    let n = w .file-read .within in
-    (w .file-read, omega (arith, n .gates-in, n .outputs-in, w .file-read .few-care))
+read-stage-within-requires : tie.Need-read-stage-within-requires
+read-stage-within-requires c κs = (no-more _ stageLimits (c .before .stage-limits .ensures), c .before .before .before .before .pre)
 
 returns : tie.Need-returns
-unfolding mostCare
-returns c =
-    let f = c .before .before .before .before .before .before .before .before .before .read-file in
-    let z = c .before .before .before .before .before .before .before .before .before .before .before .before .before .before in
-    let m = c .before .before .before .before .before .before .before .before .before .before .before .stage-limits .ensures in
-    let e = sym (c .before .before .before .before .before .before .outcome .given .1) ∙ f .ensures .0 in
-    let w = was-read-by file.Stage _ stageLimits m (now (z .args .s)) _ _ (omega arith) e (f .ensures .1) in
-    let l = c .before .before .load-stage .ensures in
-    (e ∙ ap (λ m. outcomeOf (readFile file.Stage m (now (z .args .s)))) m, holds-stage (now (z .args .s)) _ _ _ w (l .0) (l .1))
-
-returns-2 : tie.Need-returns-2
-returns-2 c =
-    let f = c .before .before .before .read-file in
-    let z = c .before .before .before .before .before .before .before .before in
-    let e = f .ensures .0 ∙ ap (λ m. outcomeOf (readFile file.Stage m (now (z .args .s))))
-    (c .before .before .before .before .before .stage-limits .ensures) in
-    (e, holds-no-stage (now (z .args .s)) _ _ _ _ (sym (c .enum-told .given .1) ∙ e))
+returns c = stage-read-by _ stageLimits (now (c .before .before .before .before .before .before .before .args .s)) _ _ (c .before .before .before .before .stage-limits .ensures) (c .before .before .read-stage-within .ensures)
 
 pub read-stage-spec : {M : Type 1} → statement M
-read-stage-spec =
-    tie.close
-    (tie.spec
-    (λ c κs. search needs)
-    (λ c. search needs)
-    read-file-requires
-    (λ c. search needs)
-    (λ c. search needs)
-    load-stage-requires
-    (λ c. search needs)
-    (λ c. search needs)
-    returns
-    returns-2)
+read-stage-spec = tie.close (tie.spec (λ c κs. search needs) read-stage-within-requires (λ c. search needs) returns)

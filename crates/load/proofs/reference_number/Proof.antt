@@ -3,7 +3,6 @@ use Prim.Native.Nat.{_+_, _-_, _*_, _/_, _%_}
 use native.Mathlib.Omega.{arith}
 use mathlib.Core.Path.{_∙_}
 use denote.Ref.{now}
-use Rattle.netlist.specs.Reading.{referenceLimits}
 use Rattle.load.proofs.Numbers.{reference-gate, reference-output}
 use Rattle.load.proofs.Reading.{operator-room, signal-room}
 use borrow.Author.Needs.{needs}
@@ -16,34 +15,34 @@ cast-operator-number c = omega (arith, c .shared-slice-known3 .given (c .before 
 operator-number-requires : tie.Need-operator-number-requires
 operator-number-requires c κs =
     let z = c .before .before .before .before .before in
-    operator-room (now (z .args .s)) (now (z .args .places)) (z .args .counts) (z .pre .0) (z .args .i / 3) (omega arith)
+    operator-room (z .args .most) (now (z .args .s)) (now (z .args .places)) (z .args .counts) (z .pre .0) (z .args .i / 3) (omega arith)
 
 returns : tie.Need-returns
 returns c =
     let z = c .before .before .before .before .before .before in
-    c .operator-number .ensures ∙ reference-gate (now (z .args .s)) (now (z .args .places)) (z .args .counts) (z .args .i)
+    c .operator-number .ensures ∙ reference-gate (z .args .most) (now (z .args .s)) (now (z .args .places)) (z .args .counts) (z .args .i)
     (c .before .before .if1 .taken)
 
 cast-at : tie.Need-cast-at
 cast-at c =
-    let z = c .before .before .before .before .before in
-    omega (arith, c .shared-slice-known4 .given (referenceLimits .gates + (z .args .i - 3 * z .args .counts .gates)))
+    let z = c .before .before .before .before .before .before in
+    omega (arith, c .shared-slice-known4 .given (z .args .most .gates + (z .args .i - 3 * z .args .counts .gates)))
 
 add-operand : tie.Need-add-operand
 add-operand c =
-    let z = c .before .before .before .before .before in
-    omega (arith, c .shared-slice-known4 .given (referenceLimits .gates + (z .args .i - 3 * z .args .counts .gates)))
+    let z = c .before .before .before .before .before .before in
+    omega (arith, c .shared-slice-known4 .given (z .args .most .gates + (z .args .i - 3 * z .args .counts .gates)))
 
 operand-requires : tie.Need-operand-requires
 operand-requires c κs =
-    let z = c .before .before .before .before .before in
+    let z = c .before .before .before .before .before .before in
     let j = z .args .i - 3 * z .args .counts .gates in
-    omega (arith, signal-room (now (z .args .s)) (now (z .args .places)) (z .args .counts) (z .pre .0) j (omega arith))
+    omega (arith, signal-room (z .args .most) (now (z .args .s)) (now (z .args .places)) (z .args .counts) (z .pre .0) j (omega arith))
 
 returns-2 : tie.Need-returns-2
 returns-2 c =
-    let z = c .before .before .before .before .before .before in
-    c .operand .ensures ∙ reference-output (now (z .args .s)) (now (z .args .places)) (z .args .counts) (z .args .i) (omega arith)
+    let z = c .before .before .before .before .before .before .before in
+    c .operand .ensures ∙ reference-output (z .args .most) (now (z .args .s)) (now (z .args .places)) (z .args .counts) (z .args .i) (omega arith)
 
 pub reference-number-spec : {M : Type 1} → statement M
 reference-number-spec =

@@ -3,7 +3,6 @@ use Prim.Native.Nat.{_+_, _-_, _*_, _/_, _%_}
 use native.Mathlib.Omega.{arith}
 use mathlib.Core.Path.{_∙_}
 use denote.Ref.{now}
-use Rattle.netlist.specs.Reading.{stageLimits}
 use Rattle.files.specs.Files.{mostCare}
 use Rattle.load.proofs.Numbers.{stage-gate, stage-output, stage-care}
 use Rattle.load.proofs.Reading.{gate-room, rails-room}
@@ -17,28 +16,28 @@ cast-gate-number c = omega (arith, c .shared-slice-known3 .given (c .before .bef
 gate-number-requires : tie.Need-gate-number-requires
 gate-number-requires c κs =
     let z = c .before .before .before .before .before .before .before in
-    gate-room (now (z .args .s)) (now (z .args .places)) (z .args .counts) (z .pre .0) (z .args .i / 8) (omega arith)
+    gate-room (z .args .most) (now (z .args .s)) (now (z .args .places)) (z .args .counts) (z .pre .0) (z .args .i / 8) (omega arith)
 
 returns : tie.Need-returns
-returns c = let z = c .before .before .before .before .before .before .before .before in c .gate-number .ensures ∙ stage-gate (now (z .args .s)) (now (z .args .places)) (z .args .counts) (z .args .i) (c .before .before .before .before .if1 .taken)
+returns c = let z = c .before .before .before .before .before .before .before .before in c .gate-number .ensures ∙ stage-gate (z .args .most) (now (z .args .s)) (now (z .args .places)) (z .args .counts) (z .args .i) (c .before .before .before .before .if1 .taken)
 
 cast-at : tie.Need-cast-at
-cast-at c = let z = c .before .before .before .before .before .before .before in omega (arith, c .shared-slice-known4 .given (stageLimits .gates + (z .args .i - 8 * z .args .counts .gates) / 2))
+cast-at c = let z = c .before .before .before .before .before .before .before .before in omega (arith, c .shared-slice-known4 .given (z .args .most .gates + (z .args .i - 8 * z .args .counts .gates) / 2))
 
 add-operand : tie.Need-add-operand
-add-operand c = let z = c .before .before .before .before .before .before .before in omega (arith, c .shared-slice-known4 .given (stageLimits .gates + (z .args .i - 8 * z .args .counts .gates) / 2))
+add-operand c = let z = c .before .before .before .before .before .before .before .before in omega (arith, c .shared-slice-known4 .given (z .args .most .gates + (z .args .i - 8 * z .args .counts .gates) / 2))
 
 add-operand-2 : tie.Need-add-operand-2
-add-operand-2 c = let z = c .before .before .before .before .before .before .before in omega (arith, c .shared-slice-known4 .given (stageLimits .gates + (z .args .i - 8 * z .args .counts .gates) / 2))
+add-operand-2 c = let z = c .before .before .before .before .before .before .before .before in omega (arith, c .shared-slice-known4 .given (z .args .most .gates + (z .args .i - 8 * z .args .counts .gates) / 2))
 
 operand-requires : tie.Need-operand-requires
 operand-requires c κs =
-    let z = c .before .before .before .before .before .before .before in
+    let z = c .before .before .before .before .before .before .before .before in
     let j = z .args .i - 8 * z .args .counts .gates in
-    omega (arith, rails-room (now (z .args .s)) (now (z .args .places)) (z .args .counts) (z .pre .0) (j / 2) (omega arith))
+    omega (arith, rails-room (z .args .most) (now (z .args .s)) (now (z .args .places)) (z .args .counts) (z .pre .0) (j / 2) (omega arith))
 
 returns-2 : tie.Need-returns-2
-returns-2 c = let z = c .before .before .before .before .before .before .before .before in c .operand .ensures ∙ stage-output (now (z .args .s)) (now (z .args .places)) (z .args .counts) (z .args .i) (omega arith) (c .before .before .if2 .taken)
+returns-2 c = let z = c .before .before .before .before .before .before .before .before .before in c .operand .ensures ∙ stage-output (z .args .most) (now (z .args .s)) (now (z .args .places)) (z .args .counts) (z .args .i) (omega arith) (c .before .before .before .if2 .taken)
 
 -- the care word at its place in the slice
 shared-slice-read-result : tie.Need-shared-slice-read-result
@@ -47,8 +46,8 @@ shared-slice-read-result c = search needs
 
 returns-3 : tie.Need-returns-3
 returns-3 c =
-    let z = c .before .before .before .before .before .before .before in
-    stage-care (now (z .args .s)) (now (z .args .places)) (z .args .counts) (z .args .i) (omega arith) (omega arith)
+    let z = c .before .before .before .before .before .before .before .before in
+    stage-care (z .args .most) (now (z .args .s)) (now (z .args .places)) (z .args .counts) (z .args .i) (omega arith) (omega arith)
 
 pub stage-number-spec : {M : Type 1} → statement M
 stage-number-spec =

@@ -1,0 +1,141 @@
+-- The join of two stages with their references: its verdict, and the bytes that it writes.
+use Prim.Native.Nat.{ℕ, _+_, _*_, _<_}
+use mathlib.Core.Bool.{Bool, false, cond, not, _||_}
+use mathlib.Core.Logic.{_⊎_}
+use mathlib.Core.List.{List, [], _∷_}
+use lib.ListN.{length}
+use lib.Dec.{eqb, ltb}
+use Rattle.netlist.specs.declared.File.the-variants as file
+use Rattle.netlist.specs.declared.Limits.{Limits}
+use Rattle.netlist.specs.Reading.{Reading, refused, readable, readFile}
+use Rattle.netlist.specs.Content.{Stage, Reference, stageOf, referenceOf}
+use Rattle.netlist.specs.Writing.{writeStage, writeReference}
+use Rattle.verdict.specs.declared.Verdict.{Verdict}
+use Rattle.verdict.specs.declared.Finding.{Finding}
+use Rattle.verdict.specs.declared.Finding.the-variants.{Fault, Passed}
+use Rattle.verdict.specs.Loops.{In}
+use Rattle.verdict.specs.Words.{caredFor, words, bitsOf}
+use Rattle.verdict.specs.Answers.{answer}
+use Rattle.verdict.specs.Checks.{verdict, Check, check, unsaid, unequal, orLater, firstFault}
+use Rattle.verdict.specs.Verdicts.{accepted, verdictWithin}
+use Rattle.joined.specs.Whole.{joinedStage, joinedReference}
+
+-- ---- the parts
+
+-- the two files of a part
+pub record Files : Type 0 where
+  pub stage : List ℕ
+  pub reference : List ℕ
+
+abbrev pub files : List ℕ → List ℕ → Files
+files stage reference = record { stage = stage; reference = reference }
+
+-- the stage that a file holds, and the reference; they are asked of files that read, and those of others count for nothing
+abbrev pub noStage : Stage
+noStage = record { inputs = 0; gates = []; outputs = []; care = [] }
+
+unfoldable pub stageRead : List ℕ → Reading → Stage
+stageRead bytes (refused number at) = noStage
+stageRead bytes (readable places) = stageOf bytes places
+
+abbrev pub noReference : Reference
+noReference = record { inputs = 0; gates = []; outputs = [] }
+
+unfoldable pub referenceRead : List ℕ → Reading → Reference
+referenceRead bytes (refused number at) = noReference
+referenceRead bytes (readable places) = referenceOf bytes places
+
+pub record Part : Type 0 where
+  pub circuit : Stage
+  pub function : Reference
+
+unfoldable pub partIn : Limits → Limits → Files → Part
+partIn stageMost referenceMost f = record {
+  circuit = stageRead (f .stage) (readFile file.Stage stageMost (f .stage));
+  function = referenceRead (f .reference) (readFile file.Reference referenceMost (f .reference));
+}
+
+-- "a part's own refusal is passed on": a verdict as a fault, or nothing where it accepts
+unfoldable pub refusalOf : Verdict → Finding
+refusalOf v = cond (eqb (v .number) 0) Passed (Fault v)
+
+-- "the second's with 3 added to its file"
+abbrev pub threeAdded : Verdict → Verdict
+threeAdded v = verdict (v .number) (v .file + 3) (v .at) (v .word)
+
+unfoldable pub ofSecond : Finding → Finding
+ofSecond (Fault v) = Fault (threeAdded v)
+ofSecond Passed = Passed
+
+-- ---- the seam
+
+-- the word that some bits spell, in the files' order: bit i is input i
+unfoldable pub wordOf : List ℕ → ℕ
+wordOf [] = 0
+wordOf (b ∷ bits) = b + 2 * wordOf bits
+
+-- the answer to word w as a word: output j is bit j
+abbrev pub answerWord : Reference → ℕ → ℕ
+answerWord r w = wordOf (answer r (bitsOf (r .inputs) w))
+
+unfoldable pub isIn : ℕ → List ℕ → Bool
+isIn x [] = false
+isIn x (y ∷ ys) = eqb x y || isIn x ys
+
+-- a stage cares for a word, which is in the files' order as its care list is
+abbrev pub CaresFor : Stage → ℕ → Type 0
+CaresFor s w = In w (caredFor (s .inputs) (s .care))
+
+abbrev pub caresFor : Stage → ℕ → Bool
+caresFor s w = isIn w (caredFor (s .inputs) (s .care))
+
+-- the bytes that are written: "inputs, the first part's care list, gates (first part first), the second's outputs, end"
+abbrev pub stageBytes : Part → Part → List ℕ
+stageBytes first second = writeStage (joinedStage (first .circuit) (second .circuit))
+
+abbrev pub referenceBytes : Part → Part → List ℕ
+referenceBytes first second = writeReference (joinedReference (first .function) (second .function))
+
+-- the checks of the join, in their order: 22 counts at the seam unequal, 23 least care word whose answer the second does not care for, 24 a
+-- buffer too short
+unfoldable pub joinChecks : Part → Part → ℕ → ℕ → List Check
+joinChecks first second stageRoom referenceRoom =
+    unequal 22 (length (first .circuit .outputs)) (second .circuit .inputs) ∷
+    check 23 0 (words (first .circuit)) (0 ∷ []) (λ w i. not (caresFor (second .circuit) (answerWord (first .function) w)))
+    (λ w i. ¬ (CaresFor (second .circuit) (answerWord (first .function) w))) unsaid ∷
+    check 24 3 (0 ∷ []) (0 ∷ [])
+    (λ w i. ltb stageRoom (length (stageBytes first second)) || ltb referenceRoom (length (referenceBytes first second)))
+    (λ w i. (stageRoom < length (stageBytes first second)) ⊎ (referenceRoom < length (referenceBytes first second))) unsaid ∷
+    []
+
+-- ---- the call
+
+-- its verdict, and the bytes that it writes from the start of each of the two buffers
+pub record JoinAnswer : Type 0 where
+  pub verdict : Verdict
+  pub stage : List ℕ
+  pub reference : List ℕ
+
+-- "refusals write nothing"
+abbrev pub joinRefused : Verdict → JoinAnswer
+joinRefused v = record { verdict = v; stage = []; reference = [] }
+
+abbrev pub joinWritten : Part → Part → JoinAnswer
+joinWritten first second = record { verdict = accepted; stage = stageBytes first second; reference = referenceBytes first second }
+
+unfoldable pub joinUnless : Finding → Part → Part → JoinAnswer
+joinUnless (Fault v) first second = joinRefused v
+joinUnless Passed first second = joinWritten first second
+
+-- the first part is judged first, then the second, then the checks of the join follow
+unfoldable pub joinFault : Limits → Limits → Files → Files → ℕ → ℕ → Finding
+joinFault stageMost referenceMost first second stageRoom referenceRoom =
+    orLater (refusalOf (verdictWithin stageMost referenceMost (first .stage) (first .reference)))
+    (orLater (ofSecond (refusalOf (verdictWithin stageMost referenceMost (second .stage) (second .reference))))
+    (firstFault (joinChecks (partIn stageMost referenceMost first) (partIn stageMost referenceMost second) stageRoom referenceRoom)))
+
+-- the join of two parts within the limits of parts, into buffers of two lengths
+unfoldable pub joinWithin : Limits → Limits → Files → Files → ℕ → ℕ → JoinAnswer
+joinWithin stageMost referenceMost first second stageRoom referenceRoom =
+    joinUnless (joinFault stageMost referenceMost first second stageRoom referenceRoom)
+    (partIn stageMost referenceMost first) (partIn stageMost referenceMost second)
