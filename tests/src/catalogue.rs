@@ -406,7 +406,82 @@ pub fn examples() -> Vec<Example> {
     let mut list = examples_of_document_01();
     list.extend(care_examples());
     list.extend(relaxed_examples());
+    list.extend(pair_examples());
     list
+}
+
+/// Ten inputs and sixteen outputs (document 02, M-104). Of the outputs one is the parity of all
+/// inputs; the others stay DATA whichever one input is NULL, so they are constant: two words
+/// that differ in that input only have the same value. Each is 0 as soon as one of two inputs is
+/// there. That an input is there is a gate, and parity waits for all of these.
+fn one_pair_decides(parity_first: bool) -> (Stage, Reference) {
+    let mut s = StageBuilder::new(10);
+    let mut r = ReferenceBuilder::new(10);
+    let inputs = s.inputs();
+    let there: Vec<usize> = inputs
+        .iter()
+        .map(|input| s.gate("TH12", &[input.rail_0, input.rail_1]))
+        .collect();
+    let never = s.gate("TH22", &[0, 1]);
+    let some: Vec<Signal> = (0..15)
+        .map(|j| {
+            let (first, second) = (j % 10, (j % 10 + 1 + j / 10) % 10);
+            Signal {
+                rail_0: s.gate("TH12", &[there[first], there[second]]),
+                rail_1: never,
+            }
+        })
+        .collect();
+    let parity = inputs[1..]
+        .iter()
+        .fold(inputs[0], |so_far, &input| s.xor(so_far, input));
+    let all = [
+        s.gate("TH44", &there[..4]),
+        s.gate("TH44", &there[4..8]),
+        s.gate("TH22", &there[8..]),
+    ];
+    let all = s.gate("TH33", &all);
+    let parity = Signal {
+        rail_0: s.gate("TH22", &[parity.rail_0, all]),
+        rail_1: s.gate("TH22", &[parity.rail_1, all]),
+    };
+    let parity_signal = r.chain(XOR, &[0, 1, 2, 3, 4, 5, 6, 7, 8, 9]);
+    let zero = r.xor(0, 0);
+    let mut outputs: Vec<(Signal, usize)> = some.into_iter().map(|some| (some, zero)).collect();
+    let place = if parity_first { 0 } else { outputs.len() };
+    outputs.insert(place, (parity, parity_signal));
+    for (pair, signal) in outputs {
+        s.output(pair);
+        r.output(signal);
+    }
+    (s.stage, r.reference)
+}
+
+pub fn pair_examples() -> Vec<Example> {
+    let named = [
+        (
+            "null-pair-first",
+            "ten inputs, sixteen outputs; with an input NULL only the first pair is",
+            true,
+        ),
+        (
+            "null-pair-last",
+            "the same gates; with an input NULL only the last pair is",
+            false,
+        ),
+    ];
+    named
+        .into_iter()
+        .map(|(name, about, parity_first)| {
+            let (stage, reference) = one_pair_decides(parity_first);
+            Example {
+                name: name.to_string(),
+                about,
+                number: 0,
+                pair: write_pair(&stage, &reference),
+            }
+        })
+        .collect()
 }
 
 /// Stages with relaxed gates (document 02, M-102).

@@ -7,7 +7,8 @@
 //! to them.
 
 use crate::catalogue::{
-    care_examples, examples, examples_of_document_01, relaxed_examples, Example, MARKED,
+    care_examples, examples, examples_of_document_01, pair_examples, relaxed_examples, Example,
+    MARKED,
 };
 use crate::circuits::{kind_named, ReferenceBuilder, Signal, StageBuilder};
 use crate::files::{
@@ -201,6 +202,7 @@ pub fn cases() -> Vec<Case> {
     stored_examples(&mut cases, relaxed_examples());
     refusals_of_the_stage(&mut cases, row_suite::relaxed_cases());
     relaxed_kinds(&mut cases);
+    stored_examples(&mut cases, pair_examples());
     cases.0
 }
 

@@ -7,7 +7,7 @@ use fovaheju_tests::catalogue::{
 };
 use fovaheju_tests::circuits::{multiplier_reference, ripple_adder_reference};
 use fovaheju_tests::files::{examples_folder, load_example, stored_examples};
-use fovaheju_tests::judge::{answer, check};
+use fovaheju_tests::judge::{answer, check, rails_of_word, read_stage, settle};
 use fovaheju_tests::read;
 
 #[test]
@@ -139,4 +139,26 @@ fn netlists_of_the_source() {
     // Lines 3 to 44 of Figure 12(a), lines 3 to 38 of Figure 15(a).
     assert_eq!(multiplier_of_the_source().gates.len(), 42);
     assert_eq!(mac_of_the_source().gates.len(), 36);
+}
+
+/// M-104: in one stage the first pair alone is NULL whichever input is, in the other the last.
+#[test]
+fn one_null_pair() {
+    for (name, null) in [("null-pair-first", 0), ("null-pair-last", 15)] {
+        let (pair, verdict) = load_example(&examples_folder(), name).unwrap();
+        assert_eq!(verdict, [0; 4]);
+        let stage = read_stage(&pair.stage).unwrap();
+        assert_eq!((stage.inputs, stage.outputs.len()), (10, 16));
+        for word in 0..1024 {
+            for input in 0..10 {
+                let mut rails = rails_of_word(10, word);
+                rails[2 * input] = false;
+                rails[2 * input + 1] = false;
+                let row = settle(&stage, &rails, None);
+                for (output, &[rail_0, rail_1]) in stage.outputs.iter().enumerate() {
+                    assert_eq!(row[rail_0] || row[rail_1], output != null);
+                }
+            }
+        }
+    }
 }

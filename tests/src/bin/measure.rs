@@ -13,11 +13,13 @@ use fovaheju_tests::library;
 use std::sync::LazyLock;
 
 /// Stored examples, all accepted, from large to small.
-const EXAMPLES: [&str; 12] = [
+const EXAMPLES: [&str; 14] = [
     "timing-network",
     "timing-chain",
     "timing-chain-reversed",
     "multiplier-4x6-complete",
+    "null-pair-first",
+    "null-pair-last",
     "multiplier-4x4",
     "multiplier-3x3-source",
     "mac-4-2x2-complete",
