@@ -23,10 +23,11 @@ use Rattle.verdict.specs.Words.{numbers, words, bitsOf, railsIn}
 use Rattle.verdict.specs.Answers.{answer}
 use Rattle.verdict.specs.Nets.{noPair, outputPair, netOf, rowOf, restRow}
 use Rattle.verdict.specs.Falls.{fallenBut, fallenKeeping}
-use Rattle.verdict.specs.Checks.{Check, check, wrong, incomplete, unobservable, fallIncomplete, fallUnobservable, WrongAt, IncompleteAt, UnobservableAt, FallIncompleteAt, FallUnobservableAt, unequal, looped, riseSweeps, fallSweeps, checks, illegal, IllegalAt, rowChecks}
+use Rattle.verdict.specs.Checks.{Check, check, wrong, incomplete, unobservable, fallIncomplete, fallUnobservable, WrongAt, IncompleteAt, UnobservableAt, FallIncompleteAt, FallUnobservableAt, unequal, looped, retired, riseSweeps, fallSweeps, checks, illegal, IllegalAt, rowChecks}
 use Rattle.verdict.specs.Verdicts.{judgeReference, judgeStage, verdictWithin}
 use Rattle.verdict.specs.Demands.{Holds, EachOf, Because, stage-refused, reference-refused, both-read}
 use Rattle.verdict.proofs.Reaching.{reaches-sound, reaches-complete}
+use Rattle.verdict.proofs.Retired.{test-retired, retired-test}
 use Rattle.verdict.proofs.Words.{in-index, bits-of-bit, answer-bit}
 use Rattle.verdict.proofs.Bridge.{data-in, data-out, null-in, null-out, spells-in, spells-out}
 use Rattle.verdict.proofs.Sweeps.{Means, each-++, judged}
@@ -78,6 +79,9 @@ looped-means s = record {
   passes = λ w g h e. reaches-sound (s .inputs) (s .gates) g e;
   occurs = λ w g h p. reaches-complete (s .inputs) (s .gates) g (in-index (length (s .gates)) g h) p;
 }
+
+retired-means : (s : Stage) → Means (retired s)
+retired-means s = record { passes = λ w g h. test-retired (s .gates) g; occurs = λ w g h. retired-test (s .gates) g }
 
 module _ (s : Stage) (r : Reference) (places : List ℕ) (Shows : ℕ → ℕ → Type 0) where
   abbrev row : ℕ → List ℕ
@@ -147,7 +151,7 @@ falls-mean s r = (fall-incomplete-means s _ _, (fall-unobservable-means s _ _, t
 pub checks-mean : (s : Stage) (r : Reference) → EachOf Means (checks s r)
 unfolding checks
 checks-mean s r =
-    (unequal-means 10 (s .inputs) (r .inputs), (unequal-means 11 (length (s .outputs)) (length (r .outputs)), (looped-means s, each-++ Means (riseSweeps s r) (fallSweeps s r) (rises-mean s r) (falls-mean s r))))
+    (unequal-means 10 (s .inputs) (r .inputs), (unequal-means 11 (length (s .outputs)) (length (r .outputs)), (looped-means s, (retired-means s, each-++ Means (riseSweeps s r) (fallSweeps s r) (rises-mean s r) (falls-mean s r)))))
 
 pub row-checks-mean : (s : Stage) (row : List ℕ) → EachOf Means (rowChecks s row)
 unfolding rowChecks
