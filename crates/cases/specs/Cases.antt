@@ -374,8 +374,8 @@ unfolding twelve examples ordered refused care earlyGates relaxed retired rowExa
     k.whenFound k.ownCommands k.commandTable k.formIn k.pinsNeeded k.needed k.stray k.misfit k.misfitFrom k.takeGate k.takeCare k.takeSort k.takeCommand k.nextAt
     r.nameable r.nameless r.usedOperands r.namelessAt r.namelessFrom r.floorAfter r.noted r.finish r.onNext r.readFrom r.readFile t.stageOf t.referenceOf o.withNull o.isSet o.rounds o.settledLevels o.levelsHolding o.everyPair
     g.tabulate g.leading l.gateSteps l.reachesItself w.numbers w.caredFor w.words w.bitsOf w.railsOf a.operate a.signalValues a.answer h.first h.atFault h.sweep
-    h.finding h.orLater h.firstFault h.wrong h.incomplete h.unobservable h.fallIncomplete h.fallUnobservable h.riseSweeps h.fallSweeps f.stays f.fallenLevels f.fallen e.retiredAt h.checks h.illegal h.rowChecks v.verdictOf v.judgeReference
-    v.judgeStage v.verdictWithin v.settleUnless v.settleReading v.settledRowWithin
+    h.finding h.orLater h.firstFault h.wrong h.incomplete h.unobservable h.fallIncomplete h.fallUnobservable h.riseSweeps h.fallSweeps f.stays f.fallenLevels f.fallen
+    e.retiredAt h.checks h.illegal h.rowChecks v.verdictOf v.judgeReference v.judgeStage v.verdictWithin v.settleUnless v.settleReading v.settledRowWithin
 computed = (refl, refl, refl, refl, refl, refl, refl, refl)
 
 pub twelve-cases : judged twelve ≡ expected twelve

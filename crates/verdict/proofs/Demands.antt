@@ -37,7 +37,8 @@ use Rattle.verdict.proofs.Reaching.{noLoop-loopFree}
 use Rattle.verdict.proofs.Settling.{settled-bits}
 use Rattle.verdict.proofs.Words.{index-in, in-index, first-least}
 use Rattle.verdict.proofs.Bridge.{stageIn, settled-row}
-use Rattle.verdict.proofs.Sweeps.{first-in, FirstFault, first-fault, judged, each-++, named-number, named-fails, passed-nowhere, nowhere-passed, Showable, named-shown, shown-by, none-named, named-one}
+use Rattle.verdict.proofs.Sweeps.{FirstFault, first-fault, judged, each-++, passed-nowhere, nowhere-passed, Showable, named-shown, shown-by, none-named, named-one}
+use Rattle.verdict.proofs.Sweeps.{first-in, named-number, named-fails}
 use Rattle.verdict.proofs.Because.{rises-mean, falls-mean, checks-mean, row-checks-mean, holds, verdict-because}
 use Rattle.verdict.proofs.Refusals.{InTable, refused-number}
 use Rattle.verdict.proofs.OneWord.{CleanRise, CleanFall, CleanIn, hold-clean, rises-to, rows-are, clean-conforms, conforms-clean, clean-promise, word-rises, word-rises-alike, word-falls-alike, wrong-broken, incomplete-broken, unobservable-broken, fall-incomplete-broken, fall-unobservable-broken}
@@ -156,7 +157,9 @@ module _ (s : Stage) (r : Reference) where
 
   checks-from : (v : Verdict) → Named (checks s r) v → 10 ≤ v .number
   unfolding checks riseSweeps fallSweeps
-  checks-from v n = named-one (λ k. 10 ≤ k) (checks s r) v (omega arith, (omega arith, (omega arith, (omega arith, (omega arith, (omega arith, (omega arith, (omega arith, (omega arith, tt))))))))) n
+  checks-from v n =
+      named-one (λ k. 10 ≤ k) (checks s r) v
+      (omega arith, (omega arith, (omega arith, (omega arith, (omega arith, (omega arith, (omega arith, (omega arith, (omega arith, tt))))))))) n
 
   -- they find nothing exactly if the two can be compared, no gate is of a retired kind and every word is clean
   found-nothing : EachOf Nowhere (checks s r) → Comparable s r × NoneRetired (s .gates) × Clean s r

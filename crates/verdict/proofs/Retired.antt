@@ -31,13 +31,13 @@ in-among x (y ∷ l) (inl e) = rw (eq-eqb x y e)
 in-among x (y ∷ l) (inr h) = or-right (eqb x y) (among x l) (in-among x l h)
 
 module _ (gates : List Gate) (k : ℕ) where
-  pub test-retired : retiredAt gates k ≡ true → RetiredAt gates k
-  unfolding retiredAt isRetired
-  test-retired e = among-in (getD gates k noGate .cell) retiredCells e
-
   pub retired-test : RetiredAt gates k → retiredAt gates k ≡ true
   unfolding retiredAt isRetired
   retired-test h = in-among (getD gates k noGate .cell) retiredCells h
+
+  pub test-retired : retiredAt gates k ≡ true → RetiredAt gates k
+  unfolding retiredAt isRetired
+  test-retired e = among-in (getD gates k noGate .cell) retiredCells e
 
 -- ---- the kinds
 

@@ -10,9 +10,6 @@ use Rattle.circuit.specs.Stage.{stageGates}
 use Rattle.checker.proofs.Judging.{retired-in}
 use Rattle.checker.proofs.least_retired.Statement.{statement}
 use Rattle.checker.proofs.least_retired.Tie as tie
-use Rattle.checker.proofs.least_retired.Reads as reads
-use Rattle.checker.proofs.least_retired.Lts as lts
-use Rattle.gates.proofs.is_retired.Reads as is-retired-reads
 
 abbrev Inv-loop : tie.InvT-loop
 Inv-loop code counts k₀ k = SoughtTo (retiredAt (stageGates counts code)) (counts .gates) k
@@ -33,10 +30,14 @@ shared-slice-read-is-retired : tie.Need-shared-slice-read-is-retired Inv-loop μ
 shared-slice-read-is-retired c = omega (arith, c .before .before .before .before .before .pre .room)
 
 returns : tie.Need-returns Inv-loop μ-loop
-returns c = sought-here _ _ _ (c .before .before .before .if1 .taken) (c .before .before .before .before .before .loop .inv) (retired-in _ _ _ (c .before .before .before .if1 .taken) ∙ sym (c .before .is-retired .ensures) ∙ c .if2 .taken)
+returns c =
+    let t = c .before .before .before in
+    sought-here _ _ _ (t .if1 .taken) (t .before .before .loop .inv) (retired-in _ _ _ (t .if1 .taken) ∙ sym (c .before .is-retired .ensures) ∙ c .if2 .taken)
 
 loop-again : tie.Need-loop-again Inv-loop μ-loop
-loop-again c = sought-on _ _ _ (c .before .before .before .if1 .taken) (c .before .before .before .before .before .loop .inv) (retired-in _ _ _ (c .before .before .before .if1 .taken) ∙ sym (c .before .is-retired .ensures) ∙ c .if2 .left)
+loop-again c =
+    let t = c .before .before .before in
+    sought-on _ _ _ (t .if1 .taken) (t .before .before .loop .inv) (retired-in _ _ _ (t .if1 .taken) ∙ sym (c .before .is-retired .ensures) ∙ c .if2 .left)
 
 returns-2 : tie.Need-returns-2 Inv-loop μ-loop
 returns-2 c = sought-none _ _ _ (omega (arith, c .if1 .left)) (c .before .before .loop .inv)
