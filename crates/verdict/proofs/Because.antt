@@ -149,7 +149,7 @@ unfolding fallSweeps
 falls-mean s r = (fall-incomplete-means s _ _, (fall-unobservable-means s _ _, tt))
 
 pub checks-mean : (s : Stage) (r : Reference) → EachOf Means (checks s r)
-unfolding checks
+unfolding checks riseSweeps
 checks-mean s r =
     let swept = each-++ Means (riseSweeps s r) (fallSweeps s r) (rises-mean s r) (falls-mean s r) in
     (unequal-means 10 (s .inputs) (r .inputs), (unequal-means 11 (length (s .outputs)) (length (r .outputs)), (looped-means s, (retired-means s, swept))))
