@@ -5,7 +5,7 @@ use Prim.Native.Nat.{ℕ, zero, suc, _+_, _*_, _<_}
 use native.Mathlib.Omega.{arith}
 use mathlib.Core.Path.{_≡_, refl, sym, ap, _∙_, subst}
 use mathlib.Core.Bool.{Bool, true, false, cond, not}
-use mathlib.Core.List.{List, [], _∷_}
+use mathlib.Core.List.{List, [], _∷_, map}
 use lib.ListN.{length, getD}
 use lib.Dec.{eqb}
 use borrow.Author.Tests.{eqb-true, eqb-false}
@@ -140,6 +140,18 @@ module _ (s : Stage) (places : List ℕ) (Shows : ℕ → ℕ → Type 0) where
 
 -- ---- the lists of checks
 
+abbrev numbersOf : List Check → List ℕ
+numbersOf = map (λ (c : Check). c .number)
+
+-- they stand in the order of the papers: 28 "between 12 and 13", 20 and 21 "after 15"
+pub check-order : (s : Stage) (r : Reference) → numbersOf (checks s r) ≡ 10 ∷ 11 ∷ 12 ∷ 28 ∷ 13 ∷ 14 ∷ 15 ∷ 20 ∷ 21 ∷ []
+unfolding checks riseSweeps fallSweeps
+check-order s r = refl
+
+pub row-order : (s : Stage) (row : List ℕ) → numbersOf (rowChecks s row) ≡ 12 ∷ 16 ∷ 17 ∷ []
+unfolding rowChecks
+row-order s row = refl
+
 pub rises-mean : (s : Stage) (r : Reference) → EachOf Means (riseSweeps s r)
 unfolding riseSweeps
 rises-mean s r = (wrong-means s r _ _, (incomplete-means s _ _, (unobservable-means s _ _, tt)))
@@ -149,7 +161,7 @@ unfolding fallSweeps
 falls-mean s r = (fall-incomplete-means s _ _, (fall-unobservable-means s _ _, tt))
 
 pub checks-mean : (s : Stage) (r : Reference) → EachOf Means (checks s r)
-unfolding checks riseSweeps
+unfolding checks
 checks-mean s r =
     let swept = each-++ Means (riseSweeps s r) (fallSweeps s r) (rises-mean s r) (falls-mean s r) in
     (unequal-means 10 (s .inputs) (r .inputs), (unequal-means 11 (length (s .outputs)) (length (r .outputs)), (looped-means s, (retired-means s, swept))))
