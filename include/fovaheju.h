@@ -2,13 +2,13 @@
    x86-64; of the C library it uses memcpy and memset only.
 
    Each call takes byte strings as a pointer and then a length. The bytes may be any; that they are there, that nothing
-   else writes them during the call, and that a row does not overlap the stage is all that is asked. Each call returns,
-   keeps nothing for later calls, and touches no other memory but its answer and some kilobytes of stack. So calls may run at the same
-   time in several threads, each with a row of its own.
+   else writes them during the call, and that a row or a buffer overlaps nothing else is all that is asked. Each call
+   returns, keeps nothing for later calls, and touches no other memory but its answer and some kilobytes of stack. So
+   calls may run at the same time in several threads, each with a row or buffers of its own.
 
    A pointer that goes with the length 0 is not read through. What is proved is about pointers that are not null; with
    the length 0 any other address will do. A null pointer with the length 0 was tried too: it counts as an empty file,
-   or as an empty row. */
+   or as an empty row or buffer. */
 
 #ifndef FOVAHEJU_H
 #define FOVAHEJU_H
@@ -24,16 +24,19 @@ extern "C" {
 struct fovaheju_verdict {
     /* What was found: 0 accepted, 1 to 9 a file that cannot be read, 10 and 11 counts that differ, 12 a loop,
        13 a wrong output, 14 not input-complete, 15 not observable, 16 and 17 a row that cannot be taken, 18 and 19 a
-       care word that cannot be taken, 20 not input-complete in its fall, 21 not observable in its fall,
+       care word that cannot be taken, 20 not input-complete in its fall, 21 not observable in its fall, 22 parts
+       that do not fit, 23 an answer that the second part does not care for, 24 a buffer that is too short,
        28 a gate of a retired kind.
        docs/VERDICTS.md has the list. */
     uint64_t number;
-    /* In which file: 1 the stage, 2 the reference, 3 the row, 0 none. */
+    /* In which file: 1 the stage, 2 the reference, 3 the row, 0 none. Of a join 1 and 2 are the first part's, 4 and 5 the
+       second's; 3 is none in the second part, and for 24 a buffer. */
     uint64_t file;
     /* At which place: a byte of the file for 1 to 9, 18 and 19, the stage's count for 10 and 11, a gate for 12, 15, 21
-       and 28, an output for 13, an input for 14, 17 and 20, the row's length for 16. */
+       and 28, an output for 13, an input for 14, 17 and 20, the row's length for 16, the first part's outputs for 22. */
     uint64_t at;
-    /* In which input word for 13 to 15, 20 and 21, bit i being input i; the reference's count for 10 and 11; else 0. */
+    /* In which input word for 13 to 15, 20, 21 and 23, bit i being input i; the reference's count for 10 and 11; the
+       second part's inputs for 22; else 0. */
     uint64_t word;
 };
 
@@ -66,6 +69,26 @@ struct fovaheju_report fovaheju_report(const uint8_t *stage, size_t stage_len,
    number is another, the row is left as it was. The numbers are 0 to 9, 12 and 16 to 19. */
 struct fovaheju_verdict fovaheju_settled_row(const uint8_t *stage, size_t stage_len,
                                              uint8_t *row, size_t row_len);
+
+/* The answer of a join: the verdict, and how many bytes were written into each buffer. */
+struct fovaheju_join {
+    struct fovaheju_verdict verdict;
+    /* Both are 0 where the join is refused. */
+    uint64_t stage_count;
+    uint64_t reference_count;
+};
+
+/* Joins two stages with their references: output j of the first is tied to input j of the second. The joined stage and
+   reference are written at the start of two buffers; the bytes past them keep their values, and so do all of both where
+   the number is not 0. A part may have at most 128 gates in its stage and 256 in its reference; 5,715 bytes have room
+   for every joined stage, and 3,123 for every joined reference. The numbers are those of fovaheju_check on the first
+   part, then on the second, with 3 added to its file, then 22, 23 and 24. */
+struct fovaheju_join fovaheju_join(const uint8_t *stage1, size_t stage1_len,
+                                   const uint8_t *reference1, size_t reference1_len,
+                                   const uint8_t *stage2, size_t stage2_len,
+                                   const uint8_t *reference2, size_t reference2_len,
+                                   uint8_t *stage_out, size_t stage_out_len,
+                                   uint8_t *reference_out, size_t reference_out_len);
 
 #ifdef __cplusplus
 }

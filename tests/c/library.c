@@ -1,4 +1,4 @@
-/* The static library called from C: the stored examples, the structs by value, empty files and rows, null pointers.
+/* The static library called from C: the stored examples, the structs by value, empty files, rows and buffers, null pointers.
    Arguments: folders that hold stage.ncl, reference.ncl and verdict. The last line is 'N passed, M failed'. */
 
 #include "fovaheju.h"
@@ -160,6 +160,62 @@ static void rows(void)
     same("a null stage and a null row", fovaheju_settled_row(NULL, 0, NULL, 0), 1, 1, 0, 0);
 }
 
+/* The AND with a wire behind it. */
+static const uint8_t joined_stage[] = {1, 2, 2, 2, 1, 0, 3, 0, 255, 255, 255, 255, 2, 26,
+                                       0, 0, 2, 0, 1, 0, 3, 0, 3,   5,   0,   4,   0, 0};
+static const uint8_t joined_reference[] = {1, 2, 17, 2, 0, 0, 1, 0, 18, 2, 0, 0};
+
+static struct fovaheju_join and_wire(uint8_t *stage_out, size_t stage_room, uint8_t *reference_out,
+                                     size_t reference_room)
+{
+    return fovaheju_join(and_stage, sizeof and_stage, and_reference, sizeof and_reference, wire, sizeof wire,
+                         wire_reference, sizeof wire_reference, stage_out, stage_room, reference_out, reference_room);
+}
+
+static void joins(void)
+{
+    struct {
+        uint64_t before;
+        struct fovaheju_join join;
+        uint64_t after;
+    } kept = {0x1122334455667788, {{9, 9, 9, 9}, 9, 9}, 0x99AABBCCDDEEFF00};
+    struct fovaheju_join *join = &kept.join;
+    uint8_t stage_out[64], reference_out[64], untouched[64];
+    size_t n = sizeof joined_stage, m = sizeof joined_reference;
+
+    memset(untouched, 7, sizeof untouched);
+    memcpy(stage_out, untouched, 64);
+    memcpy(reference_out, untouched, 64);
+    holds("a join's answer has 48 bytes", sizeof *join == 48);
+    kept.join = and_wire(stage_out, 64, reference_out, 64);
+    same("an AND and a wire", join->verdict, 0, 0, 0, 0);
+    holds("how many bytes", join->stage_count == n && join->reference_count == m);
+    holds("the joined stage", memcmp(stage_out, joined_stage, n) == 0);
+    holds("the joined reference", memcmp(reference_out, joined_reference, m) == 0);
+    holds("past the stage", memcmp(stage_out + n, untouched, 64 - n) == 0);
+    holds("past the reference", memcmp(reference_out + m, untouched, 64 - m) == 0);
+    same("the whole is accepted", fovaheju_check(stage_out, n, reference_out, m), 0, 0, 0, 0);
+    memcpy(stage_out, untouched, 64);
+    memcpy(reference_out, untouched, 64);
+    kept.join = and_wire(stage_out, n, reference_out, m - 1);
+    same("a reference buffer too short", join->verdict, 24, 3, 0, 0);
+    holds("nothing is counted", join->stage_count == 0 && join->reference_count == 0);
+    same("a stage buffer too short", and_wire(stage_out, n - 1, reference_out, m).verdict, 24, 3, 0, 0);
+    same("no buffers", and_wire(NULL, 0, NULL, 0).verdict, 24, 3, 0, 0);
+    same("a wire and an AND",
+         fovaheju_join(wire, sizeof wire, wire_reference, sizeof wire_reference, and_stage, sizeof and_stage, and_reference,
+                       sizeof and_reference, stage_out, 64, reference_out, 64).verdict, 22, 0, 1, 2);
+    same("a second stage without its end",
+         fovaheju_join(wire, sizeof wire, wire_reference, sizeof wire_reference, wire, sizeof wire - 1, wire_reference,
+                       sizeof wire_reference, stage_out, 64, reference_out, 64).verdict, 1, 4, 7, 0);
+    same("four null files", fovaheju_join(NULL, 0, NULL, 0, NULL, 0, NULL, 0, stage_out, 64, reference_out, 64).verdict, 1, 1, 0, 0);
+    holds("refused buffers are as before", memcmp(stage_out, untouched, 64) == 0 && memcmp(reference_out, untouched, 64) == 0);
+    holds("beside the join's answer", kept.before == 0x1122334455667788 && kept.after == 0x99AABBCCDDEEFF00);
+    kept.join = and_wire(stage_out, n, reference_out, m);
+    same("buffers that just fit", join->verdict, 0, 0, 0, 0);
+    holds("the same bytes", memcmp(stage_out, joined_stage, n) == 0 && memcmp(reference_out, joined_reference, m) == 0);
+}
+
 int main(int count, char **folders)
 {
     int i;
@@ -168,6 +224,7 @@ int main(int count, char **folders)
     checks();
     reports();
     rows();
+    joins();
     printf("%d passed, %d failed\n", passed, failed);
     return failed != 0;
 }

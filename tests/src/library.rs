@@ -1,6 +1,8 @@
 //! The proved calls of the static library, as safe functions. `include/fovaheju.h` says what they answer.
 
 use crate::compare::Counts;
+use crate::files::FilePair;
+use crate::join::Joined;
 use crate::judge::Verdict;
 
 /// The four numbers as the library lays them out.
@@ -28,6 +30,14 @@ struct Report {
     names: [u16; 1024],
 }
 
+/// The answer of a join as the library lays it out.
+#[repr(C)]
+struct JoinAnswer {
+    verdict: Numbers,
+    stage_count: u64,
+    reference_count: u64,
+}
+
 extern "C" {
     fn fovaheju_check(
         stage: *const u8,
@@ -47,6 +57,20 @@ extern "C" {
         row: *mut u8,
         row_len: usize,
     ) -> Numbers;
+    fn fovaheju_join(
+        stage1: *const u8,
+        stage1_len: usize,
+        reference1: *const u8,
+        reference1_len: usize,
+        stage2: *const u8,
+        stage2_len: usize,
+        reference2: *const u8,
+        reference2_len: usize,
+        stage_out: *mut u8,
+        stage_out_len: usize,
+        reference_out: *mut u8,
+        reference_out_len: usize,
+    ) -> JoinAnswer;
 }
 
 /// The verdict on a stage file and a reference file.
@@ -87,4 +111,35 @@ pub fn report(stage: &[u8], reference: &[u8]) -> Counts {
 pub fn settled_row(stage: &[u8], row: &mut [u8]) -> Verdict {
     // Safety: the contract has no `requires`, and each pointer and length are of a slice; the row is lent to be written.
     unsafe { fovaheju_settled_row(stage.as_ptr(), stage.len(), row.as_mut_ptr(), row.len()) }.into()
+}
+
+/// The join of two pairs of files into two buffers.
+pub fn join(
+    first: &FilePair,
+    second: &FilePair,
+    stage_out: &mut [u8],
+    reference_out: &mut [u8],
+) -> Joined {
+    // Safety: the contract has no `requires`, and each pointer and length are of a slice; the buffers are lent to be written.
+    let answer = unsafe {
+        fovaheju_join(
+            first.stage.as_ptr(),
+            first.stage.len(),
+            first.reference.as_ptr(),
+            first.reference.len(),
+            second.stage.as_ptr(),
+            second.stage.len(),
+            second.reference.as_ptr(),
+            second.reference.len(),
+            stage_out.as_mut_ptr(),
+            stage_out.len(),
+            reference_out.as_mut_ptr(),
+            reference_out.len(),
+        )
+    };
+    Joined {
+        verdict: answer.verdict.into(),
+        stage_len: answer.stage_count as usize,
+        reference_len: answer.reference_count as usize,
+    }
 }

@@ -1,5 +1,6 @@
-// The public calls. Their contracts cite the definitions of crates `verdict` and `report`, at the limits of crate `netlist`, and ask
-// nothing of the caller.
+// The public calls. Their contracts cite the definitions of crates `verdict`, `report`, `joined` and `join`, at the limits of crate `netlist`,
+// and ask nothing of the caller.
+use join::JoinAnswer;
 use report::Report;
 use verdict::Verdict;
 ghost use mathlib.Core.Path.{_≡_};
@@ -8,6 +9,8 @@ ghost use Rattle.verdict.specs.Verdicts.{verdictOn, settledRow};
 ghost use Rattle.verdict.specs.Demands.{Demand2, Demand3, DemandRow};
 ghost use Rattle.report.specs.Report.{reportOn};
 ghost use Rattle.report.specs.Activity.{ReportMeans};
+ghost use Rattle.joined.specs.Join.{files};
+ghost use Rattle.join.specs.Call.{JoinDemand};
 
 // The check of a stage file against a reference file. The verdict is the one that the definitions give, and demands 2 and 3 hold of it,
 // with one run from another for an accepted stage.
@@ -38,6 +41,29 @@ pub fn settled_row(stage: &[u8], row: &mut [u8]) -> Verdict
     rows::settled_row(stage, row)
 }
 
+// The join of two stages with their references: output j of the first is tied to input j of the second, and the joined stage and reference are
+// written at the start of two lent buffers. A refusal leaves both as they were.
+pub fn join(
+    stage1: &[u8],
+    reference1: &[u8],
+    stage2: &[u8],
+    reference2: &[u8],
+    stage_out: &mut [u8],
+    reference_out: &mut [u8],
+) -> JoinAnswer
+    ensures { λ r. ⌜ JoinDemand (files (now (stage1 .entry)) (now (reference1 .entry))) (files (now (stage2 .entry)) (now (reference2 .entry)))
+        (now («stage_out» .entry)) (now («reference_out» .entry)) r (now («stage_out» .exit)) (now («reference_out» .exit)) ⌝ }
+{
+    join::join(
+        stage1,
+        reference1,
+        stage2,
+        reference2,
+        stage_out,
+        reference_out,
+    )
+}
+
 // The check for callers in C and in Rust, with the contract of `check`.
 #[no_mangle]
 pub extern "C" fn fovaheju_check(stage: &[u8], reference: &[u8]) -> Verdict
@@ -65,4 +91,27 @@ pub extern "C" fn fovaheju_settled_row(stage: &[u8], row: &mut [u8]) -> Verdict
     ensures demands { λ r. ⌜ DemandRow stageLimits (now (stage .entry)) (now (row .entry)) r (now (row .exit)) ⌝ }
 {
     settled_row(stage, row)
+}
+
+// The join for callers in C and in Rust, with the contract of `join`.
+#[no_mangle]
+pub extern "C" fn fovaheju_join(
+    stage1: &[u8],
+    reference1: &[u8],
+    stage2: &[u8],
+    reference2: &[u8],
+    stage_out: &mut [u8],
+    reference_out: &mut [u8],
+) -> JoinAnswer
+    ensures { λ r. ⌜ JoinDemand (files (now (stage1 .entry)) (now (reference1 .entry))) (files (now (stage2 .entry)) (now (reference2 .entry)))
+        (now («stage_out» .entry)) (now («reference_out» .entry)) r (now («stage_out» .exit)) (now («reference_out» .exit)) ⌝ }
+{
+    join(
+        stage1,
+        reference1,
+        stage2,
+        reference2,
+        stage_out,
+        reference_out,
+    )
 }

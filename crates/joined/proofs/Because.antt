@@ -5,10 +5,12 @@ use native.Mathlib.Omega.{arith}
 use mathlib.Core.Path.{_≡_, refl, sym, ap, _∙_}
 use mathlib.Core.Bool.{Bool, true, false, not, cond, _||_}
 use mathlib.Core.Logic.{_⊎_, inl, inr, ⊎-elim}
+use mathlib.Core.List.{[]}
 use lib.ListN.{length}
 use lib.Dec.{eqb, ltb}
 use Rattle.runs.proofs.Test.{clash, true?, not-true, of-not, or-left, or-right, or-cases, eqb-eq, eqb-same, ltb-true, lt-ltb}
 use Rattle.netlist.specs.declared.Limits.{Limits}
+use Rattle.netlist.specs.Reading.{stageLimits, referenceLimits, partStageLimits, partReferenceLimits}
 use Rattle.verdict.specs.declared.Verdict.{Verdict}
 use Rattle.verdict.specs.declared.Finding.{Finding}
 use Rattle.verdict.specs.declared.Finding.the-variants.{Fault, Passed}
@@ -16,15 +18,27 @@ use Rattle.verdict.specs.Words.{IsWord}
 use Rattle.verdict.specs.Checks.{orLater, firstFault}
 use Rattle.verdict.specs.Verdicts.{accepted, verdictWithin}
 use Rattle.verdict.specs.Demands.{Named, Nowhere, EachOf}
-use Rattle.verdict.proofs.Sweeps.{Means, FirstFault, first-fault, named-one}
+use Rattle.verdict.proofs.Sweeps.{Means, FirstFault, first-fault, none-named, named-one}
 use Rattle.verdict.proofs.Because.{unequal-means}
 use Rattle.verdict.proofs.Demands.{demand-3, nowhere-equal}
-use Rattle.joined.specs.Join.{Files, Part, partIn, refusalOf, ofSecond, answerWord, CaresFor, caresFor, stageBytes, referenceBytes, joinChecks, JoinAnswer, joinUnless, joinFault, joinWithin}
-use Rattle.joined.specs.Demand.{RoomForTwo, JoinKept, JoinBecause, first-refused, second-refused, join-refused, joined}
+use Rattle.joined.specs.Join.{Files, Part, partIn, refusalOf, ofSecond, answerWord, CaresFor, caresFor, stageBytes, referenceBytes, joinChecks}
+use Rattle.joined.specs.Join.{JoinAnswer, joinWritten, joinUnless, joinFault, joinWithin}
+use Rattle.joined.specs.Demand.{RoomForTwo, Joinable, JoinKept, JoinBecause, first-refused, second-refused, join-refused, joined}
 use Rattle.joined.proofs.Words.{caresFor-cares, cares-caresFor}
 use Rattle.joined.proofs.Joining.{join-accepted}
 
 -- ---- the checks of the join
+
+not-above : (a b : ℕ) → ¬ (a < b) → b ≤ a
+not-above a b n = omega (arith, n)
+
+-- one of two numbers is below another
+short-says : (a b c d : ℕ) → (ltb a b || ltb c d) ≡ true → (a < b) ⊎ (c < d)
+short-says a b c d e = ⊎-elim (λ t. inl (ltb-true a b t)) (λ t. inr (ltb-true c d t)) (or-cases (ltb a b) (ltb c d) e)
+
+says-short : (a b c d : ℕ) → (a < b) ⊎ (c < d) → (ltb a b || ltb c d) ≡ true
+says-short a b c d (inl l) = or-left (ltb a b) (ltb c d) (lt-ltb a b l)
+says-short a b c d (inr l) = or-right (ltb a b) (ltb c d) (lt-ltb c d l)
 
 module _ (first second : Part) (stageRoom referenceRoom : ℕ) where
   -- the answer to word w as a word of the second part
@@ -37,24 +51,16 @@ module _ (first second : Part) (stageRoom referenceRoom : ℕ) where
   abbrev referenceLong : ℕ
   referenceLong = length (referenceBytes first second)
 
-  short-says : (ltb stageRoom stageLong || ltb referenceRoom referenceLong) ≡ true → (stageRoom < stageLong) ⊎ (referenceRoom < referenceLong)
-  short-says e =
-      ⊎-elim (λ t. inl (ltb-true stageRoom stageLong t)) (λ t. inr (ltb-true referenceRoom referenceLong t)) (or-cases (ltb stageRoom stageLong) (ltb referenceRoom referenceLong) e)
-
-  says-short : (stageRoom < stageLong) ⊎ (referenceRoom < referenceLong) → (ltb stageRoom stageLong || ltb referenceRoom referenceLong) ≡ true
-  says-short (inl l) = or-left (ltb stageRoom stageLong) (ltb referenceRoom referenceLong) (lt-ltb stageRoom stageLong l)
-  says-short (inr l) = or-right (ltb stageRoom stageLong) (ltb referenceRoom referenceLong) (lt-ltb referenceRoom referenceLong l)
-
   join-checks-mean : EachOf Means (joinChecks first second stageRoom referenceRoom)
   unfolding joinChecks
   join-checks-mean = (
-    unequal-means 22 (length (first .circuit .outputs)) (second .circuit .inputs),
+    unequal-means 22 _ _,
     (
       record {
         passes = λ w i h e c. clash (cares-caresFor (second .circuit) (next w) c) (of-not (caresFor (second .circuit) (next w)) e);
         occurs = λ w i h n. ap not (not-true (caresFor (second .circuit) (next w)) (λ e. n (caresFor-cares (second .circuit) (next w) e)));
       },
-      (record { passes = λ w i h e. short-says e; occurs = λ w i h s. says-short s }, tt),
+      (record { passes = λ w i h e. short-says _ _ _ _ e; occurs = λ w i h s. says-short _ _ _ _ s }, tt),
     ),
   )
 
@@ -62,12 +68,26 @@ module _ (first second : Part) (stageRoom referenceRoom : ℕ) where
   seam-fits : EachOf Nowhere (joinChecks first second stageRoom referenceRoom)
       → (length (first .circuit .outputs) ≡ second .circuit .inputs) × ((w : ℕ) → IsWord (first .circuit) w → CaresFor (second .circuit) (next w))
   unfolding joinChecks
-  seam-fits (a, (b, c)) = (nowhere-equal 22 (length (first .circuit .outputs)) (second .circuit .inputs) a, λ w h. go w h (true? (caresFor (second .circuit) (next w))))
+  seam-fits (a, (b, c)) = (omega (arith, nowhere-equal 22 _ _ a), λ w h. go w h (true? (caresFor (second .circuit) (next w))))
     where
       go : (w : ℕ) → IsWord (first .circuit) w → (caresFor (second .circuit) (next w) ≡ true) ⊎ (caresFor (second .circuit) (next w) ≡ false)
           → CaresFor (second .circuit) (next w)
       go w h (inl e) = caresFor-cares (second .circuit) (next w) e
       go w h (inr e) = absurd (b w h (0, inl refl, λ i. clash (cares-caresFor (second .circuit) (next w) i) e))
+
+  -- and so do the buffers
+  room-enough : EachOf Nowhere (joinChecks first second stageRoom referenceRoom) → (stageLong ≤ stageRoom) × (referenceLong ≤ referenceRoom)
+  unfolding joinChecks
+  room-enough (a, (b, (c, _))) = (not-above stageRoom stageLong (λ l. c 0 (inl refl) (0, inl refl, inl l)), not-above referenceRoom referenceLong (λ l. c 0 (inl refl) (0, inl refl, inr l)))
+
+  -- where the seam and the buffers fit, they find nothing
+  nothing-found : length (first .circuit .outputs) ≡ second .circuit .inputs → ((w : ℕ) → IsWord (first .circuit) w → CaresFor (second .circuit) (next w))
+      → stageLong ≤ stageRoom → referenceLong ≤ referenceRoom → EachOf Nowhere (joinChecks first second stageRoom referenceRoom)
+  unfolding joinChecks
+  nothing-found counts cared fits fits′ = (
+    λ w h f. f .2 (omega (arith, counts)),
+    (λ w h f. f .2 (cared w h), (λ w h f. ⊎-elim (λ l. omega (arith, l, fits)) (λ l. omega (arith, l, fits′)) (f .2), tt)),
+  )
 
   join-from : (v : Verdict) → Named (joinChecks first second stageRoom referenceRoom) v → 22 ≤ v .number
   unfolding joinChecks
@@ -130,3 +150,45 @@ module _ (stageMost referenceMost : Limits) (first second : Files) (stageRoom re
       go (joined e f a) z =
           let s = seam-fits (part first) (part second) stageRoom referenceRoom a in
           (refl, join-accepted stageMost referenceMost wholeStage wholeReference room room′ first second (record { first-accepted = e; second-accepted = f; counts = s .0; cared = s .1 }))
+
+  -- "refusals write nothing"
+  pub refusal-writes-nothing : ¬ (joinWithin stageMost referenceMost first second stageRoom referenceRoom .verdict ≡ accepted)
+      → (joinWithin stageMost referenceMost first second stageRoom referenceRoom .stage ≡ []) × (joinWithin stageMost referenceMost first second stageRoom referenceRoom .reference ≡ [])
+  refusal-writes-nothing = go join-because
+    where
+      go : {a : JoinAnswer} → Reason a → ¬ (a .verdict ≡ accepted) → (a .stage ≡ []) × (a .reference ≡ [])
+      go (first-refused e n) r = (refl, refl)
+      go (second-refused e f n) r = (refl, refl)
+      go (join-refused e f n) r = (refl, refl)
+      go (joined e f a) r = absurd (r refl)
+
+  -- what is written has its place in the buffers
+  pub join-fits : (length (joinWithin stageMost referenceMost first second stageRoom referenceRoom .stage) ≤ stageRoom)
+      × (length (joinWithin stageMost referenceMost first second stageRoom referenceRoom .reference) ≤ referenceRoom)
+  join-fits = go join-because
+    where
+      go : {a : JoinAnswer} → Reason a → (length (a .stage) ≤ stageRoom) × (length (a .reference) ≤ referenceRoom)
+      go (first-refused e n) = (omega arith, omega arith)
+      go (second-refused e f n) = (omega arith, omega arith)
+      go (join-refused e f n) = (omega arith, omega arith)
+      go (joined e f a) = room-enough (part first) (part second) stageRoom referenceRoom a
+
+  -- No two parts that can be joined are turned away: if the buffers have room, the join accepts them and writes the whole.
+  pub join-writes : Joinable stageMost referenceMost first second
+      → length (stageBytes (part first) (part second)) ≤ stageRoom → length (referenceBytes (part first) (part second)) ≤ referenceRoom
+      → joinWithin stageMost referenceMost first second stageRoom referenceRoom ≡ joinWritten (part first) (part second)
+  join-writes j fits fits′ = go join-because
+    where
+      go : {a : JoinAnswer} → Reason a → a ≡ joinWritten (part first) (part second)
+      go (first-refused e n) = absurd (n (sym e ∙ j .first-accepted))
+      go (second-refused e f n) = absurd (n (sym f ∙ j .second-accepted))
+      go (join-refused {v = v} e f n) =
+          absurd (none-named (joinChecks (part first) (part second) stageRoom referenceRoom) v (nothing-found (part first) (part second) stageRoom referenceRoom (j .counts) (j .cared) fits fits′) n)
+      go (joined e f a) = refl
+
+-- The limits of parts leave room for two in a file that the check reads.
+pub parts-fit : RoomForTwo partStageLimits stageLimits × RoomForTwo partReferenceLimits referenceLimits
+parts-fit = (
+  record { inputs = omega arith; gates = omega arith; outputs = omega arith; words = omega arith; nets = omega arith },
+  record { inputs = omega arith; gates = omega arith; outputs = omega arith; words = omega arith; nets = omega arith },
+)

@@ -25,7 +25,7 @@ use Rattle.verdict.specs.Verdicts.{accepted}
 use Rattle.joined.specs.Whole as x
 use Rattle.joined.specs.Whole.{joinedStage, joinedReference}
 use Rattle.joined.specs.Join as j
-use Rattle.joined.specs.Join.{Files, files, JoinAnswer, joinRefused, joinWithin}
+use Rattle.joined.specs.Join.{Files, files, JoinAnswer, joinWithin}
 
 -- ---- the content: (a AND b) XOR c, where the first part hands c on
 
@@ -111,6 +111,47 @@ not = files (1 ∷ 1 ∷ 3 ∷ 1 ∷ 0 ∷ 0 ∷ 0 ∷ 0 ∷ []) (1 ∷ 1 ∷ 0x
 cared : List ℕ → Files
 cared words = files (1 ∷ 2 ∷ words ++ (3 ∷ 0 ∷ 0 ∷ 1 ∷ 0 ∷ 3 ∷ 2 ∷ 0 ∷ 3 ∷ 0 ∷ 0 ∷ [])) twoWiresReference
 
+-- commands of the two files, their nets, signals and words below 256
+abbrev inputs : ℕ → List ℕ
+inputs n = 1 ∷ n ∷ []
+
+abbrev gate : ℕ → ℕ → ℕ → List ℕ
+gate kind a b = 2 ∷ kind ∷ a ∷ 0 ∷ b ∷ 0 ∷ 0xFF ∷ 0xFF ∷ 0xFF ∷ 0xFF ∷ []
+
+abbrev output : ℕ → ℕ → List ℕ
+output rail0 rail1 = 3 ∷ rail0 ∷ 0 ∷ rail1 ∷ 0 ∷ []
+
+abbrev care : ℕ → List ℕ
+care word = 6 ∷ word ∷ 0 ∷ []
+
+abbrev end : List ℕ
+end = 0 ∷ []
+
+abbrev operate : ℕ → ℕ → ℕ → List ℕ
+operate code a b = 0x11 ∷ code ∷ a ∷ 0 ∷ b ∷ 0 ∷ []
+
+abbrev signal : ℕ → List ℕ
+signal number = 0x12 ∷ number ∷ 0 ∷ []
+
+-- OR of two inputs that are not both 1, twice: its gates, the third a relaxed TH12, then its outputs, then its care list
+either : Files
+either =
+    files (inputs 2 ++ gate 2 1 2 ++ gate 2 0 3 ++ gate 0x81 4 5 ++ gate 2 0 2 ++ output 7 6 ++ output 7 6 ++ care 0 ++ care 1 ++ care 2 ++ end)
+    (inputs 2 ++ operate 3 0 1 ++ signal 2 ++ signal 2 ++ end)
+
+-- NOT of two inputs that are equal, twice: its outputs, then its care list, then its gates, the last on the first
+neither : Files
+neither =
+    files (inputs 2 ++ output 5 6 ++ output 1 0 ++ care 0 ++ care 3 ++ gate 2 0 2 ++ gate 2 1 3 ++ gate 2 4 0 ++ end)
+    (inputs 2 ++ signal 2 ++ signal 2 ++ operate 6 0 1 ++ end)
+
+-- one input, and a gate more than `few` allows
+fiveGates : List ℕ
+fiveGates = inputs 1 ++ gate 1 0 1 ++ gate 1 0 1 ++ gate 1 0 1 ++ gate 1 0 1 ++ gate 1 0 1 ++ output 0 1 ++ end
+
+fiveOperations : List ℕ
+fiveOperations = inputs 1 ++ operate 2 0 0 ++ operate 2 0 0 ++ operate 2 0 0 ++ operate 2 0 0 ++ operate 2 0 0 ++ signal 0 ++ end
+
 pub record Case : Type 0 where
   pub first : Files
   pub second : Files
@@ -125,30 +166,45 @@ case first second stageRoom referenceRoom expected =
 abbrev written : List ℕ → List ℕ → JoinAnswer
 written stage reference = record { verdict = accepted; stage = stage; reference = reference }
 
+abbrev refusal : ℕ → ℕ → ℕ → ℕ → JoinAnswer
+refusal number file at word = record { verdict = verdict number file at word; stage = []; reference = [] }
+
 pub joins : List Case
 joins =
     -- two wires in a row, in buffers that are just long enough; then one buffer or the other is too short
     case (files wire wireReference) (files wire wireReference) 8 6 (written wire wireReference) ∷
-    case (files wire wireReference) (files wire wireReference) 7 6 (joinRefused (verdict 24 3 0 0)) ∷
-    case (files wire wireReference) (files wire wireReference) 8 5 (joinRefused (verdict 24 3 0 0)) ∷
+    case (files wire wireReference) (files wire wireReference) 7 6 (refusal 24 3 0 0) ∷
+    case (files wire wireReference) (files wire wireReference) 8 5 (refusal 24 3 0 0) ∷
     -- NAND: AND, then NOT
     case and not 100 100
     (written (1 ∷ 2 ∷ andOf (3 ∷ 4 ∷ 0 ∷ 5 ∷ 0 ∷ 0 ∷ []))
     (1 ∷ 2 ∷ 0x11 ∷ 2 ∷ 0 ∷ 0 ∷ 1 ∷ 0 ∷ 0x11 ∷ 1 ∷ 2 ∷ 0 ∷ 0xFF ∷ 0xFF ∷ 0x12 ∷ 3 ∷ 0 ∷ 0 ∷ [])) ∷
     -- the first part's care list is written, the second's is not
     case (cared (6 ∷ 1 ∷ 0 ∷ 6 ∷ 2 ∷ 0 ∷ [])) (cared (6 ∷ 0 ∷ 0 ∷ 6 ∷ 1 ∷ 0 ∷ 6 ∷ 2 ∷ 0 ∷ [])) 100 100 (written (cared (6 ∷ 1 ∷ 0 ∷ 6 ∷ 2 ∷ 0 ∷ []) .stage) twoWiresReference) ∷
-    -- 22, also where 23 would be found, and where the buffers are too short
-    case (files wire wireReference) and 100 100 (joinRefused (verdict 22 0 1 2)) ∷
-    case (files wire wireReference) (cared (6 ∷ 2 ∷ 0 ∷ [])) 0 0 (joinRefused (verdict 22 0 1 2)) ∷
+    -- inputs, the first part's care list, gates with the first part's first, the second's outputs, end; the second's nets and signals moved
+    case either neither 92 21
+    (written
+    (inputs 2 ++ care 0 ++ care 1 ++ care 2 ++ gate 2 1 2 ++ gate 2 0 3 ++ gate 0x81 4 5 ++ gate 2 0 2 ++ gate 2 7 7 ++ gate 2 6 6 ++ gate 2 8 7 ++ output 9 10 ++ output 6 7 ++ end)
+    (inputs 2 ++ operate 3 0 1 ++ operate 6 2 2 ++ signal 3 ++ signal 3 ++ end)) ∷
+    -- 22, with more outputs or fewer, also where 23 would be found, and where the buffers are too short
+    case (files twoWires twoWiresReference) (files wire wireReference) 100 100 (refusal 22 0 2 1) ∷
+    case (files wire wireReference) and 100 100 (refusal 22 0 1 2) ∷
+    case (files wire wireReference) (cared (6 ∷ 2 ∷ 0 ∷ [])) 0 0 (refusal 22 0 1 2) ∷
     -- 23 at the least word whose answer is not cared for
-    case (files twoWires twoWiresReference) (cared (6 ∷ 0 ∷ 0 ∷ 6 ∷ 1 ∷ 0 ∷ [])) 0 0 (joinRefused (verdict 23 0 0 2)) ∷
-    case (cared (6 ∷ 1 ∷ 0 ∷ 6 ∷ 3 ∷ 0 ∷ [])) (cared (6 ∷ 0 ∷ 0 ∷ 6 ∷ 1 ∷ 0 ∷ [])) 0 0 (joinRefused (verdict 23 0 0 3)) ∷
+    case (files twoWires twoWiresReference) (cared (6 ∷ 0 ∷ 0 ∷ 6 ∷ 1 ∷ 0 ∷ [])) 0 0 (refusal 23 0 0 2) ∷
+    case (cared (6 ∷ 1 ∷ 0 ∷ 6 ∷ 3 ∷ 0 ∷ [])) (cared (6 ∷ 0 ∷ 0 ∷ 6 ∷ 1 ∷ 0 ∷ [])) 0 0 (refusal 23 0 0 3) ∷
+    case not (files (inputs 1 ++ care 0 ++ output 0 1 ++ end) wireReference) 0 0 (refusal 23 0 0 0) ∷
     -- a part's own refusal: the first part's before the second's, the second's with 3 added to its file
-    case (files wire []) (files [] []) 0 0 (joinRefused (verdict 1 2 0 0)) ∷
-    case (files wire wireReference) (files [] []) 0 0 (joinRefused (verdict 1 4 0 0)) ∷
-    case (files wire wireReference) (files wire []) 0 0 (joinRefused (verdict 1 5 0 0)) ∷
-    case (files wire wireReference) (files wire twoWiresReference) 0 0 (joinRefused (verdict 10 3 1 2)) ∷
-    case (files twoWires twoWiresReference) (files (not .stage) wireReference) 0 0 (joinRefused (verdict 13 4 0 0)) ∷
+    case (files wire []) (files [] []) 0 0 (refusal 1 2 0 0) ∷
+    case (files wire wireReference) (files [] []) 0 0 (refusal 1 4 0 0) ∷
+    case (files wire wireReference) (files wire []) 0 0 (refusal 1 5 0 0) ∷
+    case (files wire wireReference) (files wire twoWiresReference) 0 0 (refusal 10 3 1 2) ∷
+    case (files wire wireReference) (files wire (inputs 1 ++ signal 0 ++ signal 0 ++ end)) 0 0 (refusal 11 3 1 2) ∷
+    case (files twoWires twoWiresReference) (files (not .stage) wireReference) 0 0 (refusal 13 4 0 0) ∷
+    -- a gate more than a part may have
+    case (files fiveGates wireReference) (files wire wireReference) 100 100 (refusal 6 1 42 0) ∷
+    case (files wire wireReference) (files fiveGates wireReference) 100 100 (refusal 6 4 42 0) ∷
+    case (files wire wireReference) (files wire fiveOperations) 100 100 (refusal 6 5 26 0) ∷
     []
 
 pub answers : List Case → List JoinAnswer
@@ -158,7 +214,7 @@ pub expected : List Case → List JoinAnswer
 expected cases = map (λ (i : Case). i .expected) cases
 
 pub computed : answers joins ≡ expected joins
-unfolding joins answers expected wire wireReference twoWires twoWiresReference andOf and not cared
+unfolding joins answers expected wire wireReference twoWires twoWiresReference andOf and not cared either neither fiveGates fiveOperations
     c.cells c.cellAt c.pinCount c.setExpression c.retiredCells c.among c.isRetired c.kindOf b.operand b.operands
     k.whenFound k.ownCommands k.commandTable k.formIn k.pinsNeeded k.needed k.stray k.misfit k.misfitFrom k.takeGate k.takeCare k.takeSort k.takeCommand k.nextAt
     r.nameable r.nameless r.usedOperands r.namelessAt r.namelessFrom r.floorAfter r.noted r.finish r.onNext r.readFrom r.readFile t.stageOf t.referenceOf

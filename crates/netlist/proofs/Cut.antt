@@ -10,13 +10,12 @@ use lib.ListN.{length, take}
 use lib.Seq.{length-take-le, take-all, getD-take}
 use borrow.Author.Tests.{lt-leb, le-ltb}
 use Rattle.netlist.specs.Types.{File, Sort, Form, Limits, Counts, Cursor, Next, Command, Refused}
-use Rattle.netlist.specs.Types.file
 use Rattle.netlist.specs.Types.sort
 use Rattle.netlist.specs.Bytes.{byte, operand}
-use Rattle.netlist.specs.Commands.{isSort, commandTable, ownCommands, formIn, formOf, width, needed, stray, misfitFrom, takeGate, takeCare, takeSort, takeCommand, nextAt}
-use Rattle.netlist.specs.Reading.{Reading, Places, noPlaces, countsOf, noted, finish, onNext, readFrom, readFile, stageLimits, referenceLimits}
+use Rattle.netlist.specs.Commands.{isSort, formOf, width, needed, stray, misfitFrom, takeGate, takeCare, takeSort, takeCommand, nextAt}
+use Rattle.netlist.specs.Reading.{Reading, Places, noPlaces, countsOf, noted, finish, onNext, readFrom, readFile}
 use Rattle.netlist.specs.Writing.{widthFor}
-use Rattle.netlist.specs.Read.{farthest, mostBytes}
+use Rattle.netlist.specs.Read.{farthest}
 use Rattle.netlist.proofs.Encoding.{width-in, wide-gate, width-gate}
 use Rattle.netlist.proofs.OneCommand.{There, next-there}
 use Rattle.netlist.proofs.Walk.{finish-more, Near, near-start, near-far, near-noted}
@@ -129,11 +128,3 @@ readFile-take f most s m far = go (decLt m (length s))
     go (yes h) =
         read-cut f most s m far (omega arith) (suc (length (take m s))) (suc (length s)) 0 noPlaces (omega (arith, length-take-le m s (omega arith))) (omega arith)
         (near-start f most)
-
-pub stage-cut : (s : List ℕ) → readFile file.Stage stageLimits (take mostBytes s) ≡ readFile file.Stage stageLimits s
-unfolding commandTable ownCommands formIn
-stage-cut s = readFile-take file.Stage stageLimits s mostBytes (omega arith)
-
-pub reference-cut : (s : List ℕ) → readFile file.Reference referenceLimits (take mostBytes s) ≡ readFile file.Reference referenceLimits s
-unfolding commandTable ownCommands formIn
-reference-cut s = readFile-take file.Reference referenceLimits s mostBytes (omega arith)

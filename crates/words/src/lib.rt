@@ -27,12 +27,12 @@ pub enum Sweep {
 }
 
 // A byte for each signal of the largest reference.
-const SIGNALS: usize = netlist::INPUTS + netlist::REFERENCE_GATES;
+pub const SIGNALS: usize = netlist::INPUTS + netlist::REFERENCE_GATES;
 
 // ---- words
 
 // The bits of word w: input i has bit i.
-fn word_bits(w: usize, bits: &mut [u8])
+pub fn word_bits(w: usize, bits: &mut [u8])
     ensures { λ r. ⌜ now (bits .exit) ≡ bitsOf (length (now (bits .entry))) w ⌝ }
 {
     let mut rest = w;

@@ -1,12 +1,13 @@
 //! compare_library [SEED [COUNT]]: compares all calls of the proved library with the judge,
-//! on the stored examples and on as many generated pairs and rows. Prints how many had each
+//! on the stored examples and cases of joins, and on as many generated pairs, rows and joins. Prints how many had each
 //! number, or the first difference. Fails too if some number never came or too few were accepted.
 
 use fovaheju_tests::compare::{
-    compare_checks, compare_pair, compare_report, compare_reports, compare_rows, lack, Difference,
-    Histogram, CHECK_NUMBERS, ROW_NUMBERS,
+    compare_checks, compare_join, compare_joins, compare_pair, compare_report, compare_reports, compare_rows, lack, Difference,
+    Histogram, CHECK_NUMBERS, JOIN_NUMBERS, ROW_NUMBERS,
 };
 use fovaheju_tests::files::{examples_folder, load_example, stored_examples};
+use fovaheju_tests::join_suite;
 use fovaheju_tests::library;
 use std::process::ExitCode;
 use std::time::Instant;
@@ -35,6 +36,12 @@ fn compare(seed: u64, count: u64) -> Result<bool, Box<Difference>> {
             .inspect_err(|difference| println!("{difference}"))?;
     }
     println!("{} examples alike", names.len());
+    let joins = join_suite::cases();
+    for stored in &joins {
+        compare_join(library::join, &stored.about, &stored.case)
+            .inspect_err(|difference| println!("{difference}"))?;
+    }
+    println!("{} stored joins alike", joins.len());
     let start = Instant::now();
     let checks = compare_checks(library::check, seed, count)?;
     let checks = tell("pairs", &checks, &CHECK_NUMBERS, start);
@@ -44,7 +51,10 @@ fn compare(seed: u64, count: u64) -> Result<bool, Box<Difference>> {
     let start = Instant::now();
     let rows = compare_rows(library::settled_row, seed, count)?;
     let rows = tell("rows", &rows, &ROW_NUMBERS, start);
-    Ok(checks && reports && rows)
+    let start = Instant::now();
+    let joins = compare_joins(library::join, seed, count)?;
+    let joins = tell("joins", &joins, &JOIN_NUMBERS, start);
+    Ok(checks && reports && rows && joins)
 }
 
 fn main() -> ExitCode {

@@ -1,0 +1,5 @@
+pub mod Moving
+pub mod Putting
+pub mod Whole
+pub mod Answers
+pub mod Joining

@@ -1,0 +1,49 @@
+// Reads stage1.ncl, reference1.ncl, stage2.ncl and reference2.ncl, at most 8,192 bytes of each, and prints the verdict of their join. Where it
+// accepts, the joined stage and reference are written as stage.ncl and reference.ncl; otherwise no file is touched.
+use libc::STDERR_FILENO;
+use libc::STDOUT_FILENO;
+
+fn complain() {
+    io::write_all(STDERR_FILENO, b"ncl_join: a file could not be written\n");
+}
+
+// Writes the first bytes of a buffer into a file.
+fn save(path: &[u8], buffer: &[u8], count: u64) {
+    let n = count as usize;
+    let file = os::open_overwrite(path);
+    if file < 0 {
+        complain();
+        return;
+    }
+    if n <= buffer.len() {
+        io::write_all(file, &buffer[..n]);
+    }
+    libc::close(file);
+}
+
+fn main() {
+    let mut stage1 = [0u8; 8192];
+    let a = console::load(b"stage1.ncl", &mut stage1);
+    let mut reference1 = [0u8; 8192];
+    let b = console::load(b"reference1.ncl", &mut reference1);
+    let mut stage2 = [0u8; 8192];
+    let c = console::load(b"stage2.ncl", &mut stage2);
+    let mut reference2 = [0u8; 8192];
+    let d = console::load(b"reference2.ncl", &mut reference2);
+    let mut stage = [0u8; 8192];
+    let mut reference = [0u8; 8192];
+    let answer = fovaheju::join(
+        &stage1[..a],
+        &reference1[..b],
+        &stage2[..c],
+        &reference2[..d],
+        &mut stage,
+        &mut reference,
+    );
+    if answer.verdict.number == 0 {
+        save(b"stage.ncl", &stage, answer.stage_count);
+        save(b"reference.ncl", &reference, answer.reference_count);
+    }
+    console::print_verdict(answer.verdict);
+    io::write_all(STDOUT_FILENO, b"\n");
+}
