@@ -55,6 +55,26 @@ pub fn contents() -> Vec<(PathBuf, Vec<u8>)> {
     list
 }
 
+/// The same for the program `ncl_join`: two of the examples.
+pub fn contents_of_ncl_join() -> Vec<(PathBuf, Vec<u8>)> {
+    let named = |name: &str| {
+        examples()
+            .into_iter()
+            .find(|example| example.name == name)
+            .expect("an example")
+            .pair
+    };
+    let (first, second) = (named("half-adder-relaxed"), named("half-adder"));
+    let joined = join(&first, &second, &mut [0; 8192], &mut [0; 8192]);
+    vec![
+        ("data/stage1.ncl".into(), first.stage),
+        ("data/reference1.ncl".into(), first.reference),
+        ("data/stage2.ncl".into(), second.stage),
+        ("data/reference2.ncl".into(), second.reference),
+        ("stdout".into(), verdict_line(joined.verdict).into_bytes()),
+    ]
+}
+
 /// A case's line: its index in three digits, the judge's four numbers, how many bytes of each
 /// buffer are written, then after a colon each the bytes of the stage's and of the reference's
 /// buffer after the call, each number after a space.

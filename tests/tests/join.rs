@@ -9,12 +9,14 @@ use fovaheju_tests::generate::{accepted, Random, Size};
 use fovaheju_tests::join::{
     join, joined_reference, joined_stage, word_of_answer, Joined, PART_LIMITS, WHOLE_LIMITS,
 };
-use fovaheju_tests::join_suite::{cases, line};
+use fovaheju_tests::join_suite::{cases, contents, contents_of_ncl_join, line};
 use fovaheju_tests::judge::{
     answer, check_within, is_relaxed, read_reference_within, read_stage_within, Limits, Reference,
     Stage, ACCEPTED,
 };
+use fovaheju_tests::suite::{crate_folder, is_stored};
 use std::collections::{BTreeMap, BTreeSet};
+use std::fs;
 
 fn pair(stage: &str, reference: &str) -> FilePair {
     FilePair {
@@ -419,4 +421,20 @@ fn wrong_joins_are_told() {
     for (about, join) in wrong {
         assert!(compare_joins(join, 105, 3_000).is_err(), "{about}");
     }
+}
+
+#[test]
+fn stored_files_and_output() {
+    is_stored("join_suite", contents());
+    is_stored("ncl_join", contents_of_ncl_join());
+}
+
+/// The program has as many cases as there are here.
+#[test]
+fn the_program_reads_all_cases() {
+    let cases = cases();
+    assert!(cases.len() <= 1000);
+    let source = fs::read_to_string(crate_folder("join_suite").join("src/main.rt")).unwrap();
+    let count = format!("const CASES: usize = {};", cases.len());
+    assert!(source.contains(&count), "main.rt has no line '{count}'");
 }

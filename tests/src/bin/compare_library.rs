@@ -3,8 +3,8 @@
 //! number, or the first difference. Fails too if some number never came or too few were accepted.
 
 use fovaheju_tests::compare::{
-    compare_checks, compare_join, compare_joins, compare_pair, compare_report, compare_reports, compare_rows, lack, Difference,
-    Histogram, CHECK_NUMBERS, JOIN_NUMBERS, ROW_NUMBERS,
+    compare_checks, compare_join, compare_joins, compare_pair, compare_report, compare_reports,
+    compare_rows, lack, Difference, Histogram, CHECK_NUMBERS, JOIN_NUMBERS, ROW_NUMBERS,
 };
 use fovaheju_tests::files::{examples_folder, load_example, stored_examples};
 use fovaheju_tests::join_suite;

@@ -1,14 +1,12 @@
-//! join_suite [FOLDER]: writes the files of all stored cases of joins and the expected output into
-//! the crate of a program `join_suite`, or into the folder given, and prints a list of the cases.
+//! Writes the files of all stored cases of joins and the expected output into the crate of the program
+//! `join_suite`, and those of the program `ncl_join` into its crate, and prints a list of the cases.
 
-use fovaheju_tests::join_suite::{cases, contents, line};
+use fovaheju_tests::join_suite::{cases, contents, contents_of_ncl_join, line};
 use fovaheju_tests::suite::{crate_folder, store};
-use std::path::PathBuf;
 
 fn main() -> std::io::Result<()> {
-    let folder = std::env::args_os().nth(1);
-    let folder = folder.map_or_else(|| crate_folder("join_suite"), PathBuf::from);
-    store(&folder, &contents())?;
+    store(&crate_folder("join_suite"), &contents())?;
+    store(&crate_folder("ncl_join"), &contents_of_ncl_join())?;
     for (index, case) in cases().iter().enumerate() {
         let line = line(index, case);
         let numbers = line.split(':').next().unwrap_or_default();
