@@ -1904,7 +1904,7 @@ pub fn known_with_retired(generated: &Generated) -> Known {
 
 /// A gate that is set in the same cases, has the same nets on its pins and holds or not as
 /// this one, of another kind that is still cast.
-fn still_cast(gate: &Gate) -> Option<Gate> {
+pub(crate) fn still_cast(gate: &Gate) -> Option<Gate> {
     let nets: BTreeSet<usize> = gate.pins.iter().copied().collect();
     let nets: Vec<usize> = nets.into_iter().collect();
     let is_set = |kind: usize, pins: &[usize], high: usize| {
