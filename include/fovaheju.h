@@ -25,22 +25,23 @@ struct fovaheju_verdict {
     /* What was found: 0 accepted, 1 to 9 a file that cannot be read, 10 and 11 counts that differ, 12 a loop,
        13 a wrong output, 14 not input-complete, 15 not observable, 16 and 17 a row that cannot be taken, 18 and 19 a
        care word that cannot be taken, 20 not input-complete in its fall, 21 not observable in its fall, 22 parts
-       that do not fit, 23 an answer that the second part does not care for, 24 a buffer that is too short.
+       that do not fit, 23 an answer that the second part does not care for, 24 a buffer that is too short,
+       28 a gate of a retired kind.
        docs/VERDICTS.md has the list. */
     uint64_t number;
     /* In which file: 1 the stage, 2 the reference, 3 the row, 0 none. Of a join 1 and 2 are the first part's, 4 and 5 the
        second's; 3 is none in the second part, and for 24 a buffer. */
     uint64_t file;
-    /* At which place: a byte of the file for 1 to 9, 18 and 19, the stage's count for 10 and 11, a gate for 12, 15 and
-       21, an output for 13, an input for 14, 17 and 20, the row's length for 16, the first part's outputs for 22. */
+    /* At which place: a byte of the file for 1 to 9, 18 and 19, the stage's count for 10 and 11, a gate for 12, 15, 21
+       and 28, an output for 13, an input for 14, 17 and 20, the row's length for 16, the first part's outputs for 22. */
     uint64_t at;
     /* In which input word for 13 to 15, 20, 21 and 23, bit i being input i; the reference's count for 10 and 11; the
        second part's inputs for 22; else 0. */
     uint64_t word;
 };
 
-/* The verdict on a stage file and a reference file, given as their bytes. The numbers are 0 to 15 and
-   18 to 21. */
+/* The verdict on a stage file and a reference file, given as their bytes. The numbers are 0 to 15,
+   18 to 21 and 28. */
 struct fovaheju_verdict fovaheju_check(const uint8_t *stage, size_t stage_len,
                                        const uint8_t *reference, size_t reference_len);
 

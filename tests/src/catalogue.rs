@@ -410,6 +410,80 @@ pub fn examples() -> Vec<Example> {
     list.extend(relaxed_examples());
     list.extend(pair_examples());
     list.extend(joins::parts_and_wholes());
+    list.extend(retired_examples());
+    list
+}
+
+/// Stages with gates of a retired kind (document 02, M-108).
+pub fn retired_examples() -> Vec<Example> {
+    let mut list: Vec<Example> = Vec::new();
+    let mut add =
+        |name: &str, about: &'static str, number: u64, stage: &Stage, reference: &Reference| {
+            let pair = write_pair(stage, reference);
+            list.push(Example {
+                name: name.to_string(),
+                about,
+                number,
+                pair,
+            });
+        };
+    // With pins C and D on one net TH54w322 is AB+AC+BC.
+    let adder = |kind: &str| {
+        let mut s = StageBuilder::new(3);
+        let [a, b, c] = [0, 1, 2].map(|input| s.input(input));
+        let carry_0 = s.gate(kind, &[a.rail_0, b.rail_0, c.rail_0, c.rail_0]);
+        let carry_1 = s.gate(kind, &[a.rail_1, b.rail_1, c.rail_1, c.rail_1]);
+        let sum_1 = s.gate("TH34w2", &[carry_0, a.rail_1, b.rail_1, c.rail_1]);
+        let sum_0 = s.gate("TH34w2", &[carry_1, a.rail_0, b.rail_0, c.rail_0]);
+        s.output(Signal {
+            rail_0: sum_0,
+            rail_1: sum_1,
+        });
+        s.output(Signal {
+            rail_0: carry_0,
+            rail_1: carry_1,
+        });
+        s.stage
+    };
+    let mut r = ReferenceBuilder::new(3);
+    let (sum, carry) = r.full_adder(0, 1, 2);
+    r.output(sum);
+    r.output(carry);
+    let sum = r.reference;
+    let old = adder("TH54w322");
+    add(
+        "full-adder-retired",
+        "full adder, its carry by TH54w322 with pins C and D on one net",
+        28,
+        &old,
+        &sum,
+    );
+    add(
+        "full-adder-retired-relaxed",
+        "the same by relaxed TH54w322",
+        28,
+        &adder("rTH54w322"),
+        &sum,
+    );
+    let mut swapped = old.clone();
+    swapped.outputs.swap(0, 1);
+    add(
+        "full-adder-retired-swapped",
+        "the same with its outputs exchanged: 28 comes before 13",
+        28,
+        &swapped,
+        &sum,
+    );
+    let mut looped = old.clone();
+    looped.gates[0].pins[3] = 8;
+    looped.gates[2].pins[3] = 6;
+    add(
+        "full-adder-retired-loop",
+        "the same with a loop through its gates: 12 comes before 28",
+        12,
+        &looped,
+        &sum,
+    );
     list
 }
 

@@ -56,15 +56,15 @@ pub fn judged_counts(stage: &[u8], reference: &[u8]) -> Counts {
 }
 
 /// How often each verdict number came.
-pub type Histogram = [u64; 25];
+pub type Histogram = [u64; 29];
 
 /// The numbers of the check, of the settled-row call, and of the join.
-pub const CHECK_NUMBERS: [usize; 20] = [
-    0, 1, 2, 3, 4, 5, 6, 7, 8, 9, 18, 19, 10, 11, 12, 13, 14, 15, 20, 21,
+pub const CHECK_NUMBERS: [usize; 21] = [
+    0, 1, 2, 3, 4, 5, 6, 7, 8, 9, 18, 19, 10, 11, 12, 28, 13, 14, 15, 20, 21,
 ];
 pub const ROW_NUMBERS: [usize; 15] = [0, 1, 2, 3, 4, 5, 6, 7, 8, 9, 18, 19, 12, 16, 17];
-pub const JOIN_NUMBERS: [usize; 23] = [
-    0, 1, 2, 3, 4, 5, 6, 7, 8, 9, 18, 19, 10, 11, 12, 13, 14, 15, 20, 21, 22, 23, 24,
+pub const JOIN_NUMBERS: [usize; 24] = [
+    0, 1, 2, 3, 4, 5, 6, 7, 8, 9, 18, 19, 10, 11, 12, 28, 13, 14, 15, 20, 21, 22, 23, 24,
 ];
 
 /// What cases lack that a comparison rests on: one of the numbers never came, or fewer

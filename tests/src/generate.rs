@@ -16,9 +16,11 @@ use crate::files::{
     stage_gate, stage_output, write_reference, write_stage, FilePair,
 };
 use crate::judge::{
-    answer, cell, check_circuits, pin_count, rails_of_word, read_stage, settle, Boolean, Gate,
-    Reference, Stage, Verdict, ABSENT, ACCEPTED, AND, LIMITS, NAND, NOR, NOT, OR, SET, XOR,
+    answer, cell, check_circuits, is_relaxed, is_retired, least_retired_gate, pin_count,
+    rails_of_word, read_stage, settle, Boolean, Gate, Reference, Stage, Verdict, ABSENT, ACCEPTED,
+    AND, LIMITS, NAND, NOR, NOT, OR, SET, XOR,
 };
+use std::collections::BTreeSet;
 
 /// A small generator of numbers (splitmix64).
 #[derive(Clone, Debug)]
@@ -1870,8 +1872,8 @@ fn unknown_kind(random: &mut Random, generated: Generated) -> Generated {
     }
 }
 
-/// Pair number `index` of a seed.
-pub fn pair(seed: u64, index: u64) -> Generated {
+/// Pair number `index` of a seed, with any of its gates of a retired kind.
+fn pair_of_all_kinds(seed: u64, index: u64) -> Generated {
     let generated = pair_without_relaxed(seed, index);
     let random = &mut Random::new(seed ^ 0x4E1A, index);
     match random.below(100) {
@@ -1880,6 +1882,85 @@ pub fn pair(seed: u64, index: u64) -> Generated {
         30 => unknown_kind(random, generated),
         _ => generated,
     }
+}
+
+// ---------------------------------------------------------------------------
+// Retired kinds (document 02, M-108).
+
+/// What is known of a pair of all kinds, where its stage has a gate of a retired one: that comes
+/// before the sweeps.
+pub fn known_with_retired(generated: &Generated) -> Known {
+    let retired = read_stage(&generated.pair.stage)
+        .ok()
+        .and_then(|stage| least_retired_gate(&stage));
+    match (generated.known, retired) {
+        (Known::Verdict([0 | 13 | 14 | 15 | 20 | 21, ..]), Some(gate)) => {
+            Known::Verdict([28, 1, gate as u64, 0])
+        }
+        (Known::Number(0 | 13 | 14 | 15), Some(_)) => Known::Number(28),
+        (known, _) => known,
+    }
+}
+
+/// A gate that is set in the same cases, has the same nets on its pins and holds or not as
+/// this one, of another kind that is still cast.
+pub(crate) fn still_cast(gate: &Gate) -> Option<Gate> {
+    let nets: BTreeSet<usize> = gate.pins.iter().copied().collect();
+    let nets: Vec<usize> = nets.into_iter().collect();
+    let is_set = |kind: usize, pins: &[usize], high: usize| {
+        let places = pins.iter().map(|net| nets.iter().position(|n| n == net));
+        let levels = places.map(|place| high >> place.expect("one of them") & 1);
+        let pattern = levels.enumerate().map(|(pin, level)| level << pin).sum();
+        let pattern: usize = pattern;
+        SET[cell(kind)][pattern]
+    };
+    for kind in (1..=27).filter(|&kind| !is_retired(kind)) {
+        let count = pin_count(kind);
+        for choice in 0..nets.len().pow(count as u32) {
+            let pins: Vec<usize> = (0..count)
+                .map(|pin| nets[choice / nets.len().pow(pin as u32) % nets.len()])
+                .collect();
+            let alike = (0..1 << nets.len())
+                .all(|high| is_set(kind, &pins, high) == is_set(gate.kind, &gate.pins, high));
+            if alike && nets.iter().all(|net| pins.contains(net)) {
+                let kind = kind + if is_relaxed(gate.kind) { 128 } else { 0 };
+                return Some(Gate { kind, pins });
+            }
+        }
+    }
+    None
+}
+
+/// Pair number `index` of a seed. Most gates of a retired kind are of another one instead.
+pub fn pair(seed: u64, index: u64) -> Generated {
+    let mut generated = pair_of_all_kinds(seed, index);
+    let random = &mut Random::new(seed ^ 0x4E7D, index);
+    if let Ok(stage) = read_stage(&generated.pair.stage) {
+        let places = kind_places(&generated.pair.stage);
+        let keep = random.chance(1, 6);
+        for (gate, place) in stage.gates.iter().zip(places) {
+            if is_retired(gate.kind) && !keep {
+                if let Some(other) = still_cast(gate) {
+                    let command = place - 1..place + 9;
+                    generated.pair.stage[command].copy_from_slice(&stage_gate(&other));
+                }
+            }
+        }
+        // A gate becomes one of a retired kind; what it does then does not count.
+        let places = kind_places(&generated.pair.stage);
+        let fours = places.iter().zip(&stage.gates);
+        let fours: Vec<usize> = fours
+            .filter(|(_, gate)| gate.pins.len() == 4 && !is_retired(gate.kind))
+            .map(|(&place, _)| place)
+            .collect();
+        let verdict = matches!(generated.known, Known::Verdict(_));
+        if verdict && !fours.is_empty() && random.chance(1, 25) {
+            let place = random.pick(&fours);
+            generated.pair.stage[place] = random.pick(&[24, 152]);
+        }
+    }
+    let known = known_with_retired(&generated);
+    Generated { known, ..generated }
 }
 
 /// Pair number `index` of a seed, in document 01's language.

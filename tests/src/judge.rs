@@ -445,6 +445,16 @@ pub fn least_gate_on_a_loop(stage: &Stage) -> Option<usize> {
     })
 }
 
+/// Document 02, M-108: "Kind 24 and its relaxed form 152 are no longer cast."
+pub fn is_retired(kind: usize) -> bool {
+    kind == 24 || kind == 152
+}
+
+/// 28: the least gate of a retired kind.
+pub fn least_retired_gate(stage: &Stage) -> Option<usize> {
+    (0..stage.gates.len()).find(|&gate| is_retired(stage.gates[gate].kind))
+}
+
 /// "Settled for given rails: each gate is high exactly if its set expression
 /// holds. Settled with g held low: the same, except that gate g is low."
 ///
@@ -621,6 +631,10 @@ pub fn check_within(limits: Limits, stage_file: &[u8], reference_file: &[u8]) ->
     }
     if let Some(gate) = least_gate_on_a_loop(&stage) {
         return [12, STAGE, gate as u64, 0];
+    }
+    // 28, "a retired kind, between 12 and 13".
+    if let Some(gate) = least_retired_gate(&stage) {
+        return [28, STAGE, gate as u64, 0];
     }
     check_circuits(&stage, &reference)
 }

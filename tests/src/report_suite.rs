@@ -5,7 +5,8 @@
 //! The lines are the judge's; what a case prints is also written by hand where it is short.
 
 use crate::catalogue::{
-    care_examples, examples, examples_of_document_01, relaxed_examples, Example, MARKED,
+    care_examples, examples, examples_of_document_01, relaxed_examples, retired_examples, Example,
+    MARKED,
 };
 use crate::circuits::{ReferenceBuilder, Signal, StageBuilder};
 use crate::files::{report_text, unhex, verdict_line, write_pair, FilePair};
@@ -90,6 +91,7 @@ pub fn cases() -> Vec<Case> {
     stored_examples(&mut cases, care_examples());
     care_words(&mut cases);
     stored_examples(&mut cases, relaxed_examples());
+    stored_examples(&mut cases, retired_examples());
     cases.0
 }
 
@@ -219,13 +221,13 @@ fn unequal_words(cases: &mut Cases) {
         let known = (inputs == 3).then_some("0:0 1:1 2:2 3:3 4:3 5:4 6:5 7:6 total 24");
         cases.add(about, chains(inputs, &[]), known);
     }
-    for index in 0..300 {
+    for index in GENERATED {
         let pair = generate::pair_of_document_01(2026, index).pair;
-        let report = report(&pair.stage, &pair.reference);
-        let mut numbers: Vec<u64> = report.lines.iter().map(|line| line.1).collect();
-        numbers.dedup();
-        if numbers.len() > 2 && pair.stage.len().max(pair.reference.len()) <= 8192 {
-            cases.add(format!("generated, number {index}"), pair, None);
-        }
+        cases.add(format!("generated, number {index}"), pair, None);
     }
 }
+
+/// Generated pairs that are accepted but for 28, with words of unequal numbers.
+const GENERATED: [u64; 21] = [
+    1, 15, 16, 25, 35, 47, 67, 113, 146, 173, 190, 228, 243, 247, 253, 286, 287, 288, 292, 294, 295,
+];

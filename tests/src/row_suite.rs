@@ -116,10 +116,11 @@ pub fn cases() -> Vec<Case> {
     let mut cases = cases_of_document_01();
     cases.extend(care_cases());
     cases.extend(relaxed_cases());
+    cases.extend(retired_cases());
     cases
 }
 
-/// What document 02 adds: M-101, M-102.
+/// What document 02 adds: M-101, M-102, M-108.
 pub fn care_cases() -> Vec<Case> {
     let mut cases = Cases(Vec::new());
     care_words(&mut cases);
@@ -129,6 +130,12 @@ pub fn care_cases() -> Vec<Case> {
 pub fn relaxed_cases() -> Vec<Case> {
     let mut cases = Cases(Vec::new());
     relaxed_kinds(&mut cases);
+    cases.0
+}
+
+pub fn retired_cases() -> Vec<Case> {
+    let mut cases = Cases(Vec::new());
+    retired_kinds(&mut cases);
     cases.0
 }
 
@@ -1020,4 +1027,41 @@ fn care_words(cases: &mut Cases) {
         19,
         2 + 3 * 700 + 1,
     );
+}
+
+/// Document 02, M-108: "old files still read, and the settled-row call still serves them".
+fn retired_kinds(cases: &mut Cases) {
+    for kind in [24, 152] {
+        let stage = file_of(
+            2,
+            &[
+                gate(kind, &[1, 3, 0, 2]),
+                gate(kind, &[0, 2, 1, 4]),
+                output(4, 5),
+            ],
+        );
+        for rails in [[0, 1, 0, 1], [0, 1, 1, 0], [1, 0, 1, 0], [0, 0, 0, 1]] {
+            let row = [&rails[..], &[9, 9]].concat();
+            cases.settles(format!("kind {kind} settles, rails {rails:?}"), &stage, row);
+        }
+        cases.row(
+            &format!("17: kind {kind}"),
+            &stage,
+            vec![1, 1, 0, 1, 9, 9],
+            17,
+            0,
+        );
+        cases.refused(
+            &format!("12: kind {kind} on its own net"),
+            file_of(1, &[gate(kind, &[0, 0, 1, 2]), output(0, 1)]),
+            12,
+            0,
+        );
+        cases.refused(
+            &format!("5: kind {kind} without pin D"),
+            file_of(1, &[raw_gate(kind as u8, [0, 1, 0, X]), output(0, 1)]),
+            5,
+            10,
+        );
+    }
 }

@@ -7,8 +7,8 @@
 //! to them.
 
 use crate::catalogue::{
-    care_examples, examples, examples_of_document_01, pair_examples, relaxed_examples, Example,
-    MARKED,
+    care_examples, examples, examples_of_document_01, pair_examples, relaxed_examples,
+    retired_examples, Example, MARKED,
 };
 use crate::circuits::{kind_named, ReferenceBuilder, Signal, StageBuilder};
 use crate::files::{
@@ -16,8 +16,8 @@ use crate::files::{
 };
 use crate::generate::{self, Known};
 use crate::judge::{
-    check, expression_holds, pin_count, Boolean, Reference, Stage, Verdict, ACCEPTED, AND, KINDS,
-    NONE, NOR, NOT, OR, REFERENCE, STAGE, XOR,
+    check, expression_holds, is_retired, pin_count, Boolean, Reference, Stage, Verdict, ACCEPTED,
+    AND, KINDS, NONE, NOR, NOT, OR, REFERENCE, STAGE, XOR,
 };
 use crate::row_suite::{self, cut, gate, output};
 use std::collections::BTreeSet;
@@ -203,6 +203,9 @@ pub fn cases() -> Vec<Case> {
     refusals_of_the_stage(&mut cases, row_suite::relaxed_cases());
     relaxed_kinds(&mut cases);
     stored_examples(&mut cases, pair_examples());
+    stored_examples(&mut cases, retired_examples());
+    refusals_of_the_stage(&mut cases, row_suite::retired_cases());
+    retired_kinds(&mut cases);
     cases.0
 }
 
@@ -939,10 +942,14 @@ fn all_kinds(cases: &mut Cases) {
         let kind = index + 1;
         let (stage, reference) = kind_as_rail_1(name, expression);
         assert_eq!(kind_named(name), kind);
+        let known = |verdict| match is_retired(kind) {
+            true => Known::Verdict([28, STAGE, 0, 0]),
+            false => Known::Verdict(verdict),
+        };
         cases.push(
             format!("{name} as rail 1 of its function"),
             write_pair(&stage, &reference),
-            Known::Verdict(ACCEPTED),
+            known(ACCEPTED),
         );
         // The same with its least word of value 1 taken for 0 by the reference.
         let n = pin_count(kind);
@@ -962,7 +969,7 @@ fn all_kinds(cases: &mut Cases) {
         cases.push(
             format!("13: {name} against its function less word {least}"),
             write_pair(&stage, &r.reference),
-            Known::Verdict([13, STAGE, 0, least as u64]),
+            known([13, STAGE, 0, least as u64]),
         );
     }
 }
@@ -999,6 +1006,7 @@ fn kind_as_rail_1(name: &str, expression: &str) -> (Stage, Reference) {
 fn generated(cases: &mut Cases) {
     for index in 0..160 {
         let generated = generate::pair_of_document_01(2026, index);
+        let known = generate::known_with_retired(&generated);
         if generated
             .pair
             .stage
@@ -1009,7 +1017,7 @@ fn generated(cases: &mut Cases) {
             cases.push(
                 format!("generated, {}, number {index}", generated.family),
                 generated.pair,
-                generated.known,
+                known,
             );
         }
     }
@@ -1214,10 +1222,14 @@ fn relaxed_kinds(cases: &mut Cases) {
     const R: usize = 128;
     for (name, expression) in KINDS {
         let (stage, reference) = kind_as_rail_1(&format!("r{name}"), expression);
+        let verdict = match is_retired(stage.gates[0].kind) {
+            true => [28, STAGE, 0, 0],
+            false => ACCEPTED,
+        };
         cases.push(
             format!("r{name} as rail 1 of its function, the inputs wired out"),
             write_pair(&stage, &reference),
-            Known::Verdict(ACCEPTED),
+            Known::Verdict(verdict),
         );
     }
     // AND of TH22(1, 3) and THand0(0, 2, 1, 3), either relaxed or not.
@@ -1402,5 +1414,113 @@ fn relaxed_kinds(cases: &mut Cases) {
         &file_of(1, &chain),
         &wire_reference(),
         ACCEPTED,
+    );
+}
+
+/// Document 02, M-108: 28 stands after 12 and before 13, and names the least such gate.
+fn retired_kinds(cases: &mut Cases) {
+    let retired = |kind: usize| gate(kind, &[1, 1, 1, 1]);
+    let wire_by = |gates: &[Vec<u8>], rail_1: usize| {
+        let mut commands = gates.to_vec();
+        commands.push(output(0, rail_1));
+        file_of(1, &commands)
+    };
+    for kind in [24, 152] {
+        cases.add(
+            &format!("28: kind {kind}, right in all but that"),
+            &wire_by(&[retired(kind)], 2),
+            &wire_reference(),
+            [28, STAGE, 0, 0],
+        );
+        cases.add(
+            &format!("28 before 13: kind {kind}, rails swapped"),
+            &file_of(1, &[retired(kind), output(2, 0)]),
+            &wire_reference(),
+            [28, STAGE, 0, 0],
+        );
+        cases.add(
+            &format!("28 before 14: kind {kind}, an input that nothing reads"),
+            &file_of(2, &[retired(kind), output(0, 4)]),
+            &file_of(2, &[signal(0)]),
+            [28, STAGE, 0, 0],
+        );
+        cases.add(
+            &format!("28 before 15: kind {kind} feeding nothing"),
+            &wire_by(&[gate(TH22, &[1, 1]), retired(kind)], 2),
+            &wire_reference(),
+            [28, STAGE, 1, 0],
+        );
+        cases.add(
+            &format!("28: kind {kind} that rises in no word"),
+            &wire_by(&[gate(kind, &[0, 1, 1, 0]), gate(kind, &[0, 0, 1, 1])], 1),
+            &wire_reference(),
+            [28, STAGE, 0, 0],
+        );
+        cases.add(
+            &format!("12 before 28: kind {kind} and a later loop"),
+            &wire_by(&[retired(kind), gate(TH12, &[3, 0])], 2),
+            &wire_reference(),
+            [12, STAGE, 1, 0],
+        );
+        cases.add(
+            &format!("12 before 28: kind {kind} on its own net"),
+            &wire_by(&[gate(kind, &[2, 1, 1, 1])], 1),
+            &wire_reference(),
+            [12, STAGE, 0, 0],
+        );
+        cases.add(
+            &format!("10 before 28: kind {kind}"),
+            &wire_by(&[retired(kind)], 2),
+            &file_of(2, &[signal(0)]),
+            [10, NONE, 1, 2],
+        );
+        cases.add(
+            &format!("11 before 28: kind {kind}"),
+            &wire_by(&[retired(kind)], 2),
+            &file_of(1, &[signal(0), signal(0)]),
+            [11, NONE, 1, 2],
+        );
+        cases.add(
+            &format!("a refused reference before 28: kind {kind}"),
+            &wire_by(&[retired(kind)], 2),
+            &[],
+            [1, REFERENCE, 0, 0],
+        );
+    }
+    cases.add(
+        "28: the least of gates 2 and 3, the relaxed one first",
+        &wire_by(
+            &[
+                gate(TH22, &[1, 1]),
+                gate(23, &[2, 2, 2, 2]),
+                gate(152, &[3, 3, 3, 3]),
+                gate(24, &[4, 4, 4, 4]),
+            ],
+            5,
+        ),
+        &wire_reference(),
+        [28, STAGE, 2, 0],
+    );
+    let mut chain: Vec<Vec<u8>> = vec![gate(TH22, &[1, 1])];
+    chain.extend((1..127).map(|k| gate(TH22, &[1 + k, 1 + k])));
+    chain.push(gate(24, &[128, 128, 128, 128]));
+    cases.add(
+        "28: the last of 128 gates",
+        &wire_by(&chain, 129),
+        &wire_reference(),
+        [28, STAGE, 127, 0],
+    );
+    for kind in [23, 25, 151, 153] {
+        let gates = [gate(kind, &[1, 1, 1, 1])];
+        let about = format!("kind {kind} is still cast");
+        cases.add(&about, &wire_by(&gates, 2), &wire_reference(), ACCEPTED);
+    }
+    let mut listed = wire_by(&[gate(24, &[1, 1, 1, 1])], 2);
+    listed.splice(2..2, care_word(0));
+    cases.add(
+        "28: a gate that rises in no word cared for",
+        &listed,
+        &wire_reference(),
+        [28, STAGE, 0, 0],
     );
 }

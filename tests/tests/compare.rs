@@ -8,8 +8,9 @@ use fovaheju_tests::compare::{
 use fovaheju_tests::files::{as_the_program_reads, unhex, verdict_from_line, FilePair};
 use fovaheju_tests::generate::pair;
 use fovaheju_tests::judge::{
-    answer, check, check_circuits, least_gate_on_a_loop, rails_of_word, read_reference, read_stage,
-    set_expression_holds, settle, settled_row, Reference, Stage, ACCEPTED,
+    answer, check, check_circuits, is_retired, least_gate_on_a_loop, least_retired_gate,
+    rails_of_word, read_reference, read_stage, set_expression_holds, settle, settled_row,
+    Reference, Stage, ACCEPTED,
 };
 use std::path::Path;
 
@@ -25,8 +26,8 @@ fn the_judge_agrees_with_itself() {
 /// Cases that lack a number, or are nearly all refused, show too little.
 #[test]
 fn a_lack_is_told() {
-    let mut full: Histogram = [9; 25];
-    full[0] = 56;
+    let mut full: Histogram = [9; 29];
+    full[0] = 63;
     assert_eq!(lack(&full, &CHECK_NUMBERS), None);
     assert_eq!(lack(&full, &ROW_NUMBERS), None);
     assert_eq!(lack(&full, &JOIN_NUMBERS), None);
@@ -41,10 +42,10 @@ fn a_lack_is_told() {
         }
     }
     let mut histogram = full;
-    histogram[0] = 53;
+    histogram[0] = 62;
     assert_eq!(
         lack(&histogram, &CHECK_NUMBERS),
-        Some("only 53 of 269 are accepted".to_string())
+        Some("only 62 of 314 are accepted".to_string())
     );
 }
 
@@ -298,6 +299,48 @@ fn wrong_checks_are_told() {
         ("points at the care command", |s, r| match check(s, r) {
             [number @ (18 | 19), 1, at, 0] => [number, 1, at - 1, 0],
             verdict => verdict,
+        }),
+        ("does not know what is retired", |s, r| match check(s, r) {
+            [28, ..] => check_circuits(&read_stage(s).unwrap(), &read_reference(r).unwrap()),
+            verdict => verdict,
+        }),
+        ("lets kind 152 through", |s, r| match check(s, r) {
+            [28, ..] => {
+                let stage = read_stage(s).unwrap();
+                match stage.gates.iter().position(|gate| gate.kind == 24) {
+                    Some(gate) => [28, 1, gate as u64, 0],
+                    None => check_circuits(&stage, &read_reference(r).unwrap()),
+                }
+            }
+            verdict => verdict,
+        }),
+        ("looks for 28 after 13", |s, r| match check(s, r) {
+            [28, 1, at, 0] => {
+                let (stage, reference) = (read_stage(s).unwrap(), read_reference(r).unwrap());
+                match check_circuits(&stage, &reference) {
+                    [13, file, at, word] => [13, file, at, word],
+                    _ => [28, 1, at, 0],
+                }
+            }
+            verdict => verdict,
+        }),
+        ("looks for 28 before 12", |s, r| {
+            match (check(s, r), read_stage(s)) {
+                ([12, ..], Ok(stage)) if least_retired_gate(&stage).is_some() => {
+                    [28, 1, least_retired_gate(&stage).unwrap() as u64, 0]
+                }
+                (verdict, _) => verdict,
+            }
+        }),
+        ("names the greatest retired gate", |s, r| {
+            match check(s, r) {
+                [28, ..] => {
+                    let gates = read_stage(s).unwrap().gates;
+                    let greatest = gates.iter().rposition(|gate| is_retired(gate.kind));
+                    [28, 1, greatest.unwrap() as u64, 0]
+                }
+                verdict => verdict,
+            }
         }),
         ("takes relaxed gates for holding ones", |s, r| {
             let holds = |_| true;
@@ -565,6 +608,19 @@ fn wrong_checks_are_told() {
 #[test]
 fn wrong_rows_are_told() {
     let wrong: Vec<(&str, SettledRow)> = vec![
+        ("refuses retired kinds", |s, row| {
+            match read_stage(s)
+                .ok()
+                .and_then(|stage| least_retired_gate(&stage))
+            {
+                Some(gate) => [28, 1, gate as u64, 0],
+                None => settled_row(s, row),
+            }
+        }),
+        ("uses the care list", |s, row| match read_stage(s) {
+            Ok(stage) if !stage.care.is_empty() => ACCEPTED,
+            _ => settled_row(s, row),
+        }),
         ("writes nothing", |s, row| {
             let mut copy = row.to_vec();
             settled_row(s, &mut copy)

@@ -1,5 +1,5 @@
--- The twelve marked cases of the paper, the examples of its table, cases that show which fault is named, and relaxed gates, computed from the
--- definitions alone.
+-- The twelve marked cases of the paper, the examples of its table, cases that show which fault is named, relaxed gates and retired kinds, computed
+-- from the definitions alone.
 use Prim.Native.Nat.{ℕ, zero, suc, _+_, _*_}
 use mathlib.Core.Path.{_≡_, refl}
 use mathlib.Core.List.{List, [], _∷_, _++_, map}
@@ -15,6 +15,7 @@ use Rattle.verdict.specs.Loops as l
 use Rattle.verdict.specs.Words as w
 use Rattle.verdict.specs.Answers as a
 use Rattle.verdict.specs.Falls as f
+use Rattle.verdict.specs.Retired as e
 use Rattle.verdict.specs.Checks as h
 use Rattle.verdict.specs.Checks.{verdict}
 use Rattle.verdict.specs.Verdicts as v
@@ -297,6 +298,34 @@ relaxed =
     case (1 ∷ 1 ∷ buffers 0x81 (twoPins 2 2 0 (twoPins 2 3 1 (pair 4 5 (0 ∷ []))))) wireReference (verdict 0 0 0 0) ∷
     []
 
+-- ---- retired kinds, 24 and 152
+
+-- a gate with all four pins on one net
+abbrev onePin : ℕ → ℕ → List ℕ → List ℕ
+onePin kind net rest = 2 ∷ kind ∷ net ∷ 0 ∷ net ∷ 0 ∷ net ∷ 0 ∷ net ∷ 0 ∷ rest
+
+-- the wire, with such a gate on its rail 1
+abbrev wireBy : ℕ → List ℕ
+wireBy kind = 1 ∷ 1 ∷ onePin kind 1 (pair 0 2 (0 ∷ []))
+
+pub retired : List Case
+retired =
+    -- stages that are right in all but their kind; kinds 23, 25, 151 and 153 are still cast
+    case (wireBy 0x18) wireReference (verdict 28 1 0 0) ∷
+    case (wireBy 0x98) wireReference (verdict 28 1 0 0) ∷
+    case (wireBy 0x17) wireReference (verdict 0 0 0 0) ∷
+    case (wireBy 0x19) wireReference (verdict 0 0 0 0) ∷
+    case (wireBy 0x97) wireReference (verdict 0 0 0 0) ∷
+    case (wireBy 0x99) wireReference (verdict 0 0 0 0) ∷
+    -- 10 and 12 come before it, 13 and 15 after it; the kind counts where the gate feeds nothing
+    case (wireBy 0x18) (firstInput 2 1) (verdict 10 0 1 2) ∷
+    case (1 ∷ 1 ∷ onePin 0x18 1 (twoPins 1 3 0 (pair 0 2 (0 ∷ [])))) wireReference (verdict 12 1 1 0) ∷
+    case (wireBy 0x98) notReference (verdict 28 1 0 0) ∷
+    case (1 ∷ 1 ∷ twoPins 1 0 1 (onePin 0x18 1 (pair 0 1 (0 ∷ [])))) wireReference (verdict 28 1 1 0) ∷
+    -- the least of gates 1 and 2
+    case (1 ∷ 1 ∷ twoPins 2 1 1 (onePin 0x98 2 (onePin 0x18 3 (pair 0 4 (0 ∷ []))))) wireReference (verdict 28 1 1 0) ∷
+    []
+
 abbrev judged : List Case → List Verdict
 judged cases = map (λ (x : Case). verdictOn (x .stage) (x .reference)) cases
 
@@ -327,6 +356,9 @@ rowExamples =
     -- old gate bytes are ignored; then with input 1 NULL
     rowCase wholeStage (0 ∷ 1 ∷ 0 ∷ 1 ∷ 9 ∷ 9 ∷ []) (answerWith (verdict 0 0 0 0) (0 ∷ 1 ∷ 0 ∷ 1 ∷ 1 ∷ 0 ∷ [])) ∷
     rowCase wholeStage (1 ∷ 0 ∷ 0 ∷ 0 ∷ 9 ∷ 9 ∷ []) (answerWith (verdict 0 0 0 0) (1 ∷ 0 ∷ 0 ∷ 0 ∷ 0 ∷ 0 ∷ [])) ∷
+    -- gates of retired kinds settle
+    rowCase (wireBy 0x18) (0 ∷ 1 ∷ 9 ∷ []) (answerWith (verdict 0 0 0 0) (0 ∷ 1 ∷ 1 ∷ [])) ∷
+    rowCase (wireBy 0x98) (1 ∷ 0 ∷ 9 ∷ []) (answerWith (verdict 0 0 0 0) (1 ∷ 0 ∷ 0 ∷ [])) ∷
     []
 
 -- ---- computed, the two long files each by itself and all others at once
@@ -352,17 +384,18 @@ Computed =
     × (judged refused ≡ expected refused)
     × (judged care ≡ expected care)
     × (judged relaxed ≡ expected relaxed)
+    × (judged retired ≡ expected retired)
     × (map (λ (x : RowCase). settledRow (x .stage) (x .row)) rowExamples ≡ map (λ (x : RowCase). x .expected) rowExamples)
 
 computed : Computed
-unfolding twelve examples ordered refused care earlyGates relaxed rowExamples wire wireReference wholeStage andReference swapped notReference earlyAnd wires wireSignals
-    outputs firstInput inverters c.cells c.cellAt c.pinCount c.setExpression c.kindOf b.operand b.operands
+unfolding twelve examples ordered refused care earlyGates relaxed retired rowExamples wire wireReference wholeStage andReference swapped notReference earlyAnd wires wireSignals
+    outputs firstInput inverters c.cells c.cellAt c.pinCount c.setExpression c.retiredCells c.among c.isRetired c.kindOf b.operand b.operands
     k.whenFound k.ownCommands k.commandTable k.formIn k.pinsNeeded k.needed k.stray k.misfit k.misfitFrom k.takeGate k.takeCare k.takeSort k.takeCommand k.nextAt
     r.nameable r.nameless r.usedOperands r.namelessAt r.namelessFrom r.floorAfter r.noted r.finish r.onNext r.readFrom r.readFile t.stageOf t.referenceOf o.withNull o.isSet o.rounds o.settledLevels o.levelsHolding o.everyPair
     g.tabulate g.leading l.gateSteps l.reachesItself w.numbers w.caredFor w.words w.bitsOf w.railsOf a.operate a.signalValues a.answer h.first h.atFault h.sweep
-    h.finding h.orLater h.firstFault h.wrong h.incomplete h.unobservable h.fallIncomplete h.fallUnobservable h.riseSweeps h.fallSweeps f.stays f.fallenLevels f.fallen h.checks h.illegal h.rowChecks v.verdictOf v.judgeReference
-    v.judgeStage v.verdictWithin v.settleUnless v.settleReading v.settledRowWithin
-computed = (refl, refl, refl, refl, refl, refl, refl)
+    h.finding h.orLater h.firstFault h.wrong h.incomplete h.unobservable h.fallIncomplete h.fallUnobservable h.riseSweeps h.fallSweeps f.stays f.fallenLevels f.fallen
+    e.retiredAt h.checks h.illegal h.rowChecks v.verdictOf v.judgeReference v.judgeStage v.verdictWithin v.settleUnless v.settleReading v.settledRowWithin
+computed = (refl, refl, refl, refl, refl, refl, refl, refl)
 
 pub twelve-cases : judged twelve ≡ expected twelve
 twelve-cases = computed .0
@@ -382,5 +415,8 @@ care-cases = computed .4
 pub relaxed-cases : judged relaxed ≡ expected relaxed
 relaxed-cases = computed .5
 
+pub retired-cases : judged retired ≡ expected retired
+retired-cases = computed .6
+
 pub row-cases : map (λ (x : RowCase). settledRow (x .stage) (x .row)) rowExamples ≡ map (λ (x : RowCase). x .expected) rowExamples
-row-cases = computed .6
+row-cases = computed .7

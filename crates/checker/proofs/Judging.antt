@@ -1,23 +1,28 @@
--- The checks of two circuits in their order: 10, 11, 12, and those that sweep the words.
+-- The checks of two circuits in their order: 10, 11, 12, 28, and those that sweep the words.
 -- Assumes nothing.
-use Prim.Native.Nat.{ℕ, _≤_}
+use Prim.Native.Nat.{ℕ, _≤_, _<_}
 use native.Mathlib.Omega.{arith}
-use mathlib.Core.Path.{_≡_, sym, ap, ap₂, _∙_}
+use mathlib.Core.Path.{_≡_, refl, sym, ap, ap₂, _∙_}
 use mathlib.Core.List.{List}
 use lib.ListN.{length}
 use borrow.Author.Tests.{eq-eqb, ne-eqb}
 use Rattle.netlist.specs.declared.Counts.{Counts}
 use Rattle.netlist.specs.declared.Found.{Found}
 use Rattle.netlist.specs.declared.Found.the-variants.{At, Nothing}
-use Rattle.netlist.specs.Content.{Stage, Reference}
+use Rattle.gates.specs.Cell.{isRetired}
+use Rattle.netlist.specs.Content.{Gate, Stage, Reference}
 use Rattle.verdict.specs.declared.Finding.{Finding}
 use Rattle.verdict.specs.declared.Finding.the-variants.{Fault, Passed}
-use Rattle.verdict.specs.Checks.{verdict, first, atFault, sweep, finding, orLater, firstFault, unequal, looped, sweeps, checks}
-use Rattle.circuit.specs.Stage.{stageGates, outputIn, stageOutputs, stageIn}
+use Rattle.verdict.specs.Nets.{noGate}
+use Rattle.verdict.specs.Retired.{retiredAt}
+use Rattle.verdict.specs.Search.{least}
+use Rattle.verdict.specs.Checks.{verdict, first, atFault, sweep, finding, orLater, firstFault, unequal, looped, retired, sweeps, checks}
+use Rattle.circuit.specs.Stage.{cellIn, gateIn, stageGates, outputIn, stageOutputs, stageIn}
 use Rattle.circuit.specs.Reference.{signalIn, signalsIn, referenceIn, ReferenceLoaded}
-use Rattle.circuit.proofs.Tabulate.{length-tabulate}
+use Rattle.circuit.proofs.Tabulate.{length-tabulate, getD-tabulate}
+use Rattle.circuit.proofs.Settling.{length-stageGates}
 use Rattle.loops.specs.Marks.{LoopFound}
-use Rattle.loops.proofs.Findings.{passed-on, faulty, loop-at, no-loop}
+use Rattle.loops.proofs.Findings.{passed-on, faulty, found-at, found-nothing, loop-at, no-loop}
 use Rattle.words.specs.Loaded.{BothLoaded}
 
 -- ---- one check
@@ -29,6 +34,11 @@ differ number a b d = rw (ne-eqb a b d)
 agree : (number a b : ℕ) → a ≡ b → finding (unequal number a b) ≡ Passed
 unfolding finding sweep first atFault
 agree number a b e = rw (eq-eqb a b e)
+
+-- gate k is of a retired kind by the number of its cell
+pub retired-in : (c : Counts) (code : List ℕ) (k : ℕ) → k < c .gates → retiredAt (stageGates c code) k ≡ isRetired (cellIn code k)
+unfolding retiredAt stageGates
+retired-in c code k h = ap (λ (g : Gate). isRetired (g .cell)) (getD-tabulate (gateIn code) (c .gates) k noGate h)
 
 module _ (c : Counts) (code : List ℕ) (sizes : Counts) (reference : List ℕ) where
   abbrev s : Stage
@@ -46,11 +56,11 @@ module _ (c : Counts) (code : List ℕ) (sizes : Counts) (reference : List ℕ) 
   reference-outputs = length-tabulate (signalIn sizes reference) (sizes .outputs)
 
   in-order : firstFault (checks s r) ≡ orLater (finding (unequal 10 (c .inputs) (sizes .inputs)))
-      (orLater (finding (unequal 11 (c .outputs) (sizes .outputs))) (orLater (finding (looped s)) (firstFault (sweeps s r))))
+      (orLater (finding (unequal 11 (c .outputs) (sizes .outputs))) (orLater (finding (looped s)) (orLater (finding (retired s)) (firstFault (sweeps s r)))))
   unfolding firstFault checks
   in-order =
       ap₂ (λ (a b : ℕ). orLater (finding (unequal 10 (c .inputs) (sizes .inputs)))
-      (orLater (finding (unequal 11 a b)) (orLater (finding (looped s)) (firstFault (sweeps s r)))))
+      (orLater (finding (unequal 11 a b)) (orLater (finding (looped s)) (orLater (finding (retired s)) (firstFault (sweeps s r))))))
       stage-outputs reference-outputs
 
   pub is-10 : (c .inputs ≡ sizes .inputs → ⊥) → Fault (verdict 10 0 (c .inputs) (sizes .inputs)) ≡ firstFault (checks s r)
@@ -58,14 +68,14 @@ module _ (c : Counts) (code : List ℕ) (sizes : Counts) (reference : List ℕ) 
 
   module _ (inputs : c .inputs ≡ sizes .inputs) where
     after-10 : firstFault (checks s r) ≡ orLater (finding (unequal 11 (c .outputs) (sizes .outputs)))
-        (orLater (finding (looped s)) (firstFault (sweeps s r)))
+        (orLater (finding (looped s)) (orLater (finding (retired s)) (firstFault (sweeps s r))))
     after-10 = in-order ∙ passed-on _ _ (agree 10 (c .inputs) (sizes .inputs) inputs)
 
     pub is-11 : (c .outputs ≡ sizes .outputs → ⊥) → Fault (verdict 11 0 (c .outputs) (sizes .outputs)) ≡ firstFault (checks s r)
     is-11 d = sym (after-10 ∙ faulty _ _ _ (differ 11 (c .outputs) (sizes .outputs) d))
 
     module _ (outputs : c .outputs ≡ sizes .outputs) (after : List ℕ) (found : Found) (l : LoopFound c code after found) where
-      after-11 : firstFault (checks s r) ≡ orLater (finding (looped s)) (firstFault (sweeps s r))
+      after-11 : firstFault (checks s r) ≡ orLater (finding (looped s)) (orLater (finding (retired s)) (firstFault (sweeps s r)))
       after-11 = after-10 ∙ passed-on _ _ (agree 11 (c .outputs) (sizes .outputs) outputs)
 
       pub is-12 : (g : ℕ) → found ≡ At g → Fault (verdict 12 1 g 0) ≡ firstFault (checks s r)
@@ -75,7 +85,20 @@ module _ (c : Counts) (code : List ℕ) (sizes : Counts) (reference : List ℕ) 
         pub comparable : ReferenceLoaded sizes reference → BothLoaded c after sizes reference
         comparable a = record { stage = l .loaded; ordered = l .in-order e; answers = a; enough = omega arith }
 
-        pub is-swept : (f : Finding) → f ≡ firstFault (sweeps (stageIn c after) r) → f ≡ firstFault (checks s r)
-        is-swept f q =
-            q ∙ ap (λ (x : Stage). firstFault (sweeps x r)) (l .same)
-            ∙ sym (after-11 ∙ passed-on _ _ (no-loop c code after found l e))
+        after-12 : firstFault (checks s r) ≡ orLater (finding (retired s)) (firstFault (sweeps s r))
+        after-12 = after-11 ∙ passed-on _ _ (no-loop c code after found l e)
+
+        module _ (old : Found) (is : old ≡ least (retiredAt (stageGates c after)) 0 (c .gates)) where
+          -- the order that 12 made is no part of the stage
+          least-old : old ≡ least (retiredAt (s .gates)) 0 (length (s .gates))
+          least-old =
+              is ∙ ap (least (retiredAt (stageGates c after)) 0) (sym (length-stageGates c after))
+              ∙ ap (λ (x : Stage). least (retiredAt (x .gates)) 0 (length (x .gates))) (l .same)
+
+          pub is-28 : (g : ℕ) → old ≡ At g → Fault (verdict 28 1 g 0) ≡ firstFault (checks s r)
+          is-28 g q = sym (after-12 ∙ faulty _ _ _ (found-at (retired s) refl old least-old g q))
+
+          pub is-swept : old ≡ Nothing → (f : Finding) → f ≡ firstFault (sweeps (stageIn c after) r) → f ≡ firstFault (checks s r)
+          is-swept none f q =
+              q ∙ ap (λ (x : Stage). firstFault (sweeps x r)) (l .same)
+              ∙ sym (after-12 ∙ passed-on _ _ (found-nothing (retired s) refl old least-old none))

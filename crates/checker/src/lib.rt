@@ -1,4 +1,4 @@
-// The check of two files: both are read and loaded, then the checks 10 to 15, 20 and 21 follow in their order.
+// The check of two files: both are read and loaded, then the checks 10, 11, 12, 28 and those that sweep the words follow in this order.
 use netlist::Counts;
 use netlist::Found;
 use netlist::Limits;
@@ -8,13 +8,30 @@ use verdict::Verdict;
 ghost use mathlib.Core.Path.{_≡_};
 ghost use Rattle.netlist.specs.declared.File.the-variants as file;
 ghost use Rattle.netlist.specs.Reading.{readFile, stageLimits, referenceLimits, NoMore};
+ghost use Rattle.verdict.specs.Retired.{retiredAt};
+ghost use Rattle.verdict.specs.Search.{least};
 ghost use Rattle.verdict.specs.Checks as checks;
 ghost use Rattle.verdict.specs.Verdicts as verdicts;
 ghost use Rattle.verdict.specs.Demands.{Demand2, Demand3};
-ghost use Rattle.circuit.specs.Stage.{stageIn, StageLoaded};
+ghost use Rattle.circuit.specs.Stage.{stageGates, stageIn, StageLoaded};
 ghost use Rattle.circuit.specs.Reference.{referenceIn, ReferenceLoaded};
 
-// 10, then 11, then 12, which puts the gates in order, then those that sweep the words.
+// The least gate of a retired kind.
+fn least_retired(code: &[u16], counts: Counts) -> Found
+    requires { ⌜ StageLoaded counts (now code) ⌝ }
+    ensures { λ r. ⌜ r ≡ least (retiredAt (stageGates counts (now (code .entry)))) 0 (counts .gates) ⌝ }
+{
+    let mut k: usize = 0;
+    while k < counts.gates {
+        if gates::is_retired(code[8 * k]) {
+            return Found::At(k);
+        }
+        k += 1;
+    }
+    Found::Nothing
+}
+
+// 10, then 11, then 12, which puts the gates in order, then 28, then the sweeps over the words.
 fn judge(code: &mut [u16], counts: Counts, reference: &[u16], sizes: Counts) -> Finding
     requires { ⌜ StageLoaded counts (now code) × ReferenceLoaded sizes (now reference) ⌝ }
     ensures { λ r. ⌜ r ≡ checks.firstFault (checks.checks (stageIn counts (now (code .entry))) (referenceIn sizes (now (reference .entry)))) ⌝ }
@@ -38,6 +55,14 @@ fn judge(code: &mut [u16], counts: Counts, reference: &[u16], sizes: Counts) -> 
     if let Found::At(g) = loops::order_gates(code, counts) {
         return Finding::Fault(Verdict {
             number: 12,
+            file: 1,
+            at: g as u64,
+            word: 0,
+        });
+    }
+    if let Found::At(g) = least_retired(code, counts) {
+        return Finding::Fault(Verdict {
+            number: 28,
             file: 1,
             at: g as u64,
             word: 0,

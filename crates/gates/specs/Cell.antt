@@ -1,7 +1,7 @@
 -- The 27 fundamental NCL gates: name, pins and set expression of each, in the paper's order; and what a kind byte stands for.
 use Prim.Native.Nat.{ℕ, _+_, _-_, _*_, _/_, _%_, _^_}
 use Prim.Native.String.{String}
-use mathlib.Core.Bool.{Bool, true, false, cond, _&&_}
+use mathlib.Core.Bool.{Bool, true, false, cond, _&&_, _||_}
 use mathlib.Core.List.{List, [], _∷_}
 use lib.Dec.{eqb, leb}
 use lib.ListN.{getD}
@@ -85,6 +85,19 @@ atLeast m pattern = bit (leb m (ones pattern))
 -- the m of an unweighted THmn, by its cell; 0 where the cell is weighted or no threshold gate
 unfoldable pub threshold : ℕ → ℕ
 threshold c = getD (0 ∷ 1 ∷ 2 ∷ 1 ∷ 2 ∷ 3 ∷ 0 ∷ 0 ∷ 1 ∷ 2 ∷ 3 ∷ 4 ∷ []) c 0
+
+-- ---- retired cells
+
+-- the cells that are no longer cast, with hold or relaxed: 24, TH54w322
+unfoldable pub retiredCells : List ℕ
+retiredCells = 24 ∷ []
+
+unfoldable pub among : ℕ → List ℕ → Bool
+among x [] = false
+among x (y ∷ ys) = eqb x y || among x ys
+
+unfoldable pub isRetired : ℕ → Bool
+isRetired c = among c retiredCells
 
 -- ---- kind bytes
 

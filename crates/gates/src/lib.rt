@@ -1,7 +1,7 @@
-// The 27 fundamental NCL gates: which patterns of pins set a cell, and what a kind byte of a stage file stands for.
+// The 27 fundamental NCL gates: which patterns of pins set a cell, which cells are retired, and what a kind byte of a stage file stands for.
 ghost use mathlib.Core.Path.{_≡_};
 ghost use Prim.Native.Nat.{_<_, _≤_, _^_};
-ghost use Rattle.gates.specs.Cell.{setBit, atLeast, pinCount, kindOf};
+ghost use Rattle.gates.specs.Cell.{setBit, atLeast, pinCount, isRetired, kindOf};
 ghost use Rattle.gates.specs.Table.{GateTable};
 
 // What a kind byte stands for: a cell with hold, which falls when all of its pins are low; a relaxed one, which falls as soon as its set
@@ -111,6 +111,16 @@ pub fn sets(entries: &[[u8; 16]; 27], cell: u8, pattern: u8) -> u8
         5 | 10 => at_least(3, pattern),
         11 => at_least(4, pattern),
         _ => entry(entries, cell, pattern),
+    }
+}
+
+// Whether a cell is no longer cast.
+pub fn is_retired(cell: u16) -> bool
+    ensures { λ r. ⌜ r ≡ isRetired cell ⌝ }
+{
+    match cell {
+        24 => true,
+        _ => false,
     }
 }
 

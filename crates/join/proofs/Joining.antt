@@ -262,7 +262,7 @@ module _ (s t : List ℕ) where
             omega arith,
             (
               omega arith,
-              (omega arith, (omega arith, tt)),
+              (omega arith, (omega arith, (omega arith, tt))),
             ),
           ),
         ),

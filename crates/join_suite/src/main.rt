@@ -3,7 +3,7 @@
 // tests/src/bin/join_suite.rs.
 use libc::STDOUT_FILENO;
 
-const CASES: usize = 165;
+const CASES: usize = 167;
 
 fn print_byte(byte: u8) {
     console::print_next(byte as u64);

@@ -18,7 +18,7 @@ use Rattle.verdict.specs.Words.{IsWord}
 use Rattle.verdict.specs.Checks.{orLater, firstFault}
 use Rattle.verdict.specs.Verdicts.{accepted, verdictWithin}
 use Rattle.verdict.specs.Demands.{Named, Nowhere, EachOf}
-use Rattle.verdict.proofs.Sweeps.{Means, FirstFault, first-fault, none-named, named-from}
+use Rattle.verdict.proofs.Sweeps.{Means, FirstFault, first-fault, none-named, named-one}
 use Rattle.verdict.proofs.Because.{unequal-means}
 use Rattle.verdict.proofs.Demands.{demand-3, nowhere-equal}
 use Rattle.joined.specs.Join.{Files, Part, partIn, refusalOf, ofSecond, answerWord, CaresFor, caresFor, stageBytes, referenceBytes, joinChecks}
@@ -91,7 +91,7 @@ module _ (first second : Part) (stageRoom referenceRoom : ℕ) where
 
   join-from : (v : Verdict) → Named (joinChecks first second stageRoom referenceRoom) v → 22 ≤ v .number
   unfolding joinChecks
-  join-from v n = named-from 22 (joinChecks first second stageRoom referenceRoom) v (omega arith, (omega arith, (omega arith, tt))) n
+  join-from v n = named-one (λ k. 22 ≤ k) (joinChecks first second stageRoom referenceRoom) v (omega arith, (omega arith, (omega arith, tt))) n
 
 -- ---- the reason
 

@@ -19,6 +19,7 @@ use Rattle.verdict.specs.Answers as a
 use Rattle.verdict.specs.Falls as f
 use Rattle.verdict.specs.Checks as h
 use Rattle.verdict.specs.Checks.{verdict}
+use Rattle.verdict.specs.Retired as q
 use Rattle.verdict.specs.Verdicts as v
 use Rattle.verdict.specs.Verdicts.{accepted}
 use Rattle.joined.specs.Whole as x
@@ -214,12 +215,12 @@ expected cases = map (λ (i : Case). i .expected) cases
 
 pub computed : answers joins ≡ expected joins
 unfolding joins answers expected wire wireReference twoWires twoWiresReference andOf and not cared either neither fiveGates fiveOperations
-    c.cells c.cellAt c.pinCount c.setExpression c.kindOf b.operand b.operands
+    c.cells c.cellAt c.pinCount c.setExpression c.retiredCells c.among c.isRetired c.kindOf b.operand b.operands
     k.whenFound k.ownCommands k.commandTable k.formIn k.pinsNeeded k.needed k.stray k.misfit k.misfitFrom k.takeGate k.takeCare k.takeSort k.takeCommand k.nextAt
     r.nameable r.nameless r.usedOperands r.namelessAt r.namelessFrom r.floorAfter r.noted r.finish r.onNext r.readFrom r.readFile t.stageOf t.referenceOf
     n.writeFile n.writeStage n.writeReference o.withNull o.isSet o.rounds o.settledLevels o.levelsHolding o.everyPair
     g.tabulate g.leading l.gateSteps l.reachesItself w.numbers w.caredFor w.words w.bitsOf w.railsOf a.operate a.signalValues a.answer h.first h.atFault h.sweep
     h.finding h.orLater h.firstFault h.wrong h.incomplete h.unobservable h.fallIncomplete h.fallUnobservable h.riseSweeps h.fallSweeps f.stays f.fallenLevels f.fallen h.checks v.verdictOf
-    v.judgeReference v.judgeStage v.verdictWithin x.netInWhole x.joinedStage x.signalInWhole x.joinedReference j.stageRead j.referenceRead j.partIn j.refusalOf j.ofSecond j.wordOf
+    q.retiredAt v.judgeReference v.judgeStage v.verdictWithin x.netInWhole x.joinedStage x.signalInWhole x.joinedReference j.stageRead j.referenceRead j.partIn j.refusalOf j.ofSecond j.wordOf
     j.isIn j.joinChecks j.joinUnless j.joinFault j.joinWithin
 computed = refl

@@ -38,7 +38,7 @@ use Rattle.verdict.proofs.Demands.{demand-2, demand-3, accepted-contents}
 use Rattle.joined.specs.Whole.{netInWhole, joinedStage, joinedReference}
 use Rattle.joined.specs.Join.{Files, stageRead, referenceRead, Part, partIn, answerWord, CaresFor, stageBytes, referenceBytes}
 use Rattle.joined.specs.Demand.{RoomForTwo, Joinable, Joined}
-use Rattle.joined.proofs.Stages.{stage-named, in-series, joined-free, outputs-length}
+use Rattle.joined.proofs.Stages.{stage-named, in-series, joined-free, outputs-length, none-retired}
 use Rattle.joined.proofs.Stages as stages
 use Rattle.joined.proofs.References.{answer-length, joined-answer}
 use Rattle.joined.proofs.References as references
@@ -154,8 +154,8 @@ module _ (stageMost referenceMost : Limits) (first second : Part) (good : GoodPa
         let c = railsFor (first .circuit) w in
         let v = answerBits (first .function) w in
         let d = railsFor (second .circuit) next in
-        let ka : Conforms (netOf (first .circuit)) c v = good .acceptable w h in
-        let kb : Conforms (netOf (second .circuit)) d (answerBits function w) = subst (Conforms (netOf (second .circuit)) d) answers-next (good′ .acceptable next h′) in
+        let ka : Conforms (netOf (first .circuit)) c v = good .acceptable .conforms w h in
+        let kb : Conforms (netOf (second .circuit)) d (answerBits function w) = subst (Conforms (netOf (second .circuit)) d) answers-next (good′ .acceptable .conforms next h′) in
         let ta = word-tight (first .circuit) free w v ka in
         let tb = word-tight (second .circuit) free′ next (answerBits function w) kb in
         let namedA = stage-named stageMost (first .circuit) (good .formed) in
@@ -178,7 +178,8 @@ module _ (stageMost referenceMost : Limits) (first second : Part) (good : GoodPa
 
   whole-acceptable : ((w : ℕ) → IsWord (first .circuit) w → CaresFor (second .circuit) (answerWord (first .function) w)) → Acceptable whole function
   unfolding joinedStage words next
-  whole-acceptable cared w h = whole-conforms w h (cared w h)
+  whole-acceptable cared =
+      record { cast = none-retired (first .circuit) (second .circuit) (good .acceptable .cast) (good′ .acceptable .cast); conforms = λ w h. whole-conforms w h (cared w h) }
 
   module _ (wholeStage wholeReference : Limits) (room : RoomForTwo stageMost wholeStage) (room′ : RoomForTwo referenceMost wholeReference) where
     stage-held : StageIs wholeStage (stageBytes first second) whole

@@ -21,6 +21,7 @@ use Rattle.netlist.specs.Content.{Gate, Pair, Stage}
 use Rattle.netlist.specs.Formed.{CellFormed, RailsFormed, nets, StageFormed}
 use Rattle.netlist.proofs.Lists.{All-++, All-map}
 use Rattle.verdict.specs.Loops.{In, pinsAt, Feeds, LoopFree}
+use Rattle.verdict.specs.Retired.{Retired, RetiredAt, NoneRetired}
 use Rattle.verdict.specs.Nets.{noGate, driver, setIn, noPair, outputPair, railOf, netOf}
 use Rattle.verdict.proofs.Reaching.{rankOf, rankOf-≤, rank-pin, placed-free}
 use Rattle.joined.specs.Whole.{netInWhole, gateInWhole, pairInWhole, joinedStage}
@@ -65,6 +66,18 @@ module _ (first second : Stage) where
       → getD (joinedStage first second .gates) (length (first .gates) + k) noGate ≡ gateInWhole first second (getD (second .gates) k noGate)
   unfolding joinedStage
   gate-second k h = getD-append-add (first .gates) (map (gateInWhole first second) (second .gates)) k noGate ∙ map-get (gateInWhole first second) (second .gates) k noGate noGate h
+
+  -- no gate of the whole is of a retired kind where none of the parts is
+  pub none-retired : NoneRetired (first .gates) → NoneRetired (second .gates) → NoneRetired (joinedStage first second .gates)
+  none-retired none none′ k h = go (decLt k (length (first .gates)))
+    where
+      go : Dec (k < length (first .gates)) → ¬ (RetiredAt (joinedStage first second .gates) k)
+      go (yes l) = subst (λ (g : Gate). ¬ (Retired g)) (sym (gate-first k l)) (none k l)
+      go (no n) =
+          let l : k - length (first .gates) < length (second .gates) = omega (arith, gates-length) in
+          let e : length (first .gates) + (k - length (first .gates)) ≡ k = omega arith in
+          subst (λ (i : ℕ). ¬ (RetiredAt (joinedStage first second .gates) i)) e
+          (subst (λ (g : Gate). ¬ (Retired g)) (sym (gate-second (k - length (first .gates)) l)) (none′ (k - length (first .gates)) l))
 
   pair-at : (j : ℕ) → j < length (second .outputs) → outputPair (joinedStage first second) j ≡ pairInWhole first second (outputPair second j)
   unfolding joinedStage

@@ -1,15 +1,15 @@
--- What 12 finds, and how a list of checks goes on after one of them.
+-- What a check without words finds, that of 12 among them, and how a list of checks goes on after one.
 -- Assumes nothing.
 use Prim.Native.Nat.{ℕ}
-use mathlib.Core.Path.{_≡_, sym, ap, _∙_}
-use mathlib.Core.List.{List}
+use mathlib.Core.Path.{_≡_, refl, ap, _∙_}
+use mathlib.Core.List.{List, [], _∷_}
 use Rattle.netlist.specs.declared.Counts.{Counts}
 use Rattle.netlist.specs.declared.Found.{Found}
 use Rattle.netlist.specs.declared.Found.the-variants.{At, Nothing}
 use Rattle.verdict.specs.declared.Verdict.{Verdict}
 use Rattle.verdict.specs.declared.Finding.{Finding}
 use Rattle.verdict.specs.declared.Finding.the-variants.{Fault, Passed}
-use Rattle.verdict.specs.Checks.{verdict, atFault, sweep, finding, orLater, looped}
+use Rattle.verdict.specs.Checks.{verdict, Check, first, atFault, sweep, finding, orLater, looped}
 use Rattle.circuit.specs.Stage.{stageIn}
 use Rattle.loops.specs.Marks.{LoopFound}
 
@@ -22,15 +22,23 @@ pub faulty : (f later : Finding) (v : Verdict) → f ≡ Fault v → orLater f l
 unfolding orLater
 faulty f later v e = ap (λ (x : Finding). orLater x later) e
 
-module _ (c : Counts) (code after : List ℕ) (found : Found) (l : LoopFound c code after found) where
-  found-12 : finding (looped (stageIn c code)) ≡ atFault 12 1 0 found Passed
+-- a check that has no words looks once: its fault is the first place that fails
+module _ (c : Check) (once : c .words ≡ 0 ∷ []) (found : Found) (is : found ≡ first (c .fails 0) (c .places)) where
+  looks-once : finding c ≡ atFault (c .number) (c .file) 0 found Passed
   unfolding finding sweep
-  found-12 = ap (λ (f : Found). atFault 12 1 0 f Passed) (sym (l .least-loop))
+  looks-once = rw (once, is)
 
-  pub loop-at : (g : ℕ) → found ≡ At g → finding (looped (stageIn c code)) ≡ Fault (verdict 12 1 g 0)
+  pub found-at : (i : ℕ) → found ≡ At i → finding c ≡ Fault (verdict (c .number) (c .file) i 0)
   unfolding atFault
-  loop-at g e = found-12 ∙ ap (λ (f : Found). atFault 12 1 0 f Passed) e
+  found-at i e = looks-once ∙ ap (λ (f : Found). atFault (c .number) (c .file) 0 f Passed) e
+
+  pub found-nothing : found ≡ Nothing → finding c ≡ Passed
+  unfolding atFault
+  found-nothing e = looks-once ∙ ap (λ (f : Found). atFault (c .number) (c .file) 0 f Passed) e
+
+module _ (c : Counts) (code after : List ℕ) (found : Found) (l : LoopFound c code after found) where
+  pub loop-at : (g : ℕ) → found ≡ At g → finding (looped (stageIn c code)) ≡ Fault (verdict 12 1 g 0)
+  loop-at = found-at (looped (stageIn c code)) refl found (l .least-loop)
 
   pub no-loop : found ≡ Nothing → finding (looped (stageIn c code)) ≡ Passed
-  unfolding atFault
-  no-loop e = found-12 ∙ ap (λ (f : Found). atFault 12 1 0 f Passed) e
+  no-loop = found-nothing (looped (stageIn c code)) refl found (l .least-loop)

@@ -3,7 +3,7 @@
 // tests/src/bin/report_suite.rs.
 use libc::STDOUT_FILENO;
 
-const CASES: usize = 117;
+const CASES: usize = 121;
 
 // Case i is in the files iii.s, the stage, and iii.r, the reference.
 fn run(i: usize) {

@@ -2,8 +2,8 @@
 -- Assumes nothing.
 use Prim.Native.Nat.{ℕ, zero, suc, _+_, _-_, _*_, _≤_, _<_}
 use native.Mathlib.Omega.{arith}
-use native.Mathlib.Decide.{ℕ-discrete}
-use mathlib.Core.Path.{_≡_, refl, sym, ap, _∙_, subst}
+use native.Mathlib.Decide.{decLt, ℕ-discrete}
+use mathlib.Core.Path.{_≡_, refl, sym, ap, ap₂, _∙_, subst}
 use mathlib.Core.Bool.{true}
 use mathlib.Core.Logic.{_⊎_, inl, inr, _↔_}
 use mathlib.Core.List.{List, [], _∷_, _++_}
@@ -27,16 +27,18 @@ use Rattle.verdict.specs.Rows.{settledLevels, settled}
 use Rattle.verdict.specs.Loops.{In, NoLoop}
 use Rattle.verdict.specs.Words.{numbers, words, IsWord}
 use Rattle.verdict.specs.Nets.{noGate, netOf, rowOf, railsFor, answerBits}
-use Rattle.verdict.specs.Checks.{Check, unequal, looped, riseSweeps, fallSweeps, sweeps, firstFault, checks, rowChecks}
+use Rattle.verdict.specs.Retired.{RetiredAt, NoneRetired, LeastRetired}
+use Rattle.verdict.specs.Checks.{verdict, Check, unequal, looped, retired, riseSweeps, fallSweeps, sweeps, firstFault, checks, rowChecks}
 use Rattle.verdict.specs.Verdicts.{accepted, verdictOf, judgeReference, judgeStage, verdictWithin, RowAnswer, settleUnless, settleReading, settledRowWithin}
 use Rattle.verdict.specs.Demands as demands
-use Rattle.verdict.specs.Demands.{StageIs, ReferenceIs, Contents, Nowhere, NamedBy, Named, EachOf, Judged, Because, both-read, Comparable, Acceptable, Demand2, Kept, Shown, ShownBy, Demand3, WithHold, RowGiven, DemandRow, row-refused, row-settled}
+use Rattle.verdict.specs.Demands.{StageIs, ReferenceIs, Contents, Nowhere, NamedBy, Named, EachOf, Judged, Because, both-read, Comparable, Acceptable, Demand2, Kept, Shown, ShownBy, Demand3, WithHold, RefusesRetired, RowGiven, DemandRow, row-refused, row-settled, Fits, ServesRetired}
 use Rattle.verdict.proofs.Levels.{bits-length, bits-get}
 use Rattle.verdict.proofs.Reaching.{noLoop-loopFree}
 use Rattle.verdict.proofs.Settling.{settled-bits}
-use Rattle.verdict.proofs.Words.{index-in, in-index}
+use Rattle.verdict.proofs.Words.{index-in, in-index, first-least}
 use Rattle.verdict.proofs.Bridge.{stageIn, settled-row}
-use Rattle.verdict.proofs.Sweeps.{FirstFault, first-fault, judged, each-++, named-number, passed-nowhere, nowhere-passed, Showable, named-shown, shown-by, none-named, named-from}
+use Rattle.verdict.proofs.Sweeps.{FirstFault, first-fault, judged, each-++, passed-nowhere, nowhere-passed, Showable, named-shown, shown-by, none-named, named-one}
+use Rattle.verdict.proofs.Sweeps.{first-in, named-number, named-fails}
 use Rattle.verdict.proofs.Because.{rises-mean, falls-mean, checks-mean, row-checks-mean, holds, verdict-because}
 use Rattle.verdict.proofs.Refusals.{InTable, refused-number}
 use Rattle.verdict.proofs.OneWord.{CleanRise, CleanFall, CleanIn, hold-clean, rises-to, rows-are, clean-conforms, conforms-clean, clean-promise, word-rises, word-rises-alike, word-falls-alike, wrong-broken, incomplete-broken, unobservable-broken, fall-incomplete-broken, fall-unobservable-broken}
@@ -66,10 +68,26 @@ stage-one {bytes = bytes} a b =
     let e : a .places ≡ b .places = cc in
     sym (a .content) ∙ ap (stageOf bytes) e ∙ b .content
 
+nowhere-retired : (s : Stage) → Nowhere (retired s) → NoneRetired (s .gates)
+nowhere-retired s n g h p = n 0 (inl refl) (g, index-in (length (s .gates)) g h, p)
+
+-- 28 names the least gate of a retired kind
+least-retired : (s : Stage) (g : ℕ) → LeastRetired (s .gates) g → (v : Verdict) → NamedBy (retired s) v → v ≡ verdict 28 1 g 0
+least-retired s g l v n = n .is ∙ ap₂ (verdict 28 1) (least (decLt (v .at) g) (decLt g (v .at))) (none-but (first-in (n .word)))
+  where
+    none-but : {w : ℕ} → In w (0 ∷ []) → w ≡ 0
+    none-but (inl e) = e
+    none-but (inr h) = absurd h
+
+    least : Dec (v .at < g) → Dec (g < v .at) → v .at ≡ g
+    least (yes h) k = absurd (l .none-before (v .at) h (n .place .holds))
+    least (no h) (yes k) = absurd (first-least (RetiredAt (s .gates)) (length (s .gates)) (v .at) (n .place) g k (l .is))
+    least (no h) (no k) = omega arith
+
 -- the numbers of the refusals of the fall
-fall-numbers : (n : ℕ) → In n (20 ∷ 21 ∷ []) → 20 ≤ n
-fall-numbers n (inl e) = omega arith
-fall-numbers n (inr (inl e)) = omega arith
+fall-numbers : (n : ℕ) → In n (20 ∷ 21 ∷ []) → (20 ≤ n) × (n ≤ 21)
+fall-numbers n (inl e) = (omega arith, omega arith)
+fall-numbers n (inr (inl e)) = (omega arith, omega arith)
 fall-numbers n (inr (inr h)) = absurd h
 
 -- ---- a stage and a reference that were read
@@ -139,22 +157,40 @@ module _ (s : Stage) (r : Reference) where
 
   checks-from : (v : Verdict) → Named (checks s r) v → 10 ≤ v .number
   unfolding checks riseSweeps fallSweeps
-  checks-from v n = named-from 10 (checks s r) v (omega arith, (omega arith, (omega arith, (omega arith, (omega arith, (omega arith, (omega arith, (omega arith, tt)))))))) n
+  checks-from v n =
+      named-one (λ k. 10 ≤ k) (checks s r) v
+      (omega arith, (omega arith, (omega arith, (omega arith, (omega arith, (omega arith, (omega arith, (omega arith, (omega arith, tt))))))))) n
 
-  -- they find nothing exactly if the two can be compared and every word is clean
-  found-nothing : EachOf Nowhere (checks s r) → Comparable s r × Clean s r
+  -- they find nothing exactly if the two can be compared, no gate is of a retired kind and every word is clean
+  found-nothing : EachOf Nowhere (checks s r) → Comparable s r × NoneRetired (s .gates) × Clean s r
   unfolding checks
-  found-nothing (a, (b, (l, e))) = (
+  found-nothing (a, (b, (l, (t, e)))) = (
     record { inputs = nowhere-equal 10 (s .inputs) (r .inputs) a; outputs = nowhere-equal 11 (length (s .outputs)) (length (r .outputs)) b; loop-free = nowhere-loop s l },
+    nowhere-retired s t,
     sweeps-clean e,
   )
 
-  nothing-found : Comparable s r → Clean s r → EachOf Nowhere (checks s r)
+  nothing-found : Comparable s r → NoneRetired (s .gates) → Clean s r → EachOf Nowhere (checks s r)
   unfolding checks
-  nothing-found m c = (
+  nothing-found m t c = (
     λ w h f. f .2 (m .inputs),
-    (λ w h f. f .2 (m .outputs), (λ w h f. m .loop-free (f .0) (in-index (length (s .gates)) (f .0) (f .1)) (f .2), clean-sweeps c)),
+    (
+      λ w h f. f .2 (m .outputs),
+      (
+        λ w h f. m .loop-free (f .0) (in-index (length (s .gates)) (f .0) (f .1)) (f .2),
+        (λ w h f. t (f .0) (in-index (length (s .gates)) (f .0) (f .1)) (f .2), clean-sweeps c),
+      ),
+    ),
   )
+
+  -- where the two can be compared and some gate is of a retired kind, the least such gate is named
+  retired-named : Comparable s r → (g : ℕ) → LeastRetired (s .gates) g → (v : Verdict) → Named (checks s r) v → v ≡ verdict 28 1 g 0
+  unfolding checks
+  retired-named m g l v (inl n) = absurd (named-fails n (λ w h f. f .2 (m .inputs)))
+  retired-named m g l v (inr (a, inl n)) = absurd (named-fails n (λ w h f. f .2 (m .outputs)))
+  retired-named m g l v (inr (a, inr (b, inl n))) = absurd (named-fails n (λ w h f. m .loop-free (f .0) (in-index (length (s .gates)) (f .0) (f .1)) (f .2)))
+  retired-named m g l v (inr (a, inr (b, inr (x, inl n)))) = least-retired s g l v n
+  retired-named m g l v (inr (a, inr (b, inr (x, inr (t, n))))) = absurd (nowhere-retired s t g (l .gate) (l .is))
 
   -- a stage with hold everywhere whose rise passes is not refused for its fall
   module _ (l : NoLoop (s .inputs) (s .gates)) (hold : WithHold s) where
@@ -177,7 +213,8 @@ module _ (s : Stage) (r : Reference) where
   hold-not-named hold v (inl n) h = omega (arith, named-number n, fall-numbers (v .number) h)
   hold-not-named hold v (inr (a, inl n)) h = omega (arith, named-number n, fall-numbers (v .number) h)
   hold-not-named hold v (inr (a, inr (b, inl n))) h = omega (arith, named-number n, fall-numbers (v .number) h)
-  hold-not-named hold v (inr (a, inr (b, inr (l, n)))) h = hold-named (nowhere-loop s l) hold v n h
+  hold-not-named hold v (inr (a, inr (b, inr (l, inl n)))) h = omega (arith, named-number n, fall-numbers (v .number) h)
+  hold-not-named hold v (inr (a, inr (b, inr (l, inr (t, n))))) h = hold-named (nowhere-loop s l) hold v n h
 
   -- the check that is named shows what it says
   shown : (v : Verdict) → Named (checks s r) v → ShownBy (checks s r) v
@@ -185,7 +222,8 @@ module _ (s : Stage) (r : Reference) where
   shown v (inl n) = inl (named-shown _ v (record { shows = λ w i hw hi f. tt }) n)
   shown v (inr (a, inl n)) = inr (inl (named-shown _ v (record { shows = λ w i hw hi f. tt }) n))
   shown v (inr (a, inr (b, inl n))) = inr (inr (inl (named-shown _ v (record { shows = λ w i hw hi f. tt }) n)))
-  shown v (inr (a, inr (b, inr (l, n)))) = inr (inr (inr (shown-by (sweeps s r) v (sweeps-showable (nowhere-loop s l)) n)))
+  shown v (inr (a, inr (b, inr (l, inl n)))) = inr (inr (inr (inl (named-shown _ v (record { shows = λ w i hw hi f. tt }) n))))
+  shown v (inr (a, inr (b, inr (l, inr (t, n))))) = inr (inr (inr (inr (shown-by (sweeps s r) v (sweeps-showable (nowhere-loop s l)) n))))
 
 -- the least number of a check that speaks of runs
 runs-from : (n : ℕ) → In n (13 ∷ 14 ∷ 15 ∷ 20 ∷ 21 ∷ []) → 13 ≤ n
@@ -244,18 +282,18 @@ module _ (stageMost referenceMost : Limits) (stage reference : List ℕ) where
       forth : (c : Contents stageMost referenceMost stage reference) (v : Verdict) → v ≡ accepted → Judged (checks (c .circuit) (c .function)) v
           → Acceptable (c .circuit) (c .function)
       forth c v e (inl n) = absurd (omega (arith, checks-from (c .circuit) (c .function) v n, number-of e))
-      forth c v e (inr a) = λ w h.
+      forth c v e (inr a) =
           let s = c .circuit in
           let f = found-nothing s (c .function) (a .0) in
-          clean-conforms s w (noLoop-loopFree (s .inputs) (s .gates) (f .0 .loop-free)) (c .function) (f .1 w h)
+          record { cast = f .1; conforms = λ w h. clean-conforms s w (noLoop-loopFree (s .inputs) (s .gates) (f .0 .loop-free)) (c .function) (f .2 w h) }
 
       back : (c : Contents stageMost referenceMost stage reference) (v : Verdict) → Comparable (c .circuit) (c .function) → Acceptable (c .circuit) (c .function)
           → Judged (checks (c .circuit) (c .function)) v → v ≡ accepted
       back c v m a (inl n) =
           let s = c .circuit in
           let clean : Clean s (c .function) = λ w h.
-          conforms-clean s w (noLoop-loopFree (s .inputs) (s .gates) (m .loop-free)) (c .function) (a w h) in
-          absurd (none-named (checks s (c .function)) v (nothing-found s (c .function) m clean) n)
+          conforms-clean s w (noLoop-loopFree (s .inputs) (s .gates) (m .loop-free)) (c .function) (a .conforms w h) in
+          absurd (none-named (checks s (c .function)) v (nothing-found s (c .function) m (a .cast) clean) n)
       back c v m a (inr b) = b .1
 
   kept : (c : Contents stageMost referenceMost stage reference) (v : Verdict) → v .number ≡ 0 → Judged (checks (c .circuit) (c .function)) v
@@ -268,7 +306,7 @@ module _ (stageMost referenceMost : Limits) (stage reference : List ℕ) where
         a .1,
         record {
           contents = c;
-          promise = λ w h. clean-promise s w free (c .function) (f .1 w h);
+          promise = λ w h. clean-promise s w free (c .function) (f .2 w h);
           rest = λ w h. word-rises s w free (c .function);
           rises = λ w h. word-rises-alike s w free (c .function);
           falls = λ w h. word-falls-alike s w free (c .function);
@@ -311,6 +349,14 @@ module _ (stageMost referenceMost : Limits) (stage reference : List ℕ) where
           absurd (let n = refused-number file.Reference referenceMost reference number at q in omega arith)
       go v (both-read c j) e = judged-so c v e j
 
+  -- A comparable stage with a gate of a retired kind gets 28 at the least such gate, whatever it does in its words.
+  pub refuses-retired : RefusesRetired stageMost referenceMost stage reference given
+  refuses-retired c m g l = go given (verdict-judged c)
+    where
+      go : (v : Verdict) → Judged (checks (c .circuit) (c .function)) v → v ≡ verdict 28 1 g 0
+      go v (inl n) = retired-named (c .circuit) (c .function) m g l v n
+      go v (inr a) = absurd (found-nothing (c .circuit) (c .function) (a .0) .1 g (l .gate) (l .is))
+
 -- ---- the settled-row call
 
 -- the row that settling leaves
@@ -351,3 +397,35 @@ demand-row most stage row = go (readFile file.Stage most stage) refl
     go (readable places) p =
         let s = stageOf stage places in
         answer s (holds p) (firstFault (rowChecks s row)) (first-fault (rowChecks s row) (row-checks-mean s row))
+
+-- ---- the call does not ask which kinds are retired
+
+module _ (s : Stage) (row : List ℕ) where
+  row-numbers : (v : Verdict) → Named (rowChecks s row) v → v .number ≤ 17
+  unfolding rowChecks
+  row-numbers v n = named-one (λ k. k ≤ 17) (rowChecks s row) v (omega arith, (omega arith, (omega arith, tt))) n
+
+  fits-nowhere : Fits s row → EachOf Nowhere (rowChecks s row)
+  unfolding rowChecks
+  fits-nowhere f = (
+    λ w h x. f .loop-free (x .0) (in-index (length (s .gates)) (x .0) (x .1)) (x .2),
+    (λ w h x. x .2 (f .long), (λ w h x. f .legal (x .0) (in-index (s .inputs) (x .0) (x .1)) (x .2), tt)),
+  )
+
+-- A file whose stage has gates of retired kinds is served like any other.
+pub serves-retired : (most : Limits) (stage row : List ℕ) → ServesRetired most stage row (settledRowWithin most stage row .verdict) (settledRowWithin most stage row .row)
+serves-retired most stage row = go (demand-row most stage row)
+  where
+    go : {v : Verdict} {after′ : List ℕ} → DemandRow most stage row v after′ → ServesRetired most stage row v after′
+    go (demands.DemandRow.stage-refused {number = number} {at = at} e) = record {
+      served = λ s is f. absurd (let z : refused number at ≡ readable (is .places) = sym e ∙ is .reads in let y : _≡_ {A = ℕ} 0 1 = cc in omega arith);
+      never-28 = λ p. omega (arith, refused-number file.Stage most stage number at e .1);
+    }
+    go (row-refused {s = t} {v = v} at n) = record {
+      served = λ s is f. absurd (none-named (rowChecks t row) v (fits-nowhere t row (subst (λ (x : Stage). Fits x row) (stage-one is at) f)) n);
+      never-28 = λ p. omega (arith, row-numbers t row v n);
+    }
+    go (row-settled {s = t} {after′ = after′} at a g) = record {
+      served = λ s is f. (refl, subst (λ (x : Stage). RowGiven x row after′) (stage-one at is) g);
+      never-28 = λ p. omega (arith, p);
+    }

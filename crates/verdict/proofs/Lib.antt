@@ -12,6 +12,7 @@ pub mod Bridge
 pub mod Falls
 pub mod Refusals
 pub mod Illegal
+pub mod Retired
 pub mod Because
 pub mod OneWord
 pub mod Demands

@@ -218,7 +218,7 @@ module _ (cs : List Check) (m : EachOf Means cs) where
       go Passed r = refl
 
 -- the number of a named check is one of the list's
-pub named-from : (least : ℕ) (cs : List Check) (v : Verdict) → EachOf (λ c. least ≤ c .number) cs → Named cs v → least ≤ v .number
-named-from least [] v f n = absurd n
-named-from least (c ∷ cs) v f (inl n) = let h = f .0 in omega (arith, named-number n)
-named-from least (c ∷ cs) v f (inr n) = named-from least cs v (f .1) (n .1)
+pub named-one : (P : ℕ → Type 0) (cs : List Check) (v : Verdict) → EachOf (λ c. P (c .number)) cs → Named cs v → P (v .number)
+named-one P [] v f n = absurd n
+named-one P (c ∷ cs) v f (inl n) = subst P (sym (named-number n)) (f .0)
+named-one P (c ∷ cs) v f (inr n) = named-one P cs v (f .1) (n .1)

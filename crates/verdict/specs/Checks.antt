@@ -23,6 +23,7 @@ use Rattle.verdict.specs.Words.{numbers, words, bitsOf, railsIn}
 use Rattle.verdict.specs.Answers.{answer}
 use Rattle.verdict.specs.Nets.{outputPair, netOf, rowOf, railsFor, answerBits, restRow, missingRow, heldRow}
 use Rattle.verdict.specs.Falls.{fallenBut, fallenKeeping}
+use Rattle.verdict.specs.Retired.{RetiredAt, retiredAt}
 
 abbrev pub verdict : ℕ → ℕ → ℕ → ℕ → Verdict
 verdict number file at word = record { number = number; file = file; at = at; word = word }
@@ -138,6 +139,9 @@ abbrev pub looped : Stage → Check
 looped s =
     check 12 1 (0 ∷ []) (numbers 0 (length (s .gates))) (λ w. reachesItself (s .inputs) (s .gates)) (λ w. ReachesItself (s .inputs) (s .gates)) unsaid
 
+abbrev pub retired : Stage → Check
+retired s = check 28 1 (0 ∷ []) (numbers 0 (length (s .gates))) (λ w. retiredAt (s .gates)) (λ w. RetiredAt (s .gates)) unsaid
+
 -- the checks of a stage against a reference that sweep the words: those of its rise and those of its fall
 unfoldable pub riseSweeps : Stage → Reference → List Check
 riseSweeps s r =
@@ -160,12 +164,13 @@ fallSweeps s r =
 abbrev pub sweeps : Stage → Reference → List Check
 sweeps s r = riseSweeps s r ++ fallSweeps s r
 
--- all checks, in their order: those of the counts and of loops, and those that sweep the words
+-- all checks, in their order: those of the counts, of loops and of retired kinds, and those that sweep the words
 unfoldable pub checks : Stage → Reference → List Check
 checks s r =
     unequal 10 (s .inputs) (r .inputs) ∷
     unequal 11 (length (s .outputs)) (length (r .outputs)) ∷
     looped s ∷
+    retired s ∷
     sweeps s r
 
 -- 17: a rail of input i is above 1, or both are 1

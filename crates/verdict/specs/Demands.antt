@@ -21,7 +21,8 @@ use Rattle.verdict.specs.Loops.{In, NoLoop}
 use Rattle.verdict.specs.Words.{IsWord}
 use Rattle.verdict.specs.Nets.{noGate, netOf, rowOf, railsFor, answerBits, restRow, missingRow, heldRow}
 use Rattle.verdict.specs.Falls.{fallenBut, fallenKeeping}
-use Rattle.verdict.specs.Checks.{verdict, Check, checks, rowChecks}
+use Rattle.verdict.specs.Checks.{verdict, Check, checks, IllegalAt, rowChecks}
+use Rattle.verdict.specs.Retired.{NoneRetired, LeastRetired}
 use Rattle.verdict.specs.Verdicts.{accepted}
 
 -- ---- the two files
@@ -98,9 +99,11 @@ pub record Comparable (s : Stage) (r : Reference) : Type 0 where
   pub outputs : length (s .outputs) ≡ length (r .outputs)
   pub loop-free : NoLoop (s .inputs) (s .gates)
 
--- "for every input word", of M-101 every care word, "its settled outputs spell the reference's answer and it is input-complete and observable as NCL defines these"
-abbrev pub Acceptable : Stage → Reference → Type 0
-Acceptable s r = (w : ℕ) → IsWord s w → Conforms (netOf s) (railsFor s w) (answerBits r w)
+-- No gate is of a retired kind (M-108), and "for every input word", of M-101 every care word, "its settled outputs spell the reference's answer
+-- and it is input-complete and observable as NCL defines these".
+pub record Acceptable (s : Stage) (r : Reference) : Type 0 where
+  pub cast : NoneRetired (s .gates)
+  pub conforms : (w : ℕ) → IsWord s w → Conforms (netOf s) (railsFor s w) (answerBits r w)
 
 -- R is a row of some sort, and the only one
 abbrev pub TheOnly : (Row → Type 0) → Row → Type 0
@@ -164,6 +167,15 @@ pub record Demand3 (stageMost referenceMost : Limits) (stage reference : List �
   pub broken : In (v .number) (13 ∷ 14 ∷ 15 ∷ 20 ∷ 21 ∷ [])
       → (c : Contents stageMost referenceMost stage reference) × ShownBy (checks (c .circuit) (c .function)) v
 
+-- ---- retired kinds
+
+-- "The check refuses them": what is said of a verdict on two files where a comparable stage has a gate of a retired kind. It is 28 at the least
+-- such gate, whatever the stage does in its words.
+abbrev pub RefusesRetired : Limits → Limits → List ℕ → List ℕ → Verdict → Type 0
+RefusesRetired stageMost referenceMost stage reference v =
+    (c : Contents stageMost referenceMost stage reference) → Comparable (c .circuit) (c .function) → (g : ℕ) → LeastRetired (c .circuit .gates) g
+    → v ≡ verdict 28 1 g 0
+
 -- ---- the settled-row call
 
 -- "a settled row is what the gate rule gives": the input bytes keep their values, the gates' bytes are 1 for high and 0 for low, the row is
@@ -183,3 +195,15 @@ pub data DemandRow (most : Limits) (stage before : List ℕ) : Verdict → List 
   row-refused : {s : Stage} {v : Verdict} → StageIs most stage s → Named (rowChecks s before) v → DemandRow most stage before v before
   row-settled : {s : Stage} {after′ : List ℕ} → StageIs most stage s → EachOf Nowhere (rowChecks s before) → RowGiven s before after′
       → DemandRow most stage before accepted after′
+
+-- a row fits a stage, of whatever kinds its gates are: no gate reaches itself, the row has a byte for each net, and its rails are legal
+pub record Fits (s : Stage) (row : List ℕ) : Type 0 where
+  pub loop-free : NoLoop (s .inputs) (s .gates)
+  pub long : length row ≡ 2 * s .inputs + length (s .gates)
+  pub legal : (i : ℕ) → i < s .inputs → ¬ (IllegalAt row i)
+
+-- "Old files still read, and the settled-row call still serves them": the call does not ask which kinds are retired. Every row that fits the
+-- stage of a file is settled, and no file and row get 28.
+pub record ServesRetired (most : Limits) (stage before : List ℕ) (v : Verdict) (after′ : List ℕ) : Type 0 where
+  pub served : (s : Stage) → StageIs most stage s → Fits s before → (v ≡ accepted) × RowGiven s before after′
+  pub never-28 : ¬ (v .number ≡ 28)

@@ -5,6 +5,7 @@ pub mod Loops
 pub mod Words
 pub mod Answers
 pub mod Nets
+pub mod Retired
 pub mod Falls
 pub mod Checks
 pub mod Search

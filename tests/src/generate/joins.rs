@@ -24,11 +24,31 @@ pub struct GeneratedJoin {
 /// A part as circuits.
 type Part = (Stage, Reference);
 
+/// Other kinds that do the same stand for retired ones; whether there were such kinds for all.
+fn cast_all(stage: &mut Stage) -> bool {
+    let cast = |gate: &Gate| match is_retired(gate.kind) {
+        true => still_cast(gate),
+        false => Some(gate.clone()),
+    };
+    let gates: Option<Vec<Gate>> = stage.gates.iter().map(cast).collect();
+    gates.map(|gates| stage.gates = gates).is_some()
+}
+
+/// An accepted part without gates of a retired kind.
+fn accepted_part(random: &mut Random, size: Size) -> Part {
+    loop {
+        let (mut stage, reference) = accepted(random, size);
+        if cast_all(&mut stage) {
+            return (stage, reference);
+        }
+    }
+}
+
 /// An accepted first part with at most `most` outputs, some with a care list or relaxed gates.
 fn first_part(random: &mut Random, most: usize) -> Part {
     let (mut stage, reference) = loop {
         let size = size(random);
-        let circuits = accepted(random, size);
+        let circuits = accepted_part(random, size);
         let few = circuits.0.gates.len() <= PART_LIMITS.stage_gates;
         if few
             && circuits.1.gates.len() <= PART_LIMITS.reference_gates
@@ -106,7 +126,11 @@ fn second_part(random: &mut Random, inputs: usize, care: Vec<u64>) -> Part {
         }
     };
     stage.care = care;
+    let plain = stage.clone();
     rewrite(random, &mut stage);
+    if !cast_all(&mut stage) {
+        stage = plain;
+    }
     relax_some(random, &mut stage, &reference);
     (stage, reference)
 }
@@ -316,13 +340,14 @@ fn filled(random: &mut Random, part: Part, gates: usize, operations: usize) -> P
             operands: vec![operand],
         });
     }
+    assert!(cast_all(&mut stage), "a buffer has other kinds");
     (stage, reference)
 }
 
 /// Parts with as many gates as a part may have, one less, or one more.
 fn at_the_part_limits(random: &mut Random) -> GeneratedJoin {
     let first = loop {
-        let circuits = accepted(random, Size::Small);
+        let circuits = accepted_part(random, Size::Small);
         if circuits.0.inputs <= 2 && circuits.0.outputs.len() <= 3 {
             break circuits;
         }

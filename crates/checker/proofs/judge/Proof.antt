@@ -1,7 +1,7 @@
 -- `checker::judge` meets its contract. Assumes nothing.
 use mathlib.Core.Path.{sym, _∙_}
 use denote.Ref.{now}
-use Rattle.checker.proofs.Judging.{is-10, is-11, is-12, comparable, is-swept}
+use Rattle.checker.proofs.Judging.{is-10, is-11, is-12, is-28, comparable, is-swept}
 use borrow.Author.Needs.{needs}
 use Rattle.checker.proofs.judge.Statement.{statement}
 use Rattle.checker.proofs.judge.Tie as tie
@@ -16,22 +16,28 @@ returns-2 c =
 
 returns-3 : tie.Need-returns-3
 returns-3 c =
-    is-12 _ _ _ _ (c .before .before .before .before .before .before .before .before .before .before .if1 .left)
-    (c .before .before .before .before .before .before .before .if2 .left) _ _
-    (c .before .before .before .before .before .order-gates .ensures) _ (c .before .g .given .1)
-
-sweep-all-requires : tie.Need-sweep-all-requires
-sweep-all-requires c κs =
-    comparable _ _ _ _ (c .before .before .before .before .before .before .before .before .before .before .if1 .left)
-    (c .before .before .before .before .before .before .before .if2 .left) _ _
-    (c .before .before .before .before .before .order-gates .ensures) (c .before .enum-told .given .1)
-    (c .before .before .before .before .before .before .before .before .before .before .before .before .before .before .before .pre .1)
+    let z = c .before .before .before .before .before in
+    is-12 _ _ _ _ (z .before .before .before .before .before .if1 .left) (z .before .before .if2 .left) _ _ (z .order-gates .ensures) _ (c .before .g .given .1)
 
 returns-4 : tie.Need-returns-4
 returns-4 c =
-    is-swept _ _ _ _ (c .before .before .before .before .before .before .before .before .before .before .before .if1 .left)
-    (c .before .before .before .before .before .before .before .before .if2 .left) _ _
-    (c .before .before .before .before .before .before .order-gates .ensures) (c .before .before .enum-told .given .1) _ (c .sweep-all .ensures)
+    let z = c .before .before .before .before .before .before .before .before .before in
+    is-28 _ _ _ _ (z .before .before .before .before .before .if1 .left) (z .before .before .if2 .left) _ _ (z .order-gates .ensures)
+    (c .before .before .before .before .before .enum-told .given .1) _ (c .before .before .before .least-retired .ensures) _ (c .before .g2 .given .1)
+
+sweep-all-requires : tie.Need-sweep-all-requires
+sweep-all-requires c κs =
+    let z = c .before .before .before .before .before .before .before .before .before in
+    comparable _ _ _ _ (z .before .before .before .before .before .if1 .left) (z .before .before .if2 .left) _ _ (z .order-gates .ensures)
+    (c .before .before .before .before .before .enum-told .given .1)
+    (c .before .before .before .before .before .before .before .before .before .before .before .before .before .before .before .before .before .before .before .pre .1)
+
+returns-5 : tie.Need-returns-5
+returns-5 c =
+    let z = c .before .before .before .before .before .before .before .before .before .before in
+    is-swept _ _ _ _ (z .before .before .before .before .before .if1 .left) (z .before .before .if2 .left) _ _ (z .order-gates .ensures)
+    (c .before .before .before .before .before .before .enum-told .given .1) _ (c .before .before .before .before .least-retired .ensures) (c .before .before .enum-told2 .given .1) _
+    (c .sweep-all .ensures)
 
 pub judge-spec : {M : Type 1} → statement M
 judge-spec =
@@ -44,6 +50,11 @@ judge-spec =
     (λ c. search needs)
     returns-3
     (λ c. search needs)
+    (λ c κs. search needs)
+    (λ c. search needs)
+    (λ c. search needs)
+    returns-4
+    (λ c. search needs)
     sweep-all-requires
     (λ c. search needs)
-    returns-4)
+    returns-5)
