@@ -35,6 +35,19 @@ pub fn print_next(n: u64) {
     io::print_decimal(STDOUT_FILENO, n);
 }
 
+fn print_byte(byte: u8) {
+    print_next(byte as u64);
+}
+
+// Each byte as a number, with a space before it.
+pub fn print_bytes(bytes: &[u8]) {
+    let mut i: usize = 0;
+    while i < bytes.len() {
+        print_byte(bytes[i]);
+        i += 1;
+    }
+}
+
 // The four numbers, with single spaces between them.
 pub fn print_verdict(v: Verdict) {
     io::print_decimal(STDOUT_FILENO, v.number);

@@ -5,18 +5,6 @@ use libc::STDOUT_FILENO;
 
 const CASES: usize = 167;
 
-fn print_byte(byte: u8) {
-    console::print_next(byte as u64);
-}
-
-fn print_bytes(bytes: &[u8]) {
-    let mut i: usize = 0;
-    while i < bytes.len() {
-        print_byte(bytes[i]);
-        i += 1;
-    }
-}
-
 fn call(
     stage1: &[u8],
     reference1: &[u8],
@@ -30,9 +18,9 @@ fn call(
     console::print_next(answer.stage_count);
     console::print_next(answer.reference_count);
     io::write_all(STDOUT_FILENO, b":");
-    print_bytes(stage);
+    console::print_bytes(stage);
     io::write_all(STDOUT_FILENO, b":");
-    print_bytes(reference);
+    console::print_bytes(reference);
     io::write_all(STDOUT_FILENO, b"\n");
 }
 

@@ -4,23 +4,11 @@ use libc::STDOUT_FILENO;
 
 const CASES: usize = 155;
 
-fn print_byte(byte: u8) {
-    console::print_next(byte as u64);
-}
-
-fn print_bytes(row: &[u8]) {
-    let mut i: usize = 0;
-    while i < row.len() {
-        print_byte(row[i]);
-        i += 1;
-    }
-}
-
 fn call(stage: &[u8], row: &mut [u8]) {
     let v = fovaheju::settled_row(stage, row);
     console::print_verdict(v);
     io::write_all(STDOUT_FILENO, b":");
-    print_bytes(row);
+    console::print_bytes(row);
     io::write_all(STDOUT_FILENO, b"\n");
 }
 

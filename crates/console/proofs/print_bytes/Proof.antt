@@ -1,10 +1,10 @@
--- `join_suite::print_bytes` is safe and ends: i goes up to the length.
+-- `console::print_bytes` is safe and ends: i goes up to the length.
 use borrow.Author.Needs.{needs}
 use Prim.Native.Nat.{_-_, _≤_}
 use native.Mathlib.Omega.{arith}
 use lib.ListN.{length}
-use Rattle.join_suite.proofs.print_bytes.Statement.{statement}
-use Rattle.join_suite.proofs.print_bytes.Tie as tie
+use Rattle.console.proofs.print_bytes.Statement.{statement}
+use Rattle.console.proofs.print_bytes.Tie as tie
 
 abbrev Inv-loop : tie.InvT-loop
 Inv-loop bytes i₀ i = i ≤ length bytes
