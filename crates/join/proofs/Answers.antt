@@ -26,7 +26,7 @@ use Rattle.circuit.specs.Reference.{operatorsIn, signalIn, signalsIn, reference
 use Rattle.circuit.proofs.Tabulate.{length-tabulate, getD-tabulate}
 use Rattle.words.proofs.Spelling.{bits-prefix}
 use Rattle.joined.specs.Join.{wordOf, answerWord, isIn, caresFor}
-use Rattle.join.specs.Call.{uncaredCheck}
+use Rattle.join.specs.Steps.{uncaredCheck}
 
 -- ---- a word from its bits, the last first
 

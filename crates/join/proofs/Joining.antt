@@ -36,7 +36,8 @@ use Rattle.joined.proofs.Because.{join-because, join-kept, parts-fit}
 use Rattle.writing.specs.Put.{Put}
 use Rattle.writing.proofs.Joining.{put-holding}
 use Rattle.join.specs.declared.JoinAnswer.{JoinAnswer}
-use Rattle.join.specs.Call.{uncaredCheck, answerWith, joinParts, partOf, partLoaded, Leaves, JoinDemand}
+use Rattle.join.specs.Steps.{uncaredCheck, joinParts, partOf, partLoaded}
+use Rattle.join.specs.Call.{answerWith, Leaves, JoinDemand}
 use Rattle.join.proofs.Whole.{outputs-count, signals-count}
 
 -- what is said of the join beside what it leaves holds of the answer as it is defined

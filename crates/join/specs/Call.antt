@@ -1,28 +1,14 @@
 -- The join as a call: what it is at the limits of parts, and what it leaves in the two buffers that its caller lends.
-use Prim.Native.Nat.{ℕ, _≤_}
+use Prim.Native.Nat.{ℕ}
 use mathlib.Core.Path.{_≡_}
-use mathlib.Core.Bool.{not}
-use mathlib.Core.List.{List, [], _∷_}
+use mathlib.Core.List.{List}
 use lib.ListN.{length}
-use Rattle.netlist.specs.declared.Counts.{Counts}
 use Rattle.netlist.specs.Reading.{stageLimits, referenceLimits, partStageLimits, partReferenceLimits}
-use Rattle.netlist.specs.Content.{Stage, Reference}
 use Rattle.verdict.specs.declared.Verdict.{Verdict}
-use Rattle.verdict.specs.Words.{words}
-use Rattle.verdict.specs.Checks.{Check, check, unsaid, firstFault}
 use Rattle.joined.specs.Join as joined
 use Rattle.joined.specs.Demand.{JoinBecause, JoinKept}
 use Rattle.writing.specs.Written.{holding}
-use Rattle.circuit.specs.Stage.{stageIn, StageLoaded}
-use Rattle.circuit.specs.Reference.{referenceIn, ReferenceLoaded}
 use Rattle.join.specs.declared.JoinAnswer.{JoinAnswer}
-use Rattle.join.specs.declared.Sizes.{Sizes}
-
--- ---- the call
-
--- the part that two files hold
-abbrev pub partOf : List ℕ → List ℕ → joined.Part
-partOf stage reference = joined.partIn partStageLimits partReferenceLimits (joined.files stage reference)
 
 abbrev pub answerWith : Verdict → ℕ → ℕ → JoinAnswer
 answerWith v stage reference = record { verdict = v; «stage_count» = stage; «reference_count» = reference }
@@ -43,29 +29,3 @@ pub record JoinDemand (first second : joined.Files) (stage reference : List ℕ)
       (joined.joinWithin partStageLimits partReferenceLimits first second (length stage) (length reference))
   pub kept : JoinKept stageLimits referenceLimits (joined.partIn partStageLimits partReferenceLimits first) (joined.partIn partStageLimits partReferenceLimits second)
       (joined.joinWithin partStageLimits partReferenceLimits first second (length stage) (length reference))
-
--- ---- between its functions
-
--- 22, 23 and 24, or the whole, of two parts that are accepted
-abbrev pub joinParts : joined.Part → joined.Part → ℕ → ℕ → joined.JoinAnswer
-joinParts first second stageRoom referenceRoom = joined.joinUnless (firstFault (joined.joinChecks first second stageRoom referenceRoom)) first second
-
--- 23 by itself: the least care word of the first part whose answer the second does not care for
-abbrev pub uncaredCheck : Stage → Reference → Stage → Check
-uncaredCheck first function second =
-    check 23 0 (words first) (0 ∷ []) (λ w i. not (joined.caresFor second (joined.answerWord function w)))
-    (λ w i. ¬ (joined.CaresFor second (joined.answerWord function w))) unsaid
-
--- a part in its flat forms
-abbrev pub partLoaded : Counts → List ℕ → Counts → List ℕ → joined.Part
-partLoaded c code d reference = record { circuit = stageIn c code; function = referenceIn d reference }
-
--- two of them, whose references have the counts of their stages
-pub record PartsLoaded (sizes : Sizes) (stage1 reference1 stage2 reference2 : List ℕ) : Type 0 where
-  pub first : StageLoaded (sizes .stage1) stage1
-  pub first-function : ReferenceLoaded (sizes .reference1) reference1
-  pub second : StageLoaded (sizes .stage2) stage2
-  pub second-function : ReferenceLoaded (sizes .reference2) reference2
-  pub few-words : sizes .stage1 .care ≤ 0x10000
-  pub outputs : sizes .reference1 .outputs ≡ sizes .stage1 .outputs
-  pub inputs : sizes .reference2 .inputs ≡ sizes .stage2 .inputs

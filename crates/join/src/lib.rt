@@ -25,7 +25,8 @@ ghost use Rattle.writing.specs.Parts.{gateItem, pairItem, signalItem, bytesOf};
 ghost use Rattle.circuit.specs.Stage.{cellIn, slot, pinIn, gateIn, stageGates, stageOutputs, stageCare, stageIn, StageLoaded};
 ghost use Rattle.circuit.specs.Reference.{operatorIn, operatorsIn, signalsIn, referenceIn, ReferenceLoaded};
 ghost use Rattle.join.specs.Moved.{netMoved, gateMoved, pairMoved, StageMoves, signalMoved, operationMoved, ReferenceMoves};
-ghost use Rattle.join.specs.Call.{uncaredCheck, answerWith, joinParts, partOf, partLoaded, PartsLoaded, Leaves, JoinDemand};
+ghost use Rattle.join.specs.Steps.{uncaredCheck, joinParts, partOf, partLoaded, PartsLoaded};
+ghost use Rattle.join.specs.Call.{answerWith, Leaves, JoinDemand};
 
 // Where a part stands in the whole: how many of its inputs are outputs of the first part, and where its other nets, or signals, start.
 pub struct Move {

@@ -4,7 +4,8 @@ use Prim.Native.Nat.{ℕ}
 use mathlib.Core.Path.{_≡_, refl, sym, ap, _∙_}
 use denote.Ref.{now}
 use Rattle.verdict.specs.Checks.{verdict}
-use Rattle.join.specs.Call.{partLoaded, answerWith}
+use Rattle.join.specs.Steps.{partLoaded}
+use Rattle.join.specs.Call.{answerWith}
 use Rattle.join.proofs.Whole.{outputs-count}
 use Rattle.join.proofs.Joining.{leaves-refused, leaves-written, at-seam, at-word, at-stage-room, at-reference-room, at-none}
 use borrow.Author.Needs.{needs}
