@@ -29,7 +29,7 @@ struct fovaheju_verdict {
        28 a gate of a retired kind.
        docs/VERDICTS.md has the list. */
     uint64_t number;
-    /* In which file: 1 the stage, 2 the reference, 3 the row, 0 none. Of a join 1 and 2 are the first part's, 4 and 5 the
+    /* In which file: 1 the stage, 2 the reference, 3 the row or a buffer, 0 none. Of a join 1 and 2 are the first part's, 4 and 5 the
        second's; 3 is none in the second part, and for 24 a buffer. */
     uint64_t file;
     /* At which place: a byte of the file for 1 to 9, 18 and 19, the stage's count for 10 and 11, a gate for 12, 15, 21

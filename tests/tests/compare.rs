@@ -127,7 +127,7 @@ fn unobserved_gate(stage: &Stage, word: u64, gates: impl Fn(usize) -> bool) -> O
         .map(|gate| gate as u64)
 }
 
-/// The three checks in order over the given words, by the functions above.
+/// The checks in order over the given words, by the functions above.
 fn sweep(
     stage: &Stage,
     reference: &Reference,

@@ -14,7 +14,7 @@ ghost use Rattle.writing.specs.Written.{answerOf};
 
 // ---- the answer
 
-// The verdict of a call that writes, and how many bytes it wrote. Laid out as C does: the C functions of crate `fovaheju` answer one.
+// The verdict of a call that writes one file, and how many bytes it wrote. Laid out as C does, for C functions that answer one.
 #[repr(C)]
 pub struct Answer {
     pub verdict: Verdict,
