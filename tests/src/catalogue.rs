@@ -10,7 +10,8 @@ use crate::circuits::{
     ripple_adder_reference, stage_from_netlist, Products, ReferenceBuilder, Signal, StageBuilder,
 };
 use crate::files::{self, unhex, write_pair, FilePair};
-use crate::judge::{self, Gate, Reference, Stage, AND, NAND, NOR, OR, XOR};
+use crate::judge::{Gate, Reference, Stage, AND, NAND, NOR, OR, XOR};
+use crate::suite::printed;
 
 /// One stored pair.
 pub struct Example {
@@ -392,7 +393,7 @@ pub fn listing() -> String {
     let mut text =
         String::from("# All pairs\n\n| Folder | Verdict | What it is |\n|---|---|---|\n");
     for example in examples() {
-        let verdict = judge::check(&example.pair.stage, &example.pair.reference);
+        let verdict = printed(&example.pair);
         text += &format!(
             "| `{}` | {} | {} |\n",
             example.name,

@@ -6,9 +6,9 @@
 
 use crate::files::{hex, report_text, verdict_line, FilePair, MOST_BYTES_READ};
 use crate::generate::joins::{join_case, JoinCase};
-use crate::generate::{pair, row_case, RowCase};
+use crate::generate::{pair, row_case, Generated, RowCase};
 use crate::join::{self, Joined};
-use crate::judge::{self, Verdict};
+use crate::judge::{self, Verdict, WordOrder, LIMITS, PROGRAMS};
 use std::fmt;
 use std::fs;
 use std::io;
@@ -21,9 +21,6 @@ pub type Check = fn(&[u8], &[u8]) -> [u64; 4];
 
 /// The settled-row call: a stage file and a lent row.
 pub type SettledRow = fn(&[u8], &mut [u8]) -> [u64; 4];
-
-/// The join of two pairs of files into two lent buffers, for the stage and the reference.
-pub type Join = fn(&FilePair, &FilePair, &mut [u8], &mut [u8]) -> Joined;
 
 /// The numbers of a report as the library gives them: how many words have a line, their total,
 /// and 1,024 lines of which those past the words are 0. Of a refused pair all but the verdict is 0.
@@ -39,9 +36,22 @@ pub struct Counts {
 /// The report of a stage file and a reference file.
 pub type Report = fn(&[u8], &[u8]) -> Counts;
 
+/// The check, the report and the join in either order of words (document 02, M-106).
+pub type CheckInOrder = fn(WordOrder, &[u8], &[u8]) -> Verdict;
+pub type ReportInOrder = fn(WordOrder, &[u8], &[u8]) -> Counts;
+pub type JoinInOrder = fn(WordOrder, &FilePair, &FilePair, &mut [u8], &mut [u8]) -> Joined;
+
+/// Both orders, the default first.
+pub const ORDERS: [WordOrder; 2] = [WordOrder::Input0Highest, WordOrder::Input0Lowest];
+
 /// The judge's report in these numbers.
 pub fn judged_counts(stage: &[u8], reference: &[u8]) -> Counts {
-    let report = judge::report(stage, reference);
+    judged_counts_in_order(WordOrder::Input0Lowest, stage, reference)
+}
+
+/// The same in either order of words.
+pub fn judged_counts_in_order(order: WordOrder, stage: &[u8], reference: &[u8]) -> Counts {
+    let report = judge::report_in_order(order, stage, reference);
     let mut lines: Vec<u16> = report.lines.iter().map(|line| line.1 as u16).collect();
     lines.resize(1024, 0);
     let mut names: Vec<u16> = report.lines.iter().map(|line| line.0 as u16).collect();
@@ -268,17 +278,22 @@ pub fn compare_row(other: SettledRow, name: &str, case: &RowCase) -> Result<u64,
     }))
 }
 
-/// What a join answers on a case.
-fn answer_of(join: Join, case: &JoinCase) -> Answer {
+/// What a join in an order of words answers on a case.
+fn answer_of(join: JoinInOrder, order: WordOrder, case: &JoinCase) -> Answer {
     let (mut stage, mut reference) = (case.stage.clone(), case.reference.clone());
-    let joined = join(&case.first, &case.second, &mut stage, &mut reference);
+    let joined = join(order, &case.first, &case.second, &mut stage, &mut reference);
     (joined, stage, reference)
 }
 
 /// Compares the verdict, the lengths and every byte of both buffers of one case.
-pub fn compare_join(other: Join, name: &str, case: &JoinCase) -> Result<u64, Box<Difference>> {
-    let judged = answer_of(join::join, case);
-    let given = answer_of(other, case);
+pub fn compare_join(
+    other: JoinInOrder,
+    order: WordOrder,
+    name: &str,
+    case: &JoinCase,
+) -> Result<u64, Box<Difference>> {
+    let judged = answer_of(join::join_in_order, order, case);
+    let given = answer_of(other, order, case);
     if judged == given {
         return Ok(judged.0.verdict[0]);
     }
@@ -384,16 +399,82 @@ pub fn compare_rows(
     Ok(histogram)
 }
 
-/// Compares the join on the first `count` joins of a seed. The first difference is printed and
-/// given back.
-pub fn compare_joins(other: Join, seed: u64, count: u64) -> Result<Histogram, Box<Difference>> {
+/// Compares the join on the first `count` joins of a seed, in both orders of words. The first
+/// difference is printed and given back.
+pub fn compare_joins(
+    other: JoinInOrder,
+    seed: u64,
+    count: u64,
+) -> Result<Histogram, Box<Difference>> {
     let mut histogram = Histogram::default();
     for index in 0..count {
         let generated = join_case(seed, index);
-        let name = format!("join {index} of seed {seed} ({})", generated.family);
-        let number = compare_join(other, &name, &generated.case)
-            .inspect_err(|difference| println!("{difference}"))?;
-        histogram[number as usize] += 1;
+        for order in ORDERS {
+            let name = format!(
+                "join {index} of seed {seed} ({}), {order:?}",
+                generated.family
+            );
+            let number = compare_join(other, order, &name, &generated.case)
+                .inspect_err(|difference| println!("{difference}"))?;
+            histogram[number as usize] += 1;
+        }
+    }
+    Ok(histogram)
+}
+
+/// Compares the check on the first `count` pairs of a seed, in both orders of words. The first
+/// difference is printed and given back.
+pub fn compare_checks_in_both_orders(
+    other: CheckInOrder,
+    seed: u64,
+    count: u64,
+) -> Result<Histogram, Box<Difference>> {
+    let mut histogram = Histogram::default();
+    for index in 0..count {
+        let Generated { family, pair, .. } = pair(seed, index);
+        for order in ORDERS {
+            let judge = judge::check_in_order(order, LIMITS, &pair.stage, &pair.reference);
+            let given = other(order, &pair.stage, &pair.reference);
+            histogram[judge[0] as usize] += 1;
+            if judge != given {
+                let difference = Difference::Verdicts {
+                    name: format!("pair {index} of seed {seed} ({family}), {order:?}"),
+                    pair,
+                    judge,
+                    other: given,
+                };
+                println!("{difference}");
+                return Err(Box::new(difference));
+            }
+        }
+    }
+    Ok(histogram)
+}
+
+/// The same of the report.
+pub fn compare_reports_in_both_orders(
+    other: ReportInOrder,
+    seed: u64,
+    count: u64,
+) -> Result<Histogram, Box<Difference>> {
+    let mut histogram = Histogram::default();
+    for index in 0..count {
+        let Generated { family, pair, .. } = pair(seed, index);
+        for order in ORDERS {
+            let judge = judged_counts_in_order(order, &pair.stage, &pair.reference);
+            let given = other(order, &pair.stage, &pair.reference);
+            histogram[judge.verdict[0] as usize] += 1;
+            if judge != given {
+                let difference = Difference::Reports {
+                    name: format!("report {index} of seed {seed} ({family}), {order:?}"),
+                    pair,
+                    judge: Box::new(judge),
+                    other: Box::new(given),
+                };
+                println!("{difference}");
+                return Err(Box::new(difference));
+            }
+        }
     }
     Ok(histogram)
 }
@@ -462,11 +543,11 @@ pub fn compare_program(
 
 /// What `ncl_check` and `ncl_report` are to print.
 pub fn expected_verdict(stage: &[u8], reference: &[u8]) -> String {
-    verdict_line(judge::check(stage, reference))
+    verdict_line(judge::check_in_order(PROGRAMS, LIMITS, stage, reference))
 }
 
 pub fn expected_report(stage: &[u8], reference: &[u8]) -> String {
-    report_text(&judge::report(stage, reference))
+    report_text(&judge::report_in_order(PROGRAMS, stage, reference))
 }
 
 /// Seed and count for a test: a fixed seed, unless the environment names another.

@@ -13,8 +13,10 @@ use crate::files::{
 };
 use crate::generate::joins::{join_case, JoinCase};
 use crate::generate::Known;
-use crate::join::{join, PART_LIMITS};
-use crate::judge::{Boolean, Gate, Reference, Stage, Verdict, ACCEPTED, AND, NONE, NOT, ROW};
+use crate::join::{join_in_order, PART_LIMITS};
+use crate::judge::{
+    Boolean, Gate, Reference, Stage, Verdict, ACCEPTED, AND, NONE, NOT, PROGRAMS, ROW,
+};
 use crate::suite;
 use std::collections::BTreeSet;
 use std::path::PathBuf;
@@ -80,12 +82,8 @@ pub fn contents_of_ncl_join() -> Vec<(PathBuf, Vec<u8>)> {
 /// buffer after the call, each number after a space.
 pub fn line(index: usize, case: &Case) -> String {
     let (mut stage, mut reference) = (case.case.stage.clone(), case.case.reference.clone());
-    let joined = join(
-        &case.case.first,
-        &case.case.second,
-        &mut stage,
-        &mut reference,
-    );
+    let JoinCase { first, second, .. } = &case.case;
+    let joined = join_in_order(PROGRAMS, first, second, &mut stage, &mut reference);
     let spelt = |bytes: &[u8]| -> String { bytes.iter().map(|byte| format!(" {byte}")).collect() };
     format!(
         "{index:03} {} {} {}:{}:{}\n",

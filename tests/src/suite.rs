@@ -16,8 +16,8 @@ use crate::files::{
 };
 use crate::generate::{self, Known};
 use crate::judge::{
-    check, expression_holds, is_retired, pin_count, Boolean, Reference, Stage, Verdict, ACCEPTED,
-    AND, KINDS, NONE, NOR, NOT, OR, REFERENCE, STAGE, XOR,
+    check_in_order, expression_holds, is_retired, pin_count, Boolean, Reference, Stage, Verdict,
+    ACCEPTED, AND, KINDS, LIMITS, NONE, NOR, NOT, OR, PROGRAMS, REFERENCE, STAGE, XOR,
 };
 use crate::row_suite::{self, cut, gate, output};
 use std::collections::BTreeSet;
@@ -62,7 +62,7 @@ pub fn contents_of_ncl_check() -> Vec<(PathBuf, Vec<u8>)> {
         .into_iter()
         .find(|example| example.name == "full-adder")
         .expect("an example");
-    let verdict = check(&example.pair.stage, &example.pair.reference);
+    let verdict = printed(&example.pair);
     vec![
         ("data/stage.ncl".into(), example.pair.stage),
         ("data/reference.ncl".into(), example.pair.reference),
@@ -70,9 +70,14 @@ pub fn contents_of_ncl_check() -> Vec<(PathBuf, Vec<u8>)> {
     ]
 }
 
+/// The judge's verdict as the programs name words.
+pub fn printed(pair: &FilePair) -> Verdict {
+    check_in_order(PROGRAMS, LIMITS, &pair.stage, &pair.reference)
+}
+
 /// A case's line: its index in three digits and the judge's four numbers.
 pub fn line(index: usize, case: &Case) -> String {
-    let verdict = check(&case.pair.stage, &case.pair.reference);
+    let verdict = printed(&case.pair);
     format!("{index:03} {}", verdict_line(verdict))
 }
 

@@ -12,6 +12,7 @@ use fovaheju_tests::judge::{
     rails_of_word, read_reference, read_stage, set_expression_holds, settle, settled_row,
     Reference, Stage, ACCEPTED,
 };
+use fovaheju_tests::suite::printed;
 use std::path::Path;
 
 /// Of the comparison itself: two sides that are the same show no difference.
@@ -1039,10 +1040,7 @@ fn the_judge_as_a_program() {
     assert_eq!(run(&wire, true), "1 2 0 0\n");
     for index in 0..60 {
         let pair = pair(7, index).pair;
-        assert_eq!(
-            verdict_from_line(&run(&pair, true)),
-            Some(check(&pair.stage, &pair.reference))
-        );
+        assert_eq!(verdict_from_line(&run(&pair, true)), Some(printed(&pair)));
     }
     std::fs::remove_dir_all(&folder).unwrap();
 }

@@ -3,12 +3,13 @@
 
 use fovaheju_tests::catalogue::MARKED;
 use fovaheju_tests::compare::{
-    compare_reports, judged_counts, run_program, Counts, Difference, Report,
+    compare_reports, expected_report, judged_counts, run_program, Counts, Difference, Report,
 };
 use fovaheju_tests::files::{report_text, unhex};
 use fovaheju_tests::generate::pair;
 use fovaheju_tests::judge::{
-    cell, check, pin_count, read_stage, report, settled_row, Gate, Stage, ACCEPTED, KINDS,
+    cell, check, pin_count, read_stage, report, settled_row, Gate, Stage, WordOrder, ACCEPTED,
+    KINDS, PROGRAMS,
 };
 use fovaheju_tests::report_suite::{cases, contents, contents_of_ncl_report, line};
 use fovaheju_tests::suite::{crate_folder, is_stored};
@@ -173,7 +174,7 @@ fn the_judge_as_a_program() {
             .args(["--report".as_ref(), folder.as_os_str()])
             .output()
             .unwrap();
-        let expected = report_text(&report(&pair.stage, &pair.reference));
+        let expected = expected_report(&pair.stage, &pair.reference);
         assert_eq!(String::from_utf8(output.stdout).unwrap(), expected);
     }
     fs::remove_dir_all(&folder).unwrap();
@@ -201,10 +202,13 @@ fn the_program_reads_all_cases() {
 fn lines_of_the_cases() {
     for case in cases() {
         if let Some(known) = case.known {
-            assert_eq!(line(&case.pair), known, "{}", case.about);
+            let line = line(WordOrder::Input0Lowest, &case.pair);
+            assert_eq!(line, known, "{}", case.about);
         }
     }
-    let lines: Vec<String> = cases().iter().map(|case| line(&case.pair)).collect();
+    let cases = cases();
+    let lines = cases.iter().map(|case| line(PROGRAMS, &case.pair));
+    let lines: Vec<String> = lines.collect();
     let words = |line: &String| line.matches(':').count();
     for count in [2, 4, 8, 16, 64, 256, 1024] {
         assert!(

@@ -171,7 +171,7 @@ module _ (below : ℕ) where
   pub first-rising : (P : ℕ → Type 0) (floor : ℕ) (ws : List ℕ) (x : ℕ) → Rising below floor ws → FirstOf P ws x → (y : ℕ) → In y ws → y < x → ¬ (P y)
   first-rising P floor ws x h f y i l = f .none y (less-before floor ws (f .before) (f .later) x h (f .stands) y i l)
 
-numbers-rise : (j m : ℕ) → Rising (j + m) j (numbers j m)
+pub numbers-rise : (j m : ℕ) → Rising (j + m) j (numbers j m)
 unfolding numbers
 numbers-rise j zero = tt
 numbers-rise j (suc m) =

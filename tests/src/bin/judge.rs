@@ -1,7 +1,8 @@
 //! The judge as a program: reads `stage.ncl` and `reference.ncl` in the folder given
 //! (or the current one) and prints the four numbers, or with `--report` first the report.
 
-use fovaheju_tests::{files, judge};
+use fovaheju_tests::compare::{expected_report, expected_verdict};
+use fovaheju_tests::files;
 use std::path::PathBuf;
 
 fn main() -> std::io::Result<()> {
@@ -16,9 +17,9 @@ fn main() -> std::io::Result<()> {
     let stage = files::as_the_program_reads(&folder.join("stage.ncl"))?;
     let reference = files::as_the_program_reads(&folder.join("reference.ncl"))?;
     if report {
-        print!("{}", files::report_text(&judge::report(&stage, &reference)));
+        print!("{}", expected_report(&stage, &reference));
     } else {
-        print!("{}", files::verdict_line(judge::check(&stage, &reference)));
+        print!("{}", expected_verdict(&stage, &reference));
     }
     Ok(())
 }

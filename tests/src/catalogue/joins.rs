@@ -3,8 +3,8 @@
 use super::*;
 use crate::circuits::Signal;
 use crate::files::write_reference;
-use crate::join::{join, joined_reference, joined_stage};
-use crate::judge::{Verdict, ACCEPTED};
+use crate::join::{join_in_order, joined_reference, joined_stage};
+use crate::judge::{Verdict, ACCEPTED, PROGRAMS};
 
 /// Two stored pairs that are joined.
 pub struct Joint {
@@ -127,11 +127,12 @@ fn stored(name: &str, among: &[Example]) -> FilePair {
         .clone()
 }
 
-/// The judge's verdict on a join, with room for the whole, and the pair that it writes.
+/// The judge's verdict on a join, as the programs name words, with room for the whole, and the pair
+/// that it writes.
 pub fn joined(joint: &Joint, among: &[Example]) -> (Verdict, Option<FilePair>) {
     let [first, second] = [joint.first, joint.second].map(|name| stored(name, among));
     let (mut stage, mut reference) = (vec![0; 8192], vec![0; 8192]);
-    let joined = join(&first, &second, &mut stage, &mut reference);
+    let joined = join_in_order(PROGRAMS, &first, &second, &mut stage, &mut reference);
     stage.truncate(joined.stage_len);
     reference.truncate(joined.reference_len);
     let whole = FilePair { stage, reference };
