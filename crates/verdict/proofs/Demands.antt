@@ -26,7 +26,7 @@ use Rattle.verdict.specs.declared.Finding.{Finding}
 use Rattle.verdict.specs.declared.Finding.the-variants.{Fault, Passed}
 use Rattle.verdict.specs.Rows.{settledLevels, settled}
 use Rattle.verdict.specs.Loops.{In, NoLoop}
-use Rattle.verdict.specs.Words.{numbers, IsWord, spelled, names}
+use Rattle.verdict.specs.Words.{numbers, IsWord, spelled}
 use Rattle.verdict.specs.Nets.{noGate, netOf, rowOf, railsFor, answerBits}
 use Rattle.verdict.specs.Retired.{RetiredAt, NoneRetired, LeastRetired}
 use Rattle.verdict.specs.Checks.{verdict, Check, unequal, looped, retired, riseSweeps, fallSweeps, sweeps, firstFault, checks, rowChecks}
@@ -37,7 +37,7 @@ use Rattle.verdict.proofs.Levels.{bits-length, bits-get}
 use Rattle.verdict.proofs.Reaching.{noLoop-loopFree}
 use Rattle.verdict.proofs.Settling.{settled-bits}
 use Rattle.verdict.proofs.Words.{index-in, in-index, first-least}
-use Rattle.verdict.proofs.Names.{name-spells, word-name}
+use Rattle.verdict.proofs.Names.{Under, in-words, by-names}
 use Rattle.verdict.proofs.Bridge.{stageIn, settled-row}
 use Rattle.verdict.proofs.Sweeps.{FirstFault, first-fault, judged, each-++, passed-nowhere, nowhere-passed, Showable, named-shown, shown-by, none-named, named-one}
 use Rattle.verdict.proofs.Sweeps.{first-in, named-number, named-fails}
@@ -103,18 +103,7 @@ abbrev Clean : Stage → Reference → Type 0
 Clean s r = (w : ℕ) → IsWord s w → CleanIn s r w
 
 module _ (order : WordOrder) (s : Stage) (r : Reference) where
-  -- what stands in a word under its name
-  abbrev Under : (ℕ → Type 0) → Type 0
-  Under P = (name : ℕ) → In name (names order s) → P (spelled order (s .inputs) name)
-
-  -- what holds under every name holds in every word, and the other way round
-  in-words : (P : ℕ → Type 0) → Rising (2 ^ s .inputs) 0 (s .care) → Under P → (w : ℕ) → IsWord s w → P w
-  in-words P care u w h = let n = word-name order s care w h in subst P (n .1) (u (spelled order (s .inputs) w) (n .0))
-
-  by-names : (P : ℕ → Type 0) → ((w : ℕ) → IsWord s w → P w) → Under P
-  by-names P h name i = h (spelled order (s .inputs) name) (name-spells order s name i)
-
-  rises-clean : EachOf Nowhere (riseSweeps order s r) → Under (CleanRise s r)
+  rises-clean : EachOf Nowhere (riseSweeps order s r) → Under order s (CleanRise s r)
   unfolding riseSweeps
   rises-clean (x, (y, (z, e))) w h = record {
     right = λ j hj f. x w h (j, index-in (length (s .outputs)) j hj, f);
@@ -122,18 +111,18 @@ module _ (order : WordOrder) (s : Stage) (r : Reference) where
     observable = λ g hg f. z w h (g, index-in (length (s .gates)) g hg, f);
   }
 
-  falls-clean : EachOf Nowhere (fallSweeps order s r) → Under (CleanFall s)
+  falls-clean : EachOf Nowhere (fallSweeps order s r) → Under order s (CleanFall s)
   unfolding fallSweeps
   falls-clean (p, (q, e)) w h = record {
     complete = λ i hi f. p w h (i, index-in (s .inputs) i hi, f);
     observable = λ g hg f. q w h (g, index-in (length (s .gates)) g hg, f);
   }
 
-  sweeps-clean : EachOf Nowhere (sweeps order s r) → Under (CleanIn s r)
+  sweeps-clean : EachOf Nowhere (sweeps order s r) → Under order s (CleanIn s r)
   unfolding riseSweeps
   sweeps-clean (x, (y, (z, e))) w h = (rises-clean (x, (y, (z, tt))) w h, falls-clean e w h)
 
-  clean-rises : Under (CleanRise s r) → EachOf Nowhere (riseSweeps order s r)
+  clean-rises : Under order s (CleanRise s r) → EachOf Nowhere (riseSweeps order s r)
   unfolding riseSweeps
   clean-rises c = (
     λ w h f. c w h .right (f .0) (in-index (length (s .outputs)) (f .0) (f .1)) (f .2),
@@ -143,14 +132,14 @@ module _ (order : WordOrder) (s : Stage) (r : Reference) where
     ),
   )
 
-  clean-falls : Under (CleanFall s) → EachOf Nowhere (fallSweeps order s r)
+  clean-falls : Under order s (CleanFall s) → EachOf Nowhere (fallSweeps order s r)
   unfolding fallSweeps
   clean-falls c = (
     λ w h f. c w h .complete (f .0) (in-index (s .inputs) (f .0) (f .1)) (f .2),
     (λ w h f. c w h .observable (f .0) (in-index (length (s .gates)) (f .0) (f .1)) (f .2), tt),
   )
 
-  clean-sweeps : Under (CleanIn s r) → EachOf Nowhere (sweeps order s r)
+  clean-sweeps : Under order s (CleanIn s r) → EachOf Nowhere (sweeps order s r)
   clean-sweeps c = each-++ Nowhere (riseSweeps order s r) (fallSweeps order s r) (clean-rises (λ w h. c w h .0)) (clean-falls (λ w h. c w h .1))
 
   sweeps-showable : NoLoop (s .inputs) (s .gates) → EachOf Showable (sweeps order s r)
@@ -189,7 +178,7 @@ module _ (order : WordOrder) (s : Stage) (r : Reference) where
 
   found-nothing : Rising (2 ^ s .inputs) 0 (s .care) → EachOf Nowhere (checks order s r) → Clean s r
   unfolding checks
-  found-nothing care (a, (b, (l, (t, e)))) = in-words (CleanIn s r) care (sweeps-clean e)
+  found-nothing care (a, (b, (l, (t, e)))) = in-words order s (CleanIn s r) care (sweeps-clean e)
 
   nothing-found : Comparable s r → NoneRetired (s .gates) → Clean s r → EachOf Nowhere (checks order s r)
   unfolding checks
@@ -199,7 +188,7 @@ module _ (order : WordOrder) (s : Stage) (r : Reference) where
       λ w h f. f .2 (m .outputs),
       (
         λ w h f. m .loop-free (f .0) (in-index (length (s .gates)) (f .0) (f .1)) (f .2),
-        (λ w h f. t (f .0) (in-index (length (s .gates)) (f .0) (f .1)) (f .2), clean-sweeps (by-names (CleanIn s r) c)),
+        (λ w h f. t (f .0) (in-index (length (s .gates)) (f .0) (f .1)) (f .2), clean-sweeps (by-names order s (CleanIn s r) c)),
       ),
     ),
   )

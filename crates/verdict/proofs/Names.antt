@@ -182,6 +182,17 @@ module _ (order : WordOrder) (s : Stage) where
         e,
       )
 
+  -- what stands in a word under its name
+  abbrev pub Under : (ℕ → Type 0) → Type 0
+  Under P = (name : ℕ) → In name (names order s) → P (spelled order (s .inputs) name)
+
+  -- what holds under every name holds in every word, and the other way round
+  pub in-words : (P : ℕ → Type 0) → Rising (2 ^ s .inputs) 0 (s .care) → Under P → (w : ℕ) → IsWord s w → P w
+  in-words P care u w h = let n = word-name care w h in subst P (n .1) (u (spelled order (s .inputs) w) (n .0))
+
+  pub by-names : (P : ℕ → Type 0) → ((w : ℕ) → IsWord s w → P w) → Under P
+  by-names P h name i = h (spelled order (s .inputs) name) (name-spells name i)
+
 -- in the files' order the names are the words
 pub names-lowest : (s : Stage) → Rising (2 ^ s .inputs) 0 (s .care) → names FirstLowest s ≡ words s
 unfolding names spelled
