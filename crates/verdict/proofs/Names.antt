@@ -34,7 +34,7 @@ unfolding bitsOf wordOf
 wordOf-bitsOf zero w h = omega arith
 wordOf-bitsOf (suc n) w h = let rest : wordOf (bitsOf n (w / 2)) ≡ w / 2 = wordOf-bitsOf n (w / 2) (omega arith) in omega arith
 
-wordOf-below : (n : ℕ) (bits : List ℕ) → length bits ≡ n → ((i : ℕ) → getD bits i 0 ≤ 1) → wordOf bits < 2 ^ n
+pub wordOf-below : (n : ℕ) (bits : List ℕ) → length bits ≡ n → ((i : ℕ) → getD bits i 0 ≤ 1) → wordOf bits < 2 ^ n
 unfolding wordOf
 wordOf-below zero [] e h = omega arith
 wordOf-below zero (b ∷ bits) e h = absurd (omega arith)
