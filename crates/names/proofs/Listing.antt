@@ -6,8 +6,8 @@ use native.Mathlib.Numerals.{add-one}
 use mathlib.Core.Path.{_≡_, refl, sym, ap, ap₂, subst, _∙_}
 use mathlib.Core.Bool.{Bool, true, false, cond}
 use mathlib.Core.List.{List, [], _∷_, _++_, append-assoc, append-nil}
-use lib.ListN.{length, drop, set, length-append, length-drop}
-use lib.Seq.{drop-cons, set-append-seam}
+use lib.ListN.{length, getD, take, drop, set, length-append, length-drop}
+use lib.Seq.{drop-cons, set-append-seam, take-append-seam}
 use Rattle.netlist.specs.Content.{Stage}
 use Rattle.verdict.specs.declared.WordOrder.{WordOrder}
 use Rattle.verdict.specs.Words.{numbers, words, spelled, isIn, select, names}
@@ -53,8 +53,8 @@ module _ (all : List ℕ) (test : ℕ → Bool) (most : ℕ) (before : List ℕ)
       found-count = length-append (to .found) (k ∷ []) ∙ omega (arith, to .found-count);
       list-is =
           ap (λ (l : List ℕ). set l count k) (to .list-is ∙ ap (λ (l : List ℕ). to .found ++ l) (drop-cons before count 0 (omega (arith, to .few))))
-          ∙ ap (λ (i : ℕ). set (to .found ++ (lib.ListN.getD before count 0 ∷ drop (suc count) before)) i k) (sym (to .found-count))
-          ∙ set-append-seam (to .found) (lib.ListN.getD before count 0) (drop (suc count) before) k
+          ∙ ap (λ (i : ℕ). set (to .found ++ (getD before count 0 ∷ drop (suc count) before)) i k) (sym (to .found-count))
+          ∙ set-append-seam (to .found) (getD before count 0) (drop (suc count) before) k
           ∙ sym (append-assoc (to .found) (k ∷ []) (drop (suc count) before))
           ∙ ap (λ (i : ℕ). (to .found ++ (k ∷ [])) ++ drop i before) (sym (add-one count));
       all-are =
@@ -88,3 +88,15 @@ spellsWord order s name = isIn (spelled order (s .inputs) name) (words s)
 pub names-are : (order : WordOrder) (s : Stage) → names order s ≡ select (spellsWord order s) (numbers 0 (2 ^ s .inputs))
 unfolding names
 names-are order s = refl
+
+-- the start of a slice in which they are listed
+pub listed-start : {numbers before : List ℕ} {count : ℕ} {after : List ℕ} → Listed numbers before count after → take count after ≡ numbers
+listed-start {numbers} {before} {count} {after} l =
+    ap (take count) (l .list-is) ∙ ap (λ (k : ℕ). take k (numbers ++ drop count before)) (l .count-is) ∙ take-append-seam numbers (drop count before)
+
+-- they have their place in it
+pub listed-in : {numbers before : List ℕ} {count : ℕ} {after : List ℕ} → Listed numbers before count after → count ≤ length after
+listed-in {numbers} {before} {count} {after} l = omega (arith, l .count-is, ap length (l .list-is) ∙ length-append numbers (drop count before))
+
+pub listed-count : {numbers before : List ℕ} {count : ℕ} {after : List ℕ} → Listed numbers before count after → count ≡ length (take count after)
+listed-count l = l .count-is ∙ sym (ap length (listed-start l))
