@@ -71,13 +71,37 @@ fn sweep_rises(
     requires { ⌜ BothLoaded counts (now code) sizes (now reference) × (now list ≡ names order (stageIn counts (now code))) ⌝ }
     ensures { λ r. ⌜ r ≡ checks.firstFault (checks.riseSweeps order (stageIn counts (now (code .entry))) (referenceIn sizes (now (reference .entry)))) ⌝ }
 {
-    if let Finding::Fault(v) = sweep_words(Sweep::Wrong, order, list, code, counts, reference, sizes) {
+    if let Finding::Fault(v) = sweep_words(
+        Sweep::Wrong,
+        order,
+        list,
+        code,
+        counts,
+        reference,
+        sizes,
+    ) {
         return Finding::Fault(v);
     }
-    if let Finding::Fault(v) = sweep_words(Sweep::Missing, order, list, code, counts, reference, sizes) {
+    if let Finding::Fault(v) = sweep_words(
+        Sweep::Missing,
+        order,
+        list,
+        code,
+        counts,
+        reference,
+        sizes,
+    ) {
         return Finding::Fault(v);
     }
-    sweep_words(Sweep::Unobserved, order, list, code, counts, reference, sizes)
+    sweep_words(
+        Sweep::Unobserved,
+        order,
+        list,
+        code,
+        counts,
+        reference,
+        sizes,
+    )
 }
 
 // The fall: 20, then 21.
@@ -92,10 +116,26 @@ fn sweep_falls(
     requires { ⌜ BothLoaded counts (now code) sizes (now reference) × (now list ≡ names order (stageIn counts (now code))) ⌝ }
     ensures { λ r. ⌜ r ≡ checks.firstFault (checks.fallSweeps order (stageIn counts (now (code .entry))) (referenceIn sizes (now (reference .entry)))) ⌝ }
 {
-    if let Finding::Fault(v) = sweep_words(Sweep::Remaining, order, list, code, counts, reference, sizes) {
+    if let Finding::Fault(v) = sweep_words(
+        Sweep::Remaining,
+        order,
+        list,
+        code,
+        counts,
+        reference,
+        sizes,
+    ) {
         return Finding::Fault(v);
     }
-    sweep_words(Sweep::StillHigh, order, list, code, counts, reference, sizes)
+    sweep_words(
+        Sweep::StillHigh,
+        order,
+        list,
+        code,
+        counts,
+        reference,
+        sizes,
+    )
 }
 
 // Whether every gate has hold.

@@ -178,7 +178,7 @@ module _ (order : WordOrder) (s : Stage) where
       let h : w < 2 ^ s .inputs = word-below s care w i in
       let e : spelled order (s .inputs) (spelled order (s .inputs) w) ≡ w = spelled-twice order (s .inputs) w h in (
         in-select cared (numbers 0 (2 ^ s .inputs)) (spelled order (s .inputs) w) (index-in (2 ^ s .inputs) _ (spelled-below order (s .inputs) w h))
-        (in-isIn (spelled order (s .inputs) (spelled order (s .inputs) w)) (words s) (subst (λ (x : ℕ). In x (words s)) (sym e) i)),
+            (in-isIn (spelled order (s .inputs) (spelled order (s .inputs) w)) (words s) (subst (λ (x : ℕ). In x (words s)) (sym e) i)),
         e,
       )
 
