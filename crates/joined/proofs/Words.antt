@@ -15,7 +15,7 @@ use Rattle.runs.proofs.Net.{wordRails-0, wordRails-1}
 use Rattle.netlist.specs.Content.{Stage}
 use Rattle.verdict.specs.Rows.{high}
 use Rattle.verdict.specs.Loops.{In}
-use Rattle.verdict.specs.Words.{caredFor, bitsOf, railsOf}
+use Rattle.verdict.specs.Words.{words, railsOf}
 use Rattle.verdict.specs.Nets.{rowOf}
 use Rattle.verdict.proofs.Words.{rails-word}
 use Rattle.verdict.proofs.Names.{isIn-in, in-isIn}
@@ -47,7 +47,7 @@ rails-data bits h j l = go (eqb (getD bits j 0) 1) refl
 
 module _ (s : Stage) (w : ℕ) where
   pub caresFor-cares : caresFor s w ≡ true → CaresFor s w
-  caresFor-cares e = isIn-in w (caredFor (s .inputs) (s .care)) e
+  caresFor-cares e = isIn-in w (words s) e
 
   pub cares-caresFor : CaresFor s w → caresFor s w ≡ true
-  cares-caresFor i = in-isIn w (caredFor (s .inputs) (s .care)) i
+  cares-caresFor i = in-isIn w (words s) i

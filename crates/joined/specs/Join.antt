@@ -14,8 +14,7 @@ use Rattle.verdict.specs.declared.Verdict.{Verdict}
 use Rattle.verdict.specs.declared.WordOrder.{WordOrder}
 use Rattle.verdict.specs.declared.Finding.{Finding}
 use Rattle.verdict.specs.declared.Finding.the-variants.{Fault, Passed}
-use Rattle.verdict.specs.Loops.{In}
-use Rattle.verdict.specs.Words.{caredFor, bitsOf, wordOf, isIn}
+use Rattle.verdict.specs.Words.{words, IsWord, bitsOf, wordOf, isIn}
 use Rattle.verdict.specs.Answers.{answer}
 use Rattle.verdict.specs.Checks.{verdict, Check, check, unsaid, unequal, sweeping, orLater, firstFault}
 use Rattle.verdict.specs.Verdicts.{accepted, verdictWithin}
@@ -76,10 +75,10 @@ answerWord r w = wordOf (answer r (bitsOf (r .inputs) w))
 
 -- a stage cares for a word, which is in the files' order as its care list is
 abbrev pub CaresFor : Stage → ℕ → Type 0
-CaresFor s w = In w (caredFor (s .inputs) (s .care))
+CaresFor = IsWord
 
 abbrev pub caresFor : Stage → ℕ → Bool
-caresFor s w = isIn w (caredFor (s .inputs) (s .care))
+caresFor s w = isIn w (words s)
 
 -- the bytes that are written: "inputs, the first part's care list, gates (first part first), the second's outputs, end"
 abbrev pub stageBytes : Part → Part → List ℕ

@@ -34,31 +34,31 @@ use Rattle.sweeps.specs.Sweeps.{numberOf, swept}
 
 -- ---- name by name
 
-module _ (number : ℕ) (find : ℕ → Found) (names : List ℕ) (k : ℕ) where
+module _ (number file : ℕ) (find : ℕ → Found) (names : List ℕ) (k : ℕ) where
   -- nothing is found under the names before name k
   abbrev pub SweptTo : Type 0
-  SweptTo = sweep number 1 find names ≡ sweep number 1 find (drop k names)
+  SweptTo = sweep number file find names ≡ sweep number file find (drop k names)
 
   -- what is found under name k, and after it
   module _ (h : k < length names) (s : SweptTo) where
-    now-at : (f : Found) → find (getD names k 0) ≡ f → sweep number 1 find names ≡ atFault number 1 (getD names k 0) f (sweep number 1 find (drop (k + 1) names))
+    now-at : (f : Found) → find (getD names k 0) ≡ f → sweep number file find names ≡ atFault number file (getD names k 0) f (sweep number file find (drop (k + 1) names))
     unfolding sweep
-    now-at f e = s ∙ ap (sweep number 1 find) (drop-cons names k 0 h) ∙ rw (e, add-one)
+    now-at f e = s ∙ ap (sweep number file find) (drop-cons names k 0 h) ∙ rw (e, add-one)
 
-    pub swept-on : find (getD names k 0) ≡ Nothing → sweep number 1 find names ≡ sweep number 1 find (drop (k + 1) names)
+    pub swept-on : find (getD names k 0) ≡ Nothing → sweep number file find names ≡ sweep number file find (drop (k + 1) names)
     unfolding atFault
     swept-on e = now-at Nothing e
 
-    pub swept-here : (i : ℕ) → find (getD names k 0) ≡ At i → Fault (verdict number 1 i (getD names k 0)) ≡ sweep number 1 find names
+    pub swept-here : (i : ℕ) → find (getD names k 0) ≡ At i → Fault (verdict number file i (getD names k 0)) ≡ sweep number file find names
     unfolding atFault
     swept-here i e = sym (now-at (At i) e)
 
-  pub swept-none : length names ≤ k → SweptTo → Passed ≡ sweep number 1 find names
+  pub swept-none : length names ≤ k → SweptTo → Passed ≡ sweep number file find names
   unfolding sweep
-  swept-none h s = sym (s ∙ ap (sweep number 1 find) (drop-of-length-le names {i = k} h))
+  swept-none h s = sym (s ∙ ap (sweep number file find) (drop-of-length-le names {i = k} h))
 
-pub swept-start : (number : ℕ) (find : ℕ → Found) (names : List ℕ) → SweptTo number find names 0
-swept-start number find names = refl
+pub swept-start : (number file : ℕ) (find : ℕ → Found) (names : List ℕ) → SweptTo number file find names 0
+swept-start number file find names = refl
 
 -- what a check finds under a name
 abbrev pub findsUnder : Sweep → WordOrder → Stage → Reference → ℕ → Found

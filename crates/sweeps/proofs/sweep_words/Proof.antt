@@ -19,7 +19,7 @@ use Rattle.sweeps.proofs.number_of.Reads as number-of-reads
 use Rattle.words.proofs.find.Reads as find-reads
 
 abbrev Inv-loop : tie.InvT-loop
-Inv-loop which order list code counts reference sizes number k₀ k = SweptTo number (findsUnder which order (stageIn counts code) (referenceIn sizes reference)) list k
+Inv-loop which order list code counts reference sizes number k₀ k = SweptTo number 1 (findsUnder which order (stageIn counts code) (referenceIn sizes reference)) list k
 
 abbrev μ-loop : tie.MeasureT-loop
 μ-loop which order list code counts reference sizes number k₀ k = length list - k
@@ -28,7 +28,7 @@ number-of-requires : tie.Need-number-of-requires Inv-loop μ-loop
 number-of-requires c κs = search needs
 
 loop-holds : tie.Need-loop-holds Inv-loop μ-loop
-loop-holds c = swept-start _ _ _
+loop-holds c = swept-start _ _ _ _
 
 mul-name : tie.Need-mul-name Inv-loop μ-loop
 mul-name c = search needs
@@ -59,7 +59,7 @@ returns c =
     let under : find (getD (now (z .args .list)) (loop .loop .k) 0) ≡ c .before .before .before .find .result =
     ap (finds (z .args .which) s r) (sym (word .word-of .ensures)) ∙ sym (c .before .before .before .find .ensures) in
     swept-words (z .args .which) (z .args .order) s r (now (z .args .list)) (z .pre .1) _ _ (loop .before .number-of .ensures)
-    (swept-here _ find _ (loop .loop .k) (omega arith) (loop .loop .inv) _ (under ∙ c .before .i .given .1))
+    (swept-here _ _ find _ (loop .loop .k) (omega arith) (loop .loop .inv) _ (under ∙ c .before .i .given .1))
 
 enum-told : tie.Need-enum-told Inv-loop μ-loop
 enum-told c = search needs
@@ -80,7 +80,7 @@ loop-again c =
     let find = findsUnder (z .args .which) (z .args .order) s r in
     let under : find (getD (now (z .args .list)) (loop .loop .k) 0) ≡ c .before .before .find .result =
     ap (finds (z .args .which) s r) (sym (word .word-of .ensures)) ∙ sym (c .before .before .find .ensures) in
-    swept-on _ find _ (loop .loop .k) (omega arith) (loop .loop .inv) (under ∙ c .enum-told .given .1)
+    swept-on _ _ find _ (loop .loop .k) (omega arith) (loop .loop .inv) (under ∙ c .enum-told .given .1)
 
 returns-2 : tie.Need-returns-2 Inv-loop μ-loop
 returns-2 c =
@@ -89,7 +89,7 @@ returns-2 c =
     let s = stageIn (z .args .counts) (now (z .args .code)) in
     let r = referenceIn (z .args .sizes) (now (z .args .reference)) in
     swept-words (z .args .which) (z .args .order) s r (now (z .args .list)) (z .pre .1) _ _ (loop .before .number-of .ensures)
-    (swept-none _ (findsUnder (z .args .which) (z .args .order) s r) _ (loop .loop .k) (omega arith) (loop .loop .inv))
+    (swept-none _ _ (findsUnder (z .args .which) (z .args .order) s r) _ (loop .loop .k) (omega arith) (loop .loop .inv))
 
 pub sweep-words-spec : {M : Type 1} → statement M
 sweep-words-spec =
