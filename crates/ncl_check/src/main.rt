@@ -6,6 +6,10 @@ fn main() {
     let stage_len = console::load(b"stage.ncl", &mut stage);
     let mut reference = [0u8; 8192];
     let reference_len = console::load(b"reference.ncl", &mut reference);
-    console::print_verdict(fovaheju::check(&stage[..stage_len], &reference[..reference_len]));
+    console::print_verdict(fovaheju::check(
+        console::word_order(),
+        &stage[..stage_len],
+        &reference[..reference_len],
+    ));
     io::write_all(STDOUT_FILENO, b"\n");
 }

@@ -33,6 +33,7 @@ fn main() {
     let mut stage = [0u8; 8192];
     let mut reference = [0u8; 8192];
     let answer = fovaheju::join(
+        console::word_order(),
         &stage1[..a],
         &reference1[..b],
         &stage2[..c],

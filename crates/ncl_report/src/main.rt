@@ -7,7 +7,11 @@ fn main() {
     let stage_len = console::load(b"stage.ncl", &mut stage);
     let mut reference = [0u8; 8192];
     let reference_len = console::load(b"reference.ncl", &mut reference);
-    let report = fovaheju::report(&stage[..stage_len], &reference[..reference_len]);
+    let report = fovaheju::report(
+        console::word_order(),
+        &stage[..stage_len],
+        &reference[..reference_len],
+    );
     console::print_report(report, b" ", b"\n");
     io::write_all(STDOUT_FILENO, b"\n");
 }

@@ -54,6 +54,10 @@ unfoldable pub spelled : WordOrder → ℕ → ℕ → ℕ
 spelled FirstHighest n name = wordOf (reverse (bitsOf n name))
 spelled FirstLowest n name = name
 
+-- the order that a caller in C asks for by a number: 0 has input 0 as the highest bit, and every other number has it as the lowest
+unfoldable pub orderOf : ℕ → WordOrder
+orderOf mark = cond (eqb mark 0) FirstHighest FirstLowest
+
 unfoldable pub isIn : ℕ → List ℕ → Bool
 isIn x [] = false
 isIn x (y ∷ ys) = eqb x y || isIn x ys
