@@ -203,8 +203,8 @@ impl Stage {
     }
 }
 
-/// The order in which the programs name words, and in which verdicts and reports are stored.
-pub const PROGRAMS: WordOrder = WordOrder::Input0Lowest;
+/// Both orders, the default first.
+pub const ORDERS: [WordOrder; 2] = [WordOrder::Input0Highest, WordOrder::Input0Lowest];
 
 /// Number and place (a byte offset) of a refusal 1 to 9, 18 or 19.
 pub type Refusal = (u64, usize);

@@ -15,7 +15,7 @@ use fovaheju_tests::join::{
 use fovaheju_tests::join_suite::{cases, contents, contents_of_ncl_join, line};
 use fovaheju_tests::judge::{
     answer, check_within, is_relaxed, read_reference_within, read_stage_within, Limits, Reference,
-    Stage, ACCEPTED,
+    Stage, ACCEPTED, ORDERS,
 };
 use fovaheju_tests::suite::{crate_folder, is_stored};
 use std::collections::{BTreeMap, BTreeSet};
@@ -271,7 +271,10 @@ fn stored_cases() {
             case.known
         );
         seen.insert((verdict[0], verdict[1]));
-        assert!(line(index, case).starts_with(&format!("{index:03} {} ", verdict[0])));
+        for order in ORDERS {
+            let line = line(order, index, case);
+            assert!(line.starts_with(&format!("{index:03} {} ", verdict[0])));
+        }
         for bytes in [
             &first.stage,
             &first.reference,

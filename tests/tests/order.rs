@@ -2,8 +2,8 @@
 
 use fovaheju_tests::circuits::{ReferenceBuilder, Signal, StageBuilder};
 use fovaheju_tests::compare::{
-    compare_checks_in_both_orders, compare_joins, compare_reports_in_both_orders,
-    judged_counts_in_order, seed_and_count, CheckInOrder, Counts, JoinInOrder, ReportInOrder,
+    compare_joins, compare_reports, first_difference_in, judged_counts, seed_and_count,
+    CheckInOrder, Counts, JoinInOrder, ReportInOrder,
 };
 use fovaheju_tests::explore::witness;
 use fovaheju_tests::files::{unhex, write_pair, write_stage, FilePair};
@@ -12,7 +12,7 @@ use fovaheju_tests::generate::pair;
 use fovaheju_tests::join::{join, join_in_order, word_of_answer};
 use fovaheju_tests::judge::{
     answer, check, check_in_order, read_reference, read_stage, report, report_in_order, Stage,
-    Verdict, WordOrder, ACCEPTED, LIMITS,
+    Verdict, WordOrder, ACCEPTED, LIMITS, ORDERS,
 };
 use fovaheju_tests::report_suite::line;
 use std::collections::BTreeMap;
@@ -364,15 +364,6 @@ fn generated_joins() {
     assert!(strays >= 20 && parts >= 20, "{strays} {parts}");
 }
 
-/// Of the comparisons: the judge agrees with itself in both orders.
-#[test]
-fn the_judge_agrees_with_itself() {
-    let check: CheckInOrder = |order, s, r| check_in_order(order, LIMITS, s, r);
-    let histogram = compare_checks_in_both_orders(check, 7, 400).unwrap();
-    assert_eq!(histogram.iter().sum::<u64>(), 800);
-    compare_reports_in_both_orders(judged_counts_in_order, 7, 400).unwrap();
-}
-
 /// The number of inputs of a stage file, where it has one.
 fn inputs_of(stage: &[u8]) -> usize {
     stage.get(1).map_or(1, |&count| usize::from(count))
@@ -443,36 +434,36 @@ fn wrong_orders_are_told() {
         }),
     ];
     for (about, check) in wrong {
-        let compared = compare_checks_in_both_orders(check, 7, 3_000);
+        let compared = first_difference_in(&ORDERS, check, 7, 3_000);
         assert!(compared.is_err(), "{about}");
     }
     let wrong: [(&str, ReportInOrder); 4] = [
         ("knows no default", |_, s, r| {
-            judged_counts_in_order(WordOrder::Input0Lowest, s, r)
+            judged_counts(WordOrder::Input0Lowest, s, r)
         }),
         ("turns names and leaves the order", |order, s, r| {
-            let mut counts = judged_counts_in_order(WordOrder::Input0Lowest, s, r);
+            let mut counts = judged_counts(WordOrder::Input0Lowest, s, r);
             counts.verdict = check_in_order(order, LIMITS, s, r);
             let names = counts.names.iter_mut().take(counts.words as usize);
             names.for_each(|name| *name = order.named(inputs_of(s), u64::from(*name)) as u16);
             counts
         }),
         ("turns the order and leaves names", |order, s, r| {
-            let names = judged_counts_in_order(WordOrder::Input0Lowest, s, r).names;
+            let names = judged_counts(WordOrder::Input0Lowest, s, r).names;
             Counts {
                 names,
-                ..judged_counts_in_order(order, s, r)
+                ..judged_counts(order, s, r)
             }
         }),
         ("turns the verdict of a refused pair only", |order, s, r| {
             Counts {
                 verdict: check_in_order(order, LIMITS, s, r),
-                ..judged_counts_in_order(WordOrder::Input0Lowest, s, r)
+                ..judged_counts(WordOrder::Input0Lowest, s, r)
             }
         }),
     ];
     for (about, report) in wrong {
-        let compared = compare_reports_in_both_orders(report, 7, 1_000);
+        let compared = compare_reports(report, 7, 1_000);
         assert!(compared.is_err(), "{about}");
     }
     let wrong: [(&str, JoinInOrder); 3] = [
