@@ -167,6 +167,13 @@ earlyOr = 1 ∷ 2 ∷ twoPins 2 0 2 (twoPins 1 1 3 (pair 4 5 (0 ∷ [])))
 orReference : List ℕ
 orReference = 1 ∷ 2 ∷ 0x11 ∷ 3 ∷ 0 ∷ 0 ∷ 1 ∷ 0 ∷ 0x12 ∷ 2 ∷ 0 ∷ 0 ∷ []
 
+-- two wires, and TH22(1, 2) that feeds nothing; their reference
+unobserved : List ℕ
+unobserved = 1 ∷ 2 ∷ twoPins 2 1 2 (pair 0 1 (pair 2 3 (0 ∷ [])))
+
+twoWires : List ℕ
+twoWires = 1 ∷ 2 ∷ 0x12 ∷ 0 ∷ 0 ∷ 0x12 ∷ 1 ∷ 0 ∷ 0 ∷ []
+
 -- words of two inputs are written with input 0 first
 pub ordered : List Case
 ordered =
@@ -190,6 +197,8 @@ ordered =
     case (1 ∷ 2 ∷ twoPins 2 0 2 (twoPins 1 1 3 (twoPins 2 0 2 (pair 4 5 (0 ∷ []))))) orReference (verdict 14 1 0 1) ∷
     -- two wires, and TH22(1, 3) that feeds nothing and rises in word 11 only
     case (1 ∷ 2 ∷ twoPins 2 1 3 (pair 0 1 (pair 2 3 (0 ∷ [])))) (1 ∷ 2 ∷ 0x12 ∷ 0 ∷ 0 ∷ 0x12 ∷ 1 ∷ 0 ∷ 0 ∷ []) (verdict 15 1 0 3) ∷
+    -- the same with TH22(1, 2), which rises in word 10 only
+    case unobserved twoWires (verdict 15 1 0 2) ∷
     -- the same with TH22(0, 1), which rises in no word
     case (1 ∷ 2 ∷ twoPins 2 0 1 (pair 0 1 (pair 2 3 (0 ∷ [])))) (1 ∷ 2 ∷ 0x12 ∷ 0 ∷ 0 ∷ 0x12 ∷ 1 ∷ 0 ∷ 0 ∷ []) (verdict 0 0 0 0) ∷
     []
@@ -282,6 +291,17 @@ care =
 
 -- ---- the order of the files, by the mark
 
+-- AND of input 0 and NOT of input 1 with a relaxed TH22, which falls with the first of its pins, and its reference
+fallsEarly : List ℕ
+fallsEarly = 1 ∷ 2 ∷ twoPins 0x82 1 2 (2 ∷ 0x1A ∷ 0 ∷ 0 ∷ 3 ∷ 0 ∷ 1 ∷ 0 ∷ 2 ∷ 0 ∷ pair 5 4 (0 ∷ []))
+
+andNotReference : List ℕ
+andNotReference = 1 ∷ 2 ∷ 0x11 ∷ 1 ∷ 1 ∷ 0 ∷ FFFF ++ (0x11 ∷ 2 ∷ 0 ∷ 0 ∷ 2 ∷ 0 ∷ 0x12 ∷ 3 ∷ 0 ∷ 0 ∷ [])
+
+-- two wires, the rail 1 of the first through a buffer with hold, whose fall the relaxed gate behind it does not wait for
+staysHigh : List ℕ
+staysHigh = 1 ∷ 2 ∷ twoPins 1 1 1 (twoPins 0x82 4 1 (pair 0 5 (pair 2 3 (0 ∷ []))))
+
 pub inFilesOrder : List Case
 inFilesOrder =
     case (1 ∷ 2 ∷ pair 0 1 (0 ∷ [])) andReference (verdict 13 1 0 1) ∷
@@ -290,8 +310,12 @@ inFilesOrder =
     case (1 ∷ 2 ∷ cared 1 (cared 3 earlyGates)) andReference (verdict 14 1 0 1) ∷
     case (1 ∷ 2 ∷ cared 2 earlyGates) andReference (verdict 14 1 1 2) ∷
     case (1 ∷ 2 ∷ cared 1 (cared 2 earlyGates)) andReference (verdict 14 1 0 1) ∷
-    -- what is no word is not turned: the counts under 10 and 11, and the place of a care word
+    case unobserved twoWires (verdict 15 1 0 1) ∷
+    case fallsEarly andNotReference (verdict 20 1 0 1) ∷
+    case staysHigh twoWires (verdict 21 1 0 1) ∷
+    -- what is no word is the same in either order: the counts under 10 and 11, and the place of a care word
     case wire (firstInput 2 3) (verdict 10 0 1 2) ∷
+    case wire (firstInput 1 2) (verdict 11 0 1 2) ∷
     case (1 ∷ 1 ∷ cared 2 []) wireReference (verdict 18 1 3 0) ∷
     []
 
@@ -319,6 +343,9 @@ relaxed =
     case (andOf 0x82 0x1A) andReference (verdict 20 1 0 3) ∷
     case (andOf 2 0x9A) andReference (verdict 20 1 0 0) ∷
     case (andOf 0x82 0x9A) andReference (verdict 20 1 0 0) ∷
+    -- 20 and 21 in word 10, which is not the same from the other end
+    case fallsEarly andNotReference (verdict 20 1 0 2) ∷
+    case staysHigh twoWires (verdict 21 1 0 2) ∷
     -- a buffer with hold whose output gate does not wait for its fall, and one that does
     case (1 ∷ 1 ∷ buffers 1 (twoPins 0x82 2 0 (twoPins 0x82 3 1 (pair 4 5 (0 ∷ []))))) wireReference (verdict 21 1 0 0) ∷
     case (1 ∷ 1 ∷ buffers 1 (twoPins 2 2 0 (twoPins 2 3 1 (pair 4 5 (0 ∷ []))))) wireReference (verdict 0 0 0 0) ∷
@@ -420,7 +447,7 @@ Computed =
     × (map (λ (x : RowCase). settledRow (x .stage) (x .row)) rowExamples ≡ map (λ (x : RowCase). x .expected) rowExamples)
 
 computed : Computed
-unfolding twelve examples ordered refused care inFilesOrder earlyGates earlyOr orReference relaxed retired rowExamples wire wireReference wholeStage andReference swapped notReference earlyAnd wires wireSignals
+unfolding twelve examples ordered refused care inFilesOrder earlyGates earlyOr orReference unobserved twoWires fallsEarly andNotReference staysHigh relaxed retired rowExamples wire wireReference wholeStage andReference swapped notReference earlyAnd wires wireSignals
     outputs firstInput inverters c.cells c.cellAt c.pinCount c.setExpression c.retiredCells c.among c.isRetired c.kindOf b.operand b.operands
     k.whenFound k.ownCommands k.commandTable k.formIn k.pinsNeeded k.needed k.stray k.misfit k.misfitFrom k.takeGate k.takeCare k.takeSort k.takeCommand k.nextAt
     r.nameable r.nameless r.usedOperands r.namelessAt r.namelessFrom r.floorAfter r.noted r.finish r.onNext r.readFrom r.readFile t.stageOf t.referenceOf o.withNull o.isSet o.rounds o.settledLevels o.levelsHolding o.everyPair

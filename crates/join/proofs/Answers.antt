@@ -22,8 +22,8 @@ use Rattle.verdict.specs.Checks.{first, sweep, finding}
 use Rattle.circuit.specs.Reference.{operatorsIn, signalIn, signalsIn, referenceIn, ReferenceLoaded}
 use Rattle.circuit.proofs.Tabulate.{length-tabulate, getD-tabulate}
 use Rattle.words.proofs.Spelling.{bits-prefix}
-use Rattle.joined.specs.Join.{answerWord}
-use Rattle.join.specs.Steps.{uncaredCheck, uncaredUnder}
+use Rattle.joined.specs.Join.{answerWord, uncaredCheck}
+use Rattle.join.specs.Steps.{uncaredUnder}
 
 -- ---- a word from its bits, the last first
 

@@ -33,11 +33,12 @@ use Rattle.load.proofs.Reading.{was-refused, stage-held, reference-held}
 use Rattle.joined.specs.Join as joined
 use Rattle.joined.specs.Join.{Part, Files, partIn, stageRead, referenceRead, refusalOf, ofSecond, threeAdded}
 use Rattle.joined.specs.Join.{stageBytes, referenceBytes, joinChecks, joinUnless, joinFault, joinWithin, joinRefused, joinWritten}
-use Rattle.joined.proofs.Because.{join-because, join-kept, parts-fit}
+use Rattle.joined.proofs.Because.{join-because, join-kept, join-either, parts-fit}
 use Rattle.writing.specs.Put.{Put}
 use Rattle.writing.proofs.Joining.{put-holding}
 use Rattle.join.specs.declared.JoinAnswer.{JoinAnswer}
-use Rattle.join.specs.Steps.{uncaredCheck, joinParts, partOf, partLoaded}
+use Rattle.joined.specs.Join.{uncaredCheck}
+use Rattle.join.specs.Steps.{joinParts, partOf, partLoaded}
 use Rattle.join.specs.Call.{answerWith, Leaves, JoinDemand}
 use Rattle.join.proofs.Whole.{outputs-count, signals-count}
 
@@ -49,6 +50,7 @@ join-demand order f g stage reference r stageAfter referenceAfter h = record {
   answer = h;
   because = join-because order partStageLimits partReferenceLimits f g (length stage) (length reference);
   kept = join-kept order partStageLimits partReferenceLimits f g (length stage) (length reference) stageLimits referenceLimits (parts-fit .0) (parts-fit .1);
+  either-order = λ other e. join-either order other partStageLimits partReferenceLimits f g (length stage) (length reference) (sym (h .verdict) ∙ e);
 }
 
 -- ---- what is left in the buffers

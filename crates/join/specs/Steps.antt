@@ -10,7 +10,7 @@ use Rattle.netlist.specs.declared.Found.{Found}
 use Rattle.verdict.specs.declared.WordOrder.{WordOrder}
 use Rattle.verdict.specs.Words.{spelled}
 use Rattle.verdict.specs.Checks as checks
-use Rattle.verdict.specs.Checks.{Check, sweeping, unsaid, firstFault}
+use Rattle.verdict.specs.Checks.{firstFault}
 use Rattle.joined.specs.Join as joined
 use Rattle.circuit.specs.Stage.{stageIn, StageLoaded}
 use Rattle.circuit.specs.Reference.{referenceIn, ReferenceLoaded}
@@ -24,13 +24,7 @@ partOf stage reference = joined.partIn partStageLimits partReferenceLimits (join
 abbrev pub joinParts : WordOrder → joined.Part → joined.Part → ℕ → ℕ → joined.JoinAnswer
 joinParts order first second stageRoom referenceRoom = joined.joinUnless (firstFault (joined.joinChecks order first second stageRoom referenceRoom)) first second
 
--- 23 by itself: the least care word of the first part, by its name, whose answer the second does not care for
-abbrev pub uncaredCheck : WordOrder → Stage → Reference → Stage → Check
-uncaredCheck order first function second =
-    sweeping order first 23 0 (0 ∷ []) (λ w i. not (joined.caresFor second (joined.answerWord function w)))
-    (λ w i. ¬ (joined.CaresFor second (joined.answerWord function w))) unsaid
-
--- what it finds under a name, where the first part has so many inputs
+-- what 23 finds under a name, by the number of the first part's inputs
 abbrev pub uncaredUnder : WordOrder → ℕ → Reference → Stage → ℕ → Found
 uncaredUnder order inputs function second name = checks.first (λ i. not (joined.caresFor second (joined.answerWord function (spelled order inputs name)))) (0 ∷ [])
 

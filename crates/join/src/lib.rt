@@ -21,13 +21,13 @@ ghost use Rattle.verdict.specs.Words.{wordOf};
 ghost use Rattle.verdict.specs.Checks.{sweep, finding};
 ghost use Rattle.verdict.specs.Verdicts.{accepted, verdictWithin};
 ghost use Rattle.joined.specs.Whole.{joinedStage, joinedReference};
-ghost use Rattle.joined.specs.Join.{files, stageRead, referenceRead, answerWord};
+ghost use Rattle.joined.specs.Join.{files, stageRead, referenceRead, answerWord, uncaredCheck};
 ghost use Rattle.writing.specs.Put.{Put};
 ghost use Rattle.writing.specs.Parts.{gateItem, pairItem, signalItem, bytesOf};
 ghost use Rattle.circuit.specs.Stage.{cellIn, slot, pinIn, gateIn, stageGates, stageOutputs, stageCare, stageIn, StageLoaded};
 ghost use Rattle.circuit.specs.Reference.{operatorIn, operatorsIn, signalsIn, referenceIn, ReferenceLoaded};
 ghost use Rattle.join.specs.Moved.{netMoved, gateMoved, pairMoved, StageMoves, signalMoved, operationMoved, ReferenceMoves};
-ghost use Rattle.join.specs.Steps.{uncaredCheck, uncaredUnder, joinParts, partOf, partLoaded, PartsLoaded};
+ghost use Rattle.join.specs.Steps.{uncaredUnder, joinParts, partOf, partLoaded, PartsLoaded};
 ghost use Rattle.join.specs.Call.{answerWith, Leaves, JoinDemand};
 
 // Where a part stands in the whole: how many of its inputs are outputs of the first part, and where its other nets, or signals, start.

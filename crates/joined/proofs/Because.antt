@@ -23,7 +23,7 @@ use Rattle.verdict.specs.Demands.{Named, Nowhere, EachOf}
 use Rattle.verdict.proofs.Sweeps.{Means, FirstFault, first-fault, none-named, named-one}
 use Rattle.verdict.proofs.Names.{in-words, by-names}
 use Rattle.verdict.proofs.Because.{unequal-means}
-use Rattle.verdict.proofs.Demands.{demand-3, nowhere-equal}
+use Rattle.verdict.proofs.Demands.{demand-3, accepts-either, nowhere-equal}
 use Rattle.joined.specs.Join.{Files, Part, partIn, refusalOf, ofSecond, answerWord, CaresFor, caresFor, stageBytes, referenceBytes, joinChecks}
 use Rattle.joined.specs.Join.{JoinAnswer, joinWritten, joinUnless, joinFault, joinWithin}
 use Rattle.joined.specs.Demand.{RoomForTwo, Joinable, JoinKept, JoinBecause, first-refused, second-refused, join-refused, joined}
@@ -196,6 +196,33 @@ module _ (order : WordOrder) (stageMost referenceMost : Limits) (first second : 
       go (join-refused {v = v} e f n) =
           absurd (none-named (joinChecks order (part first) (part second) stageRoom referenceRoom) v (nothing-found order (part first) (part second) stageRoom referenceRoom (j .counts) (j .cared) fits fits′) n)
       go (joined e f a) = refl
+
+-- Acceptance is the same under either order: what the join accepts in one it accepts in the other, and writes the same bytes.
+pub join-either : (order other : WordOrder) (stageMost referenceMost : Limits) (first second : Files) (stageRoom referenceRoom : ℕ)
+    → joinWithin order stageMost referenceMost first second stageRoom referenceRoom .verdict ≡ accepted
+    → joinWithin other stageMost referenceMost first second stageRoom referenceRoom ≡ joinWithin order stageMost referenceMost first second stageRoom referenceRoom
+join-either order other stageMost referenceMost first second stageRoom referenceRoom e = go (join-because order stageMost referenceMost first second stageRoom referenceRoom) e
+  where
+    p : Part
+    p = partIn stageMost referenceMost first
+
+    q : Part
+    q = partIn stageMost referenceMost second
+
+    go : {a : JoinAnswer} → JoinBecause order stageMost referenceMost first second stageRoom referenceRoom a → a .verdict ≡ accepted
+        → joinWithin other stageMost referenceMost first second stageRoom referenceRoom ≡ a
+    go (first-refused f n) e = absurd (n e)
+    go (second-refused {v = v} f g n) e = absurd (omega (arith, ap (λ (x : Verdict). x .file) e))
+    go (join-refused {v = v} f g n) e = absurd (omega (arith, join-from order p q stageRoom referenceRoom v n, ap (λ (x : Verdict). x .number) e))
+    go (joined f g a) e =
+        let s = seam-fits order p q stageRoom referenceRoom (good-part stageMost referenceMost first order f .formed .care-in) a in
+        let r = room-enough order p q stageRoom referenceRoom a in
+        join-writes other stageMost referenceMost first second stageRoom referenceRoom (record {
+          first-accepted = accepts-either order other stageMost referenceMost (first .stage) (first .reference) f;
+          second-accepted = accepts-either order other stageMost referenceMost (second .stage) (second .reference) g;
+          counts = s .0;
+          cared = s .1;
+        }) (r .0) (r .1)
 
 -- The limits of parts leave room for two in a file that the check reads.
 pub parts-fit : RoomForTwo partStageLimits stageLimits × RoomForTwo partReferenceLimits referenceLimits

@@ -80,6 +80,11 @@ CaresFor = IsWord
 abbrev pub caresFor : Stage → ℕ → Bool
 caresFor s w = isIn w (words s)
 
+-- 23: the least care word of the first part, by its name, whose answer the second does not care for
+abbrev pub uncaredCheck : WordOrder → Stage → Reference → Stage → Check
+uncaredCheck order first function second =
+    sweeping order first 23 0 (0 ∷ []) (λ w i. not (caresFor second (answerWord function w))) (λ w i. ¬ (CaresFor second (answerWord function w))) unsaid
+
 -- the bytes that are written: "inputs, the first part's care list, gates (first part first), the second's outputs, end"
 abbrev pub stageBytes : Part → Part → List ℕ
 stageBytes first second = writeStage (joinedStage (first .circuit) (second .circuit))
@@ -87,13 +92,11 @@ stageBytes first second = writeStage (joinedStage (first .circuit) (second .circ
 abbrev pub referenceBytes : Part → Part → List ℕ
 referenceBytes first second = writeReference (joinedReference (first .function) (second .function))
 
--- the checks of the join, in their order: 22 counts at the seam unequal, 23 least care word, by its name, whose answer the second does not care
--- for, 24 a buffer too short
+-- the checks of the join, in their order: 22 counts at the seam unequal, 23, 24 a buffer too short
 unfoldable pub joinChecks : WordOrder → Part → Part → ℕ → ℕ → List Check
 joinChecks order first second stageRoom referenceRoom =
     unequal 22 (length (first .circuit .outputs)) (second .circuit .inputs) ∷
-    sweeping order (first .circuit) 23 0 (0 ∷ []) (λ w i. not (caresFor (second .circuit) (answerWord (first .function) w)))
-    (λ w i. ¬ (CaresFor (second .circuit) (answerWord (first .function) w))) unsaid ∷
+    uncaredCheck order (first .circuit) (first .function) (second .circuit) ∷
     check 24 3 (0 ∷ []) (0 ∷ [])
     (λ w i. ltb stageRoom (length (stageBytes first second)) || ltb referenceRoom (length (referenceBytes first second)))
     (λ w i. (stageRoom < length (stageBytes first second)) ⊎ (referenceRoom < length (referenceBytes first second))) unsaid ∷

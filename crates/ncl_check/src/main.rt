@@ -1,4 +1,5 @@
 // Reads stage.ncl and reference.ncl, at most 8,192 bytes of each, and prints the verdict: four numbers with single spaces and a newline.
+// A word is named with input 0 as its highest bit; with the argument `lowest`, as its lowest.
 use libc::STDOUT_FILENO;
 
 fn main() {

@@ -1,5 +1,6 @@
 // Reads stage.ncl and reference.ncl, at most 8,192 bytes of each, and prints the switching report: for each word of an accepted stage a
 // line with the word and the number of gates high at its rest, then a line with the total. Of a refused pair it prints the verdict.
+// A word is named with input 0 as its highest bit; with the argument `lowest`, as its lowest.
 use libc::STDOUT_FILENO;
 
 fn main() {

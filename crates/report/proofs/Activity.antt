@@ -2,16 +2,14 @@
 -- Assumes nothing.
 use Prim.Native.Nat.{ℕ, zero, suc, _+_, _*_, _^_, _≤_, _<_}
 use native.Mathlib.Omega.{arith}
-use native.Mathlib.Decide.{decLt}
-use mathlib.Core.Path.{_≡_, refl, sym, ap, ap₂, subst, _∙_}
+use mathlib.Core.Path.{_≡_, refl, sym, ap, subst, _∙_}
 use mathlib.Core.Bool.{Bool, true, false, not}
-use mathlib.Core.Logic.{_⊎_, inl, inr, _≢_}
+use mathlib.Core.Logic.{_⊎_, inl, inr}
 use mathlib.Core.List.{List, [], _∷_, _++_, map}
 use lib.ListN.{length, getD, length-append, List·getD-eq-default}
 use lib.Seq.{getD-append-add}
 use lib.Dec.{eqb, ltb}
-use borrow.Author.Tests.{lt-ltb, le-ltb, eq-eqb, ne-eqb}
-use Rattle.runs.proofs.Test.{same?}
+use borrow.Author.Tests.{lt-ltb, le-ltb, eq-eqb}
 use Rattle.runs.specs.Row.{Row, low, after, tally, times}
 use Rattle.runs.specs.Net.{rails, RiseList, RiseEnd}
 use Rattle.runs.specs.Promise.{Rest, Promise}
@@ -23,18 +21,16 @@ use Rattle.netlist.proofs.Stages.{stage-formed}
 use Rattle.verdict.specs.Levels.{Bits, sum}
 use Rattle.verdict.specs.Rows.{high, settled, settledLevels}
 use Rattle.verdict.specs.declared.WordOrder.{WordOrder}
-use Rattle.verdict.specs.Loops.{In}
-use Rattle.verdict.specs.Words.{IsWord, railsIn, spelled, names}
+use Rattle.verdict.specs.Words.{IsWord, railsIn}
 use Rattle.verdict.specs.Nets.{netOf, rowOf, railsFor, answerBits, restRow}
 use Rattle.verdict.specs.Demands.{RisesTo, Kept}
 use Rattle.verdict.proofs.Levels.{bits-length, bits-get}
 use Rattle.verdict.proofs.Settling.{settled-bits}
-use Rattle.verdict.proofs.Words.{rising-in, word-below}
-use Rattle.verdict.proofs.Names.{spelled-twice, spelled-below, name-spells, names-rise, word-name}
+use Rattle.verdict.proofs.Names.{words-once}
 use Rattle.verdict.proofs.OneWord.{wires-length}
 use Rattle.report.specs.Report.{gatesHigh, byName}
 use Rattle.report.specs.Activity.{gateSwitchings, Cycle, switchings, EachWordOnce, Cycled, HalfOfAll}
-use Rattle.report.proofs.Counting.{upTo, upTo-same, upTo-zero, upTo-split, upTo-levels, weigh, weigh-zero, sum-times, sum-same, times-rising}
+use Rattle.report.proofs.Counting.{upTo, upTo-same, upTo-zero, upTo-split, upTo-levels, weigh, weigh-zero, sum-times, sum-same}
 
 -- ---- one list
 
@@ -129,42 +125,6 @@ module _ (s : Stage) (r : Reference) (w : ℕ) (promise : Promise (netOf s) (rai
 -- ---- all words
 
 module _ (order : WordOrder) (s : Stage) (care : Rising (2 ^ s .inputs) 0 (s .care)) where
-  abbrev word : ℕ → ℕ
-  word = spelled order (s .inputs)
-
-  -- a word stands among the words of some names as often as its name among these
-  times-word : (w : ℕ) → w < 2 ^ s .inputs → (l : List ℕ) → ((x : ℕ) → In x l → x < 2 ^ s .inputs) → times w (map word l) ≡ times (word w) l
-  times-word w h [] below = refl
-  times-word w h (x ∷ l) below = ap₂ tally (go (same? (word w) x)) (times-word w h l (λ y i. below y (inr i)))
-    where
-      twice : word (word x) ≡ x
-      twice = spelled-twice order (s .inputs) x (below x (inl refl))
-
-      go : (word w ≡ x) ⊎ (word w ≢ x) → eqb w (word x) ≡ eqb (word w) x
-      go (inl e) = eq-eqb w (word x) (sym (spelled-twice order (s .inputs) w h) ∙ ap word e) ∙ sym (eq-eqb (word w) x e)
-      go (inr n) = ne-eqb w (word x) (λ e. n (ap word e ∙ twice)) ∙ sym (ne-eqb (word w) x n)
-
-  times-past : (w : ℕ) → 2 ^ s .inputs ≤ w → (l : List ℕ) → ((x : ℕ) → In x l → x < 2 ^ s .inputs) → times w (map word l) ≡ 0
-  times-past w h [] below = refl
-  times-past w h (x ∷ l) below =
-      ap (λ b. tally b (times w (map word l))) (ne-eqb w (word x) (λ e. omega (arith, spelled-below order (s .inputs) x (below x (inl refl))))) ∙ times-past w h l (λ y i. below y (inr i))
-
-  -- each word stands once in the list of words by name
-  words-once : (w : ℕ) → (IsWord s w × (times w (byName order s) ≡ 1)) ⊎ ((¬ (IsWord s w)) × (times w (byName order s) ≡ 0))
-  words-once w = go (decLt w (2 ^ s .inputs))
-    where
-      below : (x : ℕ) → In x (names order s) → x < 2 ^ s .inputs
-      below x i = rising-in (2 ^ s .inputs) 0 (names order s) (names-rise order s) x i .1
-
-      by-name : w < 2 ^ s .inputs → (In (word w) (names order s) × (times (word w) (names order s) ≡ 1)) ⊎ ((¬ (In (word w) (names order s))) × (times (word w) (names order s) ≡ 0))
-          → (IsWord s w × (times w (byName order s) ≡ 1)) ⊎ ((¬ (IsWord s w)) × (times w (byName order s) ≡ 0))
-      by-name h (inl i) = inl (subst (IsWord s) (spelled-twice order (s .inputs) w h) (name-spells order s (word w) (i .0)), times-word w h (names order s) below ∙ i .1)
-      by-name h (inr n) = inr ((λ i. n .0 (word-name order s care w i .0)), times-word w h (names order s) below ∙ n .1)
-
-      go : Dec (w < 2 ^ s .inputs) → (IsWord s w × (times w (byName order s) ≡ 1)) ⊎ ((¬ (IsWord s w)) × (times w (byName order s) ≡ 0))
-      go (yes h) = by-name h (times-rising (2 ^ s .inputs) 0 (names order s) (names-rise order s) (word w))
-      go (no h) = inr ((λ i. omega (arith, word-below s care w i)), times-past w (omega arith) (names order s) below)
-
   module _ (cycle : (p : Cycle s) → IsWord s (p .word) → switchings s p ≡ 2 * gatesHigh s (p .word)) where
     abbrev wordOf : Cycle s → ℕ
     wordOf p = p .word
@@ -172,7 +132,7 @@ module _ (order : WordOrder) (s : Stage) (care : Rising (2 ^ s .inputs) 0 (s .ca
     cycles-twice : (cycles : List (Cycle s)) → ((w : ℕ) → ¬ (IsWord s w) → times w (map wordOf cycles) ≡ 0)
         → sum (map (switchings s) cycles) ≡ 2 * sum (map (gatesHigh s) (map wordOf cycles))
     cycles-twice [] none = refl
-    cycles-twice (p ∷ cycles) none = omega (arith, cycle p (first (words-once (p .word))), cycles-twice cycles (λ w n. tail w (eqb w (p .word)) (none w n)))
+    cycles-twice (p ∷ cycles) none = omega (arith, cycle p (first (words-once order s care (p .word))), cycles-twice cycles (λ w n. tail w (eqb w (p .word)) (none w n)))
       where
         later : ℕ → ℕ
         later w = times w (map wordOf cycles)
@@ -186,7 +146,7 @@ module _ (order : WordOrder) (s : Stage) (care : Rising (2 ^ s .inputs) 0 (s .ca
         tail w false e = e
 
     half : HalfOfAll order s
-    half cycles each = omega (arith, cycles-twice cycles (each .none), sum-same (gatesHigh s) (map wordOf cycles) (byName order s) (λ w. as-often w (words-once w)))
+    half cycles each = omega (arith, cycles-twice cycles (each .none), sum-same (gatesHigh s) (map wordOf cycles) (byName order s) (λ w. as-often w (words-once order s care w)))
       where
         as-often : (w : ℕ) → (IsWord s w × (times w (byName order s) ≡ 1)) ⊎ ((¬ (IsWord s w)) × (times w (byName order s) ≡ 0)) → times w (map wordOf cycles) ≡ times w (byName order s)
         as-often w (inl h) = each .once w (h .0) ∙ sym (h .1)

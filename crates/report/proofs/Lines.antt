@@ -100,6 +100,12 @@ module _ (order : WordOrder) (s : Stage) where
       map-at (gatesHigh s) (byName order s) k (omega (arith, length-map (names order s) (spelled order (s .inputs))))
       ∙ ap (gatesHigh s) (map-at (spelled order (s .inputs)) (names order s) k h)
 
+  -- the same of a report: behind the lines and the names stand zeros
+  pub report-line : (k : ℕ) → k < length (lines order s) → getD (padded (lines order s)) k 0 ≡ gatesHigh s (spelled order (s .inputs) (getD (padded (names order s)) k 0))
+  report-line k h =
+      let n : k < length (names order s) = omega (arith, lines-long) in
+      List·getD-append (lines order s) _ 0 k h ∙ line-at k n ∙ ap (λ (name : ℕ). gatesHigh s (spelled order (s .inputs) name)) (sym (List·getD-append (names order s) _ 0 k n))
+
 -- numbers that are listed at the start of a slice of zeros
 pub listed-padded : (numbers : List ℕ) (count : ℕ) (after : List ℕ) → Listed numbers (replicate mostLines 0) count after → after ≡ padded numbers
 listed-padded numbers count after l =

@@ -6,7 +6,7 @@ use native.Mathlib.Decide.{ℕ-discrete}
 use mathlib.Core.Path.{_≡_, refl, sym, ap, _∙_, subst}
 use mathlib.Core.Bool.{Bool, true, false, cond}
 use mathlib.Core.List.{List, [], _∷_, _++_}
-use lib.ListN.{length, replicate}
+use lib.ListN.{length, getD, replicate}
 use lib.Dec.{eqb}
 use borrow.Author.Tests.{eq-eqb, ne-eqb}
 use Rattle.runs.proofs.Test.{clash}
@@ -25,7 +25,7 @@ use Rattle.verdict.specs.declared.Verdict.{Verdict}
 use Rattle.verdict.specs.Levels.{sum}
 use Rattle.verdict.specs.Loops.{NoLoop, reachesItself}
 use Rattle.verdict.specs.declared.WordOrder.{WordOrder}
-use Rattle.verdict.specs.Words.{names}
+use Rattle.verdict.specs.Words.{spelled, names}
 use Rattle.verdict.specs.Search.{least}
 use Rattle.verdict.specs.Verdicts.{accepted, verdictOn}
 use Rattle.verdict.specs.Demands.{StageIs, Comparable, Demand3, Kept}
@@ -39,10 +39,10 @@ use Rattle.load.specs.Load.{HoldsStage}
 use Rattle.loops.specs.Marks.{LoopFound}
 use Rattle.names.specs.Listed.{Listed}
 use Rattle.report.specs.declared.Report.{Report}
-use Rattle.report.specs.Report.{lines, total, mostLines, padded, refusedReport, stageReport, reportReading, reportOn}
+use Rattle.report.specs.Report.{gatesHigh, lines, total, mostLines, padded, refusedReport, stageReport, reportReading, reportOn}
 use Rattle.report.specs.Activity.{Reported, ReportMeans}
 use Rattle.report.specs.Lines.{LoopFreeFile}
-use Rattle.report.proofs.Lines.{lines-long, names-few, listed-padded}
+use Rattle.report.proofs.Lines.{lines-long, names-few, report-line, listed-padded}
 use Rattle.report.proofs.Activity.{accepted-cycled, accepted-half}
 
 -- ---- a file that reads, and whose stage has no loop
@@ -159,12 +159,15 @@ module _ (order : WordOrder) (stage reference : List ℕ) where
           let n : r .verdict .number ≡ 0 = ap (λ (x : Verdict). x .number) a in
           let k = kept n .1 in
           let c = k .contents .circuit-is in
+          let are : r ≡ stageReport order accepted (k .contents .circuit) = e ∙ sym (ap (λ (x : Verdict). reportReading order x stage (readFile file.Stage stageLimits stage)) is)
+          ∙ reading-zero (r .verdict) (readFile file.Stage stageLimits stage) (c .places) n (c .reads)
+          ∙ ap (λ (x : Verdict). stageReport order x (stageOf stage (c .places))) a ∙ ap (stageReport order accepted) (c .content) in
           record {
             circuit = k .contents .circuit;
             circuit-is = c;
-            lines-are = e ∙ sym (ap (λ (x : Verdict). reportReading order x stage (readFile file.Stage stageLimits stage)) is)
-                ∙ reading-zero (r .verdict) (readFile file.Stage stageLimits stage) (c .places) n (c .reads)
-                ∙ ap (λ (x : Verdict). stageReport order x (stageOf stage (c .places))) a ∙ ap (stageReport order accepted) (c .content);
+            lines-are = are;
+            line = subst (λ (x : Report). (i : ℕ) → i < x .words → getD (x .lines) i 0 ≡ gatesHigh (k .contents .circuit) (spelled order (k .contents .circuit .inputs) (getD (x .names) i 0)))
+                (sym are) (report-line order (k .contents .circuit));
             cycled = accepted-cycled stageLimits referenceLimits stage reference k;
             half = accepted-half stageLimits referenceLimits stage reference k order;
           }

@@ -1,8 +1,9 @@
 -- What the total of a switching report counts: "half of all gate switchings when each word rises and falls once, in any order".
-use Prim.Native.Nat.{ℕ, _+_, _*_}
+use Prim.Native.Nat.{ℕ, _+_, _*_, _<_}
 use mathlib.Core.Path.{_≡_}
 use mathlib.Core.Bool.{not}
 use mathlib.Core.List.{List, [], map}
+use lib.ListN.{getD}
 use lib.Dec.{ltb}
 use Rattle.runs.specs.Row.{low, after, tally, times}
 use Rattle.runs.specs.Net.{Net, rails, RiseList, RiseEnd, FallList, FallEnd}
@@ -11,7 +12,7 @@ use Rattle.netlist.specs.Reading.{stageLimits}
 use Rattle.netlist.specs.Content.{Stage}
 use Rattle.verdict.specs.declared.WordOrder.{WordOrder}
 use Rattle.verdict.specs.Levels.{sum}
-use Rattle.verdict.specs.Words.{IsWord}
+use Rattle.verdict.specs.Words.{IsWord, spelled}
 use Rattle.verdict.specs.Nets.{netOf, railsFor}
 use Rattle.verdict.specs.Verdicts.{accepted, verdictOn}
 use Rattle.verdict.specs.Demands.{StageIs}
@@ -52,12 +53,13 @@ pub record Cycled (s : Stage) (w : ℕ) : Type 0 where
   pub falls : (p : Cycle s) → p .word ≡ w → gateSwitchings (netOf s) (p .fall) ≡ gatesHigh s w
   pub back : (p : Cycle s) → p .word ≡ w → AllLow (netOf s) (after (after low (p .rise)) (p .fall))
 
--- the report of an accepted stage: its lines are those of the stage that the file holds, each what the cycles of its word switch, and the
--- total, the sum of the lines, is half of all gate switchings
+-- the report of an accepted stage: its lines are those of the stage that the file holds, each has the number of gates high at the rest of the word that
+-- its name spells, which is what the cycles of that word switch, and the total, the sum of the lines, is half of all gate switchings
 pub record Reported (order : WordOrder) (stage : List ℕ) (r : Report) : Type 0 where
   pub circuit : Stage
   pub circuit-is : StageIs stageLimits stage circuit
   pub lines-are : r ≡ stageReport order accepted circuit
+  pub line : (k : ℕ) → k < r .words → getD (r .lines) k 0 ≡ gatesHigh circuit (spelled order (circuit .inputs) (getD (r .names) k 0))
   pub cycled : (w : ℕ) → IsWord circuit w → Cycled circuit w
   pub half : HalfOfAll order circuit
 

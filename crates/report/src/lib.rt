@@ -21,7 +21,7 @@ ghost use Rattle.report.specs.Lines.{LoopFreeFile};
 pub const LINES: usize = 1 << netlist::INPUTS;
 
 // The verdict on the two files; and of an accepted stage how many words it has, how many gates are high at the rest of each, in the order
-// of the words, how many that makes, and the names of these words. What stands behind the last word is 0, and so is all of it where the pair is
+// of their names, how many that makes, and the names of these words. What stands behind the last word is 0, and so is all of it where the pair is
 // refused. Laid out as C does: the C function of crate `fovaheju` answers one.
 #[repr(C)]
 pub struct Report {

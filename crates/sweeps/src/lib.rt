@@ -28,7 +28,7 @@ fn number_of(which: Sweep) -> u64
     }
 }
 
-// What one of the checks finds in the words of a stage, whose names are listed: the least word with a fault, and the least fault in it.
+// What one of the checks finds in the words of a stage, whose names are listed: the word of the least name with a fault, and the least fault in it.
 fn sweep_words(
     which: Sweep,
     order: WordOrder,

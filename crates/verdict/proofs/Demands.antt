@@ -366,7 +366,7 @@ module _ (order : WordOrder) (stageMost referenceMost : Limits) (stage reference
       go v (inr a) = absurd (comparable order (c .circuit) (c .function) (a .0) .1 g (l .gate) (l .is))
 
 -- Acceptance is the same under either order.
-accepts-either : (order other : WordOrder) (stageMost referenceMost : Limits) (stage reference : List ℕ) → verdictWithin order stageMost referenceMost stage reference ≡ accepted
+pub accepts-either : (order other : WordOrder) (stageMost referenceMost : Limits) (stage reference : List ℕ) → verdictWithin order stageMost referenceMost stage reference ≡ accepted
     → verdictWithin other stageMost referenceMost stage reference ≡ accepted
 accepts-either order other stageMost referenceMost stage reference e =
     let c = accepted-contents order stageMost referenceMost stage reference (number-of e) .0 in

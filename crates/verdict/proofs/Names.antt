@@ -1,21 +1,26 @@
 -- Words by name: the name of a word in either order spells it, each word of a stage has one name, and names rise.
 -- Assumes nothing.
-use Prim.Native.Nat.{ℕ, zero, suc, _+_, _*_, _/_, _%_, _^_, _≤_, _<_}
+use Prim.Native.Nat.{ℕ, zero, suc, _+_, _-_, _*_, _/_, _%_, _^_, _≤_, _<_}
 use native.Mathlib.Omega.{arith}
-use mathlib.Core.Path.{_≡_, refl, sym, ap, _∙_, subst}
+use native.Mathlib.Decide.{ℕ-discrete, decLt}
+use mathlib.Core.Path.{_≡_, refl, sym, ap, ap₂, _∙_, subst}
 use mathlib.Core.Bool.{Bool, true, false, cond, _||_}
 use mathlib.Core.Logic.{_⊎_, inl, inr, ⊎-elim, _≢_}
-use mathlib.Core.List.{List, [], _∷_, _++_, reverse, reverseAux, reverse-cons, reverse-reverse}
+use mathlib.Core.List.{List, [], _∷_, _++_, map, reverse, reverseAux, reverseAux-eq, reverse-reverse}
 use lib.ListN.{length, getD, length-reverse}
+use lib.Seq.{getD-append-add}
 use lib.Dec.{eqb}
+use borrow.Author.Tests.{eq-eqb, ne-eqb}
+use Rattle.runs.specs.Row.{tally, times}
 use Rattle.runs.proofs.Test.{clash, not-true, eqb-same, eqb-eq, eqb-other, same?, or-left, or-right, or-cases}
 use Rattle.netlist.specs.Content.{Stage}
 use Rattle.netlist.specs.Reading.{Rising}
 use Rattle.verdict.specs.declared.WordOrder.{WordOrder}
 use Rattle.verdict.specs.declared.WordOrder.the-variants.{FirstHighest, FirstLowest}
 use Rattle.verdict.specs.Loops.{In}
+use Rattle.verdict.specs.Demands.{FirstOf}
 use Rattle.verdict.specs.Words.{numbers, words, IsWord, bitsOf, wordOf, spelled, isIn, select, names}
-use Rattle.verdict.proofs.Words.{bits-of-length, bits-of-bit, in-index, index-in, numbers-in, rising-in, numbers-rise, words-rise, word-below}
+use Rattle.verdict.proofs.Words.{bits-of-length, bits-of-bit, in-index, index-in, numbers-in, rising-in, first-rising, numbers-rise, words-rise, word-below}
 
 -- ---- the word that some bits spell
 
@@ -65,10 +70,29 @@ unfolding spelled
 spelled-below FirstHighest n v h = wordOf-below n (reverse (bitsOf n v)) (length-reverse (bitsOf n v) ∙ bits-of-length n v) (aux-bit (bitsOf n v) [] (bits-of-bit n v) (λ i. omega arith))
 spelled-below FirstLowest n v h = h
 
--- input i of a word that is named with input 0 as the highest bit is bit n - 1 - i of the name
-pub spelled-bits : (n v : ℕ) → bitsOf n (spelled FirstHighest n v) ≡ reverse (bitsOf n v)
+-- what stands in a list that is turned
+aux-at : (l acc : List ℕ) (i : ℕ) → i < length l → getD (reverseAux l acc) i 0 ≡ getD l (length l - 1 - i) 0
+aux-at [] acc i h = absurd (omega arith)
+aux-at (x ∷ l) acc i h = go (decLt i (length l)) (aux-at l (x ∷ acc) i)
+  where
+    go : Dec (i < length l) → (i < length l → getD (reverseAux l (x ∷ acc)) i 0 ≡ getD l (length l - 1 - i) 0) → getD (reverseAux l (x ∷ acc)) i 0 ≡ getD (x ∷ l) (suc (length l) - 1 - i) 0
+    go (yes k) later = let e : suc (length l) - 1 - i ≡ suc (length l - 1 - i) = omega arith in rw e (later k)
+    go (no k) later =
+        let e : suc (length l) - 1 - i ≡ 0 = omega arith in
+        let f : i ≡ length (reverse l) + 0 = omega (arith, length-reverse l) in
+        rw (e, reverseAux-eq l (x ∷ acc)) (ap (λ (k : ℕ). getD (reverse l ++ (x ∷ acc)) k 0) f ∙ getD-append-add (reverse l) (x ∷ acc) 0 0)
+
+-- By default input i of the word is bit n - 1 - i of its name: input 0 is the highest.
+pub bit-highest : (n name i : ℕ) → i < n → getD (bitsOf n (spelled FirstHighest n name)) i 0 ≡ getD (bitsOf n name) (n - 1 - i) 0
 unfolding spelled
-spelled-bits = turned-bits
+bit-highest n name i h =
+    let long = bits-of-length n name in
+    rw (turned-bits n name) (aux-at (bitsOf n name) [] i (omega (arith, long)) ∙ ap (λ (m : ℕ). getD (bitsOf n name) (m - 1 - i) 0) long)
+
+-- In the old order it is bit i.
+pub bit-lowest : (n name i : ℕ) → getD (bitsOf n (spelled FirstLowest n name)) i 0 ≡ getD (bitsOf n name) i 0
+unfolding spelled
+bit-lowest n name i = refl
 
 -- ---- membership
 
@@ -170,6 +194,10 @@ module _ (order : WordOrder) (s : Stage) where
   unfolding names
   names-rise = select-rises cared (2 ^ s .inputs) 0 (numbers 0 (2 ^ s .inputs)) (let e : 0 + 2 ^ s .inputs ≡ 2 ^ s .inputs = omega arith in rw e at (numbers-rise 0 (2 ^ s .inputs)))
 
+  -- so the first that is named is the least: no word with a lesser name is so
+  pub first-name-least : (P : ℕ → Type 0) (name : ℕ) → FirstOf P (names order s) name → (other : ℕ) → In other (names order s) → other < name → ¬ (P other)
+  first-name-least P name = first-rising (2 ^ s .inputs) P 0 (names order s) name names-rise
+
   -- each word of a stage whose care words rise has a name
   pub word-name : Rising (2 ^ s .inputs) 0 (s .care) → (w : ℕ) → IsWord s w
       → In (spelled order (s .inputs) w) (names order s) × (spelled order (s .inputs) (spelled order (s .inputs) w) ≡ w)
@@ -192,6 +220,61 @@ module _ (order : WordOrder) (s : Stage) where
 
   pub by-names : (P : ℕ → Type 0) → ((w : ℕ) → IsWord s w → P w) → Under P
   by-names P h name i = h (spelled order (s .inputs) name) (name-spells name i)
+
+-- ---- each word once
+
+-- how often a number stands in a rising list
+times-rising : (below floor : ℕ) (ws : List ℕ) → Rising below floor ws → (k : ℕ) → (In k ws × (times k ws ≡ 1)) ⊎ ((¬ (In k ws)) × (times k ws ≡ 0))
+times-rising below floor [] r k = inr ((λ h. h), refl)
+times-rising below floor (w ∷ ws) r k = go (ℕ-discrete k w) (times-rising below (w + 1) ws (r .2) k)
+  where
+    go : Dec (k ≡ w) → (In k ws × (times k ws ≡ 1)) ⊎ ((¬ (In k ws)) × (times k ws ≡ 0))
+        → (In k (w ∷ ws) × (tally (eqb k w) (times k ws) ≡ 1)) ⊎ ((¬ (In k (w ∷ ws))) × (tally (eqb k w) (times k ws) ≡ 0))
+    go (yes e) (inl h) = absurd (omega (arith, rising-in below (w + 1) ws (r .2) k (h .0)))
+    go (yes e) (inr h) = inl (inl e, ap (λ b. tally b (times k ws)) (eq-eqb k w e) ∙ ap suc (h .1))
+    go (no d) (inl h) = inl (inr (h .0), ap (λ b. tally b (times k ws)) (ne-eqb k w d) ∙ h .1)
+    go (no d) (inr h) = inr (⊎-elim d (h .0), ap (λ b. tally b (times k ws)) (ne-eqb k w d) ∙ h .1)
+
+module _ (order : WordOrder) (s : Stage) (care : Rising (2 ^ s .inputs) 0 (s .care)) where
+  abbrev word : ℕ → ℕ
+  word = spelled order (s .inputs)
+
+  -- a word stands among the words of some names as often as its name among these
+  times-word : (w : ℕ) → w < 2 ^ s .inputs → (l : List ℕ) → ((x : ℕ) → In x l → x < 2 ^ s .inputs) → times w (map word l) ≡ times (word w) l
+  times-word w h [] below = refl
+  times-word w h (x ∷ l) below = ap₂ tally (go (same? (word w) x)) (times-word w h l (λ y i. below y (inr i)))
+    where
+      twice : word (word x) ≡ x
+      twice = spelled-twice order (s .inputs) x (below x (inl refl))
+
+      go : (word w ≡ x) ⊎ (word w ≢ x) → eqb w (word x) ≡ eqb (word w) x
+      go (inl e) = eq-eqb w (word x) (sym (spelled-twice order (s .inputs) w h) ∙ ap word e) ∙ sym (eq-eqb (word w) x e)
+      go (inr n) = ne-eqb w (word x) (λ e. n (ap word e ∙ twice)) ∙ sym (ne-eqb (word w) x n)
+
+  times-past : (w : ℕ) → 2 ^ s .inputs ≤ w → (l : List ℕ) → ((x : ℕ) → In x l → x < 2 ^ s .inputs) → times w (map word l) ≡ 0
+  times-past w h [] below = refl
+  times-past w h (x ∷ l) below =
+      ap (λ b. tally b (times w (map word l))) (ne-eqb w (word x) (λ e. omega (arith, spelled-below order (s .inputs) x (below x (inl refl))))) ∙ times-past w h l (λ y i. below y (inr i))
+
+  -- the words in the order of their names
+  abbrev swept : List ℕ
+  swept = map word (names order s)
+
+  -- The list holds each word once, and nothing else.
+  pub words-once : (w : ℕ) → (IsWord s w × (times w (swept) ≡ 1)) ⊎ ((¬ (IsWord s w)) × (times w (swept) ≡ 0))
+  words-once w = go (decLt w (2 ^ s .inputs))
+    where
+      below : (x : ℕ) → In x (names order s) → x < 2 ^ s .inputs
+      below x i = rising-in (2 ^ s .inputs) 0 (names order s) (names-rise order s) x i .1
+
+      by-name : w < 2 ^ s .inputs → (In (word w) (names order s) × (times (word w) (names order s) ≡ 1)) ⊎ ((¬ (In (word w) (names order s))) × (times (word w) (names order s) ≡ 0))
+          → (IsWord s w × (times w (swept) ≡ 1)) ⊎ ((¬ (IsWord s w)) × (times w (swept) ≡ 0))
+      by-name h (inl i) = inl (subst (IsWord s) (spelled-twice order (s .inputs) w h) (name-spells order s (word w) (i .0)), times-word w h (names order s) below ∙ i .1)
+      by-name h (inr n) = inr ((λ i. n .0 (word-name order s care w i .0)), times-word w h (names order s) below ∙ n .1)
+
+      go : Dec (w < 2 ^ s .inputs) → (IsWord s w × (times w (swept) ≡ 1)) ⊎ ((¬ (IsWord s w)) × (times w (swept) ≡ 0))
+      go (yes h) = by-name h (times-rising (2 ^ s .inputs) 0 (names order s) (names-rise order s) (word w))
+      go (no h) = inr ((λ i. omega (arith, word-below s care w i)), times-past w (omega arith) (names order s) below)
 
 -- in the files' order the names are the words
 pub names-lowest : (s : Stage) → Rising (2 ^ s .inputs) 0 (s .care) → names FirstLowest s ≡ words s

@@ -199,9 +199,6 @@ module _ (s : Stage) (care : Rising (2 ^ s .inputs) 0 (s .care)) where
   pub word-below : (w : ℕ) → IsWord s w → w < 2 ^ s .inputs
   word-below w i = rising-in (2 ^ s .inputs) 0 (words s) words-rise w i .1
 
-  pub first-word-least : (P : ℕ → Type 0) (w : ℕ) → FirstOf P (words s) w → (v : ℕ) → IsWord s v → v < w → ¬ (P v)
-  first-word-least P w = first-rising (2 ^ s .inputs) P 0 (words s) w words-rise
-
 -- without a care list every word of the inputs is a word of the stage
 pub below-word : (s : Stage) → s .care ≡ [] → (w : ℕ) → w < 2 ^ s .inputs → IsWord s w
 unfolding words caredFor

@@ -29,8 +29,9 @@ use Rattle.verdict.specs.Retired.{RetiredAt, retiredAt}
 abbrev pub verdict : ℕ → ℕ → ℕ → ℕ → Verdict
 verdict number file at word = record { number = number; file = file; at = at; word = word }
 
--- One check: its number and its file; the words in which it looks and the places that it tries in each, in their order; whether it fails in
--- a word at a place, computed; the paper's condition for that; and what a run shows then (demand 3).
+-- One check: its number and its file; the words in which it looks, by name, and the places that it tries in each, in their order; whether it fails in
+-- the word of a name at a place, computed; the paper's condition for that; and what a run shows then (demand 3). The counts that 10, 11 and 22 give in
+-- place of a word are their one name.
 pub record Check : Type 1 where
   pub number : ℕ
   pub file : ℕ

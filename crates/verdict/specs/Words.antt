@@ -48,8 +48,8 @@ wordOf (b ∷ bits) = b + 2 * wordOf bits
 
 -- ---- words by name
 
--- The word that a name spells, with n inputs: the same where input 0 is the lowest bit of the name; where input 0 is its highest bit, the word of
--- its bits in turned order.
+-- The word that a name spells, with n inputs. By default input 0 is the highest bit of the name, so its bits are turned: of two inputs, the name 2 spells
+-- word 1, in which input 0 alone is 1. In the old order a name is the word itself.
 unfoldable pub spelled : WordOrder → ℕ → ℕ → ℕ
 spelled FirstHighest n name = wordOf (reverse (bitsOf n name))
 spelled FirstLowest n name = name
@@ -58,6 +58,7 @@ spelled FirstLowest n name = name
 unfoldable pub orderOf : ℕ → WordOrder
 orderOf mark = cond (eqb mark 0) FirstHighest FirstLowest
 
+-- whether a number is in a list
 unfoldable pub isIn : ℕ → List ℕ → Bool
 isIn x [] = false
 isIn x (y ∷ ys) = eqb x y || isIn x ys
