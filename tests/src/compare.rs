@@ -4,7 +4,9 @@
 //! library with C functions needs two wrappers of a line each. A program is run as a
 //! program, in a folder that holds the two files.
 
+use crate::expansion::{self, Expanded};
 use crate::files::{hex, report_text, verdict_line, FilePair, MOST_BYTES_READ};
+use crate::generate::expansions::{expansion_case, ExpansionCase};
 use crate::generate::joins::{join_case, JoinCase};
 use crate::generate::{pair, row_case, RowCase};
 use crate::join::{self, Joined};
@@ -24,6 +26,9 @@ pub type SettledRow = fn(&[u8], &mut [u8]) -> [u64; 4];
 
 /// The join of two pairs of files into two lent buffers, for the stage and the reference.
 pub type Join = fn(&FilePair, &FilePair, &mut [u8], &mut [u8]) -> Joined;
+
+/// The stage of a reference file, into a lent buffer.
+pub type Expand = fn(&[u8], &mut [u8]) -> Expanded;
 
 /// The numbers of a report as the library gives them: how many words have a line, their total,
 /// and 1,024 lines of which those past the words are 0. Of a refused pair all but the verdict is 0.
@@ -58,7 +63,8 @@ pub fn judged_counts(stage: &[u8], reference: &[u8]) -> Counts {
 /// How often each verdict number came.
 pub type Histogram = [u64; 29];
 
-/// The numbers of the check, of the settled-row call, and of the join.
+/// The numbers of the check, of the settled-row call, of the join, and of the stage from a
+/// reference.
 pub const CHECK_NUMBERS: [usize; 21] = [
     0, 1, 2, 3, 4, 5, 6, 7, 8, 9, 18, 19, 10, 11, 12, 28, 13, 14, 15, 20, 21,
 ];
@@ -66,6 +72,7 @@ pub const ROW_NUMBERS: [usize; 15] = [0, 1, 2, 3, 4, 5, 6, 7, 8, 9, 18, 19, 12, 
 pub const JOIN_NUMBERS: [usize; 24] = [
     0, 1, 2, 3, 4, 5, 6, 7, 8, 9, 18, 19, 10, 11, 12, 28, 13, 14, 15, 20, 21, 22, 23, 24,
 ];
+pub const EXPANSION_NUMBERS: [usize; 13] = [0, 1, 2, 3, 4, 5, 6, 7, 8, 9, 25, 26, 27];
 
 /// What cases lack that a comparison rests on: one of the numbers never came, or fewer
 /// than a fifth of the cases are accepted.
@@ -109,6 +116,12 @@ pub enum Difference {
         case: Box<JoinCase>,
         judge: Answer,
         other: Answer,
+    },
+    Expansions {
+        name: String,
+        case: ExpansionCase,
+        judge: (Expanded, Vec<u8>),
+        other: (Expanded, Vec<u8>),
     },
 }
 
@@ -217,6 +230,26 @@ impl fmt::Display for Difference {
                 }
                 Ok(())
             }
+            Difference::Expansions {
+                name,
+                case,
+                judge,
+                other,
+            } => {
+                writeln!(f, "{name}")?;
+                for (which, bytes) in [
+                    ("reference", &case.reference),
+                    ("buffer before", &case.buffer),
+                ] {
+                    writeln!(f, "{which}, {} bytes: {}", bytes.len(), hex(bytes))?;
+                }
+                for (who, (expanded, buffer)) in [("judge", judge), ("other", other)] {
+                    let verdict = line(expanded.verdict);
+                    writeln!(f, "{who}: {verdict}, {} bytes", expanded.len)?;
+                    writeln!(f, "buffer of the {who}: {}", hex(buffer))?;
+                }
+                Ok(())
+            }
         }
     }
 }
@@ -285,6 +318,28 @@ pub fn compare_join(other: Join, name: &str, case: &JoinCase) -> Result<u64, Box
     Err(Box::new(Difference::Joins {
         name: name.to_string(),
         case: Box::new(case.clone()),
+        judge: judged,
+        other: given,
+    }))
+}
+
+/// Compares the verdict, the length and every byte of the buffer of one case.
+pub fn compare_expansion(
+    other: Expand,
+    name: &str,
+    case: &ExpansionCase,
+) -> Result<u64, Box<Difference>> {
+    let answer_of = |expand: Expand| {
+        let mut buffer = case.buffer.clone();
+        (expand(&case.reference, &mut buffer), buffer)
+    };
+    let (judged, given) = (answer_of(expansion::expand), answer_of(other));
+    if judged == given {
+        return Ok(judged.0.verdict[0]);
+    }
+    Err(Box::new(Difference::Expansions {
+        name: name.to_string(),
+        case: case.clone(),
         judge: judged,
         other: given,
     }))
@@ -392,6 +447,24 @@ pub fn compare_joins(other: Join, seed: u64, count: u64) -> Result<Histogram, Bo
         let generated = join_case(seed, index);
         let name = format!("join {index} of seed {seed} ({})", generated.family);
         let number = compare_join(other, &name, &generated.case)
+            .inspect_err(|difference| println!("{difference}"))?;
+        histogram[number as usize] += 1;
+    }
+    Ok(histogram)
+}
+
+/// Compares the stages of the first `count` references of a seed. The first difference is printed
+/// and given back.
+pub fn compare_expansions(
+    other: Expand,
+    seed: u64,
+    count: u64,
+) -> Result<Histogram, Box<Difference>> {
+    let mut histogram = Histogram::default();
+    for index in 0..count {
+        let generated = expansion_case(seed, index);
+        let name = format!("expansion {index} of seed {seed} ({})", generated.family);
+        let number = compare_expansion(other, &name, &generated.case)
             .inspect_err(|difference| println!("{difference}"))?;
         histogram[number as usize] += 1;
     }

@@ -5,6 +5,7 @@
 //! fault whose verdict is known by the way they are made, and pairs of which nothing
 //! is known beforehand: mutated circuits, random circuits, damaged bytes.
 
+pub mod expansions;
 pub mod joins;
 
 use crate::circuits::{

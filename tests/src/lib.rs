@@ -5,6 +5,8 @@ pub mod catalogue;
 pub mod circuits;
 pub mod compare;
 pub mod exchange;
+pub mod expansion;
+pub mod expansion_suite;
 pub mod explore;
 pub mod files;
 pub mod generate;

@@ -1,0 +1,5 @@
+pub mod Made
+pub mod Leading
+pub mod Marks
+pub mod Making
+pub mod Promises

@@ -1,0 +1,6 @@
+pub mod Putting
+pub mod Lists
+pub mod Marking
+pub mod Building
+pub mod Operations
+pub mod Answering

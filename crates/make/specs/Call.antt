@@ -1,0 +1,21 @@
+-- What the call leaves in the buffer that its caller lends.
+use Prim.Native.Nat.{ℕ}
+use mathlib.Core.List.{List}
+use lib.ListN.{length}
+use Rattle.netlist.specs.Reading.{stageLimits, referenceLimits}
+use Rattle.netlist.specs.Content.{Reference}
+use Rattle.verdict.specs.Checks.{firstFault}
+use Rattle.made.specs.Making.{makeChecks, MakeAnswer, makeUnless, makeOn}
+use Rattle.writing.specs.Written.{holding, Written}
+
+-- the answer's verdict, how many bytes it has, these at the start of the buffer, and what stands past them as it was
+abbrev pub leaves : MakeAnswer → List ℕ → Written
+leaves a buffer = record { verdict = a .verdict; count = length (a .bytes); buffer = holding (a .bytes) buffer }
+
+-- on a reference file and a buffer of so many bytes, at the limits of the two files
+abbrev pub stageMade : List ℕ → ℕ → MakeAnswer
+stageMade reference room = makeOn stageLimits referenceLimits reference room
+
+-- 25, 26, 27 or the stage, of a reference that was read
+abbrev pub makeRead : Reference → ℕ → MakeAnswer
+makeRead r room = makeUnless (firstFault (makeChecks stageLimits r room)) r
