@@ -89,6 +89,6 @@ unfolding cases b.operand b.operands
     k.whenFound k.ownCommands k.commandTable k.formIn k.pinsNeeded k.needed k.stray k.misfit k.misfitFrom k.takeGate k.takeCare k.takeSort k.takeCommand k.nextAt
     r.nameable r.nameless r.usedOperands r.namelessAt r.namelessFrom r.floorAfter r.noted r.finish r.onNext r.readFrom r.readFile t.referenceOf n.writeFile n.writeStage
     o.rounds g.tabulate g.leading w.numbers h.first h.atFault h.sweep h.finding h.orLater h.firstFault
-    m.realize m.inputRails m.addGate m.addGates m.built m.madeStage m.operations m.gatesNeeded l.among l.readersFrom l.readers l.leadsOut
+    m.realize m.inputRails m.addGate m.addGates m.built m.madeStage m.operations m.gatesNeeded c.among l.readersFrom l.readers l.leadsOut
     a.makeChecks a.makeUnless a.makeReading a.makeOn
 computed = refl

@@ -8,6 +8,7 @@ use mathlib.Core.Logic.{_⊎_, inl, inr}
 use mathlib.Core.List.{List, [], _∷_}
 use lib.ListN.{length, getD}
 use lib.Dec.{eqb}
+use Rattle.gates.specs.Cell.{among}
 use Rattle.runs.proofs.Test.{clash, or-left, or-right, or-cases, eqb-same, eqb-eq}
 use Rattle.netlist.specs.declared.Limits.{Limits}
 use Rattle.netlist.specs.Content.{Coded, Reference}
@@ -15,7 +16,7 @@ use Rattle.netlist.specs.Formed.{ReferenceFormed}
 use Rattle.netlist.proofs.References.{in-order-at}
 use Rattle.verdict.specs.Graph.{In}
 use Rattle.verdict.proofs.Graph.{leads-sound, leads-complete}
-use Rattle.made.specs.Leading.{signals, among, readersFrom, readers, LeadsOut, leadsOut}
+use Rattle.made.specs.Leading.{signals, readersFrom, readers, LeadsOut, leadsOut}
 use Rattle.made.specs.Promises.{noOperation, Operand}
 use Rattle.made.proofs.Lists.{all-in}
 

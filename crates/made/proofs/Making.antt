@@ -31,10 +31,10 @@ use Rattle.verdict.specs.Checks.{verdict, first, atFault, sweep, finding, orLat
 use Rattle.verdict.specs.Search.{least}
 use Rattle.verdict.specs.Verdicts.{accepted, verdictWithin}
 use Rattle.verdict.specs.Nets.{noGate}
-use Rattle.verdict.specs.Demands.{StageIs, ReferenceIs, Contents, Comparable, Acceptable, Nowhere, EachOf}
+use Rattle.verdict.specs.Demands.{StageIs, ReferenceIs, Contents, Comparable, Acceptable, Nowhere, Named, EachOf}
 use Rattle.verdict.proofs.Reaching.{loopFree-noLoop}
 use Rattle.verdict.proofs.Words.{index-in}
-use Rattle.verdict.proofs.Sweeps.{Means, FirstFault, first-fault, named-from}
+use Rattle.verdict.proofs.Sweeps.{Means, FirstFault, first-fault, named-one}
 use Rattle.verdict.proofs.Because.{holds}
 use Rattle.verdict.proofs.Refusals.{refused-number}
 use Rattle.verdict.proofs.Demands.{demand-2, demand-3}
@@ -45,7 +45,7 @@ use Rattle.made.specs.Promises.{Fitting, MadeFrom, reference-refused, ma
 use Rattle.made.proofs.Lists.{at-all}
 use Rattle.made.proofs.Building.{sound-more, all-long}
 use Rattle.made.proofs.Leading.{leadsOut-sound, leadsOut-complete}
-use Rattle.made.proofs.Stage.{stage, sane, free, outputs-long, word-conforms, word-waits}
+use Rattle.made.proofs.Stage.{stage, sane, free, none-retired, outputs-long, word-conforms, word-waits}
 
 -- ---- the stage fits a file
 
@@ -99,7 +99,7 @@ module _ {referenceMost : Limits} (r : Reference) (formed : ReferenceFormed refe
     module _ (lead : (s : ℕ) → s < signals r → LeadsOut r s) (reference : List ℕ) (is : ReferenceIs referenceMost reference r) where
       pub acceptable : Acceptable (madeStage r) r
       unfolding madeStage
-      acceptable w h = word-conforms r formed w lead
+      acceptable = record { cast = none-retired r formed; conforms = λ w h. word-conforms r formed w lead }
 
       pub made-accepted : verdictWithin stageMost referenceMost (madeBytes r) reference ≡ accepted
       made-accepted =
@@ -175,9 +175,9 @@ checks-by-tests stageMost r room =
     go Nothing false true = refl
     go Nothing false false = refl
 
-checks-from : (stageMost : Limits) (r : Reference) (room : ℕ) → EachOf (λ c. 25 ≤ c .number) (makeChecks stageMost r room)
+made-number : (stageMost : Limits) (r : Reference) (room : ℕ) (v : Verdict) → Named (makeChecks stageMost r room) v → 25 ≤ v .number
 unfolding makeChecks
-checks-from stageMost r room = (omega arith, (omega arith, (omega arith, tt)))
+made-number stageMost r room v n = named-one (λ k. 25 ≤ k) (makeChecks stageMost r room) v (omega arith, (omega arith, (omega arith, tt))) n
 
 -- ---- the answer
 
@@ -192,7 +192,7 @@ make-means stageMost referenceMost fitting reference room = go (readFile file.Re
     answered r formed is (Fault v) n = record {
       because = make-refused r is n;
       fits = omega arith;
-      made = λ e. absurd (omega (arith, named-from 25 (makeChecks stageMost r room) v (checks-from stageMost r room) n));
+      made = λ e. absurd (omega (arith, made-number stageMost r room v n));
     }
     answered r formed is Passed a =
         let f = found-nothing stageMost referenceMost r formed room a in

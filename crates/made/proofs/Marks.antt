@@ -9,6 +9,7 @@ use mathlib.Core.List.{List, [], _∷_}
 use lib.ListN.{length, getD, set, replicate, length-set, length-replicate}
 use lib.Seq.{getD-set-same, getD-set-other}
 use lib.Dec.{eqb, ltb}
+use Rattle.gates.specs.Cell.{among}
 use Rattle.runs.proofs.Test.{clash, true?, not-true, and-left, and-right, or-left, or-right, or-cases, eqb-same, eqb-other, same?}
 use Rattle.netlist.specs.declared.Limits.{Limits}
 use Rattle.netlist.specs.Content.{Coded, Reference}
@@ -17,7 +18,7 @@ use Rattle.netlist.specs.Formed.{FormedFrom, ReferenceFormed}
 use Rattle.netlist.proofs.Lists.{All-map}
 use Rattle.verdict.specs.Graph.{In, Leads, here, onward}
 use Rattle.verdict.specs.Rows.{high}
-use Rattle.made.specs.Leading.{signals, among, readers, LeadsOut, leadsOut}
+use Rattle.made.specs.Leading.{signals, readers, LeadsOut, leadsOut}
 use Rattle.made.specs.Marks.{marked, markedFrom, outputMarks, leadingMarks}
 use Rattle.made.specs.Promises.{noOperation}
 use Rattle.made.proofs.Lists.{all-in}

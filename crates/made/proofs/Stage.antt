@@ -11,6 +11,7 @@ use mathlib.Core.List.{List, [], _∷_}
 use lib.ListN.{length, getD, length-map}
 use lib.Dec.{eqb, ltb}
 use borrow.Author.Tests.{lt-ltb, le-ltb}
+use Rattle.gates.specs.Cell.{retiredCells}
 use Rattle.runs.specs.Row.{Row, low, after}
 use Rattle.runs.specs.Net.{nets, inputRail, riseUp, riseDown, riseStep, RiseList}
 use Rattle.runs.specs.Theory.{AllHold}
@@ -30,6 +31,7 @@ use Rattle.netlist.specs.Formed.{FormedFrom, ReferenceFormed}
 use Rattle.verdict.specs.Graph.{In, Leads}
 use Rattle.verdict.specs.Rows.{high}
 use Rattle.verdict.specs.Loops.{LoopFree, pinsAt}
+use Rattle.verdict.specs.Retired.{NoneRetired}
 use Rattle.verdict.specs.Words.{bitsOf}
 use Rattle.verdict.specs.Answers.{operate, valuesAt, signalValues, answer}
 use Rattle.verdict.specs.Nets.{noGate, noPair, driver, setIn, railOf, netOf, railsFor, answerBits}
@@ -86,6 +88,19 @@ module _ {most : Limits} (r : Reference) (formed : ReferenceFormed most r) where
   -- only four cells are used
   pub cells-used : (k : ℕ) → k < length (all .gates) → In (getD (all .gates) k noGate .cell) usedCells
   cells-used k l = sane .sound k l .used
+
+  -- and none of them is retired
+  pub none-retired : NoneRetired (all .gates)
+  unfolding retiredCells
+  none-retired k l (inr h) = absurd h
+  none-retired k l (inl e) = apart (getD (all .gates) k noGate .cell) (cells-used k l) e
+    where
+      apart : (c : ℕ) → In c usedCells → ¬ (c ≡ 24)
+      apart c (inl e) d = omega arith
+      apart c (inr (inl e)) d = omega arith
+      apart c (inr (inr (inl e))) d = omega arith
+      apart c (inr (inr (inr (inl e)))) d = omega arith
+      apart c (inr (inr (inr (inr e)))) d = absurd e
 
   -- the gate that drives a net
   driver-at : (net : ℕ) (x : Gate) → GateAt n all net x → driver stage net ≡ x

@@ -1,19 +1,15 @@
 -- Signals of a reference that are no output and lead to none (25).
 use Prim.Native.Nat.{ℕ, suc, _+_}
-use mathlib.Core.Bool.{Bool, false, cond, _||_}
+use mathlib.Core.Bool.{Bool, cond}
 use mathlib.Core.List.{List, [], _∷_}
 use lib.ListN.{length}
-use lib.Dec.{eqb}
+use Rattle.gates.specs.Cell.{among}
 use Rattle.netlist.specs.Content.{Coded, Reference}
 use Rattle.verdict.specs.Graph.{In, Leads, leads}
 
 -- "input i is signal i and gate k is signal n + k"
 abbrev pub signals : Reference → ℕ
 signals r = r .inputs + length (r .gates)
-
-unfoldable pub among : ℕ → List ℕ → Bool
-among x [] = false
-among x (y ∷ ys) = eqb x y || among x ys
 
 -- the signals one step from signal x: those of the gates that have x as an operand. The first of some gates is signal s
 unfoldable pub readersFrom : ℕ → List Coded → ℕ → List ℕ
