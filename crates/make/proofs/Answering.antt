@@ -14,6 +14,7 @@ use Rattle.netlist.specs.declared.Counts.{Counts}
 use Rattle.netlist.specs.declared.Limits.{Limits}
 use Rattle.netlist.specs.declared.Found.{Found}
 use Rattle.netlist.specs.declared.Found.the-variants.{At, Nothing}
+use Rattle.netlist.specs.declared.Outcome.{Outcome}
 use Rattle.netlist.specs.declared.Outcome.the-variants as outcome
 use Rattle.netlist.specs.Commands.{whenFound}
 use Rattle.netlist.specs.Reading.{Reading, readable, readFile, stageLimits, referenceLimits}
@@ -44,7 +45,7 @@ use Rattle.make.specs.Rails.{pairsIn}
 use Rattle.load.specs.Load.{HoldsReference}
 use Rattle.load.proofs.Reading.{was-refused, reference-held}
 use Rattle.make.specs.Call.{leaves, stageMade, makeRead}
-use Rattle.make.proofs.Putting.{put-same}
+use Rattle.writing.proofs.Putting.{put-same}
 
 -- ---- the stage
 
@@ -142,6 +143,13 @@ module _ (c : Counts) (code : List ℕ) where
   pub needed-is : (n : ℕ) → n ≡ operations (operatorsIn c code) → 2 * n ≡ gatesNeeded (referenceIn c code)
   unfolding gatesNeeded
   needed-is n e = ap (λ (x : ℕ). 2 * x) e
+
+-- what was read within some limits, where these are those of a reference
+pub reference-read-by : (given : Limits) (s : List ℕ) (r : Outcome) (code : List ℕ) → given ≡ referenceLimits
+    → (r ≡ outcomeOf (readFile file.Reference given s)) × HoldsReference s (readFile file.Reference given s) code
+    → (r ≡ outcomeOf (readFile file.Reference referenceLimits s)) × HoldsReference s (readFile file.Reference referenceLimits s) code
+reference-read-by given s r code e h =
+    subst (λ (m : Limits). (r ≡ outcomeOf (readFile file.Reference m s)) × HoldsReference s (readFile file.Reference m s) code) e h
 
 -- the file that was read
 module _ (s buffer : List ℕ) where

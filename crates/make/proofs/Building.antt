@@ -27,7 +27,7 @@ use Rattle.circuit.specs.Stage.{tabulate}
 use Rattle.circuit.specs.Reference.{operatorIn, operatorsIn, referenceIn}
 use Rattle.circuit.proofs.Tabulate.{length-tabulate, getD-tabulate}
 use Rattle.make.specs.Rails.{pairIn, pairsIn, becomes}
-use Rattle.make.proofs.Putting.{put-same}
+use Rattle.writing.proofs.Putting.{put-same}
 use Rattle.make.proofs.Lists.{from-at, none-from, one-more, all-same}
 
 -- ---- rails

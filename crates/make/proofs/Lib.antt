@@ -1,4 +1,3 @@
-pub mod Putting
 pub mod Lists
 pub mod Marking
 pub mod Building

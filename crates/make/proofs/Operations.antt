@@ -25,7 +25,7 @@ use Rattle.circuit.specs.Reference.{operationIn, operandIn, operatorIn, signals
 use Rattle.circuit.proofs.Tabulate.{getD-tabulate, map-tabulate}
 use Rattle.make.specs.Rails.{pairIn, pairsIn, becomes}
 use Rattle.make.proofs.Lists.{all-same}
-use Rattle.make.proofs.Putting.{put-same}
+use Rattle.writing.proofs.Putting.{put-same}
 
 -- ---- rails and gates by the operation
 

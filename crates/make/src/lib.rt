@@ -11,7 +11,7 @@ ghost use mathlib.Core.List.{List, [], _∷_};
 ghost use Prim.Native.Nat.{ℕ, _+_, _*_, _≤_, _<_};
 ghost use lib.ListN.{length, getD, set};
 ghost use Rattle.netlist.specs.declared.File.the-variants as file;
-ghost use Rattle.netlist.specs.Reading.{stageLimits, referenceLimits};
+ghost use Rattle.netlist.specs.Reading.{referenceLimits};
 ghost use Rattle.netlist.specs.Formed.{ReferenceFormed};
 ghost use Rattle.verdict.specs.Rows.{high};
 ghost use Rattle.verdict.specs.Search.{least};
@@ -19,13 +19,12 @@ ghost use Rattle.made.specs.Made.{TH22, THxor0, THand0, TH24comp, railsAt, inpu
 ghost use Rattle.made.specs.Leading.{leadsOut};
 ghost use Rattle.made.specs.Marks.{marked, markedFrom};
 ghost use Rattle.made.specs.Making.{madeBytes};
-ghost use Rattle.made.specs.Promises.{MakeMeans};
 ghost use Rattle.writing.specs.Put.{Put};
 ghost use Rattle.writing.specs.Parts.{gateItem, pairItem, bytesOf};
 ghost use Rattle.writing.specs.Written.{written};
 ghost use Rattle.circuit.specs.Reference.{operatorIn, operatorsIn, signalsIn, referenceIn, ReferenceLoaded};
 ghost use Rattle.make.specs.Rails.{pairOf, pairIn, pairsIn, becomes};
-ghost use Rattle.make.specs.Call.{leaves, stageMade, makeRead};
+ghost use Rattle.make.specs.Call.{leaves, makeRead, MakeDemand};
 
 // A byte for each signal of the largest reference.
 const SIGNALS: usize = netlist::INPUTS + netlist::REFERENCE_GATES;
@@ -331,9 +330,7 @@ fn make_loaded(code: &[u16], counts: Counts, buffer: &mut [u8]) -> Answer
 
 // Writes a stage that computes what a reference says into a buffer: its verdict, and how many bytes it wrote. A refusal writes nothing.
 pub fn make_stage(reference: &[u8], buffer: &mut [u8]) -> Answer
-    ensures answer { λ r. ⌜ written r (now (buffer .exit)) ≡ leaves (stageMade (now (reference .entry)) (length (now (buffer .entry)))) (now (buffer .entry)) ⌝ }
-    ensures means { λ r. ⌜ MakeMeans stageLimits referenceLimits (now (reference .entry)) (length (now (buffer .entry))) (stageMade (now (reference .entry))
-        (length (now (buffer .entry)))) ⌝ }
+    ensures { λ r. ⌜ MakeDemand (now (reference .entry)) (now (buffer .entry)) r (now (buffer .exit)) ⌝ }
 {
     let mut code = [0u16; load::REFERENCE_CODE];
     match load::read_reference_within(reference, netlist::reference_limits(), &mut code) {

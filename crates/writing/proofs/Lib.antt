@@ -1,3 +1,4 @@
 pub mod Joining
 pub mod Files
 pub mod Answers
+pub mod Putting

@@ -1,36 +1,49 @@
 -- `make::make_stage` meets its contract. Assumes nothing.
+use native.Mathlib.Omega.{arith}
 use mathlib.Core.Path.{sym, _∙_}
 use denote.Ref.{now}
 use lib.ListN.{length}
 use Rattle.netlist.specs.Reading.{stageLimits, referenceLimits}
 use Rattle.netlist.proofs.Bounds.{no-more}
 use Rattle.made.proofs.Making.{make-means, limits-fit}
-use Rattle.make.proofs.Answering.{file-refused, file-loaded, file-made, read-within}
+use Rattle.make.proofs.Answering.{file-refused, file-loaded, file-made, reference-read-by}
 use borrow.Author.Needs.{needs}
 use Rattle.make.proofs.make_stage.Statement.{statement}
 use Rattle.make.proofs.make_stage.Tie as tie
 
 read-reference-within-requires : tie.Need-read-reference-within-requires
-read-reference-within-requires c κs = read-within _ (c .before .reference-limits .ensures)
+read-reference-within-requires c κs = (no-more _ referenceLimits (c .before .reference-limits .ensures), omega arith)
 
 make-loaded-requires : tie.Need-make-loaded-requires
 make-loaded-requires c κs =
     let z = c .before .before .before .before .before .before .before .before .before .before .before in
-    let f = c .before .before .before .before .before .before .read-reference-within .ensures in
-    file-loaded (now (z .args .reference)) (now (z .args .buffer)) _ _ (sym (c .before .before .before .counts .given .1) ∙ f .0) (f .1)
+    let s = now (z .args .reference) in
+    let f = reference-read-by _ s _ _ (c .before .before .before .before .before .before .before .before .reference-limits .ensures)
+    (c .before .before .before .before .before .before .read-reference-within .ensures) in
+    file-loaded s (now (z .args .buffer)) _ _ (sym (c .before .before .before .counts .given .1) ∙ f .0) (f .1)
 
 returns : tie.Need-returns
 returns c =
     let z = c .before .before .before .before .before .before .before .before .before .before in
-    (file-refused (now (z .args .reference)) (now (z .args .buffer)) _ _ _ (sym (c .before .before .number .given .1) ∙ c .before .before .before .before .before .read-reference-within .ensures .0) (c .refused .ensures),
-    make-means stageLimits referenceLimits limits-fit (now (z .args .reference)) (length (now (z .args .buffer))))
+    let s = now (z .args .reference) in
+    let f = reference-read-by _ s _ _ (c .before .before .before .before .before .before .before .reference-limits .ensures)
+    (c .before .before .before .before .before .read-reference-within .ensures) in
+    record {
+      answer = file-refused s (now (z .args .buffer)) _ _ _ (sym (c .before .before .number .given .1) ∙ f .0) (c .refused .ensures);
+      means = make-means stageLimits referenceLimits limits-fit s (length (now (z .args .buffer)));
+    }
 
 returns-2 : tie.Need-returns-2
 returns-2 c =
     let z = c .before .before .before .before .before .before .before .before .before .before .before .before .before .before in
-    let f = c .before .before .before .before .before .before .before .before .before .read-reference-within .ensures in
-    (file-made (now (z .args .reference)) (now (z .args .buffer)) _ _ (sym (c .before .before .before .before .before .before .counts .given .1) ∙ f .0) (f .1) _ _ (c .before .before .make-loaded .ensures),
-    make-means stageLimits referenceLimits limits-fit (now (z .args .reference)) (length (now (z .args .buffer))))
+    let s = now (z .args .reference) in
+    let f = reference-read-by _ s _ _ (c .before .before .before .before .before .before .before .before .before .before .before .reference-limits .ensures)
+    (c .before .before .before .before .before .before .before .before .before .read-reference-within .ensures) in
+    record {
+      answer = file-made s (now (z .args .buffer)) _ _ (sym (c .before .before .before .before .before .before .counts .given .1) ∙ f .0) (f .1) _ _
+          (c .before .before .make-loaded .ensures);
+      means = make-means stageLimits referenceLimits limits-fit s (length (now (z .args .buffer)));
+    }
 
 pub make-stage-spec : {M : Type 1} → statement M
 make-stage-spec =

@@ -11,7 +11,7 @@ use Rattle.made.specs.Made.{Realized}
 use Rattle.writing.specs.Parts.{gateItem, bytesOf}
 use Rattle.circuit.specs.Reference.{operatorIn}
 use Rattle.make.specs.Rails.{pairOf}
-use Rattle.make.proofs.Putting.{put-same}
+use Rattle.writing.proofs.Putting.{put-same}
 use Rattle.make.proofs.Operations.{becomes-is, not-gates, other-gates, one-operation, put-no-gate, rails-stored}
 use borrow.Author.Needs.{needs}
 use Rattle.make.proofs.put_gate.Statement.{statement}

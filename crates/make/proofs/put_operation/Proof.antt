@@ -7,7 +7,7 @@ use Rattle.netlist.specs.declared.File.the-variants as file
 use Rattle.netlist.specs.Content.{Gate}
 use Rattle.made.specs.Made.{realize}
 use Rattle.writing.specs.Parts.{gateItem, bytesOf}
-use Rattle.make.proofs.Putting.{put-same}
+use Rattle.writing.proofs.Putting.{put-same}
 use Rattle.make.proofs.Operations.{gates-at, gates-or, or-nor}
 use borrow.Author.Needs.{needs}
 use Rattle.make.proofs.put_operation.Statement.{statement}
