@@ -4,13 +4,13 @@
 //! library with C functions needs two wrappers of a line each. A program is run as a
 //! program, in a folder that holds the two files.
 
-use crate::expansion::{self, Expanded};
 use crate::files::{hex, report_text, verdict_line, FilePair, MOST_BYTES_READ};
-use crate::generate::expansions::{expansion_case, ExpansionCase};
 use crate::generate::joins::{join_case, JoinCase};
+use crate::generate::made::{make_case, MakeCase};
 use crate::generate::{pair, row_case, RowCase};
 use crate::join::{self, Joined};
 use crate::judge::{self, Verdict};
+use crate::make::{self, Made};
 use std::fmt;
 use std::fs;
 use std::io;
@@ -28,7 +28,7 @@ pub type SettledRow = fn(&[u8], &mut [u8]) -> [u64; 4];
 pub type Join = fn(&FilePair, &FilePair, &mut [u8], &mut [u8]) -> Joined;
 
 /// The stage of a reference file, into a lent buffer.
-pub type Expand = fn(&[u8], &mut [u8]) -> Expanded;
+pub type Make = fn(&[u8], &mut [u8]) -> Made;
 
 /// The numbers of a report as the library gives them: how many words have a line, their total,
 /// and 1,024 lines of which those past the words are 0. Of a refused pair all but the verdict is 0.
@@ -72,7 +72,7 @@ pub const ROW_NUMBERS: [usize; 15] = [0, 1, 2, 3, 4, 5, 6, 7, 8, 9, 18, 19, 12, 
 pub const JOIN_NUMBERS: [usize; 24] = [
     0, 1, 2, 3, 4, 5, 6, 7, 8, 9, 18, 19, 10, 11, 12, 28, 13, 14, 15, 20, 21, 22, 23, 24,
 ];
-pub const EXPANSION_NUMBERS: [usize; 13] = [0, 1, 2, 3, 4, 5, 6, 7, 8, 9, 25, 26, 27];
+pub const MAKE_NUMBERS: [usize; 13] = [0, 1, 2, 3, 4, 5, 6, 7, 8, 9, 25, 26, 27];
 
 /// What cases lack that a comparison rests on: one of the numbers never came, or fewer
 /// than a fifth of the cases are accepted.
@@ -117,11 +117,11 @@ pub enum Difference {
         judge: Answer,
         other: Answer,
     },
-    Expansions {
+    Makes {
         name: String,
-        case: ExpansionCase,
-        judge: (Expanded, Vec<u8>),
-        other: (Expanded, Vec<u8>),
+        case: MakeCase,
+        judge: (Made, Vec<u8>),
+        other: (Made, Vec<u8>),
     },
 }
 
@@ -230,7 +230,7 @@ impl fmt::Display for Difference {
                 }
                 Ok(())
             }
-            Difference::Expansions {
+            Difference::Makes {
                 name,
                 case,
                 judge,
@@ -243,9 +243,9 @@ impl fmt::Display for Difference {
                 ] {
                     writeln!(f, "{which}, {} bytes: {}", bytes.len(), hex(bytes))?;
                 }
-                for (who, (expanded, buffer)) in [("judge", judge), ("other", other)] {
-                    let verdict = line(expanded.verdict);
-                    writeln!(f, "{who}: {verdict}, {} bytes", expanded.len)?;
+                for (who, (made, buffer)) in [("judge", judge), ("other", other)] {
+                    let verdict = line(made.verdict);
+                    writeln!(f, "{who}: {verdict}, {} bytes", made.len)?;
                     writeln!(f, "buffer of the {who}: {}", hex(buffer))?;
                 }
                 Ok(())
@@ -324,20 +324,16 @@ pub fn compare_join(other: Join, name: &str, case: &JoinCase) -> Result<u64, Box
 }
 
 /// Compares the verdict, the length and every byte of the buffer of one case.
-pub fn compare_expansion(
-    other: Expand,
-    name: &str,
-    case: &ExpansionCase,
-) -> Result<u64, Box<Difference>> {
-    let answer_of = |expand: Expand| {
+pub fn compare_make(other: Make, name: &str, case: &MakeCase) -> Result<u64, Box<Difference>> {
+    let answer_of = |make_stage: Make| {
         let mut buffer = case.buffer.clone();
-        (expand(&case.reference, &mut buffer), buffer)
+        (make_stage(&case.reference, &mut buffer), buffer)
     };
-    let (judged, given) = (answer_of(expansion::expand), answer_of(other));
+    let (judged, given) = (answer_of(make::make_stage), answer_of(other));
     if judged == given {
         return Ok(judged.0.verdict[0]);
     }
-    Err(Box::new(Difference::Expansions {
+    Err(Box::new(Difference::Makes {
         name: name.to_string(),
         case: case.clone(),
         judge: judged,
@@ -455,16 +451,12 @@ pub fn compare_joins(other: Join, seed: u64, count: u64) -> Result<Histogram, Bo
 
 /// Compares the stages of the first `count` references of a seed. The first difference is printed
 /// and given back.
-pub fn compare_expansions(
-    other: Expand,
-    seed: u64,
-    count: u64,
-) -> Result<Histogram, Box<Difference>> {
+pub fn compare_makes(other: Make, seed: u64, count: u64) -> Result<Histogram, Box<Difference>> {
     let mut histogram = Histogram::default();
     for index in 0..count {
-        let generated = expansion_case(seed, index);
-        let name = format!("expansion {index} of seed {seed} ({})", generated.family);
-        let number = compare_expansion(other, &name, &generated.case)
+        let generated = make_case(seed, index);
+        let name = format!("reference {index} of seed {seed} ({})", generated.family);
+        let number = compare_make(other, &name, &generated.case)
             .inspect_err(|difference| println!("{difference}"))?;
         histogram[number as usize] += 1;
     }

@@ -5,8 +5,8 @@
 //! fault whose verdict is known by the way they are made, and pairs of which nothing
 //! is known beforehand: mutated circuits, random circuits, damaged bytes.
 
-pub mod expansions;
 pub mod joins;
+pub mod made;
 
 use crate::circuits::{
     dual_rail, kind_named, multiplier, multiplier_reference, reordered, ripple_adder,

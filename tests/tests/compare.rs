@@ -3,7 +3,7 @@
 
 use fovaheju_tests::compare::{
     compare_checks, compare_pair, compare_rows, first_difference, lack, run_program, shrink, Check,
-    Difference, Histogram, SettledRow, CHECK_NUMBERS, EXPANSION_NUMBERS, JOIN_NUMBERS, ROW_NUMBERS,
+    Difference, Histogram, SettledRow, CHECK_NUMBERS, JOIN_NUMBERS, MAKE_NUMBERS, ROW_NUMBERS,
 };
 use fovaheju_tests::files::{as_the_program_reads, unhex, verdict_from_line, FilePair};
 use fovaheju_tests::generate::pair;
@@ -31,7 +31,7 @@ fn a_lack_is_told() {
     assert_eq!(lack(&full, &CHECK_NUMBERS), None);
     assert_eq!(lack(&full, &ROW_NUMBERS), None);
     assert_eq!(lack(&full, &JOIN_NUMBERS), None);
-    assert_eq!(lack(&full, &EXPANSION_NUMBERS), None);
+    assert_eq!(lack(&full, &MAKE_NUMBERS), None);
     for number in 0..full.len() {
         let mut histogram = full;
         histogram[number] = 0;
@@ -39,7 +39,7 @@ fn a_lack_is_told() {
             &CHECK_NUMBERS[..],
             &ROW_NUMBERS[..],
             &JOIN_NUMBERS[..],
-            &EXPANSION_NUMBERS[..],
+            &MAKE_NUMBERS[..],
         ] {
             assert_eq!(
                 lack(&histogram, numbers).is_some(),

@@ -1,4 +1,6 @@
-// What the programs share: the start of a file, and numbers on standard output. No contract can say what is read or written.
+// What the programs share: the start of a file, numbers on standard output, and a file that is written. No contract can say what is read or
+// written.
+use libc::STDERR_FILENO;
 use libc::STDOUT_FILENO;
 use report::Report;
 use verdict::Verdict;
@@ -27,6 +29,25 @@ fn load_opened(fd: i32, buf: &mut [u8]) -> usize
     let n = io::read_full(fd, buf);
     libc::close(fd);
     n
+}
+
+fn complain(path: &[u8]) {
+    io::write_all(STDERR_FILENO, path);
+    io::write_all(STDERR_FILENO, b" could not be written\n");
+}
+
+// Writes the first bytes of a buffer into a file; one that cannot be opened is said on standard error.
+pub fn save(path: &[u8], buffer: &[u8], count: u64) {
+    let n = count as usize;
+    let file = os::open_overwrite(path);
+    if file < 0 {
+        complain(path);
+        return;
+    }
+    if n <= buffer.len() {
+        io::write_all(file, &buffer[..n]);
+    }
+    libc::close(file);
 }
 
 // A number after a space.
