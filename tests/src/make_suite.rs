@@ -11,7 +11,7 @@ use crate::generate::made::{make_case, MakeCase};
 use crate::generate::Known;
 use crate::judge::{Reference, Verdict, ACCEPTED, AND, NAND, NOR, NOT, OR, REFERENCE, ROW, XOR};
 use crate::make::make_stage;
-use crate::suite;
+use crate::{join_suite, report_suite, suite};
 use std::collections::BTreeSet;
 use std::path::PathBuf;
 
@@ -34,6 +34,33 @@ pub fn contents() -> Vec<(PathBuf, Vec<u8>)> {
     }
     list.push(("stdout".into(), stdout.into_bytes()));
     list
+}
+
+/// The same for the program `ncl_make`: the reference of one of the examples.
+pub fn contents_of_ncl_make() -> Vec<(PathBuf, Vec<u8>)> {
+    let example = examples()
+        .into_iter()
+        .find(|example| example.name == "full-adder")
+        .expect("an example");
+    let made = make_stage(&example.pair.reference, &mut [0; 8192]);
+    vec![
+        ("data/reference.ncl".into(), example.pair.reference),
+        ("stdout".into(), verdict_line(made.verdict).into_bytes()),
+    ]
+}
+
+/// The references of all stored pairs, joins and examples.
+pub fn all_references() -> BTreeSet<Vec<u8>> {
+    let pairs = suite::cases().into_iter().map(|case| case.pair.reference);
+    let reports = report_suite::cases()
+        .into_iter()
+        .map(|case| case.pair.reference);
+    let parts = join_suite::cases().into_iter().flat_map(|case| {
+        let join = case.case;
+        [join.first.reference, join.second.reference]
+    });
+    let examples = examples().into_iter().map(|example| example.pair.reference);
+    pairs.chain(reports).chain(parts).chain(examples).collect()
 }
 
 /// A case's line: its index in three digits, the judge's four numbers, how many bytes are written,

@@ -13,8 +13,10 @@ use fovaheju_tests::judge::{
     ACCEPTED, NOT,
 };
 use fovaheju_tests::make::{made_stage, make_stage, Made};
-use fovaheju_tests::make_suite::{cases, line};
+use fovaheju_tests::make_suite::{all_references, cases, contents, contents_of_ncl_make, line};
+use fovaheju_tests::suite::{crate_folder, is_stored};
 use std::collections::{BTreeMap, BTreeSet};
+use std::fs;
 
 /// The bytes that are written, or the verdict.
 fn written(reference: &str) -> Result<Vec<u8>, [u64; 4]> {
@@ -215,6 +217,25 @@ fn idle_signals() {
     }
 }
 
+/// Every stage that is made of a stored reference is accepted against it.
+#[test]
+fn stored_references() {
+    let (mut made, mut refused) = (0, 0);
+    for reference in all_references() {
+        let mut buffer = vec![0; 8192];
+        let Made { verdict, len } = make_stage(&reference, &mut buffer);
+        if verdict == ACCEPTED {
+            let checked = check_within(WHOLE_LIMITS, &buffer[..len], &reference);
+            assert_eq!(checked, ACCEPTED, "reference {}", hex(&reference));
+            made += 1;
+        } else {
+            refused += 1;
+        }
+    }
+    println!("{made} stored references give a stage, {refused} are refused");
+    assert!(made >= 100 && refused >= 50, "{made} {refused}");
+}
+
 /// The judge's verdicts are those written by hand, and every number has cases.
 #[test]
 fn stored_cases() {
@@ -330,4 +351,18 @@ fn wrong_stages_are_told() {
     for (about, make_stage) in wrong {
         assert!(compare_makes(make_stage, 107, 2_000).is_err(), "{about}");
     }
+}
+
+#[test]
+fn stored_files_and_output() {
+    is_stored("make_suite", contents());
+    is_stored("ncl_make", contents_of_ncl_make());
+}
+
+/// The program has as many cases as there are here.
+#[test]
+fn the_program_reads_all_cases() {
+    let source = fs::read_to_string(crate_folder("make_suite").join("src/main.rt")).unwrap();
+    let count = format!("const CASES: usize = {};", cases().len());
+    assert!(source.contains(&count), "main.rt has no line '{count}'");
 }

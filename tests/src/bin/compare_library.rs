@@ -1,14 +1,19 @@
 //! compare_library [SEED [COUNT]]: compares all calls of the proved library with the judge,
-//! on the stored examples and cases of joins, and on as many generated pairs, rows and joins. Prints how many had each
-//! number, or the first difference. Fails too if some number never came or too few were accepted.
+//! on the stored examples, cases of joins and references, and on as many generated pairs, rows, joins and references. Prints how
+//! many had each number, or the first difference. Fails too if some number never came or too few were accepted.
 
 use fovaheju_tests::compare::{
-    compare_checks, compare_join, compare_joins, compare_pair, compare_report, compare_reports,
-    compare_rows, lack, Difference, Histogram, CHECK_NUMBERS, JOIN_NUMBERS, ROW_NUMBERS,
+    compare_checks, compare_join, compare_joins, compare_make, compare_makes, compare_pair,
+    compare_report, compare_reports, compare_rows, lack, Difference, Histogram, CHECK_NUMBERS,
+    JOIN_NUMBERS, MAKE_NUMBERS, ROW_NUMBERS,
 };
 use fovaheju_tests::files::{examples_folder, load_example, stored_examples};
+use fovaheju_tests::generate::made::MakeCase;
 use fovaheju_tests::join_suite;
+use fovaheju_tests::judge::ACCEPTED;
 use fovaheju_tests::library;
+use fovaheju_tests::make::Made;
+use fovaheju_tests::make_suite::all_references;
 use std::process::ExitCode;
 use std::time::Instant;
 
@@ -27,6 +32,16 @@ fn tell(what: &str, histogram: &Histogram, numbers: &[usize], start: Instant) ->
     lack.is_none()
 }
 
+/// The library's stage of a reference, which its check has to accept.
+fn made_and_checked(reference: &[u8], buffer: &mut [u8]) -> Made {
+    let made = library::make_stage(reference, buffer);
+    if made.verdict == ACCEPTED {
+        let checked = library::check(&buffer[..made.len], reference);
+        assert_eq!(checked, ACCEPTED, "a made stage is refused");
+    }
+    made
+}
+
 fn compare(seed: u64, count: u64) -> Result<bool, Box<Difference>> {
     let names = stored_examples(&examples_folder()).expect("the examples");
     for name in &names {
@@ -42,6 +57,20 @@ fn compare(seed: u64, count: u64) -> Result<bool, Box<Difference>> {
             .inspect_err(|difference| println!("{difference}"))?;
     }
     println!("{} stored joins alike", joins.len());
+    let references = all_references();
+    for (index, reference) in references.iter().enumerate() {
+        let case = MakeCase {
+            reference: reference.clone(),
+            buffer: vec![7; 8192],
+        };
+        compare_make(
+            made_and_checked,
+            &format!("stored reference {index}"),
+            &case,
+        )
+        .inspect_err(|difference| println!("{difference}"))?;
+    }
+    println!("stages of {} stored references alike", references.len());
     let start = Instant::now();
     let checks = compare_checks(library::check, seed, count)?;
     let checks = tell("pairs", &checks, &CHECK_NUMBERS, start);
@@ -54,7 +83,10 @@ fn compare(seed: u64, count: u64) -> Result<bool, Box<Difference>> {
     let start = Instant::now();
     let joins = compare_joins(library::join, seed, count)?;
     let joins = tell("joins", &joins, &JOIN_NUMBERS, start);
-    Ok(checks && reports && rows && joins)
+    let start = Instant::now();
+    let makes = compare_makes(made_and_checked, seed, count)?;
+    let makes = tell("stages from references", &makes, &MAKE_NUMBERS, start);
+    Ok(checks && reports && rows && joins && makes)
 }
 
 fn main() -> ExitCode {

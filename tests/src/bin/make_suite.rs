@@ -1,15 +1,12 @@
-//! make_suite [FOLDER]: writes the files of all stored cases of stages from references and the
-//! expected output into the crate of a program `make_suite`, or into the folder given, and
-//! prints a list of the cases.
+//! Writes the files of all stored cases of stages from references and the expected output into the crate of the program
+//! `make_suite`, and those of the program `ncl_make` into its crate, and prints a list of the cases.
 
-use fovaheju_tests::make_suite::{cases, contents, line};
+use fovaheju_tests::make_suite::{cases, contents, contents_of_ncl_make, line};
 use fovaheju_tests::suite::{crate_folder, store};
-use std::path::PathBuf;
 
 fn main() -> std::io::Result<()> {
-    let folder = std::env::args_os().nth(1);
-    let folder = folder.map_or_else(|| crate_folder("make_suite"), PathBuf::from);
-    store(&folder, &contents())?;
+    store(&crate_folder("make_suite"), &contents())?;
+    store(&crate_folder("ncl_make"), &contents_of_ncl_make())?;
     for (index, case) in cases().iter().enumerate() {
         let line = line(index, case);
         let numbers = line.split(':').next().unwrap_or_default();
