@@ -67,7 +67,7 @@ rails-more rails m p l =
     ap (tabulate (pairIn after)) (add-one m)
     ∙ one-more (pairIn after) m
     ∙ ap₂ (λ (l : List Pair) (q : Pair). l ++ (q ∷ [])) (all-same (pairIn after) (pairIn rails) m (λ i h. ap₂ pair (other (2 * i) (omega arith)) (other (2 * i + 1) (omega arith))))
-      (ap₂ pair first second)
+    (ap₂ pair first second)
   where
     between : List ℕ
     between = set rails (2 * m) (p .rail0)
@@ -139,9 +139,11 @@ module _ (c : Counts) (code : List ℕ) where
       gate-long : length (addGate (c .inputs) (t .so-far) (operatorIn code k) .gates) ≡ length (t .so-far .gates) + 2 * operations (operatorIn code k ∷ [])
       unfolding addGates operatorsIn
       gate-long =
-          all-long (c .inputs) (t .so-far) (c .inputs + k) (operatorIn code k ∷ [])
-          (subst (OperationFormed (c .inputs + k)) (getD-tabulate (operatorIn code) (c .gates) k (operatorIn code 0) l)
-          (in-order-at (c .inputs) (operatorsIn c code) (formed .gates-formed) k (operatorIn code 0) (omega (arith, length-tabulate (operatorIn code) (c .gates)))), tt)
+          all-long (c .inputs) (t .so-far) (c .inputs + k) (operatorIn code k ∷ []) (
+            subst (OperationFormed (c .inputs + k)) (getD-tabulate (operatorIn code) (c .gates) k (operatorIn code 0) l)
+                (in-order-at (c .inputs) (operatorsIn c code) (formed .gates-formed) k (operatorIn code 0) (omega (arith, length-tabulate (operatorIn code) (c .gates)))),
+            tt,
+          )
 
       pub made-turn : {after rails′ : List ℕ} {made′ : ℕ} → made′ ≡ made + length (here .gates)
           → Put buffer (2 + 10 * made) (bytesOf file.Stage gateItem (here .gates)) after

@@ -87,7 +87,7 @@ module _ (c : Counts) (code : List ℕ) where
         let s : suc (c .inputs + k) ≡ c .inputs + suc k = omega arith in
         ap (λ (cs : List Coded). markedFrom (c .inputs + k) cs marks₀) (from-at (operatorIn code) (c .gates) k l)
         ∙ ap (λ (later : List ℕ). cond (high later (c .inputs + k)) (marked later (operatorIn code k .operands)) later)
-          (ap (λ (i : ℕ). markedFrom i (drop (suc k) (operatorsIn c code)) marks₀) s ∙ sym e)
+        (ap (λ (i : ℕ). markedFrom i (drop (suc k) (operatorsIn c code)) marks₀) s ∙ sym e)
 
     earlier : {marks : List ℕ} {k : ℕ} → 0 < k → LeadingTo marks₀ marks k → marks ≡ markedFrom (c .inputs + suc (k - 1)) (drop (suc (k - 1)) (operatorsIn c code)) marks₀
     earlier {marks} {k} l t = let e : k ≡ suc (k - 1) = omega arith in t .is ∙ ap (λ (i : ℕ). markedFrom (c .inputs + i) (drop i (operatorsIn c code)) marks₀) e

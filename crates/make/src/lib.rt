@@ -198,7 +198,14 @@ fn put_operation(buffer: &mut [u8], at: usize, operation: u16, a: Rails, b: Rail
 }
 
 // Gate k of the reference, where `made` gates were put before: its gates are put, its rails stored. Answers how many gates are put then.
-fn put_gate(buffer: &mut [u8], code: &[u16], counts: Counts, k: usize, rails: &mut [u16], made: usize) -> usize
+fn put_gate(
+    buffer: &mut [u8],
+    code: &[u16],
+    counts: Counts,
+    k: usize,
+    rails: &mut [u16],
+    made: usize,
+) -> usize
     requires { ⌜ ReferenceLoaded counts (now code) × (k < counts .gates) × (2 * (counts .inputs + counts .gates) ≤ length (now rails)) × (made ≤ 256)
         × (2 + 10 * (made + 2 * operations (operatorIn (now code) k ∷ [])) ≤ length (now buffer)) ⌝ }
     ensures count { λ r. ⌜ r ≡ made + length (becomes counts (now (code .entry)) k (now (rails .entry)) made .gates) ⌝ }

@@ -22,7 +22,9 @@ slice-write-rails : tie.Need-slice-write-rails Inv-loop μ-loop
 slice-write-rails c = omega (arith, c .before .before .pre .0, c .before .loop .inv .0)
 
 loop-again : tie.Need-loop-again Inv-loop μ-loop
-loop-again c = stored-more (now (c .before .before .args .rails)) (c .before .loop .rails) (c .before .loop .i) (omega (arith, c .before .before .pre .0, c .before .loop .inv .0)) (c .before .loop .inv)
+loop-again c =
+    let l = c .before .loop in
+    stored-more (now (c .before .before .args .rails)) (l .rails) (l .i) (omega (arith, c .before .before .pre .0, l .inv .0)) (l .inv)
 
 same-length : tie.Need-same-length Inv-loop μ-loop
 same-length c = c .before .loop .inv .0

@@ -24,13 +24,20 @@ slice-read-if1 : tie.Need-slice-read-if1 Inv-loop μ-loop
 slice-read-if1 c = omega (arith, c .before .before .before .before .before .pre .1, c .before .before .loop .inv .most, leading-long _ _ _ (c .before .before .loop .inv))
 
 mark-operands-requires : tie.Need-mark-operands-requires Inv-loop μ-loop
-mark-operands-requires c κs = (c .before .before .before .before .before .before .before .pre .0, omega (arith, c .before .before .before .before .loop .inv .most), omega (arith, c .before .before .before .before .before .before .before .pre .1, leading-long _ _ _ (c .before .before .before .before .loop .inv)))
+mark-operands-requires c κs =
+    let l = c .before .before .before .before .loop in
+    let z = c .before .before .before .before .before .before .before in
+    (z .pre .0, omega (arith, l .inv .most), omega (arith, z .pre .1, leading-long _ _ _ (l .inv)))
 
 loop-again : tie.Need-loop-again Inv-loop μ-loop
-loop-again c = leading-marked _ _ _ (omega arith) (c .before .before .before .before .before .before .before .loop .inv) (lt-ltb _ _ (c .before .before .before .before .if1 .taken)) (c .before .before .mark-operands .ensures)
+loop-again c =
+    leading-marked _ _ _ (omega arith) (c .before .before .before .before .before .before .before .loop .inv) (lt-ltb _ _ (c .before .before .before .before .if1 .taken))
+    (c .before .before .mark-operands .ensures)
 
 loop-again-2 : tie.Need-loop-again-2 Inv-loop μ-loop
-loop-again-2 c = leading-unmarked _ _ _ (omega arith) (c .before .before .before .loop .inv) (le-ltb 0 (getD (c .before .before .before .loop .marks) (c .before .before .before .before .before .before .args .counts .inputs + (c .before .before .before .loop .k - 1)) 0) (omega arith))
+loop-again-2 c =
+    let l = c .before .before .before .loop in
+    leading-unmarked _ _ _ (omega arith) (l .inv) (le-ltb 0 (getD (l .marks) (c .before .before .before .before .before .before .args .counts .inputs + (l .k - 1)) 0) (omega arith))
 
 same-length : tie.Need-same-length Inv-loop μ-loop
 same-length c = leading-long _ _ _ (c .before .loop .inv)

@@ -22,7 +22,10 @@ shared-slice-read-signal : tie.Need-shared-slice-read-signal Inv-loop μ-loop
 shared-slice-read-signal c = omega (arith, c .before .before .before .before .pre .0 .room)
 
 slice-write-marks : tie.Need-slice-write-marks Inv-loop μ-loop
-slice-write-marks c = omega (arith, c .before .before .before .before .pre .0 .signal (c .before .before .loop .j) (omega arith), c .before .before .before .before .pre .1, c .before .before .loop .inv .long)
+slice-write-marks c =
+    let z = c .before .before .before .before in
+    let l = c .before .before .loop in
+    omega (arith, z .pre .0 .signal (l .j) (omega arith), z .pre .1, l .inv .long)
 
 cast-signal : tie.Need-cast-signal Inv-loop μ-loop
 cast-signal c = let p = c .before .before .before .before .pre .0 in omega (arith, p .signal (c .before .before .loop .j) (omega arith), p .within .inputs-in, p .within .gates-in)

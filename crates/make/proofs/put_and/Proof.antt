@@ -10,7 +10,9 @@ use Rattle.make.proofs.put_and.Statement.{statement}
 use Rattle.make.proofs.put_and.Tie as tie
 
 returns : tie.Need-returns
-returns c = let z = c .before .before .before .before .before .before .before .before .before in put-two _ _ (put-same (gate-absent file.Stage 2 (z .args .a1 ∷ z .args .b1 ∷ []) 2) (c .before .before .before .before .before .before .put-stage-gate .ensures)) (c .before .before .put-stage-gate2 .ensures)
+returns c =
+    let z = c .before .before .before .before .before .before .before .before .before .args in
+    put-two _ _ (put-same (gate-absent file.Stage 2 (z .a1 ∷ z .b1 ∷ []) 2) (c .before .before .before .before .before .before .put-stage-gate .ensures)) (c .before .before .put-stage-gate2 .ensures)
 
 pub put-and-spec : {M : Type 1} → statement M
 put-and-spec =

@@ -15,19 +15,30 @@ use Rattle.make.proofs.put_operation.Tie as tie
 
 returns : tie.Need-returns
 unfolding realize
-returns c next = put-same (ap (bytesOf file.Stage gateItem) (gates-at 2 (c .before .before .before .before .before .before .args .operation) (pairOf (c .before .before .before .before .before .before .args .a) ∷ pairOf (c .before .before .before .before .before .before .args .b) ∷ []) next (c .before .before .before .before .match .keys1) refl)) (c .before .before .put-and .ensures)
+returns c next =
+    let z = c .before .before .before .before .before .before .args in
+    put-same (ap (bytesOf file.Stage gateItem) (gates-at 2 (z .operation) (pairOf (z .a) ∷ pairOf (z .b) ∷ []) next (c .before .before .before .before .match .keys1) refl))
+    (c .before .before .put-and .ensures)
 
 returns-2 : tie.Need-returns-2
 unfolding realize
-returns-2 c next = put-same (ap (bytesOf file.Stage gateItem) (gates-at 4 (c .before .before .before .before .before .before .args .operation) (pairOf (c .before .before .before .before .before .before .args .a) ∷ pairOf (c .before .before .before .before .before .before .args .b) ∷ []) next (c .before .before .before .before .match .keys2) refl)) (c .before .before .put-xor .ensures)
+returns-2 c next =
+    let z = c .before .before .before .before .before .before .args in
+    put-same (ap (bytesOf file.Stage gateItem) (gates-at 4 (z .operation) (pairOf (z .a) ∷ pairOf (z .b) ∷ []) next (c .before .before .before .before .match .keys2) refl))
+    (c .before .before .put-xor .ensures)
 
 returns-3 : tie.Need-returns-3
 unfolding realize
-returns-3 c next = put-same (ap (bytesOf file.Stage gateItem) (gates-at 5 (c .before .before .before .before .before .before .args .operation) (pairOf (c .before .before .before .before .before .before .args .a) ∷ pairOf (c .before .before .before .before .before .before .args .b) ∷ []) next (c .before .before .before .before .match .keys3) refl)) (c .before .before .put-and2 .ensures)
+returns-3 c next =
+    let z = c .before .before .before .before .before .before .args in
+    put-same (ap (bytesOf file.Stage gateItem) (gates-at 5 (z .operation) (pairOf (z .a) ∷ pairOf (z .b) ∷ []) next (c .before .before .before .before .match .keys3) refl))
+    (c .before .before .put-and2 .ensures)
 
 returns-4 : tie.Need-returns-4
 returns-4 c next =
-    put-same (ap (bytesOf file.Stage gateItem) (gates-or (c .before .before .before .before .before .before .args .operation) (pairOf (c .before .before .before .before .before .before .args .a)) (pairOf (c .before .before .before .before .before .before .args .b)) next (or-nor (c .before .before .before .before .before .before .args .operation) (omega arith) (omega arith) (λ e. omega arith) (λ e. omega arith)))) (c .before .before .put-and3 .ensures)
+    let z = c .before .before .before .before .before .before .args in
+    let op = or-nor (z .operation) (omega arith) (omega arith) (λ e. omega arith) (λ e. omega arith) in
+    put-same (ap (bytesOf file.Stage gateItem) (gates-or (z .operation) (pairOf (z .a)) (pairOf (z .b)) next op)) (c .before .before .put-and3 .ensures)
 
 pub put-operation-spec : {M : Type 1} → statement M
 put-operation-spec =

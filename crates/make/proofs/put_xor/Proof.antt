@@ -10,7 +10,7 @@ use Rattle.make.proofs.put_xor.Statement.{statement}
 use Rattle.make.proofs.put_xor.Tie as tie
 
 returns : tie.Need-returns
-returns c = let z = c .before .before .before .before .before .before .before .before .before in put-two _ _ (c .before .before .before .before .before .before .put-stage-gate .ensures) (c .before .before .put-stage-gate2 .ensures)
+returns c = put-two _ _ (c .before .before .before .before .before .before .put-stage-gate .ensures) (c .before .before .put-stage-gate2 .ensures)
 
 pub put-xor-spec : {M : Type 1} → statement M
 put-xor-spec =

@@ -26,7 +26,9 @@ loop-again : tie.Need-loop-again Inv-loop μ-loop
 loop-again c = sought-on _ _ _ (omega arith) (c .before .before .before .loop .inv) (ap not (lt-ltb _ _ (c .if1 .taken)))
 
 returns : tie.Need-returns Inv-loop μ-loop
-returns c = sought-here _ _ _ (omega arith) (c .before .before .before .loop .inv) (ap not (le-ltb 0 (getD (now (c .before .before .before .before .args .marks)) (c .before .before .before .loop .x) 0) (omega arith)))
+returns c =
+    let l = c .before .before .before .loop in
+    sought-here _ _ _ (omega arith) (l .inv) (ap not (le-ltb 0 (getD (now (c .before .before .before .before .args .marks)) (l .x) 0) (omega arith)))
 
 returns-2 : tie.Need-returns-2 Inv-loop μ-loop
 returns-2 c = sought-none _ _ _ (omega arith) (c .before .loop .inv)
