@@ -3,11 +3,10 @@
 use Prim.Native.Nat.{ℕ, _+_, _*_, _≤_, _<_}
 use native.Mathlib.Omega.{arith}
 use mathlib.Core.Path.{_≡_, refl, sym, ap, _∙_, subst}
-use mathlib.Core.Bool.{Bool, true, false, cond, not}
-use mathlib.Core.List.{List, [], _∷_, _++_, map}
+use mathlib.Core.Bool.{not}
+use mathlib.Core.List.{List, [], _∷_, _++_}
 use lib.ListN.{length, getD, length-map}
 use Rattle.verdict.specs.Nets.{noPair}
-use lib.Dec.{ltb}
 use borrow.Author.Tests.{lt-ltb, le-ltb}
 use Rattle.netlist.specs.declared.File.the-variants as file
 use Rattle.netlist.specs.declared.Counts.{Counts}
@@ -17,9 +16,9 @@ use Rattle.netlist.specs.declared.Found.the-variants.{At, Nothing}
 use Rattle.netlist.specs.declared.Outcome.{Outcome}
 use Rattle.netlist.specs.declared.Outcome.the-variants as outcome
 use Rattle.netlist.specs.Commands.{whenFound}
-use Rattle.netlist.specs.Reading.{Reading, readable, readFile, stageLimits, referenceLimits}
+use Rattle.netlist.specs.Reading.{Reading, readFile, stageLimits, referenceLimits}
 use Rattle.netlist.specs.Read.{outcomeOf}
-use Rattle.netlist.specs.Content.{Pair, Reference, referenceOf}
+use Rattle.netlist.specs.Content.{Pair, Reference}
 use Rattle.netlist.specs.Formed.{ReferenceFormed}
 use Rattle.netlist.specs.Writing.{codedGate, pairOperands}
 use Rattle.netlist.proofs.References.{reference-formed}
@@ -36,7 +35,7 @@ use Rattle.made.proofs.Making.{gates-long, laterTests, checks-by-tests}
 use Rattle.writing.specs.declared.Answer.{Answer}
 use Rattle.writing.specs.Put.{Put}
 use Rattle.writing.specs.Parts.{gateItem, pairItem, bytesOf}
-use Rattle.writing.specs.Written.{Written, answerOf, written}
+use Rattle.writing.specs.Written.{answerOf, written}
 use Rattle.writing.proofs.Joining.{put-++, put-holding}
 use Rattle.writing.proofs.Files.{stage-parts, stage-length, bytes-length, stage-gate-width, stage-output-width}
 use Rattle.circuit.specs.Reference.{signalIn, signalsIn, operatorIn, operatorsIn, referenceIn, ReferenceLoaded}

@@ -24,7 +24,7 @@ use Rattle.verdict.specs.Search.{least}
 use Rattle.made.specs.Made.{operations}
 use Rattle.made.specs.Leading.{signals, leadsOut}
 use Rattle.made.specs.Marks.{marked, markedFrom, outputMarks, leadingMarks}
-use Rattle.made.proofs.Marks.{marked-long, from-long, marks-are}
+use Rattle.made.proofs.Marks.{from-long, marks-are}
 use Rattle.circuit.specs.Stage.{tabulate}
 use Rattle.netlist.specs.Reading.{referenceLimits}
 use Rattle.circuit.specs.Reference.{operatorIn, operatorsIn, signalsIn, referenceIn}

@@ -9,7 +9,7 @@ use mathlib.Core.Logic.{_⊎_, inl, inr}
 use mathlib.Core.List.{List, [], _∷_, _++_, append-nil}
 use lib.ListN.{length, getD, set, take}
 use lib.Dec.{eqb}
-use borrow.Author.Tests.{eq-eqb, ne-eqb}
+use borrow.Author.Tests.{ne-eqb}
 use Rattle.netlist.specs.declared.File.the-variants as file
 use Rattle.netlist.specs.declared.Counts.{Counts}
 use Rattle.netlist.specs.Content.{Coded, Gate, Pair}
@@ -21,7 +21,7 @@ use Rattle.writing.specs.Parts.{gateItem, bytesOf}
 use Rattle.writing.proofs.Joining.{put-none, put-++}
 use Rattle.writing.proofs.Files.{stage-gate-width}
 use Rattle.circuit.specs.Stage.{tabulate}
-use Rattle.circuit.specs.Reference.{operationIn, operandIn, operatorIn, signalsIn}
+use Rattle.circuit.specs.Reference.{operationIn, operandIn, signalsIn}
 use Rattle.circuit.proofs.Tabulate.{getD-tabulate, map-tabulate}
 use Rattle.make.specs.Rails.{pairIn, pairsIn, becomes}
 use Rattle.make.proofs.Lists.{all-same}

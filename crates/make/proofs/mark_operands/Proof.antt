@@ -1,6 +1,5 @@
 -- `make::mark_operands` meets its contract. Assumes nothing.
 use native.Mathlib.Omega.{arith}
-use denote.Ref.{now}
 use lib.ListN.{length-set}
 use Rattle.make.proofs.Marking.{operands-one, operands-two}
 use borrow.Author.Needs.{needs}

@@ -1,5 +1,4 @@
 -- `make::put_and` meets its contract. Assumes nothing.
-use native.Mathlib.Omega.{arith}
 use mathlib.Core.List.{[], _∷_}
 use Rattle.netlist.specs.declared.File.the-variants as file
 use Rattle.writing.proofs.Files.{gate-absent}

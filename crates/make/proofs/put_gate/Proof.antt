@@ -1,16 +1,13 @@
 -- `make::put_gate` meets its contract. Assumes nothing.
 use native.Mathlib.Omega.{arith}
-use Prim.Native.Nat.{ℕ, _+_, _*_, _≤_}
-use mathlib.Core.Path.{_≡_, sym, ap, ap₂, _∙_, subst}
-use mathlib.Core.List.{List}
-use lib.ListN.{length, set, length-set}
+use Prim.Native.Nat.{_+_, _*_, _≤_}
+use mathlib.Core.Path.{sym, ap, _∙_}
+use lib.ListN.{length, length-set}
 use denote.Ref.{now}
 use Rattle.netlist.specs.declared.File.the-variants as file
-use Rattle.netlist.specs.Content.{Pair}
 use Rattle.made.specs.Made.{Realized}
 use Rattle.writing.specs.Parts.{gateItem, bytesOf}
 use Rattle.circuit.specs.Reference.{operationIn, operatorIn}
-use Rattle.make.specs.Rails.{pairOf}
 use Rattle.writing.proofs.Putting.{put-same}
 use Rattle.make.proofs.Operations.{becomes-is, not-gates, other-gates, one-operation, put-no-gate, rails-stored}
 use borrow.Author.Needs.{needs}

@@ -4,7 +4,6 @@ use mathlib.Core.Path.{refl, ap}
 use mathlib.Core.List.{[], _∷_}
 use Rattle.make.specs.Rails.{pairOf}
 use Rattle.netlist.specs.declared.File.the-variants as file
-use Rattle.netlist.specs.Content.{Gate}
 use Rattle.made.specs.Made.{realize}
 use Rattle.writing.specs.Parts.{gateItem, bytesOf}
 use Rattle.writing.proofs.Putting.{put-same}

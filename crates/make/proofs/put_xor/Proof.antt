@@ -1,9 +1,5 @@
 -- `make::put_xor` meets its contract. Assumes nothing.
-use native.Mathlib.Omega.{arith}
-use mathlib.Core.List.{[], _∷_}
 use Rattle.netlist.specs.declared.File.the-variants as file
-use Rattle.writing.proofs.Files.{gate-absent}
-use Rattle.writing.proofs.Putting.{put-same}
 use Rattle.make.proofs.Operations.{put-two}
 use borrow.Author.Needs.{needs}
 use Rattle.make.proofs.put_xor.Statement.{statement}
