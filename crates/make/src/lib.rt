@@ -11,7 +11,7 @@ ghost use mathlib.Core.List.{[], _∷_};
 ghost use Prim.Native.Nat.{ℕ, _+_, _*_, _≤_, _<_};
 ghost use lib.ListN.{length, set};
 ghost use Rattle.netlist.specs.declared.File.the-variants as file;
-ghost use Rattle.netlist.specs.Reading.{referenceLimits};
+ghost use Rattle.netlist.specs.Reading.{stageLimits, referenceLimits};
 ghost use Rattle.netlist.specs.Formed.{ReferenceFormed};
 ghost use Rattle.verdict.specs.Rows.{high};
 ghost use Rattle.verdict.specs.Search.{least};
@@ -206,7 +206,7 @@ fn put_gate(
     rails: &mut [u16],
     made: usize,
 ) -> usize
-    requires { ⌜ ReferenceLoaded counts (now code) × (k < counts .gates) × (2 * (counts .inputs + counts .gates) ≤ length (now rails)) × (made ≤ 256)
+    requires { ⌜ ReferenceLoaded counts (now code) × (k < counts .gates) × (2 * (counts .inputs + counts .gates) ≤ length (now rails)) × (made ≤ stageLimits .gates)
         × (2 + 10 * (made + 2 * operations (operatorIn (now code) k ∷ [])) ≤ length (now buffer)) ⌝ }
     ensures count { λ r. ⌜ r ≡ made + length (becomes counts (now (code .entry)) k (now (rails .entry)) made .gates) ⌝ }
     ensures put { λ r. ⌜ Put (now (buffer .entry)) (2 + 10 * made) (bytesOf file.Stage gateItem (becomes counts (now (code .entry)) k (now (rails .entry)) made
@@ -247,7 +247,7 @@ fn input_rails(rails: &mut [u16], inputs: usize)
 fn put_gates(buffer: &mut [u8], code: &[u16], counts: Counts, rails: &mut [u16]) -> usize
     requires { ⌜ ReferenceLoaded counts (now code) × ReferenceFormed referenceLimits (referenceIn counts (now code))
         × (2 * (counts .inputs + counts .gates) ≤ length (now rails))
-        × (pairsIn (now rails) (counts .inputs) ≡ inputRails 0 (counts .inputs)) × (gatesNeeded (referenceIn counts (now code)) ≤ 256)
+        × (pairsIn (now rails) (counts .inputs) ≡ inputRails 0 (counts .inputs)) × (gatesNeeded (referenceIn counts (now code)) ≤ stageLimits .gates)
         × (2 + 10 * gatesNeeded (referenceIn counts (now code)) ≤ length (now buffer)) ⌝ }
     ensures count { λ r. ⌜ r ≡ gatesNeeded (referenceIn counts (now (code .entry))) ⌝ }
     ensures put { λ r. ⌜ Put (now (buffer .entry)) 2 (bytesOf file.Stage gateItem (built (referenceIn counts (now (code .entry))) .gates)) (now (buffer .exit)) ⌝ }
@@ -284,7 +284,7 @@ fn put_outputs(buffer: &mut [u8], at: usize, code: &[u16], counts: Counts, rails
 // The whole stage: inputs, gates, outputs, end.
 fn put_stage(buffer: &mut [u8], code: &[u16], counts: Counts)
     requires { ⌜ ReferenceLoaded counts (now code) × ReferenceFormed referenceLimits (referenceIn counts (now code))
-        × (gatesNeeded (referenceIn counts (now code)) ≤ 256)
+        × (gatesNeeded (referenceIn counts (now code)) ≤ stageLimits .gates)
         × (length (madeBytes (referenceIn counts (now code))) ≤ length (now buffer)) ⌝ }
     ensures { λ _. ⌜ Put (now (buffer .entry)) 0 (madeBytes (referenceIn counts (now (code .entry)))) (now (buffer .exit)) ⌝ }
 {
