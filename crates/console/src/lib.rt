@@ -4,6 +4,7 @@ use libc::STDERR_FILENO;
 use libc::STDOUT_FILENO;
 use report::Report;
 use verdict::Verdict;
+use verdict::WordOrder;
 ghost use Rattle.io.specs.Counts.{Counts};
 ghost use mathlib.Core.Path.{_≡_};
 ghost use lib.IntN.{pos};
@@ -48,6 +49,17 @@ pub fn save(path: &[u8], buffer: &[u8], count: u64) {
         io::write_all(file, &buffer[..n]);
     }
     libc::close(file);
+}
+
+// The order in which a program names words: with input 0 as the lowest bit where the program was started with the argument `lowest`, else with
+// input 0 as the highest.
+pub fn word_order() -> WordOrder {
+    let mut word = [0u8; 7];
+    let n = os::arg(1, &mut word);
+    if check::same(&word[..n], b"lowest") {
+        return WordOrder::FirstLowest;
+    }
+    WordOrder::FirstHighest
 }
 
 // A number after a space.

@@ -24,6 +24,8 @@ use Rattle.netlist.proofs.Lists.{All-map}
 use Rattle.netlist.proofs.Stages.{CellsIn, read-writeStage, stageOf-writeStage, stage-fits}
 use Rattle.netlist.proofs.References.{reference-formed}
 use Rattle.verdict.specs.declared.Verdict.{Verdict}
+use Rattle.verdict.specs.declared.WordOrder.{WordOrder}
+use Rattle.verdict.specs.declared.WordOrder.the-variants as order
 use Rattle.verdict.specs.declared.Finding.{Finding}
 use Rattle.verdict.specs.declared.Finding.the-variants.{Fault, Passed}
 use Rattle.verdict.specs.Words.{numbers}
@@ -101,10 +103,10 @@ module _ {referenceMost : Limits} (r : Reference) (formed : ReferenceFormed refe
       unfolding madeStage
       acceptable = record { cast = none-retired r formed; conforms = λ w h. word-conforms r formed w lead }
 
-      pub made-accepted : verdictWithin stageMost referenceMost (madeBytes r) reference ≡ accepted
-      made-accepted =
+      pub made-accepted : (order : WordOrder) → verdictWithin order stageMost referenceMost (madeBytes r) reference ≡ accepted
+      made-accepted order =
           let c : Contents stageMost referenceMost (madeBytes r) reference = record { circuit = madeStage r; function = r; circuit-is = reads-back; function-is = is } in
-          demand-2 stageMost referenceMost (madeBytes r) reference .exactly c comparable .1 acceptable
+          demand-2 order stageMost referenceMost (madeBytes r) reference .exactly c comparable .1 acceptable
 
       pub made-from : MadeFrom stageMost referenceMost reference (madeBytes r)
       made-from = record {
@@ -113,7 +115,7 @@ module _ {referenceMost : Limits} (r : Reference) (formed : ReferenceFormed refe
         bytes-are = refl;
         stage-is = reads-back;
         stage-accepted = made-accepted;
-        kept = demand-3 stageMost referenceMost (madeBytes r) reference .kept (ap (λ (v : Verdict). v .number) made-accepted) .1;
+        kept = demand-3 order.FirstHighest stageMost referenceMost (madeBytes r) reference .kept (ap (λ (v : Verdict). v .number) (made-accepted order.FirstHighest)) .1;
         waits = λ w h. word-waits r formed w;
       }
 
@@ -215,6 +217,6 @@ limits-fit = record { inputs = omega arith; outputs = omega arith; words = omega
 
 -- Each stage so written is accepted against its reference.
 pub written-accepted : (stageMost referenceMost : Limits) → Fitting stageMost referenceMost → (reference : List ℕ) (room : ℕ)
-    → makeOn stageMost referenceMost reference room .verdict .number ≡ 0
-    → verdictWithin stageMost referenceMost (makeOn stageMost referenceMost reference room .bytes) reference ≡ accepted
-written-accepted stageMost referenceMost fitting reference room e = make-means stageMost referenceMost fitting reference room .made e .1 .stage-accepted
+    → makeOn stageMost referenceMost reference room .verdict .number ≡ 0 → (order : WordOrder)
+    → verdictWithin order stageMost referenceMost (makeOn stageMost referenceMost reference room .bytes) reference ≡ accepted
+written-accepted stageMost referenceMost fitting reference room e order = make-means stageMost referenceMost fitting reference room .made e .1 .stage-accepted order

@@ -13,6 +13,7 @@ use Rattle.netlist.specs.Bytes.{absent}
 use Rattle.netlist.specs.Reading.{refused, readFile}
 use Rattle.netlist.specs.Content.{Coded, Reference}
 use Rattle.verdict.specs.declared.Verdict.{Verdict}
+use Rattle.verdict.specs.declared.WordOrder.{WordOrder}
 use Rattle.verdict.specs.Graph.{In}
 use Rattle.verdict.specs.Words.{IsWord}
 use Rattle.verdict.specs.Nets.{railOf, netOf, railsFor}
@@ -62,13 +63,13 @@ pub record Fitting (stageMost referenceMost : Limits) : Type 0 where
   pub nets : 2 * stageMost .inputs + stageMost .gates ≤ absent
 
 -- The bytes of a stage that was made: they are the file of the stage made from the reference and read as that stage; "each stage so written is
--- accepted against its reference", so that its runs obey everything said of an accepted stage; and in every word its rails wait for their operands.
+-- accepted against its reference", in either order of words, so that its runs obey everything said of an accepted stage; and in every word its rails wait for their operands.
 pub record MadeFrom (stageMost referenceMost : Limits) (reference bytes : List ℕ) : Type 0 where
   pub function : Reference
   pub function-is : ReferenceIs referenceMost reference function
   pub bytes-are : bytes ≡ madeBytes function
   pub stage-is : StageIs stageMost bytes (madeStage function)
-  pub stage-accepted : verdictWithin stageMost referenceMost bytes reference ≡ accepted
+  pub stage-accepted : (order : WordOrder) → verdictWithin order stageMost referenceMost bytes reference ≡ accepted
   pub kept : Kept stageMost referenceMost bytes reference
   pub waits : (w : ℕ) → IsWord (madeStage function) w → Waits function w
 
