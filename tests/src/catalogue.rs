@@ -774,7 +774,7 @@ pub fn care_examples() -> Vec<Example> {
     );
     add(
         "decimal-segments-no-list",
-        "the same without its care list: word 10 has no gate",
+        "the same without its care list: words 10 to 15 have no gate",
         13,
         &without_list(&digit),
         &segments,
