@@ -4,12 +4,10 @@ use Prim.Native.Nat.{ℕ, zero, suc, _+_, _<_}
 use native.Mathlib.Omega.{arith}
 use mathlib.Core.Path.{_≡_, refl, subst}
 use mathlib.Core.Bool.{Bool, true, false, cond}
-use mathlib.Core.Logic.{_⊎_, inl, inr}
+use mathlib.Core.Logic.{inl, inr}
 use mathlib.Core.List.{List, [], _∷_}
 use lib.ListN.{length, getD}
-use lib.Dec.{eqb}
 use Rattle.gates.specs.Cell.{among}
-use Rattle.runs.proofs.Test.{clash, or-left, or-right, or-cases, eqb-same, eqb-eq}
 use Rattle.netlist.specs.declared.Limits.{Limits}
 use Rattle.netlist.specs.Content.{Coded, Reference}
 use Rattle.netlist.specs.Formed.{ReferenceFormed}

@@ -43,7 +43,7 @@ use Rattle.verdict.proofs.Demands.{demand-2, demand-3}
 use Rattle.made.specs.Made.{railsAt, inputRails, built, madeStage, gatesNeeded}
 use Rattle.made.specs.Count.{operations}
 use Rattle.made.specs.Leading.{signals, LeadsOut, leadsOut}
-use Rattle.made.specs.Making.{madeBytes, makeChecks, makeUnless, makeReading, makeWithin, makeOn}
+use Rattle.made.specs.Making.{madeBytes, makeChecks, makeUnless, makeReading, makeWithin}
 use Rattle.made.specs.Promises.{Fitting, MadeFrom, reference-refused, make-refused, stage-made, MakeMeans}
 use Rattle.made.proofs.Lists.{at-all}
 use Rattle.made.proofs.Building.{sound-more, all-long}

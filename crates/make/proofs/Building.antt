@@ -1,6 +1,6 @@
 -- Gate by gate: what is put and which rails are stored, up to gate k.
 -- Assumes nothing.
-use Prim.Native.Nat.{ℕ, zero, suc, _+_, _-_, _*_, _≤_, _<_}
+use Prim.Native.Nat.{ℕ, zero, suc, _+_, _*_, _≤_, _<_}
 use native.Mathlib.Omega.{arith}
 use native.Mathlib.Numerals.{add-one}
 use native.Mathlib.Decide.{ℕ-discrete}
@@ -11,7 +11,7 @@ use lib.Seq.{getD-set-same, getD-set-other}
 use Rattle.netlist.specs.declared.File.the-variants as file
 use Rattle.netlist.specs.declared.Counts.{Counts}
 use Rattle.netlist.specs.declared.Limits.{Limits}
-use Rattle.netlist.specs.Content.{Coded, Gate, Pair}
+use Rattle.netlist.specs.Content.{Gate, Pair}
 use Rattle.netlist.specs.Formed.{OperationFormed, ReferenceFormed}
 use Rattle.netlist.specs.Writing.{codedGate}
 use Rattle.netlist.proofs.References.{in-order-at}
