@@ -43,8 +43,8 @@ use Rattle.verdict.proofs.Demands.{demand-2, demand-3}
 use Rattle.made.specs.Made.{railsAt, inputRails, built, madeStage, gatesNeeded}
 use Rattle.made.specs.Count.{operations}
 use Rattle.made.specs.Leading.{signals, LeadsOut, leadsOut}
-use Rattle.made.specs.Making.{madeBytes, makeChecks, makeUnless, makeReading, makeWithin}
-use Rattle.made.specs.Promises.{Fitting, MadeFrom, reference-refused, make-refused, stage-made, MakeMeans}
+use Rattle.made.specs.Making.{madeBytes, makeChecks, MakeAnswer, makeUnless, makeReading, makeWithin}
+use Rattle.made.specs.Promises.{Fitting, MadeFrom, MakeBecause, reference-refused, make-refused, stage-made, MakeMeans}
 use Rattle.made.proofs.Lists.{at-all}
 use Rattle.made.proofs.Building.{sound-more, all-long}
 use Rattle.made.proofs.Leading.{leadsOut-sound, leadsOut-complete}
@@ -211,6 +211,13 @@ make-means stageMost referenceMost fitting reference room = go (readFile file.Re
         let r = referenceOf reference places in
         let formed = reference-formed referenceMost reference places p in
         answered r formed (holds p) (firstFault (makeChecks stageMost r room)) (first-fault (makeChecks stageMost r room) (checks-mean stageMost referenceMost r formed room))
+
+-- a refusal writes nothing
+pub refusal-writes-nothing : {stageMost referenceMost : Limits} {reference : List ℕ} {room : ℕ} {a : MakeAnswer} → MakeBecause stageMost referenceMost reference room a
+    → ¬ (a .verdict ≡ accepted) → a .bytes ≡ []
+refusal-writes-nothing (reference-refused e) d = refl
+refusal-writes-nothing (make-refused r is n) d = refl
+refusal-writes-nothing (stage-made r is n) d = absurd (d refl)
 
 -- what the limits of the two files are fits
 pub limits-fit : Fitting stageLimits referenceLimits
