@@ -1,4 +1,5 @@
-//! The proved calls of the static library, as safe functions. `include/fovaheju.h` says what they answer.
+//! The proved calls of the static library, as safe functions. `include/fovaheju.h` says what they answer, and which order of words
+//! a number stands for.
 
 use crate::compare::Counts;
 use crate::files::FilePair;
@@ -40,12 +41,14 @@ struct JoinAnswer {
 
 extern "C" {
     fn fovaheju_check(
+        order: u64,
         stage: *const u8,
         stage_len: usize,
         reference: *const u8,
         reference_len: usize,
     ) -> Numbers;
     fn fovaheju_report(
+        order: u64,
         stage: *const u8,
         stage_len: usize,
         reference: *const u8,
@@ -58,6 +61,7 @@ extern "C" {
         row_len: usize,
     ) -> Numbers;
     fn fovaheju_join(
+        order: u64,
         stage1: *const u8,
         stage1_len: usize,
         reference1: *const u8,
@@ -74,10 +78,11 @@ extern "C" {
 }
 
 /// The verdict on a stage file and a reference file.
-pub fn check(stage: &[u8], reference: &[u8]) -> Verdict {
+pub fn check(order: u64, stage: &[u8], reference: &[u8]) -> Verdict {
     // Safety: the contract has no `requires`, and each pointer and length are of a slice.
     unsafe {
         fovaheju_check(
+            order,
             stage.as_ptr(),
             stage.len(),
             reference.as_ptr(),
@@ -88,10 +93,11 @@ pub fn check(stage: &[u8], reference: &[u8]) -> Verdict {
 }
 
 /// The report on a stage file and a reference file: verdict, words, total, all 1,024 lines and their words.
-pub fn report(stage: &[u8], reference: &[u8]) -> Counts {
+pub fn report(order: u64, stage: &[u8], reference: &[u8]) -> Counts {
     // Safety: the contract has no `requires`, and each pointer and length are of a slice.
     let report = unsafe {
         fovaheju_report(
+            order,
             stage.as_ptr(),
             stage.len(),
             reference.as_ptr(),
@@ -115,6 +121,7 @@ pub fn settled_row(stage: &[u8], row: &mut [u8]) -> Verdict {
 
 /// The join of two pairs of files into two buffers.
 pub fn join(
+    order: u64,
     first: &FilePair,
     second: &FilePair,
     stage_out: &mut [u8],
@@ -123,6 +130,7 @@ pub fn join(
     // Safety: the contract has no `requires`, and each pointer and length are of a slice; the buffers are lent to be written.
     let answer = unsafe {
         fovaheju_join(
+            order,
             first.stage.as_ptr(),
             first.stage.len(),
             first.reference.as_ptr(),

@@ -2,6 +2,7 @@
 use libc::STDOUT_FILENO;
 use report::Report;
 use verdict::Verdict;
+use verdict::WordOrder;
 ghost use Rattle.io.specs.Counts.{Counts};
 ghost use mathlib.Core.Path.{_≡_};
 ghost use lib.IntN.{pos};
@@ -27,6 +28,17 @@ fn load_opened(fd: i32, buf: &mut [u8]) -> usize
     let n = io::read_full(fd, buf);
     libc::close(fd);
     n
+}
+
+// The order in which a program names words: with input 0 as the lowest bit where the program was started with the argument `lowest`, else with
+// input 0 as the highest.
+pub fn word_order() -> WordOrder {
+    let mut word = [0u8; 7];
+    let n = os::arg(1, &mut word);
+    if check::same(&word[..n], b"lowest") {
+        return WordOrder::FirstLowest;
+    }
+    WordOrder::FirstHighest
 }
 
 // A number after a space.

@@ -4,6 +4,7 @@ use netlist::Counts;
 use netlist::Outcome;
 use verdict::Finding;
 use verdict::Verdict;
+use verdict::WordOrder;
 ghost use mathlib.Core.Path.{_≡_};
 ghost use mathlib.Core.Bool.{cond};
 ghost use mathlib.Core.List.{List, map};
@@ -16,16 +17,17 @@ ghost use Rattle.netlist.specs.Bytes.{absent};
 ghost use Rattle.netlist.specs.Reading.{readFile, stageLimits, referenceLimits, partStageLimits, partReferenceLimits, Within};
 ghost use Rattle.netlist.specs.Writing as writing;
 ghost use Rattle.verdict.specs.Answers.{valuesAt};
-ghost use Rattle.verdict.specs.Checks.{finding};
+ghost use Rattle.verdict.specs.Words.{wordOf};
+ghost use Rattle.verdict.specs.Checks.{sweep, finding};
 ghost use Rattle.verdict.specs.Verdicts.{accepted, verdictWithin};
 ghost use Rattle.joined.specs.Whole.{joinedStage, joinedReference};
-ghost use Rattle.joined.specs.Join.{files, stageRead, referenceRead, wordOf, answerWord, caresFor};
+ghost use Rattle.joined.specs.Join.{files, stageRead, referenceRead, answerWord, uncaredCheck};
 ghost use Rattle.writing.specs.Put.{Put};
 ghost use Rattle.writing.specs.Parts.{gateItem, pairItem, signalItem, bytesOf};
 ghost use Rattle.circuit.specs.Stage.{cellIn, slot, pinIn, gateIn, stageGates, stageOutputs, stageCare, stageIn, StageLoaded};
 ghost use Rattle.circuit.specs.Reference.{operatorIn, operatorsIn, signalsIn, referenceIn, ReferenceLoaded};
 ghost use Rattle.join.specs.Moved.{netMoved, gateMoved, pairMoved, StageMoves, signalMoved, operationMoved, ReferenceMoves};
-ghost use Rattle.join.specs.Steps.{uncaredCheck, joinParts, partOf, partLoaded, PartsLoaded};
+ghost use Rattle.join.specs.Steps.{uncaredUnder, joinParts, partOf, partLoaded, PartsLoaded};
 ghost use Rattle.join.specs.Call.{answerWith, Leaves, JoinDemand};
 
 // Where a part stands in the whole: how many of its inputs are outputs of the first part, and where its other nets, or signals, start.
@@ -366,24 +368,41 @@ fn answer_word(reference: &[u16], sizes: Counts, w: usize) -> usize
     spelled(reference, sizes, &values)
 }
 
-// Whether a stage cares for word w.
-fn cares_for(code: &[u16], counts: Counts, w: usize) -> bool
-    requires { ⌜ StageLoaded counts (now code) ⌝ }
-    ensures { λ r. ⌜ r ≡ caresFor (stageIn counts (now (code .entry))) w ⌝ }
+// The least of some names, of words of the first part, whose answer the second does not care for.
+fn uncared_named(
+    order: WordOrder,
+    list: &[u16],
+    inputs: usize,
+    reference: &[u16],
+    sizes: Counts,
+    second: &[u16],
+    others: Counts,
+) -> Finding
+    requires { ⌜ (inputs ≤ stageLimits .inputs) × ReferenceLoaded sizes (now reference) × StageLoaded others (now second) ⌝ }
+    ensures { λ r. ⌜ r ≡ sweep 23 0 (uncaredUnder order inputs (referenceIn sizes (now (reference .entry))) (stageIn others (now (second .entry))))
+        (now (list .entry)) ⌝ }
 {
-    let count = sweeps::word_count(counts);
     let mut k: usize = 0;
-    while k < count {
-        if sweeps::word_at(code, counts, k) as usize == w {
-            return true;
+    while k < list.len() {
+        let name = list[k] as usize;
+        let w = names::word_of(order, inputs, name);
+        if names::is_word(second, others, answer_word(reference, sizes, w)) {
+            k += 1;
+        } else {
+            return Finding::Fault(Verdict {
+                number: 23,
+                file: 0,
+                at: 0,
+                word: name as u64,
+            });
         }
-        k += 1;
     }
-    false
+    Finding::Passed
 }
 
-// The least word of the first part whose answer the second does not care for.
+// The least word of the first part, by its name, whose answer the second does not care for.
 fn uncared(
+    order: WordOrder,
     first: &[u16],
     counts: Counts,
     reference: &[u16],
@@ -392,25 +411,20 @@ fn uncared(
     others: Counts,
 ) -> Finding
     requires { ⌜ StageLoaded counts (now first) × ReferenceLoaded sizes (now reference) × StageLoaded others (now second) ⌝ }
-    ensures { λ r. ⌜ r ≡ finding (uncaredCheck (stageIn counts (now (first .entry))) (referenceIn sizes (now (reference .entry))) (stageIn others (now
+    ensures { λ r. ⌜ r ≡ finding (uncaredCheck order (stageIn counts (now (first .entry))) (referenceIn sizes (now (reference .entry))) (stageIn others (now
         (second .entry)))) ⌝ }
 {
-    let count = sweeps::word_count(counts);
-    let mut k: usize = 0;
-    while k < count {
-        let w = sweeps::word_at(first, counts, k) as usize;
-        if cares_for(second, others, answer_word(reference, sizes, w)) {
-            k += 1;
-        } else {
-            return Finding::Fault(Verdict {
-                number: 23,
-                file: 0,
-                at: 0,
-                word: w as u64,
-            });
-        }
-    }
-    Finding::Passed
+    let mut list = [0u16; names::NAMES];
+    let count = names::list_names(order, first, counts, &mut list);
+    uncared_named(
+        order,
+        &list[..count],
+        counts.inputs,
+        reference,
+        sizes,
+        second,
+        others,
+    )
 }
 
 // ---- the call
@@ -480,6 +494,7 @@ fn load_function(s: &[u8], code: &mut [u16]) -> Counts
 
 // 22, 23, 24, or the whole: two parts that were loaded, and buffers for their join. Both lengths are looked at before a byte is written.
 fn join_loaded(
+    order: WordOrder,
     stage1: &[u16],
     reference1: &[u16],
     stage2: &[u16],
@@ -489,7 +504,7 @@ fn join_loaded(
     reference_out: &mut [u8],
 ) -> JoinAnswer
     requires { ⌜ PartsLoaded sizes (now stage1) (now reference1) (now stage2) (now reference2) ⌝ }
-    ensures { λ r. ⌜ Leaves (joinParts (partLoaded (sizes .stage1) (now (stage1 .entry)) (sizes .reference1) (now (reference1 .entry))) (partLoaded (sizes .stage2)
+    ensures { λ r. ⌜ Leaves (joinParts order (partLoaded (sizes .stage1) (now (stage1 .entry)) (sizes .reference1) (now (reference1 .entry))) (partLoaded (sizes .stage2)
         (now (stage2 .entry)) (sizes .reference2) (now (reference2 .entry))) (length (now («stage_out» .entry))) (length (now («reference_out» .entry)))) r
         (now («stage_out» .entry)) (now («reference_out» .entry)) (now («stage_out» .exit)) (now («reference_out» .exit)) ⌝ }
 {
@@ -505,7 +520,7 @@ fn join_loaded(
             word: second.inputs as u64,
         });
     }
-    if let Finding::Fault(v) = uncared(stage1, first, reference1, function, stage2, second) {
+    if let Finding::Fault(v) = uncared(order, stage1, first, reference1, function, stage2, second) {
         return refusal(v);
     }
     let stage_count = stage_length(first, second);
@@ -542,6 +557,7 @@ fn join_loaded(
 
 // The join of two parts that are accepted.
 fn join_accepted(
+    order: WordOrder,
     stage1: &[u8],
     reference1: &[u8],
     stage2: &[u8],
@@ -549,9 +565,9 @@ fn join_accepted(
     stage_out: &mut [u8],
     reference_out: &mut [u8],
 ) -> JoinAnswer
-    requires { ⌜ (verdictWithin partStageLimits partReferenceLimits (now stage1) (now reference1) ≡ accepted) × (verdictWithin partStageLimits partReferenceLimits
+    requires { ⌜ (verdictWithin order partStageLimits partReferenceLimits (now stage1) (now reference1) ≡ accepted) × (verdictWithin order partStageLimits partReferenceLimits
         (now stage2) (now reference2) ≡ accepted) ⌝ }
-    ensures { λ r. ⌜ Leaves (joinParts (partOf (now (stage1 .entry)) (now (reference1 .entry))) (partOf (now (stage2 .entry)) (now (reference2 .entry)))
+    ensures { λ r. ⌜ Leaves (joinParts order (partOf (now (stage1 .entry)) (now (reference1 .entry))) (partOf (now (stage2 .entry)) (now (reference2 .entry)))
         (length (now («stage_out» .entry))) (length (now («reference_out» .entry)))) r (now («stage_out» .entry)) (now («reference_out» .entry))
         (now («stage_out» .exit)) (now («reference_out» .exit)) ⌝ }
 {
@@ -566,6 +582,7 @@ fn join_accepted(
         reference2: load_function(reference2, &mut others),
     };
     join_loaded(
+        order,
         &first,
         &function,
         &second,
@@ -577,8 +594,9 @@ fn join_accepted(
 }
 
 // The join of two stages with their references into two buffers. A part's own refusal is passed on, first part first, the second's with 3
-// added to its file; 22, 23 and 24 follow.
+// added to its file; 22, 23 and 24 follow. Words are named in an order.
 pub fn join(
+    order: WordOrder,
     stage1: &[u8],
     reference1: &[u8],
     stage2: &[u8],
@@ -586,16 +604,16 @@ pub fn join(
     stage_out: &mut [u8],
     reference_out: &mut [u8],
 ) -> JoinAnswer
-    ensures { λ r. ⌜ JoinDemand (files (now (stage1 .entry)) (now (reference1 .entry))) (files (now (stage2 .entry)) (now (reference2 .entry)))
+    ensures { λ r. ⌜ JoinDemand order (files (now (stage1 .entry)) (now (reference1 .entry))) (files (now (stage2 .entry)) (now (reference2 .entry)))
         (now («stage_out» .entry)) (now («reference_out» .entry)) r (now («stage_out» .exit)) (now («reference_out» .exit)) ⌝ }
 {
     let most = netlist::part_stage_limits();
     let reference_most = netlist::part_reference_limits();
-    let first = checker::check_within(stage1, reference1, most, reference_most);
+    let first = checker::check_within(order, stage1, reference1, most, reference_most);
     if first.number != 0 {
         return refusal(first);
     }
-    let second = checker::check_within(stage2, reference2, most, reference_most);
+    let second = checker::check_within(order, stage2, reference2, most, reference_most);
     if second.number != 0 {
         return refusal(Verdict {
             number: second.number,
@@ -605,6 +623,7 @@ pub fn join(
         });
     }
     join_accepted(
+        order,
         stage1,
         reference1,
         stage2,

@@ -1,5 +1,6 @@
 // Reads stage1.ncl, reference1.ncl, stage2.ncl and reference2.ncl, at most 8,192 bytes of each, and prints the verdict of their join. Where it
 // accepts, the joined stage and reference are written as stage.ncl and reference.ncl; otherwise no file is touched.
+// A word is named with input 0 as its highest bit; with the argument `lowest`, as its lowest.
 use libc::STDERR_FILENO;
 use libc::STDOUT_FILENO;
 
@@ -33,6 +34,7 @@ fn main() {
     let mut stage = [0u8; 8192];
     let mut reference = [0u8; 8192];
     let answer = fovaheju::join(
+        console::word_order(),
         &stage1[..a],
         &reference1[..b],
         &stage2[..c],
