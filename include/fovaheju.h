@@ -108,7 +108,7 @@ struct fovaheju_written {
 /* Makes a stage that computes what a reference says: NOT swaps rails, every other operation becomes two gates. The stage is
    written at the start of a buffer; the bytes past it keep their values, and so do all where the number is not 0.
    fovaheju_check accepts what is written against the reference. 2,643 bytes have room for every such stage. The numbers
-   are 0 to 9 with file 2, then 25, 26 and 27. */
+   are 0; 1 to 9 with file 2; then 25, 26 and 27, with the files 2, 2 and 3. */
 struct fovaheju_written fovaheju_make_stage(const uint8_t *reference, size_t reference_len,
                                             uint8_t *stage_out, size_t stage_out_len);
 

@@ -37,18 +37,29 @@ fn complain(path: &[u8]) {
     io::write_all(STDERR_FILENO, b" could not be written\n");
 }
 
-// Writes the first bytes of a buffer into a file; one that cannot be opened is said on standard error.
-pub fn save(path: &[u8], buffer: &[u8], count: u64) {
-    let n = count as usize;
+// Writes the first n bytes of a buffer to a file that was opened, and answers whether it took them all.
+fn write_start(file: i32, buffer: &[u8], n: usize) -> bool {
+    if buffer.len() < n {
+        return false;
+    }
+    io::write_all(file, &buffer[..n])
+}
+
+// Writes the first bytes of a buffer into a file, and answers whether the file has them all. One that cannot be opened, or that does not take them
+// all, as on a full disk, is said on standard error.
+pub fn save(path: &[u8], buffer: &[u8], count: u64) -> bool {
     let file = os::open_overwrite(path);
     if file < 0 {
         complain(path);
-        return;
+        return false;
     }
-    if n <= buffer.len() {
-        io::write_all(file, &buffer[..n]);
-    }
+    let whole = write_start(file, buffer, count as usize);
     libc::close(file);
+    if whole {
+        return true;
+    }
+    complain(path);
+    false
 }
 
 // The order in which a program names words: with input 0 as the lowest bit where the program was started with the argument `lowest`, else with

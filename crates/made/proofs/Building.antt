@@ -16,7 +16,8 @@ use Rattle.netlist.specs.Writing.{All}
 use Rattle.netlist.specs.Formed.{OperationFormed, FormedFrom}
 use Rattle.netlist.proofs.Lists.{All-map}
 use Rattle.verdict.specs.Nets.{noGate, noPair, railOf}
-use Rattle.made.specs.Made.{pair, swapped, Built, inputRails, realize, addGate, addGates, operations}
+use Rattle.made.specs.Made.{pair, swapped, Built, inputRails, realize, addGate, addGates}
+use Rattle.made.specs.Count.{operations}
 use Rattle.made.specs.Promises.{noOperation}
 use Rattle.made.proofs.Lists.{all-at}
 use Rattle.made.proofs.Gates.{Binary, and, or, xor, nand, nor, codeOf, made, realize-two, gateFor, rail-driven, gate-drives, Sound, BothBelow, made-sound}
@@ -247,7 +248,7 @@ module _ (n : ℕ) (done : List Coded) (b : Built) (sane : Sane n done b) where
       p = made k (signalPair b u) (signalPair b v) g .rails
 
       sound : All (Sound g) gs
-      sound = made-sound k (signalPair b u) (signalPair b v) g g (sane .below u hu) (sane .below v hv)
+      sound = made-sound (signalPair b u) (signalPair b v) g (sane .below u hu) (sane .below v hv) k g
 
       driven : (x : Bool) → GateAt n (extended b gs p) (railOf p x) (gateFor k x (signalPair b u) (signalPair b v))
       driven x =
@@ -324,7 +325,7 @@ add-long n b below c (operation k u v hu hv e) =
     two nand = refl
     two nor = refl
 
-operations-cons : (c : Coded) (cs : List Coded) → operations (c ∷ cs) ≡ operations (c ∷ []) + operations cs
+pub operations-cons : (c : Coded) (cs : List Coded) → operations (c ∷ cs) ≡ operations (c ∷ []) + operations cs
 unfolding operations
 operations-cons c cs = go (eqb (c .code) 1)
   where

@@ -22,7 +22,7 @@ use Rattle.made.specs.Made as m
 use Rattle.made.specs.Made.{TH22, THxor0, THand0, TH24comp}
 use Rattle.made.specs.Leading as l
 use Rattle.made.specs.Making as a
-use Rattle.made.specs.Making.{MakeAnswer, makeAnswer, makeOn}
+use Rattle.made.specs.Making.{MakeAnswer, makeAnswer, makeWithin}
 
 -- the cells are those of the paper's names
 abbrev nameOf : Gate → String
@@ -59,6 +59,9 @@ cases =
     -- OR
     case (1 ∷ 2 ∷ 0x11 ∷ 3 ∷ 0 ∷ 0 ∷ 1 ∷ 0 ∷ 0x12 ∷ 2 ∷ 0 ∷ 0 ∷ []) 28 (makeAnswer accepted
     (1 ∷ 2 ∷ 2 ∷ 2 ∷ 0 ∷ 0 ∷ 2 ∷ 0 ∷ 0xFF ∷ 0xFF ∷ 0xFF ∷ 0xFF ∷ 2 ∷ 0x1A ∷ 1 ∷ 0 ∷ 3 ∷ 0 ∷ 0 ∷ 0 ∷ 2 ∷ 0 ∷ 3 ∷ 4 ∷ 0 ∷ 5 ∷ 0 ∷ 0 ∷ [])) ∷
+    -- XOR
+    case (1 ∷ 2 ∷ 0x11 ∷ 4 ∷ 0 ∷ 0 ∷ 1 ∷ 0 ∷ 0x12 ∷ 2 ∷ 0 ∷ 0 ∷ []) 28 (makeAnswer accepted
+    (1 ∷ 2 ∷ 2 ∷ 0x19 ∷ 0 ∷ 0 ∷ 2 ∷ 0 ∷ 1 ∷ 0 ∷ 3 ∷ 0 ∷ 2 ∷ 0x1B ∷ 0 ∷ 0 ∷ 2 ∷ 0 ∷ 1 ∷ 0 ∷ 3 ∷ 0 ∷ 3 ∷ 4 ∷ 0 ∷ 5 ∷ 0 ∷ 0 ∷ [])) ∷
     -- XOR of an input with itself
     case (1 ∷ 1 ∷ 0x11 ∷ 4 ∷ 0 ∷ 0 ∷ 0 ∷ 0 ∷ 0x12 ∷ 1 ∷ 0 ∷ 0 ∷ []) 100 (makeAnswer accepted
     (1 ∷ 1 ∷ 2 ∷ 0x19 ∷ 0 ∷ 0 ∷ 0 ∷ 0 ∷ 1 ∷ 0 ∷ 1 ∷ 0 ∷ 2 ∷ 0x1B ∷ 0 ∷ 0 ∷ 0 ∷ 0 ∷ 1 ∷ 0 ∷ 1 ∷ 0 ∷ 3 ∷ 2 ∷ 0 ∷ 3 ∷ 0 ∷ 0 ∷ [])) ∷
@@ -84,11 +87,11 @@ cases =
     case [] 0 (makeAnswer (verdict 1 2 0 0) []) ∷
     []
 
-pub computed : map (λ (x : Case). makeOn most most (x .reference) (x .room)) cases ≡ map (λ (x : Case). x .expected) cases
+pub computed : map (λ (x : Case). makeWithin most most (x .reference) (x .room)) cases ≡ map (λ (x : Case). x .expected) cases
 unfolding cases b.operand b.operands
     k.whenFound k.ownCommands k.commandTable k.formIn k.pinsNeeded k.needed k.stray k.misfit k.misfitFrom k.takeGate k.takeCare k.takeSort k.takeCommand k.nextAt
     r.nameable r.nameless r.usedOperands r.namelessAt r.namelessFrom r.floorAfter r.noted r.finish r.onNext r.readFrom r.readFile t.referenceOf n.writeFile n.writeStage
     o.rounds g.tabulate g.leading w.numbers h.first h.atFault h.sweep h.finding h.orLater h.firstFault
-    m.realize m.inputRails m.addGate m.addGates m.built m.madeStage m.operations m.gatesNeeded c.among l.readersFrom l.readers l.leadsOut
-    a.makeChecks a.makeUnless a.makeReading a.makeOn
+    m.realize m.inputRails m.addGate m.addGates m.built m.madeStage c.among l.readersFrom l.readers l.leadsOut
+    a.makeChecks a.makeUnless a.makeReading a.makeWithin
 computed = refl

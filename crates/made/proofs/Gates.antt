@@ -1,22 +1,24 @@
 -- The two gates of an operation: rail x of its result is set where rails of both operands are high that give x, and, where no operand has both
 -- rails high, only there. One computed test over all levels of the operands' rails.
 -- Assumes nothing.
-use Prim.Native.Nat.{ℕ, zero, suc, _+_, _<_}
+use Prim.Native.Nat.{ℕ, zero, suc, _+_, _≤_, _<_}
 use native.Mathlib.Omega.{arith}
 use mathlib.Core.Path.{_≡_, refl, sym, _∙_}
 use mathlib.Core.Bool.{Bool, true, false, not, cond, _&&_, _||_}
 use mathlib.Core.Logic.{inl, inr}
-use mathlib.Core.List.{List, [], _∷_}
-use lib.ListN.{getD}
-use Rattle.gates.specs.Cell.{cells, cellAt, pinCount, setExpression}
+use mathlib.Core.List.{List, [], _∷_, map}
+use lib.ListN.{length, getD, length-map}
+use lib.Dec.{eqb}
+use Rattle.gates.specs.Cell.{cells, cellAt, pinCount, setExpression, among}
 use Rattle.runs.specs.Row.{Row}
-use Rattle.runs.proofs.Test.{clash, and-in, and-left, and-right}
+use Rattle.runs.proofs.Test.{clash, and-in, and-left, and-right, eqb-eq}
 use Rattle.netlist.specs.Content.{Gate, Pair}
 use Rattle.netlist.specs.Writing.{All}
 use Rattle.netlist.specs.Formed.{CellFormed}
 use Rattle.verdict.specs.Graph.{In}
 use Rattle.verdict.specs.Nets.{noGate, setIn, railOf}
-use Rattle.made.specs.Made.{Realized, pair, TH22, THxor0, THand0, TH24comp, asAnd, asOr, asXor, inverted, realize}
+use Rattle.verdict.proofs.Retired.{among-in}
+use Rattle.made.specs.Made.{Realized, pair, asAnd, asOr, asXor, inverted, realize}
 
 -- ---- the operations with two operands
 
@@ -52,18 +54,15 @@ realize-two xor a b g = refl
 realize-two nand a b g = refl
 realize-two nor a b g = refl
 
+-- ---- which gate drives which rail
+
+-- the rails of the result where the first gate drives net 0: the index of the gate that drives each
+abbrev driverOf : Binary → Pair → Pair → Bool → ℕ
+driverOf k a b x = railOf (made k a b 0 .rails) x
+
 -- the gate that drives rail x of the result
 abbrev pub gateFor : Binary → Bool → Pair → Pair → Gate
-gateFor and true a b = TH22 (a .rail1) (b .rail1)
-gateFor and false a b = THand0 (a .rail0) (b .rail0) (a .rail1) (b .rail1)
-gateFor or true a b = THand0 (a .rail1) (b .rail1) (a .rail0) (b .rail0)
-gateFor or false a b = TH22 (a .rail0) (b .rail0)
-gateFor xor true a b = TH24comp (a .rail0) (b .rail0) (a .rail1) (b .rail1)
-gateFor xor false a b = THxor0 (a .rail0) (b .rail0) (a .rail1) (b .rail1)
-gateFor nand true a b = THand0 (a .rail0) (b .rail0) (a .rail1) (b .rail1)
-gateFor nand false a b = TH22 (a .rail1) (b .rail1)
-gateFor nor true a b = TH22 (a .rail0) (b .rail0)
-gateFor nor false a b = THand0 (a .rail1) (b .rail1) (a .rail0) (b .rail0)
+gateFor k x a b = getD (made k a b 0 .gates) (driverOf k a b x) noGate
 
 -- it is one of the two
 pub record Drives (gates : List Gate) (g net : ℕ) (x : Gate) : Type 0 where
@@ -73,30 +72,55 @@ pub record Drives (gates : List Gate) (g net : ℕ) (x : Gate) : Type 0 where
   pub gate-is : getD gates index noGate ≡ x
 
 pub rail-driven : (k : Binary) (x : Bool) (a b : Pair) (g : ℕ) → Drives (made k a b g .gates) g (railOf (made k a b g .rails) x) (gateFor k x a b)
-rail-driven and true a b g = record { index = 0; is-one = omega arith; net-is = omega arith; gate-is = refl }
-rail-driven and false a b g = record { index = 1; is-one = omega arith; net-is = refl; gate-is = refl }
-rail-driven or true a b g = record { index = 1; is-one = omega arith; net-is = refl; gate-is = refl }
-rail-driven or false a b g = record { index = 0; is-one = omega arith; net-is = omega arith; gate-is = refl }
-rail-driven xor true a b g = record { index = 1; is-one = omega arith; net-is = refl; gate-is = refl }
-rail-driven xor false a b g = record { index = 0; is-one = omega arith; net-is = omega arith; gate-is = refl }
-rail-driven nand true a b g = record { index = 1; is-one = omega arith; net-is = refl; gate-is = refl }
-rail-driven nand false a b g = record { index = 0; is-one = omega arith; net-is = omega arith; gate-is = refl }
-rail-driven nor true a b g = record { index = 0; is-one = omega arith; net-is = omega arith; gate-is = refl }
-rail-driven nor false a b g = record { index = 1; is-one = omega arith; net-is = refl; gate-is = refl }
+rail-driven k x a b g = record { index = driverOf k a b x; is-one = is-one k x; net-is = net-is k x; gate-is = gate-is k x }
+  where
+    is-one : (k : Binary) (x : Bool) → driverOf k a b x < 2
+    is-one and true = omega arith
+    is-one and false = omega arith
+    is-one or true = omega arith
+    is-one or false = omega arith
+    is-one xor true = omega arith
+    is-one xor false = omega arith
+    is-one nand true = omega arith
+    is-one nand false = omega arith
+    is-one nor true = omega arith
+    is-one nor false = omega arith
+
+    net-is : (k : Binary) (x : Bool) → railOf (made k a b g .rails) x ≡ g + driverOf k a b x
+    net-is and true = omega arith
+    net-is and false = omega arith
+    net-is or true = omega arith
+    net-is or false = omega arith
+    net-is xor true = omega arith
+    net-is xor false = omega arith
+    net-is nand true = omega arith
+    net-is nand false = omega arith
+    net-is nor true = omega arith
+    net-is nor false = omega arith
+
+    gate-is : (k : Binary) (x : Bool) → getD (made k a b g .gates) (driverOf k a b x) noGate ≡ gateFor k x a b
+    gate-is and x = refl
+    gate-is or x = refl
+    gate-is xor x = refl
+    gate-is nand x = refl
+    gate-is nor x = refl
 
 -- and each of the two drives a rail
 pub gate-drives : (k : Binary) (a b : Pair) (g i : ℕ) → i < 2 → (x : Bool) × (railOf (made k a b g .rails) x ≡ g + i)
-gate-drives and a b g zero h = (true, omega arith)
-gate-drives and a b g (suc zero) h = (false, refl)
-gate-drives or a b g zero h = (false, omega arith)
-gate-drives or a b g (suc zero) h = (true, refl)
-gate-drives xor a b g zero h = (false, omega arith)
-gate-drives xor a b g (suc zero) h = (true, refl)
-gate-drives nand a b g zero h = (false, omega arith)
-gate-drives nand a b g (suc zero) h = (true, refl)
-gate-drives nor a b g zero h = (true, omega arith)
-gate-drives nor a b g (suc zero) h = (false, refl)
-gate-drives k a b g (suc (suc i)) h = absurd (omega arith)
+gate-drives k a b g i h = (eqb (driverOf k a b true) i, go k i h)
+  where
+    go : (k : Binary) (i : ℕ) → i < 2 → railOf (made k a b g .rails) (eqb (driverOf k a b true) i) ≡ g + i
+    go and zero h = omega arith
+    go and (suc zero) h = omega arith
+    go or zero h = omega arith
+    go or (suc zero) h = omega arith
+    go xor zero h = omega arith
+    go xor (suc zero) h = omega arith
+    go nand zero h = omega arith
+    go nand (suc zero) h = omega arith
+    go nor zero h = omega arith
+    go nor (suc zero) h = omega arith
+    go k (suc (suc i)) h = absurd (omega arith)
 
 -- ---- cells and pins
 
@@ -110,41 +134,81 @@ pub record Sound (below : ℕ) (x : Gate) : Type 0 where
   pub has-hold : x .hold ≡ true
   pub used : In (x .cell) usedCells
 
-module _ (below p q r s : ℕ) (hp : p < below) (hq : q < below) (hr : r < below) (hs : s < below) where
-  TH22-sound : Sound below (TH22 p q)
-  unfolding pinCount cellAt cells
-  TH22-sound = record { formed = record { cell-in = omega arith; whole = refl; pins-in = (hp, (hq, tt)) }; has-hold = refl; used = inl refl }
-
-  THxor0-sound : Sound below (THxor0 p q r s)
-  unfolding pinCount cellAt cells
-  THxor0-sound = record { formed = record { cell-in = omega arith; whole = refl; pins-in = (hp, (hq, (hr, (hs, tt)))) }; has-hold = refl; used = inr (inl refl) }
-
-  THand0-sound : Sound below (THand0 p q r s)
-  unfolding pinCount cellAt cells
-  THand0-sound = record { formed = record { cell-in = omega arith; whole = refl; pins-in = (hp, (hq, (hr, (hs, tt)))) }; has-hold = refl; used = inr (inr (inl refl)) }
-
-  TH24comp-sound : Sound below (TH24comp p q r s)
-  unfolding pinCount cellAt cells
-  TH24comp-sound = record { formed = record { cell-in = omega arith; whole = refl; pins-in = (hp, (hq, (hr, (hs, tt)))) }; has-hold = refl; used = inr (inr (inr (inl refl))) }
-
 -- both rails of a pair are below a number
 abbrev pub BothBelow : ℕ → Pair → Type 0
 BothBelow below p = (x : Bool) → railOf p x < below
 
-pub made-sound : (k : Binary) (a b : Pair) (g below : ℕ) → BothBelow below a → BothBelow below b → All (Sound below) (made k a b g .gates)
-made-sound k a b g below ha hb =
-    let a0 = ha false in
-    let a1 = ha true in
-    let b0 = hb false in
-    let b1 = hb true in
-    go k a0 a1 b0 b1
-  where
-    go : (k : Binary) → a .rail0 < below → a .rail1 < below → b .rail0 < below → b .rail1 < below → All (Sound below) (made k a b g .gates)
-    go and a0 a1 b0 b1 = (TH22-sound below _ _ _ _ a1 b1 a1 b1, (THand0-sound below _ _ _ _ a0 b0 a1 b1, tt))
-    go or a0 a1 b0 b1 = (TH22-sound below _ _ _ _ a0 b0 a1 b1, (THand0-sound below _ _ _ _ a1 b1 a0 b0, tt))
-    go xor a0 a1 b0 b1 = (THxor0-sound below _ _ _ _ a0 b0 a1 b1, (TH24comp-sound below _ _ _ _ a0 b0 a1 b1, tt))
-    go nand a0 a1 b0 b1 = (TH22-sound below _ _ _ _ a1 b1 a1 b1, (THand0-sound below _ _ _ _ a0 b0 a1 b1, tt))
-    go nor a0 a1 b0 b1 = (TH22-sound below _ _ _ _ a0 b0 a1 b1, (THand0-sound below _ _ _ _ a1 b1 a0 b0, tt))
+-- all but the pins' numbers, as a test
+abbrev soundTest : Gate → Bool
+soundTest x = among (x .cell) usedCells && (eqb (length (x .pins)) (pinCount (x .cell)) && x .hold)
+
+abbrev soundTests : List Gate → Bool
+soundTests [] = true
+soundTests (x ∷ xs) = soundTest x && soundTests xs
+
+-- the rails of both operands by numbers from 0 to 3
+abbrev railAt : Pair → Pair → ℕ → ℕ
+railAt a b zero = a .rail0
+railAt a b (suc zero) = a .rail1
+railAt a b (suc (suc zero)) = b .rail0
+railAt a b (suc (suc (suc n))) = b .rail1
+
+abbrev withRails : Pair → Pair → Gate → Gate
+withRails a b x = record { cell = x .cell; hold = x .hold; pins = map (railAt a b) (x .pins) }
+
+-- the gates of an operation have no other pins
+gates-with : (k : Binary) (a b : Pair) (g : ℕ) → made k a b g .gates ≡ map (withRails a b) (made k (pair 0 1) (pair 2 3) 0 .gates)
+gates-with and a b g = refl
+gates-with or a b g = refl
+gates-with xor a b g = refl
+gates-with nand a b g = refl
+gates-with nor a b g = refl
+
+gates-tested : (k : Binary) → soundTests (made k (pair 0 1) (pair 2 3) 0 .gates) ≡ true
+unfolding among pinCount cellAt cells
+gates-tested and = refl
+gates-tested or = refl
+gates-tested xor = refl
+gates-tested nand = refl
+gates-tested nor = refl
+
+module _ (a b : Pair) (below : ℕ) (ha : BothBelow below a) (hb : BothBelow below b) where
+  rail-below : (n : ℕ) → railAt a b n < below
+  rail-below zero = ha false
+  rail-below (suc zero) = ha true
+  rail-below (suc (suc zero)) = hb false
+  rail-below (suc (suc (suc n))) = hb true
+
+  rails-below : (ns : List ℕ) → All (λ v. v < below) (map (railAt a b) ns)
+  rails-below [] = tt
+  rails-below (n ∷ ns) = (rail-below n, rails-below ns)
+
+  used-in : (c : ℕ) → In c usedCells → (1 ≤ c) × (c ≤ 27)
+  used-in c (inl e) = omega arith
+  used-in c (inr (inl e)) = omega arith
+  used-in c (inr (inr (inl e))) = omega arith
+  used-in c (inr (inr (inr (inl e)))) = omega arith
+
+  rails-sound : (x : Gate) → soundTest x ≡ true → Sound below (withRails a b x)
+  rails-sound x e =
+      let used = among-in (x .cell) usedCells (and-left (among (x .cell) usedCells) (eqb (length (x .pins)) (pinCount (x .cell)) && x .hold) e) in
+      let rest = and-right (among (x .cell) usedCells) (eqb (length (x .pins)) (pinCount (x .cell)) && x .hold) e in
+      record {
+        formed = record {
+          cell-in = used-in (x .cell) used;
+          whole = length-map (x .pins) (railAt a b) ∙ eqb-eq (length (x .pins)) (pinCount (x .cell)) (and-left (eqb (length (x .pins)) (pinCount (x .cell))) (x .hold) rest);
+          pins-in = rails-below (x .pins);
+        };
+        has-hold = and-right (eqb (length (x .pins)) (pinCount (x .cell))) (x .hold) rest;
+        used = used;
+      }
+
+  all-sound : (xs : List Gate) → soundTests xs ≡ true → All (Sound below) (map (withRails a b) xs)
+  all-sound [] e = tt
+  all-sound (x ∷ xs) e = (rails-sound x (and-left (soundTest x) (soundTests xs) e), all-sound xs (and-right (soundTest x) (soundTests xs) e))
+
+  pub made-sound : (k : Binary) (g : ℕ) → All (Sound below) (made k a b g .gates)
+  made-sound k g = rw (gates-with k a b g) (all-sound (made k (pair 0 1) (pair 2 3) 0 .gates) (gates-tested k))
 
 -- ---- their set expressions
 

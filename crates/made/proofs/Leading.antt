@@ -4,36 +4,20 @@ use Prim.Native.Nat.{ℕ, zero, suc, _+_, _<_}
 use native.Mathlib.Omega.{arith}
 use mathlib.Core.Path.{_≡_, refl, subst}
 use mathlib.Core.Bool.{Bool, true, false, cond}
-use mathlib.Core.Logic.{_⊎_, inl, inr}
+use mathlib.Core.Logic.{inl, inr}
 use mathlib.Core.List.{List, [], _∷_}
 use lib.ListN.{length, getD}
-use lib.Dec.{eqb}
 use Rattle.gates.specs.Cell.{among}
-use Rattle.runs.proofs.Test.{clash, or-left, or-right, or-cases, eqb-same, eqb-eq}
 use Rattle.netlist.specs.declared.Limits.{Limits}
 use Rattle.netlist.specs.Content.{Coded, Reference}
 use Rattle.netlist.specs.Formed.{ReferenceFormed}
 use Rattle.netlist.proofs.References.{in-order-at}
 use Rattle.verdict.specs.Graph.{In}
 use Rattle.verdict.proofs.Graph.{leads-sound, leads-complete}
+use Rattle.verdict.proofs.Retired.{among-in, in-among}
 use Rattle.made.specs.Leading.{signals, readersFrom, readers, LeadsOut, leadsOut}
 use Rattle.made.specs.Promises.{noOperation, Operand}
 use Rattle.made.proofs.Lists.{all-in}
-
-pub among-in : (x : ℕ) (ys : List ℕ) → In x ys → among x ys ≡ true
-unfolding among
-among-in x [] i = absurd i
-among-in x (y ∷ ys) (inl e) = or-left (eqb x y) (among x ys) (subst (λ (z : ℕ). eqb x z ≡ true) e (eqb-same x))
-among-in x (y ∷ ys) (inr i) = or-right (eqb x y) (among x ys) (among-in x ys i)
-
-pub among-out : (x : ℕ) (ys : List ℕ) → among x ys ≡ true → In x ys
-unfolding among
-among-out x [] e = absurd (clash e refl)
-among-out x (y ∷ ys) e = go (or-cases (eqb x y) (among x ys) e) (among-out x ys)
-  where
-    go : (eqb x y ≡ true) ⊎ (among x ys ≡ true) → (among x ys ≡ true → In x ys) → In x (y ∷ ys)
-    go (inl h) f = inl (eqb-eq x y h)
-    go (inr h) f = inr (f h)
 
 -- the readers of a signal are the gates that have it as an operand
 reader-from : (s : ℕ) (cs : List Coded) (x z : ℕ) → In z (readersFrom s cs x) → (k : ℕ) × (k < length cs) × (z ≡ s + k) × In x (getD cs k noOperation .operands)
@@ -49,14 +33,14 @@ reader-from s (c ∷ cs) x z i = go (among x (c .operands)) refl (reader-from (s
         → (In z (readersFrom (suc s) cs x) → (k : ℕ) × (k < length cs) × (z ≡ suc s + k) × In x (getD cs k noOperation .operands))
         → In z (cond b (s ∷ readersFrom (suc s) cs x) (readersFrom (suc s) cs x))
         → (k : ℕ) × (k < length (c ∷ cs)) × (z ≡ s + k) × In x (getD (c ∷ cs) k noOperation .operands)
-    go true e f (inl q) = (0, omega arith, omega arith, among-out x (c .operands) e)
+    go true e f (inl q) = (0, omega arith, omega arith, among-in x (c .operands) e)
     go true e f (inr j) = later (f j)
     go false e f j = later (f j)
 
 from-reader : (s : ℕ) (cs : List Coded) (x k : ℕ) → k < length cs → In x (getD cs k noOperation .operands) → In (s + k) (readersFrom s cs x)
 unfolding readersFrom
 from-reader s [] x k l i = absurd (omega arith)
-from-reader s (c ∷ cs) x zero l i = let e : s + 0 ≡ s = omega arith in rw (among-in x (c .operands) i, e) (inl refl)
+from-reader s (c ∷ cs) x zero l i = let e : s + 0 ≡ s = omega arith in rw (in-among x (c .operands) i, e) (inl refl)
 from-reader s (c ∷ cs) x (suc k) l i =
     let e : suc s + k ≡ s + suc k = omega arith in
     go (among x (c .operands)) (subst (λ (z : ℕ). In z (readersFrom (suc s) cs x)) e (from-reader (suc s) cs x k (omega arith) i))
@@ -78,7 +62,7 @@ module _ (r : Reference) where
   unfolding leadsOut
   leadsOut-sound x e =
       let g = leads-sound (readers r) (λ y. among y (r .outputs)) (signals r) x e in
-      (g .0, among-out (g .0) (r .outputs) (g .2), g .3)
+      (g .0, among-in (g .0) (r .outputs) (g .2), g .3)
 
   module _ {most : Limits} (formed : ReferenceFormed most r) where
     pub operand-before : (x k : ℕ) → k < length (r .gates) → Operand r k x → x < r .inputs + k
@@ -93,4 +77,4 @@ module _ (r : Reference) where
     unfolding leadsOut
     leadsOut-complete x l =
         leads-complete (readers r) (signals r) read-inside (λ y. among y (r .outputs)) (l .0)
-        (all-in (λ v. v < signals r) (r .outputs) (formed .outputs-formed) (l .0) (l .1)) (among-in (l .0) (r .outputs) (l .1)) (l .2)
+        (all-in (λ v. v < signals r) (r .outputs) (formed .outputs-formed) (l .0) (l .1)) (in-among (l .0) (r .outputs) (l .1)) (l .2)

@@ -8,3 +8,4 @@ pub mod Leading
 pub mod Marks
 pub mod Stage
 pub mod Making
+pub mod Cut

@@ -41,9 +41,10 @@ use Rattle.verdict.proofs.Because.{holds}
 use Rattle.verdict.proofs.Refusals.{refused-number}
 use Rattle.verdict.proofs.Demands.{demand-2, demand-3}
 use Rattle.made.specs.Made.{railsAt, inputRails, built, madeStage, gatesNeeded}
+use Rattle.made.specs.Count.{operations}
 use Rattle.made.specs.Leading.{signals, LeadsOut, leadsOut}
-use Rattle.made.specs.Making.{madeBytes, makeChecks, makeUnless, makeReading, makeOn}
-use Rattle.made.specs.Promises.{Fitting, MadeFrom, reference-refused, make-refused, stage-made, MakeMeans}
+use Rattle.made.specs.Making.{madeBytes, makeChecks, MakeAnswer, makeUnless, makeReading, makeWithin}
+use Rattle.made.specs.Promises.{Fitting, MadeFrom, MakeBecause, reference-refused, make-refused, stage-made, MakeMeans}
 use Rattle.made.proofs.Lists.{at-all}
 use Rattle.made.proofs.Building.{sound-more, all-long}
 use Rattle.made.proofs.Leading.{leadsOut-sound, leadsOut-complete}
@@ -52,9 +53,9 @@ use Rattle.made.proofs.Stage.{stage, sane, free, none-retired, outputs-
 -- ---- the stage fits a file
 
 module _ {referenceMost : Limits} (r : Reference) (formed : ReferenceFormed referenceMost r) where
-  pub gates-long : length (built r .gates) ≡ gatesNeeded r
-  unfolding built gatesNeeded
-  gates-long = all-long (r .inputs) (record { gates = []; rails = inputRails 0 (r .inputs) }) (r .inputs) (r .gates) (formed .gates-formed) ∙ omega arith
+  pub needed-counted : gatesNeeded r ≡ 2 * operations (r .gates)
+  unfolding built
+  needed-counted = all-long (r .inputs) (record { gates = []; rails = inputRails 0 (r .inputs) }) (r .inputs) (r .gates) (formed .gates-formed) ∙ omega arith
 
   rails-formed : (vs : List ℕ) → All (λ v. v < signals r) vs → All (RailsFormed (2 * r .inputs + length (built r .gates))) (railsAt (built r .rails) vs)
   rails-formed [] h = tt
@@ -69,7 +70,7 @@ module _ {referenceMost : Limits} (r : Reference) (formed : ReferenceFormed refe
         let o = formed .outputs-in in
         record {
           inputs-in = omega (arith, fitting .inputs);
-          gates-in = omega (arith, gates-long);
+          gates-in = few;
           outputs-in = omega (arith, fitting .outputs, outputs-long r formed 0);
           gates-formed = at-all (CellFormed (2 * r .inputs + length (built r .gates))) (built r .gates) noGate (λ k l.
               sound-more (2 * r .inputs + k) (2 * r .inputs + length (built r .gates)) (omega arith) (getD (built r .gates) k noGate) (sane r formed .sound k l) .formed);
@@ -185,8 +186,8 @@ made-number stageMost r room v n = named-one (λ k. 25 ≤ k) (makeChecks stageM
 
 -- Whatever the reference's file holds, and whatever the buffer's length.
 pub make-means : (stageMost referenceMost : Limits) → Fitting stageMost referenceMost → (reference : List ℕ) (room : ℕ)
-    → MakeMeans stageMost referenceMost reference room (makeOn stageMost referenceMost reference room)
-unfolding makeOn makeReading makeUnless
+    → MakeMeans stageMost referenceMost reference room (makeWithin stageMost referenceMost reference room)
+unfolding makeWithin makeReading makeUnless
 make-means stageMost referenceMost fitting reference room = go (readFile file.Reference referenceMost reference) refl
   where
     answered : (r : Reference) → ReferenceFormed referenceMost r → ReferenceIs referenceMost reference r → (x : Finding) → FirstFault (makeChecks stageMost r room) x
@@ -211,12 +212,19 @@ make-means stageMost referenceMost fitting reference room = go (readFile file.Re
         let formed = reference-formed referenceMost reference places p in
         answered r formed (holds p) (firstFault (makeChecks stageMost r room)) (first-fault (makeChecks stageMost r room) (checks-mean stageMost referenceMost r formed room))
 
+-- a refusal writes nothing
+pub refusal-writes-nothing : {stageMost referenceMost : Limits} {reference : List ℕ} {room : ℕ} {a : MakeAnswer} → MakeBecause stageMost referenceMost reference room a
+    → ¬ (a .verdict ≡ accepted) → a .bytes ≡ []
+refusal-writes-nothing (reference-refused e) d = refl
+refusal-writes-nothing (make-refused r is n) d = refl
+refusal-writes-nothing (stage-made r is n) d = absurd (d refl)
+
 -- what the limits of the two files are fits
 pub limits-fit : Fitting stageLimits referenceLimits
 limits-fit = record { inputs = omega arith; outputs = omega arith; words = omega arith; nets = omega arith }
 
 -- Each stage so written is accepted against its reference.
 pub written-accepted : (stageMost referenceMost : Limits) → Fitting stageMost referenceMost → (reference : List ℕ) (room : ℕ)
-    → makeOn stageMost referenceMost reference room .verdict .number ≡ 0 → (order : WordOrder)
-    → verdictWithin order stageMost referenceMost (makeOn stageMost referenceMost reference room .bytes) reference ≡ accepted
+    → makeWithin stageMost referenceMost reference room .verdict .number ≡ 0 → (order : WordOrder)
+    → verdictWithin order stageMost referenceMost (makeWithin stageMost referenceMost reference room .bytes) reference ≡ accepted
 written-accepted stageMost referenceMost fitting reference room e order = make-means stageMost referenceMost fitting reference room .made e .1 .stage-accepted order

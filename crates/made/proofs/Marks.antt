@@ -18,11 +18,12 @@ use Rattle.netlist.specs.Formed.{FormedFrom, ReferenceFormed}
 use Rattle.netlist.proofs.Lists.{All-map}
 use Rattle.verdict.specs.Graph.{In, Leads, here, onward}
 use Rattle.verdict.specs.Rows.{high}
+use Rattle.verdict.proofs.Retired.{among-in, in-among}
 use Rattle.made.specs.Leading.{signals, readers, LeadsOut, leadsOut}
 use Rattle.made.specs.Marks.{marked, markedFrom, outputMarks, leadingMarks}
 use Rattle.made.specs.Promises.{noOperation}
 use Rattle.made.proofs.Lists.{all-in}
-use Rattle.made.proofs.Leading.{among-in, among-out, reader-gate, gate-reader, leadsOut-sound, leadsOut-complete}
+use Rattle.made.proofs.Leading.{reader-gate, gate-reader, leadsOut-sound, leadsOut-complete}
 
 -- ---- one list of signals marked
 
@@ -101,7 +102,7 @@ module _ (size : ℕ) (marks : List ℕ) (long : length marks ≡ size) where
       old z z-in u = pick (or-cases (high later s && among z (c .operands)) (high later z) (sym (from-high s c cs (f .0 .operands-in) (omega arith) z) ∙ u))
         where
           pick : ((high later s && among z (c .operands)) ≡ true) ⊎ (high later z ≡ true) → high later z ≡ true
-          pick (inl x) = absurd (omega (arith, all-in (λ x. x < s) (c .operands) (f .0 .operands-in) z (among-out z (c .operands) (and-right (high later s) (among z (c .operands)) x))))
+          pick (inl x) = absurd (omega (arith, all-in (λ x. x < s) (c .operands) (f .0 .operands-in) z (among-in z (c .operands) (and-right (high later s) (among z (c .operands)) x))))
           pick (inr x) = x
 
       go : (k : ℕ) → k < length (c ∷ cs) → In y (getD (c ∷ cs) k noOperation .operands) → high (markedFrom s (c ∷ cs) marks) (s + k) ≡ true
@@ -110,7 +111,7 @@ module _ (size : ℕ) (marks : List ℕ) (long : length marks ≡ size) where
       go zero l i h f′ =
           let q : s + 0 ≡ s = omega arith in
           from-high s c cs (f .0 .operands-in) (omega arith) y
-          ∙ or-left (high later s && among y (c .operands)) (high later y) (rw (old s (omega arith) (rw q at h), among-in y (c .operands) i))
+          ∙ or-left (high later s && among y (c .operands)) (high later y) (rw (old s (omega arith) (rw q at h), in-among y (c .operands) i))
       go (suc k) l i h f′ =
           let q : s + suc k ≡ suc s + k = omega arith in
           from-high s c cs (f .0 .operands-in) (omega arith) y
@@ -131,7 +132,7 @@ module _ (size : ℕ) (marks : List ℕ) (long : length marks ≡ size) where
       go : ((high later s && among y (c .operands)) ≡ true) ⊎ (high later y ≡ true) → ((z : ℕ) → high later z ≡ true → P z) → P y
       go (inl x) only =
           let q : s ≡ s + 0 = omega arith in
-          pass 0 (omega arith) y (among-out y (c .operands) (and-right (high later s) (among y (c .operands)) x)) (subst P q (only s (and-left (high later s) (among y (c .operands)) x)))
+          pass 0 (omega arith) y (among-in y (c .operands) (and-right (high later s) (among y (c .operands)) x)) (subst P q (only s (and-left (high later s) (among y (c .operands)) x)))
       go (inr x) only = only y x
 
 -- ---- the whole reference
@@ -164,7 +165,7 @@ module _ {most : Limits} (r : Reference) (formed : ReferenceFormed most r) where
   output-in y h = go (or-cases (among y (r .outputs)) (high none y) (sym (outputs-high y) ∙ h))
     where
       go : (among y (r .outputs) ≡ true) ⊎ (high none y ≡ true) → LeadsOut r y
-      go (inl x) = (y, among-out y (r .outputs) x, here)
+      go (inl x) = (y, among-in y (r .outputs) x, here)
       go (inr x) = absurd (clash x (none-high (signals r) y))
 
   pub marks-only : (y : ℕ) → high (leadingMarks r) y ≡ true → LeadsOut r y
@@ -176,7 +177,7 @@ module _ {most : Limits} (r : Reference) (formed : ReferenceFormed most r) where
   unfolding leadingMarks
   marks-led y i here =
       from-more (signals r) (outputMarks r) outputs-long (r .inputs) (r .gates) (formed .gates-formed) refl y
-      (outputs-high y ∙ or-left (among y (r .outputs)) (high none y) (among-in y (r .outputs) i))
+      (outputs-high y ∙ or-left (among y (r .outputs)) (high none y) (in-among y (r .outputs) i))
   marks-led y i (onward {x = x} {z = z} j l) =
       let g = reader-gate r x z j in
       from-closed (signals r) (outputMarks r) outputs-long (r .inputs) (r .gates) (formed .gates-formed) refl (g .0) (g .1) x (g .3)

@@ -1,4 +1,5 @@
 pub mod Made
+pub mod Count
 pub mod Leading
 pub mod Marks
 pub mod Making

@@ -1,9 +1,8 @@
 -- The stage that is made from a reference: NOT swaps rails, every other operation becomes two gates.
 use Prim.Native.Nat.{ℕ, zero, suc, _+_, _*_}
-use mathlib.Core.Bool.{true, cond}
+use mathlib.Core.Bool.{true}
 use mathlib.Core.List.{List, [], _∷_, _++_, map}
 use lib.ListN.{length, getD}
-use lib.Dec.{eqb}
 use Rattle.netlist.specs.Content.{Coded, Gate, Pair, Stage, Reference}
 use Rattle.verdict.specs.Nets.{noPair}
 
@@ -20,7 +19,7 @@ pair rail0 rail1 = record { rail0 = rail0; rail1 = rail1 }
 abbrev pub realized : List Gate → Pair → Realized
 realized gates rails = record { gates = gates; rails = rails }
 
--- the other way round
+-- rail 0 and rail 1 exchanged
 abbrev pub swapped : Pair → Pair
 swapped p = pair (p .rail1) (p .rail0)
 
@@ -63,13 +62,14 @@ asXor a b g =
 abbrev pub inverted : Realized → Realized
 inverted x = realized (x .gates) (swapped (x .rails))
 
--- operation 1 NOT, 2 AND, 3 OR, 4 XOR, 5 NAND, 6 NOR on the rails of its operands, where the next gate drives net g; NOT has only the first
+-- operation 1 NOT, 2 AND, 3 OR, 4 XOR, 5 NAND, 6 NOR on the rails of its operands, where the next gate drives net g. NOT has one operand, the others
+-- two; no other number is an operation of a readable reference
 unfoldable pub realize : ℕ → List Pair → ℕ → Realized
 realize operation operands g =
     let a = getD operands 0 noPair in
     let b = getD operands 1 noPair in
-    let none = realized [] noPair in
-    getD (none ∷ asNot a ∷ asAnd a b g ∷ asOr a b g ∷ asXor a b g ∷ inverted (asAnd a b g) ∷ inverted (asOr a b g) ∷ []) operation none
+    let unknown = realized [] noPair in
+    getD (unknown ∷ asNot a ∷ asAnd a b g ∷ asOr a b g ∷ asXor a b g ∷ inverted (asAnd a b g) ∷ inverted (asOr a b g) ∷ []) operation unknown
 
 -- ---- the whole reference
 
@@ -87,7 +87,8 @@ unfoldable pub inputRails : ℕ → ℕ → List Pair
 inputRails i zero = []
 inputRails i (suc m) = pair (2 * i) (2 * i + 1) ∷ inputRails (suc i) m
 
--- with n inputs: the next gate of the reference. "Gate k drives net 2n + k", so that the next net is the first without a driver
+-- one gate of the reference more, with n inputs. "Gate k drives net 2n + k": the next gate of the stage drives the net after those of the inputs and
+-- of the gates before it
 unfoldable pub addGate : ℕ → Built → Coded → Built
 addGate n b c =
     let made = realize (c .code) (railsAt (b .rails) (c .operands)) (2 * n + length (b .gates)) in
@@ -109,13 +110,6 @@ signalRails r x = getD (built r .rails) x noPair
 unfoldable pub madeStage : Reference → Stage
 madeStage r = record { inputs = r .inputs; gates = built r .gates; outputs = railsAt (built r .rails) (r .outputs); care = [] }
 
--- ---- how many gates it has
-
--- the gates of a reference that are not NOT
-unfoldable pub operations : List Coded → ℕ
-operations [] = 0
-operations (c ∷ cs) = let later = operations cs in cond (eqb (c .code) 1) later (suc later)
-
--- two for each of them
-unfoldable pub gatesNeeded : Reference → ℕ
-gatesNeeded r = 2 * operations (r .gates)
+-- how many gates it has
+abbrev pub gatesNeeded : Reference → ℕ
+gatesNeeded r = length (built r .gates)

@@ -6,7 +6,7 @@ use lib.ListN.{length}
 use lib.Dec.{ltb}
 use Rattle.netlist.specs.declared.File.the-variants as file
 use Rattle.netlist.specs.declared.Limits.{Limits}
-use Rattle.netlist.specs.Reading.{Reading, refused, readable, readFile}
+use Rattle.netlist.specs.Reading.{Reading, refused, readable, readFile, stageLimits, referenceLimits}
 use Rattle.netlist.specs.Content.{Reference, referenceOf}
 use Rattle.netlist.specs.Writing.{writeStage}
 use Rattle.verdict.specs.declared.Verdict.{Verdict}
@@ -51,5 +51,9 @@ makeReading stageMost reference room (readable places) =
     makeUnless (firstFault (makeChecks stageMost r room)) r
 
 -- on the bytes of a reference file and a buffer of so many bytes, within the limits of a stage and of a reference
-unfoldable pub makeOn : Limits → Limits → List ℕ → ℕ → MakeAnswer
-makeOn stageMost referenceMost reference room = makeReading stageMost reference room (readFile file.Reference referenceMost reference)
+unfoldable pub makeWithin : Limits → Limits → List ℕ → ℕ → MakeAnswer
+makeWithin stageMost referenceMost reference room = makeReading stageMost reference room (readFile file.Reference referenceMost reference)
+
+-- at the limits of the two files
+abbrev pub makeOn : List ℕ → ℕ → MakeAnswer
+makeOn reference room = makeWithin stageLimits referenceLimits reference room

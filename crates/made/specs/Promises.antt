@@ -40,9 +40,9 @@ IsNot r k = getD (r .gates) k noOperation .code ≡ 1
 abbrev pub signalNet : Reference → ℕ → Bool → ℕ
 signalNet r x = railOf (signalRails r x)
 
--- "No rail rises before both operands are DATA." After every list of a word's rise: where a rail of a gate's signal is high, each of its operands
--- is DATA; and where a rail of an operation other than NOT may still rise, each of its operands is DATA already (the rails of NOT are its operand's
--- own). In a fall no rail rises: after every list of it, a net that is low may not switch.
+-- "No rail rises before both operands are DATA." After every list of a word's rise: where a rail of a gate's signal is high, each operand of the gate is
+-- DATA; and where such a rail is the next to rise, each operand is DATA already, unless the gate is a NOT, whose rails are those of its operand. In a
+-- fall no rail rises: after every list of it, a net that is low may not switch.
 pub record Waits (r : Reference) (w : ℕ) : Type 0 where
   pub high : (l : List ℕ) → RiseList (netOf (madeStage r)) (railsFor (madeStage r) w) l → (k : ℕ) → k < length (r .gates)
       → (b : Bool) → after low l (signalNet r (r .inputs + k) b) ≡ true → (x : ℕ) → Operand r k x → Data (after low l) (signalNet r x)
@@ -55,15 +55,17 @@ pub record Waits (r : Reference) (w : ℕ) : Type 0 where
 
 -- ---- the call
 
--- Limits under which what is made fits: a stage may have as many inputs and outputs as a reference, and the numbers of its nets are operands.
+-- Limits under which what is made can be read: a stage may have as many inputs and outputs as a reference, a word of its inputs fits the two bytes of a
+-- care command, and the number of each net fits an operand.
 pub record Fitting (stageMost referenceMost : Limits) : Type 0 where
   pub inputs : referenceMost .inputs ≤ stageMost .inputs
   pub outputs : referenceMost .outputs ≤ stageMost .outputs
   pub words : stageMost .inputs ≤ 16
   pub nets : 2 * stageMost .inputs + stageMost .gates ≤ absent
 
--- The bytes of a stage that was made: they are the file of the stage made from the reference and read as that stage; "each stage so written is
--- accepted against its reference", in either order of words, so that its runs obey everything said of an accepted stage; and in every word its rails wait for their operands.
+-- The bytes of a stage that was made: they are the file of the stage made from the reference, and read as that stage. "Each stage so written is
+-- accepted against its reference", in either order of words, so that its runs obey everything said of an accepted stage. In every word its rails wait
+-- for their operands.
 pub record MadeFrom (stageMost referenceMost : Limits) (reference bytes : List ℕ) : Type 0 where
   pub function : Reference
   pub function-is : ReferenceIs referenceMost reference function

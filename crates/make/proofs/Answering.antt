@@ -2,10 +2,10 @@
 -- Assumes nothing.
 use Prim.Native.Nat.{ℕ, _+_, _*_, _≤_, _<_}
 use native.Mathlib.Omega.{arith}
-use mathlib.Core.Path.{_≡_, refl, sym, ap, _∙_, subst}
+use mathlib.Core.Path.{_≡_, refl, sym, ap, ap₂, _∙_, subst}
 use mathlib.Core.Bool.{not}
 use mathlib.Core.List.{List, [], _∷_, _++_}
-use lib.ListN.{length, getD, length-map}
+use lib.ListN.{length, getD, take, length-map}
 use Rattle.verdict.specs.Nets.{noPair}
 use borrow.Author.Tests.{lt-ltb, le-ltb}
 use Rattle.netlist.specs.declared.File.the-variants as file
@@ -28,30 +28,32 @@ use Rattle.verdict.specs.declared.Finding.the-variants.{Fault, Passed}
 use Rattle.verdict.specs.Checks.{verdict, firstFault}
 use Rattle.verdict.specs.Search.{least}
 use Rattle.verdict.specs.Verdicts.{accepted}
-use Rattle.made.specs.Made.{railsAt, built, madeStage, operations, gatesNeeded}
+use Rattle.made.specs.Made.{railsAt, built, madeStage, gatesNeeded}
+use Rattle.made.specs.Count.{operations}
 use Rattle.made.specs.Leading.{signals, leadsOut}
-use Rattle.made.specs.Making.{madeBytes, makeChecks, makeUnless, makeReading, makeOn}
-use Rattle.made.proofs.Making.{gates-long, laterTests, checks-by-tests}
+use Rattle.made.specs.Making.{madeBytes, makeChecks, makeUnless, makeReading, makeWithin, makeOn}
+use Rattle.made.specs.Promises.{MadeFrom, MakeMeans}
+use Rattle.made.proofs.Making.{needed-counted, laterTests, checks-by-tests, make-means, limits-fit}
 use Rattle.writing.specs.declared.Answer.{Answer}
 use Rattle.writing.specs.Put.{Put}
 use Rattle.writing.specs.Parts.{gateItem, pairItem, bytesOf}
-use Rattle.writing.specs.Written.{answerOf, written}
-use Rattle.writing.proofs.Joining.{put-++, put-holding}
+use Rattle.writing.specs.Written.{Written, answerOf, written}
+use Rattle.writing.proofs.Joining.{put-++, put-holding, holding-take}
 use Rattle.writing.proofs.Files.{stage-parts, stage-length, bytes-length, stage-gate-width, stage-output-width}
 use Rattle.circuit.specs.Reference.{signalIn, signalsIn, operatorIn, operatorsIn, referenceIn, ReferenceLoaded}
 use Rattle.circuit.proofs.Tabulate.{length-tabulate}
 use Rattle.make.specs.Rails.{pairsIn}
 use Rattle.load.specs.Load.{HoldsReference}
 use Rattle.load.proofs.Reading.{was-refused, reference-held}
-use Rattle.make.specs.Call.{leaves, stageMade, makeRead}
+use Rattle.make.specs.Call.{leaves, makeRead, MakeDemand}
 use Rattle.writing.proofs.Putting.{put-same}
 
 -- ---- the stage
 
-module _ {most : Limits} (r : Reference) (formed : ReferenceFormed most r) where
-  pub made-long : length (madeBytes r) ≡ 3 + 10 * gatesNeeded r + 5 * length (r .outputs)
+module _ (r : Reference) where
+  made-long : length (madeBytes r) ≡ 3 + 10 * gatesNeeded r + 5 * length (r .outputs)
   unfolding madeStage
-  made-long = omega (arith, stage-length (madeStage r), gates-long r formed, rails-count)
+  made-long = omega (arith, stage-length (madeStage r), rails-count)
     where
       rails-count : length (railsAt (built r .rails) (r .outputs)) ≡ length (r .outputs)
       rails-count = length-map (r .outputs) (λ (x : ℕ). getD (built r .rails) x noPair)
@@ -61,7 +63,7 @@ module _ {most : Limits} (r : Reference) (formed : ReferenceFormed most r) where
   unfolding madeStage bytesOf
   made-parts = stage-parts (madeStage r)
 
-  pub made-put : {b0 b1 b2 b3 b4 : List ℕ} {at end : ℕ} → Put b0 0 (0x01 ∷ r .inputs ∷ []) b1 → Put b1 2 (bytesOf file.Stage gateItem (built r .gates)) b2
+  made-put : {b0 b1 b2 b3 b4 : List ℕ} {at end : ℕ} → Put b0 0 (0x01 ∷ r .inputs ∷ []) b1 → Put b1 2 (bytesOf file.Stage gateItem (built r .gates)) b2
       → Put b2 at (bytesOf file.Stage pairItem (railsAt (built r .rails) (r .outputs))) b3 → Put b3 end (0x00 ∷ []) b4
       → at ≡ 2 + 10 * gatesNeeded r → end ≡ at + 5 * length (r .outputs) → Put b0 0 (madeBytes r) b4
   made-put p g o z e f =
@@ -71,7 +73,7 @@ module _ {most : Limits} (r : Reference) (formed : ReferenceFormed most r) where
       (put-++ p
       (put-++ g
       (put-++ o z (omega (arith, f, w, bytes-length file.Stage pairItem 5 (λ p. stage-output-width (pairOperands p)) outs)))
-      (omega (arith, e, gates-long r formed, bytes-length file.Stage gateItem 10 (λ g. stage-gate-width (codedGate g)) (built r .gates))))
+      (omega (arith, e, bytes-length file.Stage gateItem 10 (λ g. stage-gate-width (codedGate g)) (built r .gates))))
       refl)
 
 -- of a reference in its flat form
@@ -79,9 +81,9 @@ outputs-count : (c : Counts) (code : List ℕ) → length (signalsIn c code) ≡
 unfolding signalsIn
 outputs-count c code = length-tabulate (signalIn c code) (c .outputs)
 
-module _ {most : Limits} (c : Counts) (code : List ℕ) (formed : ReferenceFormed most (referenceIn c code)) where
+module _ (c : Counts) (code : List ℕ) where
   pub made-long-in : length (madeBytes (referenceIn c code)) ≡ 3 + 10 * gatesNeeded (referenceIn c code) + 5 * c .outputs
-  made-long-in = omega (arith, made-long (referenceIn c code) formed, outputs-count c code)
+  made-long-in = omega (arith, made-long (referenceIn c code), outputs-count c code)
 
   pub made-put-in : {b0 b1 b2 b3 b4 : List ℕ} {at end : ℕ} (rails : List ℕ) → Put b0 0 (0x01 ∷ c .inputs ∷ []) b1
       → Put b1 2 (bytesOf file.Stage gateItem (built (referenceIn c code) .gates)) b2
@@ -89,7 +91,7 @@ module _ {most : Limits} (c : Counts) (code : List ℕ) (formed : ReferenceForme
       → pairsIn rails (c .inputs + c .gates) ≡ built (referenceIn c code) .rails → at ≡ 2 + 10 * gatesNeeded (referenceIn c code) → end ≡ at + 5 * c .outputs
       → Put b0 0 (madeBytes (referenceIn c code)) b4
   made-put-in rails p g o z e f h =
-      made-put (referenceIn c code) formed p g (put-same (ap (λ (l : List Pair). bytesOf file.Stage pairItem (railsAt l (signalsIn c code))) e) o) z f (omega (arith, h, outputs-count c code))
+      made-put (referenceIn c code) p g (put-same (ap (λ (l : List Pair). bytesOf file.Stage pairItem (railsAt l (signalsIn c code))) e) o) z f (omega (arith, h, outputs-count c code))
 
 -- ---- the checks
 
@@ -139,9 +141,8 @@ module _ (c : Counts) (code : List ℕ) where
       let n : c .inputs + c .gates ≡ signals (referenceIn c code) = omega (arith, g) in
       ap (least _ 0) n
 
-  pub needed-is : (n : ℕ) → n ≡ operations (operatorsIn c code) → 2 * n ≡ gatesNeeded (referenceIn c code)
-  unfolding gatesNeeded
-  needed-is n e = ap (λ (x : ℕ). 2 * x) e
+  pub needed-is : {most : Limits} → ReferenceFormed most (referenceIn c code) → (n : ℕ) → n ≡ operations (operatorsIn c code) → 2 * n ≡ gatesNeeded (referenceIn c code)
+  needed-is formed n e = omega (arith, e, needed-counted (referenceIn c code) formed)
 
 -- what was read within some limits, where these are those of a reference
 pub reference-read-by : (given : Limits) (s : List ℕ) (r : Outcome) (code : List ℕ) → given ≡ referenceLimits
@@ -156,8 +157,8 @@ module _ (s buffer : List ℕ) where
   reading = readFile file.Reference referenceLimits s
 
   pub file-refused : (a : Answer) (number at : ℕ) → outcome.Refused number at ≡ outcomeOf reading → a ≡ answerOf (verdict number 2 at 0) 0
-      → written a buffer ≡ leaves (stageMade s (length buffer)) buffer
-  unfolding makeOn makeReading
+      → written a buffer ≡ leaves (makeOn s (length buffer)) buffer
+  unfolding makeWithin makeReading
   file-refused a number at e h =
       ap (λ (x : Answer). written x buffer) h
       ∙ sym (ap (λ (x : Reading). leaves (makeReading stageLimits s (length buffer) x) buffer) (was-refused reading number at e))
@@ -169,10 +170,25 @@ module _ (s buffer : List ℕ) where
         (l .3, subst (ReferenceFormed referenceLimits) (sym (l .2)) (reference-formed referenceLimits s (l .0) (l .1)))
 
     pub file-made : (a : Answer) (after : List ℕ) → written a after ≡ leaves (makeRead (referenceIn c code) (length buffer)) buffer
-        → written a after ≡ leaves (stageMade s (length buffer)) buffer
-    unfolding makeOn makeReading
+        → written a after ≡ leaves (makeOn s (length buffer)) buffer
+    unfolding makeWithin makeReading
     file-made a after m =
         let l = reference-held s reading c code e h in
         m
         ∙ ap (λ (r : Reference). leaves (makeRead r (length buffer)) buffer) (l .2)
         ∙ sym (ap (λ (x : Reading). leaves (makeReading stageLimits s (length buffer) x) buffer) (l .1))
+
+-- ---- what is said of the call
+
+pub demanded : (s buffer : List ℕ) (a : Answer) (after : List ℕ) → written a after ≡ leaves (makeOn s (length buffer)) buffer → MakeDemand s buffer a after
+demanded s buffer a after e = record {
+  answer = e;
+  means = means;
+  made = λ z. subst (MadeFrom stageLimits referenceLimits s) (sym first) (means .made (sym (ap (λ (w : Written). w .verdict .number) e) ∙ z) .1);
+}
+  where
+    means : MakeMeans stageLimits referenceLimits s (length buffer) (makeOn s (length buffer))
+    means = make-means stageLimits referenceLimits limits-fit s (length buffer)
+
+    first : take (a .count) after ≡ makeOn s (length buffer) .bytes
+    first = ap₂ take (ap (λ (w : Written). w .count) e) (ap (λ (w : Written). w .buffer) e) ∙ holding-take (makeOn s (length buffer) .bytes) buffer

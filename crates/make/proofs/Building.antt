@@ -1,24 +1,24 @@
 -- Gate by gate: what is put and which rails are stored, up to gate k.
 -- Assumes nothing.
-use Prim.Native.Nat.{ℕ, zero, suc, _+_, _-_, _*_, _≤_, _<_}
+use Prim.Native.Nat.{ℕ, zero, suc, _+_, _*_, _≤_, _<_}
 use native.Mathlib.Omega.{arith}
 use native.Mathlib.Numerals.{add-one}
 use native.Mathlib.Decide.{ℕ-discrete}
 use mathlib.Core.Path.{_≡_, refl, sym, ap, ap₂, _∙_, subst}
-use mathlib.Core.Bool.{Bool, true, false, cond}
 use mathlib.Core.List.{List, [], _∷_, _++_}
 use lib.ListN.{length, getD, set, drop, length-set, length-append}
 use lib.Seq.{getD-set-same, getD-set-other}
-use lib.Dec.{eqb}
 use Rattle.netlist.specs.declared.File.the-variants as file
 use Rattle.netlist.specs.declared.Counts.{Counts}
 use Rattle.netlist.specs.declared.Limits.{Limits}
-use Rattle.netlist.specs.Content.{Coded, Gate, Pair}
+use Rattle.netlist.specs.Content.{Gate, Pair}
 use Rattle.netlist.specs.Formed.{OperationFormed, ReferenceFormed}
 use Rattle.netlist.specs.Writing.{codedGate}
 use Rattle.netlist.proofs.References.{in-order-at}
-use Rattle.made.specs.Made.{pair, Realized, railsAt, Built, realize, addGate, addGates, built, inputRails, operations, gatesNeeded}
-use Rattle.made.proofs.Building.{all-long}
+use Rattle.made.specs.Made.{pair, Realized, railsAt, Built, realize, addGate, addGates, built, inputRails, gatesNeeded}
+use Rattle.made.specs.Count.{operations}
+use Rattle.made.proofs.Building.{operations-cons, all-long}
+use Rattle.made.proofs.Making.{needed-counted}
 use Rattle.writing.specs.Put.{Put}
 use Rattle.writing.specs.Parts.{gateItem, bytesOf}
 use Rattle.writing.proofs.Joining.{put-none, put-++}
@@ -86,14 +86,6 @@ rails-more rails m p l =
 
 -- ---- gates
 
-operations-split : (c : Coded) (cs : List Coded) → operations (c ∷ cs) ≡ operations (c ∷ []) + operations cs
-unfolding operations
-operations-split c cs = go (eqb (c .code) 1)
-  where
-    go : (b : Bool) → cond b (operations cs) (suc (operations cs)) ≡ cond b 0 1 + operations cs
-    go true = omega arith
-    go false = omega arith
-
 module _ (c : Counts) (code : List ℕ) where
   -- the gates before gate k are made: those after them make of these the whole
   pub record MadeTo (buffer₀ rails₀ buffer rails : List ℕ) (made k : ℕ) : Type 0 where
@@ -106,9 +98,10 @@ module _ (c : Counts) (code : List ℕ) where
     pub put : Put buffer₀ 2 (bytesOf file.Stage gateItem (so-far .gates)) buffer
     pub long : length rails ≡ length rails₀
 
-  pub made-start : (buffer rails : List ℕ) → pairsIn rails (c .inputs) ≡ inputRails 0 (c .inputs) → MadeTo buffer rails buffer rails 0 0
-  unfolding built gatesNeeded bytesOf
-  made-start buffer rails e =
+  pub made-start : {most : Limits} → ReferenceFormed most (referenceIn c code) → (buffer rails : List ℕ) → pairsIn rails (c .inputs) ≡ inputRails 0 (c .inputs)
+      → MadeTo buffer rails buffer rails 0 0
+  unfolding built bytesOf
+  made-start formed buffer rails e =
       let z : c .inputs + 0 ≡ c .inputs = omega arith in
       record {
         so-far = record { gates = []; rails = inputRails 0 (c .inputs) };
@@ -116,7 +109,7 @@ module _ (c : Counts) (code : List ℕ) where
         left = refl;
         rails-are = ap (pairsIn rails) z ∙ e;
         count = refl;
-        needed = omega arith;
+        needed = omega (arith, needed-counted (referenceIn c code) formed);
         put = put-none buffer 2;
         long = refl;
       }
@@ -125,7 +118,7 @@ module _ (c : Counts) (code : List ℕ) where
     -- room for the gates of gate k
     pub made-room : k < c .gates → made + 2 * operations (operatorIn code k ∷ []) ≤ gatesNeeded (referenceIn c code)
     unfolding operatorsIn
-    made-room l = omega (arith, t .needed, operations-split (operatorIn code k) (drop (suc k) (operatorsIn c code)), ap operations (from-at (operatorIn code) (c .gates) k l))
+    made-room l = omega (arith, t .needed, operations-cons (operatorIn code k) (drop (suc k) (operatorsIn c code)), ap operations (from-at (operatorIn code) (c .gates) k l))
 
     same-become : becomes c code k rails made
         ≡ realize (operatorIn code k .code) (railsAt (t .so-far .rails) (operatorIn code k .operands)) (2 * c .inputs + length (t .so-far .gates))
@@ -168,7 +161,7 @@ module _ (c : Counts) (code : List ℕ) where
                 ∙ ap₂ (λ (x : List Pair) (y : Pair). x ++ (y ∷ [])) (t .rails-are) rails-same;
             count = e ∙ ap₂ _+_ (t .count) (ap length gates-same) ∙ sym longer;
             needed =
-                let split = operations-split (operatorIn code k) (drop (suc k) (operatorsIn c code)) in
+                let split = operations-cons (operatorIn code k) (drop (suc k) (operatorsIn c code)) in
                 let n = ap (λ (i : ℕ). operations (drop i (operatorsIn c code))) (add-one k) in
                 omega (arith, t .needed, split, ap operations step, n, gate-long, longer, e, t .count, ap length gates-same);
             put =

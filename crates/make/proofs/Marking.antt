@@ -21,7 +21,7 @@ use Rattle.verdict.specs.Rows.{high}
 use Rattle.verdict.specs.Words.{numbers}
 use Rattle.verdict.specs.Checks.{first}
 use Rattle.verdict.specs.Search.{least}
-use Rattle.made.specs.Made.{operations}
+use Rattle.made.specs.Count.{operations}
 use Rattle.made.specs.Leading.{signals, leadsOut}
 use Rattle.made.specs.Marks.{marked, markedFrom, outputMarks, leadingMarks}
 use Rattle.made.proofs.Marks.{from-long, marks-are}

@@ -15,7 +15,8 @@ use Rattle.netlist.specs.declared.Counts.{Counts}
 use Rattle.netlist.specs.Content.{Coded, Gate, Pair}
 use Rattle.netlist.specs.Writing.{writeItem, codedGate}
 use Rattle.verdict.specs.Nets.{noPair}
-use Rattle.made.specs.Made.{pair, Realized, TH22, THand0, asNot, railsAt, realize, operations}
+use Rattle.made.specs.Count.{operations}
+use Rattle.made.specs.Made.{pair, Realized, TH22, THand0, asNot, railsAt, realize}
 use Rattle.writing.specs.Put.{Put}
 use Rattle.writing.specs.Parts.{gateItem, bytesOf}
 use Rattle.writing.proofs.Joining.{put-none, put-++}

@@ -15,7 +15,8 @@ ghost use Rattle.netlist.specs.Reading.{stageLimits, referenceLimits};
 ghost use Rattle.netlist.specs.Formed.{ReferenceFormed};
 ghost use Rattle.verdict.specs.Rows.{high};
 ghost use Rattle.verdict.specs.Search.{least};
-ghost use Rattle.made.specs.Made.{TH22, THxor0, THand0, TH24comp, railsAt, inputRails, realize, built, operations, gatesNeeded};
+ghost use Rattle.made.specs.Made.{TH22, THxor0, THand0, TH24comp, railsAt, inputRails, realize, built, gatesNeeded};
+ghost use Rattle.made.specs.Count.{operations};
 ghost use Rattle.made.specs.Leading.{leadsOut};
 ghost use Rattle.made.specs.Marks.{marked, markedFrom};
 ghost use Rattle.made.specs.Making.{madeBytes};
@@ -26,7 +27,7 @@ ghost use Rattle.circuit.specs.Reference.{operatorIn, operatorsIn, signalsIn, r
 ghost use Rattle.make.specs.Rails.{pairOf, pairIn, pairsIn, becomes};
 ghost use Rattle.make.specs.Call.{leaves, makeRead, MakeDemand};
 
-// A byte for each signal of the largest reference.
+// How many signals the largest reference has.
 const SIGNALS: usize = netlist::INPUTS + netlist::REFERENCE_GATES;
 
 // The nets of a signal's two rails.
@@ -165,7 +166,7 @@ fn result_rails(operation: u16, a: Rails, next: u16) -> Rails
     }
 }
 
-// TH22 of one rail of both operands, then THand0 of the other rails and these.
+// The two gates of AND: TH22 of the rails 1, then THand0. OR has the same two with rails 0 and 1 of its operands exchanged.
 fn put_and(buffer: &mut [u8], at: usize, a0: u16, b0: u16, a1: u16, b1: u16)
     requires { ⌜ at + 20 ≤ length (now buffer) ⌝ }
     ensures { λ _. ⌜ Put (now (buffer .entry)) at (bytesOf file.Stage gateItem (TH22 a1 b1 ∷ THand0 a0 b0 a1 b1 ∷ [])) (now (buffer .exit)) ⌝ }
@@ -183,7 +184,7 @@ fn put_xor(buffer: &mut [u8], at: usize, a0: u16, b0: u16, a1: u16, b1: u16)
     writing::put_stage_gate(buffer, at + 10, 27, a0, b0, a1, b1);
 }
 
-// The two gates of an operation that is not NOT: OR is AND with the rails of both operands exchanged, and NAND and NOR have the gates of AND and OR.
+// The two gates of an operation that is not NOT. NAND and NOR have the gates of AND and OR.
 fn put_operation(buffer: &mut [u8], at: usize, operation: u16, a: Rails, b: Rails)
     requires { ⌜ (2 ≤ operation) × (operation ≤ 6) × (at + 20 ≤ length (now buffer)) ⌝ }
     ensures { λ _. ⌜ ((next : ℕ) → Put (now (buffer .entry)) at (bytesOf file.Stage gateItem (realize operation (pairOf a ∷ pairOf b ∷ []) next .gates))
@@ -197,7 +198,8 @@ fn put_operation(buffer: &mut [u8], at: usize, operation: u16, a: Rails, b: Rail
     }
 }
 
-// Gate k of the reference, where `made` gates were put before: its gates are put, its rails stored. Answers how many gates are put then.
+// Gate k of the reference, where `made` gates were put before: its gates are put, its rails stored. Answers how many gates are put then. A NOT has its
+// operand twice in the flat form, so that both are read without a test.
 fn put_gate(
     buffer: &mut [u8],
     code: &[u16],

@@ -1,5 +1,6 @@
 // Reads stage1.ncl, reference1.ncl, stage2.ncl and reference2.ncl, at most 8,192 bytes of each, and prints the verdict of their join. Where it
-// accepts, the joined stage and reference are written as stage.ncl and reference.ncl; otherwise no file is touched.
+// accepts, the joined stage and reference are written as stage.ncl and reference.ncl; otherwise no file is touched. Where
+// one of them could not be written, no verdict is printed.
 // A word is named with input 0 as its highest bit; with the argument `lowest`, as its lowest.
 use libc::STDOUT_FILENO;
 
@@ -24,8 +25,12 @@ fn main() {
         &mut reference,
     );
     if answer.verdict.number == 0 {
-        console::save(b"stage.ncl", &stage, answer.stage_count);
-        console::save(b"reference.ncl", &reference, answer.reference_count);
+        if !console::save(b"stage.ncl", &stage, answer.stage_count) {
+            return;
+        }
+        if !console::save(b"reference.ncl", &reference, answer.reference_count) {
+            return;
+        }
     }
     console::print_verdict(answer.verdict);
     io::write_all(STDOUT_FILENO, b"\n");

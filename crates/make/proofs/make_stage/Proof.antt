@@ -2,11 +2,9 @@
 use native.Mathlib.Omega.{arith}
 use mathlib.Core.Path.{sym, _∙_}
 use denote.Ref.{now}
-use lib.ListN.{length}
-use Rattle.netlist.specs.Reading.{stageLimits, referenceLimits}
+use Rattle.netlist.specs.Reading.{referenceLimits}
 use Rattle.netlist.proofs.Bounds.{no-more}
-use Rattle.made.proofs.Making.{make-means, limits-fit}
-use Rattle.make.proofs.Answering.{file-refused, file-loaded, file-made, reference-read-by}
+use Rattle.make.proofs.Answering.{file-refused, file-loaded, file-made, reference-read-by, demanded}
 use borrow.Author.Needs.{needs}
 use Rattle.make.proofs.make_stage.Statement.{statement}
 use Rattle.make.proofs.make_stage.Tie as tie
@@ -28,10 +26,7 @@ returns c =
     let s = now (z .args .reference) in
     let f = reference-read-by _ s _ _ (c .before .before .before .before .before .before .before .reference-limits .ensures)
     (c .before .before .before .before .before .read-reference-within .ensures) in
-    record {
-      answer = file-refused s (now (z .args .buffer)) _ _ _ (sym (c .before .before .number .given .1) ∙ f .0) (c .refused .ensures);
-      means = make-means stageLimits referenceLimits limits-fit s (length (now (z .args .buffer)));
-    }
+    demanded s (now (z .args .buffer)) _ _ (file-refused s (now (z .args .buffer)) _ _ _ (sym (c .before .before .number .given .1) ∙ f .0) (c .refused .ensures))
 
 returns-2 : tie.Need-returns-2
 returns-2 c =
@@ -39,11 +34,8 @@ returns-2 c =
     let s = now (z .args .reference) in
     let f = reference-read-by _ s _ _ (c .before .before .before .before .before .before .before .before .before .before .before .reference-limits .ensures)
     (c .before .before .before .before .before .before .before .before .before .read-reference-within .ensures) in
-    record {
-      answer = file-made s (now (z .args .buffer)) _ _ (sym (c .before .before .before .before .before .before .counts .given .1) ∙ f .0) (f .1) _ _
-          (c .before .before .make-loaded .ensures);
-      means = make-means stageLimits referenceLimits limits-fit s (length (now (z .args .buffer)));
-    }
+    demanded s (now (z .args .buffer)) _ _
+    (file-made s (now (z .args .buffer)) _ _ (sym (c .before .before .before .before .before .before .counts .given .1) ∙ f .0) (f .1) _ _ (c .before .before .make-loaded .ensures))
 
 pub make-stage-spec : {M : Type 1} → statement M
 make-stage-spec =

@@ -4,7 +4,7 @@ use native.Mathlib.Omega.{arith}
 use mathlib.Core.Path.{_≡_, ap, _∙_}
 use lib.ListN.{drop}
 use denote.Ref.{now}
-use Rattle.made.specs.Made.{operations}
+use Rattle.made.specs.Count.{operations}
 use Rattle.circuit.specs.Stage.{tabulate}
 use Rattle.circuit.specs.Reference.{operatorIn, operatorsIn}
 use Rattle.make.proofs.Marking.{CountedTo, counted-start, counted-not, counted-one}

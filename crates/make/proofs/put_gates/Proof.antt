@@ -13,7 +13,7 @@ abbrev μ-loop : tie.MeasureT-loop
 μ-loop buffer₀ code counts rails₀ count made₀ k₀ buffer rails made k = count - k
 
 loop-holds : tie.Need-loop-holds Inv-loop μ-loop
-loop-holds c = made-start _ _ _ _ (c .before .before .before .pre .3)
+loop-holds c = let z = c .before .before .before in made-start _ _ (z .pre .1) _ _ (z .pre .3)
 
 put-gate-requires : tie.Need-put-gate-requires Inv-loop μ-loop
 put-gate-requires c κs =

@@ -1,5 +1,4 @@
 -- `make::put_xor` meets its contract. Assumes nothing.
-use Rattle.netlist.specs.declared.File.the-variants as file
 use Rattle.make.proofs.Operations.{put-two}
 use borrow.Author.Needs.{needs}
 use Rattle.make.proofs.put_xor.Statement.{statement}
