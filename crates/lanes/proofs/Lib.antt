@@ -1,0 +1,3 @@
+pub mod Excluded
+pub mod Lane
+pub mod Cells

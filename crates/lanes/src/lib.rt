@@ -1,0 +1,193 @@
+// Cells and reference gates in 64 words at a time. The words of a stage stand in blocks of 64, and a u64 holds a net's levels in the words of a
+// block: bit j is its level in word 64 b + j of block b.
+ghost use mathlib.Core.Path.{_≡_};
+ghost use Prim.Native.Nat.{ℕ, _+_, _*_, _≤_, _<_};
+ghost use lib.Bits.{bitXor};
+ghost use Rattle.lanes.specs.Cells.{needing, cellLanes};
+
+// What a gate's cell gives in 64 words: where its set expression holds, and for each of its pins where it holds and would not with that pin low.
+pub struct CellLanes {
+    pub set: u64,
+    pub a: u64,
+    pub b: u64,
+    pub c: u64,
+    pub d: u64,
+}
+
+// A cell of two, three or four pins, from where it is set, and where it would be with each pin low.
+fn two(set: u64, a: u64, b: u64) -> CellLanes
+    ensures { λ r. ⌜ r ≡ needing set (bitXor set a) (bitXor set b) 0 0 ⌝ }
+{
+    CellLanes {
+        set,
+        a: set ^ a,
+        b: set ^ b,
+        c: 0,
+        d: 0,
+    }
+}
+
+fn three(set: u64, a: u64, b: u64, c: u64) -> CellLanes
+    ensures { λ r. ⌜ r ≡ needing set (bitXor set a) (bitXor set b) (bitXor set c) 0 ⌝ }
+{
+    CellLanes {
+        set,
+        a: set ^ a,
+        b: set ^ b,
+        c: set ^ c,
+        d: 0,
+    }
+}
+
+fn four(set: u64, a: u64, b: u64, c: u64, d: u64) -> CellLanes
+    ensures { λ r. ⌜ r ≡ needing set (bitXor set a) (bitXor set b) (bitXor set c) (bitXor set d) ⌝ }
+{
+    CellLanes {
+        set,
+        a: set ^ a,
+        b: set ^ b,
+        c: set ^ c,
+        d: set ^ d,
+    }
+}
+
+// A cell by its number, from the levels at its pins.
+pub fn cell_lanes(cell: u16, a: u64, b: u64, c: u64, d: u64) -> CellLanes
+    requires { ⌜ (1 ≤ cell) × (cell ≤ 27) ⌝ }
+    ensures { λ r. ⌜ r ≡ cellLanes cell a b c d ⌝ }
+{
+    match cell {
+        // 1 TH12
+        1 => two(a | b, b, a),
+        // 2 TH22
+        2 => two(a & b, 0, 0),
+        // 3 TH13
+        3 => three(a | b | c, b | c, a | c, a | b),
+        // 4 TH23
+        4 => three((a & b) | (a & c) | (b & c), b & c, a & c, a & b),
+        // 5 TH33
+        5 => three(a & b & c, 0, 0, 0),
+        // 6 TH23w2
+        6 => three(a | (b & c), b & c, a, a),
+        // 7 TH33w2
+        7 => three((a & b) | (a & c), 0, a & c, a & b),
+        // 8 TH14
+        8 => four(a | b | c | d, b | c | d, a | c | d, a | b | d, a | b | c),
+        // 9 TH24
+        9 => four(
+            (a & b) | (a & c) | (a & d) | (b & c) | (b & d) | (c & d),
+            (b & c) | (b & d) | (c & d),
+            (a & c) | (a & d) | (c & d),
+            (a & b) | (a & d) | (b & d),
+            (a & b) | (a & c) | (b & c),
+        ),
+        // 10 TH34
+        10 => four(
+            (a & b & c) | (a & b & d) | (a & c & d) | (b & c & d),
+            b & c & d,
+            a & c & d,
+            a & b & d,
+            a & b & c,
+        ),
+        // 11 TH44
+        11 => four(a & b & c & d, 0, 0, 0, 0),
+        // 12 TH24w2
+        12 => four(
+            a | (b & c) | (b & d) | (c & d),
+            (b & c) | (b & d) | (c & d),
+            a | (c & d),
+            a | (b & d),
+            a | (b & c),
+        ),
+        // 13 TH34w2
+        13 => four(
+            (a & b) | (a & c) | (a & d) | (b & c & d),
+            b & c & d,
+            (a & c) | (a & d),
+            (a & b) | (a & d),
+            (a & b) | (a & c),
+        ),
+        // 14 TH44w2
+        14 => four(
+            (a & b & c) | (a & b & d) | (a & c & d),
+            0,
+            a & c & d,
+            a & b & d,
+            a & b & c,
+        ),
+        // 15 TH34w3
+        15 => four(a | (b & c & d), b & c & d, a, a, a),
+        // 16 TH44w3
+        16 => four(
+            (a & b) | (a & c) | (a & d),
+            0,
+            (a & c) | (a & d),
+            (a & b) | (a & d),
+            (a & b) | (a & c),
+        ),
+        // 17 TH24w22
+        17 => four(a | b | (c & d), b | (c & d), a | (c & d), a | b, a | b),
+        // 18 TH34w22
+        18 => four(
+            (a & b) | (a & c) | (a & d) | (b & c) | (b & d),
+            (b & c) | (b & d),
+            (a & c) | (a & d),
+            (a & b) | (a & d) | (b & d),
+            (a & b) | (a & c) | (b & c),
+        ),
+        // 19 TH44w22
+        19 => four(
+            (a & b) | (a & c & d) | (b & c & d),
+            b & c & d,
+            a & c & d,
+            a & b,
+            a & b,
+        ),
+        // 20 TH54w22
+        20 => four((a & b & c) | (a & b & d), 0, 0, a & b & d, a & b & c),
+        // 21 TH34w32
+        21 => four(
+            a | (b & c) | (b & d),
+            (b & c) | (b & d),
+            a,
+            a | (b & d),
+            a | (b & c),
+        ),
+        // 22 TH54w32
+        22 => four((a & b) | (a & c & d), 0, a & c & d, a & b, a & b),
+        // 23 TH44w322
+        23 => four(
+            (a & b) | (a & c) | (a & d) | (b & c),
+            b & c,
+            (a & c) | (a & d),
+            (a & b) | (a & d),
+            (a & b) | (a & c) | (b & c),
+        ),
+        // 24 TH54w322
+        24 => four(
+            (a & b) | (a & c) | (b & c & d),
+            b & c & d,
+            a & c,
+            a & b,
+            (a & b) | (a & c),
+        ),
+        // 25 THxor0
+        25 => four((a & b) | (c & d), c & d, c & d, a & b, a & b),
+        // 26 THand0
+        26 => four(
+            (a & b) | (b & c) | (a & d),
+            b & c,
+            a & d,
+            (a & b) | (a & d),
+            (a & b) | (b & c),
+        ),
+        // 27 TH24comp
+        _ => four(
+            (a & c) | (b & c) | (a & d) | (b & d),
+            (b & c) | (b & d),
+            (a & c) | (a & d),
+            (a & d) | (b & d),
+            (a & c) | (b & c),
+        ),
+    }
+}
