@@ -1,8 +1,16 @@
 // Cells and reference gates in 64 words at a time. The words of a stage stand in blocks of 64, and a u64 holds a net's levels in the words of a
 // block: bit j is its level in word 64 b + j of block b.
+use netlist::Counts;
 ghost use mathlib.Core.Path.{_≡_};
+ghost use mathlib.Core.List.{_∷_, []};
 ghost use Prim.Native.Nat.{ℕ, _+_, _*_, _≤_, _<_};
 ghost use lib.Bits.{bitXor};
+ghost use lib.ListN.{length, getD, take};
+ghost use Rattle.netlist.specs.Reading.{stageLimits};
+ghost use Rattle.verdict.specs.Words.{bitsOf};
+ghost use Rattle.verdict.specs.Answers as answers;
+ghost use Rattle.circuit.specs.Reference.{operatorIn, operatorsIn, ReferenceLoaded};
+ghost use Rattle.lanes.specs.Lane.{levelIn, laneOf};
 ghost use Rattle.lanes.specs.Cells.{needing, cellLanes};
 
 // What a gate's cell gives in 64 words: where its set expression holds, and for each of its pins where it holds and would not with that pin low.
@@ -189,5 +197,101 @@ pub fn cell_lanes(cell: u16, a: u64, b: u64, c: u64, d: u64) -> CellLanes
             (a & d) | (b & d),
             (a & c) | (b & c),
         ),
+    }
+}
+
+// ---- the inputs in a block
+
+// Every word of a block.
+pub const ALL: u64 = 0xFFFF_FFFF_FFFF_FFFF;
+
+// Input i in the words of block b: bit i of each. The first six have the same pattern in every block, the others one level in each.
+pub fn input_lanes(i: usize, b: usize) -> u64
+    requires { ⌜ i < stageLimits .inputs ⌝ }
+    ensures { λ r. ⌜ ((j : ℕ) → j < 64 → levelIn j r ≡ levelIn i (64 * b + j)) ⌝ }
+{
+    match i {
+        0 => 0xAAAA_AAAA_AAAA_AAAA,
+        1 => 0xCCCC_CCCC_CCCC_CCCC,
+        2 => 0xF0F0_F0F0_F0F0_F0F0,
+        3 => 0xFF00_FF00_FF00_FF00,
+        4 => 0xFFFF_0000_FFFF_0000,
+        5 => 0xFFFF_FFFF_0000_0000,
+        _ => {
+            let k = i - 6;
+            let q = b >> k;
+            if q % 2 == 1 {
+                return ALL;
+            }
+            0
+        }
+    }
+}
+
+// ---- the reference in a block
+
+// What stands at a net or a signal.
+pub fn lanes_at(row: &[u64], net: u16) -> u64
+    requires { ⌜ net < length (now row) ⌝ }
+    ensures { λ r. ⌜ r ≡ getD (now (row .entry)) net 0 ⌝ }
+{
+    let p = net as usize;
+    row[p]
+}
+
+// An operation on two signals: 1 NOT, 2 AND, 3 OR, 4 XOR, 5 NAND, 6 NOR. NOT has only the first.
+fn operate(operation: u16, a: u64, b: u64) -> u64
+    ensures { λ r. ⌜ ((j : ℕ) → j < 64 → levelIn j r ≡ answers.operate operation (levelIn j a ∷ levelIn j b ∷ [])) ⌝ }
+{
+    match operation {
+        1 => a ^ ALL,
+        2 => a & b,
+        3 => a | b,
+        4 => a ^ b,
+        5 => (a & b) ^ ALL,
+        6 => (a | b) ^ ALL,
+        _ => 0,
+    }
+}
+
+// The values of gate k, from those of the signals before it.
+fn operator_lanes(code: &[u16], counts: Counts, k: usize, values: &[u64]) -> u64
+    requires { ⌜ ReferenceLoaded counts (now code) × (k < counts .gates) × (counts .inputs + k ≤ length (now values)) ⌝ }
+    ensures { λ r. ⌜ ((j : ℕ) → j < 64 → levelIn j r ≡ answers.operate (operatorIn (now (code .entry)) k .code)
+        (answers.valuesAt (take (counts .inputs + k) (laneOf j (now (values .entry)))) (operatorIn (now (code .entry)) k .operands))) ⌝ }
+{
+    let at = 3 * k;
+    operate(
+        code[at],
+        lanes_at(values, code[at + 1]),
+        lanes_at(values, code[at + 2]),
+    )
+}
+
+// The inputs of a reference in block b.
+fn spell_inputs(inputs: usize, b: usize, values: &mut [u64])
+    requires { ⌜ (inputs ≤ stageLimits .inputs) × (inputs ≤ length (now values)) ⌝ }
+    ensures { λ r. ⌜ (length (now (values .exit)) ≡ length (now (values .entry))) × ((j : ℕ) → j < 64 → take inputs (laneOf j (now (values .exit))) ≡ bitsOf inputs (64 * b + j)) ⌝ }
+{
+    let mut i: usize = 0;
+    while i < inputs {
+        values[i] = input_lanes(i, b);
+        i += 1;
+    }
+}
+
+// The values of all signals of a reference in block b: the inputs', and each gate's after those before it.
+pub fn signal_lanes(code: &[u16], counts: Counts, b: usize, values: &mut [u64])
+    requires { ⌜ ReferenceLoaded counts (now code) × (counts .inputs + counts .gates ≤ length (now values)) ⌝ }
+    ensures { λ r. ⌜ ((j : ℕ) → j < 64 → take (counts .inputs + counts .gates) (laneOf j (now (values .exit))) ≡ answers.signalValues (bitsOf (counts .inputs) (64 * b + j))
+        (operatorsIn counts (now (code .entry)))) ⌝ }
+{
+    let inputs = counts.inputs;
+    spell_inputs(inputs, b, values);
+    let count = counts.gates;
+    let mut k: usize = 0;
+    while k < count {
+        values[inputs + k] = operator_lanes(code, counts, k, values);
+        k += 1;
     }
 }
