@@ -1,6 +1,7 @@
 -- What a cell gives in 64 words agrees with its set expression in each of them.
 -- Assumes nothing.
-use Prim.Native.Nat.{ℕ, _<_}
+use Prim.Native.Nat.{ℕ, zero, suc, _<_}
+use native.Mathlib.Omega.{arith}
 use mathlib.Core.Path.{_≡_, refl, sym, ap, ap₂, _∙_}
 use mathlib.Core.Bool.{Bool, true, false, cond, not, _&&_, _||_}
 use mathlib.Core.List.{List, [], _∷_}
@@ -13,14 +14,14 @@ use Rattle.gates.proofs.Expressions.{holds-mono}
 use Rattle.runs.specs.Row.{_∖_, only}
 use Rattle.runs.proofs.Test.{clash, and-left, ltb-true}
 use Rattle.lanes.specs.Lane.{lane}
-use Rattle.lanes.specs.Cells.{lanesOf, Lowered, never, still, pinLow, bothLow, eitherLow, lowered, loweredLanes, needsPin}
+use Rattle.lanes.specs.Cells.{lanesOf, Lowered, never, still, pinLow, bothLow, eitherLow, lowered, loweredLanes, needOf, needsPin, cellLanes}
 use Rattle.lanes.proofs.Lane.{lane-zero, lane-and, lane-or, unlike, lane-xor}
 
 -- the levels at the pins in word j
 abbrev pub pinsIn : ℕ → ℕ → ℕ → ℕ → ℕ → ℕ → Bool
 pinsIn j a b c d i = getD (lane j a ∷ lane j b ∷ lane j c ∷ lane j d ∷ []) i false
 
-pub lanes-hold : (e : Expression) (j a b c d : ℕ) → lane j (lanesOf e a b c d) ≡ holds e (pinsIn j a b c d)
+lanes-hold : (e : Expression) (j a b c d : ℕ) → lane j (lanesOf e a b c d) ≡ holds e (pinsIn j a b c d)
 lanes-hold A j a b c d = refl
 lanes-hold B j a b c d = refl
 lanes-hold C j a b c d = refl
@@ -80,7 +81,7 @@ pub record Needs (cell i : ℕ) (pins : ℕ → Bool) : Type 0 where
   pub set : holds (setExpression cell) pins ≡ true
   pub without : holds (setExpression cell) (pins ∖ only i) ≡ false
 
-pub pin-needed : (cell i j a b c d : ℕ) → lane j (needsPin cell i a b c d) ≡ true → Needs cell i (pinsIn j a b c d)
+pin-needed : (cell i j a b c d : ℕ) → lane j (needsPin cell i a b c d) ≡ true → Needs cell i (pinsIn j a b c d)
 pin-needed cell i j a b c d h = go (ltb i (pinCount cell)) refl h
   where
     e : Expression
@@ -105,3 +106,17 @@ pin-needed cell i j a b c d h = go (ltb i (pinCount cell)) refl h
         let both = differs (holds e pins) (holds e (pins ∖ only i)) (holds-mono e (pins ∖ only i) pins (λ k. and-left (pins k) (not (only i k)))) (sym y ∙ sym x ∙ z) in
         record { has = ltb-true i (pinCount cell) q; set = both .0; without = both .1 }
     go false q z = absurd (clash z (lane-zero j))
+
+-- the same of the cell's four pins by number
+pub need-of : (cell i j a b c d : ℕ) → i < 4 → lane j (needOf (cellLanes cell a b c d) i) ≡ true → Needs cell i (pinsIn j a b c d)
+unfolding cellLanes
+need-of cell zero j a b c d h e = pin-needed cell 0 j a b c d e
+need-of cell (suc zero) j a b c d h e = pin-needed cell 1 j a b c d e
+need-of cell (suc (suc zero)) j a b c d h e = pin-needed cell 2 j a b c d e
+need-of cell (suc (suc (suc zero))) j a b c d h e = pin-needed cell 3 j a b c d e
+need-of cell (suc (suc (suc (suc i)))) j a b c d h e = absurd (omega arith)
+
+-- where the cell is set
+pub set-holds : (cell j a b c d : ℕ) → lane j (cellLanes cell a b c d .set) ≡ holds (setExpression cell) (pinsIn j a b c d)
+unfolding cellLanes
+set-holds cell j a b c d = lanes-hold (setExpression cell) j a b c d

@@ -1,6 +1,8 @@
 -- What a cell gives in 64 words: where its set expression holds, and where it would not hold any more with one of its pins low.
 use Prim.Native.Nat.{ℕ}
 use mathlib.Core.Bool.{Bool, true, false, cond}
+use mathlib.Core.List.{_∷_, []}
+use lib.ListN.{getD}
 use lib.Dec.{eqb, ltb}
 use lib.Bits.{bitAnd, bitOr, bitXor}
 use Rattle.gates.specs.Expression.{Expression, A, B, C, D, _·_, _∔_}
@@ -50,6 +52,10 @@ loweredLanes (still e) a b c d = lanesOf e a b c d
 
 abbrev pub needing : ℕ → ℕ → ℕ → ℕ → ℕ → CellLanes
 needing set a b c d = record { set = set; a = a; b = b; c = c; d = d }
+
+-- what a cell gives for pin i
+abbrev pub needOf : CellLanes → ℕ → ℕ
+needOf r i = getD (r .a ∷ r .b ∷ r .c ∷ r .d ∷ []) i 0
 
 -- where the expression holds and does not with pin i low; nowhere for a pin that the cell lacks
 abbrev pub needsPin : ℕ → ℕ → ℕ → ℕ → ℕ → ℕ → ℕ

@@ -1,0 +1,4 @@
+pub mod Pins
+pub mod Marks
+pub mod Settling
+pub mod Turns
