@@ -5,17 +5,18 @@ use native.Mathlib.Omega.{arith}
 use native.Mathlib.Decide.{ℕ-discrete}
 use native.Mathlib.Nat.{div-one, div-div-eq-div-mul, add-mul-div-left, add-comm, pow-succ'}
 use mathlib.Core.Path.{_≡_, refl, sym, ap, _∙_, subst}
-use mathlib.Core.Bool.{Bool}
+use mathlib.Core.Bool.{Bool, true, false, not}
 use mathlib.Core.List.{List, [], _∷_}
 use lib.Dec.{T, eqb, eqb→eq}
 use lib.ListN.{length, getD, take, set, length-map}
 use lib.Seq.{ext-getD, getD-take, length-take-le, getD-set-same, getD-set-other}
+use lib.Bits.{bitXor}
 use lib.Pow.{pow-add, pow-pos}
 use Rattle.gates.proofs.Every.{every, every-at}
 use Rattle.verdict.specs.Words.{bitsOf}
 use Rattle.verdict.proofs.Words.{bits-of-length}
-use Rattle.lanes.specs.Lane.{levelIn, laneOf}
-use Rattle.lanes.proofs.Lane.{level-zero}
+use Rattle.lanes.specs.Lane.{levelIn, lane, laneOf}
+use Rattle.lanes.proofs.Lane.{level-zero, unlike, lane-xor}
 
 even-add : (n x y : ℕ) → n ≡ 2 * x + y → n % 2 ≡ y % 2
 even-add n x y e = omega arith
@@ -60,6 +61,14 @@ pattern-at i x b h t j d =
 pub all-at : (j : ℕ) → j < 64 → levelIn j 0xFFFF_FFFF_FFFF_FFFF ≡ 1
 unfolding levelIn
 all-at j h = eqb→eq (levelIn j 0xFFFF_FFFF_FFFF_FFFF) 1 (every-at (λ j. eqb (levelIn j 0xFFFF_FFFF_FFFF_FFFF) 1) 64 tt j h)
+
+-- XOR with all words is NOT
+pub lane-not : (j x : ℕ) → j < 64 → lane j (bitXor x 0xFFFF_FFFF_FFFF_FFFF) ≡ not (lane j x)
+lane-not j x h = lane-xor j x 0xFFFF_FFFF_FFFF_FFFF ∙ ap (λ (n : ℕ). unlike (lane j x) (eqb n 1)) (all-at j h) ∙ turned (lane j x)
+  where
+    turned : (a : Bool) → unlike a true ≡ not a
+    turned true = refl
+    turned false = refl
 
 -- ---- the bits of a word
 

@@ -2,3 +2,5 @@ pub mod Pins
 pub mod Marks
 pub mod Settling
 pub mod Turns
+pub mod Rails
+pub mod Masks

@@ -11,10 +11,10 @@ use Rattle.gates.specs.Cell.{pinCount}
 use Rattle.netlist.specs.declared.Counts.{Counts}
 use Rattle.netlist.specs.Content.{Gate}
 use Rattle.verdict.specs.Loops.{In, pinsAt}
-use Rattle.verdict.specs.Nets.{noGate, driver}
+use Rattle.verdict.specs.Nets.{noGate, driver, noPair, outputPair}
 use Rattle.verdict.proofs.Gates.{pins-at}
-use Rattle.circuit.specs.Stage.{cellIn, pinIn, gateIn, stageGates, stageIn}
-use Rattle.circuit.proofs.Tabulate.{getD-tabulate}
+use Rattle.circuit.specs.Stage.{cellIn, pinIn, gateIn, stageGates, outputIn, stageOutputs, stageIn}
+use Rattle.circuit.proofs.Tabulate.{length-tabulate, getD-tabulate}
 
 -- ---- the first m of a list
 
@@ -74,3 +74,11 @@ module _ (c : Counts) (code : List ℕ) (k : ℕ) (h : k < c .gates) where
   driver-at =
       let e : 2 * c .inputs + k - 2 * c .inputs ≡ k = omega arith in
       ap (λ (n : ℕ). getD (stageGates c code) n noGate) e ∙ gate-at
+
+pub output-at : (c : Counts) (code : List ℕ) (j : ℕ) → j < c .outputs → outputPair (stageIn c code) j ≡ outputIn c code j
+unfolding stageOutputs
+output-at c code j h = getD-tabulate (outputIn c code) (c .outputs) j noPair h
+
+pub length-outputs : (c : Counts) (code : List ℕ) → length (stageOutputs c code) ≡ c .outputs
+unfolding stageOutputs
+length-outputs c code = length-tabulate (outputIn c code) (c .outputs)

@@ -1,7 +1,7 @@
 -- The words of a stage in blocks of 64: what holds of a row and of marks, lane by lane, while a block settles.
 use Prim.Native.Nat.{ℕ, _+_, _*_, _<_}
 use mathlib.Core.Path.{_≡_}
-use mathlib.Core.Bool.{true}
+use mathlib.Core.Bool.{Bool, true}
 use mathlib.Core.Logic.{_⊎_}
 use mathlib.Core.List.{List}
 use lib.ListN.{length, getD}
@@ -55,3 +55,13 @@ gateLanes code k row =
 abbrev pub PinsMarked : List ℕ → ℕ → CellLanes → List ℕ → List ℕ → Type 0
 PinsMarked code k given ack ack′ =
     (j p : ℕ) → rowIn j ack′ p ≡ true → (rowIn j ack p ≡ true) ⊎ ((t : ℕ) × (t < 4) × (p ≡ pinIn code k t) × (lane j (needOf given t) ≡ true))
+
+-- ---- all nets
+
+-- a net is a rail of an output
+abbrev pub OutputRail : Net → ℕ → Type 0
+OutputRail N p = (j : ℕ) × (b : Bool) × (j < N .outputs) × (N .rail j b ≡ p)
+
+-- in word j every high net is marked
+abbrev pub AllMarked : ℕ → Counts → List ℕ → List ℕ → Type 0
+AllMarked j c row ack = (p : ℕ) → p < netCount c → rowIn j row p ≡ true → rowIn j ack p ≡ true

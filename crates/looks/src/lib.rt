@@ -5,12 +5,18 @@ use netlist::Counts;
 ghost use mathlib.Core.Path.{_≡_};
 ghost use mathlib.Core.Bool.{true, false};
 ghost use mathlib.Core.Logic.{_⊎_};
+ghost use mathlib.Core.List.{List};
 ghost use Prim.Native.Nat.{ℕ, _+_, _*_, _≤_, _<_};
 ghost use lib.ListN.{length, getD};
-ghost use Rattle.circuit.specs.Stage.{StageLoaded};
+ghost use Rattle.runs.specs.Pair.{DataOf};
+ghost use Rattle.netlist.specs.Reading.{stageLimits};
+ghost use Rattle.verdict.specs.Nets.{railOf};
+ghost use Rattle.circuit.specs.Stage.{netCount, outputIn, StageLoaded};
 ghost use Rattle.circuit.specs.Order.{InOrder};
+ghost use Rattle.circuit.specs.Reference.{signalIn};
+ghost use Rattle.words.specs.Loaded.{BothLoaded};
 ghost use Rattle.lanes.specs.Lane.{lane, rowIn};
-ghost use Rattle.looks.specs.Block.{Room, Spelled, SettledTo, Marked, gateLanes, PinsMarked};
+ghost use Rattle.looks.specs.Block.{netIn, Room, Spelled, SettledTo, Marked, gateLanes, PinsMarked, OutputRail, AllMarked};
 
 // ---- settling a block
 
@@ -67,4 +73,89 @@ fn settle_block(code: &[u16], counts: Counts, row: &mut [u64], ack: &mut [u64])
         mark_pins(code, counts, k, given, ack);
         i += 1;
     }
+}
+
+// The rails of block b: rail 0 of an input is high for 0, rail 1 for 1.
+fn spell_rails(counts: Counts, b: usize, row: &mut [u64])
+    requires { ⌜ (counts .inputs ≤ stageLimits .inputs) × Room counts (now row) × (getD (now row) (netCount counts) 0 ≡ 0) ⌝ }
+    ensures long { λ r. ⌜ length (now (row .exit)) ≡ length (now (row .entry)) ⌝ }
+    ensures spelled { λ r. ⌜ ((code : List ℕ) → InOrder counts code → Spelled counts code b (now (row .exit))) ⌝ }
+{
+    let mut i: usize = 0;
+    while i < counts.inputs {
+        let level = lanes::input_lanes(i, b);
+        row[2 * i] = level ^ lanes::ALL;
+        row[2 * i + 1] = level;
+        i += 1;
+    }
+}
+
+// ---- what is acknowledged
+
+// The rails of the outputs are marked in all words.
+fn mark_outputs(code: &[u16], counts: Counts, ack: &mut [u64])
+    requires { ⌜ StageLoaded counts (now code) × Room counts (now ack) ⌝ }
+    ensures long { λ r. ⌜ length (now (ack .exit)) ≡ length (now (ack .entry)) ⌝ }
+    ensures marked { λ r. ⌜ ((j p : ℕ) → rowIn j (now (ack .exit)) p ≡ true → (rowIn j (now (ack .entry)) p ≡ true) ⊎ OutputRail (netIn counts (now (code .entry))) p) ⌝ }
+{
+    let mut j: usize = 0;
+    while j < counts.outputs {
+        let at = 8 * counts.gates + 2 * j;
+        mark(ack, code[at], lanes::ALL);
+        mark(ack, code[at + 1], lanes::ALL);
+        j += 1;
+    }
+}
+
+// The words in which some net is high and not marked.
+fn unmarked(counts: Counts, row: &[u64], ack: &[u64]) -> u64
+    requires { ⌜ Room counts (now row) × Room counts (now ack) ⌝ }
+    ensures { λ r. ⌜ ((j : ℕ) → j < 64 → lane j r ≡ false → AllMarked j counts (now (row .entry)) (now (ack .entry))) ⌝ }
+{
+    let count = 2 * counts.inputs + counts.gates;
+    let mut words: u64 = 0;
+    let mut p: usize = 0;
+    while p < count {
+        let level = row[p];
+        words = words | (level & (level ^ ack[p]));
+        p += 1;
+    }
+    words
+}
+
+// ---- 13
+
+// The words in which output j does not read as the value that is wanted.
+fn misread(code: &[u16], counts: Counts, row: &[u64], j: usize, value: u64) -> u64
+    requires { ⌜ StageLoaded counts (now code) × (j < counts .outputs) × Room counts (now row) ⌝ }
+    ensures { λ r. ⌜ ((l : ℕ) → l < 64 → lane l r ≡ false → DataOf (rowIn l (now (row .entry))) (railOf (outputIn counts (now (code .entry)) j)) (lane l value)) ⌝ }
+{
+    let at = 8 * counts.gates + 2 * j;
+    let rail0 = lanes::lanes_at(row, code[at]);
+    let rail1 = lanes::lanes_at(row, code[at + 1]);
+    (rail0 ^ value ^ lanes::ALL) | (rail1 ^ value)
+}
+
+// The words in which some output does not read as its signal in the reference.
+fn wrong_words(
+    code: &[u16],
+    counts: Counts,
+    row: &[u64],
+    reference: &[u16],
+    sizes: Counts,
+    values: &[u64],
+) -> u64
+    requires { ⌜ BothLoaded counts (now code) sizes (now reference) × Room counts (now row) × (sizes .inputs + sizes .gates ≤ length (now values)) ⌝ }
+    ensures { λ r. ⌜ ((l : ℕ) → l < 64 → lane l r ≡ false → (j : ℕ) → j < counts .outputs
+        → DataOf (rowIn l (now (row .entry))) (railOf (outputIn counts (now (code .entry)) j)) (rowIn l (now (values .entry)) (signalIn sizes (now (reference .entry)) j))) ⌝ }
+{
+    let first = 3 * sizes.gates;
+    let mut words: u64 = 0;
+    let mut j: usize = 0;
+    while j < counts.outputs {
+        let value = lanes::lanes_at(values, reference[first + j]);
+        words = words | misread(code, counts, row, j, value);
+        j += 1;
+    }
+    words
 }
