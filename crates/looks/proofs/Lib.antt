@@ -4,3 +4,5 @@ pub mod Settling
 pub mod Turns
 pub mod Rails
 pub mod Masks
+pub mod Tests
+pub mod OneWord
