@@ -13,13 +13,10 @@ use Rattle.gates.specs.Cell.{pinCount, setExpression}
 use Rattle.gates.proofs.Expressions.{holds-mono}
 use Rattle.runs.specs.Row.{_∖_, only}
 use Rattle.runs.proofs.Test.{clash, and-left, ltb-true}
+use Rattle.lanes.specs.declared.CellLanes.{CellLanes}
 use Rattle.lanes.specs.Lane.{lane}
-use Rattle.lanes.specs.Cells.{lanesOf, Lowered, never, still, pinLow, bothLow, eitherLow, lowered, loweredLanes, needOf, needsPin, cellLanes}
+use Rattle.lanes.specs.Cells.{pinsIn, lanesOf, Lowered, never, still, pinLow, bothLow, eitherLow, lowered, loweredLanes, needing, needOf, needsPin, cellLanes}
 use Rattle.lanes.proofs.Lane.{lane-zero, lane-and, lane-or, unlike, lane-xor}
-
--- the levels at the pins in word j
-abbrev pub pinsIn : ℕ → ℕ → ℕ → ℕ → ℕ → ℕ → Bool
-pinsIn j a b c d i = getD (lane j a ∷ lane j b ∷ lane j c ∷ lane j d ∷ []) i false
 
 lanes-hold : (e : Expression) (j a b c d : ℕ) → lane j (lanesOf e a b c d) ≡ holds e (pinsIn j a b c d)
 lanes-hold A j a b c d = refl
@@ -120,3 +117,40 @@ need-of cell (suc (suc (suc (suc i)))) j a b c d h e = absurd (omega arith)
 pub set-holds : (cell j a b c d : ℕ) → lane j (cellLanes cell a b c d .set) ≡ holds (setExpression cell) (pinsIn j a b c d)
 unfolding cellLanes
 set-holds cell j a b c d = lanes-hold (setExpression cell) j a b c d
+
+-- ---- a pin that sets the cell alone
+
+abbrev kept : Bool → ℕ → ℕ
+kept true x = x
+kept false x = 0
+
+-- the pins of cell k that set it alone, with what is given for them
+abbrev lone : ℕ → ℕ → ℕ → ℕ → ℕ → CellLanes
+lone k a b c d =
+    let e = setExpression k in
+    needing 0 (kept (holds e (only 0)) a) (kept (holds e (only 1)) b) (kept (holds e (only 2)) c) (kept (holds e (only 3)) d)
+
+kept-lane : (t : Bool) (j x : ℕ) → lane j (kept t x) ≡ true → (lane j x ≡ true) × (t ≡ true)
+kept-lane true j x e = (e, refl)
+kept-lane false j x e = absurd (clash e (lane-zero j))
+
+pub lone-sets : (k cell a b c d : ℕ) (r : CellLanes) → cell ≡ k → r ≡ lone k a b c d → (j i : ℕ) → i < 4 → lane j (needOf r i) ≡ true
+    → (pinsIn j a b c d i ≡ true) × (holds (setExpression cell) (only i) ≡ true)
+lone-sets k cell a b c d r same is j i h e = rw same (at i h (rw is at e))
+  where
+    at : (i : ℕ) → i < 4 → lane j (needOf (lone k a b c d) i) ≡ true → (pinsIn j a b c d i ≡ true) × (holds (setExpression k) (only i) ≡ true)
+    at zero h e = kept-lane (holds (setExpression k) (only 0)) j a e
+    at (suc zero) h e = kept-lane (holds (setExpression k) (only 1)) j b e
+    at (suc (suc zero)) h e = kept-lane (holds (setExpression k) (only 2)) j c e
+    at (suc (suc (suc zero))) h e = kept-lane (holds (setExpression k) (only 3)) j d e
+    at (suc (suc (suc (suc i)))) h e = absurd (omega arith)
+
+pub none-lone : (r : CellLanes) → r ≡ needing 0 0 0 0 0 → (j i : ℕ) → i < 4 → lane j (needOf r i) ≡ false
+none-lone r is j i h = rw is (at i h)
+  where
+    at : (i : ℕ) → i < 4 → lane j (needOf (needing 0 0 0 0 0) i) ≡ false
+    at zero h = lane-zero j
+    at (suc zero) h = lane-zero j
+    at (suc (suc zero)) h = lane-zero j
+    at (suc (suc (suc zero))) h = lane-zero j
+    at (suc (suc (suc (suc i)))) h = absurd (omega arith)

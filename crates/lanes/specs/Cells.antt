@@ -8,6 +8,7 @@ use lib.Bits.{bitAnd, bitOr, bitXor}
 use Rattle.gates.specs.Expression.{Expression, A, B, C, D, _·_, _∔_}
 use Rattle.gates.specs.Cell.{pinCount, setExpression}
 use Rattle.lanes.specs.declared.CellLanes.{CellLanes}
+use Rattle.lanes.specs.Lane.{lane}
 
 -- an expression on the lanes of its pins: AND and OR of all words at once
 abbrev pub lanesOf : Expression → ℕ → ℕ → ℕ → ℕ → ℕ
@@ -52,6 +53,10 @@ loweredLanes (still e) a b c d = lanesOf e a b c d
 
 abbrev pub needing : ℕ → ℕ → ℕ → ℕ → ℕ → CellLanes
 needing set a b c d = record { set = set; a = a; b = b; c = c; d = d }
+
+-- the levels at four pins in word j
+abbrev pub pinsIn : ℕ → ℕ → ℕ → ℕ → ℕ → ℕ → Bool
+pinsIn j a b c d i = getD (lane j a ∷ lane j b ∷ lane j c ∷ lane j d ∷ []) i false
 
 -- what a cell gives for pin i
 abbrev pub needOf : CellLanes → ℕ → ℕ

@@ -2,16 +2,20 @@
 // block: bit j is its level in word 64 b + j of block b.
 use netlist::Counts;
 ghost use mathlib.Core.Path.{_≡_};
+ghost use mathlib.Core.Bool.{true};
 ghost use mathlib.Core.List.{_∷_, []};
 ghost use Prim.Native.Nat.{ℕ, _+_, _*_, _≤_, _<_};
 ghost use lib.Bits.{bitXor};
 ghost use lib.ListN.{length, getD, take};
+ghost use Rattle.gates.specs.Expression.{holds};
+ghost use Rattle.gates.specs.Cell.{setExpression};
+ghost use Rattle.runs.specs.Row.{only};
 ghost use Rattle.netlist.specs.Reading.{stageLimits};
 ghost use Rattle.verdict.specs.Words.{bitsOf};
 ghost use Rattle.verdict.specs.Answers as answers;
 ghost use Rattle.circuit.specs.Reference.{operatorIn, operatorsIn, ReferenceLoaded};
-ghost use Rattle.lanes.specs.Lane.{levelIn, laneOf};
-ghost use Rattle.lanes.specs.Cells.{needing, cellLanes};
+ghost use Rattle.lanes.specs.Lane.{levelIn, lane, laneOf};
+ghost use Rattle.lanes.specs.Cells.{needing, needOf, pinsIn, cellLanes};
 
 // What a gate's cell gives in 64 words: where its set expression holds, and for each of its pins where it holds and would not with that pin low.
 pub struct CellLanes {
@@ -57,6 +61,13 @@ fn four(set: u64, a: u64, b: u64, c: u64, d: u64) -> CellLanes
         c: set ^ c,
         d: set ^ d,
     }
+}
+
+// What is given for four pins alone.
+fn at_pins(a: u64, b: u64, c: u64, d: u64) -> CellLanes
+    ensures { λ r. ⌜ r ≡ needing 0 a b c d ⌝ }
+{
+    CellLanes { set: 0, a, b, c, d }
 }
 
 // A cell by its number, from the levels at its pins.
@@ -197,6 +208,23 @@ pub fn cell_lanes(cell: u16, a: u64, b: u64, c: u64, d: u64) -> CellLanes
             (a & d) | (b & d),
             (a & c) | (b & c),
         ),
+    }
+}
+
+// The pins of a cell that set it alone, each in the words in which it is high.
+pub fn lone_lanes(cell: u16, a: u64, b: u64, c: u64, d: u64) -> CellLanes
+    ensures { λ r. ⌜ ((j i : ℕ) → i < 4 → lane j (needOf r i) ≡ true → (pinsIn j a b c d i ≡ true) × (holds (setExpression cell) (only i) ≡ true)) ⌝ }
+{
+    match cell {
+        // TH12 and TH24w22: A, B
+        1 | 17 => at_pins(a, b, 0, 0),
+        // TH13: A, B, C
+        3 => at_pins(a, b, c, 0),
+        // TH14: A, B, C, D
+        8 => at_pins(a, b, c, d),
+        // TH23w2, TH24w2, TH34w3 and TH34w32: A
+        6 | 12 | 15 | 21 => at_pins(a, 0, 0, 0),
+        _ => at_pins(0, 0, 0, 0),
     }
 }
 

@@ -29,9 +29,9 @@ use Rattle.circuit.proofs.Order.{order-no-loop}
 use Rattle.circuit.proofs.Pins.{pins-few}
 use Rattle.circuit.proofs.Settling.{length-stageGates, order-at, order-gate}
 use Rattle.lanes.specs.Lane.{lane, rowIn}
-use Rattle.lanes.specs.Cells.{needOf, cellLanes}
+use Rattle.lanes.specs.Cells.{needOf, pinsIn, cellLanes}
 use Rattle.lanes.proofs.Lane.{lane-zero}
-use Rattle.lanes.proofs.Cells.{pinsIn, Needs, need-of, set-holds}
+use Rattle.lanes.proofs.Cells.{Needs, need-of, set-holds}
 use Rattle.looks.specs.Block.{restIn, netIn, Spelled, SettledTo}
 use Rattle.looks.proofs.Pins.{pin-at, pin-past, pin-in, gate-pins, driver-at}
 
