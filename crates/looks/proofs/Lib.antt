@@ -6,3 +6,5 @@ pub mod Rails
 pub mod Masks
 pub mod Tests
 pub mod OneWord
+pub mod Falling
+pub mod Resting

@@ -9,6 +9,7 @@ ghost use mathlib.Core.List.{List};
 ghost use Prim.Native.Nat.{ℕ, _+_, _*_, _≤_, _<_};
 ghost use lib.ListN.{length, getD};
 ghost use Rattle.runs.specs.Pair.{DataOf};
+ghost use Rattle.runs.specs.Acknowledged.{Acknowledged, Fall-acknowledged};
 ghost use Rattle.netlist.specs.Reading.{stageLimits};
 ghost use Rattle.verdict.specs.Nets.{railOf};
 ghost use Rattle.circuit.specs.Stage.{netCount, outputIn, StageLoaded};
@@ -16,7 +17,7 @@ ghost use Rattle.circuit.specs.Order.{InOrder};
 ghost use Rattle.circuit.specs.Reference.{signalIn};
 ghost use Rattle.words.specs.Loaded.{BothLoaded};
 ghost use Rattle.lanes.specs.Lane.{lane, rowIn};
-ghost use Rattle.looks.specs.Block.{netIn, Room, Spelled, SettledTo, Marked, gateLanes, PinsMarked, OutputRail, AllMarked};
+ghost use Rattle.looks.specs.Block.{netIn, Room, Spelled, SettledTo, AtRest, Marked, FallMarked, gateLanes, PinsMarked, FallGiven, OutputRail, AllMarked, NoneElse};
 
 // ---- settling a block
 
@@ -158,4 +159,72 @@ fn wrong_words(
         j += 1;
     }
     words
+}
+
+// ---- 14 and 15
+
+// The stage settles in a block whose rails are spelled; and the words in which some high net is not acknowledged.
+fn rise_words(code: &[u16], counts: Counts, row: &mut [u64]) -> u64
+    requires { ⌜ StageLoaded counts (now code) × InOrder counts (now code) × Room counts (now row) ⌝ }
+    ensures long { λ r. ⌜ length (now (row .exit)) ≡ length (now (row .entry)) ⌝ }
+    ensures words { λ r. ⌜ ((b : ℕ) → Spelled counts (now (code .entry)) b (now (row .entry)) → AtRest counts (now (code .entry)) b (now (row .exit))
+        × NoneElse (Acknowledged (netIn counts (now (code .entry)))) counts (now (code .entry)) b r) ⌝ }
+{
+    let mut ack = [0u64; circuit::ROW];
+    mark_outputs(code, counts, &mut ack);
+    settle_block(code, counts, row, &mut ack);
+    unmarked(counts, row, &ack)
+}
+
+// ---- 20 and 21
+
+// For each pin of gate k the words in which it may not fall while that pin's net alone is high: with hold those in which it is high, relaxed
+// those in which that pin alone sets it.
+fn fall_lanes(code: &[u16], counts: Counts, k: usize, row: &[u64]) -> CellLanes
+    requires { ⌜ StageLoaded counts (now code) × InOrder counts (now code) × (k < counts .gates) × Room counts (now row) ⌝ }
+    ensures { λ r. ⌜ FallGiven counts (now (code .entry)) k (now (row .entry)) r ⌝ }
+{
+    let at = 8 * k;
+    if code[at + 7] == 1 {
+        let high = row[2 * counts.inputs + k];
+        return CellLanes {
+            set: high,
+            a: high,
+            b: high,
+            c: high,
+            d: high,
+        };
+    }
+    let a = lanes::lanes_at(row, code[at + 1]);
+    let b = lanes::lanes_at(row, code[at + 2]);
+    let c = lanes::lanes_at(row, code[at + 3]);
+    let d = lanes::lanes_at(row, code[at + 4]);
+    lanes::lone_lanes(code[at], a, b, c, d)
+}
+
+// Each gate marks the nets for whose fall it waits.
+fn mark_falls(code: &[u16], counts: Counts, row: &[u64], ack: &mut [u64])
+    requires { ⌜ StageLoaded counts (now code) × InOrder counts (now code) × Room counts (now row) × Room counts (now ack) ⌝ }
+    ensures long { λ r. ⌜ length (now (ack .exit)) ≡ length (now (ack .entry)) ⌝ }
+    ensures marked { λ r. ⌜ ((b : ℕ) → AtRest counts (now (code .entry)) b (now (row .entry)) → FallMarked counts (now (code .entry)) b (now (ack .entry))
+        → FallMarked counts (now (code .entry)) b (now (ack .exit))) ⌝ }
+{
+    let count = counts.gates;
+    let mut k: usize = 0;
+    while k < count {
+        mark_pins(code, counts, k, fall_lanes(code, counts, k, row), ack);
+        k += 1;
+    }
+}
+
+// The words in which some net that is high at the rest is not acknowledged on the way back.
+fn fall_words(code: &[u16], counts: Counts, row: &[u64]) -> u64
+    requires { ⌜ StageLoaded counts (now code) × InOrder counts (now code) × Room counts (now row) ⌝ }
+    ensures { λ r. ⌜ ((b : ℕ) → AtRest counts (now (code .entry)) b (now (row .entry))
+        → NoneElse (Fall-acknowledged (netIn counts (now (code .entry)))) counts (now (code .entry)) b r) ⌝ }
+{
+    let mut ack = [0u64; circuit::ROW];
+    mark_outputs(code, counts, &mut ack);
+    mark_falls(code, counts, row, &mut ack);
+    unmarked(counts, row, &ack)
 }
