@@ -311,7 +311,8 @@ fn spell_inputs(inputs: usize, b: usize, values: &mut [u64])
 // The values of all signals of a reference in block b: the inputs', and each gate's after those before it.
 pub fn signal_lanes(code: &[u16], counts: Counts, b: usize, values: &mut [u64])
     requires { ⌜ ReferenceLoaded counts (now code) × (counts .inputs + counts .gates ≤ length (now values)) ⌝ }
-    ensures { λ r. ⌜ ((j : ℕ) → j < 64 → take (counts .inputs + counts .gates) (laneOf j (now (values .exit))) ≡ answers.signalValues (bitsOf (counts .inputs) (64 * b + j))
+    ensures long { λ r. ⌜ length (now (values .exit)) ≡ length (now (values .entry)) ⌝ }
+    ensures values { λ r. ⌜ ((j : ℕ) → j < 64 → take (counts .inputs + counts .gates) (laneOf j (now (values .exit))) ≡ answers.signalValues (bitsOf (counts .inputs) (64 * b + j))
         (operatorsIn counts (now (code .entry)))) ⌝ }
 {
     let inputs = counts.inputs;

@@ -3,8 +3,10 @@ pub mod Marks
 pub mod Settling
 pub mod Turns
 pub mod Rails
-pub mod Masks
+pub mod Gathering
 pub mod Tests
 pub mod OneWord
 pub mod Falling
 pub mod Resting
+pub mod Blocks
+pub mod Naming

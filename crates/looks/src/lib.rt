@@ -2,6 +2,7 @@
 // acknowledged.
 use lanes::CellLanes;
 use netlist::Counts;
+use words::Sweep;
 ghost use mathlib.Core.Path.{_≡_};
 ghost use mathlib.Core.Bool.{true, false};
 ghost use mathlib.Core.Logic.{_⊎_};
@@ -12,12 +13,30 @@ ghost use Rattle.runs.specs.Pair.{DataOf};
 ghost use Rattle.runs.specs.Acknowledged.{Acknowledged, Fall-acknowledged};
 ghost use Rattle.netlist.specs.Reading.{stageLimits};
 ghost use Rattle.verdict.specs.Nets.{railOf};
-ghost use Rattle.circuit.specs.Stage.{netCount, outputIn, StageLoaded};
+ghost use Rattle.circuit.specs.Stage.{netCount, outputIn, stageIn, StageLoaded};
 ghost use Rattle.circuit.specs.Order.{InOrder};
-ghost use Rattle.circuit.specs.Reference.{signalIn};
+ghost use Rattle.circuit.specs.Reference.{signalIn, referenceIn};
 ghost use Rattle.words.specs.Loaded.{BothLoaded};
 ghost use Rattle.lanes.specs.Lane.{lane, rowIn};
 ghost use Rattle.looks.specs.Block.{netIn, Room, Spelled, SettledTo, AtRest, Marked, FallMarked, gateLanes, PinsMarked, FallGiven, OutputRail, AllMarked, NoneElse};
+ghost use Rattle.looks.specs.Looks.{BlockClean, Unnamed, Clean, maskFor};
+
+// The words of a block in which something may be wrong: 13, then 14 and 15, then 20 and 21.
+pub struct Look {
+    pub wrong: u64,
+    pub rise: u64,
+    pub fall: u64,
+}
+
+// As many blocks as the words of the most inputs make.
+pub const BLOCKS: usize = netlist::WORDS / 64;
+
+// The same of all words of the files.
+pub struct Masks {
+    pub wrong: [u64; BLOCKS],
+    pub rise: [u64; BLOCKS],
+    pub fall: [u64; BLOCKS],
+}
 
 // ---- settling a block
 
@@ -227,4 +246,96 @@ fn fall_words(code: &[u16], counts: Counts, row: &[u64]) -> u64
     mark_outputs(code, counts, &mut ack);
     mark_falls(code, counts, row, &mut ack);
     unmarked(counts, row, &ack)
+}
+
+// ---- all of them
+
+// The words of block b that are worth a look. Where the stage is not asked for its fall, all are for 20 and 21.
+fn look_block(
+    code: &[u16],
+    counts: Counts,
+    reference: &[u16],
+    sizes: Counts,
+    b: usize,
+    falls: bool,
+) -> Look
+    requires { ⌜ BothLoaded counts (now code) sizes (now reference) ⌝ }
+    ensures { λ r. ⌜ BlockClean (stageIn counts (now (code .entry))) (referenceIn sizes (now (reference .entry))) b r ⌝ }
+{
+    let mut row = [0u64; circuit::ROW];
+    spell_rails(counts, b, &mut row);
+    let loose = rise_words(code, counts, &mut row);
+    let mut values = [0u64; words::SIGNALS];
+    lanes::signal_lanes(reference, sizes, b, &mut values);
+    let wrong = wrong_words(code, counts, &row, reference, sizes, &values);
+    let rise = wrong | loose;
+    if falls {
+        let fall = fall_words(code, counts, &row);
+        return Look { wrong, rise, fall };
+    }
+    Look {
+        wrong,
+        rise,
+        fall: lanes::ALL,
+    }
+}
+
+// Whether some gate is relaxed, so that 20 and 21 may find something.
+fn some_relaxed(code: &[u16], counts: Counts) -> bool
+    requires { ⌜ StageLoaded counts (now code) ⌝ }
+{
+    let count = counts.gates;
+    let mut k: usize = 0;
+    while k < count {
+        if code[8 * k + 7] == 1 {
+            k += 1;
+        } else {
+            return true;
+        }
+    }
+    false
+}
+
+// How many blocks the words of that many inputs make.
+fn block_count(inputs: usize) -> usize
+    requires { ⌜ inputs ≤ stageLimits .inputs ⌝ }
+    ensures { λ r. ⌜ r ≤ 16 ⌝ }
+{
+    if inputs < 6 {
+        return 1;
+    }
+    1 << (inputs - 6)
+}
+
+// The words of a stage that are worth a look, by the reference; all words past those that its inputs have are.
+pub fn looks(code: &[u16], counts: Counts, reference: &[u16], sizes: Counts) -> Masks
+    requires { ⌜ BothLoaded counts (now code) sizes (now reference) ⌝ }
+    ensures { λ r. ⌜ ((which : Sweep) → Clean which (stageIn counts (now (code .entry))) (referenceIn sizes (now (reference .entry))) (maskFor which r)) ⌝ }
+{
+    let mut wrong = [lanes::ALL; BLOCKS];
+    let mut rise = [lanes::ALL; BLOCKS];
+    let mut fall = [lanes::ALL; BLOCKS];
+    let falls = some_relaxed(code, counts);
+    let count = block_count(counts.inputs);
+    let mut b: usize = 0;
+    while b < count {
+        let look = look_block(code, counts, reference, sizes, b, falls);
+        wrong[b] = look.wrong;
+        rise[b] = look.rise;
+        fall[b] = look.fall;
+        b += 1;
+    }
+    Masks { wrong, rise, fall }
+}
+
+// Whether a mask names word w.
+pub fn is_named(mask: &[u64], w: usize) -> bool
+    ensures { λ r. ⌜ (r ≡ false → Unnamed (now (mask .entry)) w) ⌝ }
+{
+    let b = w / 64;
+    if b < mask.len() {
+        let rest = mask[b] >> (w % 64);
+        return rest % 2 == 1;
+    }
+    true
 }

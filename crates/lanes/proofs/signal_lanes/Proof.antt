@@ -38,7 +38,10 @@ same-length : tie.Need-same-length Inv-loop μ-loop
 same-length c = c .before .loop .inv .same-long ∙ c .before .before .before .before .spell-inputs .ensures .0
 
 returns : tie.Need-returns Inv-loop μ-loop
-returns c = signals-done _ _ _ _ _ (c .before .loop .inv) (omega arith) _ (c .before .before .before .before .spell-inputs .ensures .1)
+returns c =
+    let l = c .before .loop in
+    let spelled = c .before .before .before .before .spell-inputs .ensures in
+    (l .inv .same-long ∙ spelled .0, signals-done _ _ _ _ _ (l .inv) (omega arith) _ (spelled .1))
 
 pub signal-lanes-spec : {M : Type 1} → statement M
 signal-lanes-spec =

@@ -10,7 +10,7 @@ use Rattle.runs.specs.Pair.{DataOf}
 use Rattle.netlist.specs.Content.{Pair}
 use Rattle.verdict.specs.Nets.{railOf}
 use Rattle.lanes.specs.Lane.{lane, rowIn}
-use Rattle.looks.proofs.Masks.{read-as}
+use Rattle.looks.proofs.Gathering.{read-as}
 use Rattle.looks.proofs.misread.Statement.{statement}
 use Rattle.looks.proofs.misread.Tie as tie
 

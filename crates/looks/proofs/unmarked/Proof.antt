@@ -6,7 +6,7 @@ use mathlib.Core.Path.{_≡_}
 use mathlib.Core.Bool.{true}
 use denote.Ref.{now}
 use Rattle.lanes.specs.Lane.{rowIn}
-use Rattle.looks.proofs.Masks.{GatheredTo, gathered-more, not-unmarked}
+use Rattle.looks.proofs.Gathering.{GatheredTo, gathered-more, not-unmarked}
 use Rattle.looks.proofs.unmarked.Statement.{statement}
 use Rattle.looks.proofs.unmarked.Tie as tie
 

@@ -11,7 +11,7 @@ use Rattle.verdict.specs.Nets.{railOf}
 use Rattle.circuit.specs.Stage.{outputIn}
 use Rattle.circuit.specs.Reference.{signalIn}
 use Rattle.lanes.specs.Lane.{lane, rowIn}
-use Rattle.looks.proofs.Masks.{GatheredTo, gathered-more}
+use Rattle.looks.proofs.Gathering.{GatheredTo, gathered-more}
 use Rattle.looks.proofs.wrong_words.Statement.{statement}
 use Rattle.looks.proofs.wrong_words.Tie as tie
 
