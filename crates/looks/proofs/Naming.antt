@@ -1,6 +1,6 @@
 -- Masks of all words: a block's words are put in, and what is not named stays without faults.
 -- Assumes nothing.
-use Prim.Native.Nat.{ℕ, _+_, _*_, _/_, _%_, _<_}
+use Prim.Native.Nat.{ℕ, _+_, _*_, _/_, _%_, _≤_, _<_}
 use native.Mathlib.Omega.{arith}
 use native.Mathlib.Decide.{ℕ-discrete}
 use native.Mathlib.Nat.{mod-lt}
@@ -18,6 +18,7 @@ use Rattle.words.specs.declared.Sweep.{Sweep}
 use Rattle.words.specs.declared.Sweep.the-variants.{Wrong, Missing, Unobserved, Remaining, StillHigh}
 use Rattle.words.specs.Finds.{finds}
 use Rattle.lanes.specs.Lane.{lane}
+use Rattle.lanes.proofs.Lane.{lane-zero}
 use Rattle.lanes.proofs.Blocks.{all-at}
 use Rattle.looks.specs.declared.Look.{Look}
 use Rattle.looks.specs.declared.Masks.{Masks}
@@ -66,3 +67,9 @@ all-clean-more s r wrong rise fall b l ok new Missing = clean-more s r Missing r
 all-clean-more s r wrong rise fall b l ok new Unobserved = clean-more s r Unobserved rise b (l .rise) (ok Unobserved) (new Unobserved)
 all-clean-more s r wrong rise fall b l ok new Remaining = clean-more s r Remaining fall b (l .fall) (ok Remaining) (new Remaining)
 all-clean-more s r wrong rise fall b l ok new StillHigh = clean-more s r StillHigh fall b (l .fall) (ok StillHigh) (new StillHigh)
+
+-- a mask whose numbers are 0 up to the words below a bound names none of them
+pub clear-unnamed : (mask : List ℕ) (b : ℕ) → b ≤ length mask → ((k : ℕ) → k < b → getD mask k 0 ≡ 0) → (n w : ℕ) → w < n → n ≤ 64 * b → Unnamed mask w
+clear-unnamed mask b room low n w h l =
+    let block : w / 64 < b = omega arith in
+    record { inside = omega arith; clear = ap (lane (w % 64)) (low (w / 64) block) ∙ lane-zero (w % 64) }

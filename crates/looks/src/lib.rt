@@ -7,7 +7,7 @@ ghost use mathlib.Core.Path.{_≡_};
 ghost use mathlib.Core.Bool.{true, false};
 ghost use mathlib.Core.Logic.{_⊎_};
 ghost use mathlib.Core.List.{List};
-ghost use Prim.Native.Nat.{ℕ, _+_, _*_, _≤_, _<_};
+ghost use Prim.Native.Nat.{ℕ, _+_, _*_, _^_, _≤_, _<_};
 ghost use lib.ListN.{length, getD};
 ghost use Rattle.runs.specs.Pair.{DataOf};
 ghost use Rattle.runs.specs.Acknowledged.{Acknowledged, Fall-acknowledged};
@@ -299,7 +299,7 @@ fn some_relaxed(code: &[u16], counts: Counts) -> bool
 // How many blocks the words of that many inputs make.
 fn block_count(inputs: usize) -> usize
     requires { ⌜ inputs ≤ stageLimits .inputs ⌝ }
-    ensures { λ r. ⌜ r ≤ 16 ⌝ }
+    ensures { λ r. ⌜ (r ≤ 16) × (2 ^ inputs ≤ 64 * r) ⌝ }
 {
     if inputs < 6 {
         return 1;
@@ -336,6 +336,23 @@ pub fn is_named(mask: &[u64], w: usize) -> bool
     if b < mask.len() {
         let rest = mask[b] >> (w % 64);
         return rest % 2 == 1;
+    }
+    true
+}
+
+// Whether a mask names none of the words that so many inputs have.
+pub fn none_named(mask: &[u64], inputs: usize) -> bool
+    requires { ⌜ (inputs ≤ stageLimits .inputs) × (length (now mask) ≡ 16) ⌝ }
+    ensures { λ r. ⌜ (r ≡ true → (w : ℕ) → w < 2 ^ inputs → Unnamed (now (mask .entry)) w) ⌝ }
+{
+    let count = block_count(inputs);
+    let mut b: usize = 0;
+    while b < count {
+        if mask[b] == 0 {
+            b += 1;
+        } else {
+            return false;
+        }
     }
     true
 }

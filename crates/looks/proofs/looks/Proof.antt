@@ -29,13 +29,13 @@ look-block-requires : tie.Need-look-block-requires Inv-loop μ-loop
 look-block-requires c κs = c .before .before .before .before .before .before .pre
 
 array-write-wrong : tie.Need-array-write-wrong Inv-loop μ-loop
-array-write-wrong c = omega (arith, c .before .before .before .block-count .ensures)
+array-write-wrong c = omega (arith, c .before .before .before .block-count .ensures .0)
 
 array-write-rise : tie.Need-array-write-rise Inv-loop μ-loop
-array-write-rise c = omega (arith, c .before .before .before .block-count .ensures)
+array-write-rise c = omega (arith, c .before .before .before .block-count .ensures .0)
 
 array-write-fall : tie.Need-array-write-fall Inv-loop μ-loop
-array-write-fall c = omega (arith, c .before .before .before .block-count .ensures)
+array-write-fall c = omega (arith, c .before .before .before .block-count .ensures .0)
 
 loop-again : tie.Need-loop-again Inv-loop μ-loop
 loop-again c =
