@@ -342,10 +342,13 @@ pub fn is_named(mask: &[u64], w: usize) -> bool
 
 // Whether a mask names none of the words that so many inputs have.
 pub fn none_named(mask: &[u64], inputs: usize) -> bool
-    requires { ⌜ (inputs ≤ stageLimits .inputs) × (length (now mask) ≡ 16) ⌝ }
+    requires { ⌜ inputs ≤ stageLimits .inputs ⌝ }
     ensures { λ r. ⌜ (r ≡ true → (w : ℕ) → w < 2 ^ inputs → Unnamed (now (mask .entry)) w) ⌝ }
 {
     let count = block_count(inputs);
+    if mask.len() < count {
+        return false;
+    }
     let mut b: usize = 0;
     while b < count {
         if mask[b] == 0 {

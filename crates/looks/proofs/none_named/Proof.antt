@@ -20,23 +20,25 @@ loop-holds : tie.Need-loop-holds Inv-loop μ-loop
 loop-holds c k h = absurd (omega arith)
 
 block-count-requires : tie.Need-block-count-requires Inv-loop μ-loop
-block-count-requires c κs = c .before .pre .0
-
-shared-slice-read-if1 : tie.Need-shared-slice-read-if1 Inv-loop μ-loop
-shared-slice-read-if1 c = omega (arith, c .before .before .before .before .before .pre .1, c .before .before .before .block-count .ensures .0)
-
-loop-again : tie.Need-loop-again Inv-loop μ-loop
-loop-again c = below-more _ _ (c .before .before .before .loop .inv) (c .if1 .taken)
+block-count-requires c κs = c .before .pre
 
 returns : tie.Need-returns Inv-loop μ-loop
 returns c e = absurd (clash e refl)
 
+shared-slice-read-if2 : tie.Need-shared-slice-read-if2 Inv-loop μ-loop
+shared-slice-read-if2 c = omega arith
+
+loop-again : tie.Need-loop-again Inv-loop μ-loop
+loop-again c = below-more _ _ (c .before .before .before .loop .inv) (c .if2 .taken)
+
 returns-2 : tie.Need-returns-2 Inv-loop μ-loop
-returns-2 c e w h =
-    let z = c .before .before .before .before in
-    let l = c .before .loop in
-    let count = c .before .before .block-count in
-    clear-unnamed (now (z .args .mask)) (count .result) (omega (arith, z .pre .1, count .ensures .0)) (λ k d. l .inv k (omega arith)) (2 ^ z .args .inputs) w h (count .ensures .1)
+returns-2 c e = absurd (clash e refl)
+
+returns-3 : tie.Need-returns-3 Inv-loop μ-loop
+returns-3 c e w h =
+    let z = c .before .before .before .before .before in
+    let count = c .before .before .before .block-count in
+    clear-unnamed (now (z .args .mask)) (count .result) (omega arith) (λ k d. c .before .loop .inv k (omega arith)) (2 ^ z .args .inputs) w h (count .ensures .1)
 
 pub none-named-spec : {M : Type 1} → statement M
 none-named-spec =
@@ -45,11 +47,12 @@ none-named-spec =
     Inv-loop
     μ-loop
     block-count-requires
+    returns
     loop-holds
     (λ c. omega arith)
-    shared-slice-read-if1
+    shared-slice-read-if2
     (λ c. omega arith)
     (λ c. omega arith)
     loop-again
-    returns
-    returns-2)
+    returns-2
+    returns-3)
