@@ -22,7 +22,7 @@ use Rattle.lanes.proofs.Lane.{lane-zero}
 use Rattle.lanes.proofs.Blocks.{all-at}
 use Rattle.looks.specs.declared.Look.{Look}
 use Rattle.looks.specs.declared.Masks.{Masks}
-use Rattle.looks.specs.Looks.{wordsFor, maskFor, BlockClean, Unnamed, Clean}
+use Rattle.looks.specs.Looks.{wordsFor, maskFor, BlockClean, Unnamed, Clean, AllClean}
 
 module _ (s : Stage) (r : Reference) (which : Sweep) where
   clean-start : (n : ℕ) → Clean which s r (replicate n 0xFFFF_FFFF_FFFF_FFFF)
@@ -48,9 +48,6 @@ module _ (s : Stage) (r : Reference) (which : Sweep) where
 
 abbrev pub masksOf : List ℕ → List ℕ → List ℕ → Masks
 masksOf wrong rise fall = record { wrong = wrong; rise = rise; fall = fall }
-
-abbrev pub AllClean : Stage → Reference → Masks → Type 0
-AllClean s r m = (which : Sweep) → Clean which s r (maskFor which m)
 
 pub all-clean-start : (s : Stage) (r : Reference) (n : ℕ) →
     AllClean s r (masksOf (replicate n 0xFFFF_FFFF_FFFF_FFFF) (replicate n 0xFFFF_FFFF_FFFF_FFFF) (replicate n 0xFFFF_FFFF_FFFF_FFFF))

@@ -41,3 +41,7 @@ pub record Unnamed (mask : List ℕ) (w : ℕ) : Type 0 where
 -- a check finds nothing in a word that its mask does not name
 abbrev pub Clean : Sweep → Stage → Reference → List ℕ → Type 0
 Clean which s r mask = (w : ℕ) → Unnamed mask w → finds which s r w ≡ Nothing
+
+-- so it is of each of the five
+abbrev pub AllClean : Stage → Reference → Masks → Type 0
+AllClean s r m = (which : Sweep) → Clean which s r (maskFor which m)

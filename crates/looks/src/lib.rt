@@ -2,7 +2,6 @@
 // acknowledged.
 use lanes::CellLanes;
 use netlist::Counts;
-use words::Sweep;
 ghost use mathlib.Core.Path.{_≡_};
 ghost use mathlib.Core.Bool.{true, false};
 ghost use mathlib.Core.Logic.{_⊎_};
@@ -19,7 +18,7 @@ ghost use Rattle.circuit.specs.Reference.{signalIn, referenceIn};
 ghost use Rattle.words.specs.Loaded.{BothLoaded};
 ghost use Rattle.lanes.specs.Lane.{lane, rowIn};
 ghost use Rattle.looks.specs.Block.{netIn, Room, Spelled, SettledTo, AtRest, Marked, FallMarked, gateLanes, PinsMarked, FallGiven, OutputRail, AllMarked, NoneElse};
-ghost use Rattle.looks.specs.Looks.{BlockClean, Unnamed, Clean, maskFor};
+ghost use Rattle.looks.specs.Looks.{BlockClean, Unnamed, AllClean};
 
 // The words of a block in which something may be wrong: 13, then 14 and 15, then 20 and 21.
 pub struct Look {
@@ -310,7 +309,7 @@ fn block_count(inputs: usize) -> usize
 // The words of a stage that are worth a look, by the reference; all words past those that its inputs have are.
 pub fn looks(code: &[u16], counts: Counts, reference: &[u16], sizes: Counts) -> Masks
     requires { ⌜ BothLoaded counts (now code) sizes (now reference) ⌝ }
-    ensures { λ r. ⌜ ((which : Sweep) → Clean which (stageIn counts (now (code .entry))) (referenceIn sizes (now (reference .entry))) (maskFor which r)) ⌝ }
+    ensures { λ r. ⌜ AllClean (stageIn counts (now (code .entry))) (referenceIn sizes (now (reference .entry))) r ⌝ }
 {
     let mut wrong = [lanes::ALL; BLOCKS];
     let mut rise = [lanes::ALL; BLOCKS];

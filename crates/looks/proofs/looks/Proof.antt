@@ -4,7 +4,8 @@ use native.Mathlib.Omega.{arith}
 use denote.Ref.{now}
 use Rattle.circuit.specs.Stage.{stageIn}
 use Rattle.circuit.specs.Reference.{referenceIn}
-use Rattle.looks.proofs.Naming.{masksOf, AllClean, all-clean-start, all-clean-more}
+use Rattle.looks.specs.Looks.{AllClean}
+use Rattle.looks.proofs.Naming.{masksOf, all-clean-start, all-clean-more}
 use Rattle.looks.proofs.looks.Statement.{statement}
 use Rattle.looks.proofs.looks.Tie as tie
 
