@@ -2,6 +2,7 @@
 // acknowledged.
 use lanes::CellLanes;
 use netlist::Counts;
+use words::Sweep;
 ghost use mathlib.Core.Path.{_≡_};
 ghost use mathlib.Core.Bool.{true, false};
 ghost use mathlib.Core.Logic.{_⊎_};
@@ -18,7 +19,7 @@ ghost use Rattle.circuit.specs.Reference.{signalIn, referenceIn};
 ghost use Rattle.words.specs.Loaded.{BothLoaded};
 ghost use Rattle.lanes.specs.Lane.{lane, rowIn};
 ghost use Rattle.looks.specs.Block.{netIn, Room, Spelled, SettledTo, AtRest, Marked, FallMarked, gateLanes, PinsMarked, FallGiven, OutputRail, AllMarked, NoneElse};
-ghost use Rattle.looks.specs.Looks.{BlockClean, Unnamed, AllClean};
+ghost use Rattle.looks.specs.Looks.{BlockClean, Unnamed, AllClean, maskFor};
 
 // The words of a block in which something may be wrong: 13, then 14 and 15, then 20 and 21.
 pub struct Look {
@@ -325,6 +326,19 @@ pub fn looks(code: &[u16], counts: Counts, reference: &[u16], sizes: Counts) -> 
         b += 1;
     }
     Masks { wrong, rise, fall }
+}
+
+// The mask of a check.
+pub fn mask_of(which: Sweep, masks: Masks) -> [u64; BLOCKS]
+    ensures { λ r. ⌜ r ≡ maskFor which masks ⌝ }
+{
+    match which {
+        Sweep::Wrong => masks.wrong,
+        Sweep::Missing => masks.rise,
+        Sweep::Unobserved => masks.rise,
+        Sweep::Remaining => masks.fall,
+        Sweep::StillHigh => masks.fall,
+    }
 }
 
 // Whether a mask names word w.
