@@ -330,7 +330,7 @@ pub fn looks(code: &[u16], counts: Counts, reference: &[u16], sizes: Counts) -> 
 
 // The mask of a check.
 pub fn mask_of(which: Sweep, masks: Masks) -> [u64; BLOCKS]
-    ensures { λ r. ⌜ r ≡ maskFor which masks ⌝ }
+    ensures { λ r. ⌜ (r ≡ maskFor which masks) × (length r ≡ 16) ⌝ }
 {
     match which {
         Sweep::Wrong => masks.wrong,
