@@ -56,8 +56,8 @@ returns c =
     let s = stageIn (z .args .counts) (now (z .args .code)) in
     let r = referenceIn (z .args .sizes) (now (z .args .reference)) in
     let find = findsUnder (z .args .which) (z .args .order) s r in
-    let under : find (getD (now (z .args .list)) (loop .loop .k) 0) ≡ c .before .before .before .find .result =
-    ap (finds (z .args .which) s r) (sym (word .word-of .ensures)) ∙ sym (c .before .before .before .find .ensures) in
+    let under : find (getD (now (z .args .list)) (loop .loop .k) 0) ≡ c .before .before .before .look-in .result =
+    ap (finds (z .args .which) s r) (sym (word .word-of .ensures)) ∙ sym (c .before .before .before .look-in .ensures) in
     swept-words (z .args .which) (z .args .order) s r (now (z .args .list)) (z .pre .1) _ _ (loop .before .number-of .ensures)
     (swept-here _ _ find _ (loop .loop .k) (omega arith) (loop .loop .inv) _ (under ∙ c .before .i .given .1))
 
@@ -78,8 +78,8 @@ loop-again c =
     let s = stageIn (z .args .counts) (now (z .args .code)) in
     let r = referenceIn (z .args .sizes) (now (z .args .reference)) in
     let find = findsUnder (z .args .which) (z .args .order) s r in
-    let under : find (getD (now (z .args .list)) (loop .loop .k) 0) ≡ c .before .before .find .result =
-    ap (finds (z .args .which) s r) (sym (word .word-of .ensures)) ∙ sym (c .before .before .find .ensures) in
+    let under : find (getD (now (z .args .list)) (loop .loop .k) 0) ≡ c .before .before .look-in .result =
+    ap (finds (z .args .which) s r) (sym (word .word-of .ensures)) ∙ sym (c .before .before .look-in .ensures) in
     swept-on _ _ find _ (loop .loop .k) (omega arith) (loop .loop .inv) (under ∙ c .enum-told .given .1)
 
 returns-2 : tie.Need-returns-2 Inv-loop μ-loop
