@@ -278,6 +278,45 @@ static void joins(void)
     holds("the same bytes", memcmp(stage_out, joined_stage, n) == 0 && memcmp(reference_out, joined_reference, m) == 0);
 }
 
+static void makes(void)
+{
+    struct {
+        uint64_t before;
+        struct fovaheju_written made;
+        uint64_t after;
+    } kept = {0x1122334455667788, {{9, 9, 9, 9}, 9}, 0x99AABBCCDDEEFF00};
+    struct fovaheju_written *made = &kept.made;
+    /* Two inputs, of which only the first is an output. */
+    const uint8_t idle[] = {1, 2, 18, 0, 0, 0};
+    uint8_t out[64], untouched[64];
+    size_t n = sizeof and_stage;
+
+    memset(untouched, 7, sizeof untouched);
+    memcpy(out, untouched, 64);
+    holds("a made stage's answer has 40 bytes", sizeof *made == 40);
+    kept.made = fovaheju_make_stage(and_reference, sizeof and_reference, out, 64);
+    same("the stage of an AND", made->verdict, 0, 0, 0, 0);
+    holds("how many bytes", made->count == n);
+    holds("the whole case's stage", memcmp(out, and_stage, n) == 0);
+    holds("past the stage", memcmp(out + n, untouched, 64 - n) == 0);
+    same("it is accepted", fovaheju_check(0, out, n, and_reference, sizeof and_reference), 0, 0, 0, 0);
+    memcpy(out, untouched, 64);
+    kept.made = fovaheju_make_stage(and_reference, sizeof and_reference, out, n - 1);
+    same("a buffer one byte short", made->verdict, 27, 3, 0, 0);
+    holds("nothing is counted", made->count == 0);
+    same("an idle input", fovaheju_make_stage(idle, sizeof idle, out, 64).verdict, 25, 2, 1, 0);
+    same("a reference without its end", fovaheju_make_stage(idle, sizeof idle - 1, out, 64).verdict, 1, 2, 5, 0);
+    same("a null reference", fovaheju_make_stage(NULL, 0, out, 64).verdict, 1, 2, 0, 0);
+    same("a null buffer", fovaheju_make_stage(and_reference, sizeof and_reference, NULL, 0).verdict, 27, 3, 0, 0);
+    holds("a refused buffer is as before", memcmp(out, untouched, 64) == 0);
+    holds("beside the answer", kept.before == 0x1122334455667788 && kept.after == 0x99AABBCCDDEEFF00);
+    kept.made = fovaheju_make_stage(and_reference, sizeof and_reference, out, n);
+    same("a buffer that just fits", made->verdict, 0, 0, 0, 0);
+    holds("the same bytes", memcmp(out, and_stage, n) == 0);
+    same("the stage of a wire", fovaheju_make_stage(wire_reference, sizeof wire_reference, out, 64).verdict, 0, 0, 0, 0);
+    holds("it is the wire", memcmp(out, wire, sizeof wire) == 0);
+}
+
 int main(int count, char **folders)
 {
     int i;
@@ -288,6 +327,7 @@ int main(int count, char **folders)
     orders();
     rows();
     joins();
+    makes();
     printf("%d passed, %d failed\n", passed, failed);
     return failed != 0;
 }

@@ -6,9 +6,11 @@
 
 use crate::files::{hex, report_text, verdict_line, FilePair, MOST_BYTES_READ};
 use crate::generate::joins::{join_case, JoinCase};
+use crate::generate::made::{make_case, MakeCase};
 use crate::generate::{pair, row_case, RowCase};
 use crate::join::{self, Joined};
 use crate::judge::{self, Verdict, WordOrder, LIMITS, ORDERS};
+use crate::make::{self, Made};
 use std::fmt;
 use std::fs;
 use std::io;
@@ -21,6 +23,9 @@ pub type Check = fn(&[u8], &[u8]) -> [u64; 4];
 
 /// The settled-row call: a stage file and a lent row.
 pub type SettledRow = fn(&[u8], &mut [u8]) -> [u64; 4];
+
+/// The stage of a reference file, into a lent buffer.
+pub type Make = fn(&[u8], &mut [u8]) -> Made;
 
 /// The numbers of a report as the library gives them: how many words have a line, their total,
 /// and 1,024 lines of which those past the words are 0. Of a refused pair all but the verdict is 0.
@@ -57,7 +62,8 @@ pub fn judged_counts(order: WordOrder, stage: &[u8], reference: &[u8]) -> Counts
 /// How often each verdict number came.
 pub type Histogram = [u64; 29];
 
-/// The numbers of the check, of the settled-row call, and of the join.
+/// The numbers of the check, of the settled-row call, of the join, and of the stage from a
+/// reference.
 pub const CHECK_NUMBERS: [usize; 21] = [
     0, 1, 2, 3, 4, 5, 6, 7, 8, 9, 18, 19, 10, 11, 12, 28, 13, 14, 15, 20, 21,
 ];
@@ -65,6 +71,7 @@ pub const ROW_NUMBERS: [usize; 15] = [0, 1, 2, 3, 4, 5, 6, 7, 8, 9, 18, 19, 12, 
 pub const JOIN_NUMBERS: [usize; 24] = [
     0, 1, 2, 3, 4, 5, 6, 7, 8, 9, 18, 19, 10, 11, 12, 28, 13, 14, 15, 20, 21, 22, 23, 24,
 ];
+pub const MAKE_NUMBERS: [usize; 13] = [0, 1, 2, 3, 4, 5, 6, 7, 8, 9, 25, 26, 27];
 
 /// What cases lack that a comparison rests on: one of the numbers never came, or fewer
 /// than a fifth of the cases are accepted.
@@ -111,6 +118,12 @@ pub enum Difference {
         case: Box<JoinCase>,
         judge: Answer,
         other: Answer,
+    },
+    Makes {
+        name: String,
+        case: MakeCase,
+        judge: (Made, Vec<u8>),
+        other: (Made, Vec<u8>),
     },
 }
 
@@ -227,6 +240,26 @@ impl fmt::Display for Difference {
                 }
                 Ok(())
             }
+            Difference::Makes {
+                name,
+                case,
+                judge,
+                other,
+            } => {
+                writeln!(f, "{name}")?;
+                for (which, bytes) in [
+                    ("reference", &case.reference),
+                    ("buffer before", &case.buffer),
+                ] {
+                    writeln!(f, "{which}, {} bytes: {}", bytes.len(), hex(bytes))?;
+                }
+                for (who, (made, buffer)) in [("judge", judge), ("other", other)] {
+                    let verdict = line(made.verdict);
+                    writeln!(f, "{who}: {verdict}, {} bytes", made.len)?;
+                    writeln!(f, "buffer of the {who}: {}", hex(buffer))?;
+                }
+                Ok(())
+            }
         }
     }
 }
@@ -312,6 +345,24 @@ pub fn compare_join(
         name: name.to_string(),
         order,
         case: Box::new(case.clone()),
+        judge: judged,
+        other: given,
+    }))
+}
+
+/// Compares the verdict, the length and every byte of the buffer of one case.
+pub fn compare_make(other: Make, name: &str, case: &MakeCase) -> Result<u64, Box<Difference>> {
+    let answer_of = |make_stage: Make| {
+        let mut buffer = case.buffer.clone();
+        (make_stage(&case.reference, &mut buffer), buffer)
+    };
+    let (judged, given) = (answer_of(make::make_stage), answer_of(other));
+    if judged == given {
+        return Ok(judged.0.verdict[0]);
+    }
+    Err(Box::new(Difference::Makes {
+        name: name.to_string(),
+        case: case.clone(),
         judge: judged,
         other: given,
     }))
@@ -452,6 +503,20 @@ pub fn compare_joins(
                 .inspect_err(|difference| println!("{difference}"))?;
             histogram[number as usize] += 1;
         }
+    }
+    Ok(histogram)
+}
+
+/// Compares the stages of the first `count` references of a seed. The first difference is printed
+/// and given back.
+pub fn compare_makes(other: Make, seed: u64, count: u64) -> Result<Histogram, Box<Difference>> {
+    let mut histogram = Histogram::default();
+    for index in 0..count {
+        let generated = make_case(seed, index);
+        let name = format!("reference {index} of seed {seed} ({})", generated.family);
+        let number = compare_make(other, &name, &generated.case)
+            .inspect_err(|difference| println!("{difference}"))?;
+        histogram[number as usize] += 1;
     }
     Ok(histogram)
 }

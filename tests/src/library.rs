@@ -5,6 +5,7 @@ use crate::compare::Counts;
 use crate::files::FilePair;
 use crate::join::Joined;
 use crate::judge::Verdict;
+use crate::make::Made;
 
 /// The four numbers as the library lays them out.
 #[repr(C)]
@@ -37,6 +38,13 @@ struct JoinAnswer {
     verdict: Numbers,
     stage_count: u64,
     reference_count: u64,
+}
+
+/// The answer of a call that writes one file, as the library lays it out.
+#[repr(C)]
+struct Written {
+    verdict: Numbers,
+    count: u64,
 }
 
 extern "C" {
@@ -75,6 +83,12 @@ extern "C" {
         reference_out: *mut u8,
         reference_out_len: usize,
     ) -> JoinAnswer;
+    fn fovaheju_make_stage(
+        reference: *const u8,
+        reference_len: usize,
+        stage_out: *mut u8,
+        stage_out_len: usize,
+    ) -> Written;
 }
 
 /// The verdict on a stage file and a reference file.
@@ -149,5 +163,22 @@ pub fn join(
         verdict: answer.verdict.into(),
         stage_len: answer.stage_count as usize,
         reference_len: answer.reference_count as usize,
+    }
+}
+
+/// The stage of a reference file, into a buffer.
+pub fn make_stage(reference: &[u8], stage_out: &mut [u8]) -> Made {
+    // Safety: the contract has no `requires`, and each pointer and length are of a slice; the buffer is lent to be written.
+    let answer = unsafe {
+        fovaheju_make_stage(
+            reference.as_ptr(),
+            reference.len(),
+            stage_out.as_mut_ptr(),
+            stage_out.len(),
+        )
+    };
+    Made {
+        verdict: answer.verdict.into(),
+        len: answer.count as usize,
     }
 }

@@ -4,7 +4,7 @@
 use fovaheju_tests::compare::{
     compare_checks, compare_pair, compare_reports, compare_rows, first_difference, judged_counts,
     lack, run_program, shrink, Check, CheckInOrder, Difference, Histogram, SettledRow,
-    CHECK_NUMBERS, JOIN_NUMBERS, ROW_NUMBERS,
+    CHECK_NUMBERS, JOIN_NUMBERS, MAKE_NUMBERS, ROW_NUMBERS,
 };
 use fovaheju_tests::files::{as_the_program_reads, unhex, verdict_from_line, FilePair};
 use fovaheju_tests::generate::pair;
@@ -36,10 +36,16 @@ fn a_lack_is_told() {
     assert_eq!(lack(&full, &CHECK_NUMBERS), None);
     assert_eq!(lack(&full, &ROW_NUMBERS), None);
     assert_eq!(lack(&full, &JOIN_NUMBERS), None);
+    assert_eq!(lack(&full, &MAKE_NUMBERS), None);
     for number in 0..full.len() {
         let mut histogram = full;
         histogram[number] = 0;
-        for numbers in [&CHECK_NUMBERS[..], &ROW_NUMBERS[..], &JOIN_NUMBERS[..]] {
+        for numbers in [
+            &CHECK_NUMBERS[..],
+            &ROW_NUMBERS[..],
+            &JOIN_NUMBERS[..],
+            &MAKE_NUMBERS[..],
+        ] {
             assert_eq!(
                 lack(&histogram, numbers).is_some(),
                 numbers.contains(&number)

@@ -1,9 +1,10 @@
-// The public calls. Their contracts cite the definitions of crates `verdict`, `report`, `joined` and `join`, at the limits of crate `netlist`,
-// and ask nothing of the caller.
+// The public calls. Their contracts cite the definitions of crates `verdict`, `report`, `joined` and `join`, `made` and `make`, at the limits of
+// crate `netlist`, and ask nothing of the caller.
 use join::JoinAnswer;
 use report::Report;
 use verdict::Verdict;
 use verdict::WordOrder;
+use writing::Answer;
 ghost use mathlib.Core.Path.{_≡_};
 ghost use Rattle.netlist.specs.Reading.{stageLimits, referenceLimits};
 ghost use Rattle.verdict.specs.Words.{orderOf};
@@ -13,6 +14,7 @@ ghost use Rattle.report.specs.Report.{reportOn};
 ghost use Rattle.report.specs.Activity.{ReportMeans};
 ghost use Rattle.joined.specs.Join.{files};
 ghost use Rattle.join.specs.Call.{JoinDemand};
+ghost use Rattle.make.specs.Call.{MakeDemand};
 
 // The check of a stage file against a reference file, with words named in an order. The verdict is the one that the definitions give, and
 // demands 2 and 3 hold of it, with one run from another for an accepted stage.
@@ -66,6 +68,14 @@ pub fn join(
         stage_out,
         reference_out,
     )
+}
+
+// A stage from a reference: every operation but NOT becomes two gates, NOT swaps rails, and the stage is written at the start of a lent buffer. It is
+// accepted against its reference. A refusal leaves the buffer as it was.
+pub fn make_stage(reference: &[u8], stage_out: &mut [u8]) -> Answer
+    ensures { λ r. ⌜ MakeDemand (now (reference .entry)) (now («stage_out» .entry)) r (now («stage_out» .exit)) ⌝ }
+{
+    make::make_stage(reference, stage_out)
 }
 
 // The order of words that a number stands for: 0 has input 0 as the highest bit of a word, every other number has it as the lowest.
@@ -130,4 +140,12 @@ pub extern "C" fn fovaheju_join(
         stage_out,
         reference_out,
     )
+}
+
+// The stage from a reference for callers in C and in Rust, with the contract of `make_stage`.
+#[no_mangle]
+pub extern "C" fn fovaheju_make_stage(reference: &[u8], stage_out: &mut [u8]) -> Answer
+    ensures { λ r. ⌜ MakeDemand (now (reference .entry)) (now («stage_out» .entry)) r (now («stage_out» .exit)) ⌝ }
+{
+    make_stage(reference, stage_out)
 }

@@ -24,7 +24,7 @@ use Rattle.circuit.specs.Reference.{operatorsIn, signalsIn, referenceIn}
 use Rattle.circuit.proofs.Tabulate.{length-tabulate}
 use Rattle.join.specs.declared.Move.{Move}
 use Rattle.join.specs.Moved.{netMoved, gateMoved, pairMoved, signalMoved, operationMoved}
-use Rattle.join.proofs.Putting.{put-same}
+use Rattle.writing.proofs.Putting.{put-same}
 
 -- ---- lists
 

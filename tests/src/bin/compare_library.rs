@@ -1,16 +1,19 @@
 //! compare_library [SEED [COUNT]]: compares all calls of the proved library with the judge, in both orders of words,
-//! on the stored examples and cases of joins, and on as many generated pairs, rows and joins. Prints how many had each
-//! number, or the first difference. Fails too if some number never came or too few were accepted.
+//! on the stored examples, cases of joins and references, and on as many generated pairs, rows, joins and references. Prints how
+//! many had each number, or the first difference. Fails too if some number never came or too few were accepted.
 
 use fovaheju_tests::compare::{
-    compare_checks, compare_join, compare_joins, compare_pair, compare_report, compare_reports,
-    compare_rows, lack, CheckInOrder, Difference, Histogram, JoinInOrder, ReportInOrder,
-    CHECK_NUMBERS, JOIN_NUMBERS, ROW_NUMBERS,
+    compare_checks, compare_join, compare_joins, compare_make, compare_makes, compare_pair,
+    compare_report, compare_reports, compare_rows, lack, CheckInOrder, Difference, Histogram,
+    JoinInOrder, ReportInOrder, CHECK_NUMBERS, JOIN_NUMBERS, MAKE_NUMBERS, ROW_NUMBERS,
 };
 use fovaheju_tests::files::{examples_folder, load_example, stored_examples};
+use fovaheju_tests::generate::made::MakeCase;
 use fovaheju_tests::join_suite;
-use fovaheju_tests::judge::{WordOrder, ORDERS};
+use fovaheju_tests::judge::{WordOrder, ACCEPTED, ORDERS};
 use fovaheju_tests::library;
+use fovaheju_tests::make::Made;
+use fovaheju_tests::make_suite::all_references;
 use std::process::ExitCode;
 use std::time::Instant;
 
@@ -48,6 +51,18 @@ fn tell(what: &str, histogram: &Histogram, numbers: &[usize], start: Instant) ->
     lack.is_none()
 }
 
+/// The library's stage of a reference, which its check has to accept.
+fn made_and_checked(reference: &[u8], buffer: &mut [u8]) -> Made {
+    let made = library::make_stage(reference, buffer);
+    if made.verdict == ACCEPTED {
+        for order in ORDERS {
+            let checked = CHECK(order, &buffer[..made.len], reference);
+            assert_eq!(checked, ACCEPTED, "a made stage is refused");
+        }
+    }
+    made
+}
+
 fn compare(seed: u64, count: u64) -> Result<bool, Box<Difference>> {
     let names = stored_examples(&examples_folder()).expect("the examples");
     for name in &names {
@@ -67,6 +82,20 @@ fn compare(seed: u64, count: u64) -> Result<bool, Box<Difference>> {
         }
     }
     println!("{} stored joins alike in both orders", joins.len());
+    let references = all_references();
+    for (index, reference) in references.iter().enumerate() {
+        let case = MakeCase {
+            reference: reference.clone(),
+            buffer: vec![7; 8192],
+        };
+        compare_make(
+            made_and_checked,
+            &format!("stored reference {index}"),
+            &case,
+        )
+        .inspect_err(|difference| println!("{difference}"))?;
+    }
+    println!("stages of {} stored references alike", references.len());
     let start = Instant::now();
     let checks = compare_checks(CHECK, seed, count)?;
     let checks = tell("checks", &checks, &CHECK_NUMBERS, start);
@@ -79,7 +108,10 @@ fn compare(seed: u64, count: u64) -> Result<bool, Box<Difference>> {
     let start = Instant::now();
     let joins = compare_joins(JOIN, seed, count)?;
     let joins = tell("joins", &joins, &JOIN_NUMBERS, start);
-    Ok(checks && reports && rows && joins)
+    let start = Instant::now();
+    let makes = compare_makes(made_and_checked, seed, count)?;
+    let makes = tell("stages from references", &makes, &MAKE_NUMBERS, start);
+    Ok(checks && reports && rows && joins && makes)
 }
 
 fn main() -> ExitCode {

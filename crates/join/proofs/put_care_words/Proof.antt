@@ -7,7 +7,7 @@ use Rattle.netlist.specs.Writing.{care}
 use Rattle.circuit.specs.Stage.{stageCare}
 use Rattle.writing.proofs.Files.{care-width}
 use Rattle.verdict.specs.Graph.{tabulate}
-use Rattle.join.proofs.Putting.{PutTo, put-start, put-room, put-more, put-done}
+use Rattle.writing.proofs.Putting.{PutTo, put-start, put-room, put-more, put-done}
 use borrow.Author.Needs.{needs}
 use Rattle.join.proofs.put_care_words.Statement.{statement}
 use Rattle.join.proofs.put_care_words.Tie as tie

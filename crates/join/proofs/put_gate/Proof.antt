@@ -10,7 +10,7 @@ use Rattle.netlist.specs.Writing.{gate, writeItem}
 use Rattle.writing.specs.Put.{Put, coded}
 use Rattle.circuit.specs.Stage.{cellIn, pinIn, stageIn}
 use Rattle.join.specs.Moved.{netMoved}
-use Rattle.join.proofs.Putting.{put-same}
+use Rattle.writing.proofs.Putting.{put-same}
 use Rattle.join.proofs.Moving.{pins-of, four-operands, five-equal}
 use borrow.Author.Needs.{needs}
 use Rattle.join.proofs.put_gate.Statement.{statement}

@@ -10,7 +10,7 @@ use Rattle.writing.specs.Parts.{gateItem}
 use Rattle.writing.proofs.Files.{stage-gate-width}
 use Rattle.join.specs.Moved.{gateMoved}
 use Rattle.verdict.specs.Graph.{tabulate}
-use Rattle.join.proofs.Putting.{PutTo, put-start, put-room, put-more, put-done}
+use Rattle.writing.proofs.Putting.{PutTo, put-start, put-room, put-more, put-done}
 use borrow.Author.Needs.{needs}
 use Rattle.join.proofs.put_gates.Statement.{statement}
 use Rattle.join.proofs.put_gates.Tie as tie

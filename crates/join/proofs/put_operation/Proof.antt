@@ -7,7 +7,7 @@ use denote.Ref.{now}
 use Rattle.writing.specs.Put.{Put}
 use Rattle.circuit.specs.Reference.{operationIn, operandIn, referenceIn}
 use Rattle.join.specs.Moved.{signalMoved}
-use Rattle.join.proofs.Putting.{put-same}
+use Rattle.writing.proofs.Putting.{put-same}
 use Rattle.join.proofs.Moving.{one-operand, two-operands}
 use borrow.Author.Needs.{needs}
 use Rattle.join.proofs.put_operation.Statement.{statement}

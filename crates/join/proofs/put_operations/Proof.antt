@@ -9,7 +9,7 @@ use Rattle.circuit.proofs.Tabulate.{map-tabulate}
 use Rattle.writing.proofs.Files.{reference-gate-width}
 use Rattle.join.specs.Moved.{operationMoved}
 use Rattle.verdict.specs.Graph.{tabulate}
-use Rattle.join.proofs.Putting.{PutTo, put-start, put-room, put-more, put-done}
+use Rattle.writing.proofs.Putting.{PutTo, put-start, put-room, put-more, put-done}
 use borrow.Author.Needs.{needs}
 use Rattle.join.proofs.put_operations.Statement.{statement}
 use Rattle.join.proofs.put_operations.Tie as tie

@@ -14,7 +14,7 @@ use Rattle.writing.specs.Parts.{pairItem}
 use Rattle.writing.proofs.Files.{stage-output-width}
 use Rattle.join.specs.Moved.{netMoved, pairMoved}
 use Rattle.verdict.specs.Graph.{tabulate}
-use Rattle.join.proofs.Putting.{put-same, PutTo, put-start, put-room, put-more, put-done}
+use Rattle.writing.proofs.Putting.{put-same, PutTo, put-start, put-room, put-more, put-done}
 use borrow.Author.Needs.{needs}
 use Rattle.join.proofs.put_outputs.Statement.{statement}
 use Rattle.join.proofs.put_outputs.Tie as tie

@@ -8,7 +8,7 @@ use Rattle.netlist.specs.declared.File.the-variants as file
 use Rattle.netlist.specs.Writing.{gate}
 use Rattle.circuit.specs.Reference.{referenceIn}
 use Rattle.writing.specs.Parts.{signalItem, bytesOf}
-use Rattle.join.proofs.Putting.{put-same}
+use Rattle.writing.proofs.Putting.{put-same}
 use Rattle.join.proofs.Whole.{reference-long-in, reference-put, operations-stay, operations-move, signals-move, operators-count, signals-count}
 use borrow.Author.Needs.{needs}
 use Rattle.join.proofs.put_reference.Statement.{statement}

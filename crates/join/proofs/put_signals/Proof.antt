@@ -14,7 +14,7 @@ use Rattle.writing.specs.Parts.{signalItem}
 use Rattle.writing.proofs.Files.{reference-output-width}
 use Rattle.join.specs.Moved.{signalMoved}
 use Rattle.verdict.specs.Graph.{tabulate}
-use Rattle.join.proofs.Putting.{put-same, PutTo, put-start, put-room, put-more, put-done}
+use Rattle.writing.proofs.Putting.{put-same, PutTo, put-start, put-room, put-more, put-done}
 use borrow.Author.Needs.{needs}
 use Rattle.join.proofs.put_signals.Statement.{statement}
 use Rattle.join.proofs.put_signals.Tie as tie

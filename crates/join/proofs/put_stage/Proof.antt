@@ -7,7 +7,7 @@ use Rattle.netlist.specs.declared.File.the-variants as file
 use Rattle.netlist.specs.Formed.{nets}
 use Rattle.circuit.specs.Stage.{stageIn}
 use Rattle.writing.specs.Parts.{gateItem, pairItem, bytesOf}
-use Rattle.join.proofs.Putting.{put-same}
+use Rattle.writing.proofs.Putting.{put-same}
 use Rattle.join.proofs.Whole.{stage-long-in, stage-put, gates-stay, gates-move, pairs-move, gates-count, outputs-count, care-count}
 use borrow.Author.Needs.{needs}
 use Rattle.join.proofs.put_stage.Statement.{statement}
