@@ -40,7 +40,7 @@ use Rattle.join.specs.declared.JoinAnswer.{JoinAnswer}
 use Rattle.joined.specs.Join.{uncaredCheck}
 use Rattle.join.specs.Steps.{joinParts, partOf, partLoaded}
 use Rattle.join.specs.Call.{answerWith, Leaves, JoinDemand}
-use Rattle.join.proofs.Whole.{outputs-count, signals-count}
+use Rattle.whole.proofs.Whole.{outputs-count, signals-count}
 
 -- what is said of the join beside what it leaves holds of the answer as it is defined
 pub join-demand : (order : WordOrder) (f g : Files) (stage reference : List ℕ) (r : JoinAnswer) (stageAfter referenceAfter : List ℕ)

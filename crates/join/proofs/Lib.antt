@@ -1,4 +1,2 @@
-pub mod Moving
-pub mod Whole
 pub mod Answers
 pub mod Joining

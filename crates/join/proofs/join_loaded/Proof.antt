@@ -6,7 +6,7 @@ use denote.Ref.{now}
 use Rattle.verdict.specs.Checks.{verdict}
 use Rattle.join.specs.Steps.{partLoaded}
 use Rattle.join.specs.Call.{answerWith}
-use Rattle.join.proofs.Whole.{outputs-count}
+use Rattle.whole.proofs.Whole.{outputs-count}
 use Rattle.join.proofs.Joining.{leaves-refused, leaves-written, at-seam, at-word, at-stage-room, at-reference-room, at-none}
 use borrow.Author.Needs.{needs}
 use Rattle.join.proofs.join_loaded.Statement.{statement}
