@@ -24,7 +24,7 @@ use Rattle.runs.proofs.Rise.{settled-one, settled-rail, settled-gate, s
 use Rattle.runs.proofs.Tight.{tight-from}
 
 -- a number above f at every place below n
-bound : (f : ℕ → ℕ) (n : ℕ) → (t : ℕ) × ((k : ℕ) → k < n → f k < t)
+pub bound : (f : ℕ → ℕ) (n : ℕ) → (t : ℕ) × ((k : ℕ) → k < n → f k < t)
 bound f zero = (0, λ k h. absurd (omega arith))
 bound f (suc n) = go (bound f n)
   where
@@ -36,7 +36,7 @@ bound f (suc n) = go (bound f n)
         at k h (inr e) = omega (arith, x .1 k (omega arith))
 
 -- a net is in a list, so that P holds of it, or no member is that net
-among : (P : ℕ → Type 0) (k : ℕ) (l : List ℕ) → AllPins P l → (P k) ⊎ (AllPins (λ p. p ≢ k) l)
+pub among : (P : ℕ → Type 0) (k : ℕ) (l : List ℕ) → AllPins P l → (P k) ⊎ (AllPins (λ p. p ≢ k) l)
 among P k [] h = inr tt
 among P k (p ∷ ps) h = go (same? p k) (among P k ps (h .1))
   where

@@ -13,6 +13,7 @@ pub mod Fall
 pub mod Tight
 pub mod Acknowledged
 pub mod Clear
+pub mod FallAcknowledged
 pub mod Complete
 pub mod Promise
 pub mod Witness

@@ -1,10 +1,11 @@
 -- All words, name by name, and check by check.
 -- Assumes nothing.
-use Prim.Native.Nat.{ℕ, _+_, _≤_, _<_}
+use Prim.Native.Nat.{ℕ, _+_, _^_, _≤_, _<_}
 use native.Mathlib.Omega.{arith}
 use native.Mathlib.Numerals.{add-one}
 use mathlib.Core.Path.{_≡_, refl, sym, ap, _∙_}
-use mathlib.Core.List.{List}
+use mathlib.Core.Logic.{inl, inr}
+use mathlib.Core.List.{List, [], _∷_}
 use lib.ListN.{length, getD, drop, drop-of-length-le}
 use lib.Seq.{drop-cons}
 use borrow.Author.Tests.{eq-eqb}
@@ -21,6 +22,9 @@ use Rattle.verdict.specs.Checks.{verdict, first, atFault, sweep, finding, orLat
 use Rattle.verdict.specs.Nets.{noGate}
 use Rattle.verdict.specs.Demands.{WithHold}
 use Rattle.verdict.proofs.Reaching.{loopFree-noLoop}
+use Rattle.verdict.specs.Loops.{In}
+use Rattle.verdict.proofs.Words.{rising-in}
+use Rattle.verdict.proofs.Names.{spelled-below, names-rise}
 use Rattle.verdict.proofs.Sweeps.{fault-++}
 use Rattle.verdict.proofs.Demands.{hold-passes}
 use Rattle.circuit.specs.Stage.{slot, gateIn, stageGates, stageIn}
@@ -30,6 +34,7 @@ use Rattle.circuit.proofs.Tabulate.{length-tabulate, getD-tabulate}
 use Rattle.words.specs.declared.Sweep.{Sweep}
 use Rattle.words.specs.declared.Sweep.the-variants.{Wrong, Missing, Unobserved, Remaining, StillHigh}
 use Rattle.words.specs.Finds.{finds}
+use Rattle.looks.specs.Looks.{Unnamed, Clean}
 use Rattle.sweeps.specs.Sweeps.{numberOf, swept}
 
 -- ---- name by name
@@ -60,6 +65,12 @@ module _ (number file : ℕ) (find : ℕ → Found) (names : List ℕ) (k : ℕ)
 pub swept-start : (number file : ℕ) (find : ℕ → Found) (names : List ℕ) → SweptTo number file find names 0
 swept-start number file find names = refl
 
+-- nothing is found under any of some names
+swept-nothing : (number file : ℕ) (find : ℕ → Found) (names : List ℕ) → ((name : ℕ) → In name names → find name ≡ Nothing) → sweep number file find names ≡ Passed
+unfolding sweep atFault
+swept-nothing number file find [] h = refl
+swept-nothing number file find (x ∷ names) h = rw (h x (inl refl)) (swept-nothing number file find names (λ name i. h name (inr i)))
+
 -- what a check finds under a name
 abbrev pub findsUnder : Sweep → WordOrder → Stage → Reference → ℕ → Found
 findsUnder which order s r name = finds which s r (spelled order (s .inputs) name)
@@ -69,6 +80,13 @@ pub swept-words : (which : Sweep) (order : WordOrder) (s : Stage) (r : Reference
     → f ≡ sweep number 1 (findsUnder which order s r) list → f ≡ swept which order s r
 swept-words which order s r list is number f a e =
     e ∙ ap (sweep number 1 (findsUnder which order s r)) is ∙ ap (λ (k : ℕ). sweep k 1 (findsUnder which order s r) (names order s)) a
+
+-- a check whose mask names none of the words finds nothing
+pub none-worth : (which : Sweep) (order : WordOrder) (s : Stage) (r : Reference) (mask : List ℕ) → Clean which s r mask
+    → ((w : ℕ) → w < 2 ^ s .inputs → Unnamed mask w) → Passed ≡ swept which order s r
+none-worth which order s r mask clean none =
+    sym (swept-nothing (numberOf which) 1 (findsUnder which order s r) (names order s) (λ name i.
+    clean (spelled order (s .inputs) name) (none _ (spelled-below order (s .inputs) name (rising-in (2 ^ s .inputs) 0 (names order s) (names-rise order s) name i .1)))))
 
 -- ---- check by check
 

@@ -1,4 +1,5 @@
 // The sweeps of 13, 14 and 15, and of 20 and 21, over the words of a stage and a reference in their flat forms.
+use looks::Masks;
 use netlist::Counts;
 use netlist::Found;
 use verdict::Finding;
@@ -13,6 +14,8 @@ ghost use Rattle.verdict.specs.Demands.{WithHold};
 ghost use Rattle.circuit.specs.Stage.{stageIn, StageLoaded};
 ghost use Rattle.circuit.specs.Reference.{referenceIn};
 ghost use Rattle.words.specs.Loaded.{BothLoaded};
+ghost use Rattle.words.specs.Finds.{finds};
+ghost use Rattle.looks.specs.Looks.{Clean, AllClean};
 ghost use Rattle.sweeps.specs.Sweeps.{numberOf, swept};
 
 // The number of a check.
@@ -28,17 +31,39 @@ fn number_of(which: Sweep) -> u64
     }
 }
 
+// What one of the checks finds in word w. A word that its mask does not name is passed over.
+fn look_in(
+    which: Sweep,
+    mask: &[u64],
+    code: &[u16],
+    counts: Counts,
+    reference: &[u16],
+    sizes: Counts,
+    w: usize,
+) -> Found
+    requires { ⌜ BothLoaded counts (now code) sizes (now reference)
+        × Clean which (stageIn counts (now code)) (referenceIn sizes (now reference)) (now mask) ⌝ }
+    ensures { λ r. ⌜ r ≡ finds which (stageIn counts (now (code .entry))) (referenceIn sizes (now (reference .entry))) w ⌝ }
+{
+    if looks::is_named(mask, w) {
+        return words::find(which, code, counts, reference, sizes, w);
+    }
+    Found::Nothing
+}
+
 // What one of the checks finds in the words of a stage, whose names are listed: the word of the least name with a fault, and the least fault in it.
 fn sweep_words(
     which: Sweep,
     order: WordOrder,
     list: &[u16],
+    mask: &[u64],
     code: &[u16],
     counts: Counts,
     reference: &[u16],
     sizes: Counts,
 ) -> Finding
-    requires { ⌜ BothLoaded counts (now code) sizes (now reference) × (now list ≡ names order (stageIn counts (now code))) ⌝ }
+    requires { ⌜ BothLoaded counts (now code) sizes (now reference) × (now list ≡ names order (stageIn counts (now code)))
+        × Clean which (stageIn counts (now code)) (referenceIn sizes (now reference)) (now mask) ⌝ }
     ensures { λ r. ⌜ r ≡ swept which order (stageIn counts (now (code .entry))) (referenceIn sizes (now (reference .entry))) ⌝ }
 {
     let number = number_of(which);
@@ -46,7 +71,7 @@ fn sweep_words(
     while k < list.len() {
         let name = list[k] as usize;
         let w = names::word_of(order, counts.inputs, name);
-        if let Found::At(i) = words::find(which, code, counts, reference, sizes, w) {
+        if let Found::At(i) = look_in(which, mask, code, counts, reference, sizes, w) {
             return Finding::Fault(Verdict {
                 number,
                 file: 1,
@@ -59,22 +84,47 @@ fn sweep_words(
     Finding::Passed
 }
 
-// The rise: 13, then 14, then 15.
-fn sweep_rises(
+// The same by the masks of all checks. Where none of the words is named, none is looked at.
+fn sweep_check(
+    which: Sweep,
     order: WordOrder,
     list: &[u16],
+    masks: Masks,
     code: &[u16],
     counts: Counts,
     reference: &[u16],
     sizes: Counts,
 ) -> Finding
-    requires { ⌜ BothLoaded counts (now code) sizes (now reference) × (now list ≡ names order (stageIn counts (now code))) ⌝ }
+    requires { ⌜ BothLoaded counts (now code) sizes (now reference) × (now list ≡ names order (stageIn counts (now code)))
+        × AllClean (stageIn counts (now code)) (referenceIn sizes (now reference)) masks ⌝ }
+    ensures { λ r. ⌜ r ≡ swept which order (stageIn counts (now (code .entry))) (referenceIn sizes (now (reference .entry))) ⌝ }
+{
+    let mask = looks::mask_of(which, masks);
+    if looks::none_named(&mask, counts.inputs) {
+        return Finding::Passed;
+    }
+    sweep_words(which, order, list, &mask, code, counts, reference, sizes)
+}
+
+// The rise: 13, then 14, then 15.
+fn sweep_rises(
+    order: WordOrder,
+    list: &[u16],
+    masks: Masks,
+    code: &[u16],
+    counts: Counts,
+    reference: &[u16],
+    sizes: Counts,
+) -> Finding
+    requires { ⌜ BothLoaded counts (now code) sizes (now reference) × (now list ≡ names order (stageIn counts (now code)))
+        × AllClean (stageIn counts (now code)) (referenceIn sizes (now reference)) masks ⌝ }
     ensures { λ r. ⌜ r ≡ checks.firstFault (checks.riseSweeps order (stageIn counts (now (code .entry))) (referenceIn sizes (now (reference .entry)))) ⌝ }
 {
-    if let Finding::Fault(v) = sweep_words(
+    if let Finding::Fault(v) = sweep_check(
         Sweep::Wrong,
         order,
         list,
+        masks,
         code,
         counts,
         reference,
@@ -82,10 +132,11 @@ fn sweep_rises(
     ) {
         return Finding::Fault(v);
     }
-    if let Finding::Fault(v) = sweep_words(
+    if let Finding::Fault(v) = sweep_check(
         Sweep::Missing,
         order,
         list,
+        masks,
         code,
         counts,
         reference,
@@ -93,10 +144,11 @@ fn sweep_rises(
     ) {
         return Finding::Fault(v);
     }
-    sweep_words(
+    sweep_check(
         Sweep::Unobserved,
         order,
         list,
+        masks,
         code,
         counts,
         reference,
@@ -108,18 +160,21 @@ fn sweep_rises(
 fn sweep_falls(
     order: WordOrder,
     list: &[u16],
+    masks: Masks,
     code: &[u16],
     counts: Counts,
     reference: &[u16],
     sizes: Counts,
 ) -> Finding
-    requires { ⌜ BothLoaded counts (now code) sizes (now reference) × (now list ≡ names order (stageIn counts (now code))) ⌝ }
+    requires { ⌜ BothLoaded counts (now code) sizes (now reference) × (now list ≡ names order (stageIn counts (now code)))
+        × AllClean (stageIn counts (now code)) (referenceIn sizes (now reference)) masks ⌝ }
     ensures { λ r. ⌜ r ≡ checks.firstFault (checks.fallSweeps order (stageIn counts (now (code .entry))) (referenceIn sizes (now (reference .entry)))) ⌝ }
 {
-    if let Finding::Fault(v) = sweep_words(
+    if let Finding::Fault(v) = sweep_check(
         Sweep::Remaining,
         order,
         list,
+        masks,
         code,
         counts,
         reference,
@@ -127,10 +182,11 @@ fn sweep_falls(
     ) {
         return Finding::Fault(v);
     }
-    sweep_words(
+    sweep_check(
         Sweep::StillHigh,
         order,
         list,
+        masks,
         code,
         counts,
         reference,
@@ -159,24 +215,27 @@ fn all_hold(code: &[u16], counts: Counts) -> bool
 fn sweep_named(
     order: WordOrder,
     list: &[u16],
+    masks: Masks,
     code: &[u16],
     counts: Counts,
     reference: &[u16],
     sizes: Counts,
 ) -> Finding
-    requires { ⌜ BothLoaded counts (now code) sizes (now reference) × (now list ≡ names order (stageIn counts (now code))) ⌝ }
+    requires { ⌜ BothLoaded counts (now code) sizes (now reference) × (now list ≡ names order (stageIn counts (now code)))
+        × AllClean (stageIn counts (now code)) (referenceIn sizes (now reference)) masks ⌝ }
     ensures { λ r. ⌜ r ≡ checks.firstFault (checks.sweeps order (stageIn counts (now (code .entry))) (referenceIn sizes (now (reference .entry)))) ⌝ }
 {
-    if let Finding::Fault(v) = sweep_rises(order, list, code, counts, reference, sizes) {
+    if let Finding::Fault(v) = sweep_rises(order, list, masks, code, counts, reference, sizes) {
         return Finding::Fault(v);
     }
     if all_hold(code, counts) {
         return Finding::Passed;
     }
-    sweep_falls(order, list, code, counts, reference, sizes)
+    sweep_falls(order, list, masks, code, counts, reference, sizes)
 }
 
-// All checks that sweep the words of a stage: their names are listed once, and swept in that order.
+// All checks that sweep the words of a stage: the words that are worth a look are found first, 64 at a time; their names are listed once, and swept in
+// that order.
 pub fn sweep_all(
     order: WordOrder,
     code: &[u16],
@@ -187,7 +246,8 @@ pub fn sweep_all(
     requires { ⌜ BothLoaded counts (now code) sizes (now reference) ⌝ }
     ensures { λ r. ⌜ r ≡ checks.firstFault (checks.sweeps order (stageIn counts (now (code .entry))) (referenceIn sizes (now (reference .entry)))) ⌝ }
 {
+    let masks = looks::looks(code, counts, reference, sizes);
     let mut list = [0u16; names::NAMES];
     let count = names::list_names(order, code, counts, &mut list);
-    sweep_named(order, &list[..count], code, counts, reference, sizes)
+    sweep_named(order, &list[..count], masks, code, counts, reference, sizes)
 }

@@ -19,10 +19,10 @@ use Rattle.sweeps.proofs.number_of.Reads as number-of-reads
 use Rattle.words.proofs.find.Reads as find-reads
 
 abbrev Inv-loop : tie.InvT-loop
-Inv-loop which order list code counts reference sizes number k₀ k = SweptTo number 1 (findsUnder which order (stageIn counts code) (referenceIn sizes reference)) list k
+Inv-loop which order list mask code counts reference sizes number k₀ k = SweptTo number 1 (findsUnder which order (stageIn counts code) (referenceIn sizes reference)) list k
 
 abbrev μ-loop : tie.MeasureT-loop
-μ-loop which order list code counts reference sizes number k₀ k = length list - k
+μ-loop which order list mask code counts reference sizes number k₀ k = length list - k
 
 number-of-requires : tie.Need-number-of-requires Inv-loop μ-loop
 number-of-requires c κs = search needs
@@ -37,13 +37,13 @@ shared-slice-read-name : tie.Need-shared-slice-read-name Inv-loop μ-loop
 shared-slice-read-name c = search needs
 
 cast-name : tie.Need-cast-name Inv-loop μ-loop
-cast-name c = omega (arith, c .shared-slice-known4 .given (c .before .before .loop .k))
+cast-name c = omega (arith, c .shared-slice-known5 .given (c .before .before .loop .k))
 
 word-of-requires : tie.Need-word-of-requires Inv-loop μ-loop
 word-of-requires c κs = search needs
 
-find-requires : tie.Need-find-requires Inv-loop μ-loop
-find-requires c κs = search needs
+look-in-requires : tie.Need-look-in-requires Inv-loop μ-loop
+look-in-requires c κs = let z = c .before .before .before .before .before .before .before .before .before in (z .pre .0, z .pre .2)
 
 enum-known-i : tie.Need-enum-known-i Inv-loop μ-loop
 enum-known-i c = search needs
@@ -52,12 +52,12 @@ returns : tie.Need-returns Inv-loop μ-loop
 returns c =
     let word = c .before .before .before .before in
     let loop = word .before .before .before in
-    let z = loop .before .before .before .before .before in
+    let z = loop .before .before .before .before .before .before in
     let s = stageIn (z .args .counts) (now (z .args .code)) in
     let r = referenceIn (z .args .sizes) (now (z .args .reference)) in
     let find = findsUnder (z .args .which) (z .args .order) s r in
-    let under : find (getD (now (z .args .list)) (loop .loop .k) 0) ≡ c .before .before .before .find .result =
-    ap (finds (z .args .which) s r) (sym (word .word-of .ensures)) ∙ sym (c .before .before .before .find .ensures) in
+    let under : find (getD (now (z .args .list)) (loop .loop .k) 0) ≡ c .before .before .before .look-in .result =
+    ap (finds (z .args .which) s r) (sym (word .word-of .ensures)) ∙ sym (c .before .before .before .look-in .ensures) in
     swept-words (z .args .which) (z .args .order) s r (now (z .args .list)) (z .pre .1) _ _ (loop .before .number-of .ensures)
     (swept-here _ _ find _ (loop .loop .k) (omega arith) (loop .loop .inv) _ (under ∙ c .before .i .given .1))
 
@@ -74,18 +74,18 @@ loop-again : tie.Need-loop-again Inv-loop μ-loop
 loop-again c =
     let word = c .before .before .before in
     let loop = word .before .before .before in
-    let z = loop .before .before .before .before .before in
+    let z = loop .before .before .before .before .before .before in
     let s = stageIn (z .args .counts) (now (z .args .code)) in
     let r = referenceIn (z .args .sizes) (now (z .args .reference)) in
     let find = findsUnder (z .args .which) (z .args .order) s r in
-    let under : find (getD (now (z .args .list)) (loop .loop .k) 0) ≡ c .before .before .find .result =
-    ap (finds (z .args .which) s r) (sym (word .word-of .ensures)) ∙ sym (c .before .before .find .ensures) in
+    let under : find (getD (now (z .args .list)) (loop .loop .k) 0) ≡ c .before .before .look-in .result =
+    ap (finds (z .args .which) s r) (sym (word .word-of .ensures)) ∙ sym (c .before .before .look-in .ensures) in
     swept-on _ _ find _ (loop .loop .k) (omega arith) (loop .loop .inv) (under ∙ c .enum-told .given .1)
 
 returns-2 : tie.Need-returns-2 Inv-loop μ-loop
 returns-2 c =
     let loop = c .before in
-    let z = loop .before .before .before .before .before in
+    let z = loop .before .before .before .before .before .before in
     let s = stageIn (z .args .counts) (now (z .args .code)) in
     let r = referenceIn (z .args .sizes) (now (z .args .reference)) in
     swept-words (z .args .which) (z .args .order) s r (now (z .args .list)) (z .pre .1) _ _ (loop .before .number-of .ensures)
@@ -103,7 +103,7 @@ sweep-words-spec =
     shared-slice-read-name
     cast-name
     word-of-requires
-    find-requires
+    look-in-requires
     enum-known-i
     returns
     enum-told

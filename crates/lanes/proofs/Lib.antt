@@ -1,0 +1,5 @@
+pub mod Excluded
+pub mod Lane
+pub mod Cells
+pub mod Blocks
+pub mod Signals

@@ -1,0 +1,12 @@
+pub mod Pins
+pub mod Marks
+pub mod Settling
+pub mod Turns
+pub mod Rails
+pub mod Gathering
+pub mod Tests
+pub mod OneWord
+pub mod Falling
+pub mod Resting
+pub mod Blocks
+pub mod Naming

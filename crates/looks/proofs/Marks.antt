@@ -1,0 +1,91 @@
+-- Marks of nets, in 64 words at a time.
+-- Assumes nothing.
+use Prim.Native.Nat.{ℕ, _<_}
+use native.Mathlib.Omega.{arith}
+use native.Mathlib.Decide.{ℕ-discrete}
+use mathlib.Core.Path.{_≡_, refl, sym, ap, _∙_}
+use mathlib.Core.Bool.{Bool, true, false}
+use mathlib.Core.Logic.{_⊎_, inl, inr}
+use mathlib.Core.List.{List}
+use lib.ListN.{length, getD, set}
+use lib.Seq.{getD-set-same, getD-set-other}
+use lib.Bits.{bitOr}
+use Rattle.runs.proofs.Test.{or-cases}
+use Rattle.runs.specs.Net.{Net}
+use Rattle.netlist.specs.declared.Counts.{Counts}
+use Rattle.circuit.specs.Stage.{netCount, pinIn}
+use Rattle.lanes.specs.declared.CellLanes.{CellLanes}
+use Rattle.lanes.specs.Lane.{lane, rowIn}
+use Rattle.lanes.specs.Cells.{needOf}
+use Rattle.lanes.proofs.Lane.{lane-or}
+use Rattle.looks.specs.Block.{MarkedWith, PinsMarked, OutputRail}
+
+-- net `net` is marked in some words more, and nothing else is
+abbrev pub MarkedMore : List ℕ → ℕ → ℕ → List ℕ → Type 0
+MarkedMore ack net words ack′ = (j p : ℕ) → rowIn j ack′ p ≡ true → (rowIn j ack p ≡ true) ⊎ ((p ≡ net) × (lane j words ≡ true))
+
+pub mark-more : (ack : List ℕ) (net words : ℕ) → net < length ack → MarkedMore ack net words (set ack net (bitOr (getD ack net 0) words))
+mark-more ack net words h j p e = go (ℕ-discrete p net)
+  where
+    go : Dec (p ≡ net) → (rowIn j ack p ≡ true) ⊎ ((p ≡ net) × (lane j words ≡ true))
+    go (yes q) = or (or-cases (lane j (getD ack net 0)) (lane j words) (sym (lane-or j (getD ack net 0) words) ∙ sym (ap (lane j) stored) ∙ e))
+      where
+        stored : getD (set ack net (bitOr (getD ack net 0) words)) p 0 ≡ bitOr (getD ack net 0) words
+        stored = rw q (getD-set-same ack net (bitOr (getD ack net 0) words) 0 h)
+
+        or : (rowIn j ack net ≡ true) ⊎ (lane j words ≡ true) → (rowIn j ack p ≡ true) ⊎ ((p ≡ net) × (lane j words ≡ true))
+        or (inl x) = inl (rw q x)
+        or (inr x) = inr (q, x)
+    go (no d) = inl (sym (ap (lane j) (getD-set-other ack net p (bitOr (getD ack net 0) words) 0 d)) ∙ e)
+
+-- the four pins of a gate, one after the other
+pub pins-marked : (code : List ℕ) (k : ℕ) (given : CellLanes) (ack ack₁ ack₂ ack₃ ack₄ : List ℕ) → MarkedMore ack (pinIn code k 0) (given .a) ack₁
+    → MarkedMore ack₁ (pinIn code k 1) (given .b) ack₂ → MarkedMore ack₂ (pinIn code k 2) (given .c) ack₃ → MarkedMore ack₃ (pinIn code k 3) (given .d) ack₄
+    → PinsMarked code k given ack ack₄
+pins-marked code k given ack ack₁ ack₂ ack₃ ack₄ a b c d j p e = fourth (d j p e)
+  where
+    At : Type 0
+    At = (t : ℕ) × (t < 4) × (p ≡ pinIn code k t) × (lane j (needOf given t) ≡ true)
+
+    first : (rowIn j ack p ≡ true) ⊎ ((p ≡ pinIn code k 0) × (lane j (given .a) ≡ true)) → (rowIn j ack p ≡ true) ⊎ At
+    first (inl x) = inl x
+    first (inr x) = inr (0, omega arith, x .0, x .1)
+
+    second : (rowIn j ack₁ p ≡ true) ⊎ ((p ≡ pinIn code k 1) × (lane j (given .b) ≡ true)) → (rowIn j ack p ≡ true) ⊎ At
+    second (inl x) = first (a j p x)
+    second (inr x) = inr (1, omega arith, x .0, x .1)
+
+    third : (rowIn j ack₂ p ≡ true) ⊎ ((p ≡ pinIn code k 2) × (lane j (given .c) ≡ true)) → (rowIn j ack p ≡ true) ⊎ At
+    third (inl x) = second (b j p x)
+    third (inr x) = inr (2, omega arith, x .0, x .1)
+
+    fourth : (rowIn j ack₃ p ≡ true) ⊎ ((p ≡ pinIn code k 3) × (lane j (given .d) ≡ true)) → (rowIn j ack p ≡ true) ⊎ At
+    fourth (inl x) = third (c j p x)
+    fourth (inr x) = inr (3, omega arith, x .0, x .1)
+
+-- where what is said of marks holds of the nets at a gate's pins in the words that are given for them
+pub marked-pins : (Holds : ℕ → ℕ → Type 0) (c : Counts) (code : List ℕ) (k : ℕ) (given : CellLanes) (ack ack′ : List ℕ) → PinsMarked code k given ack ack′
+    → ((j t : ℕ) → j < 64 → t < 4 → pinIn code k t < netCount c → lane j (needOf given t) ≡ true → Holds j (pinIn code k t)) → MarkedWith Holds c ack → MarkedWith Holds c ack′
+marked-pins Holds c code k given ack ack′ more ok m j p d h e = go (more j p e)
+  where
+    go : (rowIn j ack p ≡ true) ⊎ ((t : ℕ) × (t < 4) × (p ≡ pinIn code k t) × (lane j (needOf given t) ≡ true)) → Holds j p
+    go (inl x) = m j p d h x
+    go (inr x) = rw (x .2) (ok j (x .0) d (x .1) (rw (x .2) at h) (x .3))
+
+-- ---- outputs
+
+-- marks more, all of them at rails of outputs
+pub record OutputsTo (N : Net) (start ack : List ℕ) : Type 0 where
+  pub same-long : length ack ≡ length start
+  pub marked : (j p : ℕ) → rowIn j ack p ≡ true → (rowIn j start p ≡ true) ⊎ OutputRail N p
+
+pub outputs-start : (N : Net) (start : List ℕ) → OutputsTo N start start
+outputs-start N start = record { same-long = refl; marked = λ j p e. inl e }
+
+pub outputs-more : (N : Net) (start ack : List ℕ) → OutputsTo N start ack → (j : ℕ) (b : Bool) (net words : ℕ) (ack′ : List ℕ) → j < N .outputs → N .rail j b ≡ net
+    → length ack′ ≡ length ack → MarkedMore ack net words ack′ → OutputsTo N start ack′
+outputs-more N start ack s j b net words ack′ h is long more = record { same-long = long ∙ s .same-long; marked = λ l p e. go l p (more l p e) }
+  where
+    go : (l p : ℕ) → (rowIn l ack p ≡ true) ⊎ ((p ≡ net) × (lane l words ≡ true)) → (rowIn l start p ≡ true) ⊎ OutputRail N p
+    go l p (inl x) = s .marked l p x
+    go l p (inr x) = inr (j, b, h, is ∙ sym (x .0))

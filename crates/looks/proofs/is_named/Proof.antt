@@ -1,0 +1,17 @@
+-- `looks::is_named` meets its contract. Assumes nothing.
+use mathlib.Core.Path.{refl}
+use borrow.Author.Needs.{needs}
+use Rattle.runs.proofs.Test.{clash}
+use Rattle.lanes.specs.Lane.{levelIn}
+use Rattle.looks.proofs.is_named.Statement.{statement}
+use Rattle.looks.proofs.is_named.Tie as tie
+
+returns : tie.Need-returns
+unfolding levelIn
+returns c e = record { inside = c .before .if1 .taken; clear = e }
+
+returns-2 : tie.Need-returns-2
+returns-2 c e = absurd (clash refl e)
+
+pub is-named-spec : {M : Type 1} → statement M
+is-named-spec = tie.close (tie.spec (λ c. search needs) (λ c. search needs) (λ c. search needs) returns returns-2)

@@ -1,0 +1,85 @@
+-- The words of a stage in blocks of 64: what holds of a row and of marks, lane by lane, while a block settles.
+use Prim.Native.Nat.{ℕ, _+_, _*_, _<_}
+use mathlib.Core.Path.{_≡_}
+use mathlib.Core.Bool.{Bool, true, false}
+use mathlib.Core.Logic.{_⊎_}
+use mathlib.Core.List.{List}
+use lib.ListN.{length, getD}
+use Rattle.runs.specs.Row.{Row}
+use Rattle.runs.specs.Net.{Net}
+use Rattle.runs.specs.Acknowledged.{Acknowledged, Fall-acknowledged}
+use Rattle.netlist.specs.declared.Counts.{Counts}
+use Rattle.verdict.specs.Nets.{netOf, restRow}
+use Rattle.circuit.specs.Stage.{netCount, cellIn, pinIn, gateAtPlace, stageIn}
+use Rattle.lanes.specs.declared.CellLanes.{CellLanes}
+use Rattle.lanes.specs.Lane.{lane, rowIn}
+use Rattle.lanes.specs.Cells.{needOf, cellLanes}
+
+-- the rest of word 64 b + j, which is word j of block b
+abbrev pub restIn : Counts → List ℕ → ℕ → ℕ → Row
+restIn c code b j = restRow (stageIn c code) (64 * b + j)
+
+abbrev pub netIn : Counts → List ℕ → Net
+netIn c code = netOf (stageIn c code)
+
+-- a row, or marks, with room for each net and for the ground
+abbrev pub Room : Counts → List ℕ → Type 0
+Room c row = netCount c < length row
+
+-- the ground is low, and in each word of block b the rails are as at its rest
+pub record Spelled (c : Counts) (code : List ℕ) (b : ℕ) (row : List ℕ) : Type 0 where
+  pub ground : getD row (netCount c) 0 ≡ 0
+  pub rails : (j p : ℕ) → j < 64 → p < 2 * c .inputs → rowIn j row p ≡ restIn c code b j p
+
+-- and so are the gates at the first i places of the order
+pub record SettledTo (c : Counts) (code : List ℕ) (b : ℕ) (row : List ℕ) (i : ℕ) : Type 0 where
+  pub spelled : Spelled c code b row
+  pub gates : (j q : ℕ) → j < 64 → q < i → rowIn j row (2 * c .inputs + gateAtPlace code q) ≡ restIn c code b j (2 * c .inputs + gateAtPlace code q)
+
+-- all nets are as at the rest, in each word of block b
+abbrev pub AtRest : Counts → List ℕ → ℕ → List ℕ → Type 0
+AtRest c code b row = (j p : ℕ) → j < 64 → p < netCount c → rowIn j row p ≡ restIn c code b j p
+
+-- what is said of each net that is marked in a word of a block
+abbrev pub MarkedWith : (ℕ → ℕ → Type 0) → Counts → List ℕ → Type 0
+MarkedWith Holds c ack = (j p : ℕ) → j < 64 → p < netCount c → rowIn j ack p ≡ true → Holds j p
+
+-- it is acknowledged there: in the rise
+abbrev pub Marked : Counts → List ℕ → ℕ → List ℕ → Type 0
+Marked c code b = MarkedWith (λ j p. Acknowledged (netIn c code) (restIn c code b j) p) c
+
+-- and on the way back to NULL
+abbrev pub FallMarked : Counts → List ℕ → ℕ → List ℕ → Type 0
+FallMarked c code b = MarkedWith (λ j p. Fall-acknowledged (netIn c code) (restIn c code b j) p) c
+
+-- ---- one gate
+
+-- what gate k's cell gives in a row
+abbrev pub gateLanes : List ℕ → ℕ → List ℕ → CellLanes
+gateLanes code k row =
+    cellLanes (cellIn code k) (getD row (pinIn code k 0) 0) (getD row (pinIn code k 1) 0) (getD row (pinIn code k 2) 0) (getD row (pinIn code k 3) 0)
+
+-- marks more, each at a net of one of gate k's pins, in words that are given for that pin
+abbrev pub PinsMarked : List ℕ → ℕ → CellLanes → List ℕ → List ℕ → Type 0
+PinsMarked code k given ack ack′ =
+    (j p : ℕ) → rowIn j ack′ p ≡ true → (rowIn j ack p ≡ true) ⊎ ((t : ℕ) × (t < 4) × (p ≡ pinIn code k t) × (lane j (needOf given t) ≡ true))
+
+-- in a block that is at rest, where words are given for a pin of gate k its net is acknowledged on the way back
+abbrev pub FallGiven : Counts → List ℕ → ℕ → List ℕ → CellLanes → Type 0
+FallGiven c code k row given =
+    (b : ℕ) → AtRest c code b row → (j t : ℕ) → j < 64 → t < 4 → pinIn code k t < netCount c → lane j (needOf given t) ≡ true
+    → Fall-acknowledged (netIn c code) (restIn c code b j) (pinIn code k t)
+
+-- ---- all nets
+
+-- a net is a rail of an output
+abbrev pub OutputRail : Net → ℕ → Type 0
+OutputRail N p = (j : ℕ) × (b : Bool) × (j < N .outputs) × (N .rail j b ≡ p)
+
+-- in word j every high net is marked
+abbrev pub AllMarked : ℕ → Counts → List ℕ → List ℕ → Type 0
+AllMarked j c row ack = (p : ℕ) → p < netCount c → rowIn j row p ≡ true → rowIn j ack p ≡ true
+
+-- in the words of block b that are not named, each net that is high at the rest is as is said
+abbrev pub NoneElse : (Row → ℕ → Type 0) → Counts → List ℕ → ℕ → ℕ → Type 0
+NoneElse Holds c code b words = (j : ℕ) → j < 64 → lane j words ≡ false → (p : ℕ) → restIn c code b j p ≡ true → Holds (restIn c code b j) p

@@ -1,0 +1,47 @@
+-- Which words are worth a look, as masks with a bit for each word of the files: word w is bit w mod 64 of number w / 64.
+use Prim.Native.Nat.{ℕ, _+_, _*_, _/_, _%_, _<_}
+use mathlib.Core.Path.{_≡_}
+use mathlib.Core.Bool.{false}
+use mathlib.Core.List.{List}
+use lib.ListN.{length, getD}
+use Rattle.netlist.specs.declared.Found.the-variants.{Nothing}
+use Rattle.netlist.specs.Content.{Stage, Reference}
+use Rattle.words.specs.declared.Sweep.{Sweep}
+use Rattle.words.specs.declared.Sweep.the-variants.{Wrong, Missing, Unobserved, Remaining, StillHigh}
+use Rattle.words.specs.Finds.{finds}
+use Rattle.lanes.specs.Lane.{lane}
+use Rattle.looks.specs.declared.Look.{Look}
+use Rattle.looks.specs.declared.Masks.{Masks}
+
+-- the words of a block in which a check may find something
+abbrev pub wordsFor : Sweep → Look → ℕ
+wordsFor Wrong l = l .wrong
+wordsFor Missing l = l .rise
+wordsFor Unobserved l = l .rise
+wordsFor Remaining l = l .fall
+wordsFor StillHigh l = l .fall
+
+-- the same of all words
+abbrev pub maskFor : Sweep → Masks → List ℕ
+maskFor Wrong m = m .wrong
+maskFor Missing m = m .rise
+maskFor Unobserved m = m .rise
+maskFor Remaining m = m .fall
+maskFor StillHigh m = m .fall
+
+-- a word of block b that is not named has no such fault
+abbrev pub BlockClean : Stage → Reference → ℕ → Look → Type 0
+BlockClean s r b l = (which : Sweep) (j : ℕ) → j < 64 → lane j (wordsFor which l) ≡ false → finds which s r (64 * b + j) ≡ Nothing
+
+-- a mask has a bit for word w, and does not name it
+pub record Unnamed (mask : List ℕ) (w : ℕ) : Type 0 where
+  pub inside : w / 64 < length mask
+  pub clear : lane (w % 64) (getD mask (w / 64) 0) ≡ false
+
+-- a check finds nothing in a word that its mask does not name
+abbrev pub Clean : Sweep → Stage → Reference → List ℕ → Type 0
+Clean which s r mask = (w : ℕ) → Unnamed mask w → finds which s r w ≡ Nothing
+
+-- so it is of each of the five
+abbrev pub AllClean : Stage → Reference → Masks → Type 0
+AllClean s r m = (which : Sweep) → Clean which s r (maskFor which m)

@@ -1,0 +1,374 @@
+// Which words of a stage are worth a look: in 64 words at a time, where an output is not the reference's DATA, and where a high net is not
+// acknowledged.
+use lanes::CellLanes;
+use netlist::Counts;
+use words::Sweep;
+ghost use mathlib.Core.Path.{_≡_};
+ghost use mathlib.Core.Bool.{true, false};
+ghost use mathlib.Core.Logic.{_⊎_};
+ghost use mathlib.Core.List.{List};
+ghost use Prim.Native.Nat.{ℕ, _+_, _*_, _^_, _≤_, _<_};
+ghost use lib.ListN.{length, getD};
+ghost use Rattle.runs.specs.Pair.{DataOf};
+ghost use Rattle.runs.specs.Acknowledged.{Acknowledged, Fall-acknowledged};
+ghost use Rattle.netlist.specs.Reading.{stageLimits};
+ghost use Rattle.verdict.specs.Nets.{railOf};
+ghost use Rattle.circuit.specs.Stage.{netCount, outputIn, stageIn, StageLoaded};
+ghost use Rattle.circuit.specs.Order.{InOrder};
+ghost use Rattle.circuit.specs.Reference.{signalIn, referenceIn};
+ghost use Rattle.words.specs.Loaded.{BothLoaded};
+ghost use Rattle.lanes.specs.Lane.{lane, rowIn};
+ghost use Rattle.looks.specs.Block.{netIn, Room, Spelled, SettledTo, AtRest, Marked, FallMarked, gateLanes, PinsMarked, FallGiven, OutputRail, AllMarked, NoneElse};
+ghost use Rattle.looks.specs.Looks.{BlockClean, Unnamed, AllClean, maskFor};
+
+// The words of a block in which something may be wrong: 13, then 14 and 15, then 20 and 21.
+pub struct Look {
+    pub wrong: u64,
+    pub rise: u64,
+    pub fall: u64,
+}
+
+// As many blocks as the words of the most inputs make.
+pub const BLOCKS: usize = netlist::WORDS / 64;
+
+// The same of all words of the files.
+pub struct Masks {
+    pub wrong: [u64; BLOCKS],
+    pub rise: [u64; BLOCKS],
+    pub fall: [u64; BLOCKS],
+}
+
+// ---- settling a block
+
+// Net `net` is marked in some words.
+fn mark(ack: &mut [u64], net: u16, words: u64)
+    requires { ⌜ net < length (now ack) ⌝ }
+    ensures { λ r. ⌜ (length (now (ack .exit)) ≡ length (now (ack .entry)))
+        × ((j p : ℕ) → rowIn j (now (ack .exit)) p ≡ true → (rowIn j (now (ack .entry)) p ≡ true) ⊎ ((p ≡ net) × (lane j words ≡ true))) ⌝ }
+{
+    let p = net as usize;
+    let old = ack[p];
+    ack[p] = old | words;
+}
+
+// The nets at the pins of gate k are marked, each in the words that are given for its pin.
+fn mark_pins(code: &[u16], counts: Counts, k: usize, given: CellLanes, ack: &mut [u64])
+    requires { ⌜ StageLoaded counts (now code) × (k < counts .gates) × Room counts (now ack) ⌝ }
+    ensures { λ r. ⌜ (length (now (ack .exit)) ≡ length (now (ack .entry))) × PinsMarked (now (code .entry)) k given (now (ack .entry)) (now (ack .exit)) ⌝ }
+{
+    let at = 8 * k;
+    mark(ack, code[at + 1], given.a);
+    mark(ack, code[at + 2], given.b);
+    mark(ack, code[at + 3], given.c);
+    mark(ack, code[at + 4], given.d);
+}
+
+// What gate k's cell gives in the words of a block, by the levels at its pins.
+fn gate_lanes(code: &[u16], counts: Counts, k: usize, row: &[u64]) -> CellLanes
+    requires { ⌜ StageLoaded counts (now code) × (k < counts .gates) × Room counts (now row) ⌝ }
+    ensures { λ r. ⌜ r ≡ gateLanes (now (code .entry)) k (now (row .entry)) ⌝ }
+{
+    let at = 8 * k;
+    let a = lanes::lanes_at(row, code[at + 1]);
+    let b = lanes::lanes_at(row, code[at + 2]);
+    let c = lanes::lanes_at(row, code[at + 3]);
+    let d = lanes::lanes_at(row, code[at + 4]);
+    lanes::cell_lanes(code[at], a, b, c, d)
+}
+
+// The gates take their levels in the order, and mark the nets at their pins in the words in which they would not be set without them.
+fn settle_block(code: &[u16], counts: Counts, row: &mut [u64], ack: &mut [u64])
+    requires { ⌜ StageLoaded counts (now code) × InOrder counts (now code) × Room counts (now row) × Room counts (now ack) ⌝ }
+    ensures long { λ r. ⌜ (length (now (row .exit)) ≡ length (now (row .entry))) × (length (now (ack .exit)) ≡ length (now (ack .entry))) ⌝ }
+    ensures settled { λ r. ⌜ ((b : ℕ) → Spelled counts (now (code .entry)) b (now (row .entry)) → Marked counts (now (code .entry)) b (now (ack .entry))
+        → SettledTo counts (now (code .entry)) b (now (row .exit)) (counts .gates) × Marked counts (now (code .entry)) b (now (ack .exit))) ⌝ }
+{
+    let first = 2 * counts.inputs;
+    let count = counts.gates;
+    let mut i: usize = 0;
+    while i < count {
+        let k = code[8 * i + 5] as usize;
+        let given = gate_lanes(code, counts, k, row);
+        row[first + k] = given.set;
+        mark_pins(code, counts, k, given, ack);
+        i += 1;
+    }
+}
+
+// The rails of block b: rail 0 of an input is high for 0, rail 1 for 1.
+fn spell_rails(counts: Counts, b: usize, row: &mut [u64])
+    requires { ⌜ (counts .inputs ≤ stageLimits .inputs) × Room counts (now row) × (getD (now row) (netCount counts) 0 ≡ 0) ⌝ }
+    ensures long { λ r. ⌜ length (now (row .exit)) ≡ length (now (row .entry)) ⌝ }
+    ensures spelled { λ r. ⌜ ((code : List ℕ) → InOrder counts code → Spelled counts code b (now (row .exit))) ⌝ }
+{
+    let mut i: usize = 0;
+    while i < counts.inputs {
+        let level = lanes::input_lanes(i, b);
+        row[2 * i] = level ^ lanes::ALL;
+        row[2 * i + 1] = level;
+        i += 1;
+    }
+}
+
+// ---- what is acknowledged
+
+// The rails of the outputs are marked in all words.
+fn mark_outputs(code: &[u16], counts: Counts, ack: &mut [u64])
+    requires { ⌜ StageLoaded counts (now code) × Room counts (now ack) ⌝ }
+    ensures long { λ r. ⌜ length (now (ack .exit)) ≡ length (now (ack .entry)) ⌝ }
+    ensures marked { λ r. ⌜ ((j p : ℕ) → rowIn j (now (ack .exit)) p ≡ true → (rowIn j (now (ack .entry)) p ≡ true) ⊎ OutputRail (netIn counts (now (code .entry))) p) ⌝ }
+{
+    let mut j: usize = 0;
+    while j < counts.outputs {
+        let at = 8 * counts.gates + 2 * j;
+        mark(ack, code[at], lanes::ALL);
+        mark(ack, code[at + 1], lanes::ALL);
+        j += 1;
+    }
+}
+
+// The words in which some net is high and not marked.
+fn unmarked(counts: Counts, row: &[u64], ack: &[u64]) -> u64
+    requires { ⌜ Room counts (now row) × Room counts (now ack) ⌝ }
+    ensures { λ r. ⌜ ((j : ℕ) → j < 64 → lane j r ≡ false → AllMarked j counts (now (row .entry)) (now (ack .entry))) ⌝ }
+{
+    let count = 2 * counts.inputs + counts.gates;
+    let mut words: u64 = 0;
+    let mut p: usize = 0;
+    while p < count {
+        let level = row[p];
+        words = words | (level & (level ^ ack[p]));
+        p += 1;
+    }
+    words
+}
+
+// ---- 13
+
+// The words in which output j does not read as the value that is wanted.
+fn misread(code: &[u16], counts: Counts, row: &[u64], j: usize, value: u64) -> u64
+    requires { ⌜ StageLoaded counts (now code) × (j < counts .outputs) × Room counts (now row) ⌝ }
+    ensures { λ r. ⌜ ((l : ℕ) → l < 64 → lane l r ≡ false → DataOf (rowIn l (now (row .entry))) (railOf (outputIn counts (now (code .entry)) j)) (lane l value)) ⌝ }
+{
+    let at = 8 * counts.gates + 2 * j;
+    let rail0 = lanes::lanes_at(row, code[at]);
+    let rail1 = lanes::lanes_at(row, code[at + 1]);
+    (rail0 ^ value ^ lanes::ALL) | (rail1 ^ value)
+}
+
+// The words in which some output does not read as its signal in the reference.
+fn wrong_words(
+    code: &[u16],
+    counts: Counts,
+    row: &[u64],
+    reference: &[u16],
+    sizes: Counts,
+    values: &[u64],
+) -> u64
+    requires { ⌜ BothLoaded counts (now code) sizes (now reference) × Room counts (now row) × (sizes .inputs + sizes .gates ≤ length (now values)) ⌝ }
+    ensures { λ r. ⌜ ((l : ℕ) → l < 64 → lane l r ≡ false → (j : ℕ) → j < counts .outputs
+        → DataOf (rowIn l (now (row .entry))) (railOf (outputIn counts (now (code .entry)) j)) (rowIn l (now (values .entry)) (signalIn sizes (now (reference .entry)) j))) ⌝ }
+{
+    let first = 3 * sizes.gates;
+    let mut words: u64 = 0;
+    let mut j: usize = 0;
+    while j < counts.outputs {
+        let value = lanes::lanes_at(values, reference[first + j]);
+        words = words | misread(code, counts, row, j, value);
+        j += 1;
+    }
+    words
+}
+
+// ---- 14 and 15
+
+// The stage settles in a block whose rails are spelled; and the words in which some high net is not acknowledged.
+fn rise_words(code: &[u16], counts: Counts, row: &mut [u64]) -> u64
+    requires { ⌜ StageLoaded counts (now code) × InOrder counts (now code) × Room counts (now row) ⌝ }
+    ensures long { λ r. ⌜ length (now (row .exit)) ≡ length (now (row .entry)) ⌝ }
+    ensures words { λ r. ⌜ ((b : ℕ) → Spelled counts (now (code .entry)) b (now (row .entry)) → AtRest counts (now (code .entry)) b (now (row .exit))
+        × NoneElse (Acknowledged (netIn counts (now (code .entry)))) counts (now (code .entry)) b r) ⌝ }
+{
+    let mut ack = [0u64; circuit::ROW];
+    mark_outputs(code, counts, &mut ack);
+    settle_block(code, counts, row, &mut ack);
+    unmarked(counts, row, &ack)
+}
+
+// ---- 20 and 21
+
+// For each pin of gate k the words in which it may not fall while that pin's net alone is high: with hold those in which it is high, relaxed
+// those in which that pin alone sets it.
+fn fall_lanes(code: &[u16], counts: Counts, k: usize, row: &[u64]) -> CellLanes
+    requires { ⌜ StageLoaded counts (now code) × InOrder counts (now code) × (k < counts .gates) × Room counts (now row) ⌝ }
+    ensures { λ r. ⌜ FallGiven counts (now (code .entry)) k (now (row .entry)) r ⌝ }
+{
+    let at = 8 * k;
+    if code[at + 7] == 1 {
+        let high = row[2 * counts.inputs + k];
+        return CellLanes {
+            set: high,
+            a: high,
+            b: high,
+            c: high,
+            d: high,
+        };
+    }
+    let a = lanes::lanes_at(row, code[at + 1]);
+    let b = lanes::lanes_at(row, code[at + 2]);
+    let c = lanes::lanes_at(row, code[at + 3]);
+    let d = lanes::lanes_at(row, code[at + 4]);
+    lanes::lone_lanes(code[at], a, b, c, d)
+}
+
+// Each gate marks the nets for whose fall it waits.
+fn mark_falls(code: &[u16], counts: Counts, row: &[u64], ack: &mut [u64])
+    requires { ⌜ StageLoaded counts (now code) × InOrder counts (now code) × Room counts (now row) × Room counts (now ack) ⌝ }
+    ensures long { λ r. ⌜ length (now (ack .exit)) ≡ length (now (ack .entry)) ⌝ }
+    ensures marked { λ r. ⌜ ((b : ℕ) → AtRest counts (now (code .entry)) b (now (row .entry)) → FallMarked counts (now (code .entry)) b (now (ack .entry))
+        → FallMarked counts (now (code .entry)) b (now (ack .exit))) ⌝ }
+{
+    let count = counts.gates;
+    let mut k: usize = 0;
+    while k < count {
+        mark_pins(code, counts, k, fall_lanes(code, counts, k, row), ack);
+        k += 1;
+    }
+}
+
+// The words in which some net that is high at the rest is not acknowledged on the way back.
+fn fall_words(code: &[u16], counts: Counts, row: &[u64]) -> u64
+    requires { ⌜ StageLoaded counts (now code) × InOrder counts (now code) × Room counts (now row) ⌝ }
+    ensures { λ r. ⌜ ((b : ℕ) → AtRest counts (now (code .entry)) b (now (row .entry))
+        → NoneElse (Fall-acknowledged (netIn counts (now (code .entry)))) counts (now (code .entry)) b r) ⌝ }
+{
+    let mut ack = [0u64; circuit::ROW];
+    mark_outputs(code, counts, &mut ack);
+    mark_falls(code, counts, row, &mut ack);
+    unmarked(counts, row, &ack)
+}
+
+// ---- all of them
+
+// The words of block b that are worth a look. Where the stage is not asked for its fall, all are for 20 and 21.
+fn look_block(
+    code: &[u16],
+    counts: Counts,
+    reference: &[u16],
+    sizes: Counts,
+    b: usize,
+    falls: bool,
+) -> Look
+    requires { ⌜ BothLoaded counts (now code) sizes (now reference) ⌝ }
+    ensures { λ r. ⌜ BlockClean (stageIn counts (now (code .entry))) (referenceIn sizes (now (reference .entry))) b r ⌝ }
+{
+    let mut row = [0u64; circuit::ROW];
+    spell_rails(counts, b, &mut row);
+    let loose = rise_words(code, counts, &mut row);
+    let mut values = [0u64; words::SIGNALS];
+    lanes::signal_lanes(reference, sizes, b, &mut values);
+    let wrong = wrong_words(code, counts, &row, reference, sizes, &values);
+    let rise = wrong | loose;
+    if falls {
+        let fall = fall_words(code, counts, &row);
+        return Look { wrong, rise, fall };
+    }
+    Look {
+        wrong,
+        rise,
+        fall: lanes::ALL,
+    }
+}
+
+// Whether some gate is relaxed, so that 20 and 21 may find something.
+fn some_relaxed(code: &[u16], counts: Counts) -> bool
+    requires { ⌜ StageLoaded counts (now code) ⌝ }
+{
+    let count = counts.gates;
+    let mut k: usize = 0;
+    while k < count {
+        if code[8 * k + 7] == 1 {
+            k += 1;
+        } else {
+            return true;
+        }
+    }
+    false
+}
+
+// How many blocks the words of that many inputs make.
+fn block_count(inputs: usize) -> usize
+    requires { ⌜ inputs ≤ stageLimits .inputs ⌝ }
+    ensures { λ r. ⌜ (r ≤ 16) × (2 ^ inputs ≤ 64 * r) ⌝ }
+{
+    if inputs < 6 {
+        return 1;
+    }
+    1 << (inputs - 6)
+}
+
+// The words of a stage that are worth a look, by the reference; all words past those that its inputs have are.
+pub fn looks(code: &[u16], counts: Counts, reference: &[u16], sizes: Counts) -> Masks
+    requires { ⌜ BothLoaded counts (now code) sizes (now reference) ⌝ }
+    ensures { λ r. ⌜ AllClean (stageIn counts (now (code .entry))) (referenceIn sizes (now (reference .entry))) r ⌝ }
+{
+    let mut wrong = [lanes::ALL; BLOCKS];
+    let mut rise = [lanes::ALL; BLOCKS];
+    let mut fall = [lanes::ALL; BLOCKS];
+    let falls = some_relaxed(code, counts);
+    let count = block_count(counts.inputs);
+    let mut b: usize = 0;
+    while b < count {
+        let look = look_block(code, counts, reference, sizes, b, falls);
+        wrong[b] = look.wrong;
+        rise[b] = look.rise;
+        fall[b] = look.fall;
+        b += 1;
+    }
+    Masks { wrong, rise, fall }
+}
+
+// The mask of a check.
+pub fn mask_of(which: Sweep, masks: Masks) -> [u64; BLOCKS]
+    ensures { λ r. ⌜ (r ≡ maskFor which masks) × (length r ≡ 16) ⌝ }
+{
+    match which {
+        Sweep::Wrong => masks.wrong,
+        Sweep::Missing => masks.rise,
+        Sweep::Unobserved => masks.rise,
+        Sweep::Remaining => masks.fall,
+        Sweep::StillHigh => masks.fall,
+    }
+}
+
+// Whether a mask names word w.
+pub fn is_named(mask: &[u64], w: usize) -> bool
+    ensures { λ r. ⌜ (r ≡ false → Unnamed (now (mask .entry)) w) ⌝ }
+{
+    let b = w / 64;
+    if b < mask.len() {
+        let rest = mask[b] >> (w % 64);
+        return rest % 2 == 1;
+    }
+    true
+}
+
+// Whether a mask names none of the words that so many inputs have.
+pub fn none_named(mask: &[u64], inputs: usize) -> bool
+    requires { ⌜ inputs ≤ stageLimits .inputs ⌝ }
+    ensures { λ r. ⌜ (r ≡ true → (w : ℕ) → w < 2 ^ inputs → Unnamed (now (mask .entry)) w) ⌝ }
+{
+    let count = block_count(inputs);
+    if mask.len() < count {
+        return false;
+    }
+    let mut b: usize = 0;
+    while b < count {
+        if mask[b] == 0 {
+            b += 1;
+        } else {
+            return false;
+        }
+    }
+    true
+}
