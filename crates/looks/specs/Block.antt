@@ -9,8 +9,10 @@ use Rattle.runs.specs.Row.{Row}
 use Rattle.runs.specs.Net.{Net}
 use Rattle.runs.specs.Acknowledged.{Acknowledged, Fall-acknowledged}
 use Rattle.netlist.specs.declared.Counts.{Counts}
+use Rattle.netlist.specs.Reading.{referenceLimits}
 use Rattle.verdict.specs.Nets.{netOf, restRow}
 use Rattle.circuit.specs.Stage.{netCount, cellIn, pinIn, gateAtPlace, stageIn}
+use Rattle.circuit.specs.Rows.{rowSize}
 use Rattle.lanes.specs.declared.CellLanes.{CellLanes}
 use Rattle.lanes.specs.Lane.{lane, rowIn}
 use Rattle.lanes.specs.Cells.{needOf, cellLanes}
@@ -39,6 +41,18 @@ pub record SettledTo (c : Counts) (code : List ℕ) (b : ℕ) (row : List ℕ) (
 -- all nets are as at the rest, in each word of block b
 abbrev pub AtRest : Counts → List ℕ → ℕ → List ℕ → Type 0
 AtRest c code b row = (j p : ℕ) → j < 64 → p < netCount c → rowIn j row p ≡ restIn c code b j p
+
+-- and the ground is low
+pub record Resting (c : Counts) (code : List ℕ) (b : ℕ) (row : List ℕ) : Type 0 where
+  pub ground : getD row (netCount c) 0 ≡ 0
+  pub rest : AtRest c code b row
+
+-- What the blocks share: a row whose ground is low, marks, and the values of the reference's signals.
+pub record Workspace (c : Counts) (row ack values : List ℕ) : Type 0 where
+  pub row-long : length row ≡ rowSize
+  pub ack-long : length ack ≡ rowSize
+  pub values-long : length values ≡ referenceLimits .inputs + referenceLimits .gates
+  pub ground : getD row (netCount c) 0 ≡ 0
 
 -- what is said of each net that is marked in a word of a block
 abbrev pub MarkedWith : (ℕ → ℕ → Type 0) → Counts → List ℕ → Type 0

@@ -18,20 +18,19 @@ ghost use Rattle.circuit.specs.Order.{InOrder};
 ghost use Rattle.circuit.specs.Reference.{signalIn, referenceIn};
 ghost use Rattle.words.specs.Loaded.{BothLoaded};
 ghost use Rattle.lanes.specs.Lane.{lane, rowIn};
-ghost use Rattle.looks.specs.Block.{netIn, Room, Spelled, SettledTo, AtRest, Marked, FallMarked, gateLanes, PinsMarked, FallGiven, OutputRail, AllMarked, NoneElse};
-ghost use Rattle.looks.specs.Looks.{BlockClean, Unnamed, AllClean, maskFor};
+ghost use Rattle.looks.specs.Block.{netIn, Room, Spelled, SettledTo, AtRest, Resting, Workspace, Marked, FallMarked, gateLanes, PinsMarked, FallGiven, OutputRail, AllMarked, NoneElse};
+ghost use Rattle.looks.specs.Looks.{RiseClean, Unnamed, AllClean, maskFor};
 
-// The words of a block in which something may be wrong: 13, then 14 and 15, then 20 and 21.
-pub struct Look {
+// The words of a block in which something may be wrong: for 13, and for 14 and 15.
+pub struct Rise {
     pub wrong: u64,
-    pub rise: u64,
-    pub fall: u64,
+    pub all: u64,
 }
 
 // As many blocks as the words of the most inputs make.
 pub const BLOCKS: usize = netlist::WORDS / 64;
 
-// The same of all words of the files.
+// The words of the files in which something may be wrong: for 13, for 14 and 15, and for 20 and 21.
 pub struct Masks {
     pub wrong: [u64; BLOCKS],
     pub rise: [u64; BLOCKS],
@@ -112,6 +111,19 @@ fn spell_rails(counts: Counts, b: usize, row: &mut [u64])
 
 // ---- what is acknowledged
 
+// No net is marked.
+fn clear(counts: Counts, ack: &mut [u64])
+    requires { ⌜ Room counts (now ack) ⌝ }
+    ensures { λ r. ⌜ (length (now (ack .exit)) ≡ length (now (ack .entry))) × ((p : ℕ) → p < netCount counts → getD (now (ack .exit)) p 0 ≡ 0) ⌝ }
+{
+    let count = 2 * counts.inputs + counts.gates;
+    let mut p: usize = 0;
+    while p < count {
+        ack[p] = 0;
+        p += 1;
+    }
+}
+
 // The rails of the outputs are marked in all words.
 fn mark_outputs(code: &[u16], counts: Counts, ack: &mut [u64])
     requires { ⌜ StageLoaded counts (now code) × Room counts (now ack) ⌝ }
@@ -182,17 +194,17 @@ fn wrong_words(
 
 // ---- 14 and 15
 
-// The stage settles in a block whose rails are spelled; and the words in which some high net is not acknowledged.
-fn rise_words(code: &[u16], counts: Counts, row: &mut [u64]) -> u64
-    requires { ⌜ StageLoaded counts (now code) × InOrder counts (now code) × Room counts (now row) ⌝ }
-    ensures long { λ r. ⌜ length (now (row .exit)) ≡ length (now (row .entry)) ⌝ }
-    ensures words { λ r. ⌜ ((b : ℕ) → Spelled counts (now (code .entry)) b (now (row .entry)) → AtRest counts (now (code .entry)) b (now (row .exit))
+// The stage settles in a block whose rails are spelled; and the words in which some high net is not acknowledged. The marks are made anew.
+fn rise_words(code: &[u16], counts: Counts, row: &mut [u64], ack: &mut [u64]) -> u64
+    requires { ⌜ StageLoaded counts (now code) × InOrder counts (now code) × Room counts (now row) × Room counts (now ack) ⌝ }
+    ensures long { λ r. ⌜ (length (now (row .exit)) ≡ length (now (row .entry))) × (length (now (ack .exit)) ≡ length (now (ack .entry))) ⌝ }
+    ensures words { λ r. ⌜ ((b : ℕ) → Spelled counts (now (code .entry)) b (now (row .entry)) → Resting counts (now (code .entry)) b (now (row .exit))
         × NoneElse (Acknowledged (netIn counts (now (code .entry)))) counts (now (code .entry)) b r) ⌝ }
 {
-    let mut ack = [0u64; circuit::ROW];
-    mark_outputs(code, counts, &mut ack);
-    settle_block(code, counts, row, &mut ack);
-    unmarked(counts, row, &ack)
+    clear(counts, ack);
+    mark_outputs(code, counts, ack);
+    settle_block(code, counts, row, ack);
+    unmarked(counts, row, ack)
 }
 
 // ---- 20 and 21
@@ -236,48 +248,58 @@ fn mark_falls(code: &[u16], counts: Counts, row: &[u64], ack: &mut [u64])
     }
 }
 
-// The words in which some net that is high at the rest is not acknowledged on the way back.
-fn fall_words(code: &[u16], counts: Counts, row: &[u64]) -> u64
-    requires { ⌜ StageLoaded counts (now code) × InOrder counts (now code) × Room counts (now row) ⌝ }
-    ensures { λ r. ⌜ ((b : ℕ) → AtRest counts (now (code .entry)) b (now (row .entry))
+// The words in which some net that is high at the rest is not acknowledged on the way back. The marks are made anew.
+fn fall_words(code: &[u16], counts: Counts, row: &[u64], ack: &mut [u64]) -> u64
+    requires { ⌜ StageLoaded counts (now code) × InOrder counts (now code) × Room counts (now row) × Room counts (now ack) ⌝ }
+    ensures long { λ r. ⌜ length (now (ack .exit)) ≡ length (now (ack .entry)) ⌝ }
+    ensures words { λ r. ⌜ ((b : ℕ) → AtRest counts (now (code .entry)) b (now (row .entry))
         → NoneElse (Fall-acknowledged (netIn counts (now (code .entry)))) counts (now (code .entry)) b r) ⌝ }
 {
-    let mut ack = [0u64; circuit::ROW];
-    mark_outputs(code, counts, &mut ack);
-    mark_falls(code, counts, row, &mut ack);
-    unmarked(counts, row, &ack)
+    clear(counts, ack);
+    mark_outputs(code, counts, ack);
+    mark_falls(code, counts, row, ack);
+    unmarked(counts, row, ack)
 }
 
 // ---- all of them
 
-// The words of block b that are worth a look. Where the stage is not asked for its fall, all are for 20 and 21.
-fn look_block(
+// The words of block b that are worth a look for 13, 14 and 15; the stage's row is left at rest in them.
+fn rise_block(
     code: &[u16],
     counts: Counts,
     reference: &[u16],
     sizes: Counts,
     b: usize,
-    falls: bool,
-) -> Look
-    requires { ⌜ BothLoaded counts (now code) sizes (now reference) ⌝ }
-    ensures { λ r. ⌜ BlockClean (stageIn counts (now (code .entry))) (referenceIn sizes (now (reference .entry))) b r ⌝ }
+    row: &mut [u64],
+    ack: &mut [u64],
+    values: &mut [u64],
+) -> Rise
+    requires { ⌜ BothLoaded counts (now code) sizes (now reference) × Workspace counts (now row) (now ack) (now values) ⌝ }
+    ensures space { λ r. ⌜ Workspace counts (now (row .exit)) (now (ack .exit)) (now (values .exit)) ⌝ }
+    ensures rest { λ r. ⌜ AtRest counts (now (code .entry)) b (now (row .exit)) ⌝ }
+    ensures clean { λ r. ⌜ RiseClean (stageIn counts (now (code .entry))) (referenceIn sizes (now (reference .entry))) b r ⌝ }
 {
-    let mut row = [0u64; circuit::ROW];
-    spell_rails(counts, b, &mut row);
-    let loose = rise_words(code, counts, &mut row);
-    let mut values = [0u64; words::SIGNALS];
-    lanes::signal_lanes(reference, sizes, b, &mut values);
-    let wrong = wrong_words(code, counts, &row, reference, sizes, &values);
-    let rise = wrong | loose;
-    if falls {
-        let fall = fall_words(code, counts, &row);
-        return Look { wrong, rise, fall };
-    }
-    Look {
+    spell_rails(counts, b, row);
+    let loose = rise_words(code, counts, row, ack);
+    lanes::signal_lanes(reference, sizes, b, values);
+    let wrong = wrong_words(code, counts, row, reference, sizes, values);
+    Rise {
         wrong,
-        rise,
-        fall: lanes::ALL,
+        all: wrong | loose,
     }
+}
+
+// The words of a block at rest that are worth a look for 20 and 21: all of them where it is not asked which.
+fn fall_block(asked: bool, code: &[u16], counts: Counts, row: &[u64], ack: &mut [u64]) -> u64
+    requires { ⌜ StageLoaded counts (now code) × InOrder counts (now code) × Room counts (now row) × Room counts (now ack) ⌝ }
+    ensures long { λ r. ⌜ length (now (ack .exit)) ≡ length (now (ack .entry)) ⌝ }
+    ensures words { λ r. ⌜ ((b : ℕ) → AtRest counts (now (code .entry)) b (now (row .entry))
+        → NoneElse (Fall-acknowledged (netIn counts (now (code .entry)))) counts (now (code .entry)) b r) ⌝ }
+{
+    if asked {
+        return fall_words(code, counts, row, ack);
+    }
+    lanes::ALL
 }
 
 // Whether some gate is relaxed, so that 20 and 21 may find something.
@@ -307,11 +329,15 @@ fn block_count(inputs: usize) -> usize
     1 << (inputs - 6)
 }
 
-// The words of a stage that are worth a look, by the reference; all words past those that its inputs have are.
+// The words of a stage that are worth a look, by the reference. All words past those that its inputs have are; and for 20 and 21 all are where
+// every gate has hold.
 pub fn looks(code: &[u16], counts: Counts, reference: &[u16], sizes: Counts) -> Masks
     requires { ⌜ BothLoaded counts (now code) sizes (now reference) ⌝ }
     ensures { λ r. ⌜ AllClean (stageIn counts (now (code .entry))) (referenceIn sizes (now (reference .entry))) r ⌝ }
 {
+    let mut row = [0u64; circuit::ROW];
+    let mut ack = [0u64; circuit::ROW];
+    let mut values = [0u64; words::SIGNALS];
     let mut wrong = [lanes::ALL; BLOCKS];
     let mut rise = [lanes::ALL; BLOCKS];
     let mut fall = [lanes::ALL; BLOCKS];
@@ -319,10 +345,19 @@ pub fn looks(code: &[u16], counts: Counts, reference: &[u16], sizes: Counts) -> 
     let count = block_count(counts.inputs);
     let mut b: usize = 0;
     while b < count {
-        let look = look_block(code, counts, reference, sizes, b, falls);
-        wrong[b] = look.wrong;
-        rise[b] = look.rise;
-        fall[b] = look.fall;
+        let found = rise_block(
+            code,
+            counts,
+            reference,
+            sizes,
+            b,
+            &mut row,
+            &mut ack,
+            &mut values,
+        );
+        wrong[b] = found.wrong;
+        rise[b] = found.all;
+        fall[b] = fall_block(falls, code, counts, &row, &mut ack);
         b += 1;
     }
     Masks { wrong, rise, fall }
