@@ -1,10 +1,11 @@
 -- The words of a stage in blocks of 64: what holds of a row and of marks, lane by lane, while a block settles.
 use Prim.Native.Nat.{ℕ, _+_, _*_, _<_}
 use mathlib.Core.Path.{_≡_}
-use mathlib.Core.Bool.{Bool, true, false}
+use mathlib.Core.Bool.{Bool, true, false, cond, not}
 use mathlib.Core.Logic.{_⊎_}
 use mathlib.Core.List.{List}
 use lib.ListN.{length, getD}
+use lib.Dec.{eqb}
 use Rattle.runs.specs.Row.{Row}
 use Rattle.runs.specs.Net.{Net}
 use Rattle.runs.specs.Acknowledged.{Acknowledged, Fall-acknowledged}
@@ -15,7 +16,7 @@ use Rattle.circuit.specs.Stage.{netCount, cellIn, pinIn, gateAtPlace, stageIn}
 use Rattle.circuit.specs.Rows.{rowSize}
 use Rattle.lanes.specs.declared.CellLanes.{CellLanes}
 use Rattle.lanes.specs.Lane.{lane, rowIn}
-use Rattle.lanes.specs.Cells.{needOf, cellLanes}
+use Rattle.lanes.specs.Cells.{needing, needOf, cellLanes}
 
 -- the rest of word 64 b + j, which is word j of block b
 abbrev pub restIn : Counts → List ℕ → ℕ → ℕ → Row
@@ -58,13 +59,17 @@ pub record Workspace (c : Counts) (row ack values : List ℕ) : Type 0 where
 abbrev pub MarkedWith : (ℕ → ℕ → Type 0) → Counts → List ℕ → Type 0
 MarkedWith Holds c ack = (j p : ℕ) → j < 64 → p < netCount c → rowIn j ack p ≡ true → Holds j p
 
--- it is acknowledged there: in the rise
-abbrev pub Marked : Counts → List ℕ → ℕ → List ℕ → Type 0
-Marked c code b = MarkedWith (λ j p. Acknowledged (netIn c code) (restIn c code b j) p) c
+-- acknowledged in the rise, or on the way back to NULL
+abbrev pub AcknowledgedIn : Bool → Net → Row → ℕ → Type 0
+AcknowledgedIn false = Acknowledged
+AcknowledgedIn true = Fall-acknowledged
 
--- and on the way back to NULL
-abbrev pub FallMarked : Counts → List ℕ → ℕ → List ℕ → Type 0
-FallMarked c code b = MarkedWith (λ j p. Fall-acknowledged (netIn c code) (restIn c code b j) p) c
+-- a net that is marked in a word of block b is acknowledged there
+abbrev pub MarkedIn : Bool → Counts → List ℕ → ℕ → List ℕ → Type 0
+MarkedIn falls c code b = MarkedWith (λ j p. AcknowledgedIn falls (netIn c code) (restIn c code b j) p) c
+
+abbrev pub Marked : Counts → List ℕ → ℕ → List ℕ → Type 0
+Marked = MarkedIn false
 
 -- ---- one gate
 
@@ -78,11 +83,31 @@ abbrev pub PinsMarked : List ℕ → ℕ → CellLanes → List ℕ → List ℕ
 PinsMarked code k given ack ack′ =
     (j p : ℕ) → rowIn j ack′ p ≡ true → (rowIn j ack p ≡ true) ⊎ ((t : ℕ) × (t < 4) × (p ≡ pinIn code k t) × (lane j (needOf given t) ≡ true))
 
--- in a block that is at rest, where words are given for a pin of gate k its net is acknowledged on the way back
-abbrev pub FallGiven : Counts → List ℕ → ℕ → List ℕ → CellLanes → Type 0
-FallGiven c code k row given =
-    (b : ℕ) → AtRest c code b row → (j t : ℕ) → j < 64 → t < 4 → pinIn code k t < netCount c → lane j (needOf given t) ≡ true
-    → Fall-acknowledged (netIn c code) (restIn c code b j) (pinIn code k t)
+-- in a block that is at rest, where words are given for a pin of gate k its net is acknowledged
+abbrev pub Given : Bool → Counts → List ℕ → ℕ → List ℕ → CellLanes → Type 0
+Given falls c code k row given =
+    (b : ℕ) → Resting c code b row → (j t : ℕ) → j < 64 → t < 4 → pinIn code k t < netCount c → lane j (needOf given t) ≡ true
+    → AcknowledgedIn falls (netIn c code) (restIn c code b j) (pinIn code k t)
+
+-- whether a pin is kept: the pins at a net alone, or all others
+abbrev pub keeps : Bool → ℕ → ℕ → Bool
+keeps true net pin = eqb pin net
+keeps false net pin = not (eqb pin net)
+
+abbrev pub keptLanes : List ℕ → Bool → ℕ → ℕ → ℕ
+keptLanes row alone net pin = cond (keeps alone net pin) (getD row pin 0) 0
+
+-- where gate k is set by the pins that are kept
+abbrev pub setWhere : List ℕ → ℕ → List ℕ → Bool → ℕ → ℕ
+setWhere code k row alone net =
+    cellLanes (cellIn code k) (keptLanes row alone net (pinIn code k 0)) (keptLanes row alone net (pinIn code k 1)) (keptLanes row alone net (pinIn code k 2))
+    (keptLanes row alone net (pinIn code k 3)) .set
+
+-- the same for the net at each pin
+abbrev pub eachWhere : List ℕ → ℕ → List ℕ → Bool → CellLanes
+eachWhere code k row alone =
+    needing 0 (setWhere code k row alone (pinIn code k 0)) (setWhere code k row alone (pinIn code k 1)) (setWhere code k row alone (pinIn code k 2))
+    (setWhere code k row alone (pinIn code k 3))
 
 -- ---- all nets
 

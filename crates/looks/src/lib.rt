@@ -18,7 +18,7 @@ ghost use Rattle.circuit.specs.Order.{InOrder};
 ghost use Rattle.circuit.specs.Reference.{signalIn, referenceIn};
 ghost use Rattle.words.specs.Loaded.{BothLoaded};
 ghost use Rattle.lanes.specs.Lane.{lane, rowIn};
-ghost use Rattle.looks.specs.Block.{netIn, Room, Spelled, SettledTo, AtRest, Resting, Workspace, Marked, FallMarked, gateLanes, PinsMarked, FallGiven, OutputRail, AllMarked, NoneElse};
+ghost use Rattle.looks.specs.Block.{netIn, Room, Spelled, SettledTo, Resting, Workspace, MarkedIn, Marked, gateLanes, PinsMarked, Given, keptLanes, setWhere, eachWhere, OutputRail, AllMarked, NoneElse};
 ghost use Rattle.looks.specs.Looks.{RiseClean, Unnamed, AllClean, maskFor};
 
 // The words of a block in which something may be wrong: for 13, and for 14 and 15.
@@ -192,9 +192,105 @@ fn wrong_words(
     words
 }
 
+// ---- net by net
+
+// What stands at a pin where it is kept: the pins at net `net` alone are, or all others.
+fn kept_lanes(row: &[u64], alone: bool, net: u16, pin: u16) -> u64
+    requires { ⌜ pin < length (now row) ⌝ }
+    ensures { λ r. ⌜ r ≡ keptLanes (now (row .entry)) alone net pin ⌝ }
+{
+    if alone {
+        if pin == net {
+            return lanes::lanes_at(row, pin);
+        }
+        return 0;
+    }
+    if pin == net {
+        return 0;
+    }
+    lanes::lanes_at(row, pin)
+}
+
+// The words in which gate k is set by the pins that are kept.
+fn set_where(code: &[u16], counts: Counts, k: usize, row: &[u64], alone: bool, net: u16) -> u64
+    requires { ⌜ StageLoaded counts (now code) × (k < counts .gates) × Room counts (now row) ⌝ }
+    ensures { λ r. ⌜ r ≡ setWhere (now (code .entry)) k (now (row .entry)) alone net ⌝ }
+{
+    let at = 8 * k;
+    let a = kept_lanes(row, alone, net, code[at + 1]);
+    let b = kept_lanes(row, alone, net, code[at + 2]);
+    let c = kept_lanes(row, alone, net, code[at + 3]);
+    let d = kept_lanes(row, alone, net, code[at + 4]);
+    lanes::cell_lanes(code[at], a, b, c, d).set
+}
+
+// For each pin of gate k the words in which the gate is set by the pins that are kept for its net.
+fn each_where(code: &[u16], counts: Counts, k: usize, row: &[u64], alone: bool) -> CellLanes
+    requires { ⌜ StageLoaded counts (now code) × (k < counts .gates) × Room counts (now row) ⌝ }
+    ensures { λ r. ⌜ r ≡ eachWhere (now (code .entry)) k (now (row .entry)) alone ⌝ }
+{
+    let at = 8 * k;
+    let a = set_where(code, counts, k, row, alone, code[at + 1]);
+    let b = set_where(code, counts, k, row, alone, code[at + 2]);
+    let c = set_where(code, counts, k, row, alone, code[at + 3]);
+    let d = set_where(code, counts, k, row, alone, code[at + 4]);
+    CellLanes { set: 0, a, b, c, d }
+}
+
+// For each pin of gate k the words in which its net is acknowledged by the gate. In the rise: the gate is high, and would not be set with that net
+// low. On the way back: it may not fall while that net alone is high, which with hold is where it is high, and relaxed where that net alone sets it.
+fn given_lanes(falls: bool, code: &[u16], counts: Counts, k: usize, row: &[u64]) -> CellLanes
+    requires { ⌜ StageLoaded counts (now code) × InOrder counts (now code) × (k < counts .gates) × Room counts (now row) ⌝ }
+    ensures { λ r. ⌜ Given falls counts (now (code .entry)) k (now (row .entry)) r ⌝ }
+{
+    let high = row[2 * counts.inputs + k];
+    if falls {
+        if code[8 * k + 7] == 1 {
+            return CellLanes {
+                set: high,
+                a: high,
+                b: high,
+                c: high,
+                d: high,
+            };
+        }
+        return each_where(code, counts, k, row, true);
+    }
+    let low = each_where(code, counts, k, row, false);
+    CellLanes {
+        set: high,
+        a: high ^ low.a,
+        b: high ^ low.b,
+        c: high ^ low.c,
+        d: high ^ low.d,
+    }
+}
+
+// Each gate marks the nets that it acknowledges.
+fn mark_gates(falls: bool, code: &[u16], counts: Counts, row: &[u64], ack: &mut [u64])
+    requires { ⌜ StageLoaded counts (now code) × InOrder counts (now code) × Room counts (now row) × Room counts (now ack) ⌝ }
+    ensures long { λ r. ⌜ length (now (ack .exit)) ≡ length (now (ack .entry)) ⌝ }
+    ensures marked { λ r. ⌜ ((b : ℕ) → Resting counts (now (code .entry)) b (now (row .entry)) → MarkedIn falls counts (now (code .entry)) b (now (ack .entry))
+        → MarkedIn falls counts (now (code .entry)) b (now (ack .exit))) ⌝ }
+{
+    let count = counts.gates;
+    let mut k: usize = 0;
+    while k < count {
+        mark_pins(
+            code,
+            counts,
+            k,
+            given_lanes(falls, code, counts, k, row),
+            ack,
+        );
+        k += 1;
+    }
+}
+
 // ---- 14 and 15
 
-// The stage settles in a block whose rails are spelled; and the words in which some high net is not acknowledged. The marks are made anew.
+// The stage settles in a block whose rails are spelled; and the words in which some high net is not acknowledged. The marks are made anew. Where
+// they leave some words the gates are asked net by net: a net at several pins may be needed where none of these is.
 fn rise_words(code: &[u16], counts: Counts, row: &mut [u64], ack: &mut [u64]) -> u64
     requires { ⌜ StageLoaded counts (now code) × InOrder counts (now code) × Room counts (now row) × Room counts (now ack) ⌝ }
     ensures long { λ r. ⌜ (length (now (row .exit)) ≡ length (now (row .entry))) × (length (now (ack .exit)) ≡ length (now (ack .entry))) ⌝ }
@@ -204,60 +300,26 @@ fn rise_words(code: &[u16], counts: Counts, row: &mut [u64], ack: &mut [u64]) ->
     clear(counts, ack);
     mark_outputs(code, counts, ack);
     settle_block(code, counts, row, ack);
+    let words = unmarked(counts, row, ack);
+    if words == 0 {
+        return 0;
+    }
+    mark_gates(false, code, counts, row, ack);
     unmarked(counts, row, ack)
 }
 
 // ---- 20 and 21
 
-// For each pin of gate k the words in which it may not fall while that pin's net alone is high: with hold those in which it is high, relaxed
-// those in which that pin alone sets it.
-fn fall_lanes(code: &[u16], counts: Counts, k: usize, row: &[u64]) -> CellLanes
-    requires { ⌜ StageLoaded counts (now code) × InOrder counts (now code) × (k < counts .gates) × Room counts (now row) ⌝ }
-    ensures { λ r. ⌜ FallGiven counts (now (code .entry)) k (now (row .entry)) r ⌝ }
-{
-    let at = 8 * k;
-    if code[at + 7] == 1 {
-        let high = row[2 * counts.inputs + k];
-        return CellLanes {
-            set: high,
-            a: high,
-            b: high,
-            c: high,
-            d: high,
-        };
-    }
-    let a = lanes::lanes_at(row, code[at + 1]);
-    let b = lanes::lanes_at(row, code[at + 2]);
-    let c = lanes::lanes_at(row, code[at + 3]);
-    let d = lanes::lanes_at(row, code[at + 4]);
-    lanes::lone_lanes(code[at], a, b, c, d)
-}
-
-// Each gate marks the nets for whose fall it waits.
-fn mark_falls(code: &[u16], counts: Counts, row: &[u64], ack: &mut [u64])
-    requires { ⌜ StageLoaded counts (now code) × InOrder counts (now code) × Room counts (now row) × Room counts (now ack) ⌝ }
-    ensures long { λ r. ⌜ length (now (ack .exit)) ≡ length (now (ack .entry)) ⌝ }
-    ensures marked { λ r. ⌜ ((b : ℕ) → AtRest counts (now (code .entry)) b (now (row .entry)) → FallMarked counts (now (code .entry)) b (now (ack .entry))
-        → FallMarked counts (now (code .entry)) b (now (ack .exit))) ⌝ }
-{
-    let count = counts.gates;
-    let mut k: usize = 0;
-    while k < count {
-        mark_pins(code, counts, k, fall_lanes(code, counts, k, row), ack);
-        k += 1;
-    }
-}
-
 // The words in which some net that is high at the rest is not acknowledged on the way back. The marks are made anew.
 fn fall_words(code: &[u16], counts: Counts, row: &[u64], ack: &mut [u64]) -> u64
     requires { ⌜ StageLoaded counts (now code) × InOrder counts (now code) × Room counts (now row) × Room counts (now ack) ⌝ }
     ensures long { λ r. ⌜ length (now (ack .exit)) ≡ length (now (ack .entry)) ⌝ }
-    ensures words { λ r. ⌜ ((b : ℕ) → AtRest counts (now (code .entry)) b (now (row .entry))
+    ensures words { λ r. ⌜ ((b : ℕ) → Resting counts (now (code .entry)) b (now (row .entry))
         → NoneElse (Fall-acknowledged (netIn counts (now (code .entry)))) counts (now (code .entry)) b r) ⌝ }
 {
     clear(counts, ack);
     mark_outputs(code, counts, ack);
-    mark_falls(code, counts, row, ack);
+    mark_gates(true, code, counts, row, ack);
     unmarked(counts, row, ack)
 }
 
@@ -276,7 +338,7 @@ fn rise_block(
 ) -> Rise
     requires { ⌜ BothLoaded counts (now code) sizes (now reference) × Workspace counts (now row) (now ack) (now values) ⌝ }
     ensures space { λ r. ⌜ Workspace counts (now (row .exit)) (now (ack .exit)) (now (values .exit)) ⌝ }
-    ensures rest { λ r. ⌜ AtRest counts (now (code .entry)) b (now (row .exit)) ⌝ }
+    ensures rest { λ r. ⌜ Resting counts (now (code .entry)) b (now (row .exit)) ⌝ }
     ensures clean { λ r. ⌜ RiseClean (stageIn counts (now (code .entry))) (referenceIn sizes (now (reference .entry))) b r ⌝ }
 {
     spell_rails(counts, b, row);
@@ -293,7 +355,7 @@ fn rise_block(
 fn fall_block(asked: bool, code: &[u16], counts: Counts, row: &[u64], ack: &mut [u64]) -> u64
     requires { ⌜ StageLoaded counts (now code) × InOrder counts (now code) × Room counts (now row) × Room counts (now ack) ⌝ }
     ensures long { λ r. ⌜ length (now (ack .exit)) ≡ length (now (ack .entry)) ⌝ }
-    ensures words { λ r. ⌜ ((b : ℕ) → AtRest counts (now (code .entry)) b (now (row .entry))
+    ensures words { λ r. ⌜ ((b : ℕ) → Resting counts (now (code .entry)) b (now (row .entry))
         → NoneElse (Fall-acknowledged (netIn counts (now (code .entry)))) counts (now (code .entry)) b r) ⌝ }
 {
     if asked {

@@ -9,8 +9,8 @@ use Rattle.looks.proofs.Resting.{none-else, outputs-marked}
 use Rattle.looks.proofs.fall_words.Statement.{statement}
 use Rattle.looks.proofs.fall_words.Tie as tie
 
-mark-falls-requires : tie.Need-mark-falls-requires
-mark-falls-requires c κs = let z = c .before .before .before .before .before .before .before .before .before .before .before .before in (z .pre .0, z .pre .1, z .pre .2, omega (arith, z .pre .3, c .before .before .before .before .before .before .before .clear .ensures .0, c .before .before .before .mark-outputs .ensures .0))
+mark-gates-requires : tie.Need-mark-gates-requires
+mark-gates-requires c κs = let z = c .before .before .before .before .before .before .before .before .before .before .before .before in (z .pre .0, z .pre .1, z .pre .2, omega (arith, z .pre .3, c .before .before .before .before .before .before .before .clear .ensures .0, c .before .before .before .mark-outputs .ensures .0))
 
 returns : tie.Need-returns
 returns c =
@@ -20,12 +20,12 @@ returns c =
     let N = netIn counts code in
     let cleared = c .before .before .before .before .before .before .before .before .before .before .before .before .clear in
     let marks = c .before .before .before .before .before .before .before .before .mark-outputs in
-    let falls = c .before .before .before .before .mark-falls in (
+    let falls = c .before .before .before .before .mark-gates in (
       falls .ensures .0 ∙ marks .ensures .0 ∙ cleared .ensures .0,
       λ b rest.
           let start = outputs-marked N (λ j p. Fall-acknowledged N (restIn counts code b j) p) counts (cleared .last .1 .0) (marks .last .1 .1 .0) (cleared .ensures .1) (marks .ensures .1)
           (λ j p x. fall-output (x .0) (x .1) (x .2) (x .3)) in
-          none-else counts code (z .pre .1) b (Fall-acknowledged N) (now (z .args .row)) (falls .last .1 .1 .1 .0) (c .unmarked .result) rest (falls .ensures .1 b rest start) (c .unmarked .ensures),
+          none-else counts code (z .pre .1) b (Fall-acknowledged N) (now (z .args .row)) (falls .last .1 .1 .1 .1 .0) (c .unmarked .result) (rest .rest) (falls .ensures .1 b rest start) (c .unmarked .ensures),
     )
 
 pub fall-words-spec : {M : Type 1} → statement M
@@ -34,7 +34,7 @@ fall-words-spec =
     (tie.spec
     (λ c κs. search needs)
     (λ c κs. search needs)
-    mark-falls-requires
+    mark-gates-requires
     (λ c κs. search needs)
     (λ c. search needs)
     returns)

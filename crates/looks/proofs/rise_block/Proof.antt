@@ -43,7 +43,7 @@ returns c =
         ground = end .0 .ground;
       },
       (
-        end .0 .rest,
+        end .0,
         rise-clean (z .args .counts) (now (z .args .code)) (z .args .sizes) (now (z .args .reference)) (z .pre .0) (z .args .b) (rise .last .1 .1 .0) (end .0 .rest) (signals .last .1 .1 .1 .0)
             (c .wrong-words .result) (rise .result) (signals .ensures .1) (c .wrong-words .ensures) (end .1),
       ),
