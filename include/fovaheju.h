@@ -25,24 +25,32 @@ struct fovaheju_verdict {
     /* What was found: 0 accepted, 1 to 9 a file that cannot be read, 10 and 11 counts that differ, 12 a loop,
        13 a wrong output, 14 not input-complete, 15 not observable, 16 and 17 a row that cannot be taken, 18 and 19 a
        care word that cannot be taken, 20 not input-complete in its fall, 21 not observable in its fall, 22 parts
-       that do not fit, 23 an answer that the second part does not care for, 24 a buffer that is too short,
-       28 a gate of a retired kind.
+       that do not fit, 23 an answer that the second part does not care for, 24 a buffer that is too short, 25 a signal
+       that leads to no output, 26 too many gates needed, 27 a buffer that is too short for a stage, 28 a gate of a
+       retired kind.
        docs/VERDICTS.md has the list. */
     uint64_t number;
     /* In which file: 1 the stage, 2 the reference, 3 the row or a buffer, 0 none. Of a join 1 and 2 are the first part's, 4 and 5 the
        second's; 3 is none in the second part, and for 24 a buffer. */
     uint64_t file;
     /* At which place: a byte of the file for 1 to 9, 18 and 19, the stage's count for 10 and 11, a gate for 12, 15, 21
-       and 28, an output for 13, an input for 14, 17 and 20, the row's length for 16, the first part's outputs for 22. */
+       and 28, an output for 13, an input for 14, 17 and 20, the row's length for 16, the first part's outputs for 22, a
+       signal for 25, how many gates are needed for 26. */
     uint64_t at;
-    /* In which input word for 13 to 15, 20, 21 and 23, bit i being input i; the reference's count for 10 and 11; the
-       second part's inputs for 22; else 0. */
+    /* In which input word for 13 to 15, 20, 21 and 23, input 0 being the highest bit of as many bits as the stage has
+       inputs, or the lowest where `order` is not 0 (of a join the part's stage, for 23 the first); the reference's
+       count for 10 and 11; the second part's inputs for 22; else 0. */
     uint64_t word;
 };
 
+/* How words are counted and named in an answer, the parameter `order`: 0 has input 0 as the highest bit of a word, of
+   as many bits as the stage has inputs; every other number has it as the lowest, so that input i is bit i. The word
+   that a verdict names is the least in this order, and a report's words rise in it. Acceptance is the same either way.
+   Care words in files have input 0 as the lowest bit always. */
+
 /* The verdict on a stage file and a reference file, given as their bytes. The numbers are 0 to 15,
    18 to 21 and 28. */
-struct fovaheju_verdict fovaheju_check(const uint8_t *stage, size_t stage_len,
+struct fovaheju_verdict fovaheju_check(uint64_t order, const uint8_t *stage, size_t stage_len,
                                        const uint8_t *reference, size_t reference_len);
 
 /* The switching report: the verdict, and of an accepted stage how many gates are high at the rest of each word. */
@@ -55,12 +63,12 @@ struct fovaheju_report {
     uint64_t total;
     /* lines[k] is how many gates are high at the rest of word names[k]; 0 behind the last word's line. */
     uint16_t lines[1024];
-    /* The words, rising; 0 behind the last. */
+    /* The words as `order` names them, rising; 0 behind the last. */
     uint16_t names[1024];
 };
 
 /* The report of a stage file against a reference file. */
-struct fovaheju_report fovaheju_report(const uint8_t *stage, size_t stage_len,
+struct fovaheju_report fovaheju_report(uint64_t order, const uint8_t *stage, size_t stage_len,
                                        const uint8_t *reference, size_t reference_len);
 
 /* Settles a row of the stage: one byte for each net, two for each input (rail 0, rail 1), then one for each gate. The
@@ -82,13 +90,27 @@ struct fovaheju_join {
    reference are written at the start of two buffers; the bytes past them keep their values, and so do all of both where
    the number is not 0. A part may have at most 128 gates in its stage and 256 in its reference; 5,715 bytes have room
    for every joined stage, and 3,123 for every joined reference. The numbers are those of fovaheju_check on the first
-   part, then on the second, with 3 added to its file, then 22, 23 and 24. */
-struct fovaheju_join fovaheju_join(const uint8_t *stage1, size_t stage1_len,
+   part, then on the second, with 3 added to its file, then 22, 23 and 24. The bytes written are the same in either
+   order. */
+struct fovaheju_join fovaheju_join(uint64_t order, const uint8_t *stage1, size_t stage1_len,
                                    const uint8_t *reference1, size_t reference1_len,
                                    const uint8_t *stage2, size_t stage2_len,
                                    const uint8_t *reference2, size_t reference2_len,
                                    uint8_t *stage_out, size_t stage_out_len,
                                    uint8_t *reference_out, size_t reference_out_len);
+
+/* The answer of a call that writes one file: the verdict, and how many bytes were written, 0 where the call refuses. */
+struct fovaheju_written {
+    struct fovaheju_verdict verdict;
+    uint64_t count;
+};
+
+/* Makes a stage that computes what a reference says: NOT swaps rails, every other operation becomes two gates. The stage is
+   written at the start of a buffer; the bytes past it keep their values, and so do all where the number is not 0.
+   fovaheju_check accepts what is written against the reference. 2,643 bytes have room for every such stage. The numbers
+   are 0; 1 to 9 with file 2; then 25, 26 and 27, with the files 2, 2 and 3. */
+struct fovaheju_written fovaheju_make_stage(const uint8_t *reference, size_t reference_len,
+                                            uint8_t *stage_out, size_t stage_out_len);
 
 #ifdef __cplusplus
 }

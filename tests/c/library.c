@@ -1,5 +1,6 @@
-/* The static library called from C: the stored examples, the structs by value, empty files, rows and buffers, null pointers.
-   Arguments: folders that hold stage.ncl, reference.ncl and verdict. The last line is 'N passed, M failed'. */
+/* The static library called from C: the stored examples in both orders of words, the structs by value, empty files, rows and
+   buffers, null pointers. Arguments: folders that hold stage.ncl, reference.ncl, verdict and verdict.lowest. The last line is
+   'N passed, M failed'. */
 
 #include "fovaheju.h"
 
@@ -49,19 +50,30 @@ static size_t bytes_of(const char *folder, const char *name, uint8_t *bytes, siz
     return count;
 }
 
-static void stored(const char *folder)
+/* Numbers that stand for the old order of words, in which input 0 is the lowest bit: every one but 0 does. */
+static const uint64_t marks[] = {1, 2, 256, (uint64_t)1 << 32, (uint64_t)1 << 63, UINT64_MAX};
+enum { MARKS = sizeof marks / sizeof *marks };
+
+/* The verdict that a file holds, in an order. */
+static void stored_in(uint64_t order, const char *folder, const char *name, size_t stage_len, size_t reference_len)
 {
     unsigned long long number, file, at, word;
     char line[100];
-    size_t stage_len = bytes_of(folder, "stage.ncl", stage, sizeof stage);
-    size_t reference_len = bytes_of(folder, "reference.ncl", reference, sizeof reference);
-    line[bytes_of(folder, "verdict", (uint8_t *)line, sizeof line - 1)] = 0;
+    line[bytes_of(folder, name, (uint8_t *)line, sizeof line - 1)] = 0;
     if (sscanf(line, "%llu %llu %llu %llu", &number, &file, &at, &word) != 4) {
         holds(folder, 0);
         return;
     }
-    same(folder, fovaheju_check(stage, stage_len, reference, reference_len), number, file, at, word);
-    same(folder, fovaheju_report(stage, stage_len, reference, reference_len).verdict, number, file, at, word);
+    same(folder, fovaheju_check(order, stage, stage_len, reference, reference_len), number, file, at, word);
+    same(folder, fovaheju_report(order, stage, stage_len, reference, reference_len).verdict, number, file, at, word);
+}
+
+static void stored(const char *folder)
+{
+    size_t stage_len = bytes_of(folder, "stage.ncl", stage, sizeof stage);
+    size_t reference_len = bytes_of(folder, "reference.ncl", reference, sizeof reference);
+    stored_in(0, folder, "verdict", stage_len, reference_len);
+    stored_in(marks[stage_len % MARKS], folder, "verdict.lowest", stage_len, reference_len);
 }
 
 static const uint8_t wire[] = {1, 1, 3, 0, 0, 1, 0, 0};
@@ -81,18 +93,18 @@ static void checks(void)
     const uint8_t *nowhere = (const uint8_t *)1;
 
     holds("a verdict has 32 bytes", sizeof(struct fovaheju_verdict) == 32);
-    kept.verdict = fovaheju_check(wire, sizeof wire, wire_reference, sizeof wire_reference);
+    kept.verdict = fovaheju_check(0, wire, sizeof wire, wire_reference, sizeof wire_reference);
     same("a wire", kept.verdict, 0, 0, 0, 0);
-    kept.verdict = fovaheju_check(wire, sizeof wire, wire_reference, sizeof wire_reference - 1);
+    kept.verdict = fovaheju_check(0, wire, sizeof wire, wire_reference, sizeof wire_reference - 1);
     same("a reference without its end", kept.verdict, 1, 2, 5, 0);
     holds("beside the answer", kept.before == 0x1122334455667788 && kept.after == 0x99AABBCCDDEEFF00);
-    same("the files exchanged", fovaheju_check(wire_reference, sizeof wire_reference, wire, sizeof wire), 2, 1, 2, 0);
-    same("an empty stage", fovaheju_check(wire, 0, wire_reference, sizeof wire_reference), 1, 1, 0, 0);
-    same("an empty reference", fovaheju_check(wire, sizeof wire, wire_reference, 0), 1, 2, 0, 0);
-    same("one address for both", fovaheju_check(wire, sizeof wire, wire, sizeof wire), 2, 2, 2, 0);
-    same("empty files at an address of nothing", fovaheju_check(nowhere, 0, nowhere, 0), 1, 1, 0, 0);
-    same("both files null", fovaheju_check(NULL, 0, NULL, 0), 1, 1, 0, 0);
-    same("a null reference", fovaheju_check(wire, sizeof wire, NULL, 0), 1, 2, 0, 0);
+    same("the files exchanged", fovaheju_check(0, wire_reference, sizeof wire_reference, wire, sizeof wire), 2, 1, 2, 0);
+    same("an empty stage", fovaheju_check(0, wire, 0, wire_reference, sizeof wire_reference), 1, 1, 0, 0);
+    same("an empty reference", fovaheju_check(0, wire, sizeof wire, wire_reference, 0), 1, 2, 0, 0);
+    same("one address for both", fovaheju_check(0, wire, sizeof wire, wire, sizeof wire), 2, 2, 2, 0);
+    same("empty files at an address of nothing", fovaheju_check(0, nowhere, 0, nowhere, 0), 1, 1, 0, 0);
+    same("both files null", fovaheju_check(0, NULL, 0, NULL, 0), 1, 1, 0, 0);
+    same("a null reference", fovaheju_check(0, wire, sizeof wire, NULL, 0), 1, 2, 0, 0);
 }
 
 /* All that a report holds but its verdict is 0. */
@@ -121,21 +133,71 @@ static void reports(void)
     size_t i;
 
     holds("a report has 4,144 bytes", sizeof *report == 4144);
-    kept.report = fovaheju_report(and_stage, sizeof and_stage, and_reference, sizeof and_reference);
+    kept.report = fovaheju_report(0, and_stage, sizeof and_stage, and_reference, sizeof and_reference);
     same("the report of an AND", report->verdict, 0, 0, 0, 0);
     holds("four words, a total of four", report->words == 4 && report->total == 4);
     for (i = 0; i < 1024; i++)
         holds("a line of the report of an AND", report->lines[i] == (i < 4 ? 1 : 0) && report->names[i] == (i < 4 ? i : 0));
-    kept.report = fovaheju_report(wire, sizeof wire, wire_reference, sizeof wire_reference);
+    kept.report = fovaheju_report(0, wire, sizeof wire, wire_reference, sizeof wire_reference);
     same("the report of a wire", report->verdict, 0, 0, 0, 0);
     holds("two words without gates", report->words == 2 && report->total == 0 && report->lines[0] == 0);
-    kept.report = fovaheju_report(and_stage, sizeof and_stage, wire_reference, sizeof wire_reference);
+    kept.report = fovaheju_report(0, and_stage, sizeof and_stage, wire_reference, sizeof wire_reference);
     same("the report of unequal counts", report->verdict, 10, 0, 2, 1);
     holds("a refused pair has no lines", nothing_but_a_verdict(report));
     holds("beside the report", kept.before == 0x1122334455667788 && kept.after == 0x99AABBCCDDEEFF00);
-    kept.report = fovaheju_report(NULL, 0, NULL, 0);
+    kept.report = fovaheju_report(0, NULL, 0, NULL, 0);
     same("the report of null files", report->verdict, 1, 1, 0, 0);
     holds("null files have no lines", nothing_but_a_verdict(report));
+}
+
+/* An OR of two inputs whose rail 1 waits for one input only: 14 in the word in which input 0 alone is 1, where input 1 is
+   not waited for, and in the word in which input 1 alone is. And a chain of i + 1 gates on rail 1 of input i. */
+static const uint8_t or_stage[] = {1, 2, 2, 2, 0, 0, 2, 0, 255, 255, 255, 255, 2, 1,
+                                   1, 0, 3, 0, 255, 255, 255, 255, 3, 4, 0, 5, 0, 0};
+static const uint8_t or_reference[] = {1, 2, 17, 3, 0, 0, 1, 0, 18, 2, 0, 0};
+static const uint8_t chains[] = {1, 2, 2, 2, 1, 0, 1, 0, 255, 255, 255, 255, 2, 2, 3, 0, 3, 0, 255, 255, 255, 255,
+                                 2, 2, 5, 0, 5, 0, 255, 255, 255, 255, 3, 0, 0, 4, 0, 3, 2, 0, 6, 0, 0};
+static const uint8_t wires_reference[] = {1, 2, 18, 0, 0, 18, 1, 0, 0};
+/* Two wires, of which the second part cares for the words 0, 2 and 3 of a file: not for input 0 alone. */
+static const uint8_t wires[] = {1, 2, 3, 0, 0, 1, 0, 3, 2, 0, 3, 0, 0};
+static const uint8_t three_words[] = {1, 2, 6, 0, 0, 6, 2, 0, 6, 3, 0, 3, 0, 0, 1, 0, 3, 2, 0, 3, 0, 0};
+
+/* The lines of two inputs, each under its word. */
+static int lines_are(const struct fovaheju_report *report, const uint16_t *lines)
+{
+    size_t i;
+    for (i = 0; i < 4; i++)
+        if (report->names[i] != i || report->lines[i] != lines[i])
+            return 0;
+    return report->words == 4 && report->total == 6;
+}
+
+static struct fovaheju_verdict stray(uint64_t order)
+{
+    uint8_t stage_out[64], reference_out[64];
+    return fovaheju_join(order, wires, sizeof wires, wires_reference, sizeof wires_reference, three_words,
+                         sizeof three_words, wires_reference, sizeof wires_reference, stage_out, 64, reference_out, 64)
+        .verdict;
+}
+
+static void orders(void)
+{
+    const uint16_t highest[] = {0, 2, 1, 3}, lowest[] = {0, 1, 2, 3};
+    struct fovaheju_report report;
+    size_t i;
+
+    same("an OR, input 0 highest", fovaheju_check(0, or_stage, sizeof or_stage, or_reference, sizeof or_reference),
+         14, 1, 0, 1);
+    report = fovaheju_report(0, chains, sizeof chains, wires_reference, sizeof wires_reference);
+    holds("a report, input 0 highest", lines_are(&report, highest));
+    same("a stray word, input 0 highest", stray(0), 23, 0, 0, 2);
+    for (i = 0; i < MARKS; i++) {
+        same("an OR, input 0 lowest",
+             fovaheju_check(marks[i], or_stage, sizeof or_stage, or_reference, sizeof or_reference), 14, 1, 1, 1);
+        report = fovaheju_report(marks[i], chains, sizeof chains, wires_reference, sizeof wires_reference);
+        holds("a report, input 0 lowest", lines_are(&report, lowest));
+        same("a stray word, input 0 lowest", stray(marks[i]), 23, 0, 0, 1);
+    }
 }
 
 static void rows(void)
@@ -168,7 +230,7 @@ static const uint8_t joined_reference[] = {1, 2, 17, 2, 0, 0, 1, 0, 18, 2, 0, 0}
 static struct fovaheju_join and_wire(uint8_t *stage_out, size_t stage_room, uint8_t *reference_out,
                                      size_t reference_room)
 {
-    return fovaheju_join(and_stage, sizeof and_stage, and_reference, sizeof and_reference, wire, sizeof wire,
+    return fovaheju_join(0, and_stage, sizeof and_stage, and_reference, sizeof and_reference, wire, sizeof wire,
                          wire_reference, sizeof wire_reference, stage_out, stage_room, reference_out, reference_room);
 }
 
@@ -194,7 +256,7 @@ static void joins(void)
     holds("the joined reference", memcmp(reference_out, joined_reference, m) == 0);
     holds("past the stage", memcmp(stage_out + n, untouched, 64 - n) == 0);
     holds("past the reference", memcmp(reference_out + m, untouched, 64 - m) == 0);
-    same("the whole is accepted", fovaheju_check(stage_out, n, reference_out, m), 0, 0, 0, 0);
+    same("the whole is accepted", fovaheju_check(0, stage_out, n, reference_out, m), 0, 0, 0, 0);
     memcpy(stage_out, untouched, 64);
     memcpy(reference_out, untouched, 64);
     kept.join = and_wire(stage_out, n, reference_out, m - 1);
@@ -203,17 +265,56 @@ static void joins(void)
     same("a stage buffer too short", and_wire(stage_out, n - 1, reference_out, m).verdict, 24, 3, 0, 0);
     same("no buffers", and_wire(NULL, 0, NULL, 0).verdict, 24, 3, 0, 0);
     same("a wire and an AND",
-         fovaheju_join(wire, sizeof wire, wire_reference, sizeof wire_reference, and_stage, sizeof and_stage, and_reference,
+         fovaheju_join(0, wire, sizeof wire, wire_reference, sizeof wire_reference, and_stage, sizeof and_stage, and_reference,
                        sizeof and_reference, stage_out, 64, reference_out, 64).verdict, 22, 0, 1, 2);
     same("a second stage without its end",
-         fovaheju_join(wire, sizeof wire, wire_reference, sizeof wire_reference, wire, sizeof wire - 1, wire_reference,
+         fovaheju_join(0, wire, sizeof wire, wire_reference, sizeof wire_reference, wire, sizeof wire - 1, wire_reference,
                        sizeof wire_reference, stage_out, 64, reference_out, 64).verdict, 1, 4, 7, 0);
-    same("four null files", fovaheju_join(NULL, 0, NULL, 0, NULL, 0, NULL, 0, stage_out, 64, reference_out, 64).verdict, 1, 1, 0, 0);
+    same("four null files", fovaheju_join(0, NULL, 0, NULL, 0, NULL, 0, NULL, 0, stage_out, 64, reference_out, 64).verdict, 1, 1, 0, 0);
     holds("refused buffers are as before", memcmp(stage_out, untouched, 64) == 0 && memcmp(reference_out, untouched, 64) == 0);
     holds("beside the join's answer", kept.before == 0x1122334455667788 && kept.after == 0x99AABBCCDDEEFF00);
     kept.join = and_wire(stage_out, n, reference_out, m);
     same("buffers that just fit", join->verdict, 0, 0, 0, 0);
     holds("the same bytes", memcmp(stage_out, joined_stage, n) == 0 && memcmp(reference_out, joined_reference, m) == 0);
+}
+
+static void makes(void)
+{
+    struct {
+        uint64_t before;
+        struct fovaheju_written made;
+        uint64_t after;
+    } kept = {0x1122334455667788, {{9, 9, 9, 9}, 9}, 0x99AABBCCDDEEFF00};
+    struct fovaheju_written *made = &kept.made;
+    /* Two inputs, of which only the first is an output. */
+    const uint8_t idle[] = {1, 2, 18, 0, 0, 0};
+    uint8_t out[64], untouched[64];
+    size_t n = sizeof and_stage;
+
+    memset(untouched, 7, sizeof untouched);
+    memcpy(out, untouched, 64);
+    holds("a made stage's answer has 40 bytes", sizeof *made == 40);
+    kept.made = fovaheju_make_stage(and_reference, sizeof and_reference, out, 64);
+    same("the stage of an AND", made->verdict, 0, 0, 0, 0);
+    holds("how many bytes", made->count == n);
+    holds("the whole case's stage", memcmp(out, and_stage, n) == 0);
+    holds("past the stage", memcmp(out + n, untouched, 64 - n) == 0);
+    same("it is accepted", fovaheju_check(0, out, n, and_reference, sizeof and_reference), 0, 0, 0, 0);
+    memcpy(out, untouched, 64);
+    kept.made = fovaheju_make_stage(and_reference, sizeof and_reference, out, n - 1);
+    same("a buffer one byte short", made->verdict, 27, 3, 0, 0);
+    holds("nothing is counted", made->count == 0);
+    same("an idle input", fovaheju_make_stage(idle, sizeof idle, out, 64).verdict, 25, 2, 1, 0);
+    same("a reference without its end", fovaheju_make_stage(idle, sizeof idle - 1, out, 64).verdict, 1, 2, 5, 0);
+    same("a null reference", fovaheju_make_stage(NULL, 0, out, 64).verdict, 1, 2, 0, 0);
+    same("a null buffer", fovaheju_make_stage(and_reference, sizeof and_reference, NULL, 0).verdict, 27, 3, 0, 0);
+    holds("a refused buffer is as before", memcmp(out, untouched, 64) == 0);
+    holds("beside the answer", kept.before == 0x1122334455667788 && kept.after == 0x99AABBCCDDEEFF00);
+    kept.made = fovaheju_make_stage(and_reference, sizeof and_reference, out, n);
+    same("a buffer that just fits", made->verdict, 0, 0, 0, 0);
+    holds("the same bytes", memcmp(out, and_stage, n) == 0);
+    same("the stage of a wire", fovaheju_make_stage(wire_reference, sizeof wire_reference, out, 64).verdict, 0, 0, 0, 0);
+    holds("it is the wire", memcmp(out, wire, sizeof wire) == 0);
 }
 
 int main(int count, char **folders)
@@ -223,8 +324,10 @@ int main(int count, char **folders)
         stored(folders[i]);
     checks();
     reports();
+    orders();
     rows();
     joins();
+    makes();
     printf("%d passed, %d failed\n", passed, failed);
     return failed != 0;
 }

@@ -10,7 +10,8 @@ use crate::circuits::{
     ripple_adder_reference, stage_from_netlist, Products, ReferenceBuilder, Signal, StageBuilder,
 };
 use crate::files::{self, unhex, write_pair, FilePair};
-use crate::judge::{self, Gate, Reference, Stage, AND, NAND, NOR, OR, XOR};
+use crate::judge::{Gate, Reference, Stage, AND, NAND, NOR, OR, ORDERS, XOR};
+use crate::suite::verdict_in;
 
 /// One stored pair.
 pub struct Example {
@@ -389,15 +390,17 @@ fn nand_9_reference() -> Reference {
 
 /// The file examples/LIST.md: every pair with its verdict and what it is.
 pub fn listing() -> String {
-    let mut text =
-        String::from("# All pairs\n\n| Folder | Verdict | What it is |\n|---|---|---|\n");
+    let mut text = String::from(
+        "# All pairs\n\n| Folder | Verdict | With `--lowest` | What it is |\n|---|---|---|---|\n",
+    );
     for example in examples() {
-        let verdict = judge::check(&example.pair.stage, &example.pair.reference);
+        let [verdict, lowest] = ORDERS.map(|order| {
+            let verdict = verdict_in(order, &example.pair);
+            files::verdict_line(verdict).trim_end().to_string()
+        });
         text += &format!(
-            "| `{}` | {} | {} |\n",
-            example.name,
-            files::verdict_line(verdict).trim_end(),
-            example.about
+            "| `{}` | {verdict} | {lowest} | {} |\n",
+            example.name, example.about
         );
     }
     text
@@ -771,7 +774,7 @@ pub fn care_examples() -> Vec<Example> {
     );
     add(
         "decimal-segments-no-list",
-        "the same without its care list: word 10 has no gate",
+        "the same without its care list: words 10 to 15 have no gate",
         13,
         &without_list(&digit),
         &segments,

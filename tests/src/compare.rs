@@ -6,9 +6,11 @@
 
 use crate::files::{hex, report_text, verdict_line, FilePair, MOST_BYTES_READ};
 use crate::generate::joins::{join_case, JoinCase};
+use crate::generate::made::{make_case, MakeCase};
 use crate::generate::{pair, row_case, RowCase};
 use crate::join::{self, Joined};
-use crate::judge::{self, Verdict};
+use crate::judge::{self, Verdict, WordOrder, LIMITS, ORDERS};
+use crate::make::{self, Made};
 use std::fmt;
 use std::fs;
 use std::io;
@@ -16,14 +18,14 @@ use std::path::Path;
 use std::process::Command;
 use std::time::Instant;
 
-/// The check of a stage file and a reference file.
+/// The check of a stage file and a reference file, in the order of words that files have.
 pub type Check = fn(&[u8], &[u8]) -> [u64; 4];
 
 /// The settled-row call: a stage file and a lent row.
 pub type SettledRow = fn(&[u8], &mut [u8]) -> [u64; 4];
 
-/// The join of two pairs of files into two lent buffers, for the stage and the reference.
-pub type Join = fn(&FilePair, &FilePair, &mut [u8], &mut [u8]) -> Joined;
+/// The stage of a reference file, into a lent buffer.
+pub type Make = fn(&[u8], &mut [u8]) -> Made;
 
 /// The numbers of a report as the library gives them: how many words have a line, their total,
 /// and 1,024 lines of which those past the words are 0. Of a refused pair all but the verdict is 0.
@@ -36,12 +38,14 @@ pub struct Counts {
     pub names: Vec<u16>,
 }
 
-/// The report of a stage file and a reference file.
-pub type Report = fn(&[u8], &[u8]) -> Counts;
+/// The check, the report and the join in either order of words (document 02, M-106).
+pub type CheckInOrder = fn(WordOrder, &[u8], &[u8]) -> Verdict;
+pub type ReportInOrder = fn(WordOrder, &[u8], &[u8]) -> Counts;
+pub type JoinInOrder = fn(WordOrder, &FilePair, &FilePair, &mut [u8], &mut [u8]) -> Joined;
 
 /// The judge's report in these numbers.
-pub fn judged_counts(stage: &[u8], reference: &[u8]) -> Counts {
-    let report = judge::report(stage, reference);
+pub fn judged_counts(order: WordOrder, stage: &[u8], reference: &[u8]) -> Counts {
+    let report = judge::report_in_order(order, stage, reference);
     let mut lines: Vec<u16> = report.lines.iter().map(|line| line.1 as u16).collect();
     lines.resize(1024, 0);
     let mut names: Vec<u16> = report.lines.iter().map(|line| line.0 as u16).collect();
@@ -58,7 +62,8 @@ pub fn judged_counts(stage: &[u8], reference: &[u8]) -> Counts {
 /// How often each verdict number came.
 pub type Histogram = [u64; 29];
 
-/// The numbers of the check, of the settled-row call, and of the join.
+/// The numbers of the check, of the settled-row call, of the join, and of the stage from a
+/// reference.
 pub const CHECK_NUMBERS: [usize; 21] = [
     0, 1, 2, 3, 4, 5, 6, 7, 8, 9, 18, 19, 10, 11, 12, 28, 13, 14, 15, 20, 21,
 ];
@@ -66,6 +71,7 @@ pub const ROW_NUMBERS: [usize; 15] = [0, 1, 2, 3, 4, 5, 6, 7, 8, 9, 18, 19, 12, 
 pub const JOIN_NUMBERS: [usize; 24] = [
     0, 1, 2, 3, 4, 5, 6, 7, 8, 9, 18, 19, 10, 11, 12, 28, 13, 14, 15, 20, 21, 22, 23, 24,
 ];
+pub const MAKE_NUMBERS: [usize; 13] = [0, 1, 2, 3, 4, 5, 6, 7, 8, 9, 25, 26, 27];
 
 /// What cases lack that a comparison rests on: one of the numbers never came, or fewer
 /// than a fifth of the cases are accepted.
@@ -82,6 +88,7 @@ pub fn lack(histogram: &Histogram, numbers: &[usize]) -> Option<String> {
 pub enum Difference {
     Verdicts {
         name: String,
+        order: WordOrder,
         pair: FilePair,
         judge: Verdict,
         other: Verdict,
@@ -94,6 +101,7 @@ pub enum Difference {
     },
     Reports {
         name: String,
+        order: WordOrder,
         pair: FilePair,
         judge: Box<Counts>,
         other: Box<Counts>,
@@ -106,9 +114,16 @@ pub enum Difference {
     },
     Joins {
         name: String,
+        order: WordOrder,
         case: Box<JoinCase>,
         judge: Answer,
         other: Answer,
+    },
+    Makes {
+        name: String,
+        case: MakeCase,
+        judge: (Made, Vec<u8>),
+        other: (Made, Vec<u8>),
     },
 }
 
@@ -121,11 +136,17 @@ impl fmt::Display for Difference {
         match self {
             Difference::Verdicts {
                 name,
+                order,
                 pair,
                 judge,
                 other,
             } => {
-                writeln!(f, "{name}: judge {}, other {}", line(*judge), line(*other))?;
+                writeln!(
+                    f,
+                    "{name}, {order:?}: judge {}, other {}",
+                    line(*judge),
+                    line(*other)
+                )?;
                 writeln!(f, "stage, {} bytes: {}", pair.stage.len(), hex(&pair.stage))?;
                 writeln!(
                     f,
@@ -158,11 +179,12 @@ impl fmt::Display for Difference {
             }
             Difference::Reports {
                 name,
+                order,
                 pair,
                 judge,
                 other,
             } => {
-                writeln!(f, "{name}: judge {judge:?}")?;
+                writeln!(f, "{name}, {order:?}: judge {judge:?}")?;
                 writeln!(f, "other {other:?}")?;
                 writeln!(f, "stage, {} bytes: {}", pair.stage.len(), hex(&pair.stage))?;
                 writeln!(
@@ -189,11 +211,12 @@ impl fmt::Display for Difference {
             }
             Difference::Joins {
                 name,
+                order,
                 case,
                 judge,
                 other,
             } => {
-                writeln!(f, "{name}")?;
+                writeln!(f, "{name}, {order:?}")?;
                 for (which, bytes) in [
                     ("first stage", &case.first.stage),
                     ("first reference", &case.first.reference),
@@ -217,35 +240,66 @@ impl fmt::Display for Difference {
                 }
                 Ok(())
             }
+            Difference::Makes {
+                name,
+                case,
+                judge,
+                other,
+            } => {
+                writeln!(f, "{name}")?;
+                for (which, bytes) in [
+                    ("reference", &case.reference),
+                    ("buffer before", &case.buffer),
+                ] {
+                    writeln!(f, "{which}, {} bytes: {}", bytes.len(), hex(bytes))?;
+                }
+                for (who, (made, buffer)) in [("judge", judge), ("other", other)] {
+                    let verdict = line(made.verdict);
+                    writeln!(f, "{who}: {verdict}, {} bytes", made.len)?;
+                    writeln!(f, "buffer of the {who}: {}", hex(buffer))?;
+                }
+                Ok(())
+            }
         }
     }
 }
 
 /// Compares the verdicts on one pair and gives the number they agree on.
-pub fn compare_pair(other: Check, name: &str, pair: &FilePair) -> Result<u64, Box<Difference>> {
-    let judged = judge::check(&pair.stage, &pair.reference);
-    let given = other(&pair.stage, &pair.reference);
+pub fn compare_pair(
+    other: impl Fn(WordOrder, &[u8], &[u8]) -> Verdict,
+    order: WordOrder,
+    name: &str,
+    pair: &FilePair,
+) -> Result<u64, Box<Difference>> {
+    let judged = judge::check_in_order(order, LIMITS, &pair.stage, &pair.reference);
+    let given = other(order, &pair.stage, &pair.reference);
     if judged == given {
         return Ok(judged[0]);
     }
-    let (name, pair) = (name.to_string(), pair.clone());
     Err(Box::new(Difference::Verdicts {
-        name,
-        pair,
+        name: name.to_string(),
+        order,
+        pair: pair.clone(),
         judge: judged,
         other: given,
     }))
 }
 
 /// Compares the reports on one pair and gives the number they agree on.
-pub fn compare_report(other: Report, name: &str, pair: &FilePair) -> Result<u64, Box<Difference>> {
-    let judged = judged_counts(&pair.stage, &pair.reference);
-    let given = other(&pair.stage, &pair.reference);
+pub fn compare_report(
+    other: impl Fn(WordOrder, &[u8], &[u8]) -> Counts,
+    order: WordOrder,
+    name: &str,
+    pair: &FilePair,
+) -> Result<u64, Box<Difference>> {
+    let judged = judged_counts(order, &pair.stage, &pair.reference);
+    let given = other(order, &pair.stage, &pair.reference);
     if judged == given {
         return Ok(judged.verdict[0]);
     }
     Err(Box::new(Difference::Reports {
         name: name.to_string(),
+        order,
         pair: pair.clone(),
         judge: Box::new(judged),
         other: Box::new(given),
@@ -268,23 +322,47 @@ pub fn compare_row(other: SettledRow, name: &str, case: &RowCase) -> Result<u64,
     }))
 }
 
-/// What a join answers on a case.
-fn answer_of(join: Join, case: &JoinCase) -> Answer {
+/// What a join in an order of words answers on a case.
+fn answer_of(join: JoinInOrder, order: WordOrder, case: &JoinCase) -> Answer {
     let (mut stage, mut reference) = (case.stage.clone(), case.reference.clone());
-    let joined = join(&case.first, &case.second, &mut stage, &mut reference);
+    let joined = join(order, &case.first, &case.second, &mut stage, &mut reference);
     (joined, stage, reference)
 }
 
 /// Compares the verdict, the lengths and every byte of both buffers of one case.
-pub fn compare_join(other: Join, name: &str, case: &JoinCase) -> Result<u64, Box<Difference>> {
-    let judged = answer_of(join::join, case);
-    let given = answer_of(other, case);
+pub fn compare_join(
+    other: JoinInOrder,
+    order: WordOrder,
+    name: &str,
+    case: &JoinCase,
+) -> Result<u64, Box<Difference>> {
+    let judged = answer_of(join::join_in_order, order, case);
+    let given = answer_of(other, order, case);
     if judged == given {
         return Ok(judged.0.verdict[0]);
     }
     Err(Box::new(Difference::Joins {
         name: name.to_string(),
+        order,
         case: Box::new(case.clone()),
+        judge: judged,
+        other: given,
+    }))
+}
+
+/// Compares the verdict, the length and every byte of the buffer of one case.
+pub fn compare_make(other: Make, name: &str, case: &MakeCase) -> Result<u64, Box<Difference>> {
+    let answer_of = |make_stage: Make| {
+        let mut buffer = case.buffer.clone();
+        (make_stage(&case.reference, &mut buffer), buffer)
+    };
+    let (judged, given) = (answer_of(make::make_stage), answer_of(other));
+    if judged == given {
+        return Ok(judged.0.verdict[0]);
+    }
+    Err(Box::new(Difference::Makes {
+        name: name.to_string(),
+        case: case.clone(),
         judge: judged,
         other: given,
     }))
@@ -293,10 +371,12 @@ pub fn compare_join(other: Join, name: &str, case: &JoinCase) -> Result<u64, Box
 /// A smaller pair on which the verdicts still differ: pieces of both files are left
 /// out as long as they do, large pieces first, then any of at most ten bytes (a gate
 /// command of a stage has ten). It stops after some seconds.
-pub fn shrink(other: Check, pair: &FilePair) -> FilePair {
-    let differ = |pair: &FilePair| {
-        other(&pair.stage, &pair.reference) != judge::check(&pair.stage, &pair.reference)
-    };
+pub fn shrink(
+    other: impl Fn(WordOrder, &[u8], &[u8]) -> Verdict,
+    order: WordOrder,
+    pair: &FilePair,
+) -> FilePair {
+    let differ = |pair: &FilePair| compare_pair(&other, order, "a part", pair).is_err();
     let mut small = pair.clone();
     let mut piece = small.stage.len().max(small.reference.len());
     let start = Instant::now();
@@ -329,40 +409,63 @@ pub fn shrink(other: Check, pair: &FilePair) -> FilePair {
 
 /// Compares the check on the first `count` pairs of a seed up to the first difference.
 pub fn first_difference(other: Check, seed: u64, count: u64) -> Result<Histogram, Box<Difference>> {
+    let other = |_: WordOrder, stage: &[u8], reference: &[u8]| other(stage, reference);
+    first_difference_in(&[WordOrder::Input0Lowest], other, seed, count)
+}
+
+/// The same in some orders of words.
+pub fn first_difference_in(
+    orders: &[WordOrder],
+    other: impl Fn(WordOrder, &[u8], &[u8]) -> Verdict,
+    seed: u64,
+    count: u64,
+) -> Result<Histogram, Box<Difference>> {
     let mut histogram = Histogram::default();
     for index in 0..count {
         let generated = pair(seed, index);
         let name = format!("pair {index} of seed {seed} ({})", generated.family);
-        let number = compare_pair(other, &name, &generated.pair)?;
-        histogram[number as usize] += 1;
+        for &order in orders {
+            let number = compare_pair(&other, order, &name, &generated.pair)?;
+            histogram[number as usize] += 1;
+        }
     }
     Ok(histogram)
 }
 
-/// Compares the check on the first `count` pairs of a seed. The first difference is
-/// printed, as it is and with smaller files, and given back.
-pub fn compare_checks(other: Check, seed: u64, count: u64) -> Result<Histogram, Box<Difference>> {
-    first_difference(other, seed, count).inspect_err(|difference| {
+/// Compares the check on the first `count` pairs of a seed, in both orders of words. The first
+/// difference is printed, as it is and with smaller files, and given back.
+pub fn compare_checks(
+    other: CheckInOrder,
+    seed: u64,
+    count: u64,
+) -> Result<Histogram, Box<Difference>> {
+    first_difference_in(&ORDERS, other, seed, count).inspect_err(|difference| {
         println!("{difference}");
-        if let Difference::Verdicts { pair, .. } = &**difference {
-            let small = shrink(other, pair);
-            if let Err(smaller) = compare_pair(other, "the same, smaller", &small) {
+        if let Difference::Verdicts { order, pair, .. } = &**difference {
+            let small = shrink(other, *order, pair);
+            if let Err(smaller) = compare_pair(other, *order, "the same, smaller", &small) {
                 println!("{smaller}");
             }
         }
     })
 }
 
-/// Compares the report on the first `count` pairs of a seed. The first difference is printed
-/// and given back.
-pub fn compare_reports(other: Report, seed: u64, count: u64) -> Result<Histogram, Box<Difference>> {
+/// Compares the report on the first `count` pairs of a seed, in both orders of words. The first
+/// difference is printed and given back.
+pub fn compare_reports(
+    other: ReportInOrder,
+    seed: u64,
+    count: u64,
+) -> Result<Histogram, Box<Difference>> {
     let mut histogram = Histogram::default();
     for index in 0..count {
         let generated = pair(seed, index);
         let name = format!("report {index} of seed {seed} ({})", generated.family);
-        let number = compare_report(other, &name, &generated.pair)
-            .inspect_err(|difference| println!("{difference}"))?;
-        histogram[number as usize] += 1;
+        for order in ORDERS {
+            let number = compare_report(other, order, &name, &generated.pair)
+                .inspect_err(|difference| println!("{difference}"))?;
+            histogram[number as usize] += 1;
+        }
     }
     Ok(histogram)
 }
@@ -384,24 +487,45 @@ pub fn compare_rows(
     Ok(histogram)
 }
 
-/// Compares the join on the first `count` joins of a seed. The first difference is printed and
-/// given back.
-pub fn compare_joins(other: Join, seed: u64, count: u64) -> Result<Histogram, Box<Difference>> {
+/// Compares the join on the first `count` joins of a seed, in both orders of words. The first
+/// difference is printed and given back.
+pub fn compare_joins(
+    other: JoinInOrder,
+    seed: u64,
+    count: u64,
+) -> Result<Histogram, Box<Difference>> {
     let mut histogram = Histogram::default();
     for index in 0..count {
         let generated = join_case(seed, index);
-        let name = format!("join {index} of seed {seed} ({})", generated.family);
-        let number = compare_join(other, &name, &generated.case)
+        for order in ORDERS {
+            let name = format!("join {index} of seed {seed} ({})", generated.family);
+            let number = compare_join(other, order, &name, &generated.case)
+                .inspect_err(|difference| println!("{difference}"))?;
+            histogram[number as usize] += 1;
+        }
+    }
+    Ok(histogram)
+}
+
+/// Compares the stages of the first `count` references of a seed. The first difference is printed
+/// and given back.
+pub fn compare_makes(other: Make, seed: u64, count: u64) -> Result<Histogram, Box<Difference>> {
+    let mut histogram = Histogram::default();
+    for index in 0..count {
+        let generated = make_case(seed, index);
+        let name = format!("reference {index} of seed {seed} ({})", generated.family);
+        let number = compare_make(other, &name, &generated.case)
             .inspect_err(|difference| println!("{difference}"))?;
         histogram[number as usize] += 1;
     }
     Ok(histogram)
 }
 
-/// What a program prints for a pair of files in a folder that it runs in. An empty
-/// file is left out if `leave_out` says so: "a missing file counting as empty".
+/// What a program with these arguments prints for a pair of files in a folder that it runs in. An
+/// empty file is left out if `leave_out` says so: "a missing file counting as empty".
 pub fn run_program(
     program: &Path,
+    arguments: &[&str],
     folder: &Path,
     pair: &FilePair,
     leave_out: bool,
@@ -420,16 +544,25 @@ pub fn run_program(
             fs::write(&path, bytes)?;
         }
     }
-    let output = Command::new(program).current_dir(folder).output()?;
+    let mut command = Command::new(program);
+    let output = command.args(arguments).current_dir(folder).output()?;
     Ok(String::from_utf8_lossy(&output.stdout).into_owned())
 }
 
-/// What a program is to print for a stage file and a reference file.
-pub type Expected = fn(&[u8], &[u8]) -> String;
+/// What a program is to print for a stage file and a reference file, in an order of words.
+pub type Expected = fn(WordOrder, &[u8], &[u8]) -> String;
+
+/// The arguments of a program that is to name words in an order.
+fn arguments(order: WordOrder) -> &'static [&'static str] {
+    match order {
+        WordOrder::Input0Highest => &[],
+        WordOrder::Input0Lowest => &["lowest"],
+    }
+}
 
 /// Compares what a program prints with what it is to print, on the first `count` pairs of a
-/// seed. The judge takes the first 8,192 bytes of each file, as the program is to do. The first
-/// difference is printed and given back.
+/// seed, in both orders of words. The judge takes the first 8,192 bytes of each file, as the
+/// program is to do. The first difference is printed and given back.
 pub fn compare_program(
     program: &Path,
     expected: Expected,
@@ -442,31 +575,36 @@ pub fn compare_program(
     for index in 0..count {
         let generated = pair(seed, index);
         let (stage, reference) = (cut(&generated.pair.stage), cut(&generated.pair.reference));
-        let printed = run_program(program, folder, &generated.pair, index % 2 == 0)?;
-        let expected = expected(&stage, &reference);
-        if printed == expected {
-            histogram[judge::check(&stage, &reference)[0] as usize] += 1;
-            continue;
+        for order in ORDERS {
+            let leave_out = index % 2 == 0;
+            let pair = &generated.pair;
+            let printed = run_program(program, arguments(order), folder, pair, leave_out)?;
+            let expected = expected(order, &stage, &reference);
+            if printed == expected {
+                histogram[judge::check(&stage, &reference)[0] as usize] += 1;
+                continue;
+            }
+            let family = generated.family;
+            let difference = Difference::Printed {
+                name: format!("pair {index} of seed {seed} ({family}), {order:?}"),
+                pair: generated.pair,
+                expected,
+                printed,
+            };
+            println!("{difference}");
+            return Ok(Err(Box::new(difference)));
         }
-        let difference = Difference::Printed {
-            name: format!("pair {index} of seed {seed} ({})", generated.family),
-            pair: generated.pair,
-            expected,
-            printed,
-        };
-        println!("{difference}");
-        return Ok(Err(Box::new(difference)));
     }
     Ok(Ok(histogram))
 }
 
 /// What `ncl_check` and `ncl_report` are to print.
-pub fn expected_verdict(stage: &[u8], reference: &[u8]) -> String {
-    verdict_line(judge::check(stage, reference))
+pub fn expected_verdict(order: WordOrder, stage: &[u8], reference: &[u8]) -> String {
+    verdict_line(judge::check_in_order(order, LIMITS, stage, reference))
 }
 
-pub fn expected_report(stage: &[u8], reference: &[u8]) -> String {
-    report_text(&judge::report(stage, reference))
+pub fn expected_report(order: WordOrder, stage: &[u8], reference: &[u8]) -> String {
+    report_text(&judge::report_in_order(order, stage, reference))
 }
 
 /// Seed and count for a test: a fixed seed, unless the environment names another.

@@ -13,7 +13,7 @@
 
 use crate::judge::{
     answer, cell, is_relaxed, pair_state, pin_count, rails_of_word, settle, PairState, Reference,
-    Stage, Verdict, ACCEPTED, KINDS,
+    Stage, Verdict, WordOrder, ACCEPTED, KINDS,
 };
 use std::collections::HashMap;
 use std::hash::{BuildHasherDefault, Hasher};
@@ -622,7 +622,7 @@ pub fn explore_pair(
         (_, None) => summary.too_large += 1,
         (0, Some(Ok(tried))) => {
             // M-100: the total is half of all gate switchings.
-            let lines = crate::judge::report_lines(stage);
+            let lines = crate::judge::report_lines(WordOrder::Input0Lowest, stage);
             let total: u64 = lines.iter().map(|&(_, high)| high).sum();
             if tried.gate_switchings != 2 * total {
                 return Err(format!(

@@ -189,18 +189,24 @@ pub fn examples_folder() -> PathBuf {
     Path::new(env!("CARGO_MANIFEST_DIR")).join("../examples")
 }
 
-/// Stores a pair and its verdict as NAME/stage.ncl, reference.ncl and verdict.
+/// The files that hold a stored pair's verdict in each of the two orders of words.
+const VERDICTS: [&str; 2] = ["verdict", "verdict.lowest"];
+
+/// Stores a pair as NAME/stage.ncl and reference.ncl, and its verdicts in both orders of words.
 pub fn store_example(
     folder: &Path,
     name: &str,
     pair: &FilePair,
-    verdict: Verdict,
+    verdicts: [Verdict; 2],
 ) -> io::Result<()> {
     let folder = folder.join(name);
     fs::create_dir_all(&folder)?;
     fs::write(folder.join("stage.ncl"), &pair.stage)?;
     fs::write(folder.join("reference.ncl"), &pair.reference)?;
-    fs::write(folder.join("verdict"), verdict_line(verdict))
+    for (file, verdict) in VERDICTS.iter().zip(verdicts) {
+        fs::write(folder.join(file), verdict_line(verdict))?;
+    }
+    Ok(())
 }
 
 /// The names of all stored pairs, in order.
@@ -216,12 +222,16 @@ pub fn stored_examples(folder: &Path) -> io::Result<Vec<String>> {
     Ok(names)
 }
 
-pub fn load_example(folder: &Path, name: &str) -> io::Result<(FilePair, Verdict)> {
+/// A stored pair with its verdicts in both orders of words.
+pub fn load_example(folder: &Path, name: &str) -> io::Result<(FilePair, [Verdict; 2])> {
     let folder = folder.join(name);
     let stage = fs::read(folder.join("stage.ncl"))?;
     let reference = fs::read(folder.join("reference.ncl"))?;
-    let line = fs::read_to_string(folder.join("verdict"))?;
-    let verdict = verdict_from_line(&line)
-        .ok_or_else(|| io::Error::new(io::ErrorKind::InvalidData, "four numbers expected"))?;
-    Ok((FilePair { stage, reference }, verdict))
+    let mut verdicts = [ACCEPTED; 2];
+    for (file, verdict) in VERDICTS.iter().zip(&mut verdicts) {
+        let line = fs::read_to_string(folder.join(file))?;
+        *verdict = verdict_from_line(&line)
+            .ok_or_else(|| io::Error::new(io::ErrorKind::InvalidData, "four numbers expected"))?;
+    }
+    Ok((FilePair { stage, reference }, verdicts))
 }

@@ -6,6 +6,7 @@
 //! is known beforehand: mutated circuits, random circuits, damaged bytes.
 
 pub mod joins;
+pub mod made;
 
 use crate::circuits::{
     dual_rail, kind_named, multiplier, multiplier_reference, reordered, ripple_adder,

@@ -4,8 +4,8 @@
 
 use crate::files::{write_reference, write_stage, FilePair};
 use crate::judge::{
-    answer, check_within, read_reference_within, read_stage_within, Boolean, Gate, Limits,
-    Reference, Stage, Verdict, ACCEPTED, NONE, ROW,
+    answer, check_in_order, read_reference_within, read_stage_within, Boolean, Gate, Limits,
+    Reference, Stage, Verdict, WordOrder, ACCEPTED, NONE, ROW,
 };
 
 /// "The reader's limits rise to 256 stage and 512 reference gates": a whole is within them.
@@ -37,21 +37,33 @@ fn refused(verdict: Verdict) -> Joined {
     }
 }
 
-/// The join of two pairs of files into two lent buffers.
-///
-/// "A part's own refusal is passed on, first part first, the second's with 3 added to its file."
-/// Then 22, 23, 24, "in this order after the parts' verdicts".
+/// The join of two pairs of files into two lent buffers, for a caller that sets the mark of M-106.
 pub fn join(
     first: &FilePair,
     second: &FilePair,
     stage_buffer: &mut [u8],
     reference_buffer: &mut [u8],
 ) -> Joined {
-    let verdict = check_within(PART_LIMITS, &first.stage, &first.reference);
+    let order = WordOrder::Input0Lowest;
+    join_in_order(order, first, second, stage_buffer, reference_buffer)
+}
+
+/// The join in either order of words.
+///
+/// "A part's own refusal is passed on, first part first, the second's with 3 added to its file."
+/// Then 22, 23, 24, "in this order after the parts' verdicts".
+pub fn join_in_order(
+    order: WordOrder,
+    first: &FilePair,
+    second: &FilePair,
+    stage_buffer: &mut [u8],
+    reference_buffer: &mut [u8],
+) -> Joined {
+    let verdict = check_in_order(order, PART_LIMITS, &first.stage, &first.reference);
     if verdict != ACCEPTED {
         return refused(verdict);
     }
-    let verdict = check_within(PART_LIMITS, &second.stage, &second.reference);
+    let verdict = check_in_order(order, PART_LIMITS, &second.stage, &second.reference);
     if verdict != ACCEPTED {
         let [number, file, at, word] = verdict;
         return refused([number, file + 3, at, word]);
@@ -64,8 +76,8 @@ pub fn join(
         return refused([22, NONE, outputs as u64, inputs as u64]);
     }
     // 23: "least care word whose answer the second does not care for".
-    if let Some(word) = least_stray_word(&first, &second.0) {
-        return refused([23, NONE, 0, word]);
+    if let Some(name) = least_stray_word(order, &first, &second.0) {
+        return refused([23, NONE, 0, name]);
     }
     let stage = write_stage(&joined_stage(&first.0, &second.0));
     let reference = write_reference(&joined_reference(&first.1, &second.1));
@@ -90,7 +102,8 @@ fn circuits(part: &FilePair) -> (Stage, Reference) {
     )
 }
 
-/// The word that an answer is for the next part: output j is its input j, and "bit i is input i".
+/// The word that an answer is for the next part: output j is its input j, and "bit i is input i",
+/// as in care lists.
 pub fn word_of_answer(answer: &[bool]) -> u64 {
     let mut word = 0;
     for (output, &value) in answer.iter().enumerate() {
@@ -101,11 +114,16 @@ pub fn word_of_answer(answer: &[bool]) -> u64 {
     word
 }
 
-fn least_stray_word((stage, reference): &(Stage, Reference), second: &Stage) -> Option<u64> {
+/// The name of the first word, by rising names, whose answer is no care word of the second.
+fn least_stray_word(
+    order: WordOrder,
+    (stage, reference): &(Stage, Reference),
+    second: &Stage,
+) -> Option<u64> {
     let cared_for = second.words();
-    for word in stage.words() {
+    for (name, word) in stage.named_words(order) {
         if !cared_for.contains(&word_of_answer(&answer(reference, word))) {
-            return Some(word);
+            return Some(name);
         }
     }
     None

@@ -13,8 +13,10 @@ use crate::files::{
 };
 use crate::generate::joins::{join_case, JoinCase};
 use crate::generate::Known;
-use crate::join::{join, PART_LIMITS};
-use crate::judge::{Boolean, Gate, Reference, Stage, Verdict, ACCEPTED, AND, NONE, NOT, ROW};
+use crate::join::{join_in_order, PART_LIMITS};
+use crate::judge::{
+    Boolean, Gate, Reference, Stage, Verdict, WordOrder, ACCEPTED, AND, NONE, NOT, ORDERS, ROW,
+};
 use crate::suite;
 use std::collections::BTreeSet;
 use std::path::PathBuf;
@@ -26,14 +28,19 @@ pub struct Case {
     pub known: Known,
 }
 
-/// What a program that makes these joins reads and what it must print: paths in its crate, with
-/// contents. Case i has the files iii.s1 and iii.r1, iii.s2 and iii.r2 of the two parts, and
+/// What a program that makes these joins reads and what it must print, all cases in the one order
+/// of words and then in the other: paths in its crate, with contents. Case i has the files iii.s1 and iii.r1, iii.s2 and iii.r2 of the two parts, and
 /// iii.s and iii.r, the two buffers as they are lent.
 pub fn contents() -> Vec<(PathBuf, Vec<u8>)> {
     let mut list = Vec::new();
     let mut stdout = String::new();
-    for (index, case) in cases().into_iter().enumerate() {
-        stdout += &line(index, &case);
+    let cases = cases();
+    for order in ORDERS {
+        for (index, case) in cases.iter().enumerate() {
+            stdout += &line(order, index, case);
+        }
+    }
+    for (index, case) in cases.into_iter().enumerate() {
         let JoinCase {
             first,
             second,
@@ -65,7 +72,8 @@ pub fn contents_of_ncl_join() -> Vec<(PathBuf, Vec<u8>)> {
             .pair
     };
     let (first, second) = (named("half-adder-relaxed"), named("half-adder"));
-    let joined = join(&first, &second, &mut [0; 8192], &mut [0; 8192]);
+    let order = WordOrder::default();
+    let joined = join_in_order(order, &first, &second, &mut [0; 8192], &mut [0; 8192]);
     vec![
         ("data/stage1.ncl".into(), first.stage),
         ("data/reference1.ncl".into(), first.reference),
@@ -78,14 +86,10 @@ pub fn contents_of_ncl_join() -> Vec<(PathBuf, Vec<u8>)> {
 /// A case's line: its index in three digits, the judge's four numbers, how many bytes of each
 /// buffer are written, then after a colon each the bytes of the stage's and of the reference's
 /// buffer after the call, each number after a space.
-pub fn line(index: usize, case: &Case) -> String {
+pub fn line(order: WordOrder, index: usize, case: &Case) -> String {
     let (mut stage, mut reference) = (case.case.stage.clone(), case.case.reference.clone());
-    let joined = join(
-        &case.case.first,
-        &case.case.second,
-        &mut stage,
-        &mut reference,
-    );
+    let JoinCase { first, second, .. } = &case.case;
+    let joined = join_in_order(order, first, second, &mut stage, &mut reference);
     let spelt = |bytes: &[u8]| -> String { bytes.iter().map(|byte| format!(" {byte}")).collect() };
     format!(
         "{index:03} {} {} {}:{}:{}\n",

@@ -163,6 +163,49 @@ impl Reference {
     }
 }
 
+/// Document 02, M-106: the order in which words are counted and named.
+#[derive(Clone, Copy, PartialEq, Eq, Debug, Default)]
+pub enum WordOrder {
+    /// "By default ... count input 0 as the highest bit of n."
+    #[default]
+    Input0Highest,
+    /// "A caller that compares against stored verdicts sets a mark and gets the old order": bit i
+    /// is input i, as in files.
+    Input0Lowest,
+}
+
+impl WordOrder {
+    /// The name of a word whose bit i is input i: a number of so many digits with input 0 as the
+    /// leftmost, or the word itself. The word of a name is found in the same way.
+    pub fn named(self, inputs: usize, word: u64) -> u64 {
+        match self {
+            WordOrder::Input0Lowest => word,
+            WordOrder::Input0Highest => {
+                let mut name = 0;
+                for input in 0..inputs {
+                    name = 2 * name + (word >> input & 1);
+                }
+                name
+            }
+        }
+    }
+}
+
+impl Stage {
+    /// The words that are cared for, each after its name, by rising names.
+    pub fn named_words(&self, order: WordOrder) -> Vec<(u64, u64)> {
+        let words = self.words().into_iter();
+        let mut words: Vec<(u64, u64)> = words
+            .map(|word| (order.named(self.inputs, word), word))
+            .collect();
+        words.sort();
+        words
+    }
+}
+
+/// Both orders, the default first.
+pub const ORDERS: [WordOrder; 2] = [WordOrder::Input0Highest, WordOrder::Input0Lowest];
+
 /// Number and place (a byte offset) of a refusal 1 to 9, 18 or 19.
 pub type Refusal = (u64, usize);
 
@@ -600,16 +643,26 @@ pub fn answer(reference: &Reference, word: u64) -> Vec<bool> {
         .collect()
 }
 
-/// The check of a stage file against a reference file.
+/// The check of a stage file against a reference file, for a caller that sets the mark of M-106.
 pub fn check(stage_file: &[u8], reference_file: &[u8]) -> Verdict {
     check_within(LIMITS, stage_file, reference_file)
 }
 
 /// The same within other limits.
+pub fn check_within(limits: Limits, stage_file: &[u8], reference_file: &[u8]) -> Verdict {
+    check_in_order(WordOrder::Input0Lowest, limits, stage_file, reference_file)
+}
+
+/// The check in either order of words, within any limits.
 ///
 /// "The stage is read first, then the reference, then 10 to 15 follow in order. A
 /// word or index named is the least: least word, then least index."
-pub fn check_within(limits: Limits, stage_file: &[u8], reference_file: &[u8]) -> Verdict {
+pub fn check_in_order(
+    order: WordOrder,
+    limits: Limits,
+    stage_file: &[u8],
+    reference_file: &[u8],
+) -> Verdict {
     let stage = match read_stage_within(limits, stage_file) {
         Ok(stage) => stage,
         Err((number, at)) => return [number, STAGE, at as u64, 0],
@@ -636,47 +689,52 @@ pub fn check_within(limits: Limits, stage_file: &[u8], reference_file: &[u8]) ->
     if let Some(gate) = least_retired_gate(&stage) {
         return [28, STAGE, gate as u64, 0];
     }
-    check_circuits(&stage, &reference)
+    check_circuits_in_order(order, &stage, &reference)
 }
 
 /// The checks 13 to 15, 20 and 21 of a loop-free stage against a reference with as many
 /// inputs and outputs: they "cover care words only".
 pub fn check_circuits(stage: &Stage, reference: &Reference) -> Verdict {
-    let words = stage.words();
+    check_circuits_in_order(WordOrder::Input0Lowest, stage, reference)
+}
+
+/// The same in either order of words. A verdict has the word's name.
+pub fn check_circuits_in_order(order: WordOrder, stage: &Stage, reference: &Reference) -> Verdict {
+    let words = stage.named_words(order);
 
     // 13: "settled output pair is not the reference's DATA".
-    for &word in &words {
+    for &(name, word) in &words {
         let row = settle(stage, &rails_of_word(stage.inputs, word), None);
         let values = answer(reference, word);
         for (output, &value) in values.iter().enumerate() {
             if output_state(stage, &row, output) != PairState::Data(value) {
-                return [13, STAGE, output as u64, word];
+                return [13, STAGE, output as u64, name];
             }
         }
     }
 
     // 14: "with w given and input i NULL, all settled outputs are DATA".
-    for &word in &words {
+    for &(name, word) in &words {
         for input in 0..stage.inputs {
             let mut rails = rails_of_word(stage.inputs, word);
             rails[2 * input] = false;
             rails[2 * input + 1] = false;
             let row = settle(stage, &rails, None);
             if all_outputs_data(stage, &row) {
-                return [14, STAGE, input as u64, word];
+                return [14, STAGE, input as u64, name];
             }
         }
     }
 
     // 15: "a gate high in w; settled with it held low, all outputs still DATA".
-    for &word in &words {
+    for &(name, word) in &words {
         let rails = rails_of_word(stage.inputs, word);
         let row = settle(stage, &rails, None);
         for gate in 0..stage.gates.len() {
             if row[stage.net_of_gate(gate)] {
                 let held = settle(stage, &rails, Some(gate));
                 if all_outputs_data(stage, &held) {
-                    return [15, STAGE, gate as u64, word];
+                    return [15, STAGE, gate as u64, name];
                 }
             }
         }
@@ -684,25 +742,25 @@ pub fn check_circuits(stage: &Stage, reference: &Reference) -> Verdict {
 
     // 20: "all inputs fallen but i, which keeps its DATA, every gate settled by the fall rule,
     // all outputs NULL".
-    for &word in &words {
+    for &(name, word) in &words {
         let rest = settle(stage, &rails_of_word(stage.inputs, word), None);
         for input in 0..stage.inputs {
             let row = settle_fall(stage, &rest, Some(input), None);
             if all_outputs_null(stage, &row) {
-                return [20, STAGE, input as u64, word];
+                return [20, STAGE, input as u64, name];
             }
         }
     }
 
     // 21: "a gate high in w is held high, all inputs fallen, every other gate settled so, all
     // outputs NULL".
-    for &word in &words {
+    for &(name, word) in &words {
         let rest = settle(stage, &rails_of_word(stage.inputs, word), None);
         for gate in 0..stage.gates.len() {
             if rest[stage.net_of_gate(gate)] {
                 let row = settle_fall(stage, &rest, None, Some(gate));
                 if all_outputs_null(stage, &row) {
-                    return [21, STAGE, gate as u64, word];
+                    return [21, STAGE, gate as u64, name];
                 }
             }
         }
@@ -721,13 +779,21 @@ pub struct Report {
     pub total: u64,
 }
 
+/// The report on a stage file and a reference file, for a caller that sets the mark of M-106.
+pub fn report(stage_file: &[u8], reference_file: &[u8]) -> Report {
+    report_in_order(WordOrder::Input0Lowest, stage_file, reference_file)
+}
+
+/// The report in either order of words.
+///
 /// "For an accepted pair one line per word, then `total` and a number. A refused pair prints
 /// its verdict line only."
-pub fn report(stage_file: &[u8], reference_file: &[u8]) -> Report {
-    let verdict = check(stage_file, reference_file);
+pub fn report_in_order(order: WordOrder, stage_file: &[u8], reference_file: &[u8]) -> Report {
+    let verdict = check_in_order(order, LIMITS, stage_file, reference_file);
     let mut lines = Vec::new();
     if verdict == ACCEPTED {
-        lines = report_lines(&read_stage(stage_file).expect("an accepted stage"));
+        let stage = read_stage(stage_file).expect("an accepted stage");
+        lines = report_lines(order, &stage);
     }
     let total = lines.iter().map(|&(_, high)| high).sum();
     Report {
@@ -737,10 +803,10 @@ pub fn report(stage_file: &[u8], reference_file: &[u8]) -> Report {
     }
 }
 
-/// Each word and the number of gates high at its rest.
-pub fn report_lines(stage: &Stage) -> Vec<(u64, u64)> {
+/// Each word's name and the number of gates high at its rest.
+pub fn report_lines(order: WordOrder, stage: &Stage) -> Vec<(u64, u64)> {
     let mut lines = Vec::new();
-    for word in stage.words() {
+    for (name, word) in stage.named_words(order) {
         let row = settle(stage, &rails_of_word(stage.inputs, word), None);
         let mut high = 0;
         for gate in 0..stage.gates.len() {
@@ -748,7 +814,7 @@ pub fn report_lines(stage: &Stage) -> Vec<(u64, u64)> {
                 high += 1;
             }
         }
-        lines.push((word, high));
+        lines.push((name, high));
     }
     lines
 }

@@ -13,6 +13,8 @@ pub mod join_suite;
 pub mod judge;
 #[cfg(feature = "library")]
 pub mod library;
+pub mod make;
+pub mod make_suite;
 pub mod report_suite;
 pub mod row_suite;
 pub mod suite;
@@ -43,5 +45,10 @@ pub fn holds(expression: &str, pattern: u8) -> bool {
 
 /// How many pins an expression names, from A on.
 pub fn pins(expression: &str) -> u8 {
-    expression.bytes().filter(|b| b.is_ascii_uppercase()).map(|b| b - b'A' + 1).max().unwrap()
+    expression
+        .bytes()
+        .filter(|b| b.is_ascii_uppercase())
+        .map(|b| b - b'A' + 1)
+        .max()
+        .unwrap()
 }

@@ -1,9 +1,11 @@
-//! The proved calls of the static library, as safe functions. `include/fovaheju.h` says what they answer.
+//! The proved calls of the static library, as safe functions. `include/fovaheju.h` says what they answer, and which order of words
+//! a number stands for.
 
 use crate::compare::Counts;
 use crate::files::FilePair;
 use crate::join::Joined;
 use crate::judge::Verdict;
+use crate::make::Made;
 
 /// The four numbers as the library lays them out.
 #[repr(C)]
@@ -38,14 +40,23 @@ struct JoinAnswer {
     reference_count: u64,
 }
 
+/// The answer of a call that writes one file, as the library lays it out.
+#[repr(C)]
+struct Written {
+    verdict: Numbers,
+    count: u64,
+}
+
 extern "C" {
     fn fovaheju_check(
+        order: u64,
         stage: *const u8,
         stage_len: usize,
         reference: *const u8,
         reference_len: usize,
     ) -> Numbers;
     fn fovaheju_report(
+        order: u64,
         stage: *const u8,
         stage_len: usize,
         reference: *const u8,
@@ -58,6 +69,7 @@ extern "C" {
         row_len: usize,
     ) -> Numbers;
     fn fovaheju_join(
+        order: u64,
         stage1: *const u8,
         stage1_len: usize,
         reference1: *const u8,
@@ -71,13 +83,20 @@ extern "C" {
         reference_out: *mut u8,
         reference_out_len: usize,
     ) -> JoinAnswer;
+    fn fovaheju_make_stage(
+        reference: *const u8,
+        reference_len: usize,
+        stage_out: *mut u8,
+        stage_out_len: usize,
+    ) -> Written;
 }
 
 /// The verdict on a stage file and a reference file.
-pub fn check(stage: &[u8], reference: &[u8]) -> Verdict {
+pub fn check(order: u64, stage: &[u8], reference: &[u8]) -> Verdict {
     // Safety: the contract has no `requires`, and each pointer and length are of a slice.
     unsafe {
         fovaheju_check(
+            order,
             stage.as_ptr(),
             stage.len(),
             reference.as_ptr(),
@@ -88,10 +107,11 @@ pub fn check(stage: &[u8], reference: &[u8]) -> Verdict {
 }
 
 /// The report on a stage file and a reference file: verdict, words, total, all 1,024 lines and their words.
-pub fn report(stage: &[u8], reference: &[u8]) -> Counts {
+pub fn report(order: u64, stage: &[u8], reference: &[u8]) -> Counts {
     // Safety: the contract has no `requires`, and each pointer and length are of a slice.
     let report = unsafe {
         fovaheju_report(
+            order,
             stage.as_ptr(),
             stage.len(),
             reference.as_ptr(),
@@ -115,6 +135,7 @@ pub fn settled_row(stage: &[u8], row: &mut [u8]) -> Verdict {
 
 /// The join of two pairs of files into two buffers.
 pub fn join(
+    order: u64,
     first: &FilePair,
     second: &FilePair,
     stage_out: &mut [u8],
@@ -123,6 +144,7 @@ pub fn join(
     // Safety: the contract has no `requires`, and each pointer and length are of a slice; the buffers are lent to be written.
     let answer = unsafe {
         fovaheju_join(
+            order,
             first.stage.as_ptr(),
             first.stage.len(),
             first.reference.as_ptr(),
@@ -141,5 +163,22 @@ pub fn join(
         verdict: answer.verdict.into(),
         stage_len: answer.stage_count as usize,
         reference_len: answer.reference_count as usize,
+    }
+}
+
+/// The stage of a reference file, into a buffer.
+pub fn make_stage(reference: &[u8], stage_out: &mut [u8]) -> Made {
+    // Safety: the contract has no `requires`, and each pointer and length are of a slice; the buffer is lent to be written.
+    let answer = unsafe {
+        fovaheju_make_stage(
+            reference.as_ptr(),
+            reference.len(),
+            stage_out.as_mut_ptr(),
+            stage_out.len(),
+        )
+    };
+    Made {
+        verdict: answer.verdict.into(),
+        len: answer.count as usize,
     }
 }

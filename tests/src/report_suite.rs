@@ -9,30 +9,37 @@ use crate::catalogue::{
     MARKED,
 };
 use crate::circuits::{ReferenceBuilder, Signal, StageBuilder};
-use crate::files::{report_text, unhex, verdict_line, write_pair, FilePair};
+use crate::compare::expected_report;
+use crate::files::{unhex, verdict_line, write_pair, FilePair};
 use crate::generate;
-use crate::judge::{report, ACCEPTED};
+use crate::judge::{report_in_order, WordOrder, ACCEPTED, ORDERS};
 use std::path::PathBuf;
 
 pub struct Case {
     pub about: String,
     pub pair: FilePair,
-    /// The line without the case's number, where it is known without the judge.
+    /// The line without the case's number, where it is known without the judge: of a caller that
+    /// sets the mark.
     pub known: Option<&'static str>,
 }
 
-/// What the program `report_suite` reads and what it must print: paths in its crate, with
-/// contents.
+/// What the program `report_suite` reads and what it must print, all cases in the one order of
+/// words and then in the other: paths in its crate, with contents.
 pub fn contents() -> Vec<(PathBuf, Vec<u8>)> {
     let mut list = Vec::new();
     let mut stdout = String::new();
-    for (index, case) in cases().iter().enumerate() {
+    let cases = cases();
+    for (index, case) in cases.iter().enumerate() {
         list.push((format!("data/{index:03}.s").into(), case.pair.stage.clone()));
         list.push((
             format!("data/{index:03}.r").into(),
             case.pair.reference.clone(),
         ));
-        stdout += &format!("{index:03} {}\n", line(&case.pair));
+    }
+    for order in ORDERS {
+        for (index, case) in cases.iter().enumerate() {
+            stdout += &format!("{index:03} {}\n", line(order, &case.pair));
+        }
     }
     list.push(("stdout".into(), stdout.into_bytes()));
     list
@@ -44,7 +51,8 @@ pub fn contents_of_ncl_report() -> Vec<(PathBuf, Vec<u8>)> {
         .into_iter()
         .find(|example| example.name == "full-adder")
         .expect("an example");
-    let text = report_text(&report(&example.pair.stage, &example.pair.reference));
+    let pair = &example.pair;
+    let text = expected_report(WordOrder::default(), &pair.stage, &pair.reference);
     vec![
         ("data/stage.ncl".into(), example.pair.stage),
         ("data/reference.ncl".into(), example.pair.reference),
@@ -52,10 +60,10 @@ pub fn contents_of_ncl_report() -> Vec<(PathBuf, Vec<u8>)> {
     ]
 }
 
-/// A pair's report in one line: each word, a colon and its number, each followed by a space,
+/// A pair's report in one line, in either order of words: each word, a colon and its number, each followed by a space,
 /// then `total` and the total; of a refused pair the four numbers.
-pub fn line(pair: &FilePair) -> String {
-    let report = report(&pair.stage, &pair.reference);
+pub fn line(order: WordOrder, pair: &FilePair) -> String {
+    let report = report_in_order(order, &pair.stage, &pair.reference);
     if report.verdict != ACCEPTED {
         return verdict_line(report.verdict).trim_end().to_string();
     }

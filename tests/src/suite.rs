@@ -16,8 +16,8 @@ use crate::files::{
 };
 use crate::generate::{self, Known};
 use crate::judge::{
-    check, expression_holds, is_retired, pin_count, Boolean, Reference, Stage, Verdict, ACCEPTED,
-    AND, KINDS, NONE, NOR, NOT, OR, REFERENCE, STAGE, XOR,
+    check_in_order, expression_holds, is_retired, pin_count, Boolean, Reference, Stage, Verdict,
+    WordOrder, ACCEPTED, AND, KINDS, LIMITS, NONE, NOR, NOT, OR, ORDERS, REFERENCE, STAGE, XOR,
 };
 use crate::row_suite::{self, cut, gate, output};
 use std::collections::BTreeSet;
@@ -39,18 +39,23 @@ pub fn crate_folder(program: &str) -> PathBuf {
         .join(program)
 }
 
-/// What the program `suite` reads and what it must print: paths in its crate, with
-/// contents.
+/// What the program `suite` reads and what it must print, all cases in the one order of words and
+/// then in the other: paths in its crate, with contents.
 pub fn contents() -> Vec<(PathBuf, Vec<u8>)> {
     let mut list = Vec::new();
     let mut stdout = String::new();
-    for (index, case) in cases().iter().enumerate() {
+    let cases = cases();
+    for (index, case) in cases.iter().enumerate() {
         list.push((format!("data/{index:03}.s").into(), case.pair.stage.clone()));
         list.push((
             format!("data/{index:03}.r").into(),
             case.pair.reference.clone(),
         ));
-        stdout += &line(index, case);
+    }
+    for order in ORDERS {
+        for (index, case) in cases.iter().enumerate() {
+            stdout += &line(order, index, case);
+        }
     }
     list.push(("stdout".into(), stdout.into_bytes()));
     list
@@ -62,7 +67,7 @@ pub fn contents_of_ncl_check() -> Vec<(PathBuf, Vec<u8>)> {
         .into_iter()
         .find(|example| example.name == "full-adder")
         .expect("an example");
-    let verdict = check(&example.pair.stage, &example.pair.reference);
+    let verdict = verdict_in(WordOrder::default(), &example.pair);
     vec![
         ("data/stage.ncl".into(), example.pair.stage),
         ("data/reference.ncl".into(), example.pair.reference),
@@ -70,9 +75,14 @@ pub fn contents_of_ncl_check() -> Vec<(PathBuf, Vec<u8>)> {
     ]
 }
 
+/// The judge's verdict in an order of words.
+pub fn verdict_in(order: WordOrder, pair: &FilePair) -> Verdict {
+    check_in_order(order, LIMITS, &pair.stage, &pair.reference)
+}
+
 /// A case's line: its index in three digits and the judge's four numbers.
-pub fn line(index: usize, case: &Case) -> String {
-    let verdict = check(&case.pair.stage, &case.pair.reference);
+pub fn line(order: WordOrder, index: usize, case: &Case) -> String {
+    let verdict = verdict_in(order, &case.pair);
     format!("{index:03} {}", verdict_line(verdict))
 }
 

@@ -28,7 +28,10 @@ fn kinds() -> Vec<Kind> {
         .map(|(i, text)| {
             let mut words = text.trim_end_matches('.').split(' ');
             assert_eq!(words.next().unwrap(), (i + 1).to_string());
-            Kind { name: words.next().unwrap().into(), expression: words.next().unwrap().into() }
+            Kind {
+                name: words.next().unwrap().into(),
+                expression: words.next().unwrap().into(),
+            }
         })
         .collect()
 }
@@ -49,13 +52,22 @@ fn the_two_papers_agree() {
 #[test]
 fn the_definitions_spell_the_papers_cells() {
     let specs = read("crates/gates/specs/Cell.antt");
-    let cells: Vec<&str> = specs.lines().filter_map(|l| l.trim().strip_prefix("cell \"")).filter(|l| l.starts_with("TH")).collect();
+    let cells: Vec<&str> = specs
+        .lines()
+        .filter_map(|l| l.trim().strip_prefix("cell \""))
+        .filter(|l| l.starts_with("TH"))
+        .collect();
     let kinds = kinds();
     assert_eq!(cells.len(), kinds.len());
     for (cell, kind) in cells.iter().zip(&kinds) {
         let (name, rest) = cell.split_once("\" ").unwrap();
         let (count, rest) = rest.split_once(" (").unwrap();
-        let expression = rest.split_once(')').unwrap().0.replace(" · ", "").replace(" ∔ ", "+");
+        let expression = rest
+            .split_once(')')
+            .unwrap()
+            .0
+            .replace(" · ", "")
+            .replace(" ∔ ", "+");
         assert_eq!(name, kind.name);
         assert_eq!(count, pins(&kind.expression).to_string(), "{name}");
         assert_eq!(expression, kind.expression, "{name}");
@@ -72,14 +84,28 @@ fn the_table_of_the_files_is_the_papers() {
     for (i, (row, kind)) in rows.iter().zip(&kinds).enumerate() {
         let letters = ["A", "B", "C", "D"][..pins(&kind.expression) as usize].join(" ");
         let expression = kind.expression.replace('+', " + ");
-        assert_eq!(row, &format!("| {} | {:02X} | {} | {letters} | {expression} |", i + 1, i + 1, kind.name));
+        assert_eq!(
+            row,
+            &format!(
+                "| {} | {:02X} | {} | {letters} | {expression} |",
+                i + 1,
+                i + 1,
+                kind.name
+            )
+        );
     }
 }
 
 #[test]
 fn the_table_holds_the_papers_expressions() {
     let source = read("crates/gates/src/lib.rt");
-    let body = source.split_once("const TABLE: [[u8; 16]; 27] = [").unwrap().1.split_once("];").unwrap().0;
+    let body = source
+        .split_once("const TABLE: [[u8; 16]; 27] = [")
+        .unwrap()
+        .1
+        .split_once("];")
+        .unwrap()
+        .0;
     let rows: Vec<Vec<u8>> = body
         .lines()
         .filter_map(|l| l.trim().strip_prefix('[')?.strip_suffix("],"))
@@ -96,13 +122,26 @@ fn the_table_holds_the_papers_expressions() {
 #[test]
 fn an_unweighted_gate_counts_its_pins() {
     for kind in kinds() {
-        let digits: Vec<u32> = kind.name[2..].chars().map_while(|c| c.to_digit(10)).collect();
+        let digits: Vec<u32> = kind.name[2..]
+            .chars()
+            .map_while(|c| c.to_digit(10))
+            .collect();
         if kind.name.contains('w') || digits.len() != 2 || kind.name.len() != 4 {
             continue;
         }
-        assert_eq!(digits[1], u32::from(pins(&kind.expression)), "{}", kind.name);
+        assert_eq!(
+            digits[1],
+            u32::from(pins(&kind.expression)),
+            "{}",
+            kind.name
+        );
         for pattern in 0..(1u8 << digits[1]) {
-            assert_eq!(holds(&kind.expression, pattern), pattern.count_ones() >= digits[0], "{} {pattern}", kind.name);
+            assert_eq!(
+                holds(&kind.expression, pattern),
+                pattern.count_ones() >= digits[0],
+                "{} {pattern}",
+                kind.name
+            );
         }
     }
 }

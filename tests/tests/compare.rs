@@ -2,23 +2,28 @@
 //! by the generated pairs and rows. Among them are those that document 01 names.
 
 use fovaheju_tests::compare::{
-    compare_checks, compare_pair, compare_rows, first_difference, lack, run_program, shrink, Check,
-    Difference, Histogram, SettledRow, CHECK_NUMBERS, JOIN_NUMBERS, ROW_NUMBERS,
+    compare_checks, compare_pair, compare_reports, compare_rows, first_difference, judged_counts,
+    lack, run_program, shrink, Check, CheckInOrder, Difference, Histogram, SettledRow,
+    CHECK_NUMBERS, JOIN_NUMBERS, MAKE_NUMBERS, ROW_NUMBERS,
 };
 use fovaheju_tests::files::{as_the_program_reads, unhex, verdict_from_line, FilePair};
 use fovaheju_tests::generate::pair;
 use fovaheju_tests::judge::{
-    answer, check, check_circuits, is_retired, least_gate_on_a_loop, least_retired_gate,
-    rails_of_word, read_reference, read_stage, set_expression_holds, settle, settled_row,
-    Reference, Stage, ACCEPTED,
+    answer, check, check_circuits, check_in_order, is_retired, least_gate_on_a_loop,
+    least_retired_gate, rails_of_word, read_reference, read_stage, set_expression_holds, settle,
+    settled_row, Reference, Stage, WordOrder, ACCEPTED, LIMITS, ORDERS,
 };
+use fovaheju_tests::suite::verdict_in;
 use std::path::Path;
 
 /// Of the comparison itself: two sides that are the same show no difference.
 #[test]
 fn the_judge_agrees_with_itself() {
+    let check: CheckInOrder = |order, s, r| check_in_order(order, LIMITS, s, r);
     let checks = compare_checks(check, 7, 500).unwrap();
-    assert_eq!(checks.iter().sum::<u64>(), 500);
+    assert_eq!(checks.iter().sum::<u64>(), 1_000);
+    let reports = compare_reports(judged_counts, 7, 400).unwrap();
+    assert_eq!(reports.iter().sum::<u64>(), 800);
     let rows = compare_rows(settled_row, 7, 500).unwrap();
     assert_eq!(rows.iter().sum::<u64>(), 500);
 }
@@ -31,10 +36,16 @@ fn a_lack_is_told() {
     assert_eq!(lack(&full, &CHECK_NUMBERS), None);
     assert_eq!(lack(&full, &ROW_NUMBERS), None);
     assert_eq!(lack(&full, &JOIN_NUMBERS), None);
+    assert_eq!(lack(&full, &MAKE_NUMBERS), None);
     for number in 0..full.len() {
         let mut histogram = full;
         histogram[number] = 0;
-        for numbers in [&CHECK_NUMBERS[..], &ROW_NUMBERS[..], &JOIN_NUMBERS[..]] {
+        for numbers in [
+            &CHECK_NUMBERS[..],
+            &ROW_NUMBERS[..],
+            &JOIN_NUMBERS[..],
+            &MAKE_NUMBERS[..],
+        ] {
             assert_eq!(
                 lack(&histogram, numbers).is_some(),
                 numbers.contains(&number)
@@ -52,22 +63,23 @@ fn a_lack_is_told() {
 /// A difference is told with both files in hexadecimal digits, and made smaller.
 #[test]
 fn a_difference_is_told() {
-    let wrong: Check = |stage, reference| match check(stage, reference) {
+    let wrong: CheckInOrder = |_, stage, reference| match check(stage, reference) {
         [8, file, at, 0] => [8, file, at + 1, 0],
         verdict => verdict,
     };
+    let order = WordOrder::default();
     let pair = FilePair {
         stage: unhex("01 03 02 01 00 00 01 00 FF FF FF FF 00 07"),
         reference: unhex("01 01 12"),
     };
-    let difference = compare_pair(wrong, "this pair", &pair).unwrap_err();
+    let difference = compare_pair(wrong, order, "this pair", &pair).unwrap_err();
     assert_eq!(
         difference.to_string(),
-        "this pair: judge 8 1 12 0, other 8 1 13 0\n\
+        "this pair, Input0Highest: judge 8 1 12 0, other 8 1 13 0\n\
          stage, 14 bytes: 01 03 02 01 00 00 01 00 FF FF FF FF 00 07\n\
          reference, 3 bytes: 01 01 12\n"
     );
-    let small = shrink(wrong, &pair);
+    let small = shrink(wrong, order, &pair);
     assert_eq!((small.stage.len(), small.reference.len()), (3, 0));
 }
 
@@ -247,7 +259,7 @@ fn the_pieces_used_here_are_right() {
             sweep(stage, reference, stage.words().into_iter())
         })
     };
-    compare_checks(right, 7, 1_000).unwrap();
+    first_difference(right, 7, 1_000).unwrap();
 }
 
 #[test]
@@ -894,7 +906,7 @@ fn with_other_reading(stage: &[u8], reference: &[u8], reading: &Reading) -> [u64
 /// Faults of one command in another order, or absent nets looked for in another order.
 #[test]
 fn wrong_reading_is_told() {
-    compare_checks(|s, r| with_other_reading(s, r, &RIGHT), 7, 3_000).unwrap();
+    first_difference(|s, r| with_other_reading(s, r, &RIGHT), 7, 3_000).unwrap();
     let wrong: Vec<(&str, Check)> = vec![
         ("1 before 2", |s, r| {
             with_other_reading(
@@ -1024,7 +1036,10 @@ fn the_judge_as_a_program() {
     let program = Path::new(env!("CARGO_BIN_EXE_judge"));
     let folder = std::env::temp_dir().join(format!("fovaheju-tests-{}", std::process::id()));
     std::fs::create_dir_all(&folder).unwrap();
-    let run = |pair: &FilePair, leave_out| run_program(program, &folder, pair, leave_out).unwrap();
+    let run_in = |arguments: &[&str], pair: &FilePair, leave_out| {
+        run_program(program, arguments, &folder, pair, leave_out).unwrap()
+    };
+    let run = |pair: &FilePair, leave_out| run_in(&[], pair, leave_out);
     let empty = FilePair {
         stage: vec![],
         reference: vec![],
@@ -1039,10 +1054,10 @@ fn the_judge_as_a_program() {
     assert_eq!(run(&wire, true), "1 2 0 0\n");
     for index in 0..60 {
         let pair = pair(7, index).pair;
-        assert_eq!(
-            verdict_from_line(&run(&pair, true)),
-            Some(check(&pair.stage, &pair.reference))
-        );
+        for (order, arguments) in ORDERS.into_iter().zip([&[][..], &["--lowest"]]) {
+            let printed = verdict_from_line(&run_in(arguments, &pair, true));
+            assert_eq!(printed, Some(verdict_in(order, &pair)));
+        }
     }
     std::fs::remove_dir_all(&folder).unwrap();
 }

@@ -3,10 +3,10 @@
 //!
 //! FOVAHEJU_SEED and FOVAHEJU_COUNT name another seed and count.
 
-use fovaheju_tests::circuits::{dual_rail, reordered};
+use fovaheju_tests::circuits::reordered;
 use fovaheju_tests::compare::seed_and_count;
 use fovaheju_tests::files::{hex, write_reference, write_stage};
-use fovaheju_tests::generate::{accepted, pair, random_reference, row_case, Random, Size};
+use fovaheju_tests::generate::{accepted, pair, row_case, Random, Size};
 use fovaheju_tests::judge::{
     check, is_settled, least_gate_on_a_loop, read_reference, read_stage, settled_row, ACCEPTED,
 };
@@ -115,30 +115,6 @@ fn the_same_seed_gives_the_same_pairs() {
         first,
         [6_791_897_765_849_424_158, 17_405_687_883_870_564_846]
     );
-}
-
-/// Every reference whose signals all lead to outputs gives an accepted stage by the
-/// templates of M-107 of document 02.
-#[test]
-fn templates_are_accepted() {
-    let (seed, _) = seed_and_count(0);
-    let mut most = 0;
-    for index in 0..400 {
-        let random = &mut Random::new(seed, index);
-        let inputs = random.from_to(1, 6);
-        let gates = random.from_to(0, 14);
-        let reference = random_reference(random, inputs, gates);
-        let stage = dual_rail(&reference);
-        most = most.max(stage.gates.len());
-        let verdict = check(&write_stage(&stage), &write_reference(&reference));
-        assert_eq!(
-            verdict,
-            ACCEPTED,
-            "reference {}",
-            hex(&write_reference(&reference))
-        );
-    }
-    assert!(most > 16);
 }
 
 /// Another order of the gates changes no verdict but for the gate named, and what is

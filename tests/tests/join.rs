@@ -1,18 +1,21 @@
 //! The join of two stages (M-105 of document 02): the judge's joins, the generated ones, and the
 //! stored cases.
 
-use fovaheju_tests::compare::{compare_joins, lack, seed_and_count, Histogram, Join, JOIN_NUMBERS};
+use fovaheju_tests::compare::{
+    compare_joins, lack, seed_and_count, Histogram, JoinInOrder, JOIN_NUMBERS,
+};
 use fovaheju_tests::explore::promise;
 use fovaheju_tests::files::{hex, unhex, write_reference, write_stage, FilePair};
 use fovaheju_tests::generate::joins::{join_case, JoinCase};
 use fovaheju_tests::generate::{accepted, Random, Size};
 use fovaheju_tests::join::{
-    join, joined_reference, joined_stage, word_of_answer, Joined, PART_LIMITS, WHOLE_LIMITS,
+    join, join_in_order, joined_reference, joined_stage, word_of_answer, Joined, PART_LIMITS,
+    WHOLE_LIMITS,
 };
 use fovaheju_tests::join_suite::{cases, contents, contents_of_ncl_join, line};
 use fovaheju_tests::judge::{
     answer, check_within, is_relaxed, read_reference_within, read_stage_within, Limits, Reference,
-    Stage, ACCEPTED,
+    Stage, ACCEPTED, ORDERS,
 };
 use fovaheju_tests::suite::{crate_folder, is_stored};
 use std::collections::{BTreeMap, BTreeSet};
@@ -268,7 +271,10 @@ fn stored_cases() {
             case.known
         );
         seen.insert((verdict[0], verdict[1]));
-        assert!(line(index, case).starts_with(&format!("{index:03} {} ", verdict[0])));
+        for order in ORDERS {
+            let line = line(order, index, case);
+            assert!(line.starts_with(&format!("{index:03} {} ", verdict[0])));
+        }
         for bytes in [
             &first.stage,
             &first.reference,
@@ -307,20 +313,20 @@ fn stored_cases() {
 /// Of the comparison itself: the judge agrees with itself, and the joins have all numbers.
 #[test]
 fn the_judge_agrees_with_itself() {
-    let histogram: Histogram = compare_joins(join, 11, 4_000).unwrap();
+    let histogram: Histogram = compare_joins(join_in_order, 11, 2_500).unwrap();
     assert_eq!(lack(&histogram, &JOIN_NUMBERS), None);
 }
 
 /// Joins that are wrong in one way each are told from the judge's.
 #[test]
 fn wrong_joins_are_told() {
-    let wrong: [(&str, Join); 10] = [
+    let wrong: [(&str, JoinInOrder); 10] = [
         (
             "the second part first",
-            |first, second, stage, reference| {
+            |order, first, second, stage, reference| {
                 let empty = (&mut [][..], &mut [][..]);
-                let later = join(second, first, empty.0, empty.1).verdict;
-                let joined = join(first, second, stage, reference);
+                let later = join_in_order(order, second, first, empty.0, empty.1).verdict;
+                let joined = join_in_order(order, first, second, stage, reference);
                 match (joined.verdict, later) {
                     ([1..=21, 1..=2, ..], [number @ 1..=21, file @ 1..=2, at, word]) => Joined {
                         verdict: [number, file + 3, at, word],
@@ -332,8 +338,8 @@ fn wrong_joins_are_told() {
         ),
         (
             "3 not added to 10 and 11",
-            |first, second, stage, reference| {
-                let mut joined = join(first, second, stage, reference);
+            |order, first, second, stage, reference| {
+                let mut joined = join_in_order(order, first, second, stage, reference);
                 if joined.verdict[1] == 3 && joined.verdict[0] < 12 {
                     joined.verdict[1] = 0;
                 }
@@ -342,8 +348,8 @@ fn wrong_joins_are_told() {
         ),
         (
             "the stage's file for the reference's",
-            |first, second, stage, reference| {
-                let mut joined = join(first, second, stage, reference);
+            |order, first, second, stage, reference| {
+                let mut joined = join_in_order(order, first, second, stage, reference);
                 if joined.verdict[1] == 5 {
                     joined.verdict[1] = 4;
                 }
@@ -352,54 +358,63 @@ fn wrong_joins_are_told() {
         ),
         (
             "22 the other way round",
-            |first, second, stage, reference| {
-                let mut joined = join(first, second, stage, reference);
+            |order, first, second, stage, reference| {
+                let mut joined = join_in_order(order, first, second, stage, reference);
                 if joined.verdict[0] == 22 {
                     joined.verdict.swap(2, 3);
                 }
                 joined
             },
         ),
-        ("23 names the answer", |first, second, stage, reference| {
-            let mut joined = join(first, second, stage, reference);
-            if let [23, _, _, word] = joined.verdict {
-                let reference = read_reference_within(PART_LIMITS, &first.reference).unwrap();
-                joined.verdict[3] = word_of_answer(&answer(&reference, word));
-            }
-            joined
-        }),
-        ("24 before 22 and 23", |first, second, stage, reference| {
-            let short = stage.is_empty() || reference.is_empty();
-            let mut joined = join(first, second, stage, reference);
-            if short && joined.verdict[0] >= 22 {
-                joined.verdict = [24, 3, 0, 0];
-            }
-            joined
-        }),
+        (
+            "23 names the answer",
+            |order, first, second, stage, reference| {
+                let mut joined = join_in_order(order, first, second, stage, reference);
+                if let [23, _, _, word] = joined.verdict {
+                    let reference = read_reference_within(PART_LIMITS, &first.reference).unwrap();
+                    joined.verdict[3] = word_of_answer(&answer(&reference, word));
+                }
+                joined
+            },
+        ),
+        (
+            "24 before 22 and 23",
+            |order, first, second, stage, reference| {
+                let short = stage.is_empty() || reference.is_empty();
+                let mut joined = join_in_order(order, first, second, stage, reference);
+                if short && joined.verdict[0] >= 22 {
+                    joined.verdict = [24, 3, 0, 0];
+                }
+                joined
+            },
+        ),
         (
             "the stage written under 24",
-            |first, second, stage, reference| {
+            |order, first, second, stage, reference| {
                 let mut whole = [vec![0; 8192], vec![0; 8192]];
                 let [all, rest] = &mut whole;
-                let full = join(first, second, all, rest);
-                let joined = join(first, second, stage, reference);
+                let full = join_in_order(order, first, second, all, rest);
+                let joined = join_in_order(order, first, second, stage, reference);
                 if joined.verdict[0] == 24 && stage.len() >= full.stage_len {
                     stage[..full.stage_len].copy_from_slice(&whole[0][..full.stage_len]);
                 }
                 joined
             },
         ),
-        ("a byte past the end", |first, second, stage, reference| {
-            let joined = join(first, second, stage, reference);
-            if joined.verdict == ACCEPTED && stage.len() > joined.stage_len {
-                stage[joined.stage_len] = 0;
-            }
-            joined
-        }),
+        (
+            "a byte past the end",
+            |order, first, second, stage, reference| {
+                let joined = join_in_order(order, first, second, stage, reference);
+                if joined.verdict == ACCEPTED && stage.len() > joined.stage_len {
+                    stage[joined.stage_len] = 0;
+                }
+                joined
+            },
+        ),
         (
             "the limits of the whole for the parts",
-            |first, second, stage, reference| {
-                let mut joined = join(first, second, stage, reference);
+            |order, first, second, stage, reference| {
+                let mut joined = join_in_order(order, first, second, stage, reference);
                 if joined.verdict[0] == 6 && joined.verdict[2] == 1282 {
                     joined.verdict = ACCEPTED;
                 }
@@ -408,9 +423,9 @@ fn wrong_joins_are_told() {
         ),
         (
             "the second's care list written too",
-            |first, second, stage, reference| {
+            |order, first, second, stage, reference| {
                 let list = read_stage_within(PART_LIMITS, &second.stage).map(|stage| stage.care);
-                let mut joined = join(first, second, stage, reference);
+                let mut joined = join_in_order(order, first, second, stage, reference);
                 if joined.verdict == ACCEPTED && list.is_ok_and(|list| !list.is_empty()) {
                     joined.stage_len += 3;
                 }

@@ -3,12 +3,13 @@
 
 use fovaheju_tests::catalogue::MARKED;
 use fovaheju_tests::compare::{
-    compare_reports, judged_counts, run_program, Counts, Difference, Report,
+    compare_reports, expected_report, judged_counts, run_program, Counts, Difference, ReportInOrder,
 };
 use fovaheju_tests::files::{report_text, unhex};
 use fovaheju_tests::generate::pair;
 use fovaheju_tests::judge::{
-    cell, check, pin_count, read_stage, report, settled_row, Gate, Stage, ACCEPTED, KINDS,
+    cell, check, pin_count, read_stage, report, settled_row, Gate, Stage, WordOrder, ACCEPTED,
+    KINDS, ORDERS,
 };
 use fovaheju_tests::report_suite::{cases, contents, contents_of_ncl_report, line};
 use fovaheju_tests::suite::{crate_folder, is_stored};
@@ -81,24 +82,27 @@ fn generated_pairs() {
 #[test]
 fn wrong_reports_are_told() {
     assert!(compare_reports(judged_counts, 7, 300).is_ok());
-    let wrong: [(&str, Report); 8] = [
-        ("all words where a list is given", |stage, reference| {
-            let counts = judged_counts(stage, reference);
-            match read_stage(stage) {
-                Ok(stage) if counts.verdict == ACCEPTED => Counts {
-                    words: 1 << stage.inputs,
-                    ..counts
-                },
-                _ => counts,
-            }
-        }),
-        ("a word left out of the total", |stage, reference| {
-            let counts = judged_counts(stage, reference);
+    let wrong: [(&str, ReportInOrder); 8] = [
+        (
+            "all words where a list is given",
+            |order, stage, reference| {
+                let counts = judged_counts(order, stage, reference);
+                match read_stage(stage) {
+                    Ok(stage) if counts.verdict == ACCEPTED => Counts {
+                        words: 1 << stage.inputs,
+                        ..counts
+                    },
+                    _ => counts,
+                }
+            },
+        ),
+        ("a word left out of the total", |order, stage, reference| {
+            let counts = judged_counts(order, stage, reference);
             let total = counts.total - u64::from(counts.lines[0]);
             Counts { total, ..counts }
         }),
-        ("lines that count low gates", |stage, reference| {
-            let mut counts = judged_counts(stage, reference);
+        ("lines that count low gates", |order, stage, reference| {
+            let mut counts = judged_counts(order, stage, reference);
             if counts.verdict == ACCEPTED {
                 let gates = read_stage(stage).unwrap().gates.len() as u16;
                 let lines = counts.lines.iter_mut().take(counts.words as usize);
@@ -111,15 +115,15 @@ fn wrong_reports_are_told() {
             }
             counts
         }),
-        ("lines for a refused pair", |stage, reference| {
-            let mut counts = judged_counts(stage, reference);
+        ("lines for a refused pair", |order, stage, reference| {
+            let mut counts = judged_counts(order, stage, reference);
             if let Ok(stage) = read_stage(stage) {
                 counts.words = stage.words().len() as u64;
             }
             counts
         }),
-        ("input rails counted too", |stage, reference| {
-            let mut counts = judged_counts(stage, reference);
+        ("input rails counted too", |order, stage, reference| {
+            let mut counts = judged_counts(order, stage, reference);
             let inputs = u16::from(stage.get(1).copied().unwrap_or(0));
             let lines = counts.lines.iter_mut().take(counts.words as usize);
             counts.total = lines
@@ -130,8 +134,8 @@ fn wrong_reports_are_told() {
                 .sum();
             counts
         }),
-        ("the last word left out", |stage, reference| {
-            let mut counts = judged_counts(stage, reference);
+        ("the last word left out", |order, stage, reference| {
+            let mut counts = judged_counts(order, stage, reference);
             if counts.words > 0 {
                 counts.words -= 1;
                 let last = std::mem::take(&mut counts.lines[counts.words as usize]);
@@ -139,15 +143,15 @@ fn wrong_reports_are_told() {
             }
             counts
         }),
-        ("lines past the words", |stage, reference| {
-            let mut counts = judged_counts(stage, reference);
+        ("lines past the words", |order, stage, reference| {
+            let mut counts = judged_counts(order, stage, reference);
             if counts.words < 1024 {
                 counts.lines[counts.words as usize] = 1;
             }
             counts
         }),
-        ("words in falling order", |stage, reference| {
-            let mut counts = judged_counts(stage, reference);
+        ("words in falling order", |order, stage, reference| {
+            let mut counts = judged_counts(order, stage, reference);
             counts.lines[..counts.words as usize].reverse();
             counts
         }),
@@ -168,13 +172,14 @@ fn the_judge_as_a_program() {
     fs::create_dir_all(&folder).unwrap();
     for index in 0..40 {
         let pair = pair(8, index).pair;
-        run_program(program, &folder, &pair, true).unwrap();
-        let output = std::process::Command::new(program)
-            .args(["--report".as_ref(), folder.as_os_str()])
-            .output()
-            .unwrap();
-        let expected = report_text(&report(&pair.stage, &pair.reference));
-        assert_eq!(String::from_utf8(output.stdout).unwrap(), expected);
+        for (order, arguments) in ORDERS
+            .into_iter()
+            .zip([&["--report"][..], &["--report", "--lowest"]])
+        {
+            let printed = run_program(program, arguments, &folder, &pair, true).unwrap();
+            let expected = expected_report(order, &pair.stage, &pair.reference);
+            assert_eq!(printed, expected);
+        }
     }
     fs::remove_dir_all(&folder).unwrap();
 }
@@ -201,10 +206,19 @@ fn the_program_reads_all_cases() {
 fn lines_of_the_cases() {
     for case in cases() {
         if let Some(known) = case.known {
-            assert_eq!(line(&case.pair), known, "{}", case.about);
+            let line = line(WordOrder::Input0Lowest, &case.pair);
+            assert_eq!(line, known, "{}", case.about);
         }
     }
-    let lines: Vec<String> = cases().iter().map(|case| line(&case.pair)).collect();
+    let cases = cases();
+    let lines = |order| -> Vec<String> {
+        let lines = cases.iter().map(|case| line(order, &case.pair));
+        lines.collect()
+    };
+    let [lines, lowest] = ORDERS.map(lines);
+    let turned = lines.iter().zip(&lowest).filter(|(a, b)| a != b);
+    let turned = turned.count();
+    assert!(turned >= 30, "{turned} cases show the order of words");
     let words = |line: &String| line.matches(':').count();
     for count in [2, 4, 8, 16, 64, 256, 1024] {
         assert!(

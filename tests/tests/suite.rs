@@ -1,8 +1,10 @@
 //! The stored cases of the programs `suite` and `ncl_check`: their files are those
 //! described, and the output that they are held to is the judge's.
 
-use fovaheju_tests::judge::check;
-use fovaheju_tests::suite::{cases, contents, contents_of_ncl_check, crate_folder, is_stored};
+use fovaheju_tests::judge::{check, ORDERS};
+use fovaheju_tests::suite::{
+    cases, contents, contents_of_ncl_check, crate_folder, is_stored, verdict_in,
+};
 use std::collections::BTreeSet;
 use std::fs;
 
@@ -26,18 +28,25 @@ fn the_program_reads_all_cases() {
     }
 }
 
-/// The judge's verdicts are those written by hand.
+/// The judge's verdicts with the mark are those written by hand. By default they have the same number
+/// and file, and differ at most where they name a word; each of these numbers has a case that does.
 #[test]
 fn verdicts() {
+    let mut turned = BTreeSet::new();
     for case in cases() {
-        let verdict = check(&case.pair.stage, &case.pair.reference);
+        let [by_default, verdict] = ORDERS.map(|order| verdict_in(order, &case.pair));
         assert!(
             case.known.agrees(verdict),
             "{}: {verdict:?}, not {:?}",
             case.about,
             case.known
         );
+        assert_eq!(by_default[..2], verdict[..2], "{}", case.about);
+        if by_default != verdict {
+            turned.insert(verdict[0]);
+        }
     }
+    assert_eq!(turned, BTreeSet::from([13, 14, 15, 20, 21]));
 }
 
 /// Each verdict has several cases, 1 to 9 in either file.

@@ -19,6 +19,8 @@ use Rattle.verdict.specs.Retired as e
 use Rattle.verdict.specs.Checks as h
 use Rattle.verdict.specs.Checks.{verdict}
 use Rattle.verdict.specs.Verdicts as v
+use Rattle.verdict.specs.declared.WordOrder.{WordOrder}
+use Rattle.verdict.specs.declared.WordOrder.the-variants.{FirstHighest, FirstLowest}
 use Rattle.verdict.specs.Verdicts.{verdictOn, settledRow, RowAnswer, answerWith}
 
 -- ---- files
@@ -158,6 +160,21 @@ firstInput n m = 1 ∷ n ∷ go m
     go zero = 0 ∷ []
     go (suc m) = 0x12 ∷ 0 ∷ 0 ∷ go m
 
+-- OR of two inputs whose rail 1 is TH12(1, 3), and its reference
+earlyOr : List ℕ
+earlyOr = 1 ∷ 2 ∷ twoPins 2 0 2 (twoPins 1 1 3 (pair 4 5 (0 ∷ [])))
+
+orReference : List ℕ
+orReference = 1 ∷ 2 ∷ 0x11 ∷ 3 ∷ 0 ∷ 0 ∷ 1 ∷ 0 ∷ 0x12 ∷ 2 ∷ 0 ∷ 0 ∷ []
+
+-- two wires, and TH22(1, 2) that feeds nothing; their reference
+unobserved : List ℕ
+unobserved = 1 ∷ 2 ∷ twoPins 2 1 2 (pair 0 1 (pair 2 3 (0 ∷ [])))
+
+twoWires : List ℕ
+twoWires = 1 ∷ 2 ∷ 0x12 ∷ 0 ∷ 0 ∷ 0x12 ∷ 1 ∷ 0 ∷ 0 ∷ []
+
+-- words of two inputs are written with input 0 first
 pub ordered : List Case
 ordered =
     -- two faults at once: the earlier check is named
@@ -170,16 +187,18 @@ ordered =
     -- the least gate on a loop of gates 1 and 2: gate 0 is fed by the loop; gate 0 feeds the loop
     case (1 ∷ 1 ∷ twoPins 1 3 0 (twoPins 1 4 0 (twoPins 1 3 0 (pair 0 1 (0 ∷ []))))) wireReference (verdict 12 1 1 0) ∷
     case (1 ∷ 1 ∷ twoPins 1 0 1 (twoPins 1 2 4 (twoPins 1 3 0 (pair 0 1 (0 ∷ []))))) wireReference (verdict 12 1 1 0) ∷
-    -- a wire against AND: wrong in word 1
-    case (1 ∷ 2 ∷ pair 0 1 (0 ∷ [])) andReference (verdict 13 1 0 1) ∷
-    -- two outputs against AND twice, the second wrong in word 0, the first in word 1
+    -- a wire against AND: wrong where input 0 alone is 1, in word 10
+    case (1 ∷ 2 ∷ pair 0 1 (0 ∷ [])) andReference (verdict 13 1 0 2) ∷
+    -- two outputs against AND twice, the second wrong in word 00, the first in word 10
     case (1 ∷ 2 ∷ pair 0 1 (pair 1 0 (0 ∷ []))) (1 ∷ 2 ∷ 0x11 ∷ 2 ∷ 0 ∷ 0 ∷ 1 ∷ 0 ∷ 0x12 ∷ 2 ∷ 0 ∷ 0x12 ∷ 2 ∷ 0 ∷ 0 ∷ []) (verdict 13 1 1 0) ∷
-    -- OR whose rail 1 does not wait for both inputs: word 1 does without input 1
-    case (1 ∷ 2 ∷ twoPins 2 0 2 (twoPins 1 1 3 (pair 4 5 (0 ∷ [])))) (1 ∷ 2 ∷ 0x11 ∷ 3 ∷ 0 ∷ 0 ∷ 1 ∷ 0 ∷ 0x12 ∷ 2 ∷ 0 ∷ 0 ∷ []) (verdict 14 1 1 1) ∷
-    -- the same with TH22(0, 2) that feeds nothing: 14 in word 1 comes before 15 in word 0
-    case (1 ∷ 2 ∷ twoPins 2 0 2 (twoPins 1 1 3 (twoPins 2 0 2 (pair 4 5 (0 ∷ []))))) (1 ∷ 2 ∷ 0x11 ∷ 3 ∷ 0 ∷ 0 ∷ 1 ∷ 0 ∷ 0x12 ∷ 2 ∷ 0 ∷ 0 ∷ []) (verdict 14 1 1 1) ∷
-    -- two wires, and TH22(1, 3) that feeds nothing and rises in word 3 only
+    -- OR whose rail 1 does not wait for both inputs: word 01 does without input 0
+    case earlyOr orReference (verdict 14 1 0 1) ∷
+    -- the same with TH22(0, 2) that feeds nothing: 14 in word 01 comes before 15 in word 00
+    case (1 ∷ 2 ∷ twoPins 2 0 2 (twoPins 1 1 3 (twoPins 2 0 2 (pair 4 5 (0 ∷ []))))) orReference (verdict 14 1 0 1) ∷
+    -- two wires, and TH22(1, 3) that feeds nothing and rises in word 11 only
     case (1 ∷ 2 ∷ twoPins 2 1 3 (pair 0 1 (pair 2 3 (0 ∷ [])))) (1 ∷ 2 ∷ 0x12 ∷ 0 ∷ 0 ∷ 0x12 ∷ 1 ∷ 0 ∷ 0 ∷ []) (verdict 15 1 0 3) ∷
+    -- the same with TH22(1, 2), which rises in word 10 only
+    case unobserved twoWires (verdict 15 1 0 2) ∷
     -- the same with TH22(0, 1), which rises in no word
     case (1 ∷ 2 ∷ twoPins 2 0 1 (pair 0 1 (pair 2 3 (0 ∷ [])))) (1 ∷ 2 ∷ 0x12 ∷ 0 ∷ 0 ∷ 0x12 ∷ 1 ∷ 0 ∷ 0 ∷ []) (verdict 0 0 0 0) ∷
     []
@@ -262,10 +281,42 @@ care =
     case (1 ∷ 2 ∷ cared 3 earlyGates) andReference (verdict 0 0 0 0) ∷
     case (1 ∷ 2 ∷ twoPins 1 0 2 (cared 3 (twoPins 2 1 3 (pair 4 5 (0 ∷ []))))) andReference (verdict 0 0 0 0) ∷
     case (1 ∷ 2 ∷ twoPins 1 0 2 (twoPins 2 1 3 (pair 4 5 (cared 3 (0 ∷ []))))) andReference (verdict 0 0 0 0) ∷
-    case (1 ∷ 2 ∷ cared 1 (cared 3 earlyGates)) andReference (verdict 14 1 0 1) ∷
+    case (1 ∷ 2 ∷ cared 1 (cared 3 earlyGates)) andReference (verdict 14 1 0 2) ∷
     case (1 ∷ 2 ∷ cared 0 (cared 1 (cared 2 (cared 3 earlyGates)))) andReference (verdict 14 1 0 0) ∷
-    -- a care word is not its place in the list: word 2 is the first of which something is found, and is named
+    -- a care word is not its place in the list, and not its name: word 2 of the file is 01, the first of which something is found
+    case (1 ∷ 2 ∷ cared 2 earlyGates) andReference (verdict 14 1 1 1) ∷
+    -- the least name is that of the second care word
+    case (1 ∷ 2 ∷ cared 1 (cared 2 earlyGates)) andReference (verdict 14 1 1 1) ∷
+    []
+
+-- ---- the order of the files, by the mark
+
+-- AND of input 0 and NOT of input 1 with a relaxed TH22, which falls with the first of its pins, and its reference
+fallsEarly : List ℕ
+fallsEarly = 1 ∷ 2 ∷ twoPins 0x82 1 2 (2 ∷ 0x1A ∷ 0 ∷ 0 ∷ 3 ∷ 0 ∷ 1 ∷ 0 ∷ 2 ∷ 0 ∷ pair 5 4 (0 ∷ []))
+
+andNotReference : List ℕ
+andNotReference = 1 ∷ 2 ∷ 0x11 ∷ 1 ∷ 1 ∷ 0 ∷ FFFF ++ (0x11 ∷ 2 ∷ 0 ∷ 0 ∷ 2 ∷ 0 ∷ 0x12 ∷ 3 ∷ 0 ∷ 0 ∷ [])
+
+-- two wires, the rail 1 of the first through a buffer with hold, whose fall the relaxed gate behind it does not wait for
+staysHigh : List ℕ
+staysHigh = 1 ∷ 2 ∷ twoPins 1 1 1 (twoPins 0x82 4 1 (pair 0 5 (pair 2 3 (0 ∷ []))))
+
+pub inFilesOrder : List Case
+inFilesOrder =
+    case (1 ∷ 2 ∷ pair 0 1 (0 ∷ [])) andReference (verdict 13 1 0 1) ∷
+    case earlyOr orReference (verdict 14 1 1 1) ∷
+    case (1 ∷ 2 ∷ twoPins 2 0 2 (twoPins 1 1 3 (twoPins 2 0 2 (pair 4 5 (0 ∷ []))))) orReference (verdict 14 1 1 1) ∷
+    case (1 ∷ 2 ∷ cared 1 (cared 3 earlyGates)) andReference (verdict 14 1 0 1) ∷
     case (1 ∷ 2 ∷ cared 2 earlyGates) andReference (verdict 14 1 1 2) ∷
+    case (1 ∷ 2 ∷ cared 1 (cared 2 earlyGates)) andReference (verdict 14 1 0 1) ∷
+    case unobserved twoWires (verdict 15 1 0 1) ∷
+    case fallsEarly andNotReference (verdict 20 1 0 1) ∷
+    case staysHigh twoWires (verdict 21 1 0 1) ∷
+    -- what is no word is the same in either order: the counts under 10 and 11, and the place of a care word
+    case wire (firstInput 2 3) (verdict 10 0 1 2) ∷
+    case wire (firstInput 1 2) (verdict 11 0 1 2) ∷
+    case (1 ∷ 1 ∷ cared 2 []) wireReference (verdict 18 1 3 0) ∷
     []
 
 -- ---- relaxed gates, kinds 129 to 155, and the fall
@@ -292,6 +343,9 @@ relaxed =
     case (andOf 0x82 0x1A) andReference (verdict 20 1 0 3) ∷
     case (andOf 2 0x9A) andReference (verdict 20 1 0 0) ∷
     case (andOf 0x82 0x9A) andReference (verdict 20 1 0 0) ∷
+    -- 20 and 21 in word 10, which is not the same from the other end
+    case fallsEarly andNotReference (verdict 20 1 0 2) ∷
+    case staysHigh twoWires (verdict 21 1 0 2) ∷
     -- a buffer with hold whose output gate does not wait for its fall, and one that does
     case (1 ∷ 1 ∷ buffers 1 (twoPins 0x82 2 0 (twoPins 0x82 3 1 (pair 4 5 (0 ∷ []))))) wireReference (verdict 21 1 0 0) ∷
     case (1 ∷ 1 ∷ buffers 1 (twoPins 2 2 0 (twoPins 2 3 1 (pair 4 5 (0 ∷ []))))) wireReference (verdict 0 0 0 0) ∷
@@ -326,8 +380,12 @@ retired =
     case (1 ∷ 1 ∷ twoPins 2 1 1 (onePin 0x98 2 (onePin 0x18 3 (pair 0 4 (0 ∷ []))))) wireReference (verdict 28 1 1 0) ∷
     []
 
+abbrev judgedIn : WordOrder → List Case → List Verdict
+judgedIn order cases = map (λ (x : Case). verdictOn order (x .stage) (x .reference)) cases
+
+-- in the order that is taken where nothing is said
 abbrev judged : List Case → List Verdict
-judged cases = map (λ (x : Case). verdictOn (x .stage) (x .reference)) cases
+judged = judgedIn FirstHighest
 
 abbrev expected : List Case → List Verdict
 expected cases = map (λ (x : Case). x .expected) cases
@@ -383,19 +441,20 @@ Computed =
     × (judged ordered ≡ expected ordered)
     × (judged refused ≡ expected refused)
     × (judged care ≡ expected care)
+    × (judgedIn FirstLowest inFilesOrder ≡ expected inFilesOrder)
     × (judged relaxed ≡ expected relaxed)
     × (judged retired ≡ expected retired)
     × (map (λ (x : RowCase). settledRow (x .stage) (x .row)) rowExamples ≡ map (λ (x : RowCase). x .expected) rowExamples)
 
 computed : Computed
-unfolding twelve examples ordered refused care earlyGates relaxed retired rowExamples wire wireReference wholeStage andReference swapped notReference earlyAnd wires wireSignals
+unfolding twelve examples ordered refused care inFilesOrder earlyGates earlyOr orReference unobserved twoWires fallsEarly andNotReference staysHigh relaxed retired rowExamples wire wireReference wholeStage andReference swapped notReference earlyAnd wires wireSignals
     outputs firstInput inverters c.cells c.cellAt c.pinCount c.setExpression c.retiredCells c.among c.isRetired c.kindOf b.operand b.operands
     k.whenFound k.ownCommands k.commandTable k.formIn k.pinsNeeded k.needed k.stray k.misfit k.misfitFrom k.takeGate k.takeCare k.takeSort k.takeCommand k.nextAt
     r.nameable r.nameless r.usedOperands r.namelessAt r.namelessFrom r.floorAfter r.noted r.finish r.onNext r.readFrom r.readFile t.stageOf t.referenceOf o.withNull o.isSet o.rounds o.settledLevels o.levelsHolding o.everyPair
-    g.tabulate g.leading l.gateSteps l.reachesItself w.numbers w.caredFor w.words w.bitsOf w.railsOf a.operate a.signalValues a.answer h.first h.atFault h.sweep
+    g.tabulate g.leading l.gateSteps l.reachesItself w.numbers w.caredFor w.words w.bitsOf w.railsOf w.wordOf w.spelled w.isIn w.select w.names a.operate a.signalValues a.answer h.first h.atFault h.sweep
     h.finding h.orLater h.firstFault h.wrong h.incomplete h.unobservable h.fallIncomplete h.fallUnobservable h.riseSweeps h.fallSweeps f.stays f.fallenLevels f.fallen
     e.retiredAt h.checks h.illegal h.rowChecks v.verdictOf v.judgeReference v.judgeStage v.verdictWithin v.settleUnless v.settleReading v.settledRowWithin
-computed = (refl, refl, refl, refl, refl, refl, refl, refl)
+computed = (refl, refl, refl, refl, refl, refl, refl, refl, refl)
 
 pub twelve-cases : judged twelve ≡ expected twelve
 twelve-cases = computed .0
@@ -412,11 +471,14 @@ refused-first = computed .3
 pub care-cases : judged care ≡ expected care
 care-cases = computed .4
 
+pub files-order-cases : judgedIn FirstLowest inFilesOrder ≡ expected inFilesOrder
+files-order-cases = computed .5
+
 pub relaxed-cases : judged relaxed ≡ expected relaxed
-relaxed-cases = computed .5
+relaxed-cases = computed .6
 
 pub retired-cases : judged retired ≡ expected retired
-retired-cases = computed .6
+retired-cases = computed .7
 
 pub row-cases : map (λ (x : RowCase). settledRow (x .stage) (x .row)) rowExamples ≡ map (λ (x : RowCase). x .expected) rowExamples
-row-cases = computed .7
+row-cases = computed .8

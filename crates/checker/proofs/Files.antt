@@ -11,6 +11,7 @@ use Rattle.netlist.specs.Reading.{Reading, refused, readable, readFile}
 use Rattle.netlist.specs.Read.{outcomeOf}
 use Rattle.netlist.specs.Content.{Stage, Reference}
 use Rattle.verdict.specs.declared.Verdict.{Verdict}
+use Rattle.verdict.specs.declared.WordOrder.{WordOrder}
 use Rattle.verdict.specs.declared.Finding.{Finding}
 use Rattle.verdict.specs.Checks.{verdict, firstFault, checks}
 use Rattle.verdict.specs.Verdicts.{verdictOf, judgeReference, judgeStage, verdictWithin}
@@ -23,55 +24,55 @@ use Rattle.load.proofs.Reading.{was-refused, stage-held, reference-held}
 
 -- ---- the reference
 
-module _ (s : Stage) (t : List ℕ) (x : Reading) where
-  pub reference-refused : (number at : ℕ) → outcome.Refused number at ≡ outcomeOf x → verdict number 2 at 0 ≡ judgeReference s t x
+module _ (order : WordOrder) (s : Stage) (t : List ℕ) (x : Reading) where
+  pub reference-refused : (number at : ℕ) → outcome.Refused number at ≡ outcomeOf x → verdict number 2 at 0 ≡ judgeReference order s t x
   unfolding judgeReference
-  reference-refused number at e = sym (ap (judgeReference s t) (was-refused x number at e))
+  reference-refused number at e = sym (ap (judgeReference order s t) (was-refused x number at e))
 
   pub reference-judged : (sizes : Counts) (code : List ℕ) → outcome.Readable sizes ≡ outcomeOf x → HoldsReference t x code →
       (v : Verdict) (f : Finding) → v ≡ verdictOf f →
-      f ≡ firstFault (checks s (referenceIn sizes code)) → v ≡ judgeReference s t x
+      f ≡ firstFault (checks order s (referenceIn sizes code)) → v ≡ judgeReference order s t x
   unfolding judgeReference
   reference-judged sizes code e h v f a b =
       let r = reference-held t x sizes code e h in
-      a ∙ ap verdictOf (b ∙ ap (λ (y : Reference). firstFault (checks s y)) (r .2)) ∙ sym (ap (judgeReference s t) (r .1))
+      a ∙ ap verdictOf (b ∙ ap (λ (y : Reference). firstFault (checks order s y)) (r .2)) ∙ sym (ap (judgeReference order s t) (r .1))
 
 -- ---- the stage
 
-module _ (stageMost referenceMost : Limits) (s t : List ℕ) where
+module _ (order : WordOrder) (stageMost referenceMost : Limits) (s t : List ℕ) where
   abbrev reading : Reading
   reading = readFile file.Stage stageMost s
 
-  pub stage-refused : (number at : ℕ) → outcome.Refused number at ≡ outcomeOf reading → verdict number 1 at 0 ≡ verdictWithin stageMost referenceMost s t
+  pub stage-refused : (number at : ℕ) → outcome.Refused number at ≡ outcomeOf reading → verdict number 1 at 0 ≡ verdictWithin order stageMost referenceMost s t
   unfolding judgeStage verdictWithin
-  stage-refused number at e = sym (ap (judgeStage referenceMost s t) (was-refused reading number at e))
+  stage-refused number at e = sym (ap (judgeStage order referenceMost s t) (was-refused reading number at e))
 
   pub stage-judged : (c : Counts) (code : List ℕ) → outcome.Readable c ≡ outcomeOf reading → HoldsStage s reading code → (v : Verdict) →
-      v ≡ judgeReference (stageIn c code) t (readFile file.Reference referenceMost t) → v ≡ verdictWithin stageMost referenceMost s t
+      v ≡ judgeReference order (stageIn c code) t (readFile file.Reference referenceMost t) → v ≡ verdictWithin order stageMost referenceMost s t
   unfolding judgeStage verdictWithin
   stage-judged c code e h v j =
       let r = stage-held s reading c code e h in
-      j ∙ ap (λ (y : Stage). judgeReference y t (readFile file.Reference referenceMost t)) (r .2) ∙ sym (ap (judgeStage referenceMost s t) (r .1))
+      j ∙ ap (λ (y : Stage). judgeReference order y t (readFile file.Reference referenceMost t)) (r .2) ∙ sym (ap (judgeStage order referenceMost s t) (r .1))
 
 -- ---- the demands
 
 -- what the check answers within some limits
-abbrev pub Checked : Limits → Limits → List ℕ → List ℕ → Verdict → Type 0
-Checked stageMost referenceMost s t v =
-    (v ≡ verdictWithin stageMost referenceMost s t) × (Demand2 stageMost referenceMost s t v × Demand3 stageMost referenceMost s t v)
+abbrev pub Checked : WordOrder → Limits → Limits → List ℕ → List ℕ → Verdict → Type 0
+Checked order stageMost referenceMost s t v =
+    (v ≡ verdictWithin order stageMost referenceMost s t) × (Demand2 order stageMost referenceMost s t v × Demand3 order stageMost referenceMost s t v)
 
-pub with-demands : (stageMost referenceMost : Limits) (s t : List ℕ) (v : Verdict) → v ≡ verdictWithin stageMost referenceMost s t →
-    Checked stageMost referenceMost s t v
-with-demands stageMost referenceMost s t v e = (
+pub with-demands : (order : WordOrder) (stageMost referenceMost : Limits) (s t : List ℕ) (v : Verdict) → v ≡ verdictWithin order stageMost referenceMost s t →
+    Checked order stageMost referenceMost s t v
+with-demands order stageMost referenceMost s t v e = (
   e,
   (
-    subst (Demand2 stageMost referenceMost s t) (sym e) (demand-2 stageMost referenceMost s t),
-    subst (Demand3 stageMost referenceMost s t) (sym e) (demand-3 stageMost referenceMost s t),
+    subst (Demand2 order stageMost referenceMost s t) (sym e) (demand-2 order stageMost referenceMost s t),
+    subst (Demand3 order stageMost referenceMost s t) (sym e) (demand-3 order stageMost referenceMost s t),
   ),
 )
 
 -- the same where the limits are those that were handed on
-pub checked-by : (given most given′ most′ : Limits) (s t : List ℕ) (v : Verdict) → given ≡ most → given′ ≡ most′ →
-    Checked given given′ s t v → Checked most most′ s t v
-checked-by given most given′ most′ s t v e e′ c =
-    subst (λ (m : Limits). Checked most m s t v) e′ (subst (λ (m : Limits). Checked m given′ s t v) e c)
+pub checked-by : (order : WordOrder) (given most given′ most′ : Limits) (s t : List ℕ) (v : Verdict) → given ≡ most → given′ ≡ most′ →
+    Checked order given given′ s t v → Checked order most most′ s t v
+checked-by order given most given′ most′ s t v e e′ c =
+    subst (λ (m : Limits). Checked order most m s t v) e′ (subst (λ (m : Limits). Checked order m given′ s t v) e c)

@@ -5,6 +5,7 @@ use netlist::Limits;
 use netlist::Outcome;
 use verdict::Finding;
 use verdict::Verdict;
+use verdict::WordOrder;
 ghost use mathlib.Core.Path.{_≡_};
 ghost use Rattle.netlist.specs.declared.File.the-variants as file;
 ghost use Rattle.netlist.specs.Reading.{readFile, stageLimits, referenceLimits, NoMore};
@@ -32,9 +33,15 @@ fn least_retired(code: &[u16], counts: Counts) -> Found
 }
 
 // 10, then 11, then 12, which puts the gates in order, then 28, then the sweeps over the words.
-fn judge(code: &mut [u16], counts: Counts, reference: &[u16], sizes: Counts) -> Finding
+fn judge(
+    order: WordOrder,
+    code: &mut [u16],
+    counts: Counts,
+    reference: &[u16],
+    sizes: Counts,
+) -> Finding
     requires { ⌜ StageLoaded counts (now code) × ReferenceLoaded sizes (now reference) ⌝ }
-    ensures { λ r. ⌜ r ≡ checks.firstFault (checks.checks (stageIn counts (now (code .entry))) (referenceIn sizes (now (reference .entry)))) ⌝ }
+    ensures { λ r. ⌜ r ≡ checks.firstFault (checks.checks order (stageIn counts (now (code .entry))) (referenceIn sizes (now (reference .entry)))) ⌝ }
 {
     if counts.inputs != sizes.inputs {
         return Finding::Fault(Verdict {
@@ -68,7 +75,7 @@ fn judge(code: &mut [u16], counts: Counts, reference: &[u16], sizes: Counts) -> 
             word: 0,
         });
     }
-    sweeps::sweep_all(code, counts, reference, sizes)
+    sweeps::sweep_all(order, code, counts, reference, sizes)
 }
 
 // The verdict of what the checks find.
@@ -87,9 +94,15 @@ fn verdict_of(finding: Finding) -> Verdict
 }
 
 // A stage that was loaded, and a reference file, which is read within some limits: its refusal is of file 2.
-fn check_reference(code: &mut [u16], counts: Counts, reference: &[u8], most: Limits) -> Verdict
+fn check_reference(
+    order: WordOrder,
+    code: &mut [u16],
+    counts: Counts,
+    reference: &[u8],
+    most: Limits,
+) -> Verdict
     requires { ⌜ StageLoaded counts (now code) × NoMore most referenceLimits ⌝ }
-    ensures { λ r. ⌜ r ≡ verdicts.judgeReference (stageIn counts (now (code .entry))) (now (reference .entry))
+    ensures { λ r. ⌜ r ≡ verdicts.judgeReference order (stageIn counts (now (code .entry))) (now (reference .entry))
         (readFile file.Reference most (now (reference .entry))) ⌝ }
 {
     let mut loaded = [0u16; load::REFERENCE_CODE];
@@ -100,21 +113,22 @@ fn check_reference(code: &mut [u16], counts: Counts, reference: &[u8], most: Lim
             at: at as u64,
             word: 0,
         },
-        Outcome::Readable(sizes) => verdict_of(judge(code, counts, &loaded, sizes)),
+        Outcome::Readable(sizes) => { verdict_of(judge(order, code, counts, &loaded, sizes)) },
     }
 }
 
-// The verdict on a stage file and a reference file, which are read within some limits.
+// The verdict on a stage file and a reference file, which are read within some limits, with words named in an order.
 pub fn check_within(
+    order: WordOrder,
     stage: &[u8],
     reference: &[u8],
     stage_most: Limits,
     reference_most: Limits,
 ) -> Verdict
     requires { ⌜ NoMore «stage_most» stageLimits × NoMore «reference_most» referenceLimits ⌝ }
-    ensures verdict { λ r. ⌜ r ≡ verdicts.verdictWithin «stage_most» «reference_most» (now (stage .entry)) (now (reference .entry)) ⌝ }
-    ensures demand2 { λ r. ⌜ Demand2 «stage_most» «reference_most» (now (stage .entry)) (now (reference .entry)) r ⌝ }
-    ensures runs { λ r. ⌜ Demand3 «stage_most» «reference_most» (now (stage .entry)) (now (reference .entry)) r ⌝ }
+    ensures verdict { λ r. ⌜ r ≡ verdicts.verdictWithin order «stage_most» «reference_most» (now (stage .entry)) (now (reference .entry)) ⌝ }
+    ensures demand2 { λ r. ⌜ Demand2 order «stage_most» «reference_most» (now (stage .entry)) (now (reference .entry)) r ⌝ }
+    ensures runs { λ r. ⌜ Demand3 order «stage_most» «reference_most» (now (stage .entry)) (now (reference .entry)) r ⌝ }
 {
     let mut code = [0u16; load::STAGE_CODE];
     match load::read_stage_within(stage, stage_most, &mut code) {
@@ -124,17 +138,20 @@ pub fn check_within(
             at: at as u64,
             word: 0,
         },
-        Outcome::Readable(counts) => check_reference(&mut code, counts, reference, reference_most),
+        Outcome::Readable(counts) => {
+            check_reference(order, &mut code, counts, reference, reference_most)
+        }
     }
 }
 
 // The same within the limits of the two files.
-pub fn check(stage: &[u8], reference: &[u8]) -> Verdict
-    ensures verdict { λ r. ⌜ r ≡ verdicts.verdictOn (now (stage .entry)) (now (reference .entry)) ⌝ }
-    ensures demand2 { λ r. ⌜ Demand2 stageLimits referenceLimits (now (stage .entry)) (now (reference .entry)) r ⌝ }
-    ensures runs { λ r. ⌜ Demand3 stageLimits referenceLimits (now (stage .entry)) (now (reference .entry)) r ⌝ }
+pub fn check(order: WordOrder, stage: &[u8], reference: &[u8]) -> Verdict
+    ensures verdict { λ r. ⌜ r ≡ verdicts.verdictOn order (now (stage .entry)) (now (reference .entry)) ⌝ }
+    ensures demand2 { λ r. ⌜ Demand2 order stageLimits referenceLimits (now (stage .entry)) (now (reference .entry)) r ⌝ }
+    ensures runs { λ r. ⌜ Demand3 order stageLimits referenceLimits (now (stage .entry)) (now (reference .entry)) r ⌝ }
 {
     check_within(
+        order,
         stage,
         reference,
         netlist::stage_limits(),

@@ -1,7 +1,10 @@
-// What the programs share: the start of a file, and numbers on standard output. No contract can say what is read or written.
+// What the programs share: the start of a file, numbers on standard output, and a file that is written. No contract can say what is read or
+// written.
+use libc::STDERR_FILENO;
 use libc::STDOUT_FILENO;
 use report::Report;
 use verdict::Verdict;
+use verdict::WordOrder;
 ghost use Rattle.io.specs.Counts.{Counts};
 ghost use mathlib.Core.Path.{_≡_};
 ghost use lib.IntN.{pos};
@@ -27,6 +30,47 @@ fn load_opened(fd: i32, buf: &mut [u8]) -> usize
     let n = io::read_full(fd, buf);
     libc::close(fd);
     n
+}
+
+fn complain(path: &[u8]) {
+    io::write_all(STDERR_FILENO, path);
+    io::write_all(STDERR_FILENO, b" could not be written\n");
+}
+
+// Writes the first n bytes of a buffer to a file that was opened, and answers whether it took them all.
+fn write_start(file: i32, buffer: &[u8], n: usize) -> bool {
+    if buffer.len() < n {
+        return false;
+    }
+    io::write_all(file, &buffer[..n])
+}
+
+// Writes the first bytes of a buffer into a file, and answers whether the file has them all. One that cannot be opened, or that does not take them
+// all, as on a full disk, is said on standard error.
+pub fn save(path: &[u8], buffer: &[u8], count: u64) -> bool {
+    let file = os::open_overwrite(path);
+    if file < 0 {
+        complain(path);
+        return false;
+    }
+    let whole = write_start(file, buffer, count as usize);
+    libc::close(file);
+    if whole {
+        return true;
+    }
+    complain(path);
+    false
+}
+
+// The order in which a program names words: with input 0 as the lowest bit where the program was started with the argument `lowest`, else with
+// input 0 as the highest.
+pub fn word_order() -> WordOrder {
+    let mut word = [0u8; 7];
+    let n = os::arg(1, &mut word);
+    if check::same(&word[..n], b"lowest") {
+        return WordOrder::FirstLowest;
+    }
+    WordOrder::FirstHighest
 }
 
 // A number after a space.

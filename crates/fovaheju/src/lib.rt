@@ -1,34 +1,38 @@
-// The public calls. Their contracts cite the definitions of crates `verdict`, `report`, `joined` and `join`, at the limits of crate `netlist`,
-// and ask nothing of the caller.
+// The public calls. Their contracts cite the definitions of crates `verdict`, `report`, `joined` and `join`, `made` and `make`, at the limits of
+// crate `netlist`, and ask nothing of the caller.
 use join::JoinAnswer;
 use report::Report;
 use verdict::Verdict;
+use verdict::WordOrder;
+use writing::Answer;
 ghost use mathlib.Core.Path.{_≡_};
 ghost use Rattle.netlist.specs.Reading.{stageLimits, referenceLimits};
+ghost use Rattle.verdict.specs.Words.{orderOf};
 ghost use Rattle.verdict.specs.Verdicts.{verdictOn, settledRow};
 ghost use Rattle.verdict.specs.Demands.{Demand2, Demand3, DemandRow};
 ghost use Rattle.report.specs.Report.{reportOn};
 ghost use Rattle.report.specs.Activity.{ReportMeans};
 ghost use Rattle.joined.specs.Join.{files};
 ghost use Rattle.join.specs.Call.{JoinDemand};
+ghost use Rattle.make.specs.Call.{MakeDemand};
 
-// The check of a stage file against a reference file. The verdict is the one that the definitions give, and demands 2 and 3 hold of it,
-// with one run from another for an accepted stage.
-pub fn check(stage: &[u8], reference: &[u8]) -> Verdict
-    ensures verdict { λ r. ⌜ r ≡ verdictOn (now (stage .entry)) (now (reference .entry)) ⌝ }
-    ensures demand2 { λ r. ⌜ Demand2 stageLimits referenceLimits (now (stage .entry)) (now (reference .entry)) r ⌝ }
-    ensures runs { λ r. ⌜ Demand3 stageLimits referenceLimits (now (stage .entry)) (now (reference .entry)) r ⌝ }
+// The check of a stage file against a reference file, with words named in an order. The verdict is the one that the definitions give, and
+// demands 2 and 3 hold of it, with one run from another for an accepted stage.
+pub fn check(order: WordOrder, stage: &[u8], reference: &[u8]) -> Verdict
+    ensures verdict { λ r. ⌜ r ≡ verdictOn order (now (stage .entry)) (now (reference .entry)) ⌝ }
+    ensures demand2 { λ r. ⌜ Demand2 order stageLimits referenceLimits (now (stage .entry)) (now (reference .entry)) r ⌝ }
+    ensures runs { λ r. ⌜ Demand3 order stageLimits referenceLimits (now (stage .entry)) (now (reference .entry)) r ⌝ }
 {
-    checker::check(stage, reference)
+    checker::check(order, stage, reference)
 }
 
 // The switching report of a stage file against a reference file: the check's verdict, and of an accepted stage how many gates are high at the
-// rest of each word, and in all words together, which is half of all gate switchings when each word rises and falls once.
-pub fn report(stage: &[u8], reference: &[u8]) -> Report
-    ensures report { λ r. ⌜ r ≡ reportOn (now (stage .entry)) (now (reference .entry)) ⌝ }
-    ensures means { λ r. ⌜ ReportMeans (now (stage .entry)) (now (reference .entry)) r ⌝ }
+// rest of each word, in the order of their names, and in all words together, which is half of all gate switchings when each word rises and falls once.
+pub fn report(order: WordOrder, stage: &[u8], reference: &[u8]) -> Report
+    ensures report { λ r. ⌜ r ≡ reportOn order (now (stage .entry)) (now (reference .entry)) ⌝ }
+    ensures means { λ r. ⌜ ReportMeans order (now (stage .entry)) (now (reference .entry)) r ⌝ }
 {
-    report::report_on(stage, reference)
+    report::report_on(order, stage, reference)
 }
 
 // The settled-row call: the verdict on a stage file and a lent row, one byte for each net. A refusal leaves the row as it was; else the
@@ -44,6 +48,7 @@ pub fn settled_row(stage: &[u8], row: &mut [u8]) -> Verdict
 // The join of two stages with their references: output j of the first is tied to input j of the second, and the joined stage and reference are
 // written at the start of two lent buffers. A refusal leaves both as they were.
 pub fn join(
+    order: WordOrder,
     stage1: &[u8],
     reference1: &[u8],
     stage2: &[u8],
@@ -51,10 +56,11 @@ pub fn join(
     stage_out: &mut [u8],
     reference_out: &mut [u8],
 ) -> JoinAnswer
-    ensures { λ r. ⌜ JoinDemand (files (now (stage1 .entry)) (now (reference1 .entry))) (files (now (stage2 .entry)) (now (reference2 .entry)))
+    ensures { λ r. ⌜ JoinDemand order (files (now (stage1 .entry)) (now (reference1 .entry))) (files (now (stage2 .entry)) (now (reference2 .entry)))
         (now («stage_out» .entry)) (now («reference_out» .entry)) r (now («stage_out» .exit)) (now («reference_out» .exit)) ⌝ }
 {
     join::join(
+        order,
         stage1,
         reference1,
         stage2,
@@ -64,23 +70,41 @@ pub fn join(
     )
 }
 
+// A stage from a reference: every operation but NOT becomes two gates, NOT swaps rails, and the stage is written at the start of a lent buffer. It is
+// accepted against its reference. A refusal leaves the buffer as it was.
+pub fn make_stage(reference: &[u8], stage_out: &mut [u8]) -> Answer
+    ensures { λ r. ⌜ MakeDemand (now (reference .entry)) (now («stage_out» .entry)) r (now («stage_out» .exit)) ⌝ }
+{
+    make::make_stage(reference, stage_out)
+}
+
+// The order of words that a number stands for: 0 has input 0 as the highest bit of a word, every other number has it as the lowest.
+fn order_of(mark: u64) -> WordOrder
+    ensures { λ r. ⌜ r ≡ orderOf mark ⌝ }
+{
+    if mark == 0 {
+        return WordOrder::FirstHighest;
+    }
+    WordOrder::FirstLowest
+}
+
 // The check for callers in C and in Rust, with the contract of `check`.
 #[no_mangle]
-pub extern "C" fn fovaheju_check(stage: &[u8], reference: &[u8]) -> Verdict
-    ensures verdict { λ r. ⌜ r ≡ verdictOn (now (stage .entry)) (now (reference .entry)) ⌝ }
-    ensures demand2 { λ r. ⌜ Demand2 stageLimits referenceLimits (now (stage .entry)) (now (reference .entry)) r ⌝ }
-    ensures runs { λ r. ⌜ Demand3 stageLimits referenceLimits (now (stage .entry)) (now (reference .entry)) r ⌝ }
+pub extern "C" fn fovaheju_check(order: u64, stage: &[u8], reference: &[u8]) -> Verdict
+    ensures verdict { λ r. ⌜ r ≡ verdictOn (orderOf order) (now (stage .entry)) (now (reference .entry)) ⌝ }
+    ensures demand2 { λ r. ⌜ Demand2 (orderOf order) stageLimits referenceLimits (now (stage .entry)) (now (reference .entry)) r ⌝ }
+    ensures runs { λ r. ⌜ Demand3 (orderOf order) stageLimits referenceLimits (now (stage .entry)) (now (reference .entry)) r ⌝ }
 {
-    check(stage, reference)
+    check(order_of(order), stage, reference)
 }
 
 // The report for callers in C and in Rust, with the contract of `report`.
 #[no_mangle]
-pub extern "C" fn fovaheju_report(stage: &[u8], reference: &[u8]) -> Report
-    ensures report { λ r. ⌜ r ≡ reportOn (now (stage .entry)) (now (reference .entry)) ⌝ }
-    ensures means { λ r. ⌜ ReportMeans (now (stage .entry)) (now (reference .entry)) r ⌝ }
+pub extern "C" fn fovaheju_report(order: u64, stage: &[u8], reference: &[u8]) -> Report
+    ensures report { λ r. ⌜ r ≡ reportOn (orderOf order) (now (stage .entry)) (now (reference .entry)) ⌝ }
+    ensures means { λ r. ⌜ ReportMeans (orderOf order) (now (stage .entry)) (now (reference .entry)) r ⌝ }
 {
-    report(stage, reference)
+    report(order_of(order), stage, reference)
 }
 
 // The settled-row call for callers in C and in Rust, with the contract of `settled_row`.
@@ -96,6 +120,7 @@ pub extern "C" fn fovaheju_settled_row(stage: &[u8], row: &mut [u8]) -> Verdict
 // The join for callers in C and in Rust, with the contract of `join`.
 #[no_mangle]
 pub extern "C" fn fovaheju_join(
+    order: u64,
     stage1: &[u8],
     reference1: &[u8],
     stage2: &[u8],
@@ -103,10 +128,11 @@ pub extern "C" fn fovaheju_join(
     stage_out: &mut [u8],
     reference_out: &mut [u8],
 ) -> JoinAnswer
-    ensures { λ r. ⌜ JoinDemand (files (now (stage1 .entry)) (now (reference1 .entry))) (files (now (stage2 .entry)) (now (reference2 .entry)))
+    ensures { λ r. ⌜ JoinDemand (orderOf order) (files (now (stage1 .entry)) (now (reference1 .entry))) (files (now (stage2 .entry)) (now (reference2 .entry)))
         (now («stage_out» .entry)) (now («reference_out» .entry)) r (now («stage_out» .exit)) (now («reference_out» .exit)) ⌝ }
 {
     join(
+        order_of(order),
         stage1,
         reference1,
         stage2,
@@ -114,4 +140,12 @@ pub extern "C" fn fovaheju_join(
         stage_out,
         reference_out,
     )
+}
+
+// The stage from a reference for callers in C and in Rust, with the contract of `make_stage`.
+#[no_mangle]
+pub extern "C" fn fovaheju_make_stage(reference: &[u8], stage_out: &mut [u8]) -> Answer
+    ensures { λ r. ⌜ MakeDemand (now (reference .entry)) (now («stage_out» .entry)) r (now («stage_out» .exit)) ⌝ }
+{
+    make_stage(reference, stage_out)
 }

@@ -1,32 +1,29 @@
--- 23: the word that a reference answers, the words that a stage cares for, and the least word that fails.
+-- 23: the word that a reference answers, and what is found under the name of a word.
 -- Assumes nothing.
 use Prim.Native.Nat.{ℕ, zero, suc, _+_, _-_, _*_, _^_, _≤_, _<_}
 use native.Mathlib.Omega.{arith}
-use native.Mathlib.Numerals.{add-one}
 use native.Mathlib.Nat.{two-pow-succ}
 use mathlib.Core.Path.{_≡_, refl, sym, ap, ap₂, _∙_}
-use mathlib.Core.Bool.{Bool, true, false, not, cond, _||_}
+use mathlib.Core.Bool.{true, false}
 use mathlib.Core.List.{List, [], _∷_, map}
 use lib.ListN.{length, getD, take, drop, length-drop, drop-of-length-le}
 use lib.Seq.{drop-cons, getD-take}
-use lib.Dec.{eqb}
 use lib.Pow.{pow-mono}
-use borrow.Author.Tests.{eq-eqb, ne-eqb}
 use Rattle.netlist.specs.declared.Counts.{Counts}
 use Rattle.netlist.specs.declared.Found.{Found}
 use Rattle.netlist.specs.declared.Found.the-variants.{At, Nothing}
 use Rattle.netlist.specs.Content.{Stage, Reference}
 use Rattle.verdict.specs.declared.Finding.{Finding}
-use Rattle.verdict.specs.declared.Finding.the-variants.{Fault, Passed}
 use Rattle.verdict.specs.Graph.{tabulate}
-use Rattle.verdict.specs.Words.{words, bitsOf}
+use Rattle.verdict.specs.declared.WordOrder.{WordOrder}
+use Rattle.verdict.specs.Words.{words, bitsOf, wordOf, spelled, isIn, names}
 use Rattle.verdict.specs.Answers.{answer, valuesAt, signalValues}
-use Rattle.verdict.specs.Checks.{verdict, first, atFault, sweep, finding}
+use Rattle.verdict.specs.Checks.{first, sweep, finding}
 use Rattle.circuit.specs.Reference.{operatorsIn, signalIn, signalsIn, referenceIn, ReferenceLoaded}
 use Rattle.circuit.proofs.Tabulate.{length-tabulate, getD-tabulate}
 use Rattle.words.proofs.Spelling.{bits-prefix}
-use Rattle.joined.specs.Join.{wordOf, answerWord, isIn, caresFor}
-use Rattle.join.specs.Steps.{uncaredCheck}
+use Rattle.joined.specs.Join.{answerWord, uncaredCheck}
+use Rattle.join.specs.Steps.{uncaredUnder}
 
 -- ---- a word from its bits, the last first
 
@@ -82,63 +79,19 @@ answered sizes reference w loaded values bits long eb few ev r e =
     ∙ ap (λ (l : List ℕ). valuesAt l (tabulate (signalIn sizes reference) (sizes .outputs)))
     (ev ∙ ap (λ (l : List ℕ). signalValues l (operatorsIn sizes reference)) (ap (take (sizes .inputs)) eb ∙ bits-prefix (sizes .inputs) long w few)))
 
--- ---- membership, word by word
+-- ---- what is found under a name
 
-module _ (w : ℕ) (ws : List ℕ) (k : ℕ) where
-  -- the words before word k are others
-  abbrev pub LookedTo : Type 0
-  LookedTo = isIn w ws ≡ isIn w (drop k ws)
+module _ (order : WordOrder) (inputs : ℕ) (r : Reference) (t : Stage) (name : ℕ) where
+  pub cared-under : isIn (answerWord r (spelled order inputs name)) (words t) ≡ true → uncaredUnder order inputs r t name ≡ Nothing
+  unfolding first
+  cared-under e = rw e
 
-  module _ (l : LookedTo) (h : k < length ws) (x : ℕ) (is : x ≡ getD ws k 0) where
-    here : isIn w ws ≡ eqb w x || isIn w (drop (k + 1) ws)
-    unfolding isIn
-    here = l ∙ ap (isIn w) (drop-cons ws k 0 h) ∙ rw (← is, add-one)
+  pub uncared-under : isIn (answerWord r (spelled order inputs name)) (words t) ≡ false → uncaredUnder order inputs r t name ≡ At 0
+  unfolding first
+  uncared-under e = rw e
 
-    pub looked-here : x ≡ w → true ≡ isIn w ws
-    looked-here e = sym (here ∙ rw (eq-eqb w x (sym e)))
-
-    pub looked-on : (x ≡ w → ⊥) → isIn w ws ≡ isIn w (drop (k + 1) ws)
-    looked-on n = here ∙ rw (ne-eqb w x (λ e. n (sym e)))
-
-  pub looked-none : LookedTo → length ws ≤ k → false ≡ isIn w ws
-  unfolding isIn
-  looked-none l h = sym (l ∙ ap (isIn w) (drop-of-length-le ws {i = k} h))
-
-pub cares : (s : Stage) (w : ℕ) (b : Bool) → b ≡ isIn w (words s) → b ≡ caresFor s w
-unfolding words
-cares s w b e = e
-
--- ---- the least word that fails
-
-module _ (s : Stage) (r : Reference) (t : Stage) where
-  abbrev find : ℕ → Found
-  find w = first (λ i. not (caresFor t (answerWord r w))) (0 ∷ [])
-
-  abbrev from : List ℕ → Finding
-  from ws = sweep 23 0 find ws
-
-  module _ (k : ℕ) where
-    -- the words before word k pass
-    abbrev pub PassedTo : Type 0
-    PassedTo = finding (uncaredCheck s r t) ≡ from (drop k (words s))
-
-    module _ (p : PassedTo) (h : k < length (words s)) (w : ℕ) (is : w ≡ getD (words s) k 0) where
-      at-word : (b : Bool) → caresFor t (answerWord r w) ≡ b → finding (uncaredCheck s r t) ≡ atFault 23 0 w (cond (not b) (At 0) Nothing) (from (drop (k + 1) (words s)))
-      unfolding sweep first
-      at-word b e = p ∙ ap from (drop-cons (words s) k 0 h) ∙ rw (← is, e, add-one)
-
-      pub passed-on : true ≡ caresFor t (answerWord r w) → finding (uncaredCheck s r t) ≡ from (drop (k + 1) (words s))
-      unfolding atFault
-      passed-on e = at-word true (sym e)
-
-      pub failed-here : false ≡ caresFor t (answerWord r w) → Fault (verdict 23 0 0 w) ≡ finding (uncaredCheck s r t)
-      unfolding atFault
-      failed-here e = sym (at-word false (sym e))
-
-    pub passed-all : PassedTo → length (words s) ≤ k → Passed ≡ finding (uncaredCheck s r t)
-    unfolding sweep
-    passed-all p h = sym (p ∙ ap from (drop-of-length-le (words s) {i = k} h))
-
-  pub passed-start : PassedTo 0
-  unfolding finding
-  passed-start = refl
+-- under the names of a part's words it is what the check finds
+pub found-uncared : (order : WordOrder) (s : Stage) (r : Reference) (t : Stage) (list : List ℕ) → list ≡ names order s → (f : Finding)
+    → f ≡ sweep 23 0 (uncaredUnder order (s .inputs) r t) list → f ≡ finding (uncaredCheck order s r t)
+unfolding finding
+found-uncared order s r t list is f e = e ∙ ap (sweep 23 0 (uncaredUnder order (s .inputs) r t)) is

@@ -17,6 +17,7 @@ use Rattle.netlist.specs.Reading.{Reading, refused, readable, readFile, stageLi
 use Rattle.netlist.specs.Read.{outcomeOf}
 use Rattle.netlist.specs.Content.{Stage, Reference}
 use Rattle.verdict.specs.declared.Verdict.{Verdict}
+use Rattle.verdict.specs.declared.WordOrder.{WordOrder}
 use Rattle.verdict.specs.declared.Finding.{Finding}
 use Rattle.verdict.specs.declared.Finding.the-variants.{Fault, Passed}
 use Rattle.verdict.specs.Graph.{tabulate}
@@ -32,22 +33,24 @@ use Rattle.load.proofs.Reading.{was-refused, stage-held, reference-held}
 use Rattle.joined.specs.Join as joined
 use Rattle.joined.specs.Join.{Part, Files, partIn, stageRead, referenceRead, refusalOf, ofSecond, threeAdded}
 use Rattle.joined.specs.Join.{stageBytes, referenceBytes, joinChecks, joinUnless, joinFault, joinWithin, joinRefused, joinWritten}
-use Rattle.joined.proofs.Because.{join-because, join-kept, parts-fit}
+use Rattle.joined.proofs.Because.{join-because, join-kept, join-either, parts-fit}
 use Rattle.writing.specs.Put.{Put}
 use Rattle.writing.proofs.Joining.{put-holding}
 use Rattle.join.specs.declared.JoinAnswer.{JoinAnswer}
-use Rattle.join.specs.Steps.{uncaredCheck, joinParts, partOf, partLoaded}
+use Rattle.joined.specs.Join.{uncaredCheck}
+use Rattle.join.specs.Steps.{joinParts, partOf, partLoaded}
 use Rattle.join.specs.Call.{answerWith, Leaves, JoinDemand}
-use Rattle.join.proofs.Whole.{outputs-count, signals-count}
+use Rattle.whole.proofs.Whole.{outputs-count, signals-count}
 
 -- what is said of the join beside what it leaves holds of the answer as it is defined
-pub join-demand : (f g : Files) (stage reference : List ℕ) (r : JoinAnswer) (stageAfter referenceAfter : List ℕ)
-    → Leaves (joinWithin partStageLimits partReferenceLimits f g (length stage) (length reference)) r stage reference stageAfter referenceAfter
-    → JoinDemand f g stage reference r stageAfter referenceAfter
-join-demand f g stage reference r stageAfter referenceAfter h = record {
+pub join-demand : (order : WordOrder) (f g : Files) (stage reference : List ℕ) (r : JoinAnswer) (stageAfter referenceAfter : List ℕ)
+    → Leaves (joinWithin order partStageLimits partReferenceLimits f g (length stage) (length reference)) r stage reference stageAfter referenceAfter
+    → JoinDemand order f g stage reference r stageAfter referenceAfter
+join-demand order f g stage reference r stageAfter referenceAfter h = record {
   answer = h;
-  because = join-because partStageLimits partReferenceLimits f g (length stage) (length reference);
-  kept = join-kept partStageLimits partReferenceLimits f g (length stage) (length reference) stageLimits referenceLimits (parts-fit .0) (parts-fit .1);
+  because = join-because order partStageLimits partReferenceLimits f g (length stage) (length reference);
+  kept = join-kept order partStageLimits partReferenceLimits f g (length stage) (length reference) stageLimits referenceLimits (parts-fit .0) (parts-fit .1);
+  either-order = λ other e. join-either order other partStageLimits partReferenceLimits f g (length stage) (length reference) (sym (h .verdict) ∙ e);
 }
 
 -- ---- what is left in the buffers
@@ -63,12 +66,12 @@ leaves-written p q r e v m n s l t k = rw e (record { verdict = v; stage-count =
 
 -- ---- 22, 23 and 24
 
-module _ (p q : Part) (stageRoom referenceRoom : ℕ) where
+module _ (order : WordOrder) (p q : Part) (stageRoom referenceRoom : ℕ) where
   abbrev seam : Check
   seam = unequal 22 (length (p .circuit .outputs)) (q .circuit .inputs)
 
   abbrev uncared : Check
-  uncared = uncaredCheck (p .circuit) (p .function) (q .circuit)
+  uncared = uncaredCheck order (p .circuit) (p .function) (q .circuit)
 
   abbrev isShort : Bool
   isShort = ltb stageRoom (length (stageBytes p q)) || ltb referenceRoom (length (referenceBytes p q))
@@ -78,7 +81,7 @@ module _ (p q : Part) (stageRoom referenceRoom : ℕ) where
       check 24 3 (0 ∷ []) (0 ∷ []) (λ w i. isShort)
       (λ w i. (stageRoom < length (stageBytes p q)) ⊎ (referenceRoom < length (referenceBytes p q))) unsaid
 
-  found-is : firstFault (joinChecks p q stageRoom referenceRoom) ≡ orLater (finding seam) (orLater (finding uncared) (orLater (finding short) Passed))
+  found-is : firstFault (joinChecks order p q stageRoom referenceRoom) ≡ orLater (finding seam) (orLater (finding uncared) (orLater (finding short) Passed))
   unfolding joinChecks firstFault
   found-is = refl
 
@@ -94,32 +97,32 @@ module _ (p q : Part) (stageRoom referenceRoom : ℕ) where
   short-found false e = rw e
 
   abbrev answer : joined.JoinAnswer
-  answer = joinParts p q stageRoom referenceRoom
+  answer = joinParts order p q stageRoom referenceRoom
 
   pub at-seam : (length (p .circuit .outputs) ≡ q .circuit .inputs → ⊥) → answer ≡ joinRefused (verdict 22 0 (length (p .circuit .outputs)) (q .circuit .inputs))
   unfolding joinUnless orLater
   at-seam n =
-      let e : firstFault (joinChecks p q stageRoom referenceRoom) ≡ Fault (verdict 22 0 (length (p .circuit .outputs)) (q .circuit .inputs)) = found-is ∙ rw (seam-found false (ne-eqb _ _ n)) in
+      let e : firstFault (joinChecks order p q stageRoom referenceRoom) ≡ Fault (verdict 22 0 (length (p .circuit .outputs)) (q .circuit .inputs)) = found-is ∙ rw (seam-found false (ne-eqb _ _ n)) in
       ap (λ (f : Finding). joinUnless f p q) e
 
   module _ (same : length (p .circuit .outputs) ≡ q .circuit .inputs) where
     pub at-word : (v : Verdict) → Fault v ≡ finding uncared → answer ≡ joinRefused v
     unfolding joinUnless orLater
     at-word v e =
-        let f : firstFault (joinChecks p q stageRoom referenceRoom) ≡ Fault v = found-is ∙ rw (seam-found true (eq-eqb _ _ same), ← e) in
+        let f : firstFault (joinChecks order p q stageRoom referenceRoom) ≡ Fault v = found-is ∙ rw (seam-found true (eq-eqb _ _ same), ← e) in
         ap (λ (f : Finding). joinUnless f p q) f
 
     module _ (passed : Passed ≡ finding uncared) where
       pub at-stage-room : stageRoom < length (stageBytes p q) → answer ≡ joinRefused (verdict 24 3 0 0)
       unfolding joinUnless orLater
       at-stage-room l =
-          let f : firstFault (joinChecks p q stageRoom referenceRoom) ≡ Fault (verdict 24 3 0 0) = found-is ∙ rw (seam-found true (eq-eqb _ _ same), ← passed, short-found true (rw (lt-ltb _ _ l))) in
+          let f : firstFault (joinChecks order p q stageRoom referenceRoom) ≡ Fault (verdict 24 3 0 0) = found-is ∙ rw (seam-found true (eq-eqb _ _ same), ← passed, short-found true (rw (lt-ltb _ _ l))) in
           ap (λ (f : Finding). joinUnless f p q) f
 
       pub at-reference-room : length (stageBytes p q) ≤ stageRoom → referenceRoom < length (referenceBytes p q) → answer ≡ joinRefused (verdict 24 3 0 0)
       unfolding joinUnless orLater
       at-reference-room h l =
-          let f : firstFault (joinChecks p q stageRoom referenceRoom) ≡ Fault (verdict 24 3 0 0) = found-is ∙ rw (
+          let f : firstFault (joinChecks order p q stageRoom referenceRoom) ≡ Fault (verdict 24 3 0 0) = found-is ∙ rw (
             seam-found true (eq-eqb _ _ same),
             ← passed,
             short-found true (rw
@@ -130,7 +133,7 @@ module _ (p q : Part) (stageRoom referenceRoom : ℕ) where
       pub at-none : length (stageBytes p q) ≤ stageRoom → length (referenceBytes p q) ≤ referenceRoom → answer ≡ joinWritten p q
       unfolding joinUnless orLater
       at-none h k =
-          let f : firstFault (joinChecks p q stageRoom referenceRoom) ≡ Passed = found-is ∙ rw (seam-found true (eq-eqb _ _ same), ← passed, short-found false (rw (le-ltb _ _ h, le-ltb _ _ k))) in
+          let f : firstFault (joinChecks order p q stageRoom referenceRoom) ≡ Passed = found-is ∙ rw (seam-found true (eq-eqb _ _ same), ← passed, short-found false (rw (le-ltb _ _ h, le-ltb _ _ k))) in
           ap (λ (f : Finding). joinUnless f p q) f
 
 -- ---- a part that was loaded
@@ -197,11 +200,11 @@ module _ (s t : List ℕ) (c : Counts) (code : List ℕ) (d : Counts) (reference
   unfolding partIn
   part-same = ap₂ (λ (x : Stage) (y : Reference). record { circuit = x; function = y }) es et
 
-  module _ (accepts : verdictWithin partStageLimits partReferenceLimits s t ≡ accepted) where
+  module _ (order : WordOrder) (accepts : verdictWithin order partStageLimits partReferenceLimits s t ≡ accepted) where
     comparable : Comparable (stageIn c code) (referenceIn d reference)
     unfolding stageRead referenceRead
     comparable =
-        let r = accepted-contents partStageLimits partReferenceLimits s t (ap (λ (v : Verdict). v .number) accepts) in
+        let r = accepted-contents order partStageLimits partReferenceLimits s t (ap (λ (v : Verdict). v .number) accepts) in
         let is = r .0 .circuit-is in
         let ir = r .0 .function-is in
         let a : r .0 .circuit ≡ stageIn c code = sym (es ∙ ap (stageRead s) (is .reads) ∙ is .content) in
@@ -216,12 +219,12 @@ module _ (s t : List ℕ) (c : Counts) (code : List ℕ) (d : Counts) (reference
 
 -- ---- the parts' verdicts
 
-module _ (f g : Files) (stageRoom referenceRoom : ℕ) where
+module _ (order : WordOrder) (f g : Files) (stageRoom referenceRoom : ℕ) where
   abbrev judge : Files → Verdict
-  judge h = verdictWithin partStageLimits partReferenceLimits (h .stage) (h .reference)
+  judge h = verdictWithin order partStageLimits partReferenceLimits (h .stage) (h .reference)
 
   abbrev whole : joined.JoinAnswer
-  whole = joinWithin partStageLimits partReferenceLimits f g stageRoom referenceRoom
+  whole = joinWithin order partStageLimits partReferenceLimits f g stageRoom referenceRoom
 
   pub first-refuses : (v : Verdict) → v ≡ judge f → (v .number ≡ 0 → ⊥) → whole ≡ joinRefused v
   unfolding joinWithin joinFault refusalOf orLater joinUnless
@@ -233,25 +236,25 @@ module _ (f g : Files) (stageRoom referenceRoom : ℕ) where
     second-refuses v e n = rw (← ew, eq-eqb (w .number) 0 accepts, ← e, ne-eqb (v .number) 0 n)
 
     pub both-accepted : (v : Verdict) → v ≡ judge g → v .number ≡ 0 →
-        whole ≡ joinParts (partIn partStageLimits partReferenceLimits f) (partIn partStageLimits partReferenceLimits g) stageRoom referenceRoom
+        whole ≡ joinParts order (partIn partStageLimits partReferenceLimits f) (partIn partStageLimits partReferenceLimits g) stageRoom referenceRoom
     unfolding joinWithin joinFault refusalOf ofSecond orLater
     both-accepted v e z = rw (← ew, eq-eqb (w .number) 0 accepts, ← e, eq-eqb (v .number) 0 z)
 
 -- a verdict of the check with the number 0 accepts, and its file is below 3
-module _ (s t : List ℕ) where
-  pub accepts-zero : (v : Verdict) → v ≡ verdictWithin partStageLimits partReferenceLimits s t → v .number ≡ 0 → verdictWithin partStageLimits partReferenceLimits s t ≡ accepted
-  accepts-zero v e z = demand-3 partStageLimits partReferenceLimits s t .kept (ap (λ (u : Verdict). u .number) (sym e) ∙ z) .0
+module _ (order : WordOrder) (s t : List ℕ) where
+  pub accepts-zero : (v : Verdict) → v ≡ verdictWithin order partStageLimits partReferenceLimits s t → v .number ≡ 0 → verdictWithin order partStageLimits partReferenceLimits s t ≡ accepted
+  accepts-zero v e z = demand-3 order partStageLimits partReferenceLimits s t .kept (ap (λ (u : Verdict). u .number) (sym e) ∙ z) .0
 
   named-file : (cs : List Check) (v : Verdict) → EachOf (λ c. c .file ≤ 2) cs → Named cs v → v .file ≤ 2
   named-file [] v a n = absurd n
   named-file (c ∷ cs) v a (inl n) = omega (arith, a .0, ap (λ (u : Verdict). u .file) (n .is))
   named-file (c ∷ cs) v a (inr n) = named-file cs v (a .1) (n .1)
 
-  because-file : {v : Verdict} → Because partStageLimits partReferenceLimits s t v → v .file ≤ 2
+  because-file : {v : Verdict} → Because order partStageLimits partReferenceLimits s t v → v .file ≤ 2
   unfolding checks riseSweeps fallSweeps
   because-file (demands.Because.stage-refused e) = omega arith
   because-file (demands.Because.reference-refused is e) = omega arith
-  because-file (both-read {v = v} c (inl n)) = named-file (checks (c .circuit) (c .function)) v (
+  because-file (both-read {v = v} c (inl n)) = named-file (checks order (c .circuit) (c .function)) v (
     omega arith,
     (
       omega arith,
@@ -272,23 +275,23 @@ module _ (s t : List ℕ) where
   ) n
   because-file (both-read {v = v} c (inr a)) = omega (arith, ap (λ (u : Verdict). u .file) (a .1))
 
-  pub file-few : (v : Verdict) → v ≡ verdictWithin partStageLimits partReferenceLimits s t → v .file ≤ 2
-  file-few v e = omega (arith, ap (λ (u : Verdict). u .file) e, because-file (demand-2 partStageLimits partReferenceLimits s t .least))
+  pub file-few : (v : Verdict) → v ≡ verdictWithin order partStageLimits partReferenceLimits s t → v .file ≤ 2
+  file-few v e = omega (arith, ap (λ (u : Verdict). u .file) e, because-file (demand-2 order partStageLimits partReferenceLimits s t .least))
 
 -- ---- the same said of equal things
 
 -- a verdict within the limits that a call answered is one within the limits that it named
-pub judged-by : (m n : Limits) (s t : List ℕ) (v : Verdict) → v ≡ verdictWithin m n s t → m ≡ partStageLimits → n ≡ partReferenceLimits →
-    v ≡ verdictWithin partStageLimits partReferenceLimits s t
-judged-by m n s t v e em en = e ∙ ap₂ (λ (x y : Limits). verdictWithin x y s t) em en
+pub judged-by : (order : WordOrder) (m n : Limits) (s t : List ℕ) (v : Verdict) → v ≡ verdictWithin order m n s t → m ≡ partStageLimits → n ≡ partReferenceLimits →
+    v ≡ verdictWithin order partStageLimits partReferenceLimits s t
+judged-by order m n s t v e em en = e ∙ ap₂ (λ (x y : Limits). verdictWithin order x y s t) em en
 
 -- an answer that is another
 pub leaves-all : {a b : joined.JoinAnswer} {r : JoinAnswer} {stage reference after after′ : List ℕ} → a ≡ b → Leaves b r stage reference after after′ → Leaves a r stage reference after after′
 leaves-all {r = r} {stage} {reference} {after} {after′} e l = subst (λ (x : joined.JoinAnswer). Leaves x r stage reference after after′) (sym e) l
 
-pub leaves-same : (p p′ q q′ : Part) (stageRoom referenceRoom : ℕ) {r : JoinAnswer} {stage reference after after′ : List ℕ} → p ≡ p′ → q ≡ q′ →
-    Leaves (joinParts p q stageRoom referenceRoom) r stage reference after after′ → Leaves (joinParts p′ q′ stageRoom referenceRoom) r stage reference after after′
-leaves-same p p′ q q′ stageRoom referenceRoom e f l = leaves-all (ap₂ (λ (x y : Part). joinParts x y stageRoom referenceRoom) (sym e) (sym f)) l
+pub leaves-same : (order : WordOrder) (p p′ q q′ : Part) (stageRoom referenceRoom : ℕ) {r : JoinAnswer} {stage reference after after′ : List ℕ} → p ≡ p′ → q ≡ q′ →
+    Leaves (joinParts order p q stageRoom referenceRoom) r stage reference after after′ → Leaves (joinParts order p′ q′ stageRoom referenceRoom) r stage reference after after′
+leaves-same order p p′ q q′ stageRoom referenceRoom e f l = leaves-all (ap₂ (λ (x y : Part). joinParts order x y stageRoom referenceRoom) (sym e) (sym f)) l
 
 -- a flat form of few numbers has few care words
 pub few-care : {c : Counts} {code : List ℕ} {n : ℕ} → StageLoaded c code → length code ≡ n → n ≤ 0x10000 → c .care ≤ 0x10000

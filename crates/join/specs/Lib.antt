@@ -1,3 +1,2 @@
-pub mod Moved
 pub mod Call
 pub mod Steps

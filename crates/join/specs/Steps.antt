@@ -6,8 +6,11 @@ use mathlib.Core.List.{List, [], _∷_}
 use Rattle.netlist.specs.declared.Counts.{Counts}
 use Rattle.netlist.specs.Reading.{partStageLimits, partReferenceLimits}
 use Rattle.netlist.specs.Content.{Stage, Reference}
-use Rattle.verdict.specs.Words.{words}
-use Rattle.verdict.specs.Checks.{Check, check, unsaid, firstFault}
+use Rattle.netlist.specs.declared.Found.{Found}
+use Rattle.verdict.specs.declared.WordOrder.{WordOrder}
+use Rattle.verdict.specs.Words.{spelled}
+use Rattle.verdict.specs.Checks as checks
+use Rattle.verdict.specs.Checks.{firstFault}
 use Rattle.joined.specs.Join as joined
 use Rattle.circuit.specs.Stage.{stageIn, StageLoaded}
 use Rattle.circuit.specs.Reference.{referenceIn, ReferenceLoaded}
@@ -18,14 +21,12 @@ abbrev pub partOf : List ℕ → List ℕ → joined.Part
 partOf stage reference = joined.partIn partStageLimits partReferenceLimits (joined.files stage reference)
 
 -- 22, 23 and 24, or the whole, of two parts that are accepted
-abbrev pub joinParts : joined.Part → joined.Part → ℕ → ℕ → joined.JoinAnswer
-joinParts first second stageRoom referenceRoom = joined.joinUnless (firstFault (joined.joinChecks first second stageRoom referenceRoom)) first second
+abbrev pub joinParts : WordOrder → joined.Part → joined.Part → ℕ → ℕ → joined.JoinAnswer
+joinParts order first second stageRoom referenceRoom = joined.joinUnless (firstFault (joined.joinChecks order first second stageRoom referenceRoom)) first second
 
--- 23 by itself: the least care word of the first part whose answer the second does not care for
-abbrev pub uncaredCheck : Stage → Reference → Stage → Check
-uncaredCheck first function second =
-    check 23 0 (words first) (0 ∷ []) (λ w i. not (joined.caresFor second (joined.answerWord function w)))
-    (λ w i. ¬ (joined.CaresFor second (joined.answerWord function w))) unsaid
+-- what 23 finds under a name, by the number of the first part's inputs
+abbrev pub uncaredUnder : WordOrder → ℕ → Reference → Stage → ℕ → Found
+uncaredUnder order inputs function second name = checks.first (λ i. not (joined.caresFor second (joined.answerWord function (spelled order inputs name)))) (0 ∷ [])
 
 -- a part in its flat forms
 abbrev pub partLoaded : Counts → List ℕ → Counts → List ℕ → joined.Part

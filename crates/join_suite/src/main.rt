@@ -1,11 +1,13 @@
-// Makes the join on each case that data/ holds. Prints a line for each: the case, the verdict, how many bytes were written into each buffer, and
+// Makes the join on each case that data/ holds, with input 0 as the highest bit of a word and then once more as the lowest. Prints a line for each: the case, the verdict, how many bytes were written into each buffer, and
 // the bytes of both buffers after the call. The cases, and the lines that an independent judge gives them, are written by
 // tests/src/bin/join_suite.rs.
 use libc::STDOUT_FILENO;
+use verdict::WordOrder;
 
 const CASES: usize = 167;
 
 fn call(
+    order: WordOrder,
     stage1: &[u8],
     reference1: &[u8],
     stage2: &[u8],
@@ -13,7 +15,15 @@ fn call(
     stage: &mut [u8],
     reference: &mut [u8],
 ) {
-    let answer = fovaheju::join(stage1, reference1, stage2, reference2, stage, reference);
+    let answer = fovaheju::join(
+        order,
+        stage1,
+        reference1,
+        stage2,
+        reference2,
+        stage,
+        reference,
+    );
     console::print_verdict(answer.verdict);
     console::print_next(answer.stage_count);
     console::print_next(answer.reference_count);
@@ -25,7 +35,7 @@ fn call(
 }
 
 // Case i is in the files iii.s1 and iii.r1, iii.s2 and iii.r2, of the two parts, and iii.s and iii.r, the buffers that are lent.
-fn run(i: usize) {
+fn run(order: WordOrder, i: usize) {
     let h = b'0' + (i / 100 % 10) as u8;
     let t = b'0' + (i / 10 % 10) as u8;
     let o = b'0' + (i % 10) as u8;
@@ -43,6 +53,7 @@ fn run(i: usize) {
     let f = console::load(&[h, t, o, b'.', b'r'], &mut reference);
     io::write_all(STDOUT_FILENO, &[h, t, o, b' ']);
     call(
+        order,
         &stage1[..a],
         &reference1[..b],
         &stage2[..c],
@@ -52,8 +63,13 @@ fn run(i: usize) {
     );
 }
 
-fn main() {
+fn run_all(order: WordOrder) {
     for i in 0..CASES {
-        run(i);
+        run(order, i);
     }
+}
+
+fn main() {
+    run_all(WordOrder::FirstHighest);
+    run_all(WordOrder::FirstLowest);
 }

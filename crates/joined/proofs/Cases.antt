@@ -14,6 +14,8 @@ use Rattle.netlist.specs.Writing as n
 use Rattle.verdict.specs.Rows as o
 use Rattle.verdict.specs.Graph as g
 use Rattle.verdict.specs.Loops as l
+use Rattle.verdict.specs.declared.WordOrder.{WordOrder}
+use Rattle.verdict.specs.declared.WordOrder.the-variants.{FirstHighest, FirstLowest}
 use Rattle.verdict.specs.Words as w
 use Rattle.verdict.specs.Answers as a
 use Rattle.verdict.specs.Falls as f
@@ -157,11 +159,17 @@ pub record Case : Type 0 where
   pub second : Files
   pub stageRoom : ℕ
   pub referenceRoom : ℕ
+  pub order : WordOrder
   pub expected : JoinAnswer
 
 abbrev case : Files → Files → ℕ → ℕ → JoinAnswer → Case
 case first second stageRoom referenceRoom expected =
-    record { first = first; second = second; stageRoom = stageRoom; referenceRoom = referenceRoom; expected = expected }
+    record { first = first; second = second; stageRoom = stageRoom; referenceRoom = referenceRoom; order = FirstHighest; expected = expected }
+
+-- the same with words named in the files' order
+abbrev inFiles : Case → Case
+inFiles i =
+    record { first = i .first; second = i .second; stageRoom = i .stageRoom; referenceRoom = i .referenceRoom; order = FirstLowest; expected = i .expected }
 
 abbrev written : List ℕ → List ℕ → JoinAnswer
 written stage reference = record { verdict = accepted; stage = stage; reference = reference }
@@ -190,8 +198,13 @@ joins =
     case (files twoWires twoWiresReference) (files wire wireReference) 100 100 (refusal 22 0 2 1) ∷
     case (files wire wireReference) and 100 100 (refusal 22 0 1 2) ∷
     case (files wire wireReference) (cared (6 ∷ 2 ∷ 0 ∷ [])) 0 0 (refusal 22 0 1 2) ∷
-    -- 23 at the least word whose answer is not cared for
-    case (files twoWires twoWiresReference) (cared (6 ∷ 0 ∷ 0 ∷ 6 ∷ 1 ∷ 0 ∷ [])) 0 0 (refusal 23 0 0 2) ∷
+    -- 23 at the least word whose answer is not cared for: of the words 2 and 3 it is 2, which is named 1 where input 0 is the highest bit
+    case (files twoWires twoWiresReference) (cared (6 ∷ 0 ∷ 0 ∷ 6 ∷ 1 ∷ 0 ∷ [])) 0 0 (refusal 23 0 0 1) ∷
+    inFiles (case (files twoWires twoWiresReference) (cared (6 ∷ 0 ∷ 0 ∷ 6 ∷ 1 ∷ 0 ∷ [])) 0 0 (refusal 23 0 0 2)) ∷
+    -- of the words 1 and 2 it is 1 in the files' order, and 2, which is named 1, in the other
+    case (files twoWires twoWiresReference) (cared (6 ∷ 0 ∷ 0 ∷ 6 ∷ 3 ∷ 0 ∷ [])) 0 0 (refusal 23 0 0 1) ∷
+    case (cared (6 ∷ 0 ∷ 0 ∷ 6 ∷ 1 ∷ 0 ∷ [])) (cared (6 ∷ 0 ∷ 0 ∷ 6 ∷ 3 ∷ 0 ∷ [])) 0 0 (refusal 23 0 0 2) ∷
+    inFiles (case (cared (6 ∷ 0 ∷ 0 ∷ 6 ∷ 1 ∷ 0 ∷ [])) (cared (6 ∷ 0 ∷ 0 ∷ 6 ∷ 3 ∷ 0 ∷ [])) 0 0 (refusal 23 0 0 1)) ∷
     case (cared (6 ∷ 1 ∷ 0 ∷ 6 ∷ 3 ∷ 0 ∷ [])) (cared (6 ∷ 0 ∷ 0 ∷ 6 ∷ 1 ∷ 0 ∷ [])) 0 0 (refusal 23 0 0 3) ∷
     case not (files (inputs 1 ++ care 0 ++ output 0 1 ++ end) wireReference) 0 0 (refusal 23 0 0 0) ∷
     -- a part's own refusal: the first part's before the second's, the second's with 3 added to its file
@@ -208,7 +221,7 @@ joins =
     []
 
 pub answers : List Case → List JoinAnswer
-answers cases = map (λ (i : Case). joinWithin few few (i .first) (i .second) (i .stageRoom) (i .referenceRoom)) cases
+answers cases = map (λ (i : Case). joinWithin (i .order) few few (i .first) (i .second) (i .stageRoom) (i .referenceRoom)) cases
 
 pub expected : List Case → List JoinAnswer
 expected cases = map (λ (i : Case). i .expected) cases
@@ -219,8 +232,8 @@ unfolding joins answers expected wire wireReference twoWires twoWiresReference a
     k.whenFound k.ownCommands k.commandTable k.formIn k.pinsNeeded k.needed k.stray k.misfit k.misfitFrom k.takeGate k.takeCare k.takeSort k.takeCommand k.nextAt
     r.nameable r.nameless r.usedOperands r.namelessAt r.namelessFrom r.floorAfter r.noted r.finish r.onNext r.readFrom r.readFile t.stageOf t.referenceOf
     n.writeFile n.writeStage n.writeReference o.withNull o.isSet o.rounds o.settledLevels o.levelsHolding o.everyPair
-    g.tabulate g.leading l.gateSteps l.reachesItself w.numbers w.caredFor w.words w.bitsOf w.railsOf a.operate a.signalValues a.answer h.first h.atFault h.sweep
+    g.tabulate g.leading l.gateSteps l.reachesItself w.numbers w.caredFor w.words w.bitsOf w.railsOf w.wordOf w.spelled w.isIn w.select w.names a.operate a.signalValues a.answer h.first h.atFault h.sweep
     h.finding h.orLater h.firstFault h.wrong h.incomplete h.unobservable h.fallIncomplete h.fallUnobservable h.riseSweeps h.fallSweeps f.stays f.fallenLevels f.fallen h.checks v.verdictOf
-    q.retiredAt v.judgeReference v.judgeStage v.verdictWithin x.netInWhole x.joinedStage x.signalInWhole x.joinedReference j.stageRead j.referenceRead j.partIn j.refusalOf j.ofSecond j.wordOf
-    j.isIn j.joinChecks j.joinUnless j.joinFault j.joinWithin
+    q.retiredAt v.judgeReference v.judgeStage v.verdictWithin x.netInWhole x.joinedStage x.signalInWhole x.joinedReference j.stageRead j.referenceRead j.partIn j.refusalOf j.ofSecond
+    j.joinChecks j.joinUnless j.joinFault j.joinWithin
 computed = refl

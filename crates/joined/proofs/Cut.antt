@@ -12,6 +12,7 @@ use Rattle.netlist.specs.Reading.{Reading, refused, readable, readFile, partSta
 use Rattle.netlist.specs.Read.{farthest, mostBytes}
 use Rattle.netlist.proofs.Cut.{readFile-take}
 use Rattle.verdict.proofs.Cut.{read-short, within-cut}
+use Rattle.verdict.specs.declared.WordOrder.{WordOrder}
 use Rattle.joined.specs.Join.{Files, files, stageRead, referenceRead, partIn, joinFault, joinWithin}
 
 -- the files of a part, cut
@@ -40,19 +41,19 @@ module _ (stageMost referenceMost : Limits) (far : farthest file.Stage stageMost
         reference-same (f .reference) (readFile file.Reference referenceMost (f .reference)) refl,
       ) refl
 
-  join-within-cut : (first second : Files) (stageRoom referenceRoom : ℕ)
-      → joinWithin stageMost referenceMost (cutFiles first) (cutFiles second) stageRoom referenceRoom ≡ joinWithin stageMost referenceMost first second stageRoom referenceRoom
+  join-within-cut : (order : WordOrder) (first second : Files) (stageRoom referenceRoom : ℕ)
+      → joinWithin order stageMost referenceMost (cutFiles first) (cutFiles second) stageRoom referenceRoom ≡ joinWithin order stageMost referenceMost first second stageRoom referenceRoom
   unfolding joinWithin joinFault
-  join-within-cut first second stageRoom referenceRoom =
+  join-within-cut order first second stageRoom referenceRoom =
       rw (
-        within-cut stageMost referenceMost far far′ (first .stage) (first .reference),
-        within-cut stageMost referenceMost far far′ (second .stage) (second .reference),
+        within-cut order stageMost referenceMost far far′ (first .stage) (first .reference),
+        within-cut order stageMost referenceMost far far′ (second .stage) (second .reference),
         part-cut first,
         part-cut second,
       ) refl
 
-pub join-cut : (first second : Files) (stageRoom referenceRoom : ℕ)
-    → joinWithin partStageLimits partReferenceLimits (cutFiles first) (cutFiles second) stageRoom referenceRoom
-    ≡ joinWithin partStageLimits partReferenceLimits first second stageRoom referenceRoom
+pub join-cut : (order : WordOrder) (first second : Files) (stageRoom referenceRoom : ℕ)
+    → joinWithin order partStageLimits partReferenceLimits (cutFiles first) (cutFiles second) stageRoom referenceRoom
+    ≡ joinWithin order partStageLimits partReferenceLimits first second stageRoom referenceRoom
 unfolding commandTable ownCommands formIn
 join-cut = join-within-cut partStageLimits partReferenceLimits (omega arith) (omega arith)

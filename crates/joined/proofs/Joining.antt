@@ -24,6 +24,8 @@ use Rattle.netlist.proofs.Lists.{All-map}
 use Rattle.netlist.proofs.Stages.{read-writeStage, stageOf-writeStage, stage-formed, stage-fits}
 use Rattle.netlist.proofs.References.{read-writeReference, referenceOf-writeReference, reference-formed, reference-fits}
 use Rattle.verdict.specs.declared.Verdict.{Verdict}
+use Rattle.verdict.specs.declared.WordOrder.{WordOrder}
+use Rattle.verdict.specs.declared.WordOrder.the-variants.{FirstHighest}
 use Rattle.verdict.specs.Loops.{LoopFree}
 use Rattle.verdict.specs.Words.{words, IsWord, bitsOf, railsOf}
 use Rattle.verdict.specs.Answers.{answer}
@@ -33,6 +35,7 @@ use Rattle.verdict.specs.Demands.{StageIs, ReferenceIs, Contents, Comparable, A
 use Rattle.verdict.proofs.Reaching.{noLoop-loopFree, loopFree-noLoop}
 use Rattle.verdict.proofs.Words.{bits-of-length, bits-of-bit, answer-bit}
 use Rattle.verdict.proofs.Bridge.{stageIn}
+use Rattle.verdict.proofs.Names.{bitsOf-wordOf}
 use Rattle.verdict.proofs.OneWord.{wires-data}
 use Rattle.verdict.proofs.Demands.{demand-2, demand-3, accepted-contents}
 use Rattle.joined.specs.Whole.{netInWhole, joinedStage, joinedReference}
@@ -42,15 +45,15 @@ use Rattle.joined.proofs.Stages.{stage-named, in-series, joined-free, o
 use Rattle.joined.proofs.Stages as stages
 use Rattle.joined.proofs.References.{answer-length, joined-answer}
 use Rattle.joined.proofs.References as references
-use Rattle.joined.proofs.Words.{bitsOf-wordOf, rails-data}
+use Rattle.joined.proofs.Words.{rails-data}
 
 -- ---- an accepted part
 
-record GoodPart (stageMost referenceMost : Limits) (p : Part) : Type 0 where
-  formed : StageFormed stageMost (p .circuit)
-  ordered : ReferenceFormed referenceMost (p .function)
-  comparable : Comparable (p .circuit) (p .function)
-  acceptable : Acceptable (p .circuit) (p .function)
+pub record GoodPart (stageMost referenceMost : Limits) (p : Part) : Type 0 where
+  pub formed : StageFormed stageMost (p .circuit)
+  pub ordered : ReferenceFormed referenceMost (p .function)
+  pub comparable : Comparable (p .circuit) (p .function)
+  pub acceptable : Acceptable (p .circuit) (p .function)
 
 module _ (stageMost referenceMost : Limits) (f : Files) where
   part-is : (c : Contents stageMost referenceMost (f .stage) (f .reference)) → partIn stageMost referenceMost f ≡ record { circuit = c .circuit; function = c .function }
@@ -60,9 +63,9 @@ module _ (stageMost referenceMost : Limits) (f : Files) where
       let ir = c .function-is in
       rw (is .reads, ir .reads, is .content, ir .content)
 
-  good-part : verdictWithin stageMost referenceMost (f .stage) (f .reference) ≡ accepted → GoodPart stageMost referenceMost (partIn stageMost referenceMost f)
-  good-part e =
-      let r = accepted-contents stageMost referenceMost (f .stage) (f .reference) (ap (λ (v : Verdict). v .number) e) in
+  pub good-part : (order : WordOrder) → verdictWithin order stageMost referenceMost (f .stage) (f .reference) ≡ accepted → GoodPart stageMost referenceMost (partIn stageMost referenceMost f)
+  good-part order e =
+      let r = accepted-contents order stageMost referenceMost (f .stage) (f .reference) (ap (λ (v : Verdict). v .number) e) in
       let c = r .0 in
       let is = c .circuit-is in
       let ir = c .function-is in
@@ -70,7 +73,7 @@ module _ (stageMost referenceMost : Limits) (f : Files) where
         formed = subst (StageFormed stageMost) (is .content) (stage-formed stageMost (f .stage) (is .places) (is .reads));
         ordered = subst (ReferenceFormed referenceMost) (ir .content) (reference-formed referenceMost (f .reference) (ir .places) (ir .reads));
         comparable = r .1;
-        acceptable = demand-2 stageMost referenceMost (f .stage) (f .reference) .exactly c (r .1) .0 e;
+        acceptable = demand-2 order stageMost referenceMost (f .stage) (f .reference) .exactly c (r .1) .0 e;
       })
 
 -- a word in which a stage conforms
@@ -208,23 +211,24 @@ module _ (stageMost referenceMost : Limits) (first second : Part) (good : GoodPa
     good-joined cared =
         let c : Contents wholeStage wholeReference (stageBytes first second) (referenceBytes first second) =
         record { circuit = whole; function = function; circuit-is = stage-held; function-is = reference-held } in
-        let e = demand-2 wholeStage wholeReference (stageBytes first second) (referenceBytes first second) .exactly c whole-comparable .1 (whole-acceptable cared) in
+        let e : (order : WordOrder) → verdictWithin order wholeStage wholeReference (stageBytes first second) (referenceBytes first second) ≡ accepted = λ order.
+        demand-2 order wholeStage wholeReference (stageBytes first second) (referenceBytes first second) .exactly c whole-comparable .1 (whole-acceptable cared) in
         record {
           stage-is = stage-held;
           reference-is = reference-held;
           answers = answers;
           whole-accepted = e;
-          kept = demand-3 wholeStage wholeReference (stageBytes first second) (referenceBytes first second) .kept (ap (λ (v : Verdict). v .number) e) .1;
+          kept = demand-3 FirstHighest wholeStage wholeReference (stageBytes first second) (referenceBytes first second) .kept (ap (λ (v : Verdict). v .number) (e FirstHighest)) .1;
         }
 
 -- "If both parts are accepted and every answer the first gives on its care words is a care word of the second, the whole is accepted, and its
 -- runs obey everything said of a stage."
-pub join-accepted : (stageMost referenceMost wholeStage wholeReference : Limits) → RoomForTwo stageMost wholeStage → RoomForTwo referenceMost wholeReference
-    → (first second : Files) → Joinable stageMost referenceMost first second
+pub join-accepted : (order : WordOrder) (stageMost referenceMost wholeStage wholeReference : Limits) → RoomForTwo stageMost wholeStage → RoomForTwo referenceMost wholeReference
+    → (first second : Files) → Joinable order stageMost referenceMost first second
     → Joined wholeStage wholeReference (partIn stageMost referenceMost first) (partIn stageMost referenceMost second)
     (stageBytes (partIn stageMost referenceMost first) (partIn stageMost referenceMost second))
     (referenceBytes (partIn stageMost referenceMost first) (partIn stageMost referenceMost second))
-join-accepted stageMost referenceMost wholeStage wholeReference room room′ first second j =
+join-accepted order stageMost referenceMost wholeStage wholeReference room room′ first second j =
     good-joined stageMost referenceMost (partIn stageMost referenceMost first) (partIn stageMost referenceMost second)
-    (good-part stageMost referenceMost first (j .first-accepted)) (good-part stageMost referenceMost second (j .second-accepted)) (j .counts)
+    (good-part stageMost referenceMost first order (j .first-accepted)) (good-part stageMost referenceMost second order (j .second-accepted)) (j .counts)
     wholeStage wholeReference room room′ (j .cared)

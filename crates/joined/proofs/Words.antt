@@ -1,4 +1,4 @@
--- Answers as words: the word that some bits spell has these bits, and its rails are their DATA; and which words a stage cares for.
+-- Answers as words: the rails of some bits are their DATA; and which words a stage cares for.
 -- Assumes nothing.
 use Prim.Native.Nat.{ℕ, zero, suc, _+_, _*_, _/_, _%_, _≤_, _<_}
 use native.Mathlib.Omega.{arith}
@@ -15,22 +15,13 @@ use Rattle.runs.proofs.Net.{wordRails-0, wordRails-1}
 use Rattle.netlist.specs.Content.{Stage}
 use Rattle.verdict.specs.Rows.{high}
 use Rattle.verdict.specs.Loops.{In}
-use Rattle.verdict.specs.Words.{caredFor, bitsOf, railsOf}
+use Rattle.verdict.specs.Words.{words, railsOf}
 use Rattle.verdict.specs.Nets.{rowOf}
 use Rattle.verdict.proofs.Words.{rails-word}
-use Rattle.joined.specs.Join.{wordOf, isIn, CaresFor, caresFor}
+use Rattle.verdict.proofs.Names.{isIn-in, in-isIn}
+use Rattle.joined.specs.Join.{CaresFor, caresFor}
 
 -- ---- bits
-
-pub bitsOf-wordOf : (n : ℕ) (bits : List ℕ) → length bits ≡ n → ((i : ℕ) → getD bits i 0 ≤ 1) → bitsOf n (wordOf bits) ≡ bits
-unfolding bitsOf wordOf
-bitsOf-wordOf zero [] e h = refl
-bitsOf-wordOf zero (b ∷ bits) e h = absurd (omega arith)
-bitsOf-wordOf (suc n) [] e h = absurd (omega arith)
-bitsOf-wordOf (suc n) (b ∷ bits) e h =
-    let low : wordOf (b ∷ bits) % 2 ≡ b = omega (arith, h 0) in
-    let rest : wordOf (b ∷ bits) / 2 ≡ wordOf bits = omega (arith, h 0) in
-    rw (low, rest) (ap (λ (l : List ℕ). b ∷ l) (bitsOf-wordOf n bits (omega arith) (λ i. h (suc i))))
 
 -- a bit that is high is 1
 high-one : (x : ℕ) → x ≤ 1 → ltb 0 x ≡ eqb x 1
@@ -54,20 +45,9 @@ rails-data bits h j l = go (eqb (getD bits j 0) 1) refl
 
 -- ---- care words
 
-isIn-in : (x : ℕ) (l : List ℕ) → isIn x l ≡ true → In x l
-unfolding isIn
-isIn-in x [] e = absurd (clash e refl)
-isIn-in x (y ∷ l) e = ⊎-elim (λ h. inl (eqb-eq x y h)) (λ h. inr (isIn-in x l h)) (or-cases (eqb x y) (isIn x l) e)
-
-in-isIn : (x : ℕ) (l : List ℕ) → In x l → isIn x l ≡ true
-unfolding isIn
-in-isIn x [] i = absurd i
-in-isIn x (y ∷ l) (inl e) = or-left (eqb x y) (isIn x l) (rw e (eqb-same y))
-in-isIn x (y ∷ l) (inr i) = or-right (eqb x y) (isIn x l) (in-isIn x l i)
-
 module _ (s : Stage) (w : ℕ) where
   pub caresFor-cares : caresFor s w ≡ true → CaresFor s w
-  caresFor-cares e = isIn-in w (caredFor (s .inputs) (s .care)) e
+  caresFor-cares e = isIn-in w (words s) e
 
   pub cares-caresFor : CaresFor s w → caresFor s w ≡ true
-  cares-caresFor i = in-isIn w (caredFor (s .inputs) (s .care)) i
+  cares-caresFor i = in-isIn w (words s) i

@@ -1,6 +1,6 @@
 -- The join of two stages with their references: its verdict, and the bytes that it writes.
 use Prim.Native.Nat.{ℕ, _+_, _*_, _<_}
-use mathlib.Core.Bool.{Bool, false, cond, not, _||_}
+use mathlib.Core.Bool.{Bool, cond, not, _||_}
 use mathlib.Core.Logic.{_⊎_}
 use mathlib.Core.List.{List, [], _∷_}
 use lib.ListN.{length}
@@ -11,12 +11,12 @@ use Rattle.netlist.specs.Reading.{Reading, refused, readable, readFile}
 use Rattle.netlist.specs.Content.{Stage, Reference, stageOf, referenceOf}
 use Rattle.netlist.specs.Writing.{writeStage, writeReference}
 use Rattle.verdict.specs.declared.Verdict.{Verdict}
+use Rattle.verdict.specs.declared.WordOrder.{WordOrder}
 use Rattle.verdict.specs.declared.Finding.{Finding}
 use Rattle.verdict.specs.declared.Finding.the-variants.{Fault, Passed}
-use Rattle.verdict.specs.Loops.{In}
-use Rattle.verdict.specs.Words.{caredFor, words, bitsOf}
+use Rattle.verdict.specs.Words.{words, IsWord, bitsOf, wordOf, isIn}
 use Rattle.verdict.specs.Answers.{answer}
-use Rattle.verdict.specs.Checks.{verdict, Check, check, unsaid, unequal, orLater, firstFault}
+use Rattle.verdict.specs.Checks.{verdict, Check, check, unsaid, unequal, sweeping, orLater, firstFault}
 use Rattle.verdict.specs.Verdicts.{accepted, verdictWithin}
 use Rattle.joined.specs.Whole.{joinedStage, joinedReference}
 
@@ -69,25 +69,21 @@ ofSecond Passed = Passed
 
 -- ---- the seam
 
--- the word that some bits spell, in the files' order: bit i is input i
-unfoldable pub wordOf : List ℕ → ℕ
-wordOf [] = 0
-wordOf (b ∷ bits) = b + 2 * wordOf bits
-
 -- the answer to word w as a word: output j is bit j
 abbrev pub answerWord : Reference → ℕ → ℕ
 answerWord r w = wordOf (answer r (bitsOf (r .inputs) w))
 
-unfoldable pub isIn : ℕ → List ℕ → Bool
-isIn x [] = false
-isIn x (y ∷ ys) = eqb x y || isIn x ys
-
 -- a stage cares for a word, which is in the files' order as its care list is
 abbrev pub CaresFor : Stage → ℕ → Type 0
-CaresFor s w = In w (caredFor (s .inputs) (s .care))
+CaresFor = IsWord
 
 abbrev pub caresFor : Stage → ℕ → Bool
-caresFor s w = isIn w (caredFor (s .inputs) (s .care))
+caresFor s w = isIn w (words s)
+
+-- 23: the least care word of the first part, by its name, whose answer the second does not care for
+abbrev pub uncaredCheck : WordOrder → Stage → Reference → Stage → Check
+uncaredCheck order first function second =
+    sweeping order first 23 0 (0 ∷ []) (λ w i. not (caresFor second (answerWord function w))) (λ w i. ¬ (CaresFor second (answerWord function w))) unsaid
 
 -- the bytes that are written: "inputs, the first part's care list, gates (first part first), the second's outputs, end"
 abbrev pub stageBytes : Part → Part → List ℕ
@@ -96,13 +92,11 @@ stageBytes first second = writeStage (joinedStage (first .circuit) (second .circ
 abbrev pub referenceBytes : Part → Part → List ℕ
 referenceBytes first second = writeReference (joinedReference (first .function) (second .function))
 
--- the checks of the join, in their order: 22 counts at the seam unequal, 23 least care word whose answer the second does not care for, 24 a
--- buffer too short
-unfoldable pub joinChecks : Part → Part → ℕ → ℕ → List Check
-joinChecks first second stageRoom referenceRoom =
+-- the checks of the join, in their order: 22 counts at the seam unequal, 23, 24 a buffer too short
+unfoldable pub joinChecks : WordOrder → Part → Part → ℕ → ℕ → List Check
+joinChecks order first second stageRoom referenceRoom =
     unequal 22 (length (first .circuit .outputs)) (second .circuit .inputs) ∷
-    check 23 0 (words (first .circuit)) (0 ∷ []) (λ w i. not (caresFor (second .circuit) (answerWord (first .function) w)))
-    (λ w i. ¬ (CaresFor (second .circuit) (answerWord (first .function) w))) unsaid ∷
+    uncaredCheck order (first .circuit) (first .function) (second .circuit) ∷
     check 24 3 (0 ∷ []) (0 ∷ [])
     (λ w i. ltb stageRoom (length (stageBytes first second)) || ltb referenceRoom (length (referenceBytes first second)))
     (λ w i. (stageRoom < length (stageBytes first second)) ⊎ (referenceRoom < length (referenceBytes first second))) unsaid ∷
@@ -128,14 +122,14 @@ joinUnless (Fault v) first second = joinRefused v
 joinUnless Passed first second = joinWritten first second
 
 -- the first part is judged first, then the second, then the checks of the join follow
-unfoldable pub joinFault : Limits → Limits → Files → Files → ℕ → ℕ → Finding
-joinFault stageMost referenceMost first second stageRoom referenceRoom =
-    orLater (refusalOf (verdictWithin stageMost referenceMost (first .stage) (first .reference)))
-    (orLater (ofSecond (refusalOf (verdictWithin stageMost referenceMost (second .stage) (second .reference))))
-    (firstFault (joinChecks (partIn stageMost referenceMost first) (partIn stageMost referenceMost second) stageRoom referenceRoom)))
+unfoldable pub joinFault : WordOrder → Limits → Limits → Files → Files → ℕ → ℕ → Finding
+joinFault order stageMost referenceMost first second stageRoom referenceRoom =
+    orLater (refusalOf (verdictWithin order stageMost referenceMost (first .stage) (first .reference)))
+    (orLater (ofSecond (refusalOf (verdictWithin order stageMost referenceMost (second .stage) (second .reference))))
+    (firstFault (joinChecks order (partIn stageMost referenceMost first) (partIn stageMost referenceMost second) stageRoom referenceRoom)))
 
--- the join of two parts within the limits of parts, into buffers of two lengths
-unfoldable pub joinWithin : Limits → Limits → Files → Files → ℕ → ℕ → JoinAnswer
-joinWithin stageMost referenceMost first second stageRoom referenceRoom =
-    joinUnless (joinFault stageMost referenceMost first second stageRoom referenceRoom)
+-- the join of two parts within the limits of parts, into buffers of two lengths, with words named in an order
+unfoldable pub joinWithin : WordOrder → Limits → Limits → Files → Files → ℕ → ℕ → JoinAnswer
+joinWithin order stageMost referenceMost first second stageRoom referenceRoom =
+    joinUnless (joinFault order stageMost referenceMost first second stageRoom referenceRoom)
     (partIn stageMost referenceMost first) (partIn stageMost referenceMost second)

@@ -11,7 +11,8 @@ use Rattle.netlist.specs.declared.Found.the-variants.{Nothing}
 use Rattle.netlist.specs.Content.{Stage, Reference}
 use Rattle.verdict.specs.Checks.{riseSweeps, fallSweeps, WrongAt, IncompleteAt, UnobservableAt, FallIncompleteAt, FallUnobservableAt}
 use Rattle.verdict.specs.Search.{least}
-use Rattle.verdict.specs.Words.{numbers}
+use Rattle.verdict.specs.declared.WordOrder.the-variants.{FirstLowest}
+use Rattle.verdict.specs.Words.{numbers, spelled}
 use Rattle.verdict.specs.Checks as checks
 use Rattle.verdict.proofs.Words.{index-in}
 use Rattle.verdict.proofs.Least.{least-later}
@@ -30,21 +31,21 @@ none f n Condition means nowhere = none-from f 0 n (λ i a b. let h : i < n = om
 
 module _ (s : Stage) (r : Reference) (w : ℕ) where
   pub finds-no-wrong : ((j : ℕ) → j < length (s .outputs) → ¬ (WrongAt s r w j)) → finds Wrong s r w ≡ Nothing
-  unfolding riseSweeps
-  finds-no-wrong = none (checks.wrong s r w) (length (s .outputs)) (WrongAt s r w) (λ j h. rises-mean s r .0 .passes w j (index-in (length (s .outputs)) j h))
+  unfolding riseSweeps spelled
+  finds-no-wrong = none (checks.wrong s r w) (length (s .outputs)) (WrongAt s r w) (λ j h. rises-mean FirstLowest s r .0 .passes w j (index-in (length (s .outputs)) j h))
 
   pub finds-no-missing : ((i : ℕ) → i < s .inputs → ¬ (IncompleteAt s w i)) → finds Missing s r w ≡ Nothing
-  unfolding riseSweeps
-  finds-no-missing = none (checks.incomplete s w) (s .inputs) (IncompleteAt s w) (λ i h. rises-mean s r .1 .0 .passes w i (index-in (s .inputs) i h))
+  unfolding riseSweeps spelled
+  finds-no-missing = none (checks.incomplete s w) (s .inputs) (IncompleteAt s w) (λ i h. rises-mean FirstLowest s r .1 .0 .passes w i (index-in (s .inputs) i h))
 
   pub finds-no-unobserved : ((g : ℕ) → g < length (s .gates) → ¬ (UnobservableAt s w g)) → finds Unobserved s r w ≡ Nothing
-  unfolding riseSweeps
-  finds-no-unobserved = none (checks.unobservable s w) (length (s .gates)) (UnobservableAt s w) (λ g h. rises-mean s r .1 .1 .0 .passes w g (index-in (length (s .gates)) g h))
+  unfolding riseSweeps spelled
+  finds-no-unobserved = none (checks.unobservable s w) (length (s .gates)) (UnobservableAt s w) (λ g h. rises-mean FirstLowest s r .1 .1 .0 .passes w g (index-in (length (s .gates)) g h))
 
   pub finds-no-remaining : ((i : ℕ) → i < s .inputs → ¬ (FallIncompleteAt s w i)) → finds Remaining s r w ≡ Nothing
-  unfolding fallSweeps
-  finds-no-remaining = none (checks.fallIncomplete s w) (s .inputs) (FallIncompleteAt s w) (λ i h. falls-mean s r .0 .passes w i (index-in (s .inputs) i h))
+  unfolding fallSweeps spelled
+  finds-no-remaining = none (checks.fallIncomplete s w) (s .inputs) (FallIncompleteAt s w) (λ i h. falls-mean FirstLowest s r .0 .passes w i (index-in (s .inputs) i h))
 
   pub finds-no-still-high : ((g : ℕ) → g < length (s .gates) → ¬ (FallUnobservableAt s w g)) → finds StillHigh s r w ≡ Nothing
-  unfolding fallSweeps
-  finds-no-still-high = none (checks.fallUnobservable s w) (length (s .gates)) (FallUnobservableAt s w) (λ g h. falls-mean s r .1 .0 .passes w g (index-in (length (s .gates)) g h))
+  unfolding fallSweeps spelled
+  finds-no-still-high = none (checks.fallUnobservable s w) (length (s .gates)) (FallUnobservableAt s w) (λ g h. falls-mean FirstLowest s r .1 .0 .passes w g (index-in (length (s .gates)) g h))

@@ -1,25 +1,8 @@
 // Reads stage1.ncl, reference1.ncl, stage2.ncl and reference2.ncl, at most 8,192 bytes of each, and prints the verdict of their join. Where it
-// accepts, the joined stage and reference are written as stage.ncl and reference.ncl; otherwise no file is touched.
-use libc::STDERR_FILENO;
+// accepts, the joined stage and reference are written as stage.ncl and reference.ncl; otherwise no file is touched. Where
+// one of them could not be written, no verdict is printed.
+// A word is named with input 0 as its highest bit; with the argument `lowest`, as its lowest.
 use libc::STDOUT_FILENO;
-
-fn complain() {
-    io::write_all(STDERR_FILENO, b"ncl_join: a file could not be written\n");
-}
-
-// Writes the first bytes of a buffer into a file.
-fn save(path: &[u8], buffer: &[u8], count: u64) {
-    let n = count as usize;
-    let file = os::open_overwrite(path);
-    if file < 0 {
-        complain();
-        return;
-    }
-    if n <= buffer.len() {
-        io::write_all(file, &buffer[..n]);
-    }
-    libc::close(file);
-}
 
 fn main() {
     let mut stage1 = [0u8; 8192];
@@ -33,6 +16,7 @@ fn main() {
     let mut stage = [0u8; 8192];
     let mut reference = [0u8; 8192];
     let answer = fovaheju::join(
+        console::word_order(),
         &stage1[..a],
         &reference1[..b],
         &stage2[..c],
@@ -41,8 +25,12 @@ fn main() {
         &mut reference,
     );
     if answer.verdict.number == 0 {
-        save(b"stage.ncl", &stage, answer.stage_count);
-        save(b"reference.ncl", &reference, answer.reference_count);
+        if !console::save(b"stage.ncl", &stage, answer.stage_count) {
+            return;
+        }
+        if !console::save(b"reference.ncl", &reference, answer.reference_count) {
+            return;
+        }
     }
     console::print_verdict(answer.verdict);
     io::write_all(STDOUT_FILENO, b"\n");

@@ -1,5 +1,6 @@
 // Reads stage.ncl and reference.ncl, at most 8,192 bytes of each, and prints the switching report: for each word of an accepted stage a
 // line with the word and the number of gates high at its rest, then a line with the total. Of a refused pair it prints the verdict.
+// A word is named with input 0 as its highest bit; with the argument `lowest`, as its lowest.
 use libc::STDOUT_FILENO;
 
 fn main() {
@@ -7,7 +8,11 @@ fn main() {
     let stage_len = console::load(b"stage.ncl", &mut stage);
     let mut reference = [0u8; 8192];
     let reference_len = console::load(b"reference.ncl", &mut reference);
-    let report = fovaheju::report(&stage[..stage_len], &reference[..reference_len]);
+    let report = fovaheju::report(
+        console::word_order(),
+        &stage[..stage_len],
+        &reference[..reference_len],
+    );
     console::print_report(report, b" ", b"\n");
     io::write_all(STDOUT_FILENO, b"\n");
 }

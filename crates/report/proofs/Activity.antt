@@ -20,16 +20,17 @@ use Rattle.netlist.specs.Formed.{StageFormed}
 use Rattle.netlist.proofs.Stages.{stage-formed}
 use Rattle.verdict.specs.Levels.{Bits, sum}
 use Rattle.verdict.specs.Rows.{high, settled, settledLevels}
-use Rattle.verdict.specs.Words.{words, IsWord, railsIn}
+use Rattle.verdict.specs.declared.WordOrder.{WordOrder}
+use Rattle.verdict.specs.Words.{IsWord, railsIn}
 use Rattle.verdict.specs.Nets.{netOf, rowOf, railsFor, answerBits, restRow}
 use Rattle.verdict.specs.Demands.{RisesTo, Kept}
 use Rattle.verdict.proofs.Levels.{bits-length, bits-get}
 use Rattle.verdict.proofs.Settling.{settled-bits}
-use Rattle.verdict.proofs.Words.{words-rise}
+use Rattle.verdict.proofs.Names.{words-once}
 use Rattle.verdict.proofs.OneWord.{wires-length}
-use Rattle.report.specs.Report.{gatesHigh, lines, total}
+use Rattle.report.specs.Report.{gatesHigh, byName}
 use Rattle.report.specs.Activity.{gateSwitchings, Cycle, switchings, EachWordOnce, Cycled, HalfOfAll}
-use Rattle.report.proofs.Counting.{upTo, upTo-same, upTo-zero, upTo-split, upTo-levels, weigh, weigh-zero, sum-times, sum-same, times-rising}
+use Rattle.report.proofs.Counting.{upTo, upTo-same, upTo-zero, upTo-split, upTo-levels, weigh, weigh-zero, sum-times, sum-same}
 
 -- ---- one list
 
@@ -123,44 +124,41 @@ module _ (s : Stage) (r : Reference) (w : ℕ) (promise : Promise (netOf s) (rai
 
 -- ---- all words
 
--- each word stands once in the list of words
-words-once : (s : Stage) → Rising (2 ^ s .inputs) 0 (s .care) → (w : ℕ) → (IsWord s w × (times w (words s) ≡ 1)) ⊎ ((¬ (IsWord s w)) × (times w (words s) ≡ 0))
-words-once s care = times-rising (2 ^ s .inputs) 0 (words s) (words-rise s care)
+module _ (order : WordOrder) (s : Stage) (care : Rising (2 ^ s .inputs) 0 (s .care)) where
+  module _ (cycle : (p : Cycle s) → IsWord s (p .word) → switchings s p ≡ 2 * gatesHigh s (p .word)) where
+    abbrev wordOf : Cycle s → ℕ
+    wordOf p = p .word
 
-module _ (s : Stage) (care : Rising (2 ^ s .inputs) 0 (s .care)) (cycle : (p : Cycle s) → IsWord s (p .word) → switchings s p ≡ 2 * gatesHigh s (p .word)) where
-  abbrev wordOf : Cycle s → ℕ
-  wordOf p = p .word
+    cycles-twice : (cycles : List (Cycle s)) → ((w : ℕ) → ¬ (IsWord s w) → times w (map wordOf cycles) ≡ 0)
+        → sum (map (switchings s) cycles) ≡ 2 * sum (map (gatesHigh s) (map wordOf cycles))
+    cycles-twice [] none = refl
+    cycles-twice (p ∷ cycles) none = omega (arith, cycle p (first (words-once order s care (p .word))), cycles-twice cycles (λ w n. tail w (eqb w (p .word)) (none w n)))
+      where
+        later : ℕ → ℕ
+        later w = times w (map wordOf cycles)
 
-  cycles-twice : (cycles : List (Cycle s)) → ((w : ℕ) → ¬ (IsWord s w) → times w (map wordOf cycles) ≡ 0)
-      → sum (map (switchings s) cycles) ≡ 2 * sum (map (gatesHigh s) (map wordOf cycles))
-  cycles-twice [] none = refl
-  cycles-twice (p ∷ cycles) none = omega (arith, cycle p (first (words-once s care (p .word))), cycles-twice cycles (λ w n. tail w (eqb w (p .word)) (none w n)))
-    where
-      later : ℕ → ℕ
-      later w = times w (map wordOf cycles)
+        first : (IsWord s (p .word) × (times (p .word) (byName order s) ≡ 1)) ⊎ ((¬ (IsWord s (p .word))) × (times (p .word) (byName order s) ≡ 0)) → IsWord s (p .word)
+        first (inl h) = h .0
+        first (inr h) = absurd (omega (arith, sym (ap (λ b. tally b (later (p .word))) (eq-eqb (p .word) (p .word) refl)) ∙ none (p .word) (h .0)))
 
-      first : (IsWord s (p .word) × (times (p .word) (words s) ≡ 1)) ⊎ ((¬ (IsWord s (p .word))) × (times (p .word) (words s) ≡ 0)) → IsWord s (p .word)
-      first (inl h) = h .0
-      first (inr h) = absurd (omega (arith, sym (ap (λ b. tally b (later (p .word))) (eq-eqb (p .word) (p .word) refl)) ∙ none (p .word) (h .0)))
+        tail : (w : ℕ) (b : Bool) → tally b (later w) ≡ 0 → later w ≡ 0
+        tail w true e = absurd (omega (arith, e))
+        tail w false e = e
 
-      tail : (w : ℕ) (b : Bool) → tally b (later w) ≡ 0 → later w ≡ 0
-      tail w true e = absurd (omega (arith, e))
-      tail w false e = e
-
-  half : HalfOfAll s
-  half cycles each = omega (arith, cycles-twice cycles (each .none), sum-same (gatesHigh s) (map wordOf cycles) (words s) (λ w. as-often w (words-once s care w)))
-    where
-      as-often : (w : ℕ) → (IsWord s w × (times w (words s) ≡ 1)) ⊎ ((¬ (IsWord s w)) × (times w (words s) ≡ 0)) → times w (map wordOf cycles) ≡ times w (words s)
-      as-often w (inl h) = each .once w (h .0) ∙ sym (h .1)
-      as-often w (inr h) = each .none w (h .0) ∙ sym (h .1)
+    half : HalfOfAll order s
+    half cycles each = omega (arith, cycles-twice cycles (each .none), sum-same (gatesHigh s) (map wordOf cycles) (byName order s) (λ w. as-often w (words-once order s care w)))
+      where
+        as-often : (w : ℕ) → (IsWord s w × (times w (byName order s) ≡ 1)) ⊎ ((¬ (IsWord s w)) × (times w (byName order s) ≡ 0)) → times w (map wordOf cycles) ≡ times w (byName order s)
+        as-often w (inl h) = each .once w (h .0) ∙ sym (h .1)
+        as-often w (inr h) = each .none w (h .0) ∙ sym (h .1)
 
 -- of the stage of an accepted pair of files
 module _ (stageMost referenceMost : Limits) (stage reference : List ℕ) (k : Kept stageMost referenceMost stage reference) where
   pub accepted-cycled : (w : ℕ) → IsWord (k .contents .circuit) w → Cycled (k .contents .circuit) w
   accepted-cycled w h = cycled (k .contents .circuit) (k .contents .function) w (k .promise w h) (k .rest w h)
 
-  pub accepted-half : HalfOfAll (k .contents .circuit)
-  accepted-half =
+  pub accepted-half : (order : WordOrder) → HalfOfAll order (k .contents .circuit)
+  accepted-half order =
       let is = k .contents .circuit-is in
       let formed = subst (StageFormed stageMost) (is .content) (stage-formed stageMost stage (is .places) (is .reads)) in
-      half (k .contents .circuit) (formed .care-in) (λ p h. let c = accepted-cycled (p .word) h in omega (arith, c .rises p refl, c .falls p refl))
+      half order (k .contents .circuit) (formed .care-in) (λ p h. let c = accepted-cycled (p .word) h in omega (arith, c .rises p refl, c .falls p refl))

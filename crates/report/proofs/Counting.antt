@@ -5,16 +5,12 @@ use native.Mathlib.Omega.{arith}
 use native.Mathlib.Decide.{ℕ-discrete, decLt}
 use mathlib.Core.Path.{_≡_, refl, sym, ap, ap₂, subst, _∙_}
 use mathlib.Core.Bool.{Bool, true, false}
-use mathlib.Core.Logic.{_⊎_, inl, inr, ⊎-elim}
 use mathlib.Core.List.{List, [], _∷_, map}
 use lib.ListN.{length, getD}
 use lib.Dec.{eqb}
 use borrow.Author.Tests.{eq-eqb, ne-eqb}
 use Rattle.runs.specs.Row.{tally, times}
 use Rattle.verdict.specs.Levels.{sum}
-use Rattle.verdict.specs.Loops.{In}
-use Rattle.netlist.specs.Reading.{Rising}
-use Rattle.verdict.proofs.Words.{rising-in}
 
 -- ---- below a bound
 
@@ -107,15 +103,3 @@ sum-same f l m e =
     sum-times f past l (λ k h. past-sum l k (omega arith))
     ∙ upTo-same past _ _ (λ k h. ap (λ (n : ℕ). weigh n (f k)) (e k))
     ∙ sym (sum-times f past m (λ k h. past-sum m k (omega arith)))
-
--- how often a number stands in a rising list
-pub times-rising : (below floor : ℕ) (ws : List ℕ) → Rising below floor ws → (k : ℕ) → (In k ws × (times k ws ≡ 1)) ⊎ ((¬ (In k ws)) × (times k ws ≡ 0))
-times-rising below floor [] r k = inr ((λ h. h), refl)
-times-rising below floor (w ∷ ws) r k = go (ℕ-discrete k w) (times-rising below (w + 1) ws (r .2) k)
-  where
-    go : Dec (k ≡ w) → (In k ws × (times k ws ≡ 1)) ⊎ ((¬ (In k ws)) × (times k ws ≡ 0))
-        → (In k (w ∷ ws) × (tally (eqb k w) (times k ws) ≡ 1)) ⊎ ((¬ (In k (w ∷ ws))) × (tally (eqb k w) (times k ws) ≡ 0))
-    go (yes e) (inl h) = absurd (omega (arith, rising-in below (w + 1) ws (r .2) k (h .0)))
-    go (yes e) (inr h) = inl (inl e, ap (λ b. tally b (times k ws)) (eq-eqb k w e) ∙ ap suc (h .1))
-    go (no d) (inl h) = inl (inr (h .0), ap (λ b. tally b (times k ws)) (ne-eqb k w d) ∙ h .1)
-    go (no d) (inr h) = inr (⊎-elim d (h .0), ap (λ b. tally b (times k ws)) (ne-eqb k w d) ∙ h .1)

@@ -1,4 +1,4 @@
--- The words and lines of a report, written one after the other, and what they come to.
+-- The lines of a report, written one after the other, and what they come to.
 -- Assumes nothing.
 use Prim.Native.Nat.{ℕ, zero, suc, _+_, _-_, _*_, _^_, _≤_, _<_}
 use native.Mathlib.Omega.{arith}
@@ -6,16 +6,17 @@ use native.Mathlib.Decide.{ℕ-discrete, decLt}
 use lib.Pow.{pow-mono}
 use mathlib.Core.Path.{_≡_, refl, sym, ap, _∙_, subst}
 use mathlib.Core.List.{List, [], _∷_, _++_, map}
-use lib.ListN.{length, getD, take, set, replicate, length-set, length-map, length-append, length-replicate, List·getD-append, List·getD-eq-default}
+use lib.ListN.{length, getD, take, drop, set, replicate, length-set, length-map, length-append, length-replicate, List·getD-append, List·getD-eq-default}
 use lib.Seq.{getD-set-same, getD-set-other, getD-append-add, ext-getD, take-all}
-use Rattle.netlist.specs.Reading.{stageLimits, Rising}
+use Rattle.netlist.specs.Reading.{stageLimits}
 use Rattle.netlist.specs.Content.{Stage}
 use Rattle.netlist.proofs.Readable.{rising-length}
 use Rattle.verdict.specs.Levels.{sum}
-use Rattle.verdict.specs.Words.{words}
-use Rattle.verdict.proofs.Words.{words-rise}
-use Rattle.sweeps.specs.Sweeps.{wordCount}
-use Rattle.report.specs.Report.{gatesHigh, lines, total, mostLines, padded}
+use Rattle.verdict.specs.declared.WordOrder.{WordOrder}
+use Rattle.verdict.specs.Words.{spelled, names}
+use Rattle.verdict.proofs.Names.{names-rise}
+use Rattle.names.specs.Listed.{Listed}
+use Rattle.report.specs.Report.{gatesHigh, byName, lines, mostLines, padded}
 use Rattle.report.specs.Lines.{ListedTo, LinesTo}
 use Rattle.report.proofs.Summing.{sum-more}
 
@@ -28,6 +29,11 @@ zero-at : (m k : ℕ) → getD {A = ℕ} (replicate m 0) k 0 ≡ 0
 zero-at zero k = refl
 zero-at (suc m) zero = refl
 zero-at (suc m) (suc k) = zero-at m k
+
+drop-zeros : (k m : ℕ) → drop {A = ℕ} k (replicate m 0) ≡ replicate (m - k) 0
+drop-zeros zero m = let e : m - 0 ≡ m = omega arith in rw e refl
+drop-zeros (suc k) zero = let e : 0 - suc k ≡ 0 = omega arith in rw e refl
+drop-zeros (suc k) (suc m) = let e : suc m - suc k ≡ m - k = omega arith in rw e (drop-zeros k m)
 
 -- ---- a list that is written from its start
 
@@ -62,37 +68,45 @@ module _ (l : List ℕ) where
             to .later k (omega arith)
             ∙ sym (ap (λ (i : ℕ). getD (l ++ rest) i 0) q ∙ getD-append-add l rest (k - length l) 0 ∙ zero-at (mostLines - length l) (k - length l))
 
--- ---- the words and lines of a stage
+  -- ---- its sum besides
 
-module _ (s : Stage) where
-  lines-long : length (lines s) ≡ wordCount s
-  lines-long = length-map (words s) (gatesHigh s)
+  pub lines-start : LinesTo l 0 (replicate mostLines 0) 0
+  lines-start = record { lines-to = listed-start; sum-is = refl; small = omega arith }
 
-  -- rising words are no more than those of the inputs
-  pub words-few : s .inputs ≤ stageLimits .inputs → Rising (2 ^ s .inputs) 0 (s .care) → wordCount s ≤ mostLines
-  words-few h care = omega (arith, rising-length (2 ^ s .inputs) 0 (words s) (words-rise s care), pow-mono {i = s .inputs} {j = stageLimits .inputs} h)
+  module _ (few : length l ≤ mostLines) (m : ℕ) (written : List ℕ) (so-far : ℕ) (to : LinesTo l m written so-far) where
+    pub lines-more : m < length l → (x : ℕ) → x ≡ getD l m 0 → x < 0x10000 → LinesTo l (m + 1) (set written m x) (so-far + x)
+    lines-more h x at f = record {
+      lines-to = listed-more few m written (to .lines-to) h x at;
+      sum-is = omega (arith, to .sum-is, sum-more l m h, at);
+      small = omega (arith, to .small);
+    }
 
-  pub lines-start : LinesTo s 0 (replicate mostLines 0) (replicate mostLines 0) 0
-  lines-start = record { words-to = listed-start (words s); lines-to = listed-start (lines s); sum-is = refl; small = omega arith }
+    pub lines-done : m ≡ length l → (so-far ≡ sum l) × (written ≡ padded l)
+    lines-done e = (to .sum-is ∙ ap sum (take-all m l (omega arith)), listed-done few m written (to .lines-to) e)
 
-  module _ (few : wordCount s ≤ mostLines) (k : ℕ) (names written : List ℕ) (so-far : ℕ) (to : LinesTo s k names written so-far) where
-    few-lines : length (lines s) ≤ mostLines
-    few-lines = omega (arith, lines-long)
+-- ---- the names and lines of a stage
 
-    pub lines-more : k < wordCount s → (w high : ℕ) → w ≡ getD (words s) k 0 → high ≡ gatesHigh s w → high < 0x10000 →
-        LinesTo s (k + 1) (set names k w) (set written k high) (so-far + high)
-    lines-more h w high is e f =
-        let at : high ≡ getD (lines s) k 0 = e ∙ ap (gatesHigh s) is ∙ sym (map-at (gatesHigh s) (words s) k h) in
-        record {
-          words-to = listed-more (words s) few k names (to .words-to) h w is;
-          lines-to = listed-more (lines s) few-lines k written (to .lines-to) (omega (arith, lines-long)) high at;
-          sum-is = omega (arith, to .sum-is, sum-more (lines s) k (omega (arith, lines-long)), at);
-          small = omega (arith, to .small);
-        }
+module _ (order : WordOrder) (s : Stage) where
+  pub lines-long : length (lines order s) ≡ length (names order s)
+  lines-long = length-map (byName order s) (gatesHigh s) ∙ length-map (names order s) (spelled order (s .inputs))
 
-    pub lines-done : k ≡ wordCount s → (so-far ≡ total s) × (written ≡ padded (lines s)) × (names ≡ padded (words s))
-    lines-done e = (
-      to .sum-is ∙ ap sum (take-all k (lines s) (omega (arith, lines-long))),
-      listed-done (lines s) few-lines k written (to .lines-to) (omega (arith, lines-long)),
-      listed-done (words s) few k names (to .words-to) e,
-    )
+  -- there is room for a line of each
+  pub names-few : s .inputs ≤ stageLimits .inputs → length (names order s) ≤ mostLines
+  names-few h = omega (arith, rising-length (2 ^ s .inputs) 0 (names order s) (names-rise order s), pow-mono {i = s .inputs} {j = stageLimits .inputs} h)
+
+  -- line k, of name k
+  pub line-at : (k : ℕ) → k < length (names order s) → getD (lines order s) k 0 ≡ gatesHigh s (spelled order (s .inputs) (getD (names order s) k 0))
+  line-at k h =
+      map-at (gatesHigh s) (byName order s) k (omega (arith, length-map (names order s) (spelled order (s .inputs))))
+      ∙ ap (gatesHigh s) (map-at (spelled order (s .inputs)) (names order s) k h)
+
+  -- the same of a report: behind the lines and the names stand zeros
+  pub report-line : (k : ℕ) → k < length (lines order s) → getD (padded (lines order s)) k 0 ≡ gatesHigh s (spelled order (s .inputs) (getD (padded (names order s)) k 0))
+  report-line k h =
+      let n : k < length (names order s) = omega (arith, lines-long) in
+      List·getD-append (lines order s) _ 0 k h ∙ line-at k n ∙ ap (λ (name : ℕ). gatesHigh s (spelled order (s .inputs) name)) (sym (List·getD-append (names order s) _ 0 k n))
+
+-- numbers that are listed at the start of a slice of zeros
+pub listed-padded : (numbers : List ℕ) (count : ℕ) (after : List ℕ) → Listed numbers (replicate mostLines 0) count after → after ≡ padded numbers
+listed-padded numbers count after l =
+    l .list-is ∙ ap (λ (z : List ℕ). numbers ++ z) (drop-zeros count mostLines ∙ ap (λ (k : ℕ). replicate (mostLines - k) 0) (l .count-is))

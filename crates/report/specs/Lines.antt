@@ -5,11 +5,10 @@ use mathlib.Core.List.{List}
 use lib.ListN.{length, getD, take}
 use Rattle.netlist.specs.declared.File.the-variants as file
 use Rattle.netlist.specs.Reading.{Places, readable, readFile, stageLimits}
-use Rattle.netlist.specs.Content.{Stage, stageOf}
+use Rattle.netlist.specs.Content.{stageOf}
 use Rattle.verdict.specs.Levels.{sum}
 use Rattle.verdict.specs.Loops.{NoLoop}
-use Rattle.verdict.specs.Words.{words}
-use Rattle.report.specs.Report.{lines, mostLines}
+use Rattle.report.specs.Report.{mostLines}
 
 -- the first m members of a list are written, and what stands behind them is 0
 pub record ListedTo (l : List ℕ) (m : ℕ) (written : List ℕ) : Type 0 where
@@ -17,11 +16,10 @@ pub record ListedTo (l : List ℕ) (m : ℕ) (written : List ℕ) : Type 0 where
   pub member : (k : ℕ) → k < m → getD written k 0 ≡ getD l k 0
   pub later : (k : ℕ) → m ≤ k → getD written k 0 ≡ 0
 
--- the first m words and their lines are written, and the sum of the lines is known
-pub record LinesTo (s : Stage) (m : ℕ) (names written : List ℕ) (sum-so-far : ℕ) : Type 0 where
-  pub words-to : ListedTo (words s) m names
-  pub lines-to : ListedTo (lines s) m written
-  pub sum-is : sum-so-far ≡ sum (take m (lines s))
+-- the first m lines of some are written, and their sum is known
+pub record LinesTo (l : List ℕ) (m : ℕ) (written : List ℕ) (sum-so-far : ℕ) : Type 0 where
+  pub lines-to : ListedTo l m written
+  pub sum-is : sum-so-far ≡ sum (take m l)
   pub small : sum-so-far ≤ 0x10000 * m
 
 -- a stage file that reads, and whose stage has no loop

@@ -9,9 +9,10 @@ use Rattle.netlist.specs.declared.File.the-variants as file
 use Rattle.netlist.specs.Reading.{Reading, refused, readable, readFile, stageLimits}
 use Rattle.netlist.specs.Content.{Stage, stageOf}
 use Rattle.verdict.specs.declared.Verdict.{Verdict}
+use Rattle.verdict.specs.declared.WordOrder.{WordOrder}
 use Rattle.verdict.specs.Levels.{sum}
 use Rattle.verdict.specs.Rows.{settledLevels}
-use Rattle.verdict.specs.Words.{words, railsIn}
+use Rattle.verdict.specs.Words.{railsIn, spelled, names}
 use Rattle.verdict.specs.Verdicts.{verdictOn}
 use Rattle.report.specs.declared.Report.{Report}
 
@@ -19,13 +20,17 @@ use Rattle.report.specs.declared.Report.{Report}
 abbrev pub gatesHigh : Stage → ℕ → ℕ
 gatesHigh s w = sum (settledLevels (s .gates) (railsIn s w))
 
--- a line for each word, in their order
-abbrev pub lines : Stage → List ℕ
-lines s = map (gatesHigh s) (words s)
+-- the words in the order of their names
+abbrev pub byName : WordOrder → Stage → List ℕ
+byName order s = map (spelled order (s .inputs)) (names order s)
+
+-- a line for each word, in that order
+abbrev pub lines : WordOrder → Stage → List ℕ
+lines order s = map (gatesHigh s) (byName order s)
 
 -- "the total equals the sum of the printed lines"
-abbrev pub total : Stage → ℕ
-total s = sum (lines s)
+abbrev pub total : WordOrder → Stage → ℕ
+total order s = sum (lines order s)
 
 -- ---- the report of two files
 
@@ -37,21 +42,21 @@ mostLines = 2 ^ stageLimits .inputs
 abbrev pub padded : List ℕ → List ℕ
 padded l = l ++ replicate (mostLines - length l) 0
 
--- a verdict with some words and a line for each: how many lines they are, their sum, the lines, and the words by name
+-- a verdict with the names of some words and a line for each: how many lines they are, their sum, the lines, and the names
 abbrev pub reportOf : Verdict → List ℕ → List ℕ → Report
-reportOf v ws l = record { verdict = v; words = length l; total = sum l; lines = padded l; names = padded ws }
+reportOf v names l = record { verdict = v; words = length l; total = sum l; lines = padded l; names = padded names }
 
 -- of a refused pair, and of a stage
 abbrev pub refusedReport : Verdict → Report
 refusedReport v = reportOf v [] []
 
-abbrev pub stageReport : Verdict → Stage → Report
-stageReport v s = reportOf v (words s) (lines s)
+abbrev pub stageReport : WordOrder → Verdict → Stage → Report
+stageReport order v s = reportOf v (names order s) (lines order s)
 
 -- an accepted stage has its lines, a refused pair none
-unfoldable pub reportReading : Verdict → List ℕ → Reading → Report
-reportReading v stage (refused number at) = refusedReport v
-reportReading v stage (readable p) = cond (eqb (v .number) 0) (stageReport v (stageOf stage p)) (refusedReport v)
+unfoldable pub reportReading : WordOrder → Verdict → List ℕ → Reading → Report
+reportReading order v stage (refused number at) = refusedReport v
+reportReading order v stage (readable p) = cond (eqb (v .number) 0) (stageReport order v (stageOf stage p)) (refusedReport v)
 
-abbrev pub reportOn : List ℕ → List ℕ → Report
-reportOn stage reference = reportReading (verdictOn stage reference) stage (readFile file.Stage stageLimits stage)
+abbrev pub reportOn : WordOrder → List ℕ → List ℕ → Report
+reportOn order stage reference = reportReading order (verdictOn order stage reference) stage (readFile file.Stage stageLimits stage)

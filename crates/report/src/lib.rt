@@ -2,6 +2,7 @@
 use netlist::Counts;
 use netlist::Outcome;
 use verdict::Verdict;
+use verdict::WordOrder;
 ghost use mathlib.Core.Path.{_≡_};
 ghost use Prim.Native.Nat.{ℕ, _+_, _≤_, _<_};
 ghost use lib.ListN.{length, getD, take, drop, replicate};
@@ -9,10 +10,9 @@ ghost use Rattle.netlist.specs.declared.File.the-variants as file;
 ghost use Rattle.netlist.specs.Reading.{Places, readable, readFile, stageLimits};
 ghost use Rattle.netlist.specs.Content.{stageOf};
 ghost use Rattle.verdict.specs.Levels.{sum};
-ghost use Rattle.verdict.specs.Words.{words};
+ghost use Rattle.verdict.specs.Words.{names};
 ghost use Rattle.circuit.specs.Stage.{stageIn, StageLoaded};
 ghost use Rattle.circuit.specs.Order.{InOrder};
-ghost use Rattle.sweeps.specs.Sweeps.{wordCount};
 ghost use Rattle.report.specs.Report as spec;
 ghost use Rattle.report.specs.Activity.{ReportMeans};
 ghost use Rattle.report.specs.Lines.{LoopFreeFile};
@@ -21,7 +21,7 @@ ghost use Rattle.report.specs.Lines.{LoopFreeFile};
 pub const LINES: usize = 1 << netlist::INPUTS;
 
 // The verdict on the two files; and of an accepted stage how many words it has, how many gates are high at the rest of each, in the order
-// of the words, how many that makes, and which words they are. What stands behind the last word is 0, and so is all of it where the pair is
+// of their names, how many that makes, and the names of these words. What stands behind the last word is 0, and so is all of it where the pair is
 // refused. Laid out as C does: the C function of crate `fovaheju` answers one.
 #[repr(C)]
 pub struct Report {
@@ -56,22 +56,25 @@ fn gates_high(code: &[u16], counts: Counts, w: usize) -> u16
     count_high(&row, 2 * counts.inputs, counts.gates)
 }
 
-// All words and their lines, and the sum of the lines.
-fn fill_lines(code: &[u16], counts: Counts, lines: &mut [u16], names: &mut [u16]) -> u64
-    requires { ⌜ StageLoaded counts (now code) × InOrder counts (now code) × (wordCount (stageIn counts (now code)) ≤ spec.mostLines)
-        × (now lines ≡ replicate spec.mostLines 0) × (now names ≡ replicate spec.mostLines 0) ⌝ }
-    ensures { λ r. ⌜ (r ≡ spec.total (stageIn counts (now (code .entry))))
-        × (now (lines .exit) ≡ spec.padded (spec.lines (stageIn counts (now (code .entry)))))
-        × (now (names .exit) ≡ spec.padded (words (stageIn counts (now (code .entry))))) ⌝ }
+// The lines of all words, whose names are listed, and the sum of the lines.
+fn fill_lines(
+    order: WordOrder,
+    code: &[u16],
+    counts: Counts,
+    list: &[u16],
+    lines: &mut [u16],
+) -> u64
+    requires { ⌜ StageLoaded counts (now code) × InOrder counts (now code) × (now list ≡ names order (stageIn counts (now code)))
+        × (length (now list) ≤ spec.mostLines) × (now lines ≡ replicate spec.mostLines 0) ⌝ }
+    ensures { λ r. ⌜ (r ≡ spec.total order (stageIn counts (now (code .entry))))
+        × (now (lines .exit) ≡ spec.padded (spec.lines order (stageIn counts (now (code .entry))))) ⌝ }
 {
-    let count = sweeps::word_count(counts);
     let mut total: u64 = 0;
     let mut k: usize = 0;
-    while k < count {
-        let w = sweeps::word_at(code, counts, k);
-        let high = gates_high(code, counts, w as usize);
+    while k < list.len() {
+        let w = names::word_of(order, counts.inputs, list[k] as usize);
+        let high = gates_high(code, counts, w);
         lines[k] = high;
-        names[k] = w;
         total += high as u64;
         k += 1;
     }
@@ -79,24 +82,24 @@ fn fill_lines(code: &[u16], counts: Counts, lines: &mut [u16], names: &mut [u16]
 }
 
 // The report of a stage that reads and has no loop.
-fn report_stage(stage: &[u8], verdict: Verdict) -> Report
+fn report_stage(order: WordOrder, stage: &[u8], verdict: Verdict) -> Report
     requires { ⌜ LoopFreeFile (now stage) ⌝ }
     ensures { λ r. ⌜ ((p : Places) → readFile file.Stage stageLimits (now (stage .entry)) ≡ readable p
-        → r ≡ spec.stageReport verdict (stageOf (now (stage .entry)) p)) ⌝ }
+        → r ≡ spec.stageReport order verdict (stageOf (now (stage .entry)) p)) ⌝ }
 {
     let mut lines = [0u16; LINES];
-    let mut names = [0u16; LINES];
+    let mut list = [0u16; LINES];
     let mut code = [0u16; load::STAGE_CODE];
     if let Outcome::Readable(counts) = load::read_stage(stage, &mut code) {
         loops::order_gates(&mut code, counts);
-        let total = fill_lines(&code, counts, &mut lines, &mut names);
-        let words = sweeps::word_count(counts) as u64;
+        let count = names::list_names(order, &code, counts, &mut list);
+        let total = fill_lines(order, &code, counts, &list[..count], &mut lines);
         return Report {
             verdict,
-            words,
+            words: count as u64,
             total,
             lines,
-            names,
+            names: list,
         };
     }
     Report {
@@ -104,18 +107,18 @@ fn report_stage(stage: &[u8], verdict: Verdict) -> Report
         words: 0,
         total: 0,
         lines,
-        names,
+        names: list,
     }
 }
 
-// The report of a stage file against a reference file.
-pub fn report_on(stage: &[u8], reference: &[u8]) -> Report
-    ensures report { λ r. ⌜ r ≡ spec.reportOn (now (stage .entry)) (now (reference .entry)) ⌝ }
-    ensures means { λ r. ⌜ ReportMeans (now (stage .entry)) (now (reference .entry)) r ⌝ }
+// The report of a stage file against a reference file, with words named in an order.
+pub fn report_on(order: WordOrder, stage: &[u8], reference: &[u8]) -> Report
+    ensures report { λ r. ⌜ r ≡ spec.reportOn order (now (stage .entry)) (now (reference .entry)) ⌝ }
+    ensures means { λ r. ⌜ ReportMeans order (now (stage .entry)) (now (reference .entry)) r ⌝ }
 {
-    let verdict = checker::check(stage, reference);
+    let verdict = checker::check(order, stage, reference);
     if verdict.number == 0 {
-        return report_stage(stage, verdict);
+        return report_stage(order, stage, verdict);
     }
     Report {
         verdict,

@@ -1,11 +1,13 @@
-// Judges each pair of files that data/ holds. Prints a line for each: the case and its verdict. The cases, and the lines that an
+// Judges each pair of files that data/ holds, with input 0 as the highest bit of a word and then once more as the lowest. Prints a line for
+// each: the case and its verdict. The cases, and the lines that an
 // independent judge gives them, are written by tests/src/bin/suite.rs.
 use libc::STDOUT_FILENO;
+use verdict::WordOrder;
 
 const CASES: usize = 633;
 
 // Case i is in the files iii.s, the stage, and iii.r, the reference.
-fn run(i: usize) {
+fn run(order: WordOrder, i: usize) {
     let hundreds = b'0' + (i / 100 % 10) as u8;
     let tens = b'0' + (i / 10 % 10) as u8;
     let ones = b'0' + (i % 10) as u8;
@@ -14,12 +16,21 @@ fn run(i: usize) {
     let mut reference = [0u8; 8192];
     let reference_len = console::load(&[hundreds, tens, ones, b'.', b'r'], &mut reference);
     io::write_all(STDOUT_FILENO, &[hundreds, tens, ones, b' ']);
-    console::print_verdict(fovaheju::check(&stage[..stage_len], &reference[..reference_len]));
+    console::print_verdict(fovaheju::check(
+        order,
+        &stage[..stage_len],
+        &reference[..reference_len],
+    ));
     io::write_all(STDOUT_FILENO, b"\n");
 }
 
-fn main() {
+fn run_all(order: WordOrder) {
     for i in 0..CASES {
-        run(i);
+        run(order, i);
     }
+}
+
+fn main() {
+    run_all(WordOrder::FirstHighest);
+    run_all(WordOrder::FirstLowest);
 }

@@ -1,45 +1,22 @@
 // The sweeps of 13, 14 and 15, and of 20 and 21, over the words of a stage and a reference in their flat forms.
+use looks::Masks;
 use netlist::Counts;
 use netlist::Found;
 use verdict::Finding;
 use verdict::Verdict;
+use verdict::WordOrder;
 use words::Sweep;
 ghost use mathlib.Core.Path.{_≡_};
 ghost use mathlib.Core.Bool.{true};
-ghost use Prim.Native.Nat.{ℕ, _≤_, _<_};
-ghost use mathlib.Core.List.{List};
-ghost use lib.ListN.{getD};
-ghost use Rattle.netlist.specs.Reading.{stageLimits};
-ghost use Rattle.verdict.specs.Words.{words};
+ghost use Rattle.verdict.specs.Words.{names};
 ghost use Rattle.verdict.specs.Checks as checks;
 ghost use Rattle.verdict.specs.Demands.{WithHold};
 ghost use Rattle.circuit.specs.Stage.{stageIn, StageLoaded};
 ghost use Rattle.circuit.specs.Reference.{referenceIn};
 ghost use Rattle.words.specs.Loaded.{BothLoaded};
-ghost use Rattle.sweeps.specs.Sweeps.{wordCount, numberOf, swept};
-
-// How many words a stage has: its care words, or all that its inputs have.
-pub fn word_count(counts: Counts) -> usize
-    requires { ⌜ counts .inputs ≤ stageLimits .inputs ⌝ }
-    ensures { λ r. ⌜ ((code : List ℕ) → r ≡ wordCount (stageIn counts code)) ⌝ }
-{
-    if counts.care == 0 {
-        return 1 << counts.inputs;
-    }
-    counts.care
-}
-
-// Word k of a stage.
-pub fn word_at(code: &[u16], counts: Counts, k: usize) -> u16
-    requires { ⌜ StageLoaded counts (now code) × (k < wordCount (stageIn counts (now code))) ⌝ }
-    ensures { λ r. ⌜ r ≡ getD (words (stageIn counts (now (code .entry)))) k 0 ⌝ }
-{
-    if counts.care != 0 {
-        let first = 8 * counts.gates + 2 * counts.outputs;
-        return code[first + k];
-    }
-    k as u16
-}
+ghost use Rattle.words.specs.Finds.{finds};
+ghost use Rattle.looks.specs.Looks.{Clean, AllClean};
+ghost use Rattle.sweeps.specs.Sweeps.{numberOf, swept};
 
 // The number of a check.
 fn number_of(which: Sweep) -> u64
@@ -54,28 +31,52 @@ fn number_of(which: Sweep) -> u64
     }
 }
 
-// What one of the checks finds in the words of a stage: the least word with a fault, and the least fault in it.
+// What one of the checks finds in word w. A word that its mask does not name is passed over.
+fn look_in(
+    which: Sweep,
+    mask: &[u64],
+    code: &[u16],
+    counts: Counts,
+    reference: &[u16],
+    sizes: Counts,
+    w: usize,
+) -> Found
+    requires { ⌜ BothLoaded counts (now code) sizes (now reference)
+        × Clean which (stageIn counts (now code)) (referenceIn sizes (now reference)) (now mask) ⌝ }
+    ensures { λ r. ⌜ r ≡ finds which (stageIn counts (now (code .entry))) (referenceIn sizes (now (reference .entry))) w ⌝ }
+{
+    if looks::is_named(mask, w) {
+        return words::find(which, code, counts, reference, sizes, w);
+    }
+    Found::Nothing
+}
+
+// What one of the checks finds in the words of a stage, whose names are listed: the word of the least name with a fault, and the least fault in it.
 fn sweep_words(
     which: Sweep,
+    order: WordOrder,
+    list: &[u16],
+    mask: &[u64],
     code: &[u16],
     counts: Counts,
     reference: &[u16],
     sizes: Counts,
 ) -> Finding
-    requires { ⌜ BothLoaded counts (now code) sizes (now reference) ⌝ }
-    ensures { λ r. ⌜ r ≡ swept which (stageIn counts (now (code .entry))) (referenceIn sizes (now (reference .entry))) ⌝ }
+    requires { ⌜ BothLoaded counts (now code) sizes (now reference) × (now list ≡ names order (stageIn counts (now code)))
+        × Clean which (stageIn counts (now code)) (referenceIn sizes (now reference)) (now mask) ⌝ }
+    ensures { λ r. ⌜ r ≡ swept which order (stageIn counts (now (code .entry))) (referenceIn sizes (now (reference .entry))) ⌝ }
 {
     let number = number_of(which);
-    let count = word_count(counts);
     let mut k: usize = 0;
-    while k < count {
-        let w = word_at(code, counts, k) as usize;
-        if let Found::At(i) = words::find(which, code, counts, reference, sizes, w) {
+    while k < list.len() {
+        let name = list[k] as usize;
+        let w = names::word_of(order, counts.inputs, name);
+        if let Found::At(i) = look_in(which, mask, code, counts, reference, sizes, w) {
             return Finding::Fault(Verdict {
                 number,
                 file: 1,
                 at: i as u64,
-                word: w as u64,
+                word: name as u64,
             });
         }
         k += 1;
@@ -83,29 +84,114 @@ fn sweep_words(
     Finding::Passed
 }
 
-// The rise: 13, then 14, then 15.
-fn sweep_rises(code: &[u16], counts: Counts, reference: &[u16], sizes: Counts) -> Finding
-    requires { ⌜ BothLoaded counts (now code) sizes (now reference) ⌝ }
-    ensures { λ r. ⌜ r ≡ checks.firstFault (checks.riseSweeps (stageIn counts (now (code .entry))) (referenceIn sizes (now (reference .entry)))) ⌝ }
+// The same by the masks of all checks. Where none of the words is named, none is looked at.
+fn sweep_check(
+    which: Sweep,
+    order: WordOrder,
+    list: &[u16],
+    masks: Masks,
+    code: &[u16],
+    counts: Counts,
+    reference: &[u16],
+    sizes: Counts,
+) -> Finding
+    requires { ⌜ BothLoaded counts (now code) sizes (now reference) × (now list ≡ names order (stageIn counts (now code)))
+        × AllClean (stageIn counts (now code)) (referenceIn sizes (now reference)) masks ⌝ }
+    ensures { λ r. ⌜ r ≡ swept which order (stageIn counts (now (code .entry))) (referenceIn sizes (now (reference .entry))) ⌝ }
 {
-    if let Finding::Fault(v) = sweep_words(Sweep::Wrong, code, counts, reference, sizes) {
+    let mask = looks::mask_of(which, masks);
+    if looks::none_named(&mask, counts.inputs) {
+        return Finding::Passed;
+    }
+    sweep_words(which, order, list, &mask, code, counts, reference, sizes)
+}
+
+// The rise: 13, then 14, then 15.
+fn sweep_rises(
+    order: WordOrder,
+    list: &[u16],
+    masks: Masks,
+    code: &[u16],
+    counts: Counts,
+    reference: &[u16],
+    sizes: Counts,
+) -> Finding
+    requires { ⌜ BothLoaded counts (now code) sizes (now reference) × (now list ≡ names order (stageIn counts (now code)))
+        × AllClean (stageIn counts (now code)) (referenceIn sizes (now reference)) masks ⌝ }
+    ensures { λ r. ⌜ r ≡ checks.firstFault (checks.riseSweeps order (stageIn counts (now (code .entry))) (referenceIn sizes (now (reference .entry)))) ⌝ }
+{
+    if let Finding::Fault(v) = sweep_check(
+        Sweep::Wrong,
+        order,
+        list,
+        masks,
+        code,
+        counts,
+        reference,
+        sizes,
+    ) {
         return Finding::Fault(v);
     }
-    if let Finding::Fault(v) = sweep_words(Sweep::Missing, code, counts, reference, sizes) {
+    if let Finding::Fault(v) = sweep_check(
+        Sweep::Missing,
+        order,
+        list,
+        masks,
+        code,
+        counts,
+        reference,
+        sizes,
+    ) {
         return Finding::Fault(v);
     }
-    sweep_words(Sweep::Unobserved, code, counts, reference, sizes)
+    sweep_check(
+        Sweep::Unobserved,
+        order,
+        list,
+        masks,
+        code,
+        counts,
+        reference,
+        sizes,
+    )
 }
 
 // The fall: 20, then 21.
-fn sweep_falls(code: &[u16], counts: Counts, reference: &[u16], sizes: Counts) -> Finding
-    requires { ⌜ BothLoaded counts (now code) sizes (now reference) ⌝ }
-    ensures { λ r. ⌜ r ≡ checks.firstFault (checks.fallSweeps (stageIn counts (now (code .entry))) (referenceIn sizes (now (reference .entry)))) ⌝ }
+fn sweep_falls(
+    order: WordOrder,
+    list: &[u16],
+    masks: Masks,
+    code: &[u16],
+    counts: Counts,
+    reference: &[u16],
+    sizes: Counts,
+) -> Finding
+    requires { ⌜ BothLoaded counts (now code) sizes (now reference) × (now list ≡ names order (stageIn counts (now code)))
+        × AllClean (stageIn counts (now code)) (referenceIn sizes (now reference)) masks ⌝ }
+    ensures { λ r. ⌜ r ≡ checks.firstFault (checks.fallSweeps order (stageIn counts (now (code .entry))) (referenceIn sizes (now (reference .entry)))) ⌝ }
 {
-    if let Finding::Fault(v) = sweep_words(Sweep::Remaining, code, counts, reference, sizes) {
+    if let Finding::Fault(v) = sweep_check(
+        Sweep::Remaining,
+        order,
+        list,
+        masks,
+        code,
+        counts,
+        reference,
+        sizes,
+    ) {
         return Finding::Fault(v);
     }
-    sweep_words(Sweep::StillHigh, code, counts, reference, sizes)
+    sweep_check(
+        Sweep::StillHigh,
+        order,
+        list,
+        masks,
+        code,
+        counts,
+        reference,
+        sizes,
+    )
 }
 
 // Whether every gate has hold.
@@ -126,15 +212,42 @@ fn all_hold(code: &[u16], counts: Counts) -> bool
 }
 
 // The rise, then the fall. Where every gate has hold, a stage whose rise passes is not refused for its fall.
-pub fn sweep_all(code: &[u16], counts: Counts, reference: &[u16], sizes: Counts) -> Finding
-    requires { ⌜ BothLoaded counts (now code) sizes (now reference) ⌝ }
-    ensures { λ r. ⌜ r ≡ checks.firstFault (checks.sweeps (stageIn counts (now (code .entry))) (referenceIn sizes (now (reference .entry)))) ⌝ }
+fn sweep_named(
+    order: WordOrder,
+    list: &[u16],
+    masks: Masks,
+    code: &[u16],
+    counts: Counts,
+    reference: &[u16],
+    sizes: Counts,
+) -> Finding
+    requires { ⌜ BothLoaded counts (now code) sizes (now reference) × (now list ≡ names order (stageIn counts (now code)))
+        × AllClean (stageIn counts (now code)) (referenceIn sizes (now reference)) masks ⌝ }
+    ensures { λ r. ⌜ r ≡ checks.firstFault (checks.sweeps order (stageIn counts (now (code .entry))) (referenceIn sizes (now (reference .entry)))) ⌝ }
 {
-    if let Finding::Fault(v) = sweep_rises(code, counts, reference, sizes) {
+    if let Finding::Fault(v) = sweep_rises(order, list, masks, code, counts, reference, sizes) {
         return Finding::Fault(v);
     }
     if all_hold(code, counts) {
         return Finding::Passed;
     }
-    sweep_falls(code, counts, reference, sizes)
+    sweep_falls(order, list, masks, code, counts, reference, sizes)
+}
+
+// All checks that sweep the words of a stage: the words that are worth a look are found first, 64 at a time; their names are listed once, and swept in
+// that order.
+pub fn sweep_all(
+    order: WordOrder,
+    code: &[u16],
+    counts: Counts,
+    reference: &[u16],
+    sizes: Counts,
+) -> Finding
+    requires { ⌜ BothLoaded counts (now code) sizes (now reference) ⌝ }
+    ensures { λ r. ⌜ r ≡ checks.firstFault (checks.sweeps order (stageIn counts (now (code .entry))) (referenceIn sizes (now (reference .entry)))) ⌝ }
+{
+    let masks = looks::looks(code, counts, reference, sizes);
+    let mut list = [0u16; names::NAMES];
+    let count = names::list_names(order, code, counts, &mut list);
+    sweep_named(order, &list[..count], masks, code, counts, reference, sizes)
 }

@@ -17,13 +17,14 @@ use Rattle.netlist.specs.declared.File.the-variants as file
 use Rattle.netlist.specs.declared.Limits.{Limits}
 use Rattle.netlist.specs.Reading.{Places, Reading, refused, readable, readFile}
 use Rattle.netlist.specs.Content.{Pair, Stage, Reference, stageOf, referenceOf}
+use Rattle.verdict.specs.declared.WordOrder.{WordOrder}
 use Rattle.verdict.specs.Rows.{high, withNull, settled, settledHolding, DualRail, pairIn, isData, isNull, spells, everyPair, allData, allNull}
 use Rattle.verdict.specs.Loops.{In, reachesItself}
-use Rattle.verdict.specs.Words.{numbers, words, bitsOf, railsIn}
+use Rattle.verdict.specs.Words.{numbers, words, bitsOf, railsIn, spelled, names}
 use Rattle.verdict.specs.Answers.{answer}
 use Rattle.verdict.specs.Nets.{noPair, outputPair, netOf, rowOf, restRow}
 use Rattle.verdict.specs.Falls.{fallenBut, fallenKeeping}
-use Rattle.verdict.specs.Checks.{Check, check, wrong, incomplete, unobservable, fallIncomplete, fallUnobservable, WrongAt, IncompleteAt, UnobservableAt, FallIncompleteAt, FallUnobservableAt, unequal, looped, retired, riseSweeps, fallSweeps, checks, illegal, IllegalAt, rowChecks}
+use Rattle.verdict.specs.Checks.{Check, check, unsaid, wrong, incomplete, unobservable, fallIncomplete, fallUnobservable, WrongAt, IncompleteAt, UnobservableAt, FallIncompleteAt, FallUnobservableAt, unequal, looped, retired, riseSweeps, fallSweeps, checks, illegal, IllegalAt, rowChecks}
 use Rattle.verdict.specs.Verdicts.{judgeReference, judgeStage, verdictWithin}
 use Rattle.verdict.specs.Demands.{Holds, EachOf, Because, stage-refused, reference-refused, both-read}
 use Rattle.verdict.proofs.Reaching.{reaches-sound, reaches-complete}
@@ -83,14 +84,23 @@ looped-means s = record {
 retired-means : (s : Stage) → Means (retired s)
 retired-means s = record { passes = λ w g h. test-retired (s .gates) g; occurs = λ w g h. retired-test (s .gates) g }
 
-module _ (s : Stage) (r : Reference) (places : List ℕ) (Shows : ℕ → ℕ → Type 0) where
+-- a check that sweeps words by name means its condition where that of the words does, whatever a run shows
+sweeping-means : (order : WordOrder) (s : Stage) (number file : ℕ) {places : List ℕ} {fails : ℕ → ℕ → Bool} {Condition Shows : ℕ → ℕ → Type 0}
+    → Means (check number file (words s) places fails Condition unsaid)
+    → Means (check number file (names order s) places (λ name. fails (spelled order (s .inputs) name)) (λ name. Condition (spelled order (s .inputs) name)) Shows)
+sweeping-means order s number file m = record {
+  passes = λ name. m .passes (spelled order (s .inputs) name);
+  occurs = λ name. m .occurs (spelled order (s .inputs) name);
+}
+
+module _ (s : Stage) (r : Reference) (places : List ℕ) where
   abbrev row : ℕ → List ℕ
   row w = settled (s .gates) (railsIn s w)
 
   abbrev value : ℕ → ℕ → ℕ
   value w j = getD (answer r (bitsOf (r .inputs) w)) j 0
 
-  wrong-means : Means (check 13 1 (words s) places (wrong s r) (WrongAt s r) Shows)
+  wrong-means : Means (check 13 1 (words s) places (wrong s r) (WrongAt s r) unsaid)
   unfolding wrong
   wrong-means = record {
     passes = λ w j h e d. clash (spells-out (row w) (outputPair s j) (value w j) (answer-bit r (bitsOf (r .inputs) w) (bits-of-bit (r .inputs) w) j) d) (of-not (spells (pairIn (row w) (outputPair s j)) (value w j)) e);
@@ -112,26 +122,26 @@ module _ (s : Stage) (w g : ℕ) (test : Bool) {P : Type 0} (passes : test ≡ t
       → (elim (high (settled (s .gates) (railsIn s w)) (2 * s .inputs + g)) as (λ b. Bool) [ true ↦ test | false ↦ false ]) ≡ true
   passes-high u = rw (u .0) (holds-so (u .1))
 
-module _ (s : Stage) (places : List ℕ) (Shows : ℕ → ℕ → Type 0) where
-  incomplete-means : Means (check 14 1 (words s) places (incomplete s) (IncompleteAt s) Shows)
+module _ (s : Stage) (places : List ℕ) where
+  incomplete-means : Means (check 14 1 (words s) places (incomplete s) (IncompleteAt s) unsaid)
   unfolding incomplete
   incomplete-means = record {
     passes = λ w i h. data-true s (settled (s .gates) (withNull (only i) (railsIn s w)));
     occurs = λ w i h. true-data s (settled (s .gates) (withNull (only i) (railsIn s w)));
   }
 
-  unobservable-means : Means (check 15 1 (words s) places (unobservable s) (UnobservableAt s) Shows)
+  unobservable-means : Means (check 15 1 (words s) places (unobservable s) (UnobservableAt s) unsaid)
   unfolding unobservable
   unobservable-means = record {
     passes = λ w g h. let row = settledHolding g (s .gates) (railsIn s w) in high-passes s w g (allData row (s .outputs)) (data-true s row) (true-data s row);
     occurs = λ w g h. let row = settledHolding g (s .gates) (railsIn s w) in passes-high s w g (allData row (s .outputs)) (data-true s row) (true-data s row);
   }
 
-  fall-incomplete-means : Means (check 20 1 (words s) places (fallIncomplete s) (FallIncompleteAt s) Shows)
+  fall-incomplete-means : Means (check 20 1 (words s) places (fallIncomplete s) (FallIncompleteAt s) unsaid)
   unfolding fallIncomplete
   fall-incomplete-means = record { passes = λ w i h. null-true s (fallenBut s w i); occurs = λ w i h. true-null s (fallenBut s w i) }
 
-  fall-unobservable-means : Means (check 21 1 (words s) places (fallUnobservable s) (FallUnobservableAt s) Shows)
+  fall-unobservable-means : Means (check 21 1 (words s) places (fallUnobservable s) (FallUnobservableAt s) unsaid)
   unfolding fallUnobservable
   fall-unobservable-means = record {
     passes = λ w g h. let row = fallenKeeping s w g in high-passes s w g (allNull row (s .outputs)) (null-true s row) (true-null s row);
@@ -144,26 +154,29 @@ abbrev numbersOf : List Check → List ℕ
 numbersOf = map (λ (c : Check). c .number)
 
 -- they stand in the order of the papers: 28 "between 12 and 13", 20 and 21 "after 15"
-pub check-order : (s : Stage) (r : Reference) → numbersOf (checks s r) ≡ 10 ∷ 11 ∷ 12 ∷ 28 ∷ 13 ∷ 14 ∷ 15 ∷ 20 ∷ 21 ∷ []
+pub check-order : (order : WordOrder) (s : Stage) (r : Reference) → numbersOf (checks order s r) ≡ 10 ∷ 11 ∷ 12 ∷ 28 ∷ 13 ∷ 14 ∷ 15 ∷ 20 ∷ 21 ∷ []
 unfolding checks riseSweeps fallSweeps
-check-order s r = refl
+check-order order s r = refl
 
 pub row-order : (s : Stage) (row : List ℕ) → numbersOf (rowChecks s row) ≡ 12 ∷ 16 ∷ 17 ∷ []
 unfolding rowChecks
 row-order s row = refl
 
-pub rises-mean : (s : Stage) (r : Reference) → EachOf Means (riseSweeps s r)
+pub rises-mean : (order : WordOrder) (s : Stage) (r : Reference) → EachOf Means (riseSweeps order s r)
 unfolding riseSweeps
-rises-mean s r = (wrong-means s r _ _, (incomplete-means s _ _, (unobservable-means s _ _, tt)))
+rises-mean order s r = (
+  sweeping-means order s 13 1 (wrong-means s r _),
+  (sweeping-means order s 14 1 (incomplete-means s _), (sweeping-means order s 15 1 (unobservable-means s _), tt)),
+)
 
-pub falls-mean : (s : Stage) (r : Reference) → EachOf Means (fallSweeps s r)
+pub falls-mean : (order : WordOrder) (s : Stage) (r : Reference) → EachOf Means (fallSweeps order s r)
 unfolding fallSweeps
-falls-mean s r = (fall-incomplete-means s _ _, (fall-unobservable-means s _ _, tt))
+falls-mean order s r = (sweeping-means order s 20 1 (fall-incomplete-means s _), (sweeping-means order s 21 1 (fall-unobservable-means s _), tt))
 
-pub checks-mean : (s : Stage) (r : Reference) → EachOf Means (checks s r)
+pub checks-mean : (order : WordOrder) (s : Stage) (r : Reference) → EachOf Means (checks order s r)
 unfolding checks
-checks-mean s r =
-    let swept = each-++ Means (riseSweeps s r) (fallSweeps s r) (rises-mean s r) (falls-mean s r) in
+checks-mean order s r =
+    let swept = each-++ Means (riseSweeps order s r) (fallSweeps order s r) (rises-mean order s r) (falls-mean order s r) in
     (unequal-means 10 (s .inputs) (r .inputs), (unequal-means 11 (length (s .outputs)) (length (r .outputs)), (looped-means s, (retired-means s, swept))))
 
 pub row-checks-mean : (s : Stage) (row : List ℕ) → EachOf Means (rowChecks s row)
@@ -183,16 +196,16 @@ pub holds : {X : Type 0} {f : File} {view : List ℕ → Places → X} {most : L
 holds {places = places} e = record { places = places; reads = e; content = refl }
 
 -- every verdict on two files has its reason
-pub verdict-because : (stageMost referenceMost : Limits) (stage reference : List ℕ)
-    → Because stageMost referenceMost stage reference (verdictWithin stageMost referenceMost stage reference)
+pub verdict-because : (order : WordOrder) (stageMost referenceMost : Limits) (stage reference : List ℕ)
+    → Because order stageMost referenceMost stage reference (verdictWithin order stageMost referenceMost stage reference)
 unfolding verdictWithin judgeStage judgeReference
-verdict-because stageMost referenceMost stage reference = go (readFile file.Stage stageMost stage) refl (readFile file.Reference referenceMost reference) refl
+verdict-because order stageMost referenceMost stage reference = go (readFile file.Stage stageMost stage) refl (readFile file.Reference referenceMost reference) refl
   where
     go : (x : Reading) → readFile file.Stage stageMost stage ≡ x → (y : Reading) → readFile file.Reference referenceMost reference ≡ y
-        → Because stageMost referenceMost stage reference (judgeStage referenceMost stage reference x)
+        → Because order stageMost referenceMost stage reference (judgeStage order referenceMost stage reference x)
     go (refused number at) p y q = stage-refused p
     go (readable at) p (refused number place) q = rw q (reference-refused (holds p) q)
     go (readable at) p (readable to) q =
         let s = stageOf stage at in
         let r = referenceOf reference to in
-        rw q (both-read (record { circuit = s; function = r; circuit-is = holds p; function-is = holds q }) (judged (checks s r) (checks-mean s r)))
+        rw q (both-read (record { circuit = s; function = r; circuit-is = holds p; function-is = holds q }) (judged (checks order s r) (checks-mean order s r)))

@@ -1,6 +1,6 @@
 -- Demands 2 and 3 as theorems about two files, and that the settled-row call leaves what the gate rule gives.
 -- Assumes nothing.
-use Prim.Native.Nat.{ℕ, zero, suc, _+_, _-_, _*_, _≤_, _<_}
+use Prim.Native.Nat.{ℕ, zero, suc, _+_, _-_, _*_, _^_, _≤_, _<_}
 use native.Mathlib.Omega.{arith}
 use native.Mathlib.Decide.{decLt, ℕ-discrete}
 use mathlib.Core.Path.{_≡_, refl, sym, ap, ap₂, _∙_, subst}
@@ -15,17 +15,18 @@ use Rattle.runs.specs.Settled.{Settled}
 use Rattle.runs.proofs.Rise.{settled-one}
 use Rattle.netlist.specs.declared.File.the-variants as file
 use Rattle.netlist.specs.declared.Limits.{Limits}
-use Rattle.netlist.specs.Reading.{Reading, refused, readable, readFile}
+use Rattle.netlist.specs.Reading.{Rising, Reading, refused, readable, readFile}
 use Rattle.netlist.specs.Content.{Gate, Stage, Reference, stageOf, referenceOf}
 use Rattle.netlist.specs.Writing.{All}
 use Rattle.netlist.specs.Formed.{CellFormed, StageFormed}
 use Rattle.netlist.proofs.Stages.{stage-formed}
 use Rattle.verdict.specs.declared.Verdict.{Verdict}
+use Rattle.verdict.specs.declared.WordOrder.{WordOrder}
 use Rattle.verdict.specs.declared.Finding.{Finding}
 use Rattle.verdict.specs.declared.Finding.the-variants.{Fault, Passed}
 use Rattle.verdict.specs.Rows.{settledLevels, settled}
 use Rattle.verdict.specs.Loops.{In, NoLoop}
-use Rattle.verdict.specs.Words.{numbers, words, IsWord}
+use Rattle.verdict.specs.Words.{numbers, IsWord, spelled}
 use Rattle.verdict.specs.Nets.{noGate, netOf, rowOf, railsFor, answerBits}
 use Rattle.verdict.specs.Retired.{RetiredAt, NoneRetired, LeastRetired}
 use Rattle.verdict.specs.Checks.{verdict, Check, unequal, looped, retired, riseSweeps, fallSweeps, sweeps, firstFault, checks, rowChecks}
@@ -36,6 +37,7 @@ use Rattle.verdict.proofs.Levels.{bits-length, bits-get}
 use Rattle.verdict.proofs.Reaching.{noLoop-loopFree}
 use Rattle.verdict.proofs.Settling.{settled-bits}
 use Rattle.verdict.proofs.Words.{index-in, in-index, first-least}
+use Rattle.verdict.proofs.Names.{Under, in-words, by-names}
 use Rattle.verdict.proofs.Bridge.{stageIn, settled-row}
 use Rattle.verdict.proofs.Sweeps.{FirstFault, first-fault, judged, each-++, passed-nowhere, nowhere-passed, Showable, named-shown, shown-by, none-named, named-one}
 use Rattle.verdict.proofs.Sweeps.{first-in, named-number, named-fails}
@@ -84,6 +86,10 @@ least-retired s g l v n = n .is ∙ ap₂ (verdict 28 1) (least (decLt (v .at) g
     least (no h) (yes k) = absurd (first-least (RetiredAt (s .gates)) (length (s .gates)) (v .at) (n .place) g k (l .is))
     least (no h) (no k) = omega arith
 
+-- the care words of a file that reads rise
+pub care-rises : {most : Limits} {bytes : List ℕ} {s : Stage} → StageIs most bytes s → Rising (2 ^ s .inputs) 0 (s .care)
+care-rises {most = most} {bytes = bytes} is = subst (λ (s : Stage). Rising (2 ^ s .inputs) 0 (s .care)) (is .content) (stage-formed most bytes (is .places) (is .reads) .care-in)
+
 -- the numbers of the refusals of the fall
 fall-numbers : (n : ℕ) → In n (20 ∷ 21 ∷ []) → (20 ≤ n) × (n ≤ 21)
 fall-numbers n (inl e) = (omega arith, omega arith)
@@ -96,8 +102,8 @@ fall-numbers n (inr (inr h)) = absurd h
 abbrev Clean : Stage → Reference → Type 0
 Clean s r = (w : ℕ) → IsWord s w → CleanIn s r w
 
-module _ (s : Stage) (r : Reference) where
-  rises-clean : EachOf Nowhere (riseSweeps s r) → (w : ℕ) → IsWord s w → CleanRise s r w
+module _ (order : WordOrder) (s : Stage) (r : Reference) where
+  rises-clean : EachOf Nowhere (riseSweeps order s r) → Under order s (CleanRise s r)
   unfolding riseSweeps
   rises-clean (x, (y, (z, e))) w h = record {
     right = λ j hj f. x w h (j, index-in (length (s .outputs)) j hj, f);
@@ -105,18 +111,18 @@ module _ (s : Stage) (r : Reference) where
     observable = λ g hg f. z w h (g, index-in (length (s .gates)) g hg, f);
   }
 
-  falls-clean : EachOf Nowhere (fallSweeps s r) → (w : ℕ) → IsWord s w → CleanFall s w
+  falls-clean : EachOf Nowhere (fallSweeps order s r) → Under order s (CleanFall s)
   unfolding fallSweeps
   falls-clean (p, (q, e)) w h = record {
     complete = λ i hi f. p w h (i, index-in (s .inputs) i hi, f);
     observable = λ g hg f. q w h (g, index-in (length (s .gates)) g hg, f);
   }
 
-  sweeps-clean : EachOf Nowhere (sweeps s r) → Clean s r
+  sweeps-clean : EachOf Nowhere (sweeps order s r) → Under order s (CleanIn s r)
   unfolding riseSweeps
   sweeps-clean (x, (y, (z, e))) w h = (rises-clean (x, (y, (z, tt))) w h, falls-clean e w h)
 
-  clean-rises : ((w : ℕ) → IsWord s w → CleanRise s r w) → EachOf Nowhere (riseSweeps s r)
+  clean-rises : Under order s (CleanRise s r) → EachOf Nowhere (riseSweeps order s r)
   unfolding riseSweeps
   clean-rises c = (
     λ w h f. c w h .right (f .0) (in-index (length (s .outputs)) (f .0) (f .1)) (f .2),
@@ -126,28 +132,29 @@ module _ (s : Stage) (r : Reference) where
     ),
   )
 
-  clean-falls : ((w : ℕ) → IsWord s w → CleanFall s w) → EachOf Nowhere (fallSweeps s r)
+  clean-falls : Under order s (CleanFall s) → EachOf Nowhere (fallSweeps order s r)
   unfolding fallSweeps
   clean-falls c = (
     λ w h f. c w h .complete (f .0) (in-index (s .inputs) (f .0) (f .1)) (f .2),
     (λ w h f. c w h .observable (f .0) (in-index (length (s .gates)) (f .0) (f .1)) (f .2), tt),
   )
 
-  clean-sweeps : Clean s r → EachOf Nowhere (sweeps s r)
-  clean-sweeps c = each-++ Nowhere (riseSweeps s r) (fallSweeps s r) (clean-rises (λ w h. c w h .0)) (clean-falls (λ w h. c w h .1))
+  clean-sweeps : Under order s (CleanIn s r) → EachOf Nowhere (sweeps order s r)
+  clean-sweeps c = each-++ Nowhere (riseSweeps order s r) (fallSweeps order s r) (clean-rises (λ w h. c w h .0)) (clean-falls (λ w h. c w h .1))
 
-  sweeps-showable : NoLoop (s .inputs) (s .gates) → EachOf Showable (sweeps s r)
+  sweeps-showable : NoLoop (s .inputs) (s .gates) → EachOf Showable (sweeps order s r)
   unfolding riseSweeps fallSweeps
   sweeps-showable l =
-      let free = noLoop-loopFree (s .inputs) (s .gates) l in (
-        record { shows = λ w j hw hj. wrong-broken s w free r j (in-index (length (s .outputs)) j hj) },
+      let free = noLoop-loopFree (s .inputs) (s .gates) l in
+      let word : ℕ → ℕ = spelled order (s .inputs) in (
+        record { shows = λ w j hw hj. wrong-broken s (word w) free r j (in-index (length (s .outputs)) j hj) },
         (
-          record { shows = λ w i hw hi. incomplete-broken s w free r i (in-index (s .inputs) i hi) },
+          record { shows = λ w i hw hi. incomplete-broken s (word w) free r i (in-index (s .inputs) i hi) },
           (
-            record { shows = λ w g hw hg. unobservable-broken s w free r g (in-index (length (s .gates)) g hg) },
+            record { shows = λ w g hw hg. unobservable-broken s (word w) free r g (in-index (length (s .gates)) g hg) },
             (
-              record { shows = λ w i hw hi. fall-incomplete-broken s w free r i (in-index (s .inputs) i hi) },
-              (record { shows = λ w g hw hg. fall-unobservable-broken s w free r g (in-index (length (s .gates)) g hg) }, tt),
+              record { shows = λ w i hw hi. fall-incomplete-broken s (word w) free r i (in-index (s .inputs) i hi) },
+              (record { shows = λ w g hw hg. fall-unobservable-broken s (word w) free r g (in-index (length (s .gates)) g hg) }, tt),
             ),
           ),
         ),
@@ -155,22 +162,25 @@ module _ (s : Stage) (r : Reference) where
 
   -- ---- all checks
 
-  checks-from : (v : Verdict) → Named (checks s r) v → 10 ≤ v .number
+  checks-from : (v : Verdict) → Named (checks order s r) v → 10 ≤ v .number
   unfolding checks riseSweeps fallSweeps
   checks-from v n =
-      named-one (λ k. 10 ≤ k) (checks s r) v
+      named-one (λ k. 10 ≤ k) (checks order s r) v
       (omega arith, (omega arith, (omega arith, (omega arith, (omega arith, (omega arith, (omega arith, (omega arith, (omega arith, tt))))))))) n
 
   -- they find nothing exactly if the two can be compared, no gate is of a retired kind and every word is clean
-  found-nothing : EachOf Nowhere (checks s r) → Comparable s r × NoneRetired (s .gates) × Clean s r
+  comparable : EachOf Nowhere (checks order s r) → Comparable s r × NoneRetired (s .gates)
   unfolding checks
-  found-nothing (a, (b, (l, (t, e)))) = (
+  comparable (a, (b, (l, (t, e)))) = (
     record { inputs = nowhere-equal 10 (s .inputs) (r .inputs) a; outputs = nowhere-equal 11 (length (s .outputs)) (length (r .outputs)) b; loop-free = nowhere-loop s l },
     nowhere-retired s t,
-    sweeps-clean e,
   )
 
-  nothing-found : Comparable s r → NoneRetired (s .gates) → Clean s r → EachOf Nowhere (checks s r)
+  found-nothing : Rising (2 ^ s .inputs) 0 (s .care) → EachOf Nowhere (checks order s r) → Clean s r
+  unfolding checks
+  found-nothing care (a, (b, (l, (t, e)))) = in-words order s (CleanIn s r) care (sweeps-clean e)
+
+  nothing-found : Comparable s r → NoneRetired (s .gates) → Clean s r → EachOf Nowhere (checks order s r)
   unfolding checks
   nothing-found m t c = (
     λ w h f. f .2 (m .inputs),
@@ -178,13 +188,13 @@ module _ (s : Stage) (r : Reference) where
       λ w h f. f .2 (m .outputs),
       (
         λ w h f. m .loop-free (f .0) (in-index (length (s .gates)) (f .0) (f .1)) (f .2),
-        (λ w h f. t (f .0) (in-index (length (s .gates)) (f .0) (f .1)) (f .2), clean-sweeps c),
+        (λ w h f. t (f .0) (in-index (length (s .gates)) (f .0) (f .1)) (f .2), clean-sweeps (by-names order s (CleanIn s r) c)),
       ),
     ),
   )
 
   -- where the two can be compared and some gate is of a retired kind, the least such gate is named
-  retired-named : Comparable s r → (g : ℕ) → LeastRetired (s .gates) g → (v : Verdict) → Named (checks s r) v → v ≡ verdict 28 1 g 0
+  retired-named : Comparable s r → (g : ℕ) → LeastRetired (s .gates) g → (v : Verdict) → Named (checks order s r) v → v ≡ verdict 28 1 g 0
   unfolding checks
   retired-named m g l v (inl n) = absurd (named-fails n (λ w h f. f .2 (m .inputs)))
   retired-named m g l v (inr (a, inl n)) = absurd (named-fails n (λ w h f. f .2 (m .outputs)))
@@ -194,21 +204,22 @@ module _ (s : Stage) (r : Reference) where
 
   -- a stage with hold everywhere whose rise passes is not refused for its fall
   module _ (l : NoLoop (s .inputs) (s .gates)) (hold : WithHold s) where
-    hold-falls : EachOf Nowhere (riseSweeps s r) → EachOf Nowhere (fallSweeps s r)
-    hold-falls e = clean-falls (λ w h. hold-clean s w (noLoop-loopFree (s .inputs) (s .gates) l) r (λ k is. hold (k - 2 * s .inputs) (omega (arith, is .0, is .1))) (rises-clean e w h))
+    hold-falls : EachOf Nowhere (riseSweeps order s r) → EachOf Nowhere (fallSweeps order s r)
+    hold-falls e = clean-falls
+        (λ w h. hold-clean s (spelled order (s .inputs) w) (noLoop-loopFree (s .inputs) (s .gates) l) r (λ k is. hold (k - 2 * s .inputs) (omega (arith, is .0, is .1))) (rises-clean e w h))
 
-    pub hold-passes : firstFault (riseSweeps s r) ≡ Passed → firstFault (fallSweeps s r) ≡ Passed
-    hold-passes e = nowhere-passed (fallSweeps s r) (falls-mean s r) (hold-falls (passed-nowhere (riseSweeps s r) (rises-mean s r) e))
+    pub hold-passes : firstFault (riseSweeps order s r) ≡ Passed → firstFault (fallSweeps order s r) ≡ Passed
+    hold-passes e = nowhere-passed (fallSweeps order s r) (falls-mean order s r) (hold-falls (passed-nowhere (riseSweeps order s r) (rises-mean order s r) e))
 
     -- so no such check is named
-    hold-named : (v : Verdict) → Named (sweeps s r) v → ¬ (In (v .number) (20 ∷ 21 ∷ []))
+    hold-named : (v : Verdict) → Named (sweeps order s r) v → ¬ (In (v .number) (20 ∷ 21 ∷ []))
     unfolding riseSweeps
     hold-named v (inl n) h = omega (arith, named-number n, fall-numbers (v .number) h)
     hold-named v (inr (x, inl n)) h = omega (arith, named-number n, fall-numbers (v .number) h)
     hold-named v (inr (x, inr (y, inl n))) h = omega (arith, named-number n, fall-numbers (v .number) h)
-    hold-named v (inr (x, inr (y, inr (z, n)))) h = none-named (fallSweeps s r) v (hold-falls (x, (y, (z, tt)))) n
+    hold-named v (inr (x, inr (y, inr (z, n)))) h = none-named (fallSweeps order s r) v (hold-falls (x, (y, (z, tt)))) n
 
-  hold-not-named : WithHold s → (v : Verdict) → Named (checks s r) v → ¬ (In (v .number) (20 ∷ 21 ∷ []))
+  hold-not-named : WithHold s → (v : Verdict) → Named (checks order s r) v → ¬ (In (v .number) (20 ∷ 21 ∷ []))
   unfolding checks
   hold-not-named hold v (inl n) h = omega (arith, named-number n, fall-numbers (v .number) h)
   hold-not-named hold v (inr (a, inl n)) h = omega (arith, named-number n, fall-numbers (v .number) h)
@@ -217,13 +228,13 @@ module _ (s : Stage) (r : Reference) where
   hold-not-named hold v (inr (a, inr (b, inr (l, inr (t, n))))) h = hold-named (nowhere-loop s l) hold v n h
 
   -- the check that is named shows what it says
-  shown : (v : Verdict) → Named (checks s r) v → ShownBy (checks s r) v
+  shown : (v : Verdict) → Named (checks order s r) v → ShownBy (checks order s r) v
   unfolding checks
   shown v (inl n) = inl (named-shown _ v (record { shows = λ w i hw hi f. tt }) n)
   shown v (inr (a, inl n)) = inr (inl (named-shown _ v (record { shows = λ w i hw hi f. tt }) n))
   shown v (inr (a, inr (b, inl n))) = inr (inr (inl (named-shown _ v (record { shows = λ w i hw hi f. tt }) n)))
   shown v (inr (a, inr (b, inr (l, inl n)))) = inr (inr (inr (inl (named-shown _ v (record { shows = λ w i hw hi f. tt }) n))))
-  shown v (inr (a, inr (b, inr (l, inr (t, n))))) = inr (inr (inr (inr (shown-by (sweeps s r) v (sweeps-showable (nowhere-loop s l)) n))))
+  shown v (inr (a, inr (b, inr (l, inr (t, n))))) = inr (inr (inr (inr (shown-by (sweeps order s r) v (sweeps-showable (nowhere-loop s l)) n))))
 
 -- the least number of a check that speaks of runs
 runs-from : (n : ℕ) → In n (13 ∷ 14 ∷ 15 ∷ 20 ∷ 21 ∷ []) → 13 ≤ n
@@ -245,88 +256,85 @@ not-read n (inr (inr (inr (inr (inr h))))) t = absurd h
 
 -- ---- the verdict on two files
 
-module _ (stageMost referenceMost : Limits) (stage reference : List ℕ) where
+module _ (order : WordOrder) (stageMost referenceMost : Limits) (stage reference : List ℕ) where
   abbrev given : Verdict
-  given = verdictWithin stageMost referenceMost stage reference
+  given = verdictWithin order stageMost referenceMost stage reference
 
   -- files that read are judged by what they hold
-  verdict-judged : (c : Contents stageMost referenceMost stage reference) → Judged (checks (c .circuit) (c .function)) given
+  verdict-judged : (c : Contents stageMost referenceMost stage reference) → Judged (checks order (c .circuit) (c .function)) given
   unfolding verdictWithin judgeStage judgeReference
   verdict-judged c =
       let is = c .circuit-is in
       let ir = c .function-is in
       rw (is .reads, ir .reads)
-      (subst (λ (x : Stage). Judged (checks (c .circuit) (c .function)) (verdictOf (firstFault (checks x (referenceOf reference (ir .places)))))) (sym (is .content))
-      (subst (λ (x : Reference). Judged (checks (c .circuit) (c .function)) (verdictOf (firstFault (checks (c .circuit) x)))) (sym (ir .content))
-      (judged (checks (c .circuit) (c .function)) (checks-mean (c .circuit) (c .function)))))
+      (subst (λ (x : Stage). Judged (checks order (c .circuit) (c .function)) (verdictOf (firstFault (checks order x (referenceOf reference (ir .places)))))) (sym (is .content))
+      (subst (λ (x : Reference). Judged (checks order (c .circuit) (c .function)) (verdictOf (firstFault (checks order (c .circuit) x)))) (sym (ir .content))
+      (judged (checks order (c .circuit) (c .function)) (checks-mean order (c .circuit) (c .function)))))
 
   -- A stage file without relaxed kinds never gets 20 or 21, whatever the reference's file holds.
   hold-never-falls : (s : Stage) → StageIs stageMost stage s → WithHold s → ¬ (In (given .number) (20 ∷ 21 ∷ []))
-  hold-never-falls s is hold = go (verdict-because stageMost referenceMost stage reference)
+  hold-never-falls s is hold = go (verdict-because order stageMost referenceMost stage reference)
     where
-      judged-so : (c : Contents stageMost referenceMost stage reference) {v : Verdict} → Judged (checks (c .circuit) (c .function)) v → ¬ (In (v .number) (20 ∷ 21 ∷ []))
+      judged-so : (c : Contents stageMost referenceMost stage reference) {v : Verdict} → Judged (checks order (c .circuit) (c .function)) v → ¬ (In (v .number) (20 ∷ 21 ∷ []))
       judged-so c (inr a) h = omega (arith, number-of (a .1), fall-numbers _ h)
-      judged-so c {v} (inl n) h = hold-not-named (c .circuit) (c .function) (subst WithHold (stage-one is (c .circuit-is)) hold) v n h
+      judged-so c {v} (inl n) h = hold-not-named order (c .circuit) (c .function) (subst WithHold (stage-one is (c .circuit-is)) hold) v n h
 
-      go : {v : Verdict} → Because stageMost referenceMost stage reference v → ¬ (In (v .number) (20 ∷ 21 ∷ []))
+      go : {v : Verdict} → Because order stageMost referenceMost stage reference v → ¬ (In (v .number) (20 ∷ 21 ∷ []))
       go (demands.Because.stage-refused {number = number} {at = at} e) h =
           omega (arith, refused-number file.Stage stageMost stage number at e .1, fall-numbers number h)
       go (demands.Because.reference-refused {number = number} {at = at} x e) h =
           omega (arith, refused-number file.Reference referenceMost reference number at e .1, fall-numbers number h)
       go (both-read c j) h = judged-so c j h
 
-  -- Demand 2 holds of the verdict, whatever the two files hold.
-  pub demand-2 : Demand2 stageMost referenceMost stage reference given
-  demand-2 = record { exactly = λ c m. (λ e. forth c given e (verdict-judged c), λ a. back c given m a (verdict-judged c)); least = verdict-because stageMost referenceMost stage reference; rows = λ c n w. rows-are (c .circuit) w (noLoop-loopFree (c .circuit .inputs) (c .circuit .gates) n); hold-only = hold-never-falls }
+  -- a verdict that accepts has found nothing in the files that it read
+  accepts-clean : given ≡ accepted → (c : Contents stageMost referenceMost stage reference)
+      → (Comparable (c .circuit) (c .function) × NoneRetired (c .circuit .gates)) × Clean (c .circuit) (c .function)
+  accepts-clean e c = go given e (verdict-judged c)
     where
-      forth : (c : Contents stageMost referenceMost stage reference) (v : Verdict) → v ≡ accepted → Judged (checks (c .circuit) (c .function)) v
-          → Acceptable (c .circuit) (c .function)
-      forth c v e (inl n) = absurd (omega (arith, checks-from (c .circuit) (c .function) v n, number-of e))
-      forth c v e (inr a) =
-          let s = c .circuit in
-          let f = found-nothing s (c .function) (a .0) in
-          record { cast = f .1; conforms = λ w h. clean-conforms s w (noLoop-loopFree (s .inputs) (s .gates) (f .0 .loop-free)) (c .function) (f .2 w h) }
+      go : (v : Verdict) → v ≡ accepted → Judged (checks order (c .circuit) (c .function)) v
+          → (Comparable (c .circuit) (c .function) × NoneRetired (c .circuit .gates)) × Clean (c .circuit) (c .function)
+      go v e (inl n) = absurd (omega (arith, checks-from order (c .circuit) (c .function) v n, number-of e))
+      go v e (inr a) = (comparable order (c .circuit) (c .function) (a .0), found-nothing order (c .circuit) (c .function) (care-rises (c .circuit-is)) (a .0))
 
-      back : (c : Contents stageMost referenceMost stage reference) (v : Verdict) → Comparable (c .circuit) (c .function) → Acceptable (c .circuit) (c .function)
-          → Judged (checks (c .circuit) (c .function)) v → v ≡ accepted
-      back c v m a (inl n) =
-          let s = c .circuit in
-          let clean : Clean s (c .function) = λ w h.
-          conforms-clean s w (noLoop-loopFree (s .inputs) (s .gates) (m .loop-free)) (c .function) (a .conforms w h) in
-          absurd (none-named (checks s (c .function)) v (nothing-found s (c .function) m (a .cast) clean) n)
-      back c v m a (inr b) = b .1
+  clean-accepts : (c : Contents stageMost referenceMost stage reference) → Comparable (c .circuit) (c .function) → NoneRetired (c .circuit .gates)
+      → Clean (c .circuit) (c .function) → given ≡ accepted
+  clean-accepts c m t clean = go given (verdict-judged c)
+    where
+      go : (v : Verdict) → Judged (checks order (c .circuit) (c .function)) v → v ≡ accepted
+      go v (inl n) = absurd (none-named (checks order (c .circuit) (c .function)) v (nothing-found order (c .circuit) (c .function) m t clean) n)
+      go v (inr b) = b .1
 
-  kept : (c : Contents stageMost referenceMost stage reference) (v : Verdict) → v .number ≡ 0 → Judged (checks (c .circuit) (c .function)) v
+  kept : (c : Contents stageMost referenceMost stage reference) (v : Verdict) → v .number ≡ 0 → Judged (checks order (c .circuit) (c .function)) v
       → (v ≡ accepted) × Kept stageMost referenceMost stage reference
-  kept c v e (inl n) = absurd (omega (arith, checks-from (c .circuit) (c .function) v n))
+  kept c v e (inl n) = absurd (omega (arith, checks-from order (c .circuit) (c .function) v n))
   kept c v e (inr a) =
       let s = c .circuit in
-      let f = found-nothing s (c .function) (a .0) in
-      let free = noLoop-loopFree (s .inputs) (s .gates) (f .0 .loop-free) in (
+      let clean = found-nothing order s (c .function) (care-rises (c .circuit-is)) (a .0) in
+      let free = noLoop-loopFree (s .inputs) (s .gates) (comparable order s (c .function) (a .0) .0 .loop-free) in (
         a .1,
         record {
           contents = c;
-          promise = λ w h. clean-promise s w free (c .function) (f .2 w h);
+          promise = λ w h. clean-promise s w free (c .function) (clean w h);
           rest = λ w h. word-rises s w free (c .function);
           rises = λ w h. word-rises-alike s w free (c .function);
           falls = λ w h. word-falls-alike s w free (c .function);
         },
       )
 
-  broken : (c : Contents stageMost referenceMost stage reference) (v : Verdict) → 13 ≤ v .number → Judged (checks (c .circuit) (c .function)) v
-      → (c : Contents stageMost referenceMost stage reference) × ShownBy (checks (c .circuit) (c .function)) v
-  broken c v h (inl n) = (c, shown (c .circuit) (c .function) v n)
+  broken : (c : Contents stageMost referenceMost stage reference) (v : Verdict) → 13 ≤ v .number → Judged (checks order (c .circuit) (c .function)) v
+      → (c : Contents stageMost referenceMost stage reference) × ShownBy (checks order (c .circuit) (c .function)) v
+  broken c v h (inl n) = (c, shown order (c .circuit) (c .function) v n)
   broken c v h (inr a) = absurd (omega (arith, number-of (a .1)))
 
   -- a file that is refused in reading has none of the numbers that demand 3 speaks of
-  refused-in-reading : (v : Verdict) → InTable (v .number) → Demand3 stageMost referenceMost stage reference v
+  refused-in-reading : (v : Verdict) → InTable (v .number) → Demand3 order stageMost referenceMost stage reference v
   refused-in-reading v t = record { kept = λ e. absurd (omega (arith, t .0)); broken = λ h. absurd (not-read (v .number) h t) }
 
   -- Demand 3 holds of the verdict, whatever the two files hold.
-  pub demand-3 : Demand3 stageMost referenceMost stage reference given
-  demand-3 = go (verdict-because stageMost referenceMost stage reference)
+  pub demand-3 : Demand3 order stageMost referenceMost stage reference given
+  demand-3 = go (verdict-because order stageMost referenceMost stage reference)
     where
-      go : {v : Verdict} → Because stageMost referenceMost stage reference v → Demand3 stageMost referenceMost stage reference v
+      go : {v : Verdict} → Because order stageMost referenceMost stage reference v → Demand3 order stageMost referenceMost stage reference v
       go (demands.Because.stage-refused {number = number} {at = at} e) =
           refused-in-reading _ (refused-number file.Stage stageMost stage number at e)
       go (demands.Because.reference-refused {number = number} {at = at} is e) =
@@ -335,14 +343,14 @@ module _ (stageMost referenceMost : Limits) (stage reference : List ℕ) where
 
   -- an accepted pair was read, and can be compared
   pub accepted-contents : given .number ≡ 0 → (c : Contents stageMost referenceMost stage reference) × Comparable (c .circuit) (c .function)
-  accepted-contents e = go given (verdict-because stageMost referenceMost stage reference) e
+  accepted-contents e = go given (verdict-because order stageMost referenceMost stage reference) e
     where
-      judged-so : (c : Contents stageMost referenceMost stage reference) (v : Verdict) → v .number ≡ 0 → Judged (checks (c .circuit) (c .function)) v
+      judged-so : (c : Contents stageMost referenceMost stage reference) (v : Verdict) → v .number ≡ 0 → Judged (checks order (c .circuit) (c .function)) v
           → (c : Contents stageMost referenceMost stage reference) × Comparable (c .circuit) (c .function)
-      judged-so c v e (inl n) = absurd (omega (arith, checks-from (c .circuit) (c .function) v n))
-      judged-so c v e (inr a) = (c, found-nothing (c .circuit) (c .function) (a .0) .0)
+      judged-so c v e (inl n) = absurd (omega (arith, checks-from order (c .circuit) (c .function) v n))
+      judged-so c v e (inr a) = (c, comparable order (c .circuit) (c .function) (a .0) .0)
 
-      go : (v : Verdict) → Because stageMost referenceMost stage reference v → v .number ≡ 0
+      go : (v : Verdict) → Because order stageMost referenceMost stage reference v → v .number ≡ 0
           → (c : Contents stageMost referenceMost stage reference) × Comparable (c .circuit) (c .function)
       go v (demands.Because.stage-refused {number = number} {at = at} q) e = absurd (let n = refused-number file.Stage stageMost stage number at q in omega arith)
       go v (demands.Because.reference-refused {number = number} {at = at} is q) e =
@@ -353,9 +361,41 @@ module _ (stageMost referenceMost : Limits) (stage reference : List ℕ) where
   pub refuses-retired : RefusesRetired stageMost referenceMost stage reference given
   refuses-retired c m g l = go given (verdict-judged c)
     where
-      go : (v : Verdict) → Judged (checks (c .circuit) (c .function)) v → v ≡ verdict 28 1 g 0
-      go v (inl n) = retired-named (c .circuit) (c .function) m g l v n
-      go v (inr a) = absurd (found-nothing (c .circuit) (c .function) (a .0) .1 g (l .gate) (l .is))
+      go : (v : Verdict) → Judged (checks order (c .circuit) (c .function)) v → v ≡ verdict 28 1 g 0
+      go v (inl n) = retired-named order (c .circuit) (c .function) m g l v n
+      go v (inr a) = absurd (comparable order (c .circuit) (c .function) (a .0) .1 g (l .gate) (l .is))
+
+-- Acceptance is the same under either order.
+pub accepts-either : (order other : WordOrder) (stageMost referenceMost : Limits) (stage reference : List ℕ) → verdictWithin order stageMost referenceMost stage reference ≡ accepted
+    → verdictWithin other stageMost referenceMost stage reference ≡ accepted
+accepts-either order other stageMost referenceMost stage reference e =
+    let c = accepted-contents order stageMost referenceMost stage reference (number-of e) .0 in
+    let x = accepts-clean order stageMost referenceMost stage reference e c in
+    clean-accepts other stageMost referenceMost stage reference c (x .0 .0) (x .0 .1) (x .1)
+
+-- Demand 2 holds of the verdict, whatever the two files hold.
+pub demand-2 : (order : WordOrder) (stageMost referenceMost : Limits) (stage reference : List ℕ)
+    → Demand2 order stageMost referenceMost stage reference (verdictWithin order stageMost referenceMost stage reference)
+demand-2 order stageMost referenceMost stage reference = record {
+  exactly = λ c m. (forth c, back c m);
+  least = verdict-because order stageMost referenceMost stage reference;
+  rows = λ c n w. rows-are (c .circuit) w (noLoop-loopFree (c .circuit .inputs) (c .circuit .gates) n);
+  hold-only = hold-never-falls order stageMost referenceMost stage reference;
+  either-order = λ other. (accepts-either order other stageMost referenceMost stage reference, accepts-either other order stageMost referenceMost stage reference);
+}
+  where
+    forth : (c : Contents stageMost referenceMost stage reference) → verdictWithin order stageMost referenceMost stage reference ≡ accepted → Acceptable (c .circuit) (c .function)
+    forth c e =
+        let s = c .circuit in
+        let x = accepts-clean order stageMost referenceMost stage reference e c in
+        record { cast = x .0 .1; conforms = λ w h. clean-conforms s w (noLoop-loopFree (s .inputs) (s .gates) (x .0 .0 .loop-free)) (c .function) (x .1 w h) }
+
+    back : (c : Contents stageMost referenceMost stage reference) → Comparable (c .circuit) (c .function) → Acceptable (c .circuit) (c .function)
+        → verdictWithin order stageMost referenceMost stage reference ≡ accepted
+    back c m a =
+        let s = c .circuit in
+        clean-accepts order stageMost referenceMost stage reference c m (a .cast)
+        (λ w h. conforms-clean s w (noLoop-loopFree (s .inputs) (s .gates) (m .loop-free)) (c .function) (a .conforms w h))
 
 -- ---- the settled-row call
 

@@ -8,6 +8,7 @@ pub mod Settling
 pub mod Least
 pub mod Sweeps
 pub mod Words
+pub mod Names
 pub mod Bridge
 pub mod Falls
 pub mod Refusals

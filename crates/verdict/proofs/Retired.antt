@@ -19,12 +19,12 @@ use Rattle.verdict.specs.Retired.{Retired, RetiredAt, retiredAt}
 
 -- ---- the test
 
-among-in : (x : ℕ) (l : List ℕ) → among x l ≡ true → In x l
+pub among-in : (x : ℕ) (l : List ℕ) → among x l ≡ true → In x l
 unfolding among
 among-in x [] e = absurd (clash e refl)
 among-in x (y ∷ l) e = ⊎-elim (λ h. inl (eqb-true x y h)) (λ h. inr (among-in x l h)) (or-cases (eqb x y) (among x l) e)
 
-in-among : (x : ℕ) (l : List ℕ) → In x l → among x l ≡ true
+pub in-among : (x : ℕ) (l : List ℕ) → In x l → among x l ≡ true
 unfolding among
 in-among x [] h = absurd h
 in-among x (y ∷ l) (inl e) = rw (eq-eqb x y e)

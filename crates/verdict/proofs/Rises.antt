@@ -6,8 +6,9 @@ use mathlib.Core.List.{List, [], _∷_, _++_, map}
 use lib.ListN.{length, set, length-map}
 use Rattle.runs.specs.Row.{only}
 use Rattle.netlist.specs.Content.{Gate, Stage, Reference}
+use Rattle.verdict.specs.declared.WordOrder.{WordOrder}
 use Rattle.verdict.specs.Rows.{high, isSet, rounds, settledLevels, levelsHolding, withNull, allData}
-use Rattle.verdict.specs.Words.{words, railsIn}
+use Rattle.verdict.specs.Words.{words, railsIn, names}
 use Rattle.verdict.specs.Checks.{finding, firstFault, wrong, incomplete, unobservable, riseSweeps}
 
 -- a gate with hold in place of what it has, and a stage of such gates
@@ -52,6 +53,6 @@ module _ (s : Stage) (r : Reference) where
       ap₂ (λ (row other : List ℕ). elim (high (railsIn s w ++ row) (2 * s .inputs + g)) [ true ↦ allData (railsIn s w ++ other) (s .outputs) | false ↦ false ])
       (levels-alike (s .gates) (railsIn s w)) (holding-alike g (s .gates) (railsIn s w))))
 
-  pub rises-as-before : firstFault (riseSweeps (allHeld s) r) ≡ firstFault (riseSweeps s r)
-  unfolding riseSweeps firstFault finding words
-  rises-as-before = rw (wrong-alike, incomplete-alike, unobservable-alike, length-map (s .gates) held) refl
+  pub rises-as-before : (order : WordOrder) → firstFault (riseSweeps order (allHeld s) r) ≡ firstFault (riseSweeps order s r)
+  unfolding riseSweeps firstFault finding words names
+  rises-as-before order = rw (wrong-alike, incomplete-alike, unobservable-alike, length-map (s .gates) held) refl

@@ -171,7 +171,7 @@ module _ (below : ℕ) where
   pub first-rising : (P : ℕ → Type 0) (floor : ℕ) (ws : List ℕ) (x : ℕ) → Rising below floor ws → FirstOf P ws x → (y : ℕ) → In y ws → y < x → ¬ (P y)
   first-rising P floor ws x h f y i l = f .none y (less-before floor ws (f .before) (f .later) x h (f .stands) y i l)
 
-numbers-rise : (j m : ℕ) → Rising (j + m) j (numbers j m)
+pub numbers-rise : (j m : ℕ) → Rising (j + m) j (numbers j m)
 unfolding numbers
 numbers-rise j zero = tt
 numbers-rise j (suc m) =
@@ -198,9 +198,6 @@ module _ (s : Stage) (care : Rising (2 ^ s .inputs) 0 (s .care)) where
   -- a word is below 2 to the number of inputs
   pub word-below : (w : ℕ) → IsWord s w → w < 2 ^ s .inputs
   word-below w i = rising-in (2 ^ s .inputs) 0 (words s) words-rise w i .1
-
-  pub first-word-least : (P : ℕ → Type 0) (w : ℕ) → FirstOf P (words s) w → (v : ℕ) → IsWord s v → v < w → ¬ (P v)
-  first-word-least P w = first-rising (2 ^ s .inputs) P 0 (words s) w words-rise
 
 -- without a care list every word of the inputs is a word of the stage
 pub below-word : (s : Stage) → s .care ≡ [] → (w : ℕ) → w < 2 ^ s .inputs → IsWord s w

@@ -15,11 +15,12 @@ use Rattle.netlist.specs.declared.Found.{Found}
 use Rattle.netlist.specs.declared.Found.the-variants.{At, Nothing}
 use Rattle.netlist.specs.Content.{Stage, Reference}
 use Rattle.verdict.specs.declared.Verdict.{Verdict}
+use Rattle.verdict.specs.declared.WordOrder.{WordOrder}
 use Rattle.verdict.specs.declared.Finding.{Finding}
 use Rattle.verdict.specs.declared.Finding.the-variants.{Fault, Passed}
 use Rattle.verdict.specs.Rows.{high, withNull, settled, settledHolding, pairIn, spells, allData, allNull}
 use Rattle.verdict.specs.Loops.{ReachesItself, reachesItself}
-use Rattle.verdict.specs.Words.{numbers, words, bitsOf, railsIn}
+use Rattle.verdict.specs.Words.{numbers, bitsOf, railsIn, spelled, names}
 use Rattle.verdict.specs.Answers.{answer}
 use Rattle.verdict.specs.Nets.{outputPair, netOf, rowOf, railsFor, answerBits, restRow, missingRow, heldRow}
 use Rattle.verdict.specs.Falls.{fallenBut, fallenKeeping}
@@ -28,8 +29,9 @@ use Rattle.verdict.specs.Retired.{RetiredAt, retiredAt}
 abbrev pub verdict : ℕ → ℕ → ℕ → ℕ → Verdict
 verdict number file at word = record { number = number; file = file; at = at; word = word }
 
--- One check: its number and its file; the words in which it looks and the places that it tries in each, in their order; whether it fails in
--- a word at a place, computed; the paper's condition for that; and what a run shows then (demand 3).
+-- One check: its number and its file; the words in which it looks, by name, and the places that it tries in each, in their order; whether it fails in
+-- the word of a name at a place, computed; the paper's condition for that; and what a run shows then (demand 3). The counts that 10, 11 and 22 give in
+-- place of a word are their one name.
 pub record Check : Type 1 where
   pub number : ℕ
   pub file : ℕ
@@ -142,36 +144,42 @@ looped s =
 abbrev pub retired : Stage → Check
 retired s = check 28 1 (0 ∷ []) (numbers 0 (length (s .gates))) (λ w. retiredAt (s .gates)) (λ w. RetiredAt (s .gates)) unsaid
 
+-- a check that sweeps the words of a stage by name: under a name it looks at the word which that spells
+abbrev pub sweeping : WordOrder → Stage → ℕ → ℕ → List ℕ → (ℕ → ℕ → Bool) → (ℕ → ℕ → Type 0) → (ℕ → ℕ → Type 0) → Check
+sweeping order s number file places fails Condition Shows =
+    check number file (names order s) places (λ name. fails (spelled order (s .inputs) name)) (λ name. Condition (spelled order (s .inputs) name))
+    (λ name. Shows (spelled order (s .inputs) name))
+
 -- the checks of a stage against a reference that sweep the words: those of its rise and those of its fall
-unfoldable pub riseSweeps : Stage → Reference → List Check
-riseSweeps s r =
-    check 13 1 (words s) (numbers 0 (length (s .outputs))) (wrong s r) (WrongAt s r)
+unfoldable pub riseSweeps : WordOrder → Stage → Reference → List Check
+riseSweeps order s r =
+    sweeping order s 13 1 (numbers 0 (length (s .outputs))) (wrong s r) (WrongAt s r)
     (λ w j. Broken s r w (Wrong (netOf s) (railsFor s w) (answerBits r w) j)) ∷
-    check 14 1 (words s) (numbers 0 (s .inputs)) (incomplete s) (IncompleteAt s)
+    sweeping order s 14 1 (numbers 0 (s .inputs)) (incomplete s) (IncompleteAt s)
     (λ w i. Broken s r w (Incomplete (netOf s) (railsFor s w) i)) ∷
-    check 15 1 (words s) (numbers 0 (length (s .gates))) (unobservable s) (UnobservableAt s)
+    sweeping order s 15 1 (numbers 0 (length (s .gates))) (unobservable s) (UnobservableAt s)
     (λ w g. Broken s r w (Unobservable (netOf s) (railsFor s w) (2 * s .inputs + g))) ∷
     []
 
-unfoldable pub fallSweeps : Stage → Reference → List Check
-fallSweeps s r =
-    check 20 1 (words s) (numbers 0 (s .inputs)) (fallIncomplete s) (FallIncompleteAt s)
+unfoldable pub fallSweeps : WordOrder → Stage → Reference → List Check
+fallSweeps order s r =
+    sweeping order s 20 1 (numbers 0 (s .inputs)) (fallIncomplete s) (FallIncompleteAt s)
     (λ w i. Broken s r w (Fall-incomplete (netOf s) (railsFor s w) i)) ∷
-    check 21 1 (words s) (numbers 0 (length (s .gates))) (fallUnobservable s) (FallUnobservableAt s)
+    sweeping order s 21 1 (numbers 0 (length (s .gates))) (fallUnobservable s) (FallUnobservableAt s)
     (λ w g. Broken s r w (Fall-unobservable (netOf s) (railsFor s w) (2 * s .inputs + g))) ∷
     []
 
-abbrev pub sweeps : Stage → Reference → List Check
-sweeps s r = riseSweeps s r ++ fallSweeps s r
+abbrev pub sweeps : WordOrder → Stage → Reference → List Check
+sweeps order s r = riseSweeps order s r ++ fallSweeps order s r
 
 -- all checks, in their order: those of the counts, of loops and of retired kinds, and those that sweep the words
-unfoldable pub checks : Stage → Reference → List Check
-checks s r =
+unfoldable pub checks : WordOrder → Stage → Reference → List Check
+checks order s r =
     unequal 10 (s .inputs) (r .inputs) ∷
     unequal 11 (length (s .outputs)) (length (r .outputs)) ∷
     looped s ∷
     retired s ∷
-    sweeps s r
+    sweeps order s r
 
 -- 17: a rail of input i is above 1, or both are 1
 unfoldable pub illegal : List ℕ → ℕ → Bool

@@ -17,13 +17,14 @@ use Rattle.netlist.specs.declared.Limits.{Limits}
 use Rattle.netlist.specs.Reading.{Places, refused, readable, readFile}
 use Rattle.netlist.specs.Content.{Stage, Reference, stageOf, referenceOf}
 use Rattle.verdict.specs.declared.Verdict.{Verdict}
+use Rattle.verdict.specs.declared.WordOrder.{WordOrder}
 use Rattle.verdict.specs.Loops.{In, NoLoop}
 use Rattle.verdict.specs.Words.{IsWord}
 use Rattle.verdict.specs.Nets.{noGate, netOf, rowOf, railsFor, answerBits, restRow, missingRow, heldRow}
 use Rattle.verdict.specs.Falls.{fallenBut, fallenKeeping}
 use Rattle.verdict.specs.Checks.{verdict, Check, checks, IllegalAt, rowChecks}
 use Rattle.verdict.specs.Retired.{NoneRetired, LeastRetired}
-use Rattle.verdict.specs.Verdicts.{accepted}
+use Rattle.verdict.specs.Verdicts.{accepted, verdictWithin}
 
 -- ---- the two files
 
@@ -83,13 +84,13 @@ EachOf P (c ∷ later) = P c × EachOf P later
 abbrev pub Judged : List Check → Verdict → Type 0
 Judged checks v = Named checks v ⊎ (EachOf Nowhere checks × (v ≡ accepted))
 
-pub data Because (stageMost referenceMost : Limits) (stage reference : List ℕ) : Verdict → Type 0 where
+pub data Because (order : WordOrder) (stageMost referenceMost : Limits) (stage reference : List ℕ) : Verdict → Type 0 where
   stage-refused : {number at : ℕ} → readFile file.Stage stageMost stage ≡ refused number at
-      → Because stageMost referenceMost stage reference (verdict number 1 at 0)
+      → Because order stageMost referenceMost stage reference (verdict number 1 at 0)
   reference-refused : {number at : ℕ} {s : Stage} → StageIs stageMost stage s → readFile file.Reference referenceMost reference ≡ refused number at
-      → Because stageMost referenceMost stage reference (verdict number 2 at 0)
-  both-read : {v : Verdict} (c : Contents stageMost referenceMost stage reference) → Judged (checks (c .circuit) (c .function)) v
-      → Because stageMost referenceMost stage reference v
+      → Because order stageMost referenceMost stage reference (verdict number 2 at 0)
+  both-read : {v : Verdict} (c : Contents stageMost referenceMost stage reference) → Judged (checks order (c .circuit) (c .function)) v
+      → Because order stageMost referenceMost stage reference v
 
 -- ---- demand 2
 
@@ -124,13 +125,15 @@ WithHold s = (g : ℕ) → g < length (s .gates) → getD (s .gates) g noGate .h
 
 -- What demand 2 says of a verdict on two files: a comparable stage "is accepted exactly if" it is acceptable; "otherwise the verdict names
 -- the earliest failing check and its least case", where the conditions of 13 to 15, 20 and 21 are about the settled rows of a loop-free
--- stage. Of M-102: "a stage without relaxed kinds" is "never to meet the two fall refusals".
-pub record Demand2 (stageMost referenceMost : Limits) (stage reference : List ℕ) (v : Verdict) : Type 0 where
+-- stage. Of M-102: "a stage without relaxed kinds" is "never to meet the two fall refusals". Of M-106: "acceptance is the
+-- same under either order".
+pub record Demand2 (order : WordOrder) (stageMost referenceMost : Limits) (stage reference : List ℕ) (v : Verdict) : Type 0 where
   pub exactly : (c : Contents stageMost referenceMost stage reference) → Comparable (c .circuit) (c .function)
       → (v ≡ accepted) ↔ Acceptable (c .circuit) (c .function)
-  pub least : Because stageMost referenceMost stage reference v
+  pub least : Because order stageMost referenceMost stage reference v
   pub rows : (c : Contents stageMost referenceMost stage reference) → NoLoop (c .circuit .inputs) (c .circuit .gates) → (w : ℕ) → RowsAre (c .circuit) w
   pub hold-only : (s : Stage) → StageIs stageMost stage s → WithHold s → ¬ (In (v .number) (20 ∷ 21 ∷ []))
+  pub either-order : (other : WordOrder) → (v ≡ accepted) ↔ (verdictWithin other stageMost referenceMost stage reference ≡ accepted)
 
 -- ---- demand 3
 
@@ -162,10 +165,10 @@ ShownBy (c ∷ later) v = Shown c v ⊎ ShownBy later v
 
 -- What demand 3 says of a verdict on two files, by its number: of an accepted stage; and of one that is "refused as wrong, incomplete or
 -- unobservable", 13, 14 and 15 in its rise, 20 and 21 in its fall.
-pub record Demand3 (stageMost referenceMost : Limits) (stage reference : List ℕ) (v : Verdict) : Type 0 where
+pub record Demand3 (order : WordOrder) (stageMost referenceMost : Limits) (stage reference : List ℕ) (v : Verdict) : Type 0 where
   pub kept : v .number ≡ 0 → (v ≡ accepted) × Kept stageMost referenceMost stage reference
   pub broken : In (v .number) (13 ∷ 14 ∷ 15 ∷ 20 ∷ 21 ∷ [])
-      → (c : Contents stageMost referenceMost stage reference) × ShownBy (checks (c .circuit) (c .function)) v
+      → (c : Contents stageMost referenceMost stage reference) × ShownBy (checks order (c .circuit) (c .function)) v
 
 -- ---- retired kinds
 

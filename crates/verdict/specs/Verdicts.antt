@@ -7,6 +7,7 @@ use Rattle.netlist.specs.declared.Limits.{Limits}
 use Rattle.netlist.specs.Reading.{Reading, refused, readable, readFile, stageLimits, referenceLimits}
 use Rattle.netlist.specs.Content.{Stage, Reference, stageOf, referenceOf}
 use Rattle.verdict.specs.declared.Verdict.{Verdict}
+use Rattle.verdict.specs.declared.WordOrder.{WordOrder}
 use Rattle.verdict.specs.declared.Finding.{Finding}
 use Rattle.verdict.specs.declared.Finding.the-variants.{Fault, Passed}
 use Rattle.verdict.specs.Rows.{settled}
@@ -19,24 +20,24 @@ unfoldable pub verdictOf : Finding → Verdict
 verdictOf (Fault v) = v
 verdictOf Passed = accepted
 
--- ---- the check of two files
+-- ---- the check of two files, with words named in an order
 
 -- the reference is read after the stage, then the checks follow
-unfoldable pub judgeReference : Stage → List ℕ → Reading → Verdict
-judgeReference s bytes (refused number at) = verdict number 2 at 0
-judgeReference s bytes (readable places) = verdictOf (firstFault (checks s (referenceOf bytes places)))
+unfoldable pub judgeReference : WordOrder → Stage → List ℕ → Reading → Verdict
+judgeReference order s bytes (refused number at) = verdict number 2 at 0
+judgeReference order s bytes (readable places) = verdictOf (firstFault (checks order s (referenceOf bytes places)))
 
-unfoldable pub judgeStage : Limits → List ℕ → List ℕ → Reading → Verdict
-judgeStage referenceMost bytes reference (refused number at) = verdict number 1 at 0
-judgeStage referenceMost bytes reference (readable places) =
-    judgeReference (stageOf bytes places) reference (readFile file.Reference referenceMost reference)
+unfoldable pub judgeStage : WordOrder → Limits → List ℕ → List ℕ → Reading → Verdict
+judgeStage order referenceMost bytes reference (refused number at) = verdict number 1 at 0
+judgeStage order referenceMost bytes reference (readable places) =
+    judgeReference order (stageOf bytes places) reference (readFile file.Reference referenceMost reference)
 
-unfoldable pub verdictWithin : Limits → Limits → List ℕ → List ℕ → Verdict
-verdictWithin stageMost referenceMost stage reference = judgeStage referenceMost stage reference (readFile file.Stage stageMost stage)
+unfoldable pub verdictWithin : WordOrder → Limits → Limits → List ℕ → List ℕ → Verdict
+verdictWithin order stageMost referenceMost stage reference = judgeStage order referenceMost stage reference (readFile file.Stage stageMost stage)
 
 -- the verdict on a stage file and a reference file
-abbrev pub verdictOn : List ℕ → List ℕ → Verdict
-verdictOn = verdictWithin stageLimits referenceLimits
+abbrev pub verdictOn : WordOrder → List ℕ → List ℕ → Verdict
+verdictOn order = verdictWithin order stageLimits referenceLimits
 
 -- ---- the settled-row call
 

@@ -5,8 +5,8 @@ use native.Mathlib.Omega.{arith}
 use mathlib.Core.Path.{_≡_, refl, sym, ap, _∙_}
 use mathlib.Core.Logic.{_⊎_, inl, inr, ⊎-elim}
 use mathlib.Core.List.{List, [], _∷_, _++_}
-use lib.ListN.{length, getD, set, drop, length-set, length-append}
-use lib.Seq.{sets, length-sets, sets-eq, getD-set-other}
+use lib.ListN.{length, getD, set, take, drop, length-set, length-append}
+use lib.Seq.{sets, length-sets, sets-eq, getD-set-other, take-append-seam}
 use Rattle.writing.specs.Put.{Put}
 use Rattle.writing.specs.Written.{holding}
 
@@ -47,6 +47,10 @@ sets-holding bytes buffer room = let e : 0 + length bytes ≡ length bytes = ome
 
 pub put-holding : {buffer after bytes : List ℕ} → Put buffer 0 bytes after → length bytes ≤ length buffer → after ≡ holding bytes buffer
 put-holding {buffer} {after} {bytes} p room = p .stored ∙ sets-holding bytes buffer room
+
+-- what is held stands first
+pub holding-take : (bytes buffer : List ℕ) → take (length bytes) (holding bytes buffer) ≡ bytes
+holding-take bytes buffer = take-append-seam bytes (drop (length bytes) buffer)
 
 -- ---- what is left
 

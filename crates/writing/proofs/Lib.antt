@@ -1,3 +1,3 @@
 pub mod Joining
 pub mod Files
-pub mod Answers
+pub mod Putting

@@ -1,11 +1,8 @@
 -- What a call that writes leaves: its verdict, how many bytes it wrote, and the buffer that its caller lent.
 use Prim.Native.Nat.{ℕ}
-use mathlib.Core.Bool.{cond}
-use mathlib.Core.List.{List, [], _++_}
+use mathlib.Core.List.{List, _++_}
 use lib.ListN.{length, drop}
-use lib.Dec.{ltb}
 use Rattle.verdict.specs.declared.Verdict.{Verdict}
-use Rattle.verdict.specs.Verdicts.{accepted}
 use Rattle.writing.specs.declared.Answer.{Answer}
 
 -- a buffer with some bytes at its start; what stands past their end keeps its value
@@ -16,18 +13,6 @@ pub record Written : Type 0 where
   pub verdict : Verdict
   pub count : ℕ
   pub buffer : List ℕ
-
--- a refusal: no byte is written
-abbrev pub refuse : Verdict → List ℕ → Written
-refuse v buffer = record { verdict = v; count = 0; buffer = buffer }
-
--- accepted: the bytes stand at the start of the buffer
-abbrev pub write : List ℕ → List ℕ → Written
-write bytes buffer = record { verdict = accepted; count = length bytes; buffer = holding bytes buffer }
-
--- the bytes, or a verdict where the buffer is too short for them
-unfoldable pub writeUnless : Verdict → List ℕ → List ℕ → Written
-writeUnless short bytes buffer = cond (ltb (length buffer) (length bytes)) (refuse short buffer) (write bytes buffer)
 
 -- what a call answers, with the buffer after it
 abbrev pub answerOf : Verdict → ℕ → Answer

@@ -1,7 +1,7 @@
 //! compare [--report] PROGRAM [COUNT [SEED]]: runs a program on generated pairs of files, each as
-//! `stage.ncl` and `reference.ncl` in a folder of its own, and compares what it prints with the
-//! judge's verdict, or with `--report` with its report. Prints how many pairs had each number, or
-//! the first difference.
+//! `stage.ncl` and `reference.ncl` in a folder of its own, without arguments and with `lowest`, and
+//! compares what it prints with the judge's verdict in that order of words, or with `--report` with
+//! its report. Prints how many had each number, or the first difference.
 
 use fovaheju_tests::compare::{compare_program, expected_report, expected_verdict, Expected};
 use std::path::PathBuf;
@@ -31,7 +31,7 @@ fn main() -> std::io::Result<ExitCode> {
     std::fs::remove_dir_all(&folder)?;
     Ok(match result? {
         Ok(histogram) => {
-            println!("{count} pairs of seed {seed} alike; by number: {histogram:?}");
+            println!("{count} pairs of seed {seed} alike in both orders; by number: {histogram:?}");
             ExitCode::SUCCESS
         }
         Err(_) => ExitCode::FAILURE,

@@ -1,16 +1,40 @@
-//! compare_library [SEED [COUNT]]: compares all calls of the proved library with the judge,
-//! on the stored examples and cases of joins, and on as many generated pairs, rows and joins. Prints how many had each
-//! number, or the first difference. Fails too if some number never came or too few were accepted.
+//! compare_library [SEED [COUNT]]: compares all calls of the proved library with the judge, in both orders of words,
+//! on the stored examples, cases of joins and references, and on as many generated pairs, rows, joins and references. Prints how
+//! many had each number, or the first difference. Fails too if some number never came or too few were accepted.
 
 use fovaheju_tests::compare::{
-    compare_checks, compare_join, compare_joins, compare_pair, compare_report, compare_reports,
-    compare_rows, lack, Difference, Histogram, CHECK_NUMBERS, JOIN_NUMBERS, ROW_NUMBERS,
+    compare_checks, compare_join, compare_joins, compare_make, compare_makes, compare_pair,
+    compare_report, compare_reports, compare_rows, lack, CheckInOrder, Difference, Histogram,
+    JoinInOrder, ReportInOrder, CHECK_NUMBERS, JOIN_NUMBERS, MAKE_NUMBERS, ROW_NUMBERS,
 };
 use fovaheju_tests::files::{examples_folder, load_example, stored_examples};
+use fovaheju_tests::generate::made::MakeCase;
 use fovaheju_tests::join_suite;
+use fovaheju_tests::judge::{WordOrder, ACCEPTED, ORDERS};
 use fovaheju_tests::library;
+use fovaheju_tests::make::Made;
+use fovaheju_tests::make_suite::all_references;
 use std::process::ExitCode;
 use std::time::Instant;
+
+/// Numbers that stand for the old order of words: every one but 0 does.
+const MARKS: [u64; 7] = [1, 2, 3, 256, 1 << 32, 1 << 63, u64::MAX];
+
+/// A number that stands for an order, another one for files of another length.
+fn mark(order: WordOrder, file: &[u8]) -> u64 {
+    match order {
+        WordOrder::Input0Highest => 0,
+        WordOrder::Input0Lowest => MARKS[file.len() % MARKS.len()],
+    }
+}
+
+const CHECK: CheckInOrder =
+    |order, stage, reference| library::check(mark(order, stage), stage, reference);
+const REPORT: ReportInOrder =
+    |order, stage, reference| library::report(mark(order, stage), stage, reference);
+const JOIN: JoinInOrder = |order, first, second, stage, reference| {
+    library::join(mark(order, &first.stage), first, second, stage, reference)
+};
 
 /// Prints the numbers and what they lack; answers whether nothing is lacking.
 fn tell(what: &str, histogram: &Histogram, numbers: &[usize], start: Instant) -> bool {
@@ -27,34 +51,67 @@ fn tell(what: &str, histogram: &Histogram, numbers: &[usize], start: Instant) ->
     lack.is_none()
 }
 
+/// The library's stage of a reference, which its check has to accept.
+fn made_and_checked(reference: &[u8], buffer: &mut [u8]) -> Made {
+    let made = library::make_stage(reference, buffer);
+    if made.verdict == ACCEPTED {
+        for order in ORDERS {
+            let checked = CHECK(order, &buffer[..made.len], reference);
+            assert_eq!(checked, ACCEPTED, "a made stage is refused");
+        }
+    }
+    made
+}
+
 fn compare(seed: u64, count: u64) -> Result<bool, Box<Difference>> {
     let names = stored_examples(&examples_folder()).expect("the examples");
     for name in &names {
         let (pair, _) = load_example(&examples_folder(), name).expect("an example");
-        compare_pair(library::check, name, &pair)
-            .and_then(|_| compare_report(library::report, name, &pair))
-            .inspect_err(|difference| println!("{difference}"))?;
+        for order in ORDERS {
+            compare_pair(CHECK, order, name, &pair)
+                .and_then(|_| compare_report(REPORT, order, name, &pair))
+                .inspect_err(|difference| println!("{difference}"))?;
+        }
     }
-    println!("{} examples alike", names.len());
+    println!("{} examples alike in both orders", names.len());
     let joins = join_suite::cases();
     for stored in &joins {
-        compare_join(library::join, &stored.about, &stored.case)
-            .inspect_err(|difference| println!("{difference}"))?;
+        for order in ORDERS {
+            compare_join(JOIN, order, &stored.about, &stored.case)
+                .inspect_err(|difference| println!("{difference}"))?;
+        }
     }
-    println!("{} stored joins alike", joins.len());
+    println!("{} stored joins alike in both orders", joins.len());
+    let references = all_references();
+    for (index, reference) in references.iter().enumerate() {
+        let case = MakeCase {
+            reference: reference.clone(),
+            buffer: vec![7; 8192],
+        };
+        compare_make(
+            made_and_checked,
+            &format!("stored reference {index}"),
+            &case,
+        )
+        .inspect_err(|difference| println!("{difference}"))?;
+    }
+    println!("stages of {} stored references alike", references.len());
     let start = Instant::now();
-    let checks = compare_checks(library::check, seed, count)?;
-    let checks = tell("pairs", &checks, &CHECK_NUMBERS, start);
+    let checks = compare_checks(CHECK, seed, count)?;
+    let checks = tell("checks", &checks, &CHECK_NUMBERS, start);
     let start = Instant::now();
-    let reports = compare_reports(library::report, seed, count)?;
+    let reports = compare_reports(REPORT, seed, count)?;
     let reports = tell("reports", &reports, &CHECK_NUMBERS, start);
     let start = Instant::now();
     let rows = compare_rows(library::settled_row, seed, count)?;
     let rows = tell("rows", &rows, &ROW_NUMBERS, start);
     let start = Instant::now();
-    let joins = compare_joins(library::join, seed, count)?;
+    let joins = compare_joins(JOIN, seed, count)?;
     let joins = tell("joins", &joins, &JOIN_NUMBERS, start);
-    Ok(checks && reports && rows && joins)
+    let start = Instant::now();
+    let makes = compare_makes(made_and_checked, seed, count)?;
+    let makes = tell("stages from references", &makes, &MAKE_NUMBERS, start);
+    Ok(checks && reports && rows && joins && makes)
 }
 
 fn main() -> ExitCode {

@@ -1,24 +1,26 @@
-//! The judge as a program: reads `stage.ncl` and `reference.ncl` in the folder given
-//! (or the current one) and prints the four numbers, or with `--report` first the report.
+//! judge [--report] [--lowest] [FOLDER]: the judge as a program. Reads `stage.ncl` and `reference.ncl`
+//! in the folder given (or the current one) and prints the four numbers, or with `--report` the
+//! report; with `--lowest` in the old order of words.
 
-use fovaheju_tests::{files, judge};
+use fovaheju_tests::compare::{expected_report, expected_verdict};
+use fovaheju_tests::files;
+use fovaheju_tests::judge::ORDERS;
 use std::path::PathBuf;
 
 fn main() -> std::io::Result<()> {
-    let mut arguments: Vec<_> = std::env::args_os().skip(1).collect();
-    let report = arguments.first().is_some_and(|word| word == "--report");
-    if report {
-        arguments.remove(0);
-    }
+    let mut arguments = std::env::args_os().skip(1).peekable();
+    let report = arguments.next_if(|word| word == "--report").is_some();
+    let lowest = arguments.next_if(|word| word == "--lowest").is_some();
+    let order = ORDERS[usize::from(lowest)];
     let folder = arguments
-        .first()
+        .next()
         .map_or_else(|| PathBuf::from("."), PathBuf::from);
     let stage = files::as_the_program_reads(&folder.join("stage.ncl"))?;
     let reference = files::as_the_program_reads(&folder.join("reference.ncl"))?;
     if report {
-        print!("{}", files::report_text(&judge::report(&stage, &reference)));
+        print!("{}", expected_report(order, &stage, &reference));
     } else {
-        print!("{}", files::verdict_line(judge::check(&stage, &reference)));
+        print!("{}", expected_verdict(order, &stage, &reference));
     }
     Ok(())
 }

@@ -7,9 +7,10 @@ use fovaheju_tests::catalogue::xor_chain_reference;
 use fovaheju_tests::circuits::dual_rail;
 use fovaheju_tests::files::{examples_folder, load_example, write_pair, FilePair};
 use fovaheju_tests::judge::{
-    self, rails_of_word, read_stage, settle, Stage, Verdict, ACCEPTED, SET,
+    rails_of_word, read_stage, settle, Stage, Verdict, WordOrder, ACCEPTED, SET,
 };
 use fovaheju_tests::library;
+use fovaheju_tests::suite::verdict_in;
 use std::sync::LazyLock;
 
 /// Stored examples, all accepted, from large to small.
@@ -73,7 +74,7 @@ fn evaluations(stage: &Stage) -> usize {
 #[no_mangle]
 #[inline(never)]
 extern "C" fn judge_check(pair: &FilePair, verdict: &mut Verdict) {
-    *verdict = judge::check(&pair.stage, &pair.reference);
+    *verdict = verdict_in(WordOrder::default(), pair);
 }
 
 fn main() {
@@ -89,7 +90,7 @@ fn main() {
             // The judge's table is made before the counting.
             LazyLock::force(&SET);
             for (name, pair) in netlists() {
-                let proved = library::check(&pair.stage, &pair.reference);
+                let proved = library::check(0, &pair.stage, &pair.reference);
                 let mut judged = [u64::MAX; 4];
                 judge_check(&pair, &mut judged);
                 assert_eq!((proved, judged), (ACCEPTED, ACCEPTED), "{name}");

@@ -1,7 +1,8 @@
 //! Writes all example pairs with their verdicts, a list of them and a list of the joins of some
 //! into the folder examples/, or into the folder given, and prints the list.
 
-use fovaheju_tests::{catalogue, files, judge};
+use fovaheju_tests::judge::ORDERS;
+use fovaheju_tests::{catalogue, files, suite};
 use std::path::PathBuf;
 
 fn main() -> std::io::Result<()> {
@@ -9,8 +10,9 @@ fn main() -> std::io::Result<()> {
         .nth(1)
         .map_or_else(files::examples_folder, PathBuf::from);
     for example in catalogue::examples() {
-        let verdict = judge::check(&example.pair.stage, &example.pair.reference);
-        files::store_example(&folder, &example.name, &example.pair, verdict)?;
+        let verdicts = ORDERS.map(|order| suite::verdict_in(order, &example.pair));
+        let [verdict, _] = verdicts;
+        files::store_example(&folder, &example.name, &example.pair, verdicts)?;
         let mark = if verdict[0] == example.number {
             ""
         } else {

@@ -3,8 +3,8 @@
 use super::*;
 use crate::circuits::Signal;
 use crate::files::write_reference;
-use crate::join::{join, joined_reference, joined_stage};
-use crate::judge::{Verdict, ACCEPTED};
+use crate::join::{join_in_order, joined_reference, joined_stage};
+use crate::judge::{Verdict, WordOrder, ACCEPTED};
 
 /// Two stored pairs that are joined.
 pub struct Joint {
@@ -127,11 +127,12 @@ fn stored(name: &str, among: &[Example]) -> FilePair {
         .clone()
 }
 
-/// The judge's verdict on a join, with room for the whole, and the pair that it writes.
-pub fn joined(joint: &Joint, among: &[Example]) -> (Verdict, Option<FilePair>) {
+/// The judge's verdict on a join, in an order of words, with room for the whole, and the pair that it
+/// writes.
+pub fn joined(order: WordOrder, joint: &Joint, among: &[Example]) -> (Verdict, Option<FilePair>) {
     let [first, second] = [joint.first, joint.second].map(|name| stored(name, among));
     let (mut stage, mut reference) = (vec![0; 8192], vec![0; 8192]);
-    let joined = join(&first, &second, &mut stage, &mut reference);
+    let joined = join_in_order(order, &first, &second, &mut stage, &mut reference);
     stage.truncate(joined.stage_len);
     reference.truncate(joined.reference_len);
     let whole = FilePair { stage, reference };
@@ -141,23 +142,23 @@ pub fn joined(joint: &Joint, among: &[Example]) -> (Verdict, Option<FilePair>) {
     )
 }
 
-/// The file examples/JOINS.md: every join with its verdict, what it writes and what it is.
+/// The file examples/JOINS.md: every join with its verdicts, what it writes and what it is.
 pub fn listing() -> String {
     let mut text = String::from(
-        "# Joins of pairs\n\n| First | Second | Verdict | Written | What it is |\n|---|---|---|---|---|\n",
+        "# Joins of pairs\n\n| First | Second | Verdict | With `--lowest` | Written | What it is |\n|---|---|---|---|---|---|\n",
     );
     let among = examples();
     for joint in joints() {
-        let (verdict, _) = joined(&joint, &among);
+        let [verdict, lowest] = ORDERS.map(|order| {
+            let (verdict, _) = joined(order, &joint, &among);
+            files::verdict_line(verdict).trim_end().to_string()
+        });
         let whole = joint
             .whole
             .map_or("".to_string(), |name| format!("`{name}`"));
         text += &format!(
-            "| `{}` | `{}` | {} | {whole} | {} |\n",
-            joint.first,
-            joint.second,
-            files::verdict_line(verdict).trim_end(),
-            joint.about
+            "| `{}` | `{}` | {verdict} | {lowest} | {whole} | {} |\n",
+            joint.first, joint.second, joint.about
         );
     }
     text

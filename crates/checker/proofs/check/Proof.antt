@@ -13,7 +13,7 @@ check-within-requires c κs = (no-more _ stageLimits (c .before .stage-limits .e
 returns : tie.Need-returns
 returns c =
     let z = c .before .before .before .before .before in
-    checked-by _ stageLimits _ referenceLimits (now (z .args .stage)) (now (z .args .reference)) _ (c .before .before .stage-limits .ensures) (c .before .reference-limits .ensures)
+    checked-by (z .args .order) _ stageLimits _ referenceLimits (now (z .args .stage)) (now (z .args .reference)) _ (c .before .before .stage-limits .ensures) (c .before .reference-limits .ensures)
     (c .check-within .ensures)
 
 pub check-spec : {M : Type 1} → statement M

@@ -4,7 +4,7 @@ use Rattle.fovaheju.proofs.fovaheju_check.Statement.{statement}
 use Rattle.fovaheju.proofs.fovaheju_check.Tie as tie
 
 returns : tie.Need-returns
-returns c = c .check .ensures
+returns c = rw (← c .before .order-of .ensures) (c .check .ensures)
 
 pub fovaheju-check-spec : {M : Type 1} → statement M
-fovaheju-check-spec = tie.close (tie.spec (λ c κs. search needs) returns)
+fovaheju-check-spec = tie.close (tie.spec (λ c κs. search needs) (λ c κs. search needs) returns)

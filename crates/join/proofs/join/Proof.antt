@@ -25,12 +25,12 @@ check-within-requires-2 c κs = (
   subst (λ (m : Limits). NoMore m referenceLimits) (sym (c .before .before .before .part-reference-limits .ensures)) part-reference-less,
 )
 
-add-t12 : tie.Need-add-t12
-add-t12 c =
+add-t13 : tie.Need-add-t13
+add-t13 c =
     let z = c .before .before .before .before .before .before .before .before .before .before .before .before .before .before .before in
     omega (
       arith,
-      file-few (now (z .args .stage2)) (now (z .args .reference2)) _ (judged-by _ _ _ _ _ (c .before .before .before .check-within2 .ensures .0)
+      file-few (z .args .order) (now (z .args .stage2)) (now (z .args .reference2)) _ (judged-by (z .args .order) _ _ _ _ _ (c .before .before .before .check-within2 .ensures .0)
           (c .before .before .before .before .before .before .before .before .part-stage-limits .ensures) (c .before .before .before .before .before .before .before .part-reference-limits .ensures)),
     )
 
@@ -40,11 +40,11 @@ join-accepted-requires c κs =
     let a = z .args in
     let m = c .before .before .before .before .before .before .before .before .before .part-stage-limits .ensures in
     let n = c .before .before .before .before .before .before .before .before .part-reference-limits .ensures in (
-      accepts-zero (now (a .stage1)) (now (a .reference1)) _ (judged-by _ _ _ _ _ (c .before .before .before .before .before .before .before .check-within .ensures .0) m n) (omega (
+      accepts-zero (z .args .order) (now (a .stage1)) (now (a .reference1)) _ (judged-by (z .args .order) _ _ _ _ _ (c .before .before .before .before .before .before .before .check-within .ensures .0) m n) (omega (
         arith,
         c .before .before .before .before .before .if1 .left,
       )),
-      accepts-zero (now (a .stage2)) (now (a .reference2)) _ (judged-by _ _ _ _ _ (c .before .before .before .before .check-within2 .ensures .0) m n) (omega (arith, c .before .before .if2 .left)),
+      accepts-zero (z .args .order) (now (a .stage2)) (now (a .reference2)) _ (judged-by (z .args .order) _ _ _ _ _ (c .before .before .before .before .check-within2 .ensures .0) m n) (omega (arith, c .before .before .if2 .left)),
     )
 
 returns : tie.Need-returns
@@ -53,10 +53,10 @@ returns c =
     let a = z .args in
     let f = files (now (a .stage1)) (now (a .reference1)) in
     let g = files (now (a .stage2)) (now (a .reference2)) in
-    let v = judged-by _ _ _ _ _ (c .before .before .before .check-within .ensures .0) (c .before .before .before .before .before .part-stage-limits .ensures)
+    let v = judged-by (z .args .order) _ _ _ _ _ (c .before .before .before .check-within .ensures .0) (c .before .before .before .before .before .part-stage-limits .ensures)
     (c .before .before .before .before .part-reference-limits .ensures) in
-    join-demand f g _ _ _ _ _ (
-    leaves-refused _ _ _ (first-refuses f g _ _ _ v (c .before .if1 .taken)) (c .refusal .ensures)
+    join-demand (z .args .order) f g _ _ _ _ _ (
+    leaves-refused _ _ _ (first-refuses (z .args .order) f g _ _ _ v (c .before .if1 .taken)) (c .refusal .ensures)
     )
 
 returns-2 : tie.Need-returns-2
@@ -67,9 +67,9 @@ returns-2 c =
     let g = files (now (a .stage2)) (now (a .reference2)) in
     let m = c .before .before .before .before .before .before .before .before .before .part-stage-limits .ensures in
     let n = c .before .before .before .before .before .before .before .before .part-reference-limits .ensures in
-    let v = judged-by _ _ _ _ _ (c .before .before .before .before .before .before .before .check-within .ensures .0) m n in
-    let w = judged-by _ _ _ _ _ (c .before .before .before .before .check-within2 .ensures .0) m n in
-    join-demand f g _ _ _ _ _ (leaves-refused _ _ _ (second-refuses f g _ _ _ v (omega (arith, c .before .before .before .before .before .if1 .left)) _ w (c .before .before .if2 .taken)) (c .refusal2 .ensures))
+    let v = judged-by (z .args .order) _ _ _ _ _ (c .before .before .before .before .before .before .before .check-within .ensures .0) m n in
+    let w = judged-by (z .args .order) _ _ _ _ _ (c .before .before .before .before .check-within2 .ensures .0) m n in
+    join-demand (z .args .order) f g _ _ _ _ _ (leaves-refused _ _ _ (second-refuses (z .args .order) f g _ _ _ v (omega (arith, c .before .before .before .before .before .if1 .left)) _ w (c .before .before .if2 .taken)) (c .refusal2 .ensures))
 
 returns-3 : tie.Need-returns-3
 returns-3 c =
@@ -79,10 +79,10 @@ returns-3 c =
     let g = files (now (a .stage2)) (now (a .reference2)) in
     let m = c .before .before .before .before .before .before .before .before .before .before .before .before .before .before .part-stage-limits .ensures in
     let n = c .before .before .before .before .before .before .before .before .before .before .before .before .before .part-reference-limits .ensures in
-    let v = judged-by _ _ _ _ _ (c .before .before .before .before .before .before .before .before .before .before .before .before .check-within .ensures .0) m n in
-    let w = judged-by _ _ _ _ _ (c .before .before .before .before .before .before .before .before .before .check-within2 .ensures .0) m n in
-    join-demand f g _ _ _ _ _ (
-    leaves-all (both-accepted f g _ _ _ v (omega (arith, c .before .before .before .before .before .before .before .before .before .before .if1 .left)) _ w (omega (
+    let v = judged-by (z .args .order) _ _ _ _ _ (c .before .before .before .before .before .before .before .before .before .before .before .before .check-within .ensures .0) m n in
+    let w = judged-by (z .args .order) _ _ _ _ _ (c .before .before .before .before .before .before .before .before .before .check-within2 .ensures .0) m n in
+    join-demand (z .args .order) f g _ _ _ _ _ (
+    leaves-all (both-accepted (z .args .order) f g _ _ _ v (omega (arith, c .before .before .before .before .before .before .before .before .before .before .if1 .left)) _ w (omega (
       arith,
       c .before .before .before .before .before .before .before .if2 .left,
     ))) (c .before .before .before .before .join-accepted .ensures)
@@ -98,7 +98,7 @@ join-spec =
     (λ c κs. search needs)
     returns
     check-within-requires-2
-    add-t12
+    add-t13
     (λ c κs. search needs)
     returns-2
     join-accepted-requires

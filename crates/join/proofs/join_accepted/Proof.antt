@@ -22,8 +22,8 @@ join-loaded-requires c κs =
       second = q .0;
       second-function = g .0;
       few-words = few-care (p .0) (c .before .before .before .before .before .before .before .before .before .before .before .before .before .before .before .first2 .given) (omega arith);
-      outputs = same-outputs (now (a .stage1)) (now (a .reference1)) _ _ _ _ (p .1) (f .1) (z .pre .0);
-      inputs = same-inputs (now (a .stage2)) (now (a .reference2)) _ _ _ _ (q .1) (g .1) (z .pre .1);
+      outputs = same-outputs (now (a .stage1)) (now (a .reference1)) _ _ _ _ (p .1) (f .1) (a .order) (z .pre .0);
+      inputs = same-inputs (now (a .stage2)) (now (a .reference2)) _ _ _ _ (q .1) (g .1) (a .order) (z .pre .1);
     }
 
 returns : tie.Need-returns
@@ -36,7 +36,7 @@ returns c =
     let f = c .before .before .before .before .before .before .before .before .before .before .before .before .before .before .before .before .before .before .load-function .ensures in
     let q = c .before .before .before .before .before .before .before .before .before .before .before .before .before .before .before .load-part2 .ensures in
     let g = c .before .before .before .before .before .before .before .before .before .before .before .before .load-function2 .ensures in
-    leaves-same _ _ _ _ _ _ (part-same (now (a .stage1)) (now (a .reference1)) _ _ _ _ (p .1) (f .1)) (part-same (now (a .stage2)) (now (a .reference2)) _ _ _ _ (q .1) (g .1))
+    leaves-same _ _ _ _ _ _ _ (part-same (now (a .stage1)) (now (a .reference1)) _ _ _ _ (p .1) (f .1)) (part-same (now (a .stage2)) (now (a .reference2)) _ _ _ _ (q .1) (g .1))
     (c .before .before .before .before .join-loaded .ensures)
 
 pub join-accepted-spec : {M : Type 1} → statement M

@@ -6,7 +6,7 @@ use denote.Ref.{now}
 use Rattle.verdict.specs.Checks.{verdict}
 use Rattle.join.specs.Steps.{partLoaded}
 use Rattle.join.specs.Call.{answerWith}
-use Rattle.join.proofs.Whole.{outputs-count}
+use Rattle.whole.proofs.Whole.{outputs-count}
 use Rattle.join.proofs.Joining.{leaves-refused, leaves-written, at-seam, at-word, at-stage-room, at-reference-room, at-none}
 use borrow.Author.Needs.{needs}
 use Rattle.join.proofs.join_loaded.Statement.{statement}
@@ -56,7 +56,7 @@ returns c =
     let a = z .args in
     let n = outputs-count (a .sizes .stage1) (now (a .stage1)) in
     leaves-refused _ _ _
-    (at-seam (partLoaded (a .sizes .stage1) (now (a .stage1)) (a .sizes .reference1) (now (a .reference1))) (partLoaded (a .sizes .stage2) (now (a .stage2)) (a .sizes .reference2) (now
+    (at-seam (a .order) (partLoaded (a .sizes .stage1) (now (a .stage1)) (a .sizes .reference1) (now (a .reference1))) (partLoaded (a .sizes .stage2) (now (a .stage2)) (a .sizes .reference2) (now
     (a .reference2))) _ _
     (λ e. c .before .if1 .taken (sym n ∙ e)))
     (c .refusal .ensures ∙ ap (λ (m : ℕ). answerWith (verdict 22 0 m (a .sizes .stage2 .inputs)) 0 0) (sym n))
@@ -67,7 +67,7 @@ returns-2 c =
     let a = z .args in
     let n = outputs-count (a .sizes .stage1) (now (a .stage1)) in
     leaves-refused _ _ _
-    (at-word (partLoaded (a .sizes .stage1) (now (a .stage1)) (a .sizes .reference1) (now (a .reference1))) (partLoaded (a .sizes .stage2) (now (a .stage2)) (a .sizes .reference2) (now
+    (at-word (a .order) (partLoaded (a .sizes .stage1) (now (a .stage1)) (a .sizes .reference1) (now (a .reference1))) (partLoaded (a .sizes .stage2) (now (a .stage2)) (a .sizes .reference2) (now
     (a .reference2))) _ _
     (n ∙ omega (arith, c .before .before .before .before .before .if1 .left)) _ (sym (c .before .before .v .given .1) ∙ c .before .before .before .before .uncared .ensures))
     (c .refusal2 .ensures)
@@ -78,7 +78,7 @@ returns-3 c =
     let a = z .args in
     let n = outputs-count (a .sizes .stage1) (now (a .stage1)) in
     leaves-refused _ _ _
-    (at-stage-room (partLoaded (a .sizes .stage1) (now (a .stage1)) (a .sizes .reference1) (now (a .reference1))) (partLoaded (a .sizes .stage2) (now (a .stage2)) (a .sizes .reference2) (now
+    (at-stage-room (a .order) (partLoaded (a .sizes .stage1) (now (a .stage1)) (a .sizes .reference1) (now (a .reference1))) (partLoaded (a .sizes .stage2) (now (a .stage2)) (a .sizes .reference2) (now
     (a .reference2))) _ _
     (n ∙ omega (arith, c .before .before .before .before .before .before .before .if1 .left)) (sym
     (c .before .before .before .before .enum-told .given .1) ∙ c .before .before .before .before .before .before .uncared .ensures)
@@ -91,7 +91,7 @@ returns-4 c =
     let a = z .args in
     let n = outputs-count (a .sizes .stage1) (now (a .stage1)) in
     leaves-refused _ _ _
-    (at-reference-room (partLoaded (a .sizes .stage1) (now (a .stage1)) (a .sizes .reference1) (now (a .reference1))) (partLoaded (a .sizes .stage2) (now (a .stage2)) (a .sizes .reference2)
+    (at-reference-room (a .order) (partLoaded (a .sizes .stage1) (now (a .stage1)) (a .sizes .reference1) (now (a .reference1))) (partLoaded (a .sizes .stage2) (now (a .stage2)) (a .sizes .reference2)
     (now (a .reference2))) _ _
     (n ∙ omega (arith, c .before .before .before .before .before .before .before .before .if1 .left)) (sym
     (c .before .before .before .before .before .enum-told .given .1) ∙ c .before .before .before .before .before .before .before .uncared .ensures)
@@ -110,7 +110,7 @@ returns-5 c =
     let m = c .before .before .before .before .before .before .before .before .before .before .before .stage-length .ensures (now (a .stage1)) (now (a .stage2)) in
     let k = c .before .before .before .before .before .before .before .before .before .before .reference-length .ensures (now (a .reference1)) (now (a .reference2)) in
     leaves-written p q _
-    (at-none p q _ _ (n ∙ omega (arith, c .before .before .before .before .before .before .before .before .before .before .before .before .before .before .before .if1 .left)) (sym
+    (at-none (a .order) p q _ _ (n ∙ omega (arith, c .before .before .before .before .before .before .before .before .before .before .before .before .before .before .before .if1 .left)) (sym
     (c .before .before .before .before .before .before .before .before .before .before .before .before .enum-told .given .1) ∙ c .before .before .before .before .before .before .before
     .before .before .before .before .before .before .before .uncared .ensures) (omega (arith, m, c .before .before .before .before .before .before .before .before .before .if2 .left))
     (omega (arith, k, c .before .before .before .before .before .before .before .before .if3 .left)))

@@ -9,21 +9,21 @@ use Rattle.report.proofs.report_on.Tie as tie
 report-stage-requires : tie.Need-report-stage-requires
 report-stage-requires c κs =
     let z = c .before .before .before .before .before in
-    accepted-file (now (z .args .stage)) (now (z .args .reference)) _ (c .before .before .check .ensures .0) (c .if1 .taken)
+    accepted-file (z .args .order) (now (z .args .stage)) (now (z .args .reference)) _ (c .before .before .check .ensures .0) (c .if1 .taken)
 
 returns : tie.Need-returns
 returns c =
     let z = c .before .before .before .before .before .before in
     let v = c .before .before .before .check .ensures .0 in
-    let is = report-accepted (now (z .args .stage)) (now (z .args .reference)) _ v (c .before .if1 .taken) _ (c .report-stage .ensures) in
-    (is, report-means (now (z .args .stage)) (now (z .args .reference)) _ is)
+    let is = report-accepted (z .args .order) (now (z .args .stage)) (now (z .args .reference)) _ v (c .before .if1 .taken) _ (c .report-stage .ensures) in
+    (is, report-means (z .args .order) (now (z .args .stage)) (now (z .args .reference)) _ is)
 
 returns-2 : tie.Need-returns-2
 returns-2 c =
     let z = c .before .before .before .before .before in
     let v = c .before .before .check .ensures .0 in
-    let is = report-refused (now (z .args .stage)) (now (z .args .reference)) _ v (c .if1 .left) in
-    (is, report-means (now (z .args .stage)) (now (z .args .reference)) _ is)
+    let is = report-refused (z .args .order) (now (z .args .stage)) (now (z .args .reference)) _ v (c .if1 .left) in
+    (is, report-means (z .args .order) (now (z .args .stage)) (now (z .args .reference)) _ is)
 
 pub report-on-spec : {M : Type 1} → statement M
 report-on-spec =

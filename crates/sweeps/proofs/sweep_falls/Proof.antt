@@ -6,10 +6,10 @@ use Rattle.sweeps.proofs.sweep_falls.Statement.{statement}
 use Rattle.sweeps.proofs.sweep_falls.Tie as tie
 
 returns : tie.Need-returns
-returns c = first-remaining _ _ _ (sym (c .before .v .given .1) ∙ c .before .before .before .sweep-words .ensures)
+returns c = first-remaining _ _ _ _ (sym (c .before .v .given .1) ∙ c .before .before .before .sweep-check .ensures)
 
 returns-2 : tie.Need-returns-2
-returns-2 c = first-still-high _ _ (sym (c .before .enum-told .given .1) ∙ c .before .before .before .sweep-words .ensures) _ (c .sweep-words2 .ensures)
+returns-2 c = first-still-high _ _ _ (sym (c .before .enum-told .given .1) ∙ c .before .before .before .sweep-check .ensures) _ (c .sweep-check2 .ensures)
 
 pub sweep-falls-spec : {M : Type 1} → statement M
 sweep-falls-spec =

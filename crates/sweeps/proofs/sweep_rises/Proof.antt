@@ -6,17 +6,17 @@ use Rattle.sweeps.proofs.sweep_rises.Statement.{statement}
 use Rattle.sweeps.proofs.sweep_rises.Tie as tie
 
 returns : tie.Need-returns
-returns c = first-wrong _ _ _ (sym (c .before .v .given .1) ∙ c .before .before .before .sweep-words .ensures)
+returns c = first-wrong _ _ _ _ (sym (c .before .v .given .1) ∙ c .before .before .before .sweep-check .ensures)
 
 returns-2 : tie.Need-returns-2
 returns-2 c =
-    first-missing _ _ (sym (c .before .before .before .before .enum-told .given .1) ∙ c .before .before .before .before .before .before .sweep-words .ensures) _
-    (sym (c .before .v2 .given .1) ∙ c .before .before .before .sweep-words2 .ensures)
+    first-missing _ _ _ (sym (c .before .before .before .before .enum-told .given .1) ∙ c .before .before .before .before .before .before .sweep-check .ensures) _
+    (sym (c .before .v2 .given .1) ∙ c .before .before .before .sweep-check2 .ensures)
 
 returns-3 : tie.Need-returns-3
 returns-3 c =
-    first-unobserved _ _ (sym (c .before .before .before .before .enum-told .given .1) ∙ c .before .before .before .before .before .before .sweep-words .ensures)
-    (sym (c .before .enum-told2 .given .1) ∙ c .before .before .before .sweep-words2 .ensures) _ (c .sweep-words3 .ensures)
+    first-unobserved _ _ _ (sym (c .before .before .before .before .enum-told .given .1) ∙ c .before .before .before .before .before .before .sweep-check .ensures)
+    (sym (c .before .enum-told2 .given .1) ∙ c .before .before .before .sweep-check2 .ensures) _ (c .sweep-check3 .ensures)
 
 pub sweep-rises-spec : {M : Type 1} → statement M
 sweep-rises-spec =

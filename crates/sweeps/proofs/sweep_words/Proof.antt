@@ -1,62 +1,95 @@
--- `sweeps::sweep_words` meets its contract. The loop's invariant: nothing is found in the words before word k. Assumes nothing.
-use Prim.Native.Nat.{_-_}
+-- `sweeps::sweep_words` meets its contract. The loop's invariant: nothing is found under the names before name k. Assumes nothing.
+use Prim.Native.Nat.{ℕ, _-_}
 use native.Mathlib.Omega.{arith}
-use mathlib.Core.Path.{sym, _∙_}
+use mathlib.Core.Path.{_≡_, sym, ap, _∙_}
 use denote.Ref.{now}
+use lib.ListN.{length, getD}
+use Rattle.netlist.specs.declared.Found.{Found}
 use Rattle.circuit.specs.Stage.{stageIn}
 use Rattle.circuit.specs.Reference.{referenceIn}
-use Rattle.verdict.specs.Words.{words}
 use Rattle.words.specs.Finds.{finds}
-use Rattle.sweeps.proofs.Sweeping.{SweptTo, swept-start, swept-on, swept-here, swept-none, swept-words}
+use Rattle.sweeps.proofs.Sweeping.{SweptTo, swept-start, swept-on, swept-here, swept-none, findsUnder, swept-words}
 use borrow.Author.Needs.{needs}
 use Rattle.sweeps.proofs.sweep_words.Statement.{statement}
 use Rattle.sweeps.proofs.sweep_words.Tie as tie
+use Rattle.sweeps.proofs.sweep_words.Reads as reads
+use Rattle.sweeps.proofs.sweep_words.Lts as lts
+use Rattle.names.proofs.word_of.Reads as word-of-reads
+use Rattle.sweeps.proofs.number_of.Reads as number-of-reads
+use Rattle.words.proofs.find.Reads as find-reads
 
 abbrev Inv-loop : tie.InvT-loop
-Inv-loop which code counts reference sizes number count k₀ k = SweptTo number (finds which (stageIn counts code) (referenceIn sizes reference)) (words (stageIn counts code)) k
+Inv-loop which order list mask code counts reference sizes number k₀ k = SweptTo number 1 (findsUnder which order (stageIn counts code) (referenceIn sizes reference)) list k
 
 abbrev μ-loop : tie.MeasureT-loop
-μ-loop which code counts reference sizes number count k₀ k = count - k
+μ-loop which order list mask code counts reference sizes number k₀ k = length list - k
 
-word-count-requires : tie.Need-word-count-requires Inv-loop μ-loop
-word-count-requires c κs = c .before .before .before .pre .stage .within .inputs-in
+number-of-requires : tie.Need-number-of-requires Inv-loop μ-loop
+number-of-requires c κs = search needs
 
 loop-holds : tie.Need-loop-holds Inv-loop μ-loop
-loop-holds c = swept-start _ _ _
+loop-holds c = swept-start _ _ _ _
 
-word-at-requires : tie.Need-word-at-requires Inv-loop μ-loop
-word-at-requires c κs =
-    let z = c .before .before .before .before .before .before in
-    (z .pre .stage, omega (arith, c .before .before .word-count .ensures (now (z .args .code))))
+mul-name : tie.Need-mul-name Inv-loop μ-loop
+mul-name c = search needs
 
-find-requires : tie.Need-find-requires Inv-loop μ-loop
-find-requires c κs = c .before .before .before .before .before .before .before .pre
+shared-slice-read-name : tie.Need-shared-slice-read-name Inv-loop μ-loop
+shared-slice-read-name c = search needs
+
+cast-name : tie.Need-cast-name Inv-loop μ-loop
+cast-name c = omega (arith, c .shared-slice-known5 .given (c .before .before .loop .k))
+
+word-of-requires : tie.Need-word-of-requires Inv-loop μ-loop
+word-of-requires c κs = search needs
+
+look-in-requires : tie.Need-look-in-requires Inv-loop μ-loop
+look-in-requires c κs = let z = c .before .before .before .before .before .before .before .before .before in (z .pre .0, z .pre .2)
+
+enum-known-i : tie.Need-enum-known-i Inv-loop μ-loop
+enum-known-i c = search needs
 
 returns : tie.Need-returns Inv-loop μ-loop
 returns c =
     let word = c .before .before .before .before in
-    let loop = word .before .before in
-    let z = loop .before .before .before .before .before in
-    swept-words (z .args .which) (stageIn (z .args .counts) (now (z .args .code))) (referenceIn (z .args .sizes) (now (z .args .reference))) _ _
-    (loop .before .before .number-of .ensures)
-    (swept-here _ _ _ (loop .loop .k) (omega (arith, loop .before .word-count .ensures (now (z .args .code)))) (loop .loop .inv) _ (word .word-at .ensures) _
-    (sym (c .before .before .before .find .ensures) ∙ c .before .i .given .1))
+    let loop = word .before .before .before in
+    let z = loop .before .before .before .before .before .before in
+    let s = stageIn (z .args .counts) (now (z .args .code)) in
+    let r = referenceIn (z .args .sizes) (now (z .args .reference)) in
+    let find = findsUnder (z .args .which) (z .args .order) s r in
+    let under : find (getD (now (z .args .list)) (loop .loop .k) 0) ≡ c .before .before .before .look-in .result =
+    ap (finds (z .args .which) s r) (sym (word .word-of .ensures)) ∙ sym (c .before .before .before .look-in .ensures) in
+    swept-words (z .args .which) (z .args .order) s r (now (z .args .list)) (z .pre .1) _ _ (loop .before .number-of .ensures)
+    (swept-here _ _ find _ (loop .loop .k) (omega arith) (loop .loop .inv) _ (under ∙ c .before .i .given .1))
+
+enum-told : tie.Need-enum-told Inv-loop μ-loop
+enum-told c = search needs
+
+add-k : tie.Need-add-k Inv-loop μ-loop
+add-k c = search needs
+
+loop-less : tie.Need-loop-less Inv-loop μ-loop
+loop-less c = search needs
 
 loop-again : tie.Need-loop-again Inv-loop μ-loop
 loop-again c =
     let word = c .before .before .before in
-    let loop = word .before .before in
-    let z = loop .before .before .before .before .before in
-    swept-on _ _ _ (loop .loop .k) (omega (arith, loop .before .word-count .ensures (now (z .args .code)))) (loop .loop .inv) _ (word .word-at .ensures)
-    (sym (c .before .before .find .ensures) ∙ c .enum-told .given .1)
+    let loop = word .before .before .before in
+    let z = loop .before .before .before .before .before .before in
+    let s = stageIn (z .args .counts) (now (z .args .code)) in
+    let r = referenceIn (z .args .sizes) (now (z .args .reference)) in
+    let find = findsUnder (z .args .which) (z .args .order) s r in
+    let under : find (getD (now (z .args .list)) (loop .loop .k) 0) ≡ c .before .before .look-in .result =
+    ap (finds (z .args .which) s r) (sym (word .word-of .ensures)) ∙ sym (c .before .before .look-in .ensures) in
+    swept-on _ _ find _ (loop .loop .k) (omega arith) (loop .loop .inv) (under ∙ c .enum-told .given .1)
 
 returns-2 : tie.Need-returns-2 Inv-loop μ-loop
 returns-2 c =
     let loop = c .before in
-    let z = loop .before .before .before .before .before in
-    swept-words (z .args .which) (stageIn (z .args .counts) (now (z .args .code))) (referenceIn (z .args .sizes) (now (z .args .reference))) _ _
-    (loop .before .before .number-of .ensures)
-    (swept-none _ _ _ (loop .loop .k) (omega (arith, loop .before .word-count .ensures (now (z .args .code)))) (loop .loop .inv))
+    let z = loop .before .before .before .before .before .before in
+    let s = stageIn (z .args .counts) (now (z .args .code)) in
+    let r = referenceIn (z .args .sizes) (now (z .args .reference)) in
+    swept-words (z .args .which) (z .args .order) s r (now (z .args .list)) (z .pre .1) _ _ (loop .before .number-of .ensures)
+    (swept-none _ _ (findsUnder (z .args .which) (z .args .order) s r) _ (loop .loop .k) (omega arith) (loop .loop .inv))
 
 pub sweep-words-spec : {M : Type 1} → statement M
 sweep-words-spec =
@@ -64,16 +97,17 @@ sweep-words-spec =
     (tie.spec
     Inv-loop
     μ-loop
-    (λ c κs. search needs)
-    word-count-requires
+    number-of-requires
     loop-holds
-    word-at-requires
-    (λ c. search needs)
-    find-requires
-    (λ c. search needs)
+    mul-name
+    shared-slice-read-name
+    cast-name
+    word-of-requires
+    look-in-requires
+    enum-known-i
     returns
-    (λ c. search needs)
-    (λ c. omega arith)
-    (λ c. omega arith)
+    enum-told
+    add-k
+    loop-less
     loop-again
     returns-2)

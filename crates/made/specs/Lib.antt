@@ -1,0 +1,6 @@
+pub mod Made
+pub mod Count
+pub mod Leading
+pub mod Marks
+pub mod Making
+pub mod Promises

@@ -1,0 +1,5 @@
+pub mod Lists
+pub mod Marking
+pub mod Building
+pub mod Operations
+pub mod Answering

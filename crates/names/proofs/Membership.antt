@@ -1,0 +1,101 @@
+-- Which words a stage in its flat form has: all that its inputs have, or those of its care list, looked at one after the other.
+-- Assumes nothing.
+use Prim.Native.Nat.{ℕ, zero, suc, _+_, _*_, _^_, _≤_, _<_}
+use native.Mathlib.Omega.{arith}
+use native.Mathlib.Numerals.{add-one}
+use lib.Pow.{pow-mono}
+use mathlib.Core.Path.{_≡_, refl, sym, ap, _∙_}
+use mathlib.Core.Bool.{Bool, true, false, _||_}
+use mathlib.Core.Logic.{_⊎_, inl, inr}
+use mathlib.Core.List.{List, [], _∷_}
+use lib.ListN.{length, getD, drop, drop-of-length-le}
+use lib.Seq.{drop-cons}
+use lib.Dec.{eqb, ltb}
+use borrow.Author.Tests.{eq-eqb, ne-eqb}
+use Rattle.runs.proofs.Test.{true?, not-true, ltb-true, ltb-false}
+use Rattle.netlist.specs.declared.Counts.{Counts}
+use Rattle.netlist.specs.Reading.{stageLimits}
+use Rattle.netlist.specs.Content.{Stage}
+use Rattle.verdict.specs.Graph.{tabulate}
+use Rattle.verdict.specs.Words.{numbers, caredFor, words, isIn}
+use Rattle.verdict.proofs.Words.{index-in, in-index}
+use Rattle.verdict.proofs.Names.{isIn-in, in-isIn}
+use Rattle.circuit.specs.Stage.{stageCare, stageIn}
+use Rattle.circuit.proofs.Tabulate.{length-tabulate, getD-tabulate}
+
+-- within the limits all words can be counted
+pub few-words : (i : ℕ) → i ≤ stageLimits .inputs → 2 ^ i ≤ 2 ^ stageLimits .inputs
+few-words i h = pow-mono {i = i} {j = stageLimits .inputs} h
+
+-- ---- without a care list
+
+below-all : (m w : ℕ) → ltb w m ≡ isIn w (numbers 0 m)
+below-all m w = go (true? (ltb w m))
+  where
+    go : (ltb w m ≡ true) ⊎ (ltb w m ≡ false) → ltb w m ≡ isIn w (numbers 0 m)
+    go (inl e) = e ∙ sym (in-isIn w (numbers 0 m) (index-in m w (ltb-true w m e)))
+    go (inr e) = e ∙ sym (not-true (isIn w (numbers 0 m)) (λ i. omega (arith, ltb-false w m e, in-index m w (isIn-in w (numbers 0 m) i))))
+
+pub of-all : (c : Counts) (code : List ℕ) (w : ℕ) → c .care ≡ 0 → ltb w (2 ^ c .inputs) ≡ isIn w (words (stageIn c code))
+unfolding words caredFor stageCare tabulate
+of-all c code w e = rw e (below-all (2 ^ c .inputs) w)
+
+-- ---- with one
+
+listed : (n : ℕ) (ws : List ℕ) → (length ws ≡ 0 → ⊥) → caredFor n ws ≡ ws
+unfolding caredFor
+listed n [] d = absurd (d refl)
+listed n (w ∷ ws) d = refl
+
+module _ (w : ℕ) (ws : List ℕ) (k : ℕ) where
+  -- the words before word k are others
+  abbrev pub LookedTo : Type 0
+  LookedTo = isIn w ws ≡ isIn w (drop k ws)
+
+  module _ (l : LookedTo) (h : k < length ws) (x : ℕ) (is : x ≡ getD ws k 0) where
+    here : isIn w ws ≡ eqb w x || isIn w (drop (k + 1) ws)
+    unfolding isIn
+    here = l ∙ ap (isIn w) (drop-cons ws k 0 h) ∙ rw (← is, add-one)
+
+    looked-here : x ≡ w → true ≡ isIn w ws
+    looked-here e = sym (here ∙ rw (eq-eqb w x (sym e)))
+
+    looked-on : (x ≡ w → ⊥) → isIn w ws ≡ isIn w (drop (k + 1) ws)
+    looked-on n = here ∙ rw (ne-eqb w x (λ e. n (sym e)))
+
+  looked-none : LookedTo → length ws ≤ k → false ≡ isIn w ws
+  unfolding isIn
+  looked-none l h = sym (l ∙ ap (isIn w) (drop-of-length-le ws {i = k} h))
+
+-- so many care words, from a place of the flat form on
+abbrev pub careFrom : List ℕ → ℕ → ℕ → List ℕ
+careFrom code from count = tabulate (λ i. getD code (from + i) 0) count
+
+-- the care words before word k are others
+abbrev pub CareTo : List ℕ → ℕ → ℕ → ℕ → ℕ → Type 0
+CareTo code from count w k = LookedTo w (careFrom code from count) k
+
+module _ (code : List ℕ) (from count w k : ℕ) (l : CareTo code from count w k) where
+  care-length : length (careFrom code from count) ≡ count
+  care-length = length-tabulate (λ i. getD code (from + i) 0) count
+
+  care-at : k < count → getD code (from + k) 0 ≡ getD (careFrom code from count) k 0
+  care-at h = sym (getD-tabulate (λ i. getD code (from + i) 0) count k 0 h)
+
+  pub care-here : k < count → getD code (from + k) 0 ≡ w → true ≡ isIn w (careFrom code from count)
+  care-here h e = looked-here w (careFrom code from count) k l (omega (arith, care-length)) _ (care-at h) e
+
+  pub care-on : k < count → (getD code (from + k) 0 ≡ w → ⊥) → CareTo code from count w (k + 1)
+  care-on h n = looked-on w (careFrom code from count) k l (omega (arith, care-length)) _ (care-at h) n
+
+  pub care-none : count ≤ k → false ≡ isIn w (careFrom code from count)
+  care-none h = looked-none w (careFrom code from count) k l (omega (arith, care-length))
+
+-- what is in the care list of a stage is a word of it
+pub of-care : (c : Counts) (code : List ℕ) (w : ℕ) → (c .care ≡ 0 → ⊥) → (b : Bool) → b ≡ isIn w (careFrom code (8 * c .gates + 2 * c .outputs) (c .care))
+    → b ≡ isIn w (words (stageIn c code))
+unfolding words stageCare
+of-care c code w some b e =
+    let ws : List ℕ = careFrom code (8 * c .gates + 2 * c .outputs) (c .care) in
+    let long : length ws ≡ c .care = length-tabulate (λ i. getD code (8 * c .gates + 2 * c .outputs + i) 0) (c .care) in
+    e ∙ sym (ap (isIn w) (listed (c .inputs) ws (λ z. some (sym long ∙ z))))
