@@ -18,7 +18,7 @@ use Rattle.runs.specs.Row.{Row, _∖_, only}
 use Rattle.runs.specs.Theory.{_⊑_}
 use Rattle.runs.specs.Net.{allLow, mayFall}
 use Rattle.runs.specs.Acknowledged.{Acknowledged, next, Fall-acknowledged, fall-next}
-use Rattle.runs.proofs.Test.{clash, eqb-same, and-left, and-right}
+use Rattle.runs.proofs.Test.{clash, eqb-same, eqb-eq, and-left, and-right}
 use Rattle.netlist.specs.declared.Counts.{Counts}
 use Rattle.netlist.specs.Content.{Gate}
 use Rattle.verdict.specs.Loops.{In}
@@ -31,7 +31,7 @@ use Rattle.lanes.specs.Lane.{lane, rowIn}
 use Rattle.lanes.specs.Cells.{needing, needOf, pinsIn}
 use Rattle.lanes.proofs.Lane.{lane-zero, unlike, lane-xor}
 use Rattle.lanes.proofs.Cells.{set-holds}
-use Rattle.looks.specs.Block.{restIn, netIn, Resting, AcknowledgedIn, MarkedIn, PinsMarked, Given, keeps, keptLanes, setWhere, eachWhere}
+use Rattle.looks.specs.Block.{restIn, netIn, Resting, AcknowledgedIn, MarkedIn, PinsMarked, Given, Lone, keeps, keptLanes, setWhere, eachWhere}
 use Rattle.looks.proofs.Pins.{pin-at, pin-past, pin-in, driver-at}
 use Rattle.looks.proofs.Marks.{marked-pins}
 use Rattle.looks.proofs.Settling.{gate-net, rest-gate, rest-past}
@@ -152,6 +152,16 @@ module _ (c : Counts) (code : List ℕ) (loaded : StageLoaded c code) (ordered :
         (rest-gate c code ordered (64 * b + j) k h ∙ set-mono (kept true p) R (λ q. and-left (R q) (eqb q p)) (gateIn code k) set)
         (by-hold false (ne-eqb (slot code k 7) 1 n) ∙ ap not (set-mono (kept true p) (only p) (λ q. and-right (R q) (eqb q p)) (gateIn code k) set))
 
+    -- as it does for one that stands at a pin which does
+    lone-acknowledges : (slot code k 7 ≡ 1 → ⊥) → R p ≡ true → holds (setExpression (cellIn code k)) (only t) ≡ true → Fall-acknowledged (netIn c code) R p
+    lone-acknowledges n u lone =
+        fall-next g (gate-net c code ordered k h) (rest-gate c code ordered (64 * b + j) k h ∙ sets R u) (by-hold false (ne-eqb (slot code k 7) 1 n) ∙ ap not (sets (only p) (eqb-same p)))
+      where
+        sets : (r : Row) → r p ≡ true → setIn r (gateIn code k) ≡ true
+        sets r v =
+            holds-mono (setExpression (cellIn code k)) (only t) (λ i. getD (map r (gateIn code k .pins)) i false)
+            (λ i e. rw (eqb-eq i t e) (pin-at code k t r present l ∙ v)) lone
+
 -- ---- for all four pins
 
 by-pins : (P : ℕ → Type 0) (r : CellLanes) (j : ℕ) → (lane j (r .a) ≡ true → P 0) → (lane j (r .b) ≡ true → P 1) → (lane j (r .c) ≡ true → P 2) → (lane j (r .d) ≡ true → P 3)
@@ -188,6 +198,25 @@ module _ (c : Counts) (code : List ℕ) (loaded : StageLoaded c code) (ordered :
       at : (t : ℕ) {x : ℕ} → x ≡ setWhere code k row true (pinIn code k t) → lane j x ≡ true → t < 4 → pinIn code k t < netCount c
           → Fall-acknowledged (netIn c code) (restIn c code b j) (pinIn code k t)
       at t q u l there = alone-acknowledges c code loaded ordered k h row b j d rest t l there n (sym (ap (lane j) q) ∙ u)
+
+  pub given-lone : (slot code k 7 ≡ 1 → ⊥) → (r : CellLanes) → Lone code k row r → Given true c code k row r
+  given-lone n r lone b rest j t d l there z =
+      let both = lone j t l z in
+      lone-acknowledges c code loaded ordered k h row b j d rest t l there n (sym (rest .rest j (pinIn code k t) d there) ∙ both .0) (both .1)
+
+-- the levels at the pins, known to be those of four nets
+pins-of : (code row : List ℕ) (k j x y z u t : ℕ) → t < 4 → x ≡ getD row (pinIn code k 0) 0 → y ≡ getD row (pinIn code k 1) 0 → z ≡ getD row (pinIn code k 2) 0
+    → u ≡ getD row (pinIn code k 3) 0 → pinsIn j x y z u t ≡ rowIn j row (pinIn code k t)
+pins-of code row k j x y z u zero h p q r s = ap (lane j) p
+pins-of code row k j x y z u (suc zero) h p q r s = ap (lane j) q
+pins-of code row k j x y z u (suc (suc zero)) h p q r s = ap (lane j) r
+pins-of code row k j x y z u (suc (suc (suc zero))) h p q r s = ap (lane j) s
+pins-of code row k j x y z u (suc (suc (suc (suc t)))) h p q r s = absurd (omega arith)
+
+pub lone-at : (code row : List ℕ) (k x y z u : ℕ) → x ≡ getD row (pinIn code k 0) 0 → y ≡ getD row (pinIn code k 1) 0 → z ≡ getD row (pinIn code k 2) 0
+    → u ≡ getD row (pinIn code k 3) 0 → (given : CellLanes)
+    → ((j i : ℕ) → i < 4 → lane j (needOf given i) ≡ true → (pinsIn j x y z u i ≡ true) × (holds (setExpression (cellIn code k)) (only i) ≡ true)) → Lone code k row given
+lone-at code row k x y z u p q r s given lone j t l v = let both = lone j t l v in (sym (pins-of code row k j x y z u t l p q r s) ∙ both .0, both .1)
 
 -- ---- all gates
 

@@ -6,7 +6,9 @@ use mathlib.Core.Logic.{_⊎_}
 use mathlib.Core.List.{List}
 use lib.ListN.{length, getD}
 use lib.Dec.{eqb}
-use Rattle.runs.specs.Row.{Row}
+use Rattle.gates.specs.Expression.{holds}
+use Rattle.gates.specs.Cell.{setExpression}
+use Rattle.runs.specs.Row.{Row, only}
 use Rattle.runs.specs.Net.{Net}
 use Rattle.runs.specs.Acknowledged.{Acknowledged, Fall-acknowledged}
 use Rattle.netlist.specs.declared.Counts.{Counts}
@@ -88,6 +90,11 @@ abbrev pub Given : Bool → Counts → List ℕ → ℕ → List ℕ → CellLan
 Given falls c code k row given =
     (b : ℕ) → Resting c code b row → (j t : ℕ) → j < 64 → t < 4 → pinIn code k t < netCount c → lane j (needOf given t) ≡ true
     → AcknowledgedIn falls (netIn c code) (restIn c code b j) (pinIn code k t)
+
+-- where words are given for a pin of gate k it is high, and it alone sets the gate's cell
+abbrev pub Lone : List ℕ → ℕ → List ℕ → CellLanes → Type 0
+Lone code k row given =
+    (j t : ℕ) → t < 4 → lane j (needOf given t) ≡ true → (rowIn j row (pinIn code k t) ≡ true) × (holds (setExpression (cellIn code k)) (only t) ≡ true)
 
 -- whether a pin is kept: the pins at a net alone, or all others
 abbrev pub keeps : Bool → ℕ → ℕ → Bool

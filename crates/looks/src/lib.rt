@@ -18,7 +18,7 @@ ghost use Rattle.circuit.specs.Order.{InOrder};
 ghost use Rattle.circuit.specs.Reference.{signalIn, referenceIn};
 ghost use Rattle.words.specs.Loaded.{BothLoaded};
 ghost use Rattle.lanes.specs.Lane.{lane, rowIn};
-ghost use Rattle.looks.specs.Block.{netIn, Room, Spelled, SettledTo, Resting, Workspace, MarkedIn, Marked, gateLanes, PinsMarked, Given, keptLanes, setWhere, eachWhere, OutputRail, AllMarked, NoneElse};
+ghost use Rattle.looks.specs.Block.{netIn, Room, Spelled, SettledTo, Resting, Workspace, MarkedIn, Marked, gateLanes, PinsMarked, Given, Lone, keptLanes, setWhere, eachWhere, OutputRail, AllMarked, NoneElse};
 ghost use Rattle.looks.specs.Looks.{RiseClean, Unnamed, AllClean, maskFor};
 
 // The words of a block in which something may be wrong: for 13, and for 14 and 15.
@@ -237,9 +237,23 @@ fn each_where(code: &[u16], counts: Counts, k: usize, row: &[u64], alone: bool) 
     CellLanes { set: 0, a, b, c, d }
 }
 
-// For each pin of gate k the words in which its net is acknowledged by the gate. In the rise: the gate is high, and would not be set with that net
-// low. On the way back: it may not fall while that net alone is high, which with hold is where it is high, and relaxed where that net alone sets it.
-fn given_lanes(falls: bool, code: &[u16], counts: Counts, k: usize, row: &[u64]) -> CellLanes
+// For each pin of gate k the words in which it is high, if it alone sets the gate's cell.
+fn lone_gate(code: &[u16], counts: Counts, k: usize, row: &[u64]) -> CellLanes
+    requires { ⌜ StageLoaded counts (now code) × (k < counts .gates) × Room counts (now row) ⌝ }
+    ensures { λ r. ⌜ Lone (now (code .entry)) k (now (row .entry)) r ⌝ }
+{
+    let at = 8 * k;
+    let a = lanes::lanes_at(row, code[at + 1]);
+    let b = lanes::lanes_at(row, code[at + 2]);
+    let c = lanes::lanes_at(row, code[at + 3]);
+    let d = lanes::lanes_at(row, code[at + 4]);
+    lanes::lone_lanes(code[at], a, b, c, d)
+}
+
+// For each pin of gate k words in which its net is acknowledged by the gate. In the rise: the gate is high, and would not be set with that net low.
+// On the way back: it may not fall while that net alone is high, which with hold is where it is high, and relaxed where that net alone sets it; if
+// this is not asked by net, where that pin alone does.
+fn given_lanes(falls: bool, by_net: bool, code: &[u16], counts: Counts, k: usize, row: &[u64]) -> CellLanes
     requires { ⌜ StageLoaded counts (now code) × InOrder counts (now code) × (k < counts .gates) × Room counts (now row) ⌝ }
     ensures { λ r. ⌜ Given falls counts (now (code .entry)) k (now (row .entry)) r ⌝ }
 {
@@ -254,7 +268,10 @@ fn given_lanes(falls: bool, code: &[u16], counts: Counts, k: usize, row: &[u64])
                 d: high,
             };
         }
-        return each_where(code, counts, k, row, true);
+        if by_net {
+            return each_where(code, counts, k, row, true);
+        }
+        return lone_gate(code, counts, k, row);
     }
     let low = each_where(code, counts, k, row, false);
     CellLanes {
@@ -266,8 +283,8 @@ fn given_lanes(falls: bool, code: &[u16], counts: Counts, k: usize, row: &[u64])
     }
 }
 
-// Each gate marks the nets that it acknowledges.
-fn mark_gates(falls: bool, code: &[u16], counts: Counts, row: &[u64], ack: &mut [u64])
+// Each gate marks nets that it acknowledges.
+fn mark_gates(falls: bool, by_net: bool, code: &[u16], counts: Counts, row: &[u64], ack: &mut [u64])
     requires { ⌜ StageLoaded counts (now code) × InOrder counts (now code) × Room counts (now row) × Room counts (now ack) ⌝ }
     ensures long { λ r. ⌜ length (now (ack .exit)) ≡ length (now (ack .entry)) ⌝ }
     ensures marked { λ r. ⌜ ((b : ℕ) → Resting counts (now (code .entry)) b (now (row .entry)) → MarkedIn falls counts (now (code .entry)) b (now (ack .entry))
@@ -280,7 +297,7 @@ fn mark_gates(falls: bool, code: &[u16], counts: Counts, row: &[u64], ack: &mut 
             code,
             counts,
             k,
-            given_lanes(falls, code, counts, k, row),
+            given_lanes(falls, by_net, code, counts, k, row),
             ack,
         );
         k += 1;
@@ -304,13 +321,14 @@ fn rise_words(code: &[u16], counts: Counts, row: &mut [u64], ack: &mut [u64]) ->
     if words == 0 {
         return 0;
     }
-    mark_gates(false, code, counts, row, ack);
+    mark_gates(false, true, code, counts, row, ack);
     unmarked(counts, row, ack)
 }
 
 // ---- 20 and 21
 
-// The words in which some net that is high at the rest is not acknowledged on the way back. The marks are made anew.
+// The words in which some net that is high at the rest is not acknowledged on the way back. The marks are made anew, and where they leave some words
+// by net.
 fn fall_words(code: &[u16], counts: Counts, row: &[u64], ack: &mut [u64]) -> u64
     requires { ⌜ StageLoaded counts (now code) × InOrder counts (now code) × Room counts (now row) × Room counts (now ack) ⌝ }
     ensures long { λ r. ⌜ length (now (ack .exit)) ≡ length (now (ack .entry)) ⌝ }
@@ -319,7 +337,12 @@ fn fall_words(code: &[u16], counts: Counts, row: &[u64], ack: &mut [u64]) -> u64
 {
     clear(counts, ack);
     mark_outputs(code, counts, ack);
-    mark_gates(true, code, counts, row, ack);
+    mark_gates(true, false, code, counts, row, ack);
+    let words = unmarked(counts, row, ack);
+    if words == 0 {
+        return 0;
+    }
+    mark_gates(true, true, code, counts, row, ack);
     unmarked(counts, row, ack)
 }
 

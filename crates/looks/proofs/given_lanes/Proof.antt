@@ -8,7 +8,7 @@ use denote.Ref.{now}
 use borrow.Author.Needs.{needs}
 use Rattle.lanes.specs.Cells.{needing}
 use Rattle.looks.specs.Block.{Given}
-use Rattle.looks.proofs.ByNet.{given-rise, given-hold, given-relaxed}
+use Rattle.looks.proofs.ByNet.{given-rise, given-hold, given-relaxed, given-lone}
 use Rattle.looks.proofs.given_lanes.Statement.{statement}
 use Rattle.looks.proofs.given_lanes.Tie as tie
 
@@ -21,12 +21,18 @@ returns c =
 
 returns-2 : tie.Need-returns-2
 returns-2 c =
-    let z = c .before .before .before .before .before .before .before .before in
-    subst (λ (falls : Bool). Given falls (z .args .counts) (now (z .args .code)) (z .args .k) (now (z .args .row)) (c .each-where .result)) (sym (c .before .before .before .if1 .taken))
-    (given-relaxed (z .args .counts) (now (z .args .code)) (z .pre .0) (z .pre .1) (z .args .k) (z .pre .2) (now (z .args .row)) (c .before .if2 .left) (c .each-where .result) (c .each-where .ensures))
+    let z = c .before .before .before .before .before .before .before .before .before in
+    subst (λ (falls : Bool). Given falls (z .args .counts) (now (z .args .code)) (z .args .k) (now (z .args .row)) (c .each-where .result)) (sym (c .before .before .before .before .if1 .taken))
+    (given-relaxed (z .args .counts) (now (z .args .code)) (z .pre .0) (z .pre .1) (z .args .k) (z .pre .2) (now (z .args .row)) (c .before .before .if2 .left) (c .each-where .result) (c .each-where .ensures))
 
 returns-3 : tie.Need-returns-3
 returns-3 c =
+    let z = c .before .before .before .before .before .before .before .before .before in
+    subst (λ (falls : Bool). Given falls (z .args .counts) (now (z .args .code)) (z .args .k) (now (z .args .row)) (c .lone-gate .result)) (sym (c .before .before .before .before .if1 .taken))
+    (given-lone (z .args .counts) (now (z .args .code)) (z .pre .0) (z .pre .1) (z .args .k) (z .pre .2) (now (z .args .row)) (c .before .before .if2 .left) (c .lone-gate .result) (c .lone-gate .ensures))
+
+returns-4 : tie.Need-returns-4
+returns-4 c =
     let z = c .before .before .before .before .before .before .before .before .before .before in
     let high = getD (now (z .args .row)) (2 * z .args .counts .inputs + z .args .k) 0 in
     let low = c .before .before .before .before .each-where2 in
@@ -50,4 +56,6 @@ given-lanes-spec =
     (λ c κs. search needs)
     returns-2
     (λ c κs. search needs)
-    returns-3)
+    returns-3
+    (λ c κs. search needs)
+    returns-4)

@@ -8,10 +8,10 @@ use Rattle.looks.proofs.mark_gates.Statement.{statement}
 use Rattle.looks.proofs.mark_gates.Tie as tie
 
 abbrev Inv-loop : tie.InvT-loop
-Inv-loop falls code counts row ack₀ count k₀ ack k = GatesTo falls counts code row ack₀ ack
+Inv-loop falls by-net code counts row ack₀ count k₀ ack k = GatesTo falls counts code row ack₀ ack
 
 abbrev μ-loop : tie.MeasureT-loop
-μ-loop falls code counts row ack₀ count k₀ ack k = count - k
+μ-loop falls by-net code counts row ack₀ count k₀ ack k = count - k
 
 loop-holds : tie.Need-loop-holds Inv-loop μ-loop
 loop-holds c = gates-start _ _ _ _ _

@@ -59,7 +59,7 @@ returns-2 c =
           (λ j p x. output (x .0) (x .1) (x .2) (x .3)) in
           let end = settle .ensures .1 b spelled start in
           let rest = settled-rest counts code (z .pre .1) b (settle .last .1 .1 .0) (end .0) in
-          (rest, none-else counts code (z .pre .1) b (Acknowledged N) (settle .last .1 .1 .0) (more .last .1 .1 .1 .1 .0) (c .unmarked2 .result) (rest .rest) (more .ensures .1 b rest (end .1)) (c .unmarked2 .ensures)),
+          (rest, none-else counts code (z .pre .1) b (Acknowledged N) (settle .last .1 .1 .0) (more .last .1 .1 .1 .1 .1 .0) (c .unmarked2 .result) (rest .rest) (more .ensures .1 b rest (end .1)) (c .unmarked2 .ensures)),
     )
 
 pub rise-words-spec : {M : Type 1} → statement M
