@@ -253,7 +253,14 @@ fn lone_gate(code: &[u16], counts: Counts, k: usize, row: &[u64]) -> CellLanes
 // For each pin of gate k words in which its net is acknowledged by the gate. In the rise: the gate is high, and would not be set with that net low.
 // On the way back: it may not fall while that net alone is high, which with hold is where it is high, and relaxed where that net alone sets it; if
 // this is not asked by net, where that pin alone does.
-fn given_lanes(falls: bool, by_net: bool, code: &[u16], counts: Counts, k: usize, row: &[u64]) -> CellLanes
+fn given_lanes(
+    falls: bool,
+    by_net: bool,
+    code: &[u16],
+    counts: Counts,
+    k: usize,
+    row: &[u64],
+) -> CellLanes
     requires { ⌜ StageLoaded counts (now code) × InOrder counts (now code) × (k < counts .gates) × Room counts (now row) ⌝ }
     ensures { λ r. ⌜ Given falls counts (now (code .entry)) k (now (row .entry)) r ⌝ }
 {

@@ -37,7 +37,7 @@ returns-4 c =
     let high = getD (now (z .args .row)) (2 * z .args .counts .inputs + z .args .k) 0 in
     let low = c .before .before .before .before .each-where2 in
     subst (λ (falls : Bool). Given falls (z .args .counts) (now (z .args .code)) (z .args .k) (now (z .args .row))
-      (needing high (bitXor high (low .result .a)) (bitXor high (low .result .b)) (bitXor high (low .result .c)) (bitXor high (low .result .d)))) (sym (c .before .before .before .before .before .if1 .left))
+    (needing high (bitXor high (low .result .a)) (bitXor high (low .result .b)) (bitXor high (low .result .c)) (bitXor high (low .result .d)))) (sym (c .before .before .before .before .before .if1 .left))
     (given-rise (z .args .counts) (now (z .args .code)) (z .pre .0) (z .pre .1) (z .args .k) (z .pre .2) (now (z .args .row)) high refl (low .result) (low .ensures))
 
 pub given-lanes-spec : {M : Type 1} → statement M
