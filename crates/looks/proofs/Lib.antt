@@ -6,7 +6,7 @@ pub mod Rails
 pub mod Gathering
 pub mod Tests
 pub mod OneWord
-pub mod Falling
+pub mod ByNet
 pub mod Resting
 pub mod Blocks
 pub mod Naming

@@ -20,9 +20,9 @@ use Rattle.words.specs.Finds.{finds}
 use Rattle.lanes.specs.Lane.{lane}
 use Rattle.lanes.proofs.Lane.{lane-zero}
 use Rattle.lanes.proofs.Blocks.{all-at}
-use Rattle.looks.specs.declared.Look.{Look}
+use Rattle.looks.specs.declared.Rise.{Rise}
 use Rattle.looks.specs.declared.Masks.{Masks}
-use Rattle.looks.specs.Looks.{wordsFor, maskFor, BlockClean, Unnamed, Clean, AllClean}
+use Rattle.looks.specs.Looks.{maskFor, CleanIn, RiseClean, Unnamed, Clean, AllClean}
 
 module _ (s : Stage) (r : Reference) (which : Sweep) where
   clean-start : (n : ℕ) → Clean which s r (replicate n 0xFFFF_FFFF_FFFF_FFFF)
@@ -32,7 +32,7 @@ module _ (s : Stage) (r : Reference) (which : Sweep) where
       let e : getD full (w / 64) 0 ≡ 0xFFFF_FFFF_FFFF_FFFF = getD-replicate n (w / 64) 0xFFFF_FFFF_FFFF_FFFF 0 h in
       absurd (clash (ap (lane (w % 64)) e ∙ ap (λ (x : ℕ). eqb x 1) (all-at (w % 64) (mod-lt w (lit< tt)))) (u .clear))
 
-  clean-more : (mask : List ℕ) (b x : ℕ) → Clean which s r mask → ((j : ℕ) → j < 64 → lane j x ≡ false → finds which s r (64 * b + j) ≡ Nothing)
+  clean-more : (mask : List ℕ) (b x : ℕ) → Clean which s r mask → CleanIn which s r b x
       → Clean which s r (set mask b x)
   clean-more mask b x ok new w u = go (ℕ-discrete (w / 64) b)
     where
@@ -57,13 +57,22 @@ all-clean-start s r n Unobserved = clean-start s r Unobserved n
 all-clean-start s r n Remaining = clean-start s r Remaining n
 all-clean-start s r n StillHigh = clean-start s r StillHigh n
 
-pub all-clean-more : (s : Stage) (r : Reference) (wrong rise fall : List ℕ) (b : ℕ) (l : Look) → AllClean s r (masksOf wrong rise fall) → BlockClean s r b l
-    → AllClean s r (masksOf (set wrong b (l .wrong)) (set rise b (l .rise)) (set fall b (l .fall)))
-all-clean-more s r wrong rise fall b l ok new Wrong = clean-more s r Wrong wrong b (l .wrong) (ok Wrong) (new Wrong)
-all-clean-more s r wrong rise fall b l ok new Missing = clean-more s r Missing rise b (l .rise) (ok Missing) (new Missing)
-all-clean-more s r wrong rise fall b l ok new Unobserved = clean-more s r Unobserved rise b (l .rise) (ok Unobserved) (new Unobserved)
-all-clean-more s r wrong rise fall b l ok new Remaining = clean-more s r Remaining fall b (l .fall) (ok Remaining) (new Remaining)
-all-clean-more s r wrong rise fall b l ok new StillHigh = clean-more s r StillHigh fall b (l .fall) (ok StillHigh) (new StillHigh)
+-- a block's words in the masks of the rise, and in that of the fall
+pub rise-more : (s : Stage) (r : Reference) (wrong rise fall : List ℕ) (b : ℕ) (l : Rise) → AllClean s r (masksOf wrong rise fall) → RiseClean s r b l
+    → AllClean s r (masksOf (set wrong b (l .wrong)) (set rise b (l .all)) fall)
+rise-more s r wrong rise fall b l ok new Wrong = clean-more s r Wrong wrong b (l .wrong) (ok Wrong) (new .wrong)
+rise-more s r wrong rise fall b l ok new Missing = clean-more s r Missing rise b (l .all) (ok Missing) (new .missing)
+rise-more s r wrong rise fall b l ok new Unobserved = clean-more s r Unobserved rise b (l .all) (ok Unobserved) (new .unobserved)
+rise-more s r wrong rise fall b l ok new Remaining = ok Remaining
+rise-more s r wrong rise fall b l ok new StillHigh = ok StillHigh
+
+pub fall-more : (s : Stage) (r : Reference) (wrong rise fall : List ℕ) (b x : ℕ) → AllClean s r (masksOf wrong rise fall) → CleanIn Remaining s r b x → CleanIn StillHigh s r b x
+    → AllClean s r (masksOf wrong rise (set fall b x))
+fall-more s r wrong rise fall b x ok complete observable Wrong = ok Wrong
+fall-more s r wrong rise fall b x ok complete observable Missing = ok Missing
+fall-more s r wrong rise fall b x ok complete observable Unobserved = ok Unobserved
+fall-more s r wrong rise fall b x ok complete observable Remaining = clean-more s r Remaining fall b x (ok Remaining) complete
+fall-more s r wrong rise fall b x ok complete observable StillHigh = clean-more s r StillHigh fall b x (ok StillHigh) observable
 
 -- a mask whose numbers are 0 up to the words below a bound names none of them
 pub clear-unnamed : (mask : List ℕ) (b : ℕ) → b ≤ length mask → ((k : ℕ) → k < b → getD mask k 0 ≡ 0) → (n w : ℕ) → w < n → n ≤ 64 * b → Unnamed mask w

@@ -2,7 +2,7 @@
 -- Assumes nothing.
 use Prim.Native.Nat.{ℕ, zero, suc, _+_, _-_, _*_, _≤_, _<_}
 use native.Mathlib.Omega.{arith}
-use mathlib.Core.Path.{_≡_, refl, sym, ap, _∙_}
+use mathlib.Core.Path.{_≡_, refl, sym, ap, ap₂, _∙_}
 use mathlib.Core.Bool.{Bool, true, false}
 use mathlib.Core.Logic.{_⊎_, inl, inr}
 use mathlib.Core.List.{List, [], _∷_, map}
@@ -13,8 +13,11 @@ use Rattle.netlist.specs.Content.{Gate}
 use Rattle.verdict.specs.Loops.{In, pinsAt}
 use Rattle.verdict.specs.Nets.{noGate, driver, noPair, outputPair}
 use Rattle.verdict.proofs.Gates.{pins-at}
-use Rattle.circuit.specs.Stage.{cellIn, pinIn, gateIn, stageGates, outputIn, stageOutputs, stageIn}
+use Rattle.circuit.specs.Stage.{cellIn, pinIn, gateIn, stageGates, outputIn, stageOutputs, stageIn, StageLoaded}
 use Rattle.circuit.proofs.Tabulate.{length-tabulate, getD-tabulate}
+use Rattle.lanes.specs.declared.CellLanes.{CellLanes}
+use Rattle.lanes.specs.Cells.{needing, cellLanes}
+use Rattle.looks.specs.Block.{Room}
 
 -- ---- the first m of a list
 
@@ -82,3 +85,15 @@ output-at c code j h = getD-tabulate (outputIn c code) (c .outputs) j noPair h
 pub length-outputs : (c : Counts) (code : List ℕ) → length (stageOutputs c code) ≡ c .outputs
 unfolding stageOutputs
 length-outputs c code = length-tabulate (outputIn c code) (c .outputs)
+
+-- ---- lanes at the pins
+
+-- a row with room for the ground has something at each pin
+pub pin-there : (c : Counts) (code row : List ℕ) → StageLoaded c code → Room c row → (k : ℕ) → k < c .gates → (t : ℕ) → t < 4 → pinIn code k t < length row
+pin-there c code row loaded room k h t l = omega (arith, loaded .gate k h .pin t l)
+
+pub lanes-alike : (cell a b c d a′ b′ c′ d′ : ℕ) (r : CellLanes) → a ≡ a′ → b ≡ b′ → c ≡ c′ → d ≡ d′ → r ≡ cellLanes cell a b c d → r ≡ cellLanes cell a′ b′ c′ d′
+lanes-alike cell a b c d a′ b′ c′ d′ r p q s t e = e ∙ ap₂ (λ (x y : ℕ). cellLanes cell x y c d) p q ∙ ap₂ (λ (x y : ℕ). cellLanes cell a′ b′ x y) s t
+
+pub pins-alike : (a b c d a′ b′ c′ d′ : ℕ) → a ≡ a′ → b ≡ b′ → c ≡ c′ → d ≡ d′ → needing 0 a b c d ≡ needing 0 a′ b′ c′ d′
+pins-alike a b c d a′ b′ c′ d′ p q s t = ap₂ (λ (x y : ℕ). needing 0 x y c d) p q ∙ ap₂ (λ (x y : ℕ). needing 0 a′ b′ x y) s t

@@ -17,16 +17,16 @@ use Rattle.circuit.specs.Stage.{netCount, gateAtPlace, placeOf, stageIn}
 use Rattle.circuit.specs.Order.{InOrder}
 use Rattle.lanes.specs.Lane.{lane, rowIn}
 use Rattle.lanes.proofs.Lane.{lane-zero}
-use Rattle.looks.specs.Block.{restIn, netIn, SettledTo, AtRest, MarkedWith, OutputRail, AllMarked, NoneElse}
+use Rattle.looks.specs.Block.{restIn, netIn, SettledTo, AtRest, Resting, MarkedWith, OutputRail, AllMarked, NoneElse}
 use Rattle.looks.proofs.Settling.{rest-past}
 
 module _ (c : Counts) (code : List ℕ) (ordered : InOrder c code) (b : ℕ) where
-  pub settled-rest : (row : List ℕ) → SettledTo c code b row (c .gates) → AtRest c code b row
-  settled-rest row s j p d h = go (decLt p (2 * c .inputs))
+  pub settled-rest : (row : List ℕ) → SettledTo c code b row (c .gates) → Resting c code b row
+  settled-rest row s = record { ground = s .spelled .ground; rest = λ j p d h. go j p d h (decLt p (2 * c .inputs)) }
     where
-      go : Dec (p < 2 * c .inputs) → rowIn j row p ≡ restIn c code b j p
-      go (yes a) = s .spelled .rails j p d a
-      go (no a) =
+      go : (j p : ℕ) → j < 64 → p < netCount c → Dec (p < 2 * c .inputs) → rowIn j row p ≡ restIn c code b j p
+      go j p d h (yes a) = s .spelled .rails j p d a
+      go j p d h (no a) =
           let k = p - 2 * c .inputs in
           let e : 2 * c .inputs + gateAtPlace code (placeOf code k) ≡ p = omega (arith, ordered .stands-there k (omega arith)) in
           rw e at (s .gates j (placeOf code k) d (ordered .place-in k (omega arith)))
@@ -40,12 +40,12 @@ module _ (c : Counts) (code : List ℕ) (ordered : InOrder c code) (b : ℕ) whe
       go (no h) = absurd (clash u (rest-past c code ordered (64 * b + j) p (omega arith)))
 
 -- marks that begin with none are at rails of outputs
-pub outputs-marked : (N : Net) (Holds : ℕ → ℕ → Type 0) (c : Counts) (start ack : List ℕ) → ((p : ℕ) → getD start p 0 ≡ 0)
+pub outputs-marked : (N : Net) (Holds : ℕ → ℕ → Type 0) (c : Counts) (start ack : List ℕ) → ((p : ℕ) → p < netCount c → getD start p 0 ≡ 0)
     → ((j p : ℕ) → rowIn j ack p ≡ true → (rowIn j start p ≡ true) ⊎ OutputRail N p) → ((j p : ℕ) → OutputRail N p → Holds j p) → MarkedWith Holds c ack
 outputs-marked N Holds c start ack low more ok j p d h e = go (more j p e)
   where
     go : (rowIn j start p ≡ true) ⊎ OutputRail N p → Holds j p
-    go (inl x) = absurd (clash x (ap (lane j) (low p) ∙ lane-zero j))
+    go (inl x) = absurd (clash x (ap (lane j) (low p h) ∙ lane-zero j))
     go (inr x) = ok j p x
 
 pub none-marked : (n p : ℕ) → getD {A = ℕ} (replicate n 0) p 0 ≡ 0

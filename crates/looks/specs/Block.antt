@@ -1,19 +1,24 @@
 -- The words of a stage in blocks of 64: what holds of a row and of marks, lane by lane, while a block settles.
 use Prim.Native.Nat.{ℕ, _+_, _*_, _<_}
 use mathlib.Core.Path.{_≡_}
-use mathlib.Core.Bool.{Bool, true, false}
+use mathlib.Core.Bool.{Bool, true, false, cond, not}
 use mathlib.Core.Logic.{_⊎_}
 use mathlib.Core.List.{List}
 use lib.ListN.{length, getD}
-use Rattle.runs.specs.Row.{Row}
+use lib.Dec.{eqb}
+use Rattle.gates.specs.Expression.{holds}
+use Rattle.gates.specs.Cell.{setExpression}
+use Rattle.runs.specs.Row.{Row, only}
 use Rattle.runs.specs.Net.{Net}
 use Rattle.runs.specs.Acknowledged.{Acknowledged, Fall-acknowledged}
 use Rattle.netlist.specs.declared.Counts.{Counts}
+use Rattle.netlist.specs.Reading.{referenceLimits}
 use Rattle.verdict.specs.Nets.{netOf, restRow}
 use Rattle.circuit.specs.Stage.{netCount, cellIn, pinIn, gateAtPlace, stageIn}
+use Rattle.circuit.specs.Rows.{rowSize}
 use Rattle.lanes.specs.declared.CellLanes.{CellLanes}
 use Rattle.lanes.specs.Lane.{lane, rowIn}
-use Rattle.lanes.specs.Cells.{needOf, cellLanes}
+use Rattle.lanes.specs.Cells.{needing, needOf, cellLanes}
 
 -- the rest of word 64 b + j, which is word j of block b
 abbrev pub restIn : Counts → List ℕ → ℕ → ℕ → Row
@@ -40,17 +45,33 @@ pub record SettledTo (c : Counts) (code : List ℕ) (b : ℕ) (row : List ℕ) (
 abbrev pub AtRest : Counts → List ℕ → ℕ → List ℕ → Type 0
 AtRest c code b row = (j p : ℕ) → j < 64 → p < netCount c → rowIn j row p ≡ restIn c code b j p
 
+-- and the ground is low
+pub record Resting (c : Counts) (code : List ℕ) (b : ℕ) (row : List ℕ) : Type 0 where
+  pub ground : getD row (netCount c) 0 ≡ 0
+  pub rest : AtRest c code b row
+
+-- What the blocks share: a row whose ground is low, marks, and the values of the reference's signals.
+pub record Workspace (c : Counts) (row ack values : List ℕ) : Type 0 where
+  pub row-long : length row ≡ rowSize
+  pub ack-long : length ack ≡ rowSize
+  pub values-long : length values ≡ referenceLimits .inputs + referenceLimits .gates
+  pub ground : getD row (netCount c) 0 ≡ 0
+
 -- what is said of each net that is marked in a word of a block
 abbrev pub MarkedWith : (ℕ → ℕ → Type 0) → Counts → List ℕ → Type 0
 MarkedWith Holds c ack = (j p : ℕ) → j < 64 → p < netCount c → rowIn j ack p ≡ true → Holds j p
 
--- it is acknowledged there: in the rise
-abbrev pub Marked : Counts → List ℕ → ℕ → List ℕ → Type 0
-Marked c code b = MarkedWith (λ j p. Acknowledged (netIn c code) (restIn c code b j) p) c
+-- acknowledged in the rise, or on the way back to NULL
+abbrev pub AcknowledgedIn : Bool → Net → Row → ℕ → Type 0
+AcknowledgedIn false = Acknowledged
+AcknowledgedIn true = Fall-acknowledged
 
--- and on the way back to NULL
-abbrev pub FallMarked : Counts → List ℕ → ℕ → List ℕ → Type 0
-FallMarked c code b = MarkedWith (λ j p. Fall-acknowledged (netIn c code) (restIn c code b j) p) c
+-- a net that is marked in a word of block b is acknowledged there
+abbrev pub MarkedIn : Bool → Counts → List ℕ → ℕ → List ℕ → Type 0
+MarkedIn falls c code b = MarkedWith (λ j p. AcknowledgedIn falls (netIn c code) (restIn c code b j) p) c
+
+abbrev pub Marked : Counts → List ℕ → ℕ → List ℕ → Type 0
+Marked = MarkedIn false
 
 -- ---- one gate
 
@@ -64,11 +85,36 @@ abbrev pub PinsMarked : List ℕ → ℕ → CellLanes → List ℕ → List ℕ
 PinsMarked code k given ack ack′ =
     (j p : ℕ) → rowIn j ack′ p ≡ true → (rowIn j ack p ≡ true) ⊎ ((t : ℕ) × (t < 4) × (p ≡ pinIn code k t) × (lane j (needOf given t) ≡ true))
 
--- in a block that is at rest, where words are given for a pin of gate k its net is acknowledged on the way back
-abbrev pub FallGiven : Counts → List ℕ → ℕ → List ℕ → CellLanes → Type 0
-FallGiven c code k row given =
-    (b : ℕ) → AtRest c code b row → (j t : ℕ) → j < 64 → t < 4 → pinIn code k t < netCount c → lane j (needOf given t) ≡ true
-    → Fall-acknowledged (netIn c code) (restIn c code b j) (pinIn code k t)
+-- in a block that is at rest, where words are given for a pin of gate k its net is acknowledged
+abbrev pub Given : Bool → Counts → List ℕ → ℕ → List ℕ → CellLanes → Type 0
+Given falls c code k row given =
+    (b : ℕ) → Resting c code b row → (j t : ℕ) → j < 64 → t < 4 → pinIn code k t < netCount c → lane j (needOf given t) ≡ true
+    → AcknowledgedIn falls (netIn c code) (restIn c code b j) (pinIn code k t)
+
+-- where words are given for a pin of gate k it is high, and it alone sets the gate's cell
+abbrev pub Lone : List ℕ → ℕ → List ℕ → CellLanes → Type 0
+Lone code k row given =
+    (j t : ℕ) → t < 4 → lane j (needOf given t) ≡ true → (rowIn j row (pinIn code k t) ≡ true) × (holds (setExpression (cellIn code k)) (only t) ≡ true)
+
+-- whether a pin is kept: the pins at a net alone, or all others
+abbrev pub keeps : Bool → ℕ → ℕ → Bool
+keeps true net pin = eqb pin net
+keeps false net pin = not (eqb pin net)
+
+abbrev pub keptLanes : List ℕ → Bool → ℕ → ℕ → ℕ
+keptLanes row alone net pin = cond (keeps alone net pin) (getD row pin 0) 0
+
+-- where gate k is set by the pins that are kept
+abbrev pub setWhere : List ℕ → ℕ → List ℕ → Bool → ℕ → ℕ
+setWhere code k row alone net =
+    cellLanes (cellIn code k) (keptLanes row alone net (pinIn code k 0)) (keptLanes row alone net (pinIn code k 1)) (keptLanes row alone net (pinIn code k 2))
+    (keptLanes row alone net (pinIn code k 3)) .set
+
+-- the same for the net at each pin
+abbrev pub eachWhere : List ℕ → ℕ → List ℕ → Bool → CellLanes
+eachWhere code k row alone =
+    needing 0 (setWhere code k row alone (pinIn code k 0)) (setWhere code k row alone (pinIn code k 1)) (setWhere code k row alone (pinIn code k 2))
+    (setWhere code k row alone (pinIn code k 3))
 
 -- ---- all nets
 

@@ -18,20 +18,19 @@ ghost use Rattle.circuit.specs.Order.{InOrder};
 ghost use Rattle.circuit.specs.Reference.{signalIn, referenceIn};
 ghost use Rattle.words.specs.Loaded.{BothLoaded};
 ghost use Rattle.lanes.specs.Lane.{lane, rowIn};
-ghost use Rattle.looks.specs.Block.{netIn, Room, Spelled, SettledTo, AtRest, Marked, FallMarked, gateLanes, PinsMarked, FallGiven, OutputRail, AllMarked, NoneElse};
-ghost use Rattle.looks.specs.Looks.{BlockClean, Unnamed, AllClean, maskFor};
+ghost use Rattle.looks.specs.Block.{netIn, Room, Spelled, SettledTo, Resting, Workspace, MarkedIn, Marked, gateLanes, PinsMarked, Given, Lone, keptLanes, setWhere, eachWhere, OutputRail, AllMarked, NoneElse};
+ghost use Rattle.looks.specs.Looks.{RiseClean, Unnamed, AllClean, maskFor};
 
-// The words of a block in which something may be wrong: 13, then 14 and 15, then 20 and 21.
-pub struct Look {
+// The words of a block in which something may be wrong: for 13, and for 14 and 15.
+pub struct Rise {
     pub wrong: u64,
-    pub rise: u64,
-    pub fall: u64,
+    pub all: u64,
 }
 
 // As many blocks as the words of the most inputs make.
 pub const BLOCKS: usize = netlist::WORDS / 64;
 
-// The same of all words of the files.
+// The words of the files in which something may be wrong: for 13, for 14 and 15, and for 20 and 21.
 pub struct Masks {
     pub wrong: [u64; BLOCKS],
     pub rise: [u64; BLOCKS],
@@ -112,6 +111,19 @@ fn spell_rails(counts: Counts, b: usize, row: &mut [u64])
 
 // ---- what is acknowledged
 
+// No net is marked.
+fn clear(counts: Counts, ack: &mut [u64])
+    requires { ⌜ Room counts (now ack) ⌝ }
+    ensures { λ r. ⌜ (length (now (ack .exit)) ≡ length (now (ack .entry))) × ((p : ℕ) → p < netCount counts → getD (now (ack .exit)) p 0 ≡ 0) ⌝ }
+{
+    let count = 2 * counts.inputs + counts.gates;
+    let mut p: usize = 0;
+    while p < count {
+        ack[p] = 0;
+        p += 1;
+    }
+}
+
 // The rails of the outputs are marked in all words.
 fn mark_outputs(code: &[u16], counts: Counts, ack: &mut [u64])
     requires { ⌜ StageLoaded counts (now code) × Room counts (now ack) ⌝ }
@@ -180,40 +192,57 @@ fn wrong_words(
     words
 }
 
-// ---- 14 and 15
+// ---- net by net
 
-// The stage settles in a block whose rails are spelled; and the words in which some high net is not acknowledged.
-fn rise_words(code: &[u16], counts: Counts, row: &mut [u64]) -> u64
-    requires { ⌜ StageLoaded counts (now code) × InOrder counts (now code) × Room counts (now row) ⌝ }
-    ensures long { λ r. ⌜ length (now (row .exit)) ≡ length (now (row .entry)) ⌝ }
-    ensures words { λ r. ⌜ ((b : ℕ) → Spelled counts (now (code .entry)) b (now (row .entry)) → AtRest counts (now (code .entry)) b (now (row .exit))
-        × NoneElse (Acknowledged (netIn counts (now (code .entry)))) counts (now (code .entry)) b r) ⌝ }
+// What stands at a pin where it is kept: the pins at net `net` alone are, or all others.
+fn kept_lanes(row: &[u64], alone: bool, net: u16, pin: u16) -> u64
+    requires { ⌜ pin < length (now row) ⌝ }
+    ensures { λ r. ⌜ r ≡ keptLanes (now (row .entry)) alone net pin ⌝ }
 {
-    let mut ack = [0u64; circuit::ROW];
-    mark_outputs(code, counts, &mut ack);
-    settle_block(code, counts, row, &mut ack);
-    unmarked(counts, row, &ack)
+    if alone {
+        if pin == net {
+            return lanes::lanes_at(row, pin);
+        }
+        return 0;
+    }
+    if pin == net {
+        return 0;
+    }
+    lanes::lanes_at(row, pin)
 }
 
-// ---- 20 and 21
-
-// For each pin of gate k the words in which it may not fall while that pin's net alone is high: with hold those in which it is high, relaxed
-// those in which that pin alone sets it.
-fn fall_lanes(code: &[u16], counts: Counts, k: usize, row: &[u64]) -> CellLanes
-    requires { ⌜ StageLoaded counts (now code) × InOrder counts (now code) × (k < counts .gates) × Room counts (now row) ⌝ }
-    ensures { λ r. ⌜ FallGiven counts (now (code .entry)) k (now (row .entry)) r ⌝ }
+// The words in which gate k is set by the pins that are kept.
+fn set_where(code: &[u16], counts: Counts, k: usize, row: &[u64], alone: bool, net: u16) -> u64
+    requires { ⌜ StageLoaded counts (now code) × (k < counts .gates) × Room counts (now row) ⌝ }
+    ensures { λ r. ⌜ r ≡ setWhere (now (code .entry)) k (now (row .entry)) alone net ⌝ }
 {
     let at = 8 * k;
-    if code[at + 7] == 1 {
-        let high = row[2 * counts.inputs + k];
-        return CellLanes {
-            set: high,
-            a: high,
-            b: high,
-            c: high,
-            d: high,
-        };
-    }
+    let a = kept_lanes(row, alone, net, code[at + 1]);
+    let b = kept_lanes(row, alone, net, code[at + 2]);
+    let c = kept_lanes(row, alone, net, code[at + 3]);
+    let d = kept_lanes(row, alone, net, code[at + 4]);
+    lanes::cell_lanes(code[at], a, b, c, d).set
+}
+
+// For each pin of gate k the words in which the gate is set by the pins that are kept for its net.
+fn each_where(code: &[u16], counts: Counts, k: usize, row: &[u64], alone: bool) -> CellLanes
+    requires { ⌜ StageLoaded counts (now code) × (k < counts .gates) × Room counts (now row) ⌝ }
+    ensures { λ r. ⌜ r ≡ eachWhere (now (code .entry)) k (now (row .entry)) alone ⌝ }
+{
+    let at = 8 * k;
+    let a = set_where(code, counts, k, row, alone, code[at + 1]);
+    let b = set_where(code, counts, k, row, alone, code[at + 2]);
+    let c = set_where(code, counts, k, row, alone, code[at + 3]);
+    let d = set_where(code, counts, k, row, alone, code[at + 4]);
+    CellLanes { set: 0, a, b, c, d }
+}
+
+// For each pin of gate k the words in which it is high, if it alone sets the gate's cell.
+fn lone_gate(code: &[u16], counts: Counts, k: usize, row: &[u64]) -> CellLanes
+    requires { ⌜ StageLoaded counts (now code) × (k < counts .gates) × Room counts (now row) ⌝ }
+    ensures { λ r. ⌜ Lone (now (code .entry)) k (now (row .entry)) r ⌝ }
+{
+    let at = 8 * k;
     let a = lanes::lanes_at(row, code[at + 1]);
     let b = lanes::lanes_at(row, code[at + 2]);
     let c = lanes::lanes_at(row, code[at + 3]);
@@ -221,63 +250,148 @@ fn fall_lanes(code: &[u16], counts: Counts, k: usize, row: &[u64]) -> CellLanes
     lanes::lone_lanes(code[at], a, b, c, d)
 }
 
-// Each gate marks the nets for whose fall it waits.
-fn mark_falls(code: &[u16], counts: Counts, row: &[u64], ack: &mut [u64])
+// For each pin of gate k words in which its net is acknowledged by the gate. In the rise: the gate is high, and would not be set with that net low.
+// On the way back: it may not fall while that net alone is high, which with hold is where it is high, and relaxed where that net alone sets it; if
+// this is not asked by net, where that pin alone does.
+fn given_lanes(
+    falls: bool,
+    by_net: bool,
+    code: &[u16],
+    counts: Counts,
+    k: usize,
+    row: &[u64],
+) -> CellLanes
+    requires { ⌜ StageLoaded counts (now code) × InOrder counts (now code) × (k < counts .gates) × Room counts (now row) ⌝ }
+    ensures { λ r. ⌜ Given falls counts (now (code .entry)) k (now (row .entry)) r ⌝ }
+{
+    let high = row[2 * counts.inputs + k];
+    if falls {
+        if code[8 * k + 7] == 1 {
+            return CellLanes {
+                set: high,
+                a: high,
+                b: high,
+                c: high,
+                d: high,
+            };
+        }
+        if by_net {
+            return each_where(code, counts, k, row, true);
+        }
+        return lone_gate(code, counts, k, row);
+    }
+    let low = each_where(code, counts, k, row, false);
+    CellLanes {
+        set: high,
+        a: high ^ low.a,
+        b: high ^ low.b,
+        c: high ^ low.c,
+        d: high ^ low.d,
+    }
+}
+
+// Each gate marks nets that it acknowledges.
+fn mark_gates(falls: bool, by_net: bool, code: &[u16], counts: Counts, row: &[u64], ack: &mut [u64])
     requires { ⌜ StageLoaded counts (now code) × InOrder counts (now code) × Room counts (now row) × Room counts (now ack) ⌝ }
     ensures long { λ r. ⌜ length (now (ack .exit)) ≡ length (now (ack .entry)) ⌝ }
-    ensures marked { λ r. ⌜ ((b : ℕ) → AtRest counts (now (code .entry)) b (now (row .entry)) → FallMarked counts (now (code .entry)) b (now (ack .entry))
-        → FallMarked counts (now (code .entry)) b (now (ack .exit))) ⌝ }
+    ensures marked { λ r. ⌜ ((b : ℕ) → Resting counts (now (code .entry)) b (now (row .entry)) → MarkedIn falls counts (now (code .entry)) b (now (ack .entry))
+        → MarkedIn falls counts (now (code .entry)) b (now (ack .exit))) ⌝ }
 {
     let count = counts.gates;
     let mut k: usize = 0;
     while k < count {
-        mark_pins(code, counts, k, fall_lanes(code, counts, k, row), ack);
+        mark_pins(
+            code,
+            counts,
+            k,
+            given_lanes(falls, by_net, code, counts, k, row),
+            ack,
+        );
         k += 1;
     }
 }
 
-// The words in which some net that is high at the rest is not acknowledged on the way back.
-fn fall_words(code: &[u16], counts: Counts, row: &[u64]) -> u64
-    requires { ⌜ StageLoaded counts (now code) × InOrder counts (now code) × Room counts (now row) ⌝ }
-    ensures { λ r. ⌜ ((b : ℕ) → AtRest counts (now (code .entry)) b (now (row .entry))
+// ---- 14 and 15
+
+// The stage settles in a block whose rails are spelled; and the words in which some high net is not acknowledged. The marks are made anew. Where
+// they leave some words the gates are asked net by net: a net at several pins may be needed where none of these is.
+fn rise_words(code: &[u16], counts: Counts, row: &mut [u64], ack: &mut [u64]) -> u64
+    requires { ⌜ StageLoaded counts (now code) × InOrder counts (now code) × Room counts (now row) × Room counts (now ack) ⌝ }
+    ensures long { λ r. ⌜ (length (now (row .exit)) ≡ length (now (row .entry))) × (length (now (ack .exit)) ≡ length (now (ack .entry))) ⌝ }
+    ensures words { λ r. ⌜ ((b : ℕ) → Spelled counts (now (code .entry)) b (now (row .entry)) → Resting counts (now (code .entry)) b (now (row .exit))
+        × NoneElse (Acknowledged (netIn counts (now (code .entry)))) counts (now (code .entry)) b r) ⌝ }
+{
+    clear(counts, ack);
+    mark_outputs(code, counts, ack);
+    settle_block(code, counts, row, ack);
+    let words = unmarked(counts, row, ack);
+    if words == 0 {
+        return 0;
+    }
+    mark_gates(false, true, code, counts, row, ack);
+    unmarked(counts, row, ack)
+}
+
+// ---- 20 and 21
+
+// The words in which some net that is high at the rest is not acknowledged on the way back. The marks are made anew, and where they leave some words
+// by net.
+fn fall_words(code: &[u16], counts: Counts, row: &[u64], ack: &mut [u64]) -> u64
+    requires { ⌜ StageLoaded counts (now code) × InOrder counts (now code) × Room counts (now row) × Room counts (now ack) ⌝ }
+    ensures long { λ r. ⌜ length (now (ack .exit)) ≡ length (now (ack .entry)) ⌝ }
+    ensures words { λ r. ⌜ ((b : ℕ) → Resting counts (now (code .entry)) b (now (row .entry))
         → NoneElse (Fall-acknowledged (netIn counts (now (code .entry)))) counts (now (code .entry)) b r) ⌝ }
 {
-    let mut ack = [0u64; circuit::ROW];
-    mark_outputs(code, counts, &mut ack);
-    mark_falls(code, counts, row, &mut ack);
-    unmarked(counts, row, &ack)
+    clear(counts, ack);
+    mark_outputs(code, counts, ack);
+    mark_gates(true, false, code, counts, row, ack);
+    let words = unmarked(counts, row, ack);
+    if words == 0 {
+        return 0;
+    }
+    mark_gates(true, true, code, counts, row, ack);
+    unmarked(counts, row, ack)
 }
 
 // ---- all of them
 
-// The words of block b that are worth a look. Where the stage is not asked for its fall, all are for 20 and 21.
-fn look_block(
+// The words of block b that are worth a look for 13, 14 and 15; the stage's row is left at rest in them.
+fn rise_block(
     code: &[u16],
     counts: Counts,
     reference: &[u16],
     sizes: Counts,
     b: usize,
-    falls: bool,
-) -> Look
-    requires { ⌜ BothLoaded counts (now code) sizes (now reference) ⌝ }
-    ensures { λ r. ⌜ BlockClean (stageIn counts (now (code .entry))) (referenceIn sizes (now (reference .entry))) b r ⌝ }
+    row: &mut [u64],
+    ack: &mut [u64],
+    values: &mut [u64],
+) -> Rise
+    requires { ⌜ BothLoaded counts (now code) sizes (now reference) × Workspace counts (now row) (now ack) (now values) ⌝ }
+    ensures space { λ r. ⌜ Workspace counts (now (row .exit)) (now (ack .exit)) (now (values .exit)) ⌝ }
+    ensures rest { λ r. ⌜ Resting counts (now (code .entry)) b (now (row .exit)) ⌝ }
+    ensures clean { λ r. ⌜ RiseClean (stageIn counts (now (code .entry))) (referenceIn sizes (now (reference .entry))) b r ⌝ }
 {
-    let mut row = [0u64; circuit::ROW];
-    spell_rails(counts, b, &mut row);
-    let loose = rise_words(code, counts, &mut row);
-    let mut values = [0u64; words::SIGNALS];
-    lanes::signal_lanes(reference, sizes, b, &mut values);
-    let wrong = wrong_words(code, counts, &row, reference, sizes, &values);
-    let rise = wrong | loose;
-    if falls {
-        let fall = fall_words(code, counts, &row);
-        return Look { wrong, rise, fall };
-    }
-    Look {
+    spell_rails(counts, b, row);
+    let loose = rise_words(code, counts, row, ack);
+    lanes::signal_lanes(reference, sizes, b, values);
+    let wrong = wrong_words(code, counts, row, reference, sizes, values);
+    Rise {
         wrong,
-        rise,
-        fall: lanes::ALL,
+        all: wrong | loose,
     }
+}
+
+// The words of a block at rest that are worth a look for 20 and 21: all of them where it is not asked which.
+fn fall_block(asked: bool, code: &[u16], counts: Counts, row: &[u64], ack: &mut [u64]) -> u64
+    requires { ⌜ StageLoaded counts (now code) × InOrder counts (now code) × Room counts (now row) × Room counts (now ack) ⌝ }
+    ensures long { λ r. ⌜ length (now (ack .exit)) ≡ length (now (ack .entry)) ⌝ }
+    ensures words { λ r. ⌜ ((b : ℕ) → Resting counts (now (code .entry)) b (now (row .entry))
+        → NoneElse (Fall-acknowledged (netIn counts (now (code .entry)))) counts (now (code .entry)) b r) ⌝ }
+{
+    if asked {
+        return fall_words(code, counts, row, ack);
+    }
+    lanes::ALL
 }
 
 // Whether some gate is relaxed, so that 20 and 21 may find something.
@@ -307,11 +421,15 @@ fn block_count(inputs: usize) -> usize
     1 << (inputs - 6)
 }
 
-// The words of a stage that are worth a look, by the reference; all words past those that its inputs have are.
+// The words of a stage that are worth a look, by the reference. All words past those that its inputs have are; and for 20 and 21 all are where
+// every gate has hold.
 pub fn looks(code: &[u16], counts: Counts, reference: &[u16], sizes: Counts) -> Masks
     requires { ⌜ BothLoaded counts (now code) sizes (now reference) ⌝ }
     ensures { λ r. ⌜ AllClean (stageIn counts (now (code .entry))) (referenceIn sizes (now (reference .entry))) r ⌝ }
 {
+    let mut row = [0u64; circuit::ROW];
+    let mut ack = [0u64; circuit::ROW];
+    let mut values = [0u64; words::SIGNALS];
     let mut wrong = [lanes::ALL; BLOCKS];
     let mut rise = [lanes::ALL; BLOCKS];
     let mut fall = [lanes::ALL; BLOCKS];
@@ -319,10 +437,19 @@ pub fn looks(code: &[u16], counts: Counts, reference: &[u16], sizes: Counts) -> 
     let count = block_count(counts.inputs);
     let mut b: usize = 0;
     while b < count {
-        let look = look_block(code, counts, reference, sizes, b, falls);
-        wrong[b] = look.wrong;
-        rise[b] = look.rise;
-        fall[b] = look.fall;
+        let found = rise_block(
+            code,
+            counts,
+            reference,
+            sizes,
+            b,
+            &mut row,
+            &mut ack,
+            &mut values,
+        );
+        wrong[b] = found.wrong;
+        rise[b] = found.all;
+        fall[b] = fall_block(falls, code, counts, &row, &mut ack);
         b += 1;
     }
     Masks { wrong, rise, fall }

@@ -34,7 +34,8 @@ use Rattle.circuit.proofs.Tabulate.{length-tabulate, getD-tabulate}
 use Rattle.words.specs.declared.Sweep.{Sweep}
 use Rattle.words.specs.declared.Sweep.the-variants.{Wrong, Missing, Unobserved, Remaining, StillHigh}
 use Rattle.words.specs.Finds.{finds}
-use Rattle.looks.specs.Looks.{Unnamed, Clean}
+use Rattle.looks.specs.declared.Masks.{Masks}
+use Rattle.looks.specs.Looks.{Unnamed, Clean, AllClean}
 use Rattle.sweeps.specs.Sweeps.{numberOf, swept}
 
 -- ---- name by name
@@ -148,3 +149,17 @@ unfolding stageGates
 hold-all c code all k h =
     let b : k < c .gates = omega (arith, length-tabulate (gateIn code) (c .gates)) in
     ap (λ (g : Gate). g .hold) (getD-tabulate (gateIn code) (c .gates) k noGate b) ∙ eq-eqb (slot code k 7) 1 (all k b)
+
+-- ---- no word is named
+
+-- the masks of the rise name nothing, and then those of the fall
+pub rises-pass : (order : WordOrder) (s : Stage) (r : Reference) (m : Masks) → AllClean s r m → ((w : ℕ) → w < 2 ^ s .inputs → Unnamed (m .wrong) w)
+    → ((w : ℕ) → w < 2 ^ s .inputs → Unnamed (m .rise) w) → Passed ≡ firstFault (riseSweeps order s r)
+rises-pass order s r m clean wrong rise =
+    first-unobserved order s r (none-worth Wrong order s r (m .wrong) (clean Wrong) wrong) (none-worth Missing order s r (m .rise) (clean Missing) rise) Passed
+    (none-worth Unobserved order s r (m .rise) (clean Unobserved) rise)
+
+pub falls-pass : (order : WordOrder) (s : Stage) (r : Reference) (m : Masks) → AllClean s r m → ((w : ℕ) → w < 2 ^ s .inputs → Unnamed (m .fall) w)
+    → Passed ≡ firstFault (fallSweeps order s r)
+falls-pass order s r m clean fall =
+    first-still-high order s r (none-worth Remaining order s r (m .fall) (clean Remaining) fall) Passed (none-worth StillHigh order s r (m .fall) (clean StillHigh) fall)

@@ -8,10 +8,12 @@ use verdict::WordOrder;
 use words::Sweep;
 ghost use mathlib.Core.Path.{_≡_};
 ghost use mathlib.Core.Bool.{true};
+ghost use Rattle.netlist.specs.Content.{Reference};
 ghost use Rattle.verdict.specs.Words.{names};
 ghost use Rattle.verdict.specs.Checks as checks;
 ghost use Rattle.verdict.specs.Demands.{WithHold};
 ghost use Rattle.circuit.specs.Stage.{stageIn, StageLoaded};
+ghost use Rattle.circuit.specs.Order.{InOrder};
 ghost use Rattle.circuit.specs.Reference.{referenceIn};
 ghost use Rattle.words.specs.Loaded.{BothLoaded};
 ghost use Rattle.words.specs.Finds.{finds};
@@ -234,8 +236,31 @@ fn sweep_named(
     sweep_falls(order, list, masks, code, counts, reference, sizes)
 }
 
-// All checks that sweep the words of a stage: the words that are worth a look are found first, 64 at a time; their names are listed once, and swept in
-// that order.
+// Whether the masks name no word in which a check may find something: where every gate has hold those of the fall are not asked for.
+fn nothing_named(masks: Masks, code: &[u16], counts: Counts) -> bool
+    requires { ⌜ StageLoaded counts (now code) × InOrder counts (now code) ⌝ }
+    ensures { λ r. ⌜ (r ≡ true → (order : WordOrder) (reference : Reference) → AllClean (stageIn counts (now (code .entry))) reference masks
+        → Finding.Passed ≡ checks.firstFault (checks.sweeps order (stageIn counts (now (code .entry))) reference)) ⌝ }
+{
+    let inputs = counts.inputs;
+    let wrong = masks.wrong;
+    if looks::none_named(&wrong, inputs) {
+        let rise = masks.rise;
+        if looks::none_named(&rise, inputs) {
+            if all_hold(code, counts) {
+                return true;
+            }
+            let fall = masks.fall;
+            if looks::none_named(&fall, inputs) {
+                return true;
+            }
+        }
+    }
+    false
+}
+
+// All checks that sweep the words of a stage: the words that are worth a look are found first, 64 at a time. Where there are any the names of all words
+// are listed once, and swept in that order.
 pub fn sweep_all(
     order: WordOrder,
     code: &[u16],
@@ -247,6 +272,9 @@ pub fn sweep_all(
     ensures { λ r. ⌜ r ≡ checks.firstFault (checks.sweeps order (stageIn counts (now (code .entry))) (referenceIn sizes (now (reference .entry)))) ⌝ }
 {
     let masks = looks::looks(code, counts, reference, sizes);
+    if nothing_named(masks, code, counts) {
+        return Finding::Passed;
+    }
     let mut list = [0u16; names::NAMES];
     let count = names::list_names(order, code, counts, &mut list);
     sweep_named(order, &list[..count], masks, code, counts, reference, sizes)
