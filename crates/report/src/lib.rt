@@ -1,21 +1,17 @@
 // The switching report: how many gates are high at rest, word by word, and in all words together.
-use netlist::Counts;
 use netlist::Outcome;
 use verdict::Verdict;
 use verdict::WordOrder;
 ghost use mathlib.Core.Path.{_≡_};
-ghost use Prim.Native.Nat.{ℕ, _+_, _≤_, _<_};
-ghost use lib.ListN.{length, getD, take, drop, replicate};
+ghost use Prim.Native.Nat.{ℕ, _^_, _≤_};
+ghost use lib.ListN.{length, replicate};
 ghost use Rattle.netlist.specs.declared.File.the-variants as file;
-ghost use Rattle.netlist.specs.Reading.{Places, readable, readFile, stageLimits};
+ghost use Rattle.netlist.specs.Reading.{Places, Rising, readable, readFile, stageLimits};
 ghost use Rattle.netlist.specs.Content.{stageOf};
 ghost use Rattle.verdict.specs.Levels.{sum};
-ghost use Rattle.verdict.specs.Words.{names};
-ghost use Rattle.circuit.specs.Stage.{stageIn, StageLoaded};
-ghost use Rattle.circuit.specs.Order.{InOrder};
 ghost use Rattle.report.specs.Report as spec;
 ghost use Rattle.report.specs.Activity.{ReportMeans};
-ghost use Rattle.report.specs.Lines.{LoopFreeFile};
+ghost use Rattle.report.specs.Lines.{linesBy, LoopFreeFile};
 
 // A line for each word of the most inputs.
 pub const LINES: usize = 1 << netlist::INPUTS;
@@ -32,50 +28,26 @@ pub struct Report {
     pub names: [u16; LINES],
 }
 
-// How many of so many levels, from a place of a row on, are high.
-fn count_high(row: &[u8], from: usize, count: usize) -> u16
-    requires { ⌜ (from + count ≤ length (now row)) × (count < 0x10000) × ((p : ℕ) → p < from + count → getD (now row) p 0 ≤ 1) ⌝ }
-    ensures { λ r. ⌜ r ≡ sum (take count (drop from (now (row .entry)))) ⌝ }
-{
-    let mut high: u16 = 0;
-    let mut i: usize = 0;
-    while i < count {
-        high += row[from + i] as u16;
-        i += 1;
-    }
-    high
-}
-
-// How many gates are high at the rest of word w.
-fn gates_high(code: &[u16], counts: Counts, w: usize) -> u16
-    requires { ⌜ StageLoaded counts (now code) × InOrder counts (now code) ⌝ }
-    ensures { λ r. ⌜ r ≡ spec.gatesHigh (stageIn counts (now (code .entry))) w ⌝ }
-{
-    let mut row = [0u8; circuit::ROW];
-    words::settle_word(code, counts, w, &mut row);
-    count_high(&row, 2 * counts.inputs, counts.gates)
-}
-
-// The lines of all words, whose names are listed, and the sum of the lines.
+// The lines of all words, whose names are listed, by how many gates are high in each word of the files; and the sum of the lines.
 fn fill_lines(
     order: WordOrder,
-    code: &[u16],
-    counts: Counts,
+    inputs: usize,
     list: &[u16],
+    high: &[u16],
     lines: &mut [u16],
 ) -> u64
-    requires { ⌜ StageLoaded counts (now code) × InOrder counts (now code) × (now list ≡ names order (stageIn counts (now code)))
+    requires { ⌜ (inputs ≤ stageLimits .inputs) × Rising (2 ^ inputs) 0 (now list) × (2 ^ inputs ≤ length (now high))
         × (length (now list) ≤ spec.mostLines) × (now lines ≡ replicate spec.mostLines 0) ⌝ }
-    ensures { λ r. ⌜ (r ≡ spec.total order (stageIn counts (now (code .entry))))
-        × (now (lines .exit) ≡ spec.padded (spec.lines order (stageIn counts (now (code .entry))))) ⌝ }
+    ensures { λ r. ⌜ (r ≡ sum (linesBy order inputs (now (high .entry)) (now (list .entry))))
+        × (now (lines .exit) ≡ spec.padded (linesBy order inputs (now (high .entry)) (now (list .entry)))) ⌝ }
 {
     let mut total: u64 = 0;
     let mut k: usize = 0;
     while k < list.len() {
-        let w = names::word_of(order, counts.inputs, list[k] as usize);
-        let high = gates_high(code, counts, w);
-        lines[k] = high;
-        total += high as u64;
+        let w = names::word_of(order, inputs, list[k] as usize);
+        let count = high[w];
+        lines[k] = count;
+        total += count as u64;
         k += 1;
     }
     total
@@ -89,11 +61,13 @@ fn report_stage(order: WordOrder, stage: &[u8], verdict: Verdict) -> Report
 {
     let mut lines = [0u16; LINES];
     let mut list = [0u16; LINES];
+    let mut high = [0u16; LINES];
     let mut code = [0u16; load::STAGE_CODE];
     if let Outcome::Readable(counts) = load::read_stage(stage, &mut code) {
         loops::order_gates(&mut code, counts);
         let count = names::list_names(order, &code, counts, &mut list);
-        let total = fill_lines(order, &code, counts, &list[..count], &mut lines);
+        counters::count_words(&code, counts, &mut high);
+        let total = fill_lines(order, counts.inputs, &list[..count], &high, &mut lines);
         return Report {
             verdict,
             words: count as u64,
