@@ -28,10 +28,11 @@ use Rattle.words.specs.Finds.{finds}
 use Rattle.words.specs.Loaded.{BothLoaded}
 use Rattle.lanes.specs.Lane.{levelIn, lane, rowIn, laneOf}
 use Rattle.lanes.proofs.Blocks.{level-at, all-at}
-use Rattle.looks.specs.Block.{restIn, netIn, AtRest, NoneElse}
+use Rattle.blocks.specs.Block.{restIn, netIn, AtRest}
+use Rattle.looks.specs.Marks.{NoneElse}
 use Rattle.looks.specs.Looks.{CleanIn, RiseClean}
-use Rattle.looks.proofs.Pins.{output-at, length-outputs}
-use Rattle.looks.proofs.Settling.{free}
+use Rattle.looks.proofs.Outputs.{output-at, length-outputs}
+use Rattle.blocks.proofs.Settling.{free}
 use Rattle.looks.proofs.Gathering.{neither}
 use Rattle.looks.proofs.OneWord.{reads-right, acknowledged-complete, acknowledged-observable, acknowledged-fall-complete, acknowledged-fall-observable}
 

@@ -3,7 +3,7 @@
 use Prim.Native.Nat.{ℕ, zero, suc, _+_, _*_, _≤_, _<_}
 use native.Mathlib.Omega.{arith}
 use native.Mathlib.Decide.{decLt}
-use mathlib.Core.Path.{_≡_, refl, sym, ap, _∙_}
+use mathlib.Core.Path.{_≡_, refl, sym, ap, ap₂, _∙_}
 use mathlib.Core.Bool.{Bool, true, false, cond, not, _&&_}
 use mathlib.Core.Logic.{_⊎_, inl, inr}
 use mathlib.Core.List.{List, [], _∷_, map}
@@ -31,10 +31,14 @@ use Rattle.lanes.specs.Lane.{lane, rowIn}
 use Rattle.lanes.specs.Cells.{needing, needOf, pinsIn}
 use Rattle.lanes.proofs.Lane.{lane-zero, unlike, lane-xor}
 use Rattle.lanes.proofs.Cells.{set-holds}
-use Rattle.looks.specs.Block.{restIn, netIn, Resting, AcknowledgedIn, MarkedIn, PinsMarked, Given, Lone, keeps, keptLanes, setWhere, eachWhere}
-use Rattle.looks.proofs.Pins.{pin-at, pin-past, pin-in, driver-at}
-use Rattle.looks.proofs.Marks.{marked-pins}
-use Rattle.looks.proofs.Settling.{gate-net, rest-gate, rest-past}
+use Rattle.blocks.specs.Block.{restIn, netIn, Resting, AcknowledgedIn, MarkedIn, PinsMarked}
+use Rattle.looks.specs.Marks.{Given, Lone, keeps, keptLanes, setWhere, eachWhere}
+use Rattle.blocks.proofs.Pins.{pin-at, pin-past, pin-in, driver-at}
+use Rattle.blocks.proofs.Marks.{marked-pins}
+use Rattle.blocks.proofs.Settling.{gate-net, rest-gate, rest-past}
+
+pub pins-alike : (a b c d a′ b′ c′ d′ : ℕ) → a ≡ a′ → b ≡ b′ → c ≡ c′ → d ≡ d′ → needing 0 a b c d ≡ needing 0 a′ b′ c′ d′
+pins-alike a b c d a′ b′ c′ d′ p q s t = ap₂ (λ (x y : ℕ). needing 0 x y c d) p q ∙ ap₂ (λ (x y : ℕ). needing 0 a′ b′ x y) s t
 
 -- some net of a list is high
 not-all-low : (r : Row) (l : List ℕ) (p : ℕ) → In p l → r p ≡ true → allLow r l ≡ false

@@ -1,8 +1,4 @@
-pub mod Pins
-pub mod Marks
-pub mod Settling
-pub mod Turns
-pub mod Rails
+pub mod Outputs
 pub mod Gathering
 pub mod Tests
 pub mod OneWord

@@ -18,7 +18,8 @@ ghost use Rattle.circuit.specs.Order.{InOrder};
 ghost use Rattle.circuit.specs.Reference.{signalIn, referenceIn};
 ghost use Rattle.words.specs.Loaded.{BothLoaded};
 ghost use Rattle.lanes.specs.Lane.{lane, rowIn};
-ghost use Rattle.looks.specs.Block.{netIn, Room, Spelled, SettledTo, Resting, Workspace, MarkedIn, Marked, gateLanes, PinsMarked, Given, Lone, keptLanes, setWhere, eachWhere, OutputRail, AllMarked, NoneElse};
+ghost use Rattle.blocks.specs.Block.{netIn, Room, Resting, MarkedIn};
+ghost use Rattle.looks.specs.Marks.{Workspace, Given, Lone, keptLanes, setWhere, eachWhere, OutputRail, AllMarked, NoneElse};
 ghost use Rattle.looks.specs.Looks.{RiseClean, Unnamed, AllClean, maskFor};
 
 // The words of a block in which something may be wrong: for 13, and for 14 and 15.
@@ -27,86 +28,11 @@ pub struct Rise {
     pub all: u64,
 }
 
-// As many blocks as the words of the most inputs make.
-pub const BLOCKS: usize = netlist::WORDS / 64;
-
 // The words of the files in which something may be wrong: for 13, for 14 and 15, and for 20 and 21.
 pub struct Masks {
-    pub wrong: [u64; BLOCKS],
-    pub rise: [u64; BLOCKS],
-    pub fall: [u64; BLOCKS],
-}
-
-// ---- settling a block
-
-// Net `net` is marked in some words.
-fn mark(ack: &mut [u64], net: u16, words: u64)
-    requires { ⌜ net < length (now ack) ⌝ }
-    ensures { λ r. ⌜ (length (now (ack .exit)) ≡ length (now (ack .entry)))
-        × ((j p : ℕ) → rowIn j (now (ack .exit)) p ≡ true → (rowIn j (now (ack .entry)) p ≡ true) ⊎ ((p ≡ net) × (lane j words ≡ true))) ⌝ }
-{
-    let p = net as usize;
-    let old = ack[p];
-    ack[p] = old | words;
-}
-
-// The nets at the pins of gate k are marked, each in the words that are given for its pin.
-fn mark_pins(code: &[u16], counts: Counts, k: usize, given: CellLanes, ack: &mut [u64])
-    requires { ⌜ StageLoaded counts (now code) × (k < counts .gates) × Room counts (now ack) ⌝ }
-    ensures { λ r. ⌜ (length (now (ack .exit)) ≡ length (now (ack .entry))) × PinsMarked (now (code .entry)) k given (now (ack .entry)) (now (ack .exit)) ⌝ }
-{
-    let at = 8 * k;
-    mark(ack, code[at + 1], given.a);
-    mark(ack, code[at + 2], given.b);
-    mark(ack, code[at + 3], given.c);
-    mark(ack, code[at + 4], given.d);
-}
-
-// What gate k's cell gives in the words of a block, by the levels at its pins.
-fn gate_lanes(code: &[u16], counts: Counts, k: usize, row: &[u64]) -> CellLanes
-    requires { ⌜ StageLoaded counts (now code) × (k < counts .gates) × Room counts (now row) ⌝ }
-    ensures { λ r. ⌜ r ≡ gateLanes (now (code .entry)) k (now (row .entry)) ⌝ }
-{
-    let at = 8 * k;
-    let a = lanes::lanes_at(row, code[at + 1]);
-    let b = lanes::lanes_at(row, code[at + 2]);
-    let c = lanes::lanes_at(row, code[at + 3]);
-    let d = lanes::lanes_at(row, code[at + 4]);
-    lanes::cell_lanes(code[at], a, b, c, d)
-}
-
-// The gates take their levels in the order, and mark the nets at their pins in the words in which they would not be set without them.
-fn settle_block(code: &[u16], counts: Counts, row: &mut [u64], ack: &mut [u64])
-    requires { ⌜ StageLoaded counts (now code) × InOrder counts (now code) × Room counts (now row) × Room counts (now ack) ⌝ }
-    ensures long { λ r. ⌜ (length (now (row .exit)) ≡ length (now (row .entry))) × (length (now (ack .exit)) ≡ length (now (ack .entry))) ⌝ }
-    ensures settled { λ r. ⌜ ((b : ℕ) → Spelled counts (now (code .entry)) b (now (row .entry)) → Marked counts (now (code .entry)) b (now (ack .entry))
-        → SettledTo counts (now (code .entry)) b (now (row .exit)) (counts .gates) × Marked counts (now (code .entry)) b (now (ack .exit))) ⌝ }
-{
-    let first = 2 * counts.inputs;
-    let count = counts.gates;
-    let mut i: usize = 0;
-    while i < count {
-        let k = code[8 * i + 5] as usize;
-        let given = gate_lanes(code, counts, k, row);
-        row[first + k] = given.set;
-        mark_pins(code, counts, k, given, ack);
-        i += 1;
-    }
-}
-
-// The rails of block b: rail 0 of an input is high for 0, rail 1 for 1.
-fn spell_rails(counts: Counts, b: usize, row: &mut [u64])
-    requires { ⌜ (counts .inputs ≤ stageLimits .inputs) × Room counts (now row) × (getD (now row) (netCount counts) 0 ≡ 0) ⌝ }
-    ensures long { λ r. ⌜ length (now (row .exit)) ≡ length (now (row .entry)) ⌝ }
-    ensures spelled { λ r. ⌜ ((code : List ℕ) → InOrder counts code → Spelled counts code b (now (row .exit))) ⌝ }
-{
-    let mut i: usize = 0;
-    while i < counts.inputs {
-        let level = lanes::input_lanes(i, b);
-        row[2 * i] = level ^ lanes::ALL;
-        row[2 * i + 1] = level;
-        i += 1;
-    }
+    pub wrong: [u64; blocks::BLOCKS],
+    pub rise: [u64; blocks::BLOCKS],
+    pub fall: [u64; blocks::BLOCKS],
 }
 
 // ---- what is acknowledged
@@ -133,8 +59,8 @@ fn mark_outputs(code: &[u16], counts: Counts, ack: &mut [u64])
     let mut j: usize = 0;
     while j < counts.outputs {
         let at = 8 * counts.gates + 2 * j;
-        mark(ack, code[at], lanes::ALL);
-        mark(ack, code[at + 1], lanes::ALL);
+        blocks::mark(ack, code[at], lanes::ALL);
+        blocks::mark(ack, code[at + 1], lanes::ALL);
         j += 1;
     }
 }
@@ -300,7 +226,7 @@ fn mark_gates(falls: bool, by_net: bool, code: &[u16], counts: Counts, row: &[u6
     let count = counts.gates;
     let mut k: usize = 0;
     while k < count {
-        mark_pins(
+        blocks::mark_pins(
             code,
             counts,
             k,
@@ -313,17 +239,17 @@ fn mark_gates(falls: bool, by_net: bool, code: &[u16], counts: Counts, row: &[u6
 
 // ---- 14 and 15
 
-// The stage settles in a block whose rails are spelled; and the words in which some high net is not acknowledged. The marks are made anew. Where
-// they leave some words the gates are asked net by net: a net at several pins may be needed where none of these is.
-fn rise_words(code: &[u16], counts: Counts, row: &mut [u64], ack: &mut [u64]) -> u64
-    requires { ⌜ StageLoaded counts (now code) × InOrder counts (now code) × Room counts (now row) × Room counts (now ack) ⌝ }
+// Block b settles; and its words in which some high net is not acknowledged. The marks are made anew. Where they leave some words the gates are
+// asked net by net: a net at several pins may be needed where none of these is.
+fn rise_words(code: &[u16], counts: Counts, b: usize, row: &mut [u64], ack: &mut [u64]) -> u64
+    requires { ⌜ StageLoaded counts (now code) × InOrder counts (now code) × Room counts (now row) × Room counts (now ack) × (getD (now row) (netCount counts) 0 ≡ 0) ⌝ }
     ensures long { λ r. ⌜ (length (now (row .exit)) ≡ length (now (row .entry))) × (length (now (ack .exit)) ≡ length (now (ack .entry))) ⌝ }
-    ensures words { λ r. ⌜ ((b : ℕ) → Spelled counts (now (code .entry)) b (now (row .entry)) → Resting counts (now (code .entry)) b (now (row .exit))
-        × NoneElse (Acknowledged (netIn counts (now (code .entry)))) counts (now (code .entry)) b r) ⌝ }
+    ensures rest { λ r. ⌜ Resting counts (now (code .entry)) b (now (row .exit)) ⌝ }
+    ensures words { λ r. ⌜ NoneElse (Acknowledged (netIn counts (now (code .entry)))) counts (now (code .entry)) b r ⌝ }
 {
     clear(counts, ack);
     mark_outputs(code, counts, ack);
-    settle_block(code, counts, row, ack);
+    blocks::settle(code, counts, b, row, ack);
     let words = unmarked(counts, row, ack);
     if words == 0 {
         return 0;
@@ -371,8 +297,7 @@ fn rise_block(
     ensures rest { λ r. ⌜ Resting counts (now (code .entry)) b (now (row .exit)) ⌝ }
     ensures clean { λ r. ⌜ RiseClean (stageIn counts (now (code .entry))) (referenceIn sizes (now (reference .entry))) b r ⌝ }
 {
-    spell_rails(counts, b, row);
-    let loose = rise_words(code, counts, row, ack);
+    let loose = rise_words(code, counts, b, row, ack);
     lanes::signal_lanes(reference, sizes, b, values);
     let wrong = wrong_words(code, counts, row, reference, sizes, values);
     Rise {
@@ -410,17 +335,6 @@ fn some_relaxed(code: &[u16], counts: Counts) -> bool
     false
 }
 
-// How many blocks the words of that many inputs make.
-fn block_count(inputs: usize) -> usize
-    requires { ⌜ inputs ≤ stageLimits .inputs ⌝ }
-    ensures { λ r. ⌜ (r ≤ 16) × (2 ^ inputs ≤ 64 * r) ⌝ }
-{
-    if inputs < 6 {
-        return 1;
-    }
-    1 << (inputs - 6)
-}
-
 // The words of a stage that are worth a look, by the reference. All words past those that its inputs have are; and for 20 and 21 all are where
 // every gate has hold.
 pub fn looks(code: &[u16], counts: Counts, reference: &[u16], sizes: Counts) -> Masks
@@ -430,11 +344,11 @@ pub fn looks(code: &[u16], counts: Counts, reference: &[u16], sizes: Counts) -> 
     let mut row = [0u64; circuit::ROW];
     let mut ack = [0u64; circuit::ROW];
     let mut values = [0u64; words::SIGNALS];
-    let mut wrong = [lanes::ALL; BLOCKS];
-    let mut rise = [lanes::ALL; BLOCKS];
-    let mut fall = [lanes::ALL; BLOCKS];
+    let mut wrong = [lanes::ALL; blocks::BLOCKS];
+    let mut rise = [lanes::ALL; blocks::BLOCKS];
+    let mut fall = [lanes::ALL; blocks::BLOCKS];
     let falls = some_relaxed(code, counts);
-    let count = block_count(counts.inputs);
+    let count = blocks::block_count(counts.inputs);
     let mut b: usize = 0;
     while b < count {
         let found = rise_block(
@@ -456,7 +370,7 @@ pub fn looks(code: &[u16], counts: Counts, reference: &[u16], sizes: Counts) -> 
 }
 
 // The mask of a check.
-pub fn mask_of(which: Sweep, masks: Masks) -> [u64; BLOCKS]
+pub fn mask_of(which: Sweep, masks: Masks) -> [u64; blocks::BLOCKS]
     ensures { λ r. ⌜ (r ≡ maskFor which masks) × (length r ≡ 16) ⌝ }
 {
     match which {
@@ -485,7 +399,7 @@ pub fn none_named(mask: &[u64], inputs: usize) -> bool
     requires { ⌜ inputs ≤ stageLimits .inputs ⌝ }
     ensures { λ r. ⌜ (r ≡ true → (w : ℕ) → w < 2 ^ inputs → Unnamed (now (mask .entry)) w) ⌝ }
 {
-    let count = block_count(inputs);
+    let count = blocks::block_count(inputs);
     if mask.len() < count {
         return false;
     }

@@ -1,6 +1,6 @@
 -- `looks::each_where` meets its contract. Assumes nothing.
 use borrow.Author.Needs.{needs}
-use Rattle.looks.proofs.Pins.{pins-alike}
+use Rattle.looks.proofs.ByNet.{pins-alike}
 use Rattle.looks.proofs.each_where.Statement.{statement}
 use Rattle.looks.proofs.each_where.Tie as tie
 

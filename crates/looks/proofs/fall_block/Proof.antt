@@ -3,7 +3,7 @@ use mathlib.Core.Path.{refl}
 use denote.Ref.{now}
 use borrow.Author.Needs.{needs}
 use Rattle.runs.specs.Acknowledged.{Fall-acknowledged}
-use Rattle.looks.specs.Block.{netIn}
+use Rattle.blocks.specs.Block.{netIn}
 use Rattle.looks.proofs.Blocks.{all-named}
 use Rattle.looks.proofs.fall_block.Statement.{statement}
 use Rattle.looks.proofs.fall_block.Tie as tie

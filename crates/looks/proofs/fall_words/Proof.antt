@@ -5,8 +5,9 @@ use denote.Ref.{now}
 use borrow.Author.Needs.{needs}
 use Rattle.runs.specs.Acknowledged.{Fall-acknowledged, fall-output}
 use Rattle.lanes.specs.Lane.{lane}
-use Rattle.looks.specs.Block.{restIn, netIn}
-use Rattle.looks.proofs.Resting.{none-else, outputs-marked}
+use Rattle.blocks.specs.Block.{restIn, netIn}
+use Rattle.looks.proofs.Outputs.{outputs-marked}
+use Rattle.looks.proofs.Resting.{none-else}
 use Rattle.looks.proofs.fall_words.Statement.{statement}
 use Rattle.looks.proofs.fall_words.Tie as tie
 

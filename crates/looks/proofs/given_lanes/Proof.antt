@@ -7,7 +7,7 @@ use lib.Bits.{bitXor}
 use denote.Ref.{now}
 use borrow.Author.Needs.{needs}
 use Rattle.lanes.specs.Cells.{needing}
-use Rattle.looks.specs.Block.{Given}
+use Rattle.looks.specs.Marks.{Given}
 use Rattle.looks.proofs.ByNet.{given-rise, given-hold, given-relaxed, given-lone}
 use Rattle.looks.proofs.given_lanes.Statement.{statement}
 use Rattle.looks.proofs.given_lanes.Tie as tie

@@ -7,7 +7,7 @@ use lib.ListN.{getD}
 use denote.Ref.{now}
 use borrow.Author.Tests.{eq-eqb, ne-eqb}
 use borrow.Author.Needs.{needs}
-use Rattle.looks.specs.Block.{keeps, keptLanes}
+use Rattle.looks.specs.Marks.{keeps, keptLanes}
 use Rattle.looks.proofs.kept_lanes.Statement.{statement}
 use Rattle.looks.proofs.kept_lanes.Tie as tie
 

@@ -2,7 +2,7 @@
 use native.Mathlib.Omega.{arith}
 use denote.Ref.{now}
 use borrow.Author.Needs.{needs}
-use Rattle.looks.proofs.Pins.{pin-there}
+use Rattle.blocks.proofs.Pins.{pin-there}
 use Rattle.looks.proofs.ByNet.{lone-at}
 use Rattle.looks.proofs.lone_gate.Statement.{statement}
 use Rattle.looks.proofs.lone_gate.Tie as tie

@@ -5,7 +5,7 @@ use mathlib.Core.Path.{_≡_, refl, sym, _∙_}
 use denote.Ref.{now}
 use Rattle.circuit.specs.Stage.{netCount, stageIn}
 use Rattle.circuit.specs.Reference.{referenceIn}
-use Rattle.looks.specs.Block.{Workspace}
+use Rattle.looks.specs.Marks.{Workspace}
 use Rattle.looks.specs.Looks.{AllClean}
 use Rattle.looks.proofs.Resting.{none-marked}
 use Rattle.looks.proofs.Blocks.{fall-complete, fall-observable}

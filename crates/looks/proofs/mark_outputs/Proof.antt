@@ -5,9 +5,9 @@ use mathlib.Core.Path.{_≡_, ap}
 use mathlib.Core.Bool.{true, false}
 use denote.Ref.{now}
 use Rattle.netlist.specs.Content.{Pair}
-use Rattle.looks.specs.Block.{netIn}
-use Rattle.looks.proofs.Pins.{output-at, length-outputs}
-use Rattle.looks.proofs.Marks.{OutputsTo, outputs-start, outputs-more}
+use Rattle.blocks.specs.Block.{netIn}
+use Rattle.looks.proofs.Outputs.{output-at, length-outputs}
+use Rattle.looks.proofs.Outputs.{OutputsTo, outputs-start, outputs-more}
 use Rattle.looks.proofs.mark_outputs.Statement.{statement}
 use Rattle.looks.proofs.mark_outputs.Tie as tie
 

@@ -4,7 +4,7 @@ use mathlib.Core.Path.{ap}
 use denote.Ref.{now}
 use borrow.Author.Needs.{needs}
 use Rattle.lanes.specs.declared.CellLanes.{CellLanes}
-use Rattle.looks.proofs.Pins.{pin-there, lanes-alike}
+use Rattle.blocks.proofs.Pins.{pin-there, lanes-alike}
 use Rattle.looks.proofs.set_where.Statement.{statement}
 use Rattle.looks.proofs.set_where.Tie as tie
 

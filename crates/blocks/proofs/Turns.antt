@@ -14,19 +14,25 @@ use Rattle.circuit.proofs.Settling.{order-gate}
 use Rattle.lanes.specs.declared.CellLanes.{CellLanes}
 use Rattle.lanes.specs.Lane.{lane}
 use Rattle.lanes.specs.Cells.{needOf}
-use Rattle.looks.specs.Block.{restIn, netIn, Room, Spelled, SettledTo, Marked, gateLanes, PinsMarked}
-use Rattle.looks.proofs.Marks.{marked-pins}
-use Rattle.looks.proofs.Settling.{pins-settled, settled-more, set-level, need-acknowledges}
+use Rattle.blocks.specs.Block.{restIn, netIn, Room, Spelled, SettledTo, Marked, gateLanes, PinsMarked}
+use Rattle.blocks.proofs.Marks.{marked-pins}
+use Rattle.blocks.proofs.Settling.{pins-settled, settled-more, set-level, need-acknowledges}
 
 -- the gates at the first i places have their levels, and their marks are there
 pub record BlockTo (c : Counts) (code row₀ ack₀ row ack : List ℕ) (i : ℕ) : Type 0 where
   pub row-long : length row ≡ length row₀
   pub ack-long : length ack ≡ length ack₀
-  pub each : (b : ℕ) → Spelled c code b row₀ → Marked c code b ack₀ → SettledTo c code b row i × Marked c code b ack
+  pub settled : (b : ℕ) → Spelled c code b row₀ → SettledTo c code b row i
+  pub marked : (b : ℕ) → Spelled c code b row₀ → Marked c code b ack₀ → Marked c code b ack
 
 module _ (c : Counts) (code row₀ ack₀ : List ℕ) where
   pub block-start : BlockTo c code row₀ ack₀ row₀ ack₀ 0
-  block-start = record { row-long = refl; ack-long = refl; each = λ b s m. (record { spelled = s; gates = λ j q d l. absurd (omega arith) }, m) }
+  block-start = record {
+    row-long = refl;
+    ack-long = refl;
+    settled = λ b s. record { spelled = s; gates = λ j q d l. absurd (omega arith) };
+    marked = λ b s m. m;
+  }
 
   module _ (loaded : StageLoaded c code) (ordered : InOrder c code) (room : Room c row₀) (row ack : List ℕ) (i : ℕ) (s : BlockTo c code row₀ ack₀ row ack i) where
     pub block-turn : i < c .gates → (given : CellLanes) → given ≡ gateLanes code (gateAtPlace code i) row → (ack′ : List ℕ) → length ack′ ≡ length ack
@@ -34,7 +40,8 @@ module _ (c : Counts) (code row₀ ack₀ : List ℕ) where
     block-turn h given is ack′ long more = record {
       row-long = length-set row (2 * c .inputs + gateAtPlace code i) (given .set) ∙ s .row-long;
       ack-long = long ∙ s .ack-long;
-      each = λ b x m. turn b (s .each b x m);
+      settled = λ b x. set-turn b (s .settled b x);
+      marked = λ b x m. mark-turn b (s .settled b x) (s .marked b x m);
     }
       where
         k : ℕ
@@ -43,12 +50,14 @@ module _ (c : Counts) (code row₀ ack₀ : List ℕ) where
         in-stage : k < c .gates
         in-stage = order-gate c code ordered i h
 
-        turn : (b : ℕ) → SettledTo c code b row i × Marked c code b ack → SettledTo c code b (set row (2 * c .inputs + k) (given .set)) (i + 1) × Marked c code b ack′
-        turn b x = (
-          settled-more c code loaded ordered b row i h (x .0) (omega (arith, s .row-long)) (given .set)
-              (λ j d. ap (λ (r : CellLanes). lane j (r .set)) is ∙ set-level c code loaded ordered k in-stage row j (64 * b + j) (λ t l. pins-settled c code loaded ordered b row i h (x .0) j t d l)),
-          marked-pins (λ j p. Acknowledged (netIn c code) (restIn c code b j) p) c code k given ack ack′ more
-              (λ j t d l q e. need-acknowledges c code loaded ordered k in-stage row j (64 * b + j) (λ t l. pins-settled c code loaded ordered b row i h (x .0) j t d l) t l
-              (sym (ap (λ (r : CellLanes). lane j (needOf r t)) is) ∙ e))
-              (x .1),
-        )
+        set-turn : (b : ℕ) → SettledTo c code b row i → SettledTo c code b (set row (2 * c .inputs + k) (given .set)) (i + 1)
+        set-turn b x =
+            settled-more c code loaded ordered b row i h x (omega (arith, s .row-long)) (given .set)
+            (λ j d. ap (λ (r : CellLanes). lane j (r .set)) is
+            ∙ set-level c code loaded ordered k in-stage row j (64 * b + j) (λ t l. pins-settled c code loaded ordered b row i h x j t d l))
+
+        mark-turn : (b : ℕ) → SettledTo c code b row i → Marked c code b ack → Marked c code b ack′
+        mark-turn b x =
+            marked-pins (λ j p. Acknowledged (netIn c code) (restIn c code b j) p) c code k given ack ack′ more
+            (λ j t d l q e. need-acknowledges c code loaded ordered k in-stage row j (64 * b + j) (λ t l. pins-settled c code loaded ordered b row i h x j t d l) t l
+            (sym (ap (λ (r : CellLanes). lane j (needOf r t)) is) ∙ e))

@@ -11,13 +11,13 @@ use Rattle.gates.specs.Cell.{pinCount}
 use Rattle.netlist.specs.declared.Counts.{Counts}
 use Rattle.netlist.specs.Content.{Gate}
 use Rattle.verdict.specs.Loops.{In, pinsAt}
-use Rattle.verdict.specs.Nets.{noGate, driver, noPair, outputPair}
+use Rattle.verdict.specs.Nets.{noGate, driver}
 use Rattle.verdict.proofs.Gates.{pins-at}
-use Rattle.circuit.specs.Stage.{cellIn, pinIn, gateIn, stageGates, outputIn, stageOutputs, stageIn, StageLoaded}
-use Rattle.circuit.proofs.Tabulate.{length-tabulate, getD-tabulate}
+use Rattle.circuit.specs.Stage.{cellIn, pinIn, gateIn, stageGates, stageIn, StageLoaded}
+use Rattle.circuit.proofs.Tabulate.{getD-tabulate}
 use Rattle.lanes.specs.declared.CellLanes.{CellLanes}
-use Rattle.lanes.specs.Cells.{needing, cellLanes}
-use Rattle.looks.specs.Block.{Room}
+use Rattle.lanes.specs.Cells.{cellLanes}
+use Rattle.blocks.specs.Block.{Room}
 
 -- ---- the first m of a list
 
@@ -78,14 +78,6 @@ module _ (c : Counts) (code : List ℕ) (k : ℕ) (h : k < c .gates) where
       let e : 2 * c .inputs + k - 2 * c .inputs ≡ k = omega arith in
       ap (λ (n : ℕ). getD (stageGates c code) n noGate) e ∙ gate-at
 
-pub output-at : (c : Counts) (code : List ℕ) (j : ℕ) → j < c .outputs → outputPair (stageIn c code) j ≡ outputIn c code j
-unfolding stageOutputs
-output-at c code j h = getD-tabulate (outputIn c code) (c .outputs) j noPair h
-
-pub length-outputs : (c : Counts) (code : List ℕ) → length (stageOutputs c code) ≡ c .outputs
-unfolding stageOutputs
-length-outputs c code = length-tabulate (outputIn c code) (c .outputs)
-
 -- ---- lanes at the pins
 
 -- a row with room for the ground has something at each pin
@@ -94,6 +86,3 @@ pin-there c code row loaded room k h t l = omega (arith, loaded .gate k h .pin t
 
 pub lanes-alike : (cell a b c d a′ b′ c′ d′ : ℕ) (r : CellLanes) → a ≡ a′ → b ≡ b′ → c ≡ c′ → d ≡ d′ → r ≡ cellLanes cell a b c d → r ≡ cellLanes cell a′ b′ c′ d′
 lanes-alike cell a b c d a′ b′ c′ d′ r p q s t e = e ∙ ap₂ (λ (x y : ℕ). cellLanes cell x y c d) p q ∙ ap₂ (λ (x y : ℕ). cellLanes cell a′ b′ x y) s t
-
-pub pins-alike : (a b c d a′ b′ c′ d′ : ℕ) → a ≡ a′ → b ≡ b′ → c ≡ c′ → d ≡ d′ → needing 0 a b c d ≡ needing 0 a′ b′ c′ d′
-pins-alike a b c d a′ b′ c′ d′ p q s t = ap₂ (λ (x y : ℕ). needing 0 x y c d) p q ∙ ap₂ (λ (x y : ℕ). needing 0 a′ b′ x y) s t

@@ -11,14 +11,13 @@ use lib.ListN.{length, getD, set}
 use lib.Seq.{getD-set-same, getD-set-other}
 use lib.Bits.{bitOr}
 use Rattle.runs.proofs.Test.{or-cases}
-use Rattle.runs.specs.Net.{Net}
 use Rattle.netlist.specs.declared.Counts.{Counts}
 use Rattle.circuit.specs.Stage.{netCount, pinIn}
 use Rattle.lanes.specs.declared.CellLanes.{CellLanes}
 use Rattle.lanes.specs.Lane.{lane, rowIn}
 use Rattle.lanes.specs.Cells.{needOf}
 use Rattle.lanes.proofs.Lane.{lane-or}
-use Rattle.looks.specs.Block.{MarkedWith, PinsMarked, OutputRail}
+use Rattle.blocks.specs.Block.{MarkedWith, PinsMarked}
 
 -- net `net` is marked in some words more, and nothing else is
 abbrev pub MarkedMore : List ℕ → ℕ → ℕ → List ℕ → Type 0
@@ -71,21 +70,3 @@ marked-pins Holds c code k given ack ack′ more ok m j p d h e = go (more j p e
     go : (rowIn j ack p ≡ true) ⊎ ((t : ℕ) × (t < 4) × (p ≡ pinIn code k t) × (lane j (needOf given t) ≡ true)) → Holds j p
     go (inl x) = m j p d h x
     go (inr x) = rw (x .2) (ok j (x .0) d (x .1) (rw (x .2) at h) (x .3))
-
--- ---- outputs
-
--- marks more, all of them at rails of outputs
-pub record OutputsTo (N : Net) (start ack : List ℕ) : Type 0 where
-  pub same-long : length ack ≡ length start
-  pub marked : (j p : ℕ) → rowIn j ack p ≡ true → (rowIn j start p ≡ true) ⊎ OutputRail N p
-
-pub outputs-start : (N : Net) (start : List ℕ) → OutputsTo N start start
-outputs-start N start = record { same-long = refl; marked = λ j p e. inl e }
-
-pub outputs-more : (N : Net) (start ack : List ℕ) → OutputsTo N start ack → (j : ℕ) (b : Bool) (net words : ℕ) (ack′ : List ℕ) → j < N .outputs → N .rail j b ≡ net
-    → length ack′ ≡ length ack → MarkedMore ack net words ack′ → OutputsTo N start ack′
-outputs-more N start ack s j b net words ack′ h is long more = record { same-long = long ∙ s .same-long; marked = λ l p e. go l p (more l p e) }
-  where
-    go : (l p : ℕ) → (rowIn l ack p ≡ true) ⊎ ((p ≡ net) × (lane l words ≡ true)) → (rowIn l start p ≡ true) ⊎ OutputRail N p
-    go l p (inl x) = s .marked l p x
-    go l p (inr x) = inr (j, b, h, is ∙ sym (x .0))

@@ -24,8 +24,8 @@ use Rattle.circuit.specs.Order.{InOrder}
 use Rattle.lanes.specs.Lane.{levelIn, lane, rowIn}
 use Rattle.lanes.proofs.Lane.{level-small}
 use Rattle.lanes.proofs.Blocks.{lane-not, bits-of-at}
-use Rattle.looks.specs.Block.{restIn, netIn, Room, Spelled}
-use Rattle.looks.proofs.Settling.{rest-settled}
+use Rattle.blocks.specs.Block.{restIn, netIn, Room, Spelled}
+use Rattle.blocks.proofs.Settling.{rest-settled}
 
 -- the rails of the first i inputs are written, and what stands behind them is as at the start
 pub record RailsTo (b : ℕ) (start row : List ℕ) (i : ℕ) : Type 0 where

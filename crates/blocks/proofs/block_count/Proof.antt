@@ -1,11 +1,11 @@
--- `looks::block_count` meets its contract: there are few numbers of inputs. Assumes nothing.
+-- `blocks::block_count` meets its contract: there are few numbers of inputs. Assumes nothing.
 use Prim.Native.Nat.{ℕ, zero, suc, _+_, _-_, _*_, _%_, _^_, _≤_, _<_}
 use native.Mathlib.Omega.{arith}
 use mathlib.Core.Path.{_≡_, sym, subst}
 use lib.Dec.{lit≤}
 use borrow.Author.Needs.{needs}
-use Rattle.looks.proofs.block_count.Statement.{statement}
-use Rattle.looks.proofs.block_count.Tie as tie
+use Rattle.blocks.proofs.block_count.Statement.{statement}
+use Rattle.blocks.proofs.block_count.Tie as tie
 
 one : (n : ℕ) → n < 6 → 2 ^ n ≤ 64 * 1
 one zero h = lit≤ tt

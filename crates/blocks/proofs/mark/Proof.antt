@@ -1,10 +1,10 @@
--- `looks::mark` meets its contract. Assumes nothing.
+-- `blocks::mark` meets its contract. Assumes nothing.
 use lib.ListN.{length-set}
 use denote.Ref.{now}
 use borrow.Author.Needs.{needs}
-use Rattle.looks.proofs.Marks.{mark-more}
-use Rattle.looks.proofs.mark.Statement.{statement}
-use Rattle.looks.proofs.mark.Tie as tie
+use Rattle.blocks.proofs.Marks.{mark-more}
+use Rattle.blocks.proofs.mark.Statement.{statement}
+use Rattle.blocks.proofs.mark.Tie as tie
 
 returns : tie.Need-returns
 returns c = let z = c .before in (simp length-set, mark-more (now (z .args .ack)) (z .args .net) (z .args .words) (z .pre))

@@ -1,10 +1,10 @@
--- `looks::gate_lanes` meets its contract: absent pins are at the ground, for which the row has room. Assumes nothing.
+-- `blocks::gate_lanes` meets its contract: absent pins are at the ground, for which the row has room. Assumes nothing.
 use native.Mathlib.Omega.{arith}
 use denote.Ref.{now}
 use borrow.Author.Needs.{needs}
-use Rattle.looks.proofs.Pins.{pin-there, lanes-alike}
-use Rattle.looks.proofs.gate_lanes.Statement.{statement}
-use Rattle.looks.proofs.gate_lanes.Tie as tie
+use Rattle.blocks.proofs.Pins.{pin-there, lanes-alike}
+use Rattle.blocks.proofs.gate_lanes.Statement.{statement}
+use Rattle.blocks.proofs.gate_lanes.Tie as tie
 
 lanes-at-requires : tie.Need-lanes-at-requires
 lanes-at-requires c κs = let z = c .before .before .before in pin-there (z .args .counts) (now (z .args .code)) (now (z .args .row)) (z .pre .0) (z .pre .2) (z .args .k) (z .pre .1) 0 (omega arith)

@@ -1,14 +1,14 @@
--- `looks::settle_block` meets its contract. The loop's invariant: the gates before place i of the order have their levels in all words, and what
+-- `blocks::settle_gates` meets its contract. The loop's invariant: the gates before place i of the order have their levels in all words, and what
 -- they mark is marked. The measure is what is left of the order. Assumes nothing.
 use Prim.Native.Nat.{ℕ, _+_, _-_, _*_, _≤_}
 use native.Mathlib.Omega.{arith}
 use mathlib.Core.Path.{_≡_, sym, subst}
 use denote.Ref.{now}
 use Rattle.circuit.proofs.Settling.{order-gate}
-use Rattle.looks.specs.Block.{SettledTo}
-use Rattle.looks.proofs.Turns.{BlockTo, block-start, block-turn}
-use Rattle.looks.proofs.settle_block.Statement.{statement}
-use Rattle.looks.proofs.settle_block.Tie as tie
+use Rattle.blocks.specs.Block.{SettledTo}
+use Rattle.blocks.proofs.Turns.{BlockTo, block-start, block-turn}
+use Rattle.blocks.proofs.settle_gates.Statement.{statement}
+use Rattle.blocks.proofs.settle_gates.Tie as tie
 
 abbrev Inv-loop : tie.InvT-loop
 Inv-loop code counts row₀ ack₀ first count i₀ row ack i = (i ≤ count) × BlockTo counts code row₀ ack₀ row ack i
@@ -73,11 +73,13 @@ returns : tie.Need-returns Inv-loop μ-loop
 returns c =
     let z = c .before .before .before .before .before .before in
     let l = c .before .loop in
-    let e : l .i ≡ z .args .counts .gates = omega (arith, l .inv .0) in
-    ((l .inv .1 .row-long, l .inv .1 .ack-long), λ b s m. let x = l .inv .1 .each b s m in (subst (SettledTo (z .args .counts) (now (z .args .code)) b (l .row)) e (x .0), x .1))
+    let e : l .i ≡ z .args .counts .gates = omega (arith, l .inv .0) in (
+      (l .inv .1 .row-long, l .inv .1 .ack-long),
+      (λ b s. subst (SettledTo (z .args .counts) (now (z .args .code)) b (l .row)) e (l .inv .1 .settled b s), l .inv .1 .marked),
+    )
 
-pub settle-block-spec : {M : Type 1} → statement M
-settle-block-spec =
+pub settle-gates-spec : {M : Type 1} → statement M
+settle-gates-spec =
     tie.close
     (tie.spec
     Inv-loop

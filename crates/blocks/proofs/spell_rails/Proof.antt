@@ -1,12 +1,12 @@
--- `looks::spell_rails` meets its contract. The loop's invariant: the rails of the inputs below i are written. Assumes nothing.
+-- `blocks::spell_rails` meets its contract. The loop's invariant: the rails of the inputs below i are written. Assumes nothing.
 use Prim.Native.Nat.{ℕ, _-_, _≤_}
 use native.Mathlib.Omega.{arith}
 use mathlib.Core.Path.{_≡_, sym, subst}
 use lib.ListN.{length-set}
 use denote.Ref.{now}
-use Rattle.looks.proofs.Rails.{RailsTo, rails-start, rails-turn, rails-done}
-use Rattle.looks.proofs.spell_rails.Statement.{statement}
-use Rattle.looks.proofs.spell_rails.Tie as tie
+use Rattle.blocks.proofs.Rails.{RailsTo, rails-start, rails-turn, rails-done}
+use Rattle.blocks.proofs.spell_rails.Statement.{statement}
+use Rattle.blocks.proofs.spell_rails.Tie as tie
 
 abbrev Inv-loop : tie.InvT-loop
 Inv-loop counts b row₀ i₀ row i = (i ≤ counts .inputs) × RailsTo b row₀ row i

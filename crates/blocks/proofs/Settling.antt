@@ -32,8 +32,8 @@ use Rattle.lanes.specs.Lane.{lane, rowIn}
 use Rattle.lanes.specs.Cells.{needOf, pinsIn, cellLanes}
 use Rattle.lanes.proofs.Lane.{lane-zero}
 use Rattle.lanes.proofs.Cells.{Needs, need-of, set-holds}
-use Rattle.looks.specs.Block.{restIn, netIn, Spelled, SettledTo}
-use Rattle.looks.proofs.Pins.{pin-at, pin-past, pin-in, gate-pins, driver-at}
+use Rattle.blocks.specs.Block.{restIn, netIn, Spelled, SettledTo}
+use Rattle.blocks.proofs.Pins.{pin-at, pin-past, pin-in, gate-pins, driver-at}
 
 module _ (c : Counts) (code : List ℕ) (ordered : InOrder c code) where
   abbrev pub stage : Stage

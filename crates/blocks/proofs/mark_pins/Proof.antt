@@ -1,11 +1,11 @@
--- `looks::mark_pins` meets its contract. Assumes nothing.
+-- `blocks::mark_pins` meets its contract. Assumes nothing.
 use native.Mathlib.Omega.{arith}
 use mathlib.Core.Path.{_∙_}
 use denote.Ref.{now}
 use borrow.Author.Needs.{needs}
-use Rattle.looks.proofs.Marks.{pins-marked}
-use Rattle.looks.proofs.mark_pins.Statement.{statement}
-use Rattle.looks.proofs.mark_pins.Tie as tie
+use Rattle.blocks.proofs.Marks.{pins-marked}
+use Rattle.blocks.proofs.mark_pins.Statement.{statement}
+use Rattle.blocks.proofs.mark_pins.Tie as tie
 
 mark-requires : tie.Need-mark-requires
 mark-requires c κs = let z = c .before .before .before .before in omega (arith, z .pre .2, z .pre .0 .gate (z .args .k) (z .pre .1) .pin 0 (omega arith))
