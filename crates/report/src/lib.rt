@@ -29,13 +29,7 @@ pub struct Report {
 }
 
 // The lines of all words, whose names are listed, by how many gates are high in each word of the files; and the sum of the lines.
-fn fill_lines(
-    order: WordOrder,
-    inputs: usize,
-    list: &[u16],
-    high: &[u16],
-    lines: &mut [u16],
-) -> u64
+fn fill_lines(order: WordOrder, inputs: usize, list: &[u16], high: &[u16], lines: &mut [u16]) -> u64
     requires { ⌜ (inputs ≤ stageLimits .inputs) × Rising (2 ^ inputs) 0 (now list) × (2 ^ inputs ≤ length (now high))
         × (length (now list) ≤ spec.mostLines) × (now lines ≡ replicate spec.mostLines 0) ⌝ }
     ensures { λ r. ⌜ (r ≡ sum (linesBy order inputs (now (high .entry)) (now (list .entry))))
