@@ -20,10 +20,10 @@ use Rattle.names.proofs.word_of.Reads as word-of-reads
 use Rattle.report.proofs.gates_high.Reads as gates-high-reads
 
 abbrev Inv-loop : tie.InvT-loop
-Inv-loop order code counts list lines₀ total₀ k₀ lines total k = LinesTo (spec.lines order (stageIn counts code)) k lines total × (k ≤ length list)
+Inv-loop order inputs list high lines₀ total₀ k₀ lines total k = LinesTo (linesBy order inputs high list) k lines total × (k ≤ length list)
 
 abbrev μ-loop : tie.MeasureT-loop
-μ-loop order code counts list lines₀ total₀ k₀ lines total k = length list - k
+μ-loop order inputs list high lines₀ total₀ k₀ lines total k = length list - k
 
 loop-holds : tie.Need-loop-holds Inv-loop μ-loop
 loop-holds c =
