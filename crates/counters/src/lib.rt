@@ -8,7 +8,7 @@ ghost use Rattle.verdict.specs.Levels.{sum};
 ghost use Rattle.circuit.specs.Stage.{stageIn, StageLoaded};
 ghost use Rattle.circuit.specs.Order.{InOrder};
 ghost use Rattle.lanes.specs.Lane.{levelIn, laneOf};
-ghost use Rattle.counters.specs.High.{gatesHigh};
+ghost use Rattle.counters.specs.High.{HighIn};
 ghost use Rattle.counters.specs.Counters.{counted};
 
 // As many digits as the most gates take.
@@ -78,7 +78,7 @@ fn write_counters(digits: &[u64], b: usize, high: &mut [u16])
 pub fn count_words(code: &[u16], counts: Counts, high: &mut [u16])
     requires { ⌜ StageLoaded counts (now code) × InOrder counts (now code) × (2 ^ stageLimits .inputs ≤ length (now high)) ⌝ }
     ensures long { λ r. ⌜ length (now (high .exit)) ≡ length (now (high .entry)) ⌝ }
-    ensures high { λ r. ⌜ ((w : ℕ) → w < 2 ^ counts .inputs → getD (now (high .exit)) w 0 ≡ gatesHigh (stageIn counts (now (code .entry))) w) ⌝ }
+    ensures high { λ r. ⌜ HighIn (stageIn counts (now (code .entry))) (now (high .exit)) ⌝ }
 {
     let mut row = [0u64; circuit::ROW];
     let mut ack = [0u64; circuit::ROW];

@@ -16,7 +16,7 @@ use Rattle.verdict.specs.declared.WordOrder.{WordOrder}
 use Rattle.verdict.specs.Words.{spelled, names}
 use Rattle.verdict.proofs.Names.{spelled-below, names-rise}
 use Rattle.names.specs.Listed.{Listed}
-use Rattle.counters.specs.High.{gatesHigh}
+use Rattle.counters.specs.High.{gatesHigh, HighIn}
 use Rattle.report.specs.Report.{byName, lines, mostLines, padded}
 use Rattle.report.specs.Lines.{linesBy, ListedTo, LinesTo}
 use Rattle.counters.proofs.Summing.{sum-more}
@@ -87,10 +87,14 @@ module _ (l : List ℕ) where
 
 -- ---- lines by names
 
-pub rising-at : (below floor : ℕ) (l : List ℕ) → Rising below floor l → (k : ℕ) → k < length l → getD l k 0 < below
+rising-at : (below floor : ℕ) (l : List ℕ) → Rising below floor l → (k : ℕ) → k < length l → getD l k 0 < below
 rising-at below floor [] r k h = absurd (omega arith)
 rising-at below floor (x ∷ l) r zero h = r .1
 rising-at below floor (x ∷ l) r (suc k) h = rising-at below (x + 1) l (r .2) k (omega arith)
+
+-- a listed name spells a word that the inputs have
+pub named-below : (order : WordOrder) (n : ℕ) (list : List ℕ) → Rising (2 ^ n) 0 list → (k : ℕ) → k < length list → spelled order n (getD list k 0) < 2 ^ n
+named-below order n list r k h = spelled-below order n (getD list k 0) (rising-at (2 ^ n) 0 list r k h)
 
 pub named-long : (order : WordOrder) (n : ℕ) (high list : List ℕ) → length (linesBy order n high list) ≡ length list
 named-long order n high list = length-map list (λ name. getD high (spelled order n name) 0)
@@ -105,12 +109,16 @@ module _ (order : WordOrder) (s : Stage) where
   lines-long = length-map (byName order s) (gatesHigh s) ∙ length-map (names order s) (spelled order (s .inputs))
 
   -- they are those of the names, where it is known how many gates are high in each word
-  pub lines-named : (high : List ℕ) → ((w : ℕ) → w < 2 ^ s .inputs → getD high w 0 ≡ gatesHigh s w) → linesBy order (s .inputs) high (names order s) ≡ lines order s
+  lines-named : (high : List ℕ) → HighIn s high → linesBy order (s .inputs) high (names order s) ≡ lines order s
   lines-named high is = go 0 (names order s) (names-rise order s)
     where
       go : (floor : ℕ) (l : List ℕ) → Rising (2 ^ s .inputs) floor l → linesBy order (s .inputs) high l ≡ map (gatesHigh s) (map (spelled order (s .inputs)) l)
       go floor [] r = refl
-      go floor (x ∷ l) r = ap₂ _∷_ (is (spelled order (s .inputs) x) (spelled-below order (s .inputs) x (r .1))) (go (x + 1) l (r .2))
+      go floor (x ∷ l) r = ap₂ _∷_ (is .at (spelled order (s .inputs) x) (spelled-below order (s .inputs) x (r .1))) (go (x + 1) l (r .2))
+
+  -- so for a list that is those names
+  pub lines-by : (list high : List ℕ) → list ≡ names order s → HighIn s high → linesBy order (s .inputs) high list ≡ lines order s
+  lines-by list high e is = ap (linesBy order (s .inputs) high) e ∙ lines-named high is
 
   -- there is room for a line of each
   pub names-few : s .inputs ≤ stageLimits .inputs → length (names order s) ≤ mostLines

@@ -1,4 +1,5 @@
 // The switching report: how many gates are high at rest, word by word, and in all words together.
+use netlist::Counts;
 use netlist::Outcome;
 use verdict::Verdict;
 use verdict::WordOrder;
@@ -9,6 +10,9 @@ ghost use Rattle.netlist.specs.declared.File.the-variants as file;
 ghost use Rattle.netlist.specs.Reading.{Places, Rising, readable, readFile, stageLimits};
 ghost use Rattle.netlist.specs.Content.{stageOf};
 ghost use Rattle.verdict.specs.Levels.{sum};
+ghost use Rattle.verdict.specs.Words.{names};
+ghost use Rattle.circuit.specs.Stage.{stageIn, StageLoaded};
+ghost use Rattle.circuit.specs.Order.{InOrder};
 ghost use Rattle.report.specs.Report as spec;
 ghost use Rattle.report.specs.Activity.{ReportMeans};
 ghost use Rattle.report.specs.Lines.{linesBy, LoopFreeFile};
@@ -28,8 +32,14 @@ pub struct Report {
     pub names: [u16; LINES],
 }
 
-// The lines of all words, whose names are listed, by how many gates are high in each word of the files; and the sum of the lines.
-fn fill_lines(order: WordOrder, inputs: usize, list: &[u16], high: &[u16], lines: &mut [u16]) -> u64
+// The lines of some names are written, by how many gates are high in each word of the files; and the sum of the lines.
+fn write_lines(
+    order: WordOrder,
+    inputs: usize,
+    list: &[u16],
+    high: &[u16],
+    lines: &mut [u16],
+) -> u64
     requires { ⌜ (inputs ≤ stageLimits .inputs) × Rising (2 ^ inputs) 0 (now list) × (2 ^ inputs ≤ length (now high))
         × (length (now list) ≤ spec.mostLines) × (now lines ≡ replicate spec.mostLines 0) ⌝ }
     ensures { λ r. ⌜ (r ≡ sum (linesBy order inputs (now (high .entry)) (now (list .entry))))
@@ -47,6 +57,24 @@ fn fill_lines(order: WordOrder, inputs: usize, list: &[u16], high: &[u16], lines
     total
 }
 
+// The lines of all words, whose names are listed, and the sum of the lines.
+fn fill_lines(
+    order: WordOrder,
+    code: &[u16],
+    counts: Counts,
+    list: &[u16],
+    lines: &mut [u16],
+) -> u64
+    requires { ⌜ StageLoaded counts (now code) × InOrder counts (now code) × (now list ≡ names order (stageIn counts (now code)))
+        × (length (now list) ≤ spec.mostLines) × (now lines ≡ replicate spec.mostLines 0) ⌝ }
+    ensures { λ r. ⌜ (r ≡ spec.total order (stageIn counts (now (code .entry))))
+        × (now (lines .exit) ≡ spec.padded (spec.lines order (stageIn counts (now (code .entry))))) ⌝ }
+{
+    let mut high = [0u16; LINES];
+    counters::count_words(code, counts, &mut high);
+    write_lines(order, counts.inputs, list, &high, lines)
+}
+
 // The report of a stage that reads and has no loop.
 fn report_stage(order: WordOrder, stage: &[u8], verdict: Verdict) -> Report
     requires { ⌜ LoopFreeFile (now stage) ⌝ }
@@ -55,13 +83,11 @@ fn report_stage(order: WordOrder, stage: &[u8], verdict: Verdict) -> Report
 {
     let mut lines = [0u16; LINES];
     let mut list = [0u16; LINES];
-    let mut high = [0u16; LINES];
     let mut code = [0u16; load::STAGE_CODE];
     if let Outcome::Readable(counts) = load::read_stage(stage, &mut code) {
         loops::order_gates(&mut code, counts);
         let count = names::list_names(order, &code, counts, &mut list);
-        counters::count_words(&code, counts, &mut high);
-        let total = fill_lines(order, counts.inputs, &list[..count], &high, &mut lines);
+        let total = fill_lines(order, &code, counts, &list[..count], &mut lines);
         return Report {
             verdict,
             words: count as u64,

@@ -74,7 +74,7 @@ same-length c = c .before .loop .inv .0 .same-long
 returns : tie.Need-returns Inv-loop μ-loop
 returns c =
     let l = c .before .loop in
-    (l .inv .0 .same-long, λ w h. l .inv .0 .high-to w (omega (arith, l .inv .1, c .before .before .block-count .ensures .1)))
+    (l .inv .0 .same-long, record { at = λ w h. l .inv .0 .high-to w (omega (arith, l .inv .1, c .before .before .block-count .ensures .1)) })
 
 pub count-words-spec : {M : Type 1} → statement M
 count-words-spec =
