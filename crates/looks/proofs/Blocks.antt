@@ -61,7 +61,8 @@ module _ (c : Counts) (code : List ℕ) (sizes : Counts) (reference : List ℕ) 
     reads : (j : ℕ) → j < 64 → lane j wrong ≡ false → Reads (netIn c code) (restIn c code b j) (answerBits (referenceIn sizes reference) (64 * b + j))
     reads j d e o l =
         let h : o < c .outputs = omega (arith, length-outputs c code) in
-        let x = same-data (rowIn j row) (restIn c code b j) (outputIn c code o) (rowIn j values (signalIn sizes reference o)) (rest j _ d (both .stage .rail0-net o h)) (rest j _ d (both .stage .rail1-net o h)) (right j d e o h) in
+        let x = same-data (rowIn j row) (restIn c code b j) (outputIn c code o) (rowIn j values (signalIn sizes reference o)) (rest j _ d (both .stage .rail0-net o h))
+        (rest j _ d (both .stage .rail1-net o h)) (right j d e o h) in
         rw (output-at c code o h, ← answer-in sizes reference (both .answers) values j (64 * b + j) (answers j d) o (omega (arith, both .enough))) x
 
     pub rise-clean : RiseClean (stageIn c code) (referenceIn sizes reference) b (record { wrong = wrong; all = bitOr wrong unacknowledged })

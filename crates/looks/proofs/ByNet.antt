@@ -108,7 +108,8 @@ module _ (c : Counts) (code : List ℕ) (loaded : StageLoaded c code) (ordered :
   pub set-where : (alone : Bool) (net : ℕ) → lane j (setWhere code k row alone net) ≡ setIn (kept alone net) (gateIn code k)
   unfolding pins
   set-where alone net =
-      set-holds (cellIn code k) j (keptLanes row alone net (pinIn code k 0)) (keptLanes row alone net (pinIn code k 1)) (keptLanes row alone net (pinIn code k 2)) (keptLanes row alone net (pinIn code k 3))
+      set-holds (cellIn code k) j (keptLanes row alone net (pinIn code k 0)) (keptLanes row alone net (pinIn code k 1)) (keptLanes row alone net (pinIn code k 2))
+      (keptLanes row alone net (pinIn code k 3))
       ∙ holds-local (setExpression (cellIn code k)) (pins alone net) (λ i. getD (map (kept alone net) (gateIn code k .pins)) i false)
       (pin-level alone net 0 (omega arith) refl) (pin-level alone net 1 (omega arith) refl) (pin-level alone net 2 (omega arith) refl) (pin-level alone net 3 (omega arith) refl)
 
@@ -180,7 +181,8 @@ module _ (c : Counts) (code : List ℕ) (loaded : StageLoaded c code) (ordered :
   pub acknowledged-rise : (high : ℕ) → high ≡ getD row (2 * c .inputs + k) 0 → (low : CellLanes) → low ≡ eachWhere code k row false
       → PinsAcknowledged false c code k row (needing high (bitXor high (low .a)) (bitXor high (low .b)) (bitXor high (low .c)) (bitXor high (low .d)))
   acknowledged-rise high is low each b rest j t d l there e =
-      by-pins (λ t. t < 4 → pinIn code k t < netCount c → Acknowledged (netIn c code) (restIn c code b j) (pinIn code k t)) (needing high (bitXor high (low .a)) (bitXor high (low .b)) (bitXor high (low .c)) (bitXor high (low .d))) j
+      by-pins (λ t. t < 4 → pinIn code k t < netCount c → Acknowledged (netIn c code) (restIn c code b j) (pinIn code k t))
+      (needing high (bitXor high (low .a)) (bitXor high (low .b)) (bitXor high (low .c)) (bitXor high (low .d))) j
       (at 0 (ap (λ (r : CellLanes). r .a) each)) (at 1 (ap (λ (r : CellLanes). r .b) each)) (at 2 (ap (λ (r : CellLanes). r .c) each)) (at 3 (ap (λ (r : CellLanes). r .d) each)) t l e l there
     where
       at : (t : ℕ) {x : ℕ} → x ≡ setWhere code k row false (pinIn code k t) → lane j (bitXor high x) ≡ true → t < 4 → pinIn code k t < netCount c
@@ -189,14 +191,16 @@ module _ (c : Counts) (code : List ℕ) (loaded : StageLoaded c code) (ordered :
 
   pub acknowledged-hold : slot code k 7 ≡ 1 → (high : ℕ) → high ≡ getD row (2 * c .inputs + k) 0 → PinsAcknowledged true c code k row (needing high high high high high)
   acknowledged-hold e high is b rest j t d l there z =
-      by-pins (λ t. t < 4 → pinIn code k t < netCount c → Fall-acknowledged (netIn c code) (restIn c code b j) (pinIn code k t)) (needing high high high high high) j (at 0) (at 1) (at 2) (at 3) t l z l there
+      by-pins (λ t. t < 4 → pinIn code k t < netCount c → Fall-acknowledged (netIn c code) (restIn c code b j) (pinIn code k t)) (needing high high high high high) j
+      (at 0) (at 1) (at 2) (at 3) t l z l there
     where
       at : (t : ℕ) → lane j high ≡ true → t < 4 → pinIn code k t < netCount c → Fall-acknowledged (netIn c code) (restIn c code b j) (pinIn code k t)
       at t u l there = hold-acknowledges c code loaded ordered k h row b j d rest t l there e (sym (rest .rest j (2 * c .inputs + k) d (omega arith)) ∙ sym (ap (lane j) is) ∙ u)
 
   pub acknowledged-relaxed : (slot code k 7 ≡ 1 → ⊥) → (r : CellLanes) → r ≡ eachWhere code k row true → PinsAcknowledged true c code k row r
   acknowledged-relaxed n r each b rest j t d l there z =
-      by-pins (λ t. t < 4 → pinIn code k t < netCount c → Fall-acknowledged (netIn c code) (restIn c code b j) (pinIn code k t)) r j (at 0 (ap (λ (r : CellLanes). r .a) each)) (at 1 (ap (λ (r : CellLanes). r .b) each))
+      by-pins (λ t. t < 4 → pinIn code k t < netCount c → Fall-acknowledged (netIn c code) (restIn c code b j) (pinIn code k t)) r j
+      (at 0 (ap (λ (r : CellLanes). r .a) each)) (at 1 (ap (λ (r : CellLanes). r .b) each))
       (at 2 (ap (λ (r : CellLanes). r .c) each)) (at 3 (ap (λ (r : CellLanes). r .d) each)) t l z l there
     where
       at : (t : ℕ) {x : ℕ} → x ≡ setWhere code k row true (pinIn code k t) → lane j x ≡ true → t < 4 → pinIn code k t < netCount c

@@ -322,10 +322,10 @@ pub fn all_hold(code: &[u16], counts: Counts) -> bool
     ensures { λ r. ⌜ ((r ≡ true → WithHold (stageIn counts (now (code .entry)))) × (WithHold (stageIn counts (now (code .entry))) → r ≡ true)) ⌝ }
 {
     let count = counts.gates;
-    let mut k: usize = 0;
-    while k < count {
-        if code[8 * k + 7] == 1 {
-            k += 1;
+    let mut i: usize = 0;
+    while i < count {
+        if code[8 * i + 7] == 1 {
+            i += 1;
         } else {
             return false;
         }

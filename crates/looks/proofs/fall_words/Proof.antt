@@ -39,7 +39,13 @@ mark-gates-requires-2 c κs =
       z .pre .0,
       z .pre .1,
       z .pre .2,
-      omega (arith, z .pre .3, g .before .before .before .before .before .before .before .before .clear .ensures .0, g .before .before .before .before .mark-outputs .ensures .0, g .mark-gates .ensures .0),
+      omega (
+        arith,
+        z .pre .3,
+        g .before .before .before .before .before .before .before .before .clear .ensures .0,
+        g .before .before .before .before .mark-outputs .ensures .0,
+        g .mark-gates .ensures .0,
+      ),
     )
 
 returns-2 : tie.Need-returns-2

@@ -27,7 +27,8 @@ loop-again c =
     let z = c .before .before .before .before .before .before .before .before .before .before in
     let l = c .before .before .before .before .before .before .loop in
     let m = c .before .before .mark-pins in
-    gates-turn (z .args .falls) (z .args .counts) (now (z .args .code)) (now (z .args .row)) (now (z .args .ack)) (l .ack) (l .inv) (l .k) (c .before .before .before .before .acknowledged-lanes .result) (c .before .before .before .before .acknowledged-lanes .ensures)
+    gates-turn (z .args .falls) (z .args .counts) (now (z .args .code)) (now (z .args .row)) (now (z .args .ack)) (l .ack) (l .inv) (l .k)
+    (c .before .before .before .before .acknowledged-lanes .result) (c .before .before .before .before .acknowledged-lanes .ensures)
     _ (m .ensures .0) (m .ensures .1)
 
 same-length : tie.Need-same-length Inv-loop μ-loop

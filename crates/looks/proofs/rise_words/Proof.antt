@@ -44,7 +44,13 @@ mark-gates-requires c κs =
       z .pre .0,
       z .pre .1,
       omega (arith, z .pre .2, settle .0),
-      omega (arith, z .pre .3, settle .1, s .before .before .before .before .before .before .before .before .before .clear .ensures .0, s .before .before .before .before .before .mark-outputs .ensures .0),
+      omega (
+        arith,
+        z .pre .3,
+        settle .1,
+        s .before .before .before .before .before .before .before .before .before .clear .ensures .0,
+        s .before .before .before .before .before .mark-outputs .ensures .0,
+      ),
     )
 
 returns-2 : tie.Need-returns-2

@@ -15,7 +15,8 @@ returns-2 c =
 
 returns-3 : tie.Need-returns-3
 returns-3 c =
-    first-unobserved _ _ _ (sym (c .before .before .before .before .before .before .before .enum-told .given .1) ∙ c .before .before .before .before .before .before .before .before .before .sweep-check .ensures)
+    first-unobserved _ _ _
+    (sym (c .before .before .before .before .before .before .before .enum-told .given .1) ∙ c .before .before .before .before .before .before .before .before .before .sweep-check .ensures)
     (sym (c .before .before .enum-told2 .given .1) ∙ c .before .before .before .before .sweep-check2 .ensures) _ (c .sweep-check3 .ensures)
 
 pub sweep-rises-spec : {M : Type 1} → statement M
