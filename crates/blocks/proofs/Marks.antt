@@ -38,35 +38,35 @@ mark-more ack net words h j p e = go (ℕ-discrete p net)
     go (no d) = inl (sym (ap (lane j) (getD-set-other ack net p (bitOr (getD ack net 0) words) 0 d)) ∙ e)
 
 -- the four pins of a gate, one after the other
-pub pins-marked : (code : List ℕ) (k : ℕ) (given : CellLanes) (ack ack₁ ack₂ ack₃ ack₄ : List ℕ) → MarkedMore ack (pinIn code k 0) (given .a) ack₁
-    → MarkedMore ack₁ (pinIn code k 1) (given .b) ack₂ → MarkedMore ack₂ (pinIn code k 2) (given .c) ack₃ → MarkedMore ack₃ (pinIn code k 3) (given .d) ack₄
-    → PinsMarked code k given ack ack₄
-pins-marked code k given ack ack₁ ack₂ ack₃ ack₄ a b c d j p e = fourth (d j p e)
+pub pins-marked : (code : List ℕ) (k : ℕ) (words : CellLanes) (ack ack₁ ack₂ ack₃ ack₄ : List ℕ) → MarkedMore ack (pinIn code k 0) (words .a) ack₁
+    → MarkedMore ack₁ (pinIn code k 1) (words .b) ack₂ → MarkedMore ack₂ (pinIn code k 2) (words .c) ack₃ → MarkedMore ack₃ (pinIn code k 3) (words .d) ack₄
+    → PinsMarked code k words ack ack₄
+pins-marked code k words ack ack₁ ack₂ ack₃ ack₄ a b c d j p e = fourth (d j p e)
   where
     At : Type 0
-    At = (t : ℕ) × (t < 4) × (p ≡ pinIn code k t) × (lane j (needOf given t) ≡ true)
+    At = (t : ℕ) × (t < 4) × (p ≡ pinIn code k t) × (lane j (needOf words t) ≡ true)
 
-    first : (rowIn j ack p ≡ true) ⊎ ((p ≡ pinIn code k 0) × (lane j (given .a) ≡ true)) → (rowIn j ack p ≡ true) ⊎ At
+    first : (rowIn j ack p ≡ true) ⊎ ((p ≡ pinIn code k 0) × (lane j (words .a) ≡ true)) → (rowIn j ack p ≡ true) ⊎ At
     first (inl x) = inl x
     first (inr x) = inr (0, omega arith, x .0, x .1)
 
-    second : (rowIn j ack₁ p ≡ true) ⊎ ((p ≡ pinIn code k 1) × (lane j (given .b) ≡ true)) → (rowIn j ack p ≡ true) ⊎ At
+    second : (rowIn j ack₁ p ≡ true) ⊎ ((p ≡ pinIn code k 1) × (lane j (words .b) ≡ true)) → (rowIn j ack p ≡ true) ⊎ At
     second (inl x) = first (a j p x)
     second (inr x) = inr (1, omega arith, x .0, x .1)
 
-    third : (rowIn j ack₂ p ≡ true) ⊎ ((p ≡ pinIn code k 2) × (lane j (given .c) ≡ true)) → (rowIn j ack p ≡ true) ⊎ At
+    third : (rowIn j ack₂ p ≡ true) ⊎ ((p ≡ pinIn code k 2) × (lane j (words .c) ≡ true)) → (rowIn j ack p ≡ true) ⊎ At
     third (inl x) = second (b j p x)
     third (inr x) = inr (2, omega arith, x .0, x .1)
 
-    fourth : (rowIn j ack₃ p ≡ true) ⊎ ((p ≡ pinIn code k 3) × (lane j (given .d) ≡ true)) → (rowIn j ack p ≡ true) ⊎ At
+    fourth : (rowIn j ack₃ p ≡ true) ⊎ ((p ≡ pinIn code k 3) × (lane j (words .d) ≡ true)) → (rowIn j ack p ≡ true) ⊎ At
     fourth (inl x) = third (c j p x)
     fourth (inr x) = inr (3, omega arith, x .0, x .1)
 
--- where what is said of marks holds of the nets at a gate's pins in the words that are given for them
-pub marked-pins : (Holds : ℕ → ℕ → Type 0) (c : Counts) (code : List ℕ) (k : ℕ) (given : CellLanes) (ack ack′ : List ℕ) → PinsMarked code k given ack ack′
-    → ((j t : ℕ) → j < 64 → t < 4 → pinIn code k t < netCount c → lane j (needOf given t) ≡ true → Holds j (pinIn code k t)) → MarkedWith Holds c ack → MarkedWith Holds c ack′
-marked-pins Holds c code k given ack ack′ more ok m j p d h e = go (more j p e)
+-- where what is said of marks holds of the nets at a gate's pins in the words that are words for them
+pub marked-pins : (Holds : ℕ → ℕ → Type 0) (c : Counts) (code : List ℕ) (k : ℕ) (words : CellLanes) (ack ack′ : List ℕ) → PinsMarked code k words ack ack′
+    → ((j t : ℕ) → j < 64 → t < 4 → pinIn code k t < netCount c → lane j (needOf words t) ≡ true → Holds j (pinIn code k t)) → MarkedWith Holds c ack → MarkedWith Holds c ack′
+marked-pins Holds c code k words ack ack′ more ok m j p d h e = go (more j p e)
   where
-    go : (rowIn j ack p ≡ true) ⊎ ((t : ℕ) × (t < 4) × (p ≡ pinIn code k t) × (lane j (needOf given t) ≡ true)) → Holds j p
+    go : (rowIn j ack p ≡ true) ⊎ ((t : ℕ) × (t < 4) × (p ≡ pinIn code k t) × (lane j (needOf words t) ≡ true)) → Holds j p
     go (inl x) = m j p d h x
     go (inr x) = rw (x .2) (ok j (x .0) d (x .1) (rw (x .2) at h) (x .3))

@@ -93,7 +93,8 @@ module _ (c : Counts) (code : List ℕ) (loaded : StageLoaded c code) (ordered :
 
     levels-hold : holds (setExpression cell) levels ≡ R (2 * c .inputs + k)
     levels-hold =
-        holds-local (setExpression cell) levels (λ i. getD (map R (gateIn code k .pins)) i false) (pin-level 0 (omega arith)) (pin-level 1 (omega arith)) (pin-level 2 (omega arith)) (pin-level 3 (omega arith))
+        holds-local (setExpression cell) levels (λ i. getD (map R (gateIn code k .pins)) i false) (pin-level 0 (omega arith)) (pin-level 1 (omega arith))
+        (pin-level 2 (omega arith)) (pin-level 3 (omega arith))
         ∙ sym (rest-gate c code ordered w k h)
 
     pub set-level : lane j (cellLanes cell (lanesAt row 0) (lanesAt row 1) (lanesAt row 2) (lanesAt row 3) .set) ≡ R (2 * c .inputs + k)
@@ -118,13 +119,15 @@ module _ (c : Counts) (code : List ℕ) (loaded : StageLoaded c code) (ordered :
             go (yes a) =
                 let y : (R ∖ only p) (pinIn code k i) ≡ true = sym (pin-at code k i (R ∖ only p) a (omega (arith, few))) ∙ x in
                 and-in (levels i) (not (eqb i t)) (level-of i (omega (arith, few)) ∙ and-left (R (pinIn code k i)) (not (eqb (pinIn code k i) p)) y)
-                (ap not (eqb-other i t (λ q. clash (ap (λ (z : ℕ). eqb (pinIn code k z) p) q ∙ eqb-same p) (of-not (eqb (pinIn code k i) p) (and-right (R (pinIn code k i)) (not (eqb (pinIn code k i) p)) y)))))
+                (ap not (eqb-other i t
+                (λ q. clash (ap (λ (z : ℕ). eqb (pinIn code k z) p) q ∙ eqb-same p) (of-not (eqb (pinIn code k i) p) (and-right (R (pinIn code k i)) (not (eqb (pinIn code k i) p)) y)))))
             go (no a) = absurd (clash x (pin-past code k i (R ∖ only p) (omega arith)))
 
         falls : netIn c code .fires (R ∖ only p) (2 * c .inputs + k) ≡ false
         falls =
             ap (setIn (R ∖ only p)) (driver-at c code k h)
-            ∙ not-true (setIn (R ∖ only p) (gateIn code k)) (λ x. clash (holds-mono (setExpression cell) (λ i. getD (map (R ∖ only p) (gateIn code k .pins)) i false) (levels ∖ only t) fewer x) (n .without))
+            ∙ not-true (setIn (R ∖ only p) (gateIn code k))
+            (λ x. clash (holds-mono (setExpression cell) (λ i. getD (map (R ∖ only p) (gateIn code k .pins)) i false) (levels ∖ only t) fewer x) (n .without))
 
 -- ---- the gate at place i of the order
 

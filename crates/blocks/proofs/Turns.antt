@@ -35,10 +35,10 @@ module _ (c : Counts) (code row₀ ack₀ : List ℕ) where
   }
 
   module _ (loaded : StageLoaded c code) (ordered : InOrder c code) (room : Room c row₀) (row ack : List ℕ) (i : ℕ) (s : BlockTo c code row₀ ack₀ row ack i) where
-    pub block-turn : i < c .gates → (given : CellLanes) → given ≡ gateLanes code (gateAtPlace code i) row → (ack′ : List ℕ) → length ack′ ≡ length ack
-        → PinsMarked code (gateAtPlace code i) given ack ack′ → BlockTo c code row₀ ack₀ (set row (2 * c .inputs + gateAtPlace code i) (given .set)) ack′ (i + 1)
-    block-turn h given is ack′ long more = record {
-      row-long = length-set row (2 * c .inputs + gateAtPlace code i) (given .set) ∙ s .row-long;
+    pub block-turn : i < c .gates → (cell : CellLanes) → cell ≡ gateLanes code (gateAtPlace code i) row → (ack′ : List ℕ) → length ack′ ≡ length ack
+        → PinsMarked code (gateAtPlace code i) cell ack ack′ → BlockTo c code row₀ ack₀ (set row (2 * c .inputs + gateAtPlace code i) (cell .set)) ack′ (i + 1)
+    block-turn h cell is ack′ long more = record {
+      row-long = length-set row (2 * c .inputs + gateAtPlace code i) (cell .set) ∙ s .row-long;
       ack-long = long ∙ s .ack-long;
       settled = λ b x. set-turn b (s .settled b x);
       marked = λ b x m. mark-turn b (s .settled b x) (s .marked b x m);
@@ -50,14 +50,14 @@ module _ (c : Counts) (code row₀ ack₀ : List ℕ) where
         in-stage : k < c .gates
         in-stage = order-gate c code ordered i h
 
-        set-turn : (b : ℕ) → SettledTo c code b row i → SettledTo c code b (set row (2 * c .inputs + k) (given .set)) (i + 1)
+        set-turn : (b : ℕ) → SettledTo c code b row i → SettledTo c code b (set row (2 * c .inputs + k) (cell .set)) (i + 1)
         set-turn b x =
-            settled-more c code loaded ordered b row i h x (omega (arith, s .row-long)) (given .set)
+            settled-more c code loaded ordered b row i h x (omega (arith, s .row-long)) (cell .set)
             (λ j d. ap (λ (r : CellLanes). lane j (r .set)) is
             ∙ set-level c code loaded ordered k in-stage row j (64 * b + j) (λ t l. pins-settled c code loaded ordered b row i h x j t d l))
 
         mark-turn : (b : ℕ) → SettledTo c code b row i → Marked c code b ack → Marked c code b ack′
         mark-turn b x =
-            marked-pins (λ j p. Acknowledged (netIn c code) (restIn c code b j) p) c code k given ack ack′ more
+            marked-pins (λ j p. Acknowledged (netIn c code) (restIn c code b j) p) c code k cell ack ack′ more
             (λ j t d l q e. need-acknowledges c code loaded ordered k in-stage row j (64 * b + j) (λ t l. pins-settled c code loaded ordered b row i h x j t d l) t l
             (sym (ap (λ (r : CellLanes). lane j (needOf r t)) is) ∙ e))

@@ -68,7 +68,7 @@ abbrev pub gateLanes : List ℕ → ℕ → List ℕ → CellLanes
 gateLanes code k row =
     cellLanes (cellIn code k) (getD row (pinIn code k 0) 0) (getD row (pinIn code k 1) 0) (getD row (pinIn code k 2) 0) (getD row (pinIn code k 3) 0)
 
--- marks more, each at a net of one of gate k's pins, in words that are given for that pin
+-- marks more, each at a net of one of gate k's pins, in words that are named for that pin
 abbrev pub PinsMarked : List ℕ → ℕ → CellLanes → List ℕ → List ℕ → Type 0
-PinsMarked code k given ack ack′ =
-    (j p : ℕ) → rowIn j ack′ p ≡ true → (rowIn j ack p ≡ true) ⊎ ((t : ℕ) × (t < 4) × (p ≡ pinIn code k t) × (lane j (needOf given t) ≡ true))
+PinsMarked code k words ack ack′ =
+    (j p : ℕ) → rowIn j ack′ p ≡ true → (rowIn j ack p ≡ true) ⊎ ((t : ℕ) × (t < 4) × (p ≡ pinIn code k t) × (lane j (needOf words t) ≡ true))

@@ -40,16 +40,16 @@ pub fn mark(ack: &mut [u64], net: u16, words: u64)
     ack[p] = old | words;
 }
 
-// The nets at the pins of gate k are marked, each in the words that are given for its pin.
-pub fn mark_pins(code: &[u16], counts: Counts, k: usize, given: CellLanes, ack: &mut [u64])
+// The nets at the pins of gate k are marked, each in the words that are named for its pin.
+pub fn mark_pins(code: &[u16], counts: Counts, k: usize, words: CellLanes, ack: &mut [u64])
     requires { ⌜ StageLoaded counts (now code) × (k < counts .gates) × Room counts (now ack) ⌝ }
-    ensures { λ r. ⌜ (length (now (ack .exit)) ≡ length (now (ack .entry))) × PinsMarked (now (code .entry)) k given (now (ack .entry)) (now (ack .exit)) ⌝ }
+    ensures { λ r. ⌜ (length (now (ack .exit)) ≡ length (now (ack .entry))) × PinsMarked (now (code .entry)) k words (now (ack .entry)) (now (ack .exit)) ⌝ }
 {
     let at = 8 * k;
-    mark(ack, code[at + 1], given.a);
-    mark(ack, code[at + 2], given.b);
-    mark(ack, code[at + 3], given.c);
-    mark(ack, code[at + 4], given.d);
+    mark(ack, code[at + 1], words.a);
+    mark(ack, code[at + 2], words.b);
+    mark(ack, code[at + 3], words.c);
+    mark(ack, code[at + 4], words.d);
 }
 
 // ---- settling
@@ -95,9 +95,9 @@ fn settle_gates(code: &[u16], counts: Counts, row: &mut [u64], ack: &mut [u64])
     let mut i: usize = 0;
     while i < count {
         let k = code[8 * i + 5] as usize;
-        let given = gate_lanes(code, counts, k, row);
-        row[first + k] = given.set;
-        mark_pins(code, counts, k, given, ack);
+        let cell = gate_lanes(code, counts, k, row);
+        row[first + k] = cell.set;
+        mark_pins(code, counts, k, cell, ack);
         i += 1;
     }
 }

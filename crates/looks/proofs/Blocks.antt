@@ -11,7 +11,6 @@ use lib.Dec.{eqb}
 use lib.Bits.{bitOr}
 use Rattle.runs.specs.Row.{Row}
 use Rattle.runs.specs.Pair.{DataOf, Reads}
-use Rattle.runs.specs.Acknowledged.{Acknowledged, Fall-acknowledged}
 use Rattle.runs.proofs.Test.{clash}
 use Rattle.netlist.specs.declared.Counts.{Counts}
 use Rattle.netlist.specs.declared.Found.the-variants.{Nothing}
@@ -29,7 +28,7 @@ use Rattle.words.specs.Loaded.{BothLoaded}
 use Rattle.lanes.specs.Lane.{levelIn, lane, rowIn, laneOf}
 use Rattle.lanes.proofs.Blocks.{level-at, all-at}
 use Rattle.blocks.specs.Block.{restIn, netIn, AtRest}
-use Rattle.looks.specs.Marks.{NoneElse}
+use Rattle.looks.specs.Marks.{AcknowledgedBut}
 use Rattle.looks.specs.Looks.{CleanIn, RiseClean}
 use Rattle.looks.proofs.Outputs.{output-at, length-outputs}
 use Rattle.blocks.proofs.Settling.{free}
@@ -55,33 +54,34 @@ same-data r s p true x y d = (sym y ∙ d .0, sym x ∙ d .1)
 same-data r s p false x y d = (sym x ∙ d .0, sym y ∙ d .1)
 
 module _ (c : Counts) (code : List ℕ) (sizes : Counts) (reference : List ℕ) (both : BothLoaded c code sizes reference) (b : ℕ) (row : List ℕ) (rest : AtRest c code b row) where
-  module _ (values : List ℕ) (wrong loose : ℕ)
+  module _ (values : List ℕ) (wrong unacknowledged : ℕ)
       (answers : (j : ℕ) → j < 64 → take (sizes .inputs + sizes .gates) (laneOf j values) ≡ signalValues (bitsOf (sizes .inputs) (64 * b + j)) (operatorsIn sizes reference))
       (right : (j : ℕ) → j < 64 → lane j wrong ≡ false → (o : ℕ) → o < c .outputs → DataOf (rowIn j row) (railOf (outputIn c code o)) (rowIn j values (signalIn sizes reference o)))
-      (rises : NoneElse (Acknowledged (netIn c code)) c code b loose) where
+      (rises : AcknowledgedBut false c code b unacknowledged) where
     reads : (j : ℕ) → j < 64 → lane j wrong ≡ false → Reads (netIn c code) (restIn c code b j) (answerBits (referenceIn sizes reference) (64 * b + j))
     reads j d e o l =
         let h : o < c .outputs = omega (arith, length-outputs c code) in
-        let x = same-data (rowIn j row) (restIn c code b j) (outputIn c code o) (rowIn j values (signalIn sizes reference o)) (rest j _ d (both .stage .rail0-net o h)) (rest j _ d (both .stage .rail1-net o h)) (right j d e o h) in
+        let x = same-data (rowIn j row) (restIn c code b j) (outputIn c code o) (rowIn j values (signalIn sizes reference o)) (rest j _ d (both .stage .rail0-net o h))
+        (rest j _ d (both .stage .rail1-net o h)) (right j d e o h) in
         rw (output-at c code o h, ← answer-in sizes reference (both .answers) values j (64 * b + j) (answers j d) o (omega (arith, both .enough))) x
 
-    pub rise-clean : RiseClean (stageIn c code) (referenceIn sizes reference) b (record { wrong = wrong; all = bitOr wrong loose })
+    pub rise-clean : RiseClean (stageIn c code) (referenceIn sizes reference) b (record { wrong = wrong; all = bitOr wrong unacknowledged })
     rise-clean = record {
       wrong = λ j d e. reads-right (stageIn c code) (referenceIn sizes reference) (64 * b + j) (free c code (both .ordered)) (reads j d e);
       missing = λ j d e.
-          let n = neither j wrong loose e in
+          let n = neither j wrong unacknowledged e in
           acknowledged-complete (stageIn c code) (referenceIn sizes reference) (64 * b + j) (free c code (both .ordered)) (reads j d (n .0)) (rises j d (n .1));
       unobserved = λ j d e.
-          let n = neither j wrong loose e in
+          let n = neither j wrong unacknowledged e in
           acknowledged-observable (stageIn c code) (referenceIn sizes reference) (64 * b + j) (free c code (both .ordered)) (reads j d (n .0)) (rises j d (n .1));
     }
 
 -- nothing is asked of words that are all named
-pub all-named : (Holds : Row → ℕ → Type 0) (c : Counts) (code : List ℕ) (b : ℕ) → NoneElse Holds c code b 0xFFFF_FFFF_FFFF_FFFF
-all-named Holds c code b j d e p u = absurd (clash (ap (λ (x : ℕ). eqb x 1) (all-at j d)) e)
+pub all-named : (falls : Bool) (c : Counts) (code : List ℕ) (b : ℕ) → AcknowledgedBut falls c code b 0xFFFF_FFFF_FFFF_FFFF
+all-named falls c code b j d e p u = absurd (clash (ap (λ (x : ℕ). eqb x 1) (all-at j d)) e)
 
 -- on the way back
-module _ (c : Counts) (code : List ℕ) (ordered : InOrder c code) (r : Reference) (b fall : ℕ) (falls : NoneElse (Fall-acknowledged (netIn c code)) c code b fall) where
+module _ (c : Counts) (code : List ℕ) (ordered : InOrder c code) (r : Reference) (b fall : ℕ) (falls : AcknowledgedBut true c code b fall) where
   pub fall-complete : CleanIn Remaining (stageIn c code) r b fall
   fall-complete j d e = acknowledged-fall-complete (stageIn c code) r (64 * b + j) (free c code ordered) (falls j d e)
 

@@ -32,7 +32,7 @@ use Rattle.lanes.specs.Cells.{needing, needOf, pinsIn}
 use Rattle.lanes.proofs.Lane.{lane-zero, unlike, lane-xor}
 use Rattle.lanes.proofs.Cells.{set-holds}
 use Rattle.blocks.specs.Block.{restIn, netIn, Resting, AcknowledgedIn, MarkedIn, PinsMarked}
-use Rattle.looks.specs.Marks.{Given, Lone, keeps, keptLanes, setWhere, eachWhere}
+use Rattle.looks.specs.Marks.{PinsAcknowledged, Lone, keeps, keptLanes, setWhere, eachWhere}
 use Rattle.blocks.proofs.Pins.{pin-at, pin-past, pin-in, driver-at}
 use Rattle.blocks.proofs.Marks.{marked-pins}
 use Rattle.blocks.proofs.Settling.{gate-net, rest-gate, rest-past}
@@ -108,7 +108,8 @@ module _ (c : Counts) (code : List ℕ) (loaded : StageLoaded c code) (ordered :
   pub set-where : (alone : Bool) (net : ℕ) → lane j (setWhere code k row alone net) ≡ setIn (kept alone net) (gateIn code k)
   unfolding pins
   set-where alone net =
-      set-holds (cellIn code k) j (keptLanes row alone net (pinIn code k 0)) (keptLanes row alone net (pinIn code k 1)) (keptLanes row alone net (pinIn code k 2)) (keptLanes row alone net (pinIn code k 3))
+      set-holds (cellIn code k) j (keptLanes row alone net (pinIn code k 0)) (keptLanes row alone net (pinIn code k 1)) (keptLanes row alone net (pinIn code k 2))
+      (keptLanes row alone net (pinIn code k 3))
       ∙ holds-local (setExpression (cellIn code k)) (pins alone net) (λ i. getD (map (kept alone net) (gateIn code k .pins)) i false)
       (pin-level alone net 0 (omega arith) refl) (pin-level alone net 1 (omega arith) refl) (pin-level alone net 2 (omega arith) refl) (pin-level alone net 3 (omega arith) refl)
 
@@ -177,34 +178,37 @@ by-pins P r j a b c d (suc (suc (suc zero))) h e = d e
 by-pins P r j a b c d (suc (suc (suc (suc t)))) h e = absurd (omega arith)
 
 module _ (c : Counts) (code : List ℕ) (loaded : StageLoaded c code) (ordered : InOrder c code) (k : ℕ) (h : k < c .gates) (row : List ℕ) where
-  pub given-rise : (high : ℕ) → high ≡ getD row (2 * c .inputs + k) 0 → (low : CellLanes) → low ≡ eachWhere code k row false
-      → Given false c code k row (needing high (bitXor high (low .a)) (bitXor high (low .b)) (bitXor high (low .c)) (bitXor high (low .d)))
-  given-rise high is low each b rest j t d l there e =
-      by-pins (λ t. t < 4 → pinIn code k t < netCount c → Acknowledged (netIn c code) (restIn c code b j) (pinIn code k t)) (needing high (bitXor high (low .a)) (bitXor high (low .b)) (bitXor high (low .c)) (bitXor high (low .d))) j
+  pub acknowledged-rise : (high : ℕ) → high ≡ getD row (2 * c .inputs + k) 0 → (low : CellLanes) → low ≡ eachWhere code k row false
+      → PinsAcknowledged false c code k row (needing high (bitXor high (low .a)) (bitXor high (low .b)) (bitXor high (low .c)) (bitXor high (low .d)))
+  acknowledged-rise high is low each b rest j t d l there e =
+      by-pins (λ t. t < 4 → pinIn code k t < netCount c → Acknowledged (netIn c code) (restIn c code b j) (pinIn code k t))
+      (needing high (bitXor high (low .a)) (bitXor high (low .b)) (bitXor high (low .c)) (bitXor high (low .d))) j
       (at 0 (ap (λ (r : CellLanes). r .a) each)) (at 1 (ap (λ (r : CellLanes). r .b) each)) (at 2 (ap (λ (r : CellLanes). r .c) each)) (at 3 (ap (λ (r : CellLanes). r .d) each)) t l e l there
     where
       at : (t : ℕ) {x : ℕ} → x ≡ setWhere code k row false (pinIn code k t) → lane j (bitXor high x) ≡ true → t < 4 → pinIn code k t < netCount c
           → Acknowledged (netIn c code) (restIn c code b j) (pinIn code k t)
       at t q z l there = need-acknowledges c code loaded ordered k h row b j d rest t l there high is (sym (ap (λ (y : ℕ). lane j (bitXor high y)) q) ∙ z)
 
-  pub given-hold : slot code k 7 ≡ 1 → (high : ℕ) → high ≡ getD row (2 * c .inputs + k) 0 → Given true c code k row (needing high high high high high)
-  given-hold e high is b rest j t d l there z =
-      by-pins (λ t. t < 4 → pinIn code k t < netCount c → Fall-acknowledged (netIn c code) (restIn c code b j) (pinIn code k t)) (needing high high high high high) j (at 0) (at 1) (at 2) (at 3) t l z l there
+  pub acknowledged-hold : slot code k 7 ≡ 1 → (high : ℕ) → high ≡ getD row (2 * c .inputs + k) 0 → PinsAcknowledged true c code k row (needing high high high high high)
+  acknowledged-hold e high is b rest j t d l there z =
+      by-pins (λ t. t < 4 → pinIn code k t < netCount c → Fall-acknowledged (netIn c code) (restIn c code b j) (pinIn code k t)) (needing high high high high high) j
+      (at 0) (at 1) (at 2) (at 3) t l z l there
     where
       at : (t : ℕ) → lane j high ≡ true → t < 4 → pinIn code k t < netCount c → Fall-acknowledged (netIn c code) (restIn c code b j) (pinIn code k t)
       at t u l there = hold-acknowledges c code loaded ordered k h row b j d rest t l there e (sym (rest .rest j (2 * c .inputs + k) d (omega arith)) ∙ sym (ap (lane j) is) ∙ u)
 
-  pub given-relaxed : (slot code k 7 ≡ 1 → ⊥) → (r : CellLanes) → r ≡ eachWhere code k row true → Given true c code k row r
-  given-relaxed n r each b rest j t d l there z =
-      by-pins (λ t. t < 4 → pinIn code k t < netCount c → Fall-acknowledged (netIn c code) (restIn c code b j) (pinIn code k t)) r j (at 0 (ap (λ (r : CellLanes). r .a) each)) (at 1 (ap (λ (r : CellLanes). r .b) each))
+  pub acknowledged-relaxed : (slot code k 7 ≡ 1 → ⊥) → (r : CellLanes) → r ≡ eachWhere code k row true → PinsAcknowledged true c code k row r
+  acknowledged-relaxed n r each b rest j t d l there z =
+      by-pins (λ t. t < 4 → pinIn code k t < netCount c → Fall-acknowledged (netIn c code) (restIn c code b j) (pinIn code k t)) r j
+      (at 0 (ap (λ (r : CellLanes). r .a) each)) (at 1 (ap (λ (r : CellLanes). r .b) each))
       (at 2 (ap (λ (r : CellLanes). r .c) each)) (at 3 (ap (λ (r : CellLanes). r .d) each)) t l z l there
     where
       at : (t : ℕ) {x : ℕ} → x ≡ setWhere code k row true (pinIn code k t) → lane j x ≡ true → t < 4 → pinIn code k t < netCount c
           → Fall-acknowledged (netIn c code) (restIn c code b j) (pinIn code k t)
       at t q u l there = alone-acknowledges c code loaded ordered k h row b j d rest t l there n (sym (ap (lane j) q) ∙ u)
 
-  pub given-lone : (slot code k 7 ≡ 1 → ⊥) → (r : CellLanes) → Lone code k row r → Given true c code k row r
-  given-lone n r lone b rest j t d l there z =
+  pub acknowledged-lone : (slot code k 7 ≡ 1 → ⊥) → (r : CellLanes) → Lone code k row r → PinsAcknowledged true c code k row r
+  acknowledged-lone n r lone b rest j t d l there z =
       let both = lone j t l z in
       lone-acknowledges c code loaded ordered k h row b j d rest t l there n (sym (rest .rest j (pinIn code k t) d there) ∙ both .0) (both .1)
 
@@ -218,9 +222,9 @@ pins-of code row k j x y z u (suc (suc (suc zero))) h p q r s = ap (lane j) s
 pins-of code row k j x y z u (suc (suc (suc (suc t)))) h p q r s = absurd (omega arith)
 
 pub lone-at : (code row : List ℕ) (k x y z u : ℕ) → x ≡ getD row (pinIn code k 0) 0 → y ≡ getD row (pinIn code k 1) 0 → z ≡ getD row (pinIn code k 2) 0
-    → u ≡ getD row (pinIn code k 3) 0 → (given : CellLanes)
-    → ((j i : ℕ) → i < 4 → lane j (needOf given i) ≡ true → (pinsIn j x y z u i ≡ true) × (holds (setExpression (cellIn code k)) (only i) ≡ true)) → Lone code k row given
-lone-at code row k x y z u p q r s given lone j t l v = let both = lone j t l v in (sym (pins-of code row k j x y z u t l p q r s) ∙ both .0, both .1)
+    → u ≡ getD row (pinIn code k 3) 0 → (words : CellLanes)
+    → ((j i : ℕ) → i < 4 → lane j (needOf words i) ≡ true → (pinsIn j x y z u i ≡ true) × (holds (setExpression (cellIn code k)) (only i) ≡ true)) → Lone code k row words
+lone-at code row k x y z u p q r s words lone j t l v = let both = lone j t l v in (sym (pins-of code row k j x y z u t l p q r s) ∙ both .0, both .1)
 
 -- ---- all gates
 
@@ -233,9 +237,9 @@ module _ (falls : Bool) (c : Counts) (code row start : List ℕ) where
   pub gates-start : GatesTo falls c code row start start
   gates-start = record { same-long = refl; each = λ b r m. m }
 
-  pub gates-turn : (ack : List ℕ) → GatesTo falls c code row start ack → (k : ℕ) (given : CellLanes) → Given falls c code k row given → (ack′ : List ℕ) → length ack′ ≡ length ack
-      → PinsMarked code k given ack ack′ → GatesTo falls c code row start ack′
-  gates-turn ack s k given ok ack′ long more = record {
+  pub gates-turn : (ack : List ℕ) → GatesTo falls c code row start ack → (k : ℕ) (words : CellLanes) → PinsAcknowledged falls c code k row words → (ack′ : List ℕ) → length ack′ ≡ length ack
+      → PinsMarked code k words ack ack′ → GatesTo falls c code row start ack′
+  gates-turn ack s k words ok ack′ long more = record {
     same-long = long ∙ s .same-long;
-    each = λ b r m. marked-pins (λ j p. AcknowledgedIn falls (netIn c code) (restIn c code b j) p) c code k given ack ack′ more (ok b r) (s .each b r m);
+    each = λ b r m. marked-pins (λ j p. AcknowledgedIn falls (netIn c code) (restIn c code b j) p) c code k words ack ack′ more (ok b r) (s .each b r m);
   }

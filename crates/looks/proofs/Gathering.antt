@@ -43,8 +43,10 @@ not-unmarked j level mark e u = go (lane j level) (lane j mark) (sym (lane-and j
 pub read-as : (j rail0 rail1 value : ℕ) → j < 64 → lane j (bitOr (bitXor (bitXor rail0 value) 0xFFFF_FFFF_FFFF_FFFF) (bitXor rail1 value)) ≡ false
     → (lane j rail0 ≡ not (lane j value)) × (lane j rail1 ≡ lane j value)
 read-as j rail0 rail1 value d e =
-    let n = neither j (bitXor (bitXor rail0 value) 0xFFFF_FFFF_FFFF_FFFF) (bitXor rail1 value) e in
-    (unlike-of (lane j rail0) (lane j value) (sym (lane-not j (bitXor rail0 value) d ∙ ap not (lane-xor j rail0 value)) ∙ n .0), like-of (lane j rail1) (lane j value) (sym (lane-xor j rail1 value) ∙ n .1))
+    let n = neither j (bitXor (bitXor rail0 value) 0xFFFF_FFFF_FFFF_FFFF) (bitXor rail1 value) e in (
+      unlike-of (lane j rail0) (lane j value) (sym (lane-not j (bitXor rail0 value) d ∙ ap not (lane-xor j rail0 value)) ∙ n .0),
+      like-of (lane j rail1) (lane j value) (sym (lane-xor j rail1 value) ∙ n .1),
+    )
   where
     unlike-of : (x y : Bool) → not (unlike x y) ≡ false → x ≡ not y
     unlike-of true true z = absurd (clash refl z)

@@ -4,5 +4,6 @@ pub mod Tests
 pub mod OneWord
 pub mod ByNet
 pub mod Resting
+pub mod Hold
 pub mod Blocks
 pub mod Naming

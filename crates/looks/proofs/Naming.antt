@@ -22,7 +22,7 @@ use Rattle.lanes.proofs.Lane.{lane-zero}
 use Rattle.lanes.proofs.Blocks.{all-at}
 use Rattle.looks.specs.declared.Rise.{Rise}
 use Rattle.looks.specs.declared.Masks.{Masks}
-use Rattle.looks.specs.Looks.{maskFor, CleanIn, RiseClean, Unnamed, Clean, AllClean}
+use Rattle.looks.specs.Looks.{CleanIn, RiseClean, Unnamed, Clean, AllClean}
 
 module _ (s : Stage) (r : Reference) (which : Sweep) where
   clean-start : (n : ℕ) → Clean which s r (replicate n 0xFFFF_FFFF_FFFF_FFFF)
@@ -49,30 +49,26 @@ module _ (s : Stage) (r : Reference) (which : Sweep) where
 abbrev pub masksOf : List ℕ → List ℕ → List ℕ → Masks
 masksOf wrong rise fall = record { wrong = wrong; rise = rise; fall = fall }
 
-pub all-clean-start : (s : Stage) (r : Reference) (n : ℕ) →
-    AllClean s r (masksOf (replicate n 0xFFFF_FFFF_FFFF_FFFF) (replicate n 0xFFFF_FFFF_FFFF_FFFF) (replicate n 0xFFFF_FFFF_FFFF_FFFF))
-all-clean-start s r n Wrong = clean-start s r Wrong n
-all-clean-start s r n Missing = clean-start s r Missing n
-all-clean-start s r n Unobserved = clean-start s r Unobserved n
-all-clean-start s r n Remaining = clean-start s r Remaining n
-all-clean-start s r n StillHigh = clean-start s r StillHigh n
+pub all-clean-start : (s : Stage) (r : Reference) (n : ℕ)
+    → AllClean s r (masksOf (replicate n 0xFFFF_FFFF_FFFF_FFFF) (replicate n 0xFFFF_FFFF_FFFF_FFFF) (replicate n 0xFFFF_FFFF_FFFF_FFFF))
+all-clean-start s r n = record {
+  wrong = clean-start s r Wrong n;
+  missing = clean-start s r Missing n;
+  unobserved = clean-start s r Unobserved n;
+  remaining = clean-start s r Remaining n;
+  still-high = clean-start s r StillHigh n;
+}
 
--- a block's words in the masks of the rise, and in that of the fall
-pub rise-more : (s : Stage) (r : Reference) (wrong rise fall : List ℕ) (b : ℕ) (l : Rise) → AllClean s r (masksOf wrong rise fall) → RiseClean s r b l
-    → AllClean s r (masksOf (set wrong b (l .wrong)) (set rise b (l .all)) fall)
-rise-more s r wrong rise fall b l ok new Wrong = clean-more s r Wrong wrong b (l .wrong) (ok Wrong) (new .wrong)
-rise-more s r wrong rise fall b l ok new Missing = clean-more s r Missing rise b (l .all) (ok Missing) (new .missing)
-rise-more s r wrong rise fall b l ok new Unobserved = clean-more s r Unobserved rise b (l .all) (ok Unobserved) (new .unobserved)
-rise-more s r wrong rise fall b l ok new Remaining = ok Remaining
-rise-more s r wrong rise fall b l ok new StillHigh = ok StillHigh
-
-pub fall-more : (s : Stage) (r : Reference) (wrong rise fall : List ℕ) (b x : ℕ) → AllClean s r (masksOf wrong rise fall) → CleanIn Remaining s r b x → CleanIn StillHigh s r b x
-    → AllClean s r (masksOf wrong rise (set fall b x))
-fall-more s r wrong rise fall b x ok complete observable Wrong = ok Wrong
-fall-more s r wrong rise fall b x ok complete observable Missing = ok Missing
-fall-more s r wrong rise fall b x ok complete observable Unobserved = ok Unobserved
-fall-more s r wrong rise fall b x ok complete observable Remaining = clean-more s r Remaining fall b x (ok Remaining) complete
-fall-more s r wrong rise fall b x ok complete observable StillHigh = clean-more s r StillHigh fall b x (ok StillHigh) observable
+-- a block's words in all masks
+pub all-clean-more : (s : Stage) (r : Reference) (wrong rise fall : List ℕ) (b : ℕ) (l : Rise) (x : ℕ) → AllClean s r (masksOf wrong rise fall) → RiseClean s r b l
+    → CleanIn Remaining s r b x → CleanIn StillHigh s r b x → AllClean s r (masksOf (set wrong b (l .wrong)) (set rise b (l .all)) (set fall b x))
+all-clean-more s r wrong rise fall b l x ok up complete observable = record {
+  wrong = clean-more s r Wrong wrong b (l .wrong) (ok .wrong) (up .wrong);
+  missing = clean-more s r Missing rise b (l .all) (ok .missing) (up .missing);
+  unobserved = clean-more s r Unobserved rise b (l .all) (ok .unobserved) (up .unobserved);
+  remaining = clean-more s r Remaining fall b x (ok .remaining) complete;
+  still-high = clean-more s r StillHigh fall b x (ok .still-high) observable;
+}
 
 -- a mask whose numbers are 0 up to the words below a bound names none of them
 pub clear-unnamed : (mask : List ℕ) (b : ℕ) → b ≤ length mask → ((k : ℕ) → k < b → getD mask k 0 ≡ 0) → (n w : ℕ) → w < n → n ≤ 64 * b → Unnamed mask w

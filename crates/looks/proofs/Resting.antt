@@ -1,28 +1,27 @@
--- Where every high net is marked, every net that is high at the rest is as is said of marks.
+-- Where every high net is marked, every net that is high at the rest is acknowledged.
 -- Assumes nothing.
 use Prim.Native.Nat.{ℕ, zero, suc, _+_, _*_, _<_}
 use native.Mathlib.Omega.{arith}
 use native.Mathlib.Decide.{decLt}
 use mathlib.Core.Path.{_≡_, refl, _∙_}
-use mathlib.Core.Bool.{true, false}
+use mathlib.Core.Bool.{Bool, true, false}
 use mathlib.Core.List.{List}
 use lib.ListN.{getD, replicate}
-use Rattle.runs.specs.Row.{Row}
 use Rattle.runs.proofs.Test.{clash}
 use Rattle.netlist.specs.declared.Counts.{Counts}
 use Rattle.circuit.specs.Stage.{netCount}
 use Rattle.circuit.specs.Order.{InOrder}
 use Rattle.lanes.specs.Lane.{lane}
-use Rattle.blocks.specs.Block.{restIn, AtRest, MarkedWith}
+use Rattle.blocks.specs.Block.{restIn, netIn, AtRest, AcknowledgedIn, MarkedIn}
 use Rattle.blocks.proofs.Settling.{rest-past}
-use Rattle.looks.specs.Marks.{AllMarked, NoneElse}
+use Rattle.looks.specs.Marks.{AllMarked, AcknowledgedBut}
 
 module _ (c : Counts) (code : List ℕ) (ordered : InOrder c code) (b : ℕ) where
-  pub none-else : (Holds : Row → ℕ → Type 0) (row ack : List ℕ) (words : ℕ) → AtRest c code b row → MarkedWith (λ j p. Holds (restIn c code b j) p) c ack
-      → ((j : ℕ) → j < 64 → lane j words ≡ false → AllMarked j c row ack) → NoneElse Holds c code b words
-  none-else Holds row ack words rest marked all j d e p u = go (decLt p (netCount c))
+  pub acknowledged-but : (falls : Bool) (row ack : List ℕ) (words : ℕ) → AtRest c code b row → MarkedIn falls c code b ack
+      → ((j : ℕ) → j < 64 → lane j words ≡ false → AllMarked j c row ack) → AcknowledgedBut falls c code b words
+  acknowledged-but falls row ack words rest marked all j d e p u = go (decLt p (netCount c))
     where
-      go : Dec (p < netCount c) → Holds (restIn c code b j) p
+      go : Dec (p < netCount c) → AcknowledgedIn falls (netIn c code) (restIn c code b j) p
       go (yes h) = marked j p d h (all j d e p h (rest j p d h ∙ u))
       go (no h) = absurd (clash u (rest-past c code ordered (64 * b + j) p (omega arith)))
 

@@ -13,14 +13,6 @@ use Rattle.lanes.specs.Lane.{lane}
 use Rattle.looks.specs.declared.Rise.{Rise}
 use Rattle.looks.specs.declared.Masks.{Masks}
 
--- the mask of a check
-abbrev pub maskFor : Sweep → Masks → List ℕ
-maskFor Wrong m = m .wrong
-maskFor Missing m = m .rise
-maskFor Unobserved m = m .rise
-maskFor Remaining m = m .fall
-maskFor StillHigh m = m .fall
-
 -- some words of block b are named, and in one that is not a check finds nothing
 abbrev pub CleanIn : Sweep → Stage → Reference → ℕ → ℕ → Type 0
 CleanIn which s r b words = (j : ℕ) → j < 64 → lane j words ≡ false → finds which s r (64 * b + j) ≡ Nothing
@@ -39,6 +31,10 @@ pub record Unnamed (mask : List ℕ) (w : ℕ) : Type 0 where
 abbrev pub Clean : Sweep → Stage → Reference → List ℕ → Type 0
 Clean which s r mask = (w : ℕ) → Unnamed mask w → finds which s r w ≡ Nothing
 
--- so it is of each of the five
-abbrev pub AllClean : Stage → Reference → Masks → Type 0
-AllClean s r m = (which : Sweep) → Clean which s r (maskFor which m)
+-- so it is of each of the five: 14 and 15 share a mask, and so do 20 and 21
+pub record AllClean (s : Stage) (r : Reference) (m : Masks) : Type 0 where
+  pub wrong : Clean Wrong s r (m .wrong)
+  pub missing : Clean Missing s r (m .rise)
+  pub unobserved : Clean Unobserved s r (m .rise)
+  pub remaining : Clean Remaining s r (m .fall)
+  pub still-high : Clean StillHigh s r (m .fall)

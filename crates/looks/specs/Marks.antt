@@ -27,16 +27,16 @@ pub record Workspace (c : Counts) (row ack values : List ℕ) : Type 0 where
 
 -- ---- one gate
 
--- in a block that is at rest, where words are given for a pin of gate k its net is acknowledged
-abbrev pub Given : Bool → Counts → List ℕ → ℕ → List ℕ → CellLanes → Type 0
-Given falls c code k row given =
-    (b : ℕ) → Resting c code b row → (j t : ℕ) → j < 64 → t < 4 → pinIn code k t < netCount c → lane j (needOf given t) ≡ true
+-- in a block that is at rest, where words are named for a pin of gate k its net is acknowledged
+abbrev pub PinsAcknowledged : Bool → Counts → List ℕ → ℕ → List ℕ → CellLanes → Type 0
+PinsAcknowledged falls c code k row words =
+    (b : ℕ) → Resting c code b row → (j t : ℕ) → j < 64 → t < 4 → pinIn code k t < netCount c → lane j (needOf words t) ≡ true
     → AcknowledgedIn falls (netIn c code) (restIn c code b j) (pinIn code k t)
 
--- where words are given for a pin of gate k it is high, and it alone sets the gate's cell
+-- where words are named for a pin of gate k it is high, and it alone sets the gate's cell
 abbrev pub Lone : List ℕ → ℕ → List ℕ → CellLanes → Type 0
-Lone code k row given =
-    (j t : ℕ) → t < 4 → lane j (needOf given t) ≡ true → (rowIn j row (pinIn code k t) ≡ true) × (holds (setExpression (cellIn code k)) (only t) ≡ true)
+Lone code k row words =
+    (j t : ℕ) → t < 4 → lane j (needOf words t) ≡ true → (rowIn j row (pinIn code k t) ≡ true) × (holds (setExpression (cellIn code k)) (only t) ≡ true)
 
 -- whether a pin is kept: the pins at a net alone, or all others
 abbrev pub keeps : Bool → ℕ → ℕ → Bool
@@ -60,14 +60,15 @@ eachWhere code k row alone =
 
 -- ---- all nets
 
--- a net is a rail of an output
-abbrev pub OutputRail : Net → ℕ → Type 0
-OutputRail N p = (j : ℕ) × (b : Bool) × (j < N .outputs) × (N .rail j b ≡ p)
+-- a net that is acknowledged in every row, in the rise and on the way back, as a rail of an output is
+abbrev pub AlwaysAcknowledged : Net → ℕ → Type 0
+AlwaysAcknowledged N p = (falls : Bool) (R : Row) → AcknowledgedIn falls N R p
 
 -- in word j every high net is marked
 abbrev pub AllMarked : ℕ → Counts → List ℕ → List ℕ → Type 0
 AllMarked j c row ack = (p : ℕ) → p < netCount c → rowIn j row p ≡ true → rowIn j ack p ≡ true
 
--- in the words of block b that are not named, each net that is high at the rest is as is said
-abbrev pub NoneElse : (Row → ℕ → Type 0) → Counts → List ℕ → ℕ → ℕ → Type 0
-NoneElse Holds c code b words = (j : ℕ) → j < 64 → lane j words ≡ false → (p : ℕ) → restIn c code b j p ≡ true → Holds (restIn c code b j) p
+-- in the words of block b that are not named, every net that is high at the rest is acknowledged
+abbrev pub AcknowledgedBut : Bool → Counts → List ℕ → ℕ → ℕ → Type 0
+AcknowledgedBut falls c code b words =
+    (j : ℕ) → j < 64 → lane j words ≡ false → (p : ℕ) → restIn c code b j p ≡ true → AcknowledgedIn falls (netIn c code) (restIn c code b j) p

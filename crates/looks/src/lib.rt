@@ -2,7 +2,6 @@
 // acknowledged.
 use lanes::CellLanes;
 use netlist::Counts;
-use words::Sweep;
 ghost use mathlib.Core.Path.{_≡_};
 ghost use mathlib.Core.Bool.{true, false};
 ghost use mathlib.Core.Logic.{_⊎_};
@@ -10,17 +9,17 @@ ghost use mathlib.Core.List.{List};
 ghost use Prim.Native.Nat.{ℕ, _+_, _*_, _^_, _≤_, _<_};
 ghost use lib.ListN.{length, getD};
 ghost use Rattle.runs.specs.Pair.{DataOf};
-ghost use Rattle.runs.specs.Acknowledged.{Acknowledged, Fall-acknowledged};
 ghost use Rattle.netlist.specs.Reading.{stageLimits};
 ghost use Rattle.verdict.specs.Nets.{railOf};
+ghost use Rattle.verdict.specs.Demands.{WithHold};
 ghost use Rattle.circuit.specs.Stage.{netCount, outputIn, stageIn, StageLoaded};
 ghost use Rattle.circuit.specs.Order.{InOrder};
 ghost use Rattle.circuit.specs.Reference.{signalIn, referenceIn};
 ghost use Rattle.words.specs.Loaded.{BothLoaded};
 ghost use Rattle.lanes.specs.Lane.{lane, rowIn};
 ghost use Rattle.blocks.specs.Block.{netIn, Room, Resting, MarkedIn};
-ghost use Rattle.looks.specs.Marks.{Workspace, Given, Lone, keptLanes, setWhere, eachWhere, OutputRail, AllMarked, NoneElse};
-ghost use Rattle.looks.specs.Looks.{RiseClean, Unnamed, AllClean, maskFor};
+ghost use Rattle.looks.specs.Marks.{Workspace, PinsAcknowledged, Lone, keptLanes, setWhere, eachWhere, AlwaysAcknowledged, AllMarked, AcknowledgedBut};
+ghost use Rattle.looks.specs.Looks.{RiseClean, Unnamed, AllClean};
 
 // The words of a block in which something may be wrong: for 13, and for 14 and 15.
 pub struct Rise {
@@ -54,7 +53,7 @@ fn clear(counts: Counts, ack: &mut [u64])
 fn mark_outputs(code: &[u16], counts: Counts, ack: &mut [u64])
     requires { ⌜ StageLoaded counts (now code) × Room counts (now ack) ⌝ }
     ensures long { λ r. ⌜ length (now (ack .exit)) ≡ length (now (ack .entry)) ⌝ }
-    ensures marked { λ r. ⌜ ((j p : ℕ) → rowIn j (now (ack .exit)) p ≡ true → (rowIn j (now (ack .entry)) p ≡ true) ⊎ OutputRail (netIn counts (now (code .entry))) p) ⌝ }
+    ensures marked { λ r. ⌜ ((j p : ℕ) → rowIn j (now (ack .exit)) p ≡ true → (rowIn j (now (ack .entry)) p ≡ true) ⊎ AlwaysAcknowledged (netIn counts (now (code .entry))) p) ⌝ }
 {
     let mut j: usize = 0;
     while j < counts.outputs {
@@ -179,7 +178,7 @@ fn lone_gate(code: &[u16], counts: Counts, k: usize, row: &[u64]) -> CellLanes
 // For each pin of gate k words in which its net is acknowledged by the gate. In the rise: the gate is high, and would not be set with that net low.
 // On the way back: it may not fall while that net alone is high, which with hold is where it is high, and relaxed where that net alone sets it; if
 // this is not asked by net, where that pin alone does.
-fn given_lanes(
+fn acknowledged_lanes(
     falls: bool,
     by_net: bool,
     code: &[u16],
@@ -188,7 +187,7 @@ fn given_lanes(
     row: &[u64],
 ) -> CellLanes
     requires { ⌜ StageLoaded counts (now code) × InOrder counts (now code) × (k < counts .gates) × Room counts (now row) ⌝ }
-    ensures { λ r. ⌜ Given falls counts (now (code .entry)) k (now (row .entry)) r ⌝ }
+    ensures { λ r. ⌜ PinsAcknowledged falls counts (now (code .entry)) k (now (row .entry)) r ⌝ }
 {
     let high = row[2 * counts.inputs + k];
     if falls {
@@ -230,7 +229,7 @@ fn mark_gates(falls: bool, by_net: bool, code: &[u16], counts: Counts, row: &[u6
             code,
             counts,
             k,
-            given_lanes(falls, by_net, code, counts, k, row),
+            acknowledged_lanes(falls, by_net, code, counts, k, row),
             ack,
         );
         k += 1;
@@ -245,7 +244,7 @@ fn rise_words(code: &[u16], counts: Counts, b: usize, row: &mut [u64], ack: &mut
     requires { ⌜ StageLoaded counts (now code) × InOrder counts (now code) × Room counts (now row) × Room counts (now ack) × (getD (now row) (netCount counts) 0 ≡ 0) ⌝ }
     ensures long { λ r. ⌜ (length (now (row .exit)) ≡ length (now (row .entry))) × (length (now (ack .exit)) ≡ length (now (ack .entry))) ⌝ }
     ensures rest { λ r. ⌜ Resting counts (now (code .entry)) b (now (row .exit)) ⌝ }
-    ensures words { λ r. ⌜ NoneElse (Acknowledged (netIn counts (now (code .entry)))) counts (now (code .entry)) b r ⌝ }
+    ensures words { λ r. ⌜ AcknowledgedBut false counts (now (code .entry)) b r ⌝ }
 {
     clear(counts, ack);
     mark_outputs(code, counts, ack);
@@ -265,8 +264,7 @@ fn rise_words(code: &[u16], counts: Counts, b: usize, row: &mut [u64], ack: &mut
 fn fall_words(code: &[u16], counts: Counts, row: &[u64], ack: &mut [u64]) -> u64
     requires { ⌜ StageLoaded counts (now code) × InOrder counts (now code) × Room counts (now row) × Room counts (now ack) ⌝ }
     ensures long { λ r. ⌜ length (now (ack .exit)) ≡ length (now (ack .entry)) ⌝ }
-    ensures words { λ r. ⌜ ((b : ℕ) → Resting counts (now (code .entry)) b (now (row .entry))
-        → NoneElse (Fall-acknowledged (netIn counts (now (code .entry)))) counts (now (code .entry)) b r) ⌝ }
+    ensures words { λ r. ⌜ ((b : ℕ) → Resting counts (now (code .entry)) b (now (row .entry)) → AcknowledgedBut true counts (now (code .entry)) b r) ⌝ }
 {
     clear(counts, ack);
     mark_outputs(code, counts, ack);
@@ -297,46 +295,46 @@ fn rise_block(
     ensures rest { λ r. ⌜ Resting counts (now (code .entry)) b (now (row .exit)) ⌝ }
     ensures clean { λ r. ⌜ RiseClean (stageIn counts (now (code .entry))) (referenceIn sizes (now (reference .entry))) b r ⌝ }
 {
-    let loose = rise_words(code, counts, b, row, ack);
+    let unacknowledged = rise_words(code, counts, b, row, ack);
     lanes::signal_lanes(reference, sizes, b, values);
     let wrong = wrong_words(code, counts, row, reference, sizes, values);
     Rise {
         wrong,
-        all: wrong | loose,
+        all: wrong | unacknowledged,
     }
 }
 
-// The words of a block at rest that are worth a look for 20 and 21: all of them where it is not asked which.
-fn fall_block(asked: bool, code: &[u16], counts: Counts, row: &[u64], ack: &mut [u64]) -> u64
+// The words of a block at rest that are worth a look for 20 and 21: where every gate has hold it is not asked which, and all are.
+fn fall_block(hold: bool, code: &[u16], counts: Counts, row: &[u64], ack: &mut [u64]) -> u64
     requires { ⌜ StageLoaded counts (now code) × InOrder counts (now code) × Room counts (now row) × Room counts (now ack) ⌝ }
     ensures long { λ r. ⌜ length (now (ack .exit)) ≡ length (now (ack .entry)) ⌝ }
-    ensures words { λ r. ⌜ ((b : ℕ) → Resting counts (now (code .entry)) b (now (row .entry))
-        → NoneElse (Fall-acknowledged (netIn counts (now (code .entry)))) counts (now (code .entry)) b r) ⌝ }
+    ensures words { λ r. ⌜ ((b : ℕ) → Resting counts (now (code .entry)) b (now (row .entry)) → AcknowledgedBut true counts (now (code .entry)) b r) ⌝ }
 {
-    if asked {
-        return fall_words(code, counts, row, ack);
+    if hold {
+        return lanes::ALL;
     }
-    lanes::ALL
+    fall_words(code, counts, row, ack)
 }
 
-// Whether some gate is relaxed, so that 20 and 21 may find something.
-fn some_relaxed(code: &[u16], counts: Counts) -> bool
+// Whether every gate has hold, so that 20 and 21 find nothing where 13, 14 and 15 do not.
+pub fn all_hold(code: &[u16], counts: Counts) -> bool
     requires { ⌜ StageLoaded counts (now code) ⌝ }
+    ensures { λ r. ⌜ ((r ≡ true → WithHold (stageIn counts (now (code .entry)))) × (WithHold (stageIn counts (now (code .entry))) → r ≡ true)) ⌝ }
 {
     let count = counts.gates;
-    let mut k: usize = 0;
-    while k < count {
-        if code[8 * k + 7] == 1 {
-            k += 1;
+    let mut i: usize = 0;
+    while i < count {
+        if code[8 * i + 7] == 1 {
+            i += 1;
         } else {
-            return true;
+            return false;
         }
     }
-    false
+    true
 }
 
-// The words of a stage that are worth a look, by the reference. All words past those that its inputs have are; and for 20 and 21 all are where
-// every gate has hold.
+// The words of a stage that are worth a look, by the reference. A block past those that its inputs make is named whole; where there are fewer than
+// six inputs, the lanes behind the last word repeat the words. For 20 and 21 all words are named where every gate has hold.
 pub fn looks(code: &[u16], counts: Counts, reference: &[u16], sizes: Counts) -> Masks
     requires { ⌜ BothLoaded counts (now code) sizes (now reference) ⌝ }
     ensures { λ r. ⌜ AllClean (stageIn counts (now (code .entry))) (referenceIn sizes (now (reference .entry))) r ⌝ }
@@ -347,7 +345,7 @@ pub fn looks(code: &[u16], counts: Counts, reference: &[u16], sizes: Counts) -> 
     let mut wrong = [lanes::ALL; blocks::BLOCKS];
     let mut rise = [lanes::ALL; blocks::BLOCKS];
     let mut fall = [lanes::ALL; blocks::BLOCKS];
-    let falls = some_relaxed(code, counts);
+    let hold = all_hold(code, counts);
     let count = blocks::block_count(counts.inputs);
     let mut b: usize = 0;
     while b < count {
@@ -363,23 +361,10 @@ pub fn looks(code: &[u16], counts: Counts, reference: &[u16], sizes: Counts) -> 
         );
         wrong[b] = found.wrong;
         rise[b] = found.all;
-        fall[b] = fall_block(falls, code, counts, &row, &mut ack);
+        fall[b] = fall_block(hold, code, counts, &row, &mut ack);
         b += 1;
     }
     Masks { wrong, rise, fall }
-}
-
-// The mask of a check.
-pub fn mask_of(which: Sweep, masks: Masks) -> [u64; blocks::BLOCKS]
-    ensures { λ r. ⌜ (r ≡ maskFor which masks) × (length r ≡ 16) ⌝ }
-{
-    match which {
-        Sweep::Wrong => masks.wrong,
-        Sweep::Missing => masks.rise,
-        Sweep::Unobserved => masks.rise,
-        Sweep::Remaining => masks.fall,
-        Sweep::StillHigh => masks.fall,
-    }
 }
 
 // Whether a mask names word w.

@@ -143,23 +143,16 @@ no-fall order c code o hold r e =
     let l = loopFree-noLoop (c .inputs) (stageGates c code) (order-no-loop (c .inputs) (stageGates c code) (orderIn c code) (o .ordered)) in
     then-fall order s r e Passed (sym (hold-passes order s r l hold (sym e)))
 
--- each of the gates of a flat form has hold
-pub hold-all : (c : Counts) (code : List ℕ) → ((k : ℕ) → k < c .gates → slot code k 7 ≡ 1) → WithHold (stageIn c code)
-unfolding stageGates
-hold-all c code all k h =
-    let b : k < c .gates = omega (arith, length-tabulate (gateIn code) (c .gates)) in
-    ap (λ (g : Gate). g .hold) (getD-tabulate (gateIn code) (c .gates) k noGate b) ∙ eq-eqb (slot code k 7) 1 (all k b)
-
 -- ---- no word is named
 
 -- the masks of the rise name nothing, and then those of the fall
 pub rises-pass : (order : WordOrder) (s : Stage) (r : Reference) (m : Masks) → AllClean s r m → ((w : ℕ) → w < 2 ^ s .inputs → Unnamed (m .wrong) w)
     → ((w : ℕ) → w < 2 ^ s .inputs → Unnamed (m .rise) w) → Passed ≡ firstFault (riseSweeps order s r)
 rises-pass order s r m clean wrong rise =
-    first-unobserved order s r (none-worth Wrong order s r (m .wrong) (clean Wrong) wrong) (none-worth Missing order s r (m .rise) (clean Missing) rise) Passed
-    (none-worth Unobserved order s r (m .rise) (clean Unobserved) rise)
+    first-unobserved order s r (none-worth Wrong order s r (m .wrong) (clean .wrong) wrong) (none-worth Missing order s r (m .rise) (clean .missing) rise) Passed
+    (none-worth Unobserved order s r (m .rise) (clean .unobserved) rise)
 
 pub falls-pass : (order : WordOrder) (s : Stage) (r : Reference) (m : Masks) → AllClean s r m → ((w : ℕ) → w < 2 ^ s .inputs → Unnamed (m .fall) w)
     → Passed ≡ firstFault (fallSweeps order s r)
 falls-pass order s r m clean fall =
-    first-still-high order s r (none-worth Remaining order s r (m .fall) (clean Remaining) fall) Passed (none-worth StillHigh order s r (m .fall) (clean StillHigh) fall)
+    first-still-high order s r (none-worth Remaining order s r (m .fall) (clean .remaining) fall) Passed (none-worth StillHigh order s r (m .fall) (clean .still-high) fall)

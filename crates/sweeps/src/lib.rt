@@ -11,7 +11,6 @@ ghost use mathlib.Core.Bool.{true};
 ghost use Rattle.netlist.specs.Content.{Reference};
 ghost use Rattle.verdict.specs.Words.{names};
 ghost use Rattle.verdict.specs.Checks as checks;
-ghost use Rattle.verdict.specs.Demands.{WithHold};
 ghost use Rattle.circuit.specs.Stage.{stageIn, StageLoaded};
 ghost use Rattle.circuit.specs.Order.{InOrder};
 ghost use Rattle.circuit.specs.Reference.{referenceIn};
@@ -86,26 +85,25 @@ fn sweep_words(
     Finding::Passed
 }
 
-// The same by the masks of all checks. Where none of the words is named, none is looked at.
+// The same, where no word is looked at if none is named.
 fn sweep_check(
     which: Sweep,
     order: WordOrder,
     list: &[u16],
-    masks: Masks,
+    mask: &[u64],
     code: &[u16],
     counts: Counts,
     reference: &[u16],
     sizes: Counts,
 ) -> Finding
     requires { ⌜ BothLoaded counts (now code) sizes (now reference) × (now list ≡ names order (stageIn counts (now code)))
-        × AllClean (stageIn counts (now code)) (referenceIn sizes (now reference)) masks ⌝ }
+        × Clean which (stageIn counts (now code)) (referenceIn sizes (now reference)) (now mask) ⌝ }
     ensures { λ r. ⌜ r ≡ swept which order (stageIn counts (now (code .entry))) (referenceIn sizes (now (reference .entry))) ⌝ }
 {
-    let mask = looks::mask_of(which, masks);
-    if looks::none_named(&mask, counts.inputs) {
+    if looks::none_named(mask, counts.inputs) {
         return Finding::Passed;
     }
-    sweep_words(which, order, list, &mask, code, counts, reference, sizes)
+    sweep_words(which, order, list, mask, code, counts, reference, sizes)
 }
 
 // The rise: 13, then 14, then 15.
@@ -122,11 +120,12 @@ fn sweep_rises(
         × AllClean (stageIn counts (now code)) (referenceIn sizes (now reference)) masks ⌝ }
     ensures { λ r. ⌜ r ≡ checks.firstFault (checks.riseSweeps order (stageIn counts (now (code .entry))) (referenceIn sizes (now (reference .entry)))) ⌝ }
 {
+    let wrong = masks.wrong;
     if let Finding::Fault(v) = sweep_check(
         Sweep::Wrong,
         order,
         list,
-        masks,
+        &wrong,
         code,
         counts,
         reference,
@@ -134,11 +133,12 @@ fn sweep_rises(
     ) {
         return Finding::Fault(v);
     }
+    let rise = masks.rise;
     if let Finding::Fault(v) = sweep_check(
         Sweep::Missing,
         order,
         list,
-        masks,
+        &rise,
         code,
         counts,
         reference,
@@ -150,7 +150,7 @@ fn sweep_rises(
         Sweep::Unobserved,
         order,
         list,
-        masks,
+        &rise,
         code,
         counts,
         reference,
@@ -172,11 +172,12 @@ fn sweep_falls(
         × AllClean (stageIn counts (now code)) (referenceIn sizes (now reference)) masks ⌝ }
     ensures { λ r. ⌜ r ≡ checks.firstFault (checks.fallSweeps order (stageIn counts (now (code .entry))) (referenceIn sizes (now (reference .entry)))) ⌝ }
 {
+    let fall = masks.fall;
     if let Finding::Fault(v) = sweep_check(
         Sweep::Remaining,
         order,
         list,
-        masks,
+        &fall,
         code,
         counts,
         reference,
@@ -188,29 +189,12 @@ fn sweep_falls(
         Sweep::StillHigh,
         order,
         list,
-        masks,
+        &fall,
         code,
         counts,
         reference,
         sizes,
     )
-}
-
-// Whether every gate has hold.
-fn all_hold(code: &[u16], counts: Counts) -> bool
-    requires { ⌜ StageLoaded counts (now code) ⌝ }
-    ensures { λ r. ⌜ (r ≡ true → WithHold (stageIn counts (now (code .entry)))) ⌝ }
-{
-    let gates = counts.gates;
-    let mut k: usize = 0;
-    while k < gates {
-        if code[8 * k + 7] == 1 {
-            k += 1;
-        } else {
-            return false;
-        }
-    }
-    true
 }
 
 // The rise, then the fall. Where every gate has hold, a stage whose rise passes is not refused for its fall.
@@ -230,7 +214,7 @@ fn sweep_named(
     if let Finding::Fault(v) = sweep_rises(order, list, masks, code, counts, reference, sizes) {
         return Finding::Fault(v);
     }
-    if all_hold(code, counts) {
+    if looks::all_hold(code, counts) {
         return Finding::Passed;
     }
     sweep_falls(order, list, masks, code, counts, reference, sizes)
@@ -247,7 +231,7 @@ fn nothing_named(masks: Masks, code: &[u16], counts: Counts) -> bool
     if looks::none_named(&wrong, inputs) {
         let rise = masks.rise;
         if looks::none_named(&rise, inputs) {
-            if all_hold(code, counts) {
+            if looks::all_hold(code, counts) {
                 return true;
             }
             let fall = masks.fall;

@@ -11,13 +11,32 @@ mark-requires : tie.Need-mark-requires
 mark-requires c κs = let z = c .before .before .before .before in omega (arith, z .pre .2, z .pre .0 .gate (z .args .k) (z .pre .1) .pin 0 (omega arith))
 
 mark-requires-2 : tie.Need-mark-requires-2
-mark-requires-2 c κs = let z = c .before .before .before .before .before .before .before .before .before in omega (arith, z .pre .2, z .pre .0 .gate (z .args .k) (z .pre .1) .pin 1 (omega arith), c .before .before .before .before .mark .ensures .0)
+mark-requires-2 c κs =
+    let z = c .before .before .before .before .before .before .before .before .before in
+    omega (arith, z .pre .2, z .pre .0 .gate (z .args .k) (z .pre .1) .pin 1 (omega arith), c .before .before .before .before .mark .ensures .0)
 
 mark-requires-3 : tie.Need-mark-requires-3
-mark-requires-3 c κs = let z = c .before .before .before .before .before .before .before .before .before .before .before .before .before .before in omega (arith, z .pre .2, z .pre .0 .gate (z .args .k) (z .pre .1) .pin 2 (omega arith), c .before .before .before .before .before .before .before .before .before .mark .ensures .0, c .before .before .before .before .mark2 .ensures .0)
+mark-requires-3 c κs =
+    let z = c .before .before .before .before .before .before .before .before .before .before .before .before .before .before in
+    omega (
+      arith,
+      z .pre .2,
+      z .pre .0 .gate (z .args .k) (z .pre .1) .pin 2 (omega arith),
+      c .before .before .before .before .before .before .before .before .before .mark .ensures .0,
+      c .before .before .before .before .mark2 .ensures .0,
+    )
 
 mark-requires-4 : tie.Need-mark-requires-4
-mark-requires-4 c κs = let z = c .before .before .before .before .before .before .before .before .before .before .before .before .before .before .before .before .before .before .before in omega (arith, z .pre .2, z .pre .0 .gate (z .args .k) (z .pre .1) .pin 3 (omega arith), c .before .before .before .before .before .before .before .before .before .before .before .before .before .before .mark .ensures .0, c .before .before .before .before .before .before .before .before .before .mark2 .ensures .0, c .before .before .before .before .mark3 .ensures .0)
+mark-requires-4 c κs =
+    let z = c .before .before .before .before .before .before .before .before .before .before .before .before .before .before .before .before .before .before .before in
+    omega (
+      arith,
+      z .pre .2,
+      z .pre .0 .gate (z .args .k) (z .pre .1) .pin 3 (omega arith),
+      c .before .before .before .before .before .before .before .before .before .before .before .before .before .before .mark .ensures .0,
+      c .before .before .before .before .before .before .before .before .before .mark2 .ensures .0,
+      c .before .before .before .before .mark3 .ensures .0,
+    )
 
 returns : tie.Need-returns
 returns c =
@@ -27,7 +46,7 @@ returns c =
     let second = c .before .before .before .before .before .before .before .before .before .before .before .before .mark2 in
     let first = c .before .before .before .before .before .before .before .before .before .before .before .before .before .before .before .before .before .mark in (
       fourth .ensures .0 ∙ third .ensures .0 ∙ second .ensures .0 ∙ first .ensures .0,
-      pins-marked (now (z .args .code)) (z .args .k) (z .args .given) (now (z .args .ack)) (first .last .0) (second .last .0) (third .last .0) (fourth .last .0) (first .ensures .1)
+      pins-marked (now (z .args .code)) (z .args .k) (z .args .words) (now (z .args .ack)) (first .last .0) (second .last .0) (third .last .0) (fourth .last .0) (first .ensures .1)
           (second .ensures .1) (third .ensures .1) (fourth .ensures .1),
     )
 

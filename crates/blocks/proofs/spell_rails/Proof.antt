@@ -35,8 +35,11 @@ returns : tie.Need-returns Inv-loop μ-loop
 returns c =
     let z = c .before .before .before .before in
     let l = c .before .before .loop in
-    let e : l .i ≡ z .args .counts .inputs = omega (arith, l .inv .0) in
-    (l .inv .1 .same-long, λ code o. rails-done (z .args .counts) code o (z .args .b) (now (z .args .row)) (l .row) (subst (RailsTo (z .args .b) (now (z .args .row)) (l .row)) e (l .inv .1)) (z .pre .2))
+    let e : l .i ≡ z .args .counts .inputs = omega (arith, l .inv .0) in (
+      l .inv .1 .same-long,
+      λ code o. rails-done (z .args .counts) code o (z .args .b) (now (z .args .row)) (l .row)
+          (subst (RailsTo (z .args .b) (now (z .args .row)) (l .row)) e (l .inv .1)) (z .pre .2),
+    )
 
 pub spell-rails-spec : {M : Type 1} → statement M
 spell-rails-spec =

@@ -1,57 +1,68 @@
 -- `looks::fall_words` meets its contract: the marks are the rails of the outputs and what the gates add. Assumes nothing.
 use native.Mathlib.Omega.{arith}
 use mathlib.Core.Path.{_∙_, ap}
+use mathlib.Core.Bool.{true}
 use denote.Ref.{now}
 use borrow.Author.Needs.{needs}
-use Rattle.runs.specs.Acknowledged.{Fall-acknowledged, fall-output}
 use Rattle.lanes.specs.Lane.{lane}
-use Rattle.blocks.specs.Block.{restIn, netIn}
 use Rattle.looks.proofs.Outputs.{outputs-marked}
-use Rattle.looks.proofs.Resting.{none-else}
+use Rattle.looks.proofs.Resting.{acknowledged-but}
 use Rattle.looks.proofs.fall_words.Statement.{statement}
 use Rattle.looks.proofs.fall_words.Tie as tie
 
 mark-gates-requires : tie.Need-mark-gates-requires
 mark-gates-requires c κs =
-    let z = c .before .before .before .before .before .before .before .before .before .before .before .before in
-    (z .pre .0, z .pre .1, z .pre .2, omega (arith, z .pre .3, c .before .before .before .before .before .before .before .clear .ensures .0, c .before .before .before .mark-outputs .ensures .0))
+    let m = c .before .before .before in
+    let z = m .before .before .before .before .before .before .before .before .before in
+    (z .pre .0, z .pre .1, z .pre .2, omega (arith, z .pre .3, m .before .before .before .before .clear .ensures .0, m .mark-outputs .ensures .0))
 
 returns : tie.Need-returns
 returns c =
-    let z = c .before .before .before .before .before .before .before .before .before .before .before .before .before .before .before .before .before .before in
+    let g = c .before .before .before .before .before in
+    let z = g .before .before .before .before .before .before .before .before .before .before .before .before .before in
     let counts = z .args .counts in
     let code = now (z .args .code) in
-    let N = netIn counts code in
-    let cleared = c .before .before .before .before .before .before .before .before .before .before .before .before .before .clear in
-    let marks = c .before .before .before .before .before .before .before .before .before .mark-outputs in
-    let first = c .before .before .before .before .before .mark-gates in (
+    let cleared = g .before .before .before .before .before .before .before .before .clear in
+    let marks = g .before .before .before .before .mark-outputs in
+    let first = g .mark-gates in (
       first .ensures .0 ∙ marks .ensures .0 ∙ cleared .ensures .0,
       λ b rest.
-          let start = outputs-marked N (λ j p. Fall-acknowledged N (restIn counts code b j) p) counts (cleared .last .1 .0) (marks .last .1 .1 .0) (cleared .ensures .1) (marks .ensures .1)
-          (λ j p x. fall-output (x .0) (x .1) (x .2) (x .3)) in
-          none-else counts code (z .pre .1) b (Fall-acknowledged N) (now (z .args .row)) (first .last .1 .1 .1 .1 .1 .0) 0 (rest .rest) (first .ensures .1 b rest start) (λ j d e. c .before .unmarked .ensures j d (ap (lane j) (c .if1 .taken) ∙ e)),
+          let start = outputs-marked true counts code b (cleared .last .1 .0) (marks .last .1 .1 .0) (cleared .ensures .1) (marks .ensures .1) in
+          acknowledged-but counts code (z .pre .1) b true (now (z .args .row)) (first .last .1 .1 .1 .1 .1 .0) 0 (rest .rest) (first .ensures .1 b rest start)
+          (λ j d e. c .before .unmarked .ensures j d (ap (lane j) (c .if1 .taken) ∙ e)),
     )
 
 mark-gates-requires-2 : tie.Need-mark-gates-requires-2
 mark-gates-requires-2 c κs =
-    let z = c .before .before .before .before .before .before .before .before .before .before .before .before .before .before .before .before .before .before .before in
-    (z .pre .0, z .pre .1, z .pre .2, omega (arith, z .pre .3, c .before .before .before .before .before .before .before .before .before .before .before .before .before .before .clear .ensures .0, c .before .before .before .before .before .before .before .before .before .before .mark-outputs .ensures .0, c .before .before .before .before .before .before .mark-gates .ensures .0))
+    let g = c .before .before .before .before .before .before in
+    let z = g .before .before .before .before .before .before .before .before .before .before .before .before .before in (
+      z .pre .0,
+      z .pre .1,
+      z .pre .2,
+      omega (
+        arith,
+        z .pre .3,
+        g .before .before .before .before .before .before .before .before .clear .ensures .0,
+        g .before .before .before .before .mark-outputs .ensures .0,
+        g .mark-gates .ensures .0,
+      ),
+    )
 
 returns-2 : tie.Need-returns-2
 returns-2 c =
-    let z = c .before .before .before .before .before .before .before .before .before .before .before .before .before .before .before .before .before .before .before .before .before .before .before .before in
+    let g = c .before .before .before .before .before .before .before .before .before .before .before in
+    let z = g .before .before .before .before .before .before .before .before .before .before .before .before .before in
     let counts = z .args .counts in
     let code = now (z .args .code) in
-    let N = netIn counts code in
-    let cleared = c .before .before .before .before .before .before .before .before .before .before .before .before .before .before .before .before .before .before .before .clear in
-    let marks = c .before .before .before .before .before .before .before .before .before .before .before .before .before .before .before .mark-outputs in
-    let first = c .before .before .before .before .before .before .before .before .before .before .before .mark-gates in
+    let cleared = g .before .before .before .before .before .before .before .before .clear in
+    let marks = g .before .before .before .before .mark-outputs in
+    let first = g .mark-gates in
     let more = c .before .before .before .before .mark-gates2 in (
       more .ensures .0 ∙ first .ensures .0 ∙ marks .ensures .0 ∙ cleared .ensures .0,
       λ b rest.
-          let start = outputs-marked N (λ j p. Fall-acknowledged N (restIn counts code b j) p) counts (cleared .last .1 .0) (marks .last .1 .1 .0) (cleared .ensures .1) (marks .ensures .1)
-          (λ j p x. fall-output (x .0) (x .1) (x .2) (x .3)) in
-          none-else counts code (z .pre .1) b (Fall-acknowledged N) (now (z .args .row)) (more .last .1 .1 .1 .1 .1 .0) (c .unmarked2 .result) (rest .rest) (more .ensures .1 b rest (first .ensures .1 b rest start)) (c .unmarked2 .ensures),
+          let start = outputs-marked true counts code b (cleared .last .1 .0) (marks .last .1 .1 .0) (cleared .ensures .1) (marks .ensures .1) in
+          acknowledged-but counts code (z .pre .1) b true (now (z .args .row)) (more .last .1 .1 .1 .1 .1 .0) (c .unmarked2 .result) (rest .rest)
+          (more .ensures .1 b rest (first .ensures .1 b rest start)) (c .unmarked2 .ensures),
     )
 
 pub fall-words-spec : {M : Type 1} → statement M

@@ -9,19 +9,19 @@ use Rattle.looks.specs.Marks.{Workspace}
 use Rattle.looks.specs.Looks.{AllClean}
 use Rattle.looks.proofs.Resting.{none-marked}
 use Rattle.looks.proofs.Blocks.{fall-complete, fall-observable}
-use Rattle.looks.proofs.Naming.{masksOf, all-clean-start, rise-more, fall-more}
+use Rattle.looks.proofs.Naming.{masksOf, all-clean-start, all-clean-more}
 use Rattle.looks.proofs.looks.Statement.{statement}
 use Rattle.looks.proofs.looks.Tie as tie
 
 abbrev Inv-loop : tie.InvT-loop
-Inv-loop code counts reference sizes row₀ ack₀ values₀ wrong₀ rise₀ fall₀ falls count b₀ row ack values wrong rise fall b =
+Inv-loop code counts reference sizes row₀ ack₀ values₀ wrong₀ rise₀ fall₀ hold count b₀ row ack values wrong rise fall b =
     Workspace counts row ack values × AllClean (stageIn counts code) (referenceIn sizes reference) (masksOf wrong rise fall)
 
 abbrev μ-loop : tie.MeasureT-loop
-μ-loop code counts reference sizes row₀ ack₀ values₀ wrong₀ rise₀ fall₀ falls count b₀ row ack values wrong rise fall b = count - b
+μ-loop code counts reference sizes row₀ ack₀ values₀ wrong₀ rise₀ fall₀ hold count b₀ row ack values wrong rise fall b = count - b
 
-some-relaxed-requires : tie.Need-some-relaxed-requires Inv-loop μ-loop
-some-relaxed-requires c κs = c .before .before .pre .stage
+all-hold-requires : tie.Need-all-hold-requires Inv-loop μ-loop
+all-hold-requires c κs = c .before .before .pre .stage
 
 block-count-requires : tie.Need-block-count-requires Inv-loop μ-loop
 block-count-requires c κs = c .before .before .before .pre .stage .within .inputs-in
@@ -82,8 +82,9 @@ loop-again c =
     let space = up .ensures .0 in
     let words = down .ensures .1 (l .b) (up .ensures .1 .0) in (
       record { row-long = space .row-long; ack-long = down .ensures .0 ∙ space .ack-long; values-long = space .values-long; ground = space .ground },
-      fall-more s r _ _ (l .fall) (l .b) (down .result) (rise-more s r (l .wrong) (l .rise) (l .fall) (l .b) (up .result) (l .inv .1) (up .ensures .1 .1))
-          (fall-complete (z .args .counts) code (z .pre .ordered) r (l .b) (down .result) words) (fall-observable (z .args .counts) code (z .pre .ordered) r (l .b) (down .result) words),
+      all-clean-more s r (l .wrong) (l .rise) (l .fall) (l .b) (up .result) (down .result) (l .inv .1) (up .ensures .1 .1)
+          (fall-complete (z .args .counts) code (z .pre .ordered) r (l .b) (down .result) words)
+          (fall-observable (z .args .counts) code (z .pre .ordered) r (l .b) (down .result) words),
     )
 
 returns : tie.Need-returns Inv-loop μ-loop
@@ -95,7 +96,7 @@ looks-spec =
     (tie.spec
     Inv-loop
     μ-loop
-    some-relaxed-requires
+    all-hold-requires
     block-count-requires
     loop-holds
     slice-aggregate-rise-block

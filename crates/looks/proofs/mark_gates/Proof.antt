@@ -16,8 +16,8 @@ abbrev μ-loop : tie.MeasureT-loop
 loop-holds : tie.Need-loop-holds Inv-loop μ-loop
 loop-holds c = gates-start _ _ _ _ _
 
-given-lanes-requires : tie.Need-given-lanes-requires Inv-loop μ-loop
-given-lanes-requires c κs = let z = c .before .before .before .before .before in (z .pre .0, z .pre .1, omega arith, z .pre .2)
+acknowledged-lanes-requires : tie.Need-acknowledged-lanes-requires Inv-loop μ-loop
+acknowledged-lanes-requires c κs = let z = c .before .before .before .before .before in (z .pre .0, z .pre .1, omega arith, z .pre .2)
 
 mark-pins-requires : tie.Need-mark-pins-requires Inv-loop μ-loop
 mark-pins-requires c κs = let z = c .before .before .before .before .before .before .before in (z .pre .0, omega arith, omega (arith, z .pre .3, c .before .before .before .loop .inv .same-long))
@@ -27,7 +27,8 @@ loop-again c =
     let z = c .before .before .before .before .before .before .before .before .before .before in
     let l = c .before .before .before .before .before .before .loop in
     let m = c .before .before .mark-pins in
-    gates-turn (z .args .falls) (z .args .counts) (now (z .args .code)) (now (z .args .row)) (now (z .args .ack)) (l .ack) (l .inv) (l .k) (c .before .before .before .before .given-lanes .result) (c .before .before .before .before .given-lanes .ensures)
+    gates-turn (z .args .falls) (z .args .counts) (now (z .args .code)) (now (z .args .row)) (now (z .args .ack)) (l .ack) (l .inv) (l .k)
+    (c .before .before .before .before .acknowledged-lanes .result) (c .before .before .before .before .acknowledged-lanes .ensures)
     _ (m .ensures .0) (m .ensures .1)
 
 same-length : tie.Need-same-length Inv-loop μ-loop
@@ -38,4 +39,4 @@ returns c = (c .before .loop .inv .same-long, c .before .loop .inv .each)
 
 pub mark-gates-spec : {M : Type 1} → statement M
 mark-gates-spec =
-    tie.close (tie.spec Inv-loop μ-loop loop-holds given-lanes-requires mark-pins-requires (λ c. omega arith) (λ c. omega arith) loop-again same-length returns)
+    tie.close (tie.spec Inv-loop μ-loop loop-holds acknowledged-lanes-requires mark-pins-requires (λ c. omega arith) (λ c. omega arith) loop-again same-length returns)

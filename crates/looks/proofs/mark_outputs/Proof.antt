@@ -42,10 +42,20 @@ mark-requires c κs =
     omega (arith, z .pre .1, l .inv .same-long, z .pre .0 .rail0-net (l .j) (omega arith))
 
 add-mark : tie.Need-add-mark Inv-loop μ-loop
-add-mark c = omega (arith, c .before .before .before .before .before .before .before .before .before .before .before .before .pre .0 .within .gates-in, c .before .before .before .before .before .before .before .before .before .before .before .before .pre .0 .within .outputs-in)
+add-mark c =
+    omega (
+      arith,
+      c .before .before .before .before .before .before .before .before .before .before .before .before .pre .0 .within .gates-in,
+      c .before .before .before .before .before .before .before .before .before .before .before .before .pre .0 .within .outputs-in,
+    )
 
 mul-mark-2 : tie.Need-mul-mark-2 Inv-loop μ-loop
-mul-mark-2 c = omega (arith, c .before .before .before .before .before .before .before .before .before .before .before .before .pre .0 .within .gates-in, c .before .before .before .before .before .before .before .before .before .before .before .before .pre .0 .within .outputs-in)
+mul-mark-2 c =
+    omega (
+      arith,
+      c .before .before .before .before .before .before .before .before .before .before .before .before .pre .0 .within .gates-in,
+      c .before .before .before .before .before .before .before .before .before .before .before .before .pre .0 .within .outputs-in,
+    )
 
 shared-slice-read-mark-2 : tie.Need-shared-slice-read-mark-2 Inv-loop μ-loop
 shared-slice-read-mark-2 c = omega (arith, c .before .before .before .before .before .before .before .before .before .before .before .before .before .pre .0 .room)

@@ -1,13 +1,12 @@
 -- `looks::rise_words` meets its contract: the marks are the rails of the outputs and what the gates add. Assumes nothing.
 use native.Mathlib.Omega.{arith}
 use mathlib.Core.Path.{_∙_, ap}
+use mathlib.Core.Bool.{false}
 use denote.Ref.{now}
 use borrow.Author.Needs.{needs}
-use Rattle.runs.specs.Acknowledged.{Acknowledged, output}
 use Rattle.lanes.specs.Lane.{lane}
-use Rattle.blocks.specs.Block.{restIn, netIn}
 use Rattle.looks.proofs.Outputs.{outputs-marked}
-use Rattle.looks.proofs.Resting.{none-else}
+use Rattle.looks.proofs.Resting.{acknowledged-but}
 use Rattle.looks.proofs.rise_words.Statement.{statement}
 use Rattle.looks.proofs.rise_words.Tie as tie
 
@@ -24,19 +23,15 @@ returns c =
     let counts = z .args .counts in
     let code = now (z .args .code) in
     let b = z .args .b in
-    let N = netIn counts code in
     let cleared = s .before .before .before .before .before .before .before .before .before .clear in
     let marks = s .before .before .before .before .before .mark-outputs in
     let settle = s .settle in
-    let start =
-    outputs-marked N (λ j p. Acknowledged N (restIn counts code b j) p) counts (cleared .last .1 .0) (marks .last .1 .1 .0) (cleared .ensures .1) (marks .ensures .1)
-    (λ j p x. output (x .0) (x .1) (x .2) (x .3))
-    in
+    let start = outputs-marked false counts code b (cleared .last .1 .0) (marks .last .1 .1 .0) (cleared .ensures .1) (marks .ensures .1) in
     let rest = settle .ensures .1 .0 in (
       (settle .ensures .0 .0, settle .ensures .0 .1 ∙ marks .ensures .0 ∙ cleared .ensures .0),
       (
         rest,
-        none-else counts code (z .pre .1) b (Acknowledged N) (settle .last .1 .1 .1 .0) (settle .last .1 .1 .1 .1 .0) 0 (rest .rest) (settle .ensures .1 .1 start)
+        acknowledged-but counts code (z .pre .1) b false (settle .last .1 .1 .1 .0) (settle .last .1 .1 .1 .1 .0) 0 (rest .rest) (settle .ensures .1 .1 start)
             (λ j d e. c .before .unmarked .ensures j d (ap (lane j) (c .if1 .taken) ∙ e)),
       ),
     )
@@ -49,7 +44,13 @@ mark-gates-requires c κs =
       z .pre .0,
       z .pre .1,
       omega (arith, z .pre .2, settle .0),
-      omega (arith, z .pre .3, settle .1, s .before .before .before .before .before .before .before .before .before .clear .ensures .0, s .before .before .before .before .before .mark-outputs .ensures .0),
+      omega (
+        arith,
+        z .pre .3,
+        settle .1,
+        s .before .before .before .before .before .before .before .before .before .clear .ensures .0,
+        s .before .before .before .before .before .mark-outputs .ensures .0,
+      ),
     )
 
 returns-2 : tie.Need-returns-2
@@ -59,20 +60,16 @@ returns-2 c =
     let counts = z .args .counts in
     let code = now (z .args .code) in
     let b = z .args .b in
-    let N = netIn counts code in
     let cleared = s .before .before .before .before .before .before .before .before .before .clear in
     let marks = s .before .before .before .before .before .mark-outputs in
     let settle = s .settle in
     let more = c .before .before .before .before .before .mark-gates in
-    let start =
-    outputs-marked N (λ j p. Acknowledged N (restIn counts code b j) p) counts (cleared .last .1 .0) (marks .last .1 .1 .0) (cleared .ensures .1) (marks .ensures .1)
-    (λ j p x. output (x .0) (x .1) (x .2) (x .3))
-    in
+    let start = outputs-marked false counts code b (cleared .last .1 .0) (marks .last .1 .1 .0) (cleared .ensures .1) (marks .ensures .1) in
     let rest = settle .ensures .1 .0 in (
       (settle .ensures .0 .0, more .ensures .0 ∙ settle .ensures .0 .1 ∙ marks .ensures .0 ∙ cleared .ensures .0),
       (
         rest,
-        none-else counts code (z .pre .1) b (Acknowledged N) (settle .last .1 .1 .1 .0) (more .last .1 .1 .1 .1 .1 .0) (c .unmarked2 .result) (rest .rest)
+        acknowledged-but counts code (z .pre .1) b false (settle .last .1 .1 .1 .0) (more .last .1 .1 .1 .1 .1 .0) (c .unmarked2 .result) (rest .rest)
             (more .ensures .1 b rest (settle .ensures .1 .1 start)) (c .unmarked2 .ensures),
       ),
     )

@@ -12,13 +12,19 @@ kept-lanes-requires : tie.Need-kept-lanes-requires
 kept-lanes-requires c κs = let z = c .before .before .before in pin-there (z .args .counts) (now (z .args .code)) (now (z .args .row)) (z .pre .0) (z .pre .2) (z .args .k) (z .pre .1) 0 (omega arith)
 
 kept-lanes-requires-2 : tie.Need-kept-lanes-requires-2
-kept-lanes-requires-2 c κs = let z = c .before .before .before .before .before in pin-there (z .args .counts) (now (z .args .code)) (now (z .args .row)) (z .pre .0) (z .pre .2) (z .args .k) (z .pre .1) 1 (omega arith)
+kept-lanes-requires-2 c κs =
+    let z = c .before .before .before .before .before in
+    pin-there (z .args .counts) (now (z .args .code)) (now (z .args .row)) (z .pre .0) (z .pre .2) (z .args .k) (z .pre .1) 1 (omega arith)
 
 kept-lanes-requires-3 : tie.Need-kept-lanes-requires-3
-kept-lanes-requires-3 c κs = let z = c .before .before .before .before .before .before .before in pin-there (z .args .counts) (now (z .args .code)) (now (z .args .row)) (z .pre .0) (z .pre .2) (z .args .k) (z .pre .1) 2 (omega arith)
+kept-lanes-requires-3 c κs =
+    let z = c .before .before .before .before .before .before .before in
+    pin-there (z .args .counts) (now (z .args .code)) (now (z .args .row)) (z .pre .0) (z .pre .2) (z .args .k) (z .pre .1) 2 (omega arith)
 
 kept-lanes-requires-4 : tie.Need-kept-lanes-requires-4
-kept-lanes-requires-4 c κs = let z = c .before .before .before .before .before .before .before .before .before in pin-there (z .args .counts) (now (z .args .code)) (now (z .args .row)) (z .pre .0) (z .pre .2) (z .args .k) (z .pre .1) 3 (omega arith)
+kept-lanes-requires-4 c κs =
+    let z = c .before .before .before .before .before .before .before .before .before in
+    pin-there (z .args .counts) (now (z .args .code)) (now (z .args .row)) (z .pre .0) (z .pre .2) (z .args .k) (z .pre .1) 3 (omega arith)
 
 cell-lanes-requires : tie.Need-cell-lanes-requires
 cell-lanes-requires c κs = let z = c .before .before .before .before .before .before .before .before .before .before .before in let g = z .pre .0 .gate (z .args .k) (z .pre .1) in (g .low, g .high)
@@ -26,7 +32,9 @@ cell-lanes-requires c κs = let z = c .before .before .before .before .before .b
 returns : tie.Need-returns
 returns c =
     ap (λ (r : CellLanes). r .set)
-    (lanes-alike _ _ _ _ _ _ _ _ _ _ (c .before .before .before .before .before .before .before .before .kept-lanes .ensures) (c .before .before .before .before .before .before .kept-lanes2 .ensures) (c .before .before .before .before .kept-lanes3 .ensures) (c .before .before .kept-lanes4 .ensures) (c .cell-lanes .ensures))
+    (lanes-alike _ _ _ _ _ _ _ _ _ _ (c .before .before .before .before .before .before .before .before .kept-lanes .ensures)
+    (c .before .before .before .before .before .before .kept-lanes2 .ensures) (c .before .before .before .before .kept-lanes3 .ensures)
+    (c .before .before .kept-lanes4 .ensures) (c .cell-lanes .ensures))
 
 pub set-where-spec : {M : Type 1} → statement M
 set-where-spec =

@@ -15,7 +15,11 @@ slice-aggregate-sweep-named : tie.Need-slice-aggregate-sweep-named
 slice-aggregate-sweep-named c = listed-count (c .before .before .list-names .ensures)
 
 sweep-named-requires : tie.Need-sweep-named-requires
-sweep-named-requires c κs = (c .before .before .before .before .before .before .before .before .before .pre, listed-start (c .before .before .list-names .ensures), c .before .before .before .before .before .before .looks .ensures)
+sweep-named-requires c κs = (
+  c .before .before .before .before .before .before .before .before .before .pre,
+  listed-start (c .before .before .list-names .ensures),
+  c .before .before .before .before .before .before .looks .ensures,
+)
 
 pub sweep-all-spec : {M : Type 1} → statement M
 sweep-all-spec =
