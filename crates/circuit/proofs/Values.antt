@@ -19,10 +19,6 @@ use Rattle.circuit.proofs.Tabulate.{length-tabulate, getD-tabulate}
 
 -- ---- one operation
 
--- what an operation gives, known to be operation k
-pub operate-at : (k op a b r : ℕ) → op ≡ k → r ≡ operate k (a ∷ b ∷ []) → r ≤ 1 → (r ≡ operate op (a ∷ b ∷ [])) × (r ≤ 1)
-operate-at k op a b r e h s = (h ∙ ap (λ (x : ℕ). operate x (a ∷ b ∷ [])) (sym e), s)
-
 pub operate-other : (op a b : ℕ) → (1 ≤ op → op ≤ 6 → ⊥) → 0 ≡ operate op (a ∷ b ∷ [])
 unfolding operate
 operate-other zero a b out = refl

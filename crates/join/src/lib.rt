@@ -45,7 +45,7 @@ fn answer_word(reference: &[u16], sizes: Counts, w: usize) -> usize
 {
     let mut values = [0u8; words::SIGNALS];
     words::word_bits(w, &mut values);
-    circuit::signal_values(reference, sizes, &mut values);
+    signals::signal_values(reference, sizes, &mut values);
     spelled(reference, sizes, &values)
 }
 

@@ -84,8 +84,8 @@ fn wrong_output(code: &[u16], counts: Counts, reference: &[u16], sizes: Counts, 
     settle_word(code, counts, w, &mut row);
     let mut values = [0u8; SIGNALS];
     word_bits(w, &mut values);
-    circuit::signal_values(reference, sizes, &mut values);
-    circuit::first_misread(code, counts, &row, reference, sizes, &values)
+    signals::signal_values(reference, sizes, &mut values);
+    outputs::first_misread(code, counts, &row, reference, sizes, &values)
 }
 
 // ---- 14
@@ -100,7 +100,7 @@ fn incomplete(code: &[u16], counts: Counts, w: usize, i: usize) -> bool
     row[2 * i] = 0;
     row[2 * i + 1] = 0;
     circuit::settle(code, counts, &mut row);
-    circuit::all_data(code, counts, &row)
+    outputs::all_data(code, counts, &row)
 }
 
 // The least input with which NULL, and the others as in word w, all outputs are DATA.
@@ -138,7 +138,7 @@ fn unobserved_at(code: &[u16], counts: Counts, row: &[u8], g: usize) -> bool
     bytes::copy(&row[..size], &mut held);
     let start = code[8 * g + 6] as usize;
     circuit::settle_from(code, counts, &mut held, start, g);
-    circuit::all_data(code, counts, &held)
+    outputs::all_data(code, counts, &held)
 }
 
 // The least gate that is high in word w and with which held low all outputs are still DATA.
@@ -187,10 +187,10 @@ fn all_fallen(code: &[u16], counts: Counts, rest: &[u8], input: usize, gate: usi
         row[2 * input] = rest[2 * input];
         row[2 * input + 1] = rest[2 * input + 1];
         circuit::fall(code, counts, &mut row, gate);
-        return circuit::all_null(code, counts, &row);
+        return outputs::all_null(code, counts, &row);
     }
     circuit::fall(code, counts, &mut row, gate);
-    circuit::all_null(code, counts, &row)
+    outputs::all_null(code, counts, &row)
 }
 
 // ---- 20
