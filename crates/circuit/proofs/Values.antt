@@ -8,14 +8,13 @@ use mathlib.Core.Path.{_≡_, refl, sym, ap, ap₂, _∙_}
 use mathlib.Core.Bool.{cond}
 use mathlib.Core.List.{List, [], _∷_, _++_}
 use lib.ListN.{length, getD, take, drop, set, length-set}
-use lib.Seq.{take-suc-set, getD-set-same, getD-set-other, drop-cons, drop-length, getD-take}
+use lib.Seq.{take-suc-set, getD-set-same, getD-set-other, drop-length, getD-take}
 use lib.Dec.{eqb}
 use borrow.Author.Tests.{eq-eqb, ne-eqb}
 use Rattle.netlist.specs.declared.Counts.{Counts}
-use Rattle.netlist.specs.Content.{Coded}
 use Rattle.verdict.specs.Answers.{operate, valuesAt, signalValues}
 use Rattle.circuit.specs.Reference.{operatorIn, operatorsIn}
-use Rattle.circuit.proofs.Tabulate.{length-tabulate, getD-tabulate}
+use Rattle.circuit.proofs.Tabulate.{length-tabulate, from-at}
 
 -- ---- one operation
 
@@ -62,9 +61,7 @@ module _ (c : Counts) (code : List ℕ) where
 
   operators-from : (k : ℕ) → k < c .gates → drop k (operatorsIn c code) ≡ operatorIn code k ∷ drop (suc k) (operatorsIn c code)
   unfolding operatorsIn
-  operators-from k h =
-      drop-cons (operatorsIn c code) k (operatorIn code 0) (omega (arith, length-operators))
-      ∙ ap (λ (g : Coded). g ∷ drop (suc k) (operatorsIn c code)) (getD-tabulate (operatorIn code) (c .gates) k (operatorIn code 0) h)
+  operators-from k h = from-at (operatorIn code) (c .gates) k h
 
   module _ (start values : List ℕ) (k : ℕ) (v : ValuesTo start values k) where
     pub values-turn : c .inputs + c .gates ≤ length start → k < c .gates → (x : ℕ) →

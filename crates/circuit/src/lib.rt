@@ -15,6 +15,9 @@ ghost use Rattle.circuit.specs.Rows.{RowFor, netsIn, levelPart, LevelOf,
 // A byte for each net of the largest stage, and one for the ground.
 pub const ROW: usize = 2 * netlist::INPUTS + netlist::STAGE_GATES + 1;
 
+// How many signals the largest reference has.
+pub const SIGNALS: usize = netlist::INPUTS + netlist::REFERENCE_GATES;
+
 // ---- one gate
 
 // The level of a net in a row, or the value of a signal.

@@ -27,7 +27,7 @@ pub enum Sweep {
 }
 
 // A byte for each signal of the largest reference.
-pub const SIGNALS: usize = netlist::INPUTS + netlist::REFERENCE_GATES;
+pub const SIGNALS: usize = circuit::SIGNALS;
 
 // ---- words
 
