@@ -19,7 +19,7 @@ pub const BLOCKS: usize = netlist::WORDS / 64;
 // How many blocks the words of that many inputs make.
 pub fn block_count(inputs: usize) -> usize
     requires { ⌜ inputs ≤ stageLimits .inputs ⌝ }
-    ensures { λ r. ⌜ (r ≤ 16) × (2 ^ inputs ≤ 64 * r) ⌝ }
+    ensures { λ r. ⌜ (r ≤ 16) × (2 ^ inputs ≤ 64 * r) × (64 * r < 2 ^ inputs + 64) ⌝ }
 {
     if inputs < 6 {
         return 1;

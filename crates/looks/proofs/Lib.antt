@@ -7,3 +7,4 @@ pub mod Resting
 pub mod Hold
 pub mod Blocks
 pub mod Naming
+pub mod Care

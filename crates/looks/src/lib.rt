@@ -10,6 +10,7 @@ ghost use Prim.Native.Nat.{ℕ, _+_, _*_, _^_, _≤_, _<_};
 ghost use lib.ListN.{length, getD};
 ghost use Rattle.runs.specs.Pair.{DataOf};
 ghost use Rattle.netlist.specs.Reading.{stageLimits};
+ghost use Rattle.verdict.specs.Words.{IsWord};
 ghost use Rattle.verdict.specs.Nets.{railOf};
 ghost use Rattle.verdict.specs.Demands.{WithHold};
 ghost use Rattle.circuit.specs.Stage.{netCount, outputIn, stageIn, StageLoaded};
@@ -369,7 +370,7 @@ pub fn looks(code: &[u16], counts: Counts, reference: &[u16], sizes: Counts) -> 
 
 // Whether a mask names word w.
 pub fn is_named(mask: &[u64], w: usize) -> bool
-    ensures { λ r. ⌜ (r ≡ false → Unnamed (now (mask .entry)) w) ⌝ }
+    ensures { λ r. ⌜ ((r ≡ false → Unnamed (now (mask .entry)) w) × (Unnamed (now (mask .entry)) w → r ≡ false)) ⌝ }
 {
     let b = w / 64;
     if b < mask.len() {
@@ -380,7 +381,7 @@ pub fn is_named(mask: &[u64], w: usize) -> bool
 }
 
 // Whether a mask names none of the words that so many inputs have.
-pub fn none_named(mask: &[u64], inputs: usize) -> bool
+fn none_of_all(mask: &[u64], inputs: usize) -> bool
     requires { ⌜ inputs ≤ stageLimits .inputs ⌝ }
     ensures { λ r. ⌜ (r ≡ true → (w : ℕ) → w < 2 ^ inputs → Unnamed (now (mask .entry)) w) ⌝ }
 {
@@ -397,4 +398,35 @@ pub fn none_named(mask: &[u64], inputs: usize) -> bool
         }
     }
     true
+}
+
+// Whether a mask names none of so many words, which stand from a place of the flat form on.
+fn none_listed(mask: &[u64], code: &[u16], from: usize, count: usize) -> bool
+    requires { ⌜ from + count ≤ length (now code) ⌝ }
+    ensures { λ r. ⌜ (r ≡ true → (k : ℕ) → k < count → Unnamed (now (mask .entry)) (getD (now (code .entry)) (from + k) 0)) ⌝ }
+{
+    let mut k: usize = 0;
+    while k < count {
+        if is_named(mask, code[from + k] as usize) {
+            return false;
+        }
+        k += 1;
+    }
+    true
+}
+
+// Whether a mask names none of a stage's words: of its care words, or without a care list of all that its inputs have.
+pub fn none_named(mask: &[u64], code: &[u16], counts: Counts) -> bool
+    requires { ⌜ StageLoaded counts (now code) ⌝ }
+    ensures { λ r. ⌜ (r ≡ true → (w : ℕ) → IsWord (stageIn counts (now (code .entry))) w → Unnamed (now (mask .entry)) w) ⌝ }
+{
+    if counts.care == 0 {
+        return none_of_all(mask, counts.inputs);
+    }
+    none_listed(
+        mask,
+        code,
+        8 * counts.gates + 2 * counts.outputs,
+        counts.care,
+    )
 }

@@ -17,14 +17,13 @@ use Rattle.verdict.specs.declared.Finding.{Finding}
 use Rattle.verdict.specs.declared.Finding.the-variants.{Fault, Passed}
 use Rattle.verdict.specs.declared.Verdict.{Verdict}
 use Rattle.verdict.specs.declared.WordOrder.{WordOrder}
-use Rattle.verdict.specs.Words.{spelled, names}
+use Rattle.verdict.specs.Words.{IsWord, spelled, names}
 use Rattle.verdict.specs.Checks.{verdict, first, atFault, sweep, finding, orLater, firstFault, riseSweeps, fallSweeps, sweeps}
 use Rattle.verdict.specs.Nets.{noGate}
 use Rattle.verdict.specs.Demands.{WithHold}
 use Rattle.verdict.proofs.Reaching.{loopFree-noLoop}
 use Rattle.verdict.specs.Loops.{In}
-use Rattle.verdict.proofs.Words.{rising-in}
-use Rattle.verdict.proofs.Names.{spelled-below, names-rise}
+use Rattle.verdict.proofs.Names.{name-spells}
 use Rattle.verdict.proofs.Sweeps.{fault-++}
 use Rattle.verdict.proofs.Demands.{hold-passes}
 use Rattle.circuit.specs.Stage.{slot, gateIn, stageGates, stageIn}
@@ -84,10 +83,10 @@ swept-words which order s r list is number f a e =
 
 -- a check whose mask names none of the words finds nothing
 pub none-worth : (which : Sweep) (order : WordOrder) (s : Stage) (r : Reference) (mask : List ℕ) → Clean which s r mask
-    → ((w : ℕ) → w < 2 ^ s .inputs → Unnamed mask w) → Passed ≡ swept which order s r
+    → ((w : ℕ) → IsWord s w → Unnamed mask w) → Passed ≡ swept which order s r
 none-worth which order s r mask clean none =
     sym (swept-nothing (numberOf which) 1 (findsUnder which order s r) (names order s) (λ name i.
-    clean (spelled order (s .inputs) name) (none _ (spelled-below order (s .inputs) name (rising-in (2 ^ s .inputs) 0 (names order s) (names-rise order s) name i .1)))))
+    clean (spelled order (s .inputs) name) (none _ (name-spells order s name i))))
 
 -- ---- check by check
 
@@ -146,13 +145,13 @@ no-fall order c code o hold r e =
 -- ---- no word is named
 
 -- the masks of the rise name nothing, and then those of the fall
-pub rises-pass : (order : WordOrder) (s : Stage) (r : Reference) (m : Masks) → AllClean s r m → ((w : ℕ) → w < 2 ^ s .inputs → Unnamed (m .wrong) w)
-    → ((w : ℕ) → w < 2 ^ s .inputs → Unnamed (m .rise) w) → Passed ≡ firstFault (riseSweeps order s r)
+pub rises-pass : (order : WordOrder) (s : Stage) (r : Reference) (m : Masks) → AllClean s r m → ((w : ℕ) → IsWord s w → Unnamed (m .wrong) w)
+    → ((w : ℕ) → IsWord s w → Unnamed (m .rise) w) → Passed ≡ firstFault (riseSweeps order s r)
 rises-pass order s r m clean wrong rise =
     first-unobserved order s r (none-worth Wrong order s r (m .wrong) (clean .wrong) wrong) (none-worth Missing order s r (m .rise) (clean .missing) rise) Passed
     (none-worth Unobserved order s r (m .rise) (clean .unobserved) rise)
 
-pub falls-pass : (order : WordOrder) (s : Stage) (r : Reference) (m : Masks) → AllClean s r m → ((w : ℕ) → w < 2 ^ s .inputs → Unnamed (m .fall) w)
+pub falls-pass : (order : WordOrder) (s : Stage) (r : Reference) (m : Masks) → AllClean s r m → ((w : ℕ) → IsWord s w → Unnamed (m .fall) w)
     → Passed ≡ firstFault (fallSweeps order s r)
 falls-pass order s r m clean fall =
     first-still-high order s r (none-worth Remaining order s r (m .fall) (clean .remaining) fall) Passed (none-worth StillHigh order s r (m .fall) (clean .still-high) fall)

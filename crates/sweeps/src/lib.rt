@@ -100,7 +100,7 @@ fn sweep_check(
         × Clean which (stageIn counts (now code)) (referenceIn sizes (now reference)) (now mask) ⌝ }
     ensures { λ r. ⌜ r ≡ swept which order (stageIn counts (now (code .entry))) (referenceIn sizes (now (reference .entry))) ⌝ }
 {
-    if looks::none_named(mask, counts.inputs) {
+    if looks::none_named(mask, code, counts) {
         return Finding::Passed;
     }
     sweep_words(which, order, list, mask, code, counts, reference, sizes)
@@ -226,16 +226,15 @@ fn nothing_named(masks: Masks, code: &[u16], counts: Counts) -> bool
     ensures { λ r. ⌜ (r ≡ true → (order : WordOrder) (reference : Reference) → AllClean (stageIn counts (now (code .entry))) reference masks
         → Finding.Passed ≡ checks.firstFault (checks.sweeps order (stageIn counts (now (code .entry))) reference)) ⌝ }
 {
-    let inputs = counts.inputs;
     let wrong = masks.wrong;
-    if looks::none_named(&wrong, inputs) {
+    if looks::none_named(&wrong, code, counts) {
         let rise = masks.rise;
-        if looks::none_named(&rise, inputs) {
+        if looks::none_named(&rise, code, counts) {
             if looks::all_hold(code, counts) {
                 return true;
             }
             let fall = masks.fall;
-            if looks::none_named(&fall, inputs) {
+            if looks::none_named(&fall, code, counts) {
                 return true;
             }
         }
