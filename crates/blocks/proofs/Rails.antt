@@ -24,7 +24,7 @@ use Rattle.circuit.specs.Order.{InOrder}
 use Rattle.lanes.specs.Lane.{levelIn, lane, rowIn}
 use Rattle.lanes.proofs.Lane.{level-small}
 use Rattle.lanes.proofs.Blocks.{lane-not, bits-of-at}
-use Rattle.blocks.specs.Block.{restIn, netIn, Room, Spelled}
+use Rattle.blocks.specs.Block.{restIn, netIn, Spelled}
 use Rattle.blocks.proofs.Settling.{rest-settled}
 
 -- the rails of the first i inputs are written, and what stands behind them is as at the start

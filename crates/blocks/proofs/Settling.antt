@@ -3,25 +3,25 @@
 use Prim.Native.Nat.{ℕ, zero, suc, _+_, _-_, _*_, _≤_, _<_}
 use native.Mathlib.Omega.{arith}
 use native.Mathlib.Decide.{ℕ-discrete, decLt}
-use mathlib.Core.Path.{_≡_, refl, sym, ap, _∙_, subst}
-use mathlib.Core.Bool.{Bool, true, false, not, _&&_}
+use mathlib.Core.Path.{_≡_, sym, ap, _∙_}
+use mathlib.Core.Bool.{Bool, true, false, not}
 use mathlib.Core.List.{List, map}
 use lib.ListN.{length, getD, set}
 use lib.Seq.{getD-set-same, getD-set-other}
 use lib.Dec.{eqb}
-use Rattle.gates.specs.Expression.{Expression, holds}
+use Rattle.gates.specs.Expression.{holds}
 use Rattle.gates.specs.Cell.{pinCount, setExpression}
 use Rattle.gates.proofs.Expressions.{holds-local, holds-mono}
 use Rattle.runs.specs.Row.{Row, _∖_, only}
-use Rattle.runs.specs.Net.{Net, nets, IsGate}
+use Rattle.runs.specs.Net.{nets, IsGate}
 use Rattle.runs.specs.Settled.{Settled}
 use Rattle.runs.specs.Acknowledged.{Acknowledged, next}
 use Rattle.runs.proofs.Test.{clash, not-true, and-in, and-left, and-right, of-not, eqb-same, eqb-other}
 use Rattle.runs.proofs.Rise.{settled-gate, settled-inside}
 use Rattle.netlist.specs.declared.Counts.{Counts}
-use Rattle.netlist.specs.Content.{Gate, Stage}
+use Rattle.netlist.specs.Content.{Stage}
 use Rattle.verdict.specs.Loops.{In, pinsAt, LoopFree}
-use Rattle.verdict.specs.Nets.{setIn, driver, netOf, railsFor, restRow}
+use Rattle.verdict.specs.Nets.{setIn, railsFor, restRow}
 use Rattle.verdict.proofs.OneWord.{rows-are}
 use Rattle.circuit.specs.Stage.{netCount, cellIn, pinIn, gateAtPlace, gateIn, stageGates, stageIn, StageLoaded}
 use Rattle.circuit.specs.Order.{StandsIn, InOrder, orderIn}
@@ -32,7 +32,7 @@ use Rattle.lanes.specs.Lane.{lane, rowIn}
 use Rattle.lanes.specs.Cells.{needOf, pinsIn, cellLanes}
 use Rattle.lanes.proofs.Lane.{lane-zero}
 use Rattle.lanes.proofs.Cells.{Needs, need-of, set-holds}
-use Rattle.blocks.specs.Block.{restIn, netIn, Spelled, SettledTo}
+use Rattle.blocks.specs.Block.{restIn, netIn, SettledTo}
 use Rattle.blocks.proofs.Pins.{pin-at, pin-past, pin-in, gate-pins, driver-at}
 
 module _ (c : Counts) (code : List ℕ) (ordered : InOrder c code) where

@@ -1,14 +1,13 @@
 -- One turn of the loop that settles a block, and its end.
 -- Assumes nothing.
-use Prim.Native.Nat.{ℕ, _+_, _*_, _≤_, _<_}
+use Prim.Native.Nat.{ℕ, _+_, _*_, _<_}
 use native.Mathlib.Omega.{arith}
 use mathlib.Core.Path.{_≡_, refl, sym, ap, _∙_}
-use mathlib.Core.Bool.{true}
 use mathlib.Core.List.{List}
-use lib.ListN.{length, getD, set, length-set}
+use lib.ListN.{length, set, length-set}
 use Rattle.runs.specs.Acknowledged.{Acknowledged}
 use Rattle.netlist.specs.declared.Counts.{Counts}
-use Rattle.circuit.specs.Stage.{netCount, pinIn, gateAtPlace, StageLoaded}
+use Rattle.circuit.specs.Stage.{gateAtPlace, StageLoaded}
 use Rattle.circuit.specs.Order.{InOrder}
 use Rattle.circuit.proofs.Settling.{order-gate}
 use Rattle.lanes.specs.declared.CellLanes.{CellLanes}

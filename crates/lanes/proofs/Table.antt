@@ -1,16 +1,14 @@
 -- A cell in 64 words and the table of 432 entries agree: in each word it is set where the table says so of that word's pattern.
 -- Assumes nothing.
-use Prim.Native.Nat.{ℕ, zero, suc, _+_, _*_, _/_, _%_, _^_, _≤_, _<_}
+use Prim.Native.Nat.{ℕ, zero, suc, _/_, _%_, _^_, _≤_, _<_}
 use native.Mathlib.Omega.{arith}
 use mathlib.Core.Path.{_≡_, refl, sym, ap, _∙_}
-use mathlib.Core.Bool.{Bool}
 use mathlib.Core.List.{List}
 use lib.Dec.{eqb}
-use Rattle.gates.specs.Expression.{holds}
 use Rattle.gates.specs.Cell.{setExpression, pinOf, bit, setBit}
 use Rattle.gates.specs.Table.{entryOf, GateTable}
 use Rattle.gates.proofs.Expressions.{holds-local}
-use Rattle.lanes.specs.Lane.{levelIn, lane}
+use Rattle.lanes.specs.Lane.{levelIn}
 use Rattle.lanes.specs.Cells.{pinsIn, patternIn, cellLanes}
 use Rattle.lanes.proofs.Lane.{level-small}
 use Rattle.lanes.proofs.Cells.{set-holds}

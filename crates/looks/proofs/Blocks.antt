@@ -2,10 +2,10 @@
 -- Assumes nothing.
 use Prim.Native.Nat.{ℕ, _+_, _*_, _<_}
 use native.Mathlib.Omega.{arith}
-use mathlib.Core.Path.{_≡_, refl, sym, ap, _∙_, subst}
+use mathlib.Core.Path.{_≡_, sym, ap, _∙_}
 use mathlib.Core.Bool.{Bool, true, false, not}
-use mathlib.Core.List.{List, map}
-use lib.ListN.{length, getD, take}
+use mathlib.Core.List.{List}
+use lib.ListN.{getD, take}
 use lib.Seq.{getD-take}
 use lib.Dec.{eqb}
 use lib.Bits.{bitOr}
@@ -13,19 +13,17 @@ use Rattle.runs.specs.Row.{Row}
 use Rattle.runs.specs.Pair.{DataOf, Reads}
 use Rattle.runs.proofs.Test.{clash}
 use Rattle.netlist.specs.declared.Counts.{Counts}
-use Rattle.netlist.specs.declared.Found.the-variants.{Nothing}
 use Rattle.netlist.specs.Content.{Pair, Reference}
 use Rattle.verdict.specs.Words.{bitsOf}
 use Rattle.verdict.specs.Answers.{signalValues, answer}
 use Rattle.verdict.specs.Nets.{railOf, answerBits}
-use Rattle.circuit.specs.Stage.{netCount, outputIn, stageIn}
+use Rattle.circuit.specs.Stage.{outputIn, stageIn}
 use Rattle.circuit.specs.Order.{InOrder}
 use Rattle.circuit.specs.Reference.{operatorsIn, signalIn, signalsIn, referenceIn, ReferenceLoaded}
 use Rattle.circuit.proofs.Tabulate.{getD-tabulate, map-tabulate}
-use Rattle.words.specs.declared.Sweep.the-variants.{Wrong, Missing, Unobserved, Remaining, StillHigh}
-use Rattle.words.specs.Finds.{finds}
+use Rattle.words.specs.declared.Sweep.the-variants.{Remaining, StillHigh}
 use Rattle.words.specs.Loaded.{BothLoaded}
-use Rattle.lanes.specs.Lane.{levelIn, lane, rowIn, laneOf}
+use Rattle.lanes.specs.Lane.{lane, rowIn, laneOf}
 use Rattle.lanes.proofs.Blocks.{level-at, all-at}
 use Rattle.blocks.specs.Block.{restIn, netIn, AtRest}
 use Rattle.looks.specs.Marks.{AcknowledgedBut}

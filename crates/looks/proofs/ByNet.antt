@@ -5,8 +5,8 @@ use native.Mathlib.Omega.{arith}
 use native.Mathlib.Decide.{decLt}
 use mathlib.Core.Path.{_≡_, refl, sym, ap, ap₂, _∙_}
 use mathlib.Core.Bool.{Bool, true, false, cond, not, _&&_}
-use mathlib.Core.Logic.{_⊎_, inl, inr}
-use mathlib.Core.List.{List, [], _∷_, map}
+use mathlib.Core.Logic.{inl, inr}
+use mathlib.Core.List.{List, _∷_, map}
 use lib.ListN.{length, getD}
 use lib.Dec.{eqb}
 use lib.Bits.{bitXor}
@@ -22,9 +22,9 @@ use Rattle.runs.proofs.Test.{clash, eqb-same, eqb-eq, and-left, and-right}
 use Rattle.netlist.specs.declared.Counts.{Counts}
 use Rattle.netlist.specs.Content.{Gate}
 use Rattle.verdict.specs.Loops.{In}
-use Rattle.verdict.specs.Nets.{setIn, restRow}
+use Rattle.verdict.specs.Nets.{setIn}
 use Rattle.verdict.proofs.Bridge.{pins-mono}
-use Rattle.circuit.specs.Stage.{netCount, slot, cellIn, pinIn, gateIn, stageIn, StageLoaded}
+use Rattle.circuit.specs.Stage.{netCount, slot, cellIn, pinIn, gateIn, StageLoaded}
 use Rattle.circuit.specs.Order.{InOrder}
 use Rattle.lanes.specs.declared.CellLanes.{CellLanes}
 use Rattle.lanes.specs.Lane.{lane, rowIn}

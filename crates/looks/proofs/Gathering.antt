@@ -3,12 +3,11 @@
 use Prim.Native.Nat.{ℕ, _+_, _<_}
 use native.Mathlib.Omega.{arith}
 use native.Mathlib.Decide.{ℕ-discrete}
-use mathlib.Core.Path.{_≡_, refl, sym, ap, ap₂, _∙_}
+use mathlib.Core.Path.{_≡_, refl, sym, ap, _∙_}
 use mathlib.Core.Bool.{Bool, true, false, not, _&&_, _||_}
-use mathlib.Core.List.{List}
 use lib.Bits.{bitAnd, bitOr, bitXor}
 use Rattle.runs.proofs.Test.{clash}
-use Rattle.lanes.specs.Lane.{lane, rowIn}
+use Rattle.lanes.specs.Lane.{lane}
 use Rattle.lanes.proofs.Lane.{lane-and, lane-or, unlike, lane-xor}
 use Rattle.lanes.proofs.Blocks.{lane-not}
 

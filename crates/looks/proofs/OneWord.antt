@@ -1,11 +1,9 @@
 -- One word of a stage and a reference: what it means for the checks that the outputs read the answer, and that every high net is acknowledged.
 -- Assumes nothing.
-use Prim.Native.Nat.{ℕ, _+_, _*_, _<_}
+use Prim.Native.Nat.{ℕ, _+_, _*_}
 use native.Mathlib.Omega.{arith}
 use mathlib.Core.Path.{_≡_}
 use mathlib.Core.Bool.{true}
-use lib.ListN.{length}
-use Rattle.runs.specs.Row.{Row}
 use Rattle.runs.specs.Pair.{Reads}
 use Rattle.runs.specs.Checks.{Passes, Fall-passes}
 use Rattle.runs.specs.Acknowledged.{Acknowledged, Fall-acknowledged}

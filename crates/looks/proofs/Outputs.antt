@@ -6,7 +6,6 @@ use mathlib.Core.Bool.{Bool, true, false}
 use mathlib.Core.Logic.{_⊎_, inl, inr}
 use mathlib.Core.List.{List}
 use lib.ListN.{length, getD}
-use Rattle.runs.specs.Row.{Row}
 use Rattle.runs.specs.Net.{Net}
 use Rattle.runs.specs.Acknowledged.{output, fall-output}
 use Rattle.runs.proofs.Test.{clash}

@@ -1,15 +1,13 @@
 -- All words, name by name, and check by check.
 -- Assumes nothing.
 use Prim.Native.Nat.{ℕ, _+_, _^_, _≤_, _<_}
-use native.Mathlib.Omega.{arith}
 use native.Mathlib.Numerals.{add-one}
 use mathlib.Core.Path.{_≡_, refl, sym, ap, _∙_}
 use mathlib.Core.Logic.{inl, inr}
 use mathlib.Core.List.{List, [], _∷_}
 use lib.ListN.{length, getD, drop, drop-of-length-le}
 use lib.Seq.{drop-cons}
-use borrow.Author.Tests.{eq-eqb}
-use Rattle.netlist.specs.Content.{Gate, Stage, Reference}
+use Rattle.netlist.specs.Content.{Stage, Reference}
 use Rattle.netlist.specs.declared.Counts.{Counts}
 use Rattle.netlist.specs.declared.Found.{Found}
 use Rattle.netlist.specs.declared.Found.the-variants.{At, Nothing}
@@ -18,18 +16,16 @@ use Rattle.verdict.specs.declared.Finding.the-variants.{Fault, Passed}
 use Rattle.verdict.specs.declared.Verdict.{Verdict}
 use Rattle.verdict.specs.declared.WordOrder.{WordOrder}
 use Rattle.verdict.specs.Words.{IsWord, spelled, names}
-use Rattle.verdict.specs.Checks.{verdict, first, atFault, sweep, finding, orLater, firstFault, riseSweeps, fallSweeps, sweeps}
-use Rattle.verdict.specs.Nets.{noGate}
+use Rattle.verdict.specs.Checks.{verdict, atFault, sweep, finding, orLater, firstFault, riseSweeps, fallSweeps, sweeps}
 use Rattle.verdict.specs.Demands.{WithHold}
 use Rattle.verdict.proofs.Reaching.{loopFree-noLoop}
 use Rattle.verdict.specs.Loops.{In}
 use Rattle.verdict.proofs.Names.{name-spells}
 use Rattle.verdict.proofs.Sweeps.{fault-++}
 use Rattle.verdict.proofs.Demands.{hold-passes}
-use Rattle.circuit.specs.Stage.{slot, gateIn, stageGates, stageIn}
+use Rattle.circuit.specs.Stage.{stageGates, stageIn}
 use Rattle.circuit.specs.Order.{orderIn, InOrder}
 use Rattle.circuit.proofs.Order.{order-no-loop}
-use Rattle.circuit.proofs.Tabulate.{length-tabulate, getD-tabulate}
 use Rattle.words.specs.declared.Sweep.{Sweep}
 use Rattle.words.specs.declared.Sweep.the-variants.{Wrong, Missing, Unobserved, Remaining, StillHigh}
 use Rattle.words.specs.Finds.{finds}

@@ -1,7 +1,7 @@
 -- `blocks::block_count` meets its contract: there are few numbers of inputs. Assumes nothing.
 use Prim.Native.Nat.{ℕ, zero, suc, _+_, _-_, _*_, _%_, _^_, _≤_, _<_}
 use native.Mathlib.Omega.{arith}
-use mathlib.Core.Path.{_≡_, sym, subst}
+use mathlib.Core.Path.{_≡_}
 use lib.Dec.{lit≤, lit<}
 use borrow.Author.Needs.{needs}
 use Rattle.blocks.proofs.block_count.Statement.{statement}

@@ -1,8 +1,8 @@
 -- `blocks::settle_gates` meets its contract. The loop's invariant: the gates before place i of the order have their levels in all words, and what
 -- they mark is marked. The measure is what is left of the order. Assumes nothing.
-use Prim.Native.Nat.{ℕ, _+_, _-_, _*_, _≤_}
+use Prim.Native.Nat.{_+_, _-_, _*_, _≤_}
 use native.Mathlib.Omega.{arith}
-use mathlib.Core.Path.{_≡_, sym, subst}
+use mathlib.Core.Path.{_≡_, subst}
 use denote.Ref.{now}
 use Rattle.circuit.proofs.Settling.{order-gate}
 use Rattle.blocks.specs.Block.{SettledTo}

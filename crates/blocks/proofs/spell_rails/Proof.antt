@@ -1,7 +1,7 @@
 -- `blocks::spell_rails` meets its contract. The loop's invariant: the rails of the inputs below i are written. Assumes nothing.
-use Prim.Native.Nat.{ℕ, _-_, _≤_}
+use Prim.Native.Nat.{_-_, _≤_}
 use native.Mathlib.Omega.{arith}
-use mathlib.Core.Path.{_≡_, sym, subst}
+use mathlib.Core.Path.{_≡_, subst}
 use lib.ListN.{length-set}
 use denote.Ref.{now}
 use Rattle.blocks.proofs.Rails.{RailsTo, rails-start, rails-turn, rails-done}

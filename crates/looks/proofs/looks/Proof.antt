@@ -1,7 +1,7 @@
 -- `looks::looks` meets its contract. The loop's invariant: what the masks do not name has no fault; at first they name all words. Assumes nothing.
-use Prim.Native.Nat.{ℕ, _-_}
+use Prim.Native.Nat.{_-_}
 use native.Mathlib.Omega.{arith}
-use mathlib.Core.Path.{_≡_, refl, sym, _∙_}
+use mathlib.Core.Path.{refl, sym, _∙_}
 use denote.Ref.{now}
 use Rattle.circuit.specs.Stage.{netCount, stageIn}
 use Rattle.circuit.specs.Reference.{referenceIn}

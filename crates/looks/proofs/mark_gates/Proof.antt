@@ -1,6 +1,6 @@
 -- `looks::mark_gates` meets its contract. The loop's invariant: the marks that the gates below k add are at nets that are acknowledged. Assumes
 -- nothing.
-use Prim.Native.Nat.{ℕ, _-_}
+use Prim.Native.Nat.{_-_}
 use native.Mathlib.Omega.{arith}
 use denote.Ref.{now}
 use Rattle.looks.proofs.ByNet.{GatesTo, gates-start, gates-turn}

@@ -1,13 +1,12 @@
 -- `looks::mark_outputs` meets its contract. The loop's invariant: what is marked beyond the start are rails of outputs. Assumes nothing.
-use Prim.Native.Nat.{ℕ, _+_, _-_, _*_, _<_}
+use Prim.Native.Nat.{_-_, _<_}
 use native.Mathlib.Omega.{arith}
-use mathlib.Core.Path.{_≡_, ap}
+use mathlib.Core.Path.{ap}
 use mathlib.Core.Bool.{true, false}
 use denote.Ref.{now}
 use Rattle.netlist.specs.Content.{Pair}
 use Rattle.blocks.specs.Block.{netIn}
-use Rattle.looks.proofs.Outputs.{output-at, length-outputs}
-use Rattle.looks.proofs.Outputs.{OutputsTo, outputs-start, outputs-more}
+use Rattle.looks.proofs.Outputs.{output-at, length-outputs, OutputsTo, outputs-start, outputs-more}
 use Rattle.looks.proofs.mark_outputs.Statement.{statement}
 use Rattle.looks.proofs.mark_outputs.Tie as tie
 
