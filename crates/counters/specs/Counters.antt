@@ -7,3 +7,7 @@ use Rattle.lanes.specs.Lane.{levelIn}
 abbrev pub counted : ℕ → List ℕ → ℕ
 counted j [] = 0
 counted j (x ∷ digits) = levelIn j x + 2 * counted j digits
+
+-- as many digits as the most gates take
+abbrev pub digitCount : ℕ
+digitCount = 9

@@ -9,7 +9,7 @@ ghost use Rattle.circuit.specs.Stage.{stageIn, StageLoaded};
 ghost use Rattle.circuit.specs.Order.{InOrder};
 ghost use Rattle.lanes.specs.Lane.{levelIn, laneOf};
 ghost use Rattle.counters.specs.High.{HighIn};
-ghost use Rattle.counters.specs.Counters.{counted};
+ghost use Rattle.counters.specs.Counters.{counted, digitCount};
 
 // As many digits as the most gates take.
 const DIGITS: usize = 9;
@@ -32,8 +32,8 @@ fn add(digits: &mut [u64], level: u64)
 
 // How many of so many nets, from a place of a row on, are high in each word.
 fn count_high(row: &[u64], from: usize, count: usize) -> [u64; DIGITS]
-    requires { ⌜ (from + count ≤ length (now row)) × (count < 2 ^ 9) ⌝ }
-    ensures { λ r. ⌜ (length r ≡ 9) × ((j : ℕ) → counted j r ≡ sum (take count (drop from (laneOf j (now (row .entry)))))) ⌝ }
+    requires { ⌜ (from + count ≤ length (now row)) × (count < 2 ^ digitCount) ⌝ }
+    ensures { λ r. ⌜ (length r ≡ digitCount) × ((j : ℕ) → counted j r ≡ sum (take count (drop from (laneOf j (now (row .entry)))))) ⌝ }
 {
     let mut digits = [0u64; DIGITS];
     let mut i: usize = 0;
