@@ -1,4 +1,4 @@
--- `words::all_fallen` meets its contract. Assumes nothing.
+-- `falls::all_fallen` meets its contract. Assumes nothing.
 use Prim.Native.Nat.{ℕ}
 use native.Mathlib.Omega.{arith}
 use mathlib.Core.Path.{ap, _∙_}
@@ -6,10 +6,10 @@ use mathlib.Core.List.{List}
 use denote.Ref.{now}
 use Rattle.verdict.specs.Rows.{allNull}
 use Rattle.circuit.specs.Stage.{stageOutputs}
-use Rattle.words.proofs.Falling.{back-row, one-back, none-back}
+use Rattle.falls.proofs.Falling.{back-row, one-back, none-back}
 use borrow.Author.Needs.{needs}
-use Rattle.words.proofs.all_fallen.Statement.{statement}
-use Rattle.words.proofs.all_fallen.Tie as tie
+use Rattle.falls.proofs.all_fallen.Statement.{statement}
+use Rattle.falls.proofs.all_fallen.Tie as tie
 
 fall-requires : tie.Need-fall-requires
 fall-requires c κs =

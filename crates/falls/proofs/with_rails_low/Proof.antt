@@ -1,12 +1,12 @@
--- `words::with_rails_low` meets its contract. The loop's invariant: the rails are low, and the nets from the first gate's to p have their
+-- `falls::with_rails_low` meets its contract. The loop's invariant: the rails are low, and the nets from the first gate's to p have their
 -- levels. Assumes nothing.
 use Prim.Native.Nat.{_+_, _-_, _*_, _≤_}
 use native.Mathlib.Omega.{arith}
 use denote.Ref.{now}
 use Rattle.circuit.specs.Stage.{netCount}
-use Rattle.words.proofs.Falling.{LowTo, low-start, low-turn, low-levels}
-use Rattle.words.proofs.with_rails_low.Statement.{statement}
-use Rattle.words.proofs.with_rails_low.Tie as tie
+use Rattle.falls.proofs.Falling.{LowTo, low-start, low-turn, low-levels}
+use Rattle.falls.proofs.with_rails_low.Statement.{statement}
+use Rattle.falls.proofs.with_rails_low.Tie as tie
 
 abbrev Inv-loop : tie.InvT-loop
 Inv-loop counts row low₀ first p₀ low p = (2 * counts .inputs ≤ p) × (p ≤ netCount counts) × LowTo counts row low p

@@ -1,9 +1,9 @@
--- `words::still_high_at` meets its contract. Assumes nothing.
+-- `falls::still_high_at` meets its contract. Assumes nothing.
 use denote.Ref.{now}
-use Rattle.words.proofs.Falling.{still-low, still-high}
+use Rattle.falls.proofs.Falling.{still-low, still-high}
 use borrow.Author.Needs.{needs}
-use Rattle.words.proofs.still_high_at.Statement.{statement}
-use Rattle.words.proofs.still_high_at.Tie as tie
+use Rattle.falls.proofs.still_high_at.Statement.{statement}
+use Rattle.falls.proofs.still_high_at.Tie as tie
 
 returns : tie.Need-returns
 returns c =

@@ -16,7 +16,6 @@ use Rattle.netlist.specs.declared.Counts.{Counts}
 use Rattle.netlist.specs.Reading.{stageLimits, Within}
 use Rattle.netlist.specs.Content.{Gate}
 use Rattle.verdict.specs.Rows.{high, withNull, rounds, settledLevels, settled, allNull}
-use Rattle.verdict.specs.Graph.{tabulate}
 use Rattle.verdict.specs.Words.{railsIn}
 use Rattle.verdict.specs.Nets.{noGate}
 use Rattle.verdict.specs.Falls.{stays, levelFalling, fallenLevels, fallen}
@@ -24,8 +23,9 @@ use Rattle.verdict.specs.Checks.{fallIncomplete, fallUnobservable}
 use Rattle.circuit.specs.Stage.{netCount, stageGates, stageOutputs, stageIn}
 use Rattle.circuit.specs.Rows.{rowSize, RowFor, netsIn, railPart, levelPart, fallenIn}
 use Rattle.circuit.proofs.Settling.{length-stageGates, length-rails, length-levels, low-row, row-set}
-use Rattle.words.specs.Finds.{RestOf, fallenFrom}
-use Rattle.words.proofs.Holding.{word-length, word-rails, word-levels}
+use Rattle.circuit.proofs.Tabulate.{all-same}
+use Rattle.spelling.proofs.Rest.{word-length, word-rails, word-levels}
+use Rattle.falls.specs.Fallen.{RestOf, fallenFrom}
 
 -- ---- inputs that fall
 
@@ -151,16 +151,11 @@ module _ (c : Counts) (code rest row : List ℕ) (rest-for : RowFor c rest) (row
 
 -- ---- no gate kept
 
-tabulate-alike : (f g : ℕ → ℕ) (m : ℕ) → ((k : ℕ) → k < m → f k ≡ g k) → tabulate f m ≡ tabulate g m
-unfolding tabulate
-tabulate-alike f g zero e = refl
-tabulate-alike f g (suc m) e = ap₂ {C = List ℕ} (λ x l. x ∷ l) (e 0 (omega arith)) (tabulate-alike (λ i. f (suc i)) (λ i. g (suc i)) m (λ k l. e (suc k) (omega arith)))
-
 fallen-none : (gates : List Gate) (rest rails : List ℕ) → fallenLevels (only (length gates)) gates rest rails ≡ fallenLevels (λ g. false) gates rest rails
 unfolding fallenLevels
 fallen-none gates rest rails =
     ap (λ (step : List ℕ → List ℕ). rounds step (length gates) (length gates))
-    (fun-ext (λ v. tabulate-alike _ _ (length gates) (λ k l.
+    (fun-ext (λ v. all-same _ _ (length gates) (λ k l.
     ap (λ (b : Bool). bit (high rest k && (b || stays (rails ++ v) (getD gates k noGate)))) (ne-eqb k (length gates) (λ e. omega arith)))))
 
 -- ---- from the rest of a word

@@ -1,11 +1,11 @@
--- `words::word_bits` meets its contract. The loop's invariant: the bits before i are written, and those of `rest` are to come. Assumes nothing.
+-- `spelling::word_bits` meets its contract. The loop's invariant: the bits before i are written, and those of `rest` are to come. Assumes nothing.
 use Prim.Native.Nat.{_-_}
 use lib.ListN.{length}
 use native.Mathlib.Omega.{arith}
-use Rattle.words.proofs.Spelling.{BitsTo, bits-start, bits-turn, bits-done}
+use Rattle.spelling.proofs.Spelling.{BitsTo, bits-start, bits-turn, bits-done}
 use borrow.Author.Needs.{needs}
-use Rattle.words.proofs.word_bits.Statement.{statement}
-use Rattle.words.proofs.word_bits.Tie as tie
+use Rattle.spelling.proofs.word_bits.Statement.{statement}
+use Rattle.spelling.proofs.word_bits.Tie as tie
 
 abbrev Inv-loop : tie.InvT-loop
 Inv-loop w bits₀ rest₀ i₀ bits rest i = BitsTo w (length bits₀) bits rest i

@@ -1,4 +1,4 @@
--- `words::remaining_input` meets its contract. The loop's invariant: with an input before i still DATA some output is not NULL.
+-- `falls::remaining_input` meets its contract. The loop's invariant: with an input before i still DATA some output is not NULL.
 -- Assumes nothing.
 use Prim.Native.Nat.{_-_}
 use mathlib.Core.Path.{sym, ap, _∙_}
@@ -9,10 +9,10 @@ use Rattle.verdict.specs.Search.{least}
 use Rattle.verdict.proofs.Least.{SoughtTo, sought-on, sought-here, sought-none}
 use Rattle.circuit.specs.Stage.{stageIn}
 use Rattle.circuit.proofs.Settling.{low-row}
-use Rattle.words.proofs.Falling.{remaining-word}
+use Rattle.falls.proofs.Falling.{remaining-word}
 use borrow.Author.Needs.{needs}
-use Rattle.words.proofs.remaining_input.Statement.{statement}
-use Rattle.words.proofs.remaining_input.Tie as tie
+use Rattle.falls.proofs.remaining_input.Statement.{statement}
+use Rattle.falls.proofs.remaining_input.Tie as tie
 
 abbrev Inv-loop : tie.InvT-loop
 Inv-loop code counts w row inputs none i₀ i = SoughtTo (fallIncomplete (stageIn counts code) w) (counts .inputs) i

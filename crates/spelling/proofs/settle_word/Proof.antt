@@ -1,11 +1,11 @@
--- `words::settle_word` meets its contract. Assumes nothing.
+-- `spelling::settle_word` meets its contract. Assumes nothing.
 use mathlib.Core.Path.{ap, _∙_}
 use denote.Ref.{now}
 use Rattle.verdict.specs.Rows.{settled}
 use Rattle.circuit.specs.Stage.{stageGates}
 use borrow.Author.Needs.{needs}
-use Rattle.words.proofs.settle_word.Statement.{statement}
-use Rattle.words.proofs.settle_word.Tie as tie
+use Rattle.spelling.proofs.settle_word.Statement.{statement}
+use Rattle.spelling.proofs.settle_word.Tie as tie
 
 returns : tie.Need-returns
 returns c =

@@ -1,12 +1,12 @@
--- `words::spell_word` meets its contract. The loop's invariant: the rails before those of input i are written, and those of `rest` are to
+-- `spelling::spell_word` meets its contract. The loop's invariant: the rails before those of input i are written, and those of `rest` are to
 -- come. Assumes nothing.
 use Prim.Native.Nat.{_-_}
 use native.Mathlib.Omega.{arith}
 use lib.ListN.{length-set}
 use denote.Ref.{now}
-use Rattle.words.proofs.Spelling.{SpeltTo, spelt-start, spelt-turn, spelt-done}
-use Rattle.words.proofs.spell_word.Statement.{statement}
-use Rattle.words.proofs.spell_word.Tie as tie
+use Rattle.spelling.proofs.Spelling.{SpeltTo, spelt-start, spelt-turn, spelt-done}
+use Rattle.spelling.proofs.spell_word.Statement.{statement}
+use Rattle.spelling.proofs.spell_word.Tie as tie
 
 abbrev Inv-loop : tie.InvT-loop
 Inv-loop counts w row₀ rest₀ i₀ row rest i = SpeltTo counts w row₀ row rest i

@@ -1,4 +1,4 @@
--- `words::still_high_gate` meets its contract. The loop's invariant: each gate before g is low, or some output is not NULL with it kept
+-- `falls::still_high_gate` meets its contract. The loop's invariant: each gate before g is low, or some output is not NULL with it kept
 -- high.
 -- Assumes nothing.
 use Prim.Native.Nat.{_-_}
@@ -11,8 +11,8 @@ use Rattle.verdict.proofs.Least.{SoughtTo, sought-on, sought-here, sought-none}
 use Rattle.circuit.specs.Stage.{stageIn}
 use Rattle.circuit.proofs.Settling.{low-row}
 use borrow.Author.Needs.{needs}
-use Rattle.words.proofs.still_high_gate.Statement.{statement}
-use Rattle.words.proofs.still_high_gate.Tie as tie
+use Rattle.falls.proofs.still_high_gate.Statement.{statement}
+use Rattle.falls.proofs.still_high_gate.Tie as tie
 
 abbrev Inv-loop : tie.InvT-loop
 Inv-loop code counts w row gates g₀ g = SoughtTo (fallUnobservable (stageIn counts code) w) (counts .gates) g
