@@ -62,7 +62,7 @@ pins-marked code k words ack ack₁ ack₂ ack₃ ack₄ a b c d j p e = fourth 
     fourth (inl x) = third (c j p x)
     fourth (inr x) = inr (3, omega arith, x .0, x .1)
 
--- where what is said of marks holds of the nets at a gate's pins in the words that are words for them
+-- what is said of marks still holds once a gate's pins are marked, where it holds of the net at each pin in the words that are given for it
 pub marked-pins : (Holds : ℕ → ℕ → Type 0) (c : Counts) (code : List ℕ) (k : ℕ) (words : CellLanes) (ack ack′ : List ℕ) → PinsMarked code k words ack ack′
     → ((j t : ℕ) → j < 64 → t < 4 → pinIn code k t < netCount c → lane j (needOf words t) ≡ true → Holds j (pinIn code k t)) → MarkedWith Holds c ack → MarkedWith Holds c ack′
 marked-pins Holds c code k words ack ack′ more ok m j p d h e = go (more j p e)

@@ -12,7 +12,7 @@ ghost use Rattle.circuit.specs.Stage.{gateIn, stageGates, StageLoaded};
 ghost use Rattle.circuit.specs.Order.{InOrder};
 ghost use Rattle.circuit.specs.Rows.{RowFor, netsIn, levelPart, LevelOf, patternIn, SettledTo, settledIn, settledHoldingIn, fallenIn};
 
-// A byte for each net of the largest stage, and one for the ground.
+// A place for each net of the largest stage, and one for the ground.
 pub const ROW: usize = 2 * netlist::INPUTS + netlist::STAGE_GATES + 1;
 
 // How many signals the largest reference has.

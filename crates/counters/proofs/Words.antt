@@ -11,6 +11,7 @@ use lib.Seq.{ext-getD, getD-take, getD-drop, getD-append-add, length-take-le, ge
 use lib.Dec.{eqb, ltb}
 use Rattle.runs.proofs.Test.{clash}
 use Rattle.netlist.specs.declared.Counts.{Counts}
+use Rattle.netlist.specs.Reading.{Within, stageLimits}
 use Rattle.verdict.specs.Levels.{sum}
 use Rattle.verdict.specs.Rows.{settledLevels}
 use Rattle.verdict.specs.Words.{bitsOf, railsIn}
@@ -19,7 +20,7 @@ use Rattle.verdict.proofs.Settling.{settled-bits}
 use Rattle.verdict.proofs.Words.{bits-of-length, rails-length}
 use Rattle.circuit.specs.Stage.{netCount, stageGates, stageIn}
 use Rattle.circuit.specs.Rows.{rowSize}
-use Rattle.circuit.proofs.Settling.{length-stageGates}
+use Rattle.circuit.proofs.Settling.{length-stageGates, low-row}
 use Rattle.lanes.specs.Lane.{levelIn, laneOf}
 use Rattle.lanes.proofs.Lane.{level-small}
 use Rattle.lanes.proofs.Blocks.{level-at, length-lane}
@@ -124,19 +125,14 @@ pub record BlocksTo (c : Counts) (code start high row ack : List ℕ) (b : ℕ) 
   pub ground : getD row (netCount c) 0 ≡ 0
   pub high-to : HighTo c code high b
 
-pub blocks-start : (c : Counts) (code start : List ℕ) → BlocksTo c code start start (replicate rowSize 0) (replicate rowSize 0) 0
-blocks-start c code start = record {
+pub blocks-start : (c : Counts) (code start : List ℕ) → Within stageLimits c → BlocksTo c code start start (replicate rowSize 0) (replicate rowSize 0) 0
+blocks-start c code start within = record {
   same-long = refl;
   row-long = length-replicate {A = ℕ} rowSize 0;
   ack-long = length-replicate {A = ℕ} rowSize 0;
-  ground = low-at rowSize (netCount c);
+  ground = low-row c within .ground;
   high-to = λ w h. absurd (omega arith);
 }
-  where
-    low-at : (n p : ℕ) → getD {A = ℕ} (replicate n 0) p 0 ≡ 0
-    low-at zero p = refl
-    low-at (suc n) zero = refl
-    low-at (suc n) (suc p) = low-at n p
 
 -- one block more
 pub blocks-more : (c : Counts) (code start high row ack : List ℕ) (b : ℕ) → BlocksTo c code start high row ack b → (high′ row′ ack′ digits : List ℕ)

@@ -1,12 +1,11 @@
 -- Where every high net is marked, every net that is high at the rest is acknowledged.
 -- Assumes nothing.
-use Prim.Native.Nat.{ℕ, zero, suc, _+_, _*_, _<_}
+use Prim.Native.Nat.{ℕ, _+_, _*_, _<_}
 use native.Mathlib.Omega.{arith}
 use native.Mathlib.Decide.{decLt}
-use mathlib.Core.Path.{_≡_, refl, _∙_}
+use mathlib.Core.Path.{_≡_, _∙_}
 use mathlib.Core.Bool.{Bool, false}
 use mathlib.Core.List.{List}
-use lib.ListN.{getD, replicate}
 use Rattle.runs.proofs.Test.{clash}
 use Rattle.netlist.specs.declared.Counts.{Counts}
 use Rattle.circuit.specs.Stage.{netCount}
@@ -24,8 +23,3 @@ module _ (c : Counts) (code : List ℕ) (ordered : InOrder c code) (b : ℕ) whe
       go : Dec (p < netCount c) → AcknowledgedIn falls (netIn c code) (restIn c code b j) p
       go (yes h) = marked j p d h (all j d e p h (rest j p d h ∙ u))
       go (no h) = absurd (clash u (rest-past c code ordered (64 * b + j) p (omega arith)))
-
-pub none-marked : (n p : ℕ) → getD {A = ℕ} (replicate n 0) p 0 ≡ 0
-none-marked zero p = refl
-none-marked (suc n) zero = refl
-none-marked (suc n) (suc p) = none-marked n p

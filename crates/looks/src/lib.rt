@@ -21,13 +21,13 @@ ghost use Rattle.blocks.specs.Block.{netIn, Room, Resting, MarkedIn};
 ghost use Rattle.looks.specs.Marks.{Workspace, PinsAcknowledged, Lone, keptLanes, setWhere, eachWhere, AlwaysAcknowledged, AllMarked, AcknowledgedBut};
 ghost use Rattle.looks.specs.Looks.{RiseClean, Unnamed, AllClean};
 
-// The words of a block in which something may be wrong: for 13, and for 14 and 15.
+// The words of a block in which something may be wrong: for 13; and for 14 and 15, those for 13 among them.
 pub struct Rise {
     pub wrong: u64,
     pub all: u64,
 }
 
-// The words of the files in which something may be wrong: for 13, for 14 and 15, and for 20 and 21.
+// The words of the files in which something may be wrong: for 13, for 14 and 15 (those for 13 among them), and for 20 and 21.
 pub struct Masks {
     pub wrong: [u64; blocks::BLOCKS],
     pub rise: [u64; blocks::BLOCKS],
@@ -341,7 +341,7 @@ pub fn looks(code: &[u16], counts: Counts, reference: &[u16], sizes: Counts) -> 
 {
     let mut row = [0u64; circuit::ROW];
     let mut ack = [0u64; circuit::ROW];
-    let mut values = [0u64; words::SIGNALS];
+    let mut values = [0u64; circuit::SIGNALS];
     let mut wrong = [lanes::ALL; blocks::BLOCKS];
     let mut rise = [lanes::ALL; blocks::BLOCKS];
     let mut fall = [lanes::ALL; blocks::BLOCKS];

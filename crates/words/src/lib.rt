@@ -22,9 +22,6 @@ pub enum Sweep {
     StillHigh,
 }
 
-// A byte for each signal of the largest reference.
-pub const SIGNALS: usize = circuit::SIGNALS;
-
 // ---- 13
 
 // The least output that is not the reference's DATA in word w.
@@ -35,7 +32,7 @@ fn wrong_output(code: &[u16], counts: Counts, reference: &[u16], sizes: Counts, 
 {
     let mut row = [0u8; circuit::ROW];
     spelling::settle_word(code, counts, w, &mut row);
-    let mut values = [0u8; SIGNALS];
+    let mut values = [0u8; circuit::SIGNALS];
     spelling::word_bits(w, &mut values);
     signals::signal_values(reference, sizes, &mut values);
     outputs::first_misread(code, counts, &row, reference, sizes, &values)

@@ -20,7 +20,7 @@ block-count-requires : tie.Need-block-count-requires Inv-loop μ-loop
 block-count-requires c κs = c .before .before .pre .0 .within .inputs-in
 
 loop-holds : tie.Need-loop-holds Inv-loop μ-loop
-loop-holds c = (blocks-start _ _ _, omega arith)
+loop-holds c = (blocks-start _ _ _ (c .before .before .before .pre .0 .within), omega arith)
 
 slice-aggregate-settle : tie.Need-slice-aggregate-settle Inv-loop μ-loop
 slice-aggregate-settle c = sym (c .before .before .loop .inv .0 .row-long)
@@ -44,7 +44,8 @@ mul-count-high c = omega (arith, c .before .before .before .before .before .befo
 count-high-requires : tie.Need-count-high-requires Inv-loop μ-loop
 count-high-requires c κs =
     let s = c .before .before .before .before .before .before .before .before .before .before .before .before .pre .0 .within in
-    (omega (arith, c .before .before .before .before .settle .ensures .0 .0, c .before .before .before .before .before .before .before .before .loop .inv .0 .row-long, s .inputs-in, s .gates-in), omega (arith, s .gates-in))
+    let settled = c .before .before .before .before .settle .ensures .0 in
+    (omega (arith, settled .0, c .before .before .before .before .before .before .before .before .loop .inv .0 .row-long, s .inputs-in, s .gates-in), omega (arith, s .gates-in))
 
 slice-aggregate-write-counters : tie.Need-slice-aggregate-write-counters Inv-loop μ-loop
 slice-aggregate-write-counters c = sym (c .before .count-high .ensures .0)
@@ -53,7 +54,8 @@ write-counters-requires : tie.Need-write-counters-requires Inv-loop μ-loop
 write-counters-requires c κs =
     let l = c .before .before .before .before .before .before .before .before .before .before .before .loop in
     let z = c .before .before .before .before .before .before .before .before .before .before .before .before .before .before .before in
-    (omega (arith, c .before .before .count-high .ensures .0), omega (arith, z .pre .2, l .inv .0 .same-long, c .before .before .before .before .before .before .before .before .before .before .before .before .block-count .ensures .0))
+    let few = c .before .before .before .before .before .before .before .before .before .before .before .before .block-count .ensures .0 in
+    (omega (arith, c .before .before .count-high .ensures .0), omega (arith, z .pre .2, l .inv .0 .same-long, few))
 
 loop-again : tie.Need-loop-again Inv-loop μ-loop
 loop-again c =

@@ -3,11 +3,11 @@ use Prim.Native.Nat.{_-_}
 use native.Mathlib.Omega.{arith}
 use mathlib.Core.Path.{refl, sym, _∙_}
 use denote.Ref.{now}
-use Rattle.circuit.specs.Stage.{netCount, stageIn}
+use Rattle.circuit.specs.Stage.{stageIn}
 use Rattle.circuit.specs.Reference.{referenceIn}
 use Rattle.looks.specs.Marks.{Workspace}
 use Rattle.looks.specs.Looks.{AllClean}
-use Rattle.looks.proofs.Resting.{none-marked}
+use Rattle.circuit.proofs.Settling.{low-row}
 use Rattle.looks.proofs.Blocks.{fall-complete, fall-observable}
 use Rattle.looks.proofs.Naming.{masksOf, all-clean-start, all-clean-more}
 use Rattle.looks.proofs.looks.Statement.{statement}
@@ -29,7 +29,7 @@ block-count-requires c κs = c .before .before .before .pre .stage .within .inpu
 loop-holds : tie.Need-loop-holds Inv-loop μ-loop
 loop-holds c =
     let z = c .before .before .before .before in (
-      record { row-long = refl; ack-long = refl; values-long = refl; ground = none-marked 277 (netCount (z .args .counts)) },
+      record { row-long = refl; ack-long = refl; values-long = refl; ground = low-row (z .args .counts) (z .pre .stage .within) .ground },
       all-clean-start (stageIn (z .args .counts) (now (z .args .code))) (referenceIn (z .args .sizes) (now (z .args .reference))) 16,
     )
 
