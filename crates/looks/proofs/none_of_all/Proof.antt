@@ -20,7 +20,7 @@ loop-holds : tie.Need-loop-holds Inv-loop μ-loop
 loop-holds c k h = absurd (omega arith)
 
 block-count-requires : tie.Need-block-count-requires Inv-loop μ-loop
-block-count-requires c κs = c .before .pre
+block-count-requires c κs = omega (arith, c .before .pre)
 
 returns : tie.Need-returns Inv-loop μ-loop
 returns c e = absurd (clash e refl)
