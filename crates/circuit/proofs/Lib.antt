@@ -3,5 +3,4 @@ pub mod Pins
 pub mod Order
 pub mod Settling
 pub mod Falling
-pub mod Outputs
 pub mod Values

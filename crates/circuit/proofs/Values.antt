@@ -8,20 +8,15 @@ use mathlib.Core.Path.{_≡_, refl, sym, ap, ap₂, _∙_}
 use mathlib.Core.Bool.{cond}
 use mathlib.Core.List.{List, [], _∷_, _++_}
 use lib.ListN.{length, getD, take, drop, set, length-set}
-use lib.Seq.{take-suc-set, getD-set-same, getD-set-other, drop-cons, drop-length, getD-take}
+use lib.Seq.{take-suc-set, getD-set-same, getD-set-other, drop-length, getD-take}
 use lib.Dec.{eqb}
 use borrow.Author.Tests.{eq-eqb, ne-eqb}
 use Rattle.netlist.specs.declared.Counts.{Counts}
-use Rattle.netlist.specs.Content.{Coded}
 use Rattle.verdict.specs.Answers.{operate, valuesAt, signalValues}
 use Rattle.circuit.specs.Reference.{operatorIn, operatorsIn}
-use Rattle.circuit.proofs.Tabulate.{length-tabulate, getD-tabulate}
+use Rattle.circuit.proofs.Tabulate.{length-tabulate, from-at}
 
 -- ---- one operation
-
--- what an operation gives, known to be operation k
-pub operate-at : (k op a b r : ℕ) → op ≡ k → r ≡ operate k (a ∷ b ∷ []) → r ≤ 1 → (r ≡ operate op (a ∷ b ∷ [])) × (r ≤ 1)
-operate-at k op a b r e h s = (h ∙ ap (λ (x : ℕ). operate x (a ∷ b ∷ [])) (sym e), s)
 
 pub operate-other : (op a b : ℕ) → (1 ≤ op → op ≤ 6 → ⊥) → 0 ≡ operate op (a ∷ b ∷ [])
 unfolding operate
@@ -66,9 +61,7 @@ module _ (c : Counts) (code : List ℕ) where
 
   operators-from : (k : ℕ) → k < c .gates → drop k (operatorsIn c code) ≡ operatorIn code k ∷ drop (suc k) (operatorsIn c code)
   unfolding operatorsIn
-  operators-from k h =
-      drop-cons (operatorsIn c code) k (operatorIn code 0) (omega (arith, length-operators))
-      ∙ ap (λ (g : Coded). g ∷ drop (suc k) (operatorsIn c code)) (getD-tabulate (operatorIn code) (c .gates) k (operatorIn code 0) h)
+  operators-from k h = from-at (operatorIn code) (c .gates) k h
 
   module _ (start values : List ℕ) (k : ℕ) (v : ValuesTo start values k) where
     pub values-turn : c .inputs + c .gates ≤ length start → k < c .gates → (x : ℕ) →

@@ -1,7 +1,6 @@
 -- Rows of a stage in its flat form: the rails, the gates' levels, and the ground, which is low.
 use Prim.Native.Nat.{ℕ, _+_, _*_, _≤_, _<_}
 use mathlib.Core.Path.{_≡_}
-use mathlib.Core.Bool.{Bool, not}
 use mathlib.Core.List.{List, _++_}
 use lib.ListN.{length, getD, take, drop}
 use Rattle.runs.specs.Row.{only}
@@ -10,7 +9,7 @@ use Rattle.netlist.specs.Reading.{stageLimits}
 use Rattle.verdict.specs.Rows as rows
 use Rattle.verdict.specs.Levels.{levelHolding}
 use Rattle.verdict.specs.Falls.{fallenLevels}
-use Rattle.circuit.specs.Stage.{netCount, pinIn, stageGates, outputIn}
+use Rattle.circuit.specs.Stage.{netCount, pinIn, stageGates}
 use Rattle.circuit.specs.Order.{orderIn}
 
 -- room for a row of the largest stage
@@ -63,13 +62,3 @@ settledHoldingIn h c code row = rows.settledHolding h (stageGates c code) (railP
 -- the row that is settled by the fall rule with the rails of a row, whose levels are the rest's, and gate h kept high
 abbrev pub fallenIn : ℕ → Counts → List ℕ → List ℕ → List ℕ
 fallenIn h c code row = railPart c row ++ fallenLevels (only h) (stageGates c code) (levelPart c row) (railPart c row)
-
--- ---- outputs
-
--- output j fails a test in a row
-abbrev pub outputFails : (rows.DualRail → Bool) → Counts → List ℕ → List ℕ → ℕ → Bool
-outputFails test c code row j = not (test (rows.pairIn row (outputIn c code j)))
-
--- output j does not read as a value
-abbrev pub misread : Counts → List ℕ → List ℕ → (ℕ → ℕ) → ℕ → Bool
-misread c code row value j = not (rows.spells (rows.pairIn row (outputIn c code j)) (value j))

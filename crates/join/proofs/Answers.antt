@@ -21,7 +21,7 @@ use Rattle.verdict.specs.Answers.{answer, valuesAt, signalValues}
 use Rattle.verdict.specs.Checks.{first, sweep, finding}
 use Rattle.circuit.specs.Reference.{operatorsIn, signalIn, signalsIn, referenceIn, ReferenceLoaded}
 use Rattle.circuit.proofs.Tabulate.{length-tabulate, getD-tabulate}
-use Rattle.words.proofs.Spelling.{bits-prefix}
+use Rattle.spelling.proofs.Spelling.{bits-prefix}
 use Rattle.joined.specs.Join.{answerWord, uncaredCheck}
 use Rattle.join.specs.Steps.{uncaredUnder}
 

@@ -43,9 +43,9 @@ fn answer_word(reference: &[u16], sizes: Counts, w: usize) -> usize
     requires { ⌜ ReferenceLoaded sizes (now reference) ⌝ }
     ensures { λ r. ⌜ r ≡ answerWord (referenceIn sizes (now (reference .entry))) w ⌝ }
 {
-    let mut values = [0u8; words::SIGNALS];
-    words::word_bits(w, &mut values);
-    circuit::signal_values(reference, sizes, &mut values);
+    let mut values = [0u8; circuit::SIGNALS];
+    spelling::word_bits(w, &mut values);
+    signals::signal_values(reference, sizes, &mut values);
     spelled(reference, sizes, &values)
 }
 

@@ -1,5 +1,5 @@
 -- What a cell gives in 64 words: where its set expression holds, and where it would not hold any more with one of its pins low.
-use Prim.Native.Nat.{ℕ}
+use Prim.Native.Nat.{ℕ, _+_, _*_}
 use mathlib.Core.Bool.{Bool, true, false, cond}
 use mathlib.Core.List.{_∷_, []}
 use lib.ListN.{getD}
@@ -8,7 +8,7 @@ use lib.Bits.{bitAnd, bitOr, bitXor}
 use Rattle.gates.specs.Expression.{Expression, A, B, C, D, _·_, _∔_}
 use Rattle.gates.specs.Cell.{pinCount, setExpression}
 use Rattle.lanes.specs.declared.CellLanes.{CellLanes}
-use Rattle.lanes.specs.Lane.{lane}
+use Rattle.lanes.specs.Lane.{levelIn, lane}
 
 -- an expression on the lanes of its pins: AND and OR of all words at once
 abbrev pub lanesOf : Expression → ℕ → ℕ → ℕ → ℕ → ℕ
@@ -57,6 +57,10 @@ needing set a b c d = record { set = set; a = a; b = b; c = c; d = d }
 -- the levels at four pins in word j
 abbrev pub pinsIn : ℕ → ℕ → ℕ → ℕ → ℕ → ℕ → Bool
 pinsIn j a b c d i = getD (lane j a ∷ lane j b ∷ lane j c ∷ lane j d ∷ []) i false
+
+-- the pattern that they make, as an entry of the table of cells is found by
+abbrev pub patternIn : ℕ → ℕ → ℕ → ℕ → ℕ → ℕ
+patternIn j a b c d = levelIn j a + 2 * levelIn j b + 4 * levelIn j c + 8 * levelIn j d
 
 -- what a cell gives for pin i
 abbrev pub needOf : CellLanes → ℕ → ℕ

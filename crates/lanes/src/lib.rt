@@ -17,7 +17,8 @@ ghost use Rattle.circuit.specs.Reference.{operatorIn, operatorsIn, ReferenceLoa
 ghost use Rattle.lanes.specs.Lane.{levelIn, lane, laneOf};
 ghost use Rattle.lanes.specs.Cells.{needing, needOf, pinsIn, cellLanes};
 
-// What a gate's cell gives in 64 words: where its set expression holds, and for each of its pins where it holds and would not with that pin low.
+// Words of a block for a gate and for each of its four pins; which words they are is said where they are made. Those of a cell (`cell_lanes`) are
+// where its set expression holds, and for each pin where it holds and would not with that pin low.
 pub struct CellLanes {
     pub set: u64,
     pub a: u64,

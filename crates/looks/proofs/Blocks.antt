@@ -2,36 +2,34 @@
 -- Assumes nothing.
 use Prim.Native.Nat.{ℕ, _+_, _*_, _<_}
 use native.Mathlib.Omega.{arith}
-use mathlib.Core.Path.{_≡_, refl, sym, ap, _∙_, subst}
+use mathlib.Core.Path.{_≡_, sym, ap, _∙_}
 use mathlib.Core.Bool.{Bool, true, false, not}
-use mathlib.Core.List.{List, map}
-use lib.ListN.{length, getD, take}
+use mathlib.Core.List.{List}
+use lib.ListN.{getD, take}
 use lib.Seq.{getD-take}
 use lib.Dec.{eqb}
 use lib.Bits.{bitOr}
 use Rattle.runs.specs.Row.{Row}
 use Rattle.runs.specs.Pair.{DataOf, Reads}
-use Rattle.runs.specs.Acknowledged.{Acknowledged, Fall-acknowledged}
 use Rattle.runs.proofs.Test.{clash}
 use Rattle.netlist.specs.declared.Counts.{Counts}
-use Rattle.netlist.specs.declared.Found.the-variants.{Nothing}
-use Rattle.netlist.specs.Content.{Pair}
+use Rattle.netlist.specs.Content.{Pair, Reference}
 use Rattle.verdict.specs.Words.{bitsOf}
 use Rattle.verdict.specs.Answers.{signalValues, answer}
 use Rattle.verdict.specs.Nets.{railOf, answerBits}
-use Rattle.circuit.specs.Stage.{netCount, outputIn, stageIn}
+use Rattle.circuit.specs.Stage.{outputIn, stageIn}
+use Rattle.circuit.specs.Order.{InOrder}
 use Rattle.circuit.specs.Reference.{operatorsIn, signalIn, signalsIn, referenceIn, ReferenceLoaded}
 use Rattle.circuit.proofs.Tabulate.{getD-tabulate, map-tabulate}
-use Rattle.words.specs.declared.Sweep.the-variants.{Wrong, Missing, Unobserved, Remaining, StillHigh}
-use Rattle.words.specs.Finds.{finds}
+use Rattle.words.specs.declared.Sweep.the-variants.{Remaining, StillHigh}
 use Rattle.words.specs.Loaded.{BothLoaded}
-use Rattle.lanes.specs.Lane.{levelIn, lane, rowIn, laneOf}
+use Rattle.lanes.specs.Lane.{lane, rowIn, laneOf}
 use Rattle.lanes.proofs.Blocks.{level-at, all-at}
-use Rattle.looks.specs.declared.Look.{Look}
-use Rattle.looks.specs.Block.{restIn, netIn, AtRest, NoneElse}
-use Rattle.looks.specs.Looks.{BlockClean}
-use Rattle.looks.proofs.Pins.{output-at, length-outputs}
-use Rattle.looks.proofs.Settling.{free}
+use Rattle.blocks.specs.Block.{restIn, netIn, AtRest}
+use Rattle.looks.specs.Marks.{AcknowledgedBut}
+use Rattle.looks.specs.Looks.{CleanIn, RiseClean}
+use Rattle.looks.proofs.Outputs.{output-at, length-outputs}
+use Rattle.blocks.proofs.Settling.{free}
 use Rattle.looks.proofs.Gathering.{neither}
 use Rattle.looks.proofs.OneWord.{reads-right, acknowledged-complete, acknowledged-observable, acknowledged-fall-complete, acknowledged-fall-observable}
 
@@ -53,28 +51,37 @@ same-data : (r s : Row) (p : Pair) (b : Bool) → r (p .rail0) ≡ s (p .rail0) 
 same-data r s p true x y d = (sym y ∙ d .0, sym x ∙ d .1)
 same-data r s p false x y d = (sym x ∙ d .0, sym y ∙ d .1)
 
--- nothing is asked of words that are all named
-pub all-named : (Holds : Row → ℕ → Type 0) (c : Counts) (code : List ℕ) (b : ℕ) → NoneElse Holds c code b 0xFFFF_FFFF_FFFF_FFFF
-all-named Holds c code b j d e p u = absurd (clash (ap (λ (x : ℕ). eqb x 1) (all-at j d)) e)
-
-module _ (c : Counts) (code : List ℕ) (sizes : Counts) (reference : List ℕ) (both : BothLoaded c code sizes reference) (b : ℕ) (row values : List ℕ) (wrong loose fall : ℕ) where
-  module _ (rest : AtRest c code b row)
+module _ (c : Counts) (code : List ℕ) (sizes : Counts) (reference : List ℕ) (both : BothLoaded c code sizes reference) (b : ℕ) (row : List ℕ) (rest : AtRest c code b row) where
+  module _ (values : List ℕ) (wrong unacknowledged : ℕ)
       (answers : (j : ℕ) → j < 64 → take (sizes .inputs + sizes .gates) (laneOf j values) ≡ signalValues (bitsOf (sizes .inputs) (64 * b + j)) (operatorsIn sizes reference))
       (right : (j : ℕ) → j < 64 → lane j wrong ≡ false → (o : ℕ) → o < c .outputs → DataOf (rowIn j row) (railOf (outputIn c code o)) (rowIn j values (signalIn sizes reference o)))
-      (rises : NoneElse (Acknowledged (netIn c code)) c code b loose) (falls : NoneElse (Fall-acknowledged (netIn c code)) c code b fall) where
+      (rises : AcknowledgedBut false c code b unacknowledged) where
     reads : (j : ℕ) → j < 64 → lane j wrong ≡ false → Reads (netIn c code) (restIn c code b j) (answerBits (referenceIn sizes reference) (64 * b + j))
     reads j d e o l =
         let h : o < c .outputs = omega (arith, length-outputs c code) in
-        let x = same-data (rowIn j row) (restIn c code b j) (outputIn c code o) (rowIn j values (signalIn sizes reference o)) (rest j _ d (both .stage .rail0-net o h)) (rest j _ d (both .stage .rail1-net o h)) (right j d e o h) in
+        let x = same-data (rowIn j row) (restIn c code b j) (outputIn c code o) (rowIn j values (signalIn sizes reference o)) (rest j _ d (both .stage .rail0-net o h))
+        (rest j _ d (both .stage .rail1-net o h)) (right j d e o h) in
         rw (output-at c code o h, ← answer-in sizes reference (both .answers) values j (64 * b + j) (answers j d) o (omega (arith, both .enough))) x
 
-    pub block-clean : BlockClean (stageIn c code) (referenceIn sizes reference) b (record { wrong = wrong; rise = bitOr wrong loose; fall = fall })
-    block-clean Wrong j d e = reads-right (stageIn c code) (referenceIn sizes reference) (64 * b + j) (free c code (both .ordered)) (reads j d e)
-    block-clean Missing j d e =
-        let n = neither j wrong loose e in
-        acknowledged-complete (stageIn c code) (referenceIn sizes reference) (64 * b + j) (free c code (both .ordered)) (reads j d (n .0)) (rises j d (n .1))
-    block-clean Unobserved j d e =
-        let n = neither j wrong loose e in
-        acknowledged-observable (stageIn c code) (referenceIn sizes reference) (64 * b + j) (free c code (both .ordered)) (reads j d (n .0)) (rises j d (n .1))
-    block-clean Remaining j d e = acknowledged-fall-complete (stageIn c code) (referenceIn sizes reference) (64 * b + j) (free c code (both .ordered)) (falls j d e)
-    block-clean StillHigh j d e = acknowledged-fall-observable (stageIn c code) (referenceIn sizes reference) (64 * b + j) (free c code (both .ordered)) (falls j d e)
+    pub rise-clean : RiseClean (stageIn c code) (referenceIn sizes reference) b (record { wrong = wrong; all = bitOr wrong unacknowledged })
+    rise-clean = record {
+      wrong = λ j d e. reads-right (stageIn c code) (referenceIn sizes reference) (64 * b + j) (free c code (both .ordered)) (reads j d e);
+      missing = λ j d e.
+          let n = neither j wrong unacknowledged e in
+          acknowledged-complete (stageIn c code) (referenceIn sizes reference) (64 * b + j) (free c code (both .ordered)) (reads j d (n .0)) (rises j d (n .1));
+      unobserved = λ j d e.
+          let n = neither j wrong unacknowledged e in
+          acknowledged-observable (stageIn c code) (referenceIn sizes reference) (64 * b + j) (free c code (both .ordered)) (reads j d (n .0)) (rises j d (n .1));
+    }
+
+-- nothing is asked of words that are all named
+pub all-named : (falls : Bool) (c : Counts) (code : List ℕ) (b : ℕ) → AcknowledgedBut falls c code b 0xFFFF_FFFF_FFFF_FFFF
+all-named falls c code b j d e p u = absurd (clash (ap (λ (x : ℕ). eqb x 1) (all-at j d)) e)
+
+-- on the way back
+module _ (c : Counts) (code : List ℕ) (ordered : InOrder c code) (r : Reference) (b fall : ℕ) (falls : AcknowledgedBut true c code b fall) where
+  pub fall-complete : CleanIn Remaining (stageIn c code) r b fall
+  fall-complete j d e = acknowledged-fall-complete (stageIn c code) r (64 * b + j) (free c code ordered) (falls j d e)
+
+  pub fall-observable : CleanIn StillHigh (stageIn c code) r b fall
+  fall-observable j d e = acknowledged-fall-observable (stageIn c code) r (64 * b + j) (free c code ordered) (falls j d e)

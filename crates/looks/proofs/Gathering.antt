@@ -3,12 +3,11 @@
 use Prim.Native.Nat.{ℕ, _+_, _<_}
 use native.Mathlib.Omega.{arith}
 use native.Mathlib.Decide.{ℕ-discrete}
-use mathlib.Core.Path.{_≡_, refl, sym, ap, ap₂, _∙_}
+use mathlib.Core.Path.{_≡_, refl, sym, ap, _∙_}
 use mathlib.Core.Bool.{Bool, true, false, not, _&&_, _||_}
-use mathlib.Core.List.{List}
 use lib.Bits.{bitAnd, bitOr, bitXor}
 use Rattle.runs.proofs.Test.{clash}
-use Rattle.lanes.specs.Lane.{lane, rowIn}
+use Rattle.lanes.specs.Lane.{lane}
 use Rattle.lanes.proofs.Lane.{lane-and, lane-or, unlike, lane-xor}
 use Rattle.lanes.proofs.Blocks.{lane-not}
 
@@ -43,8 +42,10 @@ not-unmarked j level mark e u = go (lane j level) (lane j mark) (sym (lane-and j
 pub read-as : (j rail0 rail1 value : ℕ) → j < 64 → lane j (bitOr (bitXor (bitXor rail0 value) 0xFFFF_FFFF_FFFF_FFFF) (bitXor rail1 value)) ≡ false
     → (lane j rail0 ≡ not (lane j value)) × (lane j rail1 ≡ lane j value)
 read-as j rail0 rail1 value d e =
-    let n = neither j (bitXor (bitXor rail0 value) 0xFFFF_FFFF_FFFF_FFFF) (bitXor rail1 value) e in
-    (unlike-of (lane j rail0) (lane j value) (sym (lane-not j (bitXor rail0 value) d ∙ ap not (lane-xor j rail0 value)) ∙ n .0), like-of (lane j rail1) (lane j value) (sym (lane-xor j rail1 value) ∙ n .1))
+    let n = neither j (bitXor (bitXor rail0 value) 0xFFFF_FFFF_FFFF_FFFF) (bitXor rail1 value) e in (
+      unlike-of (lane j rail0) (lane j value) (sym (lane-not j (bitXor rail0 value) d ∙ ap not (lane-xor j rail0 value)) ∙ n .0),
+      like-of (lane j rail1) (lane j value) (sym (lane-xor j rail1 value) ∙ n .1),
+    )
   where
     unlike-of : (x y : Bool) → not (unlike x y) ≡ false → x ≡ not y
     unlike-of true true z = absurd (clash refl z)

@@ -1,12 +1,10 @@
-pub mod Pins
-pub mod Marks
-pub mod Settling
-pub mod Turns
-pub mod Rails
+pub mod Outputs
 pub mod Gathering
 pub mod Tests
 pub mod OneWord
-pub mod Falling
+pub mod ByNet
 pub mod Resting
+pub mod Hold
 pub mod Blocks
 pub mod Naming
+pub mod Care

@@ -4,14 +4,12 @@ use Prim.Native.Nat.{ℕ, _+_, _*_, _/_, _%_, _≤_, _<_}
 use native.Mathlib.Omega.{arith}
 use native.Mathlib.Decide.{ℕ-discrete}
 use native.Mathlib.Nat.{mod-lt}
-use mathlib.Core.Path.{_≡_, refl, sym, ap, _∙_, subst}
-use mathlib.Core.Bool.{Bool, true, false}
+use mathlib.Core.Path.{_≡_, sym, ap, _∙_, subst}
 use mathlib.Core.List.{List}
 use lib.ListN.{length, getD, set, replicate, length-set, length-replicate, getD-replicate}
 use lib.Seq.{getD-set-same, getD-set-other}
 use lib.Dec.{eqb, lit<}
 use Rattle.runs.proofs.Test.{clash}
-use Rattle.netlist.specs.declared.Found.{Found}
 use Rattle.netlist.specs.declared.Found.the-variants.{Nothing}
 use Rattle.netlist.specs.Content.{Stage, Reference}
 use Rattle.words.specs.declared.Sweep.{Sweep}
@@ -20,9 +18,9 @@ use Rattle.words.specs.Finds.{finds}
 use Rattle.lanes.specs.Lane.{lane}
 use Rattle.lanes.proofs.Lane.{lane-zero}
 use Rattle.lanes.proofs.Blocks.{all-at}
-use Rattle.looks.specs.declared.Look.{Look}
+use Rattle.looks.specs.declared.Rise.{Rise}
 use Rattle.looks.specs.declared.Masks.{Masks}
-use Rattle.looks.specs.Looks.{wordsFor, maskFor, BlockClean, Unnamed, Clean, AllClean}
+use Rattle.looks.specs.Looks.{CleanIn, RiseClean, Unnamed, Clean, AllClean}
 
 module _ (s : Stage) (r : Reference) (which : Sweep) where
   clean-start : (n : ℕ) → Clean which s r (replicate n 0xFFFF_FFFF_FFFF_FFFF)
@@ -32,7 +30,7 @@ module _ (s : Stage) (r : Reference) (which : Sweep) where
       let e : getD full (w / 64) 0 ≡ 0xFFFF_FFFF_FFFF_FFFF = getD-replicate n (w / 64) 0xFFFF_FFFF_FFFF_FFFF 0 h in
       absurd (clash (ap (lane (w % 64)) e ∙ ap (λ (x : ℕ). eqb x 1) (all-at (w % 64) (mod-lt w (lit< tt)))) (u .clear))
 
-  clean-more : (mask : List ℕ) (b x : ℕ) → Clean which s r mask → ((j : ℕ) → j < 64 → lane j x ≡ false → finds which s r (64 * b + j) ≡ Nothing)
+  clean-more : (mask : List ℕ) (b x : ℕ) → Clean which s r mask → CleanIn which s r b x
       → Clean which s r (set mask b x)
   clean-more mask b x ok new w u = go (ℕ-discrete (w / 64) b)
     where
@@ -49,21 +47,26 @@ module _ (s : Stage) (r : Reference) (which : Sweep) where
 abbrev pub masksOf : List ℕ → List ℕ → List ℕ → Masks
 masksOf wrong rise fall = record { wrong = wrong; rise = rise; fall = fall }
 
-pub all-clean-start : (s : Stage) (r : Reference) (n : ℕ) →
-    AllClean s r (masksOf (replicate n 0xFFFF_FFFF_FFFF_FFFF) (replicate n 0xFFFF_FFFF_FFFF_FFFF) (replicate n 0xFFFF_FFFF_FFFF_FFFF))
-all-clean-start s r n Wrong = clean-start s r Wrong n
-all-clean-start s r n Missing = clean-start s r Missing n
-all-clean-start s r n Unobserved = clean-start s r Unobserved n
-all-clean-start s r n Remaining = clean-start s r Remaining n
-all-clean-start s r n StillHigh = clean-start s r StillHigh n
+pub all-clean-start : (s : Stage) (r : Reference) (n : ℕ)
+    → AllClean s r (masksOf (replicate n 0xFFFF_FFFF_FFFF_FFFF) (replicate n 0xFFFF_FFFF_FFFF_FFFF) (replicate n 0xFFFF_FFFF_FFFF_FFFF))
+all-clean-start s r n = record {
+  wrong = clean-start s r Wrong n;
+  missing = clean-start s r Missing n;
+  unobserved = clean-start s r Unobserved n;
+  remaining = clean-start s r Remaining n;
+  still-high = clean-start s r StillHigh n;
+}
 
-pub all-clean-more : (s : Stage) (r : Reference) (wrong rise fall : List ℕ) (b : ℕ) (l : Look) → AllClean s r (masksOf wrong rise fall) → BlockClean s r b l
-    → AllClean s r (masksOf (set wrong b (l .wrong)) (set rise b (l .rise)) (set fall b (l .fall)))
-all-clean-more s r wrong rise fall b l ok new Wrong = clean-more s r Wrong wrong b (l .wrong) (ok Wrong) (new Wrong)
-all-clean-more s r wrong rise fall b l ok new Missing = clean-more s r Missing rise b (l .rise) (ok Missing) (new Missing)
-all-clean-more s r wrong rise fall b l ok new Unobserved = clean-more s r Unobserved rise b (l .rise) (ok Unobserved) (new Unobserved)
-all-clean-more s r wrong rise fall b l ok new Remaining = clean-more s r Remaining fall b (l .fall) (ok Remaining) (new Remaining)
-all-clean-more s r wrong rise fall b l ok new StillHigh = clean-more s r StillHigh fall b (l .fall) (ok StillHigh) (new StillHigh)
+-- a block's words in all masks
+pub all-clean-more : (s : Stage) (r : Reference) (wrong rise fall : List ℕ) (b : ℕ) (l : Rise) (x : ℕ) → AllClean s r (masksOf wrong rise fall) → RiseClean s r b l
+    → CleanIn Remaining s r b x → CleanIn StillHigh s r b x → AllClean s r (masksOf (set wrong b (l .wrong)) (set rise b (l .all)) (set fall b x))
+all-clean-more s r wrong rise fall b l x ok up complete observable = record {
+  wrong = clean-more s r Wrong wrong b (l .wrong) (ok .wrong) (up .wrong);
+  missing = clean-more s r Missing rise b (l .all) (ok .missing) (up .missing);
+  unobserved = clean-more s r Unobserved rise b (l .all) (ok .unobserved) (up .unobserved);
+  remaining = clean-more s r Remaining fall b x (ok .remaining) complete;
+  still-high = clean-more s r StillHigh fall b x (ok .still-high) observable;
+}
 
 -- a mask whose numbers are 0 up to the words below a bound names none of them
 pub clear-unnamed : (mask : List ℕ) (b : ℕ) → b ≤ length mask → ((k : ℕ) → k < b → getD mask k 0 ≡ 0) → (n w : ℕ) → w < n → n ≤ 64 * b → Unnamed mask w

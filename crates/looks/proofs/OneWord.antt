@@ -1,11 +1,9 @@
 -- One word of a stage and a reference: what it means for the checks that the outputs read the answer, and that every high net is acknowledged.
 -- Assumes nothing.
-use Prim.Native.Nat.{ℕ, _+_, _*_, _<_}
+use Prim.Native.Nat.{ℕ, _+_, _*_}
 use native.Mathlib.Omega.{arith}
 use mathlib.Core.Path.{_≡_}
 use mathlib.Core.Bool.{true}
-use lib.ListN.{length}
-use Rattle.runs.specs.Row.{Row}
 use Rattle.runs.specs.Pair.{Reads}
 use Rattle.runs.specs.Checks.{Passes, Fall-passes}
 use Rattle.runs.specs.Acknowledged.{Acknowledged, Fall-acknowledged}
@@ -39,7 +37,8 @@ module _ (s : Stage) (r : Reference) (w : ℕ) (free : LoopFree (s .inputs) (s .
 
     pub acknowledged-observable : finds Unobserved s r w ≡ Nothing
     acknowledged-observable =
-        finds-no-unobserved s r w (λ g h u. passes .observable (restRow s w) (rows-are s w free .rest .0) (2 * s .inputs + g) (omega arith) (u .0) (heldRow s w g) (rows-are s w free .held g h .0) (u .1))
+        finds-no-unobserved s r w
+        (λ g h u. passes .observable (restRow s w) (rows-are s w free .rest .0) (2 * s .inputs + g) (omega arith) (u .0) (heldRow s w g) (rows-are s w free .held g h .0) (u .1))
 
   module _ (ack : (k : ℕ) → restRow s w k ≡ true → Fall-acknowledged (netOf s) (restRow s w) k) where
     fall-passes : Fall-passes (netOf s) (railsFor s w)
@@ -53,4 +52,5 @@ module _ (s : Stage) (r : Reference) (w : ℕ) (free : LoopFree (s .inputs) (s .
 
     pub acknowledged-fall-observable : finds StillHigh s r w ≡ Nothing
     acknowledged-fall-observable =
-        finds-no-still-high s r w (λ g h u. fall-passes .observable (restRow s w) (rows-are s w free .rest .0) (2 * s .inputs + g) (omega arith) (u .0) (rowOf (fallenKeeping s w g)) (rows-are s w free .kept g .0) (u .1))
+        finds-no-still-high s r w
+        (λ g h u. fall-passes .observable (restRow s w) (rows-are s w free .rest .0) (2 * s .inputs + g) (omega arith) (u .0) (rowOf (fallenKeeping s w g)) (rows-are s w free .kept g .0) (u .1))

@@ -1,2 +1,2 @@
-pub mod Block
+pub mod Marks
 pub mod Looks

@@ -10,28 +10,17 @@ use Rattle.words.specs.declared.Sweep.{Sweep}
 use Rattle.words.specs.declared.Sweep.the-variants.{Wrong, Missing, Unobserved, Remaining, StillHigh}
 use Rattle.words.specs.Finds.{finds}
 use Rattle.lanes.specs.Lane.{lane}
-use Rattle.looks.specs.declared.Look.{Look}
+use Rattle.looks.specs.declared.Rise.{Rise}
 use Rattle.looks.specs.declared.Masks.{Masks}
 
--- the words of a block in which a check may find something
-abbrev pub wordsFor : Sweep → Look → ℕ
-wordsFor Wrong l = l .wrong
-wordsFor Missing l = l .rise
-wordsFor Unobserved l = l .rise
-wordsFor Remaining l = l .fall
-wordsFor StillHigh l = l .fall
+-- some words of block b are named, and in one that is not a check finds nothing
+abbrev pub CleanIn : Sweep → Stage → Reference → ℕ → ℕ → Type 0
+CleanIn which s r b words = (j : ℕ) → j < 64 → lane j words ≡ false → finds which s r (64 * b + j) ≡ Nothing
 
--- the same of all words
-abbrev pub maskFor : Sweep → Masks → List ℕ
-maskFor Wrong m = m .wrong
-maskFor Missing m = m .rise
-maskFor Unobserved m = m .rise
-maskFor Remaining m = m .fall
-maskFor StillHigh m = m .fall
-
--- a word of block b that is not named has no such fault
-abbrev pub BlockClean : Stage → Reference → ℕ → Look → Type 0
-BlockClean s r b l = (which : Sweep) (j : ℕ) → j < 64 → lane j (wordsFor which l) ≡ false → finds which s r (64 * b + j) ≡ Nothing
+pub record RiseClean (s : Stage) (r : Reference) (b : ℕ) (l : Rise) : Type 0 where
+  pub wrong : CleanIn Wrong s r b (l .wrong)
+  pub missing : CleanIn Missing s r b (l .all)
+  pub unobserved : CleanIn Unobserved s r b (l .all)
 
 -- a mask has a bit for word w, and does not name it
 pub record Unnamed (mask : List ℕ) (w : ℕ) : Type 0 where
@@ -42,6 +31,10 @@ pub record Unnamed (mask : List ℕ) (w : ℕ) : Type 0 where
 abbrev pub Clean : Sweep → Stage → Reference → List ℕ → Type 0
 Clean which s r mask = (w : ℕ) → Unnamed mask w → finds which s r w ≡ Nothing
 
--- so it is of each of the five
-abbrev pub AllClean : Stage → Reference → Masks → Type 0
-AllClean s r m = (which : Sweep) → Clean which s r (maskFor which m)
+-- so it is of each of the five: 14 and 15 share a mask, and so do 20 and 21
+pub record AllClean (s : Stage) (r : Reference) (m : Masks) : Type 0 where
+  pub wrong : Clean Wrong s r (m .wrong)
+  pub missing : Clean Missing s r (m .rise)
+  pub unobserved : Clean Unobserved s r (m .rise)
+  pub remaining : Clean Remaining s r (m .fall)
+  pub still-high : Clean StillHigh s r (m .fall)

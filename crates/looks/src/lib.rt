@@ -2,127 +2,64 @@
 // acknowledged.
 use lanes::CellLanes;
 use netlist::Counts;
-use words::Sweep;
 ghost use mathlib.Core.Path.{_≡_};
 ghost use mathlib.Core.Bool.{true, false};
 ghost use mathlib.Core.Logic.{_⊎_};
-ghost use mathlib.Core.List.{List};
 ghost use Prim.Native.Nat.{ℕ, _+_, _*_, _^_, _≤_, _<_};
 ghost use lib.ListN.{length, getD};
 ghost use Rattle.runs.specs.Pair.{DataOf};
-ghost use Rattle.runs.specs.Acknowledged.{Acknowledged, Fall-acknowledged};
 ghost use Rattle.netlist.specs.Reading.{stageLimits};
+ghost use Rattle.verdict.specs.Words.{IsWord};
 ghost use Rattle.verdict.specs.Nets.{railOf};
+ghost use Rattle.verdict.specs.Demands.{WithHold};
 ghost use Rattle.circuit.specs.Stage.{netCount, outputIn, stageIn, StageLoaded};
 ghost use Rattle.circuit.specs.Order.{InOrder};
 ghost use Rattle.circuit.specs.Reference.{signalIn, referenceIn};
 ghost use Rattle.words.specs.Loaded.{BothLoaded};
 ghost use Rattle.lanes.specs.Lane.{lane, rowIn};
-ghost use Rattle.looks.specs.Block.{netIn, Room, Spelled, SettledTo, AtRest, Marked, FallMarked, gateLanes, PinsMarked, FallGiven, OutputRail, AllMarked, NoneElse};
-ghost use Rattle.looks.specs.Looks.{BlockClean, Unnamed, AllClean, maskFor};
+ghost use Rattle.blocks.specs.Block.{netIn, Room, Resting, MarkedIn};
+ghost use Rattle.looks.specs.Marks.{Workspace, PinsAcknowledged, Lone, keptLanes, setWhere, eachWhere, AlwaysAcknowledged, AllMarked, AcknowledgedBut};
+ghost use Rattle.looks.specs.Looks.{RiseClean, Unnamed, AllClean};
 
-// The words of a block in which something may be wrong: 13, then 14 and 15, then 20 and 21.
-pub struct Look {
+// The words of a block in which something may be wrong: for 13; and for 14 and 15, those for 13 among them.
+pub struct Rise {
     pub wrong: u64,
-    pub rise: u64,
-    pub fall: u64,
+    pub all: u64,
 }
 
-// As many blocks as the words of the most inputs make.
-pub const BLOCKS: usize = netlist::WORDS / 64;
-
-// The same of all words of the files.
+// The words of the files in which something may be wrong: for 13, for 14 and 15 (those for 13 among them), and for 20 and 21.
 pub struct Masks {
-    pub wrong: [u64; BLOCKS],
-    pub rise: [u64; BLOCKS],
-    pub fall: [u64; BLOCKS],
-}
-
-// ---- settling a block
-
-// Net `net` is marked in some words.
-fn mark(ack: &mut [u64], net: u16, words: u64)
-    requires { ⌜ net < length (now ack) ⌝ }
-    ensures { λ r. ⌜ (length (now (ack .exit)) ≡ length (now (ack .entry)))
-        × ((j p : ℕ) → rowIn j (now (ack .exit)) p ≡ true → (rowIn j (now (ack .entry)) p ≡ true) ⊎ ((p ≡ net) × (lane j words ≡ true))) ⌝ }
-{
-    let p = net as usize;
-    let old = ack[p];
-    ack[p] = old | words;
-}
-
-// The nets at the pins of gate k are marked, each in the words that are given for its pin.
-fn mark_pins(code: &[u16], counts: Counts, k: usize, given: CellLanes, ack: &mut [u64])
-    requires { ⌜ StageLoaded counts (now code) × (k < counts .gates) × Room counts (now ack) ⌝ }
-    ensures { λ r. ⌜ (length (now (ack .exit)) ≡ length (now (ack .entry))) × PinsMarked (now (code .entry)) k given (now (ack .entry)) (now (ack .exit)) ⌝ }
-{
-    let at = 8 * k;
-    mark(ack, code[at + 1], given.a);
-    mark(ack, code[at + 2], given.b);
-    mark(ack, code[at + 3], given.c);
-    mark(ack, code[at + 4], given.d);
-}
-
-// What gate k's cell gives in the words of a block, by the levels at its pins.
-fn gate_lanes(code: &[u16], counts: Counts, k: usize, row: &[u64]) -> CellLanes
-    requires { ⌜ StageLoaded counts (now code) × (k < counts .gates) × Room counts (now row) ⌝ }
-    ensures { λ r. ⌜ r ≡ gateLanes (now (code .entry)) k (now (row .entry)) ⌝ }
-{
-    let at = 8 * k;
-    let a = lanes::lanes_at(row, code[at + 1]);
-    let b = lanes::lanes_at(row, code[at + 2]);
-    let c = lanes::lanes_at(row, code[at + 3]);
-    let d = lanes::lanes_at(row, code[at + 4]);
-    lanes::cell_lanes(code[at], a, b, c, d)
-}
-
-// The gates take their levels in the order, and mark the nets at their pins in the words in which they would not be set without them.
-fn settle_block(code: &[u16], counts: Counts, row: &mut [u64], ack: &mut [u64])
-    requires { ⌜ StageLoaded counts (now code) × InOrder counts (now code) × Room counts (now row) × Room counts (now ack) ⌝ }
-    ensures long { λ r. ⌜ (length (now (row .exit)) ≡ length (now (row .entry))) × (length (now (ack .exit)) ≡ length (now (ack .entry))) ⌝ }
-    ensures settled { λ r. ⌜ ((b : ℕ) → Spelled counts (now (code .entry)) b (now (row .entry)) → Marked counts (now (code .entry)) b (now (ack .entry))
-        → SettledTo counts (now (code .entry)) b (now (row .exit)) (counts .gates) × Marked counts (now (code .entry)) b (now (ack .exit))) ⌝ }
-{
-    let first = 2 * counts.inputs;
-    let count = counts.gates;
-    let mut i: usize = 0;
-    while i < count {
-        let k = code[8 * i + 5] as usize;
-        let given = gate_lanes(code, counts, k, row);
-        row[first + k] = given.set;
-        mark_pins(code, counts, k, given, ack);
-        i += 1;
-    }
-}
-
-// The rails of block b: rail 0 of an input is high for 0, rail 1 for 1.
-fn spell_rails(counts: Counts, b: usize, row: &mut [u64])
-    requires { ⌜ (counts .inputs ≤ stageLimits .inputs) × Room counts (now row) × (getD (now row) (netCount counts) 0 ≡ 0) ⌝ }
-    ensures long { λ r. ⌜ length (now (row .exit)) ≡ length (now (row .entry)) ⌝ }
-    ensures spelled { λ r. ⌜ ((code : List ℕ) → InOrder counts code → Spelled counts code b (now (row .exit))) ⌝ }
-{
-    let mut i: usize = 0;
-    while i < counts.inputs {
-        let level = lanes::input_lanes(i, b);
-        row[2 * i] = level ^ lanes::ALL;
-        row[2 * i + 1] = level;
-        i += 1;
-    }
+    pub wrong: [u64; blocks::BLOCKS],
+    pub rise: [u64; blocks::BLOCKS],
+    pub fall: [u64; blocks::BLOCKS],
 }
 
 // ---- what is acknowledged
+
+// No net is marked.
+fn clear(counts: Counts, ack: &mut [u64])
+    requires { ⌜ Room counts (now ack) ⌝ }
+    ensures { λ r. ⌜ (length (now (ack .exit)) ≡ length (now (ack .entry))) × ((p : ℕ) → p < netCount counts → getD (now (ack .exit)) p 0 ≡ 0) ⌝ }
+{
+    let count = 2 * counts.inputs + counts.gates;
+    let mut p: usize = 0;
+    while p < count {
+        ack[p] = 0;
+        p += 1;
+    }
+}
 
 // The rails of the outputs are marked in all words.
 fn mark_outputs(code: &[u16], counts: Counts, ack: &mut [u64])
     requires { ⌜ StageLoaded counts (now code) × Room counts (now ack) ⌝ }
     ensures long { λ r. ⌜ length (now (ack .exit)) ≡ length (now (ack .entry)) ⌝ }
-    ensures marked { λ r. ⌜ ((j p : ℕ) → rowIn j (now (ack .exit)) p ≡ true → (rowIn j (now (ack .entry)) p ≡ true) ⊎ OutputRail (netIn counts (now (code .entry))) p) ⌝ }
+    ensures marked { λ r. ⌜ ((j p : ℕ) → rowIn j (now (ack .exit)) p ≡ true → (rowIn j (now (ack .entry)) p ≡ true) ⊎ AlwaysAcknowledged (netIn counts (now (code .entry))) p) ⌝ }
 {
     let mut j: usize = 0;
     while j < counts.outputs {
         let at = 8 * counts.gates + 2 * j;
-        mark(ack, code[at], lanes::ALL);
-        mark(ack, code[at + 1], lanes::ALL);
+        blocks::mark(ack, code[at], lanes::ALL);
+        blocks::mark(ack, code[at + 1], lanes::ALL);
         j += 1;
     }
 }
@@ -180,40 +117,57 @@ fn wrong_words(
     words
 }
 
-// ---- 14 and 15
+// ---- net by net
 
-// The stage settles in a block whose rails are spelled; and the words in which some high net is not acknowledged.
-fn rise_words(code: &[u16], counts: Counts, row: &mut [u64]) -> u64
-    requires { ⌜ StageLoaded counts (now code) × InOrder counts (now code) × Room counts (now row) ⌝ }
-    ensures long { λ r. ⌜ length (now (row .exit)) ≡ length (now (row .entry)) ⌝ }
-    ensures words { λ r. ⌜ ((b : ℕ) → Spelled counts (now (code .entry)) b (now (row .entry)) → AtRest counts (now (code .entry)) b (now (row .exit))
-        × NoneElse (Acknowledged (netIn counts (now (code .entry)))) counts (now (code .entry)) b r) ⌝ }
+// What stands at a pin where it is kept: the pins at net `net` alone are, or all others.
+fn kept_lanes(row: &[u64], alone: bool, net: u16, pin: u16) -> u64
+    requires { ⌜ pin < length (now row) ⌝ }
+    ensures { λ r. ⌜ r ≡ keptLanes (now (row .entry)) alone net pin ⌝ }
 {
-    let mut ack = [0u64; circuit::ROW];
-    mark_outputs(code, counts, &mut ack);
-    settle_block(code, counts, row, &mut ack);
-    unmarked(counts, row, &ack)
+    if alone {
+        if pin == net {
+            return lanes::lanes_at(row, pin);
+        }
+        return 0;
+    }
+    if pin == net {
+        return 0;
+    }
+    lanes::lanes_at(row, pin)
 }
 
-// ---- 20 and 21
-
-// For each pin of gate k the words in which it may not fall while that pin's net alone is high: with hold those in which it is high, relaxed
-// those in which that pin alone sets it.
-fn fall_lanes(code: &[u16], counts: Counts, k: usize, row: &[u64]) -> CellLanes
-    requires { ⌜ StageLoaded counts (now code) × InOrder counts (now code) × (k < counts .gates) × Room counts (now row) ⌝ }
-    ensures { λ r. ⌜ FallGiven counts (now (code .entry)) k (now (row .entry)) r ⌝ }
+// The words in which gate k is set by the pins that are kept.
+fn set_where(code: &[u16], counts: Counts, k: usize, row: &[u64], alone: bool, net: u16) -> u64
+    requires { ⌜ StageLoaded counts (now code) × (k < counts .gates) × Room counts (now row) ⌝ }
+    ensures { λ r. ⌜ r ≡ setWhere (now (code .entry)) k (now (row .entry)) alone net ⌝ }
 {
     let at = 8 * k;
-    if code[at + 7] == 1 {
-        let high = row[2 * counts.inputs + k];
-        return CellLanes {
-            set: high,
-            a: high,
-            b: high,
-            c: high,
-            d: high,
-        };
-    }
+    let a = kept_lanes(row, alone, net, code[at + 1]);
+    let b = kept_lanes(row, alone, net, code[at + 2]);
+    let c = kept_lanes(row, alone, net, code[at + 3]);
+    let d = kept_lanes(row, alone, net, code[at + 4]);
+    lanes::cell_lanes(code[at], a, b, c, d).set
+}
+
+// For each pin of gate k the words in which the gate is set by the pins that are kept for its net.
+fn each_where(code: &[u16], counts: Counts, k: usize, row: &[u64], alone: bool) -> CellLanes
+    requires { ⌜ StageLoaded counts (now code) × (k < counts .gates) × Room counts (now row) ⌝ }
+    ensures { λ r. ⌜ r ≡ eachWhere (now (code .entry)) k (now (row .entry)) alone ⌝ }
+{
+    let at = 8 * k;
+    let a = set_where(code, counts, k, row, alone, code[at + 1]);
+    let b = set_where(code, counts, k, row, alone, code[at + 2]);
+    let c = set_where(code, counts, k, row, alone, code[at + 3]);
+    let d = set_where(code, counts, k, row, alone, code[at + 4]);
+    CellLanes { set: 0, a, b, c, d }
+}
+
+// For each pin of gate k the words in which it is high, if it alone sets the gate's cell.
+fn lone_gate(code: &[u16], counts: Counts, k: usize, row: &[u64]) -> CellLanes
+    requires { ⌜ StageLoaded counts (now code) × (k < counts .gates) × Room counts (now row) ⌝ }
+    ensures { λ r. ⌜ Lone (now (code .entry)) k (now (row .entry)) r ⌝ }
+{
+    let at = 8 * k;
     let a = lanes::lanes_at(row, code[at + 1]);
     let b = lanes::lanes_at(row, code[at + 2]);
     let c = lanes::lanes_at(row, code[at + 3]);
@@ -221,129 +175,201 @@ fn fall_lanes(code: &[u16], counts: Counts, k: usize, row: &[u64]) -> CellLanes
     lanes::lone_lanes(code[at], a, b, c, d)
 }
 
-// Each gate marks the nets for whose fall it waits.
-fn mark_falls(code: &[u16], counts: Counts, row: &[u64], ack: &mut [u64])
+// For each pin of gate k words in which its net is acknowledged by the gate. In the rise: the gate is high, and would not be set with that net low.
+// On the way back: it may not fall while that net alone is high, which with hold is where it is high, and relaxed where that net alone sets it; if
+// this is not asked by net, where that pin alone does.
+fn acknowledged_lanes(
+    falls: bool,
+    by_net: bool,
+    code: &[u16],
+    counts: Counts,
+    k: usize,
+    row: &[u64],
+) -> CellLanes
+    requires { ⌜ StageLoaded counts (now code) × InOrder counts (now code) × (k < counts .gates) × Room counts (now row) ⌝ }
+    ensures { λ r. ⌜ PinsAcknowledged falls counts (now (code .entry)) k (now (row .entry)) r ⌝ }
+{
+    let high = row[2 * counts.inputs + k];
+    if falls {
+        if code[8 * k + 7] == 1 {
+            return CellLanes {
+                set: high,
+                a: high,
+                b: high,
+                c: high,
+                d: high,
+            };
+        }
+        if by_net {
+            return each_where(code, counts, k, row, true);
+        }
+        return lone_gate(code, counts, k, row);
+    }
+    let low = each_where(code, counts, k, row, false);
+    CellLanes {
+        set: high,
+        a: high ^ low.a,
+        b: high ^ low.b,
+        c: high ^ low.c,
+        d: high ^ low.d,
+    }
+}
+
+// Each gate marks nets that it acknowledges.
+fn mark_gates(falls: bool, by_net: bool, code: &[u16], counts: Counts, row: &[u64], ack: &mut [u64])
     requires { ⌜ StageLoaded counts (now code) × InOrder counts (now code) × Room counts (now row) × Room counts (now ack) ⌝ }
     ensures long { λ r. ⌜ length (now (ack .exit)) ≡ length (now (ack .entry)) ⌝ }
-    ensures marked { λ r. ⌜ ((b : ℕ) → AtRest counts (now (code .entry)) b (now (row .entry)) → FallMarked counts (now (code .entry)) b (now (ack .entry))
-        → FallMarked counts (now (code .entry)) b (now (ack .exit))) ⌝ }
+    ensures marked { λ r. ⌜ ((b : ℕ) → Resting counts (now (code .entry)) b (now (row .entry)) → MarkedIn falls counts (now (code .entry)) b (now (ack .entry))
+        → MarkedIn falls counts (now (code .entry)) b (now (ack .exit))) ⌝ }
 {
     let count = counts.gates;
     let mut k: usize = 0;
     while k < count {
-        mark_pins(code, counts, k, fall_lanes(code, counts, k, row), ack);
+        blocks::mark_pins(
+            code,
+            counts,
+            k,
+            acknowledged_lanes(falls, by_net, code, counts, k, row),
+            ack,
+        );
         k += 1;
     }
 }
 
-// The words in which some net that is high at the rest is not acknowledged on the way back.
-fn fall_words(code: &[u16], counts: Counts, row: &[u64]) -> u64
-    requires { ⌜ StageLoaded counts (now code) × InOrder counts (now code) × Room counts (now row) ⌝ }
-    ensures { λ r. ⌜ ((b : ℕ) → AtRest counts (now (code .entry)) b (now (row .entry))
-        → NoneElse (Fall-acknowledged (netIn counts (now (code .entry)))) counts (now (code .entry)) b r) ⌝ }
+// ---- 14 and 15
+
+// Block b settles; and its words in which some high net is not acknowledged. The marks are made anew. Where they leave some words the gates are
+// asked net by net: a net at several pins may be needed where none of these is.
+fn rise_words(code: &[u16], counts: Counts, b: usize, row: &mut [u64], ack: &mut [u64]) -> u64
+    requires { ⌜ StageLoaded counts (now code) × InOrder counts (now code) × Room counts (now row) × Room counts (now ack) × (getD (now row) (netCount counts) 0 ≡ 0) ⌝ }
+    ensures long { λ r. ⌜ (length (now (row .exit)) ≡ length (now (row .entry))) × (length (now (ack .exit)) ≡ length (now (ack .entry))) ⌝ }
+    ensures rest { λ r. ⌜ Resting counts (now (code .entry)) b (now (row .exit)) ⌝ }
+    ensures words { λ r. ⌜ AcknowledgedBut false counts (now (code .entry)) b r ⌝ }
 {
-    let mut ack = [0u64; circuit::ROW];
-    mark_outputs(code, counts, &mut ack);
-    mark_falls(code, counts, row, &mut ack);
-    unmarked(counts, row, &ack)
+    clear(counts, ack);
+    mark_outputs(code, counts, ack);
+    blocks::settle(code, counts, b, row, ack);
+    let words = unmarked(counts, row, ack);
+    if words == 0 {
+        return 0;
+    }
+    mark_gates(false, true, code, counts, row, ack);
+    unmarked(counts, row, ack)
+}
+
+// ---- 20 and 21
+
+// The words in which some net that is high at the rest is not acknowledged on the way back. The marks are made anew, and where they leave some words
+// by net.
+fn fall_words(code: &[u16], counts: Counts, row: &[u64], ack: &mut [u64]) -> u64
+    requires { ⌜ StageLoaded counts (now code) × InOrder counts (now code) × Room counts (now row) × Room counts (now ack) ⌝ }
+    ensures long { λ r. ⌜ length (now (ack .exit)) ≡ length (now (ack .entry)) ⌝ }
+    ensures words { λ r. ⌜ ((b : ℕ) → Resting counts (now (code .entry)) b (now (row .entry)) → AcknowledgedBut true counts (now (code .entry)) b r) ⌝ }
+{
+    clear(counts, ack);
+    mark_outputs(code, counts, ack);
+    mark_gates(true, false, code, counts, row, ack);
+    let words = unmarked(counts, row, ack);
+    if words == 0 {
+        return 0;
+    }
+    mark_gates(true, true, code, counts, row, ack);
+    unmarked(counts, row, ack)
 }
 
 // ---- all of them
 
-// The words of block b that are worth a look. Where the stage is not asked for its fall, all are for 20 and 21.
-fn look_block(
+// The words of block b that are worth a look for 13, 14 and 15; the stage's row is left at rest in them.
+fn rise_block(
     code: &[u16],
     counts: Counts,
     reference: &[u16],
     sizes: Counts,
     b: usize,
-    falls: bool,
-) -> Look
-    requires { ⌜ BothLoaded counts (now code) sizes (now reference) ⌝ }
-    ensures { λ r. ⌜ BlockClean (stageIn counts (now (code .entry))) (referenceIn sizes (now (reference .entry))) b r ⌝ }
+    row: &mut [u64],
+    ack: &mut [u64],
+    values: &mut [u64],
+) -> Rise
+    requires { ⌜ BothLoaded counts (now code) sizes (now reference) × Workspace counts (now row) (now ack) (now values) ⌝ }
+    ensures space { λ r. ⌜ Workspace counts (now (row .exit)) (now (ack .exit)) (now (values .exit)) ⌝ }
+    ensures rest { λ r. ⌜ Resting counts (now (code .entry)) b (now (row .exit)) ⌝ }
+    ensures clean { λ r. ⌜ RiseClean (stageIn counts (now (code .entry))) (referenceIn sizes (now (reference .entry))) b r ⌝ }
 {
-    let mut row = [0u64; circuit::ROW];
-    spell_rails(counts, b, &mut row);
-    let loose = rise_words(code, counts, &mut row);
-    let mut values = [0u64; words::SIGNALS];
-    lanes::signal_lanes(reference, sizes, b, &mut values);
-    let wrong = wrong_words(code, counts, &row, reference, sizes, &values);
-    let rise = wrong | loose;
-    if falls {
-        let fall = fall_words(code, counts, &row);
-        return Look { wrong, rise, fall };
-    }
-    Look {
+    let unacknowledged = rise_words(code, counts, b, row, ack);
+    lanes::signal_lanes(reference, sizes, b, values);
+    let wrong = wrong_words(code, counts, row, reference, sizes, values);
+    Rise {
         wrong,
-        rise,
-        fall: lanes::ALL,
+        all: wrong | unacknowledged,
     }
 }
 
-// Whether some gate is relaxed, so that 20 and 21 may find something.
-fn some_relaxed(code: &[u16], counts: Counts) -> bool
+// The words of a block at rest that are worth a look for 20 and 21: where every gate has hold it is not asked which, and all are.
+fn fall_block(hold: bool, code: &[u16], counts: Counts, row: &[u64], ack: &mut [u64]) -> u64
+    requires { ⌜ StageLoaded counts (now code) × InOrder counts (now code) × Room counts (now row) × Room counts (now ack) ⌝ }
+    ensures long { λ r. ⌜ length (now (ack .exit)) ≡ length (now (ack .entry)) ⌝ }
+    ensures words { λ r. ⌜ ((b : ℕ) → Resting counts (now (code .entry)) b (now (row .entry)) → AcknowledgedBut true counts (now (code .entry)) b r) ⌝ }
+{
+    if hold {
+        return lanes::ALL;
+    }
+    fall_words(code, counts, row, ack)
+}
+
+// Whether every gate has hold, so that 20 and 21 find nothing where 13, 14 and 15 do not.
+pub fn all_hold(code: &[u16], counts: Counts) -> bool
     requires { ⌜ StageLoaded counts (now code) ⌝ }
+    ensures { λ r. ⌜ ((r ≡ true → WithHold (stageIn counts (now (code .entry)))) × (WithHold (stageIn counts (now (code .entry))) → r ≡ true)) ⌝ }
 {
     let count = counts.gates;
-    let mut k: usize = 0;
-    while k < count {
-        if code[8 * k + 7] == 1 {
-            k += 1;
+    let mut i: usize = 0;
+    while i < count {
+        if code[8 * i + 7] == 1 {
+            i += 1;
         } else {
-            return true;
+            return false;
         }
     }
-    false
+    true
 }
 
-// How many blocks the words of that many inputs make.
-fn block_count(inputs: usize) -> usize
-    requires { ⌜ inputs ≤ stageLimits .inputs ⌝ }
-    ensures { λ r. ⌜ (r ≤ 16) × (2 ^ inputs ≤ 64 * r) ⌝ }
-{
-    if inputs < 6 {
-        return 1;
-    }
-    1 << (inputs - 6)
-}
-
-// The words of a stage that are worth a look, by the reference; all words past those that its inputs have are.
+// The words of a stage that are worth a look, by the reference. A block past those that its inputs make is named whole; where there are fewer than
+// six inputs, the lanes behind the last word repeat the words. For 20 and 21 all words are named where every gate has hold.
 pub fn looks(code: &[u16], counts: Counts, reference: &[u16], sizes: Counts) -> Masks
     requires { ⌜ BothLoaded counts (now code) sizes (now reference) ⌝ }
     ensures { λ r. ⌜ AllClean (stageIn counts (now (code .entry))) (referenceIn sizes (now (reference .entry))) r ⌝ }
 {
-    let mut wrong = [lanes::ALL; BLOCKS];
-    let mut rise = [lanes::ALL; BLOCKS];
-    let mut fall = [lanes::ALL; BLOCKS];
-    let falls = some_relaxed(code, counts);
-    let count = block_count(counts.inputs);
+    let mut row = [0u64; circuit::ROW];
+    let mut ack = [0u64; circuit::ROW];
+    let mut values = [0u64; circuit::SIGNALS];
+    let mut wrong = [lanes::ALL; blocks::BLOCKS];
+    let mut rise = [lanes::ALL; blocks::BLOCKS];
+    let mut fall = [lanes::ALL; blocks::BLOCKS];
+    let hold = all_hold(code, counts);
+    let count = blocks::block_count(counts.inputs);
     let mut b: usize = 0;
     while b < count {
-        let look = look_block(code, counts, reference, sizes, b, falls);
-        wrong[b] = look.wrong;
-        rise[b] = look.rise;
-        fall[b] = look.fall;
+        let found = rise_block(
+            code,
+            counts,
+            reference,
+            sizes,
+            b,
+            &mut row,
+            &mut ack,
+            &mut values,
+        );
+        wrong[b] = found.wrong;
+        rise[b] = found.all;
+        fall[b] = fall_block(hold, code, counts, &row, &mut ack);
         b += 1;
     }
     Masks { wrong, rise, fall }
 }
 
-// The mask of a check.
-pub fn mask_of(which: Sweep, masks: Masks) -> [u64; BLOCKS]
-    ensures { λ r. ⌜ (r ≡ maskFor which masks) × (length r ≡ 16) ⌝ }
-{
-    match which {
-        Sweep::Wrong => masks.wrong,
-        Sweep::Missing => masks.rise,
-        Sweep::Unobserved => masks.rise,
-        Sweep::Remaining => masks.fall,
-        Sweep::StillHigh => masks.fall,
-    }
-}
-
 // Whether a mask names word w.
 pub fn is_named(mask: &[u64], w: usize) -> bool
-    ensures { λ r. ⌜ (r ≡ false → Unnamed (now (mask .entry)) w) ⌝ }
+    ensures { λ r. ⌜ ((r ≡ false → Unnamed (now (mask .entry)) w) × (Unnamed (now (mask .entry)) w → r ≡ false)) ⌝ }
 {
     let b = w / 64;
     if b < mask.len() {
@@ -354,11 +380,11 @@ pub fn is_named(mask: &[u64], w: usize) -> bool
 }
 
 // Whether a mask names none of the words that so many inputs have.
-pub fn none_named(mask: &[u64], inputs: usize) -> bool
+fn none_of_all(mask: &[u64], inputs: usize) -> bool
     requires { ⌜ inputs ≤ stageLimits .inputs ⌝ }
     ensures { λ r. ⌜ (r ≡ true → (w : ℕ) → w < 2 ^ inputs → Unnamed (now (mask .entry)) w) ⌝ }
 {
-    let count = block_count(inputs);
+    let count = blocks::block_count(inputs);
     if mask.len() < count {
         return false;
     }
@@ -371,4 +397,35 @@ pub fn none_named(mask: &[u64], inputs: usize) -> bool
         }
     }
     true
+}
+
+// Whether a mask names none of so many words, which stand from a place of the flat form on.
+fn none_listed(mask: &[u64], code: &[u16], from: usize, count: usize) -> bool
+    requires { ⌜ from + count ≤ length (now code) ⌝ }
+    ensures { λ r. ⌜ (r ≡ true → (k : ℕ) → k < count → Unnamed (now (mask .entry)) (getD (now (code .entry)) (from + k) 0)) ⌝ }
+{
+    let mut k: usize = 0;
+    while k < count {
+        if is_named(mask, code[from + k] as usize) {
+            return false;
+        }
+        k += 1;
+    }
+    true
+}
+
+// Whether a mask names none of a stage's words: of its care words, or without a care list of all that its inputs have.
+pub fn none_named(mask: &[u64], code: &[u16], counts: Counts) -> bool
+    requires { ⌜ StageLoaded counts (now code) ⌝ }
+    ensures { λ r. ⌜ (r ≡ true → (w : ℕ) → IsWord (stageIn counts (now (code .entry))) w → Unnamed (now (mask .entry)) w) ⌝ }
+{
+    if counts.care == 0 {
+        return none_of_all(mask, counts.inputs);
+    }
+    none_listed(
+        mask,
+        code,
+        8 * counts.gates + 2 * counts.outputs,
+        counts.care,
+    )
 }

@@ -42,7 +42,7 @@ use Rattle.writing.proofs.Joining.{put-++, put-holding, holding-take}
 use Rattle.writing.proofs.Files.{stage-parts, stage-length, bytes-length, stage-gate-width, stage-output-width}
 use Rattle.circuit.specs.Reference.{signalIn, signalsIn, operatorIn, operatorsIn, referenceIn, ReferenceLoaded}
 use Rattle.circuit.proofs.Tabulate.{length-tabulate}
-use Rattle.make.specs.Rails.{pairsIn}
+use Rattle.operations.specs.Rails.{pairsIn}
 use Rattle.load.specs.Load.{HoldsReference}
 use Rattle.load.proofs.Reading.{was-refused, reference-held}
 use Rattle.make.specs.Call.{leaves, makeRead, MakeDemand}

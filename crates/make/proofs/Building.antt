@@ -15,6 +15,7 @@ use Rattle.netlist.specs.Content.{Gate, Pair}
 use Rattle.netlist.specs.Formed.{OperationFormed, ReferenceFormed}
 use Rattle.netlist.specs.Writing.{codedGate}
 use Rattle.netlist.proofs.References.{in-order-at}
+use Rattle.verdict.specs.Nets.{noPair}
 use Rattle.made.specs.Made.{pair, Realized, railsAt, Built, realize, addGate, addGates, built, inputRails, gatesNeeded}
 use Rattle.made.specs.Count.{operations}
 use Rattle.made.proofs.Building.{operations-cons, all-long}
@@ -24,11 +25,11 @@ use Rattle.writing.specs.Parts.{gateItem, bytesOf}
 use Rattle.writing.proofs.Joining.{put-none, put-++}
 use Rattle.writing.proofs.Files.{bytes-++, bytes-length, stage-gate-width}
 use Rattle.circuit.specs.Stage.{tabulate}
-use Rattle.circuit.specs.Reference.{operatorIn, operatorsIn, referenceIn}
-use Rattle.circuit.proofs.Tabulate.{length-tabulate, getD-tabulate}
-use Rattle.make.specs.Rails.{pairIn, pairsIn, becomes}
+use Rattle.circuit.specs.Reference.{operatorIn, operatorsIn, signalsIn, referenceIn}
+use Rattle.circuit.proofs.Tabulate.{length-tabulate, getD-tabulate, map-tabulate, from-at, none-from, one-more, all-same}
+use Rattle.operations.specs.Rails.{pairIn, pairsIn, becomes}
+use Rattle.operations.proofs.Operations.{signal-pair}
 use Rattle.writing.proofs.Putting.{put-same}
-use Rattle.make.proofs.Lists.{from-at, none-from, one-more, all-same}
 
 -- ---- rails
 
@@ -83,6 +84,14 @@ rails-more rails m p l =
 
     second : getD after (2 * m + 1) 0 ≡ p .rail1
     second = getD-set-same between (2 * m + 1) (p .rail1) 0 (omega (arith, length-set rails (2 * m) (p .rail0)))
+
+-- the outputs' rails, one by one
+pub outputs-are : (c : Counts) (code rails : List ℕ) → ((j : ℕ) → j < c .outputs → getD code (3 * c .gates + j) 0 < c .inputs + c .gates)
+    → tabulate (λ j. pairIn rails (getD code (3 * c .gates + j) 0)) (c .outputs) ≡ railsAt (pairsIn rails (c .inputs + c .gates)) (signalsIn c code)
+unfolding signalsIn
+outputs-are c code rails inside =
+    all-same _ _ (c .outputs) (λ j l. sym (signal-pair rails (c .inputs + c .gates) (getD code (3 * c .gates + j) 0) (inside j l)))
+    ∙ sym (map-tabulate (λ (x : ℕ). getD (pairsIn rails (c .inputs + c .gates)) x noPair) (λ j. getD code (3 * c .gates + j) 0) (c .outputs))
 
 -- ---- gates
 

@@ -1,5 +1,2 @@
-pub mod Lists
-pub mod Marking
 pub mod Building
-pub mod Operations
 pub mod Answering

@@ -1,234 +1,23 @@
-// A stage from a reference: every operation but NOT becomes two gates, NOT swaps rails, and the stage is written into a buffer that the caller
-// lends.
+// A stage from a reference, written into a buffer that the caller lends.
 use netlist::Counts;
 use netlist::Found;
 use netlist::Outcome;
 use verdict::Verdict;
 use writing::Answer;
 ghost use mathlib.Core.Path.{_≡_};
-ghost use mathlib.Core.Bool.{not};
-ghost use mathlib.Core.List.{[], _∷_};
-ghost use Prim.Native.Nat.{ℕ, _+_, _*_, _≤_, _<_};
-ghost use lib.ListN.{length, set};
+ghost use Prim.Native.Nat.{_+_, _*_, _≤_};
+ghost use lib.ListN.{length};
 ghost use Rattle.netlist.specs.declared.File.the-variants as file;
 ghost use Rattle.netlist.specs.Reading.{stageLimits, referenceLimits};
 ghost use Rattle.netlist.specs.Formed.{ReferenceFormed};
-ghost use Rattle.verdict.specs.Rows.{high};
-ghost use Rattle.verdict.specs.Search.{least};
-ghost use Rattle.made.specs.Made.{TH22, THxor0, THand0, TH24comp, railsAt, inputRails, realize, built, gatesNeeded};
-ghost use Rattle.made.specs.Count.{operations};
-ghost use Rattle.made.specs.Leading.{leadsOut};
-ghost use Rattle.made.specs.Marks.{marked, markedFrom};
+ghost use Rattle.made.specs.Made.{railsAt, inputRails, built, gatesNeeded};
 ghost use Rattle.made.specs.Making.{madeBytes};
 ghost use Rattle.writing.specs.Put.{Put};
 ghost use Rattle.writing.specs.Parts.{gateItem, pairItem, bytesOf};
 ghost use Rattle.writing.specs.Written.{written};
-ghost use Rattle.circuit.specs.Reference.{operatorIn, operatorsIn, signalsIn, referenceIn, ReferenceLoaded};
-ghost use Rattle.make.specs.Rails.{pairOf, pairIn, pairsIn, becomes};
+ghost use Rattle.circuit.specs.Reference.{signalsIn, referenceIn, ReferenceLoaded};
+ghost use Rattle.operations.specs.Rails.{pairsIn};
 ghost use Rattle.make.specs.Call.{leaves, makeRead, MakeDemand};
-
-// How many signals the largest reference has.
-const SIGNALS: usize = netlist::INPUTS + netlist::REFERENCE_GATES;
-
-// The nets of a signal's two rails.
-pub struct Rails {
-    pub rail0: u16,
-    pub rail1: u16,
-}
-
-// ---- 25: signals that are no output and lead to none
-
-// Marks the outputs.
-fn mark_outputs(code: &[u16], counts: Counts, marks: &mut [u8])
-    requires { ⌜ ReferenceLoaded counts (now code) × (counts .inputs + counts .gates ≤ length (now marks)) ⌝ }
-    ensures { λ _. ⌜ now (marks .exit) ≡ marked (now (marks .entry)) (signalsIn counts (now (code .entry))) ⌝ }
-{
-    let from = 3 * counts.gates;
-    let count = counts.outputs;
-    let mut j: usize = 0;
-    while j < count {
-        let signal = code[from + j] as usize;
-        marks[signal] = 1;
-        j += 1;
-    }
-}
-
-// Marks the operands of gate k.
-fn mark_operands(code: &[u16], counts: Counts, k: usize, marks: &mut [u8])
-    requires { ⌜ ReferenceLoaded counts (now code) × (k < counts .gates) × (counts .inputs + counts .gates ≤ length (now marks)) ⌝ }
-    ensures { λ _. ⌜ now (marks .exit) ≡ marked (now (marks .entry)) (operatorIn (now (code .entry)) k .operands) ⌝ }
-{
-    let a = code[3 * k + 1] as usize;
-    marks[a] = 1;
-    if code[3 * k] != 1 {
-        let b = code[3 * k + 2] as usize;
-        marks[b] = 1;
-    }
-}
-
-// Marks the operands of every marked gate, of the last first.
-fn mark_leading(code: &[u16], counts: Counts, marks: &mut [u8])
-    requires { ⌜ ReferenceLoaded counts (now code) × (counts .inputs + counts .gates ≤ length (now marks)) ⌝ }
-    ensures { λ _. ⌜ now (marks .exit) ≡ markedFrom (counts .inputs) (operatorsIn counts (now (code .entry))) (now (marks .entry)) ⌝ }
-{
-    let inputs = counts.inputs;
-    let mut k = counts.gates;
-    while 0 < k {
-        k -= 1;
-        if 0 < marks[inputs + k] {
-            mark_operands(code, counts, k, marks);
-        }
-    }
-}
-
-// The least of the first signals that is not marked.
-fn unmarked(marks: &[u8], count: usize) -> Found
-    requires { ⌜ count ≤ length (now marks) ⌝ }
-    ensures { λ r. ⌜ r ≡ least (λ x. not (high (now (marks .entry)) x)) 0 count ⌝ }
-{
-    let mut x: usize = 0;
-    while x < count {
-        if 0 < marks[x] {
-            x += 1;
-        } else {
-            return Found::At(x);
-        }
-    }
-    Found::Nothing
-}
-
-// The least signal that is no output and leads to none.
-fn leading_nowhere(code: &[u16], counts: Counts) -> Found
-    requires { ⌜ ReferenceLoaded counts (now code) × ReferenceFormed referenceLimits (referenceIn counts (now code)) ⌝ }
-    ensures { λ r. ⌜ r ≡ least (λ x. not (leadsOut (referenceIn counts (now (code .entry))) x)) 0 (counts .inputs + counts .gates) ⌝ }
-{
-    let mut marks = [0u8; SIGNALS];
-    mark_outputs(code, counts, &mut marks);
-    mark_leading(code, counts, &mut marks);
-    unmarked(&marks, counts.inputs + counts.gates)
-}
-
-// ---- 26: how many gates are needed
-
-// How many gates of the reference are not NOT.
-fn operation_count(code: &[u16], counts: Counts) -> usize
-    requires { ⌜ ReferenceLoaded counts (now code) ⌝ }
-    ensures { λ r. ⌜ (r ≡ operations (operatorsIn counts (now (code .entry)))) × (r ≤ counts .gates) ⌝ }
-{
-    let mut count: usize = 0;
-    let mut k = counts.gates;
-    while 0 < k {
-        k -= 1;
-        if code[3 * k] != 1 {
-            count += 1;
-        }
-    }
-    count
-}
-
-// ---- one operation
-
-// The rails of a signal.
-fn rails_of(rails: &[u16], signal: u16) -> Rails
-    requires { ⌜ 2 * signal + 1 < length (now rails) ⌝ }
-    ensures { λ r. ⌜ pairOf r ≡ pairIn (now (rails .entry)) signal ⌝ }
-{
-    let at = 2 * (signal as usize);
-    Rails {
-        rail0: rails[at],
-        rail1: rails[at + 1],
-    }
-}
-
-// The rails of an operation's result, where the next gate drives net `next`: NOT swaps the rails of its operand; AND and NOR have rail 1 first,
-// the others rail 0.
-fn result_rails(operation: u16, a: Rails, next: u16) -> Rails
-    requires { ⌜ (1 ≤ operation) × (operation ≤ 6) × (next < 0xFFFF) ⌝ }
-    ensures { λ r. ⌜ ((b : Rails) → pairOf r ≡ realize operation (pairOf a ∷ pairOf b ∷ []) next .rails) ⌝ }
-{
-    match operation {
-        1 => Rails {
-            rail0: a.rail1,
-            rail1: a.rail0,
-        },
-        2 => Rails {
-            rail0: next + 1,
-            rail1: next,
-        },
-        6 => Rails {
-            rail0: next + 1,
-            rail1: next,
-        },
-        _ => Rails {
-            rail0: next,
-            rail1: next + 1,
-        },
-    }
-}
-
-// The two gates of AND: TH22 of the rails 1, then THand0. OR has the same two with rails 0 and 1 of its operands exchanged.
-fn put_and(buffer: &mut [u8], at: usize, a0: u16, b0: u16, a1: u16, b1: u16)
-    requires { ⌜ at + 20 ≤ length (now buffer) ⌝ }
-    ensures { λ _. ⌜ Put (now (buffer .entry)) at (bytesOf file.Stage gateItem (TH22 a1 b1 ∷ THand0 a0 b0 a1 b1 ∷ [])) (now (buffer .exit)) ⌝ }
-{
-    writing::put_stage_gate(buffer, at, 2, a1, b1, 0xFFFF, 0xFFFF);
-    writing::put_stage_gate(buffer, at + 10, 26, a0, b0, a1, b1);
-}
-
-// THxor0, then TH24comp of the same pins.
-fn put_xor(buffer: &mut [u8], at: usize, a0: u16, b0: u16, a1: u16, b1: u16)
-    requires { ⌜ at + 20 ≤ length (now buffer) ⌝ }
-    ensures { λ _. ⌜ Put (now (buffer .entry)) at (bytesOf file.Stage gateItem (THxor0 a0 b0 a1 b1 ∷ TH24comp a0 b0 a1 b1 ∷ [])) (now (buffer .exit)) ⌝ }
-{
-    writing::put_stage_gate(buffer, at, 25, a0, b0, a1, b1);
-    writing::put_stage_gate(buffer, at + 10, 27, a0, b0, a1, b1);
-}
-
-// The two gates of an operation that is not NOT. NAND and NOR have the gates of AND and OR.
-fn put_operation(buffer: &mut [u8], at: usize, operation: u16, a: Rails, b: Rails)
-    requires { ⌜ (2 ≤ operation) × (operation ≤ 6) × (at + 20 ≤ length (now buffer)) ⌝ }
-    ensures { λ _. ⌜ ((next : ℕ) → Put (now (buffer .entry)) at (bytesOf file.Stage gateItem (realize operation (pairOf a ∷ pairOf b ∷ []) next .gates))
-        (now (buffer .exit))) ⌝ }
-{
-    match operation {
-        2 => put_and(buffer, at, a.rail0, b.rail0, a.rail1, b.rail1),
-        4 => put_xor(buffer, at, a.rail0, b.rail0, a.rail1, b.rail1),
-        5 => put_and(buffer, at, a.rail0, b.rail0, a.rail1, b.rail1),
-        _ => put_and(buffer, at, a.rail1, b.rail1, a.rail0, b.rail0),
-    }
-}
-
-// Gate k of the reference, where `made` gates were put before: its gates are put, its rails stored. Answers how many gates are put then. A NOT has its
-// operand twice in the flat form, so that both are read without a test.
-fn put_gate(
-    buffer: &mut [u8],
-    code: &[u16],
-    counts: Counts,
-    k: usize,
-    rails: &mut [u16],
-    made: usize,
-) -> usize
-    requires { ⌜ ReferenceLoaded counts (now code) × (k < counts .gates) × (2 * (counts .inputs + counts .gates) ≤ length (now rails)) × (made ≤ stageLimits .gates)
-        × (2 + 10 * (made + 2 * operations (operatorIn (now code) k ∷ [])) ≤ length (now buffer)) ⌝ }
-    ensures count { λ r. ⌜ r ≡ made + length (becomes counts (now (code .entry)) k (now (rails .entry)) made .gates) ⌝ }
-    ensures put { λ r. ⌜ Put (now (buffer .entry)) (2 + 10 * made) (bytesOf file.Stage gateItem (becomes counts (now (code .entry)) k (now (rails .entry)) made
-        .gates)) (now (buffer .exit)) ⌝ }
-    ensures rails { λ r. ⌜ now (rails .exit) ≡ set (set (now (rails .entry)) (2 * (counts .inputs + k)) (becomes counts (now (code .entry)) k (now
-        (rails .entry)) made .rails .rail0)) (2 * (counts .inputs + k) + 1) (becomes counts (now (code .entry)) k (now (rails .entry)) made .rails .rail1) ⌝ }
-{
-    let operation = code[3 * k];
-    let a = rails_of(rails, code[3 * k + 1]);
-    let b = rails_of(rails, code[3 * k + 2]);
-    let result = result_rails(operation, a, (2 * counts.inputs + made) as u16);
-    let at = 2 * (counts.inputs + k);
-    rails[at] = result.rail0;
-    rails[at + 1] = result.rail1;
-    if operation == 1 {
-        return made;
-    }
-    put_operation(buffer, 2 + 10 * made, operation, a, b);
-    made + 2
-}
 
 // ---- the stage
 
@@ -260,7 +49,7 @@ fn put_gates(buffer: &mut [u8], code: &[u16], counts: Counts, rails: &mut [u16])
     let mut made: usize = 0;
     let mut k: usize = 0;
     while k < count {
-        made = put_gate(buffer, code, counts, k, rails, made);
+        made = operations::put_gate(buffer, code, counts, k, rails, made);
         k += 1;
     }
     made
@@ -277,7 +66,7 @@ fn put_outputs(buffer: &mut [u8], at: usize, code: &[u16], counts: Counts, rails
     let count = counts.outputs;
     let mut j: usize = 0;
     while j < count {
-        let pair = rails_of(rails, code[from + j]);
+        let pair = operations::rails_of(rails, code[from + j]);
         writing::put_stage_output(buffer, at + 5 * j, pair.rail0, pair.rail1);
         j += 1;
     }
@@ -290,7 +79,7 @@ fn put_stage(buffer: &mut [u8], code: &[u16], counts: Counts)
         × (length (madeBytes (referenceIn counts (now code))) ≤ length (now buffer)) ⌝ }
     ensures { λ _. ⌜ Put (now (buffer .entry)) 0 (madeBytes (referenceIn counts (now (code .entry)))) (now (buffer .exit)) ⌝ }
 {
-    let mut rails = [0u16; 2 * SIGNALS];
+    let mut rails = [0u16; 2 * circuit::SIGNALS];
     input_rails(&mut rails, counts.inputs);
     writing::put_inputs(buffer, 0, counts.inputs);
     let made = put_gates(buffer, code, counts, &mut rails);
@@ -307,7 +96,7 @@ fn make_loaded(code: &[u16], counts: Counts, buffer: &mut [u8]) -> Answer
     ensures { λ r. ⌜ written r (now (buffer .exit)) ≡ leaves (makeRead (referenceIn counts (now (code .entry))) (length (now (buffer .entry)))) (now
         (buffer .entry)) ⌝ }
 {
-    if let Found::At(x) = leading_nowhere(code, counts) {
+    if let Found::At(x) = leading::leading_nowhere(code, counts) {
         return writing::refused(Verdict {
             number: 25,
             file: 2,
@@ -315,7 +104,7 @@ fn make_loaded(code: &[u16], counts: Counts, buffer: &mut [u8]) -> Answer
             word: 0,
         });
     }
-    let gates = 2 * operation_count(code, counts);
+    let gates = 2 * leading::operation_count(code, counts);
     if netlist::STAGE_GATES < gates {
         return writing::refused(Verdict {
             number: 26,

@@ -28,7 +28,8 @@ use Rattle.verdict.proofs.Levels.{bits-length, bits-get}
 use Rattle.verdict.proofs.Settling.{settled-bits}
 use Rattle.verdict.proofs.Names.{words-once}
 use Rattle.verdict.proofs.OneWord.{wires-length}
-use Rattle.report.specs.Report.{gatesHigh, byName}
+use Rattle.counters.specs.High.{gatesHigh}
+use Rattle.report.specs.Report.{byName}
 use Rattle.report.specs.Activity.{gateSwitchings, Cycle, switchings, EachWordOnce, Cycled, HalfOfAll}
 use Rattle.report.proofs.Counting.{upTo, upTo-same, upTo-zero, upTo-split, upTo-levels, weigh, weigh-zero, sum-times, sum-same}
 

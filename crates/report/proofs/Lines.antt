@@ -4,21 +4,22 @@ use Prim.Native.Nat.{ℕ, zero, suc, _+_, _-_, _*_, _^_, _≤_, _<_}
 use native.Mathlib.Omega.{arith}
 use native.Mathlib.Decide.{ℕ-discrete, decLt}
 use lib.Pow.{pow-mono}
-use mathlib.Core.Path.{_≡_, refl, sym, ap, _∙_, subst}
+use mathlib.Core.Path.{_≡_, refl, sym, ap, ap₂, _∙_, subst}
 use mathlib.Core.List.{List, [], _∷_, _++_, map}
 use lib.ListN.{length, getD, take, drop, set, replicate, length-set, length-map, length-append, length-replicate, List·getD-append, List·getD-eq-default}
 use lib.Seq.{getD-set-same, getD-set-other, getD-append-add, ext-getD, take-all}
-use Rattle.netlist.specs.Reading.{stageLimits}
+use Rattle.netlist.specs.Reading.{Rising, stageLimits}
 use Rattle.netlist.specs.Content.{Stage}
 use Rattle.netlist.proofs.Readable.{rising-length}
 use Rattle.verdict.specs.Levels.{sum}
 use Rattle.verdict.specs.declared.WordOrder.{WordOrder}
 use Rattle.verdict.specs.Words.{spelled, names}
-use Rattle.verdict.proofs.Names.{names-rise}
+use Rattle.verdict.proofs.Names.{spelled-below, names-rise}
 use Rattle.names.specs.Listed.{Listed}
-use Rattle.report.specs.Report.{gatesHigh, byName, lines, mostLines, padded}
-use Rattle.report.specs.Lines.{ListedTo, LinesTo}
-use Rattle.report.proofs.Summing.{sum-more}
+use Rattle.counters.specs.High.{gatesHigh, HighIn}
+use Rattle.report.specs.Report.{byName, lines, mostLines, padded}
+use Rattle.report.specs.Lines.{linesBy, ListedTo, LinesTo}
+use Rattle.counters.proofs.Summing.{sum-more}
 
 map-at : (f : ℕ → ℕ) (l : List ℕ) (k : ℕ) → k < length l → getD (map f l) k 0 ≡ f (getD l k 0)
 map-at f [] k h = absurd (omega arith)
@@ -84,11 +85,40 @@ module _ (l : List ℕ) where
     pub lines-done : m ≡ length l → (so-far ≡ sum l) × (written ≡ padded l)
     lines-done e = (to .sum-is ∙ ap sum (take-all m l (omega arith)), listed-done few m written (to .lines-to) e)
 
+-- ---- lines by names
+
+rising-at : (below floor : ℕ) (l : List ℕ) → Rising below floor l → (k : ℕ) → k < length l → getD l k 0 < below
+rising-at below floor [] r k h = absurd (omega arith)
+rising-at below floor (x ∷ l) r zero h = r .1
+rising-at below floor (x ∷ l) r (suc k) h = rising-at below (x + 1) l (r .2) k (omega arith)
+
+-- a listed name spells a word that the inputs have
+pub named-below : (order : WordOrder) (n : ℕ) (list : List ℕ) → Rising (2 ^ n) 0 list → (k : ℕ) → k < length list → spelled order n (getD list k 0) < 2 ^ n
+named-below order n list r k h = spelled-below order n (getD list k 0) (rising-at (2 ^ n) 0 list r k h)
+
+pub named-long : (order : WordOrder) (n : ℕ) (high list : List ℕ) → length (linesBy order n high list) ≡ length list
+named-long order n high list = length-map list (λ name. getD high (spelled order n name) 0)
+
+pub named-at : (order : WordOrder) (n : ℕ) (high list : List ℕ) (k : ℕ) → k < length list → getD (linesBy order n high list) k 0 ≡ getD high (spelled order n (getD list k 0)) 0
+named-at order n high list k h = map-at (λ name. getD high (spelled order n name) 0) list k h
+
 -- ---- the names and lines of a stage
 
 module _ (order : WordOrder) (s : Stage) where
   pub lines-long : length (lines order s) ≡ length (names order s)
   lines-long = length-map (byName order s) (gatesHigh s) ∙ length-map (names order s) (spelled order (s .inputs))
+
+  -- they are those of the names, where it is known how many gates are high in each word
+  lines-named : (high : List ℕ) → HighIn s high → linesBy order (s .inputs) high (names order s) ≡ lines order s
+  lines-named high is = go 0 (names order s) (names-rise order s)
+    where
+      go : (floor : ℕ) (l : List ℕ) → Rising (2 ^ s .inputs) floor l → linesBy order (s .inputs) high l ≡ map (gatesHigh s) (map (spelled order (s .inputs)) l)
+      go floor [] r = refl
+      go floor (x ∷ l) r = ap₂ _∷_ (is .at (spelled order (s .inputs) x) (spelled-below order (s .inputs) x (r .1))) (go (x + 1) l (r .2))
+
+  -- so for a list that is those names
+  pub lines-by : (list high : List ℕ) → list ≡ names order s → HighIn s high → linesBy order (s .inputs) high list ≡ lines order s
+  lines-by list high e is = ap (linesBy order (s .inputs) high) e ∙ lines-named high is
 
   -- there is room for a line of each
   pub names-few : s .inputs ≤ stageLimits .inputs → length (names order s) ≤ mostLines

@@ -38,8 +38,9 @@ use Rattle.circuit.specs.Order.{InOrder}
 use Rattle.load.specs.Load.{HoldsStage}
 use Rattle.loops.specs.Marks.{LoopFound}
 use Rattle.names.specs.Listed.{Listed}
+use Rattle.counters.specs.High.{gatesHigh}
 use Rattle.report.specs.declared.Report.{Report}
-use Rattle.report.specs.Report.{gatesHigh, lines, total, mostLines, padded, refusedReport, stageReport, reportReading, reportOn}
+use Rattle.report.specs.Report.{lines, total, mostLines, padded, refusedReport, stageReport, reportReading, reportOn}
 use Rattle.report.specs.Activity.{Reported, ReportMeans}
 use Rattle.report.specs.Lines.{LoopFreeFile}
 use Rattle.report.proofs.Lines.{lines-long, names-few, report-line, listed-padded}

@@ -16,8 +16,9 @@ use Rattle.verdict.specs.Words.{IsWord, spelled}
 use Rattle.verdict.specs.Nets.{netOf, railsFor}
 use Rattle.verdict.specs.Verdicts.{accepted, verdictOn}
 use Rattle.verdict.specs.Demands.{StageIs}
+use Rattle.counters.specs.High.{gatesHigh}
 use Rattle.report.specs.declared.Report.{Report}
-use Rattle.report.specs.Report.{gatesHigh, total, refusedReport, stageReport}
+use Rattle.report.specs.Report.{total, refusedReport, stageReport}
 
 -- how many switchings of a list are of gates: all but those of the inputs' rails
 abbrev pub gateSwitchings : Net → List ℕ → ℕ

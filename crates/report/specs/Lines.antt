@@ -1,14 +1,20 @@
--- What the code's loop over the lines has done so far, and what it needs of a file.
+-- What the code's loop over the lines is given and has done so far, and what it needs of a file.
 use Prim.Native.Nat.{ℕ, _+_, _*_, _≤_, _<_}
 use mathlib.Core.Path.{_≡_}
-use mathlib.Core.List.{List}
+use mathlib.Core.List.{List, map}
 use lib.ListN.{length, getD, take}
 use Rattle.netlist.specs.declared.File.the-variants as file
 use Rattle.netlist.specs.Reading.{Places, readable, readFile, stageLimits}
 use Rattle.netlist.specs.Content.{stageOf}
+use Rattle.verdict.specs.declared.WordOrder.{WordOrder}
 use Rattle.verdict.specs.Levels.{sum}
+use Rattle.verdict.specs.Words.{spelled}
 use Rattle.verdict.specs.Loops.{NoLoop}
 use Rattle.report.specs.Report.{mostLines}
+
+-- the lines of words by their names, where it is known how many gates are high in each word of the files
+abbrev pub linesBy : WordOrder → ℕ → List ℕ → List ℕ → List ℕ
+linesBy order n high names = map (λ name. getD high (spelled order n name) 0) names
 
 -- the first m members of a list are written, and what stands behind them is 0
 pub record ListedTo (l : List ℕ) (m : ℕ) (written : List ℕ) : Type 0 where

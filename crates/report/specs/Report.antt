@@ -11,14 +11,10 @@ use Rattle.netlist.specs.Content.{Stage, stageOf}
 use Rattle.verdict.specs.declared.Verdict.{Verdict}
 use Rattle.verdict.specs.declared.WordOrder.{WordOrder}
 use Rattle.verdict.specs.Levels.{sum}
-use Rattle.verdict.specs.Rows.{settledLevels}
-use Rattle.verdict.specs.Words.{railsIn, spelled, names}
+use Rattle.verdict.specs.Words.{spelled, names}
 use Rattle.verdict.specs.Verdicts.{verdictOn}
+use Rattle.counters.specs.High.{gatesHigh}
 use Rattle.report.specs.declared.Report.{Report}
-
--- how many gates are high at the rest of word w
-abbrev pub gatesHigh : Stage → ℕ → ℕ
-gatesHigh s w = sum (settledLevels (s .gates) (railsIn s w))
 
 -- the words in the order of their names
 abbrev pub byName : WordOrder → Stage → List ℕ

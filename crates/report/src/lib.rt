@@ -4,10 +4,10 @@ use netlist::Outcome;
 use verdict::Verdict;
 use verdict::WordOrder;
 ghost use mathlib.Core.Path.{_≡_};
-ghost use Prim.Native.Nat.{ℕ, _+_, _≤_, _<_};
-ghost use lib.ListN.{length, getD, take, drop, replicate};
+ghost use Prim.Native.Nat.{ℕ, _^_, _≤_};
+ghost use lib.ListN.{length, replicate};
 ghost use Rattle.netlist.specs.declared.File.the-variants as file;
-ghost use Rattle.netlist.specs.Reading.{Places, readable, readFile, stageLimits};
+ghost use Rattle.netlist.specs.Reading.{Places, Rising, readable, readFile, stageLimits};
 ghost use Rattle.netlist.specs.Content.{stageOf};
 ghost use Rattle.verdict.specs.Levels.{sum};
 ghost use Rattle.verdict.specs.Words.{names};
@@ -15,7 +15,7 @@ ghost use Rattle.circuit.specs.Stage.{stageIn, StageLoaded};
 ghost use Rattle.circuit.specs.Order.{InOrder};
 ghost use Rattle.report.specs.Report as spec;
 ghost use Rattle.report.specs.Activity.{ReportMeans};
-ghost use Rattle.report.specs.Lines.{LoopFreeFile};
+ghost use Rattle.report.specs.Lines.{linesBy, LoopFreeFile};
 
 // A line for each word of the most inputs.
 pub const LINES: usize = 1 << netlist::INPUTS;
@@ -32,28 +32,29 @@ pub struct Report {
     pub names: [u16; LINES],
 }
 
-// How many of so many levels, from a place of a row on, are high.
-fn count_high(row: &[u8], from: usize, count: usize) -> u16
-    requires { ⌜ (from + count ≤ length (now row)) × (count < 0x10000) × ((p : ℕ) → p < from + count → getD (now row) p 0 ≤ 1) ⌝ }
-    ensures { λ r. ⌜ r ≡ sum (take count (drop from (now (row .entry)))) ⌝ }
+// The lines of some names are written, by how many gates are high in each word of the files; and the sum of the lines.
+fn write_lines(
+    order: WordOrder,
+    inputs: usize,
+    list: &[u16],
+    high: &[u16],
+    lines: &mut [u16],
+) -> u64
+    requires { ⌜ (inputs ≤ stageLimits .inputs) × Rising (2 ^ inputs) 0 (now list) × (2 ^ inputs ≤ length (now high))
+        × (length (now list) ≤ spec.mostLines) × (now lines ≡ replicate spec.mostLines 0) ⌝ }
+    ensures { λ r. ⌜ (r ≡ sum (linesBy order inputs (now (high .entry)) (now (list .entry))))
+        × (now (lines .exit) ≡ spec.padded (linesBy order inputs (now (high .entry)) (now (list .entry)))) ⌝ }
 {
-    let mut high: u16 = 0;
-    let mut i: usize = 0;
-    while i < count {
-        high += row[from + i] as u16;
-        i += 1;
+    let mut total: u64 = 0;
+    let mut k: usize = 0;
+    while k < list.len() {
+        let w = names::word_of(order, inputs, list[k] as usize);
+        let count = high[w];
+        lines[k] = count;
+        total += count as u64;
+        k += 1;
     }
-    high
-}
-
-// How many gates are high at the rest of word w.
-fn gates_high(code: &[u16], counts: Counts, w: usize) -> u16
-    requires { ⌜ StageLoaded counts (now code) × InOrder counts (now code) ⌝ }
-    ensures { λ r. ⌜ r ≡ spec.gatesHigh (stageIn counts (now (code .entry))) w ⌝ }
-{
-    let mut row = [0u8; circuit::ROW];
-    words::settle_word(code, counts, w, &mut row);
-    count_high(&row, 2 * counts.inputs, counts.gates)
+    total
 }
 
 // The lines of all words, whose names are listed, and the sum of the lines.
@@ -69,16 +70,9 @@ fn fill_lines(
     ensures { λ r. ⌜ (r ≡ spec.total order (stageIn counts (now (code .entry))))
         × (now (lines .exit) ≡ spec.padded (spec.lines order (stageIn counts (now (code .entry))))) ⌝ }
 {
-    let mut total: u64 = 0;
-    let mut k: usize = 0;
-    while k < list.len() {
-        let w = names::word_of(order, counts.inputs, list[k] as usize);
-        let high = gates_high(code, counts, w);
-        lines[k] = high;
-        total += high as u64;
-        k += 1;
-    }
-    total
+    let mut high = [0u16; LINES];
+    counters::count_words(code, counts, &mut high);
+    write_lines(order, counts.inputs, list, &high, lines)
 }
 
 // The report of a stage that reads and has no loop.

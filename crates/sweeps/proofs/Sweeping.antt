@@ -1,15 +1,13 @@
 -- All words, name by name, and check by check.
 -- Assumes nothing.
 use Prim.Native.Nat.{ℕ, _+_, _^_, _≤_, _<_}
-use native.Mathlib.Omega.{arith}
 use native.Mathlib.Numerals.{add-one}
 use mathlib.Core.Path.{_≡_, refl, sym, ap, _∙_}
 use mathlib.Core.Logic.{inl, inr}
 use mathlib.Core.List.{List, [], _∷_}
 use lib.ListN.{length, getD, drop, drop-of-length-le}
 use lib.Seq.{drop-cons}
-use borrow.Author.Tests.{eq-eqb}
-use Rattle.netlist.specs.Content.{Gate, Stage, Reference}
+use Rattle.netlist.specs.Content.{Stage, Reference}
 use Rattle.netlist.specs.declared.Counts.{Counts}
 use Rattle.netlist.specs.declared.Found.{Found}
 use Rattle.netlist.specs.declared.Found.the-variants.{At, Nothing}
@@ -17,24 +15,22 @@ use Rattle.verdict.specs.declared.Finding.{Finding}
 use Rattle.verdict.specs.declared.Finding.the-variants.{Fault, Passed}
 use Rattle.verdict.specs.declared.Verdict.{Verdict}
 use Rattle.verdict.specs.declared.WordOrder.{WordOrder}
-use Rattle.verdict.specs.Words.{spelled, names}
-use Rattle.verdict.specs.Checks.{verdict, first, atFault, sweep, finding, orLater, firstFault, riseSweeps, fallSweeps, sweeps}
-use Rattle.verdict.specs.Nets.{noGate}
+use Rattle.verdict.specs.Words.{IsWord, spelled, names}
+use Rattle.verdict.specs.Checks.{verdict, atFault, sweep, finding, orLater, firstFault, riseSweeps, fallSweeps, sweeps}
 use Rattle.verdict.specs.Demands.{WithHold}
 use Rattle.verdict.proofs.Reaching.{loopFree-noLoop}
 use Rattle.verdict.specs.Loops.{In}
-use Rattle.verdict.proofs.Words.{rising-in}
-use Rattle.verdict.proofs.Names.{spelled-below, names-rise}
+use Rattle.verdict.proofs.Names.{name-spells}
 use Rattle.verdict.proofs.Sweeps.{fault-++}
 use Rattle.verdict.proofs.Demands.{hold-passes}
-use Rattle.circuit.specs.Stage.{slot, gateIn, stageGates, stageIn}
+use Rattle.circuit.specs.Stage.{stageGates, stageIn}
 use Rattle.circuit.specs.Order.{orderIn, InOrder}
 use Rattle.circuit.proofs.Order.{order-no-loop}
-use Rattle.circuit.proofs.Tabulate.{length-tabulate, getD-tabulate}
 use Rattle.words.specs.declared.Sweep.{Sweep}
 use Rattle.words.specs.declared.Sweep.the-variants.{Wrong, Missing, Unobserved, Remaining, StillHigh}
 use Rattle.words.specs.Finds.{finds}
-use Rattle.looks.specs.Looks.{Unnamed, Clean}
+use Rattle.looks.specs.declared.Masks.{Masks}
+use Rattle.looks.specs.Looks.{Unnamed, Clean, AllClean}
 use Rattle.sweeps.specs.Sweeps.{numberOf, swept}
 
 -- ---- name by name
@@ -83,10 +79,10 @@ swept-words which order s r list is number f a e =
 
 -- a check whose mask names none of the words finds nothing
 pub none-worth : (which : Sweep) (order : WordOrder) (s : Stage) (r : Reference) (mask : List ℕ) → Clean which s r mask
-    → ((w : ℕ) → w < 2 ^ s .inputs → Unnamed mask w) → Passed ≡ swept which order s r
+    → ((w : ℕ) → IsWord s w → Unnamed mask w) → Passed ≡ swept which order s r
 none-worth which order s r mask clean none =
     sym (swept-nothing (numberOf which) 1 (findsUnder which order s r) (names order s) (λ name i.
-    clean (spelled order (s .inputs) name) (none _ (spelled-below order (s .inputs) name (rising-in (2 ^ s .inputs) 0 (names order s) (names-rise order s) name i .1)))))
+    clean (spelled order (s .inputs) name) (none _ (name-spells order s name i))))
 
 -- ---- check by check
 
@@ -142,9 +138,16 @@ no-fall order c code o hold r e =
     let l = loopFree-noLoop (c .inputs) (stageGates c code) (order-no-loop (c .inputs) (stageGates c code) (orderIn c code) (o .ordered)) in
     then-fall order s r e Passed (sym (hold-passes order s r l hold (sym e)))
 
--- each of the gates of a flat form has hold
-pub hold-all : (c : Counts) (code : List ℕ) → ((k : ℕ) → k < c .gates → slot code k 7 ≡ 1) → WithHold (stageIn c code)
-unfolding stageGates
-hold-all c code all k h =
-    let b : k < c .gates = omega (arith, length-tabulate (gateIn code) (c .gates)) in
-    ap (λ (g : Gate). g .hold) (getD-tabulate (gateIn code) (c .gates) k noGate b) ∙ eq-eqb (slot code k 7) 1 (all k b)
+-- ---- no word is named
+
+-- the masks of the rise name nothing, and then those of the fall
+pub rises-pass : (order : WordOrder) (s : Stage) (r : Reference) (m : Masks) → AllClean s r m → ((w : ℕ) → IsWord s w → Unnamed (m .wrong) w)
+    → ((w : ℕ) → IsWord s w → Unnamed (m .rise) w) → Passed ≡ firstFault (riseSweeps order s r)
+rises-pass order s r m clean wrong rise =
+    first-unobserved order s r (none-worth Wrong order s r (m .wrong) (clean .wrong) wrong) (none-worth Missing order s r (m .rise) (clean .missing) rise) Passed
+    (none-worth Unobserved order s r (m .rise) (clean .unobserved) rise)
+
+pub falls-pass : (order : WordOrder) (s : Stage) (r : Reference) (m : Masks) → AllClean s r m → ((w : ℕ) → IsWord s w → Unnamed (m .fall) w)
+    → Passed ≡ firstFault (fallSweeps order s r)
+falls-pass order s r m clean fall =
+    first-still-high order s r (none-worth Remaining order s r (m .fall) (clean .remaining) fall) Passed (none-worth StillHigh order s r (m .fall) (clean .still-high) fall)

@@ -8,10 +8,11 @@ use verdict::WordOrder;
 use words::Sweep;
 ghost use mathlib.Core.Path.{_≡_};
 ghost use mathlib.Core.Bool.{true};
+ghost use Rattle.netlist.specs.Content.{Reference};
 ghost use Rattle.verdict.specs.Words.{names};
 ghost use Rattle.verdict.specs.Checks as checks;
-ghost use Rattle.verdict.specs.Demands.{WithHold};
 ghost use Rattle.circuit.specs.Stage.{stageIn, StageLoaded};
+ghost use Rattle.circuit.specs.Order.{InOrder};
 ghost use Rattle.circuit.specs.Reference.{referenceIn};
 ghost use Rattle.words.specs.Loaded.{BothLoaded};
 ghost use Rattle.words.specs.Finds.{finds};
@@ -84,26 +85,25 @@ fn sweep_words(
     Finding::Passed
 }
 
-// The same by the masks of all checks. Where none of the words is named, none is looked at.
+// The same, where no word is looked at if none is named.
 fn sweep_check(
     which: Sweep,
     order: WordOrder,
     list: &[u16],
-    masks: Masks,
+    mask: &[u64],
     code: &[u16],
     counts: Counts,
     reference: &[u16],
     sizes: Counts,
 ) -> Finding
     requires { ⌜ BothLoaded counts (now code) sizes (now reference) × (now list ≡ names order (stageIn counts (now code)))
-        × AllClean (stageIn counts (now code)) (referenceIn sizes (now reference)) masks ⌝ }
+        × Clean which (stageIn counts (now code)) (referenceIn sizes (now reference)) (now mask) ⌝ }
     ensures { λ r. ⌜ r ≡ swept which order (stageIn counts (now (code .entry))) (referenceIn sizes (now (reference .entry))) ⌝ }
 {
-    let mask = looks::mask_of(which, masks);
-    if looks::none_named(&mask, counts.inputs) {
+    if looks::none_named(mask, code, counts) {
         return Finding::Passed;
     }
-    sweep_words(which, order, list, &mask, code, counts, reference, sizes)
+    sweep_words(which, order, list, mask, code, counts, reference, sizes)
 }
 
 // The rise: 13, then 14, then 15.
@@ -120,11 +120,12 @@ fn sweep_rises(
         × AllClean (stageIn counts (now code)) (referenceIn sizes (now reference)) masks ⌝ }
     ensures { λ r. ⌜ r ≡ checks.firstFault (checks.riseSweeps order (stageIn counts (now (code .entry))) (referenceIn sizes (now (reference .entry)))) ⌝ }
 {
+    let wrong = masks.wrong;
     if let Finding::Fault(v) = sweep_check(
         Sweep::Wrong,
         order,
         list,
-        masks,
+        &wrong,
         code,
         counts,
         reference,
@@ -132,11 +133,12 @@ fn sweep_rises(
     ) {
         return Finding::Fault(v);
     }
+    let rise = masks.rise;
     if let Finding::Fault(v) = sweep_check(
         Sweep::Missing,
         order,
         list,
-        masks,
+        &rise,
         code,
         counts,
         reference,
@@ -148,7 +150,7 @@ fn sweep_rises(
         Sweep::Unobserved,
         order,
         list,
-        masks,
+        &rise,
         code,
         counts,
         reference,
@@ -170,11 +172,12 @@ fn sweep_falls(
         × AllClean (stageIn counts (now code)) (referenceIn sizes (now reference)) masks ⌝ }
     ensures { λ r. ⌜ r ≡ checks.firstFault (checks.fallSweeps order (stageIn counts (now (code .entry))) (referenceIn sizes (now (reference .entry)))) ⌝ }
 {
+    let fall = masks.fall;
     if let Finding::Fault(v) = sweep_check(
         Sweep::Remaining,
         order,
         list,
-        masks,
+        &fall,
         code,
         counts,
         reference,
@@ -186,29 +189,12 @@ fn sweep_falls(
         Sweep::StillHigh,
         order,
         list,
-        masks,
+        &fall,
         code,
         counts,
         reference,
         sizes,
     )
-}
-
-// Whether every gate has hold.
-fn all_hold(code: &[u16], counts: Counts) -> bool
-    requires { ⌜ StageLoaded counts (now code) ⌝ }
-    ensures { λ r. ⌜ (r ≡ true → WithHold (stageIn counts (now (code .entry)))) ⌝ }
-{
-    let gates = counts.gates;
-    let mut k: usize = 0;
-    while k < gates {
-        if code[8 * k + 7] == 1 {
-            k += 1;
-        } else {
-            return false;
-        }
-    }
-    true
 }
 
 // The rise, then the fall. Where every gate has hold, a stage whose rise passes is not refused for its fall.
@@ -228,14 +214,36 @@ fn sweep_named(
     if let Finding::Fault(v) = sweep_rises(order, list, masks, code, counts, reference, sizes) {
         return Finding::Fault(v);
     }
-    if all_hold(code, counts) {
+    if looks::all_hold(code, counts) {
         return Finding::Passed;
     }
     sweep_falls(order, list, masks, code, counts, reference, sizes)
 }
 
-// All checks that sweep the words of a stage: the words that are worth a look are found first, 64 at a time; their names are listed once, and swept in
-// that order.
+// Whether the masks name no word in which a check may find something: where every gate has hold those of the fall are not asked for.
+fn nothing_named(masks: Masks, code: &[u16], counts: Counts) -> bool
+    requires { ⌜ StageLoaded counts (now code) × InOrder counts (now code) ⌝ }
+    ensures { λ r. ⌜ (r ≡ true → (order : WordOrder) (reference : Reference) → AllClean (stageIn counts (now (code .entry))) reference masks
+        → Finding.Passed ≡ checks.firstFault (checks.sweeps order (stageIn counts (now (code .entry))) reference)) ⌝ }
+{
+    let wrong = masks.wrong;
+    if looks::none_named(&wrong, code, counts) {
+        let rise = masks.rise;
+        if looks::none_named(&rise, code, counts) {
+            if looks::all_hold(code, counts) {
+                return true;
+            }
+            let fall = masks.fall;
+            if looks::none_named(&fall, code, counts) {
+                return true;
+            }
+        }
+    }
+    false
+}
+
+// All checks that sweep the words of a stage: the words that are worth a look are found first, 64 at a time. Where there are any the names of all words
+// are listed once, and swept in that order.
 pub fn sweep_all(
     order: WordOrder,
     code: &[u16],
@@ -247,6 +255,9 @@ pub fn sweep_all(
     ensures { λ r. ⌜ r ≡ checks.firstFault (checks.sweeps order (stageIn counts (now (code .entry))) (referenceIn sizes (now (reference .entry)))) ⌝ }
 {
     let masks = looks::looks(code, counts, reference, sizes);
+    if nothing_named(masks, code, counts) {
+        return Finding::Passed;
+    }
     let mut list = [0u16; names::NAMES];
     let count = names::list_names(order, code, counts, &mut list);
     sweep_named(order, &list[..count], masks, code, counts, reference, sizes)

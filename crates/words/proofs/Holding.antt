@@ -6,19 +6,19 @@ use mathlib.Core.Path.{_≡_, sym, ap, _∙_, subst}
 use mathlib.Core.Bool.{Bool, true, false}
 use mathlib.Core.List.{List, _++_}
 use lib.ListN.{length, getD, take}
-use lib.Seq.{getD-take, take-append-seam, take-take}
+use lib.Seq.{getD-take, take-take}
 use borrow.Author.Tests.{lt-ltb, le-ltb}
 use Rattle.netlist.specs.declared.Counts.{Counts}
 use Rattle.netlist.specs.Content.{Gate, Pair}
-use Rattle.verdict.specs.Words.{bitsOf, railsOf, railsIn}
+use Rattle.verdict.specs.Words.{railsIn}
 use Rattle.verdict.specs.Rows.{high, settledLevels, settled, settledHolding, allData}
 use Rattle.verdict.specs.Levels.{levelHolding}
 use Rattle.verdict.specs.Checks.{unobservable}
-use Rattle.verdict.proofs.Words.{bits-of-length, rails-length}
 use Rattle.circuit.specs.Stage.{netCount, placeOf, stageGates, stageOutputs, stageIn}
 use Rattle.circuit.specs.Order.{orderIn, InOrder}
-use Rattle.circuit.specs.Rows.{RowFor, netsIn, railPart, levelPart, SettledTo, SettledBefore, settledIn, settledHoldingIn}
+use Rattle.circuit.specs.Rows.{RowFor, netsIn, railPart, SettledTo, SettledBefore, settledIn, settledHoldingIn}
 use Rattle.circuit.proofs.Settling.{holding-none, settled-before, length-stageGates, length-rails, levels-by, order-at}
+use Rattle.spelling.proofs.Rest.{word-length, word-rails}
 use Rattle.words.specs.Finds.{unobserved}
 
 module _ (c : Counts) (code row : List ℕ) (ordered : InOrder c code) (r : RowFor c row) (is : netsIn c row ≡ settledIn c code row) (g : ℕ)
@@ -77,29 +77,12 @@ module _ (c : Counts) (code row : List ℕ) (is : netsIn c row ≡ settledIn c c
 
 -- ---- the row of word w
 
-pub word-length : (n w : ℕ) → length (railsOf (bitsOf n w)) ≡ 2 * n
-word-length n w = rails-length (bitsOf n w) ∙ ap (λ (k : ℕ). 2 * k) (bits-of-length n w)
-
-module _ (c : Counts) (code row : List ℕ) (w : ℕ) (is : netsIn c row ≡ settled (stageGates c code) (railsIn (stageIn c code) w)) where
-  pub word-rails : railPart c row ≡ railsIn (stageIn c code) w
-  word-rails =
-      let rails = railsIn (stageIn c code) w in
-      sym (take-take (2 * c .inputs) (netCount c) row (omega arith))
-      ∙ ap (take (2 * c .inputs)) is
-      ∙ ap (λ (n : ℕ). take n (settled (stageGates c code) rails)) (sym (word-length (c .inputs) w))
-      ∙ take-append-seam rails (settledLevels (stageGates c code) rails)
-
-  pub settled-word : netsIn c row ≡ settledIn c code row
-  settled-word = is ∙ ap (settled (stageGates c code)) (sym word-rails)
-
-  pub word-levels : RowFor c row → levelPart c row ≡ settledLevels (stageGates c code) (railsIn (stageIn c code) w)
-  word-levels r = let rails = railsIn (stageIn c code) w in levels-by c row r rails (settledLevels (stageGates c code) rails) (word-length (c .inputs) w) is
-
-  pub unobserved-word : (g : ℕ) → unobserved (stageGates c code) (stageOutputs c code) (railPart c row) g ≡ unobservable (stageIn c code) w g
-  unfolding unobserved unobservable
-  unobserved-word g =
-      let s = stageIn c code in
-      ap (λ (l : List ℕ). unobserved (s .gates) (s .outputs) l g) word-rails
-      ∙ ap (λ (n : ℕ). elim (high (settled (s .gates) (railsIn s w)) (n + g)) as
-      (λ b. Bool) [ true ↦ allData (settledHolding g (s .gates) (railsIn s w)) (s .outputs) | false ↦ false ])
-      (word-length (c .inputs) w)
+pub unobserved-word : (c : Counts) (code row : List ℕ) (w : ℕ) → netsIn c row ≡ settled (stageGates c code) (railsIn (stageIn c code) w) → (g : ℕ) →
+    unobserved (stageGates c code) (stageOutputs c code) (railPart c row) g ≡ unobservable (stageIn c code) w g
+unfolding unobserved unobservable
+unobserved-word c code row w is g =
+    let s = stageIn c code in
+    ap (λ (l : List ℕ). unobserved (s .gates) (s .outputs) l g) (word-rails c code row w is)
+    ∙ ap (λ (n : ℕ). elim (high (settled (s .gates) (railsIn s w)) (n + g)) as
+    (λ b. Bool) [ true ↦ allData (settledHolding g (s .gates) (railsIn s w)) (s .outputs) | false ↦ false ])
+    (word-length (c .inputs) w)

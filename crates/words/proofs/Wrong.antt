@@ -17,10 +17,10 @@ use Rattle.verdict.specs.Nets.{outputPair, noPair}
 use Rattle.verdict.specs.Checks.{first, wrong}
 use Rattle.verdict.specs.Search.{least}
 use Rattle.circuit.specs.Stage.{stageGates, outputIn, stageOutputs, stageIn}
-use Rattle.circuit.specs.Rows.{misread}
 use Rattle.circuit.specs.Reference.{operatorsIn, signalIn, signalsIn, referenceIn, ReferenceLoaded}
 use Rattle.circuit.proofs.Tabulate.{getD-tabulate, map-tabulate}
-use Rattle.words.proofs.Spelling.{bits-prefix}
+use Rattle.outputs.specs.Failing.{misread}
+use Rattle.spelling.proofs.Spelling.{bits-prefix}
 
 -- tests that agree have the same least number
 least-alike : (f g : ℕ → Bool) (j m : ℕ) → ((k : ℕ) → k < j + m → f k ≡ g k) → least f j m ≡ least g j m

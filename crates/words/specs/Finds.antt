@@ -1,21 +1,13 @@
 -- The checks that go over the words of a stage, by one name for each.
 use Prim.Native.Nat.{ℕ, _+_}
-use mathlib.Core.Path.{_≡_}
-use mathlib.Core.Bool.{Bool, true, false, not}
-use mathlib.Core.List.{List, _++_}
+use mathlib.Core.Bool.{Bool, true, false}
+use mathlib.Core.List.{List}
 use lib.ListN.{length}
-use lib.Dec.{eqb}
-use Rattle.runs.specs.Row.{only}
-use Rattle.netlist.specs.declared.Counts.{Counts}
 use Rattle.netlist.specs.declared.Found.{Found}
 use Rattle.netlist.specs.Content.{Gate, Pair, Stage, Reference}
-use Rattle.verdict.specs.Rows.{high, withNull, settled, settledHolding, allData}
+use Rattle.verdict.specs.Rows.{high, settled, settledHolding, allData}
 use Rattle.verdict.specs.Checks.{wrong, incomplete, unobservable, fallIncomplete, fallUnobservable}
 use Rattle.verdict.specs.Search.{least}
-use Rattle.verdict.specs.Words.{railsIn}
-use Rattle.verdict.specs.Falls.{fallenLevels}
-use Rattle.circuit.specs.Stage.{stageGates, stageIn}
-use Rattle.circuit.specs.Rows.{netsIn, railPart, levelPart}
 use Rattle.words.specs.declared.Sweep.{Sweep}
 use Rattle.words.specs.declared.Sweep.the-variants.{Wrong, Missing, Unobserved, Remaining, StillHigh}
 
@@ -30,13 +22,3 @@ finds StillHigh s r w = least (fallUnobservable s w) 0 (length (s .gates))
 -- 15 for given rails: gate g is high, and all outputs are still DATA once the gates have settled with it held low
 unfoldable pub unobserved : List Gate → List Pair → List ℕ → ℕ → Bool
 unobserved gates pairs rails g = elim (high (settled gates rails) (length rails + g)) as (λ b. Bool) [ true ↦ allData (settledHolding g gates rails) pairs | false ↦ false ]
-
--- the nets of a row are at the rest of word w
-abbrev pub RestOf : Counts → List ℕ → List ℕ → ℕ → Type 0
-RestOf c code row w = netsIn c row ≡ settled (stageGates c code) (railsIn (stageIn c code) w)
-
--- settled by the fall rule from the rest in a row, with all inputs NULL but i and gate g kept high
-unfoldable pub fallenFrom : Counts → List ℕ → List ℕ → ℕ → ℕ → List ℕ
-fallenFrom c code row i g =
-    let left = withNull (λ k. not (eqb k i)) (railPart c row) in
-    left ++ fallenLevels (only g) (stageGates c code) (levelPart c row) left

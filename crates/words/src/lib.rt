@@ -3,18 +3,14 @@
 use netlist::Counts;
 use netlist::Found;
 ghost use mathlib.Core.Path.{_≡_};
-ghost use Prim.Native.Nat.{ℕ, _*_, _<_};
-ghost use lib.ListN.{length, replicate};
-ghost use Rattle.netlist.specs.Reading.{stageLimits, Within};
-ghost use Rattle.verdict.specs.Words.{bitsOf, railsOf, railsIn};
-ghost use Rattle.verdict.specs.Rows.{settled, allNull};
+ghost use Prim.Native.Nat.{_<_};
 ghost use Rattle.verdict.specs.Checks as checks;
 ghost use Rattle.verdict.specs.Search.{least};
 ghost use Rattle.circuit.specs.Stage.{stageGates, stageOutputs, stageIn, StageLoaded};
 ghost use Rattle.circuit.specs.Order.{InOrder};
-ghost use Rattle.circuit.specs.Rows.{RowFor, netsIn, railPart, levelPart, settledIn};
+ghost use Rattle.circuit.specs.Rows.{RowFor, netsIn, railPart, settledIn};
 ghost use Rattle.circuit.specs.Reference.{referenceIn};
-ghost use Rattle.words.specs.Finds.{finds, unobserved, RestOf, fallenFrom};
+ghost use Rattle.words.specs.Finds.{finds, unobserved};
 ghost use Rattle.words.specs.Loaded.{BothLoaded};
 
 // The checks that go over the words of a stage: 13, 14 and 15 in the rise, 20 and 21 in the fall.
@@ -26,52 +22,6 @@ pub enum Sweep {
     StillHigh,
 }
 
-// A byte for each signal of the largest reference.
-pub const SIGNALS: usize = netlist::INPUTS + netlist::REFERENCE_GATES;
-
-// ---- words
-
-// The bits of word w: input i has bit i.
-pub fn word_bits(w: usize, bits: &mut [u8])
-    ensures { λ r. ⌜ now (bits .exit) ≡ bitsOf (length (now (bits .entry))) w ⌝ }
-{
-    let mut rest = w;
-    let mut i: usize = 0;
-    while i < bits.len() {
-        bits[i] = (rest % 2) as u8;
-        rest = rest / 2;
-        i += 1;
-    }
-}
-
-// The rails that spell word w: rail 0 of an input is high for 0, rail 1 for 1.
-fn spell_word(counts: Counts, w: usize, row: &mut [u8])
-    requires { ⌜ RowFor counts (now row) ⌝ }
-    ensures rails { λ r. ⌜ railPart counts (now (row .exit)) ≡ railsOf (bitsOf (counts .inputs) w) ⌝ }
-    ensures row { λ r. ⌜ RowFor counts (now (row .exit)) ⌝ }
-{
-    let mut rest = w;
-    let mut i: usize = 0;
-    while i < counts.inputs {
-        let b = (rest % 2) as u8;
-        row[2 * i] = 1 - b;
-        row[2 * i + 1] = b;
-        rest = rest / 2;
-        i += 1;
-    }
-}
-
-// The stage settles in word w.
-pub fn settle_word(code: &[u16], counts: Counts, w: usize, row: &mut [u8])
-    requires { ⌜ StageLoaded counts (now code) × InOrder counts (now code) × RowFor counts (now row) ⌝ }
-    ensures settled { λ r. ⌜ netsIn counts (now (row .exit)) ≡ settled (stageGates counts (now (code .entry))) (railsIn (stageIn counts
-        (now (code .entry))) w) ⌝ }
-    ensures row { λ r. ⌜ RowFor counts (now (row .exit)) ⌝ }
-{
-    spell_word(counts, w, row);
-    circuit::settle(code, counts, row);
-}
-
 // ---- 13
 
 // The least output that is not the reference's DATA in word w.
@@ -81,11 +31,11 @@ fn wrong_output(code: &[u16], counts: Counts, reference: &[u16], sizes: Counts, 
         (counts .outputs) ⌝ }
 {
     let mut row = [0u8; circuit::ROW];
-    settle_word(code, counts, w, &mut row);
-    let mut values = [0u8; SIGNALS];
-    word_bits(w, &mut values);
-    circuit::signal_values(reference, sizes, &mut values);
-    circuit::first_misread(code, counts, &row, reference, sizes, &values)
+    spelling::settle_word(code, counts, w, &mut row);
+    let mut values = [0u8; circuit::SIGNALS];
+    spelling::word_bits(w, &mut values);
+    signals::signal_values(reference, sizes, &mut values);
+    outputs::first_misread(code, counts, &row, reference, sizes, &values)
 }
 
 // ---- 14
@@ -96,11 +46,11 @@ fn incomplete(code: &[u16], counts: Counts, w: usize, i: usize) -> bool
     ensures { λ r. ⌜ r ≡ checks.incomplete (stageIn counts (now (code .entry))) w i ⌝ }
 {
     let mut row = [0u8; circuit::ROW];
-    spell_word(counts, w, &mut row);
+    spelling::spell_word(counts, w, &mut row);
     row[2 * i] = 0;
     row[2 * i + 1] = 0;
     circuit::settle(code, counts, &mut row);
-    circuit::all_data(code, counts, &row)
+    outputs::all_data(code, counts, &row)
 }
 
 // The least input with which NULL, and the others as in word w, all outputs are DATA.
@@ -138,7 +88,7 @@ fn unobserved_at(code: &[u16], counts: Counts, row: &[u8], g: usize) -> bool
     bytes::copy(&row[..size], &mut held);
     let start = code[8 * g + 6] as usize;
     circuit::settle_from(code, counts, &mut held, start, g);
-    circuit::all_data(code, counts, &held)
+    outputs::all_data(code, counts, &held)
 }
 
 // The least gate that is high in word w and with which held low all outputs are still DATA.
@@ -147,98 +97,11 @@ fn unobserved_gate(code: &[u16], counts: Counts, w: usize) -> Found
     ensures { λ r. ⌜ r ≡ least (checks.unobservable (stageIn counts (now (code .entry))) w) 0 (counts .gates) ⌝ }
 {
     let mut row = [0u8; circuit::ROW];
-    settle_word(code, counts, w, &mut row);
+    spelling::settle_word(code, counts, w, &mut row);
     let gates = counts.gates;
     let mut g: usize = 0;
     while g < gates {
         if unobserved_at(code, counts, &row, g) {
-            return Found::At(g);
-        }
-        g += 1;
-    }
-    Found::Nothing
-}
-
-// ---- the fall
-
-// The levels of the gates in a row, with all rails low.
-fn with_rails_low(counts: Counts, row: &[u8]) -> [u8; circuit::ROW]
-    requires { ⌜ Within stageLimits counts × RowFor counts (now row) ⌝ }
-    ensures { λ r. ⌜ RowFor counts r × (railPart counts r ≡ replicate (2 * counts .inputs) 0) × (levelPart counts r ≡ levelPart counts (now (row .entry))) ⌝ }
-{
-    let mut low = [0u8; circuit::ROW];
-    let first = 2 * counts.inputs;
-    let mut p = first;
-    while p < first + counts.gates {
-        low[p] = row[p];
-        p += 1;
-    }
-    low
-}
-
-// From the rest in a row: whether all outputs are NULL once all inputs have fallen but one and the gates have settled by the fall rule, with
-// one gate kept high. Where `input` is no input all have fallen; where `gate` is no gate none is kept.
-fn all_fallen(code: &[u16], counts: Counts, rest: &[u8], input: usize, gate: usize) -> bool
-    requires { ⌜ StageLoaded counts (now code) × InOrder counts (now code) × RowFor counts (now rest) ⌝ }
-    ensures { λ r. ⌜ r ≡ allNull (fallenFrom counts (now (code .entry)) (now (rest .entry)) input gate) (stageOutputs counts (now (code .entry))) ⌝ }
-{
-    let mut row = with_rails_low(counts, rest);
-    if input < counts.inputs {
-        row[2 * input] = rest[2 * input];
-        row[2 * input + 1] = rest[2 * input + 1];
-        circuit::fall(code, counts, &mut row, gate);
-        return circuit::all_null(code, counts, &row);
-    }
-    circuit::fall(code, counts, &mut row, gate);
-    circuit::all_null(code, counts, &row)
-}
-
-// ---- 20
-
-// The least input that may keep its DATA, from the rest of word w, while all outputs are NULL.
-fn remaining_input(code: &[u16], counts: Counts, w: usize) -> Found
-    requires { ⌜ StageLoaded counts (now code) × InOrder counts (now code) ⌝ }
-    ensures { λ r. ⌜ r ≡ least (checks.fallIncomplete (stageIn counts (now (code .entry))) w) 0 (counts .inputs) ⌝ }
-{
-    let mut row = [0u8; circuit::ROW];
-    settle_word(code, counts, w, &mut row);
-    let inputs = counts.inputs;
-    let none = counts.gates;
-    let mut i: usize = 0;
-    while i < inputs {
-        if all_fallen(code, counts, &row, i, none) {
-            return Found::At(i);
-        }
-        i += 1;
-    }
-    Found::Nothing
-}
-
-// ---- 21
-
-// Whether gate g is high at the rest in a row and all outputs are NULL once all inputs have fallen while it is kept high.
-fn still_high_at(code: &[u16], counts: Counts, rest: &[u8], g: usize) -> bool
-    requires { ⌜ StageLoaded counts (now code) × InOrder counts (now code) × RowFor counts (now rest) × (g < counts .gates) ⌝ }
-    ensures { λ r. ⌜ ((w : ℕ) → RestOf counts (now (code .entry)) (now (rest .entry)) w → r ≡ checks.fallUnobservable (stageIn counts (now (code .entry))) w g) ⌝ }
-{
-    let net = 2 * counts.inputs + g;
-    if rest[net] == 0 {
-        return false;
-    }
-    all_fallen(code, counts, rest, counts.inputs, g)
-}
-
-// The least gate that is high in word w and may stay high while all outputs are NULL.
-fn still_high_gate(code: &[u16], counts: Counts, w: usize) -> Found
-    requires { ⌜ StageLoaded counts (now code) × InOrder counts (now code) ⌝ }
-    ensures { λ r. ⌜ r ≡ least (checks.fallUnobservable (stageIn counts (now (code .entry))) w) 0 (counts .gates) ⌝ }
-{
-    let mut row = [0u8; circuit::ROW];
-    settle_word(code, counts, w, &mut row);
-    let gates = counts.gates;
-    let mut g = 0usize;
-    while g < gates {
-        if still_high_at(code, counts, &row, g) {
             return Found::At(g);
         }
         g += 1;
@@ -264,7 +127,7 @@ pub fn find(
         Sweep::Wrong => wrong_output(code, counts, reference, sizes, w),
         Sweep::Missing => missing_input(code, counts, w),
         Sweep::Unobserved => unobserved_gate(code, counts, w),
-        Sweep::Remaining => remaining_input(code, counts, w),
-        Sweep::StillHigh => still_high_gate(code, counts, w),
+        Sweep::Remaining => falls::remaining_input(code, counts, w),
+        Sweep::StillHigh => falls::still_high_gate(code, counts, w),
     }
 }

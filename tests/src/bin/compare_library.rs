@@ -1,6 +1,7 @@
 //! compare_library [SEED [COUNT]]: compares all calls of the proved library with the judge, in both orders of words,
 //! on the stored examples, cases of joins and references, and on as many generated pairs, rows, joins and references. Prints how
-//! many had each number, or the first difference. Fails too if some number never came or too few were accepted.
+//! many had each number, or the first difference. Fails too if some number never came or too few were accepted, or if an accepted stage
+//! takes the library more than a hundredth of the judge's time.
 
 use fovaheju_tests::compare::{
     compare_checks, compare_join, compare_joins, compare_make, compare_makes, compare_pair,
@@ -14,6 +15,7 @@ use fovaheju_tests::judge::{WordOrder, ACCEPTED, ORDERS};
 use fovaheju_tests::library;
 use fovaheju_tests::make::Made;
 use fovaheju_tests::make_suite::all_references;
+use fovaheju_tests::suite::verdict_in;
 use std::process::ExitCode;
 use std::time::Instant;
 
@@ -63,6 +65,38 @@ fn made_and_checked(reference: &[u8], buffer: &mut [u8]) -> Made {
     made
 }
 
+/// The least of the times that some calls take.
+fn least_time(calls: usize, call: impl Fn()) -> f64 {
+    let time = |_| {
+        let start = Instant::now();
+        call();
+        start.elapsed().as_secs_f64()
+    };
+    (0..calls).map(time).fold(f64::INFINITY, f64::min)
+}
+
+/// Whether the library passes over the words of an accepted stage: it then takes some ten-thousandth of the judge's time, and
+/// where it settles every word by itself a tenth.
+fn passes_over_words() -> bool {
+    let (pair, _) = load_example(&examples_folder(), "timing-network").expect("an example");
+    let order = WordOrder::Input0Highest;
+    let judge = least_time(1, || {
+        assert_eq!(verdict_in(order, &pair), ACCEPTED);
+    });
+    let check = least_time(10, || {
+        assert_eq!(CHECK(order, &pair.stage, &pair.reference), ACCEPTED);
+    });
+    let report = least_time(10, || {
+        REPORT(order, &pair.stage, &pair.reference);
+    });
+    println!(
+        "the judge takes {:.0} times as long as the check, and {:.0} times as long as the report",
+        judge / check,
+        judge / report
+    );
+    100.0 * check < judge && 100.0 * report < judge
+}
+
 fn compare(seed: u64, count: u64) -> Result<bool, Box<Difference>> {
     let names = stored_examples(&examples_folder()).expect("the examples");
     for name in &names {
@@ -96,6 +130,10 @@ fn compare(seed: u64, count: u64) -> Result<bool, Box<Difference>> {
         .inspect_err(|difference| println!("{difference}"))?;
     }
     println!("stages of {} stored references alike", references.len());
+    let fast = passes_over_words();
+    if !fast {
+        println!("the library sweeps the words of an accepted stage one by one");
+    }
     let start = Instant::now();
     let checks = compare_checks(CHECK, seed, count)?;
     let checks = tell("checks", &checks, &CHECK_NUMBERS, start);
@@ -111,7 +149,7 @@ fn compare(seed: u64, count: u64) -> Result<bool, Box<Difference>> {
     let start = Instant::now();
     let makes = compare_makes(made_and_checked, seed, count)?;
     let makes = tell("stages from references", &makes, &MAKE_NUMBERS, start);
-    Ok(checks && reports && rows && joins && makes)
+    Ok(fast && checks && reports && rows && joins && makes)
 }
 
 fn main() -> ExitCode {

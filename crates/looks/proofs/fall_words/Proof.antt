@@ -1,39 +1,81 @@
 -- `looks::fall_words` meets its contract: the marks are the rails of the outputs and what the gates add. Assumes nothing.
-use Prim.Native.Nat.{ℕ}
 use native.Mathlib.Omega.{arith}
-use lib.ListN.{replicate}
+use mathlib.Core.Path.{_∙_, ap}
+use mathlib.Core.Bool.{true}
 use denote.Ref.{now}
 use borrow.Author.Needs.{needs}
-use Rattle.runs.specs.Acknowledged.{Fall-acknowledged, fall-output}
-use Rattle.looks.specs.Block.{restIn, netIn}
-use Rattle.looks.proofs.Resting.{none-else, outputs-marked, none-marked}
+use Rattle.lanes.specs.Lane.{lane}
+use Rattle.looks.proofs.Outputs.{outputs-marked}
+use Rattle.looks.proofs.Resting.{acknowledged-but}
 use Rattle.looks.proofs.fall_words.Statement.{statement}
 use Rattle.looks.proofs.fall_words.Tie as tie
 
-mark-falls-requires : tie.Need-mark-falls-requires
-mark-falls-requires c κs =
-    let z = c .before .before .before .before .before .before in
-    (z .pre .0, z .pre .1, z .pre .2, omega (arith, c .before .before .mark-outputs .ensures .0, z .pre .0 .within .inputs-in, z .pre .0 .within .gates-in))
+mark-gates-requires : tie.Need-mark-gates-requires
+mark-gates-requires c κs =
+    let m = c .before .before .before in
+    let z = m .before .before .before .before .before .before .before .before .before in
+    (z .pre .0, z .pre .1, z .pre .2, omega (arith, z .pre .3, m .before .before .before .before .clear .ensures .0, m .mark-outputs .ensures .0))
 
 returns : tie.Need-returns
-returns c b rest =
-    let z = c .before .before .before .before .before .before .before .before .before .before in
+returns c =
+    let g = c .before .before .before .before .before in
+    let z = g .before .before .before .before .before .before .before .before .before .before .before .before .before in
     let counts = z .args .counts in
     let code = now (z .args .code) in
-    let N = netIn counts code in
-    let marks = c .before .before .before .before .before .before .mark-outputs in
-    let falls = c .before .before .before .mark-falls in
-    let start = outputs-marked N (λ j p. Fall-acknowledged N (restIn counts code b j) p) counts (replicate 277 0) (marks .last .1 .1 .0) (none-marked 277) (marks .ensures .1) (λ j p x. fall-output (x .0) (x .1) (x .2) (x .3)) in
-    none-else counts code (z .pre .1) b (Fall-acknowledged N) (now (z .args .row)) (falls .last .1 .1 .1 .0) (c .unmarked .result) rest (falls .ensures .1 b rest start) (c .unmarked .ensures)
+    let cleared = g .before .before .before .before .before .before .before .before .clear in
+    let marks = g .before .before .before .before .mark-outputs in
+    let first = g .mark-gates in (
+      first .ensures .0 ∙ marks .ensures .0 ∙ cleared .ensures .0,
+      λ b rest.
+          let start = outputs-marked true counts code b (cleared .last .1 .0) (marks .last .1 .1 .0) (cleared .ensures .1) (marks .ensures .1) in
+          acknowledged-but counts code (z .pre .1) b true (now (z .args .row)) (first .last .1 .1 .1 .1 .1 .0) 0 (rest .rest) (first .ensures .1 b rest start)
+          (λ j d e. c .before .unmarked .ensures j d (ap (lane j) (c .if1 .taken) ∙ e)),
+    )
+
+mark-gates-requires-2 : tie.Need-mark-gates-requires-2
+mark-gates-requires-2 c κs =
+    let g = c .before .before .before .before .before .before in
+    let z = g .before .before .before .before .before .before .before .before .before .before .before .before .before in (
+      z .pre .0,
+      z .pre .1,
+      z .pre .2,
+      omega (
+        arith,
+        z .pre .3,
+        g .before .before .before .before .before .before .before .before .clear .ensures .0,
+        g .before .before .before .before .mark-outputs .ensures .0,
+        g .mark-gates .ensures .0,
+      ),
+    )
+
+returns-2 : tie.Need-returns-2
+returns-2 c =
+    let g = c .before .before .before .before .before .before .before .before .before .before .before in
+    let z = g .before .before .before .before .before .before .before .before .before .before .before .before .before in
+    let counts = z .args .counts in
+    let code = now (z .args .code) in
+    let cleared = g .before .before .before .before .before .before .before .before .clear in
+    let marks = g .before .before .before .before .mark-outputs in
+    let first = g .mark-gates in
+    let more = c .before .before .before .before .mark-gates2 in (
+      more .ensures .0 ∙ first .ensures .0 ∙ marks .ensures .0 ∙ cleared .ensures .0,
+      λ b rest.
+          let start = outputs-marked true counts code b (cleared .last .1 .0) (marks .last .1 .1 .0) (cleared .ensures .1) (marks .ensures .1) in
+          acknowledged-but counts code (z .pre .1) b true (now (z .args .row)) (more .last .1 .1 .1 .1 .1 .0) (c .unmarked2 .result) (rest .rest)
+          (more .ensures .1 b rest (first .ensures .1 b rest start)) (c .unmarked2 .ensures),
+    )
 
 pub fall-words-spec : {M : Type 1} → statement M
 fall-words-spec =
     tie.close
     (tie.spec
-    (λ c. search needs)
+    (λ c κs. search needs)
+    (λ c κs. search needs)
+    mark-gates-requires
     (λ c κs. search needs)
     (λ c. search needs)
-    mark-falls-requires
-    (λ c. search needs)
+    returns
+    mark-gates-requires-2
     (λ c κs. search needs)
-    returns)
+    (λ c. search needs)
+    returns-2)

@@ -1,13 +1,12 @@
 -- `looks::mark_outputs` meets its contract. The loop's invariant: what is marked beyond the start are rails of outputs. Assumes nothing.
-use Prim.Native.Nat.{ℕ, _+_, _-_, _*_, _<_}
+use Prim.Native.Nat.{_-_, _<_}
 use native.Mathlib.Omega.{arith}
-use mathlib.Core.Path.{_≡_, ap}
+use mathlib.Core.Path.{ap}
 use mathlib.Core.Bool.{true, false}
 use denote.Ref.{now}
 use Rattle.netlist.specs.Content.{Pair}
-use Rattle.looks.specs.Block.{netIn}
-use Rattle.looks.proofs.Pins.{output-at, length-outputs}
-use Rattle.looks.proofs.Marks.{OutputsTo, outputs-start, outputs-more}
+use Rattle.blocks.specs.Block.{netIn}
+use Rattle.looks.proofs.Outputs.{output-at, length-outputs, OutputsTo, outputs-start, outputs-more}
 use Rattle.looks.proofs.mark_outputs.Statement.{statement}
 use Rattle.looks.proofs.mark_outputs.Tie as tie
 
@@ -42,10 +41,20 @@ mark-requires c κs =
     omega (arith, z .pre .1, l .inv .same-long, z .pre .0 .rail0-net (l .j) (omega arith))
 
 add-mark : tie.Need-add-mark Inv-loop μ-loop
-add-mark c = omega (arith, c .before .before .before .before .before .before .before .before .before .before .before .before .pre .0 .within .gates-in, c .before .before .before .before .before .before .before .before .before .before .before .before .pre .0 .within .outputs-in)
+add-mark c =
+    omega (
+      arith,
+      c .before .before .before .before .before .before .before .before .before .before .before .before .pre .0 .within .gates-in,
+      c .before .before .before .before .before .before .before .before .before .before .before .before .pre .0 .within .outputs-in,
+    )
 
 mul-mark-2 : tie.Need-mul-mark-2 Inv-loop μ-loop
-mul-mark-2 c = omega (arith, c .before .before .before .before .before .before .before .before .before .before .before .before .pre .0 .within .gates-in, c .before .before .before .before .before .before .before .before .before .before .before .before .pre .0 .within .outputs-in)
+mul-mark-2 c =
+    omega (
+      arith,
+      c .before .before .before .before .before .before .before .before .before .before .before .before .pre .0 .within .gates-in,
+      c .before .before .before .before .before .before .before .before .before .before .before .before .pre .0 .within .outputs-in,
+    )
 
 shared-slice-read-mark-2 : tie.Need-shared-slice-read-mark-2 Inv-loop μ-loop
 shared-slice-read-mark-2 c = omega (arith, c .before .before .before .before .before .before .before .before .before .before .before .before .before .pre .0 .room)

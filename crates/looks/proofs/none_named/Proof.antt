@@ -1,58 +1,32 @@
--- `looks::none_named` meets its contract. The loop's invariant: the numbers before b are 0. Assumes nothing.
-use Prim.Native.Nat.{ℕ, _-_, _^_, _<_}
+-- `looks::none_named` meets its contract: the words of a stage are its care words, or all that its inputs have. Assumes nothing.
+use mathlib.Core.Path.{subst}
 use native.Mathlib.Omega.{arith}
-use mathlib.Core.Path.{_≡_, refl}
-use lib.ListN.{getD}
 use denote.Ref.{now}
-use borrow.Author.Count.{below-more}
-use Rattle.runs.proofs.Test.{clash}
-use Rattle.looks.proofs.Naming.{clear-unnamed}
+use borrow.Author.Needs.{needs}
+use Rattle.looks.specs.Looks.{Unnamed}
+use Rattle.looks.proofs.Care.{all-words, care-words}
 use Rattle.looks.proofs.none_named.Statement.{statement}
 use Rattle.looks.proofs.none_named.Tie as tie
 
-abbrev Inv-loop : tie.InvT-loop
-Inv-loop mask inputs count b₀ b = (k : ℕ) → k < b → getD mask k 0 ≡ 0
-
-abbrev μ-loop : tie.MeasureT-loop
-μ-loop mask inputs count b₀ b = count - b
-
-loop-holds : tie.Need-loop-holds Inv-loop μ-loop
-loop-holds c k h = absurd (omega arith)
-
-block-count-requires : tie.Need-block-count-requires Inv-loop μ-loop
-block-count-requires c κs = c .before .pre
-
-returns : tie.Need-returns Inv-loop μ-loop
-returns c e = absurd (clash e refl)
-
-shared-slice-read-if2 : tie.Need-shared-slice-read-if2 Inv-loop μ-loop
-shared-slice-read-if2 c = omega arith
-
-loop-again : tie.Need-loop-again Inv-loop μ-loop
-loop-again c = below-more _ _ (c .before .before .before .loop .inv) (c .if2 .taken)
-
-returns-2 : tie.Need-returns-2 Inv-loop μ-loop
-returns-2 c e = absurd (clash e refl)
-
-returns-3 : tie.Need-returns-3 Inv-loop μ-loop
-returns-3 c e w h =
+returns : tie.Need-returns
+returns c e w i =
     let z = c .before .before .before .before .before in
-    let count = c .before .before .before .block-count in
-    clear-unnamed (now (z .args .mask)) (count .result) (omega arith) (λ k d. c .before .loop .inv k (omega arith)) (2 ^ z .args .inputs) w h (count .ensures .1)
+    c .none-of-all .ensures e w (all-words (z .args .counts) (now (z .args .code)) (c .before .if1 .taken) w i)
+
+returns-2 : tie.Need-returns-2
+returns-2 c e w i =
+    let z = c .before .before .before .before .before .before .before in
+    let p = care-words (z .args .counts) (now (z .args .code)) (c .before .before .before .if1 .left) w i in
+    subst (Unnamed (now (z .args .mask))) (p .2) (c .none-listed .ensures e (p .0) (p .1))
 
 pub none-named-spec : {M : Type 1} → statement M
 none-named-spec =
     tie.close
     (tie.spec
-    Inv-loop
-    μ-loop
-    block-count-requires
+    (λ c κs. c .before .before .before .before .pre .within .inputs-in)
     returns
-    loop-holds
-    (λ c. omega arith)
-    shared-slice-read-if2
-    (λ c. omega arith)
-    (λ c. omega arith)
-    loop-again
-    returns-2
-    returns-3)
+    (λ c. search needs)
+    (λ c. search needs)
+    (λ c. search needs)
+    (λ c κs. c .before .before .before .before .before .before .pre .room)
+    returns-2)

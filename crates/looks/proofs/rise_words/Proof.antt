@@ -1,47 +1,92 @@
 -- `looks::rise_words` meets its contract: the marks are the rails of the outputs and what the gates add. Assumes nothing.
-use Prim.Native.Nat.{ℕ}
 use native.Mathlib.Omega.{arith}
-use mathlib.Core.Path.{_≡_}
-use mathlib.Core.List.{List}
-use lib.ListN.{getD, replicate}
+use mathlib.Core.Path.{_∙_, ap}
+use mathlib.Core.Bool.{false}
 use denote.Ref.{now}
 use borrow.Author.Needs.{needs}
-use Rattle.runs.specs.Acknowledged.{Acknowledged, output}
-use Rattle.looks.specs.Block.{restIn, netIn}
-use Rattle.looks.proofs.Resting.{settled-rest, none-else, outputs-marked, none-marked}
+use Rattle.lanes.specs.Lane.{lane}
+use Rattle.looks.proofs.Outputs.{outputs-marked}
+use Rattle.looks.proofs.Resting.{acknowledged-but}
 use Rattle.looks.proofs.rise_words.Statement.{statement}
 use Rattle.looks.proofs.rise_words.Tie as tie
 
-settle-block-requires : tie.Need-settle-block-requires
-settle-block-requires c κs =
-    let z = c .before .before .before .before .before .before .before in
-    (z .pre .0, z .pre .1, z .pre .2, omega (arith, c .before .before .before .mark-outputs .ensures .0, z .pre .0 .within .inputs-in, z .pre .0 .within .gates-in))
+settle-requires : tie.Need-settle-requires
+settle-requires c κs =
+    let m = c .before .before .before .before in
+    let z = m .before .before .before .before .before .before .before .before .before in
+    (z .pre .0, z .pre .1, z .pre .2, omega (arith, z .pre .3, m .before .before .before .before .clear .ensures .0, m .mark-outputs .ensures .0), z .pre .4)
 
 returns : tie.Need-returns
 returns c =
-    let z = c .before .before .before .before .before .before .before .before .before .before .before .before .before .before in
+    let s = c .before .before .before .before .before .before .before .before in
+    let z = s .before .before .before .before .before .before .before .before .before .before .before .before .before .before in
     let counts = z .args .counts in
     let code = now (z .args .code) in
-    let marks = c .before .before .before .before .before .before .before .before .before .before .mark-outputs in
-    let settle = c .before .before .before .before .before .before .settle-block in (
-      settle .ensures .0 .0,
-      λ b spelled.
-          let N = netIn counts code in
-          let start = outputs-marked N (λ j p. Acknowledged N (restIn counts code b j) p) counts (replicate 277 0) (marks .last .1 .1 .0) (none-marked 277) (marks .ensures .1) (λ j p x. output (x .0) (x .1) (x .2) (x .3)) in
-          let end = settle .ensures .1 b spelled start in
-          let rest = settled-rest counts code (z .pre .1) b (settle .last .1 .1 .0) (end .0) in
-          (rest, none-else counts code (z .pre .1) b (Acknowledged N) (settle .last .1 .1 .0) (settle .last .1 .1 .1 .0) (c .unmarked .result) rest (end .1) (c .unmarked .ensures)),
+    let b = z .args .b in
+    let cleared = s .before .before .before .before .before .before .before .before .before .clear in
+    let marks = s .before .before .before .before .before .mark-outputs in
+    let settle = s .settle in
+    let start = outputs-marked false counts code b (cleared .last .1 .0) (marks .last .1 .1 .0) (cleared .ensures .1) (marks .ensures .1) in
+    let rest = settle .ensures .1 .0 in (
+      (settle .ensures .0 .0, settle .ensures .0 .1 ∙ marks .ensures .0 ∙ cleared .ensures .0),
+      (
+        rest,
+        acknowledged-but counts code (z .pre .1) b false (settle .last .1 .1 .1 .0) (settle .last .1 .1 .1 .1 .0) 0 (rest .rest) (settle .ensures .1 .1 start)
+            (λ j d e. c .before .unmarked .ensures j d (ap (lane j) (c .if1 .taken) ∙ e)),
+      ),
+    )
+
+mark-gates-requires : tie.Need-mark-gates-requires
+mark-gates-requires c κs =
+    let s = c .before .before .before .before .before .before .before .before .before .before in
+    let z = s .before .before .before .before .before .before .before .before .before .before .before .before .before .before in
+    let settle = s .settle .ensures .0 in (
+      z .pre .0,
+      z .pre .1,
+      omega (arith, z .pre .2, settle .0),
+      omega (
+        arith,
+        z .pre .3,
+        settle .1,
+        s .before .before .before .before .before .before .before .before .before .clear .ensures .0,
+        s .before .before .before .before .before .mark-outputs .ensures .0,
+      ),
+    )
+
+returns-2 : tie.Need-returns-2
+returns-2 c =
+    let s = c .before .before .before .before .before .before .before .before .before .before .before .before .before .before .before .before in
+    let z = s .before .before .before .before .before .before .before .before .before .before .before .before .before .before in
+    let counts = z .args .counts in
+    let code = now (z .args .code) in
+    let b = z .args .b in
+    let cleared = s .before .before .before .before .before .before .before .before .before .clear in
+    let marks = s .before .before .before .before .before .mark-outputs in
+    let settle = s .settle in
+    let more = c .before .before .before .before .before .mark-gates in
+    let start = outputs-marked false counts code b (cleared .last .1 .0) (marks .last .1 .1 .0) (cleared .ensures .1) (marks .ensures .1) in
+    let rest = settle .ensures .1 .0 in (
+      (settle .ensures .0 .0, more .ensures .0 ∙ settle .ensures .0 .1 ∙ marks .ensures .0 ∙ cleared .ensures .0),
+      (
+        rest,
+        acknowledged-but counts code (z .pre .1) b false (settle .last .1 .1 .1 .0) (more .last .1 .1 .1 .1 .1 .0) (c .unmarked2 .result) (rest .rest)
+            (more .ensures .1 b rest (settle .ensures .1 .1 start)) (c .unmarked2 .ensures),
+      ),
     )
 
 pub rise-words-spec : {M : Type 1} → statement M
 rise-words-spec =
     tie.close
     (tie.spec
-    (λ c. search needs)
+    (λ c κs. search needs)
+    (λ c κs. search needs)
+    settle-requires
     (λ c κs. search needs)
     (λ c. search needs)
-    settle-block-requires
     (λ c. search needs)
+    returns
+    mark-gates-requires
     (λ c κs. search needs)
     (λ c. search needs)
-    returns)
+    (λ c. search needs)
+    returns-2)

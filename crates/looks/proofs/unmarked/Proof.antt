@@ -1,6 +1,6 @@
 -- `looks::unmarked` meets its contract. The loop's invariant: in a word that is not gathered, the nets below p are marked where they are high.
 -- Assumes nothing.
-use Prim.Native.Nat.{ℕ, _-_, _≤_}
+use Prim.Native.Nat.{_-_}
 use native.Mathlib.Omega.{arith}
 use mathlib.Core.Path.{_≡_}
 use mathlib.Core.Bool.{true}

@@ -2,8 +2,7 @@
 -- Assumes nothing.
 use Prim.Native.Nat.{ℕ, _+_, _-_}
 use native.Mathlib.Omega.{arith}
-use mathlib.Core.Path.{_≡_, ap, subst}
-use mathlib.Core.Bool.{Bool, true, false}
+use mathlib.Core.Path.{subst}
 use lib.ListN.{getD}
 use denote.Ref.{now}
 use Rattle.runs.specs.Pair.{DataOf}
@@ -29,13 +28,25 @@ loop-holds : tie.Need-loop-holds Inv-loop μ-loop
 loop-holds c l d e i h = absurd (omega arith)
 
 add-lanes-at : tie.Need-add-lanes-at Inv-loop μ-loop
-add-lanes-at c = omega (arith, c .before .before .before .before .before .before .before .before .pre .0 .answers .within .gates-in, c .before .before .before .before .before .before .before .before .pre .0 .stage .within .outputs-in)
+add-lanes-at c =
+    omega (
+      arith,
+      c .before .before .before .before .before .before .before .before .pre .0 .answers .within .gates-in,
+      c .before .before .before .before .before .before .before .before .pre .0 .stage .within .outputs-in,
+    )
 
 mul-lanes-at : tie.Need-mul-lanes-at Inv-loop μ-loop
-mul-lanes-at c = omega (arith, c .before .before .before .before .before .before .before .before .pre .0 .answers .within .gates-in, c .before .before .before .before .before .before .before .before .pre .0 .stage .within .outputs-in)
+mul-lanes-at c =
+    omega (
+      arith,
+      c .before .before .before .before .before .before .before .before .pre .0 .answers .within .gates-in,
+      c .before .before .before .before .before .before .before .before .pre .0 .stage .within .outputs-in,
+    )
 
 shared-slice-read-lanes-at : tie.Need-shared-slice-read-lanes-at Inv-loop μ-loop
-shared-slice-read-lanes-at c = omega (arith, c .before .before .before .before .before .before .before .before .before .pre .0 .answers .room, c .before .before .before .before .before .before .before .before .before .pre .0 .enough)
+shared-slice-read-lanes-at c =
+    omega
+    (arith, c .before .before .before .before .before .before .before .before .before .pre .0 .answers .room, c .before .before .before .before .before .before .before .before .before .pre .0 .enough)
 
 lanes-at-requires : tie.Need-lanes-at-requires Inv-loop μ-loop
 lanes-at-requires c κs =
@@ -50,7 +61,8 @@ loop-again c =
     let z = c .before .before .before .before .before .before .before .before .before .before .before in
     let l = c .before .before .before .before .before .loop in
     let code = now (z .args .code) in
-    let reads : ℕ → ℕ → Type 0 = λ n i. DataOf (rowIn n (now (z .args .row))) (railOf (outputIn (z .args .counts) code i)) (rowIn n (now (z .args .values)) (signalIn (z .args .sizes) (now (z .args .reference)) i)) in
+    let reads : ℕ → ℕ → Type 0 = λ n i. DataOf (rowIn n (now (z .args .row))) (railOf (outputIn (z .args .counts) code i))
+    (rowIn n (now (z .args .values)) (signalIn (z .args .sizes) (now (z .args .reference)) i)) in
     gathered-more reads (l .words) (l .j) _ (l .inv)
     (λ n d e. subst (λ (x : ℕ). DataOf (rowIn n (now (z .args .row))) (railOf (outputIn (z .args .counts) code (l .j))) (lane n x)) (c .before .lanes-at .ensures) (c .misread .ensures n d e))
 

@@ -10,10 +10,10 @@ use Rattle.netlist.specs.Content.{Pair}
 use Rattle.netlist.specs.Writing.{pairOperands, writeItem}
 use Rattle.writing.specs.Parts.{pairItem, bytesOf}
 use Rattle.writing.proofs.Files.{stage-output-width}
-use Rattle.make.specs.Rails.{pairIn}
+use Rattle.operations.specs.Rails.{pairIn}
 use Rattle.verdict.specs.Graph.{tabulate}
 use Rattle.writing.proofs.Putting.{put-same, PutTo, put-start, put-room, put-more, put-done}
-use Rattle.make.proofs.Operations.{outputs-are}
+use Rattle.make.proofs.Building.{outputs-are}
 use borrow.Author.Needs.{needs}
 use Rattle.make.proofs.put_outputs.Statement.{statement}
 use Rattle.make.proofs.put_outputs.Tie as tie

@@ -18,7 +18,7 @@ returns : tie.Need-returns
 returns c = search needs
 
 returns-2 : tie.Need-returns-2
-returns-2 c = let z = c .before .before .before .before .before in sym (z .pre .1 (z .args .w) (c .before .is-named .ensures (c .if1 .left)))
+returns-2 c = let z = c .before .before .before .before .before in sym (z .pre .1 (z .args .w) (c .before .is-named .ensures .0 (c .if1 .left)))
 
 pub look-in-spec : {M : Type 1} → statement M
 look-in-spec = tie.close (tie.spec is-named-requires find-requires returns returns-2)

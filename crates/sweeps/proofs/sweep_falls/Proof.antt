@@ -9,9 +9,17 @@ returns : tie.Need-returns
 returns c = first-remaining _ _ _ _ (sym (c .before .v .given .1) ∙ c .before .before .before .sweep-check .ensures)
 
 returns-2 : tie.Need-returns-2
-returns-2 c = first-still-high _ _ _ (sym (c .before .enum-told .given .1) ∙ c .before .before .before .sweep-check .ensures) _ (c .sweep-check2 .ensures)
+returns-2 c = first-still-high _ _ _ (sym (c .before .before .enum-told .given .1) ∙ c .before .before .before .before .sweep-check .ensures) _ (c .sweep-check2 .ensures)
 
 pub sweep-falls-spec : {M : Type 1} → statement M
 sweep-falls-spec =
     tie.close
-    (tie.spec (λ c κs. search needs) (λ c. search needs) returns (λ c. search needs) (λ c κs. search needs) returns-2)
+    (tie.spec
+    (λ c. search needs)
+    (λ c κs. search needs)
+    (λ c. search needs)
+    returns
+    (λ c. search needs)
+    (λ c. search needs)
+    (λ c κs. search needs)
+    returns-2)

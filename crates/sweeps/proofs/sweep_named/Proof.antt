@@ -12,7 +12,7 @@ returns c = rise-fault _ _ _ _ (sym (c .before .v .given .1) ∙ c .before .befo
 returns-2 : tie.Need-returns-2
 returns-2 c =
     let z = c .before .before .before .before .before .before .before .before in
-    no-fall _ (z .args .counts) (now (z .args .code)) (z .pre .0 .ordered) (c .before .all-hold .ensures (c .if1 .taken)) _ (sym
+    no-fall _ (z .args .counts) (now (z .args .code)) (z .pre .0 .ordered) (c .before .all-hold .ensures .0 (c .if1 .taken)) _ (sym
     (c .before .before .enum-told .given .1) ∙ c .before .before .before .before .sweep-rises .ensures)
 
 returns-3 : tie.Need-returns-3

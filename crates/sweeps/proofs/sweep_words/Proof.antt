@@ -1,10 +1,9 @@
 -- `sweeps::sweep_words` meets its contract. The loop's invariant: nothing is found under the names before name k. Assumes nothing.
-use Prim.Native.Nat.{ℕ, _-_}
+use Prim.Native.Nat.{_-_}
 use native.Mathlib.Omega.{arith}
 use mathlib.Core.Path.{_≡_, sym, ap, _∙_}
 use denote.Ref.{now}
 use lib.ListN.{length, getD}
-use Rattle.netlist.specs.declared.Found.{Found}
 use Rattle.circuit.specs.Stage.{stageIn}
 use Rattle.circuit.specs.Reference.{referenceIn}
 use Rattle.words.specs.Finds.{finds}

@@ -9,7 +9,8 @@ use Rattle.verdict.specs.Search.{least}
 use Rattle.verdict.proofs.Least.{SoughtTo, sought-on, sought-here, sought-none}
 use Rattle.circuit.specs.Stage.{stageIn}
 use Rattle.circuit.proofs.Settling.{low-row}
-use Rattle.words.proofs.Holding.{settled-word, unobserved-word}
+use Rattle.spelling.proofs.Rest.{settled-word}
+use Rattle.words.proofs.Holding.{unobserved-word}
 use borrow.Author.Needs.{needs}
 use Rattle.words.proofs.unobserved_gate.Statement.{statement}
 use Rattle.words.proofs.unobserved_gate.Tie as tie

@@ -1,0 +1,4 @@
+pub mod Summing
+pub mod Adding
+pub mod Levels
+pub mod Words
