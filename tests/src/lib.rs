@@ -15,6 +15,7 @@ pub mod judge;
 pub mod library;
 pub mod make;
 pub mod make_suite;
+pub mod next;
 pub mod report_suite;
 pub mod row_suite;
 pub mod suite;

@@ -6,3 +6,4 @@ pub mod Members
 pub mod Listed
 pub mod Onward
 pub mod Walks
+pub mod Examples

@@ -13,13 +13,12 @@ use Rattle.netlist.specs.Reading.{Places, readable, readFile, stageLimits}
 use Rattle.netlist.specs.Content.{Gate, Pair, Stage, stageOf}
 use Rattle.netlist.specs.Writing.{All, stageItems, placesOf, writeStage, FileFits}
 use Rattle.netlist.specs.Formed.{CellFormed, RailsFormed, StageFormed, nets}
-use Rattle.netlist.proofs.Lists.{Bytes, All-map}
-use Rattle.netlist.proofs.GatesFirst.{GatesFirst}
+use Rattle.netlist.proofs.Lists.{All-map}
 use Rattle.netlist.proofs.Stages.{stage-fits, stage-formed, read-writeStage, stageOf-writeStage, writeStage-no-care}
 use Rattle.verdict.specs.Demands.{StageIs}
 use Rattle.next_spec.specs.Numbered.{netsOf, stages, lists, gateNumbered, gatesNumbered, stageNumbered}
 use Rattle.next_spec.specs.Listing.{InShape, free, Listed}
-use Rattle.next_spec.specs.Family.{Small, InFamily, Member}
+use Rattle.next_spec.specs.Family.{Small, InFamily, EachFile}
 use Rattle.next_spec.proofs.Digits.{quotient-low, digits-back, digits-low, square, lists-some}
 use Rattle.next_spec.proofs.Loops.{free-noLoop, noLoop-free}
 
@@ -113,8 +112,8 @@ listed-in n g z l = in-family (stageNumbered n g z) (numbered-formed n g (l .sha
 pub family-formed : (c : Stage) → InFamily c → StageFormed stageLimits c
 family-formed c i = subst (StageFormed stageLimits) (i .reads .content) (stage-formed stageLimits (writeStage c) (i .reads .places) (i .reads .reads))
 
--- a readable file with the gates first, whose stage is small, is of the family: so much does "gates first" say in `Member`
-pub readable-member : (s : List ℕ) (p : Places) → Bytes s → readFile file.Stage stageLimits s ≡ readable p → GatesFirst (p .gates) (p .outputs) → Small (stageOf s p) → Member s
+-- a readable file with the gates first, whose stage is small, is of the family
+pub readable-member : EachFile
 unfolding stageOf
 readable-member s p bytes e first h =
     let w : s ≡ writeStage (stageOf s p) = writeStage-no-care stageLimits s p e bytes (h .no-care) first in

@@ -1,10 +1,11 @@
 -- What comes next in a list of the family is next by the order; and taking next from the empty file on gives the list.
 -- Assumes nothing.
-use Prim.Native.Nat.{ℕ}
+use Prim.Native.Nat.{ℕ, _≤_}
 use native.Mathlib.Omega.{arith}
 use mathlib.Core.Path.{_≡_, refl, sym, ap, ap₂, subst, _∙_}
 use mathlib.Core.Logic.{_⊎_, inl, inr, ⊎-elim}
 use mathlib.Core.List.{List, [], _∷_, _++_, append-assoc}
+use lib.ListN.{length}
 use Rattle.netlist.specs.declared.File.the-variants as file
 use Rattle.netlist.specs.Reading.{Reading, readable, readFile, Places, stageLimits}
 use Rattle.netlist.specs.Content.{Stage, stageOf}
@@ -13,9 +14,10 @@ use Rattle.verdict.specs.Checks.{verdict}
 use Rattle.writing.specs.Written.{Written, refuse, writeOr}
 use Rattle.next_spec.specs.Family.{InFamily, Member, key, Before, After, Next, Last, NextIs, outside, last, next, Walk, Ascending, Among, Family}
 use Rattle.next_spec.specs.Listing.{InShape, listing, group}
+use Rattle.next_spec.proofs.Members.{in-listed, readable-member}
 use Rattle.next_spec.proofs.Less.{less-refl, less-both}
 use Rattle.next_spec.proofs.Loops.{count-0, count-1}
-use Rattle.next_spec.proofs.Listed.{listing-ascending, listing-in, in-listing, listing-lists, group-lists}
+use Rattle.next_spec.proofs.Listed.{listing-ascending, listing-in, in-listing, listing-lists, group-lists, numbered-shaped}
 
 -- ---- a file has one stage, and is not empty
 
@@ -155,11 +157,19 @@ one-answer s buffer v w (next d n) (next e m) = ap (λ (c : Stage). writeOr (ver
 
 -- ---- the family
 
+family-room : (c : Stage) → InFamily c → length (writeStage c) ≤ 28
+family-room c i =
+    let k = in-listed c i in
+    let long = numbered-shaped (c .inputs) (length (c .gates)) (k .1 .shaped) (k .0) .long in
+    subst (λ (d : Stage). length (writeStage d) ≤ 28) (k .2) (omega (arith, long, k .1 .shaped .gates-in))
+
 shaped-1 : (g : ℕ) → InShape 1 0 × InShape 1 1
 shaped-1 g = (record { inputs-in = (omega arith, omega arith); gates-in = omega arith }, record { inputs-in = (omega arith, omega arith); gates-in = omega arith })
 
 pub family : Family
 family = record {
+  each-file = readable-member;
+  room = family-room;
   stages = listing;
   walk = walk-all listing refl;
   only = λ ds w. walk-one [] ds listing w (walk-all listing refl);
