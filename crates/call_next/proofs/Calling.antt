@@ -41,7 +41,8 @@ module _ (n g z : ℕ) (l : Listed n g z) (buffer : List ℕ) where
   unfolding writtenAt
   number-short s e = answers-short (verdict 38 3 0 0) (writeStage (stageNumbered n g z)) buffer (omega (arith, long)) e
 
-  pub number-fits : {a : Answer} {after : List ℕ} → 8 + 10 * g ≤ length buffer → Put buffer 0 (writeStage (stageNumbered n g z)) after → a ≡ answerOf accepted (8 + 10 * g)
+  pub number-fits : {a : Answer} {after : List ℕ} → 8 + 10 * g ≤ length buffer → Put buffer 0 (writeStage (stageNumbered n g z)) after
+      → a ≡ answerOf accepted (8 + 10 * g)
       → written a after ≡ writtenAt (place.Stage n g z) buffer
   unfolding writtenAt
   number-fits s p e = answers-written (verdict 38 3 0 0) (writeStage (stageNumbered n g z)) buffer (omega (arith, long)) p (sym long) e
@@ -86,7 +87,8 @@ module _ (s buffer : List ℕ) where
   start-is e (place.Stage n g z) f = next (stageNumbered n g z) (next-first s e (stageNumbered n g z) (onward n g (z + 1)) (f .1))
   start-is e place.Outside f = last (none-first s e f)
 
-  pub next-start : (p : Place) {r : Answer} {after : List ℕ} → p ≡ place.Start → Located s p → (q : Place) → First (onward 1 0 0) q → written r after ≡ writtenAt q buffer
+  pub next-start : (p : Place) {r : Answer} {after : List ℕ} → p ≡ place.Start → Located s p → (q : Place) → First (onward 1 0 0) q
+      → written r after ≡ writtenAt q buffer
       → NextDemand s buffer r after
   unfolding Located listing
   next-start p e l q f h =
@@ -94,10 +96,12 @@ module _ (s buffer : List ℕ) where
       let i : InShape 1 0 = record { inputs-in = (omega arith, omega arith); gates-in = omega arith } in
       demanded (subst (NextIs s buffer) (sym h) (start-is o q (subst (λ (cs : List Stage). First cs q) (sym (onward-start 1 0 i)) f)))
 
-  stage-is : (c : Stage) (front later : List Stage) → listing ≡ front ++ (c ∷ later) → s ≡ writeStage c → (q : Place) → First later q → NextIs s buffer (writtenAt q buffer)
+  stage-is : (c : Stage) (front later : List Stage) → listing ≡ front ++ (c ∷ later) → s ≡ writeStage c → (q : Place) → First later q
+      → NextIs s buffer (writtenAt q buffer)
   unfolding First writtenAt
   stage-is c front later e h place.Start f = absurd f
-  stage-is c front later e h (place.Stage n g z) f = rw h (next (stageNumbered n g z) (next-listed front c later e (stageNumbered n g z) (onward n g (z + 1)) (f .1)))
+  stage-is c front later e h (place.Stage n g z) f = rw h
+      (next (stageNumbered n g z) (next-listed front c later e (stageNumbered n g z) (onward n g (z + 1)) (f .1)))
   stage-is c front later e h place.Outside f = rw h (last (none-listed front c later e f))
 
   pub next-stage : (p : Place) {r : Answer} {after : List ℕ} (n g z : ℕ) → p ≡ place.Stage n g z → Located s p → (q : Place) → First (onward n g (z + 1)) q

@@ -49,8 +49,11 @@ module _ (n g from count : ℕ) where
 pub first-shape : (n g k : ℕ) → InShape n g → k ≡ 3 * (n - 1) + g → First (stagesOf (drop k shapes)) (place.Stage n g 0)
 unfolding First
 first-shape n g k i e =
-    let l : 0 < stages n g = stages-some n g i in
-    (record { shaped = i; below = l; loop-free = zero-free n g i }, ap (λ (j : ℕ). stagesOf (drop j shapes)) e ∙ onward-start n g i ∙ onward-free n g 0 l (zero-free n g i))
+    let l : 0 < stages n g = stages-some n g i in (
+      record { shaped = i; below = l; loop-free = zero-free n g i },
+      ap (λ (j : ℕ). stagesOf (drop j shapes)) e ∙ onward-start n g i
+          ∙ onward-free n g 0 l (zero-free n g i),
+    )
 
 pub first-none : (k : ℕ) → k ≡ 6 → First (stagesOf (drop k shapes)) place.Outside
 unfolding First shapes

@@ -65,7 +65,8 @@ module _ (m : ℕ) (some : 1 ≤ m) (low : m ≤ 6) where
       ap (λ (t : List ℕ). numberIn (1 ∷ n ∷ t) m 1) (list-one m x (outputBytes m y)) ∙ rw (gate-shown x, two-shown y h)
   list-shown n (suc (suc zero)) x y l b h =
       let k = 2 * (m * m) in
-      ap (λ (t : List ℕ). numberIn (1 ∷ n ∷ t) m 2) (list-two m x k (outputBytes m y) refl) ∙ rw (gate-shown (x / k), gate-shown (x % k), two-shown y h, div-add-mod' x k)
+      ap (λ (t : List ℕ). numberIn (1 ∷ n ∷ t) m 2) (list-two m x k (outputBytes m y) refl)
+      ∙ rw (gate-shown (x / k), gate-shown (x % k), two-shown y h, div-add-mod' x k)
   list-shown n (suc (suc (suc g))) x y l b h = absurd (omega arith)
 
 module _ (n g z : ℕ) (shaped : InShape n g) (below : z < stages n g) where
@@ -75,5 +76,6 @@ module _ (n g z : ℕ) (shaped : InShape n g) (below : z < stages n g) where
       let some : 1 ≤ m = nets-some n g shaped in
       let low : m ≤ 6 = omega (arith, shaped .inputs-in, shaped .gates-in) in
       let k : 1 ≤ m * m = square m some in
-      ap (λ (s : List ℕ). numberIn s m g) (stage-bytes n g z) ∙ list-shown m some low n g (z / (m * m)) (z % (m * m)) (shaped .gates-in) (quotient-low (m * m) k z (lists m g) below) (mod-lt z k) ∙
+      ap (λ (s : List ℕ). numberIn s m g) (stage-bytes n g z)
+      ∙ list-shown m some low n g (z / (m * m)) (z % (m * m)) (shaped .gates-in) (quotient-low (m * m) k z (lists m g) below) (mod-lt z k) ∙
       div-add-mod' z (m * m)

@@ -48,7 +48,8 @@ gate-small m x k some low l e =
     rw e (quotient-low (m * m) s x 2 l, omega arith, omega arith)
 
 pub gate-put : {buffer after : List ℕ} {at : ℕ} (m x k : ℕ) → k ≡ m * m
-    → Put buffer at (writeItem file.Stage (gate (coded (1 + x / k) (x % k / m ∷ x % k % m ∷ 65535 ∷ 65535 ∷ [])))) after → Put buffer at (writeItem file.Stage (gateItem (gateNumbered m x))) after
+    → Put buffer at (writeItem file.Stage (gate (coded (1 + x / k) (x % k / m ∷ x % k % m ∷ 65535 ∷ 65535 ∷ [])))) after
+    → Put buffer at (writeItem file.Stage (gateItem (gateNumbered m x))) after
 gate-put m x k e p = put-same (gate-absent file.Stage (1 + x / (m * m)) (x % (m * m) / m ∷ x % (m * m) % m ∷ []) 2) (rw e at p)
 
 -- ---- the gates of a shape
@@ -74,14 +75,17 @@ module _ {buffer : List ℕ} (m g x : ℕ) where
   unfolding gatesNumbered bytesOf
   gates-none e = rw e (put-none buffer 2)
 
-  pub gates-one : {after : List ℕ} → g ≡ 1 → Put buffer 2 (writeItem file.Stage (gateItem (gateNumbered m x))) after → Put buffer 2 (bytesOf file.Stage gateItem (gatesNumbered m g x)) after
-  gates-one {after} e p = rw (e, numbered-one m x, one-item (gateNumbered m x)) (put-++ p (put-none after 12) (omega (arith, stage-gate-width (codedGate (gateNumbered m x)))))
+  pub gates-one : {after : List ℕ} → g ≡ 1 → Put buffer 2 (writeItem file.Stage (gateItem (gateNumbered m x))) after
+      → Put buffer 2 (bytesOf file.Stage gateItem (gatesNumbered m g x)) after
+  gates-one {after} e p = rw (e, numbered-one m x, one-item (gateNumbered m x))
+      (put-++ p (put-none after 12) (omega (arith, stage-gate-width (codedGate (gateNumbered m x)))))
 
   pub gates-two : {between after : List ℕ} (k : ℕ) → g ≡ 2 → k ≡ 2 * (m * m) → Put buffer 2 (writeItem file.Stage (gateItem (gateNumbered m (x / k)))) between
       → Put between 12 (writeItem file.Stage (gateItem (gateNumbered m (x % k)))) after → Put buffer 2 (bytesOf file.Stage gateItem (gatesNumbered m g x)) after
   gates-two {after = after} k e f p q =
       rw (e, numbered-two m x k f, two-items (gateNumbered m (x / k)) (gateNumbered m (x % k)))
-      (put-++ p (put-++ q (put-none after 22) (omega (arith, stage-gate-width (codedGate (gateNumbered m (x % k)))))) (omega (arith, stage-gate-width (codedGate (gateNumbered m (x / k))))))
+      (put-++ p (put-++ q (put-none after 22) (omega (arith, stage-gate-width (codedGate (gateNumbered m (x % k))))))
+      (omega (arith, stage-gate-width (codedGate (gateNumbered m (x / k))))))
 
 -- which numbers the gates have
 pub one-below : (m g x : ℕ) → g ≡ 1 → x < lists m g → x < 2 * (m * m)
@@ -124,7 +128,12 @@ stage-put {b3 = b3} n g z k i e p q o w =
     (put-++ (rw e at q)
     (put-++ (put-++ (rw e at o) (put-none b3 (7 + 10 * g)) (omega (arith, stage-output-width (z % (m * m) / m ∷ z % (m * m) % m ∷ []))))
     w
-    (omega (arith, length-append (writeItem file.Stage (output (z % (m * m) / m ∷ z % (m * m) % m ∷ []))) [], stage-output-width (z % (m * m) / m ∷ z % (m * m) % m ∷ []))))
+    (omega (
+      arith,
+      length-append (writeItem file.Stage (output (z % (m * m) / m ∷ z % (m * m) % m ∷ []))) [],
+      stage-output-width
+          (z % (m * m) / m ∷ z % (m * m) % m ∷ []),
+    )))
     (omega (arith, long, gates-long m (nets-some n g i) g x)))
     refl)
 
@@ -139,7 +148,8 @@ module _ (s t : List ℕ) (fits : length s ≤ length t) where
   pub same-start : SameTo s t 0
   same-start = record { within = omega arith; rest = refl }
 
-  one-more : (i : ℕ) → i < length s → same (drop i s) (drop i (take (length s) t)) ≡ (eqb (getD s i 0) (getD t i 0) && same (drop (suc i) s) (drop (suc i) (take (length s) t)))
+  one-more : (i : ℕ) → i < length s
+      → same (drop i s) (drop i (take (length s) t)) ≡ (eqb (getD s i 0) (getD t i 0) && same (drop (suc i) s) (drop (suc i) (take (length s) t)))
   one-more i l =
       let long : length (take (length s) t) ≡ length s = length-take-le (length s) t fits in
       let h : i < length (take (length s) t) = omega arith in

@@ -48,7 +48,15 @@ module _ (m : ℕ) (some : 1 ≤ m) (low : m ≤ 256) where
   gate-less x y r t l =
       ⊎-elim
       (λ q. inr (refl, inl (omega arith)))
-      (λ e. let f = e .0 in rw f (inr (refl, inr (refl, two-less (x % (m * m)) (y % (m * m)) (0xFF ∷ 0xFF ∷ 0xFF ∷ 0xFF ∷ r) (0xFF ∷ 0xFF ∷ 0xFF ∷ 0xFF ∷ t) (e .1) (mod-lt y (square m some))))))
+      (λ e. let f = e .0 in rw f
+      (inr (
+        refl,
+        inr (
+          refl,
+          two-less (x % (m * m)) (y % (m * m)) (0xFF ∷ 0xFF ∷ 0xFF ∷ 0xFF ∷ r) (0xFF ∷ 0xFF ∷ 0xFF ∷ 0xFF ∷ t) (e .1)
+              (mod-lt y (square m some)),
+        ),
+      )))
       (digits-less (m * m) (square m some) x y l)
 
   less-same : (x : ℕ) (r t : List ℕ) → Less r t → Less (gateBytes m x r) (gateBytes m x t)
@@ -84,14 +92,17 @@ unfolding listBytes
 list-++ m zero x r t = refl
 list-++ m (suc g) x r t = ap (gateBytes m (x / lists m g)) (list-++ m g (x % lists m g) r t)
 
-pub stage-bytes : (n g z : ℕ) → writeStage (stageNumbered n g z) ≡ 0x01 ∷ n ∷ listBytes (netsOf n g) g (z / (netsOf n g * netsOf n g)) (outputBytes (netsOf n g) (z % (netsOf n g * netsOf n g)))
+pub stage-bytes : (n g z : ℕ)
+    → writeStage (stageNumbered n g z) ≡ 0x01 ∷ n ∷ listBytes (netsOf n g) g (z / (netsOf n g * netsOf n g))
+    (outputBytes (netsOf n g) (z % (netsOf n g * netsOf n g)))
 unfolding writeStage writeFile stageNumbered commandTable ownCommands formIn
 stage-bytes n g z =
     let m = netsOf n g in
     let x = z / (m * m) in
     let p = pairNumbered m (z % (m * m)) in
     ap (λ (l : List ℕ). 0x01 ∷ n ∷ l)
-    (ap (λ (l : List ℕ). l ++ (0x00 ∷ [])) (items-list m g x (p ∷ [])) ∙ list-++ m g x (writeItems file.Stage (map (λ p. output (pairOperands p)) (p ∷ []))) (0x00 ∷ []))
+    (ap (λ (l : List ℕ). l ++ (0x00 ∷ [])) (items-list m g x (p ∷ []))
+    ∙ list-++ m g x (writeItems file.Stage (map (λ p. output (pairOperands p)) (p ∷ []))) (0x00 ∷ []))
 
 module _ (n g : ℕ) (some : 1 ≤ netsOf n g) (low : netsOf n g ≤ 256) where
   pub stage-less : (y z : ℕ) → y < z → z < stages n g → Less (writeStage (stageNumbered n g y)) (writeStage (stageNumbered n g z))
@@ -104,7 +115,8 @@ module _ (n g : ℕ) (some : 1 ≤ netsOf n g) (low : netsOf n g ≤ 256) where
         inr (
           refl,
           ⊎-elim
-              (λ q. list-less m some low g (y / (m * m)) (z / (m * m)) (outputBytes m (y % (m * m))) (outputBytes m (z % (m * m))) q (quotient-low (m * m) k z (lists m g) b))
+              (λ q. list-less m some low g (y / (m * m)) (z / (m * m)) (outputBytes m (y % (m * m))) (outputBytes m (z % (m * m))) q
+              (quotient-low (m * m) k z (lists m g) b))
               (λ e. let f = e .0 in rw f (list-same m some low g (z / (m * m)) (outputBytes m (y % (m * m))) (outputBytes m (z % (m * m)))
               (inr (refl, two-less m some low (y % (m * m)) (z % (m * m)) (0x00 ∷ []) (0x00 ∷ []) (e .1) (mod-lt z k)))))
               (digits-less (m * m) k y z l),

@@ -27,7 +27,8 @@ module _ (n g : ℕ) (P : Stage → Type 0) where
   listed-all z zero h = tt
   listed-all z (suc m) h = go (free n g z) refl (listed-all (suc z) m (λ y l u f. h y (omega arith) (omega arith) f))
     where
-      go : (b : Bool) → free n g z ≡ b → All P (loopFreeFrom n g (suc z) m) → All P (cond b (stageNumbered n g z ∷ loopFreeFrom n g (suc z) m) (loopFreeFrom n g (suc z) m))
+      go : (b : Bool) → free n g z ≡ b → All P (loopFreeFrom n g (suc z) m)
+          → All P (cond b (stageNumbered n g z ∷ loopFreeFrom n g (suc z) m) (loopFreeFrom n g (suc z) m))
       go true t later = (h z (omega arith) (omega arith) t, later)
       go false f later = later
 
@@ -102,7 +103,8 @@ module _ (n g : ℕ) (fits : InShape n g) where
       above : All (λ d. Less (key (stageNumbered n g z)) (key d)) (loopFreeFrom n g (suc z) m)
       above = listed-all n g (λ d. Less (key (stageNumbered n g z)) (key d)) (suc z) m (λ y a b f. number-less z y (omega arith) (omega arith))
 
-      go : (b : Bool) → Ascending (loopFreeFrom n g (suc z) m) → Ascending (cond b (stageNumbered n g z ∷ loopFreeFrom n g (suc z) m) (loopFreeFrom n g (suc z) m))
+      go : (b : Bool) → Ascending (loopFreeFrom n g (suc z) m)
+          → Ascending (cond b (stageNumbered n g z ∷ loopFreeFrom n g (suc z) m) (loopFreeFrom n g (suc z) m))
       go true later = (above, later)
       go false later = later
 
@@ -114,11 +116,13 @@ Rising (h ∷ hs) = InShape (h .inputs) (h .gates) × All (Sooner h) hs × Risin
 
 -- what holds of each numbered stage of the shapes without a loop holds of all that are listed
 stagesOf-all : (P : Stage → Type 0) (hs : List Shape)
-    → All (λ h. (y : ℕ) → y < stages (h .inputs) (h .gates) → free (h .inputs) (h .gates) y ≡ true → P (stageNumbered (h .inputs) (h .gates) y)) hs → All P (stagesOf hs)
+    → All (λ h. (y : ℕ) → y < stages (h .inputs) (h .gates) → free (h .inputs) (h .gates) y ≡ true → P (stageNumbered (h .inputs) (h .gates) y)) hs
+    → All P (stagesOf hs)
 unfolding group
 stagesOf-all P [] a = tt
 stagesOf-all P (h ∷ hs) a =
-    All-++ P (group (h .inputs) (h .gates)) (stagesOf hs) (listed-all (h .inputs) (h .gates) P 0 (stages (h .inputs) (h .gates)) (λ y l u f. a .0 y (omega arith) f)) (stagesOf-all P hs (a .1))
+    All-++ P (group (h .inputs) (h .gates)) (stagesOf hs)
+    (listed-all (h .inputs) (h .gates) P 0 (stages (h .inputs) (h .gates)) (λ y l u f. a .0 y (omega arith) f)) (stagesOf-all P hs (a .1))
 
 in-shapes : (hs : List Shape) → Rising hs → All (λ h. InShape (h .inputs) (h .gates)) hs
 in-shapes [] r = tt
@@ -139,8 +143,10 @@ stages-ascending (h ∷ hs) r =
     (listed-all n g (λ c. All (λ d. Less (key c) (key d)) (stagesOf hs)) 0 (stages n g)
     (λ y l u f. stagesOf-all (λ d. Less (key (stageNumbered n g y)) (key d)) hs
     (All-map (λ k. Sooner h k × InShape (k .inputs) (k .gates))
-    (λ k. (z : ℕ) → z < stages (k .inputs) (k .gates) → free (k .inputs) (k .gates) z ≡ true → Less (key (stageNumbered n g y)) (key (stageNumbered (k .inputs) (k .gates) z)))
-    (λ k s z b e. sooner-less h k (s .0) (stageNumbered n g y) (stageNumbered (k .inputs) (k .gates) z) (numbered-shaped n g (r .0) y) (numbered-shaped (k .inputs) (k .gates) (s .1) z))
+    (λ k. (z : ℕ) → z < stages (k .inputs) (k .gates) → free (k .inputs) (k .gates) z ≡ true
+    → Less (key (stageNumbered n g y)) (key (stageNumbered (k .inputs) (k .gates) z)))
+    (λ k s z b e. sooner-less h k (s .0) (stageNumbered n g y) (stageNumbered (k .inputs) (k .gates) z) (numbered-shaped n g (r .0) y)
+    (numbered-shaped (k .inputs) (k .gates) (s .1) z))
     hs later)))
 
 shapes-rising : Rising shapes
@@ -179,7 +185,8 @@ Among-++ x (y ∷ xs) ys h = ⊎-elim (λ a. ⊎-elim (λ e. inl e) (λ i. inr (
 pub listing-in : All InFamily listing
 unfolding listing
 listing-in = stagesOf-all InFamily shapes
-    (All-map (λ h. InShape (h .inputs) (h .gates)) (λ h. (y : ℕ) → y < stages (h .inputs) (h .gates) → free (h .inputs) (h .gates) y ≡ true → InFamily (stageNumbered (h .inputs) (h .gates) y))
+    (All-map (λ h. InShape (h .inputs) (h .gates))
+    (λ h. (y : ℕ) → y < stages (h .inputs) (h .gates) → free (h .inputs) (h .gates) y ≡ true → InFamily (stageNumbered (h .inputs) (h .gates) y))
     (λ h i y l f. listed-in (h .inputs) (h .gates) y (record { shaped = i; below = l; loop-free = f }))
     shapes (in-shapes shapes shapes-rising))
 

@@ -43,7 +43,8 @@ module _ (m : ℕ) (some : 1 ≤ m) where
   gates-long zero x = refl
   gates-long (suc g) x = ap suc (gates-long g (x % lists m g))
 
-  gates-formed : (g x : ℕ) → x < lists m g → All (CellFormed m) (gatesNumbered m g x) × All (λ c. (c .hold ≡ true) × (1 ≤ c .cell) × (c .cell ≤ 2)) (gatesNumbered m g x)
+  gates-formed : (g x : ℕ) → x < lists m g
+      → All (CellFormed m) (gatesNumbered m g x) × All (λ c. (c .hold ≡ true) × (1 ≤ c .cell) × (c .cell ≤ 2)) (gatesNumbered m g x)
   unfolding gatesNumbered lists
   gates-formed zero x l = (tt, tt)
   gates-formed (suc g) x l =
@@ -101,7 +102,8 @@ module _ (c : Stage) (formed : StageFormed stageLimits c) (small : Small c) wher
     reads = record {
       places = placesOf file.Stage (c .inputs) (stageItems c);
       reads = read-writeStage stageLimits c fits;
-      content = stageOf-writeStage stageLimits c fits (All-map (CellFormed (nets c)) (λ g. (1 ≤ g .cell) × (g .cell ≤ 27)) (λ g h. h .cell-in) (c .gates) (formed .gates-formed));
+      content = stageOf-writeStage stageLimits c fits
+          (All-map (CellFormed (nets c)) (λ g. (1 ≤ g .cell) × (g .cell ≤ 27)) (λ g h. h .cell-in) (c .gates) (formed .gates-formed));
     };
     small = small;
   }
@@ -117,7 +119,8 @@ pub readable-member : EachFile
 unfolding stageOf
 readable-member s p bytes e first h =
     let w : s ≡ writeStage (stageOf s p) = writeStage-no-care stageLimits s p e bytes (h .no-care) first in
-    let r : readFile file.Stage stageLimits (writeStage (stageOf s p)) ≡ readable p = subst (λ (t : List ℕ). readFile file.Stage stageLimits t ≡ readable p) w e in
+    let r : readFile file.Stage stageLimits (writeStage (stageOf s p)) ≡ readable p = subst
+    (λ (t : List ℕ). readFile file.Stage stageLimits t ≡ readable p) w e in
     (stageOf s p, record { reads = record { places = p; reads = r; content = ap (λ (t : List ℕ). stageOf t p) (sym w) }; small = h }, w)
 
 -- ---- the number of a stage
@@ -141,26 +144,32 @@ module _ (m : ℕ) (some : 1 ≤ m) where
   two-back : (a b : ℕ) → a < m → b < m → ((a * m + b) / m ≡ a) × ((a * m + b) % m ≡ b) × (a * m + b < m * m)
   two-back a b k l = let e = digits-back m some a b l in (e .0, e .1, digits-low m some a b m k l)
 
-  number-back : (k a b : ℕ) → k < 2 → a < m → b < m → (gateNumbered m (k * (m * m) + (a * m + b)) ≡ made (1 + k) true (a ∷ b ∷ [])) × (k * (m * m) + (a * m + b) < 2 * (m * m))
+  number-back : (k a b : ℕ) → k < 2 → a < m → b < m
+      → (gateNumbered m (k * (m * m) + (a * m + b)) ≡ made (1 + k) true (a ∷ b ∷ [])) × (k * (m * m) + (a * m + b) < 2 * (m * m))
   number-back k a b l p q =
       let t = two-back a b p q in
       let e = digits-back (m * m) (square m some) k (a * m + b) (t .2) in
       (rw (e .0, e .1, t .0, t .1), digits-low (m * m) (square m some) k (a * m + b) 2 l (t .2))
 
-  gate-back : (g : Gate) → g .hold ≡ true → (1 ≤ g .cell) → (g .cell ≤ 2) → CellFormed m g → (gateNumbered m (numberGate m g) ≡ g) × (numberGate m g < 2 * (m * m))
+  gate-back : (g : Gate) → g .hold ≡ true → (1 ≤ g .cell) → (g .cell ≤ 2) → CellFormed m g
+      → (gateNumbered m (numberGate m g) ≡ g) × (numberGate m g < 2 * (m * m))
   gate-back g h low high formed = go (g .pins) refl (formed .whole ∙ ap pinCount one ∙ two-pins (g .cell - 1) (omega arith)) (formed .pins-in)
     where
       one : g .cell ≡ 1 + (g .cell - 1)
       one = omega arith
 
-      go : (ps : List ℕ) → g .pins ≡ ps → length (g .pins) ≡ 2 → All (λ v. v < m) (g .pins) → (gateNumbered m (numberGate m g) ≡ g) × (numberGate m g < 2 * (m * m))
+      go : (ps : List ℕ) → g .pins ≡ ps → length (g .pins) ≡ 2 → All (λ v. v < m) (g .pins)
+          → (gateNumbered m (numberGate m g) ≡ g) × (numberGate m g < 2 * (m * m))
       go [] e l a = let z : length (g .pins) ≡ 0 = ap (length {A = ℕ}) e in absurd (omega arith)
       go (x ∷ []) e l a = let z : length (g .pins) ≡ 1 = ap (length {A = ℕ}) e in absurd (omega arith)
       go (x ∷ y ∷ []) e l a =
           let b : All (λ v. v < m) (x ∷ y ∷ []) = subst (All (λ v. v < m)) e a in
           let r = number-back (g .cell - 1) x y (omega arith) (b .0) (b .1 .0) in
-          let n : numberGate m g ≡ (g .cell - 1) * (m * m) + (x * m + y) = ap (λ (ps : List ℕ). (g .cell - 1) * (m * m) + numberTwo m ps) e in
-          (ap (gateNumbered m) n ∙ r .0 ∙ ap₂ (λ (c : ℕ) (t : Bool). made c t (x ∷ y ∷ [])) (sym one) (sym h) ∙ ap (made (g .cell) (g .hold)) (sym e), rw n (r .1))
+          let n : numberGate m g ≡ (g .cell - 1) * (m * m) + (x * m + y) = ap (λ (ps : List ℕ). (g .cell - 1) * (m * m) + numberTwo m ps) e in (
+            ap (gateNumbered m) n ∙ r .0 ∙ ap₂ (λ (c : ℕ) (t : Bool). made c t (x ∷ y ∷ [])) (sym one) (sym h)
+                ∙ ap (made (g .cell) (g .hold)) (sym e),
+            rw n (r .1),
+          )
       go (x ∷ y ∷ w ∷ ps) e l a = let z : length (g .pins) ≡ suc (suc (suc (length ps))) = ap (length {A = ℕ}) e in absurd (omega arith)
 
   list-back : (gs : List Gate) → All (λ c. (c .hold ≡ true) × (1 ≤ c .cell) × (c .cell ≤ 2)) gs → All (CellFormed m) gs
@@ -219,5 +228,13 @@ module _ (c : Stage) (i : InFamily c) where
 pub in-listed : (c : Stage) → InFamily c → (z : ℕ) × Listed (c .inputs) (length (c .gates)) z × (stageNumbered (c .inputs) (length (c .gates)) z ≡ c)
 in-listed c i =
     let k = numbered c i in
-    let e : stageNumbered (c .inputs) (length (c .gates)) (k .0) .gates ≡ c .gates = ap (λ (d : Stage). d .gates) (k .2) in
-    (k .0, record { shaped = shaped c i; below = k .1; loop-free = noLoop-free (c .inputs) (length (c .gates)) (shaped c i) (k .0) (k .1) (rw e (i .small .no-loop)) }, k .2)
+    let e : stageNumbered (c .inputs) (length (c .gates)) (k .0) .gates ≡ c .gates = ap (λ (d : Stage). d .gates) (k .2) in (
+      k .0,
+      record {
+        shaped = shaped c i;
+        below = k .1;
+        loop-free = noLoop-free (c .inputs) (length (c .gates)) (shaped c i) (k .0) (k .1)
+            (rw e (i .small .no-loop));
+      },
+      k .2,
+    )

@@ -83,7 +83,8 @@ split-shapes (suc k) (h ∷ hs) =
     let a = group (h .inputs) (h .gates) in
     (a ++ r .0, ap (λ (l : List Stage). a ++ l) (r .1) ∙ sym (append-assoc a (r .0) (stagesOf (drop k hs))))
 
-onward-split : (n g z : ℕ) → z < stages n g → (front : List Stage) → loopFreeFrom n g 0 (z + (stages n g - z)) ≡ front ++ loopFreeFrom n g (0 + z) (stages n g - z)
+onward-split : (n g z : ℕ) → z < stages n g → (front : List Stage)
+    → loopFreeFrom n g 0 (z + (stages n g - z)) ≡ front ++ loopFreeFrom n g (0 + z) (stages n g - z)
     → onward n g 0 ≡ front ++ onward n g z
 unfolding onward
 onward-split n g z l front h =
@@ -101,5 +102,6 @@ place-in-listing n g z l =
     let f = split-shapes (3 * (n - 1) + g) shapes in
     let a = split-group n g 0 z (stages n g - z) in
     let later = stageNumbered n g z ∷ onward n g (z + 1) in
-    let e : onward n g 0 ≡ a .0 ++ later = onward-split n g z (l .below) (a .0) (a .1) ∙ ap (λ (t : List Stage). a .0 ++ t) (onward-free n g z (l .below) (l .loop-free)) in
+    let e : onward n g 0 ≡ a .0 ++ later = onward-split n g z (l .below) (a .0) (a .1)
+    ∙ ap (λ (t : List Stage). a .0 ++ t) (onward-free n g z (l .below) (l .loop-free)) in
     (f .0 ++ a .0, f .1 ∙ ap (λ (t : List Stage). f .0 ++ t) (onward-start n g (l .shaped) ∙ e) ∙ sym (append-assoc (f .0) (a .0) later))

@@ -56,7 +56,8 @@ ascending-from [] rest a = a
 ascending-from (c ∷ front) rest a = ascending-from front rest (a .1)
 
 -- what c is before stands after it
-stands-later : (front : List Stage) (c : Stage) (later : List Stage) → Ascending (front ++ (c ∷ later)) → (e : Stage) → Among e (front ++ (c ∷ later)) → Before c e → Among e later
+stands-later : (front : List Stage) (c : Stage) (later : List Stage) → Ascending (front ++ (c ∷ later)) → (e : Stage) → Among e (front ++ (c ∷ later))
+    → Before c e → Among e later
 stands-later [] c later a e (inl q) l = absurd (less-refl (key c) (subst (Before c) q l))
 stands-later [] c later a e (inr i) l = i
 stands-later (b ∷ front) c later a e (inl q) l = absurd (less-both (key b) (key c) (all-middle (Before b) front c later (a .0)) (subst (Before c) q l))
@@ -93,7 +94,8 @@ module _ (front : List Stage) (c : Stage) (later : List Stage) (e : listing ≡ 
   pub next-listed : (d : Stage) (more : List Stage) → later ≡ d ∷ more → Next (writeStage c) d
   next-listed d more f = record {
     in-family = all-middle InFamily (front ++ (c ∷ [])) d more
-        (subst (λ (cs : List Stage). All InFamily cs) (e ∙ ap (λ (l : List Stage). front ++ (c ∷ l)) f ∙ sym (append-assoc front (c ∷ []) (d ∷ more))) listing-in);
+        (subst (λ (cs : List Stage). All InFamily cs)
+        (e ∙ ap (λ (l : List Stage). front ++ (c ∷ l)) f ∙ sym (append-assoc front (c ∷ []) (d ∷ more))) listing-in);
     after = inr (c, listed-c, refl, subst (All (Before c)) f (ascending-from front (c ∷ later) ascends .0) .0);
     least = λ x i l. first-least d more (subst Ascending f (ascending-from front (c ∷ later) ascends .1)) x (subst (Among x) f (later-after x i l));
   }
@@ -164,7 +166,14 @@ family-room c i =
     subst (λ (d : Stage). length (writeStage d) ≤ 28) (k .2) (omega (arith, long, k .1 .shaped .gates-in))
 
 shaped-1 : (g : ℕ) → InShape 1 0 × InShape 1 1
-shaped-1 g = (record { inputs-in = (omega arith, omega arith); gates-in = omega arith }, record { inputs-in = (omega arith, omega arith); gates-in = omega arith })
+shaped-1 g = (
+  record { inputs-in = (omega arith, omega arith); gates-in = omega arith },
+  record {
+    inputs-in =
+        (omega arith, omega arith);
+    gates-in = omega arith;
+  },
+)
 
 pub family : Family
 family = record {

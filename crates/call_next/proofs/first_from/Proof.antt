@@ -16,7 +16,8 @@ returns-2 : tie.Need-returns-2
 returns-2 c =
     let z = c .before .before .before .before in
     first-later (z .args .inputs) (z .args .gates) (z .args .number) _
-    (subst (FoundFree (z .args .inputs) (z .args .gates) (z .args .number)) (c .before .enum-told .given .1) (c .before .before .before .next-number .ensures)) (c .next-shape .ensures)
+    (subst (FoundFree (z .args .inputs) (z .args .gates) (z .args .number)) (c .before .enum-told .given .1) (c .before .before .before .next-number .ensures))
+    (c .next-shape .ensures)
 
 pub first-from-spec : {M : Type 1} → statement M
 first-from-spec =

@@ -25,7 +25,8 @@ returns c =
     let h : c .before .before .before .wide2 .result * c .before .before .before .before .before .before .before .before .args .m ≤ 255 * 6 =
     mul-le-mul (c .before .before .before .wide2 .ensures .1) (c .before .before .before .before .before .before .before .before .pre .0) in
     let a = c .before .before .before .before .before .before .before .before .args in (
-      gate-zero (now (a .s)) (a .m) (a .at) _ _ _ (c .before .before .before .before .before .wide .ensures .0) (c .before .before .before .wide2 .ensures .0) (c .before .wide3 .ensures .0)
+      gate-zero (now (a .s)) (a .m) (a .at) _ _ _ (c .before .before .before .before .before .wide .ensures .0) (c .before .before .before .wide2 .ensures .0)
+          (c .before .wide3 .ensures .0)
           (c .if1 .taken),
       omega (arith, c .before .wide3 .ensures .1),
     )
@@ -63,7 +64,8 @@ returns-2 c =
     let k : (c .before .before .before .before .before .before .wide .result - 1) * c .square .result ≤ 255 * 36 =
     mul-le-mul {n₂ = 255} (omega (arith, c .before .before .before .before .before .before .wide .ensures .1)) (c .square .ensures .1) in
     let a = c .before .before .before .before .before .before .before .before .before .args in (
-      gate-some (now (a .s)) (a .m) (a .at) _ _ _ (c .before .before .before .before .before .before .wide .ensures .0) (c .before .before .before .before .wide2 .ensures .0)
+      gate-some (now (a .s)) (a .m) (a .at) _ _ _ (c .before .before .before .before .before .before .wide .ensures .0)
+          (c .before .before .before .before .wide2 .ensures .0)
           (c .before .before .wide3 .ensures .0) _ (c .square .ensures .0),
       omega (arith, c .before .before .wide3 .ensures .1),
     )

@@ -12,11 +12,14 @@ returns : tie.Need-returns
 returns c = let a = c .before .before .args in (shown-none (now (a .s)) (a .m) (a .gates) (c .if1 .taken), omega arith)
 
 returns-2 : tie.Need-returns-2
-returns-2 c = let a = c .before .before .before .before .args in (shown-one (now (a .s)) (a .m) (a .gates) (c .before .if2 .taken) _ (c .gate-at .ensures .0), omega (arith, c .gate-at .ensures .1))
+returns-2 c =
+    let a = c .before .before .before .before .args in
+    (shown-one (now (a .s)) (a .m) (a .gates) (c .before .if2 .taken) _ (c .gate-at .ensures .0), omega (arith, c .gate-at .ensures .1))
 
 mul-result-2 : tie.Need-mul-result-2
 mul-result-2 c =
-    let h : c .before .gate-at2 .result * (2 * c .square .result) ≤ 20000 * 72 = mul-le-mul {n₂ = 20000} {m₂ = 72} (c .before .gate-at2 .ensures .1) (omega (arith, c .square .ensures .1)) in
+    let h : c .before .gate-at2 .result * (2 * c .square .result) ≤ 20000 * 72 = mul-le-mul {n₂ = 20000} {m₂ = 72} (c .before .gate-at2 .ensures .1)
+    (omega (arith, c .square .ensures .1)) in
     omega arith
 
 add-result : tie.Need-add-result
@@ -30,7 +33,8 @@ returns-3 c =
     let h : c .before .before .gate-at2 .result * (2 * c .before .square .result) ≤ 20000 * 72 =
     mul-le-mul {n₂ = 20000} {m₂ = 72} (c .before .before .gate-at2 .ensures .1) (omega (arith, c .before .square .ensures .1)) in
     let a = c .before .before .before .before .before .before .args in (
-      shown-two (now (a .s)) (a .m) (a .gates) (omega arith) _ _ _ (c .before .before .gate-at2 .ensures .0) (c .gate-at3 .ensures .0) (c .before .square .ensures .0),
+      shown-two (now (a .s)) (a .m) (a .gates) (omega arith) _ _ _ (c .before .before .gate-at2 .ensures .0) (c .gate-at3 .ensures .0)
+          (c .before .square .ensures .0),
       omega (arith, c .gate-at3 .ensures .1),
     )
 

@@ -19,7 +19,9 @@ returns-4 : tie.Need-returns-4
 returns-4 c = let s = now (c .before .before .before .before .before .args .s) in outside-long s (λ e. omega arith) (λ g l e. omega arith)
 
 returns-5 : tie.Need-returns-5
-returns-5 c = let s = now (c .before .before .before .before .before .before .before .before .args .s) in outside-inputs s (λ e. omega arith) (λ n a b e. omega (arith, c .before .wide .ensures .0))
+returns-5 c =
+    let s = now (c .before .before .before .before .before .before .before .before .args .s) in
+    outside-inputs s (λ e. omega arith) (λ n a b e. omega (arith, c .before .wide .ensures .0))
 
 returns-6 : tie.Need-returns-6
 returns-6 c =

@@ -19,18 +19,23 @@ returns : tie.Need-returns Inv-loop μ-loop
 returns c =
     let a = c .before .before .before .before .before .args in
     let l = c .before .before .before .loop in
-    search-found (a .inputs) (a .gates) (a .from) (c .before .before .before .before .stages .result) (l .z) _ (c .before .before .before .before .before .pre .0) (l .inv)
+    search-found (a .inputs) (a .gates) (a .from) (c .before .before .before .before .stages .result) (l .z) _
+    (c .before .before .before .before .before .pre .0) (l .inv)
     (c .before .before .loop-test .taken) (c .before .loop-free .ensures) (c .if1 .taken)
 
 loop-again : tie.Need-loop-again Inv-loop μ-loop
 loop-again c =
     let a = c .before .before .before .before .before .args in
     let l = c .before .before .before .loop in
-    search-passed (a .inputs) (a .gates) (a .from) (c .before .before .before .before .stages .result) (l .z) _ (l .inv) (c .before .before .loop-test .taken) (c .before .loop-free .ensures)
+    search-passed (a .inputs) (a .gates) (a .from) (c .before .before .before .before .stages .result) (l .z) _ (l .inv) (c .before .before .loop-test .taken)
+    (c .before .loop-free .ensures)
     (c .if1 .left)
 
 returns-2 : tie.Need-returns-2 Inv-loop μ-loop
-returns-2 c = let a = c .before .before .before .args in let l = c .before .loop in search-end (a .inputs) (a .gates) (a .from) (c .before .before .stages .result) (l .z) (l .inv) (omega arith)
+returns-2 c =
+    let a = c .before .before .before .args in
+    let l = c .before .loop in
+    search-end (a .inputs) (a .gates) (a .from) (c .before .before .stages .result) (l .z) (l .inv) (omega arith)
 
 pub next-number-spec : {M : Type 1} → statement M
 next-number-spec =

@@ -10,7 +10,8 @@ returns : tie.Need-returns
 returns c =
     let a = c .before .args in
     let i = c .before .pre .inputs-in in
-    first-shape (a .inputs) (a .gates + 1) (3 * (a .inputs - 1) + a .gates + 1) (record { inputs-in = (omega arith, omega arith); gates-in = omega arith }) (omega arith)
+    first-shape (a .inputs) (a .gates + 1) (3 * (a .inputs - 1) + a .gates + 1) (record { inputs-in = (omega arith, omega arith); gates-in = omega arith })
+    (omega arith)
 
 returns-2 : tie.Need-returns-2
 returns-2 c =
@@ -20,7 +21,11 @@ returns-2 c =
     first-shape (a .inputs + 1) 0 (3 * (a .inputs - 1) + a .gates + 1) (record { inputs-in = (omega arith, omega arith); gates-in = omega arith }) (omega arith)
 
 returns-3 : tie.Need-returns-3
-returns-3 c = let a = c .before .before .args in let i = c .before .before .pre .inputs-in in let j = c .before .before .pre .gates-in in first-none (3 * (a .inputs - 1) + a .gates + 1) (omega arith)
+returns-3 c =
+    let a = c .before .before .args in
+    let i = c .before .before .pre .inputs-in in
+    let j = c .before .before .pre .gates-in in
+    first-none (3 * (a .inputs - 1) + a .gates + 1) (omega arith)
 
 pub next-shape-spec : {M : Type 1} → statement M
 next-shape-spec = tie.close (tie.spec (λ c. search needs) returns (λ c. search needs) returns-2 returns-3)

@@ -23,18 +23,21 @@ returns : tie.Need-returns
 returns c =
     let z = c .before .before .before .before .before .before .before .before .before .before in
     next-start (now (z .args .s)) (now (z .args .buffer)) _ (c .before .before .before .before .before .enum-told .given .1)
-    (c .before .before .before .before .before .before .before .locate .ensures) _ (c .before .before .before .before .first-from .ensures) (c .before .before .write-place .ensures)
+    (c .before .before .before .before .before .before .before .locate .ensures) _ (c .before .before .before .before .first-from .ensures)
+    (c .before .before .write-place .ensures)
 
 returns-2 : tie.Need-returns-2
 returns-2 c =
     let z = c .before .before .before .before .before .before .before .before .before .before .before in
     next-stage (now (z .args .s)) (now (z .args .buffer)) _ _ _ _ (c .before .before .before .before .before .before .at .given .1)
-    (c .before .before .before .before .before .before .before .before .locate .ensures) _ (c .before .before .before .before .first-from2 .ensures) (c .before .before .write-place2 .ensures)
+    (c .before .before .before .before .before .before .before .before .locate .ensures) _ (c .before .before .before .before .first-from2 .ensures)
+    (c .before .before .write-place2 .ensures)
 
 returns-3 : tie.Need-returns-3
 returns-3 c =
     let z = c .before .before .before .before .before .before in
-    next-outside (now (z .args .s)) (now (z .args .buffer)) _ (c .before .enum-told2 .given .1) (c .before .before .before .locate .ensures) (c .refused-by .ensures)
+    next-outside (now (z .args .s)) (now (z .args .buffer)) _ (c .before .enum-told2 .given .1) (c .before .before .before .locate .ensures)
+    (c .refused-by .ensures)
 
 pub next-stage-spec : {M : Type 1} → statement M
 next-stage-spec =

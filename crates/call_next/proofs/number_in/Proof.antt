@@ -9,7 +9,9 @@ use Rattle.call_next.proofs.number_in.Statement.{statement}
 use Rattle.call_next.proofs.number_in.Tie as tie
 
 mul-result : tie.Need-mul-result
-mul-result c = let k : c .before .gates-at .result * c .square .result ≤ 2000000 * 36 = mul-le-mul (c .before .gates-at .ensures .1) (c .square .ensures .1) in omega arith
+mul-result c =
+    let k : c .before .gates-at .result * c .square .result ≤ 2000000 * 36 = mul-le-mul (c .before .gates-at .ensures .1) (c .square .ensures .1) in
+    omega arith
 
 mul-result-2 : tie.Need-mul-result-2
 mul-result-2 c =
@@ -33,7 +35,8 @@ add-result-2 c =
 returns : tie.Need-returns
 returns c =
     let a = c .before .before .before .before .before .before .before .args in
-    shown (now (a .s)) (a .m) (a .gates) _ _ _ _ (c .before .gates-at .ensures .0) (c .before .before .before .before .wide .ensures .0) (c .before .before .wide2 .ensures .0)
+    shown (now (a .s)) (a .m) (a .gates) _ _ _ _ (c .before .gates-at .ensures .0) (c .before .before .before .before .wide .ensures .0)
+    (c .before .before .wide2 .ensures .0)
     (c .square .ensures .0)
 
 pub number-in-spec : {M : Type 1} → statement M

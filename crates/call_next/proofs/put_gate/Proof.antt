@@ -6,16 +6,28 @@ use Rattle.call_next.proofs.put_gate.Statement.{statement}
 use Rattle.call_next.proofs.put_gate.Tie as tie
 
 add-put-stage-gate : tie.Need-add-put-stage-gate
-add-put-stage-gate c = let z = c .before .before .before in let h = gate-small (z .args .m) (z .args .x) _ (z .pre .0) (z .pre .1) (z .pre .2) (c .before .square .ensures .0) in omega (arith, h .0)
+add-put-stage-gate c =
+    let z = c .before .before .before in
+    let h = gate-small (z .args .m) (z .args .x) _ (z .pre .0) (z .pre .1) (z .pre .2) (c .before .square .ensures .0) in
+    omega (arith, h .0)
 
 cast-put-stage-gate : tie.Need-cast-put-stage-gate
-cast-put-stage-gate c = let z = c .before .before .before in let h = gate-small (z .args .m) (z .args .x) _ (z .pre .0) (z .pre .1) (z .pre .2) (c .before .square .ensures .0) in omega (arith, h .0)
+cast-put-stage-gate c =
+    let z = c .before .before .before in
+    let h = gate-small (z .args .m) (z .args .x) _ (z .pre .0) (z .pre .1) (z .pre .2) (c .before .square .ensures .0) in
+    omega (arith, h .0)
 
 cast-put-stage-gate-2 : tie.Need-cast-put-stage-gate-2
-cast-put-stage-gate-2 c = let z = c .before .before .before in let h = gate-small (z .args .m) (z .args .x) _ (z .pre .0) (z .pre .1) (z .pre .2) (c .before .square .ensures .0) in omega (arith, h .1)
+cast-put-stage-gate-2 c =
+    let z = c .before .before .before in
+    let h = gate-small (z .args .m) (z .args .x) _ (z .pre .0) (z .pre .1) (z .pre .2) (c .before .square .ensures .0) in
+    omega (arith, h .1)
 
 cast-put-stage-gate-3 : tie.Need-cast-put-stage-gate-3
-cast-put-stage-gate-3 c = let z = c .before .before .before in let h = gate-small (z .args .m) (z .args .x) _ (z .pre .0) (z .pre .1) (z .pre .2) (c .before .square .ensures .0) in omega (arith, h .2)
+cast-put-stage-gate-3 c =
+    let z = c .before .before .before in
+    let h = gate-small (z .args .m) (z .args .x) _ (z .pre .0) (z .pre .1) (z .pre .2) (c .before .square .ensures .0) in
+    omega (arith, h .2)
 
 returns : tie.Need-returns
 returns c =

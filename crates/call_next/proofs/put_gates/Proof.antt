@@ -13,8 +13,13 @@ put-gate-requires : tie.Need-put-gate-requires
 put-gate-requires c κs =
     let z = c .before .before .before .before in
     let i = z .pre .0 in
-    let e = c .before .if2 .taken in
-    (omega (arith, i .inputs-in), omega (arith, i .inputs-in), one-below (2 * z .args .inputs + z .args .gates) (z .args .gates) (z .args .x) e (z .pre .1), omega (arith, z .pre .2))
+    let e = c .before .if2 .taken in (
+      omega (arith, i .inputs-in),
+      omega (arith, i .inputs-in),
+      one-below (2 * z .args .inputs + z .args .gates) (z .args .gates) (z .args .x) e
+          (z .pre .1),
+      omega (arith, z .pre .2),
+    )
 
 returns-2 : tie.Need-returns-2
 returns-2 c =
@@ -26,7 +31,8 @@ put-gate-requires-2 c κs =
     let z = c .before .before .before .before .before in
     let i = z .pre .0 in
     let t =
-    two-below (2 * z .args .inputs + z .args .gates) (z .args .gates) (z .args .x) (2 * c .before .square .result) (omega (arith, i .inputs-in)) (omega (arith, i .gates-in))
+    two-below (2 * z .args .inputs + z .args .gates) (z .args .gates) (z .args .x) (2 * c .before .square .result) (omega (arith, i .inputs-in))
+    (omega (arith, i .gates-in))
     (omega (arith, c .before .square .ensures .0)) (z .pre .1) in
     (omega (arith, i .inputs-in), omega (arith, i .inputs-in, i .gates-in), t .0, omega (arith, z .pre .2, i .gates-in))
 
@@ -35,15 +41,23 @@ put-gate-requires-3 c κs =
     let z = c .before .before .before .before .before .before .before .before .before in
     let i = z .pre .0 in
     let t =
-    two-below (2 * z .args .inputs + z .args .gates) (z .args .gates) (z .args .x) (2 * c .before .before .before .before .before .square .result) (omega (arith, i .inputs-in))
-    (omega (arith, i .gates-in)) (omega (arith, c .before .before .before .before .before .square .ensures .0)) (z .pre .1) in
-    (omega (arith, i .inputs-in), omega (arith, i .inputs-in, i .gates-in), t .1, omega (arith, z .pre .2, i .gates-in, c .before .before .before .put-gate2 .ensures .long))
+    two-below (2 * z .args .inputs + z .args .gates) (z .args .gates) (z .args .x) (2 * c .before .before .before .before .before .square .result)
+    (omega (arith, i .inputs-in))
+    (omega (arith, i .gates-in)) (omega (arith, c .before .before .before .before .before .square .ensures .0)) (z .pre .1) in (
+      omega (arith, i .inputs-in),
+      omega (arith, i .inputs-in, i .gates-in),
+      t .1,
+      omega
+          (arith, z .pre .2, i .gates-in, c .before .before .before .put-gate2 .ensures .long),
+    )
 
 returns-3 : tie.Need-returns-3
 returns-3 c =
     let a = c .before .before .before .before .before .before .before .before .before .before .before .before .args in
-    gates-two (2 * a .inputs + a .gates) (a .gates) (a .x) _ (omega (arith, c .before .before .before .before .before .before .before .before .before .before .before .before .pre .0 .gates-in))
-    (omega (arith, c .before .before .before .before .before .before .before .before .square .ensures .0)) (c .before .before .before .before .before .before .put-gate2 .ensures)
+    gates-two (2 * a .inputs + a .gates) (a .gates) (a .x) _
+    (omega (arith, c .before .before .before .before .before .before .before .before .before .before .before .before .pre .0 .gates-in))
+    (omega (arith, c .before .before .before .before .before .before .before .before .square .ensures .0))
+    (c .before .before .before .before .before .before .put-gate2 .ensures)
     (c .before .before .put-gate3 .ensures)
 
 pub put-gates-spec : {M : Type 1} → statement M

@@ -10,13 +10,16 @@ returns c = let a = c .before .before .args in free-first (a .inputs) (a .a) (a 
 returns-2 : tie.Need-returns-2
 returns-2 c =
     let a = c .before .before .before .before .args in
-    free-second (a .inputs) (a .a) (a .b) _ (c .before .before .before .has-pin .ensures) (c .before .before .if1 .left) _ (c .before .has-pin2 .ensures) (c .if2 .taken)
+    free-second (a .inputs) (a .a) (a .b) _ (c .before .before .before .has-pin .ensures) (c .before .before .if1 .left) _ (c .before .has-pin2 .ensures)
+    (c .if2 .taken)
 
 returns-3 : tie.Need-returns-3
 returns-3 c =
     let a = c .before .before .before .before .before .before .before .args in
-    free-each (a .inputs) (a .a) (a .b) _ (c .before .before .before .before .before .before .has-pin .ensures) (c .before .before .before .before .before .if1 .left) _
-    (c .before .before .before .before .has-pin2 .ensures) (c .before .before .before .if2 .left) _ (c .before .before .has-pin3 .ensures) (c .before .if3 .taken) _ (c .has-pin4 .ensures)
+    free-each (a .inputs) (a .a) (a .b) _ (c .before .before .before .before .before .before .has-pin .ensures)
+    (c .before .before .before .before .before .if1 .left) _
+    (c .before .before .before .before .has-pin2 .ensures) (c .before .before .before .if2 .left) _ (c .before .before .has-pin3 .ensures)
+    (c .before .if3 .taken) _ (c .has-pin4 .ensures)
 
 returns-4 : tie.Need-returns-4
 returns-4 c =

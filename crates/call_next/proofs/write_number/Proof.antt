@@ -7,7 +7,10 @@ use Rattle.call_next.proofs.write_number.Statement.{statement}
 use Rattle.call_next.proofs.write_number.Tie as tie
 
 returns : tie.Need-returns
-returns c = let z = c .before .before .before in let a = z .args in number-short (a .inputs) (a .gates) (a .number) (z .pre) (now (a .buffer)) (c .before .if1 .taken) (c .refused-by .ensures)
+returns c =
+    let z = c .before .before .before in
+    let a = z .args in
+    number-short (a .inputs) (a .gates) (a .number) (z .pre) (now (a .buffer)) (c .before .if1 .taken) (c .refused-by .ensures)
 
 returns-2 : tie.Need-returns-2
 returns-2 c =

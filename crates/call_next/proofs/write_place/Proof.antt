@@ -6,7 +6,9 @@ use Rattle.call_next.proofs.write_place.Statement.{statement}
 use Rattle.call_next.proofs.write_place.Tie as tie
 
 write-number-requires : tie.Need-write-number-requires
-write-number-requires c κs = let z = c .before .before .before .before .before in place-listed _ (now (z .args .buffer)) _ _ _ (c .before .before .place .given .1) (z .pre)
+write-number-requires c κs =
+    let z = c .before .before .before .before .before in
+    place-listed _ (now (z .args .buffer)) _ _ _ (c .before .before .place .given .1) (z .pre)
 
 returns : tie.Need-returns
 returns c =

@@ -45,7 +45,8 @@ returns c =
     stage-put (a .inputs) (a .gates) (a .number) _ (z .pre .0)
     (c .before .before .before .before .before .before .before .before .before .before .before .before .before .before .before .before .square .ensures .0)
     (c .before .before .before .before .before .before .before .before .before .before .before .before .before .before .put-inputs .ensures)
-    (c .before .before .before .before .before .before .before .before .before .before .put-gates .ensures) (c .before .before .before .before .before .before .put-stage-output .ensures)
+    (c .before .before .before .before .before .before .before .before .before .before .put-gates .ensures)
+    (c .before .before .before .before .before .before .put-stage-output .ensures)
     (c .before .before .put-end .ensures)
 
 pub write-stage-spec : {M : Type 1} → statement M
