@@ -1,7 +1,7 @@
 //! compare_library [SEED [COUNT]]: compares all calls of the proved library with the judge, in both orders of words,
 //! on the stored examples, cases of joins and references, on as many generated pairs, rows, joins and references, and on the whole
-//! family of small stages and as many files beside it. Prints how many had each number, or the first difference. Fails too if some number never came or too few were accepted, or if an accepted stage
-//! takes the library more than a hundredth of the judge's time.
+//! family of small stages and as many files beside it. Prints how many had each number, or the first difference. Fails too if some
+//! number never came or too few were accepted, or if an accepted stage takes the library more than a hundredth of the judge's time.
 
 use fovaheju_tests::compare::{
     compare_checks, compare_family, compare_join, compare_joins, compare_make, compare_makes,
