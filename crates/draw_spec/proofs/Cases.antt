@@ -54,9 +54,10 @@ cases =
     -- the first sum is 4,294,967,296; input 1 is an output too
     case 1640531527 2 2 24
     (write (1 ∷ 2 ∷ 0x11 ∷ 1 ∷ 0 ∷ 0 ∷ 0xFF ∷ 0xFF ∷ 0x11 ∷ 1 ∷ 0 ∷ 0 ∷ 0xFF ∷ 0xFF ∷ 0x12 ∷ 1 ∷ 0 ∷ 0x12 ∷ 2 ∷ 0 ∷ 0x12 ∷ 3 ∷ 0 ∷ 0 ∷ [])) ∷
-    -- 39: no input, one too many, one gate too many; the buffer is not looked at
+    -- 39: no input, one too many, many too many, one gate too many; outputs and buffer are not looked at
     case 1 0 4 0 (refuse (verdict 39 0 0 0)) ∷
     case 1 11 0 0 (refuse (verdict 39 0 0 0)) ∷
+    case 1 17 0 0 (refuse (verdict 39 0 0 0)) ∷
     case 1 1 41 400 (refuse (verdict 39 0 0 0)) ∷
     -- 40: 19 outputs, and 17; it comes before 41. With 16 outputs it does not come
     case 1 10 40 400 (refuse (verdict 40 0 0 0)) ∷

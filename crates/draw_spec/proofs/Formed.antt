@@ -21,7 +21,7 @@ use Rattle.verdict.specs.Words.{numbers, select}
 use Rattle.verdict.proofs.Retired.{among-in}
 use Rattle.verdict.proofs.Words.{index-in}
 use Rattle.made.proofs.Lists.{all-in}
-use Rattle.draw_spec.specs.Draws.{yield, advance, neededFrom, operandsFrom, gateFrom, afterGate, gatesFrom}
+use Rattle.draw_spec.specs.Draws.{yield, advance, operandsFrom, gateFrom, afterGate, gatesFrom}
 use Rattle.draw_spec.specs.Drawn.{usedBy, unused, drawnReference, drawnBytes}
 use Rattle.draw_spec.proofs.Selected.{in-select, in-some, selected-below}
 
@@ -39,8 +39,8 @@ gate-formed : (signals s : ℕ) → 1 ≤ signals → OperationFormed signals (g
 unfolding gateFrom
 gate-formed signals s some = record {
   operation-in = (omega arith, omega arith);
-  whole = operands-long signals (neededFrom s) (advance s);
-  operands-in = operands-in signals (neededFrom s) (advance s) some;
+  whole = operands-long _ _ _;
+  operands-in = operands-in _ _ _ some;
 }
 
 pub gates-formed : (signals g s : ℕ) → 1 ≤ signals → FormedFrom signals (gatesFrom signals g s)

@@ -1,13 +1,15 @@
 //! compare_library [SEED [COUNT]]: compares all calls of the proved library with the judge, in both orders of words,
-//! on the stored examples, cases of joins and references, on as many generated pairs, rows, joins and references, and on the whole
-//! family of small stages and as many files beside it. Prints how many had each number, or the first difference. Fails too if some
-//! number never came or too few were accepted, or if an accepted stage takes the library more than a hundredth of the judge's time.
+//! on the stored examples, cases of joins and references, on as many generated pairs, rows, joins and references, on the whole
+//! family of small stages and as many files beside it, on loads at the limits and on as many generated ones. Prints how many had each
+//! number, or the first difference. Fails too if some number never came or too few were accepted, or if an accepted stage takes the
+//! library more than a hundredth of the judge's time.
 
 use fovaheju_tests::compare::{
-    compare_checks, compare_family, compare_join, compare_joins, compare_make, compare_makes,
-    compare_nexts, compare_pair, compare_report, compare_reports, compare_rows, lack, CheckInOrder,
-    Difference, Histogram, JoinInOrder, ReportInOrder, CHECK_NUMBERS, JOIN_NUMBERS, MAKE_NUMBERS,
-    NEXT_NUMBERS, ROW_NUMBERS,
+    compare_checks, compare_draws, compare_draws_at_limits, compare_family, compare_join,
+    compare_joins, compare_make, compare_makes, compare_nexts, compare_pair, compare_report,
+    compare_reports, compare_rows, lack, CheckInOrder, Difference, Histogram, JoinInOrder,
+    ReportInOrder, CHECK_NUMBERS, DRAW_NUMBERS, JOIN_NUMBERS, MAKE_NUMBERS, NEXT_NUMBERS,
+    ROW_NUMBERS,
 };
 use fovaheju_tests::files::{examples_folder, load_example, stored_examples};
 use fovaheju_tests::generate::made::MakeCase;
@@ -156,7 +158,14 @@ fn compare(seed: u64, count: u64) -> Result<bool, Box<Difference>> {
     let start = Instant::now();
     let nexts = compare_nexts(library::next_stage, seed, count)?;
     let nexts = tell("next small stages", &nexts, &NEXT_NUMBERS, start);
-    Ok(fast && checks && reports && rows && joins && makes && family && nexts)
+    let start = Instant::now();
+    let limits = compare_draws_at_limits(library::draw_reference)?;
+    let limits = tell("loads at the limits", &limits, &DRAW_NUMBERS, start);
+    let start = Instant::now();
+    let draws = compare_draws(library::draw_reference, seed, count)?;
+    let draws = tell("drawn references", &draws, &DRAW_NUMBERS, start);
+    let nexts = family && nexts;
+    Ok(fast && checks && reports && rows && joins && makes && nexts && limits && draws)
 }
 
 fn main() -> ExitCode {
