@@ -1,132 +1,101 @@
 //! load [SEEDS]: a load for the proved library (document 02, M-113), of so many seeds from 0 on, with all counts of inputs and of gates
 //! in turn. Of each seed the library draws a reference, makes a stage of it and checks the one against the other. The judge draws and makes
-//! beside it; what it takes a thousand times as long for, the check, it does of some seeds only. Prints how the loads were
-//! answered, and how many times as long the judge takes. On a terminal it shows how far it has come.
+//! beside it; the check, which takes it a thousand times as long, it does of some seeds only. Prints how the loads were answered. On a
+//! terminal it shows how far it has come.
 //! Fails at the first difference, and at the first answer that is neither 40 nor 0 0 0 0.
 
 use fovaheju_tests::draw::{self, load_of, Load, TOO_MANY_OUTPUTS};
 use fovaheju_tests::judge::{check_in_order, Verdict, WordOrder, ACCEPTED, LIMITS};
 use fovaheju_tests::library;
 use fovaheju_tests::make::{self, Made};
+use std::fmt::Debug;
 use std::io::{stderr, IsTerminal, Write};
 use std::process::ExitCode;
-use std::time::{Duration, Instant};
 
-/// The judge checks every such seed. With 10 counts of inputs and 41 of gates it has no divisor in common, so all of them come.
+/// The judge checks every seed that this divides. It has no divisor in common with 10 counts of inputs and 41 of gates, so all of
+/// them come.
 const JUDGE_CHECKS: u32 = 257;
 
-/// How often library and judge took a step, and how long they took for it.
-#[derive(Default)]
-struct Step {
-    count: u64,
-    library: Duration,
-    judge: Duration,
+/// The judge's calls under names that the measuring can find, and the library's check of the loads that the judge checks too.
+#[no_mangle]
+#[inline(never)]
+extern "C" fn judge_draw(load: &Load, written: &mut Written) {
+    *written = into(512, |buffer| draw::draw_reference(load, buffer));
 }
 
-impl Step {
-    /// Takes a step by both, which have to answer alike.
-    fn take<T: PartialEq + std::fmt::Debug>(
-        &mut self,
-        library: impl FnOnce() -> T,
-        judge: impl FnOnce() -> T,
-    ) -> Result<T, String> {
-        let start = Instant::now();
-        let given = library();
-        let middle = Instant::now();
-        let judged = judge();
-        self.judge += middle.elapsed();
-        self.library += middle - start;
-        self.count += 1;
-        if given == judged {
-            Ok(given)
-        } else {
-            Err(format!("judge {judged:?}, library {given:?}"))
-        }
-    }
-
-    fn times(&self) -> f64 {
-        self.judge.as_secs_f64() / self.library.as_secs_f64()
-    }
+#[no_mangle]
+#[inline(never)]
+extern "C" fn judge_make(reference: &Vec<u8>, written: &mut Written) {
+    *written = into(4096, |buffer| make::make_stage(reference, buffer));
 }
 
-#[derive(Default)]
-struct Run {
-    accepted: u64,
-    many_outputs: u64,
-    drawing: Step,
-    making: Step,
-    checking: Step,
+#[no_mangle]
+#[inline(never)]
+extern "C" fn judge_check(stage: &Vec<u8>, reference: &Vec<u8>, verdict: &mut Verdict) {
+    *verdict = check_in_order(WordOrder::Input0Highest, LIMITS, stage, reference);
 }
 
-/// What a call writes into a buffer, and its answer.
-fn written(room: usize, call: impl FnOnce(&mut [u8]) -> Made) -> (Verdict, Vec<u8>) {
+#[no_mangle]
+#[inline(never)]
+extern "C" fn library_check(stage: &Vec<u8>, reference: &Vec<u8>, verdict: &mut Verdict) {
+    *verdict = library::check(0, stage, reference);
+}
+
+/// What a call answers, and the bytes that it writes.
+type Written = (Verdict, Vec<u8>);
+
+fn into(room: usize, call: impl FnOnce(&mut [u8]) -> Made) -> Written {
     let mut buffer = vec![0; room];
     let made = call(&mut buffer);
     buffer.truncate(made.len);
     (made.verdict, buffer)
 }
 
-impl Run {
-    fn take(&mut self, load: &Load) -> Result<(), String> {
-        let (verdict, reference) = self.drawing.take(
-            || written(512, |buffer| library::draw_reference(load, buffer)),
-            || written(512, |buffer| draw::draw_reference(load, buffer)),
-        )?;
-        if verdict == TOO_MANY_OUTPUTS {
-            self.many_outputs += 1;
-            return Ok(());
-        }
-        if verdict != ACCEPTED {
-            return Err(format!("drawing answers {verdict:?}"));
-        }
-        let (verdict, stage) = self.making.take(
-            || written(4096, |buffer| library::make_stage(&reference, buffer)),
-            || written(4096, |buffer| make::make_stage(&reference, buffer)),
-        )?;
-        if verdict != ACCEPTED {
-            return Err(format!("making a stage answers {verdict:?}"));
-        }
-        let check = || library::check(0, &stage, &reference);
-        let verdict = if load.seed.is_multiple_of(JUDGE_CHECKS) {
-            let order = WordOrder::Input0Highest;
-            self.checking
-                .take(check, || check_in_order(order, LIMITS, &stage, &reference))?
-        } else {
-            check()
-        };
-        if verdict != ACCEPTED {
-            return Err(format!("the check of the made stage answers {verdict:?}"));
-        }
-        self.accepted += 1;
-        Ok(())
+fn alike<T: PartialEq + Debug>(step: &str, library: T, judge: T) -> Result<T, String> {
+    if library == judge {
+        return Ok(library);
     }
+    Err(format!("{step}: judge {judge:?}, library {library:?}"))
+}
 
-    fn print(&self) {
-        println!("| Answer | Loads |");
-        println!("|---|---|");
-        println!("| drawn, made a stage, and accepted | {} |", self.accepted);
-        println!("| 40 | {} |", self.many_outputs);
-        println!("| other | 0 |");
-        println!();
-        println!("| Step | Loads by both | The judge takes as long, times |");
-        println!("|---|---|---|");
-        for (name, step) in [
-            ("drawing a reference", &self.drawing),
-            ("making a stage of it", &self.making),
-            ("the check", &self.checking),
-        ] {
-            println!("| {name} | {} | {:.0} |", step.count, step.times());
-        }
+/// Takes one load through all three calls; answers whether it was accepted in all of them, or else is 40.
+fn take(load: &Load) -> Result<bool, String> {
+    let mut judged = Written::default();
+    let drawn = into(512, |buffer| library::draw_reference(load, buffer));
+    judge_draw(load, &mut judged);
+    let (verdict, reference) = alike("drawing", drawn, judged.clone())?;
+    if verdict == TOO_MANY_OUTPUTS {
+        return Ok(false);
+    }
+    let made = into(4096, |buffer| library::make_stage(&reference, buffer));
+    judge_make(&reference, &mut judged);
+    let (made, stage) = alike("making a stage", made, judged)?;
+    let checked = if load.seed.is_multiple_of(JUDGE_CHECKS) {
+        let (mut checked, mut judged) = (Verdict::default(), Verdict::default());
+        library_check(&stage, &reference, &mut checked);
+        judge_check(&stage, &reference, &mut judged);
+        alike("the check", checked, judged)?
+    } else {
+        library::check(0, &stage, &reference)
+    };
+    if [verdict, made, checked] == [ACCEPTED; 3] {
+        Ok(true)
+    } else {
+        Err(format!(
+            "drawing answers {verdict:?}, making {made:?}, the check {checked:?}"
+        ))
     }
 }
 
-fn run(seeds: u32) -> Result<Run, String> {
-    let mut run = Run::default();
+/// How many loads are accepted, and how many of these the judge checked too.
+fn run(seeds: u32) -> Result<(u32, u32), String> {
     let shown = stderr().is_terminal();
+    let (mut accepted, mut by_both) = (0, 0);
     for seed in 0..seeds {
         let load = load_of(seed);
-        run.take(&load)
-            .map_err(|what| format!("{load:?}: {what}"))?;
+        let answer = take(&load).map_err(|what| format!("{load:?}: {what}"))?;
+        accepted += u32::from(answer);
+        by_both += u32::from(answer && seed.is_multiple_of(JUDGE_CHECKS));
         if shown && (seed % 512 == 0 || seed + 1 == seeds) {
             eprint!("\r{} of {seeds} loads", seed + 1);
             let _ = stderr().flush();
@@ -135,7 +104,7 @@ fn run(seeds: u32) -> Result<Run, String> {
     if shown {
         eprintln!();
     }
-    Ok(run)
+    Ok((accepted, by_both))
 }
 
 fn main() -> ExitCode {
@@ -145,8 +114,11 @@ fn main() -> ExitCode {
         return ExitCode::from(2);
     };
     match run(seeds) {
-        Ok(run) => {
-            run.print();
+        Ok((accepted, by_both)) => {
+            let many_outputs = seeds - accepted;
+            println!("| Loads | Drawn, made a stage, and accepted | of these checked by the judge too | 40 | Other |");
+            println!("|---|---|---|---|---|");
+            println!("| {seeds} | {accepted} | {by_both} | {many_outputs} | 0 |");
             ExitCode::SUCCESS
         }
         Err(what) => {
