@@ -9,11 +9,11 @@ use fovaheju_tests::compare::{
 };
 use fovaheju_tests::files::{examples_folder, load_example, stored_examples};
 use fovaheju_tests::generate::made::MakeCase;
-use fovaheju_tests::join_suite;
 use fovaheju_tests::judge::{WordOrder, ACCEPTED, ORDERS};
 use fovaheju_tests::library;
 use fovaheju_tests::make::Made;
-use fovaheju_tests::make_suite::all_references;
+use fovaheju_tests::suite;
+use fovaheju_tests::suite::make::all_references;
 use std::process::ExitCode;
 use std::thread;
 
@@ -76,7 +76,7 @@ fn compare(seed: u64, count: u64) -> Result<bool, Box<Difference>> {
         }
     }
     println!("{} examples alike in both orders", names.len());
-    let joins = join_suite::cases();
+    let joins = suite::join::cases();
     for stored in &joins {
         for order in ORDERS {
             compare_join(JOIN, order, &stored.about, &stored.case)
