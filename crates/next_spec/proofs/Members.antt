@@ -18,7 +18,7 @@ use Rattle.netlist.proofs.Stages.{stage-fits, stage-formed, read-writeStage, st
 use Rattle.verdict.specs.Demands.{StageIs}
 use Rattle.next_spec.specs.Numbered.{netsOf, stages, lists, gateNumbered, gatesNumbered, stageNumbered}
 use Rattle.next_spec.specs.Listing.{InShape, free, Listed}
-use Rattle.next_spec.specs.Family.{Small, InFamily, EachFile}
+use Rattle.next_spec.specs.Family.{OfKinds1And2, Small, InFamily, EachFile}
 use Rattle.next_spec.proofs.Digits.{quotient-low, digits-back, digits-low, square, lists-some}
 use Rattle.next_spec.proofs.Loops.{free-noLoop, noLoop-free}
 
@@ -44,14 +44,14 @@ module _ (m : ℕ) (some : 1 ≤ m) where
   gates-long (suc g) x = ap suc (gates-long g (x % lists m g))
 
   gates-formed : (g x : ℕ) → x < lists m g
-      → All (CellFormed m) (gatesNumbered m g x) × All (λ c. (c .hold ≡ true) × (1 ≤ c .cell) × (c .cell ≤ 2)) (gatesNumbered m g x)
+      → All (CellFormed m) (gatesNumbered m g x) × All OfKinds1And2 (gatesNumbered m g x)
   unfolding gatesNumbered lists
   gates-formed zero x l = (tt, tt)
   gates-formed (suc g) x l =
       let k : 1 ≤ lists m g = lists-some m some g in
       let one = gate-formed (x / lists m g) (quotient-low (lists m g) k x (2 * (m * m)) l) in
       let later = gates-formed g (x % lists m g) (mod-lt x k) in
-      ((one .0, later .0), ((refl, omega arith, one .1), later .1))
+      ((one .0, later .0), ((refl, omega arith, omega (arith, one .1)), later .1))
 
 module _ (n g : ℕ) (shaped : InShape n g) where
   pub nets-some : 1 ≤ netsOf n g
@@ -85,7 +85,7 @@ module _ (n g : ℕ) (shaped : InShape n g) where
       let long : length (gatesNumbered k g (z / (k * k))) ≡ g = gates-long k some g (z / (k * k)) in
       record {
         inputs-in = shaped .inputs-in;
-        gates-in = rw long (shaped .gates-in);
+        gates-in = omega (arith, long, shaped .gates-in);
         kinds-in = gates-formed k some g (z / (k * k)) (quotient-low (k * k) (square k some) z (lists k g) l) .1;
         one-output = refl;
         no-care = refl;
@@ -172,14 +172,14 @@ module _ (m : ℕ) (some : 1 ≤ m) where
           )
       go (x ∷ y ∷ w ∷ ps) e l a = let z : length (g .pins) ≡ suc (suc (suc (length ps))) = ap (length {A = ℕ}) e in absurd (omega arith)
 
-  list-back : (gs : List Gate) → All (λ c. (c .hold ≡ true) × (1 ≤ c .cell) × (c .cell ≤ 2)) gs → All (CellFormed m) gs
+  list-back : (gs : List Gate) → All OfKinds1And2 gs → All (CellFormed m) gs
       → (gatesNumbered m (length gs) (numberList m gs) ≡ gs) × (numberList m gs < lists m (length gs))
   unfolding gatesNumbered lists
   list-back [] h f = (refl, omega arith)
   list-back (g ∷ gs) h f =
       let k = lists m (length gs) in
       let later = list-back gs (h .1) (f .1) in
-      let one = gate-back g (h .0 .0) (h .0 .1) (h .0 .2) (f .0) in
+      let one = gate-back g (h .0 .0) (h .0 .1) (omega (arith, h .0 .2)) (f .0) in
       let e = digits-back k (lists-some m some (length gs)) (numberGate m g) (numberList m gs) (later .1) in (
         rw (e .0, e .1) (ap₂ (λ (a : Gate) (b : List Gate). a ∷ b) (one .0) (later .0)),
         digits-low k (lists-some m some (length gs)) (numberGate m g) (numberList m gs) (2 * (m * m)) (one .1) (later .1),
@@ -194,7 +194,7 @@ module _ (c : Stage) (i : InFamily c) where
   formed = family-formed c i
 
   shaped : InShape (c .inputs) (length (c .gates))
-  shaped = record { inputs-in = small .inputs-in; gates-in = small .gates-in }
+  shaped = record { inputs-in = small .inputs-in; gates-in = omega (arith, small .gates-in) }
 
   pub numbered : (z : ℕ) × (z < stages (c .inputs) (length (c .gates))) × (stageNumbered (c .inputs) (length (c .gates)) z ≡ c)
   unfolding stageNumbered

@@ -1,6 +1,6 @@
 -- What comes next in a list of the family is next by the order; and taking next from the empty file on gives the list.
 -- Assumes nothing.
-use Prim.Native.Nat.{ℕ, _≤_}
+use Prim.Native.Nat.{ℕ, _+_, _*_}
 use native.Mathlib.Omega.{arith}
 use mathlib.Core.Path.{_≡_, refl, sym, ap, ap₂, subst, _∙_}
 use mathlib.Core.Logic.{_⊎_, inl, inr, ⊎-elim}
@@ -159,11 +159,11 @@ one-answer s buffer v w (next d n) (next e m) = ap (λ (c : Stage). writeOr (ver
 
 -- ---- the family
 
-family-room : (c : Stage) → InFamily c → length (writeStage c) ≤ 28
-family-room c i =
+family-long : (c : Stage) → InFamily c → length (writeStage c) ≡ 8 + 10 * length (c .gates)
+family-long c i =
     let k = in-listed c i in
     let long = numbered-shaped (c .inputs) (length (c .gates)) (k .1 .shaped) (k .0) .long in
-    subst (λ (d : Stage). length (writeStage d) ≤ 28) (k .2) (omega (arith, long, k .1 .shaped .gates-in))
+    subst (λ (d : Stage). length (writeStage d) ≡ 8 + 10 * length (c .gates)) (k .2) long
 
 shaped-1 : (g : ℕ) → InShape 1 0 × InShape 1 1
 shaped-1 g = (
@@ -178,7 +178,7 @@ shaped-1 g = (
 pub family : Family
 family = record {
   each-file = readable-member;
-  room = family-room;
+  room = λ c i. omega (arith, family-long c i, i .small .gates-in);
   stages = listing;
   walk = walk-all listing refl;
   only = λ ds w. walk-one [] ds listing w (walk-all listing refl);
