@@ -10,15 +10,11 @@ pub mod explore;
 pub mod files;
 pub mod generate;
 pub mod join;
-pub mod join_suite;
 pub mod judge;
 #[cfg(feature = "library")]
 pub mod library;
 pub mod make;
-pub mod make_suite;
 pub mod next;
-pub mod report_suite;
-pub mod row_suite;
 pub mod suite;
 
 use std::path::PathBuf;

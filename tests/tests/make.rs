@@ -13,10 +13,8 @@ use fovaheju_tests::judge::{
     ACCEPTED, NOT,
 };
 use fovaheju_tests::make::{made_stage, make_stage, Made};
-use fovaheju_tests::make_suite::{all_references, cases, contents, contents_of_ncl_make, line};
-use fovaheju_tests::suite::{crate_folder, is_stored};
+use fovaheju_tests::suite::make::{all_references, cases};
 use std::collections::{BTreeMap, BTreeSet};
-use std::fs;
 
 /// The bytes that are written, or the verdict.
 fn written(reference: &str) -> Result<Vec<u8>, [u64; 4]> {
@@ -241,8 +239,7 @@ fn stored_references() {
 fn stored_cases() {
     let cases = cases();
     let mut seen = BTreeSet::new();
-    assert!(cases.len() <= 1000);
-    for (index, case) in cases.iter().enumerate() {
+    for case in &cases {
         let mut buffer = case.case.buffer.clone();
         let verdict = make_stage(&case.case.reference, &mut buffer).verdict;
         let about = &case.about;
@@ -250,11 +247,6 @@ fn stored_cases() {
             case.known.agrees(verdict),
             "{about}: {verdict:?}, not {:?}",
             case.known
-        );
-        assert!(line(index, case).starts_with(&format!("{index:03} {} ", verdict[0])));
-        assert!(
-            case.case.reference.len() <= 8192 && buffer.len() <= 8192,
-            "{about}"
         );
         seen.insert(verdict[0] as usize);
     }
@@ -351,18 +343,4 @@ fn wrong_stages_are_told() {
     for (about, make_stage) in wrong {
         assert!(compare_makes(make_stage, 107, 2_000).is_err(), "{about}");
     }
-}
-
-#[test]
-fn stored_files_and_output() {
-    is_stored("make_suite", contents());
-    is_stored("ncl_make", contents_of_ncl_make());
-}
-
-/// The program has as many cases as there are here.
-#[test]
-fn the_program_reads_all_cases() {
-    let source = fs::read_to_string(crate_folder("make_suite").join("src/main.rt")).unwrap();
-    let count = format!("const CASES: usize = {};", cases().len());
-    assert!(source.contains(&count), "main.rt has no line '{count}'");
 }

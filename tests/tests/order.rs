@@ -14,7 +14,7 @@ use fovaheju_tests::judge::{
     answer, check, check_in_order, read_reference, read_stage, report, report_in_order, Stage,
     Verdict, WordOrder, ACCEPTED, LIMITS, ORDERS,
 };
-use fovaheju_tests::report_suite::line;
+use fovaheju_tests::suite::report::line;
 use std::collections::BTreeMap;
 
 /// The check of a caller that sets no mark.

@@ -1,5 +1,4 @@
-//! The switching report (M-100 of document 02): the judge's reports, and the stored cases of the
-//! programs `report_suite` and `ncl_report`.
+//! The switching report (M-100 of document 02): the judge's reports, and the stored cases.
 
 use fovaheju_tests::catalogue::MARKED;
 use fovaheju_tests::compare::{
@@ -11,8 +10,7 @@ use fovaheju_tests::judge::{
     cell, check, pin_count, read_stage, report, settled_row, Gate, Stage, WordOrder, ACCEPTED,
     KINDS, ORDERS,
 };
-use fovaheju_tests::report_suite::{cases, contents, contents_of_ncl_report, line};
-use fovaheju_tests::suite::{crate_folder, is_stored};
+use fovaheju_tests::suite::report::{cases, line};
 use std::fs;
 use std::path::Path;
 
@@ -182,23 +180,6 @@ fn the_judge_as_a_program() {
         }
     }
     fs::remove_dir_all(&folder).unwrap();
-}
-
-#[test]
-fn stored_files_and_output() {
-    is_stored("report_suite", contents());
-    is_stored("ncl_report", contents_of_ncl_report());
-}
-
-/// The program, once it is there, has as many cases as there are here.
-#[test]
-fn the_program_reads_all_cases() {
-    let cases = cases();
-    assert!(cases.len() <= 1000);
-    if let Ok(source) = fs::read_to_string(crate_folder("report_suite").join("src/main.rt")) {
-        let count = format!("const CASES: usize = {};", cases.len());
-        assert!(source.contains(&count), "main.rt has no line '{count}'");
-    }
 }
 
 /// What is written by hand, and that words, totals and refusals of several sorts are there.

@@ -18,7 +18,7 @@ use Rattle.netlist.proofs.Stages.{stage-fits, stage-formed, read-writeStage, st
 use Rattle.verdict.specs.Demands.{StageIs}
 use Rattle.next_spec.specs.Numbered.{netsOf, stages, lists, gateNumbered, gatesNumbered, stageNumbered}
 use Rattle.next_spec.specs.Listing.{InShape, free, Listed}
-use Rattle.next_spec.specs.Family.{OfKinds1And2, Small, InFamily, EachFile}
+use Rattle.next_spec.specs.Family.{TH12OrTH22, Small, InFamily, EachFile}
 use Rattle.next_spec.proofs.Digits.{quotient-low, digits-back, digits-low, square, lists-some}
 use Rattle.next_spec.proofs.Loops.{free-noLoop, noLoop-free}
 
@@ -44,7 +44,7 @@ module _ (m : ℕ) (some : 1 ≤ m) where
   gates-long (suc g) x = ap suc (gates-long g (x % lists m g))
 
   gates-formed : (g x : ℕ) → x < lists m g
-      → All (CellFormed m) (gatesNumbered m g x) × All OfKinds1And2 (gatesNumbered m g x)
+      → All (CellFormed m) (gatesNumbered m g x) × All TH12OrTH22 (gatesNumbered m g x)
   unfolding gatesNumbered lists
   gates-formed zero x l = (tt, tt)
   gates-formed (suc g) x l =
@@ -172,7 +172,7 @@ module _ (m : ℕ) (some : 1 ≤ m) where
           )
       go (x ∷ y ∷ w ∷ ps) e l a = let z : length (g .pins) ≡ suc (suc (suc (length ps))) = ap (length {A = ℕ}) e in absurd (omega arith)
 
-  list-back : (gs : List Gate) → All OfKinds1And2 gs → All (CellFormed m) gs
+  list-back : (gs : List Gate) → All TH12OrTH22 gs → All (CellFormed m) gs
       → (gatesNumbered m (length gs) (numberList m gs) ≡ gs) × (numberList m gs < lists m (length gs))
   unfolding gatesNumbered lists
   list-back [] h f = (refl, omega arith)

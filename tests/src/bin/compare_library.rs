@@ -1,8 +1,7 @@
 //! compare_library [SEED [COUNT]]: compares all calls of the proved library with the judge, in both orders of words,
 //! on the stored examples, cases of joins and references, on as many generated pairs, rows, joins and references, on the whole
 //! family of small stages and as many files beside it, on loads at the limits and on as many generated ones. Prints how many had each
-//! number, or the first difference. Fails too if some number never came or too few were accepted, or if an accepted stage takes the
-//! library more than a hundredth of the judge's time.
+//! number, or the first difference. Fails too if some number never came or too few were accepted.
 
 use fovaheju_tests::compare::{
     compare_checks, compare_draws, compare_draws_at_limits, compare_family, compare_join,
@@ -13,14 +12,13 @@ use fovaheju_tests::compare::{
 };
 use fovaheju_tests::files::{examples_folder, load_example, stored_examples};
 use fovaheju_tests::generate::made::MakeCase;
-use fovaheju_tests::join_suite;
 use fovaheju_tests::judge::{WordOrder, ACCEPTED, ORDERS};
 use fovaheju_tests::library;
 use fovaheju_tests::make::Made;
-use fovaheju_tests::make_suite::all_references;
-use fovaheju_tests::suite::verdict_in;
+use fovaheju_tests::suite;
+use fovaheju_tests::suite::make::all_references;
 use std::process::ExitCode;
-use std::time::Instant;
+use std::thread;
 
 /// Numbers that stand for the old order of words: every one but 0 does.
 const MARKS: [u64; 7] = [1, 2, 3, 256, 1 << 32, 1 << 63, u64::MAX];
@@ -41,11 +39,13 @@ const JOIN: JoinInOrder = |order, first, second, stage, reference| {
     library::join(mark(order, &first.stage), first, second, stage, reference)
 };
 
+/// How many files of each number were alike, or the first that was not.
+type Comparison<'a> = &'a (dyn Fn() -> Result<Histogram, Box<Difference>> + Sync);
+
 /// Prints the numbers and what they lack; answers whether nothing is lacking.
-fn tell(what: &str, histogram: &Histogram, numbers: &[usize], start: Instant) -> bool {
-    let seconds = start.elapsed().as_secs_f64();
+fn tell(what: &str, histogram: &Histogram, numbers: &[usize]) -> bool {
     let count: u64 = histogram.iter().sum();
-    println!("{count} {what} alike, in {seconds:.1} s; by number:");
+    println!("{count} {what} alike; by number:");
     for &number in numbers {
         println!("  {number:2} {:8}", histogram[number]);
     }
@@ -68,38 +68,6 @@ fn made_and_checked(reference: &[u8], buffer: &mut [u8]) -> Made {
     made
 }
 
-/// The least of the times that some calls take.
-fn least_time(calls: usize, call: impl Fn()) -> f64 {
-    let time = |_| {
-        let start = Instant::now();
-        call();
-        start.elapsed().as_secs_f64()
-    };
-    (0..calls).map(time).fold(f64::INFINITY, f64::min)
-}
-
-/// Whether the library passes over the words of an accepted stage: it then takes some ten-thousandth of the judge's time, and
-/// where it settles every word by itself a tenth.
-fn passes_over_words() -> bool {
-    let (pair, _) = load_example(&examples_folder(), "timing-network").expect("an example");
-    let order = WordOrder::Input0Highest;
-    let judge = least_time(1, || {
-        assert_eq!(verdict_in(order, &pair), ACCEPTED);
-    });
-    let check = least_time(10, || {
-        assert_eq!(CHECK(order, &pair.stage, &pair.reference), ACCEPTED);
-    });
-    let report = least_time(10, || {
-        REPORT(order, &pair.stage, &pair.reference);
-    });
-    println!(
-        "the judge takes {:.0} times as long as the check, and {:.0} times as long as the report",
-        judge / check,
-        judge / report
-    );
-    100.0 * check < judge && 100.0 * report < judge
-}
-
 fn compare(seed: u64, count: u64) -> Result<bool, Box<Difference>> {
     let names = stored_examples(&examples_folder()).expect("the examples");
     for name in &names {
@@ -111,7 +79,7 @@ fn compare(seed: u64, count: u64) -> Result<bool, Box<Difference>> {
         }
     }
     println!("{} examples alike in both orders", names.len());
-    let joins = join_suite::cases();
+    let joins = suite::join::cases();
     for stored in &joins {
         for order in ORDERS {
             compare_join(JOIN, order, &stored.about, &stored.case)
@@ -133,39 +101,43 @@ fn compare(seed: u64, count: u64) -> Result<bool, Box<Difference>> {
         .inspect_err(|difference| println!("{difference}"))?;
     }
     println!("stages of {} stored references alike", references.len());
-    let fast = passes_over_words();
-    if !fast {
-        println!("the library sweeps the words of an accepted stage one by one");
+    // The calls beside one another, each with its own files.
+    let all: [(&str, &[usize], Comparison); 9] = [
+        ("checks", &CHECK_NUMBERS, &|| {
+            compare_checks(CHECK, seed, count)
+        }),
+        ("reports", &CHECK_NUMBERS, &|| {
+            compare_reports(REPORT, seed, count)
+        }),
+        ("rows", &ROW_NUMBERS, &|| {
+            compare_rows(library::settled_row, seed, count)
+        }),
+        ("joins", &JOIN_NUMBERS, &|| compare_joins(JOIN, seed, count)),
+        ("stages from references", &MAKE_NUMBERS, &|| {
+            compare_makes(made_and_checked, seed, count)
+        }),
+        ("calls through the family", &[0, 36, 38], &|| {
+            compare_family(library::next_stage)
+        }),
+        ("next small stages", &NEXT_NUMBERS, &|| {
+            compare_nexts(library::next_stage, seed, count)
+        }),
+        ("loads at the limits", &DRAW_NUMBERS, &|| {
+            compare_draws_at_limits(library::draw_reference)
+        }),
+        ("drawn references", &DRAW_NUMBERS, &|| {
+            compare_draws(library::draw_reference, seed, count)
+        }),
+    ];
+    let histograms = thread::scope(|scope| {
+        let begun = all.map(|(_, _, comparison)| scope.spawn(comparison));
+        begun.map(|thread| thread.join().expect("a comparison"))
+    });
+    let mut enough = true;
+    for ((what, numbers, _), histogram) in all.iter().zip(histograms) {
+        enough &= tell(what, &histogram?, numbers);
     }
-    let start = Instant::now();
-    let checks = compare_checks(CHECK, seed, count)?;
-    let checks = tell("checks", &checks, &CHECK_NUMBERS, start);
-    let start = Instant::now();
-    let reports = compare_reports(REPORT, seed, count)?;
-    let reports = tell("reports", &reports, &CHECK_NUMBERS, start);
-    let start = Instant::now();
-    let rows = compare_rows(library::settled_row, seed, count)?;
-    let rows = tell("rows", &rows, &ROW_NUMBERS, start);
-    let start = Instant::now();
-    let joins = compare_joins(JOIN, seed, count)?;
-    let joins = tell("joins", &joins, &JOIN_NUMBERS, start);
-    let start = Instant::now();
-    let makes = compare_makes(made_and_checked, seed, count)?;
-    let makes = tell("stages from references", &makes, &MAKE_NUMBERS, start);
-    let start = Instant::now();
-    let family = compare_family(library::next_stage)?;
-    let family = tell("calls through the family", &family, &[0, 36, 38], start);
-    let start = Instant::now();
-    let nexts = compare_nexts(library::next_stage, seed, count)?;
-    let nexts = tell("next small stages", &nexts, &NEXT_NUMBERS, start);
-    let start = Instant::now();
-    let limits = compare_draws_at_limits(library::draw_reference)?;
-    let limits = tell("loads at the limits", &limits, &DRAW_NUMBERS, start);
-    let start = Instant::now();
-    let draws = compare_draws(library::draw_reference, seed, count)?;
-    let draws = tell("drawn references", &draws, &DRAW_NUMBERS, start);
-    let nexts = family && nexts;
-    Ok(fast && checks && reports && rows && joins && makes && nexts && limits && draws)
+    Ok(enough)
 }
 
 fn main() -> ExitCode {
