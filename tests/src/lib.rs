@@ -14,6 +14,7 @@ pub mod judge;
 pub mod library;
 pub mod make;
 pub mod suite;
+pub mod text;
 
 use std::path::PathBuf;
 
