@@ -7,10 +7,12 @@
 use crate::files::{hex, report_text, verdict_line, FilePair, MOST_BYTES_READ};
 use crate::generate::joins::{join_case, JoinCase};
 use crate::generate::made::{make_case, MakeCase};
+use crate::generate::texts::{read_case, write_case, GeneratedText, TextCase};
 use crate::generate::{pair, row_case, RowCase};
 use crate::join::{self, Joined};
 use crate::judge::{self, Verdict, WordOrder, LIMITS, ORDERS};
 use crate::make::{self, Made};
+use crate::text;
 use std::fmt;
 use std::fs;
 use std::io;
@@ -26,6 +28,9 @@ pub type SettledRow = fn(&[u8], &mut [u8]) -> [u64; 4];
 
 /// The stage of a reference file, into a lent buffer.
 pub type Make = fn(&[u8], &mut [u8]) -> Made;
+
+/// The stage file of a text, or the text of a stage file, into a lent buffer.
+pub type Convert = fn(&[u8], &mut [u8]) -> Made;
 
 /// The numbers of a report as the library gives them: how many words have a line, their total,
 /// and 1,024 lines of which those past the words are 0. Of a refused pair all but the verdict is 0.
@@ -59,11 +64,12 @@ pub fn judged_counts(order: WordOrder, stage: &[u8], reference: &[u8]) -> Counts
     }
 }
 
-/// How often each verdict number came.
-pub type Histogram = [u64; 29];
+/// How often each verdict number came: documents 01 and 02 have 0 to 41.
+pub type Histogram = [u64; 42];
+pub const NO_VERDICTS: Histogram = [0; 42];
 
-/// The numbers of the check, of the settled-row call, of the join, and of the stage from a
-/// reference.
+/// The numbers of the check, of the settled-row call, of the join, of the stage from a reference,
+/// and of reading and writing texts.
 pub const CHECK_NUMBERS: [usize; 21] = [
     0, 1, 2, 3, 4, 5, 6, 7, 8, 9, 18, 19, 10, 11, 12, 28, 13, 14, 15, 20, 21,
 ];
@@ -72,6 +78,8 @@ pub const JOIN_NUMBERS: [usize; 24] = [
     0, 1, 2, 3, 4, 5, 6, 7, 8, 9, 18, 19, 10, 11, 12, 28, 13, 14, 15, 20, 21, 22, 23, 24,
 ];
 pub const MAKE_NUMBERS: [usize; 13] = [0, 1, 2, 3, 4, 5, 6, 7, 8, 9, 25, 26, 27];
+pub const READ_TEXT_NUMBERS: [usize; 8] = [0, 29, 30, 31, 3, 5, 6, 24];
+pub const WRITE_TEXT_NUMBERS: [usize; 15] = [0, 1, 2, 3, 4, 5, 6, 7, 8, 9, 18, 19, 29, 31, 24];
 
 /// What cases lack that a comparison rests on: one of the numbers never came, or fewer
 /// than a fifth of the cases are accepted.
@@ -122,6 +130,12 @@ pub enum Difference {
     Makes {
         name: String,
         case: MakeCase,
+        judge: (Made, Vec<u8>),
+        other: (Made, Vec<u8>),
+    },
+    Texts {
+        name: String,
+        case: TextCase,
         judge: (Made, Vec<u8>),
         other: (Made, Vec<u8>),
     },
@@ -247,21 +261,43 @@ impl fmt::Display for Difference {
                 other,
             } => {
                 writeln!(f, "{name}")?;
-                for (which, bytes) in [
+                let files = [
                     ("reference", &case.reference),
                     ("buffer before", &case.buffer),
-                ] {
-                    writeln!(f, "{which}, {} bytes: {}", bytes.len(), hex(bytes))?;
-                }
-                for (who, (made, buffer)) in [("judge", judge), ("other", other)] {
-                    let verdict = line(made.verdict);
-                    writeln!(f, "{who}: {verdict}, {} bytes", made.len)?;
-                    writeln!(f, "buffer of the {who}: {}", hex(buffer))?;
-                }
-                Ok(())
+                ];
+                show_written(f, files, judge, other)
+            }
+            Difference::Texts {
+                name,
+                case,
+                judge,
+                other,
+            } => {
+                writeln!(f, "{name}")?;
+                let files = [("read", &case.source), ("buffer before", &case.buffer)];
+                show_written(f, files, judge, other)?;
+                writeln!(f, "read, as text: {}", case.source.escape_ascii())
             }
         }
     }
+}
+
+/// What a call that writes one file was given, and what the judge and the other answered.
+fn show_written(
+    f: &mut fmt::Formatter<'_>,
+    files: [(&str, &Vec<u8>); 2],
+    judge: &(Made, Vec<u8>),
+    other: &(Made, Vec<u8>),
+) -> fmt::Result {
+    for (which, bytes) in files {
+        writeln!(f, "{which}, {} bytes: {}", bytes.len(), hex(bytes))?;
+    }
+    for (who, (made, buffer)) in [("judge", judge), ("other", other)] {
+        let verdict = verdict_line(made.verdict);
+        writeln!(f, "{who}: {}, {} bytes", verdict.trim_end(), made.len)?;
+        writeln!(f, "buffer of the {who}: {}", hex(buffer))?;
+    }
+    Ok(())
 }
 
 /// Compares the verdicts on one pair and gives the number they agree on.
@@ -368,6 +404,40 @@ pub fn compare_make(other: Make, name: &str, case: &MakeCase) -> Result<u64, Box
     }))
 }
 
+/// Compares the verdict, the length and every byte of the buffer of one text that is read.
+pub fn compare_read_text(
+    other: Convert,
+    name: &str,
+    case: &TextCase,
+) -> Result<u64, Box<Difference>> {
+    compare_text([text::read_text, other], name, case)
+}
+
+/// The same of one stage file whose text is written.
+pub fn compare_write_text(
+    other: Convert,
+    name: &str,
+    case: &TextCase,
+) -> Result<u64, Box<Difference>> {
+    compare_text([text::write_text, other], name, case)
+}
+
+fn compare_text(calls: [Convert; 2], name: &str, case: &TextCase) -> Result<u64, Box<Difference>> {
+    let [judge, other] = calls.map(|call| {
+        let mut buffer = case.buffer.clone();
+        (call(&case.source, &mut buffer), buffer)
+    });
+    if judge == other {
+        return Ok(judge.0.verdict[0]);
+    }
+    Err(Box::new(Difference::Texts {
+        name: name.to_string(),
+        case: case.clone(),
+        judge,
+        other,
+    }))
+}
+
 /// A smaller pair on which the verdicts still differ: pieces of both files are left
 /// out as long as they do, large pieces first, then any of at most ten bytes (a gate
 /// command of a stage has ten). It stops after some seconds.
@@ -420,7 +490,7 @@ pub fn first_difference_in(
     seed: u64,
     count: u64,
 ) -> Result<Histogram, Box<Difference>> {
-    let mut histogram = Histogram::default();
+    let mut histogram = NO_VERDICTS;
     for index in 0..count {
         let generated = pair(seed, index);
         let name = format!("pair {index} of seed {seed} ({})", generated.family);
@@ -457,7 +527,7 @@ pub fn compare_reports(
     seed: u64,
     count: u64,
 ) -> Result<Histogram, Box<Difference>> {
-    let mut histogram = Histogram::default();
+    let mut histogram = NO_VERDICTS;
     for index in 0..count {
         let generated = pair(seed, index);
         let name = format!("report {index} of seed {seed} ({})", generated.family);
@@ -477,7 +547,7 @@ pub fn compare_rows(
     seed: u64,
     count: u64,
 ) -> Result<Histogram, Box<Difference>> {
-    let mut histogram = Histogram::default();
+    let mut histogram = NO_VERDICTS;
     for index in 0..count {
         let name = format!("row case {index} of seed {seed}");
         let number = compare_row(other, &name, &row_case(seed, index))
@@ -494,7 +564,7 @@ pub fn compare_joins(
     seed: u64,
     count: u64,
 ) -> Result<Histogram, Box<Difference>> {
-    let mut histogram = Histogram::default();
+    let mut histogram = NO_VERDICTS;
     for index in 0..count {
         let generated = join_case(seed, index);
         for order in ORDERS {
@@ -510,11 +580,49 @@ pub fn compare_joins(
 /// Compares the stages of the first `count` references of a seed. The first difference is printed
 /// and given back.
 pub fn compare_makes(other: Make, seed: u64, count: u64) -> Result<Histogram, Box<Difference>> {
-    let mut histogram = Histogram::default();
+    let mut histogram = NO_VERDICTS;
     for index in 0..count {
         let generated = make_case(seed, index);
         let name = format!("reference {index} of seed {seed} ({})", generated.family);
         let number = compare_make(other, &name, &generated.case)
+            .inspect_err(|difference| println!("{difference}"))?;
+        histogram[number as usize] += 1;
+    }
+    Ok(histogram)
+}
+
+/// Compares the stage files of the first `count` texts of a seed. The first difference is printed
+/// and given back.
+pub fn compare_read_texts(
+    other: Convert,
+    seed: u64,
+    count: u64,
+) -> Result<Histogram, Box<Difference>> {
+    compare_texts([text::read_text, other], ("text", read_case), seed, count)
+}
+
+/// Compares the texts of the first `count` stage files of a seed. The first difference is printed
+/// and given back.
+pub fn compare_write_texts(
+    other: Convert,
+    seed: u64,
+    count: u64,
+) -> Result<Histogram, Box<Difference>> {
+    let cases = ("stage to write", write_case as fn(u64, u64) -> _);
+    compare_texts([text::write_text, other], cases, seed, count)
+}
+
+fn compare_texts(
+    calls: [Convert; 2],
+    (what, case): (&str, fn(u64, u64) -> GeneratedText),
+    seed: u64,
+    count: u64,
+) -> Result<Histogram, Box<Difference>> {
+    let mut histogram = NO_VERDICTS;
+    for index in 0..count {
+        let generated = case(seed, index);
+        let name = format!("{what} {index} of seed {seed} ({})", generated.family);
+        let number = compare_text(calls, &name, &generated.case)
             .inspect_err(|difference| println!("{difference}"))?;
         histogram[number as usize] += 1;
     }
@@ -570,7 +678,7 @@ pub fn compare_program(
     seed: u64,
     count: u64,
 ) -> io::Result<Result<Histogram, Box<Difference>>> {
-    let mut histogram = Histogram::default();
+    let mut histogram = NO_VERDICTS;
     let cut = |file: &[u8]| file[..file.len().min(MOST_BYTES_READ as usize)].to_vec();
     for index in 0..count {
         let generated = pair(seed, index);
