@@ -9,6 +9,7 @@ pub mod join;
 pub mod make;
 pub mod report;
 pub mod row;
+pub mod text;
 
 use crate::catalogue::examples;
 use crate::compare::expected_report;

@@ -12,8 +12,11 @@ use fovaheju_tests::files::{
 use fovaheju_tests::generate::texts::{read_case, write_case, GeneratedText};
 use fovaheju_tests::judge::{pin_count, read_stage, Gate, Stage, Verdict, ACCEPTED, KINDS, LIMITS};
 use fovaheju_tests::make::Made;
+use fovaheju_tests::suite::text::{
+    many, read_cases, write_cases, Case, AGAIN, OTHER_FORM, UNDRIVEN,
+};
 use fovaheju_tests::text::{file_of_text, kind_name, read_text, text_of_file, write_text};
-use std::collections::BTreeMap;
+use std::collections::{BTreeMap, BTreeSet};
 
 /// The verdict on reading a text.
 fn verdict(text: &str) -> Verdict {
@@ -23,19 +26,6 @@ fn verdict(text: &str) -> Verdict {
 /// The text of a stage file that is spelt in hexadecimal digits, or the verdict.
 fn text_of(file: &str) -> Result<String, Verdict> {
     text_of_file(&unhex(file)).map(|text| String::from_utf8(text).unwrap())
-}
-
-/// A text of so many inputs i0, i1 .., so many gates g0, g1 .. and so many outputs i0.
-fn large(inputs: usize, gates: usize, outputs: usize) -> String {
-    let names: Vec<String> = (0..inputs).map(|i| format!("i{i}")).collect();
-    let gates: String = (0..gates)
-        .map(|k| format!("TH12 i0_0,i0_1 g{k}\n"))
-        .collect();
-    format!(
-        "{}\n{}\n{gates}",
-        names.join(","),
-        vec!["i0"; outputs].join(",")
-    )
 }
 
 /// Cases 1 and 6 of document 01 as text.
@@ -61,54 +51,14 @@ fn marked_cases() {
     assert_eq!(file_of_text(looped.as_bytes()), Ok(unhex(MARKED[8].1)));
 }
 
-/// 29: every line that is not of the form, at its number.
+/// 29, 30 and 31 at the lines that are written by hand beside the texts.
 #[test]
-fn lines_of_another_form() {
-    for (text, line) in [
-        ("", 0),
-        ("a", 0),
-        ("\n", 0),
-        ("\na\n", 0),
-        ("a\n", 1),
-        ("a\na", 1),
-        ("a\n\n", 1),
-        ("a\na\n\n", 2),
-        ("a\na\nTH12 a_0,a_1 g", 2),
-        ("a\na\nTH12 a_0,a_1 g\n\n", 3),
-        ("a\na\n\nTH12 a_0,a_1 g\n", 2),
-        ("a\r\na\r\n", 0),
-        ("a\na\nTH12 a_0,a_1 g\r\n", 2),
-        (",a\na\n", 0),
-        ("a,\na\n", 0),
-        ("a,,b\na\n", 0),
-        ("a, b\na\n", 0),
-        (" a\na\n", 0),
-        ("a\na \n", 1),
-        ("a-b\na\n", 0),
-        ("a\u{e9}\na\n", 0),
-        ("a\na\nTH12  a_0,a_1 g\n", 2),
-        ("a\na\nTH12 a_0,a_1  g\n", 2),
-        ("a\na\nTH12 a_0,a_1 g \n", 2),
-        ("a\na\n TH12 a_0,a_1 g\n", 2),
-        ("a\na\nTH12\ta_0,a_1 g\n", 2),
-        ("a\na\nTH12 ,a_0,a_1 g\n", 2),
-        ("a\na\nTH12 a_0,a_1, g\n", 2),
-        ("a\na\nTH12 a_0 a_1 g\n", 2),
-        ("a\na\nTH12 g\n", 2),
-        ("a\na\nTH12  g\n", 2),
-        ("a\na\nTH14 a_0,a_0,a_0,a_0,a_0 g\n", 2),
-        ("a\na\nth12 a_0,a_1 g\n", 2),
-        ("a\na\nTH11 a_0,a_1 g\n", 2),
-        ("a\na\nRTH12 a_0,a_1 g\n", 2),
-        ("a\na\nrrTH12 a_0,a_1 g\n", 2),
-        ("a\na\nTHXOR0 a_0,a_1,a_0,a_1 g\n", 2),
-        ("a\na\nReg_NULL 1 a_0 a_1 Ki ko b_0 b_1\n", 2),
-        ("a\na\nC2 a_0,a_1 g\n", 2),
-    ] {
-        assert_eq!(verdict(text), [29, 1, line, 0], "{text:?}");
+fn lines_by_hand() {
+    for (number, texts) in [(29, &OTHER_FORM[..]), (30, &UNDRIVEN), (31, &AGAIN)] {
+        for &(text, line) in texts {
+            assert_eq!(verdict(text), [number, 1, line, 0], "{text:?}");
+        }
     }
-    // The least such line, whatever else is wrong in earlier lines.
-    assert_eq!(verdict("a,a\nb\nTH12 c,d e\nx\ny\n"), [29, 1, 3, 0]);
 }
 
 /// Names of 16 and 17 characters, pins and nets of 18 and 19.
@@ -143,86 +93,40 @@ fn names_of_all_characters() {
     assert_eq!(verdict("a\na\nTH12 a_0,A_1 g\n"), [30, 1, 2, 0]);
 }
 
-/// 30: a name nobody drives, before 31.
+/// What is driven, and what may come again: texts that read.
 #[test]
-fn undriven_names() {
-    for (text, line) in [
-        ("a\nb\n", 1),
-        ("a\na,b\n", 1),
-        // Only one rail is driven.
-        ("a\nb\nTH12 a_0,a_1 b_0\n", 1),
-        ("a\nb\nTH12 a_0,a_1 b_1\n", 1),
-        ("a\na\nTH12 a_0,b_1 g\n", 2),
-        // A signal is no net, and an output drives nothing.
-        ("a\na\nTH12 a,a_1 g\n", 2),
-        ("a\na\nTH12 a_0,a_1 g\nTH12 g_0,a_1 h\n", 3),
-        ("a,b\na\nTH12 a_0,c_1 g\nTH12 b_0,d_1 h\n", 2),
-        // Before 31 at an earlier line.
-        ("a,a\na\nTH12 a_0,b_1 g\n", 2),
-        ("a\na\nTH12 a_0,a_1 a_0\nTH12 a_0,b_1 g\n", 3),
-        ("a,a\nb\n", 1),
-    ] {
-        assert_eq!(verdict(text), [30, 1, line, 0], "{text:?}");
-    }
-    // A later line drives it: pins may name later gates.
-    assert_eq!(
-        verdict("a\nb\nTH12 h,a_1 b_0\nTH12 b_0,a_1 b_1\nTH22 b_1,a_0 h\n"),
-        ACCEPTED
-    );
-}
-
-/// 31: a name driven again.
-#[test]
-fn names_driven_again() {
-    for (text, line) in [
-        ("a,a\na\n", 0),
-        ("a,b,c,b\na\n", 0),
-        ("a\na\nTH12 a_0,a_1 a_0\n", 2),
-        ("a\na\nTH12 a_0,a_1 a_1\n", 2),
-        ("a\na\nTH12 a_0,a_1 g\nTH22 a_0,a_1 g\n", 3),
-        (
-            "a\na\nTH12 a_0,a_1 g\nTH12 g,a_1 h\nTH12 a_0,a_1 g\nTH12 g,a_1 h\n",
-            4,
-        ),
-        // Before the numbers of the reader: eleven inputs.
-        ("a,b,c,d,e,f,g,h,i,j,j\na\n", 0),
-    ] {
-        assert_eq!(verdict(text), [31, 1, line, 0], "{text:?}");
-    }
-    // An input a drives a_0 and a_1 only; an output drives nothing, and may come again.
-    assert_eq!(verdict("a\na\nTH12 a_0,a_1 a\n"), ACCEPTED);
-    assert_eq!(verdict("a\na,a,a\n"), ACCEPTED);
-    assert_eq!(verdict("a,a_0\na,a_0\nTH12 a_0,a_0_1 a_0_0_0\n"), ACCEPTED);
+fn driven_names() {
     let pair = "TH12 a_0,a_1 b_0\nTH22 a_0,a_1 b_1\n";
-    assert_eq!(verdict(&format!("a\nb,b\n{pair}")), ACCEPTED);
+    let later = "TH12 h,a_1 b_0\nTH12 b_0,a_1 b_1\nTH22 b_1,a_0 h\n";
+    for text in [
+        // An input a drives a_0 and a_1 only; an output drives nothing, and may come again.
+        "a\na\nTH12 a_0,a_1 a\n",
+        "a\na,a,a\n",
+        "a,a_0\na,a_0\nTH12 a_0,a_0_1 a_0_0_0\n",
+        &format!("a\nb,b\n{pair}"),
+        // Pins may name later gates.
+        &format!("a\nb\n{later}"),
+    ] {
+        assert_eq!(verdict(text), ACCEPTED, "{text:?}");
+    }
 }
 
 /// 3, 6 and 5: the numbers of the file that is made.
 #[test]
 fn numbers_of_the_file() {
-    assert_eq!(verdict(&large(10, 256, 16)), ACCEPTED);
-    assert_eq!(verdict(&large(11, 0, 1)), [3, 1, 1, 0]);
-    assert_eq!(verdict(&large(300, 300, 300)), [3, 1, 1, 0]);
-    assert_eq!(verdict(&large(10, 257, 1)), [6, 1, 2562, 0]);
-    assert_eq!(verdict(&large(1, 300, 17)), [6, 1, 2562, 0]);
-    assert_eq!(verdict(&large(1, 0, 17)), [6, 1, 82, 0]);
-    assert_eq!(verdict(&large(1, 3, 17)), [6, 1, 112, 0]);
-    assert_eq!(verdict(&large(1, 256, 5_000)), [6, 1, 2642, 0]);
-    // A wrong number of pins, at the first missing or first extra pin.
-    assert_eq!(verdict("a\na\nTH12 a_0,a_1,a_0 g\n"), [5, 1, 8, 0]);
-    assert_eq!(verdict("a\na\nTH12 a_0,a_1,a_0,a_1 g\n"), [5, 1, 8, 0]);
-    assert_eq!(verdict("a\na\nTH12 a_0 g\n"), [5, 1, 6, 0]);
-    assert_eq!(verdict("a\na\nTH44 a_0,a_1 g\n"), [5, 1, 8, 0]);
-    assert_eq!(verdict("a\na\nTH12 a_0,a_1 g\nTH23 g,g h\n"), [5, 1, 18, 0]);
+    assert_eq!(verdict(&many(10, 256, 16)), ACCEPTED);
+    assert_eq!(verdict(&many(11, 0, 1)), [3, 1, 1, 0]);
+    assert_eq!(verdict(&many(300, 300, 300)), [3, 1, 1, 0]);
+    assert_eq!(verdict(&many(10, 257, 1)), [6, 1, 2562, 0]);
+    assert_eq!(verdict(&many(1, 300, 17)), [6, 1, 2562, 0]);
+    assert_eq!(verdict(&many(1, 0, 17)), [6, 1, 82, 0]);
+    assert_eq!(verdict(&many(1, 3, 17)), [6, 1, 112, 0]);
+    assert_eq!(verdict(&many(1, 256, 5_000)), [6, 1, 2642, 0]);
     // 6 for the 257th gate comes before an earlier gate's 5, a 17th output's after it.
-    let many = large(1, 257, 1).replacen("i0_0,i0_1 g0", "i0_0 g0", 1);
+    let many = many(1, 257, 1).replacen("i0_0,i0_1 g0", "i0_0 g0", 1);
     assert_eq!(verdict(&many), [6, 1, 2562, 0]);
     let outputs = format!("a\n{}\nTH12 a_0 g\n", vec!["a"; 17].join(","));
     assert_eq!(verdict(&outputs), [5, 1, 6, 0]);
-    // Retired kinds convert, and relaxed ones.
-    let retired = "a\na\nTH54w322 a_0,a_0,a_1,a_1 g\nrTH54w322 a_0,a_0,a_1,a_1 h\n";
-    let file = file_of_text(retired.as_bytes()).unwrap();
-    assert_eq!((file[3], file[13]), (24, 152));
 }
 
 /// Every kind by its name, with hold and relaxed, both ways.
@@ -280,62 +184,27 @@ fn buffers() {
     assert_eq!(write_text(&[], &mut []).verdict, [1, 1, 0, 0]);
 }
 
-/// Writing: names, 29 for a care list, 31 at the least output, all after the reader's numbers.
+/// The judge's verdicts on the stored cases are those written by hand, and every number has cases.
 #[test]
-fn stage_files_to_texts() {
-    // y takes the output's own index; a straight input pair has the input's name, also twice.
-    let gates = "02 01 00 00 01 00 FF FF FF FF 02 02 00 00 01 00 FF FF FF FF";
-    let pair = "03 02 00 03 00";
-    let input = "03 00 00 01 00";
-    let text = "x0\nx0,y1,x0\nTH12 x0_0,x0_1 y1_0\nTH22 x0_0,x0_1 y1_1\n";
-    let file = format!("01 01 {gates} {input} {pair} {input} 00");
-    assert_eq!(text_of(&file).unwrap(), text);
-    // Gates and outputs mixed give the same text.
-    let mixed = format!("01 01 {input} {gates} {pair} {input} 00");
-    assert_eq!(text_of(&mixed).unwrap(), text);
-    // An output's rails the other way round are its rails 0 and 1 all the same.
-    let turned = format!("01 01 {gates} 03 03 00 02 00 00");
-    let text = "x0\ny0\nTH12 x0_0,x0_1 y0_1\nTH22 x0_0,x0_1 y0_0\n";
-    assert_eq!(text_of(&turned).unwrap(), text);
-    for (outputs, least) in [
-        // A swapped input pair, one rail of an input, one net twice.
-        ("03 01 00 00 00", 0),
-        ("03 00 00 02 00", 0),
-        ("03 02 00 01 00", 0),
-        ("03 00 00 00 00", 0),
-        ("03 02 00 02 00", 0),
-        // Two outputs on one gate pair, or on one gate.
-        ("03 02 00 03 00 03 02 00 03 00", 1),
-        ("03 00 00 01 00 03 02 00 03 00 03 03 00 02 00", 2),
-        ("03 02 00 03 00 03 03 00 01 00", 1),
-    ] {
-        let file = format!("01 01 {gates} {outputs} 00");
-        assert_eq!(text_of(&file), Err([31, 1, least, 0]), "{outputs}");
+fn stored_cases() {
+    let calls: [(Convert, Vec<Case>, &[usize]); 2] = [
+        (read_text, read_cases(), &READ_TEXT_NUMBERS),
+        (write_text, write_cases(), &WRITE_TEXT_NUMBERS),
+    ];
+    for (call, cases, numbers) in calls {
+        let mut seen = BTreeSet::new();
+        for case in cases {
+            let mut buffer = case.case.buffer.clone();
+            let Made { verdict, len } = call(&case.case.source, &mut buffer);
+            let (about, known) = (&case.about, case.known);
+            assert!(known.agrees(verdict), "{about}: {verdict:?}, not {known:?}");
+            if let Some(written) = case.written {
+                assert_eq!(buffer[..len], written, "{about}");
+            }
+            seen.insert(verdict[0] as usize);
+        }
+        assert_eq!(seen, numbers.iter().copied().collect());
     }
-    // The rails of two inputs are no input pair.
-    assert_eq!(text_of("01 02 03 00 00 03 00 00"), Err([31, 1, 0, 0]));
-    assert_eq!(text_of("01 02 03 01 00 02 00 00"), Err([31, 1, 0, 0]));
-    // A care list comes before 31, and after the reader's numbers, 18 and 19 among them.
-    assert_eq!(
-        text_of("01 01 06 00 00 03 00 00 01 00 00"),
-        Err([29, 1, 0, 0])
-    );
-    assert_eq!(
-        text_of("01 01 06 00 00 03 01 00 00 00 00"),
-        Err([29, 1, 0, 0])
-    );
-    assert_eq!(
-        text_of("01 01 06 02 00 03 00 00 01 00 00"),
-        Err([18, 1, 3, 0])
-    );
-    assert_eq!(
-        text_of("01 01 06 01 00 06 01 00 03 00 00 01 00 00"),
-        Err([19, 1, 6, 0])
-    );
-    assert_eq!(
-        text_of("01 01 06 00 00 03 00 00 02 00 00"),
-        Err([9, 1, 8, 0])
-    );
 }
 
 /// The longest text that is written has 10,012 bytes, the longest file that is made 2,643, and the
