@@ -14,7 +14,7 @@ use fovaheju_tests::files::{
 use fovaheju_tests::judge::{answer, rails_of_word, read_stage, settle, Stage, ACCEPTED, ORDERS};
 use fovaheju_tests::read;
 use fovaheju_tests::suite::verdict_in;
-use fovaheju_tests::text::file_of_text;
+use fovaheju_tests::text::{file_of_text, text_of_file};
 use std::collections::BTreeSet;
 
 #[test]
@@ -137,6 +137,27 @@ fn the_documents_spell_the_and() {
             "{path}"
         );
     }
+}
+
+/// The blocks of a document that are texts.
+fn spelt_texts(document: &str) -> Vec<String> {
+    let blocks = document.split("```\n").skip(1).step_by(2);
+    blocks
+        .filter(|block| block.contains("TH22 "))
+        .filter(|block| !block.contains("FF FF"))
+        .map(str::to_string)
+        .collect()
+}
+
+#[test]
+fn the_documents_spell_the_and_as_text() {
+    let (pair, _) = load_example(&examples_folder(), "and").unwrap();
+    let texts = spelt_texts(&read("docs/FILES.md"));
+    assert_eq!(texts.len(), 2);
+    for text in &texts {
+        assert_eq!(file_of_text(text.as_bytes()), Ok(pair.stage.clone()));
+    }
+    assert_eq!(text_of_file(&pair.stage), Ok(texts[1].clone().into_bytes()));
 }
 
 #[test]
