@@ -48,6 +48,8 @@ pub fn calls() -> Vec<Call> {
         ("settled_row", 3, row::stored()),
         ("join", 4, join::stored()),
         ("make_stage", 5, make::stored()),
+        ("read_text", 6, text::stored_reads()),
+        ("write_text", 7, text::stored_writes()),
     ];
     list.into_iter()
         .map(|(name, byte, cases)| Call { name, byte, cases })
