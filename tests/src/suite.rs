@@ -9,6 +9,7 @@ pub mod join;
 pub mod make;
 pub mod report;
 pub mod row;
+pub mod text;
 
 use crate::catalogue::examples;
 use crate::compare::expected_report;
@@ -16,6 +17,7 @@ use crate::files::{verdict_line, FilePair};
 use crate::join::join_in_order;
 use crate::judge::{check_in_order, Verdict, WordOrder, LIMITS};
 use crate::make::make_stage;
+use crate::text::{read_text, text_of_file, write_text};
 use std::collections::BTreeSet;
 use std::fs;
 use std::io;
@@ -47,6 +49,8 @@ pub fn calls() -> Vec<Call> {
         ("settled_row", 3, row::stored()),
         ("join", 4, join::stored()),
         ("make_stage", 5, make::stored()),
+        ("read_text", 6, text::stored_reads()),
+        ("write_text", 7, text::stored_writes()),
     ];
     list.into_iter()
         .map(|(name, byte, cases)| Call { name, byte, cases })
@@ -116,7 +120,15 @@ pub struct Program {
 
 /// All programs.
 pub fn programs() -> Vec<Program> {
-    vec![suite(), ncl_check(), ncl_report(), ncl_join(), ncl_make()]
+    vec![
+        suite(),
+        ncl_check(),
+        ncl_report(),
+        ncl_join(),
+        ncl_make(),
+        ncl_read_text(),
+        ncl_write_text(),
+    ]
 }
 
 fn suite() -> Program {
@@ -183,6 +195,26 @@ fn ncl_make() -> Program {
         name: "ncl_make",
         data: vec![("reference.ncl", reference)],
         stdout: verdict_line(made.verdict),
+    }
+}
+
+fn ncl_read_text() -> Program {
+    let text = text_of_file(&example("full-adder").stage).expect("a stage that can be written");
+    let read = read_text(&text, &mut [0; 8192]);
+    Program {
+        name: "ncl_read_text",
+        data: vec![("stage.txt", text)],
+        stdout: verdict_line(read.verdict),
+    }
+}
+
+fn ncl_write_text() -> Program {
+    let stage = example("full-adder").stage;
+    let written = write_text(&stage, &mut [0; 16384]);
+    Program {
+        name: "ncl_write_text",
+        data: vec![("stage.ncl", stage)],
+        stdout: verdict_line(written.verdict),
     }
 }
 
