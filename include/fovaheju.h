@@ -112,6 +112,13 @@ struct fovaheju_written {
 struct fovaheju_written fovaheju_make_stage(const uint8_t *reference, size_t reference_len,
                                             uint8_t *stage_out, size_t stage_out_len);
 
+/* Reads the text of a stage in the line form: the input names, the output names, then a line for each gate. Its stage file,
+   gates before outputs, is written at the start of a buffer; the bytes past it keep their values, and so do all where the
+   number is not 0. The text may have any length and any bytes. 2,643 bytes have room for every such file. The numbers are 0;
+   29, 30 and 31, with `at` the line, counted from 0; 3, 5 and 6, with `at` a place in the file that would be made; all these
+   with file 1; then 24 with file 3. */
+struct fovaheju_written fovaheju_read_text(const uint8_t *text, size_t text_len, uint8_t *stage_out, size_t stage_out_len);
+
 #ifdef __cplusplus
 }
 #endif

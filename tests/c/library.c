@@ -317,6 +317,67 @@ static void makes(void)
     holds("it is the wire", memcmp(out, wire, sizeof wire) == 0);
 }
 
+/* The AND of two inputs in the line form, and a wire. */
+static const char and_text[] = "a,b\nz\nTH22 a_1,b_1 z_1\nTHand0 a_0,b_0,a_1,b_1 z_0\n";
+static const char wire_text[] = "a\na\n";
+
+static struct fovaheju_written read_string(const char *text, uint8_t *out, size_t room)
+{
+    return fovaheju_read_text((const uint8_t *)text, strlen(text), out, room);
+}
+
+static void texts(void)
+{
+    struct {
+        uint64_t before;
+        struct fovaheju_written read;
+        uint64_t after;
+    } kept = {0x1122334455667788, {{9, 9, 9, 9}, 9}, 0x99AABBCCDDEEFF00};
+    struct fovaheju_written *read = &kept.read;
+    uint8_t out[64], untouched[64];
+    size_t n = sizeof and_stage;
+
+    memset(untouched, 7, sizeof untouched);
+    memcpy(out, untouched, 64);
+    kept.read = read_string(and_text, out, 64);
+    same("the text of an AND", read->verdict, 0, 0, 0, 0);
+    holds("how many bytes", read->count == n);
+    holds("the whole case's stage", memcmp(out, and_stage, n) == 0);
+    holds("past the stage", memcmp(out + n, untouched, 64 - n) == 0);
+    same("it is accepted", fovaheju_check(0, out, n, and_reference, sizeof and_reference), 0, 0, 0, 0);
+    memcpy(out, untouched, 64);
+    kept.read = read_string(and_text, out, n - 1);
+    same("a buffer one byte short", read->verdict, 24, 3, 0, 0);
+    holds("nothing is counted", read->count == 0);
+    same("an empty text", read_string("", out, 64).verdict, 29, 1, 0, 0);
+    same("line 0 alone", read_string("a\n", out, 64).verdict, 29, 1, 1, 0);
+    same("an empty last line", read_string("a\na\n\n", out, 64).verdict, 29, 1, 2, 0);
+    same("no last newline", read_string("a\na", out, 64).verdict, 29, 1, 1, 0);
+    same("a carriage return", read_string("a\r\na\r\n", out, 64).verdict, 29, 1, 0, 0);
+    same("a name of 17 characters", read_string("abcdefghijklmnopq\na\n", out, 64).verdict, 29, 1, 0, 0);
+    same("five pins", read_string("a\na\nTH14 a_0,a_1,a_0,a_1,a_0 g\n", out, 64).verdict, 29, 1, 2, 0);
+    same("an output that nobody drives", read_string("a\nb\n", out, 64).verdict, 30, 1, 1, 0);
+    same("a pin that nobody drives", read_string("a\na\nTH12 a_0,b_1 g\n", out, 64).verdict, 30, 1, 2, 0);
+    same("30 at a later line before 31", read_string("a,a\na\nTH12 a_0,b_1 g\n", out, 64).verdict, 30, 1, 2, 0);
+    same("an input twice", read_string("a,a\na\n", out, 64).verdict, 31, 1, 0, 0);
+    same("a rail driven again", read_string("a\na\nTH12 a_0,a_1 a_1\n", out, 64).verdict, 31, 1, 2, 0);
+    same("eleven inputs", read_string("a,b,c,d,e,f,g,h,i,j,k\na\n", out, 64).verdict, 3, 1, 1, 0);
+    same("a pin too many", read_string("a\na\nTH12 a_0,a_1,a_0 g\n", out, 64).verdict, 5, 1, 8, 0);
+    same("seventeen outputs", read_string("a\na,a,a,a,a,a,a,a,a,a,a,a,a,a,a,a,a\n", out, 64).verdict, 6, 1, 82, 0);
+    same("a null text", fovaheju_read_text(NULL, 0, out, 64).verdict, 29, 1, 0, 0);
+    same("a null buffer", read_string(and_text, NULL, 0).verdict, 24, 3, 0, 0);
+    holds("a refused buffer is as before", memcmp(out, untouched, 64) == 0);
+    holds("beside the answer", kept.before == 0x1122334455667788 && kept.after == 0x99AABBCCDDEEFF00);
+    kept.read = read_string(and_text, out, n);
+    same("a buffer that just fits", read->verdict, 0, 0, 0, 0);
+    holds("the same bytes", memcmp(out, and_stage, n) == 0);
+    same("the text of a wire", read_string(wire_text, out, 64).verdict, 0, 0, 0, 0);
+    holds("it is the wire", memcmp(out, wire, sizeof wire) == 0);
+    same("a gate's net may be an input's name", read_string("a\na\nTH12 a_0,a_1 a\n", out, 64).verdict, 0, 0, 0, 0);
+    same("a relaxed gate", read_string("a\na\nrTH12 a_0,a_1 g\n", out, 64).verdict, 0, 0, 0, 0);
+    holds("its kind is 129", out[3] == 129);
+}
+
 int main(int count, char **folders)
 {
     int i;
@@ -328,6 +389,7 @@ int main(int count, char **folders)
     rows();
     joins();
     makes();
+    texts();
     printf("%d passed, %d failed\n", passed, failed);
     return failed != 0;
 }

@@ -89,6 +89,12 @@ extern "C" {
         stage_out: *mut u8,
         stage_out_len: usize,
     ) -> Written;
+    fn fovaheju_read_text(
+        text: *const u8,
+        text_len: usize,
+        stage_out: *mut u8,
+        stage_out_len: usize,
+    ) -> Written;
 }
 
 /// The verdict on a stage file and a reference file.
@@ -173,6 +179,23 @@ pub fn make_stage(reference: &[u8], stage_out: &mut [u8]) -> Made {
         fovaheju_make_stage(
             reference.as_ptr(),
             reference.len(),
+            stage_out.as_mut_ptr(),
+            stage_out.len(),
+        )
+    };
+    Made {
+        verdict: answer.verdict.into(),
+        len: answer.count as usize,
+    }
+}
+
+/// The stage file of a text, into a buffer.
+pub fn read_text(text: &[u8], stage_out: &mut [u8]) -> Made {
+    // Safety: the contract has no `requires`, and each pointer and length are of a slice; the buffer is lent to be written.
+    let answer = unsafe {
+        fovaheju_read_text(
+            text.as_ptr(),
+            text.len(),
             stage_out.as_mut_ptr(),
             stage_out.len(),
         )

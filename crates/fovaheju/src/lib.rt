@@ -1,5 +1,5 @@
-// The public calls. Their contracts cite the definitions of crates `verdict`, `report`, `joined` and `join`, `made` and `make`, at the limits of
-// crate `netlist`, and ask nothing of the caller.
+// The public calls. Their contracts cite the definitions of crates `verdict`, `report`, `joined` and `join`, `made` and `make`, and `text_spec`, at
+// the limits of crate `netlist`, and ask nothing of the caller.
 use join::JoinAnswer;
 use report::Report;
 use verdict::Verdict;
@@ -15,6 +15,7 @@ ghost use Rattle.report.specs.Activity.{ReportMeans};
 ghost use Rattle.joined.specs.Join.{files};
 ghost use Rattle.join.specs.Call.{JoinDemand};
 ghost use Rattle.make.specs.Call.{MakeDemand};
+ghost use Rattle.text_spec.specs.Promises.{ReadDemand};
 
 // The check of a stage file against a reference file, with words named in an order. The verdict is the one that the definitions give, and
 // demands 2 and 3 hold of it, with one run from another for an accepted stage.
@@ -76,6 +77,14 @@ pub fn make_stage(reference: &[u8], stage_out: &mut [u8]) -> Answer
     ensures { λ r. ⌜ MakeDemand (now (reference .entry)) (now («stage_out» .entry)) r (now («stage_out» .exit)) ⌝ }
 {
     make::make_stage(reference, stage_out)
+}
+
+// The stage file of a text in the line form, gates before outputs, written at the start of a lent buffer. The file reads. A refusal leaves the buffer as it
+// was.
+pub fn read_text(text: &[u8], stage_out: &mut [u8]) -> Answer
+    ensures { λ r. ⌜ ReadDemand (now (text .entry)) (now («stage_out» .entry)) r (now («stage_out» .exit)) ⌝ }
+{
+    call_text_read::read_text(text, stage_out)
 }
 
 // The order of words that a number stands for: 0 has input 0 as the highest bit of a word, every other number has it as the lowest.
@@ -148,4 +157,12 @@ pub extern "C" fn fovaheju_make_stage(reference: &[u8], stage_out: &mut [u8]) ->
     ensures { λ r. ⌜ MakeDemand (now (reference .entry)) (now («stage_out» .entry)) r (now («stage_out» .exit)) ⌝ }
 {
     make_stage(reference, stage_out)
+}
+
+// The stage file of a text for callers in C and in Rust, with the contract of `read_text`.
+#[no_mangle]
+pub extern "C" fn fovaheju_read_text(text: &[u8], stage_out: &mut [u8]) -> Answer
+    ensures { λ r. ⌜ ReadDemand (now (text .entry)) (now («stage_out» .entry)) r (now («stage_out» .exit)) ⌝ }
+{
+    read_text(text, stage_out)
 }
