@@ -51,8 +51,8 @@ cases =
     case (1 ∷ 1 ∷ 3 ∷ 1 ∷ 0 ∷ 0 ∷ 0 ∷ 0 ∷ []) 100 (refusal 31 1 0) ∷
     case (1 ∷ 1 ∷ 2 ∷ 1 ∷ 0 ∷ 0 ∷ 1 ∷ 0 ∷ 0xFF ∷ 0xFF ∷ 0xFF ∷ 0xFF ∷ 3 ∷ 2 ∷ 0 ∷ 1 ∷ 0 ∷ 0 ∷ []) 100 (refusal 31 1 0) ∷
     case (1 ∷ 1 ∷ 2 ∷ 1 ∷ 0 ∷ 0 ∷ 1 ∷ 0 ∷ 0xFF ∷ 0xFF ∷ 0xFF ∷ 0xFF ∷ 3 ∷ 2 ∷ 0 ∷ 2 ∷ 0 ∷ 0 ∷ []) 100 (refusal 31 1 0) ∷
-    case (1 ∷ 2 ∷ 2 ∷ 2 ∷ 1 ∷ 0 ∷ 3 ∷ 0 ∷ 0xFF ∷ 0xFF ∷ 0xFF ∷ 0xFF ∷ 2 ∷ 0x1A ∷ 0 ∷ 0 ∷ 2 ∷ 0 ∷ 1 ∷ 0 ∷ 3 ∷ 0 ∷ 3 ∷ 5 ∷ 0 ∷ 4 ∷ 0 ∷ 3 ∷ 4 ∷ 0 ∷ 5 ∷ 0 ∷ 0 ∷ []) 100
-    (refusal 31 1 1) ∷
+    case (1 ∷ 2 ∷ 2 ∷ 2 ∷ 1 ∷ 0 ∷ 3 ∷ 0 ∷ 0xFF ∷ 0xFF ∷ 0xFF ∷ 0xFF ∷ 2 ∷ 0x1A ∷ 0 ∷ 0 ∷ 2 ∷ 0 ∷ 1 ∷ 0 ∷ 3 ∷ 0 ∷ 3 ∷ 5 ∷ 0 ∷ 4 ∷ 0 ∷
+    3 ∷ 4 ∷ 0 ∷ 5 ∷ 0 ∷ 0 ∷ []) 100 (refusal 31 1 1) ∷
     -- 29: a care list, before 31 and 24
     case (1 ∷ 1 ∷ 6 ∷ 0 ∷ 0 ∷ 3 ∷ 1 ∷ 0 ∷ 0 ∷ 0 ∷ 0 ∷ []) 0 (refusal 29 1 0) ∷
     -- refused in reading
@@ -61,7 +61,9 @@ cases =
 
 pub computed : map (λ (x : Case). toText stageLimits (x .room) (x .stage)) cases ≡ map (λ (x : Case). x .expected) cases
 unfolding cases b.operand b.operands c.cells c.cellAt c.pinCount c.kindOf
-    k.whenFound k.ownCommands k.commandTable k.formIn k.pinsNeeded k.needed k.stray k.misfit k.misfitFrom k.takeGate k.takeCare k.takeSort k.takeCommand k.nextAt
+    k.whenFound k.ownCommands k.commandTable k.formIn k.pinsNeeded k.needed k.stray k.misfit k.misfitFrom k.takeGate k.takeCare k.takeSort
+    k.takeCommand k.nextAt
     r.nameable r.nameless r.usedOperands r.namelessAt r.namelessFrom r.floorAfter r.noted r.finish r.onNext r.readFrom r.readFile t.stageOf
-    h.cellName h.kindName f.unless f.ifRoom w.numbered w.gateName w.netName w.outputName w.secondName w.linesOf w.textFor w.careList w.stageText w.onReading w.toText
+    h.cellName h.kindName f.unless f.ifRoom w.numbered w.gateName w.netName w.outputName w.secondName w.linesOf w.textFor
+    w.careList w.stageText w.onReading w.toText
 computed = refl

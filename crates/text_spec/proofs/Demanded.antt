@@ -91,7 +91,8 @@ read-demanded text buffer r after e = record { answer = e; stands = go (fromText
   where
     go : (a : TextAnswer) → fromText stageLimits (length buffer) text ≡ a → written r after ≡ leaves a buffer → r .verdict .number ≡ 0 →
         Stands stageLimits (take (r .count) after)
-    go (refusal number file at) is w z = absurd (omega (arith, subst Numbered is (numbered stageLimits (length buffer) text), ap (λ (x : Written). x .verdict .number) w))
+    go (refusal number file at) is w z =
+        absurd (omega (arith, subst Numbered is (numbered stageLimits (length buffer) text), ap (λ (x : Written). x .verdict .number) w))
     go (gives s) is w z =
         let own : take (r .count) after ≡ s = ap₂ take (ap (λ (x : Written). x .count) w) (ap (λ (x : Written). x .buffer) w) ∙ holding-take s buffer in
         subst (Stands stageLimits) (sym own) (text-stands stageLimits (length buffer) text s is)

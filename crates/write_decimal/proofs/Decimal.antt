@@ -75,6 +75,7 @@ module _ (n at : ℕ) (buffer : List ℕ) (room : at + length (decimal n) ≤ le
     pub last-room : {between : List ℕ} {next : ℕ} → PutNext buffer at (decimal (n / 10)) between next → next + 1 ≤ length between
     last-room p = omega (arith, more-long, p .put .long, p .end)
 
-    pub more-put : {between after : List ℕ} {next end : ℕ} → PutNext buffer at (decimal (n / 10)) between next → PutNext between next ((48 + n % 10) ∷ []) after end
+    pub more-put : {between after : List ℕ} {next end : ℕ} → PutNext buffer at (decimal (n / 10)) between next
+        → PutNext between next ((48 + n % 10) ∷ []) after end
         → PutNext buffer at (decimal n) after end
     more-put p q = next-same (sym (decimal-more n l h)) (next-++ p q)

@@ -77,8 +77,10 @@ put-decimal-put-decimal-requires : (t : ℕ) → put-decimal-lts.Need-put-decima
   put-decimal.Post,
 ) (put-decimal-at t) put-decimal.Post
 put-decimal-put-decimal-requires t c κs =
-    let z = c .before .before .before in
-    (omega (arith, z .pre .0, c .before .if1 .left), front-room (z .args .n) (z .args .at) (now (z .args .buffer)) (z .pre .1) (c .before .if1 .left) (omega arith))
+    let z = c .before .before .before in (
+      omega (arith, z .pre .0, c .before .if1 .left),
+      front-room (z .args .n) (z .args .at) (now (z .args .buffer)) (z .pre .1) (c .before .if1 .left) (omega arith),
+    )
 
 put-decimal-cast-put-char-2 : (t : ℕ) → put-decimal-lts.Need-cast-put-char-2 (
   put-char-reads.Asked,
@@ -124,7 +126,8 @@ put-decimal-returns-2 : (t : ℕ) → put-decimal-lts.Need-returns-2 (
 put-decimal-returns-2 t c =
     let z = c .before .before .before .before .before .before .before .before .before .before in
     more-put (z .args .n) (z .args .at) (now (z .args .buffer)) (z .pre .1)
-    (c .before .before .before .before .before .before .before .before .if1 .left) (omega arith) (c .before .before .before .before .before .before .put-decimal .ensures) (c .before .before .put-char2 .ensures)
+    (c .before .before .before .before .before .before .before .before .if1 .left) (omega arith)
+    (c .before .before .before .before .before .before .put-decimal .ensures) (c .before .before .put-char2 .ensures)
 
 pub +put-decimal-spec : {M : Type 1} → statement M
 +put-decimal-spec = close μ-put-decimal λ t. put-decimal-lts.spec (
