@@ -1,4 +1,4 @@
--- What is promised of reading a text follows from its answer.
+-- What is promised of reading a text, and of writing one, follows from the answer.
 -- Assumes nothing.
 use Prim.Native.Nat.{ℕ, _+_, _*_, _≤_}
 use native.Mathlib.Omega.{arith}
@@ -11,7 +11,9 @@ use Rattle.netlist.specs.declared.File.the-variants as file
 use Rattle.netlist.specs.declared.Limits.{Limits}
 use Rattle.netlist.specs.declared.Found.{Found}
 use Rattle.netlist.specs.declared.Found.the-variants.{At, Nothing}
-use Rattle.netlist.specs.Reading.{Reading, refused, readable, readFile, stageLimits}
+use Rattle.netlist.specs.Content.{Stage, stageOf}
+use Rattle.netlist.specs.Reading.{Places, Reading, refused, readable, readFile, stageLimits}
+use Rattle.netlist.proofs.Lists.{Bytes}
 use Rattle.verdict.proofs.Refusals.{refused-number}
 use Rattle.writing.specs.declared.Answer.{Answer}
 use Rattle.writing.specs.Written.{Written, written}
@@ -20,8 +22,10 @@ use Rattle.text_spec.specs.Characters.{newline}
 use Rattle.text_spec.specs.Lines.{split, otherForm, Text, textOf}
 use Rattle.text_spec.specs.FromText.{needing, driving, drivers, undriven, drivenAgain, fileOf, fromParsed, fromText}
 use Rattle.text_spec.specs.FromText.{TextAnswer, refusal, gives, unless, unlessRefused, ifRoom, unlessMore}
-use Rattle.text_spec.specs.Call.{leaves, stageFrom}
-use Rattle.text_spec.specs.Promises.{Stands, ReadDemand}
+use Rattle.text_spec.specs.ToText.{secondName, textFor, careList, stageText, onReading, toText}
+use Rattle.text_spec.specs.Call.{leaves, stageFrom, textFrom}
+use Rattle.text_spec.specs.Promises.{GatesFirst, Stands, ReadDemand, WriteDemand}
+use Rattle.text_spec.proofs.RoundTrip.{text-read-again}
 use Rattle.text_spec.proofs.Stands.{text-stands}
 
 -- ---- a refusal has a number
@@ -71,7 +75,14 @@ numbered most room u =
     (read-numbered most (fileOf t) _
     (room-numbered room (fileOf t))))))
 
--- ---- the promise
+stage-numbered : (room : ℕ) (c : Stage) → Numbered (stageText room c)
+unfolding stageText
+stage-numbered room c =
+    found-numbered 29 (careList (c .care)) _ (omega arith)
+    (found-numbered 31 (secondName (c .inputs) [] 0 (c .outputs)) _ (omega arith)
+    (room-numbered room (textFor c)))
+
+-- ---- the promises
 
 -- whatever the text holds, and whatever the buffer's length
 pub read-demanded : (text buffer : List ℕ) (r : Answer) (after : List ℕ) → written r after ≡ stageFrom text buffer → ReadDemand text buffer r after
@@ -85,3 +96,23 @@ read-demanded text buffer r after e = record { answer = e; stands = go (fromText
     go (gives s) is w z =
         let own : take (r .count) after ≡ s = ap₂ take (ap (λ (x : Written). x .count) w) (ap (λ (x : Written). x .buffer) w) ∙ holding-take s buffer in
         subst (Stands stageLimits) (sym own) (text-stands stageLimits (length buffer) text s is)
+
+-- whatever the file holds: its bytes are below 256
+module _ (stage buffer : List ℕ) (small : Bytes stage) (r : Answer) (after : List ℕ) (e : written r after ≡ textFrom stage buffer) where
+  back : r .verdict .number ≡ 0 → (p : Places) → readFile file.Stage stageLimits stage ≡ readable p → GatesFirst p → (room : ℕ) → length stage ≤ room →
+      fromText stageLimits room (take (r .count) after) ≡ gives stage
+  unfolding toText onReading leaves Numbered
+  back z p reads first room fits = go (toText stageLimits (length buffer) stage) refl e
+    where
+      go : (a : TextAnswer) → toText stageLimits (length buffer) stage ≡ a → written r after ≡ leaves a buffer →
+          fromText stageLimits room (take (r .count) after) ≡ gives stage
+      go (refusal number f at) is w =
+          let t : stageText (length buffer) (stageOf stage p) ≡ refusal number f at = sym (ap (onReading (length buffer) stage) reads) ∙ is in
+          absurd (omega (arith, subst Numbered t (stage-numbered (length buffer) (stageOf stage p)), ap (λ (x : Written). x .verdict .number) w))
+      go (gives u) is w =
+          let own : take (r .count) after ≡ u = ap₂ take (ap (λ (x : Written). x .count) w) (ap (λ (x : Written). x .buffer) w) ∙ holding-take u buffer in
+          ap (fromText stageLimits room) own
+          ∙ text-read-again stageLimits (omega arith) (omega arith) (omega arith) stage small p reads first u (length buffer) room is fits
+
+  pub write-demanded : WriteDemand stage buffer r after
+  write-demanded = record { answer = e; back = back }
