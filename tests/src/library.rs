@@ -95,6 +95,12 @@ extern "C" {
         stage_out: *mut u8,
         stage_out_len: usize,
     ) -> Written;
+    fn fovaheju_write_text(
+        stage: *const u8,
+        stage_len: usize,
+        text_out: *mut u8,
+        text_out_len: usize,
+    ) -> Written;
 }
 
 /// The verdict on a stage file and a reference file.
@@ -198,6 +204,23 @@ pub fn read_text(text: &[u8], stage_out: &mut [u8]) -> Made {
             text.len(),
             stage_out.as_mut_ptr(),
             stage_out.len(),
+        )
+    };
+    Made {
+        verdict: answer.verdict.into(),
+        len: answer.count as usize,
+    }
+}
+
+/// The text of a stage file, into a buffer.
+pub fn write_text(stage: &[u8], text_out: &mut [u8]) -> Made {
+    // Safety: the contract has no `requires`, and each pointer and length are of a slice; the buffer is lent to be written.
+    let answer = unsafe {
+        fovaheju_write_text(
+            stage.as_ptr(),
+            stage.len(),
+            text_out.as_mut_ptr(),
+            text_out.len(),
         )
     };
     Made {

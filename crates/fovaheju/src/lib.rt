@@ -15,7 +15,7 @@ ghost use Rattle.report.specs.Activity.{ReportMeans};
 ghost use Rattle.joined.specs.Join.{files};
 ghost use Rattle.join.specs.Call.{JoinDemand};
 ghost use Rattle.make.specs.Call.{MakeDemand};
-ghost use Rattle.text_spec.specs.Promises.{ReadDemand};
+ghost use Rattle.text_spec.specs.Promises.{ReadDemand, WriteDemand};
 
 // The check of a stage file against a reference file, with words named in an order. The verdict is the one that the definitions give, and
 // demands 2 and 3 hold of it, with one run from another for an accepted stage.
@@ -85,6 +85,14 @@ pub fn read_text(text: &[u8], stage_out: &mut [u8]) -> Answer
     ensures { λ r. ⌜ ReadDemand (now (text .entry)) (now («stage_out» .entry)) r (now («stage_out» .exit)) ⌝ }
 {
     call_text_read::read_text(text, stage_out)
+}
+
+// A stage file as text in the line form, written at the start of a lent buffer. Read again, the text gives the file's own bytes, if its gates stand before
+// its outputs. A refusal leaves the buffer as it was.
+pub fn write_text(stage: &[u8], text_out: &mut [u8]) -> Answer
+    ensures { λ r. ⌜ WriteDemand (now (stage .entry)) (now («text_out» .entry)) r (now («text_out» .exit)) ⌝ }
+{
+    call_text_write::write_text(stage, text_out)
 }
 
 // The order of words that a number stands for: 0 has input 0 as the highest bit of a word, every other number has it as the lowest.
@@ -165,4 +173,12 @@ pub extern "C" fn fovaheju_read_text(text: &[u8], stage_out: &mut [u8]) -> Answe
     ensures { λ r. ⌜ ReadDemand (now (text .entry)) (now («stage_out» .entry)) r (now («stage_out» .exit)) ⌝ }
 {
     read_text(text, stage_out)
+}
+
+// The text of a stage file for callers in C and in Rust, with the contract of `write_text`.
+#[no_mangle]
+pub extern "C" fn fovaheju_write_text(stage: &[u8], text_out: &mut [u8]) -> Answer
+    ensures { λ r. ⌜ WriteDemand (now (stage .entry)) (now («text_out» .entry)) r (now («text_out» .exit)) ⌝ }
+{
+    write_text(stage, text_out)
 }
