@@ -1,6 +1,6 @@
 -- The inputs and gates of a text of the line form, counted by its commas and newlines, and the names that it drives.
 -- Assumes nothing.
-use Prim.Native.Nat.{ℕ, suc, _+_, _*_, _-_, _≤_, _<_}
+use Prim.Native.Nat.{ℕ, suc, _+_, _*_, _-_, _≤_}
 use native.Mathlib.Omega.{arith}
 use mathlib.Core.Path.{_≡_, refl, ap, _∙_}
 use mathlib.Core.Bool.{Bool, true, false, cond}
@@ -10,8 +10,8 @@ use lib.Seq.{length-take-le, take-at}
 use lib.Dec.{eqb}
 use Rattle.netlist.specs.declared.Found.the-variants.{Nothing}
 use Rattle.text_spec.specs.Characters.{newline, comma}
-use Rattle.text_spec.specs.Lines.{split, otherForm, GateLine, gateLine, gateLines, Text, textOf}
-use Rattle.text_spec.specs.FromText.{rails, drivers}
+use Rattle.text_spec.specs.Lines.{split, otherForm, GateLine, gateLines, Text, textOf}
+use Rattle.text_spec.specs.FromText.{rails}
 use Rattle.text_scan.specs.Pieces.{before}
 use Rattle.text_scan.proofs.Pieces.{split-more}
 use Rattle.text_lines.specs.Names.{separators}
@@ -43,15 +43,18 @@ module _ (s : List ℕ) (fine : otherForm 0 (split newline s) ≡ Nothing) where
   -- line 0, line 1, and the rest
   lines : split newline s ≡ take (before newline s) s ∷ take (before newline (drop (before newline s + 1) s)) (drop (before newline s + 1) s)
       ∷ split newline (drop (suc (before newline (drop (before newline s + 1) s))) (drop (before newline s + 1) s))
-  lines = more-lines s fine ∙ ap (λ (ls : List (List ℕ)). take (before newline s) s ∷ ls) (split-more newline (drop (before newline s + 1) s) (second-ends s fine))
+  lines =
+      more-lines s fine ∙ ap (λ (ls : List (List ℕ)). take (before newline s) s ∷ ls) (split-more newline (drop (before newline s + 1) s) (second-ends s fine))
 
   gate-count : length (saying s .gates) + 2 ≡ separators newline s
   unfolding textOf
   gate-count = go _ (ap (λ (ls : List (List ℕ)). length (textOf ls .gates)) lines) (ap length lines)
     where
-      go : (rest : List ℕ) → length (saying s .gates) ≡ length (gateLines (split newline rest)) → length (split newline s) ≡ suc (suc (length (split newline rest))) →
+      go : (rest : List ℕ) → length (saying s .gates) ≡ length (gateLines (split newline rest)) →
+          length (split newline s) ≡ suc (suc (length (split newline rest))) →
           length (saying s .gates) + 2 ≡ separators newline s
-      go rest g l = omega (arith, split-length newline s, split-length newline rest, counted (split newline rest) (separators newline rest) (split-length newline rest))
+      go rest g l =
+          omega (arith, split-length newline s, split-length newline rest, counted (split newline rest) (separators newline rest) (split-length newline rest))
         where
           counted : (ls : List (List ℕ)) (k : ℕ) → length ls ≡ suc k → length (gateLines ls) ≡ k
           counted [] k e = absurd (omega arith)
@@ -61,7 +64,11 @@ module _ (s : List ℕ) (fine : otherForm 0 (split newline s) ≡ Nothing) where
   module _ (n : ℕ) (e : n ≡ before newline s) where
     input-count : length (saying s .inputs) ≡ separators comma (take n s) + 1
     input-count =
-        omega (arith, ap (λ (t : Text). length (t .inputs)) (text-parts s fine n (before newline (take (length s - (n + 1)) (drop (n + 1) s))) e refl), split-length comma (take n s))
+        omega (
+          arith,
+          ap (λ (t : Text). length (t .inputs)) (text-parts s fine n (before newline (take (length s - (n + 1)) (drop (n + 1) s))) e refl),
+          split-length comma (take n s),
+        )
 
     pub inputs-fit : separators comma (take n s) + 1 ≤ length s
     inputs-fit = omega (arith, separators-few comma (take n s), first-ends s fine, length-take-le n s (omega (arith, first-ends s fine)))

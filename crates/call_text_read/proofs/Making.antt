@@ -10,7 +10,7 @@ use lib.Seq.{take-all, length-take-le}
 use Rattle.netlist.specs.declared.File.the-variants as file
 use Rattle.netlist.specs.Commands.{commandTable, ownCommands, formIn}
 use Rattle.netlist.specs.Reading.{Reading, refused, readable, readFile, stageLimits}
-use Rattle.netlist.specs.Writing.{Item, writeItem, writeItems, writeFile}
+use Rattle.netlist.specs.Writing.{writeItem, writeFile}
 use Rattle.netlist.proofs.Readable.{readable-length}
 use Rattle.writing.specs.Put.{Put}
 use Rattle.writing.specs.Parts.{bytesOf}
@@ -27,7 +27,7 @@ use Rattle.text_names.specs.Tailed.{driversOf}
 use Rattle.text_names.proofs.Ends.{text-parts, lines-inside}
 use Rattle.text_read.specs.Parts.{gateLinesIn, lineItem, nameItem, outputsPut, cutFile, madeLeaves}
 use Rattle.text_read.proofs.Cut.{items-join, cut-reads}
-use Rattle.call_text_read.specs.Counted.{saying, TextCounted, Few, fileLeaves}
+use Rattle.call_text_read.specs.Counted.{saying, TextCounted, Few, workLength, fileLeaves}
 
 -- how many outputs are put
 outputs-few : (os : List (List ℕ)) → length (outputsPut os) ≤ 1145
@@ -64,10 +64,12 @@ module _ (t : Text) where
   unfolding cutFile writeFile bytesOf
   cut-parts =
       ap (λ (l : List ℕ). 0x01 ∷ length (t .inputs) ∷ l)
-      (ap (λ (l : List ℕ). l ++ (0x00 ∷ [])) (items-join (map (lineItem ds) (t .gates)) (map (nameItem ds) (outputsPut (t .outputs)))) ∙ append-assoc gateBytes outputBytes (0x00 ∷ []))
+      (ap (λ (l : List ℕ). l ++ (0x00 ∷ [])) (items-join (map (lineItem ds) (t .gates)) (map (nameItem ds) (outputsPut (t .outputs))))
+      ∙ append-assoc gateBytes outputBytes (0x00 ∷ []))
 
   pub cut-length : length (cutFile t) ≡ 3 + 10 * length (t .gates) + 5 * length (outputsPut (t .outputs))
-  cut-length = omega (arith, ap length cut-parts, length-append gateBytes (outputBytes ++ (0x00 ∷ [])), length-append outputBytes (0x00 ∷ []), gates-long, outputs-long)
+  cut-length =
+      omega (arith, ap length cut-parts, length-append gateBytes (outputBytes ++ (0x00 ∷ [])), length-append outputBytes (0x00 ∷ []), gates-long, outputs-long)
 
   pub file-put : {w₀ w₁ w₂ w₃ w₄ : List ℕ} {at end : ℕ} (n : ℕ) → n ≡ length (t .inputs) → Put w₀ 0 (0x01 ∷ n ∷ []) w₁ → Put w₁ 2 gateBytes w₂ →
       at ≡ 2 + 10 * length (t .gates) → Put w₂ at outputBytes w₃ → end ≡ at + 5 * length (outputsPut (t .outputs)) → Put w₃ end (0x00 ∷ []) w₄ →
@@ -112,7 +114,7 @@ module _ (t : Text) where
 -- ---- of a text whose inputs and gates are counted
 
 module _ {s : List ℕ} {inputs gates : ℕ} (h : TextCounted s inputs gates) where
-  pub cut-fits : Few inputs gates → length (cutFile (saying s)) ≤ 8288
+  pub cut-fits : Few inputs gates → length (cutFile (saying s)) ≤ workLength
   cut-fits few = omega (arith, cut-length (saying s), outputs-few (saying s .outputs), h .gates-are, few .gates-in)
 
   -- n is the length of line 0, m that of line 1

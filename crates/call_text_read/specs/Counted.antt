@@ -1,5 +1,5 @@
 -- A text of the line form whose inputs and gates are counted, the table of the names that it drives, and the file that is made of it.
-use Prim.Native.Nat.{ℕ, _≤_}
+use Prim.Native.Nat.{ℕ, _+_, _*_, _≤_}
 use mathlib.Core.Path.{_≡_}
 use mathlib.Core.List.{List}
 use lib.ListN.{length, take}
@@ -27,6 +27,14 @@ pub record TextCounted (s : List ℕ) (inputs gates : ℕ) : Type 0 where
 pub record Few (inputs gates : ℕ) : Type 0 where
   pub inputs-in : inputs ≤ stageLimits .inputs
   pub gates-in : gates ≤ stageLimits .gates
+
+-- the length of the table of the most names that a stage drives, the rails of its inputs and its gates
+abbrev pub tableLength : ℕ
+tableLength = 5 * (2 * stageLimits .inputs + stageLimits .gates) + 256
+
+-- the length of the workspace: inputs, the most gates, the outputs that are put, end
+abbrev pub workLength : ℕ
+workLength = 3 + 10 * stageLimits .gates + 5 * 1145
 
 -- the part of a table that is used: all names that a text drives, or nothing where its inputs or gates are more than a stage may have
 pub record TableFor (s : List ℕ) (inputs gates used : ℕ) (table : List ℕ) : Type 0 where

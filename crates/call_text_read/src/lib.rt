@@ -1,5 +1,5 @@
-// The call that reads a text in the line form, and writes its stage file into a buffer that the caller lends. The numbers come in the paper's order: 29, 30, 31,
-// then 3 and 6, the reader's numbers for the file made, and 24.
+// The call that reads a text in the line form, and writes its stage file into a buffer that the caller lends. The numbers come in the paper's order:
+// 29, 30, 31, then 3 and 6, the reader's numbers for the file made, and 24.
 use netlist::Found;
 use writing::Answer;
 ghost use mathlib.Core.Path.{_≡_};
@@ -13,7 +13,7 @@ ghost use Rattle.text_spec.specs.Call.{leaves};
 ghost use Rattle.text_spec.specs.Promises.{ReadDemand};
 ghost use Rattle.text_table.specs.Table.{Full};
 ghost use Rattle.text_read.specs.Parts.{cutFile};
-ghost use Rattle.call_text_read.specs.Counted.{saying, TextCounted, Few, TableFor, fileLeaves};
+ghost use Rattle.call_text_read.specs.Counted.{saying, TextCounted, Few, tableLength, workLength, TableFor, fileLeaves};
 
 // The length of the table of the most names that a stage drives: the rails of its inputs, and its gates.
 const TABLE: usize = 5 * (2 * netlist::INPUTS + netlist::STAGE_GATES) + 256;
@@ -21,7 +21,7 @@ const TABLE: usize = 5 * (2 * netlist::INPUTS + netlist::STAGE_GATES) + 256;
 // Fills the table of the names that a text drives, and answers how much of it is used. Where a text has more inputs or gates than a stage may have, that is
 // nothing: names are then looked for in the text itself.
 fn fill_table(s: &[u8], inputs: usize, gates: usize, table: &mut [u64]) -> usize
-    requires { ⌜ TextCounted (now s) inputs gates × (1636 ≤ length (now table)) ⌝ }
+    requires { ⌜ TextCounted (now s) inputs gates × (tableLength ≤ length (now table)) ⌝ }
     ensures { λ r. ⌜ TableFor (now (s .entry)) inputs gates r (now (table .exit)) ⌝ }
 {
     if netlist::INPUTS < inputs {
@@ -37,7 +37,7 @@ fn fill_table(s: &[u8], inputs: usize, gates: usize, table: &mut [u64]) -> usize
 
 // Puts the stage file of a text into a workspace: inputs, gates, outputs, end. Answers its length.
 fn put_file(s: &[u8], table: &[u64], inputs: usize, gates: usize, work: &mut [u8]) -> usize
-    requires { ⌜ TextCounted (now s) inputs gates × Few inputs gates × Full (now s) (now table) × (8288 ≤ length (now work)) ⌝ }
+    requires { ⌜ TextCounted (now s) inputs gates × Few inputs gates × Full (now s) (now table) × (workLength ≤ length (now work)) ⌝ }
     ensures { λ r. ⌜ (r ≡ length (cutFile (saying (now (s .entry))))) × Put (now (work .entry)) 0 (cutFile (saying (now (s .entry)))) (now (work .exit)) ⌝ }
 {
     let from = text_scan::piece_len(s, 10) + 1;
@@ -62,7 +62,8 @@ fn make_file(s: &[u8], table: &[u64], inputs: usize, gates: usize, buffer: &mut 
 // A text of the line form, whose inputs and gates are counted.
 fn read_lines(s: &[u8], inputs: usize, gates: usize, buffer: &mut [u8]) -> Answer
     requires { ⌜ TextCounted (now s) inputs gates ⌝ }
-    ensures { λ r. ⌜ written r (now (buffer .exit)) ≡ leaves (fromParsed stageLimits (length (now (buffer .entry))) (saying (now (s .entry)))) (now (buffer .entry)) ⌝ }
+    ensures { λ r. ⌜ written r (now (buffer .exit)) ≡ leaves (fromParsed stageLimits (length (now (buffer .entry))) (saying (now (s .entry))))
+        (now (buffer .entry)) ⌝ }
 {
     let mut table = [0u64; TABLE];
     let used = fill_table(s, inputs, gates, &mut table);

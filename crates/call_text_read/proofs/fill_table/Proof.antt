@@ -2,7 +2,7 @@
 use Prim.Native.Nat.{_+_, _*_}
 use denote.Ref.{now}
 use native.Mathlib.Omega.{arith}
-use mathlib.Core.Path.{_≡_, refl, sym, ap, _∙_}
+use mathlib.Core.Path.{sym, _∙_}
 use lib.Seq.{length-take-le}
 use Rattle.call_text_read.proofs.Counting.{counted-rails, counted-drivers, table-none, table-filled}
 use borrow.Author.Needs.{needs}
@@ -15,24 +15,6 @@ returns c = table-none (c .before .before .before .pre .0) (λ few. omega (arith
 returns-2 : tie.Need-returns-2
 returns-2 c = table-none (c .before .before .before .before .pre .0) (λ few. omega (arith, few .gates-in, c .if2 .taken))
 
-mul-used : tie.Need-mul-used
-mul-used c = search needs
-
-add-used : tie.Need-add-used
-add-used c = search needs
-
-mul-used-2 : tie.Need-mul-used-2
-mul-used-2 c = search needs
-
-add-used-2 : tie.Need-add-used-2
-add-used-2 c = search needs
-
-mul-index : tie.Need-mul-index
-mul-index c = search needs
-
-slice-relend-prefix-index : tie.Need-slice-relend-prefix-index
-slice-relend-prefix-index c = search needs
-
 slice-aggregate-index : tie.Need-slice-aggregate-index
 slice-aggregate-index c = sym (length-take-le _ _ (omega arith))
 
@@ -44,9 +26,6 @@ index-requires c κs =
       length-take-le (5 * (2 * z .args .inputs + z .args .gates) + 256) (now (z .args .table)) (omega arith) ∙ omega (arith, counted-drivers (z .pre .0)),
     )
 
-same-length : tie.Need-same-length
-same-length c = search needs
-
 returns-3 : tie.Need-returns-3
 returns-3 c = table-filled (c .before .before .before .before .before .before .before .before .pre .0) _ _ (c .before .before .index .ensures)
 
@@ -56,13 +35,13 @@ fill-table-spec =
     (tie.spec
     returns
     returns-2
-    mul-used
-    add-used
-    mul-used-2
-    add-used-2
-    mul-index
-    slice-relend-prefix-index
+    (λ c. search needs)
+    (λ c. search needs)
+    (λ c. search needs)
+    (λ c. search needs)
+    (λ c. search needs)
+    (λ c. search needs)
     slice-aggregate-index
     index-requires
-    same-length
+    (λ c. search needs)
     returns-3)

@@ -1,6 +1,6 @@
 -- `call_text_read::make_file` meets its contract. Assumes nothing.
 use native.Mathlib.Omega.{arith}
-use mathlib.Core.Path.{_≡_, refl, sym, ap, _∙_}
+use mathlib.Core.Path.{sym, ap, _∙_}
 use denote.Ref.{now}
 use Prim.Native.Nat.{ℕ}
 use mathlib.Core.List.{List}
@@ -12,23 +12,15 @@ use borrow.Author.Needs.{needs}
 use Rattle.call_text_read.proofs.make_file.Statement.{statement}
 use Rattle.call_text_read.proofs.make_file.Tie as tie
 
-slice-aggregate-put-file : tie.Need-slice-aggregate-put-file
-slice-aggregate-put-file c = search needs
-
-put-file-requires : tie.Need-put-file-requires
-put-file-requires c κs = search needs
-
 array-share-prefix-work : tie.Need-array-share-prefix-work
-array-share-prefix-work c = omega (arith, c .before .put-file .ensures .0, cut-fits (c .before .before .before .before .before .before .pre .0) (c .before .before .before .before .before .before .pre .1))
+array-share-prefix-work c =
+    let z = c .before .before .before .before .before .before in
+    omega (arith, c .before .put-file .ensures .0, cut-fits (z .pre .0) (z .pre .1))
 
 slice-aggregate-put-read : tie.Need-slice-aggregate-put-read
-slice-aggregate-put-read c = sym (length-take-le _ _ (omega (arith, c .before .before .put-file .ensures .0, cut-fits (c .before .before .before .before .before .before .before .pre .0) (c .before .before .before .before .before .before .before .pre .1))))
-
-put-read-requires : tie.Need-put-read-requires
-put-read-requires c κs = search needs
-
-same-length : tie.Need-same-length
-same-length c = search needs
+slice-aggregate-put-read c =
+    let z = c .before .before .before .before .before .before .before in
+    sym (length-take-le _ _ (omega (arith, c .before .before .put-file .ensures .0, cut-fits (z .pre .0) (z .pre .1))))
 
 returns : tie.Need-returns
 returns c =
@@ -43,10 +35,10 @@ pub make-file-spec : {M : Type 1} → statement M
 make-file-spec =
     tie.close
     (tie.spec
-    slice-aggregate-put-file
-    put-file-requires
+    (λ c. search needs)
+    (λ c κs. search needs)
     array-share-prefix-work
     slice-aggregate-put-read
-    put-read-requires
-    same-length
+    (λ c κs. search needs)
+    (λ c. search needs)
     returns)
