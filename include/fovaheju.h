@@ -122,6 +122,13 @@ struct fovaheju_written fovaheju_make_stage(const uint8_t *reference, size_t ref
    with file 1; then 24 with file 3. */
 struct fovaheju_written fovaheju_read_text(const uint8_t *text, size_t text_len, uint8_t *stage_out, size_t stage_out_len);
 
+/* Writes a stage file as text in the line form: the names of the inputs, those of the outputs, then a line for each gate, with
+   its kind, its pins and its net. The text is written at the start of a buffer; the bytes past it keep their values, and so
+   do all where the number is not 0. fovaheju_read_text gives the file's own bytes back, if its gates stand before its
+   outputs. 10,012 bytes have room for every text. The numbers are 0; 1 to 9, 18 and 19; 29 for a file with a care list; 31
+   with `at` the least output that would give a net a second name; all these with file 1; then 24 with file 3. */
+struct fovaheju_written fovaheju_write_text(const uint8_t *stage, size_t stage_len, uint8_t *text_out, size_t text_out_len);
+
 /* Writes the next file of the family of small stages: 1 or 2 inputs, 0 to 2 gates of kinds 1 and 2, one output, gates
    first, no care list, no loop; by inputs, then gates, then bytes. After the empty file comes the first. From it on,
    until 36, every file of the family is written exactly once. The bytes past the file keep their values, and so do all

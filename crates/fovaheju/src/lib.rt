@@ -15,7 +15,7 @@ ghost use Rattle.report.specs.Activity.{ReportMeans};
 ghost use Rattle.joined.specs.Join.{files};
 ghost use Rattle.join.specs.Call.{JoinDemand};
 ghost use Rattle.make.specs.Call.{MakeDemand};
-ghost use Rattle.text_spec.specs.Promises.{ReadDemand};
+ghost use Rattle.text_spec.specs.Promises.{ReadDemand, WriteDemand};
 ghost use Rattle.next_spec.specs.Family.{NextDemand};
 ghost use Rattle.draw_spec.specs.Demand.{DrawnDemand};
 
@@ -87,6 +87,14 @@ pub fn read_text(text: &[u8], stage_out: &mut [u8]) -> Answer
     ensures { λ r. ⌜ ReadDemand (now (text .entry)) (now («stage_out» .entry)) r (now («stage_out» .exit)) ⌝ }
 {
     call_text_read::read_text(text, stage_out)
+}
+
+// A stage file as text in the line form, written at the start of a lent buffer. Read again, the text gives the file's own bytes, if its gates stand before
+// its outputs. A refusal leaves the buffer as it was.
+pub fn write_text(stage: &[u8], text_out: &mut [u8]) -> Answer
+    ensures { λ r. ⌜ WriteDemand (now (stage .entry)) (now («text_out» .entry)) r (now («text_out» .exit)) ⌝ }
+{
+    call_text_write::write_text(stage, text_out)
 }
 
 // The next file of the family of small stages, by inputs, then gates, then bytes: after a file of the family or the empty file, written at the start of
@@ -183,6 +191,14 @@ pub extern "C" fn fovaheju_read_text(text: &[u8], stage_out: &mut [u8]) -> Answe
     ensures { λ r. ⌜ ReadDemand (now (text .entry)) (now («stage_out» .entry)) r (now («stage_out» .exit)) ⌝ }
 {
     read_text(text, stage_out)
+}
+
+// The text of a stage file for callers in C and in Rust, with the contract of `write_text`.
+#[no_mangle]
+pub extern "C" fn fovaheju_write_text(stage: &[u8], text_out: &mut [u8]) -> Answer
+    ensures { λ r. ⌜ WriteDemand (now (stage .entry)) (now («text_out» .entry)) r (now («text_out» .exit)) ⌝ }
+{
+    write_text(stage, text_out)
 }
 
 // The next file of the family for callers in C and in Rust, with the contract of `next_stage`.

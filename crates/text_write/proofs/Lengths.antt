@@ -2,21 +2,21 @@
 -- Assumes nothing.
 use Prim.Native.Nat.{ℕ, zero, suc, _+_, _*_, _-_, _/_, _%_, _≤_, _<_}
 use native.Mathlib.Omega.{arith}
-use mathlib.Core.Path.{_≡_, refl, sym, ap, _∙_, subst}
+use mathlib.Core.Path.{_≡_, refl, ap}
 use mathlib.Core.Bool.{Bool, true, false, cond}
 use mathlib.Core.List.{List, [], _∷_, _++_, map}
-use lib.ListN.{length, getD, take, length-append, length-map, length-take}
+use lib.ListN.{length, length-append, length-map, length-take}
 use lib.Dec.{eqb, leb, ltb}
 use borrow.Author.Tests.{le-leb, lt-leb, leb-true}
 use Rattle.gates.specs.Cell as cell
 use Rattle.gates.specs.Cell.{pinCount, kindByte}
 use Rattle.netlist.specs.declared.Counts.{Counts}
-use Rattle.netlist.specs.Content.{Coded, Gate, Pair}
+use Rattle.netlist.specs.Content.{Coded, Pair}
 use Rattle.netlist.specs.Writing.{All, codedGate}
-use Rattle.circuit.specs.Stage.{tabulate, cellIn, slot, pinIn, gateIn, stageGates, outputIn, stageOutputs, stageIn, GateLoaded, StageLoaded}
+use Rattle.circuit.specs.Stage.{tabulate, cellIn, slot, pinIn, gateIn, stageGates, outputIn, stageOutputs, stageIn, StageLoaded}
 use Rattle.circuit.proofs.Tabulate.{length-tabulate, map-tabulate}
 use Rattle.text_spec.specs.Characters.{newline, space, comma, rail, range, cellName, kindName}
-use Rattle.text_spec.specs.ToText.{numbered, x, y, g, gateName, netName, straight, outputName, join, ended, outputNames, gateText, gateTexts, linesOf, textFor}
+use Rattle.text_spec.specs.ToText.{x, y, gateName, netName, straight, outputName, join, ended, outputNames, gateText, gateTexts, textFor}
 use Rattle.text_spec.proofs.Spelling.{length-numbered, length-rail}
 use Rattle.text_spec.proofs.KindNames.{every-range}
 use Rattle.text_spec.proofs.Lookup.{length-map-range}

@@ -1,10 +1,10 @@
 -- The names and lines of a text as values of functions, and lists of them with commas between or newlines after them.
 -- Assumes nothing.
-use Prim.Native.Nat.{ℕ, zero, suc, _+_, _≤_, _<_}
+use Prim.Native.Nat.{ℕ, zero, suc, _+_, _≤_}
 use native.Mathlib.Omega.{arith}
 use mathlib.Core.Path.{_≡_, refl, sym, ap, ap₂, _∙_}
 use mathlib.Core.List.{List, [], _∷_, _++_, map, append-assoc, append-nil}
-use lib.ListN.{length, drop, take}
+use lib.ListN.{take}
 use Rattle.netlist.specs.Content.{Coded, Pair}
 use Rattle.circuit.specs.Stage.{tabulate}
 use Rattle.circuit.proofs.Tabulate.{all-same, map-tabulate}

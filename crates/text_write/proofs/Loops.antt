@@ -1,13 +1,12 @@
 -- Text that is put part by part: what is left of it, and where it will end.
 -- Assumes nothing.
-use Prim.Native.Nat.{ℕ, zero, suc, _+_, _≤_, _<_}
+use Prim.Native.Nat.{ℕ, _+_, _≤_, _<_}
 use native.Mathlib.Omega.{arith}
 use native.Mathlib.Numerals.{add-one}
 use mathlib.Core.Path.{_≡_, refl, sym, ap, _∙_}
 use mathlib.Core.List.{List, [], _∷_, _++_, append-assoc, append-nil}
 use lib.ListN.{length, drop, length-append}
-use Rattle.writing.specs.Put.{Put}
-use Rattle.writing.proofs.Joining.{put-++, Left, left-all, left-put, left-room, left-none}
+use Rattle.writing.proofs.Joining.{Left, left-all, left-put, left-room, left-none}
 use Rattle.write_decimal.specs.Decimal.{PutNext}
 use Rattle.circuit.specs.Stage.{tabulate}
 use Rattle.text_spec.specs.Characters.{comma}

@@ -3,19 +3,18 @@
 use Prim.Native.Nat.{ℕ, zero, suc, _+_, _*_, _-_, _/_, _%_, _≤_, _<_}
 use native.Mathlib.Omega.{arith}
 use mathlib.Core.Path.{_≡_, refl, sym, ap, _∙_}
-use mathlib.Core.Bool.{Bool, true, false, cond, _&&_}
+use mathlib.Core.Bool.{true, false, cond, _&&_}
 use mathlib.Core.List.{List, [], _∷_, _++_, map}
 use lib.ListN.{length, getD, take, drop, length-drop}
 use lib.Seq.{length-take-le}
-use lib.Dec.{eqb, leb, ltb}
+use lib.Dec.{eqb, leb}
 use borrow.Author.Tests.{lt-ltb, le-ltb, eq-eqb, ne-eqb, le-leb, lt-leb, leb-true}
 use Rattle.gates.specs.Cell as cell
 use Rattle.gates.specs.Cell.{pinCount, kindOf, kindByte}
-use Rattle.gates.specs.declared.Kind.{Kind}
 use Rattle.gates.specs.declared.Kind.the-variants.{Hold, Relaxed, Unknown}
 use Rattle.gates.proofs.Ranges.{kind-known}
 use Rattle.netlist.specs.declared.Counts.{Counts}
-use Rattle.netlist.specs.Content.{Coded, Pair, Stage}
+use Rattle.netlist.specs.Content.{Pair}
 use Rattle.netlist.specs.Writing.{codedGate}
 use Rattle.circuit.specs.Stage.{tabulate, cellIn, pinIn, gateIn, stageGates, outputIn, stageOutputs, stageIn}
 use Rattle.circuit.proofs.Tabulate.{from-at, none-from, map-tabulate}
