@@ -32,12 +32,12 @@ struct fovaheju_verdict {
        small stage, 39 to 41 no drawn reference.
        docs/VERDICTS.md has the list. */
     uint64_t number;
-    /* In which file: 1 the stage or its text, 2 the reference, 3 the row or a buffer, 0 none. Of a join 1 and 2 are the
-       first part's, 4 and 5 the second's; 3 is none in the second part, and for 24 a buffer. */
+    /* In which file: 1 the stage or a stage's text, 2 the reference, 3 the row or a buffer, 0 none. Of a join 1 and 2 are
+       the first part's, 4 and 5 the second's; 3 is none in the second part, and for 24 a buffer. */
     uint64_t file;
     /* At which place: a byte of the file for 1 to 9, 18 and 19, the stage's count for 10 and 11, a gate for 12, 15, 21
        and 28, an output for 13, an input for 14, 17 and 20, the row's length for 16, the first part's outputs for 22, a
-       signal for 25, how many gates are needed for 26, of a text that is read a line, from 0, for 29 to 31, of one that is
+       signal for 25, how many gates are needed for 26, a line of the text for 29 to 31, counted from 0, where a text is
        written an output for 31. */
     uint64_t at;
     /* In which input word for 13 to 15, 20, 21 and 23, input 0 being the highest bit of as many bits as the stage has
