@@ -12,7 +12,7 @@ use Rattle.netlist.specs.declared.Limits.{Limits}
 use Rattle.netlist.specs.declared.Found.{Found}
 use Rattle.netlist.specs.declared.Found.the-variants.{At, Nothing}
 use Rattle.netlist.specs.Content.{Stage, stageOf}
-use Rattle.netlist.specs.Reading.{Places, Reading, refused, readable, readFile, stageLimits}
+use Rattle.netlist.specs.Reading.{Places, GatesFirst, Reading, refused, readable, readFile, stageLimits}
 use Rattle.netlist.proofs.Lists.{Bytes}
 use Rattle.verdict.proofs.Refusals.{refused-number}
 use Rattle.writing.specs.declared.Answer.{Answer}
@@ -24,7 +24,7 @@ use Rattle.text_spec.specs.FromText.{needing, driving, drivers, undriven
 use Rattle.text_spec.specs.FromText.{TextAnswer, refusal, gives, unless, unlessRefused, ifRoom, unlessMore}
 use Rattle.text_spec.specs.ToText.{secondName, textFor, careList, stageText, onReading, toText}
 use Rattle.text_spec.specs.Call.{leaves, stageFrom, textFrom}
-use Rattle.text_spec.specs.Promises.{GatesFirst, Stands, ReadDemand, WriteDemand}
+use Rattle.text_spec.specs.Promises.{Stands, ReadDemand, WriteDemand}
 use Rattle.text_spec.proofs.RoundTrip.{text-read-again}
 use Rattle.text_spec.proofs.Stands.{text-stands}
 
