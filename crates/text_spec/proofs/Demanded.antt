@@ -26,6 +26,7 @@ use Rattle.text_spec.specs.ToText.{secondName, textFor, careList, stageT
 use Rattle.text_spec.specs.Call.{leaves, stageFrom, textFrom}
 use Rattle.text_spec.specs.Promises.{Stands, ReadDemand, WriteDemand}
 use Rattle.text_spec.proofs.RoundTrip.{text-read-again}
+use Rattle.text_spec.proofs.LeastLines.{least-lines}
 use Rattle.text_spec.proofs.Stands.{text-stands}
 
 -- ---- a refusal has a number
@@ -87,7 +88,7 @@ stage-numbered room c =
 -- whatever the text holds, and whatever the buffer's length
 pub read-demanded : (text buffer : List ℕ) (r : Answer) (after : List ℕ) → written r after ≡ stageFrom text buffer → ReadDemand text buffer r after
 unfolding leaves Numbered
-read-demanded text buffer r after e = record { answer = e; stands = go (fromText stageLimits (length buffer) text) refl e }
+read-demanded text buffer r after e = record { answer = e; least = least-lines text buffer r after e; stands = go (fromText stageLimits (length buffer) text) refl e }
   where
     go : (a : TextAnswer) → fromText stageLimits (length buffer) text ≡ a → written r after ≡ leaves a buffer → r .verdict .number ≡ 0 →
         Stands stageLimits (take (r .count) after)
