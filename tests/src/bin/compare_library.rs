@@ -102,13 +102,25 @@ fn compare(seed: u64, count: u64) -> Result<bool, Box<Difference>> {
     println!("stages of {} stored references alike", references.len());
     // The calls beside one another, each with its own files.
     let all: [(&str, &[usize], Comparison); 7] = [
-        ("checks", &CHECK_NUMBERS, &|| compare_checks(CHECK, seed, count)),
-        ("reports", &CHECK_NUMBERS, &|| compare_reports(REPORT, seed, count)),
-        ("rows", &ROW_NUMBERS, &|| compare_rows(library::settled_row, seed, count)),
+        ("checks", &CHECK_NUMBERS, &|| {
+            compare_checks(CHECK, seed, count)
+        }),
+        ("reports", &CHECK_NUMBERS, &|| {
+            compare_reports(REPORT, seed, count)
+        }),
+        ("rows", &ROW_NUMBERS, &|| {
+            compare_rows(library::settled_row, seed, count)
+        }),
         ("joins", &JOIN_NUMBERS, &|| compare_joins(JOIN, seed, count)),
-        ("stages from references", &MAKE_NUMBERS, &|| compare_makes(made_and_checked, seed, count)),
-        ("calls through the family", &[0, 36, 38], &|| compare_family(library::next_stage)),
-        ("next small stages", &NEXT_NUMBERS, &|| compare_nexts(library::next_stage, seed, count)),
+        ("stages from references", &MAKE_NUMBERS, &|| {
+            compare_makes(made_and_checked, seed, count)
+        }),
+        ("calls through the family", &[0, 36, 38], &|| {
+            compare_family(library::next_stage)
+        }),
+        ("next small stages", &NEXT_NUMBERS, &|| {
+            compare_nexts(library::next_stage, seed, count)
+        }),
     ];
     let histograms = thread::scope(|scope| {
         let begun = all.map(|(_, _, comparison)| scope.spawn(comparison));
