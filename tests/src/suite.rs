@@ -17,6 +17,7 @@ use crate::files::{verdict_line, FilePair};
 use crate::join::join_in_order;
 use crate::judge::{check_in_order, Verdict, WordOrder, LIMITS};
 use crate::make::make_stage;
+use crate::next::{next_stage, FAMILY};
 use crate::text::{read_text, text_of_file, write_text};
 use std::collections::BTreeSet;
 use std::fs;
@@ -126,6 +127,7 @@ pub fn programs() -> Vec<Program> {
         ncl_report(),
         ncl_join(),
         ncl_make(),
+        ncl_next(),
         ncl_read_text(),
         ncl_write_text(),
     ]
@@ -215,6 +217,17 @@ fn ncl_write_text() -> Program {
         name: "ncl_write_text",
         data: vec![("stage.ncl", stage)],
         stdout: verdict_line(written.verdict),
+    }
+}
+
+/// The last file with one input, after which comes the first with two.
+fn ncl_next() -> Program {
+    let last = FAMILY.iter().rfind(|file| file[1] == 1).expect("some");
+    let made = next_stage(last, &mut [0; 28]);
+    Program {
+        name: "ncl_next",
+        data: vec![("stage.ncl", last.clone())],
+        stdout: verdict_line(made.verdict),
     }
 }
 
