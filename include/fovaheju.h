@@ -112,6 +112,14 @@ struct fovaheju_written {
 struct fovaheju_written fovaheju_make_stage(const uint8_t *reference, size_t reference_len,
                                             uint8_t *stage_out, size_t stage_out_len);
 
+/* Writes the next file of the family of small stages: 1 or 2 inputs, 0 to 2 gates of kinds 1 and 2, one output, gates
+   first, no care list, no loop; by inputs, then gates, then bytes. After the empty file comes the first. From it on,
+   until 36, every file of the family is written exactly once. The bytes past the file keep their values, and so do all
+   where the number is not 0; 28 bytes have room for every such file. The numbers are 0; 37 a file that is not of the
+   family and 36 none further, both with file 1; 38 with file 3, a buffer that is too short. */
+struct fovaheju_written fovaheju_next_stage(const uint8_t *stage, size_t stage_len,
+                                            uint8_t *stage_out, size_t stage_out_len);
+
 #ifdef __cplusplus
 }
 #endif

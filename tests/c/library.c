@@ -317,6 +317,59 @@ static void makes(void)
     holds("it is the wire", memcmp(out, wire, sizeof wire) == 0);
 }
 
+static void nexts(void)
+{
+    struct {
+        uint64_t before;
+        struct fovaheju_written next;
+        uint64_t after;
+    } kept = {0x1122334455667788, {{9, 9, 9, 9}, 9}, 0x99AABBCCDDEEFF00};
+    struct fovaheju_written *next = &kept.next;
+    const uint8_t first[] = {1, 1, 3, 0, 0, 0, 0, 0};
+    /* The last with one input, the first with two, and the last of all. */
+    const uint8_t last_of_one[] = {1, 1, 2, 2, 3, 0, 3, 0, 255, 255, 255, 255, 2, 2,
+                                   1, 0, 1, 0, 255, 255, 255, 255, 3, 3, 0, 3, 0, 0};
+    const uint8_t first_of_two[] = {1, 2, 3, 0, 0, 0, 0, 0};
+    const uint8_t last[] = {1, 2, 2, 2, 5, 0, 5, 0, 255, 255, 255, 255, 2, 2,
+                            3, 0, 3, 0, 255, 255, 255, 255, 3, 5, 0, 5, 0, 0};
+    uint8_t out[64], untouched[64], file[28];
+    size_t n = sizeof first, length = 0;
+    int count = 0;
+
+    memset(untouched, 7, sizeof untouched);
+    memcpy(out, untouched, 64);
+    kept.next = fovaheju_next_stage(first, 0, out, 64);
+    same("after the empty file", next->verdict, 0, 0, 0, 0);
+    holds("how many bytes", next->count == n);
+    holds("the first small stage", memcmp(out, first, n) == 0);
+    holds("past the file", memcmp(out + n, untouched, 64 - n) == 0);
+    memcpy(out, untouched, 64);
+    kept.next = fovaheju_next_stage(first, n, out, n - 1);
+    same("a buffer one byte short", next->verdict, 38, 3, 0, 0);
+    holds("nothing is counted", next->count == 0);
+    same("the last with no buffer", fovaheju_next_stage(last, sizeof last, NULL, 0).verdict, 36, 1, 0, 0);
+    same("the last", fovaheju_next_stage(last, sizeof last, out, 64).verdict, 36, 1, 0, 0);
+    same("an AND", fovaheju_next_stage(and_stage, sizeof and_stage, out, 64).verdict, 37, 1, 0, 0);
+    same("a file without its end", fovaheju_next_stage(first, n - 1, out, 0).verdict, 37, 1, 0, 0);
+    same("a null buffer", fovaheju_next_stage(first, n, NULL, 0).verdict, 38, 3, 0, 0);
+    holds("a refused buffer is as before", memcmp(out, untouched, 64) == 0);
+    holds("beside the answer", kept.before == 0x1122334455667788 && kept.after == 0x99AABBCCDDEEFF00);
+    same("a buffer that just fits",
+         fovaheju_next_stage(last_of_one, sizeof last_of_one, out, n).verdict, 0, 0, 0, 0);
+    holds("the first with two inputs", memcmp(out, first_of_two, n) == 0);
+    /* From a null stage on, through the whole family. */
+    for (;;) {
+        kept.next = fovaheju_next_stage(length == 0 ? NULL : file, length, out, 28);
+        if (next->verdict.number != 0)
+            break;
+        length = (size_t)next->count;
+        memcpy(file, out, length);
+        count++;
+    }
+    same("after every file", next->verdict, 36, 1, 0, 0);
+    holds("82,812 files", count == 82812 && length == sizeof last && memcmp(file, last, length) == 0);
+}
+
 int main(int count, char **folders)
 {
     int i;
@@ -328,6 +381,7 @@ int main(int count, char **folders)
     rows();
     joins();
     makes();
+    nexts();
     printf("%d passed, %d failed\n", passed, failed);
     return failed != 0;
 }

@@ -7,10 +7,12 @@
 use crate::files::{hex, report_text, verdict_line, FilePair, MOST_BYTES_READ};
 use crate::generate::joins::{join_case, JoinCase};
 use crate::generate::made::{make_case, MakeCase};
+use crate::generate::nexts::{next_case, NextCase};
 use crate::generate::{pair, row_case, RowCase};
 use crate::join::{self, Joined};
 use crate::judge::{self, Verdict, WordOrder, LIMITS, ORDERS};
 use crate::make::{self, Made};
+use crate::next::{self, FAMILY};
 use std::fmt;
 use std::fs;
 use std::io;
@@ -26,6 +28,9 @@ pub type SettledRow = fn(&[u8], &mut [u8]) -> [u64; 4];
 
 /// The stage of a reference file, into a lent buffer.
 pub type Make = fn(&[u8], &mut [u8]) -> Made;
+
+/// The file of the family of small stages after a file, into a lent buffer.
+pub type Next = fn(&[u8], &mut [u8]) -> Made;
 
 /// The numbers of a report as the library gives them: how many words have a line, their total,
 /// and 1,024 lines of which those past the words are 0. Of a refused pair all but the verdict is 0.
@@ -59,11 +64,12 @@ pub fn judged_counts(order: WordOrder, stage: &[u8], reference: &[u8]) -> Counts
     }
 }
 
-/// How often each verdict number came.
-pub type Histogram = [u64; 29];
+/// How often each verdict number came: documents 01 and 02 have 0 to 41.
+pub type Histogram = [u64; 42];
+pub const NO_VERDICTS: Histogram = [0; 42];
 
-/// The numbers of the check, of the settled-row call, of the join, and of the stage from a
-/// reference.
+/// The numbers of the check, of the settled-row call, of the join, of the stage from a reference,
+/// and of the next small stage.
 pub const CHECK_NUMBERS: [usize; 21] = [
     0, 1, 2, 3, 4, 5, 6, 7, 8, 9, 18, 19, 10, 11, 12, 28, 13, 14, 15, 20, 21,
 ];
@@ -72,6 +78,7 @@ pub const JOIN_NUMBERS: [usize; 24] = [
     0, 1, 2, 3, 4, 5, 6, 7, 8, 9, 18, 19, 10, 11, 12, 28, 13, 14, 15, 20, 21, 22, 23, 24,
 ];
 pub const MAKE_NUMBERS: [usize; 13] = [0, 1, 2, 3, 4, 5, 6, 7, 8, 9, 25, 26, 27];
+pub const NEXT_NUMBERS: [usize; 4] = [0, 37, 36, 38];
 
 /// What cases lack that a comparison rests on: one of the numbers never came, or fewer
 /// than a fifth of the cases are accepted.
@@ -122,6 +129,12 @@ pub enum Difference {
     Makes {
         name: String,
         case: MakeCase,
+        judge: (Made, Vec<u8>),
+        other: (Made, Vec<u8>),
+    },
+    Nexts {
+        name: String,
+        case: NextCase,
         judge: (Made, Vec<u8>),
         other: (Made, Vec<u8>),
     },
@@ -247,21 +260,42 @@ impl fmt::Display for Difference {
                 other,
             } => {
                 writeln!(f, "{name}")?;
-                for (which, bytes) in [
+                let files = [
                     ("reference", &case.reference),
                     ("buffer before", &case.buffer),
-                ] {
-                    writeln!(f, "{which}, {} bytes: {}", bytes.len(), hex(bytes))?;
-                }
-                for (who, (made, buffer)) in [("judge", judge), ("other", other)] {
-                    let verdict = line(made.verdict);
-                    writeln!(f, "{who}: {verdict}, {} bytes", made.len)?;
-                    writeln!(f, "buffer of the {who}: {}", hex(buffer))?;
-                }
-                Ok(())
+                ];
+                show_written(f, files, judge, other)
+            }
+            Difference::Nexts {
+                name,
+                case,
+                judge,
+                other,
+            } => {
+                writeln!(f, "{name}")?;
+                let files = [("stage", &case.stage), ("buffer before", &case.buffer)];
+                show_written(f, files, judge, other)
             }
         }
     }
+}
+
+/// What a call that writes one file was given, and what the judge and the other answered.
+fn show_written(
+    f: &mut fmt::Formatter<'_>,
+    files: [(&str, &Vec<u8>); 2],
+    judge: &(Made, Vec<u8>),
+    other: &(Made, Vec<u8>),
+) -> fmt::Result {
+    for (which, bytes) in files {
+        writeln!(f, "{which}, {} bytes: {}", bytes.len(), hex(bytes))?;
+    }
+    for (who, (made, buffer)) in [("judge", judge), ("other", other)] {
+        let verdict = verdict_line(made.verdict);
+        writeln!(f, "{who}: {}, {} bytes", verdict.trim_end(), made.len)?;
+        writeln!(f, "buffer of the {who}: {}", hex(buffer))?;
+    }
+    Ok(())
 }
 
 /// Compares the verdicts on one pair and gives the number they agree on.
@@ -368,6 +402,24 @@ pub fn compare_make(other: Make, name: &str, case: &MakeCase) -> Result<u64, Box
     }))
 }
 
+/// Compares the verdict, the length and every byte of the buffer of one case.
+pub fn compare_next(other: Next, name: &str, case: &NextCase) -> Result<u64, Box<Difference>> {
+    let answer_of = |next_stage: Next| {
+        let mut buffer = case.buffer.clone();
+        (next_stage(&case.stage, &mut buffer), buffer)
+    };
+    let (judged, given) = (answer_of(next::next_stage), answer_of(other));
+    if judged == given {
+        return Ok(judged.0.verdict[0]);
+    }
+    Err(Box::new(Difference::Nexts {
+        name: name.to_string(),
+        case: case.clone(),
+        judge: judged,
+        other: given,
+    }))
+}
+
 /// A smaller pair on which the verdicts still differ: pieces of both files are left
 /// out as long as they do, large pieces first, then any of at most ten bytes (a gate
 /// command of a stage has ten). It stops after some seconds.
@@ -420,7 +472,7 @@ pub fn first_difference_in(
     seed: u64,
     count: u64,
 ) -> Result<Histogram, Box<Difference>> {
-    let mut histogram = Histogram::default();
+    let mut histogram = NO_VERDICTS;
     for index in 0..count {
         let generated = pair(seed, index);
         let name = format!("pair {index} of seed {seed} ({})", generated.family);
@@ -457,7 +509,7 @@ pub fn compare_reports(
     seed: u64,
     count: u64,
 ) -> Result<Histogram, Box<Difference>> {
-    let mut histogram = Histogram::default();
+    let mut histogram = NO_VERDICTS;
     for index in 0..count {
         let generated = pair(seed, index);
         let name = format!("report {index} of seed {seed} ({})", generated.family);
@@ -477,7 +529,7 @@ pub fn compare_rows(
     seed: u64,
     count: u64,
 ) -> Result<Histogram, Box<Difference>> {
-    let mut histogram = Histogram::default();
+    let mut histogram = NO_VERDICTS;
     for index in 0..count {
         let name = format!("row case {index} of seed {seed}");
         let number = compare_row(other, &name, &row_case(seed, index))
@@ -494,7 +546,7 @@ pub fn compare_joins(
     seed: u64,
     count: u64,
 ) -> Result<Histogram, Box<Difference>> {
-    let mut histogram = Histogram::default();
+    let mut histogram = NO_VERDICTS;
     for index in 0..count {
         let generated = join_case(seed, index);
         for order in ORDERS {
@@ -510,11 +562,52 @@ pub fn compare_joins(
 /// Compares the stages of the first `count` references of a seed. The first difference is printed
 /// and given back.
 pub fn compare_makes(other: Make, seed: u64, count: u64) -> Result<Histogram, Box<Difference>> {
-    let mut histogram = Histogram::default();
+    let mut histogram = NO_VERDICTS;
     for index in 0..count {
         let generated = make_case(seed, index);
         let name = format!("reference {index} of seed {seed} ({})", generated.family);
         let number = compare_make(other, &name, &generated.case)
+            .inspect_err(|difference| println!("{difference}"))?;
+        histogram[number as usize] += 1;
+    }
+    Ok(histogram)
+}
+
+/// Walks through the whole family: each file is written after the one before, from the empty file
+/// to 36, in a buffer that is one byte too short, one that just fits and one with room to spare. The
+/// first difference is printed and given back.
+pub fn compare_family(other: Next) -> Result<Histogram, Box<Difference>> {
+    let mut histogram = NO_VERDICTS;
+    let mut stage = Vec::new();
+    for place in 0..=FAMILY.len() {
+        let length = FAMILY.get(place).map_or(28, Vec::len);
+        for room in [length - 1, length, length + 1 + place % 7] {
+            let case = NextCase {
+                stage: stage.clone(),
+                buffer: vec![place as u8; room],
+            };
+            let name = format!("file {place} of the family in {room} bytes");
+            let number = compare_next(other, &name, &case)
+                .inspect_err(|difference| println!("{difference}"))?;
+            histogram[number as usize] += 1;
+        }
+        // Its own file, as it wrote it.
+        let mut buffer = vec![0; length];
+        let made = other(&stage, &mut buffer);
+        buffer.truncate(made.len);
+        stage = buffer;
+    }
+    Ok(histogram)
+}
+
+/// Compares the next stage of the first `count` files of a seed, most of which are damaged. The first
+/// difference is printed and given back.
+pub fn compare_nexts(other: Next, seed: u64, count: u64) -> Result<Histogram, Box<Difference>> {
+    let mut histogram = NO_VERDICTS;
+    for index in 0..count {
+        let generated = next_case(seed, index);
+        let name = format!("file {index} of seed {seed} ({})", generated.family);
+        let number = compare_next(other, &name, &generated.case)
             .inspect_err(|difference| println!("{difference}"))?;
         histogram[number as usize] += 1;
     }
@@ -570,7 +663,7 @@ pub fn compare_program(
     seed: u64,
     count: u64,
 ) -> io::Result<Result<Histogram, Box<Difference>>> {
-    let mut histogram = Histogram::default();
+    let mut histogram = NO_VERDICTS;
     let cut = |file: &[u8]| file[..file.len().min(MOST_BYTES_READ as usize)].to_vec();
     for index in 0..count {
         let generated = pair(seed, index);

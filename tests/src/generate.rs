@@ -7,6 +7,7 @@
 
 pub mod joins;
 pub mod made;
+pub mod nexts;
 
 use crate::circuits::{
     dual_rail, kind_named, multiplier, multiplier_reference, reordered, ripple_adder,

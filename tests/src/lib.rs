@@ -13,6 +13,7 @@ pub mod judge;
 #[cfg(feature = "library")]
 pub mod library;
 pub mod make;
+pub mod next;
 pub mod suite;
 
 use std::path::PathBuf;

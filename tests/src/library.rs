@@ -16,6 +16,15 @@ struct Numbers {
     word: u64,
 }
 
+impl From<Written> for Made {
+    fn from(written: Written) -> Made {
+        Made {
+            verdict: written.verdict.into(),
+            len: written.count as usize,
+        }
+    }
+}
+
 impl From<Numbers> for Verdict {
     fn from(numbers: Numbers) -> Verdict {
         [numbers.number, numbers.file, numbers.at, numbers.word]
@@ -86,6 +95,12 @@ extern "C" {
     fn fovaheju_make_stage(
         reference: *const u8,
         reference_len: usize,
+        stage_out: *mut u8,
+        stage_out_len: usize,
+    ) -> Written;
+    fn fovaheju_next_stage(
+        stage: *const u8,
+        stage_len: usize,
         stage_out: *mut u8,
         stage_out_len: usize,
     ) -> Written;
@@ -169,16 +184,27 @@ pub fn join(
 /// The stage of a reference file, into a buffer.
 pub fn make_stage(reference: &[u8], stage_out: &mut [u8]) -> Made {
     // Safety: the contract has no `requires`, and each pointer and length are of a slice; the buffer is lent to be written.
-    let answer = unsafe {
+    unsafe {
         fovaheju_make_stage(
             reference.as_ptr(),
             reference.len(),
             stage_out.as_mut_ptr(),
             stage_out.len(),
         )
-    };
-    Made {
-        verdict: answer.verdict.into(),
-        len: answer.count as usize,
     }
+    .into()
+}
+
+/// The file of the family of small stages that comes after a file, into a buffer.
+pub fn next_stage(stage: &[u8], stage_out: &mut [u8]) -> Made {
+    // Safety: the contract has no `requires`, and each pointer and length are of a slice; the buffer is lent to be written.
+    unsafe {
+        fovaheju_next_stage(
+            stage.as_ptr(),
+            stage.len(),
+            stage_out.as_mut_ptr(),
+            stage_out.len(),
+        )
+    }
+    .into()
 }

@@ -4,7 +4,7 @@
 use fovaheju_tests::compare::{
     compare_checks, compare_pair, compare_reports, compare_rows, first_difference, judged_counts,
     lack, run_program, shrink, Check, CheckInOrder, Difference, Histogram, SettledRow,
-    CHECK_NUMBERS, JOIN_NUMBERS, MAKE_NUMBERS, ROW_NUMBERS,
+    CHECK_NUMBERS, JOIN_NUMBERS, MAKE_NUMBERS, NEXT_NUMBERS, ROW_NUMBERS,
 };
 use fovaheju_tests::files::{as_the_program_reads, unhex, verdict_from_line, FilePair};
 use fovaheju_tests::generate::pair;
@@ -31,12 +31,13 @@ fn the_judge_agrees_with_itself() {
 /// Cases that lack a number, or are nearly all refused, show too little.
 #[test]
 fn a_lack_is_told() {
-    let mut full: Histogram = [9; 29];
-    full[0] = 63;
+    let mut full: Histogram = [9; 42];
+    full[0] = 93;
     assert_eq!(lack(&full, &CHECK_NUMBERS), None);
     assert_eq!(lack(&full, &ROW_NUMBERS), None);
     assert_eq!(lack(&full, &JOIN_NUMBERS), None);
     assert_eq!(lack(&full, &MAKE_NUMBERS), None);
+    assert_eq!(lack(&full, &NEXT_NUMBERS), None);
     for number in 0..full.len() {
         let mut histogram = full;
         histogram[number] = 0;
@@ -45,6 +46,7 @@ fn a_lack_is_told() {
             &ROW_NUMBERS[..],
             &JOIN_NUMBERS[..],
             &MAKE_NUMBERS[..],
+            &NEXT_NUMBERS[..],
         ] {
             assert_eq!(
                 lack(&histogram, numbers).is_some(),
@@ -53,10 +55,10 @@ fn a_lack_is_told() {
         }
     }
     let mut histogram = full;
-    histogram[0] = 62;
+    histogram[0] = 92;
     assert_eq!(
         lack(&histogram, &CHECK_NUMBERS),
-        Some("only 62 of 314 are accepted".to_string())
+        Some("only 92 of 461 are accepted".to_string())
     );
 }
 

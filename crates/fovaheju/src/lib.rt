@@ -15,6 +15,7 @@ ghost use Rattle.report.specs.Activity.{ReportMeans};
 ghost use Rattle.joined.specs.Join.{files};
 ghost use Rattle.join.specs.Call.{JoinDemand};
 ghost use Rattle.make.specs.Call.{MakeDemand};
+ghost use Rattle.next_spec.specs.Family.{NextDemand};
 
 // The check of a stage file against a reference file, with words named in an order. The verdict is the one that the definitions give, and
 // demands 2 and 3 hold of it, with one run from another for an accepted stage.
@@ -76,6 +77,14 @@ pub fn make_stage(reference: &[u8], stage_out: &mut [u8]) -> Answer
     ensures { λ r. ⌜ MakeDemand (now (reference .entry)) (now («stage_out» .entry)) r (now («stage_out» .exit)) ⌝ }
 {
     make::make_stage(reference, stage_out)
+}
+
+// The next file of the family of small stages, by inputs, then gates, then bytes: after a file of the family or the empty file, written at the start of
+// a lent buffer. A refusal leaves the buffer as it was.
+pub fn next_stage(stage: &[u8], stage_out: &mut [u8]) -> Answer
+    ensures { λ r. ⌜ NextDemand (now (stage .entry)) (now («stage_out» .entry)) r (now («stage_out» .exit)) ⌝ }
+{
+    call_next::next_stage(stage, stage_out)
 }
 
 // The order of words that a number stands for: 0 has input 0 as the highest bit of a word, every other number has it as the lowest.
@@ -148,4 +157,12 @@ pub extern "C" fn fovaheju_make_stage(reference: &[u8], stage_out: &mut [u8]) ->
     ensures { λ r. ⌜ MakeDemand (now (reference .entry)) (now («stage_out» .entry)) r (now («stage_out» .exit)) ⌝ }
 {
     make_stage(reference, stage_out)
+}
+
+// The next file of the family for callers in C and in Rust, with the contract of `next_stage`.
+#[no_mangle]
+pub extern "C" fn fovaheju_next_stage(stage: &[u8], stage_out: &mut [u8]) -> Answer
+    ensures { λ r. ⌜ NextDemand (now (stage .entry)) (now («stage_out» .entry)) r (now («stage_out» .exit)) ⌝ }
+{
+    next_stage(stage, stage_out)
 }

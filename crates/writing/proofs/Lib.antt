@@ -1,3 +1,5 @@
 pub mod Joining
 pub mod Files
 pub mod Putting
+pub mod Items
+pub mod Answers

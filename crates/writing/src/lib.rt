@@ -8,6 +8,7 @@ ghost use lib.ListN.{length};
 ghost use Rattle.netlist.specs.declared.File.the-variants as file;
 ghost use Rattle.netlist.specs.declared.Sort.the-variants as sort;
 ghost use Rattle.netlist.specs.Writing as writing;
+ghost use Rattle.verdict.specs.Checks.{verdict};
 ghost use Rattle.verdict.specs.Verdicts.{accepted};
 ghost use Rattle.writing.specs.Put.{Put, coded};
 ghost use Rattle.writing.specs.Written.{answerOf};
@@ -26,6 +27,18 @@ pub fn refused(verdict: Verdict) -> Answer
     ensures { λ r. ⌜ r ≡ answerOf verdict 0 ⌝ }
 {
     Answer { verdict, count: 0 }
+}
+
+// The same, where nothing is named but a number and a file.
+pub fn refused_by(number: u64, file: u64) -> Answer
+    ensures { λ r. ⌜ r ≡ answerOf (verdict number file 0 0) 0 ⌝ }
+{
+    refused(Verdict {
+        number,
+        file,
+        at: 0,
+        word: 0,
+    })
 }
 
 // Accepted, with so many bytes written.

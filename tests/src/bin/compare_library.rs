@@ -1,11 +1,13 @@
 //! compare_library [SEED [COUNT]]: compares all calls of the proved library with the judge, in both orders of words,
-//! on the stored examples, cases of joins and references, and on as many generated pairs, rows, joins and references. Prints how
-//! many had each number, or the first difference. Fails too if some number never came or too few were accepted.
+//! on the stored examples, cases of joins and references, on as many generated pairs, rows, joins and references, and on the whole
+//! family of small stages and as many files beside it. Prints how many had each number, or the first difference. Fails too if some
+//! number never came or too few were accepted.
 
 use fovaheju_tests::compare::{
-    compare_checks, compare_join, compare_joins, compare_make, compare_makes, compare_pair,
-    compare_report, compare_reports, compare_rows, lack, CheckInOrder, Difference, Histogram,
-    JoinInOrder, ReportInOrder, CHECK_NUMBERS, JOIN_NUMBERS, MAKE_NUMBERS, ROW_NUMBERS,
+    compare_checks, compare_family, compare_join, compare_joins, compare_make, compare_makes,
+    compare_nexts, compare_pair, compare_report, compare_reports, compare_rows, lack, CheckInOrder,
+    Difference, Histogram, JoinInOrder, ReportInOrder, CHECK_NUMBERS, JOIN_NUMBERS, MAKE_NUMBERS,
+    NEXT_NUMBERS, ROW_NUMBERS,
 };
 use fovaheju_tests::files::{examples_folder, load_example, stored_examples};
 use fovaheju_tests::generate::made::MakeCase;
@@ -99,12 +101,26 @@ fn compare(seed: u64, count: u64) -> Result<bool, Box<Difference>> {
     }
     println!("stages of {} stored references alike", references.len());
     // The calls beside one another, each with its own files.
-    let all: [(&str, &[usize], Comparison); 5] = [
-        ("checks", &CHECK_NUMBERS, &|| compare_checks(CHECK, seed, count)),
-        ("reports", &CHECK_NUMBERS, &|| compare_reports(REPORT, seed, count)),
-        ("rows", &ROW_NUMBERS, &|| compare_rows(library::settled_row, seed, count)),
+    let all: [(&str, &[usize], Comparison); 7] = [
+        ("checks", &CHECK_NUMBERS, &|| {
+            compare_checks(CHECK, seed, count)
+        }),
+        ("reports", &CHECK_NUMBERS, &|| {
+            compare_reports(REPORT, seed, count)
+        }),
+        ("rows", &ROW_NUMBERS, &|| {
+            compare_rows(library::settled_row, seed, count)
+        }),
         ("joins", &JOIN_NUMBERS, &|| compare_joins(JOIN, seed, count)),
-        ("stages from references", &MAKE_NUMBERS, &|| compare_makes(made_and_checked, seed, count)),
+        ("stages from references", &MAKE_NUMBERS, &|| {
+            compare_makes(made_and_checked, seed, count)
+        }),
+        ("calls through the family", &[0, 36, 38], &|| {
+            compare_family(library::next_stage)
+        }),
+        ("next small stages", &NEXT_NUMBERS, &|| {
+            compare_nexts(library::next_stage, seed, count)
+        }),
     ];
     let histograms = thread::scope(|scope| {
         let begun = all.map(|(_, _, comparison)| scope.spawn(comparison));

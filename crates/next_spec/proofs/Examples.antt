@@ -1,0 +1,196 @@
+-- The definitions tried on files: the first of the family, the first with two inputs, the last of all, and files that are none of it.
+-- Assumes nothing.
+use Prim.Native.Nat.{ℕ, _+_, _*_, _-_, _≤_}
+use native.Mathlib.Omega.{arith}
+use mathlib.Core.Path.{_≡_, refl, sym, ap, subst, _∙_}
+use mathlib.Core.Bool.{Bool, true, false}
+use mathlib.Core.List.{List, [], _∷_, _++_}
+use lib.ListN.{length, drop}
+use Rattle.gates.specs.Cell.{cells, cellAt, pinCount, kindOf}
+use Rattle.netlist.specs.declared.File.the-variants as file
+use Rattle.netlist.specs.Bytes.{operand, operands}
+use Rattle.netlist.specs.Commands as k
+use Rattle.netlist.specs.Reading as r
+use Rattle.netlist.specs.Reading.{Places, Reading, readable, refused, readFile, stageLimits}
+use Rattle.netlist.specs.Content.{Stage, stageOf}
+use Rattle.netlist.specs.Writing.{writeStage}
+use Rattle.verdict.specs.Rows.{rounds}
+use Rattle.verdict.specs.Graph.{tabulate, leading}
+use Rattle.verdict.specs.Loops.{gateSteps, reachesItself}
+use Rattle.verdict.specs.Checks.{verdict}
+use Rattle.verdict.proofs.Reaching.{noLoop-loopFree}
+use Rattle.writing.specs.Written.{refuse, writeOr}
+use Rattle.next_spec.specs.Numbered.{stages, lists, stageNumbered}
+use Rattle.next_spec.specs.Listing.{InShape, free, loopFreeFrom, stagesOf, shapes, listing, Listed, onward}
+use Rattle.next_spec.specs.Family.{Small, Member, NextIs, outside, last, next}
+use Rattle.next_spec.proofs.Bytes.{listBytes}
+use Rattle.next_spec.proofs.Less.{stage-bytes}
+use Rattle.next_spec.proofs.Onward.{zero-free, stages-some, onward-free, onward-start, place-in-listing}
+use Rattle.next_spec.proofs.Walks.{next-first, next-listed, none-listed}
+
+-- ---- the files
+
+-- one input, no gate, both rails of the output on net 0
+abbrev firstFile : List ℕ
+firstFile = 0x01 ∷ 0x01 ∷ 0x03 ∷ 0x00 ∷ 0x00 ∷ 0x00 ∷ 0x00 ∷ 0x00 ∷ []
+
+-- one input, TH22(3, 3), TH22(1, 1), both rails on net 3
+abbrev lastOfOne : List ℕ
+lastOfOne =
+    0x01 ∷ 0x01 ∷ 0x02 ∷ 0x02 ∷ 0x03 ∷ 0x00 ∷ 0x03 ∷ 0x00 ∷ 0xFF ∷ 0xFF ∷ 0xFF ∷ 0xFF ∷
+    0x02 ∷ 0x02 ∷ 0x01 ∷ 0x00 ∷ 0x01 ∷ 0x00 ∷ 0xFF ∷ 0xFF ∷ 0xFF ∷ 0xFF ∷ 0x03 ∷ 0x03 ∷ 0x00 ∷ 0x03 ∷ 0x00 ∷ 0x00 ∷ []
+
+-- two inputs, no gate, both rails on net 0
+abbrev firstOfTwo : List ℕ
+firstOfTwo = 0x01 ∷ 0x02 ∷ 0x03 ∷ 0x00 ∷ 0x00 ∷ 0x00 ∷ 0x00 ∷ 0x00 ∷ []
+
+-- two inputs, TH22(5, 5), TH22(3, 3), both rails on net 5
+abbrev lastFile : List ℕ
+lastFile =
+    0x01 ∷ 0x02 ∷ 0x02 ∷ 0x02 ∷ 0x05 ∷ 0x00 ∷ 0x05 ∷ 0x00 ∷ 0xFF ∷ 0xFF ∷ 0xFF ∷ 0xFF ∷
+    0x02 ∷ 0x02 ∷ 0x03 ∷ 0x00 ∷ 0x03 ∷ 0x00 ∷ 0xFF ∷ 0xFF ∷ 0xFF ∷ 0xFF ∷ 0x03 ∷ 0x05 ∷ 0x00 ∷ 0x05 ∷ 0x00 ∷ 0x00 ∷ []
+
+-- ---- their numbers
+
+first-bytes : writeStage (stageNumbered 1 0 0) ≡ firstFile
+unfolding listBytes
+first-bytes = stage-bytes 1 0 0
+
+last-of-one-bytes : writeStage (stageNumbered 1 2 16223) ≡ lastOfOne
+unfolding listBytes lists
+last-of-one-bytes = stage-bytes 1 2 16223
+
+first-of-two-bytes : writeStage (stageNumbered 2 0 0) ≡ firstOfTwo
+unfolding listBytes
+first-of-two-bytes = stage-bytes 2 0 0
+
+last-bytes : writeStage (stageNumbered 2 2 186119) ≡ lastFile
+unfolding listBytes lists
+last-bytes = stage-bytes 2 2 186119
+
+in-shape : (n g : ℕ) → 1 ≤ n → n ≤ 2 → g ≤ 2 → InShape n g
+in-shape n g a b c = record { inputs-in = (a, b); gates-in = c }
+
+last-of-one-listed : Listed 1 2 16223
+unfolding free lists
+last-of-one-listed = record { shaped = in-shape 1 2 (omega arith) (omega arith) (omega arith); below = omega arith; loop-free = refl }
+
+last-listed : Listed 2 2 186119
+unfolding free lists
+last-listed = record { shaped = in-shape 2 2 (omega arith) (omega arith) (omega arith); below = omega arith; loop-free = refl }
+
+-- the first of a shape, in the list from that shape on
+first-on : (n g : ℕ) → InShape n g → onward n g 0 ≡ stageNumbered n g 0 ∷ onward n g 1
+first-on n g i = onward-free n g 0 (stages-some n g i) (zero-free n g i)
+
+-- after the last of one input stand those of two inputs, and after the last of all stands none
+after-one : onward 1 2 16224 ≡ stageNumbered 2 0 0 ∷ onward 2 0 1
+unfolding onward loopFreeFrom free lists
+after-one =
+    let i = in-shape 2 0 (omega arith) (omega arith) (omega arith) in
+    onward-start 2 0 i ∙ first-on 2 0 i
+
+after-all : onward 2 2 186120 ≡ []
+unfolding onward loopFreeFrom free lists shapes
+after-all = refl
+
+-- ---- what the call gives
+
+module _ (buffer : List ℕ) where
+  -- after the empty file comes the first, or 38 where there is no room
+  empty-file : NextIs [] buffer (writeOr (verdict 38 3 0 0) firstFile buffer)
+  unfolding listing
+  empty-file =
+      let i = in-shape 1 0 (omega arith) (omega arith) (omega arith) in
+      rw (← first-bytes) (next (stageNumbered 1 0 0) (next-first [] refl (stageNumbered 1 0 0) (onward 1 0 1) (onward-start 1 0 i ∙ first-on 1 0 i)))
+
+  -- after the last with one input comes the first with two
+  two-inputs : NextIs lastOfOne buffer (writeOr (verdict 38 3 0 0) firstOfTwo buffer)
+  two-inputs =
+      let a = place-in-listing 1 2 16223 last-of-one-listed in
+      rw (← last-of-one-bytes, ← first-of-two-bytes)
+      (next (stageNumbered 2 0 0) (next-listed (a .0) (stageNumbered 1 2 16223) (onward 1 2 16224) (a .1) (stageNumbered 2 0 0) (onward 2 0 1) after-one))
+
+  -- after the last comes none, whatever the buffer
+  none-further : NextIs lastFile buffer (refuse (verdict 36 1 0 0) buffer)
+  none-further =
+      let a = place-in-listing 2 2 186119 last-listed in
+      rw (← last-bytes) (last (none-listed (a .0) (stageNumbered 2 2 186119) (onward 2 2 186120) (a .1) after-all))
+
+-- ---- files that are none of the family
+
+-- the whole case of document 01, which has a gate of kind 26
+abbrev wholeCase : List ℕ
+wholeCase =
+    0x01 ∷ 0x02 ∷ 0x02 ∷ 0x02 ∷ 0x01 ∷ 0x00 ∷ 0x03 ∷ 0x00 ∷ 0xFF ∷ 0xFF ∷ 0xFF ∷ 0xFF ∷
+    0x02 ∷ 0x1A ∷ 0x00 ∷ 0x00 ∷ 0x02 ∷ 0x00 ∷ 0x01 ∷ 0x00 ∷ 0x03 ∷ 0x00 ∷ 0x03 ∷ 0x05 ∷ 0x00 ∷ 0x04 ∷ 0x00 ∷ 0x00 ∷ []
+
+-- a wire and TH12(2, 0), whose pin A is on its own net
+abbrev ownPin : List ℕ
+ownPin =
+    0x01 ∷ 0x01 ∷ 0x02 ∷ 0x01 ∷ 0x02 ∷ 0x00 ∷ 0x00 ∷ 0x00 ∷ 0xFF ∷ 0xFF ∷ 0xFF ∷ 0xFF ∷
+    0x03 ∷ 0x00 ∷ 0x00 ∷ 0x01 ∷ 0x00 ∷ 0x00 ∷ []
+
+-- a file that ends in a command
+abbrev cut : List ℕ
+cut = 0x01 ∷ []
+
+readable-same : (p q : Places) → readable p ≡ readable q → p ≡ q
+readable-same p q e = cc
+
+-- a file of the family reads, and its stage is small
+member-reads : (s : List ℕ) → Member s → (p : Places) × (readFile file.Stage stageLimits s ≡ readable p) × Small (stageOf s p)
+member-reads s (c, i, e) = rw e (i .reads .places, i .reads .reads, subst Small (sym (i .reads .content)) (i .small))
+
+not-small : (s : List ℕ) (p : Places) → readFile file.Stage stageLimits s ≡ readable p → (Small (stageOf s p) → ⊥) → Member s → ⊥
+not-small s p e h m =
+    let q = member-reads s m in
+    let f : q .0 ≡ p = readable-same (q .0) p (sym (q .1) ∙ e) in
+    h (subst (λ (x : Places). Small (stageOf s x)) f (q .2))
+
+places : ℕ → List ℕ → List ℕ → Places
+places n gates outputs = record { inputs = n; gates = gates; outputs = outputs; care = [] }
+
+whole-reads : readFile file.Stage stageLimits wholeCase ≡ readable (places 2 (2 ∷ 12 ∷ []) (22 ∷ []))
+unfolding places cells cellAt pinCount kindOf operand operands k.whenFound k.ownCommands k.commandTable k.formIn k.pinsNeeded k.needed k.stray k.misfit
+    k.misfitFrom k.takeGate k.takeCare k.takeSort k.takeCommand k.nextAt r.nameable r.nameless r.usedOperands r.namelessAt r.namelessFrom r.floorAfter
+    r.noted r.finish r.onNext r.readFrom r.readFile
+whole-reads = refl
+
+own-pin-reads : readFile file.Stage stageLimits ownPin ≡ readable (places 1 (2 ∷ []) (12 ∷ []))
+unfolding places cells cellAt pinCount kindOf operand operands k.whenFound k.ownCommands k.commandTable k.formIn k.pinsNeeded k.needed k.stray k.misfit
+    k.misfitFrom k.takeGate k.takeCare k.takeSort k.takeCommand k.nextAt r.nameable r.nameless r.usedOperands r.namelessAt r.namelessFrom r.floorAfter
+    r.noted r.finish r.onNext r.readFrom r.readFile
+own-pin-reads = refl
+
+whole-not-small : Small (stageOf wholeCase (places 2 (2 ∷ 12 ∷ []) (22 ∷ []))) → ⊥
+unfolding places stageOf kindOf pinCount cellAt cells operand operands
+whole-not-small h = let l : 26 ≤ 2 = h .kinds-in .1 .0 .2 in omega arith
+
+own-pin-not-small : Small (stageOf ownPin (places 1 (2 ∷ []) (12 ∷ []))) → ⊥
+unfolding places stageOf kindOf pinCount cellAt cells operand operands reachesItself leading gateSteps tabulate rounds
+    k.needed k.pinsNeeded
+own-pin-not-small h =
+    let e : true ≡ false = noLoop-loopFree 1 (stageOf ownPin (places 1 (2 ∷ []) (12 ∷ [])) .gates) (h .no-loop) 0 (omega arith) in
+    let z : _≡_ {A = ℕ} 0 1 = cc in
+    omega arith
+
+cut-refused : readFile file.Stage stageLimits cut ≡ refused 1 1
+unfolding cells cellAt pinCount kindOf operand operands k.whenFound k.ownCommands k.commandTable k.formIn k.pinsNeeded k.needed k.stray k.misfit
+    k.misfitFrom k.takeGate k.takeCare k.takeSort k.takeCommand k.nextAt r.nameable r.nameless r.usedOperands r.namelessAt r.namelessFrom r.floorAfter
+    r.noted r.finish r.onNext r.readFrom r.readFile
+cut-refused = refl
+
+cut-not-read : (p : Places) → readFile file.Stage stageLimits cut ≡ readable p → ⊥
+cut-not-read p e = let f : refused 1 1 ≡ readable p = sym cut-refused ∙ e in let z : _≡_ {A = ℕ} 0 1 = cc in omega arith
+
+module _ (buffer : List ℕ) where
+  -- another kind, a loop, and a file that does not read: 37, whatever the buffer
+  another-kind : NextIs wholeCase buffer (refuse (verdict 37 1 0 0) buffer)
+  another-kind = outside (λ e. omega (arith, ap (length {A = ℕ}) e)) (not-small wholeCase (places 2 (2 ∷ 12 ∷ []) (22 ∷ [])) whole-reads whole-not-small)
+
+  a-loop : NextIs ownPin buffer (refuse (verdict 37 1 0 0) buffer)
+  a-loop = outside (λ e. omega (arith, ap (length {A = ℕ}) e)) (not-small ownPin (places 1 (2 ∷ []) (12 ∷ [])) own-pin-reads own-pin-not-small)
+
+  not-readable : NextIs cut buffer (refuse (verdict 37 1 0 0) buffer)
+  not-readable = outside (λ e. omega (arith, ap (length {A = ℕ}) e)) (λ m. let q = member-reads cut m in cut-not-read (q .0) (q .1))
