@@ -27,7 +27,7 @@ struct fovaheju_verdict {
        care word that cannot be taken, 20 not input-complete in its fall, 21 not observable in its fall, 22 parts
        that do not fit, 23 an answer that the second part does not care for, 24 a buffer that is too short, 25 a signal
        that leads to no output, 26 too many gates needed, 27 a buffer that is too short for a stage, 28 a gate of a
-       retired kind.
+       retired kind, 36 to 38 no next small stage, 39 to 41 no drawn reference.
        docs/VERDICTS.md has the list. */
     uint64_t number;
     /* In which file: 1 the stage, 2 the reference, 3 the row or a buffer, 0 none. Of a join 1 and 2 are the first part's, 4 and 5 the
@@ -119,6 +119,14 @@ struct fovaheju_written fovaheju_make_stage(const uint8_t *reference, size_t ref
    family and 36 none further, both with file 1; 38 with file 3, a buffer that is too short. */
 struct fovaheju_written fovaheju_next_stage(const uint8_t *stage, size_t stage_len,
                                             uint8_t *stage_out, size_t stage_out_len);
+
+/* Writes the reference that is drawn from a seed, with 1 to 10 inputs and 0 to 40 gates: always the same for the same
+   three numbers. It reads, and fovaheju_make_stage answers 0 on it, or 27 where its buffer is too short. The bytes past
+   the file keep their values, and so do all where the number is not 0; 291 bytes have room for every such file. The
+   numbers are 0; 39 inputs or gates out of range and 40 more than 16 outputs, both with file 0; 41 with file 3, a buffer
+   that is too short. */
+struct fovaheju_written fovaheju_draw_reference(uint32_t seed, size_t inputs, size_t gates,
+                                                uint8_t *reference_out, size_t reference_out_len);
 
 #ifdef __cplusplus
 }

@@ -370,6 +370,65 @@ static void nexts(void)
     holds("82,812 files", count == 82812 && length == sizeof last && memcmp(file, last, length) == 0);
 }
 
+/* Seed 1, one input, four gates. */
+static const uint8_t drawn_reference[] = {1, 1, 17, 4, 0, 0, 0, 0,  17, 1, 1, 0, 255, 255, 17, 6, 1,
+                                          0, 2, 0,  17, 4, 1, 0, 2, 0,  18, 3, 0, 18,  4,   0,  0};
+
+static void draws(void)
+{
+    struct {
+        uint64_t before;
+        struct fovaheju_written drawn;
+        uint64_t after;
+    } kept = {0x1122334455667788, {{9, 9, 9, 9}, 9}, 0x99AABBCCDDEEFF00};
+    struct fovaheju_written *drawn = &kept.drawn;
+    uint8_t out[512], untouched[512];
+    uint32_t seed;
+    size_t n = sizeof drawn_reference;
+    int many = 0, accepted = 0;
+
+    memset(untouched, 7, sizeof untouched);
+    memcpy(out, untouched, 512);
+    kept.drawn = fovaheju_draw_reference(1, 1, 4, out, 512);
+    same("seed 1", drawn->verdict, 0, 0, 0, 0);
+    holds("how many bytes", drawn->count == n);
+    holds("the reference of seed 1", memcmp(out, drawn_reference, n) == 0);
+    holds("past the reference", memcmp(out + n, untouched, 512 - n) == 0);
+    memcpy(out, untouched, 512);
+    kept.drawn = fovaheju_draw_reference(1, 1, 4, out, n - 1);
+    same("a buffer one byte short", drawn->verdict, 41, 3, 0, 0);
+    holds("nothing is counted", drawn->count == 0);
+    same("a null buffer", fovaheju_draw_reference(1, 1, 4, NULL, 0).verdict, 41, 3, 0, 0);
+    same("19 outputs", fovaheju_draw_reference(1, 10, 40, out, 512).verdict, 40, 0, 0, 0);
+    same("19 outputs and no buffer", fovaheju_draw_reference(1, 10, 40, NULL, 0).verdict, 40, 0, 0, 0);
+    same("no input", fovaheju_draw_reference(1, 0, 4, out, 512).verdict, 39, 0, 0, 0);
+    same("11 inputs", fovaheju_draw_reference(1, 11, 4, out, 512).verdict, 39, 0, 0, 0);
+    same("41 gates and no buffer", fovaheju_draw_reference(1, 1, 41, NULL, 0).verdict, 39, 0, 0, 0);
+    same("the most inputs", fovaheju_draw_reference(1, SIZE_MAX, 4, out, 512).verdict, 39, 0, 0, 0);
+    same("the most gates", fovaheju_draw_reference(1, 1, SIZE_MAX, out, 512).verdict, 39, 0, 0, 0);
+    /* Counts that are in range in their low 32 bits alone. */
+    same("wide inputs", fovaheju_draw_reference(1, ((size_t)1 << 32) + 1, 4, out, 512).verdict, 39, 0, 0, 0);
+    same("wide gates", fovaheju_draw_reference(1, 1, (size_t)1 << 32, out, 512).verdict, 39, 0, 0, 0);
+    holds("a refused buffer is as before", memcmp(out, untouched, 512) == 0);
+    holds("beside the answer", kept.before == 0x1122334455667788 && kept.after == 0x99AABBCCDDEEFF00);
+    same("a buffer that just fits", fovaheju_draw_reference(1, 1, 4, out, n).verdict, 0, 0, 0, 0);
+    holds("the same bytes", memcmp(out, drawn_reference, n) == 0);
+    same("the highest seed", fovaheju_draw_reference(UINT32_MAX, 1, 0, out, 6).verdict, 0, 0, 0, 0);
+    holds("a wire", memcmp(out, wire_reference, 6) == 0);
+    /* A load: each reference is made a stage, which the check accepts. */
+    for (seed = UINT32_MAX - 500; seed != 500; seed++) {
+        kept.drawn = fovaheju_draw_reference(seed, 1 + seed % 10, seed % 41, reference, sizeof reference);
+        if (drawn->verdict.number == 40) {
+            many++;
+        } else if (drawn->verdict.number == 0) {
+            struct fovaheju_written made = fovaheju_make_stage(reference, drawn->count, stage, sizeof stage);
+            accepted += made.verdict.number == 0
+                        && fovaheju_check(0, stage, made.count, reference, drawn->count).number == 0;
+        }
+    }
+    holds("a load of 1,001 seeds", many + accepted == 1001 && many > 0 && many < 200);
+}
+
 int main(int count, char **folders)
 {
     int i;
@@ -382,6 +441,7 @@ int main(int count, char **folders)
     joins();
     makes();
     nexts();
+    draws();
     printf("%d passed, %d failed\n", passed, failed);
     return failed != 0;
 }

@@ -4,7 +4,9 @@
 //! library with C functions needs two wrappers of a line each. A program is run as a
 //! program, in a folder that holds the two files.
 
+use crate::draw::{self, Load};
 use crate::files::{hex, report_text, verdict_line, FilePair, MOST_BYTES_READ};
+use crate::generate::draws::{self, draw_case, DrawCase};
 use crate::generate::joins::{join_case, JoinCase};
 use crate::generate::made::{make_case, MakeCase};
 use crate::generate::nexts::{next_case, NextCase};
@@ -31,6 +33,9 @@ pub type Make = fn(&[u8], &mut [u8]) -> Made;
 
 /// The file of the family of small stages after a file, into a lent buffer.
 pub type Next = fn(&[u8], &mut [u8]) -> Made;
+
+/// The reference that is drawn for a load, into a lent buffer.
+pub type Draw = fn(&Load, &mut [u8]) -> Made;
 
 /// The numbers of a report as the library gives them: how many words have a line, their total,
 /// and 1,024 lines of which those past the words are 0. Of a refused pair all but the verdict is 0.
@@ -69,7 +74,7 @@ pub type Histogram = [u64; 42];
 pub const NO_VERDICTS: Histogram = [0; 42];
 
 /// The numbers of the check, of the settled-row call, of the join, of the stage from a reference,
-/// and of the next small stage.
+/// of the next small stage, and of a drawn reference.
 pub const CHECK_NUMBERS: [usize; 21] = [
     0, 1, 2, 3, 4, 5, 6, 7, 8, 9, 18, 19, 10, 11, 12, 28, 13, 14, 15, 20, 21,
 ];
@@ -79,6 +84,7 @@ pub const JOIN_NUMBERS: [usize; 24] = [
 ];
 pub const MAKE_NUMBERS: [usize; 13] = [0, 1, 2, 3, 4, 5, 6, 7, 8, 9, 25, 26, 27];
 pub const NEXT_NUMBERS: [usize; 4] = [0, 37, 36, 38];
+pub const DRAW_NUMBERS: [usize; 4] = [0, 39, 40, 41];
 
 /// What cases lack that a comparison rests on: one of the numbers never came, or fewer
 /// than a fifth of the cases are accepted.
@@ -135,6 +141,12 @@ pub enum Difference {
     Nexts {
         name: String,
         case: NextCase,
+        judge: (Made, Vec<u8>),
+        other: (Made, Vec<u8>),
+    },
+    Draws {
+        name: String,
+        case: DrawCase,
         judge: (Made, Vec<u8>),
         other: (Made, Vec<u8>),
     },
@@ -264,7 +276,7 @@ impl fmt::Display for Difference {
                     ("reference", &case.reference),
                     ("buffer before", &case.buffer),
                 ];
-                show_written(f, files, judge, other)
+                show_written(f, &files, judge, other)
             }
             Difference::Nexts {
                 name,
@@ -274,7 +286,17 @@ impl fmt::Display for Difference {
             } => {
                 writeln!(f, "{name}")?;
                 let files = [("stage", &case.stage), ("buffer before", &case.buffer)];
-                show_written(f, files, judge, other)
+                show_written(f, &files, judge, other)
+            }
+            Difference::Draws {
+                name,
+                case,
+                judge,
+                other,
+            } => {
+                writeln!(f, "{name}, {:?}", case.load)?;
+                let files = [("buffer before", &case.buffer)];
+                show_written(f, &files, judge, other)
             }
         }
     }
@@ -283,7 +305,7 @@ impl fmt::Display for Difference {
 /// What a call that writes one file was given, and what the judge and the other answered.
 fn show_written(
     f: &mut fmt::Formatter<'_>,
-    files: [(&str, &Vec<u8>); 2],
+    files: &[(&str, &Vec<u8>)],
     judge: &(Made, Vec<u8>),
     other: &(Made, Vec<u8>),
 ) -> fmt::Result {
@@ -413,6 +435,24 @@ pub fn compare_next(other: Next, name: &str, case: &NextCase) -> Result<u64, Box
         return Ok(judged.0.verdict[0]);
     }
     Err(Box::new(Difference::Nexts {
+        name: name.to_string(),
+        case: case.clone(),
+        judge: judged,
+        other: given,
+    }))
+}
+
+/// Compares the verdict, the length and every byte of the buffer of one case.
+pub fn compare_draw(other: Draw, name: &str, case: &DrawCase) -> Result<u64, Box<Difference>> {
+    let answer_of = |draw_reference: Draw| {
+        let mut buffer = case.buffer.clone();
+        (draw_reference(&case.load, &mut buffer), buffer)
+    };
+    let (judged, given) = (answer_of(draw::draw_reference), answer_of(other));
+    if judged == given {
+        return Ok(judged.0.verdict[0]);
+    }
+    Err(Box::new(Difference::Draws {
         name: name.to_string(),
         case: case.clone(),
         judge: judged,
@@ -610,6 +650,49 @@ pub fn compare_nexts(other: Next, seed: u64, count: u64) -> Result<Histogram, Bo
         let number = compare_next(other, &name, &generated.case)
             .inspect_err(|difference| println!("{difference}"))?;
         histogram[number as usize] += 1;
+    }
+    Ok(histogram)
+}
+
+/// Compares the drawn references of the first `count` loads of a seed. The first difference is printed
+/// and given back.
+pub fn compare_draws(other: Draw, seed: u64, count: u64) -> Result<Histogram, Box<Difference>> {
+    let mut histogram = NO_VERDICTS;
+    for index in 0..count {
+        let generated = draw_case(seed, index);
+        let name = format!("load {index} of seed {seed} ({})", generated.family);
+        let number = compare_draw(other, &name, &generated.case)
+            .inspect_err(|difference| println!("{difference}"))?;
+        histogram[number as usize] += 1;
+    }
+    Ok(histogram)
+}
+
+/// Compares the drawn references with all counts of inputs and gates up to their limits and some past
+/// them, of seeds at which a sum passes 4,294,967,296 or just does not, in a buffer that is empty, one
+/// byte too short, just fits, and has room to spare. The first difference is printed and given back.
+pub fn compare_draws_at_limits(other: Draw) -> Result<Histogram, Box<Difference>> {
+    let mut histogram = NO_VERDICTS;
+    for seed in draws::SEEDS {
+        for inputs in draws::limits_of_inputs() {
+            for gates in draws::limits_of_gates() {
+                let load = Load {
+                    seed,
+                    inputs,
+                    gates,
+                };
+                let fits = draw::draw_reference(&load, &mut [0; 512]).len;
+                for room in [0, fits.saturating_sub(1), fits, fits + 1, fits + 99] {
+                    let case = DrawCase {
+                        load,
+                        buffer: vec![7; room],
+                    };
+                    let number = compare_draw(other, "a load at the limits", &case)
+                        .inspect_err(|difference| println!("{difference}"))?;
+                    histogram[number as usize] += 1;
+                }
+            }
+        }
     }
     Ok(histogram)
 }

@@ -5,6 +5,7 @@
 //! fault whose verdict is known by the way they are made, and pairs of which nothing
 //! is known beforehand: mutated circuits, random circuits, damaged bytes.
 
+pub mod draws;
 pub mod joins;
 pub mod made;
 pub mod nexts;

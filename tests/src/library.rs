@@ -2,6 +2,7 @@
 //! a number stands for.
 
 use crate::compare::Counts;
+use crate::draw::Load;
 use crate::files::FilePair;
 use crate::join::Joined;
 use crate::judge::Verdict;
@@ -104,6 +105,13 @@ extern "C" {
         stage_out: *mut u8,
         stage_out_len: usize,
     ) -> Written;
+    fn fovaheju_draw_reference(
+        seed: u32,
+        inputs: usize,
+        gates: usize,
+        reference_out: *mut u8,
+        reference_out_len: usize,
+    ) -> Written;
 }
 
 /// The verdict on a stage file and a reference file.
@@ -204,6 +212,21 @@ pub fn next_stage(stage: &[u8], stage_out: &mut [u8]) -> Made {
             stage.len(),
             stage_out.as_mut_ptr(),
             stage_out.len(),
+        )
+    }
+    .into()
+}
+
+/// The reference that is drawn for a load, into a buffer.
+pub fn draw_reference(load: &Load, reference_out: &mut [u8]) -> Made {
+    // Safety: the contract has no `requires`, and pointer and length are of a slice; the buffer is lent to be written.
+    unsafe {
+        fovaheju_draw_reference(
+            load.seed,
+            load.inputs,
+            load.gates,
+            reference_out.as_mut_ptr(),
+            reference_out.len(),
         )
     }
     .into()

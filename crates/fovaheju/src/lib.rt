@@ -1,5 +1,5 @@
-// The public calls. Their contracts cite the definitions of crates `verdict`, `report`, `joined` and `join`, `made` and `make`, at the limits of
-// crate `netlist`, and ask nothing of the caller.
+// The public calls. Their contracts cite the definitions of crates `verdict`, `report`, `joined` and `join`, `made` and `make`, `next_spec` and
+// `draw_spec`, at the limits of crate `netlist`, and ask nothing of the caller.
 use join::JoinAnswer;
 use report::Report;
 use verdict::Verdict;
@@ -16,6 +16,7 @@ ghost use Rattle.joined.specs.Join.{files};
 ghost use Rattle.join.specs.Call.{JoinDemand};
 ghost use Rattle.make.specs.Call.{MakeDemand};
 ghost use Rattle.next_spec.specs.Family.{NextDemand};
+ghost use Rattle.draw_spec.specs.Demand.{DrawnDemand};
 
 // The check of a stage file against a reference file, with words named in an order. The verdict is the one that the definitions give, and
 // demands 2 and 3 hold of it, with one run from another for an accepted stage.
@@ -85,6 +86,14 @@ pub fn next_stage(stage: &[u8], stage_out: &mut [u8]) -> Answer
     ensures { λ r. ⌜ NextDemand (now (stage .entry)) (now («stage_out» .entry)) r (now («stage_out» .exit)) ⌝ }
 {
     call_next::next_stage(stage, stage_out)
+}
+
+// The reference that is drawn from a seed, with so many inputs and gates, written at the start of a lent buffer. It reads, and a stage is made of it
+// without refusal 25. A refusal leaves the buffer as it was.
+pub fn draw_reference(seed: u32, inputs: usize, gates: usize, reference_out: &mut [u8]) -> Answer
+    ensures { λ r. ⌜ DrawnDemand seed inputs gates (now («reference_out» .entry)) r (now («reference_out» .exit)) ⌝ }
+{
+    call_draw::draw_reference(seed, inputs, gates, reference_out)
 }
 
 // The order of words that a number stands for: 0 has input 0 as the highest bit of a word, every other number has it as the lowest.
@@ -165,4 +174,17 @@ pub extern "C" fn fovaheju_next_stage(stage: &[u8], stage_out: &mut [u8]) -> Ans
     ensures { λ r. ⌜ NextDemand (now (stage .entry)) (now («stage_out» .entry)) r (now («stage_out» .exit)) ⌝ }
 {
     next_stage(stage, stage_out)
+}
+
+// The drawn reference for callers in C and in Rust, with the contract of `draw_reference`.
+#[no_mangle]
+pub extern "C" fn fovaheju_draw_reference(
+    seed: u32,
+    inputs: usize,
+    gates: usize,
+    reference_out: &mut [u8],
+) -> Answer
+    ensures { λ r. ⌜ DrawnDemand seed inputs gates (now («reference_out» .entry)) r (now («reference_out» .exit)) ⌝ }
+{
+    draw_reference(seed, inputs, gates, reference_out)
 }

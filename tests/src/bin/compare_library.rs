@@ -1,13 +1,14 @@
 //! compare_library [SEED [COUNT]]: compares all calls of the proved library with the judge, in both orders of words,
-//! on the stored examples, cases of joins and references, on as many generated pairs, rows, joins and references, and on the whole
-//! family of small stages and as many files beside it. Prints how many had each number, or the first difference. Fails too if some
-//! number never came or too few were accepted.
+//! on the stored examples, cases of joins and references, on as many generated pairs, rows, joins and references, on the whole
+//! family of small stages and as many files beside it, on loads at the limits and on as many generated ones. Prints how many had each
+//! number, or the first difference. Fails too if some number never came or too few were accepted.
 
 use fovaheju_tests::compare::{
-    compare_checks, compare_family, compare_join, compare_joins, compare_make, compare_makes,
-    compare_nexts, compare_pair, compare_report, compare_reports, compare_rows, lack, CheckInOrder,
-    Difference, Histogram, JoinInOrder, ReportInOrder, CHECK_NUMBERS, JOIN_NUMBERS, MAKE_NUMBERS,
-    NEXT_NUMBERS, ROW_NUMBERS,
+    compare_checks, compare_draws, compare_draws_at_limits, compare_family, compare_join,
+    compare_joins, compare_make, compare_makes, compare_nexts, compare_pair, compare_report,
+    compare_reports, compare_rows, lack, CheckInOrder, Difference, Histogram, JoinInOrder,
+    ReportInOrder, CHECK_NUMBERS, DRAW_NUMBERS, JOIN_NUMBERS, MAKE_NUMBERS, NEXT_NUMBERS,
+    ROW_NUMBERS,
 };
 use fovaheju_tests::files::{examples_folder, load_example, stored_examples};
 use fovaheju_tests::generate::made::MakeCase;
@@ -101,7 +102,7 @@ fn compare(seed: u64, count: u64) -> Result<bool, Box<Difference>> {
     }
     println!("stages of {} stored references alike", references.len());
     // The calls beside one another, each with its own files.
-    let all: [(&str, &[usize], Comparison); 7] = [
+    let all: [(&str, &[usize], Comparison); 9] = [
         ("checks", &CHECK_NUMBERS, &|| {
             compare_checks(CHECK, seed, count)
         }),
@@ -120,6 +121,12 @@ fn compare(seed: u64, count: u64) -> Result<bool, Box<Difference>> {
         }),
         ("next small stages", &NEXT_NUMBERS, &|| {
             compare_nexts(library::next_stage, seed, count)
+        }),
+        ("loads at the limits", &DRAW_NUMBERS, &|| {
+            compare_draws_at_limits(library::draw_reference)
+        }),
+        ("drawn references", &DRAW_NUMBERS, &|| {
+            compare_draws(library::draw_reference, seed, count)
         }),
     ];
     let histograms = thread::scope(|scope| {

@@ -1,0 +1,5 @@
+pub mod Cases
+pub mod Selected
+pub mod Formed
+pub mod Made
+pub mod Answers

@@ -1,0 +1,1 @@
+// A reference drawn from a seed. The definitions are in specs/, and nothing is run.
