@@ -271,20 +271,3 @@ pub fn write_text(stage: &[u8], text_out: &mut [u8]) -> Made {
     }
     .into()
 }
-
-/// The text of a stage file, into a buffer.
-pub fn write_text(stage: &[u8], text_out: &mut [u8]) -> Made {
-    // Safety: the contract has no `requires`, and each pointer and length are of a slice; the buffer is lent to be written.
-    let answer = unsafe {
-        fovaheju_write_text(
-            stage.as_ptr(),
-            stage.len(),
-            text_out.as_mut_ptr(),
-            text_out.len(),
-        )
-    };
-    Made {
-        verdict: answer.verdict.into(),
-        len: answer.count as usize,
-    }
-}
