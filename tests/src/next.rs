@@ -1,10 +1,9 @@
 //! Every small stage (document 02, M-112) in the plainest way: the whole family is written down and
 //! sorted, and the next file is the one behind.
 
-use crate::files::{verdict_line, write_stage};
+use crate::files::write_stage;
 use crate::judge::{least_gate_on_a_loop, read_stage, Gate, Stage, Verdict, ACCEPTED, ROW, STAGE};
 use crate::make::Made;
-use std::path::PathBuf;
 use std::sync::LazyLock;
 
 /// "36 none further (file 1); 37 file not in the family; 38 buffer too short."
@@ -122,15 +121,4 @@ pub fn next_stage(file: &[u8], buffer: &mut [u8]) -> Made {
         verdict: ACCEPTED,
         len: next.len(),
     }
-}
-
-/// What the program `ncl_next` reads and what it must print: the last file with one input, after
-/// which comes the first with two.
-pub fn contents_of_ncl_next() -> Vec<(PathBuf, Vec<u8>)> {
-    let last = FAMILY.iter().rfind(|file| file[1] == 1).expect("some");
-    let made = next_stage(last, &mut [0; 28]);
-    vec![
-        ("data/stage.ncl".into(), last.clone()),
-        ("stdout".into(), verdict_line(made.verdict).into_bytes()),
-    ]
 }

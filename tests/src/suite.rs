@@ -16,6 +16,7 @@ use crate::files::{verdict_line, FilePair};
 use crate::join::join_in_order;
 use crate::judge::{check_in_order, Verdict, WordOrder, LIMITS};
 use crate::make::make_stage;
+use crate::next::{next_stage, FAMILY};
 use std::collections::BTreeSet;
 use std::fs;
 use std::io;
@@ -116,7 +117,14 @@ pub struct Program {
 
 /// All programs.
 pub fn programs() -> Vec<Program> {
-    vec![suite(), ncl_check(), ncl_report(), ncl_join(), ncl_make()]
+    vec![
+        suite(),
+        ncl_check(),
+        ncl_report(),
+        ncl_join(),
+        ncl_make(),
+        ncl_next(),
+    ]
 }
 
 fn suite() -> Program {
@@ -182,6 +190,17 @@ fn ncl_make() -> Program {
     Program {
         name: "ncl_make",
         data: vec![("reference.ncl", reference)],
+        stdout: verdict_line(made.verdict),
+    }
+}
+
+/// The last file with one input, after which comes the first with two.
+fn ncl_next() -> Program {
+    let last = FAMILY.iter().rfind(|file| file[1] == 1).expect("some");
+    let made = next_stage(last, &mut [0; 28]);
+    Program {
+        name: "ncl_next",
+        data: vec![("stage.ncl", last.clone())],
         stdout: verdict_line(made.verdict),
     }
 }

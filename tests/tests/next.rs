@@ -9,9 +9,8 @@ use fovaheju_tests::generate::nexts::next_case;
 use fovaheju_tests::judge::{read_stage, ACCEPTED};
 use fovaheju_tests::make::Made;
 use fovaheju_tests::next::{
-    contents_of_ncl_next, member, next_stage, FAMILY, NONE_FURTHER, NOT_IN_THE_FAMILY, TOO_SHORT,
+    member, next_stage, FAMILY, NONE_FURTHER, NOT_IN_THE_FAMILY, TOO_SHORT,
 };
-use fovaheju_tests::suite::is_stored;
 use std::collections::{BTreeMap, BTreeSet};
 
 const LAST: &str =
@@ -265,9 +264,4 @@ fn wrong_calls_are_told() {
     for (about, next_stage) in wrong {
         assert!(compare_nexts(next_stage, 112, 4_000).is_err(), "{about}");
     }
-}
-
-#[test]
-fn stored_file_and_output() {
-    is_stored("ncl_next", contents_of_ncl_next());
 }

@@ -1,5 +1,5 @@
-// The public calls. Their contracts cite the definitions of crates `verdict`, `report`, `joined` and `join`, `made` and `make`, at the limits of
-// crate `netlist`, and ask nothing of the caller.
+// The public calls. Their contracts cite the definitions of crates `verdict`, `report`, `joined` and `join`, `made` and `make`, `next_spec` and
+// `draw_spec`, at the limits of crate `netlist`, and ask nothing of the caller.
 use join::JoinAnswer;
 use report::Report;
 use verdict::Verdict;
