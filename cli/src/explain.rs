@@ -176,11 +176,15 @@ fn said(question: Question, verdict: Verdict, order: Order, thorough: bool) -> T
 fn of_pair(text: &mut Text, verdict: Verdict, pair: Pair, order: Order) {
     match (verdict.number, verdict.file) {
         (0, _) => {
-            text.row("stage", &format!("{}: {}", pair.stage.name, Stage::of(&pair.stage.bytes).counts()));
+            let stage = Stage::of(&pair.stage.bytes);
+            text.row("stage", &format!("{}: {}", pair.stage.name, stage.counts()));
+            let words = if stage.care.is_empty() { "in every word" } else { "in each of its care words" };
             text.row(
                 "found",
-                "in every order in which its gates may switch, the stage answers what the reference says, waits for each input and each \
-                 gate, and goes back to NULL in the same way",
+                &format!(
+                    "{words}, and in every order in which its gates may switch, the stage answers what the reference says, waits for each \
+                     input and each gate, and goes back to NULL in the same way"
+                ),
             );
         }
         (1..=9 | 18 | 19, 2) => bytes::unreadable(text, verdict, pair.reference, Side::Reference, pair.limits[1]),
@@ -193,8 +197,14 @@ fn of_pair(text: &mut Text, verdict: Verdict, pair: Pair, order: Order) {
             text.row("found", &format!("the stage has {}, the reference {word}", many(at, what)));
             text.row("to do", &format!("pair the stage with its own reference, or give the one that lacks {what}s what is missing"));
         }
-        (12, _) => circuit::on_a_loop(text, verdict, pair.stage),
-        (28, _) => circuit::retired(text, verdict, pair.stage),
+        (12, _) => {
+            let gates = circuit::on_a_loop(text, verdict, pair.stage);
+            if text.thorough {
+                let named = changes::Named { gates: &gates, output: None, net: None };
+                changes::accepted(text, pair, order, &Stage::of(&pair.stage.bytes), &named);
+            }
+        }
+        (28, _) => circuit::retired(text, verdict, pair, order),
         (13 | 14 | 15 | 20 | 21, _) => words::in_a_word(text, verdict, pair, order),
         _ => unknown(text, verdict),
     }
@@ -207,7 +217,9 @@ fn of_row(text: &mut Text, verdict: Verdict, file: &Input, row: &[u8]) {
     match verdict.number {
         0 => text.row("found", "the row is settled: each gate is high exactly if its set expression holds"),
         1..=9 | 18 | 19 => bytes::unreadable(text, verdict, file, Side::Stage, 256),
-        12 => circuit::on_a_loop(text, verdict, file),
+        12 => {
+            circuit::on_a_loop(text, verdict, file);
+        }
         16 => {
             text.row("stage", &format!("{}: {}", file.name, stage.counts()));
             let nets = stage.nets();
@@ -258,9 +270,15 @@ fn seam(text: &mut Text, verdict: Verdict, [first, second]: [Pair; 2], order: Or
     let care = Stage::of(&second.stage.bytes).care;
     words::say_word(text, verdict.word, &values, order);
     let digits: String = answer.iter().map(|&bit| if bit { '1' } else { '0' }).collect();
-    text.row("found", &format!("the first part answers {} = {digits}, word {word}, which the second does not care for", words::range("y", answer.len())));
+    text.row(
+        "found",
+        &format!("the first part answers {} = {digits}, word {word}, which the second does not care for", words::range("y", answer.len())),
+    );
     text.row("second", &format!("{}: {}, {}", second.stage.name, many(care.len(), "care word"), some(&care)));
-    text.row("to do", &format!("add {word} to the care words of the second part and check it, or take this word out of those of the first"));
+    text.row(
+        "to do",
+        &format!("add {word} to the care words of the second part and check it, or take this word out of those of the first"),
+    );
     text.below(0, "(care words in files have input i as bit i)");
 }
 
@@ -278,9 +296,15 @@ fn of_make(text: &mut Text, verdict: Verdict, file: &Input) {
         0 => text.row("found", "a stage was made of the reference; the check accepts it"),
         1..=9 => bytes::unreadable(text, verdict, file, Side::Reference, 512),
         25 => {
-            text.row("reference", &format!("{}: {}, {}", file.name, many(reference.inputs, "input"), many(reference.outputs.len(), "output")));
+            text.row(
+                "reference",
+                &format!("{}: {}, {}", file.name, many(reference.inputs, "input"), many(reference.outputs.len(), "output")),
+            );
             let sort = if at < reference.inputs { "input" } else { "signal" };
-            text.row("found", &format!("{sort} {} is no output and leads to none, so no output would wait for it", reference.signal_text(at)));
+            text.row(
+                "found",
+                &format!("{sort} {} is no output and leads to none, so no output would wait for it", reference.signal_text(at)),
+            );
             text.row("to do", &format!("take the {sort} out, or let an output depend on it"));
         }
         26 => {

@@ -254,10 +254,9 @@ impl Reference {
         for command in commands(file, Side::Reference) {
             match command.form {
                 Some(Form::Inputs) => reference.inputs = command.bytes[1].into(),
-                Some(Form::Operation) => reference.gates.push(Operation {
-                    operation: command.bytes[1],
-                    operands: [command.operand(2), command.operand(4)],
-                }),
+                Some(Form::Operation) => {
+                    reference.gates.push(Operation { operation: command.bytes[1], operands: [command.operand(2), command.operand(4)] })
+                }
                 Some(Form::Signal) => reference.outputs.push(command.operand(1)),
                 _ => {}
             }

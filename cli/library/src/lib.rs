@@ -67,26 +67,9 @@ pub const JOINED_REFERENCE: usize = 3_123;
 pub const MADE_STAGE: usize = 2_643;
 
 extern "C" {
-    fn fovaheju_check(
-        order: u64,
-        stage: *const u8,
-        stage_len: usize,
-        reference: *const u8,
-        reference_len: usize,
-    ) -> Verdict;
-    fn fovaheju_report(
-        order: u64,
-        stage: *const u8,
-        stage_len: usize,
-        reference: *const u8,
-        reference_len: usize,
-    ) -> Report;
-    fn fovaheju_settled_row(
-        stage: *const u8,
-        stage_len: usize,
-        row: *mut u8,
-        row_len: usize,
-    ) -> Verdict;
+    fn fovaheju_check(order: u64, stage: *const u8, stage_len: usize, reference: *const u8, reference_len: usize) -> Verdict;
+    fn fovaheju_report(order: u64, stage: *const u8, stage_len: usize, reference: *const u8, reference_len: usize) -> Report;
+    fn fovaheju_settled_row(stage: *const u8, stage_len: usize, row: *mut u8, row_len: usize) -> Verdict;
     fn fovaheju_join(
         order: u64,
         stage1: *const u8,
@@ -102,40 +85,19 @@ extern "C" {
         reference_out: *mut u8,
         reference_out_len: usize,
     ) -> Joined;
-    fn fovaheju_make_stage(
-        reference: *const u8,
-        reference_len: usize,
-        stage_out: *mut u8,
-        stage_out_len: usize,
-    ) -> Written;
+    fn fovaheju_make_stage(reference: *const u8, reference_len: usize, stage_out: *mut u8, stage_out_len: usize) -> Written;
 }
 
 /// The verdict on a stage file and a reference file.
 pub fn check(order: u64, stage: &[u8], reference: &[u8]) -> Verdict {
     // Safety: the contract has no `requires`, and each pointer and length are of a slice.
-    unsafe {
-        fovaheju_check(
-            order,
-            stage.as_ptr(),
-            stage.len(),
-            reference.as_ptr(),
-            reference.len(),
-        )
-    }
+    unsafe { fovaheju_check(order, stage.as_ptr(), stage.len(), reference.as_ptr(), reference.len()) }
 }
 
 /// The switching report of a stage file against a reference file.
 pub fn report(order: u64, stage: &[u8], reference: &[u8]) -> Report {
     // Safety: the contract has no `requires`, and each pointer and length are of a slice.
-    unsafe {
-        fovaheju_report(
-            order,
-            stage.as_ptr(),
-            stage.len(),
-            reference.as_ptr(),
-            reference.len(),
-        )
-    }
+    unsafe { fovaheju_report(order, stage.as_ptr(), stage.len(), reference.as_ptr(), reference.len()) }
 }
 
 /// The verdict on a stage file and a row, which is settled in place.
@@ -145,13 +107,7 @@ pub fn settled_row(stage: &[u8], row: &mut [u8]) -> Verdict {
 }
 
 /// The join of two parts, each a stage and its reference, into two buffers.
-pub fn join(
-    order: u64,
-    first: [&[u8]; 2],
-    second: [&[u8]; 2],
-    stage_out: &mut [u8],
-    reference_out: &mut [u8],
-) -> Joined {
+pub fn join(order: u64, first: [&[u8]; 2], second: [&[u8]; 2], stage_out: &mut [u8], reference_out: &mut [u8]) -> Joined {
     // Safety: the contract has no `requires`, and each pointer and length are of a slice; the buffers are lent to be written.
     unsafe {
         fovaheju_join(
@@ -175,12 +131,5 @@ pub fn join(
 /// The stage of a reference file, into a buffer.
 pub fn make_stage(reference: &[u8], stage_out: &mut [u8]) -> Written {
     // Safety: the contract has no `requires`, and each pointer and length are of a slice; the buffer is lent to be written.
-    unsafe {
-        fovaheju_make_stage(
-            reference.as_ptr(),
-            reference.len(),
-            stage_out.as_mut_ptr(),
-            stage_out.len(),
-        )
-    }
+    unsafe { fovaheju_make_stage(reference.as_ptr(), reference.len(), stage_out.as_mut_ptr(), stage_out.len()) }
 }

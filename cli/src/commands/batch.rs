@@ -29,7 +29,11 @@ pub fn command() -> Command {
     Command::new("batch")
         .about("The verdicts on many pairs: a line for each, in the order given")
         .arg(from.help("A folder, a list of pairs, or '-' for a list on standard input"))
-        .args([flag("json", "A JSON object on each line"), flag("csv", "CSV, with a line of names"), flag("junit", "One report in JUnit's form")])
+        .args([
+            flag("json", "A JSON object on each line"),
+            flag("csv", "CSV, with a line of names"),
+            flag("junit", "One report in JUnit's form"),
+        ])
         .group(ArgGroup::new("format").args(["json", "csv", "junit"]))
         .arg(jobs.help("How many pairs are judged side by side [default: one for each core]"))
         .arg(output.help("Write the lines to a file, whole or not at all"))

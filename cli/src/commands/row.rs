@@ -19,9 +19,13 @@ pub fn command() -> Command {
     Command::new("row")
         .about("The levels of all nets once a stage has settled for given inputs")
         .arg(file("stage", "STAGE", "The stage file; '-' is standard input"))
-        .arg(Arg::new("inputs").value_name("INPUTS").required_unless_present("bytes").conflicts_with("bytes").help(
-            "A sign for each input, input 0 first: 0, 1, or . for NULL",
-        ))
+        .arg(
+            Arg::new("inputs")
+                .value_name("INPUTS")
+                .required_unless_present("bytes")
+                .conflicts_with("bytes")
+                .help("A sign for each input, input 0 first: 0, 1, or . for NULL"),
+        )
         .arg(bytes)
         .args([json_flag(), explain_flag(), quiet()])
         .after_help(

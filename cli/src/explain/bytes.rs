@@ -56,17 +56,16 @@ fn wrong(verdict: Verdict, file: &Input, side: Side, most: usize) -> [String; 2]
     let command = listed.iter().find(|command| at >= command.at && at < command.at + command.bytes.len());
     let (found, todo) = match verdict.number {
         1 if bytes.is_empty() => ("the file is empty".into(), "see why nothing was written into it".into()),
-        1 => (
-            "the file ends within a command or before its end command (00)".into(),
-            "see whether it was written to its end".into(),
-        ),
+        1 => ("the file ends within a command or before its end command (00)".into(), "see whether it was written to its end".into()),
         2 => out_of_step(byte, at, &listed, side),
         3 => (
             format!("{}; a file has 1 to 10", many(byte.into(), "input")),
             if byte == 0 { "give the count of inputs" } else { "split the circuit, check the parts, and join them ('ncl join')" }.into(),
         ),
         4 => match side {
-            Side::Stage => (format!("{byte} is no kind of gate"), "use a kind 1 to 27, or 129 to 155 for the same cells without hold".into()),
+            Side::Stage => {
+                (format!("{byte} is no kind of gate"), "use a kind 1 to 27, or 129 to 155 for the same cells without hold".into())
+            }
             Side::Reference => (format!("{byte} is no operation"), "use 1 NOT, 2 AND, 3 OR, 4 XOR, 5 NAND or 6 NOR".into()),
         },
         5 => operand_wrong(at, operand, command, side),
@@ -162,7 +161,10 @@ fn absent(operand: usize, command: Option<&Command>, bytes: &[u8], side: Side) -
             let signals = reference.inputs + reference.gates.len();
             let is_gate = command.is_some_and(|command| command.form == Some(Form::Operation));
             if is_gate && operand < signals {
-                (format!("signal {operand} comes later than this gate, or is the gate itself"), "let the gate use inputs and earlier gates".into())
+                (
+                    format!("signal {operand} comes later than this gate, or is the gate itself"),
+                    "let the gate use inputs and earlier gates".into(),
+                )
             } else {
                 let last = signals.saturating_sub(1);
                 (format!("signal {operand}{none} is not there: the file has signals 0 to {last}"), "name a signal that is there".into())

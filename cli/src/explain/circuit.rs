@@ -1,13 +1,13 @@
 //! What can be seen in the gates of a stage without a word: loops and retired kinds.
 
-use super::Text;
+use super::{changes, Order, Pair, Text};
 use crate::input::Input;
-use crate::netlist::{many, Stage};
+use crate::netlist::Stage;
 use fovaheju::Verdict;
 use std::collections::VecDeque;
 
-/// 12: the loop, gate by gate.
-pub fn on_a_loop(text: &mut Text, verdict: Verdict, file: &Input) {
+/// 12: the loop, gate by gate. Answers its gates.
+pub fn on_a_loop(text: &mut Text, verdict: Verdict, file: &Input) -> Vec<usize> {
     let stage = Stage::of(&file.bytes);
     let start = verdict.at as usize;
     text.row("stage", &format!("{}: {}", file.name, stage.counts()));
@@ -21,8 +21,9 @@ pub fn on_a_loop(text: &mut Text, verdict: Verdict, file: &Input) {
         text.row(label, &format!("g{from} feeds pin {} of {}", ["A", "B", "C", "D"][pin.min(3)], stage.gate_text(gate)));
         from = gate;
     }
-    let pins = many(path.len(), "pin");
-    text.row("to do", &format!("put one of these {pins} on another net: a stage is combinational. A state goes through a register, outside the stage"));
+    let which = if path.len() == 1 { "this pin".into() } else { format!("one of these {} pins", path.len()) };
+    text.row("to do", &format!("put {which} on another net: a stage is combinational. A state goes through a register, outside the stage"));
+    path
 }
 
 /// The gates from one to itself by the fewest steps, each reading the one before it; the last is the gate.
@@ -56,20 +57,23 @@ fn path_to(before: &[Option<usize>], start: usize) -> Vec<usize> {
 }
 
 /// 28: the gate, and all others of its sort.
-pub fn retired(text: &mut Text, verdict: Verdict, file: &Input) {
-    let stage = Stage::of(&file.bytes);
+pub fn retired(text: &mut Text, verdict: Verdict, pair: Pair, order: Order) {
+    let stage = Stage::of(&pair.stage.bytes);
     let gate = verdict.at as usize;
     let kind = stage.gates.get(gate).map_or(0, |gate| gate.kind & 0x7F);
-    text.row("stage", &format!("{}: {}", file.name, stage.counts()));
+    let alike: Vec<usize> = (0..stage.gates.len()).filter(|&k| stage.gates[k].kind & 0x7F == kind).collect();
+    text.row("stage", &format!("{}: {}", pair.stage.name, stage.counts()));
     text.row("found", &format!("{} is of a kind that is no longer cast", stage.gate_text(gate)));
-    let others: Vec<String> =
-        (0..stage.gates.len()).filter(|&k| k != gate && stage.gates[k].kind & 0x7F == kind).map(|k| format!("g{k}")).collect();
+    let others: Vec<String> = alike.iter().filter(|&&k| k != gate).map(|&k| stage.gate_text(k)).collect();
     if !others.is_empty() {
         text.row("also", &others.join(", "));
     }
     text.row(
         "to do",
-        "build the gate of other kinds. AB+AC+BCD is TH12 of TH33w2(A, B, C) and TH33(B, C, D); check again, since each new gate has to be \
-         waited for",
+        "build the gate of other kinds: AB+AC+BCD is TH12 of TH33w2(A, B, C) and TH33(B, C, D). Then check again, since the outputs have \
+         to wait for the new gates too",
     );
+    if text.thorough {
+        changes::of_retired(text, pair, order, &stage, &alike);
+    }
 }

@@ -1,6 +1,7 @@
 //! What is found in a word: a wrong output, or an input or a gate that the outputs do not wait for. The levels shown are the library's.
 
-use super::{changes, Order, Pair, Text};
+use super::changes::{self, Named};
+use super::{Order, Pair, Text};
 use crate::levels::{Levels, Odd, Row};
 use crate::netlist::{many, relaxed, set_expression, Reference, Stage};
 use fovaheju::Verdict;
@@ -30,14 +31,19 @@ pub fn in_a_word(text: &mut Text, verdict: Verdict, pair: Pair, order: Order) {
         return;
     };
     let case = Case { stage: &stage, rest: &rest, row: &row, falls: matches!(verdict.number, 20 | 21) };
-    let places = if verdict.number == 13 {
+    let (gates, output, net) = if verdict.number == 13 {
         let answer = Reference::of(&pair.reference.bytes).answer(&values);
-        wrong(text, &case, at, &answer, pair)
+        (wrong(text, &case, at, &answer, pair), Some(at), None)
     } else {
-        not_awaited(text, &case, odd, &values)
+        let gates = not_awaited(text, &case, odd, &values);
+        let net = match odd {
+            Odd::Input(input) => 2 * input + usize::from(values.get(input) == Some(&true)),
+            Odd::Gate(gate) => stage.net_of(gate),
+        };
+        (gates, None, Some(net))
     };
     if text.thorough {
-        changes::accepted(text, pair, order, &stage, &places, (verdict.number == 13).then_some(at));
+        changes::accepted(text, pair, order, &stage, &Named { gates: &gates, output, net });
     }
 }
 
@@ -116,9 +122,17 @@ fn wrong(text: &mut Text, case: &Case, at: usize, answer: &[bool], pair: Pair) -
         text.row("look at", &format!("rail {rail} of y{at} is {}: {}, and should be {should}", stage.net_name(net), level(row, net)));
         behind(text, case, net, 0, &mut shown);
     }
-    let both = shows != "NULL" && shows != "both rails high";
-    let exchanged = if both { "its two rails exchanged, " } else { "" };
-    text.row("to do", &format!("follow y{at} back through these gates: {exchanged}a wrong pin, a wrong kind, or a reference of something else"));
+    let (whole, wrong) = match shown.is_empty() {
+        true => (format!("see which nets are the rails of y{at}"), "a wrong net"),
+        false => (format!("follow y{at} back through these gates"), "a wrong pin, a wrong kind"),
+    };
+    let exchanged = if shows.starts_with("DATA") { "its two rails exchanged, " } else { "" };
+    let mut why = format!("{exchanged}{wrong}, or a reference of something else");
+    if shows == "NULL" {
+        let care = if stage.care.is_empty() { "name those that do as care words (06)" } else { "take it out of the care words" };
+        why += &format!(". If this word never comes, {care}");
+    }
+    text.row("to do", &format!("{whole}: {why}"));
     shown
 }
 
@@ -182,13 +196,33 @@ fn not_awaited(text: &mut Text, case: &Case, odd: Odd, values: &[bool]) -> Vec<u
         text.row("", &format!("and {} more nets that nothing waits for", ends.len() - PLACES));
     }
     if !case.falls {
-        for rails in stage.outputs.iter().flatten().filter(|&&net| case.row[net]) {
-            places.extend(stage.driver(*rails));
+        let first = first_gates(case);
+        let shown: Vec<String> = first.iter().take(PLACES).map(|&gate| stage.gate_text(gate)).collect();
+        if let Odd::Input(input) = odd {
+            let more = if first.len() > PLACES { ", .." } else { "" };
+            if !shown.is_empty() {
+                text.row("set by", &format!("{}{more}, which the other inputs set without x{input}", shown.join(", ")));
+            }
         }
+        places.extend(first);
+        places.extend(stage.outputs.iter().flatten().filter(|&&net| case.row[net]).filter_map(|&net| stage.driver(net)));
     }
-    places.dedup();
+    let mut seen = Vec::new();
+    places.retain(|gate| {
+        !seen.contains(gate) && {
+            seen.push(*gate);
+            true
+        }
+    });
     say_todo(text, case, odd, &places);
     places
+}
+
+/// The gates that are high and read a high input rail: those from which the outputs have their DATA.
+fn first_gates(case: &Case) -> Vec<usize> {
+    let rails = 2 * case.stage.inputs;
+    let fed = |gate: &usize| case.stage.gates[*gate].pins.iter().any(|&pin| pin < rails && case.row[pin]);
+    (0..case.stage.gates.len()).filter(|&gate| case.row[case.stage.net_of(gate)]).filter(fed).collect()
 }
 
 /// What each output shows, and by which gate.
@@ -215,7 +249,7 @@ fn high_pins(case: &Case, gate: usize) -> String {
     if high.len() == pins.len() {
         return String::new();
     }
-    format!(", set by {}", high.join(" and "))
+    format!(", set by {}", high.join(", "))
 }
 
 /// A net where the waiting ends, and why who reads it does not wait.
@@ -254,10 +288,20 @@ fn say_end(text: &mut Text, case: &Case, net: usize, odd: Odd, places: &mut Vec<
 fn say_todo(text: &mut Text, case: &Case, odd: Odd, places: &[usize]) {
     let stage = case.stage;
     let todo = match (odd, case.falls) {
-        (Odd::Input(input), false) => format!(
-            "let an output wait for x{input} in this word, or x{input} may come late, into the next word. A gate that is set by one of two \
-             signals has to be set by both: THand0(a, b, a', b') in place of TH12(a, b), where a' is the other rail of a"
-        ),
+        (Odd::Input(input), false) => {
+            let mut todo = format!("let an output wait for x{input} in this word, or x{input} may come late, into the next word");
+            let unused = (0..2).all(|rail| {
+                stage.readers(2 * input + rail).is_empty() && !stage.outputs.iter().flatten().any(|&net| net == 2 * input + rail)
+            });
+            if unused {
+                todo += &format!(". Nothing reads x{input}: let an output depend on it, or take it out of both files");
+            } else if places.iter().any(|&gate| stage.gates[gate].kind & 0x7F == 1) {
+                todo += ". TH12(a, b) is set by one of two signals; THand0(a, b, a', b') waits for both, where a' is the other rail of a";
+            } else {
+                todo += &format!(": a gate on the way to an output has to need x{input}");
+            }
+            todo
+        }
         (Odd::Gate(gate), false) => {
             let net = stage.net_of(gate);
             if stage.readers(net).is_empty() {
@@ -267,7 +311,8 @@ fn say_todo(text: &mut Text, case: &Case, odd: Odd, places: &[usize]) {
             }
         }
         (_, true) => {
-            let named: Vec<String> = places.iter().filter(|&&gate| relaxed(stage.gates[gate].kind)).map(|gate| format!("g{gate}")).collect();
+            let named: Vec<String> =
+                places.iter().filter(|&&gate| relaxed(stage.gates[gate].kind)).map(|gate| format!("g{gate}")).collect();
             let which = if named.is_empty() { "one of the relaxed gates".into() } else { named.join(" or ") };
             format!("give {which} its hold back (the kind without r, 128 less), so that it waits until all its pins are low")
         }
