@@ -17,6 +17,7 @@ use crate::Found;
 use clap::{value_parser, Arg, ArgAction, ArgMatches, Command};
 use fovaheju::Verdict;
 use serde_json::{json, Value};
+use std::ffi::OsString;
 use std::path::{Path, PathBuf};
 
 type Row = (&'static str, fn() -> Command, fn(&ArgMatches) -> Outcome<Found>);
@@ -45,13 +46,24 @@ Exit status: 0 accepted, 1 refused, 2 wrong usage or a file that cannot be read 
 
 /// The whole command line.
 pub fn all() -> Command {
+    with_rows(&ROWS)
+}
+
+/// The command line as far as these arguments need it: where they begin with a subcommand, that one alone. A start is most of a check, and
+/// this is a third of it.
+pub fn needed(arguments: &[OsString]) -> Command {
+    let asked = ROWS.iter().position(|row| arguments.get(1).is_some_and(|word| word == row.0));
+    with_rows(asked.map_or(&ROWS[..], |k| &ROWS[k..=k]))
+}
+
+fn with_rows(rows: &[Row]) -> Command {
     Command::new("ncl")
         .version(env!("CARGO_PKG_VERSION"))
         .about("Judges NULL Convention Logic stages against Boolean references; every verdict comes from the proved library")
         .after_help(EXAMPLES)
         .subcommand_required(true)
         .arg_required_else_help(true)
-        .subcommands(ROWS.iter().map(|row| (row.1)()))
+        .subcommands(rows.iter().map(|row| (row.1)()))
 }
 
 pub fn run(matches: &ArgMatches) -> Outcome<Found> {

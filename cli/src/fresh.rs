@@ -3,7 +3,11 @@
 
 use crate::output::tell;
 use crate::FAILED;
+use std::ffi::OsStr;
 use std::fs;
+use std::io::Read;
+use std::os::unix::ffi::{OsStrExt, OsStringExt};
+use std::os::unix::fs::MetadataExt;
 use std::os::unix::process::CommandExt;
 use std::path::{Path, PathBuf};
 use std::process::Command;
@@ -36,12 +40,21 @@ pub fn ensure() -> Result<(), u8> {
 
 /// A source that changed since the build began, or is gone.
 fn newer(root: &Path) -> Option<PathBuf> {
-    let built = root.join("target/cli/built");
-    let when = fs::metadata(&built).and_then(|data| data.modified()).ok()?;
-    let sources = fs::read_to_string(&built).ok()?;
+    let mut file = fs::File::open(root.join("target/cli/built")).ok()?;
+    let built = file.metadata().ok()?;
+    let mut sources = String::new();
+    file.read_to_string(&mut sources).ok()?;
+    let when = (built.mtime(), built.mtime_nsec());
+    // One buffer for all names: this is done at every start.
+    let mut path = root.as_os_str().to_owned();
+    path.push("/");
+    let start = path.len();
+    let mut path = path.into_vec();
     let changed = |source: &&str| {
-        let time = fs::metadata(root.join(source)).and_then(|data| data.modified());
-        time.map_or(true, |time| time > when)
+        path.truncate(start);
+        path.extend_from_slice(source.as_bytes());
+        let data = fs::metadata(OsStr::from_bytes(&path));
+        data.map_or(true, |data| (data.mtime(), data.mtime_nsec()) > when)
     };
     sources.lines().find(changed).map(PathBuf::from)
 }

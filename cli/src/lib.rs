@@ -27,7 +27,7 @@ const FAILED: u8 = 2;
 
 /// Runs the command with its arguments, and answers its exit status: 0 accepted, 1 refused, 2 wrong usage or a file that cannot be read or
 /// written.
-pub fn run(arguments: impl IntoIterator<Item = OsString>) -> u8 {
+pub fn run(arguments: &[OsString]) -> u8 {
     match found(arguments) {
         Ok(found) => found as u8,
         Err(Failure(words)) => {
@@ -39,8 +39,8 @@ pub fn run(arguments: impl IntoIterator<Item = OsString>) -> u8 {
     }
 }
 
-fn found(arguments: impl IntoIterator<Item = OsString>) -> Outcome<Found> {
-    match commands::all().try_get_matches_from(arguments) {
+fn found(arguments: &[OsString]) -> Outcome<Found> {
+    match commands::needed(arguments).try_get_matches_from(arguments) {
         Ok(matches) => commands::run(&matches),
         // Help and version, which were asked for.
         Err(error) if !error.use_stderr() => output::put(error.to_string().as_bytes()).map(|()| Found::Accepted),
