@@ -58,8 +58,14 @@ pub fn of_retired(text: &mut Text, pair: Pair, order: Order, stage: &Stage, gate
 
 fn say(text: &mut Text, pair: Pair, order: Order, changes: Vec<Change>) {
     let accepts = |change: &Change| fovaheju::check(order.mark(), &change.file, &pair.reference.bytes).accepts();
-    let found = changes.into_iter().take(TRIED).filter(accepts).take(SHOWN);
-    for (k, change) in found.enumerate() {
+    let mut found: Vec<Change> = Vec::new();
+    for change in changes.into_iter().take(TRIED) {
+        // Two ways to one stage are one change.
+        if found.len() < SHOWN && found.iter().all(|other| other.file != change.file) && accepts(&change) {
+            found.push(change);
+        }
+    }
+    for (k, change) in found.iter().enumerate() {
         if k == 0 {
             text.row("accepted", &format!("with one change: {}", change.says));
         } else {
