@@ -15,6 +15,7 @@ use std::collections::BTreeMap;
 use std::io::IsTerminal;
 use std::os::unix::fs::MetadataExt;
 use std::path::PathBuf;
+use std::sync::atomic::{AtomicBool, Ordering};
 use std::time::{Duration, Instant};
 
 /// So many pairs are judged before their lines are written.
@@ -116,20 +117,23 @@ fn judge_all(all: &[Named], matches: &ArgMatches, lines: &mut Lines, summary: &m
     let style = ProgressStyle::with_template("{bar:30} {pos}/{len} pairs, {eta} to go");
     bar.set_style(style.unwrap_or_else(|_| ProgressStyle::default_bar()));
     let seen = std::io::stderr().is_terminal() && !matches.get_flag("quiet");
-    let (mut shown, mut report) = (false, Vec::new());
+    let shown = AtomicBool::new(!seen);
+    let done = || {
+        bar.inc(1);
+        if began.elapsed() > PATIENCE && !shown.swap(true, Ordering::Relaxed) {
+            bar.set_draw_target(ProgressDrawTarget::stderr());
+        }
+    };
+    let mut report = Vec::new();
     lines.add(&head(format), &bar)?;
     for some in all.chunks(AT_A_TIME) {
-        let judged = judge(some, manner, || bar.inc(1));
+        let judged = judge(some, manner, done);
         let text: Vec<u8> = judged.iter().flat_map(|judged| line(format, judged)).collect();
         judged.iter().for_each(|judged| summary.add(judged, &bar));
         if format == Format::Junit {
             report.extend(judged);
         }
         lines.add(&text, &bar)?;
-        if seen && !shown && began.elapsed() > PATIENCE {
-            bar.set_draw_target(ProgressDrawTarget::stderr());
-            shown = true;
-        }
     }
     bar.finish_and_clear();
     if format == Format::Junit {
