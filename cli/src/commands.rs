@@ -50,7 +50,7 @@ pub fn all() -> Command {
 }
 
 /// The command line as far as these arguments need it: where they begin with a subcommand, that one alone. A start is most of a check, and
-/// this is a third of it.
+/// describing all subcommands would be a good part of it.
 pub fn needed(arguments: &[OsString]) -> Command {
     let asked = ROWS.iter().position(|row| arguments.get(1).is_some_and(|word| word == row.0));
     with_rows(asked.map_or(&ROWS[..], |k| &ROWS[k..=k]))

@@ -304,7 +304,6 @@ impl Reference {
 
 /// What each command of a file says, one after the other.
 pub struct Listing {
-    side: Side,
     stage: Stage,
     reference: Reference,
     gates: usize,
@@ -317,7 +316,7 @@ impl Listing {
             Side::Stage => (Stage::of(file), Reference::default()),
             Side::Reference => (Stage::default(), Reference::of(file)),
         };
-        Listing { side, stage, reference, gates: 0, outputs: 0 }
+        Listing { stage, reference, gates: 0, outputs: 0 }
     }
 
     /// What the next command says.
@@ -345,10 +344,6 @@ impl Listing {
                 format!("y{}: {}", self.outputs - 1, self.reference.signal_name(command.operand(1)))
             }
         }
-    }
-
-    pub fn side(&self) -> Side {
-        self.side
     }
 }
 
