@@ -207,15 +207,20 @@ fn not_awaited(text: &mut Text, case: &Case, odd: Odd, values: &[bool]) -> Vec<u
         places.extend(first);
         places.extend(stage.outputs.iter().flatten().filter(|&&net| case.row[net]).filter_map(|&net| stage.driver(net)));
     }
-    let mut seen = Vec::new();
-    places.retain(|gate| {
-        !seen.contains(gate) && {
-            seen.push(*gate);
-            true
-        }
-    });
+    let places = once(&places);
     say_todo(text, case, odd, &places);
     places
+}
+
+/// A list without what came before.
+fn once(list: &[usize]) -> Vec<usize> {
+    let mut kept = Vec::new();
+    for item in list {
+        if !kept.contains(item) {
+            kept.push(*item);
+        }
+    }
+    kept
 }
 
 /// The gates that are high and read a high input rail: those from which the outputs have their DATA.
@@ -257,8 +262,9 @@ fn say_end(text: &mut Text, case: &Case, net: usize, odd: Odd, places: &mut Vec<
     let stage = case.stage;
     let name = stage.net_name(net);
     let what = match (stage.driver(net), odd) {
-        (Some(gate), Odd::Gate(kept)) if gate == kept => name.clone(),
-        (Some(gate), _) => stage.gate_text(gate) + ", which waits for it,",
+        (Some(gate), Odd::Gate(late)) if gate == late => name.clone(),
+        (Some(gate), Odd::Gate(late)) => format!("{}, which waits for g{late},", stage.gate_text(gate)),
+        (Some(gate), Odd::Input(input)) => format!("{}, which waits for x{input},", stage.gate_text(gate)),
         (None, _) => format!("rail {name}"),
     };
     let readers = stage.readers(net);
