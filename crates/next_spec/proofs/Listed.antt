@@ -110,9 +110,9 @@ module _ (n g : ℕ) (fits : InShape n g) where
 
 -- ---- some shapes, one after another
 
-abbrev Ascending : List Shape → Type 0
-Ascending [] = Unit {0}
-Ascending (h ∷ hs) = InShape (h .inputs) (h .gates) × All (Sooner h) hs × Ascending hs
+abbrev Rising : List Shape → Type 0
+Rising [] = Unit {0}
+Rising (h ∷ hs) = InShape (h .inputs) (h .gates) × All (Sooner h) hs × Rising hs
 
 -- what holds of each numbered stage of the shapes without a loop holds of all that are listed
 stagesOf-all : (P : Stage → Type 0) (hs : List Shape)
@@ -124,7 +124,7 @@ stagesOf-all P (h ∷ hs) a =
     All-++ P (group (h .inputs) (h .gates)) (stagesOf hs)
     (listed-all (h .inputs) (h .gates) P 0 (stages (h .inputs) (h .gates)) (λ y l u f. a .0 y (omega arith) f)) (stagesOf-all P hs (a .1))
 
-in-shapes : (hs : List Shape) → Ascending hs → All (λ h. InShape (h .inputs) (h .gates)) hs
+in-shapes : (hs : List Shape) → Rising hs → All (λ h. InShape (h .inputs) (h .gates)) hs
 in-shapes [] r = tt
 in-shapes (h ∷ hs) r = (r .0, in-shapes hs (r .2))
 
@@ -132,7 +132,7 @@ All-both : {X : Type 0} (P Q : X → Type 0) (xs : List X) → All P xs → All 
 All-both P Q [] a b = tt
 All-both P Q (x ∷ xs) a b = ((a .0, b .0), All-both P Q xs (a .1) (b .1))
 
-pub stages-ascending : (hs : List Shape) → Ascending hs → Ascending (stagesOf hs)
+pub stages-ascending : (hs : List Shape) → Rising hs → Ascending (stagesOf hs)
 unfolding group
 stages-ascending [] r = tt
 stages-ascending (h ∷ hs) r =
@@ -149,7 +149,7 @@ stages-ascending (h ∷ hs) r =
     (numbered-shaped (k .inputs) (k .gates) (s .1) z))
     hs later)))
 
-shapes-rising : Ascending shapes
+shapes-rising : Rising shapes
 unfolding shapes
 shapes-rising =
     let i : (n g : ℕ) → 1 ≤ n → n ≤ 2 → g ≤ 2 → InShape n g = λ n g a b c. record { inputs-in = (a, b); gates-in = c } in (
