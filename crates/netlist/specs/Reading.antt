@@ -64,9 +64,9 @@ floorAfter floor [] = floor
 floorAfter floor (w ∷ ws) = floorAfter (w + 1) ws
 
 -- care words that rise from a floor on, all below some number
-abbrev pub Rising : ℕ → ℕ → List ℕ → Type 0
-Rising below floor [] = Unit {0}
-Rising below floor (w ∷ ws) = (floor ≤ w) × (w < below) × Rising below (w + 1) ws
+abbrev pub Ascending : ℕ → ℕ → List ℕ → Type 0
+Ascending below floor [] = Unit {0}
+Ascending below floor (w ∷ ws) = (floor ≤ w) × (w < below) × Ascending below (w + 1) ws
 
 abbrev pub countsOf : Places → Counts
 countsOf p = record {
