@@ -22,11 +22,13 @@ partOf stage reference = joined.partIn partStageLimits partReferenceLimits (join
 
 -- 22, 23 and 24, or the whole, of two parts that are accepted
 abbrev pub joinParts : WordOrder → joined.Part → joined.Part → ℕ → ℕ → joined.JoinResult
-joinParts order first second stageRoom referenceRoom = joined.joinUnless (firstFault (joined.joinChecks order first second stageRoom referenceRoom)) first second
+joinParts order first second stageRoom referenceRoom = joined.joinUnless
+    (firstFault (joined.joinChecks order first second stageRoom referenceRoom)) first second
 
 -- what 23 finds under a name, by the number of the first part's inputs
 abbrev pub uncaredUnder : WordOrder → ℕ → Reference → Stage → ℕ → Found
-uncaredUnder order inputs function second name = checks.first (λ i. not (joined.caresFor second (joined.answerWord function (spelled order inputs name)))) (0 ∷ [])
+uncaredUnder order inputs function second name = checks.first
+    (λ i. not (joined.caresFor second (joined.answerWord function (spelled order inputs name)))) (0 ∷ [])
 
 -- a part in its flat forms
 abbrev pub partLoaded : Counts → List ℕ → Counts → List ℕ → joined.Part

@@ -133,7 +133,8 @@ fn refusal(verdict: Verdict) -> JoinAnswer
 // Reads and loads the stage of a part; what cannot be read counts for nothing.
 fn load_part(s: &[u8], code: &mut [u16]) -> Counts
     requires { ⌜ 8 * stageLimits .gates + 2 * stageLimits .outputs + 2 ^ stageLimits .inputs ≤ length (now code) ⌝ }
-    ensures { λ r. ⌜ StageLoaded r (now (code .exit)) × (stageIn r (now (code .exit)) ≡ stageRead (now (s .entry)) (readFile file.Stage partStageLimits (now (s .entry)))) ⌝ }
+    ensures { λ r. ⌜ StageLoaded r (now (code .exit)) × (stageIn r (now (code .exit))
+        ≡ stageRead (now (s .entry)) (readFile file.Stage partStageLimits (now (s .entry)))) ⌝ }
 {
     match circuit_load::read_stage_within(s, netlist::part_stage_limits(), code) {
         Outcome::Readable(counts) => counts,
@@ -177,7 +178,8 @@ fn join_loaded(
     reference_out: &mut [u8],
 ) -> JoinAnswer
     requires { ⌜ PartsLoaded sizes (now stage1) (now reference1) (now stage2) (now reference2) ⌝ }
-    ensures { λ r. ⌜ Leaves (joinParts order (partLoaded (sizes .stage1) (now (stage1 .entry)) (sizes .reference1) (now (reference1 .entry))) (partLoaded (sizes .stage2)
+    ensures { λ r. ⌜ Leaves (joinParts order (partLoaded (sizes .stage1) (now (stage1 .entry)) (sizes .reference1) (now (reference1 .entry)))
+        (partLoaded (sizes .stage2)
         (now (stage2 .entry)) (sizes .reference2) (now (reference2 .entry))) (length (now («stage_out» .entry))) (length (now («reference_out» .entry)))) r
         (now («stage_out» .entry)) (now («reference_out» .entry)) (now («stage_out» .exit)) (now («reference_out» .exit)) ⌝ }
 {
@@ -238,7 +240,8 @@ fn join_accepted(
     stage_out: &mut [u8],
     reference_out: &mut [u8],
 ) -> JoinAnswer
-    requires { ⌜ (verdictWithin order partStageLimits partReferenceLimits (now stage1) (now reference1) ≡ accepted) × (verdictWithin order partStageLimits partReferenceLimits
+    requires { ⌜ (verdictWithin order partStageLimits partReferenceLimits (now stage1) (now reference1) ≡ accepted)
+        × (verdictWithin order partStageLimits partReferenceLimits
         (now stage2) (now reference2) ≡ accepted) ⌝ }
     ensures { λ r. ⌜ Leaves (joinParts order (partOf (now (stage1 .entry)) (now (reference1 .entry))) (partOf (now (stage2 .entry)) (now (reference2 .entry)))
         (length (now («stage_out» .entry))) (length (now («reference_out» .entry)))) r (now («stage_out» .entry)) (now («reference_out» .entry))

@@ -41,7 +41,8 @@ fn put_gates(buffer: &mut [u8], code: &[u16], counts: Counts, rails: &mut [u16])
         × (pairsIn (now rails) (counts .inputs) ≡ inputRails 0 (counts .inputs)) × (gatesNeeded (referenceIn counts (now code)) ≤ stageLimits .gates)
         × (2 + 10 * gatesNeeded (referenceIn counts (now code)) ≤ length (now buffer)) ⌝ }
     ensures count { λ r. ⌜ r ≡ gatesNeeded (referenceIn counts (now (code .entry))) ⌝ }
-    ensures put { λ r. ⌜ Put (now (buffer .entry)) 2 (bytesOf file.Stage gateItem (built (referenceIn counts (now (code .entry))) .gates)) (now (buffer .exit)) ⌝ }
+    ensures put { λ r. ⌜ Put (now (buffer .entry)) 2 (bytesOf file.Stage gateItem (built (referenceIn counts (now (code .entry))) .gates))
+        (now (buffer .exit)) ⌝ }
     ensures rails { λ r. ⌜ (pairsIn (now (rails .exit)) (counts .inputs + counts .gates) ≡ built (referenceIn counts (now (code .entry))) .rails) × (length
         (now (rails .exit)) ≡ length (now (rails .entry))) ⌝ }
 {
@@ -59,7 +60,8 @@ fn put_gates(buffer: &mut [u8], code: &[u16], counts: Counts, rails: &mut [u16])
 fn put_outputs(buffer: &mut [u8], at: usize, code: &[u16], counts: Counts, rails: &[u16])
     requires { ⌜ ReferenceLoaded counts (now code) × (2 * (counts .inputs + counts .gates) ≤ length (now rails))
         × (at + 5 * counts .outputs ≤ length (now buffer)) ⌝ }
-    ensures { λ _. ⌜ Put (now (buffer .entry)) at (bytesOf file.Stage pairItem (railsAt (pairsIn (now (rails .entry)) (counts .inputs + counts .gates)) (signalsIn
+    ensures { λ _. ⌜ Put (now (buffer .entry)) at (bytesOf file.Stage pairItem
+        (railsAt (pairsIn (now (rails .entry)) (counts .inputs + counts .gates)) (signalsIn
         counts (now (code .entry))))) (now (buffer .exit)) ⌝ }
 {
     let from = 3 * counts.gates;

@@ -21,4 +21,5 @@ finds StillHigh s r w = least (fallUnobservable s w) 0 (length (s .gates))
 
 -- 15 for given rails: gate g is high, and all outputs are still DATA once the gates have settled with it held low
 unfoldable pub unobserved : List Gate → List Pair → List ℕ → ℕ → Bool
-unobserved gates pairs rails g = elim (high (settled gates rails) (length rails + g)) as (λ b. Bool) [ true ↦ allData (settledHolding g gates rails) pairs | false ↦ false ]
+unobserved gates pairs rails g = elim (high (settled gates rails) (length rails + g)) as
+    (λ b. Bool) [ true ↦ allData (settledHolding g gates rails) pairs | false ↦ false ]

@@ -76,7 +76,8 @@ pub fn remaining_input(code: &[u16], counts: Counts, w: usize) -> Found
 // Whether gate g is high at the rest in a row and all outputs are NULL once all inputs have fallen while it is kept high.
 fn still_high_at(code: &[u16], counts: Counts, rest: &[u8], g: usize) -> bool
     requires { ⌜ StageLoaded counts (now code) × InOrder counts (now code) × RowFor counts (now rest) × (g < counts .gates) ⌝ }
-    ensures { λ r. ⌜ ((w : ℕ) → RestOf counts (now (code .entry)) (now (rest .entry)) w → r ≡ checks.fallUnobservable (stageIn counts (now (code .entry))) w g) ⌝ }
+    ensures { λ r. ⌜ ((w : ℕ) → RestOf counts (now (code .entry)) (now (rest .entry)) w
+        → r ≡ checks.fallUnobservable (stageIn counts (now (code .entry))) w g) ⌝ }
 {
     let net = 2 * counts.inputs + g;
     if rest[net] == 0 {

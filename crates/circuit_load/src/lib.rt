@@ -13,7 +13,8 @@ ghost use Rattle.netlist.specs.Read.{outcomeOf};
 ghost use Rattle.netlist.specs.Content.{stageOf, referenceOf};
 ghost use Rattle.circuit.specs.Stage.{netCount, stageIn, StageLoaded};
 ghost use Rattle.circuit.specs.Reference.{referenceIn, ReferenceLoaded};
-ghost use Rattle.circuit_load.specs.Load.{placesIn, FileRead, HoldsStage, HoldsReference, pinNumber, cellNumber, gateNumber, stageNumber, operatorNumber, referenceNumber};
+ghost use Rattle.circuit_load.specs.Load.{placesIn, FileRead, HoldsStage, HoldsReference, pinNumber, cellNumber, gateNumber, stageNumber, operatorNumber};
+ghost use Rattle.circuit_load.specs.Load.{referenceNumber};
 
 // The room that the flat forms of the largest stage and of the largest reference take.
 pub const STAGE_CODE: usize = 8 * netlist::STAGE_GATES + 2 * netlist::OUTPUTS + netlist::WORDS;

@@ -58,7 +58,8 @@ fn place(code: &mut [u16], counts: Counts, k: usize, waiting: &mut [u8], placed:
 // A pass over the gates: each that is ready takes the next place of the order. How many places are taken then.
 fn place_ready(code: &mut [u16], counts: Counts, waiting: &mut [u8], taken: usize) -> usize
     requires { ⌜ Placing counts (now code) (now waiting) taken ⌝ }
-    ensures { λ r. ⌜ PassTo counts (now (code .exit)) (now (waiting .exit)) taken r (counts .gates) × Reordered counts (now (code .entry)) (now (code .exit)) ⌝ }
+    ensures { λ r. ⌜ PassTo counts (now (code .exit)) (now (waiting .exit)) taken r (counts .gates)
+        × Reordered counts (now (code .entry)) (now (code .exit)) ⌝ }
 {
     let mut placed = taken;
     let mut k: usize = 0;

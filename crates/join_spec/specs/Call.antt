@@ -23,14 +23,17 @@ pub record Leaves (a : joined.JoinResult) (r : JoinAnswer) (stage reference stag
   pub stage-bytes : stageAfter ≡ holding (a .stage) stage
   pub reference-bytes : referenceAfter ≡ holding (a .reference) reference
 
--- What is said of the join, by the order of words, the files of its parts, the two buffers, its answer and the buffers after it: the answer and every byte are those
--- defined; the earliest reason of the answer is named; where it accepts, the whole is accepted and its runs obey everything said of a stage, and in
--- the other order it accepts too and writes the same.
-pub record JoinDemand (order : WordOrder) (first second : joined.Files) (stage reference : List ℕ) (r : JoinAnswer) (stageAfter referenceAfter : List ℕ) : Type 0 where
-  pub answer : Leaves (joined.joinWithin order partStageLimits partReferenceLimits first second (length stage) (length reference)) r stage reference stageAfter referenceAfter
+-- What is said of the join, by the order of words, the files of its parts, the two buffers, its answer and the buffers after it: the answer
+-- and every byte are those defined; the earliest reason of the answer is named; where it accepts, the whole is accepted and its runs obey
+-- everything said of a stage, and in the other order it accepts too and writes the same.
+pub record JoinDemand (order : WordOrder) (first second : joined.Files) (stage reference : List ℕ) (r : JoinAnswer)
+    (stageAfter referenceAfter : List ℕ) : Type 0 where
+  pub answer : Leaves (joined.joinWithin order partStageLimits partReferenceLimits first second (length stage) (length reference)) r stage reference
+      stageAfter referenceAfter
   pub because : JoinBecause order partStageLimits partReferenceLimits first second (length stage) (length reference)
       (joined.joinWithin order partStageLimits partReferenceLimits first second (length stage) (length reference))
-  pub kept : JoinKept stageLimits referenceLimits (joined.partIn partStageLimits partReferenceLimits first) (joined.partIn partStageLimits partReferenceLimits second)
+  pub kept : JoinKept stageLimits referenceLimits (joined.partIn partStageLimits partReferenceLimits first)
+      (joined.partIn partStageLimits partReferenceLimits second)
       (joined.joinWithin order partStageLimits partReferenceLimits first second (length stage) (length reference))
   pub either-order : (other : WordOrder) → r .verdict ≡ accepted
       → joined.joinWithin other partStageLimits partReferenceLimits first second (length stage) (length reference)

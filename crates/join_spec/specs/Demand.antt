@@ -64,4 +64,5 @@ pub data JoinBecause (order : WordOrder) (stageMost referenceMost : Limits) (fir
   joined : verdictWithin order stageMost referenceMost (first .stage) (first .reference) ≡ accepted
       → verdictWithin order stageMost referenceMost (second .stage) (second .reference) ≡ accepted
       → EachOf Nowhere (joinChecks order (partIn stageMost referenceMost first) (partIn stageMost referenceMost second) stageRoom referenceRoom)
-      → JoinBecause order stageMost referenceMost first second stageRoom referenceRoom (joinWritten (partIn stageMost referenceMost first) (partIn stageMost referenceMost second))
+      → JoinBecause order stageMost referenceMost first second stageRoom referenceRoom
+      (joinWritten (partIn stageMost referenceMost first) (partIn stageMost referenceMost second))

@@ -300,7 +300,8 @@ fn operator_lanes(code: &[u16], counts: Counts, k: usize, values: &[u64]) -> u64
 // The inputs of a reference in block b.
 fn spell_inputs(inputs: usize, b: usize, values: &mut [u64])
     requires { ⌜ (inputs ≤ stageLimits .inputs) × (inputs ≤ length (now values)) ⌝ }
-    ensures { λ r. ⌜ (length (now (values .exit)) ≡ length (now (values .entry))) × ((j : ℕ) → j < 64 → take inputs (laneOf j (now (values .exit))) ≡ bitsOf inputs (64 * b + j)) ⌝ }
+    ensures { λ r. ⌜ (length (now (values .exit)) ≡ length (now (values .entry)))
+        × ((j : ℕ) → j < 64 → take inputs (laneOf j (now (values .exit))) ≡ bitsOf inputs (64 * b + j)) ⌝ }
 {
     let mut i: usize = 0;
     while i < inputs {
@@ -313,7 +314,8 @@ fn spell_inputs(inputs: usize, b: usize, values: &mut [u64])
 pub fn signal_lanes(code: &[u16], counts: Counts, b: usize, values: &mut [u64])
     requires { ⌜ ReferenceLoaded counts (now code) × (counts .inputs + counts .gates ≤ length (now values)) ⌝ }
     ensures long { λ r. ⌜ length (now (values .exit)) ≡ length (now (values .entry)) ⌝ }
-    ensures values { λ r. ⌜ ((j : ℕ) → j < 64 → take (counts .inputs + counts .gates) (laneOf j (now (values .exit))) ≡ answers.signalValues (bitsOf (counts .inputs) (64 * b + j))
+    ensures values { λ r. ⌜ ((j : ℕ) → j < 64 → take (counts .inputs + counts .gates) (laneOf j (now (values .exit)))
+        ≡ answers.signalValues (bitsOf (counts .inputs) (64 * b + j))
         (operatorsIn counts (now (code .entry)))) ⌝ }
 {
     let inputs = counts.inputs;

@@ -49,7 +49,8 @@ cofactorPin row alone net pin = cond (keeps alone net pin) (getD row pin 0) 0
 -- where gate k is set by the pins that are kept
 abbrev pub cofactorOf : List ℕ → ℕ → List ℕ → Bool → ℕ → ℕ
 cofactorOf code k row alone net =
-    cellLanes (cellIn code k) (cofactorPin row alone net (pinIn code k 0)) (cofactorPin row alone net (pinIn code k 1)) (cofactorPin row alone net (pinIn code k 2))
+    cellLanes (cellIn code k) (cofactorPin row alone net (pinIn code k 0)) (cofactorPin row alone net (pinIn code k 1))
+    (cofactorPin row alone net (pinIn code k 2))
     (cofactorPin row alone net (pinIn code k 3)) .set
 
 -- the same for the net at each pin

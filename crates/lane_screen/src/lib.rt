@@ -18,7 +18,8 @@ ghost use Rattle.circuit.specs.Reference.{signalIn, referenceIn};
 ghost use Rattle.check_word.specs.Loaded.{BothLoaded};
 ghost use Rattle.lane_cells.specs.Lane.{lane, rowIn};
 ghost use Rattle.lane_settle.specs.Block.{netIn, Room, Resting, MarkedIn};
-ghost use Rattle.lane_screen.specs.Marks.{Workspace, PinsAcknowledged, Lone, cofactorPin, cofactorOf, cofactorsOf, AlwaysAcknowledged, AllMarked, AcknowledgedBut};
+ghost use Rattle.lane_screen.specs.Marks.{Workspace, PinsAcknowledged, Lone, cofactorPin, cofactorOf, cofactorsOf, AlwaysAcknowledged, AllMarked};
+ghost use Rattle.lane_screen.specs.Marks.{AcknowledgedBut};
 ghost use Rattle.lane_screen.specs.Suspects.{RiseClean, Unnamed, AllClean};
 
 // The words of a block in which something may be wrong: for 13; and for 14 and 15, those for 13 among them.
@@ -53,7 +54,8 @@ fn clear(counts: Counts, ack: &mut [u64])
 fn mark_outputs(code: &[u16], counts: Counts, ack: &mut [u64])
     requires { ⌜ StageLoaded counts (now code) × Room counts (now ack) ⌝ }
     ensures long { λ r. ⌜ length (now (ack .exit)) ≡ length (now (ack .entry)) ⌝ }
-    ensures marked { λ r. ⌜ ((j p : ℕ) → rowIn j (now (ack .exit)) p ≡ true → (rowIn j (now (ack .entry)) p ≡ true) ⊎ AlwaysAcknowledged (netIn counts (now (code .entry))) p) ⌝ }
+    ensures marked { λ r. ⌜ ((j p : ℕ) → rowIn j (now (ack .exit)) p ≡ true
+        → (rowIn j (now (ack .entry)) p ≡ true) ⊎ AlwaysAcknowledged (netIn counts (now (code .entry))) p) ⌝ }
 {
     let mut j: usize = 0;
     while j < counts.outputs {
@@ -85,7 +87,8 @@ fn unmarked(counts: Counts, row: &[u64], ack: &[u64]) -> u64
 // The words in which output j does not read as the value that is wanted.
 fn misread(code: &[u16], counts: Counts, row: &[u64], j: usize, value: u64) -> u64
     requires { ⌜ StageLoaded counts (now code) × (j < counts .outputs) × Room counts (now row) ⌝ }
-    ensures { λ r. ⌜ ((l : ℕ) → l < 64 → lane l r ≡ false → DataOf (rowIn l (now (row .entry))) (railOf (outputIn counts (now (code .entry)) j)) (lane l value)) ⌝ }
+    ensures { λ r. ⌜ ((l : ℕ) → l < 64 → lane l r ≡ false → DataOf (rowIn l (now (row .entry))) (railOf (outputIn counts (now (code .entry)) j))
+        (lane l value)) ⌝ }
 {
     let at = 8 * counts.gates + 2 * j;
     let rail0 = lane_cells::lanes_at(row, code[at]);
@@ -104,7 +107,8 @@ fn wrong_words(
 ) -> u64
     requires { ⌜ BothLoaded counts (now code) sizes (now reference) × Room counts (now row) × (sizes .inputs + sizes .gates ≤ length (now values)) ⌝ }
     ensures { λ r. ⌜ ((l : ℕ) → l < 64 → lane l r ≡ false → (j : ℕ) → j < counts .outputs
-        → DataOf (rowIn l (now (row .entry))) (railOf (outputIn counts (now (code .entry)) j)) (rowIn l (now (values .entry)) (signalIn sizes (now (reference .entry)) j))) ⌝ }
+        → DataOf (rowIn l (now (row .entry))) (railOf (outputIn counts (now (code .entry)) j))
+        (rowIn l (now (values .entry)) (signalIn sizes (now (reference .entry)) j))) ⌝ }
 {
     let first = 3 * sizes.gates;
     let mut words: u64 = 0;
@@ -241,7 +245,8 @@ fn mark_gates(falls: bool, by_net: bool, code: &[u16], counts: Counts, row: &[u6
 // Block b settles; and its words in which some high net is not acknowledged. The marks are made anew. Where they leave some words the gates are
 // asked net by net: a net at several pins may be needed where none of these is.
 fn rise_words(code: &[u16], counts: Counts, b: usize, row: &mut [u64], ack: &mut [u64]) -> u64
-    requires { ⌜ StageLoaded counts (now code) × InOrder counts (now code) × Room counts (now row) × Room counts (now ack) × (getD (now row) (netCount counts) 0 ≡ 0) ⌝ }
+    requires { ⌜ StageLoaded counts (now code) × InOrder counts (now code) × Room counts (now row) × Room counts (now ack)
+        × (getD (now row) (netCount counts) 0 ≡ 0) ⌝ }
     ensures long { λ r. ⌜ (length (now (row .exit)) ≡ length (now (row .entry))) × (length (now (ack .exit)) ≡ length (now (ack .entry))) ⌝ }
     ensures rest { λ r. ⌜ Resting counts (now (code .entry)) b (now (row .exit)) ⌝ }
     ensures words { λ r. ⌜ AcknowledgedBut false counts (now (code .entry)) b r ⌝ }

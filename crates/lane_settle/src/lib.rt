@@ -86,7 +86,8 @@ fn gate_lanes(code: &[u16], counts: Counts, k: usize, row: &[u64]) -> CellLanes
 fn settle_gates(code: &[u16], counts: Counts, row: &mut [u64], ack: &mut [u64])
     requires { ⌜ StageLoaded counts (now code) × InOrder counts (now code) × Room counts (now row) × Room counts (now ack) ⌝ }
     ensures long { λ r. ⌜ (length (now (row .exit)) ≡ length (now (row .entry))) × (length (now (ack .exit)) ≡ length (now (ack .entry))) ⌝ }
-    ensures settled { λ r. ⌜ ((b : ℕ) → Spelled counts (now (code .entry)) b (now (row .entry)) → LanesSettledTo counts (now (code .entry)) b (now (row .exit)) (counts .gates)) ⌝ }
+    ensures settled { λ r. ⌜ ((b : ℕ) → Spelled counts (now (code .entry)) b (now (row .entry))
+        → LanesSettledTo counts (now (code .entry)) b (now (row .exit)) (counts .gates)) ⌝ }
     ensures marked { λ r. ⌜ ((b : ℕ) → Spelled counts (now (code .entry)) b (now (row .entry)) → Marked counts (now (code .entry)) b (now (ack .entry))
         → Marked counts (now (code .entry)) b (now (ack .exit))) ⌝ }
 {
@@ -105,7 +106,8 @@ fn settle_gates(code: &[u16], counts: Counts, row: &mut [u64], ack: &mut [u64])
 // Block b settles: its rails are spelled, the gates take their levels in the order, and mark the nets at their pins in the words in which they
 // would not be set without them.
 pub fn settle(code: &[u16], counts: Counts, b: usize, row: &mut [u64], ack: &mut [u64])
-    requires { ⌜ StageLoaded counts (now code) × InOrder counts (now code) × Room counts (now row) × Room counts (now ack) × (getD (now row) (netCount counts) 0 ≡ 0) ⌝ }
+    requires { ⌜ StageLoaded counts (now code) × InOrder counts (now code) × Room counts (now row) × Room counts (now ack)
+        × (getD (now row) (netCount counts) 0 ≡ 0) ⌝ }
     ensures long { λ r. ⌜ (length (now (row .exit)) ≡ length (now (row .entry))) × (length (now (ack .exit)) ≡ length (now (ack .entry))) ⌝ }
     ensures rest { λ r. ⌜ Resting counts (now (code .entry)) b (now (row .exit)) ⌝ }
     ensures marked { λ r. ⌜ (Marked counts (now (code .entry)) b (now (ack .entry)) → Marked counts (now (code .entry)) b (now (ack .exit))) ⌝ }

@@ -4,7 +4,8 @@ use mathlib.Core.Bool.{cond}
 use mathlib.Core.List.{List, [], _∷_, _++_}
 use lib.ListN.{length, getD}
 use lib.Dec.{eqb, ltb}
-use Rattle.netlist.specs.Types.{File, Sort, Role, AnyNet, EarlierSignal, AnySignal, Number, Form, Limits, Counts, Next, Command, Refused, Found, At, Nothing}
+use Rattle.netlist.specs.Types.{File, Sort, Role, AnyNet, EarlierSignal, AnySignal, Number, Form, Limits, Counts, Next, Command, Refused, Found, At}
+use Rattle.netlist.specs.Types.{Nothing}
 use Rattle.netlist.specs.Types.sort
 use Rattle.netlist.specs.Bytes.{byte, operand}
 use Rattle.netlist.specs.Commands.{whenFound, isSort, formOf, width, needed, nextAt}

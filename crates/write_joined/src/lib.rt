@@ -78,7 +78,8 @@ fn pin_in_whole(
     moved: Move,
 ) -> u16
     requires { ⌜ StageLoaded counts (now code) × StageMoves counts sizes (now first) moved × (k < counts .gates) × (i < 4) ⌝ }
-    ensures { λ r. ⌜ r ≡ cond (ltb i (pinCount (cellIn (now (code .entry)) k))) (netMoved (stageIn sizes (now (first .entry))) moved (pinIn (now (code .entry)) k i))
+    ensures { λ r. ⌜ r ≡ cond (ltb i (pinCount (cellIn (now (code .entry)) k)))
+        (netMoved (stageIn sizes (now (first .entry))) moved (pinIn (now (code .entry)) k i))
         absent ⌝ }
 {
     if i < pins_at(code, k) {
@@ -122,7 +123,8 @@ fn put_gates(
     moved: Move,
 )
     requires { ⌜ StageLoaded counts (now code) × StageMoves counts sizes (now first) moved × (at + 10 * counts .gates ≤ length (now buffer)) ⌝ }
-    ensures { λ _. ⌜ Put (now (buffer .entry)) at (bytesOf file.Stage gateItem (map (gateMoved (stageIn sizes (now (first .entry))) moved) (stageGates counts (now
+    ensures { λ _. ⌜ Put (now (buffer .entry)) at (bytesOf file.Stage gateItem
+        (map (gateMoved (stageIn sizes (now (first .entry))) moved) (stageGates counts (now
         (code .entry))))) (now (buffer .exit)) ⌝ }
 {
     let count = counts.gates;
@@ -144,7 +146,8 @@ fn put_outputs(
     moved: Move,
 )
     requires { ⌜ StageLoaded counts (now code) × StageMoves counts sizes (now first) moved × (at + 5 * counts .outputs ≤ length (now buffer)) ⌝ }
-    ensures { λ _. ⌜ Put (now (buffer .entry)) at (bytesOf file.Stage pairItem (map (pairMoved (stageIn sizes (now (first .entry))) moved) (stageOutputs counts (now
+    ensures { λ _. ⌜ Put (now (buffer .entry)) at (bytesOf file.Stage pairItem
+        (map (pairMoved (stageIn sizes (now (first .entry))) moved) (stageOutputs counts (now
         (code .entry))))) (now (buffer .exit)) ⌝ }
 {
     let from = 8 * counts.gates;
@@ -245,7 +248,8 @@ fn put_signals(
     moved: Move,
 )
     requires { ⌜ ReferenceLoaded counts (now code) × ReferenceMoves counts sizes (now first) moved × (at + 3 * counts .outputs ≤ length (now buffer)) ⌝ }
-    ensures { λ _. ⌜ Put (now (buffer .entry)) at (bytesOf file.Reference signalItem (map (signalMoved (referenceIn sizes (now (first .entry))) moved) (signalsIn
+    ensures { λ _. ⌜ Put (now (buffer .entry)) at (bytesOf file.Reference signalItem
+        (map (signalMoved (referenceIn sizes (now (first .entry))) moved) (signalsIn
         counts (now (code .entry))))) (now (buffer .exit)) ⌝ }
 {
     let from = 3 * counts.gates;

@@ -199,7 +199,8 @@ pub fn put_gate(
     rails: &mut [u16],
     made: usize,
 ) -> usize
-    requires { ⌜ ReferenceLoaded counts (now code) × (k < counts .gates) × (2 * (counts .inputs + counts .gates) ≤ length (now rails)) × (made ≤ stageLimits .gates)
+    requires { ⌜ ReferenceLoaded counts (now code) × (k < counts .gates) × (2 * (counts .inputs + counts .gates) ≤ length (now rails))
+        × (made ≤ stageLimits .gates)
         × (2 + 10 * (made + 2 * operations (operatorIn (now code) k ∷ [])) ≤ length (now buffer)) ⌝ }
     ensures count { λ r. ⌜ r ≡ made + length (becomes counts (now (code .entry)) k (now (rails .entry)) made .gates) ⌝ }
     ensures put { λ r. ⌜ Put (now (buffer .entry)) (2 + 10 * made) (bytesOf file.Stage gateItem (becomes counts (now (code .entry)) k (now (rails .entry)) made
