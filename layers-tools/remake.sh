@@ -17,6 +17,8 @@ git checkout -q --detach "$base"
 message() { git log --format=%B --grep="^$1" -1 layers-old; }
 {
   python3 $tools/rename.py .
+  # next_spec has an Ascending of its own; its Rising is of shapes
+  git checkout -q HEAD -- crates/next_spec/proofs/Listed.antt
   # names of calls in the proofs by hand over the reader
   grep -rlE 'calls-(commands|reader|files)·' crates/*/proofs | xargs -r sed -i -E 's/calls-commands·/calls-read-command·/g; s/calls-(reader|files)·/calls-read-file·/g'
   rt fmt
