@@ -201,8 +201,10 @@ fn put_operation(
     sizes1: Counts,
     moved: Move,
 )
-    requires { ⌜ ReferenceLoaded sizes (now reference) × ReferenceMoves sizes sizes1 (now reference1) moved × (k < sizes .gates) × (at + 6 ≤ length (now buffer)) ⌝ }
-    ensures { λ _. ⌜ Put (now (buffer .entry)) at (writing.writeItem file.Reference (writing.gate (operationMoved (referenceIn sizes1 (now (reference1 .entry))) moved
+    requires { ⌜ ReferenceLoaded sizes (now reference) × ReferenceMoves sizes sizes1 (now reference1) moved × (k < sizes .gates)
+        × (at + 6 ≤ length (now buffer)) ⌝ }
+    ensures { λ _. ⌜ Put (now (buffer .entry)) at (writing.writeItem file.Reference
+        (writing.gate (operationMoved (referenceIn sizes1 (now (reference1 .entry))) moved
         (operatorIn (now (reference .entry)) k)))) (now (buffer .exit)) ⌝ }
 {
     let operation = (reference[3 * k] % 256) as u8;
@@ -226,7 +228,8 @@ fn put_operations(
     moved: Move,
 )
     requires { ⌜ ReferenceLoaded sizes (now reference) × ReferenceMoves sizes sizes1 (now reference1) moved × (at + 6 * sizes .gates ≤ length (now buffer)) ⌝ }
-    ensures { λ _. ⌜ Put (now (buffer .entry)) at (bytesOf file.Reference writing.gate (map (operationMoved (referenceIn sizes1 (now (reference1 .entry))) moved)
+    ensures { λ _. ⌜ Put (now (buffer .entry)) at (bytesOf file.Reference writing.gate
+        (map (operationMoved (referenceIn sizes1 (now (reference1 .entry))) moved)
         (operatorsIn sizes (now (reference .entry))))) (now (buffer .exit)) ⌝ }
 {
     let count = sizes.gates;
@@ -256,7 +259,8 @@ fn put_signals(
     sizes1: Counts,
     moved: Move,
 )
-    requires { ⌜ ReferenceLoaded sizes (now reference) × ReferenceMoves sizes sizes1 (now reference1) moved × (at + 3 * sizes .outputs ≤ length (now buffer)) ⌝ }
+    requires { ⌜ ReferenceLoaded sizes (now reference) × ReferenceMoves sizes sizes1 (now reference1) moved
+        × (at + 3 * sizes .outputs ≤ length (now buffer)) ⌝ }
     ensures { λ _. ⌜ Put (now (buffer .entry)) at (bytesOf file.Reference signalItem
         (map (signalMoved (referenceIn sizes1 (now (reference1 .entry))) moved) (signalsIn
         sizes (now (reference .entry))))) (now (buffer .exit)) ⌝ }
@@ -284,7 +288,8 @@ pub fn stage_length(counts1: Counts, counts2: Counts) -> usize
 // How many bytes the joined reference takes.
 pub fn reference_length(sizes1: Counts, sizes2: Counts) -> usize
     requires { ⌜ Within referenceLimits sizes1 × Within referenceLimits sizes2 ⌝ }
-    ensures { λ r. ⌜ ((reference1 reference2 : List ℕ) → r ≡ length (writing.writeReference (joinedReference (referenceIn sizes1 reference1) (referenceIn sizes2 reference2)))) ⌝ }
+    ensures { λ r. ⌜ ((reference1 reference2 : List ℕ) → r ≡ length
+        (writing.writeReference (joinedReference (referenceIn sizes1 reference1) (referenceIn sizes2 reference2)))) ⌝ }
 {
     3 + 6 * (sizes1.gates + sizes2.gates) + 3 * sizes2.outputs
 }
@@ -293,7 +298,8 @@ pub fn reference_length(sizes1: Counts, sizes2: Counts) -> usize
 pub fn put_stage(buffer: &mut [u8], code1: &[u16], counts1: Counts, code2: &[u16], counts2: Counts)
     requires { ⌜ StageLoaded counts1 (now code1) × StageLoaded counts2 (now code2) × (counts2 .inputs ≡ counts1 .outputs)
         × (length (writing.writeStage (joinedStage (stageIn counts1 (now code1)) (stageIn counts2 (now code2)))) ≤ length (now buffer)) ⌝ }
-    ensures { λ _. ⌜ Put (now (buffer .entry)) 0 (writing.writeStage (joinedStage (stageIn counts1 (now (code1 .entry))) (stageIn counts2 (now (code2 .entry)))))
+    ensures { λ _. ⌜ Put (now (buffer .entry)) 0 (writing.writeStage
+        (joinedStage (stageIn counts1 (now (code1 .entry))) (stageIn counts2 (now (code2 .entry)))))
         (now (buffer .exit)) ⌝ }
 {
     let stays = Move {
@@ -325,8 +331,10 @@ pub fn put_reference(
     sizes2: Counts,
 )
     requires { ⌜ ReferenceLoaded sizes1 (now reference1) × ReferenceLoaded sizes2 (now reference2) × (sizes2 .inputs ≡ sizes1 .outputs)
-        × (length (writing.writeReference (joinedReference (referenceIn sizes1 (now reference1)) (referenceIn sizes2 (now reference2)))) ≤ length (now buffer)) ⌝ }
-    ensures { λ _. ⌜ Put (now (buffer .entry)) 0 (writing.writeReference (joinedReference (referenceIn sizes1 (now (reference1 .entry))) (referenceIn sizes2 (now
+        × (length (writing.writeReference (joinedReference (referenceIn sizes1 (now reference1)) (referenceIn sizes2 (now reference2)))) ≤ length
+        (now buffer)) ⌝ }
+    ensures { λ _. ⌜ Put (now (buffer .entry)) 0 (writing.writeReference
+        (joinedReference (referenceIn sizes1 (now (reference1 .entry))) (referenceIn sizes2 (now
         (reference2 .entry))))) (now (buffer .exit)) ⌝ }
 {
     let stays = Move {

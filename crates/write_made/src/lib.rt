@@ -203,10 +203,12 @@ pub fn put_gate(
         × (made ≤ stageLimits .gates)
         × (2 + 10 * (made + 2 * operations (operatorIn (now reference) k ∷ [])) ≤ length (now buffer)) ⌝ }
     ensures count { λ r. ⌜ r ≡ made + length (becomes sizes (now (reference .entry)) k (now (rails .entry)) made .gates) ⌝ }
-    ensures put { λ r. ⌜ Put (now (buffer .entry)) (2 + 10 * made) (bytesOf file.Stage gateItem (becomes sizes (now (reference .entry)) k (now (rails .entry)) made
+    ensures put { λ r. ⌜ Put (now (buffer .entry)) (2 + 10 * made)
+        (bytesOf file.Stage gateItem (becomes sizes (now (reference .entry)) k (now (rails .entry)) made
         .gates)) (now (buffer .exit)) ⌝ }
     ensures rails { λ r. ⌜ now (rails .exit) ≡ set (set (now (rails .entry)) (2 * (sizes .inputs + k)) (becomes sizes (now (reference .entry)) k (now
-        (rails .entry)) made .rails .rail0)) (2 * (sizes .inputs + k) + 1) (becomes sizes (now (reference .entry)) k (now (rails .entry)) made .rails .rail1) ⌝ }
+        (rails .entry)) made .rails .rail0)) (2 * (sizes .inputs + k) + 1)
+        (becomes sizes (now (reference .entry)) k (now (rails .entry)) made .rails .rail1) ⌝ }
 {
     let operation = reference[3 * k];
     let a = rails_of(rails, reference[3 * k + 1]);
