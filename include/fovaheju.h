@@ -27,15 +27,18 @@ struct fovaheju_verdict {
        care word that cannot be taken, 20 not input-complete in its fall, 21 not observable in its fall, 22 parts
        that do not fit, 23 an answer that the second part does not care for, 24 a buffer that is too short, 25 a signal
        that leads to no output, 26 too many gates needed, 27 a buffer that is too short for a stage, 28 a gate of a
-       retired kind, 36 to 38 no next small stage, 39 to 41 no drawn reference.
+       retired kind, 29 a line of a text that has another form, or a care list, which has no text, 30 a name in a text that
+       nobody drives, 31 a name that is driven again, or an output that would give a net a second name, 36 to 38 no next
+       small stage, 39 to 41 no drawn reference.
        docs/VERDICTS.md has the list. */
     uint64_t number;
-    /* In which file: 1 the stage, 2 the reference, 3 the row or a buffer, 0 none. Of a join 1 and 2 are the first part's, 4 and 5 the
-       second's; 3 is none in the second part, and for 24 a buffer. */
+    /* In which file: 1 the stage or a stage's text, 2 the reference, 3 the row or a buffer, 0 none. Of a join 1 and 2 are
+       the first part's, 4 and 5 the second's; 3 is none in the second part, and for 24 a buffer. */
     uint64_t file;
     /* At which place: a byte of the file for 1 to 9, 18 and 19, the stage's count for 10 and 11, a gate for 12, 15, 21
        and 28, an output for 13, an input for 14, 17 and 20, the row's length for 16, the first part's outputs for 22, a
-       signal for 25, how many gates are needed for 26. */
+       signal for 25, how many gates are needed for 26, a line of the text for 29 to 31, counted from 0, where a text is
+       written an output for 31. */
     uint64_t at;
     /* In which input word for 13 to 15, 20, 21 and 23, input 0 being the highest bit of as many bits as the stage has
        inputs, or the lowest where `order` is not 0 (of a join the part's stage, for 23 the first); the reference's
@@ -111,6 +114,20 @@ struct fovaheju_written {
    are 0; 1 to 9 with file 2; then 25, 26 and 27, with the files 2, 2 and 3. */
 struct fovaheju_written fovaheju_make_stage(const uint8_t *reference, size_t reference_len,
                                             uint8_t *stage_out, size_t stage_out_len);
+
+/* Reads the text of a stage in the line form: the input names, the output names, then a line for each gate. Its stage file,
+   gates before outputs, is written at the start of a buffer; the bytes past it keep their values, and so do all where the
+   number is not 0. The text may have any length and any bytes. 2,643 bytes have room for every such file. The numbers are 0;
+   29, 30 and 31, with `at` the line, counted from 0; 3, 5 and 6, with `at` a place in the file that would be made; all these
+   with file 1; then 24 with file 3. */
+struct fovaheju_written fovaheju_read_text(const uint8_t *text, size_t text_len, uint8_t *stage_out, size_t stage_out_len);
+
+/* Writes a stage file as text in the line form: the names of the inputs, those of the outputs, then a line for each gate, with
+   its kind, its pins and its net. The text is written at the start of a buffer; the bytes past it keep their values, and so
+   do all where the number is not 0. fovaheju_read_text gives the file's own bytes back, if its gates stand before its
+   outputs. 10,012 bytes have room for every text. The numbers are 0; 1 to 9, 18 and 19; 29 for a file with a care list; 31
+   with `at` the least output that would give a net a second name; all these with file 1; then 24 with file 3. */
+struct fovaheju_written fovaheju_write_text(const uint8_t *stage, size_t stage_len, uint8_t *text_out, size_t text_out_len);
 
 /* Writes the next file of the family of small stages: 1 or 2 inputs, 0 to 2 gates of kinds 1 and 2, one output, gates
    first, no care list, no loop; by inputs, then gates, then bytes. After the empty file comes the first. From it on,

@@ -317,6 +317,114 @@ static void makes(void)
     holds("it is the wire", memcmp(out, wire, sizeof wire) == 0);
 }
 
+/* The AND of two inputs in the line form, and a wire. */
+static const char and_text[] = "a,b\nz\nTH22 a_1,b_1 z_1\nTHand0 a_0,b_0,a_1,b_1 z_0\n";
+static const char wire_text[] = "a\na\n";
+
+static struct fovaheju_written read_string(const char *text, uint8_t *out, size_t room)
+{
+    return fovaheju_read_text((const uint8_t *)text, strlen(text), out, room);
+}
+
+static void texts(void)
+{
+    struct {
+        uint64_t before;
+        struct fovaheju_written read;
+        uint64_t after;
+    } kept = {0x1122334455667788, {{9, 9, 9, 9}, 9}, 0x99AABBCCDDEEFF00};
+    struct fovaheju_written *read = &kept.read;
+    uint8_t out[64], untouched[64];
+    size_t n = sizeof and_stage;
+
+    memset(untouched, 7, sizeof untouched);
+    memcpy(out, untouched, 64);
+    kept.read = read_string(and_text, out, 64);
+    same("the text of an AND", read->verdict, 0, 0, 0, 0);
+    holds("how many bytes", read->count == n);
+    holds("the whole case's stage", memcmp(out, and_stage, n) == 0);
+    holds("past the stage", memcmp(out + n, untouched, 64 - n) == 0);
+    same("it is accepted", fovaheju_check(0, out, n, and_reference, sizeof and_reference), 0, 0, 0, 0);
+    memcpy(out, untouched, 64);
+    kept.read = read_string(and_text, out, n - 1);
+    same("a buffer one byte short", read->verdict, 24, 3, 0, 0);
+    holds("nothing is counted", read->count == 0);
+    same("an empty text", read_string("", out, 64).verdict, 29, 1, 0, 0);
+    same("line 0 alone", read_string("a\n", out, 64).verdict, 29, 1, 1, 0);
+    same("an empty last line", read_string("a\na\n\n", out, 64).verdict, 29, 1, 2, 0);
+    same("no last newline", read_string("a\na", out, 64).verdict, 29, 1, 1, 0);
+    same("a carriage return", read_string("a\r\na\r\n", out, 64).verdict, 29, 1, 0, 0);
+    same("a name of 17 characters", read_string("abcdefghijklmnopq\na\n", out, 64).verdict, 29, 1, 0, 0);
+    same("five pins", read_string("a\na\nTH14 a_0,a_1,a_0,a_1,a_0 g\n", out, 64).verdict, 29, 1, 2, 0);
+    same("an output that nobody drives", read_string("a\nb\n", out, 64).verdict, 30, 1, 1, 0);
+    same("a pin that nobody drives", read_string("a\na\nTH12 a_0,b_1 g\n", out, 64).verdict, 30, 1, 2, 0);
+    same("30 at a later line before 31", read_string("a,a\na\nTH12 a_0,b_1 g\n", out, 64).verdict, 30, 1, 2, 0);
+    same("an input twice", read_string("a,a\na\n", out, 64).verdict, 31, 1, 0, 0);
+    same("a rail driven again", read_string("a\na\nTH12 a_0,a_1 a_1\n", out, 64).verdict, 31, 1, 2, 0);
+    same("eleven inputs", read_string("a,b,c,d,e,f,g,h,i,j,k\na\n", out, 64).verdict, 3, 1, 1, 0);
+    same("a pin too many", read_string("a\na\nTH12 a_0,a_1,a_0 g\n", out, 64).verdict, 5, 1, 8, 0);
+    same("seventeen outputs", read_string("a\na,a,a,a,a,a,a,a,a,a,a,a,a,a,a,a,a\n", out, 64).verdict, 6, 1, 82, 0);
+    same("a null text", fovaheju_read_text(NULL, 0, out, 64).verdict, 29, 1, 0, 0);
+    same("a null buffer", read_string(and_text, NULL, 0).verdict, 24, 3, 0, 0);
+    holds("a refused buffer is as before", memcmp(out, untouched, 64) == 0);
+    holds("beside the answer", kept.before == 0x1122334455667788 && kept.after == 0x99AABBCCDDEEFF00);
+    kept.read = read_string(and_text, out, n);
+    same("a buffer that just fits", read->verdict, 0, 0, 0, 0);
+    holds("the same bytes", memcmp(out, and_stage, n) == 0);
+    same("the text of a wire", read_string(wire_text, out, 64).verdict, 0, 0, 0, 0);
+    holds("it is the wire", memcmp(out, wire, sizeof wire) == 0);
+    same("a gate's net may be an input's name", read_string("a\na\nTH12 a_0,a_1 a\n", out, 64).verdict, 0, 0, 0, 0);
+    same("a relaxed gate", read_string("a\na\nrTH12 a_0,a_1 g\n", out, 64).verdict, 0, 0, 0, 0);
+    holds("its kind is 129", out[3] == 129);
+}
+
+static void written_texts(void)
+{
+    struct {
+        uint64_t before;
+        struct fovaheju_written written;
+        uint64_t after;
+    } kept = {0x1122334455667788, {{9, 9, 9, 9}, 9}, 0x99AABBCCDDEEFF00};
+    struct fovaheju_written *written = &kept.written;
+    const char text[] = "x0,x1\ny0\nTH22 x0_1,x1_1 y0_1\nTHand0 x0_0,x1_0,x0_1,x1_1 y0_0\n";
+    const char one_wire[] = "x0\nx0\n";
+    const char one_gate[] = "x0\nx0\nrTH12 x0_0,x0_1 g0\n";
+    /* A wire with a care list, one whose rails are swapped, and one with a relaxed gate that feeds nothing. */
+    const uint8_t care[] = {1, 1, 6, 0, 0, 3, 0, 0, 1, 0, 0};
+    const uint8_t swapped[] = {1, 1, 3, 1, 0, 0, 0, 0};
+    const uint8_t relaxed[] = {1, 1, 2, 129, 0, 0, 1, 0, 255, 255, 255, 255, 3, 0, 0, 1, 0, 0};
+    uint8_t out[128], untouched[128], again[64];
+    size_t n = sizeof text - 1;
+
+    memset(untouched, 7, sizeof untouched);
+    memcpy(out, untouched, 128);
+    kept.written = fovaheju_write_text(and_stage, sizeof and_stage, out, 128);
+    same("an AND as text", written->verdict, 0, 0, 0, 0);
+    holds("how many characters", written->count == n);
+    holds("the whole case's text", memcmp(out, text, n) == 0);
+    holds("past the text", memcmp(out + n, untouched, 128 - n) == 0);
+    same("it is read again", fovaheju_read_text(out, n, again, 64).verdict, 0, 0, 0, 0);
+    holds("the file's own bytes", memcmp(again, and_stage, sizeof and_stage) == 0);
+    memcpy(out, untouched, 128);
+    kept.written = fovaheju_write_text(and_stage, sizeof and_stage, out, n - 1);
+    same("a text buffer one byte short", written->verdict, 24, 3, 0, 0);
+    holds("no character is counted", written->count == 0);
+    same("a care list", fovaheju_write_text(care, sizeof care, out, 128).verdict, 29, 1, 0, 0);
+    same("a swapped input pair", fovaheju_write_text(swapped, sizeof swapped, out, 128).verdict, 31, 1, 0, 0);
+    same("a stage without its end", fovaheju_write_text(wire, sizeof wire - 1, out, 128).verdict, 1, 1, 7, 0);
+    same("a null stage", fovaheju_write_text(NULL, 0, out, 128).verdict, 1, 1, 0, 0);
+    same("a null text buffer", fovaheju_write_text(and_stage, sizeof and_stage, NULL, 0).verdict, 24, 3, 0, 0);
+    holds("a refused text buffer is as before", memcmp(out, untouched, 128) == 0);
+    holds("beside the answer", kept.before == 0x1122334455667788 && kept.after == 0x99AABBCCDDEEFF00);
+    kept.written = fovaheju_write_text(and_stage, sizeof and_stage, out, n);
+    same("a text buffer that just fits", written->verdict, 0, 0, 0, 0);
+    holds("the same characters", memcmp(out, text, n) == 0);
+    same("a wire as text", fovaheju_write_text(wire, sizeof wire, out, 128).verdict, 0, 0, 0, 0);
+    holds("the output bears the input's name", memcmp(out, one_wire, sizeof one_wire - 1) == 0);
+    same("a relaxed gate as text", fovaheju_write_text(relaxed, sizeof relaxed, out, 128).verdict, 0, 0, 0, 0);
+    holds("gates are numbered from 0", memcmp(out, one_gate, sizeof one_gate - 1) == 0);
+}
+
 static void nexts(void)
 {
     struct {
@@ -440,6 +548,8 @@ int main(int count, char **folders)
     rows();
     joins();
     makes();
+    texts();
+    written_texts();
     nexts();
     draws();
     printf("%d passed, %d failed\n", passed, failed);

@@ -4,6 +4,7 @@
 //! file, place and word come from the judge and are stored with the pair.
 
 pub mod joins;
+pub mod texts;
 
 use crate::circuits::{
     dual_rail, kind_named, multiplier, multiplier_reference, reordered, ripple_adder,

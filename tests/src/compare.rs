@@ -10,11 +10,13 @@ use crate::generate::draws::{self, draw_case, DrawCase};
 use crate::generate::joins::{join_case, JoinCase};
 use crate::generate::made::{make_case, MakeCase};
 use crate::generate::nexts::{next_case, NextCase};
+use crate::generate::texts::{read_case, write_case, GeneratedText, TextCase};
 use crate::generate::{pair, row_case, RowCase};
 use crate::join::{self, Joined};
 use crate::judge::{self, Verdict, WordOrder, LIMITS, ORDERS};
 use crate::make::{self, Made};
 use crate::next::{self, FAMILY};
+use crate::text;
 use std::fmt;
 use std::fs;
 use std::io;
@@ -36,6 +38,9 @@ pub type Next = fn(&[u8], &mut [u8]) -> Made;
 
 /// The reference that is drawn for a load, into a lent buffer.
 pub type Draw = fn(&Load, &mut [u8]) -> Made;
+
+/// The stage file of a text, or the text of a stage file, into a lent buffer.
+pub type Convert = fn(&[u8], &mut [u8]) -> Made;
 
 /// The numbers of a report as the library gives them: how many words have a line, their total,
 /// and 1,024 lines of which those past the words are 0. Of a refused pair all but the verdict is 0.
@@ -74,7 +79,7 @@ pub type Histogram = [u64; 42];
 pub const NO_VERDICTS: Histogram = [0; 42];
 
 /// The numbers of the check, of the settled-row call, of the join, of the stage from a reference,
-/// of the next small stage, and of a drawn reference.
+/// of reading and writing texts, of the next small stage, and of a drawn reference.
 pub const CHECK_NUMBERS: [usize; 21] = [
     0, 1, 2, 3, 4, 5, 6, 7, 8, 9, 18, 19, 10, 11, 12, 28, 13, 14, 15, 20, 21,
 ];
@@ -83,6 +88,8 @@ pub const JOIN_NUMBERS: [usize; 24] = [
     0, 1, 2, 3, 4, 5, 6, 7, 8, 9, 18, 19, 10, 11, 12, 28, 13, 14, 15, 20, 21, 22, 23, 24,
 ];
 pub const MAKE_NUMBERS: [usize; 13] = [0, 1, 2, 3, 4, 5, 6, 7, 8, 9, 25, 26, 27];
+pub const READ_TEXT_NUMBERS: [usize; 8] = [0, 29, 30, 31, 3, 5, 6, 24];
+pub const WRITE_TEXT_NUMBERS: [usize; 15] = [0, 1, 2, 3, 4, 5, 6, 7, 8, 9, 18, 19, 29, 31, 24];
 pub const NEXT_NUMBERS: [usize; 4] = [0, 37, 36, 38];
 pub const DRAW_NUMBERS: [usize; 4] = [0, 39, 40, 41];
 
@@ -147,6 +154,12 @@ pub enum Difference {
     Draws {
         name: String,
         case: DrawCase,
+        judge: (Made, Vec<u8>),
+        other: (Made, Vec<u8>),
+    },
+    Texts {
+        name: String,
+        case: TextCase,
         judge: (Made, Vec<u8>),
         other: (Made, Vec<u8>),
     },
@@ -297,6 +310,17 @@ impl fmt::Display for Difference {
                 writeln!(f, "{name}, {:?}", case.load)?;
                 let files = [("buffer before", &case.buffer)];
                 show_written(f, &files, judge, other)
+            }
+            Difference::Texts {
+                name,
+                case,
+                judge,
+                other,
+            } => {
+                writeln!(f, "{name}")?;
+                let files = [("read", &case.source), ("buffer before", &case.buffer)];
+                show_written(f, &files, judge, other)?;
+                writeln!(f, "read, as text: {}", case.source.escape_ascii())
             }
         }
     }
@@ -457,6 +481,40 @@ pub fn compare_draw(other: Draw, name: &str, case: &DrawCase) -> Result<u64, Box
         case: case.clone(),
         judge: judged,
         other: given,
+    }))
+}
+
+/// Compares the verdict, the length and every byte of the buffer of one text that is read.
+pub fn compare_read_text(
+    other: Convert,
+    name: &str,
+    case: &TextCase,
+) -> Result<u64, Box<Difference>> {
+    compare_text([text::read_text, other], name, case)
+}
+
+/// The same of one stage file whose text is written.
+pub fn compare_write_text(
+    other: Convert,
+    name: &str,
+    case: &TextCase,
+) -> Result<u64, Box<Difference>> {
+    compare_text([text::write_text, other], name, case)
+}
+
+fn compare_text(calls: [Convert; 2], name: &str, case: &TextCase) -> Result<u64, Box<Difference>> {
+    let [judge, other] = calls.map(|call| {
+        let mut buffer = case.buffer.clone();
+        (call(&case.source, &mut buffer), buffer)
+    });
+    if judge == other {
+        return Ok(judge.0.verdict[0]);
+    }
+    Err(Box::new(Difference::Texts {
+        name: name.to_string(),
+        case: case.clone(),
+        judge,
+        other,
     }))
 }
 
@@ -662,6 +720,44 @@ pub fn compare_draws(other: Draw, seed: u64, count: u64) -> Result<Histogram, Bo
         let generated = draw_case(seed, index);
         let name = format!("load {index} of seed {seed} ({})", generated.family);
         let number = compare_draw(other, &name, &generated.case)
+            .inspect_err(|difference| println!("{difference}"))?;
+        histogram[number as usize] += 1;
+    }
+    Ok(histogram)
+}
+
+/// Compares the stage files of the first `count` texts of a seed. The first difference is printed
+/// and given back.
+pub fn compare_read_texts(
+    other: Convert,
+    seed: u64,
+    count: u64,
+) -> Result<Histogram, Box<Difference>> {
+    compare_texts([text::read_text, other], ("text", read_case), seed, count)
+}
+
+/// Compares the texts of the first `count` stage files of a seed. The first difference is printed
+/// and given back.
+pub fn compare_write_texts(
+    other: Convert,
+    seed: u64,
+    count: u64,
+) -> Result<Histogram, Box<Difference>> {
+    let cases = ("stage to write", write_case as fn(u64, u64) -> _);
+    compare_texts([text::write_text, other], cases, seed, count)
+}
+
+fn compare_texts(
+    calls: [Convert; 2],
+    (what, case): (&str, fn(u64, u64) -> GeneratedText),
+    seed: u64,
+    count: u64,
+) -> Result<Histogram, Box<Difference>> {
+    let mut histogram = NO_VERDICTS;
+    for index in 0..count {
+        let generated = case(seed, index);
+        let name = format!("{what} {index} of seed {seed} ({})", generated.family);
+        let number = compare_text(calls, &name, &generated.case)
             .inspect_err(|difference| println!("{difference}"))?;
         histogram[number as usize] += 1;
     }

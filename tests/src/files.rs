@@ -209,8 +209,58 @@ pub fn store_example(
     Ok(())
 }
 
+/// Where the stored texts are, in the folder of the stored pairs.
+const TEXTS: &str = "text";
+
+/// Stores a text as text/NAME/stage.txt, its verdict, and the stage file that it gives where it reads.
+pub fn store_text(
+    folder: &Path,
+    name: &str,
+    text: &[u8],
+    read: &Result<Vec<u8>, Verdict>,
+) -> io::Result<()> {
+    let folder = folder.join(TEXTS).join(name);
+    fs::create_dir_all(&folder)?;
+    fs::write(folder.join("stage.txt"), text)?;
+    let verdict = match read {
+        Ok(stage) => {
+            fs::write(folder.join("stage.ncl"), stage)?;
+            ACCEPTED
+        }
+        Err(verdict) => *verdict,
+    };
+    fs::write(folder.join("verdict"), verdict_line(verdict))
+}
+
+/// A stored text with its verdict, or the stage file that it gives.
+pub fn load_text(folder: &Path, name: &str) -> io::Result<(Vec<u8>, Result<Vec<u8>, Verdict>)> {
+    let folder = folder.join(TEXTS).join(name);
+    let text = fs::read(folder.join("stage.txt"))?;
+    let line = fs::read_to_string(folder.join("verdict"))?;
+    let verdict = verdict_from_line(&line)
+        .ok_or_else(|| io::Error::new(io::ErrorKind::InvalidData, "four numbers expected"))?;
+    Ok((
+        text,
+        match verdict {
+            ACCEPTED => Ok(fs::read(folder.join("stage.ncl"))?),
+            _ => Err(verdict),
+        },
+    ))
+}
+
+/// The names of all stored texts, in order.
+pub fn stored_texts(folder: &Path) -> io::Result<Vec<String>> {
+    folders_in(&folder.join(TEXTS))
+}
+
 /// The names of all stored pairs, in order.
 pub fn stored_examples(folder: &Path) -> io::Result<Vec<String>> {
+    let mut names = folders_in(folder)?;
+    names.retain(|name| name != TEXTS);
+    Ok(names)
+}
+
+fn folders_in(folder: &Path) -> io::Result<Vec<String>> {
     let mut names = Vec::new();
     for entry in fs::read_dir(folder)? {
         let entry = entry?;

@@ -9,6 +9,7 @@ pub mod draws;
 pub mod joins;
 pub mod made;
 pub mod nexts;
+pub mod texts;
 
 use crate::circuits::{
     dual_rail, kind_named, multiplier, multiplier_reference, reordered, ripple_adder,

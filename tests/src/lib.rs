@@ -16,6 +16,7 @@ pub mod library;
 pub mod make;
 pub mod next;
 pub mod suite;
+pub mod text;
 
 use std::path::PathBuf;
 

@@ -112,6 +112,18 @@ extern "C" {
         reference_out: *mut u8,
         reference_out_len: usize,
     ) -> Written;
+    fn fovaheju_read_text(
+        text: *const u8,
+        text_len: usize,
+        stage_out: *mut u8,
+        stage_out_len: usize,
+    ) -> Written;
+    fn fovaheju_write_text(
+        stage: *const u8,
+        stage_len: usize,
+        text_out: *mut u8,
+        text_out_len: usize,
+    ) -> Written;
 }
 
 /// The verdict on a stage file and a reference file.
@@ -227,6 +239,34 @@ pub fn draw_reference(load: &Load, reference_out: &mut [u8]) -> Made {
             load.gates,
             reference_out.as_mut_ptr(),
             reference_out.len(),
+        )
+    }
+    .into()
+}
+
+/// The stage file of a text, into a buffer.
+pub fn read_text(text: &[u8], stage_out: &mut [u8]) -> Made {
+    // Safety: the contract has no `requires`, and each pointer and length are of a slice; the buffer is lent to be written.
+    unsafe {
+        fovaheju_read_text(
+            text.as_ptr(),
+            text.len(),
+            stage_out.as_mut_ptr(),
+            stage_out.len(),
+        )
+    }
+    .into()
+}
+
+/// The text of a stage file, into a buffer.
+pub fn write_text(stage: &[u8], text_out: &mut [u8]) -> Made {
+    // Safety: the contract has no `requires`, and each pointer and length are of a slice; the buffer is lent to be written.
+    unsafe {
+        fovaheju_write_text(
+            stage.as_ptr(),
+            stage.len(),
+            text_out.as_mut_ptr(),
+            text_out.len(),
         )
     }
     .into()

@@ -9,6 +9,7 @@ pub mod join;
 pub mod make;
 pub mod report;
 pub mod row;
+pub mod text;
 
 use crate::catalogue::examples;
 use crate::compare::expected_report;
@@ -17,6 +18,7 @@ use crate::join::join_in_order;
 use crate::judge::{check_in_order, Verdict, WordOrder, LIMITS};
 use crate::make::make_stage;
 use crate::next::{next_stage, FAMILY};
+use crate::text::{read_text, text_of_file, write_text};
 use std::collections::BTreeSet;
 use std::fs;
 use std::io;
@@ -48,6 +50,8 @@ pub fn calls() -> Vec<Call> {
         ("settled_row", 3, row::stored()),
         ("join", 4, join::stored()),
         ("make_stage", 5, make::stored()),
+        ("read_text", 6, text::stored_reads()),
+        ("write_text", 7, text::stored_writes()),
     ];
     list.into_iter()
         .map(|(name, byte, cases)| Call { name, byte, cases })
@@ -124,6 +128,8 @@ pub fn programs() -> Vec<Program> {
         ncl_join(),
         ncl_make(),
         ncl_next(),
+        ncl_read_text(),
+        ncl_write_text(),
     ]
 }
 
@@ -191,6 +197,26 @@ fn ncl_make() -> Program {
         name: "ncl_make",
         data: vec![("reference.ncl", reference)],
         stdout: verdict_line(made.verdict),
+    }
+}
+
+fn ncl_read_text() -> Program {
+    let text = text_of_file(&example("full-adder").stage).expect("a stage that can be written");
+    let read = read_text(&text, &mut [0; 8192]);
+    Program {
+        name: "ncl_read_text",
+        data: vec![("stage.txt", text)],
+        stdout: verdict_line(read.verdict),
+    }
+}
+
+fn ncl_write_text() -> Program {
+    let stage = example("full-adder").stage;
+    let written = write_text(&stage, &mut [0; 16384]);
+    Program {
+        name: "ncl_write_text",
+        data: vec![("stage.ncl", stage)],
+        stdout: verdict_line(written.verdict),
     }
 }
 

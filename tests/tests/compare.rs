@@ -4,7 +4,8 @@
 use fovaheju_tests::compare::{
     compare_checks, compare_pair, compare_reports, compare_rows, first_difference, judged_counts,
     lack, run_program, shrink, Check, CheckInOrder, Difference, Histogram, SettledRow,
-    CHECK_NUMBERS, JOIN_NUMBERS, MAKE_NUMBERS, NEXT_NUMBERS, ROW_NUMBERS,
+    CHECK_NUMBERS, JOIN_NUMBERS, MAKE_NUMBERS, NEXT_NUMBERS, READ_TEXT_NUMBERS, ROW_NUMBERS,
+    WRITE_TEXT_NUMBERS,
 };
 use fovaheju_tests::files::{as_the_program_reads, unhex, verdict_from_line, FilePair};
 use fovaheju_tests::generate::pair;
@@ -38,6 +39,8 @@ fn a_lack_is_told() {
     assert_eq!(lack(&full, &JOIN_NUMBERS), None);
     assert_eq!(lack(&full, &MAKE_NUMBERS), None);
     assert_eq!(lack(&full, &NEXT_NUMBERS), None);
+    assert_eq!(lack(&full, &READ_TEXT_NUMBERS), None);
+    assert_eq!(lack(&full, &WRITE_TEXT_NUMBERS), None);
     for number in 0..full.len() {
         let mut histogram = full;
         histogram[number] = 0;
@@ -47,6 +50,8 @@ fn a_lack_is_told() {
             &JOIN_NUMBERS[..],
             &MAKE_NUMBERS[..],
             &NEXT_NUMBERS[..],
+            &READ_TEXT_NUMBERS[..],
+            &WRITE_TEXT_NUMBERS[..],
         ] {
             assert_eq!(
                 lack(&histogram, numbers).is_some(),

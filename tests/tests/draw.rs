@@ -7,11 +7,12 @@ use fovaheju_tests::compare::{
 use fovaheju_tests::draw::{
     draw_reference, drawn_reference, load_of, Load, OUT_OF_RANGE, TOO_MANY_OUTPUTS, TOO_SHORT,
 };
-use fovaheju_tests::files::{unhex, write_reference};
+use fovaheju_tests::files::{unhex, verdict_line, write_reference};
 use fovaheju_tests::generate::draws::{draw_case, length};
 use fovaheju_tests::join::WHOLE_LIMITS;
 use fovaheju_tests::judge::{check, read_reference_within, Boolean, Reference, ACCEPTED, NOT};
 use fovaheju_tests::make::{make_stage, Made};
+use fovaheju_tests::read;
 use std::collections::BTreeSet;
 
 fn load(seed: u32, inputs: usize, gates: usize) -> Load {
@@ -307,4 +308,14 @@ fn wrong_calls_are_told() {
             "{about}"
         );
     }
+}
+
+/// What the program `ncl_draw` is given as arguments, and what it must print.
+#[test]
+fn stored_arguments_and_output() {
+    let words = read("crates/ncl_draw/args");
+    let numbers: Vec<u32> = words.lines().map(|word| word.parse().unwrap()).collect();
+    assert_eq!(numbers, [1, 1, 4]);
+    let made = draw_reference(&load(1, 1, 4), &mut [0; 512]);
+    assert_eq!(read("crates/ncl_draw/stdout"), verdict_line(made.verdict));
 }

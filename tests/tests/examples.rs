@@ -2,15 +2,19 @@
 //! of the judge.
 
 use fovaheju_tests::catalogue::joins::{self, joined, joints};
+use fovaheju_tests::catalogue::texts::{self, texts};
 use fovaheju_tests::catalogue::{
     address_compare_reference, comparator_reference, examples, listing, mac_of_the_source,
     mac_reference, multiplier_of_the_source, parity_reference, MARKED,
 };
 use fovaheju_tests::circuits::{multiplier_reference, ripple_adder_reference};
-use fovaheju_tests::files::{examples_folder, load_example, stored_examples};
+use fovaheju_tests::files::{
+    examples_folder, load_example, load_text, stored_examples, stored_texts,
+};
 use fovaheju_tests::judge::{answer, rails_of_word, read_stage, settle, Stage, ACCEPTED, ORDERS};
 use fovaheju_tests::read;
 use fovaheju_tests::suite::verdict_in;
+use fovaheju_tests::text::{file_of_text, text_of_file};
 use std::collections::BTreeSet;
 
 #[test]
@@ -74,6 +78,36 @@ fn joins_of_stored_pairs() {
     assert_eq!(list, joins::listing(), "examples/JOINS.md");
 }
 
+/// The stored texts are those described, have the verdicts that they are meant to have, and give the
+/// stages of the pairs that they are texts of.
+#[test]
+fn texts_of_stages() {
+    let folder = examples_folder();
+    let mut described = Vec::new();
+    let mut numbers = BTreeSet::new();
+    for example in texts() {
+        let name = example.name;
+        let (text, read) = load_text(&folder, name).unwrap_or_else(|error| {
+            panic!("{name}: {error}; the program write_examples stores it")
+        });
+        assert_eq!(text, example.text, "{name}");
+        assert_eq!(file_of_text(&text), read, "{name}");
+        let verdict = read.as_ref().map_or_else(|verdict| *verdict, |_| ACCEPTED);
+        assert_eq!(verdict, example.verdict, "{name}");
+        numbers.insert(verdict[0]);
+        if let Some(pair) = example.stage {
+            let (pair, _) = load_example(&folder, pair).unwrap();
+            assert_eq!(read, Ok(pair.stage), "{name}");
+        }
+        described.push(name);
+    }
+    described.sort();
+    assert_eq!(stored_texts(&folder).unwrap(), described);
+    assert_eq!(numbers, BTreeSet::from([0, 3, 5, 6, 29, 30, 31]));
+    let list = std::fs::read_to_string(folder.join("TEXTS.md")).unwrap();
+    assert_eq!(list, texts::listing(), "examples/TEXTS.md");
+}
+
 /// The bytes that the blocks of a document spell: in each line the pairs of hexadecimal digits at its
 /// start, or after its first word.
 fn spelt(document: &str) -> Vec<u8> {
@@ -103,6 +137,27 @@ fn the_documents_spell_the_and() {
             "{path}"
         );
     }
+}
+
+/// The blocks of a document that are texts.
+fn spelt_texts(document: &str) -> Vec<String> {
+    let blocks = document.split("```\n").skip(1).step_by(2);
+    blocks
+        .filter(|block| block.contains("TH22 "))
+        .filter(|block| !block.contains("FF FF"))
+        .map(str::to_string)
+        .collect()
+}
+
+#[test]
+fn the_documents_spell_the_and_as_text() {
+    let (pair, _) = load_example(&examples_folder(), "and").unwrap();
+    let texts = spelt_texts(&read("docs/FILES.md"));
+    assert_eq!(texts.len(), 2);
+    for text in &texts {
+        assert_eq!(file_of_text(text.as_bytes()), Ok(pair.stage.clone()));
+    }
+    assert_eq!(text_of_file(&pair.stage), Ok(texts[1].clone().into_bytes()));
 }
 
 #[test]

@@ -14,6 +14,7 @@ use Rattle.netlist.specs.Writing.{All, gate, writeItem}
 use Rattle.netlist.proofs.Lists.{All-map}
 use Rattle.verdict.specs.Rows.{high}
 use Rattle.verdict.specs.Words.{numbers, select}
+use Rattle.verdict.proofs.Names.{select-alike}
 use Rattle.made.specs.Marks.{marked}
 use Rattle.made.proofs.Marks.{marked-long, marked-high}
 use Rattle.writing.specs.Put.{Put, coded}
@@ -24,7 +25,7 @@ use Rattle.writing.proofs.Files.{bytes-length, reference-gate-width, reference-
 use Rattle.writing.proofs.Items.{ItemsLeft, items-all, items-room, items-put, items-skip, items-done}
 use Rattle.draw_spec.specs.Draws.{gateFrom, afterGate, gatesFrom}
 use Rattle.draw_spec.specs.Drawn.{usedBy, unused, drawnReference, drawnBytes}
-use Rattle.draw_spec.proofs.Selected.{select-alike, selected-few}
+use Rattle.draw_spec.proofs.Selected.{selected-few}
 use Rattle.draw_spec.proofs.Formed.{gates-formed, gates-long, used-in}
 use Rattle.call_draw.specs.declared.Gate.{Gate}
 use Rattle.call_draw.specs.Steps.{operandsOf, GateDrawn, unmarked}

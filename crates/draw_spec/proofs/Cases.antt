@@ -13,7 +13,7 @@ use Rattle.writing.specs.Written as o
 use Rattle.writing.specs.Written.{Written, refuse, write}
 use Rattle.draw_spec.specs.Draws as d
 use Rattle.draw_spec.specs.Drawn as a
-use Rattle.draw_spec.specs.Drawn.{drawn}
+use Rattle.draw_spec.specs.Drawn.{drawnBytes, drawn}
 
 -- a buffer of so many bytes
 abbrev lent : ℕ → List ℕ
@@ -40,6 +40,11 @@ fourGates =
     0x11 ∷ 4 ∷ 1 ∷ 0 ∷ 2 ∷ 0 ∷
     0x12 ∷ 3 ∷ 0 ∷ 0x12 ∷ 4 ∷ 0 ∷
     0 ∷ []
+
+pub seed-1 : drawnBytes 1 1 4 ≡ fourGates
+unfolding c.among k.ownCommands k.commandTable k.formIn k.needed n.writeFile n.writeReference w.numbers w.select
+    d.advance d.yield d.after d.operandsFrom d.gateFrom d.afterGate d.gatesFrom a.usedBy a.drawnReference
+seed-1 = refl
 
 pub cases : List Case
 cases =

@@ -18,12 +18,13 @@ use Rattle.netlist.proofs.Lists.{All-map, All-++}
 use Rattle.netlist.proofs.References.{reference-fits, read-writeReference, referenceOf-writeReference}
 use Rattle.verdict.specs.Demands.{ReferenceIs}
 use Rattle.verdict.specs.Words.{numbers, select}
+use Rattle.verdict.proofs.Names.{in-select}
 use Rattle.verdict.proofs.Retired.{among-in}
 use Rattle.verdict.proofs.Words.{index-in}
 use Rattle.made.proofs.Lists.{all-in}
 use Rattle.draw_spec.specs.Draws.{yield, advance, operandsFrom, gateFrom, afterGate, gatesFrom}
 use Rattle.draw_spec.specs.Drawn.{usedBy, unused, drawnReference, drawnBytes}
-use Rattle.draw_spec.proofs.Selected.{in-select, in-some, selected-below}
+use Rattle.draw_spec.proofs.Selected.{in-some, selected-below}
 
 operands-long : (signals k s : ℕ) → length (operandsFrom signals k s) ≡ k
 unfolding operandsFrom

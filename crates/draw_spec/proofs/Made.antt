@@ -27,6 +27,7 @@ use Rattle.verdict.specs.Search.{least}
 use Rattle.verdict.specs.Verdicts.{accepted}
 use Rattle.verdict.specs.Demands.{ReferenceIs}
 use Rattle.verdict.proofs.Least.{LeastSays, least-says}
+use Rattle.verdict.proofs.Names.{in-select}
 use Rattle.verdict.proofs.Retired.{among-in}
 use Rattle.verdict.proofs.Words.{index-in}
 use Rattle.made.specs.Count.{operations}
@@ -39,7 +40,6 @@ use Rattle.made.proofs.Making.{needed-counted, laterTests, checks-by-tests}
 use Rattle.draw_spec.specs.Draws.{gatesFrom}
 use Rattle.draw_spec.specs.Drawn.{usedBy, unused, drawnReference, drawnBytes}
 use Rattle.draw_spec.specs.Demand.{Makeable}
-use Rattle.draw_spec.proofs.Selected.{in-select}
 use Rattle.draw_spec.proofs.Formed.{gates-long, formed, reads}
 
 -- ---- a reference all of whose signals lead out

@@ -2,31 +2,15 @@
 -- Assumes nothing.
 use Prim.Native.Nat.{ℕ, zero, suc, _+_, _≤_, _<_}
 use native.Mathlib.Omega.{arith}
-use mathlib.Core.Path.{_≡_, refl, sym, ap, _∙_}
+use mathlib.Core.Path.{_≡_, refl}
 use mathlib.Core.Bool.{Bool, true, false, cond}
 use mathlib.Core.Logic.{inl, inr}
 use mathlib.Core.List.{List, [], _∷_}
 use lib.ListN.{length}
-use Rattle.runs.proofs.Test.{clash}
 use Rattle.netlist.specs.Writing.{All}
 use Rattle.verdict.specs.Graph.{In}
 use Rattle.verdict.specs.Words.{numbers, select}
 use Rattle.verdict.proofs.Words.{in-index}
-
-pub in-select : (test : ℕ → Bool) (l : List ℕ) (x : ℕ) → In x l → test x ≡ true → In x (select test l)
-unfolding select
-in-select test (y ∷ l) x h t = go (test y) refl h (λ i. in-select test l x i t)
-  where
-    go : (b : Bool) → test y ≡ b → In x (y ∷ l) → (In x l → In x (select test l)) → In x (cond b (y ∷ select test l) (select test l))
-    go true e (inl q) later = inl q
-    go true e (inr i) later = inr (later i)
-    go false e (inl q) later = absurd (clash t (ap test q ∙ e))
-    go false e (inr i) later = later i
-
-pub select-alike : (f g : ℕ → Bool) (l : List ℕ) → ((x : ℕ) → In x l → f x ≡ g x) → select f l ≡ select g l
-unfolding select
-select-alike f g [] h = refl
-select-alike f g (x ∷ l) h = rw (h x (inl refl), select-alike f g l (λ y i. h y (inr i))) refl
 
 pub in-some : (x : ℕ) (xs : List ℕ) → In x xs → 1 ≤ length xs
 in-some x [] i = absurd i

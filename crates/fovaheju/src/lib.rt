@@ -1,5 +1,5 @@
-// The public calls. Their contracts cite the definitions of crates `verdict`, `report`, `joined` and `join`, `made` and `make`, `next_spec` and
-// `draw_spec`, at the limits of crate `netlist`, and ask nothing of the caller.
+// The public calls. Their contracts cite the definitions of crates `verdict`, `report`, `joined` and `join`, `made` and `make`, `text_spec`, `next_spec`
+// and `draw_spec`, at the limits of crate `netlist`, and ask nothing of the caller.
 use join::JoinAnswer;
 use report::Report;
 use verdict::Verdict;
@@ -15,6 +15,7 @@ ghost use Rattle.report.specs.Activity.{ReportMeans};
 ghost use Rattle.joined.specs.Join.{files};
 ghost use Rattle.join.specs.Call.{JoinDemand};
 ghost use Rattle.make.specs.Call.{MakeDemand};
+ghost use Rattle.text_spec.specs.Promises.{ReadDemand, WriteDemand};
 ghost use Rattle.next_spec.specs.Family.{NextDemand};
 ghost use Rattle.draw_spec.specs.Demand.{DrawnDemand};
 
@@ -78,6 +79,22 @@ pub fn make_stage(reference: &[u8], stage_out: &mut [u8]) -> Answer
     ensures { λ r. ⌜ MakeDemand (now (reference .entry)) (now («stage_out» .entry)) r (now («stage_out» .exit)) ⌝ }
 {
     make::make_stage(reference, stage_out)
+}
+
+// The stage file of a text in the line form, gates before outputs, written at the start of a lent buffer. The file reads. A refusal leaves the buffer as it
+// was.
+pub fn read_text(text: &[u8], stage_out: &mut [u8]) -> Answer
+    ensures { λ r. ⌜ ReadDemand (now (text .entry)) (now («stage_out» .entry)) r (now («stage_out» .exit)) ⌝ }
+{
+    call_text_read::read_text(text, stage_out)
+}
+
+// A stage file as text in the line form, written at the start of a lent buffer. Read again, the text gives the file's own bytes, if its gates stand before
+// its outputs. A refusal leaves the buffer as it was.
+pub fn write_text(stage: &[u8], text_out: &mut [u8]) -> Answer
+    ensures { λ r. ⌜ WriteDemand (now (stage .entry)) (now («text_out» .entry)) r (now («text_out» .exit)) ⌝ }
+{
+    call_text_write::write_text(stage, text_out)
 }
 
 // The next file of the family of small stages, by inputs, then gates, then bytes: after a file of the family or the empty file, written at the start of
@@ -166,6 +183,22 @@ pub extern "C" fn fovaheju_make_stage(reference: &[u8], stage_out: &mut [u8]) ->
     ensures { λ r. ⌜ MakeDemand (now (reference .entry)) (now («stage_out» .entry)) r (now («stage_out» .exit)) ⌝ }
 {
     make_stage(reference, stage_out)
+}
+
+// The stage file of a text for callers in C and in Rust, with the contract of `read_text`.
+#[no_mangle]
+pub extern "C" fn fovaheju_read_text(text: &[u8], stage_out: &mut [u8]) -> Answer
+    ensures { λ r. ⌜ ReadDemand (now (text .entry)) (now («stage_out» .entry)) r (now («stage_out» .exit)) ⌝ }
+{
+    read_text(text, stage_out)
+}
+
+// The text of a stage file for callers in C and in Rust, with the contract of `write_text`.
+#[no_mangle]
+pub extern "C" fn fovaheju_write_text(stage: &[u8], text_out: &mut [u8]) -> Answer
+    ensures { λ r. ⌜ WriteDemand (now (stage .entry)) (now («text_out» .entry)) r (now («text_out» .exit)) ⌝ }
+{
+    write_text(stage, text_out)
 }
 
 // The next file of the family for callers in C and in Rust, with the contract of `next_stage`.

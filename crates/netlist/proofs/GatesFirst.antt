@@ -21,9 +21,9 @@ use Rattle.netlist.proofs.Formed.{GatesFormed, OutputFormed, readable-f
 
 -- ---- items with the gates first
 
--- every gate stands before every output
-abbrev pub GatesFirst : List ℕ → List ℕ → Type 0
-GatesFirst gs os = (k j : ℕ) → k < length gs → j < length os → getD gs k 0 < getD os j 0
+-- each of some places comes before each of others
+abbrev pub AllBefore : List ℕ → List ℕ → Type 0
+AllBefore gs os = (k j : ℕ) → k < length gs → j < length os → getD gs k 0 < getD os j 0
 
 places-from : (f : File) (at : ℕ) (items : List Item) (k : ℕ) → k < length (gatePlaces f at items) → at ≤ getD (gatePlaces f at items) k 0
 places-from f at [] k l = absurd (omega arith)
@@ -38,7 +38,7 @@ only-outputs (gate c ∷ items) n e = absurd (omega (arith, ap length e))
 only-outputs (output vs ∷ items) n e = ap {B = List Item} (λ l. output vs ∷ l) (only-outputs items n e)
 only-outputs (care w ∷ items) n e = absurd (omega (arith, ap length n))
 
-gates-first : (f : File) (at : ℕ) (items : List Item) → careIn items ≡ [] → GatesFirst (gatePlaces f at items) (outputPlaces f at items) →
+gates-first : (f : File) (at : ℕ) (items : List Item) → careIn items ≡ [] → AllBefore (gatePlaces f at items) (outputPlaces f at items) →
     items ≡ map gate (gatesIn items) ++ map output (outputsIn items)
 gates-first f at [] n h = refl
 gates-first f at (gate c ∷ items) n h =
@@ -76,7 +76,7 @@ none-left f at [] h = refl
 none-left f at (w ∷ ws) h = absurd (omega (arith, width-care f))
 
 pub in-order : (f : File) (at : ℕ) (items : List Item) → CareFirst f at (length (careIn items)) (gatePlaces f at items) (outputPlaces f at items) →
-    GatesFirst (gatePlaces f at items) (outputPlaces f at items) → items ≡ map care (careIn items) ++ (map gate (gatesIn items) ++ map output (outputsIn items))
+    AllBefore (gatePlaces f at items) (outputPlaces f at items) → items ≡ map care (careIn items) ++ (map gate (gatesIn items) ++ map output (outputsIn items))
 in-order f at [] c h = refl
 in-order f at (care w ∷ items) c h =
     ap {B = List Item} (λ l. care w ∷ l)
@@ -129,14 +129,14 @@ module _ {G O : Type 0} (toG : Coded → G) (fromG : G → Coded) (toO : List �
 
     -- bytes that are readable, with the care words and then the gates first, are what writing their content gives
     module _ (s : List ℕ) (small : Bytes s) (p : Places) (e : readFile f most s ≡ readable p) where
-      pub write-back : CareFirst f 2 (length (p .care)) (p .gates) (p .outputs) → GatesFirst (p .gates) (p .outputs) →
+      pub write-back : CareFirst f 2 (length (p .care)) (p .gates) (p .outputs) → AllBefore (p .gates) (p .outputs) →
           ((cs : List Coded) → GatesFormed f (p .inputs) (length (p .gates)) 0 cs → All (λ c. fromG (toG c) ≡ c) cs) →
           ((vss : List (List ℕ)) → All (OutputFormed f (p .inputs) (length (p .gates))) vss → All (λ vs. fromO (toO vs) ≡ vs) vss) →
           s ≡ writeFile f (p .inputs) (itemsOf (p .care) (map (λ at. toG (codedAt f s at)) (p .gates)) (map (λ at. toO (wiredAt f s at)) (p .outputs)))
       write-back before first codes wires =
           let h = write-read f most s p e in
           let formed = readable-formed f most s p e in
-          let ordered = subst (λ (x : Places). GatesFirst (x .gates) (x .outputs)) (h .item-places) first in
+          let ordered = subst (λ (x : Places). AllBefore (x .gates) (x .outputs)) (h .item-places) first in
           let leading = subst (λ (x : Places). CareFirst f 2 (length (x .care)) (x .gates) (x .outputs)) (h .item-places) before in
           h .bytes small
           ∙ ap (writeFile f (p .inputs))

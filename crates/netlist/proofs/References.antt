@@ -22,7 +22,7 @@ use Rattle.netlist.proofs.Walk.{readable-laid}
 use Rattle.netlist.proofs.ReadBack.{read-write}
 use Rattle.netlist.proofs.Readable.{readable-read, named-earlier, named-signal}
 use Rattle.netlist.proofs.Formed.{GatesFormed, OutputFormed, readable-formed}
-use Rattle.netlist.proofs.GatesFirst.{GatesFirst, none-first, gatesIn-items, outputsIn-items, careIn-items, gates-back, outputs-back, write-back}
+use Rattle.netlist.proofs.GatesFirst.{AllBefore, none-first, gatesIn-items, outputsIn-items, careIn-items, gates-back, outputs-back, write-back}
 
 -- ---- gates and outputs, coded and as a reference has them
 
@@ -106,7 +106,7 @@ module _ (most : Limits) (s : List ℕ) (p : Places) (e : readFile file.Referenc
       go at (care w ∷ items) h = let stage = h .0 .stage in absurd (clash (cc))
 
   -- readable bytes with the gates first are what writing their reference gives
-  pub writeReference-referenceOf : Bytes s → GatesFirst (p .gates) (p .outputs) → s ≡ writeReference (referenceOf s p)
+  pub writeReference-referenceOf : Bytes s → AllBefore (p .gates) (p .outputs) → s ≡ writeReference (referenceOf s p)
   unfolding writeReference referenceOf operands commandTable ownCommands formIn
   writeReference-referenceOf small first =
       subst (λ (ws : List ℕ). s ≡ writeFile file.Reference (p .inputs) (map care ws ++ referenceItems (referenceOf s p)))

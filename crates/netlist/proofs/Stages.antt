@@ -25,7 +25,7 @@ use Rattle.netlist.proofs.Laid.{wiredAt}
 use Rattle.netlist.proofs.ReadBack.{read-write}
 use Rattle.netlist.proofs.Readable.{readable-read, named-pin, named-rail}
 use Rattle.netlist.proofs.Formed.{GatesFormed, OutputFormed, fits-formed, readable-formed}
-use Rattle.netlist.proofs.GatesFirst.{GatesFirst, CareFirst, none-first, gatesIn-items, outputsIn-items, careIn-items, gates-back, outputs-back, write-back}
+use Rattle.netlist.proofs.GatesFirst.{AllBefore, CareFirst, none-first, gatesIn-items, outputsIn-items, careIn-items, gates-back, outputs-back, write-back}
 
 -- ---- gates and outputs, coded and as a stage has them
 
@@ -123,7 +123,7 @@ module _ (most : Limits) (c : Stage) (fits : FileFits file.Stage most (c .inputs
 
 module _ (most : Limits) (s : List ℕ) (p : Places) (e : readFile file.Stage most s ≡ readable p) where
   -- readable bytes with the care words and then the gates first are what writing their stage gives
-  pub writeStage-stageOf : Bytes s → CareFirst file.Stage 2 (length (p .care)) (p .gates) (p .outputs) → GatesFirst (p .gates) (p .outputs) →
+  pub writeStage-stageOf : Bytes s → CareFirst file.Stage 2 (length (p .care)) (p .gates) (p .outputs) → AllBefore (p .gates) (p .outputs) →
       s ≡ writeStage (stageOf s p)
   unfolding writeStage stageOf
   writeStage-stageOf small before first =
@@ -131,7 +131,7 @@ module _ (most : Limits) (s : List ℕ) (p : Places) (e : readFile file.Stage mo
       (write-back gateOf codedGate pairOf pairOperands file.Stage most s small p e before first (known-again (p .inputs) (length (p .gates)) 0) (wired-again (p .inputs) (length (p .gates))))
 
   -- so are those of a stage without care words, with the gates first
-  pub writeStage-no-care : Bytes s → p .care ≡ [] → GatesFirst (p .gates) (p .outputs) → s ≡ writeStage (stageOf s p)
+  pub writeStage-no-care : Bytes s → p .care ≡ [] → AllBefore (p .gates) (p .outputs) → s ≡ writeStage (stageOf s p)
   writeStage-no-care small none first = writeStage-stageOf small (none-first file.Stage most s p e none) first
 
   pub stage-formed : StageFormed most (stageOf s p)

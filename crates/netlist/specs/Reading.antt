@@ -2,7 +2,7 @@
 use Prim.Native.Nat.{ℕ, zero, suc, _+_, _*_, _≤_, _<_}
 use mathlib.Core.Bool.{cond}
 use mathlib.Core.List.{List, [], _∷_, _++_}
-use lib.ListN.{length}
+use lib.ListN.{length, getD}
 use lib.Dec.{eqb, ltb}
 use Rattle.netlist.specs.Types.{File, Sort, Role, AnyNet, EarlierSignal, AnySignal, Number, Form, Limits, Counts, Next, Command, Refused, Found, At, Nothing}
 use Rattle.netlist.specs.Types.sort
@@ -50,6 +50,10 @@ pub record Places : Type 0 where
   pub gates : List ℕ
   pub outputs : List ℕ
   pub care : List ℕ
+
+-- each gate stands before each output
+abbrev pub GatesFirst : Places → Type 0
+GatesFirst p = (k j : ℕ) → k < length (p .gates) → j < length (p .outputs) → getD (p .gates) k 0 < getD (p .outputs) j 0
 
 abbrev pub noPlaces : Places
 noPlaces = record { inputs = 0; gates = []; outputs = []; care = [] }

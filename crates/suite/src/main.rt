@@ -4,6 +4,7 @@
 mod packed;
 
 use libc::STDOUT_FILENO;
+use verdict::Verdict;
 use verdict::WordOrder;
 
 // The operands of each call are its arguments, in their order: files and the buffers that are lent.
@@ -93,11 +94,16 @@ fn join(order: WordOrder, file: i32) {
     );
 }
 
+// The answer of a call that writes one file or text, and the buffer after it.
+fn print_written(verdict: Verdict, count: u64, buffer: &[u8]) {
+    console::print_verdict(verdict);
+    console::print_next(count);
+    print_buffer(buffer);
+}
+
 fn make(reference: &[u8], stage: &mut [u8]) {
     let answer = fovaheju::make_stage(reference, stage);
-    console::print_verdict(answer.verdict);
-    console::print_next(answer.count);
-    print_buffer(stage);
+    print_written(answer.verdict, answer.count, stage);
 }
 
 fn make_stage(file: i32) {
@@ -108,6 +114,32 @@ fn make_stage(file: i32) {
     make(&reference[..r], &mut stage[..s]);
 }
 
+fn read_into(text: &[u8], stage: &mut [u8]) {
+    let answer = fovaheju::read_text(text, stage);
+    print_written(answer.verdict, answer.count, stage);
+}
+
+fn read_text(file: i32) {
+    let mut text = [0u8; 8192];
+    let t = packed::next_operand(file, &mut text);
+    let mut stage = [0u8; 8192];
+    let s = packed::next_operand(file, &mut stage);
+    read_into(&text[..t], &mut stage[..s]);
+}
+
+fn write_into(stage: &[u8], text: &mut [u8]) {
+    let answer = fovaheju::write_text(stage, text);
+    print_written(answer.verdict, answer.count, text);
+}
+
+fn write_text(file: i32) {
+    let mut stage = [0u8; 8192];
+    let s = packed::next_operand(file, &mut stage);
+    let mut text = [0u8; 8192];
+    let t = packed::next_operand(file, &mut text);
+    write_into(&stage[..s], &mut text[..t]);
+}
+
 // Makes a call on the operands that come next in a file, and prints its answer. Answers whether there is such a call.
 fn run_call(call: u8, order: WordOrder, file: i32) -> bool {
     match call {
@@ -116,6 +148,8 @@ fn run_call(call: u8, order: WordOrder, file: i32) -> bool {
         3 => settled_row(file),
         4 => join(order, file),
         5 => make_stage(file),
+        6 => read_text(file),
+        7 => write_text(file),
         _ => return false,
     }
     true
@@ -166,4 +200,6 @@ fn main() {
     run(b"join\n", WordOrder::FirstHighest, b"join");
     run(b"join lowest\n", WordOrder::FirstLowest, b"join");
     run(b"make_stage\n", WordOrder::FirstHighest, b"make_stage");
+    run(b"read_text\n", WordOrder::FirstHighest, b"read_text");
+    run(b"write_text\n", WordOrder::FirstHighest, b"write_text");
 }

@@ -117,7 +117,7 @@ select-in test (y ∷ l) x h = go (test y) refl h (select-in test l x)
     go true e (inr i) later = let r = later i in (inr (r .0), r .1)
     go false e i later = let r = later i in (inr (r .0), r .1)
 
-in-select : (test : ℕ → Bool) (l : List ℕ) (x : ℕ) → In x l → test x ≡ true → In x (select test l)
+pub in-select : (test : ℕ → Bool) (l : List ℕ) (x : ℕ) → In x l → test x ≡ true → In x (select test l)
 unfolding select
 in-select test (y ∷ l) x h t = go (test y) refl h (λ i. in-select test l x i t)
   where
@@ -140,7 +140,7 @@ select-rises test below floor (x ∷ l) r = go (test x) (select-rises test below
     go true h = (r .0, r .1, h)
     go false h = rising-from below (x + 1) floor (select test l) (omega (arith, r .0)) h
 
-select-alike : (f g : ℕ → Bool) (l : List ℕ) → ((x : ℕ) → In x l → f x ≡ g x) → select f l ≡ select g l
+pub select-alike : (f g : ℕ → Bool) (l : List ℕ) → ((x : ℕ) → In x l → f x ≡ g x) → select f l ≡ select g l
 unfolding select
 select-alike f g [] h = refl
 select-alike f g (x ∷ l) h = rw (h x (inl refl), select-alike f g l (λ y i. h y (inr i))) refl

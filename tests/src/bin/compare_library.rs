@@ -1,18 +1,22 @@
 //! compare_library [SEED [COUNT]]: compares all calls of the proved library with the judge, in both orders of words,
-//! on the stored examples, cases of joins and references, on as many generated pairs, rows, joins and references, on the whole
-//! family of small stages and as many files beside it, on loads at the limits and on as many generated ones. Prints how many had each
-//! number, or the first difference. Fails too if some number never came or too few were accepted.
+//! on the stored examples, cases of joins, references and texts, on as many generated pairs, rows, joins, references, texts and stage
+//! files to write, on the whole family of small stages and as many files beside it, on loads at the limits and on as many generated
+//! ones. Prints how many had each number, or the first difference. Fails too if some number never came or too few were accepted.
 
 use fovaheju_tests::compare::{
     compare_checks, compare_draws, compare_draws_at_limits, compare_family, compare_join,
-    compare_joins, compare_make, compare_makes, compare_nexts, compare_pair, compare_report,
-    compare_reports, compare_rows, lack, CheckInOrder, Difference, Histogram, JoinInOrder,
+    compare_joins, compare_make, compare_makes, compare_nexts, compare_pair, compare_read_text,
+    compare_read_texts, compare_report, compare_reports, compare_rows, compare_write_text,
+    compare_write_texts, lack, CheckInOrder, Convert, Difference, Histogram, JoinInOrder,
     ReportInOrder, CHECK_NUMBERS, DRAW_NUMBERS, JOIN_NUMBERS, MAKE_NUMBERS, NEXT_NUMBERS,
-    ROW_NUMBERS,
+    READ_TEXT_NUMBERS, ROW_NUMBERS, WRITE_TEXT_NUMBERS,
 };
-use fovaheju_tests::files::{examples_folder, load_example, stored_examples};
+use fovaheju_tests::files::{
+    examples_folder, load_example, load_text, stored_examples, stored_texts, write_stage,
+};
 use fovaheju_tests::generate::made::MakeCase;
-use fovaheju_tests::judge::{WordOrder, ACCEPTED, ORDERS};
+use fovaheju_tests::generate::texts::TextCase;
+use fovaheju_tests::judge::{read_stage, WordOrder, ACCEPTED, ORDERS};
 use fovaheju_tests::library;
 use fovaheju_tests::make::Made;
 use fovaheju_tests::suite;
@@ -68,6 +72,68 @@ fn made_and_checked(reference: &[u8], buffer: &mut [u8]) -> Made {
     made
 }
 
+/// The bytes that a call writes, where it accepts.
+fn written(call: Convert, source: &[u8]) -> Option<Vec<u8>> {
+    let mut buffer = vec![0; 16_384];
+    let made = call(source, &mut buffer);
+    buffer.truncate(made.len);
+    (made.verdict == ACCEPTED).then_some(buffer)
+}
+
+/// The library's stage file of a text. If it can be written, its text gives the same bytes again.
+fn read_and_again(text: &[u8], buffer: &mut [u8]) -> Made {
+    let made = library::read_text(text, buffer);
+    if made.verdict == ACCEPTED {
+        let file = &buffer[..made.len];
+        if let Some(text) = written(library::write_text, file) {
+            let again = written(library::read_text, &text);
+            assert_eq!(again.as_deref(), Some(file), "read again");
+        }
+    }
+    made
+}
+
+/// The library's text of a stage file, which gives the same stage again, with gates before outputs.
+fn written_and_again(file: &[u8], buffer: &mut [u8]) -> Made {
+    let made = library::write_text(file, buffer);
+    if made.verdict == ACCEPTED {
+        let again = written(library::read_text, &buffer[..made.len]);
+        let stage = read_stage(file).expect("a stage that is written");
+        assert_eq!(again, Some(write_stage(&stage)), "read again");
+    }
+    made
+}
+
+/// The stored texts and the stages of the stored pairs, into buffers with room, and the stored cases.
+fn compare_stored_texts(pairs: &[String]) -> Result<(), Box<Difference>> {
+    let folder = examples_folder();
+    let case = |source: Vec<u8>| TextCase {
+        source,
+        buffer: vec![7; 16_384],
+    };
+    let texts = stored_texts(&folder).expect("the texts");
+    for name in &texts {
+        let (text, _) = load_text(&folder, name).expect("a text");
+        compare_read_text(read_and_again, name, &case(text))?;
+    }
+    for name in pairs {
+        let (pair, _) = load_example(&folder, name).expect("an example");
+        compare_write_text(written_and_again, name, &case(pair.stage))?;
+    }
+    for stored in suite::text::read_cases() {
+        compare_read_text(read_and_again, &stored.about, &stored.case)?;
+    }
+    for stored in suite::text::write_cases() {
+        compare_write_text(written_and_again, &stored.about, &stored.case)?;
+    }
+    println!(
+        "{} stored texts and the texts of {} stages alike",
+        texts.len(),
+        pairs.len()
+    );
+    Ok(())
+}
+
 fn compare(seed: u64, count: u64) -> Result<bool, Box<Difference>> {
     let names = stored_examples(&examples_folder()).expect("the examples");
     for name in &names {
@@ -101,8 +167,9 @@ fn compare(seed: u64, count: u64) -> Result<bool, Box<Difference>> {
         .inspect_err(|difference| println!("{difference}"))?;
     }
     println!("stages of {} stored references alike", references.len());
+    compare_stored_texts(&names).inspect_err(|difference| println!("{difference}"))?;
     // The calls beside one another, each with its own files.
-    let all: [(&str, &[usize], Comparison); 9] = [
+    let all: [(&str, &[usize], Comparison); 11] = [
         ("checks", &CHECK_NUMBERS, &|| {
             compare_checks(CHECK, seed, count)
         }),
@@ -127,6 +194,12 @@ fn compare(seed: u64, count: u64) -> Result<bool, Box<Difference>> {
         }),
         ("drawn references", &DRAW_NUMBERS, &|| {
             compare_draws(library::draw_reference, seed, count)
+        }),
+        ("texts read", &READ_TEXT_NUMBERS, &|| {
+            compare_read_texts(read_and_again, seed, count)
+        }),
+        ("texts written", &WRITE_TEXT_NUMBERS, &|| {
+            compare_write_texts(written_and_again, seed, count)
         }),
     ];
     let histograms = thread::scope(|scope| {

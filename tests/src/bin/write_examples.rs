@@ -1,7 +1,8 @@
-//! Writes all example pairs with their verdicts, a list of them and a list of the joins of some
-//! into the folder examples/, or into the folder given, and prints the list.
+//! Writes all example pairs and texts with their verdicts, lists of them and a list of the joins of some
+//! pairs into the folder examples/, or into the folder given, and prints the list of the pairs.
 
 use fovaheju_tests::judge::ORDERS;
+use fovaheju_tests::text::file_of_text;
 use fovaheju_tests::{catalogue, files, suite};
 use std::path::PathBuf;
 
@@ -25,6 +26,11 @@ fn main() -> std::io::Result<()> {
             example.about
         );
     }
+    for example in catalogue::texts::texts() {
+        let read = file_of_text(&example.text);
+        files::store_text(&folder, example.name, &example.text, &read)?;
+    }
+    std::fs::write(folder.join("TEXTS.md"), catalogue::texts::listing())?;
     std::fs::write(folder.join("LIST.md"), catalogue::listing())?;
     std::fs::write(folder.join("JOINS.md"), catalogue::joins::listing())
 }
