@@ -3,8 +3,9 @@
 
    Each call takes byte strings as a pointer and then a length. The bytes may be any; that they are there, that nothing
    else writes them during the call, and that a row or a buffer overlaps nothing else is all that is asked. Each call
-   returns, keeps nothing for later calls, and touches no other memory but its answer and some kilobytes of stack. So
-   calls may run at the same time in several threads, each with a row or buffers of its own.
+   returns, keeps nothing for later calls, and touches no other memory but its answer and the stack: at most 64
+   kilobytes of it (measured: join 55, report 51, check 34, settled row 18, make a stage 14). So calls may run at the
+   same time in several threads, each with a row or buffers of its own.
 
    A pointer that goes with the length 0 is not read through. What is proved is about pointers that are not null; with
    the length 0 any other address will do. A null pointer with the length 0 was tried too: it counts as an empty file,

@@ -10,10 +10,10 @@ use lib.Dec.{leb}
 use borrow.Author.Tests.{le-leb, lt-leb, lt-ltb, le-ltb}
 use Rattle.verdict.specs.Checks.{verdict}
 use Rattle.verdict.specs.Verdicts.{accepted}
-use Rattle.writing.specs.declared.Answer.{Answer}
-use Rattle.writing.specs.Put.{Put}
-use Rattle.writing.specs.Written.{answerOf, written, writeOr}
-use Rattle.writing.proofs.Answers.{refuses, answers-short, answers-copied}
+use Rattle.verdict.specs.declared.Answer.{Answer}
+use Rattle.write_command.specs.Put.{Put}
+use Rattle.verdict.specs.Written.{answerOf, written, writeOr}
+use Rattle.write_command.proofs.Answers.{refuses, answers-short, answers-copied}
 use Rattle.draw_spec.specs.Drawn.{drawnReference, drawnBytes, inRange, drawn}
 use Rattle.draw_spec.specs.Demand.{DrawnDemand}
 use Rattle.draw_spec.proofs.Answers.{drawn-demand}

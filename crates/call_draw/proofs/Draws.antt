@@ -11,7 +11,7 @@ use Rattle.netlist.specs.declared.File.the-variants as file
 use Rattle.netlist.specs.Commands.{needed}
 use Rattle.netlist.specs.Content.{Coded}
 use Rattle.netlist.specs.Writing.{gate, writeItem}
-use Rattle.writing.proofs.Files.{gate-absent}
+use Rattle.write_command.proofs.Files.{gate-absent}
 use Rattle.draw_spec.specs.Draws.{yield, advance, draw, after, operationFrom, neededFrom, operandsFrom, gateFrom, afterGate, gatesFrom}
 use Rattle.call_draw.specs.Steps.{GateDrawn}
 

@@ -15,14 +15,14 @@ use Rattle.netlist.proofs.Lists.{All-map}
 use Rattle.verdict.specs.Rows.{high}
 use Rattle.verdict.specs.Words.{numbers, select}
 use Rattle.verdict.proofs.Names.{select-alike}
-use Rattle.made.specs.Marks.{marked}
-use Rattle.made.proofs.Marks.{marked-long, marked-high}
-use Rattle.writing.specs.Put.{Put, coded}
-use Rattle.writing.specs.Parts.{signalItem, bytesOf}
-use Rattle.writing.proofs.Joining.{put-++}
-use Rattle.writing.proofs.Putting.{put-same}
-use Rattle.writing.proofs.Files.{bytes-length, reference-gate-width, reference-output-width, reference-parts, reference-length}
-use Rattle.writing.proofs.Items.{ItemsLeft, items-all, items-room, items-put, items-skip, items-done}
+use Rattle.make_spec.specs.Marks.{marked}
+use Rattle.make_spec.proofs.Marks.{marked-long, marked-high}
+use Rattle.write_command.specs.Put.{Put, coded}
+use Rattle.write_command.specs.Parts.{signalItem, bytesOf}
+use Rattle.write_command.proofs.Joining.{put-++}
+use Rattle.write_command.proofs.Putting.{put-same}
+use Rattle.write_command.proofs.Files.{bytes-length, reference-gate-width, reference-output-width, reference-parts, reference-length}
+use Rattle.write_command.proofs.Items.{ItemsLeft, items-all, items-room, items-put, items-skip, items-done}
 use Rattle.draw_spec.specs.Draws.{gateFrom, afterGate, gatesFrom}
 use Rattle.draw_spec.specs.Drawn.{usedBy, unused, drawnReference, drawnBytes}
 use Rattle.draw_spec.proofs.Selected.{selected-few}

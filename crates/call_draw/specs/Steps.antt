@@ -7,7 +7,7 @@ use lib.Dec.{eqb}
 use Rattle.netlist.specs.declared.File.the-variants as file
 use Rattle.netlist.specs.Writing.{gate, writeItem}
 use Rattle.verdict.specs.Rows.{high}
-use Rattle.writing.specs.Put.{coded}
+use Rattle.write_command.specs.Put.{coded}
 use Rattle.draw_spec.specs.Draws.{gateFrom, afterGate}
 use Rattle.call_draw.specs.declared.Gate.{Gate}
 

@@ -1,5 +1,5 @@
 // A reference drawn from a seed, written into a buffer that the caller lends. What is drawn is said in crate `draw_spec`.
-use writing::Answer;
+use verdict::Answer;
 ghost use mathlib.Core.Path.{_≡_};
 ghost use mathlib.Core.List.{_∷_, []};
 ghost use Prim.Native.Nat.{ℕ, _+_, _*_, _/_, _%_, _≤_, _<_};
@@ -7,10 +7,10 @@ ghost use lib.ListN.{length};
 ghost use Rattle.netlist.specs.declared.File.the-variants as file;
 ghost use Rattle.netlist.specs.Writing as writing;
 ghost use Rattle.verdict.specs.Words.{numbers, select};
-ghost use Rattle.made.specs.Marks.{marked};
-ghost use Rattle.writing.specs.Put.{Put};
-ghost use Rattle.writing.specs.Parts.{signalItem, bytesOf};
-ghost use Rattle.writing.specs.Written.{written};
+ghost use Rattle.make_spec.specs.Marks.{marked};
+ghost use Rattle.write_command.specs.Put.{Put};
+ghost use Rattle.write_command.specs.Parts.{signalItem, bytesOf};
+ghost use Rattle.verdict.specs.Written.{written};
 ghost use Rattle.draw_spec.specs.Draws as draws;
 ghost use Rattle.draw_spec.specs.Drawn.{usedBy, drawnReference, drawnBytes, inRange, drawn};
 ghost use Rattle.draw_spec.specs.Demand.{DrawnDemand};
@@ -100,7 +100,13 @@ fn put_gates(seed: u32, inputs: usize, gates: usize, marks: &mut [u8], buffer: &
         let gate = draw_gate(state, (inputs + k) as u32);
         state = gate.state;
         mark_gate(gate, marks);
-        writing::put_reference_gate(buffer, 2 + 6 * k, gate.operation, gate.first, gate.second);
+        write_command::put_reference_gate(
+            buffer,
+            2 + 6 * k,
+            gate.operation,
+            gate.first,
+            gate.second,
+        );
         k += 1;
     }
 }
@@ -116,7 +122,7 @@ fn put_outputs(marks: &[u8], signals: usize, buffer: &mut [u8], from: usize) -> 
     let mut x: usize = 0;
     while x < signals {
         if marks[x] == 0 {
-            writing::put_reference_output(buffer, at, x as u16);
+            write_command::put_reference_output(buffer, at, x as u16);
             at += 3;
         }
         x += 1;
@@ -132,10 +138,10 @@ fn put_file(seed: u32, inputs: usize, gates: usize, buffer: &mut [u8]) -> usize
     ensures put { λ r. ⌜ Put (now (buffer .entry)) 0 (drawnBytes seed inputs gates) (now (buffer .exit)) ⌝ }
 {
     let mut marks = [0u8; SIGNALS];
-    writing::put_inputs(buffer, 0, inputs);
+    write_command::put_inputs(buffer, 0, inputs);
     put_gates(seed, inputs, gates, &mut marks, buffer);
     let end = put_outputs(&marks, inputs + gates, buffer, 2 + 6 * gates);
-    writing::put_end(buffer, end);
+    write_command::put_end(buffer, end);
     end + 1
 }
 
@@ -163,13 +169,13 @@ fn draw_within(seed: u32, inputs: usize, gates: usize, buffer: &mut [u8]) -> Ans
     let mut file = [0u8; LONGEST];
     let count = put_file(seed, inputs, gates, &mut file);
     if 3 + 6 * gates + 3 * netlist::OUTPUTS < count {
-        return writing::refused_by(40, 0);
+        return write_command::refused_by(40, 0);
     }
     if buffer.len() < count {
-        return writing::refused_by(41, 3);
+        return write_command::refused_by(41, 3);
     }
-    writing::put_bytes(buffer, 0, &file[..count]);
-    writing::wrote(count)
+    write_command::put_bytes(buffer, 0, &file[..count]);
+    write_command::wrote(count)
 }
 
 // Writes the reference that is drawn from a seed, with so many inputs and gates, or refuses by 39, 40 or 41.
@@ -179,5 +185,5 @@ pub fn draw_reference(seed: u32, inputs: usize, gates: usize, buffer: &mut [u8])
     if in_range(inputs, gates) {
         return draw_within(seed, inputs, gates, buffer);
     }
-    writing::refused_by(39, 0)
+    write_command::refused_by(39, 0)
 }

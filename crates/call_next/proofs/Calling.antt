@@ -9,10 +9,10 @@ use Rattle.netlist.specs.Content.{Stage}
 use Rattle.netlist.specs.Writing.{writeStage}
 use Rattle.verdict.specs.Checks.{verdict}
 use Rattle.verdict.specs.Verdicts.{accepted}
-use Rattle.writing.specs.declared.Answer.{Answer}
-use Rattle.writing.specs.Put.{Put}
-use Rattle.writing.specs.Written.{Written, answerOf, written}
-use Rattle.writing.proofs.Answers.{refuses, answers-short, answers-written}
+use Rattle.verdict.specs.declared.Answer.{Answer}
+use Rattle.write_command.specs.Put.{Put}
+use Rattle.verdict.specs.Written.{Written, answerOf, written}
+use Rattle.write_command.proofs.Answers.{refuses, answers-short, answers-written}
 use Rattle.call_next.specs.declared.Place.{Place}
 use Rattle.call_next.specs.declared.Place.the-variants as place
 use Rattle.next_spec.specs.Numbered.{stages, stageNumbered}

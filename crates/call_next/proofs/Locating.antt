@@ -8,9 +8,10 @@ use Rattle.runs.proofs.Test.{clash}
 use mathlib.Core.List.{List, [], _∷_}
 use lib.ListN.{length, getD, take, replicate, length-replicate}
 use Rattle.netlist.specs.Writing.{writeStage}
-use Rattle.writing.specs.Put.{Put}
-use Rattle.writing.specs.Written.{holding}
-use Rattle.writing.proofs.Joining.{put-holding, holding-take}
+use Rattle.write_command.specs.Put.{Put}
+use Rattle.verdict.specs.Written.{holding}
+use Rattle.write_command.proofs.Joining.{put-holding}
+use Rattle.verdict.proofs.Written.{holding-take}
 use Rattle.call_next.specs.declared.Place.the-variants as place
 use Rattle.next_spec.specs.Numbered.{netsOf, stages, stageNumbered}
 use Rattle.next_spec.specs.Family.{Member}

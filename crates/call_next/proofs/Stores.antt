@@ -14,11 +14,11 @@ use borrow.Author.Tests.{eqb-true, eq-eqb, ne-eqb}
 use Rattle.netlist.specs.declared.File.the-variants as file
 use Rattle.netlist.specs.Content.{Gate}
 use Rattle.netlist.specs.Writing.{gate, output, care, codedGate, writeItem, writeStage}
-use Rattle.writing.specs.Put.{Put, coded}
-use Rattle.writing.specs.Parts.{gateItem, pairItem, bytesOf}
-use Rattle.writing.proofs.Joining.{put-++, put-none}
-use Rattle.writing.proofs.Putting.{put-same}
-use Rattle.writing.proofs.Files.{gate-absent, bytes-++, bytes-length, stage-gate-width, stage-output-width, stage-parts}
+use Rattle.write_command.specs.Put.{Put, coded}
+use Rattle.write_command.specs.Parts.{gateItem, pairItem, bytesOf}
+use Rattle.write_command.proofs.Joining.{put-++, put-none}
+use Rattle.write_command.proofs.Putting.{put-same}
+use Rattle.write_command.proofs.Files.{gate-absent, bytes-++, bytes-length, stage-gate-width, stage-output-width, stage-parts}
 use Rattle.next_spec.specs.Numbered.{netsOf, lists, gateNumbered, gatesNumbered, stageNumbered}
 use Rattle.next_spec.specs.Listing.{InShape}
 use Rattle.call_next.specs.Steps.{same}

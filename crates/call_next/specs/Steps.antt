@@ -10,7 +10,7 @@ use Rattle.netlist.specs.declared.Found.the-variants.{At, Nothing}
 use Rattle.netlist.specs.Content.{Stage}
 use Rattle.netlist.specs.Writing.{writeStage}
 use Rattle.verdict.specs.Checks.{verdict}
-use Rattle.writing.specs.Written.{Written, refuse, writeOr}
+use Rattle.verdict.specs.Written.{Written, refuse, writeOr}
 use Rattle.next_spec.specs.Family.{Member}
 use Rattle.next_spec.specs.Numbered.{stages, stageNumbered}
 use Rattle.next_spec.specs.Listing.{loopFreeFrom, Listed, onward}

@@ -1,15 +1,15 @@
 // The next file of the family of small stages. What the family and its order are, is said in next_spec/specs/Family.antt.
 use netlist::Found;
-use writing::Answer;
+use verdict::Answer;
 ghost use mathlib.Core.Path.{_≡_};
 ghost use mathlib.Core.List.{_∷_, []};
 ghost use Prim.Native.Nat.{ℕ, _+_, _*_, _-_, _/_, _%_, _≤_, _<_};
 ghost use lib.ListN.{length, getD, take, drop};
 ghost use Rattle.netlist.specs.declared.File.the-variants as file;
 ghost use Rattle.netlist.specs.Writing.{writeItem, writeStage};
-ghost use Rattle.writing.specs.Put.{Put};
-ghost use Rattle.writing.specs.Parts.{gateItem, bytesOf};
-ghost use Rattle.writing.specs.Written.{written};
+ghost use Rattle.write_command.specs.Put.{Put};
+ghost use Rattle.write_command.specs.Parts.{gateItem, bytesOf};
+ghost use Rattle.verdict.specs.Written.{written};
 ghost use Rattle.next_spec.specs.Family.{NextDemand};
 ghost use Rattle.next_spec.specs.Numbered as numbered;
 ghost use Rattle.next_spec.specs.Numbered.{gateNumbered, gatesNumbered, stageNumbered};
@@ -165,7 +165,7 @@ fn put_gate(m: usize, x: usize, buffer: &mut [u8], at: usize)
 {
     let k = square(m);
     let y = x % k;
-    writing::put_stage_gate(
+    write_command::put_stage_gate(
         buffer,
         at,
         (1 + x / k) as u8,
@@ -202,10 +202,10 @@ fn write_stage(inputs: usize, gates: usize, number: usize, buffer: &mut [u8])
     let m = 2 * inputs + gates;
     let k = square(m);
     let y = number % k;
-    writing::put_inputs(buffer, 0, inputs);
+    write_command::put_inputs(buffer, 0, inputs);
     put_gates(inputs, gates, number / k, buffer);
-    writing::put_stage_output(buffer, 2 + 10 * gates, (y / m) as u16, (y % m) as u16);
-    writing::put_end(buffer, 7 + 10 * gates);
+    write_command::put_stage_output(buffer, 2 + 10 * gates, (y / m) as u16, (y % m) as u16);
+    write_command::put_end(buffer, 7 + 10 * gates);
 }
 
 // ---- reading
@@ -326,10 +326,10 @@ fn write_number(inputs: usize, gates: usize, number: usize, buffer: &mut [u8]) -
 {
     let size = 8 + 10 * gates;
     if buffer.len() < size {
-        return writing::refused_by(38, 3);
+        return write_command::refused_by(38, 3);
     }
     write_stage(inputs, gates, number, buffer);
-    writing::wrote(size)
+    write_command::wrote(size)
 }
 
 // The file of the stage at a place, or the refusal 36 where there is none, or 38.
@@ -339,8 +339,8 @@ fn write_place(place: Place, buffer: &mut [u8]) -> Answer
 {
     match place {
         Place::Stage(inputs, gates, number) => write_number(inputs, gates, number, buffer),
-        Place::Start => writing::refused_by(36, 1),
-        Place::Outside => writing::refused_by(36, 1),
+        Place::Start => write_command::refused_by(36, 1),
+        Place::Outside => write_command::refused_by(36, 1),
     }
 }
 
@@ -358,6 +358,6 @@ pub fn next_stage(s: &[u8], buffer: &mut [u8]) -> Answer
             let following = first_from(inputs, gates, number + 1);
             write_place(following, buffer)
         }
-        Place::Outside => writing::refused_by(37, 1),
+        Place::Outside => write_command::refused_by(37, 1),
     }
 }

@@ -7,8 +7,8 @@ use lib.ListN.{length}
 use Rattle.netlist.specs.declared.Found.the-variants.{At, Nothing}
 use Rattle.netlist.specs.Reading.{stageLimits}
 use Rattle.verdict.specs.Checks.{verdict}
-use Rattle.writing.specs.declared.Answer.{Answer}
-use Rattle.writing.specs.Written.{Written, answerOf, written}
+use Rattle.verdict.specs.declared.Answer.{Answer}
+use Rattle.verdict.specs.Written.{Written, answerOf, written}
 use Rattle.text_spec.specs.Characters.{newline}
 use Rattle.text_spec.specs.Lines.{split, otherForm, Text}
 use Rattle.text_spec.specs.FromText.{TextAnswer, refusal, drivers, needing, driving, undriven, drivenAgain, fromParsed}

@@ -12,12 +12,13 @@ use Rattle.netlist.specs.Commands.{commandTable, ownCommands, formIn}
 use Rattle.netlist.specs.Reading.{Reading, refused, readable, readFile, stageLimits}
 use Rattle.netlist.specs.Writing.{writeItem, writeFile}
 use Rattle.netlist.proofs.Readable.{readable-length}
-use Rattle.writing.specs.Put.{Put}
-use Rattle.writing.specs.Parts.{bytesOf}
-use Rattle.writing.specs.Written.{Written}
-use Rattle.writing.proofs.Files.{bytes-length, stage-gate-width, stage-output-width}
-use Rattle.writing.proofs.Joining.{put-++, put-holding, holding-take}
-use Rattle.writing.proofs.Putting.{put-same}
+use Rattle.write_command.specs.Put.{Put}
+use Rattle.write_command.specs.Parts.{bytesOf}
+use Rattle.verdict.specs.Written.{Written}
+use Rattle.write_command.proofs.Files.{bytes-length, stage-gate-width, stage-output-width}
+use Rattle.write_command.proofs.Joining.{put-++, put-holding}
+use Rattle.verdict.proofs.Written.{holding-take}
+use Rattle.write_command.proofs.Putting.{put-same}
 use Rattle.text_spec.specs.Characters.{newline, comma}
 use Rattle.text_spec.specs.Lines.{split, GateLine, Text}
 use Rattle.text_spec.specs.FromText.{drivers, codedLine, pairNamed, fileOf, unlessRefused, ifRoom}

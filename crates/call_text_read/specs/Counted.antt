@@ -6,7 +6,7 @@ use lib.ListN.{length, take}
 use Rattle.netlist.specs.declared.File.the-variants as file
 use Rattle.netlist.specs.declared.Found.the-variants.{Nothing}
 use Rattle.netlist.specs.Reading.{stageLimits, readFile}
-use Rattle.writing.specs.Written.{Written}
+use Rattle.verdict.specs.Written.{Written}
 use Rattle.text_spec.specs.Characters.{newline}
 use Rattle.text_spec.specs.Lines.{split, otherForm, Text, textOf}
 use Rattle.text_spec.specs.FromText.{fileOf, unlessRefused, ifRoom}

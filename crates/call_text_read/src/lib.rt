@@ -1,13 +1,13 @@
 // The call that reads a text in the line form, and writes its stage file into a buffer that the caller lends. The numbers come in the paper's order:
 // 29, 30, 31, then 3 and 6, the reader's numbers for the file made, and 24.
 use netlist::Found;
-use writing::Answer;
+use verdict::Answer;
 ghost use mathlib.Core.Path.{_≡_};
 ghost use Prim.Native.Nat.{_≤_};
 ghost use lib.ListN.{length};
 ghost use Rattle.netlist.specs.Reading.{stageLimits};
-ghost use Rattle.writing.specs.Put.{Put};
-ghost use Rattle.writing.specs.Written.{written};
+ghost use Rattle.write_command.specs.Put.{Put};
+ghost use Rattle.verdict.specs.Written.{written};
 ghost use Rattle.text_spec.specs.FromText.{fromParsed};
 ghost use Rattle.text_spec.specs.Call.{leaves};
 ghost use Rattle.text_spec.specs.Promises.{ReadDemand};
@@ -42,10 +42,10 @@ fn put_file(s: &[u8], table: &[u64], inputs: usize, gates: usize, work: &mut [u8
 {
     let from = text_scan::piece_len(s, 10) + 1;
     let to = from + text_scan::piece_len(&s[from..], 10);
-    writing::put_inputs(work, 0, inputs);
+    write_command::put_inputs(work, 0, inputs);
     let outputs = text_read::put_lines(s, table, to + 1, work);
     let end = text_read::put_outputs(s, table, &s[from..to], work, outputs);
-    writing::put_end(work, end);
+    write_command::put_end(work, end);
     end + 1
 }
 

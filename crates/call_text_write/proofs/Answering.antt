@@ -18,14 +18,15 @@ use Rattle.netlist.specs.Content.{Stage, stageOf}
 use Rattle.netlist.proofs.Lists.{Bytes}
 use Rattle.netlist.proofs.Stages.{stage-formed}
 use Rattle.verdict.specs.Checks.{verdict}
-use Rattle.writing.specs.declared.Answer.{Answer}
-use Rattle.writing.specs.Written.{Written, answerOf, written, refuse, write, writeOr}
-use Rattle.writing.proofs.Joining.{put-holding, holding-take}
+use Rattle.verdict.specs.declared.Answer.{Answer}
+use Rattle.verdict.specs.Written.{Written, answerOf, written, refuse, write, writeOr}
+use Rattle.write_command.proofs.Joining.{put-holding}
+use Rattle.verdict.proofs.Written.{holding-take}
 use Rattle.write_decimal.specs.Decimal.{PutNext}
 use Rattle.circuit.specs.Stage.{tabulate, outputIn, stageOutputs, stageCare, stageIn, StageLoaded}
 use Rattle.circuit.proofs.Tabulate.{length-tabulate}
-use Rattle.load.specs.Load.{HoldsStage}
-use Rattle.load.proofs.Reading.{was-refused, stage-held}
+use Rattle.circuit_load.specs.Load.{HoldsStage}
+use Rattle.circuit_load.proofs.Reading.{was-refused, stage-held}
 use Rattle.text_spec.specs.FromText.{TextAnswer, refusal, gives, unless, ifRoom}
 use Rattle.text_spec.specs.ToText.{secondName, textFor, careList, stageText, onReading, toText}
 use Rattle.text_spec.specs.Call.{leaves, textFrom}

@@ -2,12 +2,12 @@
 use netlist::Counts;
 use netlist::Found;
 use netlist::Outcome;
+use verdict::Answer;
 use verdict::Verdict;
-use writing::Answer;
 ghost use mathlib.Core.Path.{_≡_};
 ghost use Prim.Native.Nat.{_≤_};
 ghost use lib.ListN.{length};
-ghost use Rattle.writing.specs.Written.{written};
+ghost use Rattle.verdict.specs.Written.{written};
 ghost use Rattle.circuit.specs.Stage.{stageIn, StageLoaded};
 ghost use Rattle.text_spec.specs.FromText.{ifRoom};
 ghost use Rattle.text_spec.specs.ToText as text;
@@ -20,10 +20,10 @@ fn put_whole(bytes: &[u8], buffer: &mut [u8]) -> Answer
 {
     let count = bytes.len();
     if buffer.len() < count {
-        return writing::refused_by(24, 3);
+        return write_command::refused_by(24, 3);
     }
-    writing::put_bytes(buffer, 0, bytes);
-    writing::wrote(count)
+    write_command::put_bytes(buffer, 0, bytes);
+    write_command::wrote(count)
 }
 
 // 24, or the text of a loaded stage. It is put into a workspace first, so that its length is known before a byte of the buffer is written.
@@ -44,10 +44,10 @@ fn write_loaded(code: &[u16], counts: Counts, buffer: &mut [u8]) -> Answer
         (buffer .entry)) ⌝ }
 {
     if 0 < counts.care {
-        return writing::refused_by(29, 1);
+        return write_command::refused_by(29, 1);
     }
     if let Found::At(j) = text_write::second_name(code, counts) {
-        return writing::refused(Verdict {
+        return write_command::refused(Verdict {
             number: 31,
             file: 1,
             at: j as u64,
@@ -61,9 +61,9 @@ fn write_loaded(code: &[u16], counts: Counts, buffer: &mut [u8]) -> Answer
 pub fn write_text(stage: &[u8], buffer: &mut [u8]) -> Answer
     ensures { λ r. ⌜ WriteDemand (now (stage .entry)) (now (buffer .entry)) r (now (buffer .exit)) ⌝ }
 {
-    let mut code = [0u16; load::STAGE_CODE];
-    match load::read_stage(stage, &mut code) {
-        Outcome::Refused { number, at } => writing::refused(Verdict {
+    let mut code = [0u16; circuit_load::STAGE_CODE];
+    match circuit_load::read_stage(stage, &mut code) {
+        Outcome::Refused { number, at } => write_command::refused(Verdict {
             number: number as u64,
             file: 1,
             at: at as u64,

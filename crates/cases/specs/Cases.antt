@@ -140,7 +140,8 @@ examples =
     case wire (1 ∷ 2 ∷ 0x12 ∷ 0 ∷ 0 ∷ 0 ∷ []) (verdict 10 0 1 2) ∷
     case wire (1 ∷ 1 ∷ 0x12 ∷ 0 ∷ 0 ∷ 0x12 ∷ 0 ∷ 0 ∷ 0x12 ∷ 0 ∷ 0 ∷ 0 ∷ []) (verdict 11 0 1 3) ∷
     -- a stage whose output stands before its gates, the first of which has its pins on a later gate
-    case (1 ∷ 1 ∷ 3 ∷ 2 ∷ 0 ∷ 3 ∷ 0 ∷ 2 ∷ 1 ∷ 4 ∷ 0 ∷ 4 ∷ 0 ∷ FFFF ++ FFFF ++ (2 ∷ 1 ∷ 1 ∷ 0 ∷ 1 ∷ 0 ∷ FFFF ++ FFFF ++ (2 ∷ 1 ∷ 0 ∷ 0 ∷ 0 ∷ 0 ∷ FFFF ++ FFFF ++ (0 ∷ [])))) wireReference (verdict 0 0 0 0) ∷
+    case (1 ∷ 1 ∷ 3 ∷ 2 ∷ 0 ∷ 3 ∷ 0 ∷ 2 ∷ 1 ∷ 4 ∷ 0 ∷ 4 ∷ 0 ∷ FFFF ++ FFFF ++
+    (2 ∷ 1 ∷ 1 ∷ 0 ∷ 1 ∷ 0 ∷ FFFF ++ FFFF ++ (2 ∷ 1 ∷ 0 ∷ 0 ∷ 0 ∷ 0 ∷ FFFF ++ FFFF ++ (0 ∷ [])))) wireReference (verdict 0 0 0 0) ∷
     []
 
 -- ---- which check, word and index is named
@@ -447,12 +448,17 @@ Computed =
     × (map (λ (x : RowCase). settledRow (x .stage) (x .row)) rowExamples ≡ map (λ (x : RowCase). x .expected) rowExamples)
 
 computed : Computed
-unfolding twelve examples ordered refused care inFilesOrder earlyGates earlyOr orReference unobserved twoWires fallsEarly andNotReference staysHigh relaxed retired rowExamples wire wireReference wholeStage andReference swapped notReference earlyAnd wires wireSignals
+unfolding twelve examples ordered refused care inFilesOrder earlyGates earlyOr orReference unobserved twoWires fallsEarly andNotReference staysHigh
+    relaxed retired rowExamples wire wireReference wholeStage andReference swapped notReference earlyAnd wires wireSignals
     outputs firstInput inverters c.cells c.cellAt c.pinCount c.setExpression c.retiredCells c.among c.isRetired c.kindOf b.operand b.operands
-    k.whenFound k.ownCommands k.commandTable k.formIn k.pinsNeeded k.needed k.stray k.misfit k.misfitFrom k.takeGate k.takeCare k.takeSort k.takeCommand k.nextAt
-    r.nameable r.nameless r.usedOperands r.namelessAt r.namelessFrom r.floorAfter r.noted r.finish r.onNext r.readFrom r.readFile t.stageOf t.referenceOf o.withNull o.isSet o.rounds o.settledLevels o.levelsHolding o.everyPair
-    g.tabulate g.leading l.gateSteps l.reachesItself w.numbers w.caredFor w.words w.bitsOf w.railsOf w.wordOf w.spelled w.isIn w.select w.names a.operate a.signalValues a.answer h.first h.atFault h.sweep
-    h.finding h.orLater h.firstFault h.wrong h.incomplete h.unobservable h.fallIncomplete h.fallUnobservable h.riseSweeps h.fallSweeps f.stays f.fallenLevels f.fallen
+    k.whenFound k.ownCommands k.commandTable k.formIn k.pinsNeeded k.needed k.stray k.misfit k.misfitFrom k.takeGate k.takeCare k.takeSort
+    k.takeCommand k.nextAt
+    r.nameable r.nameless r.usedOperands r.namelessAt r.namelessFrom r.floorAfter r.noted r.finish r.onNext r.readFrom r.readFile t.stageOf
+    t.referenceOf o.withNull o.isSet o.rounds o.settledLevels o.levelsHolding o.everyPair
+    g.tabulate g.leading l.gateSteps l.reachesItself w.numbers w.caredFor w.words w.bitsOf w.railsOf w.wordOf w.spelled w.isIn w.select w.names
+    a.operate a.signalValues a.answer h.first h.atFault h.sweep
+    h.finding h.orLater h.firstFault h.wrong h.incomplete h.unobservable h.fallIncomplete h.fallUnobservable h.riseSweeps h.fallSweeps f.stays
+    f.fallenLevels f.fallen
     e.retiredAt h.checks h.illegal h.rowChecks v.verdictOf v.judgeReference v.judgeStage v.verdictWithin v.settleUnless v.settleReading v.settledRowWithin
 computed = (refl, refl, refl, refl, refl, refl, refl, refl, refl)
 

@@ -113,7 +113,8 @@ fn level_falling(
     kept: usize,
 ) -> u8
     requires { ⌜ GateTable (now entries) × StageLoaded counts (now code) × (k < counts .gates) × RowFor counts (now row) ⌝ }
-    ensures { λ r. ⌜ (r ≡ levelFalling (only kept) (stageGates counts (now (code .entry))) (levelPart counts (now (row .entry))) (netsIn counts (now (row .entry))) k) × (r ≤ 1) ⌝ }
+    ensures { λ r. ⌜ (r ≡ levelFalling (only kept) (stageGates counts (now (code .entry))) (levelPart counts (now (row .entry)))
+        (netsIn counts (now (row .entry))) k) × (r ≤ 1) ⌝ }
 {
     let net = 2 * counts.inputs + k;
     if row[net] == 0 {

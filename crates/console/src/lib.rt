@@ -2,7 +2,7 @@
 // written.
 use libc::STDERR_FILENO;
 use libc::STDOUT_FILENO;
-use report::Report;
+use report_spec::Report;
 use verdict::Verdict;
 use verdict::WordOrder;
 ghost use Rattle.io.specs.Counts.{Counts};

@@ -11,9 +11,9 @@ use borrow.Author.Tests.{leb-true, ltb-false}
 use Rattle.runs.proofs.Test.{and-left, and-right}
 use Rattle.verdict.specs.declared.Verdict.{Verdict}
 use Rattle.verdict.specs.Checks.{verdict}
-use Rattle.writing.specs.declared.Answer.{Answer}
-use Rattle.writing.specs.Written.{Written, written, refuse, write, writeOr}
-use Rattle.writing.proofs.Joining.{holding-take}
+use Rattle.verdict.specs.declared.Answer.{Answer}
+use Rattle.verdict.specs.Written.{Written, written, refuse, write, writeOr}
+use Rattle.verdict.proofs.Written.{holding-take}
 use Rattle.draw_spec.specs.Drawn.{drawnReference, drawnBytes, inRange, manyOutputs, drawn}
 use Rattle.draw_spec.specs.Demand.{Makeable, DrawnDemand}
 use Rattle.draw_spec.proofs.Made.{makeable}

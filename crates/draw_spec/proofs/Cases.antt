@@ -9,8 +9,8 @@ use Rattle.netlist.specs.Commands as k
 use Rattle.netlist.specs.Writing as n
 use Rattle.verdict.specs.Words as w
 use Rattle.verdict.specs.Checks.{verdict}
-use Rattle.writing.specs.Written as o
-use Rattle.writing.specs.Written.{Written, refuse, write}
+use Rattle.verdict.specs.Written as o
+use Rattle.verdict.specs.Written.{Written, refuse, write}
 use Rattle.draw_spec.specs.Draws as d
 use Rattle.draw_spec.specs.Drawn as a
 use Rattle.draw_spec.specs.Drawn.{drawnBytes, drawn}

@@ -21,7 +21,7 @@ use Rattle.verdict.specs.Words.{numbers, select}
 use Rattle.verdict.proofs.Names.{in-select}
 use Rattle.verdict.proofs.Retired.{among-in}
 use Rattle.verdict.proofs.Words.{index-in}
-use Rattle.made.proofs.Lists.{all-in}
+use Rattle.make_spec.proofs.Lists.{all-in}
 use Rattle.draw_spec.specs.Draws.{yield, advance, operandsFrom, gateFrom, afterGate, gatesFrom}
 use Rattle.draw_spec.specs.Drawn.{usedBy, unused, drawnReference, drawnBytes}
 use Rattle.draw_spec.proofs.Selected.{in-some, selected-below}

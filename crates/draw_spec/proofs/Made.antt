@@ -30,13 +30,13 @@ use Rattle.verdict.proofs.Least.{LeastSays, least-says}
 use Rattle.verdict.proofs.Names.{in-select}
 use Rattle.verdict.proofs.Retired.{among-in}
 use Rattle.verdict.proofs.Words.{index-in}
-use Rattle.made.specs.Count.{operations}
-use Rattle.made.specs.Made.{gatesNeeded}
-use Rattle.made.specs.Leading.{signals, LeadsOut, leadsOut}
-use Rattle.made.specs.Making.{madeBytes, makeChecks, MakeAnswer, makeUnless, makeReading, makeWithin, makeOn}
-use Rattle.made.specs.Promises.{noOperation}
-use Rattle.made.proofs.Leading.{gate-reader, operand-before, leadsOut-complete}
-use Rattle.made.proofs.Making.{needed-counted, laterTests, checks-by-tests}
+use Rattle.make_spec.specs.Count.{operations}
+use Rattle.make_spec.specs.Made.{gatesNeeded}
+use Rattle.make_spec.specs.Leading.{signals, LeadsOut, leadsOut}
+use Rattle.make_spec.specs.Making.{madeBytes, makeChecks, MakeAnswer, makeUnless, makeReading, makeWithin, makeOn}
+use Rattle.make_spec.specs.Promises.{noOperation}
+use Rattle.make_spec.proofs.Leading.{gate-reader, operand-before, leadsOut-complete}
+use Rattle.make_spec.proofs.Making.{needed-counted, laterTests, checks-by-tests}
 use Rattle.draw_spec.specs.Draws.{gatesFrom}
 use Rattle.draw_spec.specs.Drawn.{usedBy, unused, drawnReference, drawnBytes}
 use Rattle.draw_spec.specs.Demand.{Makeable}

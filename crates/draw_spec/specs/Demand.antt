@@ -8,9 +8,9 @@ use Rattle.netlist.specs.Reading.{referenceLimits}
 use Rattle.verdict.specs.Checks.{verdict}
 use Rattle.verdict.specs.Verdicts.{accepted}
 use Rattle.verdict.specs.Demands.{ReferenceIs}
-use Rattle.made.specs.Making.{makeOn}
-use Rattle.writing.specs.declared.Answer.{Answer}
-use Rattle.writing.specs.Written.{written}
+use Rattle.make_spec.specs.Making.{makeOn}
+use Rattle.verdict.specs.declared.Answer.{Answer}
+use Rattle.verdict.specs.Written.{written}
 use Rattle.draw_spec.specs.Drawn.{drawnReference, drawn}
 
 -- "Every such file is readable, and M-107 never meets refusal 25 on it." The bytes read as the reference that was drawn. Where a stage is made of them,

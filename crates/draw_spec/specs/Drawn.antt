@@ -9,7 +9,7 @@ use Rattle.netlist.specs.Content.{Coded, Reference}
 use Rattle.netlist.specs.Writing.{writeReference}
 use Rattle.verdict.specs.Words.{numbers, select}
 use Rattle.verdict.specs.Checks.{verdict}
-use Rattle.writing.specs.Written.{Written, refuse, writeOr}
+use Rattle.verdict.specs.Written.{Written, refuse, writeOr}
 use Rattle.draw_spec.specs.Draws.{gatesFrom}
 
 -- ---- the reference

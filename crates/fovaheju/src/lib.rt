@@ -1,20 +1,20 @@
-// The public calls. Their contracts cite the definitions of crates `verdict`, `report`, `joined` and `join`, `made` and `make`, `text_spec`, `next_spec`
-// and `draw_spec`, at the limits of crate `netlist`, and ask nothing of the caller.
-use join::JoinAnswer;
-use report::Report;
+// The public calls. Their contracts cite the definitions of the crates of notions, at the limits of crate `netlist`, and ask nothing of the
+// caller.
+use join_spec::JoinAnswer;
+use report_spec::Report;
+use verdict::Answer;
 use verdict::Verdict;
 use verdict::WordOrder;
-use writing::Answer;
 ghost use mathlib.Core.Path.{_≡_};
 ghost use Rattle.netlist.specs.Reading.{stageLimits, referenceLimits};
 ghost use Rattle.verdict.specs.Words.{orderOf};
 ghost use Rattle.verdict.specs.Verdicts.{verdictOn, settledRow};
 ghost use Rattle.verdict.specs.Demands.{Demand2, Demand3, DemandRow};
-ghost use Rattle.report.specs.Report.{reportOn};
-ghost use Rattle.report.specs.Activity.{ReportMeans};
-ghost use Rattle.joined.specs.Join.{files};
-ghost use Rattle.join.specs.Call.{JoinDemand};
-ghost use Rattle.make.specs.Call.{MakeDemand};
+ghost use Rattle.report_spec.specs.Report.{reportOn};
+ghost use Rattle.report_spec.specs.Activity.{ReportMeans};
+ghost use Rattle.join_spec.specs.Join.{files};
+ghost use Rattle.join_spec.specs.Call.{JoinDemand};
+ghost use Rattle.make_spec.specs.Call.{MakeDemand};
 ghost use Rattle.text_spec.specs.Promises.{ReadDemand, WriteDemand};
 ghost use Rattle.next_spec.specs.Family.{NextDemand};
 ghost use Rattle.draw_spec.specs.Demand.{DrawnDemand};
@@ -26,7 +26,7 @@ pub fn check(order: WordOrder, stage: &[u8], reference: &[u8]) -> Verdict
     ensures demand2 { λ r. ⌜ Demand2 order stageLimits referenceLimits (now (stage .entry)) (now (reference .entry)) r ⌝ }
     ensures runs { λ r. ⌜ Demand3 order stageLimits referenceLimits (now (stage .entry)) (now (reference .entry)) r ⌝ }
 {
-    checker::check(order, stage, reference)
+    check_files::check(order, stage, reference)
 }
 
 // The switching report of a stage file against a reference file: the check's verdict, and of an accepted stage how many gates are high at the
@@ -35,7 +35,7 @@ pub fn report(order: WordOrder, stage: &[u8], reference: &[u8]) -> Report
     ensures report { λ r. ⌜ r ≡ reportOn order (now (stage .entry)) (now (reference .entry)) ⌝ }
     ensures means { λ r. ⌜ ReportMeans order (now (stage .entry)) (now (reference .entry)) r ⌝ }
 {
-    report::report_on(order, stage, reference)
+    call_report::report_on(order, stage, reference)
 }
 
 // The settled-row call: the verdict on a stage file and a lent row, one byte for each net. A refusal leaves the row as it was; else the
@@ -45,7 +45,7 @@ pub fn settled_row(stage: &[u8], row: &mut [u8]) -> Verdict
     ensures row { λ r. ⌜ now (row .exit) ≡ settledRow (now (stage .entry)) (now (row .entry)) .row ⌝ }
     ensures demands { λ r. ⌜ DemandRow stageLimits (now (stage .entry)) (now (row .entry)) r (now (row .exit)) ⌝ }
 {
-    rows::settled_row(stage, row)
+    call_row::settled_row(stage, row)
 }
 
 // The join of two stages with their references: output j of the first is tied to input j of the second, and the joined stage and reference are
@@ -62,7 +62,7 @@ pub fn join(
     ensures { λ r. ⌜ JoinDemand order (files (now (stage1 .entry)) (now (reference1 .entry))) (files (now (stage2 .entry)) (now (reference2 .entry)))
         (now («stage_out» .entry)) (now («reference_out» .entry)) r (now («stage_out» .exit)) (now («reference_out» .exit)) ⌝ }
 {
-    join::join(
+    call_join::join(
         order,
         stage1,
         reference1,
@@ -78,7 +78,7 @@ pub fn join(
 pub fn make_stage(reference: &[u8], stage_out: &mut [u8]) -> Answer
     ensures { λ r. ⌜ MakeDemand (now (reference .entry)) (now («stage_out» .entry)) r (now («stage_out» .exit)) ⌝ }
 {
-    make::make_stage(reference, stage_out)
+    call_make::make_stage(reference, stage_out)
 }
 
 // The stage file of a text in the line form, gates before outputs, written at the start of a lent buffer. The file reads. A refusal leaves the buffer as it

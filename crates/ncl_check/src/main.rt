@@ -7,7 +7,7 @@ fn main() {
     let stage_len = console::load(b"stage.ncl", &mut stage);
     let mut reference = [0u8; 8192];
     let reference_len = console::load(b"reference.ncl", &mut reference);
-    console::print_verdict(fovaheju::check(
+    console::print_verdict(check_files::check(
         console::word_order(),
         &stage[..stage_len],
         &reference[..reference_len],

@@ -55,7 +55,7 @@ fn argument(i: usize) -> Given {
 
 fn draw(seed: u32, inputs: usize, gates: usize) {
     let mut reference = [0u8; 512];
-    let answer = fovaheju::draw_reference(seed, inputs, gates, &mut reference);
+    let answer = call_draw::draw_reference(seed, inputs, gates, &mut reference);
     if answer.verdict.number == 0 {
         if !console::save(b"reference.ncl", &reference, answer.count) {
             return;

@@ -15,7 +15,7 @@ fn main() {
     let d = console::load(b"reference2.ncl", &mut reference2);
     let mut stage = [0u8; 8192];
     let mut reference = [0u8; 8192];
-    let answer = fovaheju::join(
+    let answer = call_join::join(
         console::word_order(),
         &stage1[..a],
         &reference1[..b],

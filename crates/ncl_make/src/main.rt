@@ -6,7 +6,7 @@ fn main() {
     let mut reference = [0u8; 8192];
     let n = console::load(b"reference.ncl", &mut reference);
     let mut stage = [0u8; 8192];
-    let answer = fovaheju::make_stage(&reference[..n], &mut stage);
+    let answer = call_make::make_stage(&reference[..n], &mut stage);
     if answer.verdict.number == 0 {
         if !console::save(b"stage.ncl", &stage, answer.count) {
             return;

@@ -6,7 +6,7 @@ fn main() {
     let mut stage = [0u8; 8192];
     let n = console::load(b"stage.ncl", &mut stage);
     let mut next = [0u8; 28];
-    let answer = fovaheju::next_stage(&stage[..n], &mut next);
+    let answer = call_next::next_stage(&stage[..n], &mut next);
     if answer.verdict.number == 0 {
         if !console::save(b"next.ncl", &next, answer.count) {
             return;

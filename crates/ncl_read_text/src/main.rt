@@ -13,7 +13,7 @@ fn main() {
         return;
     }
     let mut stage = [0u8; 8192];
-    let answer = fovaheju::read_text(&text[..n], &mut stage);
+    let answer = call_text_read::read_text(&text[..n], &mut stage);
     if answer.verdict.number == 0 {
         if !console::save(b"stage.ncl", &stage, answer.count) {
             return;

@@ -8,7 +8,7 @@ fn main() {
     let stage_len = console::load(b"stage.ncl", &mut stage);
     let mut reference = [0u8; 8192];
     let reference_len = console::load(b"reference.ncl", &mut reference);
-    let report = fovaheju::report(
+    let report = call_report::report_on(
         console::word_order(),
         &stage[..stage_len],
         &reference[..reference_len],

@@ -6,7 +6,7 @@ fn main() {
     let mut stage = [0u8; 8192];
     let n = console::load(b"stage.ncl", &mut stage);
     let mut text = [0u8; 16384];
-    let answer = fovaheju::write_text(&stage[..n], &mut text);
+    let answer = call_text_write::write_text(&stage[..n], &mut text);
     if answer.verdict.number == 0 {
         if !console::save(b"stage.txt", &text, answer.count) {
             return;

@@ -11,7 +11,7 @@ use Rattle.netlist.specs.Types.file
 use Rattle.netlist.specs.Types.sort
 use Rattle.netlist.specs.Bytes.{byte, operand, operands, absent}
 use Rattle.netlist.specs.Commands.{formOf, needed, misfit, misfitFrom}
-use Rattle.netlist.specs.Reading.{nameable, Rising}
+use Rattle.netlist.specs.Reading.{nameable, Ascending}
 use Rattle.netlist.specs.Content.{Coded, codedAt}
 use Rattle.netlist.specs.Writing.{formFor, widthFor, operandCount, roleFor, Item, gate, output, care, gatesIn, outputsIn, careIn, gatePlaces, outputPlaces, All}
 use Rattle.netlist.proofs.Operands.{misfit-none, needed-there, bare-absent}
@@ -85,7 +85,7 @@ pub record FileLaid (f : File) (most : Limits) (s : List ℕ) (n : ℕ) (items :
   pub inputs-in : (1 ≤ n) × (n ≤ most .inputs)
   pub gates-in : length (gatesIn items) ≤ most .gates
   pub outputs-in : (1 ≤ length (outputsIn items)) × (length (outputsIn items) ≤ most .outputs)
-  pub care-in : Rising (2 ^ n) 0 (careIn items)
+  pub care-in : Ascending (2 ^ n) 0 (careIn items)
   pub laid : Laid f s 2 items
   pub named : Named f n (length (gatesIn items)) 0 items
 

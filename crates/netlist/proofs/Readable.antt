@@ -12,7 +12,7 @@ use Rattle.netlist.specs.Types.file
 use Rattle.netlist.specs.Types.sort
 use Rattle.netlist.specs.Bytes.{byte}
 use Rattle.netlist.specs.Commands.{commandTable, ownCommands, formIn, needed}
-use Rattle.netlist.specs.Reading.{nameable, Places, Rising, readFile, readable}
+use Rattle.netlist.specs.Reading.{nameable, Places, Ascending, readFile, readable}
 use Rattle.netlist.specs.Writing.{widthFor, operandCount, roleFor, Item, gate, output, care, gatesIn, outputsIn, careIn, gatePlaces, outputPlaces}
 use Rattle.netlist.specs.Read.{GateRead, OutputRead, Read}
 use Rattle.netlist.proofs.Operands.{operands-each}
@@ -53,7 +53,7 @@ output-names file.Stage n g k = refl
 output-names file.Reference n g k = refl
 
 -- there are no more rising words than numbers
-pub rising-length : (below floor : ℕ) (ws : List ℕ) → Rising below floor ws → length ws ≤ below - floor
+pub rising-length : (below floor : ℕ) (ws : List ℕ) → Ascending below floor ws → length ws ≤ below - floor
 rising-length below floor [] h = omega arith
 rising-length below floor (w ∷ ws) h = omega (arith, h .0, h .1, rising-length below (w + 1) ws (h .2))
 
@@ -112,7 +112,7 @@ module _ (f : File) (most : Limits) (s : List ℕ) (p : Places) (e : readFile f 
         inputs-at = sym (h .count);
         gates-in = omega (arith, count-gates, h .gates-in);
         outputs-in = omega (arith, count-outputs, h .outputs-in);
-        care-in = subst (λ (ws : List ℕ). Rising (2 ^ p .inputs) 0 ws) (sym (ap (λ (x : Places). x .care) (found .item-places))) (h .care-in);
+        care-in = subst (λ (ws : List ℕ). Ascending (2 ^ p .inputs) 0 ws) (sym (ap (λ (x : Places). x .care) (found .item-places))) (h .care-in);
         size = rw (count-gates, count-outputs, count-care) (laid-length f s 2 (found .items) (h .laid));
         gate-at = λ k l.
             let z : 0 + k ≡ k = omega arith in

@@ -15,7 +15,7 @@ use Rattle.netlist.specs.Types.file
 use Rattle.netlist.specs.Types.sort
 use Rattle.netlist.specs.Bytes.{operands, absent}
 use Rattle.netlist.specs.Commands.{commandTable, ownCommands, formIn, needed}
-use Rattle.netlist.specs.Reading.{nameable, Places, Rising, readFile, readable}
+use Rattle.netlist.specs.Reading.{nameable, Places, Ascending, readFile, readable}
 use Rattle.netlist.specs.Content.{Coded, codedAt, Gate, Pair, Stage, gateOf, pairAt, stageOf}
 use Rattle.netlist.specs.Writing.{roleFor, Item, gate, output, care, outputsIn, ItemsFit, gatesIn, careIn, placesOf, All, FileFits, codedGate, pairOperands, stageItems, writeStage}
 use Rattle.netlist.specs.Formed.{CellFormed, RailsFormed, nets, StageFormed}
@@ -190,7 +190,7 @@ module _ (n g : ℕ) (small : 2 * n + g ≤ absent) where
       )
 
 -- care words of at most 16 inputs are u16
-words-fit : (n g m floor : ℕ) (ws : List ℕ) (rest : List Item) → m ≤ 16 → Rising (2 ^ m) floor ws → ItemsFit file.Stage n g 0 rest → ItemsFit file.Stage n g 0 (map care ws ++ rest)
+words-fit : (n g m floor : ℕ) (ws : List ℕ) (rest : List Item) → m ≤ 16 → Ascending (2 ^ m) floor ws → ItemsFit file.Stage n g 0 rest → ItemsFit file.Stage n g 0 (map care ws ++ rest)
 words-fit n g m floor [] rest l h r = r
 words-fit n g m floor (w ∷ ws) rest l h r =
     let u16 : w < 65536 = omega (arith, h .1, pow-mono {i = m} {j = 16} l) in

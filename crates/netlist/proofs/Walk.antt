@@ -16,7 +16,7 @@ use Rattle.netlist.specs.Types.file
 use Rattle.netlist.specs.Types.sort
 use Rattle.netlist.specs.Bytes.{byte, operand, operands}
 use Rattle.netlist.specs.Commands.{whenFound, isSort, formOf, width, needed, stray, nextAt}
-use Rattle.netlist.specs.Reading.{nameable, nameless, usedOperands, namelessAt, namelessFrom, Places, noPlaces, floorAfter, Rising, countsOf, noted, Reading, refused, readable, finish, onNext, readFrom, readFile}
+use Rattle.netlist.specs.Reading.{nameable, nameless, usedOperands, namelessAt, namelessFrom, Places, noPlaces, floorAfter, Ascending, countsOf, noted, Reading, refused, readable, finish, onNext, readFrom, readFile}
 use Rattle.netlist.specs.Content.{codedAt}
 use Rattle.netlist.specs.Writing.{formFor, widthFor, operandCount, roleFor, Item, gate, output, care, gatesIn, outputsIn, careIn, gatePlaces, outputPlaces, placesOf}
 use Rattle.netlist.specs.Read.{farthest}
@@ -157,7 +157,7 @@ module _ (f : File) (most : Limits) (s : List ℕ) (P : Places) where
     pub items : List Item
     pub laid : Laid f s at items
     pub same : P ≡ added f at items p
-    pub care-in : Rising (2 ^ p .inputs) (floorAfter 0 (p .care)) (careIn items)
+    pub care-in : Ascending (2 ^ p .inputs) (floorAfter 0 (p .care)) (careIn items)
     pub at-end : Ended f most s P
 
   -- a reading that goes on from later places finds what stands there
@@ -355,7 +355,7 @@ module _ (f : File) (most : Limits) (s : List ℕ) (last : ℕ) (ends : length s
   -- the walk over the items comes to the end command, the last byte
   walk-laid : (fuel at : ℕ) (p : Places) (items : List Item) → Laid f s at items → 1 ≤ at → length s < at + fuel →
       length (p .gates) + length (gatesIn items) ≤ most .gates → length (p .outputs) + length (outputsIn items) ≤ most .outputs →
-      Rising (2 ^ p .inputs) (floorAfter 0 (p .care)) (careIn items) →
+      Ascending (2 ^ p .inputs) (floorAfter 0 (p .care)) (careIn items) →
       readFrom fuel f most s at p ≡ finish f s last (added f at items p)
   unfolding readFrom onNext noted stray
   walk-laid zero at p [] h i l few thin up = absurd (omega (arith, h .last))
@@ -444,7 +444,7 @@ module _ (f : File) (most : Limits) (s : List ℕ) where
           count = sym n;
           inputs-in = rw n (t .taken);
           gates-in = omega (arith, w .at-end .gates-in);
-          care-in = subst (λ (m : ℕ). Rising (2 ^ m) 0 (careIn (w .items))) (sym n) (w .care-in);
+          care-in = subst (λ (m : ℕ). Ascending (2 ^ m) 0 (careIn (w .items))) (sym n) (w .care-in);
           outputs-in = omega (arith, w .at-end .outputs-in);
           laid = w .laid;
           named = named-walk f (p .inputs) (length (gatesIn (w .items))) s (length s - 1) 2 0 (w .items) (w .laid) (omega arith) none;

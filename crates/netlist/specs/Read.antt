@@ -8,7 +8,7 @@ use Rattle.netlist.specs.Types.sort
 use Rattle.netlist.specs.Types.outcome
 use Rattle.netlist.specs.Bytes.{byte, operand, absent}
 use Rattle.netlist.specs.Commands.{needed}
-use Rattle.netlist.specs.Reading.{nameable, Places, Rising, countsOf, Reading, refused, readable}
+use Rattle.netlist.specs.Reading.{nameable, Places, Ascending, countsOf, Reading, refused, readable}
 use Rattle.netlist.specs.Writing.{widthFor, operandCount, roleFor}
 
 -- with n inputs and g gates: gate k stands at a place, its code is known, and each operand that it needs is there and names what it has
@@ -31,7 +31,7 @@ pub record Read (f : File) (most : Limits) (s : List ℕ) (p : Places) : Type 0 
   pub inputs-at : p .inputs ≡ byte s 1
   pub gates-in : length (p .gates) ≤ most .gates
   pub outputs-in : (1 ≤ length (p .outputs)) × (length (p .outputs) ≤ most .outputs)
-  pub care-in : Rising (2 ^ p .inputs) 0 (p .care)
+  pub care-in : Ascending (2 ^ p .inputs) 0 (p .care)
   pub size : length s ≡
       3 + widthFor f sort.Gate * length (p .gates) + widthFor f sort.Output * length (p .outputs) + widthFor f sort.Care * length (p .care)
   pub gate-at : (k : ℕ) → k < length (p .gates) → GateRead f s (p .inputs) (length (p .gates)) k (getD (p .gates) k 0)

@@ -4,7 +4,8 @@ use mathlib.Core.Bool.{cond}
 use mathlib.Core.List.{List, [], _∷_, _++_}
 use lib.ListN.{length, getD}
 use lib.Dec.{eqb, ltb}
-use Rattle.netlist.specs.Types.{File, Sort, Role, AnyNet, EarlierSignal, AnySignal, Number, Form, Limits, Counts, Next, Command, Refused, Found, At, Nothing}
+use Rattle.netlist.specs.Types.{File, Sort, Role, AnyNet, EarlierSignal, AnySignal, Number, Form, Limits, Counts, Next, Command, Refused, Found, At}
+use Rattle.netlist.specs.Types.{Nothing}
 use Rattle.netlist.specs.Types.sort
 use Rattle.netlist.specs.Bytes.{byte, operand}
 use Rattle.netlist.specs.Commands.{whenFound, isSort, formOf, width, needed, nextAt}
@@ -64,9 +65,9 @@ floorAfter floor [] = floor
 floorAfter floor (w ∷ ws) = floorAfter (w + 1) ws
 
 -- care words that rise from a floor on, all below some number
-abbrev pub Rising : ℕ → ℕ → List ℕ → Type 0
-Rising below floor [] = Unit {0}
-Rising below floor (w ∷ ws) = (floor ≤ w) × (w < below) × Rising below (w + 1) ws
+abbrev pub Ascending : ℕ → ℕ → List ℕ → Type 0
+Ascending below floor [] = Unit {0}
+Ascending below floor (w ∷ ws) = (floor ≤ w) × (w < below) × Ascending below (w + 1) ws
 
 abbrev pub countsOf : Places → Counts
 countsOf p = record {

@@ -9,7 +9,7 @@ use Rattle.netlist.specs.Types.file
 use Rattle.netlist.specs.Types.sort
 use Rattle.netlist.specs.Bytes.{absent}
 use Rattle.netlist.specs.Commands.{formOf, width, needed}
-use Rattle.netlist.specs.Reading.{nameable, Places, Rising}
+use Rattle.netlist.specs.Reading.{nameable, Places, Ascending}
 use Rattle.netlist.specs.Content.{Coded, Gate, Pair, Stage, Reference}
 
 -- ---- the row of a sort of command
@@ -137,7 +137,7 @@ pub record FileFits (f : File) (most : Limits) (n : ℕ) (items : List Item) : T
   pub inputs-byte : n < 256
   pub gates-in : length (gatesIn items) ≤ most .gates
   pub outputs-in : (1 ≤ length (outputsIn items)) × (length (outputsIn items) ≤ most .outputs)
-  pub care-in : Rising (2 ^ n) 0 (careIn items)
+  pub care-in : Ascending (2 ^ n) 0 (careIn items)
   pub items-fit : ItemsFit f n (length (gatesIn items)) 0 items
 
 -- ---- stages and references: care words, then gates, then outputs

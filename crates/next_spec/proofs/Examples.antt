@@ -19,7 +19,7 @@ use Rattle.verdict.specs.Graph.{tabulate, leading}
 use Rattle.verdict.specs.Loops.{gateSteps, reachesItself}
 use Rattle.verdict.specs.Checks.{verdict}
 use Rattle.verdict.proofs.Reaching.{noLoop-loopFree}
-use Rattle.writing.specs.Written.{refuse, writeOr}
+use Rattle.verdict.specs.Written.{refuse, writeOr}
 use Rattle.next_spec.specs.Numbered.{stages, lists, stageNumbered}
 use Rattle.next_spec.specs.Listing.{InShape, free, loopFreeFrom, stagesOf, shapes, listing, Listed, onward}
 use Rattle.next_spec.specs.Family.{Small, Member, NextIs, outside, last, next}

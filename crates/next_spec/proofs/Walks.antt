@@ -11,7 +11,7 @@ use Rattle.netlist.specs.Reading.{Reading, readable, readFile, Places, stageLim
 use Rattle.netlist.specs.Content.{Stage, stageOf}
 use Rattle.netlist.specs.Writing.{All, writeFile, writeStage}
 use Rattle.verdict.specs.Checks.{verdict}
-use Rattle.writing.specs.Written.{Written, refuse, writeOr}
+use Rattle.verdict.specs.Written.{Written, refuse, writeOr}
 use Rattle.next_spec.specs.Family.{InFamily, Member, key, Before, After, Next, Last, NextIs, outside, last, next, Walk, Ascending, Among, Family}
 use Rattle.next_spec.specs.Listing.{InShape, listing, group}
 use Rattle.next_spec.proofs.Members.{in-listed, readable-member}

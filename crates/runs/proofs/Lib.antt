@@ -3,8 +3,8 @@ pub mod Row
 pub mod System
 pub mod Persistent
 pub mod Settled
-pub mod Dual
 pub mod Exchange
+pub mod Dual
 pub mod Net
 pub mod Pair
 pub mod Moves

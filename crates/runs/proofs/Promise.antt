@@ -15,7 +15,7 @@ use Rattle.runs.specs.Pair.{AllData, Reads, InputsData, AllLow}
 use Rattle.runs.specs.Acyclic.{Acyclic}
 use Rattle.runs.specs.Checks.{Passes, Fall-passes}
 use Rattle.runs.specs.Tight.{Tight, Clear}
-use Rattle.runs.specs.Promise.{Goes-on, Falling, Whole, Rest, Rising, Promise}
+use Rattle.runs.specs.Promise.{Goes-on, Falling, Arrived, Rest, Rising, Promise}
 use Rattle.runs.specs.Witness.{Wrong, Incomplete, Unobservable}
 use Rattle.runs.specs.FallWitness.{Null-outputs, Fall-incomplete, Fall-unobservable}
 use Rattle.runs.proofs.Test.{clash}
@@ -82,7 +82,7 @@ module _ (S : Acyclic) (c : Row) (answer : ℕ → Bool) (word : InputsData (S .
   pub data-rest : (R : Row) → Settled (S .net) c R → (l : List ℕ) → RiseList (S .net) c l → AllData (S .net) (after low l) → after low l ≡ R
   data-rest R rest l p d = t .tight R rest (after low l) (rise-supported S c l p) d
 
-  rest-whole : (R : Row) → Settled (S .net) c R → Whole (S .net) c answer R
+  rest-whole : (R : Row) → Settled (S .net) c R → Arrived (S .net) c answer R
   rest-whole R rest = record { inputs = settled-data (S .net) c R rest word; still = λ g h. settled-ended S c R rest g; read = t .right R rest }
 
   module _ (clear : Clear (S .net) c) where
@@ -101,7 +101,7 @@ module _ (S : Acyclic) (c : Row) (answer : ℕ → Bool) (word : InputsData (S .
         record {
           goes-on = rise-goes-on S c l p;
           not-both = λ j h. below-not-both (after low l) (R .0) (S .net .rail j) (answer j) (rise-⊑-settled S c (R .0) (R .1) l p) (t .right (R .0) (R .1) j h);
-          data-whole = λ d. subst (λ (r : Row). Whole (S .net) c answer r) (sym (data-rest (R .0) (R .1) l p d)) (rest-whole (R .0) (R .1));
+          data-whole = λ d. subst (λ (r : Row). Arrived (S .net) c answer r) (sym (data-rest (R .0) (R .1) l p d)) (rest-whole (R .0) (R .1));
           end-rest = λ e. end (rise-end-settled S c l p e);
         }
       where

@@ -34,7 +34,7 @@ pub record Falling (N : Net) (R : Row) (l : List ℕ) : Type 0 where
 
 module _ (N : Net) (c : Row) (answer : ℕ → Bool) where
   -- "If all outputs hold DATA, every input does, no gate can still switch, and the reference's answer is read."
-  pub record Whole (r : Row) : Type 0 where
+  pub record Arrived (r : Row) : Type 0 where
     pub inputs : InputsData N r
     pub still : (g : ℕ) → IsGate N g → riseStep N c r g ≡ false
     pub read : Reads N r answer
@@ -51,7 +51,7 @@ module _ (N : Net) (c : Row) (answer : ℕ → Bool) where
   pub record Rising (l : List ℕ) : Type 0 where
     pub goes-on : Goes-on (riseStep N c) low l
     pub not-both : (j : ℕ) → j < N .outputs → ¬ (Both (after low l) (N .rail j))
-    pub data-whole : AllData N (after low l) → Whole (after low l)
+    pub data-whole : AllData N (after low l) → Arrived (after low l)
     pub end-rest : RiseEnd N c l → Rest l
 
   -- The promise: so it is after every list, and "all ends are alike in every net".

@@ -15,9 +15,9 @@ use Rattle.netlist.specs.Content.{Stage, stageOf}
 use Rattle.netlist.specs.Reading.{Places, GatesFirst, Reading, refused, readable, readFile, stageLimits}
 use Rattle.netlist.proofs.Lists.{Bytes}
 use Rattle.verdict.proofs.Refusals.{refused-number}
-use Rattle.writing.specs.declared.Answer.{Answer}
-use Rattle.writing.specs.Written.{Written, written}
-use Rattle.writing.proofs.Joining.{holding-take}
+use Rattle.verdict.specs.declared.Answer.{Answer}
+use Rattle.verdict.specs.Written.{Written, written}
+use Rattle.verdict.proofs.Written.{holding-take}
 use Rattle.text_spec.specs.Characters.{newline}
 use Rattle.text_spec.specs.Lines.{split, otherForm, Text, textOf}
 use Rattle.text_spec.specs.FromText.{needing, driving, drivers, undriven, drivenAgain, fileOf, fromParsed, fromText}

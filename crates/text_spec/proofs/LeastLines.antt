@@ -15,8 +15,8 @@ use Rattle.netlist.specs.Reading.{Reading, refused, readable, readFile, stageLi
 use Rattle.verdict.specs.declared.Verdict.{Verdict}
 use Rattle.verdict.specs.Checks.{verdict}
 use Rattle.verdict.proofs.Refusals.{refused-number}
-use Rattle.writing.specs.declared.Answer.{Answer}
-use Rattle.writing.specs.Written.{Written, written}
+use Rattle.verdict.specs.declared.Answer.{Answer}
+use Rattle.verdict.specs.Written.{Written, written}
 use Rattle.text_spec.specs.Characters.{newline}
 use Rattle.text_spec.specs.Lines.{onto, split, formed, otherForm, linesFrom, Text, textOf}
 use Rattle.text_spec.specs.FromText.{drivers, driving, needing, allDriven, undriven, drivesAgain, drivenAgain, fileOf, fromParsed, fromText}

@@ -6,7 +6,7 @@ use native.Mathlib.Numerals.{add-one}
 use mathlib.Core.Path.{_≡_, refl, sym, ap, _∙_}
 use mathlib.Core.List.{List, [], _∷_, _++_, append-assoc, append-nil}
 use lib.ListN.{length, drop, length-append}
-use Rattle.writing.proofs.Joining.{Left, left-all, left-put, left-room, left-none}
+use Rattle.write_command.proofs.Joining.{Left, left-all, left-put, left-room, left-none}
 use Rattle.write_decimal.specs.Decimal.{PutNext}
 use Rattle.circuit.specs.Stage.{tabulate}
 use Rattle.text_spec.specs.Characters.{comma}

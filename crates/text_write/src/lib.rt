@@ -146,7 +146,7 @@ fn put_cell(names: &[u8], cell: usize, work: &mut [u8], at: usize) -> usize
     let row = 9 * (cell - 1);
     let from = row + 1;
     let to = from + names[row] as usize;
-    writing::put_bytes(work, at, &names[from..to]);
+    write_command::put_bytes(work, at, &names[from..to]);
     at + (to - from)
 }
 

@@ -15,7 +15,7 @@ use Rattle.runs.specs.Settled.{Settled}
 use Rattle.runs.proofs.Rise.{settled-one}
 use Rattle.netlist.specs.declared.File.the-variants as file
 use Rattle.netlist.specs.declared.Limits.{Limits}
-use Rattle.netlist.specs.Reading.{Rising, Reading, refused, readable, readFile}
+use Rattle.netlist.specs.Reading.{Ascending, Reading, refused, readable, readFile}
 use Rattle.netlist.specs.Content.{Gate, Stage, Reference, stageOf, referenceOf}
 use Rattle.netlist.specs.Writing.{All}
 use Rattle.netlist.specs.Formed.{CellFormed, StageFormed}
@@ -87,8 +87,8 @@ least-retired s g l v n = n .is ∙ ap₂ (verdict 28 1) (least (decLt (v .at) g
     least (no h) (no k) = omega arith
 
 -- the care words of a file that reads rise
-pub care-rises : {most : Limits} {bytes : List ℕ} {s : Stage} → StageIs most bytes s → Rising (2 ^ s .inputs) 0 (s .care)
-care-rises {most = most} {bytes = bytes} is = subst (λ (s : Stage). Rising (2 ^ s .inputs) 0 (s .care)) (is .content) (stage-formed most bytes (is .places) (is .reads) .care-in)
+pub care-rises : {most : Limits} {bytes : List ℕ} {s : Stage} → StageIs most bytes s → Ascending (2 ^ s .inputs) 0 (s .care)
+care-rises {most = most} {bytes = bytes} is = subst (λ (s : Stage). Ascending (2 ^ s .inputs) 0 (s .care)) (is .content) (stage-formed most bytes (is .places) (is .reads) .care-in)
 
 -- the numbers of the refusals of the fall
 fall-numbers : (n : ℕ) → In n (20 ∷ 21 ∷ []) → (20 ≤ n) × (n ≤ 21)
@@ -176,7 +176,7 @@ module _ (order : WordOrder) (s : Stage) (r : Reference) where
     nowhere-retired s t,
   )
 
-  found-nothing : Rising (2 ^ s .inputs) 0 (s .care) → EachOf Nowhere (checks order s r) → Clean s r
+  found-nothing : Ascending (2 ^ s .inputs) 0 (s .care) → EachOf Nowhere (checks order s r) → Clean s r
   unfolding checks
   found-nothing care (a, (b, (l, (t, e)))) = in-words order s (CleanIn s r) care (sweeps-clean e)
 

@@ -21,3 +21,4 @@ pub mod Bounds
 pub mod Cut
 pub mod Careless
 pub mod Rises
+pub mod Written

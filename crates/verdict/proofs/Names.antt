@@ -14,7 +14,7 @@ use borrow.Author.Tests.{eq-eqb, ne-eqb}
 use Rattle.runs.specs.Row.{tally, times}
 use Rattle.runs.proofs.Test.{clash, not-true, eqb-same, eqb-eq, eqb-other, same?, or-left, or-right, or-cases}
 use Rattle.netlist.specs.Content.{Stage}
-use Rattle.netlist.specs.Reading.{Rising}
+use Rattle.netlist.specs.Reading.{Ascending}
 use Rattle.verdict.specs.declared.WordOrder.{WordOrder}
 use Rattle.verdict.specs.declared.WordOrder.the-variants.{FirstHighest, FirstLowest}
 use Rattle.verdict.specs.Loops.{In}
@@ -127,16 +127,16 @@ in-select test (y ∷ l) x h t = go (test y) refl h (λ i. in-select test l x i 
     go false e (inl q) later = absurd (clash t (ap test q ∙ e))
     go false e (inr i) later = later i
 
-rising-from : (below floor lower : ℕ) (l : List ℕ) → lower ≤ floor → Rising below floor l → Rising below lower l
+rising-from : (below floor lower : ℕ) (l : List ℕ) → lower ≤ floor → Ascending below floor l → Ascending below lower l
 rising-from below floor lower [] h r = tt
 rising-from below floor lower (x ∷ l) h r = (omega (arith, r .0), r .1, r .2)
 
-select-rises : (test : ℕ → Bool) (below floor : ℕ) (l : List ℕ) → Rising below floor l → Rising below floor (select test l)
+select-rises : (test : ℕ → Bool) (below floor : ℕ) (l : List ℕ) → Ascending below floor l → Ascending below floor (select test l)
 unfolding select
 select-rises test below floor [] r = tt
 select-rises test below floor (x ∷ l) r = go (test x) (select-rises test below (x + 1) l (r .2))
   where
-    go : (b : Bool) → Rising below (x + 1) (select test l) → Rising below floor (cond b (x ∷ select test l) (select test l))
+    go : (b : Bool) → Ascending below (x + 1) (select test l) → Ascending below floor (cond b (x ∷ select test l) (select test l))
     go true h = (r .0, r .1, h)
     go false h = rising-from below (x + 1) floor (select test l) (omega (arith, r .0)) h
 
@@ -151,7 +151,7 @@ select-none test [] h = refl
 select-none test (x ∷ l) h = rw (h x (inl refl)) (select-none test l (λ y i. h y (inr i)))
 
 -- those of some numbers in a row that stand in a list which rises among them are the list
-select-rising : (j m : ℕ) (ws : List ℕ) → Rising (j + m) j ws → select (λ x. isIn x ws) (numbers j m) ≡ ws
+select-rising : (j m : ℕ) (ws : List ℕ) → Ascending (j + m) j ws → select (λ x. isIn x ws) (numbers j m) ≡ ws
 unfolding select numbers isIn
 select-rising j zero [] r = refl
 select-rising j zero (w ∷ ws) r = absurd (omega (arith, r .0, r .1))
@@ -160,21 +160,21 @@ select-rising j (suc m) ws r = go (λ ws r. select-rising (suc j) m ws r) ws r
     more : j + suc m ≡ suc j + m
     more = omega arith
 
-    at-head : ((ws : List ℕ) → Rising (suc j + m) (suc j) ws → select (λ x. isIn x ws) (numbers (suc j) m) ≡ ws)
-        → (w : ℕ) (ws : List ℕ) → Rising (j + suc m) j (w ∷ ws) → (w ≡ j) ⊎ (w ≢ j) → select (λ x. isIn x (w ∷ ws)) (j ∷ numbers (suc j) m) ≡ w ∷ ws
+    at-head : ((ws : List ℕ) → Ascending (suc j + m) (suc j) ws → select (λ x. isIn x ws) (numbers (suc j) m) ≡ ws)
+        → (w : ℕ) (ws : List ℕ) → Ascending (j + suc m) j (w ∷ ws) → (w ≡ j) ⊎ (w ≢ j) → select (λ x. isIn x (w ∷ ws)) (j ∷ numbers (suc j) m) ≡ w ∷ ws
     at-head later w ws r (inl e) =
         let next : w + 1 ≡ suc j = omega arith in
         let here : isIn j (w ∷ ws) ≡ true = in-isIn j (w ∷ ws) (inl (sym e)) in
         let others : select (λ x. isIn x (w ∷ ws)) (numbers (suc j) m) ≡ select (λ x. isIn x ws) (numbers (suc j) m) =
         select-alike (λ x. isIn x (w ∷ ws)) (λ x. isIn x ws) (numbers (suc j) m) (λ x i. rw (eqb-other x w (λ q. omega (arith, numbers-in (suc j) m x i .0))) refl) in
-        rw here (ap (λ (l : List ℕ). j ∷ l) (others ∙ later ws (subst (λ (i : ℕ). Rising (suc j + m) i ws) next (subst (λ (b : ℕ). Rising b (w + 1) ws) more (r .2)))) ∙ ap (λ (x : ℕ). x ∷ ws) (sym e))
+        rw here (ap (λ (l : List ℕ). j ∷ l) (others ∙ later ws (subst (λ (i : ℕ). Ascending (suc j + m) i ws) next (subst (λ (b : ℕ). Ascending b (w + 1) ws) more (r .2)))) ∙ ap (λ (x : ℕ). x ∷ ws) (sym e))
     at-head later w ws r (inr n) =
-        let rest : Rising (suc j + m) (suc j) (w ∷ ws) = (omega (arith, r .0), omega (arith, r .1), subst (λ (b : ℕ). Rising b (w + 1) ws) more (r .2)) in
+        let rest : Ascending (suc j + m) (suc j) (w ∷ ws) = (omega (arith, r .0), omega (arith, r .1), subst (λ (b : ℕ). Ascending b (w + 1) ws) more (r .2)) in
         let here : isIn j (w ∷ ws) ≡ false = not-true (isIn j (w ∷ ws)) (λ e. omega (arith, rising-in (suc j + m) (suc j) (w ∷ ws) rest j (isIn-in j (w ∷ ws) e) .0)) in
         rw here (later (w ∷ ws) rest)
 
-    go : ((ws : List ℕ) → Rising (suc j + m) (suc j) ws → select (λ x. isIn x ws) (numbers (suc j) m) ≡ ws)
-        → (ws : List ℕ) → Rising (j + suc m) j ws → select (λ x. isIn x ws) (j ∷ numbers (suc j) m) ≡ ws
+    go : ((ws : List ℕ) → Ascending (suc j + m) (suc j) ws → select (λ x. isIn x ws) (numbers (suc j) m) ≡ ws)
+        → (ws : List ℕ) → Ascending (j + suc m) j ws → select (λ x. isIn x ws) (j ∷ numbers (suc j) m) ≡ ws
     go later [] r = select-none (λ x. false) (numbers (suc j) m) (λ x h. refl)
     go later (w ∷ ws) r = at-head later w ws r (same? w j)
 
@@ -190,7 +190,7 @@ module _ (order : WordOrder) (s : Stage) where
   name-spells name h = isIn-in (spelled order (s .inputs) name) (words s) (select-in cared (numbers 0 (2 ^ s .inputs)) name h .1)
 
   -- names rise: each stands once, and what is less stands before
-  pub names-rise : Rising (2 ^ s .inputs) 0 (names order s)
+  pub names-rise : Ascending (2 ^ s .inputs) 0 (names order s)
   unfolding names
   names-rise = select-rises cared (2 ^ s .inputs) 0 (numbers 0 (2 ^ s .inputs)) (let e : 0 + 2 ^ s .inputs ≡ 2 ^ s .inputs = omega arith in rw e at (numbers-rise 0 (2 ^ s .inputs)))
 
@@ -199,7 +199,7 @@ module _ (order : WordOrder) (s : Stage) where
   first-name-least P name = first-rising (2 ^ s .inputs) P 0 (names order s) name names-rise
 
   -- each word of a stage whose care words rise has a name
-  pub word-name : Rising (2 ^ s .inputs) 0 (s .care) → (w : ℕ) → IsWord s w
+  pub word-name : Ascending (2 ^ s .inputs) 0 (s .care) → (w : ℕ) → IsWord s w
       → In (spelled order (s .inputs) w) (names order s) × (spelled order (s .inputs) (spelled order (s .inputs) w) ≡ w)
   unfolding names
   word-name care w i =
@@ -215,7 +215,7 @@ module _ (order : WordOrder) (s : Stage) where
   Under P = (name : ℕ) → In name (names order s) → P (spelled order (s .inputs) name)
 
   -- what holds under every name holds in every word, and the other way round
-  pub in-words : (P : ℕ → Type 0) → Rising (2 ^ s .inputs) 0 (s .care) → Under P → (w : ℕ) → IsWord s w → P w
+  pub in-words : (P : ℕ → Type 0) → Ascending (2 ^ s .inputs) 0 (s .care) → Under P → (w : ℕ) → IsWord s w → P w
   in-words P care u w h = let n = word-name care w h in subst P (n .1) (u (spelled order (s .inputs) w) (n .0))
 
   pub by-names : (P : ℕ → Type 0) → ((w : ℕ) → IsWord s w → P w) → Under P
@@ -224,7 +224,7 @@ module _ (order : WordOrder) (s : Stage) where
 -- ---- each word once
 
 -- how often a number stands in a rising list
-times-rising : (below floor : ℕ) (ws : List ℕ) → Rising below floor ws → (k : ℕ) → (In k ws × (times k ws ≡ 1)) ⊎ ((¬ (In k ws)) × (times k ws ≡ 0))
+times-rising : (below floor : ℕ) (ws : List ℕ) → Ascending below floor ws → (k : ℕ) → (In k ws × (times k ws ≡ 1)) ⊎ ((¬ (In k ws)) × (times k ws ≡ 0))
 times-rising below floor [] r k = inr ((λ h. h), refl)
 times-rising below floor (w ∷ ws) r k = go (ℕ-discrete k w) (times-rising below (w + 1) ws (r .2) k)
   where
@@ -235,7 +235,7 @@ times-rising below floor (w ∷ ws) r k = go (ℕ-discrete k w) (times-rising be
     go (no d) (inl h) = inl (inr (h .0), ap (λ b. tally b (times k ws)) (ne-eqb k w d) ∙ h .1)
     go (no d) (inr h) = inr (⊎-elim d (h .0), ap (λ b. tally b (times k ws)) (ne-eqb k w d) ∙ h .1)
 
-module _ (order : WordOrder) (s : Stage) (care : Rising (2 ^ s .inputs) 0 (s .care)) where
+module _ (order : WordOrder) (s : Stage) (care : Ascending (2 ^ s .inputs) 0 (s .care)) where
   abbrev word : ℕ → ℕ
   word = spelled order (s .inputs)
 
@@ -277,6 +277,6 @@ module _ (order : WordOrder) (s : Stage) (care : Rising (2 ^ s .inputs) 0 (s .ca
       go (no h) = inr ((λ i. omega (arith, word-below s care w i)), times-past w (omega arith) (names order s) below)
 
 -- in the files' order the names are the words
-pub names-lowest : (s : Stage) → Rising (2 ^ s .inputs) 0 (s .care) → names FirstLowest s ≡ words s
+pub names-lowest : (s : Stage) → Ascending (2 ^ s .inputs) 0 (s .care) → names FirstLowest s ≡ words s
 unfolding names spelled
 names-lowest s care = select-rising 0 (2 ^ s .inputs) (words s) (let e : 2 ^ s .inputs ≡ 0 + 2 ^ s .inputs = omega arith in rw e at (words-rise s care))

@@ -15,7 +15,7 @@ use Rattle.runs.specs.Theory.{wordRails}
 use Rattle.netlist.specs.Content.{Coded, Stage, Reference}
 use Rattle.verdict.specs.Rows.{high, withNull}
 use Rattle.verdict.specs.Loops.{In}
-use Rattle.netlist.specs.Reading.{Rising}
+use Rattle.netlist.specs.Reading.{Ascending}
 use Rattle.verdict.specs.Words.{numbers, caredFor, words, IsWord, bitsOf, railsOf}
 use Rattle.verdict.specs.Answers.{operate, valuesAt, signalValues, answer}
 use Rattle.verdict.specs.Demands.{FirstOf}
@@ -154,13 +154,13 @@ in-middle (b ∷ before) later x = inr (in-middle before later x)
 -- ---- rising lists: in them each stands once, and what is less stands before
 
 module _ (below : ℕ) where
-  pub rising-in : (floor : ℕ) (ws : List ℕ) → Rising below floor ws → (v : ℕ) → In v ws → (floor ≤ v) × (v < below)
+  pub rising-in : (floor : ℕ) (ws : List ℕ) → Ascending below floor ws → (v : ℕ) → In v ws → (floor ≤ v) × (v < below)
   rising-in floor [] h v i = absurd i
   rising-in floor (w ∷ ws) h v (inl e) = omega (arith, h .0, h .1)
   rising-in floor (w ∷ ws) h v (inr i) = omega (arith, h .0, rising-in (w + 1) ws (h .2) v i)
 
   -- the first of which something holds is the least
-  less-before : (floor : ℕ) (ws before later : List ℕ) (x : ℕ) → Rising below floor ws → ws ≡ before ++ (x ∷ later) → (y : ℕ) → In y ws → y < x → In y before
+  less-before : (floor : ℕ) (ws before later : List ℕ) (x : ℕ) → Ascending below floor ws → ws ≡ before ++ (x ∷ later) → (y : ℕ) → In y ws → y < x → In y before
   less-before floor [] [] later x h e y i l = absurd i
   less-before floor [] (b ∷ before) later x h e y i l = absurd i
   less-before floor (w ∷ ws) [] later x h e y (inl q) l = absurd (let z : w ≡ x = cc in omega arith)
@@ -168,16 +168,16 @@ module _ (below : ℕ) where
   less-before floor (w ∷ ws) (b ∷ before) later x h e y (inl q) l = inl (q ∙ (let z : w ≡ b = cc in z))
   less-before floor (w ∷ ws) (b ∷ before) later x h e y (inr i) l = inr (less-before (w + 1) ws before later x (h .2) (let z : ws ≡ before ++ (x ∷ later) = cc in z) y i l)
 
-  pub first-rising : (P : ℕ → Type 0) (floor : ℕ) (ws : List ℕ) (x : ℕ) → Rising below floor ws → FirstOf P ws x → (y : ℕ) → In y ws → y < x → ¬ (P y)
+  pub first-rising : (P : ℕ → Type 0) (floor : ℕ) (ws : List ℕ) (x : ℕ) → Ascending below floor ws → FirstOf P ws x → (y : ℕ) → In y ws → y < x → ¬ (P y)
   first-rising P floor ws x h f y i l = f .none y (less-before floor ws (f .before) (f .later) x h (f .stands) y i l)
 
-pub numbers-rise : (j m : ℕ) → Rising (j + m) j (numbers j m)
+pub numbers-rise : (j m : ℕ) → Ascending (j + m) j (numbers j m)
 unfolding numbers
 numbers-rise j zero = tt
 numbers-rise j (suc m) =
     let e : suc j + m ≡ j + suc m = omega arith in
     let one : suc j ≡ j + 1 = omega arith in
-    (omega arith, omega arith, subst (λ (i : ℕ). Rising (j + suc m) i (numbers (suc j) m)) one (rw e at (numbers-rise (suc j) m)))
+    (omega arith, omega arith, subst (λ (i : ℕ). Ascending (j + suc m) i (numbers (suc j) m)) one (rw e at (numbers-rise (suc j) m)))
 
 pub first-least : (P : ℕ → Type 0) (m x : ℕ) → FirstOf P (numbers 0 m) x → (y : ℕ) → y < x → ¬ (P y)
 first-least P m x f y h =
@@ -186,12 +186,12 @@ first-least P m x f y h =
 
 -- ---- the words of a stage whose care words rise, as those of a readable file do
 
-module _ (s : Stage) (care : Rising (2 ^ s .inputs) 0 (s .care)) where
-  pub words-rise : Rising (2 ^ s .inputs) 0 (words s)
+module _ (s : Stage) (care : Ascending (2 ^ s .inputs) 0 (s .care)) where
+  pub words-rise : Ascending (2 ^ s .inputs) 0 (words s)
   unfolding words caredFor
   words-rise = go (s .care) care
     where
-      go : (ws : List ℕ) → Rising (2 ^ s .inputs) 0 ws → Rising (2 ^ s .inputs) 0 (caredFor (s .inputs) ws)
+      go : (ws : List ℕ) → Ascending (2 ^ s .inputs) 0 ws → Ascending (2 ^ s .inputs) 0 (caredFor (s .inputs) ws)
       go [] h = let e : 0 + 2 ^ s .inputs ≡ 2 ^ s .inputs = omega arith in rw e at (numbers-rise 0 (2 ^ s .inputs))
       go (w ∷ ws) h = h
 

@@ -11,3 +11,4 @@ pub mod Checks
 pub mod Search
 pub mod Verdicts
 pub mod Demands
+pub mod Written

@@ -22,3 +22,10 @@ pub enum Finding {
     Fault(Verdict),
     Passed,
 }
+
+// The verdict of a call that writes one file, and how many bytes it wrote. Laid out as C does, for C functions that answer one.
+#[repr(C)]
+pub struct Answer {
+    pub verdict: Verdict,
+    pub count: u64,
+}

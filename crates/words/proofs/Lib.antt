@@ -1,4 +1,5 @@
-pub mod Nulling
-pub mod Holding
-pub mod Wrong
-pub mod Found
+pub mod Turning
+pub mod Membership
+pub mod Listing
+pub mod Spelling
+pub mod Rest

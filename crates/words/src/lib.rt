@@ -1,133 +1,130 @@
-// The checks 13, 14, 15, 20 and 21 in one word of a stage and a reference in their flat forms. Rows and values are locals of the functions
-// that use them.
+// The input words of a stage. By name: the word that a name spells in either order, and the names of all words, the least first. On the
+// rails: the bits of a word, the rails that spell it, and the row that is settled in it.
 use netlist::Counts;
-use netlist::Found;
+use verdict::WordOrder;
 ghost use mathlib.Core.Path.{_≡_};
-ghost use Prim.Native.Nat.{_<_};
-ghost use Rattle.verdict.specs.Checks as checks;
-ghost use Rattle.verdict.specs.Search.{least};
-ghost use Rattle.circuit.specs.Stage.{stageGates, stageOutputs, stageIn, StageLoaded};
+ghost use mathlib.Core.List.{_++_};
+ghost use Prim.Native.Nat.{_^_, _≤_};
+ghost use lib.ListN.{length, drop};
+ghost use Rattle.netlist.specs.Reading.{stageLimits};
+ghost use Rattle.verdict.specs.declared.WordOrder.the-variants.{FirstHighest};
+ghost use Rattle.verdict.specs.Words.{words, spelled, isIn, names, bitsOf, railsOf, railsIn};
+ghost use Rattle.verdict.specs.Rows.{settled};
+ghost use Rattle.circuit.specs.Stage.{stageIn, StageLoaded, stageGates};
 ghost use Rattle.circuit.specs.Order.{InOrder};
-ghost use Rattle.circuit.specs.Rows.{RowFor, netsIn, railPart, settledIn};
-ghost use Rattle.circuit.specs.Reference.{referenceIn};
-ghost use Rattle.words.specs.Finds.{finds, unobserved};
-ghost use Rattle.words.specs.Loaded.{BothLoaded};
+ghost use Rattle.circuit.specs.Rows.{RowFor, netsIn, railPart};
+ghost use Rattle.words.specs.Listed.{Listed};
 
-// The checks that go over the words of a stage: 13, 14 and 15 in the rise, 20 and 21 in the fall.
-pub enum Sweep {
-    Wrong,
-    Missing,
-    Unobserved,
-    Remaining,
-    StillHigh,
-}
+// ---- by name
 
-// ---- 13
+// A name for each word of the most inputs.
+pub const NAMES: usize = 1 << netlist::INPUTS;
 
-// The least output that is not the reference's DATA in word w.
-fn wrong_output(code: &[u16], counts: Counts, reference: &[u16], sizes: Counts, w: usize) -> Found
-    requires { ⌜ BothLoaded counts (now code) sizes (now reference) ⌝ }
-    ensures { λ r. ⌜ r ≡ least (checks.wrong (stageIn counts (now (code .entry))) (referenceIn sizes (now (reference .entry))) w) 0
-        (counts .outputs) ⌝ }
+// The word that a name spells where input 0 is the highest bit of as many as there are inputs: the bits in turned order.
+fn turned(inputs: usize, name: usize) -> usize
+    requires { ⌜ inputs ≤ stageLimits .inputs ⌝ }
+    ensures { λ r. ⌜ r ≡ spelled FirstHighest inputs name ⌝ }
 {
-    let mut row = [0u8; circuit::ROW];
-    spelling::settle_word(code, counts, w, &mut row);
-    let mut values = [0u8; circuit::SIGNALS];
-    spelling::word_bits(w, &mut values);
-    signals::signal_values(reference, sizes, &mut values);
-    outputs::first_misread(code, counts, &row, reference, sizes, &values)
-}
-
-// ---- 14
-
-// Whether all outputs are DATA once the stage has settled with input i NULL and the others as in word w.
-fn incomplete(code: &[u16], counts: Counts, w: usize, i: usize) -> bool
-    requires { ⌜ StageLoaded counts (now code) × InOrder counts (now code) × (i < counts .inputs) ⌝ }
-    ensures { λ r. ⌜ r ≡ checks.incomplete (stageIn counts (now (code .entry))) w i ⌝ }
-{
-    let mut row = [0u8; circuit::ROW];
-    spelling::spell_word(counts, w, &mut row);
-    row[2 * i] = 0;
-    row[2 * i + 1] = 0;
-    circuit::settle(code, counts, &mut row);
-    outputs::all_data(code, counts, &row)
-}
-
-// The least input with which NULL, and the others as in word w, all outputs are DATA.
-fn missing_input(code: &[u16], counts: Counts, w: usize) -> Found
-    requires { ⌜ StageLoaded counts (now code) × InOrder counts (now code) ⌝ }
-    ensures { λ r. ⌜ r ≡ least (checks.incomplete (stageIn counts (now (code .entry))) w) 0 (counts .inputs) ⌝ }
-{
-    let inputs = counts.inputs;
+    let mut left = name;
+    let mut word: usize = 0;
     let mut i: usize = 0;
     while i < inputs {
-        if incomplete(code, counts, w, i) {
-            return Found::At(i);
-        }
+        word = left % 2 + 2 * word;
+        left = left / 2;
         i += 1;
     }
-    Found::Nothing
+    word
 }
 
-// ---- 15
-
-// Whether gate g is high in a settled row and all outputs are still DATA once the stage has settled with it held low. Only the gates from its
-// place on are evaluated anew: those before it keep their levels.
-fn unobserved_at(code: &[u16], counts: Counts, row: &[u8], g: usize) -> bool
-    requires { ⌜ StageLoaded counts (now code) × InOrder counts (now code) × RowFor counts (now row)
-        × (netsIn counts (now row) ≡ settledIn counts (now code) (now row)) × (g < counts .gates) ⌝ }
-    ensures { λ r. ⌜ r ≡ unobserved (stageGates counts (now (code .entry))) (stageOutputs counts (now (code .entry))) (railPart counts (now
-        (row .entry))) g ⌝ }
+// The word that a name spells, with words named in an order.
+pub fn word_of(order: WordOrder, inputs: usize, name: usize) -> usize
+    requires { ⌜ inputs ≤ stageLimits .inputs ⌝ }
+    ensures { λ r. ⌜ r ≡ spelled order inputs name ⌝ }
 {
-    let first = 2 * counts.inputs;
-    if row[first + g] == 0 {
-        return false;
+    match order {
+        WordOrder::FirstHighest => turned(inputs, name),
+        WordOrder::FirstLowest => name,
     }
-    let mut held = [0u8; circuit::ROW];
-    let size = first + counts.gates + 1;
-    bytes::copy(&row[..size], &mut held);
-    let start = code[8 * g + 6] as usize;
-    circuit::settle_from(code, counts, &mut held, start, g);
-    outputs::all_data(code, counts, &held)
 }
 
-// The least gate that is high in word w and with which held low all outputs are still DATA.
-fn unobserved_gate(code: &[u16], counts: Counts, w: usize) -> Found
-    requires { ⌜ StageLoaded counts (now code) × InOrder counts (now code) ⌝ }
-    ensures { λ r. ⌜ r ≡ least (checks.unobservable (stageIn counts (now (code .entry))) w) 0 (counts .gates) ⌝ }
+// Whether w is a word of a stage: one of its care words, or without a list one that its inputs have.
+pub fn is_word(code: &[u16], counts: Counts, w: usize) -> bool
+    requires { ⌜ StageLoaded counts (now code) ⌝ }
+    ensures { λ r. ⌜ r ≡ isIn w (words (stageIn counts (now (code .entry)))) ⌝ }
 {
-    let mut row = [0u8; circuit::ROW];
-    spelling::settle_word(code, counts, w, &mut row);
-    let gates = counts.gates;
-    let mut g: usize = 0;
-    while g < gates {
-        if unobserved_at(code, counts, &row, g) {
-            return Found::At(g);
+    let count = counts.care;
+    if count == 0 {
+        return w < 1 << counts.inputs;
+    }
+    let from = 8 * counts.gates + 2 * counts.outputs;
+    let mut k: usize = 0;
+    while k < count {
+        if code[from + k] as usize == w {
+            return true;
         }
-        g += 1;
+        k += 1;
     }
-    Found::Nothing
+    false
 }
 
-// ---- all of them
-
-// What one of the checks finds in word w.
-pub fn find(
-    which: Sweep,
-    code: &[u16],
-    counts: Counts,
-    reference: &[u16],
-    sizes: Counts,
-    w: usize,
-) -> Found
-    requires { ⌜ BothLoaded counts (now code) sizes (now reference) ⌝ }
-    ensures { λ r. ⌜ r ≡ finds which (stageIn counts (now (code .entry))) (referenceIn sizes (now (reference .entry))) w ⌝ }
+// Lists the names of a stage's words from the start of `list`, the least first, and answers how many they are.
+pub fn list_names(order: WordOrder, code: &[u16], counts: Counts, list: &mut [u16]) -> usize
+    requires { ⌜ StageLoaded counts (now code) × (2 ^ stageLimits .inputs ≤ length (now list)) ⌝ }
+    ensures { λ r. ⌜ Listed (names order (stageIn counts (now (code .entry)))) (now (list .entry)) r (now (list .exit)) ⌝ }
 {
-    match which {
-        Sweep::Wrong => wrong_output(code, counts, reference, sizes, w),
-        Sweep::Missing => missing_input(code, counts, w),
-        Sweep::Unobserved => unobserved_gate(code, counts, w),
-        Sweep::Remaining => falls::remaining_input(code, counts, w),
-        Sweep::StillHigh => falls::still_high_gate(code, counts, w),
+    let inputs = counts.inputs;
+    let all: usize = 1 << inputs;
+    let mut count: usize = 0;
+    let mut name: usize = 0;
+    while name < all {
+        if is_word(code, counts, word_of(order, inputs, name)) {
+            list[count] = name as u16;
+            count += 1;
+        }
+        name += 1;
     }
+    count
+}
+
+// ---- on the rails
+
+// The bits of word w: input i has bit i.
+pub fn word_bits(w: usize, bits: &mut [u8])
+    ensures { λ r. ⌜ now (bits .exit) ≡ bitsOf (length (now (bits .entry))) w ⌝ }
+{
+    let mut rest = w;
+    let mut i: usize = 0;
+    while i < bits.len() {
+        bits[i] = (rest % 2) as u8;
+        rest = rest / 2;
+        i += 1;
+    }
+}
+
+// The rails that spell word w: rail 0 of an input is high for 0, rail 1 for 1.
+pub fn spell_word(counts: Counts, w: usize, row: &mut [u8])
+    requires { ⌜ RowFor counts (now row) ⌝ }
+    ensures rails { λ r. ⌜ railPart counts (now (row .exit)) ≡ railsOf (bitsOf (counts .inputs) w) ⌝ }
+    ensures row { λ r. ⌜ RowFor counts (now (row .exit)) ⌝ }
+{
+    let mut rest = w;
+    let mut i: usize = 0;
+    while i < counts.inputs {
+        let b = (rest % 2) as u8;
+        row[2 * i] = 1 - b;
+        row[2 * i + 1] = b;
+        rest = rest / 2;
+        i += 1;
+    }
+}
+
+// The stage settles in word w.
+pub fn settle_word(code: &[u16], counts: Counts, w: usize, row: &mut [u8])
+    requires { ⌜ StageLoaded counts (now code) × InOrder counts (now code) × RowFor counts (now row) ⌝ }
+    ensures settled { λ r. ⌜ netsIn counts (now (row .exit)) ≡ settled (stageGates counts (now (code .entry))) (railsIn (stageIn counts
+        (now (code .entry))) w) ⌝ }
+    ensures row { λ r. ⌜ RowFor counts (now (row .exit)) ⌝ }
+{
+    spell_word(counts, w, row);
+    circuit::settle(code, counts, row);
 }

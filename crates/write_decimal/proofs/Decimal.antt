@@ -9,7 +9,7 @@ use lib.ListN.{length, length-append}
 use lib.Dec.{ltb}
 use borrow.Author.Tests.{lt-ltb, le-ltb}
 use Rattle.text_spec.specs.ToText.{digits}
-use Rattle.writing.proofs.Joining.{put-++}
+use Rattle.write_command.proofs.Joining.{put-++}
 use Rattle.write_decimal.specs.Decimal.{PutNext, decimal}
 
 -- a number that has at most k digits

@@ -3,7 +3,7 @@ use Prim.Native.Nat.{ℕ, _+_}
 use mathlib.Core.Path.{_≡_}
 use mathlib.Core.List.{List}
 use lib.ListN.{length}
-use Rattle.writing.specs.Put.{Put}
+use Rattle.write_command.specs.Put.{Put}
 use Rattle.text_spec.specs.ToText.{digits}
 
 -- some bytes were put from a place of a buffer on, and the place after them is answered

@@ -6,7 +6,7 @@ use lib.ListN.{length, length-replicate}
 use lib.Seq.{length-take-le}
 use denote.Ref.{now}
 use borrow.Author.Needs.{needs}
-use Rattle.writing.proofs.Answers.{part-room}
+use Rattle.write_command.proofs.Answers.{part-room}
 use Rattle.call_draw.proofs.Call.{too-many, too-short, file-copied}
 use Rattle.call_draw.proofs.draw_within.Statement.{statement}
 use Rattle.call_draw.proofs.draw_within.Tie as tie

@@ -3,7 +3,7 @@ use native.Mathlib.Omega.{arith}
 use lib.ListN.{length-set}
 use borrow.Author.Tests.{eq-eqb, ne-eqb}
 use borrow.Author.Needs.{needs}
-use Rattle.made.specs.Marks.{marked}
+use Rattle.make_spec.specs.Marks.{marked}
 use Rattle.call_draw.proofs.mark_gate.Statement.{statement}
 use Rattle.call_draw.proofs.mark_gate.Tie as tie
 

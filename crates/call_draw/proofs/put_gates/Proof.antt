@@ -2,7 +2,7 @@
 use Prim.Native.Nat.{_-_}
 use native.Mathlib.Omega.{arith}
 use borrow.Author.Needs.{needs}
-use Rattle.writing.proofs.Items.{items-long}
+use Rattle.write_command.proofs.Items.{items-long}
 use Rattle.call_draw.proofs.Turns.{GatesTo, MarksTo, gates-start, marks-start, gates-room, gates-turn, marks-turn, gates-put, gates-marked}
 use Rattle.call_draw.proofs.put_gates.Statement.{statement}
 use Rattle.call_draw.proofs.put_gates.Tie as tie

@@ -2,7 +2,7 @@
 use native.Mathlib.Omega.{arith}
 use mathlib.Core.Path.{refl, _∙_}
 use Rattle.verdict.specs.Checks.{verdict}
-use Rattle.writing.proofs.Answers.{answers-short, answers-written}
+use Rattle.write_command.proofs.Answers.{answers-short, answers-written}
 use Rattle.call_text_write.proofs.Answering.{room-leaves}
 use borrow.Author.Needs.{needs}
 use denote.Ref.{now}

@@ -2,7 +2,7 @@
 use native.Mathlib.Omega.{arith}
 use mathlib.Core.Path.{ap}
 use lib.ListN.{length}
-use Rattle.writing.proofs.Putting.{put-same}
+use Rattle.write_command.proofs.Putting.{put-same}
 use Rattle.text_write.proofs.Names.{name-few, name-part, name-long}
 use borrow.Author.Needs.{needs}
 use denote.Ref.{now}

@@ -1,0 +1,97 @@
+-- 23: the word that a reference answers, and what is found under the name of a word.
+-- Assumes nothing.
+use Prim.Native.Nat.{ℕ, zero, suc, _+_, _-_, _*_, _^_, _≤_, _<_}
+use native.Mathlib.Omega.{arith}
+use native.Mathlib.Nat.{two-pow-succ}
+use mathlib.Core.Path.{_≡_, refl, sym, ap, ap₂, _∙_}
+use mathlib.Core.Bool.{true, false}
+use mathlib.Core.List.{List, [], _∷_, map}
+use lib.ListN.{length, getD, take, drop, length-drop, drop-of-length-le}
+use lib.Seq.{drop-cons, getD-take}
+use lib.Pow.{pow-mono}
+use Rattle.netlist.specs.declared.Counts.{Counts}
+use Rattle.netlist.specs.declared.Found.{Found}
+use Rattle.netlist.specs.declared.Found.the-variants.{At, Nothing}
+use Rattle.netlist.specs.Content.{Stage, Reference}
+use Rattle.verdict.specs.declared.Finding.{Finding}
+use Rattle.verdict.specs.Graph.{tabulate}
+use Rattle.verdict.specs.declared.WordOrder.{WordOrder}
+use Rattle.verdict.specs.Words.{words, bitsOf, wordOf, spelled, isIn, names}
+use Rattle.verdict.specs.Answers.{answer, valuesAt, signalValues}
+use Rattle.verdict.specs.Checks.{first, sweep, finding}
+use Rattle.circuit.specs.Reference.{operatorsIn, signalIn, signalsIn, referenceIn, ReferenceLoaded}
+use Rattle.circuit.proofs.Tabulate.{length-tabulate, getD-tabulate}
+use Rattle.words.proofs.Spelling.{bits-prefix}
+use Rattle.join_spec.specs.Join.{answerWord, uncaredCheck}
+use Rattle.call_join.specs.Steps.{uncaredUnder}
+
+-- ---- a word from its bits, the last first
+
+module _ (value : ℕ → ℕ) where
+  word-below : ((v : ℕ) → value v ≤ 1) → (vs : List ℕ) → wordOf (map value vs) < 2 ^ length vs
+  unfolding wordOf
+  word-below bit [] = omega arith
+  word-below bit (v ∷ vs) = omega (arith, bit v, word-below bit vs, two-pow-succ (length vs))
+
+  module _ (signal : ℕ → ℕ) (m j : ℕ) where
+    -- that of the outputs from output j on
+    abbrev pub wordFrom : ℕ
+    wordFrom = wordOf (map value (drop j (tabulate signal m)))
+
+    pub word-few : ((v : ℕ) → value v ≤ 1) → m ≤ 16 → wordFrom < 65536
+    word-few bit few =
+        let l = drop j (tabulate signal m) in
+        let long : length l ≤ 16 = omega (arith, length-drop j (tabulate signal m), length-tabulate signal m) in
+        omega (arith, word-below bit l, pow-mono {i = length l} {j = 16} long)
+
+  -- behind the last output nothing is left
+  pub word-none : (signal : ℕ → ℕ) (m : ℕ) → 0 ≡ wordFrom signal m m
+  unfolding wordOf
+  word-none signal m = sym (ap (λ (l : List ℕ). wordOf (map value l)) (drop-of-length-le (tabulate signal m) {i = m} (omega (arith, length-tabulate signal m))))
+
+  pub word-more : (signal : ℕ → ℕ) (m j word : ℕ) → 0 < j → j ≤ m → word ≡ wordFrom signal m j → value (signal (j - 1)) + 2 * word ≡ wordFrom signal m (j - 1)
+  unfolding wordOf
+  word-more signal m j word pos most e =
+      let s : suc (j - 1) ≡ j = omega arith in
+      let d : drop (j - 1) (tabulate signal m) ≡ signal (j - 1) ∷ drop j (tabulate signal m) =
+      drop-cons (tabulate signal m) (j - 1) 0 (omega (arith, length-tabulate signal m))
+      ∙ ap₂ (λ (v i : ℕ). v ∷ drop i (tabulate signal m)) (getD-tabulate signal m (j - 1) 0 (omega arith)) s in
+      rw d (ap (λ (n : ℕ). value (signal (j - 1)) + 2 * n) e)
+
+-- ---- the answer of a reference
+
+-- values of signals that all stand before a place
+values-before : (values : List ℕ) (n : ℕ) (signal : ℕ → ℕ) (m : ℕ) → ((j : ℕ) → j < m → signal j < n) →
+    valuesAt values (tabulate signal m) ≡ valuesAt (take n values) (tabulate signal m)
+unfolding tabulate
+values-before values n signal zero h = refl
+values-before values n signal (suc m) h =
+    ap₂ (λ (v : ℕ) (vs : List ℕ). v ∷ vs) (sym (getD-take n values (signal 0) 0 (h 0 (omega arith))))
+    (values-before values n (λ i. signal (suc i)) m (λ j l. h (suc j) (omega arith)))
+
+pub answered : (sizes : Counts) (reference : List ℕ) (w : ℕ) → ReferenceLoaded sizes reference → (values bits : List ℕ) (long : ℕ) →
+    bits ≡ bitsOf long w → sizes .inputs ≤ long →
+    take (sizes .inputs + sizes .gates) values ≡ signalValues (take (sizes .inputs) bits) (operatorsIn sizes reference) → (r : ℕ) →
+    r ≡ wordOf (valuesAt values (signalsIn sizes reference)) → r ≡ answerWord (referenceIn sizes reference) w
+unfolding answer signalsIn
+answered sizes reference w loaded values bits long eb few ev r e =
+    e ∙ ap wordOf (values-before values (sizes .inputs + sizes .gates) (signalIn sizes reference) (sizes .outputs) (loaded .signal)
+    ∙ ap (λ (l : List ℕ). valuesAt l (tabulate (signalIn sizes reference) (sizes .outputs)))
+    (ev ∙ ap (λ (l : List ℕ). signalValues l (operatorsIn sizes reference)) (ap (take (sizes .inputs)) eb ∙ bits-prefix (sizes .inputs) long w few)))
+
+-- ---- what is found under a name
+
+module _ (order : WordOrder) (inputs : ℕ) (r : Reference) (t : Stage) (name : ℕ) where
+  pub cared-under : isIn (answerWord r (spelled order inputs name)) (words t) ≡ true → uncaredUnder order inputs r t name ≡ Nothing
+  unfolding first
+  cared-under e = rw e
+
+  pub uncared-under : isIn (answerWord r (spelled order inputs name)) (words t) ≡ false → uncaredUnder order inputs r t name ≡ At 0
+  unfolding first
+  uncared-under e = rw e
+
+-- under the names of a part's words it is what the check finds
+pub found-uncared : (order : WordOrder) (s : Stage) (r : Reference) (t : Stage) (list : List ℕ) → list ≡ names order s → (f : Finding)
+    → f ≡ sweep 23 0 (uncaredUnder order (s .inputs) r t) list → f ≡ finding (uncaredCheck order s r t)
+unfolding finding
+found-uncared order s r t list is f e = e ∙ ap (sweep 23 0 (uncaredUnder order (s .inputs) r t)) is

@@ -1,0 +1,310 @@
+// The join of two stages with their references: output j of the first is tied to input j of the second, and the whole is written into two
+// buffers that the caller lends.
+use join_spec::JoinAnswer;
+use netlist::Counts;
+use netlist::Outcome;
+use verdict::Finding;
+use verdict::Verdict;
+use verdict::WordOrder;
+ghost use mathlib.Core.Path.{_≡_};
+ghost use Prim.Native.Nat.{ℕ, _+_, _*_, _^_, _≤_, _<_};
+ghost use lib.ListN.{length, getD};
+ghost use Rattle.netlist.specs.declared.File.the-variants as file;
+ghost use Rattle.netlist.specs.Reading.{readFile, stageLimits, referenceLimits, partStageLimits, partReferenceLimits};
+ghost use Rattle.verdict.specs.Answers.{valuesAt};
+ghost use Rattle.verdict.specs.Words.{wordOf};
+ghost use Rattle.verdict.specs.Checks.{sweep, finding};
+ghost use Rattle.verdict.specs.Verdicts.{accepted, verdictWithin};
+ghost use Rattle.join_spec.specs.Join.{files, stageRead, referenceRead, answerWord, uncaredCheck};
+ghost use Rattle.circuit.specs.Stage.{stageIn, StageLoaded};
+ghost use Rattle.circuit.specs.Reference.{signalsIn, referenceIn, ReferenceLoaded};
+ghost use Rattle.call_join.specs.Steps.{uncaredUnder, joinParts, partOf, partLoaded, PartsLoaded};
+ghost use Rattle.join_spec.specs.Call.{answerWith, Leaves, JoinDemand};
+
+// ---- 23: words whose answer the second part does not care for
+
+// The word that the outputs of a reference spell, from the values of its signals: output j is bit j.
+fn word_answered(reference: &[u16], sizes: Counts, values: &[u8]) -> usize
+    requires { ⌜ ReferenceLoaded sizes (now reference) × (sizes .inputs + sizes .gates ≤ length (now values)) × ((i : ℕ) → getD (now values) i 0 ≤ 1) ⌝ }
+    ensures { λ r. ⌜ r ≡ wordOf (valuesAt (now (values .entry)) (signalsIn sizes (now (reference .entry)))) ⌝ }
+{
+    let from = 3 * sizes.gates;
+    let mut word: usize = 0;
+    let mut j = sizes.outputs;
+    while 0 < j {
+        j -= 1;
+        let signal = reference[from + j] as usize;
+        word = values[signal] as usize + 2 * word;
+    }
+    word
+}
+
+// The reference's answer to word w, as a word.
+fn answer_word(reference: &[u16], sizes: Counts, w: usize) -> usize
+    requires { ⌜ ReferenceLoaded sizes (now reference) ⌝ }
+    ensures { λ r. ⌜ r ≡ answerWord (referenceIn sizes (now (reference .entry))) w ⌝ }
+{
+    let mut values = [0u8; circuit::SIGNALS];
+    words::word_bits(w, &mut values);
+    circuit_values::signal_values(reference, sizes, &mut values);
+    word_answered(reference, sizes, &values)
+}
+
+// The least of some names, of words of the first part, whose answer the second does not care for.
+fn uncared_named(
+    order: WordOrder,
+    list: &[u16],
+    inputs: usize,
+    reference1: &[u16],
+    sizes1: Counts,
+    code2: &[u16],
+    counts2: Counts,
+) -> Finding
+    requires { ⌜ (inputs ≤ stageLimits .inputs) × ReferenceLoaded sizes1 (now reference1) × StageLoaded counts2 (now code2) ⌝ }
+    ensures { λ r. ⌜ r ≡ sweep 23 0 (uncaredUnder order inputs (referenceIn sizes1 (now (reference1 .entry))) (stageIn counts2 (now (code2 .entry))))
+        (now (list .entry)) ⌝ }
+{
+    let mut k: usize = 0;
+    while k < list.len() {
+        let name = list[k] as usize;
+        let w = words::word_of(order, inputs, name);
+        if words::is_word(code2, counts2, answer_word(reference1, sizes1, w)) {
+            k += 1;
+        } else {
+            return Finding::Fault(Verdict {
+                number: 23,
+                file: 0,
+                at: 0,
+                word: name as u64,
+            });
+        }
+    }
+    Finding::Passed
+}
+
+// The least word of the first part, by its name, whose answer the second does not care for.
+fn uncared(
+    order: WordOrder,
+    code1: &[u16],
+    counts1: Counts,
+    reference1: &[u16],
+    sizes1: Counts,
+    code2: &[u16],
+    counts2: Counts,
+) -> Finding
+    requires { ⌜ StageLoaded counts1 (now code1) × ReferenceLoaded sizes1 (now reference1) × StageLoaded counts2 (now code2) ⌝ }
+    ensures { λ r. ⌜ r ≡ finding (uncaredCheck order (stageIn counts1 (now (code1 .entry))) (referenceIn sizes1 (now (reference1 .entry))) (stageIn counts2 (now
+        (code2 .entry)))) ⌝ }
+{
+    let mut list = [0u16; words::NAMES];
+    let count = words::list_names(order, code1, counts1, &mut list);
+    uncared_named(
+        order,
+        &list[..count],
+        counts1.inputs,
+        reference1,
+        sizes1,
+        code2,
+        counts2,
+    )
+}
+
+// ---- the call
+
+// The counts of the four files.
+pub struct FileCounts {
+    pub stage1: Counts,
+    pub reference1: Counts,
+    pub stage2: Counts,
+    pub reference2: Counts,
+}
+
+// A refusal: neither buffer is written.
+fn refusal(verdict: Verdict) -> JoinAnswer
+    ensures { λ r. ⌜ r ≡ answerWith verdict 0 0 ⌝ }
+{
+    JoinAnswer {
+        verdict,
+        stage_count: 0,
+        reference_count: 0,
+    }
+}
+
+// Reads and loads the stage of a part; what cannot be read counts for nothing.
+fn load_part(s: &[u8], code: &mut [u16]) -> Counts
+    requires { ⌜ 8 * stageLimits .gates + 2 * stageLimits .outputs + 2 ^ stageLimits .inputs ≤ length (now code) ⌝ }
+    ensures { λ r. ⌜ StageLoaded r (now (code .exit)) × (stageIn r (now (code .exit))
+        ≡ stageRead (now (s .entry)) (readFile file.Stage partStageLimits (now (s .entry)))) ⌝ }
+{
+    match circuit_load::read_stage_within(s, netlist::part_stage_limits(), code) {
+        Outcome::Readable(counts) => counts,
+        Outcome::Refused { number: _, at: _ } => Counts {
+            inputs: 0,
+            gates: 0,
+            outputs: 0,
+            care: 0,
+            floor: 0,
+        },
+    }
+}
+
+// The same of a part's reference.
+fn load_function(s: &[u8], code: &mut [u16]) -> Counts
+    requires { ⌜ 3 * referenceLimits .gates + referenceLimits .outputs ≤ length (now code) ⌝ }
+    ensures { λ r. ⌜ ReferenceLoaded r (now (code .exit)) × (referenceIn r (now (code .exit)) ≡ referenceRead (now (s .entry)) (readFile file.Reference
+        partReferenceLimits (now (s .entry)))) ⌝ }
+{
+    match circuit_load::read_reference_within(s, netlist::part_reference_limits(), code) {
+        Outcome::Readable(counts) => counts,
+        Outcome::Refused { number: _, at: _ } => Counts {
+            inputs: 0,
+            gates: 0,
+            outputs: 0,
+            care: 0,
+            floor: 0,
+        },
+    }
+}
+
+// 22, 23, 24, or the whole: two parts that were loaded, and buffers for their join. Both lengths are looked at before a byte is written.
+fn join_loaded(
+    order: WordOrder,
+    code1: &[u16],
+    reference1: &[u16],
+    code2: &[u16],
+    reference2: &[u16],
+    counts: FileCounts,
+    stage_out: &mut [u8],
+    reference_out: &mut [u8],
+) -> JoinAnswer
+    requires { ⌜ PartsLoaded counts (now code1) (now reference1) (now code2) (now reference2) ⌝ }
+    ensures { λ r. ⌜ Leaves (joinParts order (partLoaded (counts .stage1) (now (code1 .entry)) (counts .reference1) (now (reference1 .entry)))
+        (partLoaded (counts .stage2)
+        (now (code2 .entry)) (counts .reference2) (now (reference2 .entry))) (length (now («stage_out» .entry))) (length (now («reference_out» .entry)))) r
+        (now («stage_out» .entry)) (now («reference_out» .entry)) (now («stage_out» .exit)) (now («reference_out» .exit)) ⌝ }
+{
+    let counts1 = counts.stage1;
+    let sizes1 = counts.reference1;
+    let counts2 = counts.stage2;
+    let sizes2 = counts.reference2;
+    if counts1.outputs != counts2.inputs {
+        return refusal(Verdict {
+            number: 22,
+            file: 0,
+            at: counts1.outputs as u64,
+            word: counts2.inputs as u64,
+        });
+    }
+    if let Finding::Fault(v) = uncared(order, code1, counts1, reference1, sizes1, code2, counts2) {
+        return refusal(v);
+    }
+    let stage_count = write_joined::stage_length(counts1, counts2);
+    let reference_count = write_joined::reference_length(sizes1, sizes2);
+    if stage_out.len() < stage_count {
+        return refusal(Verdict {
+            number: 24,
+            file: 3,
+            at: 0,
+            word: 0,
+        });
+    }
+    if reference_out.len() < reference_count {
+        return refusal(Verdict {
+            number: 24,
+            file: 3,
+            at: 0,
+            word: 0,
+        });
+    }
+    write_joined::put_stage(stage_out, code1, counts1, code2, counts2);
+    write_joined::put_reference(reference_out, reference1, sizes1, reference2, sizes2);
+    JoinAnswer {
+        verdict: Verdict {
+            number: 0,
+            file: 0,
+            at: 0,
+            word: 0,
+        },
+        stage_count: stage_count as u64,
+        reference_count: reference_count as u64,
+    }
+}
+
+// The join of two parts that are accepted.
+fn join_accepted(
+    order: WordOrder,
+    stage1: &[u8],
+    reference1: &[u8],
+    stage2: &[u8],
+    reference2: &[u8],
+    stage_out: &mut [u8],
+    reference_out: &mut [u8],
+) -> JoinAnswer
+    requires { ⌜ (verdictWithin order partStageLimits partReferenceLimits (now stage1) (now reference1) ≡ accepted)
+        × (verdictWithin order partStageLimits partReferenceLimits
+        (now stage2) (now reference2) ≡ accepted) ⌝ }
+    ensures { λ r. ⌜ Leaves (joinParts order (partOf (now (stage1 .entry)) (now (reference1 .entry))) (partOf (now (stage2 .entry)) (now (reference2 .entry)))
+        (length (now («stage_out» .entry))) (length (now («reference_out» .entry)))) r (now («stage_out» .entry)) (now («reference_out» .entry))
+        (now («stage_out» .exit)) (now («reference_out» .exit)) ⌝ }
+{
+    let mut code1 = [0u16; circuit_load::STAGE_CODE];
+    let mut loaded1 = [0u16; circuit_load::REFERENCE_CODE];
+    let mut code2 = [0u16; circuit_load::STAGE_CODE];
+    let mut loaded2 = [0u16; circuit_load::REFERENCE_CODE];
+    let counts = FileCounts {
+        stage1: load_part(stage1, &mut code1),
+        reference1: load_function(reference1, &mut loaded1),
+        stage2: load_part(stage2, &mut code2),
+        reference2: load_function(reference2, &mut loaded2),
+    };
+    join_loaded(
+        order,
+        &code1,
+        &loaded1,
+        &code2,
+        &loaded2,
+        counts,
+        stage_out,
+        reference_out,
+    )
+}
+
+// The join of two stages with their references into two buffers. A part's own refusal is passed on, first part first, the second's with 3
+// added to its file; 22, 23 and 24 follow. Words are named in an order.
+pub fn join(
+    order: WordOrder,
+    stage1: &[u8],
+    reference1: &[u8],
+    stage2: &[u8],
+    reference2: &[u8],
+    stage_out: &mut [u8],
+    reference_out: &mut [u8],
+) -> JoinAnswer
+    ensures { λ r. ⌜ JoinDemand order (files (now (stage1 .entry)) (now (reference1 .entry))) (files (now (stage2 .entry)) (now (reference2 .entry)))
+        (now («stage_out» .entry)) (now («reference_out» .entry)) r (now («stage_out» .exit)) (now («reference_out» .exit)) ⌝ }
+{
+    let most = netlist::part_stage_limits();
+    let reference_most = netlist::part_reference_limits();
+    let verdict1 = check_files::check_within(order, stage1, reference1, most, reference_most);
+    if verdict1.number != 0 {
+        return refusal(verdict1);
+    }
+    let verdict2 = check_files::check_within(order, stage2, reference2, most, reference_most);
+    if verdict2.number != 0 {
+        return refusal(Verdict {
+            number: verdict2.number,
+            file: verdict2.file + 3,
+            at: verdict2.at,
+            word: verdict2.word,
+        });
+    }
+    join_accepted(
+        order,
+        stage1,
+        reference1,
+        stage2,
+        reference2,
+        stage_out,
+        reference_out,
+    )
+}

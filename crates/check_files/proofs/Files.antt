@@ -1,0 +1,78 @@
+-- The two files by what reading and loading them answers.
+-- Assumes nothing.
+use Prim.Native.Nat.{ℕ}
+use mathlib.Core.Path.{_≡_, sym, ap, subst, _∙_}
+use mathlib.Core.List.{List}
+use Rattle.netlist.specs.declared.File.the-variants as file
+use Rattle.netlist.specs.declared.Limits.{Limits}
+use Rattle.netlist.specs.declared.Counts.{Counts}
+use Rattle.netlist.specs.declared.Outcome.the-variants as outcome
+use Rattle.netlist.specs.Reading.{Reading, refused, readable, readFile}
+use Rattle.netlist.specs.Read.{outcomeOf}
+use Rattle.netlist.specs.Content.{Stage, Reference}
+use Rattle.verdict.specs.declared.Verdict.{Verdict}
+use Rattle.verdict.specs.declared.WordOrder.{WordOrder}
+use Rattle.verdict.specs.declared.Finding.{Finding}
+use Rattle.verdict.specs.Checks.{verdict, firstFault, checks}
+use Rattle.verdict.specs.Verdicts.{verdictOf, judgeReference, judgeStage, verdictWithin}
+use Rattle.verdict.specs.Demands.{Demand2, Demand3}
+use Rattle.verdict.proofs.Demands.{demand-2, demand-3}
+use Rattle.circuit.specs.Stage.{stageIn}
+use Rattle.circuit.specs.Reference.{referenceIn}
+use Rattle.circuit_load.specs.Load.{HoldsStage, HoldsReference}
+use Rattle.circuit_load.proofs.Reading.{was-refused, stage-held, reference-held}
+
+-- ---- the reference
+
+module _ (order : WordOrder) (s : Stage) (t : List ℕ) (x : Reading) where
+  pub reference-refused : (number at : ℕ) → outcome.Refused number at ≡ outcomeOf x → verdict number 2 at 0 ≡ judgeReference order s t x
+  unfolding judgeReference
+  reference-refused number at e = sym (ap (judgeReference order s t) (was-refused x number at e))
+
+  pub reference-judged : (sizes : Counts) (code : List ℕ) → outcome.Readable sizes ≡ outcomeOf x → HoldsReference t x code →
+      (v : Verdict) (f : Finding) → v ≡ verdictOf f →
+      f ≡ firstFault (checks order s (referenceIn sizes code)) → v ≡ judgeReference order s t x
+  unfolding judgeReference
+  reference-judged sizes code e h v f a b =
+      let r = reference-held t x sizes code e h in
+      a ∙ ap verdictOf (b ∙ ap (λ (y : Reference). firstFault (checks order s y)) (r .2)) ∙ sym (ap (judgeReference order s t) (r .1))
+
+-- ---- the stage
+
+module _ (order : WordOrder) (stageMost referenceMost : Limits) (s t : List ℕ) where
+  abbrev reading : Reading
+  reading = readFile file.Stage stageMost s
+
+  pub stage-refused : (number at : ℕ) → outcome.Refused number at ≡ outcomeOf reading → verdict number 1 at 0 ≡ verdictWithin order stageMost referenceMost s t
+  unfolding judgeStage verdictWithin
+  stage-refused number at e = sym (ap (judgeStage order referenceMost s t) (was-refused reading number at e))
+
+  pub stage-judged : (c : Counts) (code : List ℕ) → outcome.Readable c ≡ outcomeOf reading → HoldsStage s reading code → (v : Verdict) →
+      v ≡ judgeReference order (stageIn c code) t (readFile file.Reference referenceMost t) → v ≡ verdictWithin order stageMost referenceMost s t
+  unfolding judgeStage verdictWithin
+  stage-judged c code e h v j =
+      let r = stage-held s reading c code e h in
+      j ∙ ap (λ (y : Stage). judgeReference order y t (readFile file.Reference referenceMost t)) (r .2) ∙ sym (ap (judgeStage order referenceMost s t) (r .1))
+
+-- ---- the demands
+
+-- what the check answers within some limits
+abbrev pub Checked : WordOrder → Limits → Limits → List ℕ → List ℕ → Verdict → Type 0
+Checked order stageMost referenceMost s t v =
+    (v ≡ verdictWithin order stageMost referenceMost s t) × (Demand2 order stageMost referenceMost s t v × Demand3 order stageMost referenceMost s t v)
+
+pub with-demands : (order : WordOrder) (stageMost referenceMost : Limits) (s t : List ℕ) (v : Verdict) → v ≡ verdictWithin order stageMost referenceMost s t →
+    Checked order stageMost referenceMost s t v
+with-demands order stageMost referenceMost s t v e = (
+  e,
+  (
+    subst (Demand2 order stageMost referenceMost s t) (sym e) (demand-2 order stageMost referenceMost s t),
+    subst (Demand3 order stageMost referenceMost s t) (sym e) (demand-3 order stageMost referenceMost s t),
+  ),
+)
+
+-- the same where the limits are those that were handed on
+pub checked-by : (order : WordOrder) (given most given′ most′ : Limits) (s t : List ℕ) (v : Verdict) → given ≡ most → given′ ≡ most′ →
+    Checked order given given′ s t v → Checked order most most′ s t v
+checked-by order given most given′ most′ s t v e e′ c =
+    subst (λ (m : Limits). Checked order most m s t v) e′ (subst (λ (m : Limits). Checked order m given′ s t v) e c)

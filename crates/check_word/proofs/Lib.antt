@@ -1,0 +1,5 @@
+pub mod Falling
+pub mod Nulling
+pub mod Holding
+pub mod Wrong
+pub mod Found

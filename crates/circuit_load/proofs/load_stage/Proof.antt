@@ -1,0 +1,60 @@
+-- `circuit_load::load_stage` meets its contract. The loop's invariant: the numbers before i are written. Assumes nothing.
+use Prim.Native.Nat.{ℕ, _-_, _<_}
+use mathlib.Core.Path.{_≡_, refl}
+use native.Mathlib.Omega.{arith}
+use lib.ListN.{length, length-set}
+use denote.Ref.{now}
+use Rattle.circuit_load.specs.Load.{stageNumber}
+use Rattle.circuit_load.proofs.Numbers.{WrittenTo, write-more}
+use Rattle.circuit_load.proofs.Stages.{stage-same, stage-loaded}
+use Rattle.circuit_load.proofs.load_stage.Statement.{statement}
+use Rattle.circuit_load.proofs.load_stage.Tie as tie
+
+abbrev Inv-loop : tie.InvT-loop
+Inv-loop s places most counts code₀ end i₀ code i = (length code ≡ length code₀) × WrittenTo (stageNumber most s places counts) code i
+
+abbrev μ-loop : tie.MeasureT-loop
+μ-loop s places most counts code₀ end i₀ code i = end - i
+
+loop-holds : tie.Need-loop-holds Inv-loop μ-loop
+loop-holds c = (refl, λ q h. absurd (omega arith))
+
+stage-number-requires : tie.Need-stage-number-requires Inv-loop μ-loop
+stage-number-requires c κs = let z = c .before .before .before .before .before .before .before .before in (z .pre .0, z .pre .1, omega arith)
+
+loop-again : tie.Need-loop-again Inv-loop μ-loop
+loop-again c =
+    let l = c .before .before .loop in
+    (simp length-set (l .inv .0), write-more _ (l .code) (l .i) _ (omega arith) (l .inv .1) (c .stage-number .ensures))
+
+same-length : tie.Need-same-length Inv-loop μ-loop
+same-length c = c .before .loop .inv .0
+
+returns : tie.Need-returns Inv-loop μ-loop
+returns c =
+    let z = c .before .before .before .before .before .before .before .before in
+    let l = c .before .loop in (
+      stage-same (z .args .most) (now (z .args .s)) (now (z .args .places)) (z .args .counts) (l .code) (z .pre .0) (omega arith) (λ q h. l .inv .1 q (omega arith)),
+      stage-loaded (z .args .most) (now (z .args .s)) (now (z .args .places)) (z .args .counts) (l .code) (z .pre .0) (omega arith)
+          (λ q h. l .inv .1 q (omega arith)) (z .pre .1),
+    )
+
+pub load-stage-spec : {M : Type 1} → statement M
+load-stage-spec =
+    tie.close
+    (tie.spec
+    Inv-loop
+    μ-loop
+    (λ c. omega arith)
+    (λ c. omega arith)
+    (λ c. omega arith)
+    (λ c. omega arith)
+    loop-holds
+    stage-number-requires
+    (λ c. omega arith)
+    (λ c. omega arith)
+    (λ c. omega arith)
+    (λ c. omega arith)
+    loop-again
+    same-length
+    returns)

@@ -1,0 +1,84 @@
+-- What loading asks of a file that was read, what it leaves, and the flat forms number by number.
+use Prim.Native.Nat.{ℕ, _+_, _-_, _*_, _/_, _%_, _≤_}
+use mathlib.Core.Path.{_≡_}
+use mathlib.Core.Bool.{cond}
+use mathlib.Core.List.{List}
+use lib.ListN.{length, getD}
+use lib.Dec.{eqb, leb, ltb}
+use Rattle.gates.specs.Cell.{kindOf}
+use Rattle.gates.specs.declared.Kind.{Kind}
+use Rattle.gates.specs.declared.Kind.the-variants.{Hold, Relaxed, Unknown}
+use Rattle.netlist.specs.declared.File.{File}
+use Rattle.netlist.specs.declared.Limits.{Limits}
+use Rattle.netlist.specs.declared.Counts.{Counts}
+use Rattle.netlist.specs.Bytes.{byte, operand}
+use Rattle.netlist.specs.Reading.{Places, countsOf, Reading, refused, readable, Within}
+use Rattle.netlist.specs.Content.{stageOf, referenceOf}
+use Rattle.netlist.specs.Read.{Read}
+use Rattle.read_file.specs.Files.{mostCare, standing}
+use Rattle.circuit.specs.Stage.{netCount, stageIn, StageLoaded}
+use Rattle.circuit.specs.Reference.{referenceIn, ReferenceLoaded}
+
+-- the places that reading left in a lent slice
+abbrev pub placesIn : Limits → Counts → List ℕ → Places
+placesIn most c places = standing most places c
+
+-- a file was read, and its places are there
+pub record FileRead (f : File) (most : Limits) (s places : List ℕ) (c : Counts) : Type 0 where
+  pub within : Within most c
+  pub few-care : c .care ≤ mostCare f most
+  pub room : most .gates + most .outputs + mostCare f most ≤ length places
+  pub read : Read f most s (placesIn most c places)
+
+-- what a reading leaves in a flat form: the stage, or the reference, where there is one
+unfoldable pub HoldsStage : List ℕ → Reading → List ℕ → Type 0
+HoldsStage s (refused number at) code = Unit {0}
+HoldsStage s (readable p) code = StageLoaded (countsOf p) code × (stageIn (countsOf p) code ≡ stageOf s p)
+
+unfoldable pub HoldsReference : List ℕ → Reading → List ℕ → Type 0
+HoldsReference s (refused number at) code = Unit {0}
+HoldsReference s (readable p) code = ReferenceLoaded (countsOf p) code × (referenceIn (countsOf p) code ≡ referenceOf s p)
+
+-- ---- a stage, number by number
+
+-- the net at pin i of the gate command at a place, or the ground where its kind lacks the pin
+unfoldable pub pinNumber : List ℕ → ℕ → ℕ → ℕ → ℕ → ℕ
+pinNumber s at pins ground i = cond (ltb i pins) (operand s (at + 2 + 2 * i)) ground
+
+-- number j of a gate: its cell, its pins, its places in the order, which are not known yet, and 1 for hold or 0
+unfoldable pub cellNumber : List ℕ → ℕ → ℕ → ℕ → ℕ → ℕ → ℕ → ℕ
+cellNumber s at cell pins hold ground j = cond (eqb j 0) cell (cond (leb j 4) (pinNumber s at pins ground (j - 1)) (cond (eqb j 7) hold 0))
+
+unfoldable pub kindNumber : Kind → List ℕ → ℕ → ℕ → ℕ → ℕ
+kindNumber (Hold cell pins) s at ground j = cellNumber s at cell pins 1 ground j
+kindNumber (Relaxed cell pins) s at ground j = cellNumber s at cell pins 0 ground j
+kindNumber Unknown s at ground j = 0
+
+unfoldable pub gateNumber : List ℕ → ℕ → ℕ → ℕ → ℕ
+gateNumber s at ground j = kindNumber (kindOf (byte s (at + 1))) s at ground j
+
+-- number i of the stage, whose places were left within some limits: those of its gates, then the rails of its outputs, then its care words
+unfoldable pub stageNumber : Limits → List ℕ → List ℕ → Counts → ℕ → ℕ
+stageNumber most s places c i =
+    let j = i - 8 * c .gates in
+    cond (ltb i (8 * c .gates))
+    (gateNumber s (getD places (i / 8) 0) (netCount c) (i % 8))
+    (cond (ltb j (2 * c .outputs))
+    (operand s (getD places (most .gates + j / 2) 0 + 1 + 2 * (j % 2)))
+    (getD places (most .gates + most .outputs + (j - 2 * c .outputs)) 0))
+
+-- ---- a reference, number by number
+
+-- number j of a gate: its operation and its two operands; operation 1, NOT, has its first operand twice
+unfoldable pub operatorNumber : List ℕ → ℕ → ℕ → ℕ
+operatorNumber s at j =
+    cond (eqb j 0) (byte s (at + 1))
+    (cond (eqb j 1) (operand s (at + 2)) (operand s (at + cond (eqb (byte s (at + 1)) 1) 2 4)))
+
+-- number i of the reference: those of its gates, then the signals of its outputs
+unfoldable pub referenceNumber : Limits → List ℕ → List ℕ → Counts → ℕ → ℕ
+referenceNumber most s places c i =
+    let j = i - 3 * c .gates in
+    cond (ltb i (3 * c .gates))
+    (operatorNumber s (getD places (i / 3) 0) (i % 3))
+    (operand s (getD places (most .gates + j) 0 + 1))

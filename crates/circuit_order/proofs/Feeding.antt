@@ -1,0 +1,91 @@
+-- The pins of a gate in the code: four nets, of which those that its cell lacks are the ground, so that no mark is there.
+-- Assumes nothing.
+use Prim.Native.Nat.{ℕ, zero, suc, _+_, _*_, _≤_, _<_}
+use native.Mathlib.Omega.{arith}
+use native.Mathlib.Decide.{decLt, ℕ-discrete}
+use mathlib.Core.Path.{_≡_, refl, sym, ap, _∙_}
+use mathlib.Core.Bool.{Bool, false, _||_}
+use mathlib.Core.List.{List, [], _∷_}
+use lib.ListN.{length, getD, take, set, length-set}
+use lib.Seq.{getD-set-same, getD-set-other}
+use lib.Dec.{ltb}
+use borrow.Author.Tests.{lt-ltb, le-ltb}
+use Rattle.gates.specs.Cell.{pinCount}
+use Rattle.netlist.specs.declared.Counts.{Counts}
+use Rattle.netlist.specs.Content.{Gate}
+use Rattle.verdict.specs.Rows.{high}
+use Rattle.verdict.specs.Graph.{anyHigh}
+use Rattle.verdict.specs.Loops.{pinsAt}
+use Rattle.circuit.specs.Stage.{netCount, cellIn, pinIn, gateIn, stageGates, StageLoaded}
+use Rattle.circuit.specs.Rows.{RowFor, netsIn, patternIn}
+use Rattle.circuit.proofs.Pins.{pattern-nets}
+use Rattle.circuit.proofs.Tabulate.{getD-tabulate, map-tabulate}
+use Rattle.circuit_order.specs.Marks.{MarksFor, fedBy}
+
+pub pinsAt-stageGates : (c : Counts) (code : List ℕ) (k : ℕ) → k < c .gates → pinsAt (stageGates c code) k ≡ gateIn code k .pins
+unfolding stageGates
+pinsAt-stageGates c code k h =
+    ap (λ (l : List (List ℕ)). getD l k []) (map-tabulate (λ (g : Gate). g .pins) (gateIn code) (c .gates))
+    ∙ getD-tabulate (λ i. gateIn code i .pins) (c .gates) k [] h
+
+-- ---- four marks
+
+any-four : (a b c d : ℕ) → ltb 0 (a + 2 * b + 4 * c + 8 * d) ≡ (ltb 0 a || (ltb 0 b || (ltb 0 c || (ltb 0 d || false))))
+any-four a b c d = go (decLt 0 a) (decLt 0 b) (decLt 0 c) (decLt 0 d)
+  where
+    none : (x : ℕ) → ¬ (0 < x) → ltb 0 x ≡ false
+    none x h = le-ltb 0 x (omega arith)
+
+    go : Dec (0 < a) → Dec (0 < b) → Dec (0 < c) → Dec (0 < d) → ltb 0 (a + 2 * b + 4 * c + 8 * d) ≡ (ltb 0 a || (ltb 0 b || (ltb 0 c || (ltb 0 d || false))))
+    go (yes h) y z w = rw (lt-ltb 0 a h) (lt-ltb 0 (a + 2 * b + 4 * c + 8 * d) (omega arith))
+    go (no x) (yes h) z w = rw (none a x, lt-ltb 0 b h) (lt-ltb 0 (a + 2 * b + 4 * c + 8 * d) (omega arith))
+    go (no x) (no y) (yes h) w = rw (none a x, none b y, lt-ltb 0 c h) (lt-ltb 0 (a + 2 * b + 4 * c + 8 * d) (omega arith))
+    go (no x) (no y) (no z) (yes h) = rw (none a x, none b y, none c z, lt-ltb 0 d h) (lt-ltb 0 (a + 2 * b + 4 * c + 8 * d) (omega arith))
+    go (no x) (no y) (no z) (no w) = rw (none a x, none b y, none c z, none d w) (le-ltb 0 (a + 2 * b + 4 * c + 8 * d) (omega arith))
+
+-- nets of which those from place m on are unmarked
+any-first : (marks nets : List ℕ) (m : ℕ) → ((i : ℕ) → m ≤ i → i < length nets → high marks (getD nets i 0) ≡ false) →
+    anyHigh marks nets ≡ anyHigh marks (take m nets)
+any-first marks [] zero low = refl
+any-first marks [] (suc m) low = refl
+any-first marks (p ∷ nets) zero low = rw (low 0 (omega arith) (omega arith)) (any-first marks nets zero (λ i h l. low (suc i) (omega arith) (omega arith)))
+any-first marks (p ∷ nets) (suc m) low = ap (λ (b : Bool). high marks p || b) (any-first marks nets m (λ i h l. low (suc i) (omega arith) (omega arith)))
+
+-- ---- marks are rows of their stage
+
+pub marks-row : (c : Counts) (marks : List ℕ) → MarksFor c marks → RowFor c marks
+marks-row c marks m = record { long = omega (arith, m .long, m .room); bit = λ p h. m .bit p; ground = m .ground }
+
+-- after a store of 0 or 1 at a net
+pub marks-set : (c : Counts) (marks : List ℕ) → MarksFor c marks → (p x : ℕ) → p < netCount c → x ≤ 1 → MarksFor c (set marks p x)
+marks-set c marks m p x h l = record {
+  long = length-set marks p x ∙ m .long;
+  room = m .room;
+  bit = λ q. go q (ℕ-discrete q p);
+  ground = getD-set-other marks p (netCount c) x 0 (λ e. omega arith) ∙ m .ground;
+}
+  where
+    go : (q : ℕ) → Dec (q ≡ p) → getD (set marks p x) q 0 ≤ 1
+    go q (yes e) = rw e (omega (arith, getD-set-same marks p x 0 (omega (arith, m .long, m .room))))
+    go q (no d) = omega (arith, getD-set-other marks p q x 0 d, m .bit q)
+
+module _ (c : Counts) (code marks : List ℕ) (loaded : StageLoaded c code) (m : MarksFor c marks) (k : ℕ) (h : k < c .gates) where
+  abbrev four : List ℕ
+  four = pinIn code k 0 ∷ pinIn code k 1 ∷ pinIn code k 2 ∷ pinIn code k 3 ∷ []
+
+  at : (i : ℕ) → pinCount (cellIn code k) ≤ i → i < 4 → high marks (pinIn code k i) ≡ false
+  at i a l = ap (λ (p : ℕ). high marks p) (loaded .gate k h .absent i a l) ∙ ap (ltb 0) (m .ground)
+
+  low : (i : ℕ) → pinCount (cellIn code k) ≤ i → i < 4 → high marks (getD four i 0) ≡ false
+  low zero a l = at 0 a l
+  low (suc zero) a l = at 1 a l
+  low (suc (suc zero)) a l = at 2 a l
+  low (suc (suc (suc zero))) a l = at 3 a l
+  low (suc (suc (suc (suc i)))) a l = absurd (omega arith)
+
+  pub fed-pattern : ltb 0 (patternIn (netsIn c marks) code k) ≡ fedBy (stageGates c code) marks k
+  fed-pattern =
+      ap (ltb 0) (sym (pattern-nets c code marks loaded (marks-row c marks m) k h))
+      ∙ any-four (getD marks (pinIn code k 0) 0) (getD marks (pinIn code k 1) 0) (getD marks (pinIn code k 2) 0) (getD marks (pinIn code k 3) 0)
+      ∙ any-first marks four (pinCount (cellIn code k)) low
+      ∙ ap (anyHigh marks) (sym (pinsAt-stageGates c code k h))

@@ -1,2 +1,0 @@
-pub mod High
-pub mod Counters

@@ -1,0 +1,4 @@
+pub mod Whole
+pub mod Join
+pub mod Demand
+pub mod Call

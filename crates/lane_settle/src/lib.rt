@@ -1,0 +1,117 @@
+// 64 words of a stage settle side by side: the words stand in blocks of 64, and a block's row holds each net's levels in its words.
+use lane_cells::CellLanes;
+use netlist::Counts;
+ghost use mathlib.Core.Path.{_≡_};
+ghost use mathlib.Core.Bool.{true};
+ghost use mathlib.Core.Logic.{_⊎_};
+ghost use mathlib.Core.List.{List};
+ghost use Prim.Native.Nat.{ℕ, _+_, _*_, _^_, _≤_, _<_};
+ghost use lib.ListN.{length, getD};
+ghost use Rattle.netlist.specs.Reading.{stageLimits};
+ghost use Rattle.circuit.specs.Stage.{netCount, StageLoaded};
+ghost use Rattle.circuit.specs.Order.{InOrder};
+ghost use Rattle.lane_cells.specs.Lane.{lane, rowIn};
+ghost use Rattle.lane_settle.specs.Block.{Room, Spelled, LanesSettledTo, Resting, Marked, gateLanes, PinsMarked};
+
+// As many blocks as the words of the most inputs make.
+pub const BLOCKS: usize = netlist::WORDS / 64;
+
+// How many blocks the words of that many inputs make.
+pub fn block_count(inputs: usize) -> usize
+    requires { ⌜ inputs ≤ stageLimits .inputs ⌝ }
+    ensures { λ r. ⌜ (r ≤ 16) × (2 ^ inputs ≤ 64 * r) × (64 * r < 2 ^ inputs + 64) ⌝ }
+{
+    if inputs < 6 {
+        return 1;
+    }
+    1 << (inputs - 6)
+}
+
+// ---- marks
+
+// Net `net` is marked in some words.
+pub fn mark(ack: &mut [u64], net: u16, words: u64)
+    requires { ⌜ net < length (now ack) ⌝ }
+    ensures { λ r. ⌜ (length (now (ack .exit)) ≡ length (now (ack .entry)))
+        × ((j p : ℕ) → rowIn j (now (ack .exit)) p ≡ true → (rowIn j (now (ack .entry)) p ≡ true) ⊎ ((p ≡ net) × (lane j words ≡ true))) ⌝ }
+{
+    let p = net as usize;
+    let old = ack[p];
+    ack[p] = old | words;
+}
+
+// The nets at the pins of gate k are marked, each in the words that are named for its pin.
+pub fn mark_pins(code: &[u16], counts: Counts, k: usize, words: CellLanes, ack: &mut [u64])
+    requires { ⌜ StageLoaded counts (now code) × (k < counts .gates) × Room counts (now ack) ⌝ }
+    ensures { λ r. ⌜ (length (now (ack .exit)) ≡ length (now (ack .entry))) × PinsMarked (now (code .entry)) k words (now (ack .entry)) (now (ack .exit)) ⌝ }
+{
+    let at = 8 * k;
+    mark(ack, code[at + 1], words.a);
+    mark(ack, code[at + 2], words.b);
+    mark(ack, code[at + 3], words.c);
+    mark(ack, code[at + 4], words.d);
+}
+
+// ---- settling
+
+// The rails of block b: rail 0 of an input is high for 0, rail 1 for 1.
+fn spell_rails(counts: Counts, b: usize, row: &mut [u64])
+    requires { ⌜ (counts .inputs ≤ stageLimits .inputs) × Room counts (now row) × (getD (now row) (netCount counts) 0 ≡ 0) ⌝ }
+    ensures long { λ r. ⌜ length (now (row .exit)) ≡ length (now (row .entry)) ⌝ }
+    ensures spelled { λ r. ⌜ ((code : List ℕ) → InOrder counts code → Spelled counts code b (now (row .exit))) ⌝ }
+{
+    let mut i: usize = 0;
+    while i < counts.inputs {
+        let level = lane_cells::input_lanes(i, b);
+        row[2 * i] = level ^ lane_cells::ALL;
+        row[2 * i + 1] = level;
+        i += 1;
+    }
+}
+
+// What gate k's cell gives in the words of a block, by the levels at its pins.
+fn gate_lanes(code: &[u16], counts: Counts, k: usize, row: &[u64]) -> CellLanes
+    requires { ⌜ StageLoaded counts (now code) × (k < counts .gates) × Room counts (now row) ⌝ }
+    ensures { λ r. ⌜ r ≡ gateLanes (now (code .entry)) k (now (row .entry)) ⌝ }
+{
+    let at = 8 * k;
+    let a = lane_cells::lanes_at(row, code[at + 1]);
+    let b = lane_cells::lanes_at(row, code[at + 2]);
+    let c = lane_cells::lanes_at(row, code[at + 3]);
+    let d = lane_cells::lanes_at(row, code[at + 4]);
+    lane_cells::cell_lanes(code[at], a, b, c, d)
+}
+
+// The gates take their levels in the order, and mark the nets at their pins in the words in which they would not be set without them.
+fn settle_gates(code: &[u16], counts: Counts, row: &mut [u64], ack: &mut [u64])
+    requires { ⌜ StageLoaded counts (now code) × InOrder counts (now code) × Room counts (now row) × Room counts (now ack) ⌝ }
+    ensures long { λ r. ⌜ (length (now (row .exit)) ≡ length (now (row .entry))) × (length (now (ack .exit)) ≡ length (now (ack .entry))) ⌝ }
+    ensures settled { λ r. ⌜ ((b : ℕ) → Spelled counts (now (code .entry)) b (now (row .entry))
+        → LanesSettledTo counts (now (code .entry)) b (now (row .exit)) (counts .gates)) ⌝ }
+    ensures marked { λ r. ⌜ ((b : ℕ) → Spelled counts (now (code .entry)) b (now (row .entry)) → Marked counts (now (code .entry)) b (now (ack .entry))
+        → Marked counts (now (code .entry)) b (now (ack .exit))) ⌝ }
+{
+    let first = 2 * counts.inputs;
+    let count = counts.gates;
+    let mut i: usize = 0;
+    while i < count {
+        let k = code[8 * i + 5] as usize;
+        let cell = gate_lanes(code, counts, k, row);
+        row[first + k] = cell.set;
+        mark_pins(code, counts, k, cell, ack);
+        i += 1;
+    }
+}
+
+// Block b settles: its rails are spelled, the gates take their levels in the order, and mark the nets at their pins in the words in which they
+// would not be set without them.
+pub fn settle(code: &[u16], counts: Counts, b: usize, row: &mut [u64], ack: &mut [u64])
+    requires { ⌜ StageLoaded counts (now code) × InOrder counts (now code) × Room counts (now row) × Room counts (now ack)
+        × (getD (now row) (netCount counts) 0 ≡ 0) ⌝ }
+    ensures long { λ r. ⌜ (length (now (row .exit)) ≡ length (now (row .entry))) × (length (now (ack .exit)) ≡ length (now (ack .entry))) ⌝ }
+    ensures rest { λ r. ⌜ Resting counts (now (code .entry)) b (now (row .exit)) ⌝ }
+    ensures marked { λ r. ⌜ (Marked counts (now (code .entry)) b (now (ack .entry)) → Marked counts (now (code .entry)) b (now (ack .exit))) ⌝ }
+{
+    spell_rails(counts, b, row);
+    settle_gates(code, counts, row, ack);
+}

@@ -1,6 +1,0 @@
-pub mod Made
-pub mod Count
-pub mod Leading
-pub mod Marks
-pub mod Making
-pub mod Promises

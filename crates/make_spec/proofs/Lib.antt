@@ -1,0 +1,11 @@
+pub mod Cases
+pub mod Gates
+pub mod Signals
+pub mod Lists
+pub mod Building
+pub mod Values
+pub mod Leading
+pub mod Marks
+pub mod Stage
+pub mod Making
+pub mod Cut

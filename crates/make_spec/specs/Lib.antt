@@ -1,0 +1,7 @@
+pub mod Made
+pub mod Count
+pub mod Leading
+pub mod Marks
+pub mod Making
+pub mod Promises
+pub mod Call

@@ -1,3 +1,0 @@
-pub mod Turning
-pub mod Membership
-pub mod Listing

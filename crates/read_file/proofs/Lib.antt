@@ -1,0 +1,4 @@
+pub mod Search
+pub mod WholeFile
+pub mod Room
+pub mod Held

@@ -1,0 +1,297 @@
+-- Reading a whole file, as the code does it: the walk from one command to the next, with the places in one lent list, and the tests
+-- at the end command.
+-- Assumes nothing.
+use Prim.Native.Nat.{ℕ, zero, suc, _+_, _*_, _-_, _^_, _≤_, _<_}
+use native.Mathlib.Omega.{arith}
+use native.Mathlib.Numerals.{add-one}
+use native.Mathlib.Nat.{mul-le-mul-right}
+use lib.Pow.{pow-mono}
+use mathlib.Core.Path.{_≡_, refl, sym, ap, ap₂, subst, _∙_}
+use mathlib.Core.Bool.{Bool, true, false, cond}
+use mathlib.Core.List.{List, [], _∷_, _++_}
+use lib.ListN.{length, take, drop, set, length-append, length-set, length-drop}
+use lib.Seq.{take-suc-set, take-set-le, drop-set-lt, drop-set-add}
+use lib.Dec.{eqb, ltb}
+use borrow.Author.Tests.{lt-ltb, le-ltb, eq-eqb, ne-eqb}
+use Rattle.netlist.specs.declared.File.{File}
+use Rattle.netlist.specs.declared.File.the-variants as file
+use Rattle.netlist.specs.declared.Sort.{Sort}
+use Rattle.netlist.specs.declared.Sort.the-variants as sort
+use Rattle.netlist.specs.declared.Limits.{Limits}
+use Rattle.netlist.specs.declared.Cursor.{Cursor}
+use Rattle.netlist.specs.declared.Counts.{Counts}
+use Rattle.netlist.specs.declared.Next.{Next}
+use Rattle.netlist.specs.declared.Next.the-variants.{Command, Refused}
+use Rattle.netlist.specs.declared.Found.{Found}
+use Rattle.netlist.specs.declared.Found.the-variants.{At, Nothing}
+use Rattle.netlist.specs.Bytes.{byte, operand}
+use Rattle.netlist.specs.Commands.{whenFound, isSort, formOf, width, stray, nextAt}
+use Rattle.netlist.specs.Reading.{namelessFrom, Places, floorAfter, countsOf, noted, Reading, refused, readable, finish, onNext, readFrom, readFile}
+use Rattle.netlist.specs.Writing.{commandByte, widthFor}
+use Rattle.read_file.specs.Files.{Follow, FilledTo, Countable, mostCare, RoomFor, standing, Placed}
+use Rattle.netlist.proofs.Encoding.{clash, care-stage, care-form, width-in, width-inputs, width-end}
+use Rattle.netlist.proofs.OneCommand.{There, next-there}
+use Rattle.netlist.proofs.Walk.{floor-snoc, care-taken, Near, near-start, near-far, near-noted}
+
+-- ---- at the end command
+
+-- the counts are those of some places
+module _ (f : File) (s : List ℕ) (at : ℕ) (p : Places) (c : Counts) (e : countsOf p ≡ c) where
+  outputs-same : length (p .outputs) ≡ c .outputs
+  outputs-same = ap (λ (x : Counts). x .outputs) e
+
+  pub finish-8 : c .outputs ≡ 0 → finish f s at p ≡ refused 8 at
+  unfolding finish
+  finish-8 z = rw (eq-eqb (length (p .outputs)) 0 (outputs-same ∙ z))
+
+  module _ (some : c .outputs ≡ 0 → ⊥) where
+    tested : eqb (length (p .outputs)) 0 ≡ false
+    tested = ne-eqb (length (p .outputs)) 0 (λ z. some (sym outputs-same ∙ z))
+
+    pub finish-7 : at + 1 < length s → finish f s at p ≡ refused 7 (at + 1)
+    unfolding finish
+    finish-7 h = rw (tested, lt-ltb (at + 1) (length s) h)
+
+    module _ (last : length s ≤ at + 1) (found : Found) (is : found ≡ namelessFrom (length s) f (c .inputs) (c .gates) s 0 0) where
+      searched : namelessFrom (length s) f (p .inputs) (length (p .gates)) s 0 0 ≡ found
+      searched = ap (λ (x : Counts). namelessFrom (length s) f (x .inputs) (x .gates) s 0 0) e ∙ sym is
+
+      pub finish-9 : (place : ℕ) → found ≡ At place → finish f s at p ≡ refused 9 place
+      unfolding finish whenFound
+      finish-9 place q = rw (tested, le-ltb (at + 1) (length s) last, searched, q)
+
+      pub finish-readable : found ≡ Nothing → finish f s at p ≡ readable p
+      unfolding finish whenFound
+      finish-readable q = rw (tested, le-ltb (at + 1) (length s) last, searched, q)
+
+module _ (most : Limits) (places : List ℕ) where
+  pub refused-placed : (r : Reading) (number at : ℕ) → r ≡ refused number at → Placed most r places
+  unfolding Placed
+  refused-placed r number at e = subst (λ (x : Reading). Placed most x places) (sym e) tt
+
+  finish-placed : (f : File) (s : List ℕ) (at : ℕ) (p : Places) → Placed most (readable p) places → Placed most (finish f s at p) places
+  unfolding finish whenFound Placed
+  finish-placed f s at p h = go (eqb (length (p .outputs)) 0) (ltb (at + 1) (length s)) (namelessFrom (length s) f (p .inputs) (length (p .gates)) s 0 0)
+    where
+      go : (x y : Bool) (found : Found) → Placed most (cond x (refused 8 at) (cond y (refused 7 (at + 1)) (whenFound found (refused 9) (readable p)))) places
+      go true y found = tt
+      go false true found = tt
+      go false false (At place) = tt
+      go false false Nothing = h
+
+-- ---- whole commands fill the file
+
+module _ (f : File) (s : List ℕ) where
+  follow-next : (k from to : ℕ) → Follow f s from k to → to + width (formOf f (byte s to)) ≤ length s → Follow f s from (suc k) (to + width (formOf f (byte s to)))
+  unfolding Follow
+  follow-next zero from to h l = rw h (l, refl)
+  follow-next (suc k) from to h l = (h .0, follow-next k (from + width (formOf f (byte s from))) to (h .1) l)
+
+  filled-next : {at : ℕ} → FilledTo f s at → at + width (formOf f (byte s at)) ≤ length s → FilledTo f s (at + width (formOf f (byte s at)))
+  filled-next {at} h l = record { count = suc (h .count); commands = follow-next (h .count) 0 at (h .commands) l }
+
+  filled-none : FilledTo f s 0
+  unfolding Follow
+  filled-none = record { count = 0; commands = refl }
+
+-- ---- the walk over the commands
+
+-- the counts before a position, as the code has them
+abbrev pub counts : ℕ → ℕ → ℕ → ℕ → ℕ → Counts
+counts n g o k w = record { inputs = n; gates = g; outputs = o; care = k; floor = w }
+
+-- The reading goes on from a position with what stands in the lent list. The position is near enough to 0 for a u16, whole commands fill
+-- the file up to it, and the fuel lasts to the end of the file.
+pub record Walking (f : File) (most : Limits) (s : List ℕ) (long : ℕ) (places : List ℕ) (at : ℕ) (c : Counts) : Type 0 where
+  pub within : at ≤ length s
+  pub inputs-byte : c .inputs < 256
+  pub near : Near f most at c
+  pub long-same : length places ≡ long
+  pub counted : countsOf (standing most places c) ≡ c
+  pub filled : FilledTo f s at
+  pub fuel : ℕ
+  pub enough : length s < at + fuel
+  pub same : readFile f most s ≡ readFrom fuel f most s at (standing most places c)
+
+pub walk-starts : (f : File) (most : Limits) (s places : List ℕ) → Walking f most s (length places) places 0 (counts 0 0 0 0 0)
+unfolding readFile floorAfter
+walk-starts f most s places = record {
+  within = omega arith;
+  inputs-byte = omega arith;
+  near = near-start f most;
+  long-same = refl;
+  counted = refl;
+  filled = filled-none f s;
+  fuel = suc (length s);
+  enough = omega arith;
+  same = refl;
+}
+
+-- the code's match tells the sort of a command that was read
+pub read-as : {x : Next} {c c′ : Sort} {next : Cursor} → x ≡ Command c next → c ≡ c′ → x ≡ Command c′ next
+read-as {next} e told = e ∙ ap (λ (y : Sort). Command y next) told
+
+-- one more of a list that is counted
+one-more : (xs : List ℕ) (x k : ℕ) → length xs ≡ k → length (xs ++ (x ∷ [])) ≡ k + 1
+one-more xs x k e = omega (arith, length-append xs (x ∷ []))
+
+module _ {f : File} {most : Limits} {s : List ℕ} {long : ℕ} {places : List ℕ} {at : ℕ} {c : Counts} (room : RoomFor f most long) (w : Walking f most s long places at c) where
+  pub standing-counts : countsOf (standing most places c) ≡ c
+  standing-counts = w .counted
+
+  -- the position fits a u16
+  pub place-fits : at < 2 ^ 16
+  place-fits = omega (arith, near-far f most (w .near), room .u16s)
+
+  -- the sums that the search for 9 takes fit
+  pub sums-fit : Countable (c .inputs) (c .gates)
+  sums-fit = omega (arith, w .inputs-byte, w .near .gates-in, room .u16s, mul-le-mul-right (most .gates + 1) (width-in f (commandByte f sort.Gate) .0))
+
+  -- x is what stands at the position
+  module _ {x : Next} (is : x ≡ nextAt f most s at c) where
+    walk-step : readFile f most s ≡ onNext (readFrom (w .fuel - 1) f most s) f s at (standing most places c) x
+    unfolding readFrom
+    walk-step =
+        let p : w .fuel ≡ suc (w .fuel - 1) = omega (arith, w .enough, w .within) in
+        w .same ∙ ap (λ (k : ℕ). readFrom k f most s at (standing most places c)) p
+        ∙ ap (onNext (readFrom (w .fuel - 1) f most s) f s at (standing most places c)) (ap (nextAt f most s at) (w .counted) ∙ sym is)
+
+    pub walk-stops : (number place : ℕ) → x ≡ Refused number place → readFile f most s ≡ refused number place
+    unfolding onNext
+    walk-stops number place e = walk-step ∙ rw e
+
+    -- a command of the sort k was read
+    module _ {k : Sort} {next : Cursor} (read : x ≡ Command k next) where
+      after : next .at ≡ at + widthFor f k
+      after = next-there f most s at c k next (sym is ∙ read) .0
+
+      there : There f most s at c k
+      there = next-there f most s at c k next (sym is ∙ read) .1
+
+      form-wide : width (formOf f (byte s at)) ≡ widthFor f k
+      form-wide = ap width (there .command)
+
+      pub walk-further : (at < next .at) × (next .at ≤ length s)
+      walk-further = omega (arith, after, there .room, form-wide, width-in f (byte s at))
+
+      filled-after : FilledTo f s (next .at)
+      filled-after =
+          let e : at + width (formOf f (byte s at)) ≡ next .at = omega (arith, after, form-wide) in
+          rw e at (filled-next f s (w .filled) (omega (arith, walk-further)))
+
+      -- the reading goes on with what the code has then
+      walk-on : isSort sort.End k ≡ false → (places′ : List ℕ) (c′ : Counts) → length places′ ≡ length places → standing most places′ c′ ≡ noted k s at (standing most places c) →
+          countsOf (noted k s at (standing most places c)) ≡ c′ → c′ .inputs < 256 → Walking f most s long places′ (next .at) c′
+      unfolding onNext
+      walk-on more places′ c′ same-length e made small =
+          let stood = standing most places c in
+          let near = subst (λ (x : Counts). Near f most at x × There f most s at x k) (sym (w .counted)) (w .near, there) in
+          record {
+            within = walk-further .1;
+            inputs-byte = small;
+            near = rw after (subst (Near f most (at + widthFor f k)) made (near-noted f most s at stood k more (near .0) (near .1)));
+            long-same = same-length ∙ w .long-same;
+            counted = ap countsOf e ∙ made;
+            filled = filled-after;
+            fuel = w .fuel - 1;
+            enough = omega (arith, walk-further, w .enough);
+            same = walk-step ∙ rw (read, more) (ap (readFrom (w .fuel - 1) f most s (next .at)) (sym e));
+          }
+
+    module _ {next : Cursor} where
+      pub inputs-room : x ≡ Command sort.Inputs next → at + 2 ≤ length s
+      inputs-room read = omega (arith, there read .room, width-inputs f)
+
+      pub gate-room : x ≡ Command sort.Gate next → c .gates < most .gates
+      gate-room read = there read .taken .0
+
+      pub output-room : x ≡ Command sort.Output next → c .outputs < most .outputs
+      output-room read = there read .taken
+
+      -- a care word follows those before it, and there are no more than words of the inputs
+      pub care-room : x ≡ Command sort.Care next → (at + 3 ≤ length s) × (operand s (at + 1) < 2 ^ most .inputs) × (c .care < mostCare f most)
+      unfolding mostCare
+      care-room read =
+          let t = there read in
+          let stage = care-stage f (t .own) in
+          let taken = care-taken f most s at c t in
+          let most-words : mostCare f most ≡ 2 ^ most .inputs = ap (λ (x : File). mostCare x most) stage in
+          omega (arith, t .room, ap width (care-form f stage), taken, w .near .care-in, most-words, pow-mono {i = c .inputs} {j = most .inputs} (w .near .inputs-in))
+
+      pub walk-inputs : x ≡ Command sort.Inputs next → byte s (at + 1) < 256 → Walking f most s long places (next .at) (counts (byte s (at + 1)) (c .gates) (c .outputs) (c .care) (c .floor))
+      unfolding noted
+      walk-inputs read small =
+          walk-on read refl places (counts (byte s (at + 1)) (c .gates) (c .outputs) (c .care) (c .floor)) refl refl
+          (ap (λ (x : Counts). counts (byte s (at + 1)) (x .gates) (x .outputs) (x .care) (x .floor)) (w .counted)) small
+
+      pub walk-gate : x ≡ Command sort.Gate next → Walking f most s long (set places (c .gates) at) (next .at) (counts (c .inputs) (c .gates + 1) (c .outputs) (c .care) (c .floor))
+      unfolding noted
+      walk-gate read =
+          let inside : c .gates < length places = omega (arith, gate-room read, room .space, w .long-same) in
+          walk-on read refl (set places (c .gates) at) (counts (c .inputs) (c .gates + 1) (c .outputs) (c .care) (c .floor)) (length-set places (c .gates) at)
+          (rw (
+            add-one,
+            take-suc-set places (c .gates) at inside,
+            drop-set-lt (most .gates) places (c .gates) at (gate-room read),
+            drop-set-lt (most .gates + most .outputs) places (c .gates) at (omega (arith, gate-room read)),
+          ))
+          (ap₂ (λ (g : ℕ) (x : Counts). counts (c .inputs) g (x .outputs) (x .care) (x .floor))
+          (one-more (take (c .gates) places) at (c .gates) (ap (λ (x : Counts). x .gates) (w .counted))) (w .counted))
+          (w .inputs-byte)
+
+      pub walk-output : x ≡ Command sort.Output next → Walking f most s long (set places (most .gates + c .outputs) at) (next .at) (counts (c .inputs) (c .gates) (c .outputs + 1) (c .care) (c .floor))
+      unfolding noted
+      walk-output read =
+          let inside : c .outputs < length (drop (most .gates) places) = simp length-drop (omega (arith, output-room read, room .space, w .long-same)) in
+          walk-on read refl (set places (most .gates + c .outputs) at) (counts (c .inputs) (c .gates) (c .outputs + 1) (c .care) (c .floor)) (length-set places (most .gates + c .outputs) at)
+          (rw (
+            add-one,
+            take-set-le (c .gates) places (most .gates + c .outputs) at (omega (arith, w .near .gates-in)),
+            drop-set-add (most .gates) places (c .outputs) at,
+            take-suc-set (drop (most .gates) places) (c .outputs) at inside,
+            drop-set-lt (most .gates + most .outputs) places (most .gates + c .outputs) at (omega (arith, output-room read)),
+          ))
+          (ap₂ (λ (o : ℕ) (x : Counts). counts (c .inputs) (x .gates) o (x .care) (x .floor))
+          (one-more (take (c .outputs) (drop (most .gates) places)) at (c .outputs) (ap (λ (x : Counts). x .outputs) (w .counted))) (w .counted))
+          (w .inputs-byte)
+
+      pub walk-care : x ≡ Command sort.Care next → {v : ℕ} → v ≡ operand s (at + 1) →
+          Walking f most s long (set places (most .gates + most .outputs + c .care) v) (next .at) (counts (c .inputs) (c .gates) (c .outputs) (c .care + 1) (v + 1))
+      unfolding noted
+      walk-care read {v} is-word =
+          let first : ℕ = most .gates + most .outputs in
+          let stood = drop first places in
+          let further : first + c .care ≡ most .gates + (most .outputs + c .care) = omega arith in
+          let kept : take (c .outputs) (drop (most .gates) (set places (first + c .care) v)) ≡ take (c .outputs) (drop (most .gates) places) =
+          rw (further, drop-set-add (most .gates) places (most .outputs + c .care) v, take-set-le (c .outputs) (drop (most .gates) places) (most .outputs + c .care) v (omega (arith, w .near .outputs-in))) in
+          let inside : c .care < length stood = simp length-drop (omega (arith, care-room read, room .space, w .long-same)) in
+          walk-on read refl (set places (first + c .care) v) (counts (c .inputs) (c .gates) (c .outputs) (c .care + 1) (v + 1)) (length-set places (first + c .care) v)
+          (rw (
+            ← is-word,
+            add-one,
+            kept,
+            take-set-le (c .gates) places (first + c .care) v (omega (arith, w .near .gates-in)),
+            drop-set-add first places (c .care) v,
+            take-suc-set stood (c .care) v inside,
+          ))
+          (rw (← is-word, floor-snoc 0 (take (c .care) stood) v)
+          (ap₂ (λ (k : ℕ) (x : Counts). counts (c .inputs) (x .gates) (x .outputs) k (v + 1))
+          (one-more (take (c .care) stood) v (c .care) (ap (λ (x : Counts). x .care) (w .counted))) (w .counted)))
+          (w .inputs-byte)
+
+      -- a byte that stands for no command is refused
+      pub walk-unknown : x ≡ Command sort.Unknown next → ⊥
+      unfolding stray
+      walk-unknown read = clash (let o = there read .ordered in cc)
+
+      module _ (read : x ≡ Command sort.End next) where
+        pub walk-ends : readFile f most s ≡ finish f s at (standing most places c)
+        unfolding onNext
+        walk-ends = walk-step ∙ rw read
+
+        pub walk-filled : FilledTo f s (at + 1)
+        walk-filled = let e : next .at ≡ at + 1 = omega (arith, after read, width-end f) in rw e at (filled-after read)
+
+        pub walk-placed : Placed most (readFile f most s) places
+        unfolding Placed
+        walk-placed = rw walk-ends (finish-placed most places f s at (standing most places c) (ap (standing most places) (w .counted)))

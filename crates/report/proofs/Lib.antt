@@ -1,4 +1,0 @@
-pub mod Counting
-pub mod Activity
-pub mod Lines
-pub mod Reporting

@@ -1,0 +1,3 @@
+pub mod High
+pub mod Report
+pub mod Activity

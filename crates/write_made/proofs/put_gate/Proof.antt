@@ -1,0 +1,116 @@
+-- `write_made::put_gate` meets its contract. Assumes nothing.
+use native.Mathlib.Omega.{arith}
+use Prim.Native.Nat.{_+_, _*_, _≤_}
+use mathlib.Core.Path.{sym, ap, _∙_}
+use lib.ListN.{length, length-set}
+use denote.Ref.{now}
+use Rattle.netlist.specs.declared.File.the-variants as file
+use Rattle.make_spec.specs.Made.{Realized}
+use Rattle.write_command.specs.Parts.{gateItem, bytesOf}
+use Rattle.circuit.specs.Reference.{operationIn, operatorIn}
+use Rattle.write_command.proofs.Putting.{put-same}
+use Rattle.write_made.proofs.Operations.{becomes-is, not-gates, other-gates, one-operation, put-no-gate, rails-stored}
+use borrow.Author.Needs.{needs}
+use Rattle.write_made.proofs.put_gate.Statement.{statement}
+use Rattle.write_made.proofs.put_gate.Tie as tie
+
+rails-of-requires : tie.Need-rails-of-requires
+rails-of-requires c κs =
+    let z = c .before .before .before .before .before .before in
+    omega (arith, z .pre .0 .operand (z .args .k) 0 (z .pre .1) (omega arith), z .pre .2, z .pre .1)
+
+rails-of-requires-2 : tie.Need-rails-of-requires-2
+rails-of-requires-2 c κs =
+    let z = c .before .before .before .before .before .before .before .before .before in
+    omega (arith, z .pre .0 .operand (z .args .k) 1 (z .pre .1) (omega arith), z .pre .2, z .pre .1)
+
+result-rails-requires : tie.Need-result-rails-requires
+result-rails-requires c κs =
+    let z = c .before .before .before .before .before .before .before .before .before .before .before in
+    (z .pre .0 .low (z .args .k) (z .pre .1), z .pre .0 .high (z .args .k) (z .pre .1), omega (arith, z .pre .0 .within .inputs-in, z .pre .3))
+
+slice-write-rails-2 : tie.Need-slice-write-rails-2
+slice-write-rails-2 c =
+    let z = c .before .before .before .before .before .before .before .before .before .before .before .before .before in
+    simp length-set (omega (arith, z .pre .1, z .pre .2))
+
+returns : tie.Need-returns
+returns c =
+    let z = c .before .before .before .before .before .before .before .before .before .before .before .before .before .before in
+    let reference = now (z .args .reference) in
+    let k = z .args .k in
+    let first = z .pre .0 .operand k 0 (z .pre .1) (omega arith) in
+    let second = z .pre .0 .operand k 1 (z .pre .1) (omega arith) in
+    let a-is = c .before .before .before .before .before .before .before .rails-of .ensures in
+    let b-is = c .before .before .before .before .rails-of2 .ensures in
+    let is = becomes-is (z .args .sizes) reference k (now (z .args .rails)) (z .args .made) _ _ first second a-is b-is in
+    let none = not-gates (z .args .sizes) reference k (now (z .args .rails)) (z .args .made) _ _ first second a-is b-is (c .if1 .taken) in
+    let rails = c .before .before .result-rails .ensures _ ∙ ap (λ (x : Realized). x .rails) (sym is) in
+    (omega (arith, ap length none), (put-no-gate none, rails-stored (now (z .args .rails)) (2 * (z .args .sizes .inputs + k)) rails))
+
+put-operation-requires : tie.Need-put-operation-requires
+put-operation-requires c κs =
+    let z = c .before .before .before .before .before .before .before .before .before .before .before .before .before .before .before in
+    let k = z .args .k in (
+      omega (arith, z .pre .0 .low k (z .pre .1), c .before .if1 .left),
+      z .pre .0 .high k (z .pre .1),
+      omega (arith, z .pre .4, one-operation (operatorIn (now (z .args .reference)) k) (c .before .if1 .left)),
+    )
+
+returns-2 : tie.Need-returns-2
+returns-2 c =
+    let z = c .before .before .before .before .before .before .before .before .before .before .before .before .before .before .before .before .before .before in
+    let reference = now (z .args .reference) in
+    let k = z .args .k in
+    let first = z .pre .0 .operand k 0 (z .pre .1) (omega arith) in
+    let second = z .pre .0 .operand k 1 (z .pre .1) (omega arith) in
+    let a-is = c .before .before .before .before .before .before .before .before .before .before .before .rails-of .ensures in
+    let b-is = c .before .before .before .before .before .before .before .before .rails-of2 .ensures in
+    let is = becomes-is (z .args .sizes) reference k (now (z .args .rails)) (z .args .made) _ _ first second a-is b-is in
+    let rails = c .before .before .before .before .before .before .result-rails .ensures _ ∙ ap (λ (x : Realized). x .rails) (sym is) in
+    let low : 2 ≤ operationIn reference k = omega (arith, z .pre .0 .low k (z .pre .1), c .before .before .before .before .if1 .left) in
+    let two = other-gates (z .args .sizes) reference k (now (z .args .rails)) (z .args .made) _ _ first second a-is b-is low (z .pre .0 .high k (z .pre .1)) in (
+      omega (arith, two),
+      (
+        put-same (ap (λ (x : Realized). bytesOf file.Stage gateItem (x .gates)) (sym is)) (c .before .before .put-operation .ensures _),
+        rails-stored (now (z .args .rails)) (2 * (z .args .sizes .inputs + k)) rails,
+      ),
+    )
+
+pub put-gate-spec : {M : Type 1} → statement M
+put-gate-spec =
+    tie.close
+    (tie.spec
+    (λ c. search needs)
+    (λ c. search needs)
+    (λ c. search needs)
+    (λ c. search needs)
+    (λ c. search needs)
+    (λ c. search needs)
+    (λ c. search needs)
+    rails-of-requires
+    (λ c. search needs)
+    (λ c. search needs)
+    (λ c. search needs)
+    (λ c. search needs)
+    rails-of-requires-2
+    (λ c. search needs)
+    (λ c. search needs)
+    (λ c. search needs)
+    result-rails-requires
+    (λ c. search needs)
+    (λ c. search needs)
+    (λ c. search needs)
+    (λ c. search needs)
+    (λ c. search needs)
+    (λ c. search needs)
+    slice-write-rails-2
+    (λ c. search needs)
+    returns
+    (λ c. search needs)
+    (λ c. search needs)
+    put-operation-requires
+    (λ c. search needs)
+    (λ c. search needs)
+    (λ c. search needs)
+    returns-2)
