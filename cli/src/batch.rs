@@ -4,6 +4,7 @@ pub mod formats;
 
 use crate::explain::{explain, Order, Pair, Question};
 use crate::failure::{Failure, Outcome};
+use crate::given::Given;
 use crate::input::{read, Identity};
 use crate::output::Paint;
 use rayon::prelude::*;
@@ -34,24 +35,24 @@ pub struct Judged {
 const MOST_PAIRS: usize = 1_000_000;
 const MOST_BYTES: usize = 16_384;
 
-/// The pairs of a folder, or of a list: a file, or standard input for '-'.
-pub fn pairs(from: &Path) -> Outcome<Vec<Named>> {
+/// The pairs of a folder, or of a list: a file, or standard input for '-'. Of a folder those with a stage of this name.
+pub fn pairs(from: &Path, stage: &str) -> Outcome<Vec<Named>> {
     let found = if from.as_os_str() == "-" {
         of_list(io::stdin().lock(), from)?
     } else if fs::metadata(from).map_err(|error| Failure::of(from, &error))?.is_dir() {
-        of_folder(from)?
+        of_folder(from, stage)?
     } else {
         of_list(BufReader::new(File::open(from).map_err(|error| Failure::of(from, &error))?), from)?
     };
     if found.is_empty() {
-        let what = if from.is_dir() { "no stage.ncl in it or below it" } else { "no pair in it" };
+        let what = if from.is_dir() { format!("no {stage} in it or below it") } else { "no pair in it".into() };
         return Err(Failure::says(format!("{}: {what}", crate::failure::shown(from))));
     }
     Ok(found)
 }
 
-/// Every stage.ncl in a folder or below it, with the reference.ncl beside it, by the order of their names. Links to folders are not followed.
-fn of_folder(top: &Path) -> Outcome<Vec<Named>> {
+/// Every stage in a folder or below it, with the reference.ncl beside it, by the order of their names. Links to folders are not followed.
+fn of_folder(top: &Path, stage: &str) -> Outcome<Vec<Named>> {
     let (mut found, mut folders) = (Vec::new(), vec![top.to_path_buf()]);
     while let Some(folder) = folders.pop() {
         let failed = |error: io::Error| Failure::of(&folder, &error);
@@ -59,7 +60,7 @@ fn of_folder(top: &Path) -> Outcome<Vec<Named>> {
             let entry = entry.map_err(failed)?;
             if entry.file_type().map_err(failed)?.is_dir() {
                 folders.push(entry.path());
-            } else if entry.file_name() == "stage.ncl" {
+            } else if entry.file_name() == stage {
                 found.push(Named { stage: entry.path(), reference: folder.join("reference.ncl") });
             }
         }
@@ -103,10 +104,11 @@ fn split(line: &[u8]) -> Option<[&[u8]; 2]> {
     (parts.next().is_none() && names).then_some(two)
 }
 
-/// How pairs are judged: how words are named, and whether a refusal is explained.
+/// How pairs are judged: how words are named, whether all stages are texts, and whether a refusal is explained.
 #[derive(Clone, Copy)]
 pub struct Manner {
     pub order: Order,
+    pub text: bool,
     pub explain: bool,
 }
 
@@ -121,19 +123,22 @@ pub fn judge(pairs: &[Named], manner: Manner, done: impl Fn() + Sync) -> Vec<Jud
 }
 
 fn judge_one(named: &Named, manner: Manner) -> Judged {
-    let files = [&named.stage, &named.reference].map(|path| match path.as_os_str() == "-" {
-        true => Err(Failure::says("'-': a list names files")),
-        false => read(path),
-    });
-    let identities = files.iter().flatten().filter_map(|file| file.identity).collect();
+    let no_file = |path: &PathBuf| path.as_os_str() == "-";
+    let files = if no_file(&named.stage) || no_file(&named.reference) {
+        Err(Failure::says("'-': a list names files"))
+    } else {
+        Given::read(&named.stage, manner.text).and_then(|stage| Ok((stage, read(&named.reference)?)))
+    };
+    let mut identities = Vec::new();
     let (verdict, explained) = match files {
-        [Ok(stage), Ok(reference)] => {
-            let verdict = fovaheju::check(manner.order.mark(), &stage.bytes, &reference.bytes);
+        Ok((stage, reference)) => {
+            identities.extend([stage.input.identity, reference.identity].into_iter().flatten());
+            let verdict = stage.check(manner.order, &reference.bytes);
             let question = Question::Check(Pair::whole(&stage, &reference));
             let wanted = manner.explain && !verdict.accepts();
             (Ok(verdict), wanted.then(|| explain(question, verdict, manner.order, Paint::NONE)))
         }
-        [Err(failure), _] | [_, Err(failure)] => (Err(failure.0.unwrap_or_default()), None),
+        Err(failure) => (Err(failure.0.unwrap_or_default()), None),
     };
     Judged { named: named.clone(), verdict, explained, identities }
 }

@@ -5,13 +5,17 @@ mod check;
 mod completion;
 mod explain;
 mod join;
+mod load;
 mod make;
+mod next;
 mod report;
 mod row;
+mod text;
 
 use crate::explain::{sentence, Order, Question};
 use crate::failure::Outcome;
-use crate::numbers::title;
+use crate::given::Given;
+use crate::input::{one_standard_input, read, Input};
 use crate::output::{on_terminal, put, Paint};
 use crate::Found;
 use clap::{value_parser, Arg, ArgAction, ArgMatches, Command};
@@ -22,10 +26,8 @@ use std::path::{Path, PathBuf};
 
 type Row = (&'static str, fn() -> Command, fn(&ArgMatches) -> Outcome<Found>);
 
-/// In the order of the help. Of the calls that land later, each is a module and a row here: `text` of M-109 (fovaheju_read_text and
-/// fovaheju_write_text; `--text` of `check` and `explain` then takes a stage as text), `next` of M-112 (fovaheju_next_stage), and `load`
-/// of M-113 (fovaheju_draw_reference).
-const ROWS: [Row; 8] = [
+/// In the order of the help.
+const ROWS: [Row; 11] = [
     ("check", check::command, check::run),
     ("explain", explain::command, explain::run),
     ("batch", batch::command, batch::run),
@@ -33,6 +35,9 @@ const ROWS: [Row; 8] = [
     ("row", row::command, row::run),
     ("join", join::command, join::run),
     ("make", make::command, make::run),
+    ("text", text::command, text::run),
+    ("next", next::command, next::run),
+    ("load", load::command, load::run),
     ("completion", completion::command, completion::run),
 ];
 
@@ -81,6 +86,18 @@ fn flag(name: &'static str, help: &'static str) -> Arg {
     Arg::new(name).long(name).action(ArgAction::SetTrue).help(help)
 }
 
+fn stage_arg() -> Arg {
+    file("stage", "STAGE", "The stage file, or a text in the line form (--text, or a name that ends in .txt); '-' is standard input")
+}
+
+fn reference_arg() -> Arg {
+    file("reference", "REFERENCE", "The reference file; '-' is standard input")
+}
+
+fn text_flag() -> Arg {
+    flag("text", "STAGE is a text in the line form, whatever its name is")
+}
+
 fn lowest() -> Arg {
     flag("lowest", "Name words with input 0 as the lowest bit, as stored verdicts of before do")
 }
@@ -105,6 +122,18 @@ fn path<'a>(matches: &'a ArgMatches, name: &str) -> &'a Path {
     matches.get_one::<PathBuf>(name).expect("clap asks for it")
 }
 
+/// The stage that is given, as a file or as text.
+fn given(matches: &ArgMatches) -> Outcome<Given> {
+    Given::read(path(matches, "stage"), matches.get_flag("text"))
+}
+
+/// The same with its reference.
+fn given_pair(matches: &ArgMatches) -> Outcome<(Given, Input)> {
+    let reference = path(matches, "reference");
+    one_standard_input(&[path(matches, "stage"), reference])?;
+    Ok((given(matches)?, read(reference)?))
+}
+
 fn order(matches: &ArgMatches) -> Order {
     Order { lowest: matches.get_flag("lowest") }
 }
@@ -118,14 +147,14 @@ fn found(verdict: Verdict) -> Found {
 }
 
 /// A verdict as JSON.
-fn verdict_json(verdict: Verdict) -> Value {
+fn verdict_json(question: Question, verdict: Verdict) -> Value {
     json!({
         "accepted": verdict.accepts(),
         "number": verdict.number,
         "file": verdict.file,
         "at": verdict.at,
         "word": verdict.word,
-        "title": title(verdict.number),
+        "title": question.title(verdict.number),
     })
 }
 
@@ -137,7 +166,7 @@ fn answer(question: Question, verdict: Verdict, order: Order, explained: bool) -
     let mut text = format!("{verdict}\n");
     if on_terminal() {
         let paint = Paint::of_output();
-        let called = title(verdict.number);
+        let called = question.title(verdict.number);
         if verdict.accepts() {
             text += &format!("{}\n", paint.good(called));
         } else {
@@ -145,6 +174,16 @@ fn answer(question: Question, verdict: Verdict, order: Order, explained: bool) -
         }
     }
     text
+}
+
+/// What a call that writes files prints, and its exit status.
+fn answered(matches: &ArgMatches, question: Question, verdict: Verdict, order: Order) -> Outcome<Found> {
+    if matches.get_flag("json") {
+        put_json(&verdict_json(question, verdict))?;
+    } else if !matches.get_flag("quiet") {
+        put(answer(question, verdict, order, matches.get_flag("explain")).as_bytes())?;
+    }
+    Ok(found(verdict))
 }
 
 /// Prints a JSON value on one line.

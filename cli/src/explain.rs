@@ -3,45 +3,71 @@
 mod bytes;
 mod changes;
 mod circuit;
+mod lines;
+mod small;
 mod words;
 
+use crate::given::Given;
 use crate::input::Input;
-use crate::netlist::{many, Reference, Side, Stage};
+use crate::netlist::{many, Reference, Side};
 use crate::numbers::title;
 use crate::output::Paint;
 use fovaheju::Verdict;
 
-/// Which call gave the verdict, on which files. A call that lands later has its case here.
+/// Which call gave the verdict, on which files. A new call has its case here.
 #[derive(Clone, Copy)]
 pub enum Question<'a> {
     Check(Pair<'a>),
-    Row { stage: &'a Input, row: &'a [u8] },
+    Row { stage: &'a Given, row: &'a [u8] },
     Join([Pair<'a>; 2]),
     Make { reference: &'a Input },
+    ReadText { text: &'a Given },
+    WriteText { stage: &'a Given },
+    Next { stage: &'a Input },
+    Draw(Load),
+}
+
+/// What a reference is drawn from.
+#[derive(Clone, Copy)]
+pub struct Load {
+    pub seed: u32,
+    pub inputs: usize,
+    pub gates: usize,
+}
+
+impl Question<'_> {
+    /// What a number is called here, in a few words.
+    pub fn title(self, number: u64) -> &'static str {
+        match (self, number) {
+            (Question::WriteText { .. }, 29) => "a care list has no text",
+            (Question::WriteText { .. }, 31) => "a second name for a net",
+            _ => title(number),
+        }
+    }
 }
 
 /// A stage and its reference, with the gates that each may have.
 #[derive(Clone, Copy)]
 pub struct Pair<'a> {
-    pub stage: &'a Input,
+    pub stage: &'a Given,
     pub reference: &'a Input,
     limits: [usize; 2],
 }
 
 impl<'a> Pair<'a> {
     /// Two files of the check.
-    pub fn whole(stage: &'a Input, reference: &'a Input) -> Pair<'a> {
+    pub fn whole(stage: &'a Given, reference: &'a Input) -> Pair<'a> {
         Pair { stage, reference, limits: [256, 512] }
     }
 
     /// Two files that are a part of a join.
-    pub fn part(stage: &'a Input, reference: &'a Input) -> Pair<'a> {
+    pub fn part(stage: &'a Given, reference: &'a Input) -> Pair<'a> {
         Pair { stage, reference, limits: [128, 256] }
     }
 }
 
 /// How words are named: with input 0 as the leftmost digit, or as the lowest bit.
-#[derive(Clone, Copy, PartialEq, Eq)]
+#[derive(Clone, Copy, PartialEq, Eq, Default)]
 pub struct Order {
     pub lowest: bool,
 }
@@ -146,7 +172,7 @@ fn wrapped(words: &str, width: usize) -> Vec<String> {
 
 /// The verdict and all that can be said of it.
 pub fn explain(question: Question, verdict: Verdict, order: Order, paint: Paint) -> String {
-    let called = title(verdict.number);
+    let called = question.title(verdict.number);
     let called = if verdict.accepts() { paint.good(called) } else { paint.bad(called) };
     format!("{verdict}  {called}\n{}", said(question, verdict, order, true).rendered(paint))
 }
@@ -155,7 +181,7 @@ pub fn explain(question: Question, verdict: Verdict, order: Order, paint: Paint)
 pub fn sentence(question: Question, verdict: Verdict, order: Order) -> String {
     let text = said(question, verdict, order, false);
     let found = text.labelled("found").unwrap_or_default();
-    match text.labelled("file") {
+    match text.labelled("file").or(text.labelled("text")) {
         Some(place) => format!("{place}: {found}"),
         None => found.into(),
     }
@@ -168,16 +194,35 @@ fn said(question: Question, verdict: Verdict, order: Order, thorough: bool) -> T
         Question::Row { stage, row } => of_row(&mut text, verdict, stage, row),
         Question::Join(parts) => of_join(&mut text, verdict, parts, order),
         Question::Make { reference } => of_make(&mut text, verdict, reference),
+        Question::ReadText { text: given } => of_read_text(&mut text, verdict, given),
+        Question::WriteText { stage } => small::of_write_text(&mut text, verdict, stage),
+        Question::Next { stage } => small::of_next(&mut text, verdict, stage),
+        Question::Draw(load) => small::of_draw(&mut text, verdict, load),
     }
     text
 }
 
+/// What reading a text finds.
+fn of_read_text(text: &mut Text, verdict: Verdict, given: &Given) {
+    match verdict.number {
+        0 => {
+            text.row("text", &format!("{}: {}", given.name(), given.stage().counts()));
+            text.row("found", "the text reads, and its stage file is made; 'ncl check' judges it");
+        }
+        3 | 5 | 6 | 29..=31 => lines::refused(text, verdict, given),
+        _ => unknown(text, verdict),
+    }
+}
+
 /// What the check finds in two files.
 fn of_pair(text: &mut Text, verdict: Verdict, pair: Pair, order: Order) {
+    if pair.stage.refused().is_some() {
+        return of_read_text(text, verdict, pair.stage);
+    }
     match (verdict.number, verdict.file) {
         (0, _) => {
-            let stage = Stage::of(&pair.stage.bytes);
-            text.row("stage", &format!("{}: {}", pair.stage.name, stage.counts()));
+            let stage = pair.stage.stage();
+            text.row("stage", &format!("{}: {}", pair.stage.name(), stage.counts()));
             let words = if stage.care.is_empty() { "in every word" } else { "in each of its care words" };
             text.row(
                 "found",
@@ -188,11 +233,11 @@ fn of_pair(text: &mut Text, verdict: Verdict, pair: Pair, order: Order) {
             );
         }
         (1..=9 | 18 | 19, 2) => bytes::unreadable(text, verdict, pair.reference, Side::Reference, pair.limits[1]),
-        (1..=9 | 18 | 19, _) => bytes::unreadable(text, verdict, pair.stage, Side::Stage, pair.limits[0]),
+        (1..=9 | 18 | 19, _) => bytes::unreadable(text, verdict, &pair.stage.input, Side::Stage, pair.limits[0]),
         (10 | 11, _) => {
             let what = if verdict.number == 10 { "input" } else { "output" };
             let (at, word) = (verdict.at as usize, verdict.word as usize);
-            text.row("stage", &format!("{}: {}", pair.stage.name, many(at, what)));
+            text.row("stage", &format!("{}: {}", pair.stage.name(), many(at, what)));
             text.row("reference", &format!("{}: {}", pair.reference.name, many(word, what)));
             text.row("found", &format!("the stage has {}, the reference {word}", many(at, what)));
             text.row("to do", &format!("pair the stage with its own reference, or give the one that lacks {what}s what is missing"));
@@ -201,7 +246,7 @@ fn of_pair(text: &mut Text, verdict: Verdict, pair: Pair, order: Order) {
             let gates = circuit::on_a_loop(text, verdict, pair.stage);
             if text.thorough {
                 let named = changes::Named { gates: &gates, output: None, net: None };
-                changes::accepted(text, pair, order, &Stage::of(&pair.stage.bytes), &named);
+                changes::accepted(text, pair, order, &pair.stage.stage(), &named);
             }
         }
         (28, _) => circuit::retired(text, verdict, pair, order),
@@ -211,26 +256,29 @@ fn of_pair(text: &mut Text, verdict: Verdict, pair: Pair, order: Order) {
 }
 
 /// What the settled-row call finds.
-fn of_row(text: &mut Text, verdict: Verdict, file: &Input, row: &[u8]) {
-    let stage = Stage::of(&file.bytes);
+fn of_row(text: &mut Text, verdict: Verdict, file: &Given, row: &[u8]) {
+    if file.refused().is_some() {
+        return of_read_text(text, verdict, file);
+    }
+    let stage = file.stage();
     let at = verdict.at as usize;
     match verdict.number {
         0 => text.row("found", "the row is settled: each gate is high exactly if its set expression holds"),
-        1..=9 | 18 | 19 => bytes::unreadable(text, verdict, file, Side::Stage, 256),
+        1..=9 | 18 | 19 => bytes::unreadable(text, verdict, &file.input, Side::Stage, 256),
         12 => {
             circuit::on_a_loop(text, verdict, file);
         }
         16 => {
-            text.row("stage", &format!("{}: {}", file.name, stage.counts()));
+            text.row("stage", &format!("{}: {}", file.name(), stage.counts()));
             let nets = stage.nets();
             text.row("found", &format!("the row has {}, and the stage has {}", many(at, "byte"), many(nets, "net")));
             let inputs = many(stage.inputs, "input");
             text.row("to do", &format!("give a value for each of the {inputs}; as bytes two for each input, then one for each gate"));
         }
         17 => {
-            text.row("stage", &format!("{}: {}", file.name, stage.counts()));
+            text.row("stage", &format!("{}: {}", file.name(), stage.counts()));
             let rails: Vec<String> = row.iter().skip(2 * at).take(2).map(u8::to_string).collect();
-            text.row("found", &format!("the rails of x{at} are {}", rails.join(" and ")));
+            text.row("found", &format!("the rails of {} are {}", stage.input_name(at), rails.join(" and ")));
             text.row("to do", "write 0 or 1 to each rail, and 1 to at most one of the two");
         }
         _ => unknown(text, verdict),
@@ -243,8 +291,8 @@ fn of_join(text: &mut Text, verdict: Verdict, [first, second]: [Pair; 2], order:
         (0, _) => text.row("found", "both parts are accepted and fit, so the whole is accepted too"),
         (22, _) => {
             let (outputs, inputs) = (verdict.at as usize, verdict.word as usize);
-            text.row("first", &format!("{}: {}", first.stage.name, many(outputs, "output")));
-            text.row("second", &format!("{}: {}", second.stage.name, many(inputs, "input")));
+            text.row("first", &format!("{}: {}", first.stage.name(), many(outputs, "output")));
+            text.row("second", &format!("{}: {}", second.stage.name(), many(inputs, "input")));
             text.row("found", &format!("the first part has {}, the second {}", many(outputs, "output"), many(inputs, "input")));
             text.row("to do", "join parts that fit: output j of the first is tied to input j of the second");
         }
@@ -263,18 +311,18 @@ fn of_join(text: &mut Text, verdict: Verdict, [first, second]: [Pair; 2], order:
 
 /// 23: an answer of the first part that is no care word of the second.
 fn seam(text: &mut Text, verdict: Verdict, [first, second]: [Pair; 2], order: Order) {
-    let stage = Stage::of(&first.stage.bytes);
+    let stage = first.stage.stage();
     let values = order.values(verdict.word, stage.inputs);
     let answer = Reference::of(&first.reference.bytes).answer(&values);
     let word: usize = answer.iter().enumerate().map(|(j, &bit)| usize::from(bit) << j).sum();
-    let care = Stage::of(&second.stage.bytes).care;
-    words::say_word(text, verdict.word, &values, order);
+    let care = second.stage.stage().care;
+    words::say_word(text, verdict.word, &values, order, &stage);
     let digits: String = answer.iter().map(|&bit| if bit { '1' } else { '0' }).collect();
     text.row(
         "found",
         &format!("the first part answers {} = {digits}, word {word}, which the second does not care for", words::range("y", answer.len())),
     );
-    text.row("second", &format!("{}: {}, {}", second.stage.name, many(care.len(), "care word"), some(&care)));
+    text.row("second", &format!("{}: {}, {}", second.stage.name(), many(care.len(), "care word"), some(&care)));
     text.row(
         "to do",
         &format!("add {word} to the care words of the second part and check it, or take this word out of those of the first"),

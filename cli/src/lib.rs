@@ -6,6 +6,7 @@ mod commands;
 pub mod explain;
 pub mod failure;
 pub mod fresh;
+pub mod given;
 pub mod input;
 pub mod levels;
 pub mod netlist;

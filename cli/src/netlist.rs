@@ -1,6 +1,6 @@
 //! What the bytes of the two files say: their commands one by one, and what a readable file holds. For showing only: that a file reads, and
-//! every number of a verdict, comes from the proved library. Names are those of the line form: input i is `xi` with the rails `xi_0` and
-//! `xi_1`, gate k is `gk`, output j is `yj`; signal k of a reference is `sk`.
+//! every number of a verdict, comes from the proved library. Names are those of a text where the stage came as one, and else those that a
+//! written text has: input i is `xi` with the rails `xi_0` and `xi_1`, gate k is `gk`, output j is `yj`; signal k of a reference is `sk`.
 
 /// An operand that is not used.
 pub const ABSENT: usize = 0xFFFF;
@@ -77,7 +77,7 @@ pub fn operation_name(operation: u8) -> Option<&'static str> {
     OPERATIONS.get(usize::from(operation).checked_sub(1)?).copied()
 }
 
-/// The commands of the two files. A command that lands later has a row here, and what it says in `Listing::said`.
+/// The commands of the two files. A new command has a row here, and what it says in `Listing::said`.
 #[derive(Clone, Copy, PartialEq, Eq, Debug)]
 pub enum Form {
     Inputs,
@@ -153,6 +153,14 @@ impl Gate {
     }
 }
 
+/// The names that a text gives: those of its inputs, of its outputs, and of the nets of its gates.
+#[derive(Clone, Debug, Default, PartialEq, Eq)]
+pub struct Names {
+    pub inputs: Vec<String>,
+    pub outputs: Vec<String>,
+    pub gates: Vec<String>,
+}
+
 /// What a stage file holds, as far as it can be told.
 #[derive(Clone, Debug, Default)]
 pub struct Stage {
@@ -160,6 +168,8 @@ pub struct Stage {
     pub gates: Vec<Gate>,
     pub outputs: Vec<[usize; 2]>,
     pub care: Vec<usize>,
+    /// Where it came as text: what the text calls its parts.
+    pub names: Option<Names>,
 }
 
 impl Stage {
@@ -195,20 +205,38 @@ impl Stage {
         net.checked_sub(2 * self.inputs).filter(|&gate| gate < self.gates.len())
     }
 
+    /// What a text calls a part, or else its letter and number.
+    fn called(&self, part: impl Fn(&Names) -> &Vec<String>, letter: char, number: usize) -> String {
+        let given = self.names.as_ref().and_then(|names| part(names).get(number));
+        given.cloned().unwrap_or_else(|| format!("{letter}{number}"))
+    }
+
+    pub fn input_name(&self, input: usize) -> String {
+        self.called(|names| &names.inputs, 'x', input)
+    }
+
+    pub fn output_name(&self, output: usize) -> String {
+        self.called(|names| &names.outputs, 'y', output)
+    }
+
+    pub fn gate_name(&self, gate: usize) -> String {
+        self.called(|names| &names.gates, 'g', gate)
+    }
+
     pub fn net_name(&self, net: usize) -> String {
         match self.driver(net) {
             _ if net == ABSENT => "-".into(),
-            _ if net < 2 * self.inputs => format!("x{}_{}", net / 2, net % 2),
-            Some(gate) => format!("g{gate}"),
+            _ if net < 2 * self.inputs => format!("{}_{}", self.input_name(net / 2), net % 2),
+            Some(gate) => self.gate_name(gate),
             None => format!("net {net}"),
         }
     }
 
     /// A gate as `g3 = TH22(x0_1, g1)`.
     pub fn gate_text(&self, gate: usize) -> String {
-        let Some(found) = self.gates.get(gate) else { return format!("g{gate}") };
+        let Some(found) = self.gates.get(gate) else { return self.gate_name(gate) };
         let pins: Vec<String> = found.pins.iter().map(|&pin| self.net_name(pin)).collect();
-        format!("g{gate} = {}({})", found.name(), pins.join(", "))
+        format!("{} = {}({})", self.gate_name(gate), found.name(), pins.join(", "))
     }
 
     /// The gates that read a net, in file order.

@@ -1,7 +1,7 @@
 //! Writing: to standard output by one checked writer, and to files whole or not at all.
 
 use crate::failure::{plain, shown, Failure, Outcome};
-use crate::input::{Identity, Input};
+use crate::input::Identity;
 use std::fs::{self, File, OpenOptions};
 use std::io::{self, ErrorKind, IsTerminal, Write};
 use std::os::unix::fs::MetadataExt;
@@ -146,13 +146,7 @@ impl Drop for Leftovers {
 
 /// Writes files, all of them whole or none: each is written beside its place first, and takes it once all are there. A file that was read is
 /// not written over unless that is asked for, and two names of one file are refused.
-pub fn write_files(files: &[(&Path, &[u8])], inputs: &[Input], force: bool) -> Outcome<()> {
-    let identities: Vec<Identity> = inputs.iter().filter_map(|input| input.identity).collect();
-    write_beside(files, &identities, force)
-}
-
-/// The same, of inputs by their identities.
-pub fn write_beside(files: &[(&Path, &[u8])], inputs: &[Identity], force: bool) -> Outcome<()> {
+pub fn write_files(files: &[(&Path, &[u8])], inputs: &[Identity], force: bool) -> Outcome<()> {
     let targets: Vec<Target> = files.iter().map(|file| file.0).enumerate().map(Target::of).collect::<Outcome<_>>()?;
     for (k, target) in targets.iter().enumerate() {
         let name = shown(&target.given);

@@ -14,6 +14,8 @@ pub struct Verdict {
 }
 
 impl Verdict {
+    pub const ACCEPTED: Verdict = Verdict { number: 0, file: 0, at: 0, word: 0 };
+
     /// The four numbers in their order.
     pub fn numbers(self) -> [u64; 4] {
         [self.number, self.file, self.at, self.word]

@@ -1,13 +1,13 @@
 //! `ncl batch`: the verdicts on many pairs.
 
-use super::{flag, lowest, order, quiet};
+use super::{flag, lowest, order, quiet, text_flag};
 use crate::batch::formats::{head, junit, line, Format};
 use crate::batch::{judge, pairs, Judged, Manner, Named};
 use crate::failure::{Failure, Outcome};
 use crate::input::Identity;
 use crate::netlist::many;
 use crate::numbers::title;
-use crate::output::{put, tell, write_beside};
+use crate::output::{put, tell, write_files};
 use crate::Found;
 use clap::{value_parser, Arg, ArgGroup, ArgMatches, Command};
 use indicatif::{ProgressBar, ProgressDrawTarget, ProgressStyle};
@@ -40,12 +40,13 @@ pub fn command() -> Command {
         .arg(output.help("Write the lines to a file, whole or not at all"))
         .arg(flag("explain", "Say of each refused pair why it is refused, and what to do").conflicts_with("csv"))
         .arg(flag("force", "Let the file be one of those that were read"))
-        .args([lowest(), quiet()])
+        .args([text_flag().help("All stages are texts in the line form; of a folder every stage.txt is judged"), lowest(), quiet()])
         .after_help(
             "\
 Of a folder every stage.ncl in it or below it is judged against the reference.ncl beside it. A list has the names of a stage and
-its reference on each line, with white space or one tab between them, from the current folder on; lines with # are passed over.
-A summary by number follows on standard error. Exit status: 0 all accepted, 1 some refused, 2 some could not be read.
+its reference on each line, with white space or one tab between them, from the current folder on; lines with # are passed over,
+and a stage whose name ends in .txt is a text. A summary by number follows on standard error. Exit status: 0 all accepted, 1 some refused,
+2 some could not be read.
 
 Examples:
   ncl batch designs
@@ -85,9 +86,10 @@ impl Lines {
 
 pub fn run(matches: &ArgMatches) -> Outcome<Found> {
     let froms: Vec<&PathBuf> = matches.get_many("from").expect("clap asks for it").collect();
+    let stage = if matches.get_flag("text") { "stage.txt" } else { "stage.ncl" };
     let mut all = Vec::new();
     for from in &froms {
-        all.extend(pairs(from)?);
+        all.extend(pairs(from, stage)?);
     }
     if let Some(&jobs) = matches.get_one::<u16>("jobs") {
         let pool = rayon::ThreadPoolBuilder::new().num_threads(jobs.into()).build_global();
@@ -100,7 +102,7 @@ pub fn run(matches: &ArgMatches) -> Outcome<Found> {
     summary.identities.extend(froms.iter().filter_map(|from| from.metadata().ok()).map(|data| (data.dev(), data.ino())));
     judge_all(&all, matches, &mut lines, &mut summary)?;
     if let (Some(path), Some(bytes)) = (output, &lines.kept) {
-        write_beside(&[(path, bytes)], &summary.identities, matches.get_flag("force"))?;
+        write_files(&[(path, bytes)], &summary.identities, matches.get_flag("force"))?;
     }
     if !quiet {
         summary.say(all.len());
@@ -111,7 +113,7 @@ pub fn run(matches: &ArgMatches) -> Outcome<Found> {
 /// Judges all pairs, some at a time, and hands their lines on.
 fn judge_all(all: &[Named], matches: &ArgMatches, lines: &mut Lines, summary: &mut Summary) -> Outcome<()> {
     let format = format(matches);
-    let manner = Manner { order: order(matches), explain: matches.get_flag("explain") };
+    let manner = Manner { order: order(matches), text: matches.get_flag("text"), explain: matches.get_flag("explain") };
     let began = Instant::now();
     let bar = ProgressBar::with_draw_target(Some(all.len() as u64), ProgressDrawTarget::hidden());
     let style = ProgressStyle::with_template("{bar:30} {pos}/{len} pairs, {eta} to go");

@@ -1,10 +1,11 @@
 //! `ncl join`: two stages in a row as one.
 
-use super::{answer, explain_flag, file, force, found, json_flag, lowest, order, path, put_json, quiet, verdict_json};
+use super::{answered, explain_flag, file, force, json_flag, lowest, order, path, quiet};
 use crate::explain::{Pair, Question};
 use crate::failure::Outcome;
-use crate::input::read_all;
-use crate::output::{put, write_files};
+use crate::given::Given;
+use crate::input::{read_all, Identity};
+use crate::output::write_files;
 use crate::Found;
 use clap::{ArgMatches, Command};
 use fovaheju::{JOINED_REFERENCE, JOINED_STAGE};
@@ -41,13 +42,12 @@ pub fn run(matches: &ArgMatches) -> Outcome<Found> {
     reference.truncate(joined.reference_count as usize);
     if joined.verdict.accepts() {
         let new = [(path(matches, "stage"), &stage[..]), (path(matches, "reference"), &reference[..])];
-        write_files(&new, &files, matches.get_flag("force"))?;
+        let read: Vec<Identity> = files.iter().filter_map(|file| file.identity).collect();
+        write_files(&new, &read, matches.get_flag("force"))?;
     }
-    if matches.get_flag("json") {
-        put_json(&verdict_json(joined.verdict))?;
-    } else if !matches.get_flag("quiet") {
-        let question = Question::Join([Pair::part(&files[0], &files[1]), Pair::part(&files[2], &files[3])]);
-        put(answer(question, joined.verdict, order, matches.get_flag("explain")).as_bytes())?;
-    }
-    Ok(found(joined.verdict))
+    let mut files = files.into_iter();
+    let mut part = || Some((Given::file(files.next()?), files.next()?));
+    let (first, second) = part().zip(part()).expect("four were read");
+    let question = Question::Join([Pair::part(&first.0, &first.1), Pair::part(&second.0, &second.1)]);
+    answered(matches, question, joined.verdict, order)
 }

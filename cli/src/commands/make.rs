@@ -1,19 +1,18 @@
 //! `ncl make`: a stage from a reference.
 
-use super::{answer, explain_flag, file, force, found, json_flag, path, put_json, quiet, verdict_json};
+use super::{answered, explain_flag, file, force, json_flag, path, quiet, reference_arg};
 use crate::explain::{Order, Question};
 use crate::failure::Outcome;
 use crate::input::read;
-use crate::output::{put, write_files};
+use crate::output::write_files;
 use crate::Found;
 use clap::{ArgMatches, Command};
 use fovaheju::MADE_STAGE;
-use std::slice;
 
 pub fn command() -> Command {
     Command::new("make")
         .about("A stage from a reference: NOT swaps rails, every other operation becomes two gates")
-        .arg(file("reference", "REFERENCE", "The reference file; '-' is standard input"))
+        .arg(reference_arg())
         .arg(file("stage", "NEW-STAGE", "Where the stage is written"))
         .args([json_flag(), explain_flag(), force(), quiet()])
         .after_help(
@@ -31,13 +30,8 @@ pub fn run(matches: &ArgMatches) -> Outcome<Found> {
     let made = fovaheju::make_stage(&reference.bytes, &mut stage);
     stage.truncate(made.count as usize);
     if made.verdict.accepts() {
-        write_files(&[(path(matches, "stage"), &stage)], slice::from_ref(&reference), matches.get_flag("force"))?;
+        let read: Vec<_> = reference.identity.into_iter().collect();
+        write_files(&[(path(matches, "stage"), &stage)], &read, matches.get_flag("force"))?;
     }
-    if matches.get_flag("json") {
-        put_json(&verdict_json(made.verdict))?;
-    } else if !matches.get_flag("quiet") {
-        let question = Question::Make { reference: &reference };
-        put(answer(question, made.verdict, Order { lowest: false }, matches.get_flag("explain")).as_bytes())?;
-    }
-    Ok(found(made.verdict))
+    answered(matches, Question::Make { reference: &reference }, made.verdict, Order::default())
 }

@@ -1,9 +1,8 @@
 //! `ncl report`: how many gates are high at the rest of each word.
 
-use super::{answer, file, found, json_flag, lowest, order, path, put_json, quiet, verdict_json};
+use super::{answer, found, given_pair, json_flag, lowest, order, put_json, quiet, reference_arg, stage_arg, text_flag, verdict_json};
 use crate::explain::{Pair, Question};
 use crate::failure::Outcome;
-use crate::input::read_all;
 use crate::output::put;
 use crate::Found;
 use clap::{ArgMatches, Command};
@@ -13,9 +12,7 @@ use std::fmt::Write;
 pub fn command() -> Command {
     Command::new("report")
         .about("How many gates are high at the rest of each word, and their total; of a refused pair the verdict")
-        .arg(file("stage", "STAGE", "The stage file; '-' is standard input"))
-        .arg(file("reference", "REFERENCE", "The reference file; '-' is standard input"))
-        .args([lowest(), json_flag(), quiet()])
+        .args([stage_arg(), reference_arg(), text_flag(), lowest(), json_flag(), quiet()])
         .after_help(
             "\
 A line for each word in rising order, the word and its number of high gates, then 'total' and a number.
@@ -27,11 +24,14 @@ Example:
 
 pub fn run(matches: &ArgMatches) -> Outcome<Found> {
     let order = order(matches);
-    let files = read_all(&[path(matches, "stage"), path(matches, "reference")])?;
-    let report = fovaheju::report(order.mark(), &files[0].bytes, &files[1].bytes);
+    let (stage, reference) = given_pair(matches)?;
+    let mut report = fovaheju::report(order.mark(), stage.bytes(), &reference.bytes);
+    // Of a text that is refused there is no stage file, and the verdict is that of the text.
+    report.verdict = stage.refused().unwrap_or(report.verdict);
+    let question = Question::Check(Pair::whole(&stage, &reference));
     let words = || (0..(report.words as usize).min(report.names.len())).map(|k| (report.names[k], report.lines[k]));
     if matches.get_flag("json") {
-        let mut value = verdict_json(report.verdict);
+        let mut value = verdict_json(question, report.verdict);
         if report.verdict.accepts() {
             value["words"] = words().map(|(word, high)| json!({ "word": word, "high": high })).collect::<Vec<_>>().into();
             value["total"] = report.total.into();
@@ -43,7 +43,6 @@ pub fn run(matches: &ArgMatches) -> Outcome<Found> {
             words().for_each(|(word, high)| writeln!(text, "{word} {high}").expect("a string takes all"));
             writeln!(text, "total {}", report.total).expect("a string takes all");
         } else {
-            let question = Question::Check(Pair::whole(&files[0], &files[1]));
             text = answer(question, report.verdict, order, false);
         }
         put(text.as_bytes())?;

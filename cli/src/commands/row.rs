@@ -1,10 +1,10 @@
 //! `ncl row`: the settled row of a stage.
 
-use super::{answer, explain_flag, file, found, json_flag, path, put_json, quiet, verdict_json};
+use super::{answer, explain_flag, found, given, json_flag, path, put_json, quiet, stage_arg, text_flag, verdict_json};
 use crate::explain::{Order, Question};
 use crate::failure::{Failure, Outcome};
-use crate::input::{read, read_all, Input};
-use crate::netlist::Stage;
+use crate::given::Given;
+use crate::input::{one_standard_input, read};
 use crate::output::put;
 use crate::Found;
 use clap::{value_parser, Arg, ArgMatches, Command};
@@ -18,7 +18,7 @@ pub fn command() -> Command {
         .help("A row as bytes: two for each input (rail 0, rail 1), then one for each gate");
     Command::new("row")
         .about("The levels of all nets once a stage has settled for given inputs")
-        .arg(file("stage", "STAGE", "The stage file; '-' is standard input"))
+        .arg(stage_arg())
         .arg(
             Arg::new("inputs")
                 .value_name("INPUTS")
@@ -27,7 +27,7 @@ pub fn command() -> Command {
                 .help("A sign for each input, input 0 first: 0, 1, or . for NULL"),
         )
         .arg(bytes)
-        .args([json_flag(), explain_flag(), quiet()])
+        .args([text_flag(), json_flag(), explain_flag(), quiet()])
         .after_help(
             "\
 After the verdict comes a line with a digit for each net, 1 for high: two for each input, then one for each gate.
@@ -53,33 +53,32 @@ fn rails(inputs: &str) -> Outcome<Vec<u8>> {
 }
 
 /// The row that is handed in, and the stage.
-fn handed_in(matches: &ArgMatches) -> Outcome<(Input, Vec<u8>)> {
+fn handed_in(matches: &ArgMatches) -> Outcome<(Given, Vec<u8>)> {
     if let Some(bytes) = matches.get_one::<PathBuf>("bytes") {
-        let mut files = read_all(&[path(matches, "stage"), bytes])?;
-        let row = files.pop().expect("two were read");
-        return Ok((files.pop().expect("two were read"), row.bytes));
+        one_standard_input(&[path(matches, "stage"), bytes])?;
+        return Ok((given(matches)?, read(bytes)?.bytes));
     }
     let mut row = rails(matches.get_one::<String>("inputs").expect("clap asks for it"))?;
-    let stage = read(path(matches, "stage"))?;
-    row.resize(row.len() + Stage::of(&stage.bytes).gates.len(), 0);
+    let stage = given(matches)?;
+    row.resize(row.len() + stage.stage().gates.len(), 0);
     Ok((stage, row))
 }
 
 pub fn run(matches: &ArgMatches) -> Outcome<Found> {
     let (stage, given) = handed_in(matches)?;
     let mut row = given.clone();
-    let verdict = fovaheju::settled_row(&stage.bytes, &mut row);
+    let verdict = stage.refused().unwrap_or_else(|| fovaheju::settled_row(stage.bytes(), &mut row));
     let settled = verdict.accepts();
+    let question = Question::Row { stage: &stage, row: &given };
     let digits: String = row.iter().map(u8::to_string).collect();
     if matches.get_flag("json") {
-        let mut value = verdict_json(verdict);
+        let mut value = verdict_json(question, verdict);
         if settled {
             value["row"] = digits.into();
         }
         put_json(&value)?;
     } else if !matches.get_flag("quiet") {
-        let question = Question::Row { stage: &stage, row: &given };
-        let mut text = answer(question, verdict, Order { lowest: false }, matches.get_flag("explain"));
+        let mut text = answer(question, verdict, Order::default(), matches.get_flag("explain"));
         if settled {
             // The digits stand in the second line, whoever reads it.
             text = format!("{verdict}\n{digits}\n");

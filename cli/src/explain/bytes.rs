@@ -57,6 +57,10 @@ fn wrong(verdict: Verdict, file: &Input, side: Side, most: usize) -> [String; 2]
     let (found, todo) = match verdict.number {
         1 if bytes.is_empty() => ("the file is empty".into(), "see why nothing was written into it".into()),
         1 => ("the file ends within a command or before its end command (00)".into(), "see whether it was written to its end".into()),
+        2 if at == 0 && side == Side::Stage && is_text(bytes) => (
+            "the file begins like a text, and a stage file with its inputs (01)".into(),
+            "where it is a stage in the line form, say so: --text, or a name that ends in .txt".into(),
+        ),
         2 => out_of_step(byte, at, &listed, side),
         3 => (
             format!("{}; a file has 1 to 10", many(byte.into(), "input")),
@@ -87,6 +91,14 @@ fn wrong(verdict: Verdict, file: &Input, side: Side, most: usize) -> [String; 2]
         _ => (format!("care word {operand} is not above the one before it"), "give the care words in rising order, each once".into()),
     };
     [found, todo]
+}
+
+/// Whether the first line is one of names, as that of a text: letters, digits, underscores and commas. It decides what is said, not what
+/// is read.
+fn is_text(bytes: &[u8]) -> bool {
+    let line = bytes.split(|&byte| byte == b'\n').next().unwrap_or_default();
+    let of_name = |byte: &u8| byte.is_ascii_alphanumeric() || b"_,\r".contains(byte);
+    !line.is_empty() && line.len() < bytes.len() && line.iter().all(of_name)
 }
 
 /// 2: no command of this file, or the inputs command where it does not belong.

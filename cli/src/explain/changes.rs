@@ -34,7 +34,7 @@ pub struct Named<'a> {
 
 /// Says which changes of what is named the check accepts.
 pub fn accepted(text: &mut Text, pair: Pair, order: Order, stage: &Stage, named: &Named) {
-    let base = Base { file: &pair.stage.bytes, stage };
+    let base = Base { file: pair.stage.bytes(), stage };
     let spare = named.net.and_then(|net| stage.driver(net)).filter(|&gate| stage.readers(stage.net_of(gate)).is_empty());
     let changes: Vec<Change> = match spare {
         // Of a gate that feeds nothing every change that keeps it low is accepted, and says nothing.
@@ -46,8 +46,8 @@ pub fn accepted(text: &mut Text, pair: Pair, order: Order, stage: &Stage, named:
 
 /// Says with which other kind in place of a retired one the check accepts.
 pub fn of_retired(text: &mut Text, pair: Pair, order: Order, stage: &Stage, gates: &[usize]) {
-    let base = Base { file: &pair.stage.bytes, stage };
-    let names: Vec<String> = gates.iter().map(|gate| format!("g{gate}")).collect();
+    let base = Base { file: pair.stage.bytes(), stage };
+    let names: Vec<String> = gates.iter().map(|&gate| stage.gate_name(gate)).collect();
     let kinds = (1..=27).filter(|&cell| cell != 24 && pin_count(cell) == Some(4));
     let changes = kinds.map(|cell| {
         let kinds: Vec<(usize, u8)> = gates.iter().map(|&gate| (gate, cell | stage.gates[gate].kind & 0x80)).collect();
@@ -124,13 +124,13 @@ impl Base<'_> {
     fn rails_exchanged(&self, output: usize) -> Option<Change> {
         let [low, high] = *self.stage.outputs.get(output)?;
         let file = self.with(self.rails_at(output)?, &two([high, low]));
-        Some(Change { file, says: format!("the rails of y{output} exchanged") })
+        Some(Change { file, says: format!("the rails of {} exchanged", self.stage.output_name(output)) })
     }
 
     fn outputs_exchanged(&self, output: usize, other: usize) -> Option<Change> {
         let file = self.with(self.rails_at(output)?, &two(self.stage.outputs[other]));
         let file = Base { file: &file, ..*self }.with(self.rails_at(other)?, &two(self.stage.outputs[output]));
-        Some(Change { file, says: format!("y{output} and y{other} exchanged") })
+        Some(Change { file, says: format!("{} and {} exchanged", self.stage.output_name(output), self.stage.output_name(other)) })
     }
 
     /// An output with one rail on another net.
@@ -138,9 +138,10 @@ impl Base<'_> {
         let (Some(at), Some(&rails)) = (self.rails_at(output), self.stage.outputs.get(output)) else { return Vec::new() };
         let places = (0..2).flat_map(|rail| (0..self.stage.nets()).map(move |net| (rail, net)));
         let others = places.filter(|&(rail, net)| rails[rail] != net);
+        let name = self.stage.output_name(output);
         let change = |(rail, net): (usize, usize)| Change {
             file: self.with(at + 2 * rail, &(net as u16).to_le_bytes()),
-            says: format!("rail {rail} of y{output} on {} in place of {}", self.stage.net_name(net), self.stage.net_name(rails[rail])),
+            says: format!("rail {rail} of {name} on {} in place of {}", self.stage.net_name(net), self.stage.net_name(rails[rail])),
         };
         others.map(change).collect()
     }
@@ -150,7 +151,7 @@ impl Base<'_> {
         let mut bytes = vec![kind];
         (0..4).for_each(|pin| bytes.extend((pins.get(pin).copied().unwrap_or(ABSENT) as u16).to_le_bytes()));
         let names: Vec<String> = pins.iter().map(|&net| self.stage.net_name(net)).collect();
-        let says = format!("g{gate} = {}({})", kind_name(kind).unwrap_or_default(), names.join(", "));
+        let says = format!("{} = {}({})", self.stage.gate_name(gate), kind_name(kind).unwrap_or_default(), names.join(", "));
         Change { file: self.with(self.stage.gates[gate].at + 1, &bytes), says }
     }
 
@@ -179,7 +180,7 @@ impl Base<'_> {
         let others = kinds.filter(|&kind| kind != found.kind && kind & 0x7F != 24 && pin_count(kind) == Some(found.pins.len()));
         let change = |kind: u8| Change {
             file: self.with_kinds(&[(gate, kind)]),
-            says: format!("g{gate} as {} in place of {}", kind_name(kind).unwrap_or_default(), found.name()),
+            says: format!("{} as {} in place of {}", self.stage.gate_name(gate), kind_name(kind).unwrap_or_default(), found.name()),
         };
         others.map(change).collect()
     }
@@ -205,10 +206,11 @@ impl Base<'_> {
         let places = (0..found.pins.len()).flat_map(|pin| (0..self.stage.nets()).map(move |net| (pin, net)));
         let others = places.filter(|&(pin, net)| found.pins[pin] != net);
         let change = |(pin, net): (usize, usize)| {
-            let names = [net, found.pins[pin]].map(|net| self.stage.net_name(net));
+            let [now, before] = [net, found.pins[pin]].map(|net| self.stage.net_name(net));
+            let (name, letter) = (self.stage.gate_name(gate), ["A", "B", "C", "D"][pin.min(3)]);
             Change {
                 file: self.with(found.at + 2 + 2 * pin, &(net as u16).to_le_bytes()),
-                says: format!("pin {} of g{gate} on {} in place of {}", ["A", "B", "C", "D"][pin.min(3)], names[0], names[1]),
+                says: format!("pin {letter} of {name} on {now} in place of {before}"),
             }
         };
         others.map(change).collect()
@@ -232,7 +234,7 @@ impl Base<'_> {
             }
             file.extend(bytes);
         }
-        Some(Change { file, says: format!("g{gate} taken out") })
+        Some(Change { file, says: format!("{} taken out", self.stage.gate_name(gate)) })
     }
 }
 

@@ -1,24 +1,25 @@
 //! What can be seen in the gates of a stage without a word: loops and retired kinds.
 
 use super::{changes, Order, Pair, Text};
-use crate::input::Input;
+use crate::given::Given;
 use crate::netlist::Stage;
 use fovaheju::Verdict;
 use std::collections::VecDeque;
 
 /// 12: the loop, gate by gate. Answers its gates.
-pub fn on_a_loop(text: &mut Text, verdict: Verdict, file: &Input) -> Vec<usize> {
-    let stage = Stage::of(&file.bytes);
+pub fn on_a_loop(text: &mut Text, verdict: Verdict, given: &Given) -> Vec<usize> {
+    let stage = given.stage();
     let start = verdict.at as usize;
-    text.row("stage", &format!("{}: {}", file.name, stage.counts()));
-    text.row("found", &format!("gate g{start} reaches itself through pins"));
+    text.row("stage", &format!("{}: {}", given.name(), stage.counts()));
+    text.row("found", &format!("gate {} reaches itself through pins", stage.gate_name(start)));
     let path = shortest_loop(&stage, start);
     let mut from = start;
     for (k, &gate) in path.iter().enumerate() {
         let net = stage.net_of(from);
         let pin = stage.gates[gate].pins.iter().position(|&pin| pin == net).unwrap_or(0);
         let label = if k == 0 { "look at" } else { "" };
-        text.row(label, &format!("g{from} feeds pin {} of {}", ["A", "B", "C", "D"][pin.min(3)], stage.gate_text(gate)));
+        let (name, letter) = (stage.gate_name(from), ["A", "B", "C", "D"][pin.min(3)]);
+        text.row(label, &format!("{name} feeds pin {letter} of {}", stage.gate_text(gate)));
         from = gate;
     }
     let which = if path.len() == 1 { "this pin".into() } else { format!("one of these {} pins", path.len()) };
@@ -58,11 +59,11 @@ fn path_to(before: &[Option<usize>], start: usize) -> Vec<usize> {
 
 /// 28: the gate, and all others of its sort.
 pub fn retired(text: &mut Text, verdict: Verdict, pair: Pair, order: Order) {
-    let stage = Stage::of(&pair.stage.bytes);
+    let stage = pair.stage.stage();
     let gate = verdict.at as usize;
     let kind = stage.gates.get(gate).map_or(0, |gate| gate.kind & 0x7F);
     let alike: Vec<usize> = (0..stage.gates.len()).filter(|&k| stage.gates[k].kind & 0x7F == kind).collect();
-    text.row("stage", &format!("{}: {}", pair.stage.name, stage.counts()));
+    text.row("stage", &format!("{}: {}", pair.stage.name(), stage.counts()));
     text.row("found", &format!("{} is of a kind that is no longer cast", stage.gate_text(gate)));
     let others: Vec<String> = alike.iter().filter(|&&k| k != gate).map(|&k| stage.gate_text(k)).collect();
     if !others.is_empty() {

@@ -14,11 +14,11 @@ const DEPTH: usize = 2;
 
 /// 13, 14, 15, 20 and 21.
 pub fn in_a_word(text: &mut Text, verdict: Verdict, pair: Pair, order: Order) {
-    let stage = Stage::of(&pair.stage.bytes);
+    let stage = pair.stage.stage();
     let values = order.values(verdict.word, stage.inputs);
-    text.row("stage", &format!("{}: {}", pair.stage.name, stage.counts()));
-    say_word(text, verdict.word, &values, order);
-    let levels = Levels::new(&pair.stage.bytes, &stage);
+    text.row("stage", &format!("{}: {}", pair.stage.name(), stage.counts()));
+    say_word(text, verdict.word, &values, order, &stage);
+    let levels = Levels::new(pair.stage.bytes(), &stage);
     let at = verdict.at as usize;
     let odd = if matches!(verdict.number, 14 | 20) { Odd::Input(at) } else { Odd::Gate(at) };
     let rows = match verdict.number {
@@ -48,10 +48,16 @@ pub fn in_a_word(text: &mut Text, verdict: Verdict, pair: Pair, order: Order) {
 }
 
 /// A word by its inputs.
-pub fn say_word(text: &mut Text, word: u64, values: &[bool], order: Order) {
-    let digits: String = values.iter().map(|&value| if value { '1' } else { '0' }).collect();
+pub fn say_word(text: &mut Text, word: u64, values: &[bool], order: Order, stage: &Stage) {
+    let digit = |&value: &bool| if value { '1' } else { '0' };
     let named = if order.lowest { " (input 0 as the lowest bit)" } else { "" };
-    text.row("word", &format!("{word}{named} is {} = {digits}", range("x", values.len())));
+    let inputs = if stage.names.is_some() {
+        let each = values.iter().enumerate().map(|(input, value)| format!("{} = {}", stage.input_name(input), digit(value)));
+        each.collect::<Vec<String>>().join(", ")
+    } else {
+        format!("{} = {}", range("x", values.len()), values.iter().map(digit).collect::<String>())
+    };
+    text.row("word", &format!("{word}{named} is {inputs}"));
 }
 
 /// `x0`, or `x0..x3`.
@@ -105,7 +111,8 @@ fn wrong(text: &mut Text, case: &Case, at: usize, answer: &[bool], pair: Pair) -
     let signal = reference.outputs.get(at).map_or(String::new(), |&signal| reference.signal_text(signal));
     let shows = pair_state(row, rails);
     let is = if shows.starts_with("both") { "has" } else { "is" };
-    text.row("found", &format!("y{at} {is} {shows} when all has settled; the reference answers {} ({signal})", data(value)));
+    let name = stage.output_name(at);
+    text.row("found", &format!("{name} {is} {shows} when all has settled; the reference answers {} ({signal})", data(value)));
     let others = (0..stage.outputs.len())
         .filter(|&j| j != at && pair_state(row, stage.outputs[j]) != data(answer.get(j).copied().unwrap_or(false)))
         .count();
@@ -119,12 +126,12 @@ fn wrong(text: &mut Text, case: &Case, at: usize, answer: &[bool], pair: Pair) -
             continue;
         }
         let should = if wanted { "high" } else { "low" };
-        text.row("look at", &format!("rail {rail} of y{at} is {}: {}, and should be {should}", stage.net_name(net), level(row, net)));
+        text.row("look at", &format!("rail {rail} of {name} is {}: {}, and should be {should}", stage.net_name(net), level(row, net)));
         behind(text, case, net, 0, &mut shown);
     }
     let (whole, wrong) = match shown.is_empty() {
-        true => (format!("see which nets are the rails of y{at}"), "a wrong net"),
-        false => (format!("follow y{at} back through these gates"), "a wrong pin, a wrong kind"),
+        true => (format!("see which nets are the rails of {name}"), "a wrong net"),
+        false => (format!("follow {name} back through these gates"), "a wrong pin, a wrong kind"),
     };
     let exchanged = if shows.starts_with("DATA") { "its two rails exchanged, " } else { "" };
     let mut why = format!("{exchanged}{wrong}, or a reference of something else");
@@ -139,8 +146,9 @@ fn wrong(text: &mut Text, case: &Case, at: usize, answer: &[bool], pair: Pair) -
 /// The gate of a net with the levels of its pins, and those behind it that make its level.
 fn behind(text: &mut Text, case: &Case, net: usize, depth: usize, shown: &mut Vec<usize>) {
     let Some(gate) = case.stage.driver(net) else { return };
+    let name = case.stage.gate_name(gate);
     if shown.contains(&gate) {
-        text.below(depth, &format!("g{gate}: see above"));
+        text.below(depth, &format!("{name}: see above"));
         return;
     }
     shown.push(gate);
@@ -152,7 +160,7 @@ fn behind(text: &mut Text, case: &Case, net: usize, depth: usize, shown: &mut Ve
         .map(|(&pin, letter)| format!("{letter} {} {}", case.stage.net_name(pin), level(case.row, pin)))
         .collect();
     let set = set_expression(found.kind).unwrap_or("?");
-    text.below(depth, &format!("g{gate} {}: {} is set by {set}; {}", level(case.row, net), found.name(), pins.join(", ")));
+    text.below(depth, &format!("{name} {}: {} is set by {set}; {}", level(case.row, net), found.name(), pins.join(", ")));
     if depth < DEPTH {
         for &pin in found.pins.iter().filter(|&&pin| case.row.get(pin) == case.row.get(net)) {
             behind(text, case, pin, depth + 1, shown);
@@ -177,8 +185,8 @@ impl Case<'_> {
 fn not_awaited(text: &mut Text, case: &Case, odd: Odd, values: &[bool]) -> Vec<usize> {
     let stage = case.stage;
     let (name, still) = match (odd, case.falls) {
-        (Odd::Input(input), false) => (format!("x{input}"), "NULL"),
-        (Odd::Input(input), true) => (format!("x{input}"), data(values.get(input).copied().unwrap_or(false))),
+        (Odd::Input(input), false) => (stage.input_name(input), "NULL"),
+        (Odd::Input(input), true) => (stage.input_name(input), data(values.get(input).copied().unwrap_or(false))),
         (Odd::Gate(gate), false) => (stage.gate_text(gate), "low, and could rise"),
         (Odd::Gate(gate), true) => (stage.gate_text(gate), "high, and could fall"),
     };
@@ -201,7 +209,8 @@ fn not_awaited(text: &mut Text, case: &Case, odd: Odd, values: &[bool]) -> Vec<u
         if let Odd::Input(input) = odd {
             let more = if first.len() > PLACES { ", .." } else { "" };
             if !shown.is_empty() {
-                text.row("set by", &format!("{}{more}, which the other inputs set without x{input}", shown.join(", ")));
+                let without = stage.input_name(input);
+                text.row("set by", &format!("{}{more}, which the other inputs set without {without}", shown.join(", ")));
             }
         }
         places.extend(first);
@@ -240,7 +249,7 @@ fn say_outputs(text: &mut Text, case: &Case) {
             Some(gate) => stage.gate_text(gate) + &high_pins(case, gate),
             None => stage.net_name(net),
         };
-        text.row(label, &format!("y{j} is {} by {by}", pair_state(case.row, rails)));
+        text.row(label, &format!("{} is {} by {by}", stage.output_name(j), pair_state(case.row, rails)));
     }
     if stage.outputs.len() > OUTPUTS {
         text.row("", &format!("and {} more", stage.outputs.len() - OUTPUTS));
@@ -263,8 +272,8 @@ fn say_end(text: &mut Text, case: &Case, net: usize, odd: Odd, places: &mut Vec<
     let name = stage.net_name(net);
     let what = match (stage.driver(net), odd) {
         (Some(gate), Odd::Gate(late)) if gate == late => name.clone(),
-        (Some(gate), Odd::Gate(late)) => format!("{}, which waits for g{late},", stage.gate_text(gate)),
-        (Some(gate), Odd::Input(input)) => format!("{}, which waits for x{input},", stage.gate_text(gate)),
+        (Some(gate), Odd::Gate(late)) => format!("{}, which waits for {},", stage.gate_text(gate), stage.gate_name(late)),
+        (Some(gate), Odd::Input(input)) => format!("{}, which waits for {},", stage.gate_text(gate), stage.input_name(input)),
         (None, _) => format!("rail {name}"),
     };
     let readers = stage.readers(net);
@@ -295,30 +304,31 @@ fn say_todo(text: &mut Text, case: &Case, odd: Odd, places: &[usize]) {
     let stage = case.stage;
     let todo = match (odd, case.falls) {
         (Odd::Input(input), false) => {
-            let mut todo = format!("let an output wait for x{input} in this word, or x{input} may come late, into the next word");
+            let name = stage.input_name(input);
+            let mut todo = format!("let an output wait for {name} in this word, or {name} may come late, into the next word");
             let unused = (0..2).all(|rail| {
                 stage.readers(2 * input + rail).is_empty() && !stage.outputs.iter().flatten().any(|&net| net == 2 * input + rail)
             });
             if unused {
-                todo += &format!(". Nothing reads x{input}: let an output depend on it, or take it out of both files");
+                todo += &format!(". Nothing reads {name}: let an output depend on it, or take it out of both files");
             } else if places.iter().any(|&gate| stage.gates[gate].kind & 0x7F == 1) {
                 todo += ". TH12(a, b) is set by one of two signals; THand0(a, b, a', b') waits for both, where a' is the other rail of a";
             } else {
-                todo += &format!(": a gate on the way to an output has to need x{input}");
+                todo += &format!(": a gate on the way to an output has to need {name}");
             }
             todo
         }
         (Odd::Gate(gate), false) => {
-            let net = stage.net_of(gate);
+            let (net, name) = (stage.net_of(gate), stage.gate_name(gate));
             if stage.readers(net).is_empty() {
-                format!("take g{gate} out: nothing needs it, and it may rise late, into the next word")
+                format!("take {name} out: nothing needs it, and it may rise late, into the next word")
             } else {
-                format!("let an output wait for g{gate} wherever it rises, or build it into the gates that read it; it may rise late, into the next word")
+                format!("let an output wait for {name} wherever it rises, or build it into the gates that read it; it may rise late, into the next word")
             }
         }
         (_, true) => {
             let named: Vec<String> =
-                places.iter().filter(|&&gate| relaxed(stage.gates[gate].kind)).map(|gate| format!("g{gate}")).collect();
+                places.iter().filter(|&&gate| relaxed(stage.gates[gate].kind)).map(|&gate| stage.gate_name(gate)).collect();
             let which = if named.is_empty() { "one of the relaxed gates".into() } else { named.join(" or ") };
             format!("give {which} its hold back (the kind without r, 128 less), so that it waits until all its pins are low")
         }
