@@ -2,7 +2,7 @@
 
 pub mod formats;
 
-use crate::explain::{explain, Order, Pair, Question};
+use crate::explain::{explain, Order, Pair, Question, TRIES_OF_MANY};
 use crate::failure::{Failure, Outcome};
 use crate::given::Given;
 use crate::input::{read, Identity};
@@ -136,7 +136,7 @@ fn judge_one(named: &Named, manner: Manner) -> Judged {
             let verdict = stage.check(manner.order, &reference.bytes);
             let question = Question::Check(Pair::whole(&stage, &reference));
             let wanted = manner.explain && !verdict.accepts();
-            (Ok(verdict), wanted.then(|| explain(question, verdict, manner.order, Paint::NONE)))
+            (Ok(verdict), wanted.then(|| explain(question, verdict, manner.order, TRIES_OF_MANY, Paint::NONE)))
         }
         Err(failure) => (Err(failure.0.unwrap_or_default()), None),
     };

@@ -12,7 +12,7 @@ mod report;
 mod row;
 mod text;
 
-use crate::explain::{sentence, Order, Question};
+use crate::explain::{explain as explain_verdict, sentence, Order, Question, TRIES};
 use crate::failure::Outcome;
 use crate::given::Given;
 use crate::input::{one_standard_input, read, Input};
@@ -161,7 +161,7 @@ fn verdict_json(question: Question, verdict: Verdict) -> Value {
 /// The verdict line; on a terminal a sentence after it, and where it is asked for the whole explanation.
 fn answer(question: Question, verdict: Verdict, order: Order, explained: bool) -> String {
     if explained && !verdict.accepts() {
-        return crate::explain::explain(question, verdict, order, Paint::of_output());
+        return explain_verdict(question, verdict, order, TRIES, Paint::of_output());
     }
     let mut text = format!("{verdict}\n");
     if on_terminal() {

@@ -88,8 +88,8 @@ impl Order {
 /// What is said of a verdict, line by line.
 pub struct Text {
     lines: Vec<Line>,
-    /// Whether changes that would be accepted are looked for.
-    thorough: bool,
+    /// How many changes are tried, to find some that would be accepted.
+    tries: usize,
 }
 
 enum Line {
@@ -170,16 +170,20 @@ fn wrapped(words: &str, width: usize) -> Vec<String> {
     lines
 }
 
-/// The verdict and all that can be said of it.
-pub fn explain(question: Question, verdict: Verdict, order: Order, paint: Paint) -> String {
+/// How many changes of a stage are tried for one explanation, and how many for each of a batch.
+pub const TRIES: usize = 20_000;
+pub const TRIES_OF_MANY: usize = 500;
+
+/// The verdict and all that can be said of it, with so many changes tried.
+pub fn explain(question: Question, verdict: Verdict, order: Order, tries: usize, paint: Paint) -> String {
     let called = question.title(verdict.number);
     let called = if verdict.accepts() { paint.good(called) } else { paint.bad(called) };
-    format!("{verdict}  {called}\n{}", said(question, verdict, order, true).rendered(paint))
+    format!("{verdict}  {called}\n{}", said(question, verdict, order, tries).rendered(paint))
 }
 
 /// What was found, as one sentence.
 pub fn sentence(question: Question, verdict: Verdict, order: Order) -> String {
-    let text = said(question, verdict, order, false);
+    let text = said(question, verdict, order, 0);
     let found = text.labelled("found").unwrap_or_default();
     match text.labelled("file").or(text.labelled("text")) {
         Some(place) => format!("{place}: {found}"),
@@ -187,8 +191,8 @@ pub fn sentence(question: Question, verdict: Verdict, order: Order) -> String {
     }
 }
 
-fn said(question: Question, verdict: Verdict, order: Order, thorough: bool) -> Text {
-    let mut text = Text { lines: Vec::new(), thorough };
+fn said(question: Question, verdict: Verdict, order: Order, tries: usize) -> Text {
+    let mut text = Text { lines: Vec::new(), tries };
     match question {
         Question::Check(pair) => of_pair(&mut text, verdict, pair, order),
         Question::Row { stage, row } => of_row(&mut text, verdict, stage, row),
@@ -244,8 +248,8 @@ fn of_pair(text: &mut Text, verdict: Verdict, pair: Pair, order: Order) {
         }
         (12, _) => {
             let gates = circuit::on_a_loop(text, verdict, pair.stage);
-            if text.thorough {
-                let named = changes::Named { gates: &gates, output: None, net: None };
+            if text.tries > 0 {
+                let named = changes::Named { gates: &gates, output: None, net: None, rises: true };
                 changes::accepted(text, pair, order, &pair.stage.stage(), &named);
             }
         }

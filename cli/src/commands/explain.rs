@@ -1,7 +1,7 @@
 //! `ncl explain`: the verdict in sentences.
 
 use super::{found, given_pair, lowest, order, reference_arg, stage_arg, text_flag};
-use crate::explain::{explain, Pair, Question};
+use crate::explain::{explain, Pair, Question, TRIES};
 use crate::failure::Outcome;
 use crate::output::{put, Paint};
 use crate::Found;
@@ -26,6 +26,6 @@ pub fn run(matches: &ArgMatches) -> Outcome<Found> {
     let (stage, reference) = given_pair(matches)?;
     let verdict = stage.check(order, &reference.bytes);
     let question = Question::Check(Pair::whole(&stage, &reference));
-    put(explain(question, verdict, order, Paint::of_output()).as_bytes())?;
+    put(explain(question, verdict, order, TRIES, Paint::of_output()).as_bytes())?;
     Ok(found(verdict))
 }

@@ -1,22 +1,31 @@
-//! Changes of a stage that the check accepts: one gate or output of those that an explanation names is changed, or all gates of a sort. Each
-//! is judged by the library; where more has to change at once, none is found.
+//! Changes of a stage that the check accepts: one gate or output is changed, those that an explanation names first; or all gates of a sort,
+//! or some are added or taken out. Each is judged by the library; where more has to change at once, none is found.
 
 use super::{Order, Pair, Text};
 use crate::netlist::{commands, kind_name, pin_count, relaxed, Form, Side, Stage, ABSENT};
 
-/// How many changes are tried, and how many of those accepted are shown.
-const TRIED: usize = 500;
+/// How many of the changes that are accepted are shown.
 const SHOWN: usize = 3;
-/// How many of the gates are changed.
+/// How many of the gates that are named are changed first.
 const GATES: usize = 8;
+/// The kind that is no longer cast.
+const RETIRED: u8 = 24;
+const THAND0: u8 = 26;
+const TH12: u8 = 1;
 
 /// The file after a change, and what was changed.
 struct Change {
     file: Vec<u8>,
     says: String,
+    /// Of changes that have this alike, one is shown: the orders of pins on one kind.
+    sort: Option<(usize, u8)>,
 }
 
+/// Changes that are made one by one, as they are tried.
+type Changes<'a> = Box<dyn Iterator<Item = Change> + 'a>;
+
 /// A stage to be changed.
+#[derive(Clone, Copy)]
 struct Base<'a> {
     file: &'a [u8],
     stage: &'a Stage,
@@ -30,73 +39,100 @@ pub struct Named<'a> {
     pub output: Option<usize>,
     /// A net that no output waits for.
     pub net: Option<usize>,
+    /// Whether that is on the way to DATA.
+    pub rises: bool,
 }
 
 /// Says which changes of what is named the check accepts.
 pub fn accepted(text: &mut Text, pair: Pair, order: Order, stage: &Stage, named: &Named) {
     let base = Base { file: pair.stage.bytes(), stage };
-    let spare = named.net.and_then(|net| stage.driver(net)).filter(|&gate| stage.readers(stage.net_of(gate)).is_empty());
-    let changes: Vec<Change> = match spare {
+    let late = named.net.and_then(|net| stage.driver(net));
+    let spare = late.or(named.gates.first().copied()).filter(|&gate| base.feeds_nothing(gate));
+    match spare {
         // Of a gate that feeds nothing every change that keeps it low is accepted, and says nothing.
-        Some(gate) => base.without(gate).into_iter().collect(),
-        None => base.changes(named),
-    };
-    say(text, pair, order, changes);
+        Some(gate) => say(text, pair, order, Box::new(base.without(gate).into_iter())),
+        None => {
+            let input = named.net.filter(|&net| net < 2 * stage.inputs && named.rises).map(|net| net / 2);
+            let waiting = input.and_then(|input| base.waiting(input, pair, order));
+            say(text, pair, order, Box::new(base.changes(named).chain(waiting)));
+        }
+    }
 }
 
 /// Says with which other kind in place of a retired one the check accepts.
 pub fn of_retired(text: &mut Text, pair: Pair, order: Order, stage: &Stage, gates: &[usize]) {
     let base = Base { file: pair.stage.bytes(), stage };
-    let names: Vec<String> = gates.iter().map(|&gate| stage.gate_name(gate)).collect();
-    let kinds = (1..=27).filter(|&cell| cell != 24 && pin_count(cell) == Some(4));
-    let changes = kinds.map(|cell| {
-        let kinds: Vec<(usize, u8)> = gates.iter().map(|&gate| (gate, cell | stage.gates[gate].kind & 0x80)).collect();
-        Change { file: base.with_kinds(&kinds), says: format!("{} as {}", names.join(" and "), kind_name(cell).unwrap_or_default()) }
-    });
-    say(text, pair, order, changes.collect());
+    // Where two pins are on one net, the net once will do.
+    let pins = |gate: usize, count: usize| if count == 4 { stage.gates[gate].pins.clone() } else { super::words::once(&stage.gates[gate].pins) };
+    let change = |cell: u8, hold: u8| {
+        let count = pin_count(cell)?;
+        let mut changed = Change { file: base.file.to_vec(), says: String::new(), sort: None };
+        for &gate in gates {
+            let pins = pins(gate, count);
+            let kind = cell | stage.gates[gate].kind & hold;
+            let next = (pins.len() == count).then(|| Base { file: &changed.file, ..base }.gate_as(gate, kind, &pins))?;
+            let and = if changed.says.is_empty() { "" } else { ", " };
+            changed = Change { file: next.file, says: changed.says + and + &next.says, sort: None };
+        }
+        Some(changed)
+    };
+    let cells = [0x80, 0].into_iter().flat_map(|hold| (1..=27).filter(|&cell| cell != RETIRED).map(move |cell| (cell, hold)));
+    say(text, pair, order, Box::new(cells.filter_map(|(cell, hold)| change(cell, hold))));
 }
 
-fn say(text: &mut Text, pair: Pair, order: Order, changes: Vec<Change>) {
+fn say(text: &mut Text, pair: Pair, order: Order, changes: Changes) {
     let accepts = |change: &Change| fovaheju::check(order.mark(), &change.file, &pair.reference.bytes).accepts();
     let mut found: Vec<Change> = Vec::new();
-    for change in changes.into_iter().take(TRIED) {
+    for change in changes.take(text.tries) {
         // Two ways to one stage are one change.
-        if found.len() < SHOWN && found.iter().all(|other| other.file != change.file) && accepts(&change) {
+        let new = |other: &Change| other.file != change.file && (change.sort.is_none() || other.sort != change.sort);
+        if found.iter().all(new) && accepts(&change) {
             found.push(change);
+        }
+        if found.len() == SHOWN {
+            break;
         }
     }
     for (k, change) in found.iter().enumerate() {
         if k == 0 {
-            text.row("accepted", &format!("with one change: {}", change.says));
+            text.row("accepted", &format!("with {}", change.says));
         } else {
             text.row("", &format!("or: {}", change.says));
         }
     }
 }
 
-impl Base<'_> {
-    /// What is tried, the likeliest first.
-    fn changes(&self, named: &Named) -> Vec<Change> {
-        let gates = &named.gates[..named.gates.len().min(GATES)];
-        let mut changes = Vec::new();
-        if let Some(output) = named.output {
-            changes.extend(self.rails_exchanged(output));
-            changes.extend((0..self.stage.outputs.len()).filter(|&j| j != output).filter_map(|j| self.outputs_exchanged(output, j)));
-        }
-        for &gate in gates {
-            changes.extend(self.completed(gate));
-            changes.extend(self.completed_by_gates(gate));
-            changes.extend(self.other_kinds(gate));
-        }
-        changes.extend(self.all_with_hold());
-        if let Some(net) = named.net {
-            gates.iter().for_each(|&gate| changes.extend(self.one_pin_more(gate, net)));
-        }
-        if let Some(output) = named.output {
-            changes.extend(self.other_rails(output));
-        }
-        gates.iter().for_each(|&gate| changes.extend(self.other_pins(gate)));
-        changes
+impl<'a> Base<'a> {
+    /// What is tried, the likeliest first: what is named, then all gates.
+    fn changes(self, named: &Named) -> Changes<'a> {
+        let near: Vec<usize> = named.gates.iter().copied().take(GATES).collect();
+        let far: Vec<usize> = (0..self.stage.gates.len()).filter(|gate| !near.contains(gate)).collect();
+        let (output, net) = (named.output, named.net);
+        let late = net.and_then(|net| self.stage.driver(net)).filter(|_| named.rises);
+        let each = |gates: &Vec<usize>| gates.clone().into_iter();
+        let outputs = output.into_iter().flat_map(move |output| {
+            let others = (0..self.stage.outputs.len()).filter(move |&j| j != output);
+            self.rails_exchanged(output).into_iter().chain(others.filter_map(move |j| self.outputs_exchanged(output, j)))
+        });
+        let kinds = each(&near).flat_map(move |gate| {
+            self.completed(gate).into_iter().chain(self.completed_by_gates(gate)).chain(self.other_kinds(gate))
+        });
+        let built_in = late.into_iter().flat_map(move |gate| self.built_in(gate));
+        let more = net.into_iter().zip([near.clone()]).flat_map(move |(net, near)| {
+            near.into_iter().flat_map(move |gate| self.one_pin_more(gate, net))
+        });
+        let rails = output.into_iter().flat_map(move |output| self.other_rails(output));
+        let pins = each(&near).flat_map(move |gate| self.other_pins(gate));
+        let mixed = each(&near).flat_map(move |gate| self.pins_and_kind(gate));
+        let all = each(&far).flat_map(move |gate| self.other_kinds(gate)).chain(each(&far).flat_map(move |gate| self.other_pins(gate)));
+        let named = outputs.chain(kinds).chain(self.all_with_hold()).chain(built_in).chain(more).chain(rails).chain(pins);
+        Box::new(named.chain(mixed).chain(all))
+    }
+
+    /// Whether no gate but itself reads a gate, and no output does.
+    fn feeds_nothing(&self, gate: usize) -> bool {
+        let net = self.stage.net_of(gate);
+        self.stage.readers(net).iter().all(|&reader| reader == gate) && !self.stage.outputs.iter().flatten().any(|&rail| rail == net)
     }
 
     /// The file with other bytes at a place.
@@ -124,13 +160,14 @@ impl Base<'_> {
     fn rails_exchanged(&self, output: usize) -> Option<Change> {
         let [low, high] = *self.stage.outputs.get(output)?;
         let file = self.with(self.rails_at(output)?, &two([high, low]));
-        Some(Change { file, says: format!("the rails of {} exchanged", self.stage.output_name(output)) })
+        Some(Change { file, says: format!("the rails of {} exchanged", self.stage.output_name(output)), sort: None })
     }
 
     fn outputs_exchanged(&self, output: usize, other: usize) -> Option<Change> {
         let file = self.with(self.rails_at(output)?, &two(self.stage.outputs[other]));
         let file = Base { file: &file, ..*self }.with(self.rails_at(other)?, &two(self.stage.outputs[output]));
-        Some(Change { file, says: format!("{} and {} exchanged", self.stage.output_name(output), self.stage.output_name(other)) })
+        let names = [output, other].map(|output| self.stage.output_name(output));
+        Some(Change { file, says: format!("{} exchanged", names.join(" and ")), sort: None })
     }
 
     /// An output with one rail on another net.
@@ -142,17 +179,16 @@ impl Base<'_> {
         let change = |(rail, net): (usize, usize)| Change {
             file: self.with(at + 2 * rail, &(net as u16).to_le_bytes()),
             says: format!("rail {rail} of {name} on {} in place of {}", self.stage.net_name(net), self.stage.net_name(rails[rail])),
+            sort: None,
         };
         others.map(change).collect()
     }
 
     /// A gate with this kind and these pins.
     fn gate_as(&self, gate: usize, kind: u8, pins: &[usize]) -> Change {
-        let mut bytes = vec![kind];
-        (0..4).for_each(|pin| bytes.extend((pins.get(pin).copied().unwrap_or(ABSENT) as u16).to_le_bytes()));
         let names: Vec<String> = pins.iter().map(|&net| self.stage.net_name(net)).collect();
         let says = format!("{} = {}({})", self.stage.gate_name(gate), kind_name(kind).unwrap_or_default(), names.join(", "));
-        Change { file: self.with(self.stage.gates[gate].at + 1, &bytes), says }
+        Change { file: self.with(self.stage.gates[gate].at, &gate_bytes(kind, pins)), says, sort: None }
     }
 
     /// A gate on two input rails in the form that waits for both inputs.
@@ -160,16 +196,16 @@ impl Base<'_> {
         let found = &self.stage.gates[gate];
         let &[a, b] = found.pins.as_slice() else { return None };
         let rails = 2 * self.stage.inputs;
-        (a < rails && b < rails && a / 2 != b / 2).then(|| self.gate_as(gate, 26 | found.kind & 0x80, &[a, b, a ^ 1, b ^ 1]))
+        (a < rails && b < rails && a / 2 != b / 2).then(|| self.gate_as(gate, THAND0 | found.kind & 0x80, &[a, b, a ^ 1, b ^ 1]))
     }
 
     /// A TH12 in the form that waits for both signals, where a TH22 reads the other rails of the two.
     fn completed_by_gates(&self, gate: usize) -> Vec<Change> {
         let found = &self.stage.gates[gate];
         let &[a, b] = found.pins.as_slice() else { return Vec::new() };
-        let others = self.stage.gates.iter().filter(|other| found.kind & 0x7F == 1 && other.kind & 0x7F == 2);
+        let others = self.stage.gates.iter().filter(|other| found.kind & 0x7F == TH12 && other.kind & 0x7F == 2);
         let pins = others.flat_map(|other| [[a, b, other.pins[0], other.pins[1]], [a, b, other.pins[1], other.pins[0]]]);
-        pins.map(|pins| self.gate_as(gate, 26 | found.kind & 0x80, &pins)).collect()
+        pins.map(|pins| self.gate_as(gate, THAND0 | found.kind & 0x80, &pins)).collect()
     }
 
     /// A gate of another kind with as many pins, first with its hold or without; no retired kind.
@@ -177,10 +213,11 @@ impl Base<'_> {
         let found = &self.stage.gates[gate];
         let cells = (1..=27).map(|cell| cell | found.kind & 0x80);
         let kinds = [found.kind ^ 0x80].into_iter().chain(cells);
-        let others = kinds.filter(|&kind| kind != found.kind && kind & 0x7F != 24 && pin_count(kind) == Some(found.pins.len()));
+        let others = kinds.filter(|&kind| kind != found.kind && kind & 0x7F != RETIRED && pin_count(kind) == Some(found.pins.len()));
         let change = |kind: u8| Change {
             file: self.with_kinds(&[(gate, kind)]),
             says: format!("{} as {} in place of {}", self.stage.gate_name(gate), kind_name(kind).unwrap_or_default(), found.name()),
+            sort: None,
         };
         others.map(change).collect()
     }
@@ -189,15 +226,96 @@ impl Base<'_> {
     fn all_with_hold(&self) -> Option<Change> {
         let gates = self.stage.gates.iter().enumerate().filter(|(_, gate)| relaxed(gate.kind));
         let kinds: Vec<(usize, u8)> = gates.map(|(k, gate)| (k, gate.kind & 0x7F)).collect();
-        (kinds.len() > 1).then(|| Change { file: self.with_kinds(&kinds), says: "all gates with hold, the kinds without r".into() })
+        (kinds.len() > 1).then(|| Change { file: self.with_kinds(&kinds), says: "all gates with hold, the kinds without r".into(), sort: None })
     }
 
     /// A gate that reads one net more.
     fn one_pin_more(&self, gate: usize, net: usize) -> Vec<Change> {
         let found = &self.stage.gates[gate];
         let pins: Vec<usize> = found.pins.iter().copied().chain([net]).collect();
-        let cells = (1..=27).filter(|&cell| cell != 24 && pin_count(cell) == Some(pins.len()));
-        cells.map(|cell| self.gate_as(gate, cell | found.kind & 0x80, &pins)).collect()
+        cells_of(pins.len()).map(|cell| self.gate_as(gate, cell | found.kind & 0x80, &pins)).collect()
+    }
+
+    /// A gate of another kind with its pins in another order.
+    fn pins_and_kind(self, gate: usize) -> Changes<'a> {
+        let found = &self.stage.gates[gate];
+        let orders = orders(&found.pins);
+        let kinds = cells_of(found.pins.len()).map(|cell| cell | found.kind & 0x80);
+        Box::new(kinds.flat_map(move |kind| {
+            let change = move |pins: Vec<usize>| Change { sort: Some((gate, kind)), ..self.gate_as(gate, kind, &pins) };
+            orders.clone().into_iter().map(change)
+        }))
+    }
+
+    /// A gate that one other gate reads, built into that one: its pins in place of its net, and the gate taken out.
+    fn built_in(self, gate: usize) -> Changes<'a> {
+        let net = self.stage.net_of(gate);
+        let rails = self.stage.outputs.iter().flatten();
+        let (&[reader], false) = (self.stage.readers(net).as_slice(), rails.into_iter().any(|&rail| rail == net)) else {
+            return Box::new(std::iter::empty());
+        };
+        let found = &self.stage.gates[reader];
+        let pins: Vec<usize> = found.pins.iter().copied().filter(|&pin| pin != net).chain(self.stage.gates[gate].pins.clone()).collect();
+        let orders = if pins.len() <= 4 { orders(&pins) } else { Vec::new() };
+        let kinds = cells_of(pins.len()).map(|cell| cell | found.kind & 0x80);
+        Box::new(kinds.flat_map(move |kind| {
+            let change = move |pins: Vec<usize>| {
+                let first = self.gate_as(reader, kind, &pins);
+                let out = Base { file: &first.file, ..self }.without(gate)?;
+                Some(Change { file: out.file, says: format!("{}, and {}", first.says, out.says), sort: Some((reader, kind)) })
+            };
+            orders.clone().into_iter().filter_map(change)
+        }))
+    }
+
+    /// An output that waits for an input: each of its rails passes a gate that needs the input too. Where the check then misses other inputs, it
+    /// waits for these as well.
+    fn waiting(self, input: usize, pair: Pair, order: Order) -> Option<Change> {
+        let mut inputs = vec![input];
+        for _ in 0..self.stage.inputs {
+            let change = self.output_waits(0, &inputs)?;
+            let verdict = fovaheju::check(order.mark(), &change.file, &pair.reference.bytes);
+            match verdict.number {
+                0 => return Some(change),
+                14 if !inputs.contains(&(verdict.at as usize)) => inputs.push(verdict.at as usize),
+                _ => return None,
+            }
+        }
+        None
+    }
+
+    /// An output whose rails wait for inputs: TH12 of the rails of an input tells that it has come, and TH22 to TH44 wait for all.
+    fn output_waits(self, output: usize, inputs: &[usize]) -> Option<Change> {
+        let rails = *self.stage.outputs.get(output)?;
+        let mut added = Vec::new();
+        let mut add = |kind: u8, pins: &[usize]| {
+            added.push((kind, pins.to_vec()));
+            self.stage.nets() + added.len() - 1
+        };
+        let mut come: Vec<usize> = inputs.iter().map(|&input| add(TH12, &[2 * input, 2 * input + 1])).collect();
+        while come.len() > 3 {
+            come = come.chunks(4).map(|some| if some.len() == 1 { some[0] } else { add(all_of(some.len()), some) }).collect();
+        }
+        let new = rails.map(|rail| add(all_of(come.len() + 1), &[&[rail][..], &come].concat()));
+        let mut file = self.with(self.rails_at(output)?, &two(new));
+        let gates: Vec<u8> = added.iter().flat_map(|(kind, pins)| gate_bytes(*kind, pins)).collect();
+        let end = file.len().checked_sub(1)?;
+        file.splice(end..end, gates);
+        let name = |net: usize| match net.checked_sub(self.stage.nets()) {
+            Some(k) => format!("new{k}"),
+            None => self.stage.net_name(net),
+        };
+        let said: Vec<String> = added
+            .iter()
+            .enumerate()
+            .map(|(k, (kind, pins))| {
+                let pins: Vec<String> = pins.iter().map(|&pin| name(pin)).collect();
+                format!("new{k} = {}({})", kind_name(*kind).unwrap_or_default(), pins.join(", "))
+            })
+            .collect();
+        let [low, high] = new.map(name);
+        let says = format!("new gates {}, and the rails of {} on {low} and {high}", said.join(", "), self.stage.output_name(output));
+        Some(Change { file, says, sort: None })
     }
 
     /// A gate with one pin on another net.
@@ -211,6 +329,7 @@ impl Base<'_> {
             Change {
                 file: self.with(found.at + 2 + 2 * pin, &(net as u16).to_le_bytes()),
                 says: format!("pin {letter} of {name} on {now} in place of {before}"),
+                sort: None,
             }
         };
         others.map(change).collect()
@@ -234,8 +353,37 @@ impl Base<'_> {
             }
             file.extend(bytes);
         }
-        Some(Change { file, says: format!("{} taken out", self.stage.gate_name(gate)) })
+        Some(Change { file, says: format!("{} taken out", self.stage.gate_name(gate)), sort: None })
     }
+}
+
+/// The command of a gate.
+fn gate_bytes(kind: u8, pins: &[usize]) -> Vec<u8> {
+    let operands = (0..4).flat_map(|pin| (pins.get(pin).copied().unwrap_or(ABSENT) as u16).to_le_bytes());
+    [2, kind].into_iter().chain(operands).collect()
+}
+
+/// The cells with so many pins, but the retired one.
+fn cells_of(count: usize) -> impl Iterator<Item = u8> {
+    (1..=27).filter(move |&cell| cell != RETIRED && pin_count(cell) == Some(count))
+}
+
+/// TH22, TH33 or TH44: the cell that waits for all of its pins.
+fn all_of(count: usize) -> u8 {
+    [2, 5, 11][count.clamp(2, 4) - 2]
+}
+
+/// All orders of some pins.
+fn orders(pins: &[usize]) -> Vec<Vec<usize>> {
+    if pins.is_empty() {
+        return vec![Vec::new()];
+    }
+    let first = |k: usize| {
+        let mut rest = pins.to_vec();
+        let pin = rest.remove(k);
+        orders(&rest).into_iter().map(move |rest| [vec![pin], rest].concat())
+    };
+    (0..pins.len()).flat_map(first).collect()
 }
 
 /// Two operands as bytes.

@@ -23,7 +23,7 @@ pub fn on_a_loop(text: &mut Text, verdict: Verdict, given: &Given) -> Vec<usize>
         from = gate;
     }
     let which = if path.len() == 1 { "this pin".into() } else { format!("one of these {} pins", path.len()) };
-    text.row("to do", &format!("put {which} on another net: a stage is combinational. A state goes through a register, outside the stage"));
+    text.row("to do", &format!("put {which} on another net: a stage is combinational, and what is to be kept goes through a register, outside the stage"));
     path
 }
 
@@ -74,7 +74,7 @@ pub fn retired(text: &mut Text, verdict: Verdict, pair: Pair, order: Order) {
         "build the gate of other kinds: AB+AC+BCD is TH12 of TH33w2(A, B, C) and TH33(B, C, D). Then check again, since the outputs have \
          to wait for the new gates too",
     );
-    if text.thorough {
+    if text.tries > 0 {
         changes::of_retired(text, pair, order, &stage, &alike);
     }
 }

@@ -33,7 +33,8 @@ pub fn in_a_word(text: &mut Text, verdict: Verdict, pair: Pair, order: Order) {
     let case = Case { stage: &stage, rest: &rest, row: &row, falls: matches!(verdict.number, 20 | 21) };
     let (gates, output, net) = if verdict.number == 13 {
         let answer = Reference::of(&pair.reference.bytes).answer(&values);
-        (wrong(text, &case, at, &answer, pair), Some(at), None)
+        let gates = wrong(text, &case, at, &answer, pair);
+        (gates, Some(at), None)
     } else {
         let gates = not_awaited(text, &case, odd, &values);
         let net = match odd {
@@ -42,8 +43,8 @@ pub fn in_a_word(text: &mut Text, verdict: Verdict, pair: Pair, order: Order) {
         };
         (gates, None, Some(net))
     };
-    if text.thorough {
-        changes::accepted(text, pair, order, &stage, &Named { gates: &gates, output, net });
+    if text.tries > 0 {
+        changes::accepted(text, pair, order, &stage, &Named { gates: &gates, output, net, rises: !case.falls });
     }
 }
 
@@ -119,6 +120,9 @@ fn wrong(text: &mut Text, case: &Case, at: usize, answer: &[bool], pair: Pair) -
     if others > 0 {
         text.below(0, &format!("{} wrong in this word too", many(others, "other output") + if others == 1 { " is" } else { " are" }));
     }
+    if text.tries > 0 {
+        say_words(text, at, &reference, pair);
+    }
     let mut shown = Vec::new();
     for (rail, net) in rails.into_iter().enumerate() {
         let wanted = value == (rail == 1);
@@ -141,6 +145,29 @@ fn wrong(text: &mut Text, case: &Case, at: usize, answer: &[bool], pair: Pair) -
     }
     text.row("to do", &format!("{whole}: {why}"));
     shown
+}
+
+/// How many words are named.
+const WORDS: usize = 8;
+
+/// In how many words an output is wrong, and in which.
+fn say_words(text: &mut Text, at: usize, reference: &Reference, pair: Pair) {
+    let stage = pair.stage.stage();
+    let levels = Levels::new(pair.stage.bytes(), &stage);
+    // Words of files have input i as bit i.
+    let words: Vec<usize> = if stage.care.is_empty() { (0..1 << stage.inputs).collect() } else { stage.care.clone() };
+    let digits = |word: usize| (0..stage.inputs).map(|input| word >> input & 1 == 1).collect::<Vec<bool>>();
+    let is_wrong = |values: &Vec<bool>| {
+        let shown = levels.rest(values).map(|row| pair_state(&row, stage.outputs[at]));
+        shown != reference.answer(values).get(at).map(|&value| data(value))
+    };
+    let wrong: Vec<Vec<bool>> = words.iter().map(|&word| digits(word)).filter(is_wrong).collect();
+    let mut named: Vec<String> = wrong.iter().map(|values| values.iter().map(|&value| if value { '1' } else { '0' }).collect()).collect();
+    named.sort();
+    let more = if named.len() > WORDS { " .." } else { "" };
+    named.truncate(WORDS);
+    let of = if stage.care.is_empty() { many(words.len(), "word") } else { many(words.len(), "care word") };
+    text.row("words", &format!("{} is wrong in {} of {of}: {}{more}", stage.output_name(at), wrong.len(), named.join(" ")));
 }
 
 /// The gate of a net with the levels of its pins, and those behind it that make its level.
@@ -222,7 +249,7 @@ fn not_awaited(text: &mut Text, case: &Case, odd: Odd, values: &[bool]) -> Vec<u
 }
 
 /// A list without what came before.
-fn once(list: &[usize]) -> Vec<usize> {
+pub fn once(list: &[usize]) -> Vec<usize> {
     let mut kept = Vec::new();
     for item in list {
         if !kept.contains(item) {
