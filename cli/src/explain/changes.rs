@@ -50,11 +50,11 @@ pub fn accepted(text: &mut Text, pair: Pair, order: Order, stage: &Stage, named:
     let spare = late.or(named.gates.first().copied()).filter(|&gate| base.feeds_nothing(gate));
     match spare {
         // Of a gate that feeds nothing every change that keeps it low is accepted, and says nothing.
-        Some(gate) => say(text, pair, order, Box::new(base.without(gate).into_iter())),
+        Some(gate) => say(text, pair, order, [Box::new(base.without(gate).into_iter()), Box::new(std::iter::empty())]),
         None => {
             let input = named.net.filter(|&net| net < 2 * stage.inputs && named.rises).map(|net| net / 2);
-            let waiting = input.and_then(|input| base.waiting(input, pair, order));
-            say(text, pair, order, Box::new(base.changes(named).chain(waiting)));
+            let waiting = input.into_iter().filter_map(move |input| base.waiting(input, pair, order));
+            say(text, pair, order, [base.of_named(named), Box::new(base.of_all(named).chain(waiting))]);
         }
     }
 }
@@ -77,22 +77,13 @@ pub fn of_retired(text: &mut Text, pair: Pair, order: Order, stage: &Stage, gate
         Some(changed)
     };
     let cells = [0x80, 0].into_iter().flat_map(|hold| (1..=27).filter(|&cell| cell != RETIRED).map(move |cell| (cell, hold)));
-    say(text, pair, order, Box::new(cells.filter_map(|(cell, hold)| change(cell, hold))));
+    say(text, pair, order, [Box::new(cells.filter_map(|(cell, hold)| change(cell, hold))), Box::new(std::iter::empty())]);
 }
 
-fn say(text: &mut Text, pair: Pair, order: Order, changes: Changes) {
-    let accepts = |change: &Change| fovaheju::check(order.mark(), &change.file, &pair.reference.bytes).accepts();
-    let mut found: Vec<Change> = Vec::new();
-    for change in changes.take(text.tries) {
-        // Two ways to one stage are one change.
-        let new = |other: &Change| other.file != change.file && (change.sort.is_none() || other.sort != change.sort);
-        if found.iter().all(new) && accepts(&change) {
-            found.push(change);
-        }
-        if found.len() == SHOWN {
-            break;
-        }
-    }
+/// Says which of some changes are accepted; where none is, which of the others.
+fn say(text: &mut Text, pair: Pair, order: Order, [changes, others]: [Changes; 2]) {
+    let found = tried(text.tries, pair, order, changes);
+    let found = if found.is_empty() { tried(text.tries, pair, order, others) } else { found };
     for (k, change) in found.iter().enumerate() {
         if k == 0 {
             text.row("accepted", &format!("with {}", change.says));
@@ -102,11 +93,27 @@ fn say(text: &mut Text, pair: Pair, order: Order, changes: Changes) {
     }
 }
 
+/// The first changes that are accepted.
+fn tried(tries: usize, pair: Pair, order: Order, changes: Changes) -> Vec<Change> {
+    let accepts = |change: &Change| fovaheju::check(order.mark(), &change.file, &pair.reference.bytes).accepts();
+    let mut found: Vec<Change> = Vec::new();
+    for change in changes.take(tries) {
+        // Two ways to one stage are one change.
+        let new = |other: &Change| other.file != change.file && (change.sort.is_none() || other.sort != change.sort);
+        if found.iter().all(new) && accepts(&change) {
+            found.push(change);
+        }
+        if found.len() == SHOWN {
+            break;
+        }
+    }
+    found
+}
+
 impl<'a> Base<'a> {
-    /// What is tried, the likeliest first: what is named, then all gates.
-    fn changes(self, named: &Named) -> Changes<'a> {
+    /// Changes of what is named, the likeliest first.
+    fn of_named(self, named: &Named) -> Changes<'a> {
         let near: Vec<usize> = named.gates.iter().copied().take(GATES).collect();
-        let far: Vec<usize> = (0..self.stage.gates.len()).filter(|gate| !near.contains(gate)).collect();
         let (output, net) = (named.output, named.net);
         let late = net.and_then(|net| self.stage.driver(net)).filter(|_| named.rises);
         let each = |gates: &Vec<usize>| gates.clone().into_iter();
@@ -123,10 +130,16 @@ impl<'a> Base<'a> {
         });
         let rails = output.into_iter().flat_map(move |output| self.other_rails(output));
         let pins = each(&near).flat_map(move |gate| self.other_pins(gate));
-        let mixed = each(&near).flat_map(move |gate| self.pins_and_kind(gate));
-        let all = each(&far).flat_map(move |gate| self.other_kinds(gate)).chain(each(&far).flat_map(move |gate| self.other_pins(gate)));
-        let named = outputs.chain(kinds).chain(self.all_with_hold()).chain(built_in).chain(more).chain(rails).chain(pins);
-        Box::new(named.chain(mixed).chain(all))
+        Box::new(outputs.chain(kinds).chain(self.all_with_hold()).chain(built_in).chain(more).chain(rails).chain(pins))
+    }
+
+    /// Two changes of a gate that is named, its kind and the order of its pins, then changes of all other gates.
+    fn of_all(self, named: &Named) -> Changes<'a> {
+        let (near, far): (Vec<usize>, Vec<usize>) = (0..self.stage.gates.len()).partition(|gate| named.gates.iter().take(GATES).any(|near| near == gate));
+        let mixed = near.into_iter().flat_map(move |gate| self.pins_and_kind(gate));
+        let kinds = far.clone().into_iter().flat_map(move |gate| self.other_kinds(gate));
+        let pins = far.into_iter().flat_map(move |gate| self.other_pins(gate));
+        Box::new(mixed.chain(kinds).chain(pins))
     }
 
     /// Whether no gate but itself reads a gate, and no output does.
