@@ -101,6 +101,11 @@ const FORMS: [(Side, u8, usize, Form); 9] = [
     (Side::Reference, 0x00, 1, Form::End),
 ];
 
+/// How many bytes a command of a file has.
+pub fn length_of(side: Side, byte: u8) -> Option<usize> {
+    FORMS.iter().find(|row| row.0 == side && row.1 == byte).map(|row| row.2)
+}
+
 /// A command where it stands: its bytes, and its form unless the byte is none of this file's or the file ends within it.
 pub struct Command<'a> {
     pub at: usize,

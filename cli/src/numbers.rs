@@ -20,7 +20,7 @@ pub fn title(number: u64) -> &'static str {
         14 => "not input-complete",
         15 => "not observable",
         16 => "a row of the wrong length",
-        17 => "a row with an input that is no pair",
+        17 => "an input that is neither DATA nor NULL",
         18 => "a care word too large",
         19 => "care words that do not rise",
         20 => "not input-complete in its fall",

@@ -2,7 +2,7 @@
 
 use super::Text;
 use crate::input::{Input, MOST};
-use crate::netlist::{commands, kind_name, many, operation_name, Command, Form, Listing, Reference, Side, Stage, ABSENT};
+use crate::netlist::{commands, kind_name, length_of, many, operation_name, Command, Form, Listing, Reference, Side, Stage, ABSENT};
 use fovaheju::Verdict;
 
 /// How many commands are shown before and after the one that is meant.
@@ -56,7 +56,7 @@ fn wrong(verdict: Verdict, file: &Input, side: Side, most: usize) -> [String; 2]
     let command = listed.iter().find(|command| at >= command.at && at < command.at + command.bytes.len());
     let (found, todo) = match verdict.number {
         1 if bytes.is_empty() => ("the file is empty".into(), "see why nothing was written into it".into()),
-        1 => ("the file ends within a command or before its end command (00)".into(), "see whether it was written to its end".into()),
+        1 => (cut_off(&listed, side), "see whether it was written to its end".into()),
         2 if at == 0 && side == Side::Stage && is_text(bytes) => (
             "the file begins like a text, and a stage file with its inputs (01)".into(),
             "where it is a stage in the line form, say so: --text, or a name that ends in .txt".into(),
@@ -68,12 +68,12 @@ fn wrong(verdict: Verdict, file: &Input, side: Side, most: usize) -> [String; 2]
         ),
         4 => match side {
             Side::Stage => {
-                (format!("{byte} is no kind of gate"), "use a kind 1 to 27, or 129 to 155 for the same cells without hold".into())
+                (format!("{byte:02X}, in decimal {byte}, is no kind of gate"), "use a kind 1 to 27, or 129 to 155 for the same cells without hold".into())
             }
-            Side::Reference => (format!("{byte} is no operation"), "use 1 NOT, 2 AND, 3 OR, 4 XOR, 5 NAND or 6 NOR".into()),
+            Side::Reference => (format!("{byte:02X}, in decimal {byte}, is no operation"), "use 1 NOT, 2 AND, 3 OR, 4 XOR, 5 NAND or 6 NOR".into()),
         },
         5 => operand_wrong(at, operand, command, side),
-        6 => too_many(command, most),
+        6 => too_many(command, side, most),
         7 => {
             let count = if file.longer { "bytes".into() } else { many(bytes.len() - at.min(bytes.len()), "byte") };
             (format!("{count} after the end command"), "cut the file off there: end stands last".into())
@@ -119,7 +119,7 @@ fn out_of_step(byte: u8, at: usize, listed: &[Command], side: Side) -> (String, 
         Side::Reference => [0x02, 0x03, 0x06].contains(&byte),
     };
     let todo = if of_other {
-        format!("give the two files in their order, the {this} is another file; {byte:02X} is a command of a {other}")
+        format!("{byte:02X} is a command of a {other}: give the stage first and its reference second, each once")
     } else {
         "see whether this is the right file, and whether the command before it has all its operands".into()
     };
@@ -138,18 +138,37 @@ fn operand_wrong(at: usize, operand: usize, command: Option<&Command>, side: Sid
             (name.to_string(), format!("{} operand", ["first", "second"][place.min(1)]))
         }
     };
+    let sort = if side == Side::Stage { "kind" } else { "operation" };
     if operand == ABSENT {
-        (format!("{name} has a {which}, and FFFF stands for none"), format!("give the {which}, or use another kind"))
+        (format!("{name} has a {which}, and FFFF stands for none"), format!("give the {which}, or use another {sort}"))
     } else {
-        (format!("{name} has no {which}, but {operand} is given"), "write FFFF here, or use another kind".into())
+        (format!("{name} has no {which}, but {operand} is given"), format!("write FFFF here, or use another {sort}"))
+    }
+}
+
+/// 1: what is missing at the end.
+fn cut_off(listed: &[Command], side: Side) -> String {
+    match listed.last().filter(|command| command.form.is_none()) {
+        Some(command) => {
+            let whole = length_of(side, command.bytes[0]).unwrap_or_default();
+            let there = many(command.bytes.len(), "byte");
+            format!("the file ends within the command at byte {}: {there} of {whole}", command.at)
+        }
+        None => "the file ends before its end command (00)".into(),
     }
 }
 
 /// 6: one gate or output too many.
-fn too_many(command: Option<&Command>, most: usize) -> (String, String) {
+fn too_many(command: Option<&Command>, side: Side, most: usize) -> (String, String) {
+    let whole = if side == Side::Stage { 256 } else { 512 };
+    let whose = match side {
+        _ if most < whole => "a part of a join",
+        Side::Stage => "a stage",
+        Side::Reference => "a reference",
+    };
     match command.and_then(|command| command.form) {
         Some(Form::Output | Form::Signal) => ("a 17th output".into(), "split the circuit: a file has at most 16 outputs".into()),
-        _ => (format!("one gate more than {most}"), format!("split the circuit: such a file has at most {most} gates")),
+        _ => (format!("one gate more than {most}"), format!("split the circuit: {whose} has at most {most} gates")),
     }
 }
 

@@ -69,10 +69,16 @@ pub fn retired(text: &mut Text, verdict: Verdict, pair: Pair, order: Order) {
     if !others.is_empty() {
         text.row("also", &others.join(", "));
     }
+    let pins = stage.gates.get(gate).map_or(&[][..], |gate| &gate.pins);
+    let same = pins.len() == 4 && pins[2] == pins[3];
     text.row(
         "to do",
-        "build the gate of other kinds: AB+AC+BCD is TH12 of TH33w2(A, B, C) and TH33(B, C, D). Then check again, since the outputs have \
-         to wait for the new gates too",
+        if same {
+            "use another kind: AB+AC+BCD with pins C and D on one net is AB+AC+BC, which is TH23(A, B, C)"
+        } else {
+            "build the gate of other kinds: AB+AC+BCD is TH12 of TH33w2(A, B, C) and TH33(B, C, D). Then check again, since the outputs \
+             have to wait for the new gates too"
+        },
     );
     if text.tries > 0 {
         changes::of_retired(text, pair, order, &stage, &alike);
