@@ -23,7 +23,11 @@ pub fn command() -> Command {
     let seeds = Arg::new("seeds").long("seeds").value_name("N").value_parser(value_parser!(u32));
     Command::new("load")
         .about("A reference drawn from a seed: the same numbers give the same file everywhere")
-        .arg(number("seed", "SEED").value_parser(value_parser!(u32)).help("The seed, up to 4294967295; with --seeds the first one [there: 0]"))
+        .arg(
+            number("seed", "SEED")
+                .value_parser(value_parser!(u32))
+                .help("The seed, up to 4294967295; with --seeds the first one [there: 0]"),
+        )
         .arg(number("inputs", "INPUTS").value_parser(value_parser!(u64)).conflicts_with("seeds").help("How many inputs, 1 to 10"))
         .arg(number("gates", "GATES").value_parser(value_parser!(u64)).conflicts_with("seeds").help("How many gates, 0 to 40"))
         .arg(new.conflicts_with("seeds").help("Where the reference is written"))

@@ -20,7 +20,11 @@ pub fn command() -> Command {
     let most = Arg::new("most").long("most").value_name("N").requires("walk").value_parser(value_parser!(u64));
     Command::new("next")
         .about("The small stage that comes after one: 1 or 2 inputs, at most two gates TH12 or TH22, one output")
-        .arg(path("stage", "STAGE").required_unless_present("walk").help("A small stage, or an empty file, after which the first comes; '-' is standard input"))
+        .arg(
+            path("stage", "STAGE")
+                .required_unless_present("walk")
+                .help("A small stage, or an empty file, after which the first comes; '-' is standard input"),
+        )
         .arg(path("new", "NEW-STAGE").required_unless_present("walk").conflicts_with("walk").help("Where the next one is written"))
         .arg(flag("walk", "Print all that come after STAGE, or without it all, a line of hexadecimal bytes each"))
         .arg(most.help("Print at most so many"))
@@ -74,7 +78,7 @@ fn walk(matches: &ArgMatches, stage: &Input) -> Outcome<Found> {
         lines += &bytes.join(" ");
         lines.push('\n');
         count += 1;
-        if count as usize % AT_A_TIME == 0 && !matches.get_flag("quiet") {
+        if (count as usize).is_multiple_of(AT_A_TIME) && !matches.get_flag("quiet") {
             put(lines.as_bytes())?;
             lines.clear();
         }

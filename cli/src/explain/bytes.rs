@@ -67,10 +67,13 @@ fn wrong(verdict: Verdict, file: &Input, side: Side, most: usize) -> [String; 2]
             if byte == 0 { "give the count of inputs" } else { "split the circuit, check the parts, and join them ('ncl join')" }.into(),
         ),
         4 => match side {
-            Side::Stage => {
-                (format!("{byte:02X}, in decimal {byte}, is no kind of gate"), "use a kind 1 to 27, or 129 to 155 for the same cells without hold".into())
+            Side::Stage => (
+                format!("{byte:02X}, in decimal {byte}, is no kind of gate"),
+                "use a kind 1 to 27, or 129 to 155 for the same cells without hold".into(),
+            ),
+            Side::Reference => {
+                (format!("{byte:02X}, in decimal {byte}, is no operation"), "use 1 NOT, 2 AND, 3 OR, 4 XOR, 5 NAND or 6 NOR".into())
             }
-            Side::Reference => (format!("{byte:02X}, in decimal {byte}, is no operation"), "use 1 NOT, 2 AND, 3 OR, 4 XOR, 5 NAND or 6 NOR".into()),
         },
         5 => operand_wrong(at, operand, command, side),
         6 => too_many(command, side, most),

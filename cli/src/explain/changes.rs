@@ -63,7 +63,8 @@ pub fn accepted(text: &mut Text, pair: Pair, order: Order, stage: &Stage, named:
 pub fn of_retired(text: &mut Text, pair: Pair, order: Order, stage: &Stage, gates: &[usize]) {
     let base = Base { file: pair.stage.bytes(), stage };
     // Where two pins are on one net, the net once will do.
-    let pins = |gate: usize, count: usize| if count == 4 { stage.gates[gate].pins.clone() } else { super::words::once(&stage.gates[gate].pins) };
+    let pins =
+        |gate: usize, count: usize| if count == 4 { stage.gates[gate].pins.clone() } else { super::words::once(&stage.gates[gate].pins) };
     let change = |cell: u8, hold: u8| {
         let count = pin_count(cell)?;
         let mut changed = Change { file: base.file.to_vec(), says: String::new(), sort: None };
@@ -121,13 +122,13 @@ impl<'a> Base<'a> {
             let others = (0..self.stage.outputs.len()).filter(move |&j| j != output);
             self.rails_exchanged(output).into_iter().chain(others.filter_map(move |j| self.outputs_exchanged(output, j)))
         });
-        let kinds = each(&near).flat_map(move |gate| {
-            self.completed(gate).into_iter().chain(self.completed_by_gates(gate)).chain(self.other_kinds(gate))
-        });
+        let kinds = each(&near)
+            .flat_map(move |gate| self.completed(gate).into_iter().chain(self.completed_by_gates(gate)).chain(self.other_kinds(gate)));
         let built_in = late.into_iter().flat_map(move |gate| self.built_in(gate));
-        let more = net.into_iter().zip([near.clone()]).flat_map(move |(net, near)| {
-            near.into_iter().flat_map(move |gate| self.one_pin_more(gate, net))
-        });
+        let more = net
+            .into_iter()
+            .zip([near.clone()])
+            .flat_map(move |(net, near)| near.into_iter().flat_map(move |gate| self.one_pin_more(gate, net)));
         let rails = output.into_iter().flat_map(move |output| self.other_rails(output));
         let pins = each(&near).flat_map(move |gate| self.other_pins(gate));
         Box::new(outputs.chain(kinds).chain(self.all_with_hold()).chain(built_in).chain(more).chain(rails).chain(pins))
@@ -135,7 +136,8 @@ impl<'a> Base<'a> {
 
     /// Two changes of a gate that is named, its kind and the order of its pins, then changes of all other gates.
     fn of_all(self, named: &Named) -> Changes<'a> {
-        let (near, far): (Vec<usize>, Vec<usize>) = (0..self.stage.gates.len()).partition(|gate| named.gates.iter().take(GATES).any(|near| near == gate));
+        let (near, far): (Vec<usize>, Vec<usize>) =
+            (0..self.stage.gates.len()).partition(|gate| named.gates.iter().take(GATES).any(|near| near == gate));
         let mixed = near.into_iter().flat_map(move |gate| self.pins_and_kind(gate));
         let kinds = far.clone().into_iter().flat_map(move |gate| self.other_kinds(gate));
         let pins = far.into_iter().flat_map(move |gate| self.other_pins(gate));
@@ -239,7 +241,11 @@ impl<'a> Base<'a> {
     fn all_with_hold(&self) -> Option<Change> {
         let gates = self.stage.gates.iter().enumerate().filter(|(_, gate)| relaxed(gate.kind));
         let kinds: Vec<(usize, u8)> = gates.map(|(k, gate)| (k, gate.kind & 0x7F)).collect();
-        (kinds.len() > 1).then(|| Change { file: self.with_kinds(&kinds), says: "all gates with hold, the kinds without r".into(), sort: None })
+        (kinds.len() > 1).then(|| Change {
+            file: self.with_kinds(&kinds),
+            says: "all gates with hold, the kinds without r".into(),
+            sort: None,
+        })
     }
 
     /// A gate that reads one net more.

@@ -23,7 +23,10 @@ pub fn on_a_loop(text: &mut Text, verdict: Verdict, given: &Given) -> Vec<usize>
         from = gate;
     }
     let which = if path.len() == 1 { "this pin".into() } else { format!("one of these {} pins", path.len()) };
-    text.row("to do", &format!("put {which} on another net: a stage is combinational, and what is to be kept goes through a register, outside the stage"));
+    text.row(
+        "to do",
+        &format!("put {which} on another net: a stage is combinational, and what is to be kept goes through a register, outside the stage"),
+    );
     path
 }
 

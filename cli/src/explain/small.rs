@@ -40,7 +40,10 @@ fn second_name(text: &mut Text, stage: &Stage, at: usize) {
         None => format!("the rails of y{at} are {low} and {high}, and one of them would have a second name"),
     };
     text.row("found", &found);
-    text.row("to do", &format!("put a gate before each rail of y{at}, as TH12({low}, {low}) and TH12({high}, {high}): it drives a net of its own"));
+    text.row(
+        "to do",
+        &format!("put a gate before each rail of y{at}, as TH12({low}, {low}) and TH12({high}, {high}): it drives a net of its own"),
+    );
 }
 
 /// What going to the next small stage finds.
