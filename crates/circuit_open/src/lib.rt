@@ -43,7 +43,7 @@ pub fn open_net(code: &[u16], first: usize, net: u16, marks: &mut [u8])
 }
 
 // Each mark is taken away.
-fn clear(marks: &mut [u8])
+pub fn clear(marks: &mut [u8])
     ensures { λ r. ⌜ now (marks .exit) ≡ replicate (length (now (marks .entry))) 0 ⌝ }
 {
     let mut i: usize = 0;

@@ -78,15 +78,17 @@ module _ (p : Pipeline) where
       go (inl g) (inr c) = inr (c .0, (c .1 .0, c .1 .1, onward g (c .1 .2)), c .2)
       go (inr r) c = inr (r .0, (x, r .1, here), at-data k (r .0) z (rail-steps p (r .0) (driverOf p x) z (r .1) i) c)
 
+  -- what data come from, through registers too, is found in the registers' graph
+  pub from-after : (k t : ℕ) → From p t k → After k t
+  from-after k t r =
+      ⊎-elim (λ l. at-data k t (registerAt p t .data0) (inl refl) (comes k (r .0) (r .1) l)) (λ l. at-data k t (registerAt p t .data1) (inr refl) (comes k (r .0) (r .1) l)) (r .2)
+
   from-leads : (k : ℕ) {z : ℕ} (t : ℕ) → From p t z → Leads (sources p) k z → From p t k
   from-leads k t f here = f
   from-leads k t f (onward {x = x} {z = z} i l) = from-leads k t (from-trans p z x t f (from-reach p z x (source-out z x i .1))) l
 
   pub itself-loop : (k : ℕ) → ReachesItself p k ↔ OnLoop (sources p) k
-  itself-loop k = (forth, back)
+  itself-loop k = (from-after k k, back)
     where
-      forth : ReachesItself p k → OnLoop (sources p) k
-      forth r = ⊎-elim (λ l. at-data k k (registerAt p k .data0) (inl refl) (comes k (r .0) (r .1) l)) (λ l. at-data k k (registerAt p k .data1) (inr refl) (comes k (r .0) (r .1) l)) (r .2)
-
       back : OnLoop (sources p) k → ReachesItself p k
       back o = from-leads k k (from-reach p (o .0) k (source-out (o .0) k (o .1) .1)) (o .2)
