@@ -1,4 +1,4 @@
--- `completion::lacks` meets its contract. Assumes nothing.
+-- `check_wiring::lacks` meets its contract. Assumes nothing.
 use native.Mathlib.Omega.{arith}
 use Prim.Native.Nat.{ℕ}
 use mathlib.Core.Path.{sym, refl, ap, _∙_}

@@ -1,4 +1,4 @@
--- `completion::least_missing` meets its contract. The loop's invariant: no register before k misses a Ko. Assumes nothing.
+-- `check_wiring::least_missing` meets its contract. The loop's invariant: no register before k misses a Ko. Assumes nothing.
 use Prim.Native.Nat.{ℕ, _-_, _<_}
 use native.Mathlib.Omega.{arith}
 use mathlib.Core.Path.{_≡_, refl, sym, subst, _∙_}

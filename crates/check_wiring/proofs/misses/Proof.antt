@@ -1,4 +1,4 @@
--- `completion::misses` meets its contract. Assumes nothing.
+-- `check_wiring::misses` meets its contract. Assumes nothing.
 use native.Mathlib.Omega.{arith}
 use mathlib.Core.Path.{_≡_, refl, sym, _∙_}
 use lib.ListN.{length, length-replicate}

@@ -1,4 +1,4 @@
--- `completion::some_lacking` meets its contract. The loop's invariant: no register before t is lacking. Assumes nothing.
+-- `check_wiring::some_lacking` meets its contract. The loop's invariant: no register before t is lacking. Assumes nothing.
 use Prim.Native.Nat.{_-_}
 use native.Mathlib.Omega.{arith}
 use mathlib.Core.Path.{_≡_, sym, ap, _∙_}

@@ -1,4 +1,4 @@
--- `placing::is_ready` meets its contract. Assumes nothing.
+-- `circuit_place::is_ready` meets its contract. Assumes nothing.
 use Prim.Native.Nat.{_+_, _*_}
 use mathlib.Core.Bool.{true, false}
 use denote.Ref.{now}

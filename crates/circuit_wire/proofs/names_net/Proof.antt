@@ -1,4 +1,4 @@
--- `wires::names_net` meets its contract. Assumes nothing.
+-- `circuit_wire::names_net` meets its contract. Assumes nothing.
 use Rattle.circuit_wire.proofs.Stage.{names-lead, names-low, names-past}
 use Rattle.circuit_wire.proofs.names_net.Statement.{statement}
 use Rattle.circuit_wire.proofs.names_net.Tie as tie

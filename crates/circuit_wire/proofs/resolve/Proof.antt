@@ -1,4 +1,4 @@
--- `wires::resolve` meets its contract. The loop's invariant: what is left to follow leads from x to where all leads from the net.
+-- `circuit_wire::resolve` meets its contract. The loop's invariant: what is left to follow leads from x to where all leads from the net.
 -- Assumes nothing.
 use Prim.Native.Nat.{ℕ}
 use mathlib.Core.Path.{_≡_, refl, sym, _∙_}

@@ -1,4 +1,4 @@
--- `wires::wire` meets its contract. Assumes nothing.
+-- `circuit_wire::wire` meets its contract. Assumes nothing.
 use denote.Ref.{now}
 use borrow.Author.Needs.{needs}
 use Rattle.circuit_wire.proofs.Wiring.{wire-before, wire-past, wire-rail, wire-other}

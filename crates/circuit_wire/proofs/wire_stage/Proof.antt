@@ -1,4 +1,4 @@
--- `wires::wire_stage` meets its contract. The loop's invariant: the numbers before i are those of the wired stage. Assumes nothing.
+-- `circuit_wire::wire_stage` meets its contract. The loop's invariant: the numbers before i are those of the wired stage. Assumes nothing.
 use Prim.Native.Nat.{ℕ, _-_, _<_, _≤_}
 use mathlib.Core.Path.{_≡_, refl}
 use native.Mathlib.Omega.{arith}

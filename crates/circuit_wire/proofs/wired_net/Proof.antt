@@ -1,4 +1,4 @@
--- `wires::wired_net` meets its contract. Assumes nothing.
+-- `circuit_wire::wired_net` meets its contract. Assumes nothing.
 use denote.Ref.{now}
 use Rattle.circuit_wire.proofs.Stage.{net-absent, net-there}
 use Rattle.circuit_wire.proofs.wired_net.Statement.{statement}

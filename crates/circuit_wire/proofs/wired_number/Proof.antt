@@ -1,4 +1,4 @@
--- `wires::wired_number` meets its contract. Assumes nothing.
+-- `circuit_wire::wired_number` meets its contract. Assumes nothing.
 use native.Mathlib.Omega.{arith}
 use denote.Ref.{now}
 use mathlib.Core.Path.{sym, _∙_}
