@@ -47,7 +47,8 @@ fn close_through(sources: &mut [u64], j: usize)
 // Each register's sources become all that it comes from, also through other registers: each register is gone through once.
 pub fn close(sources: &mut [u64])
     requires { ⌜ length (now sources) ≤ 64 ⌝ }
-    ensures { λ r. ⌜ ((p : Pipeline) → registerCount p ≡ length (now (sources .entry)) → SourcesOf p (now (sources .entry)) → ComesFrom p (now (sources .exit))) ⌝ }
+    ensures { λ r. ⌜ ((p : Pipeline) → registerCount p ≡ length (now (sources .entry)) → SourcesOf p (now (sources .entry))
+        → ComesFrom p (now (sources .exit))) ⌝ }
 {
     let mut j: usize = 0;
     while j < sources.len() {
@@ -96,7 +97,8 @@ fn or_differ(changed: bool, level: u8, other: u8) -> bool
 
 // A round: each register gets one more than the highest level that its sources had before. Whether some level is another now.
 fn raise_levels(sources: &[u64], before: &[u8], after: &mut [u8]) -> bool
-    requires { ⌜ (length (now before) ≤ 64) × (length (now before) ≡ length (now sources)) × (length (now after) ≡ length (now before)) × AtMost 64 (now before) ⌝ }
+    requires { ⌜ (length (now before) ≤ 64) × (length (now before) ≡ length (now sources)) × (length (now after) ≡ length (now before))
+        × AtMost 64 (now before) ⌝ }
     ensures raised { λ r. ⌜ now (after .exit) ≡ raised (now (sources .entry)) (now (before .entry)) ⌝ }
     ensures same { λ r. ⌜ (r ≡ false → now (after .exit) ≡ now (before .entry)) ⌝ }
 {
@@ -127,7 +129,8 @@ fn copy(from: &[u8], to: &mut [u8])
 pub fn level_registers(sources: &[u64], levels: &mut [u8], spare: &mut [u8])
     requires { ⌜ (length (now levels) ≤ 64) × (length (now levels) ≡ length (now sources)) × (length (now spare) ≡ length (now levels)) ⌝ }
     ensures long { λ r. ⌜ length (now (levels .exit)) ≡ length (now (levels .entry)) ⌝ }
-    ensures levelled { λ r. ⌜ ((p : Pipeline) → registerCount p ≡ length (now (levels .entry)) → SourcesOf p (now (sources .entry)) → now (levels .exit) ≡ wiring.levels p) ⌝ }
+    ensures levelled { λ r. ⌜ ((p : Pipeline) → registerCount p ≡ length (now (levels .entry)) → SourcesOf p (now (sources .entry))
+        → now (levels .exit) ≡ wiring.levels p) ⌝ }
 {
     circuit_open::clear(levels);
     let count = levels.len();

@@ -48,7 +48,8 @@ fn pin_waits(code: &[u16], first: usize, count: usize, at: usize) -> bool
 // Whether net i after the gates is to be placed: a C-element without a place, none such at a pin of it.
 fn is_ready(code: &[u16], first: usize, count: usize, i: usize) -> bool
     requires { ⌜ (length (now code) ≡ 8 * count) × (i < count) × (first + count < 65536) ⌝ }
-    ensures { λ r. ⌜ r ≡ (waiting (now (code .entry)) first count (first + i) && not (anyOf (waiting (now (code .entry)) first count) (four (now (code .entry)) (8 * i + 1)))) ⌝ }
+    ensures { λ r. ⌜ r ≡ (waiting (now (code .entry)) first count (first + i)
+        && not (anyOf (waiting (now (code .entry)) first count) (four (now (code .entry)) (8 * i + 1)))) ⌝ }
 {
     if waits(code, first, count, first + i) {
         if pin_waits(code, first, count, 8 * i + 1) {

@@ -8,7 +8,8 @@ use mathlib.Core.List.{List}
 use lib.ListN.{length}
 use Rattle.verdict.specs.Graph.{In, Leads, OnLoop}
 use Rattle.verdict.specs.Nets.{outputPair}
-use Rattle.wiring_spec.specs.Parts.{Pipeline, Driver, input, gate, rail0, rail1, acknowledge, completion, nothing, registerCount, registerAt, driverOf, allNets, outside, Role, dataNet, request, pin, names}
+use Rattle.wiring_spec.specs.Parts.{Driver, input, gate, rail0, rail1, acknowledge, completion, nothing}
+use Rattle.wiring_spec.specs.Parts.{Pipeline, registerCount, registerAt, driverOf, allNets, outside, Role, dataNet, request, pin, names}
 use Rattle.wiring_spec.specs.Wiring.{gateSteps, dataSteps, openings, isInput, isRailOf, isKoOf, level}
 
 -- every operand names what its role asks for, and the outside is no net: what reading with no refusal gives

@@ -8,7 +8,8 @@ use lib.Dec.{eqb, leb}
 use Rattle.verdict.specs.Rows.{rounds}
 use Rattle.verdict.specs.Graph.{tabulate, leads, onLoop}
 use Rattle.verdict.specs.Words.{numbers}
-use Rattle.wiring_spec.specs.Parts.{Pipeline, Driver, input, gate, rail0, rail1, acknowledge, completion, nothing, registerCount, registerAt, driverOf, allNets, outside, carriesData}
+use Rattle.wiring_spec.specs.Parts.{Driver, input, gate, rail0, rail1, acknowledge, completion, nothing}
+use Rattle.wiring_spec.specs.Parts.{Pipeline, registerCount, registerAt, driverOf, allNets, outside, carriesData}
 
 -- ---- steps
 

@@ -1,4 +1,4 @@
--- `completion::least_missing` meets its contract. The loop's invariant: no register before k misses a Ko. Assumes nothing.
+-- `check_wiring::least_missing` meets its contract. The loop's invariant: no register before k misses a Ko. Assumes nothing.
 use Prim.Native.Nat.{ℕ, _-_, _<_}
 use native.Mathlib.Omega.{arith}
 use mathlib.Core.Path.{_≡_, refl, sym, subst, _∙_}
@@ -15,12 +15,12 @@ use Rattle.check_wiring.proofs.least_missing.Statement.{statement}
 use Rattle.check_wiring.proofs.least_missing.Tie as tie
 
 abbrev Inv-loop : tie.InvT-loop
-Inv-loop parts first regs from m marks₀ k₀ marks k =
+Inv-loop parts first regs sources m marks₀ k₀ marks k =
     (length marks ≡ length marks₀)
-    × ((p : Pipeline) → registerCount p ≡ m → allNets p ≡ length marks₀ → Wiring p parts first regs from → SoughtTo (missing p) m k)
+    × ((p : Pipeline) → registerCount p ≡ m → allNets p ≡ length marks₀ → Wiring p parts first regs sources → SoughtTo (missing p) m k)
 
 abbrev μ-loop : tie.MeasureT-loop
-μ-loop parts first regs from m marks₀ k₀ marks k = m - k
+μ-loop parts first regs sources m marks₀ k₀ marks k = m - k
 
 loop-holds : tie.Need-loop-holds Inv-loop μ-loop
 loop-holds c = (refl, λ p q s w. let e : c .before .before .before .before .args .m - 0 ≡ c .before .before .before .before .args .m = omega arith in rw e)

@@ -1,4 +1,4 @@
--- `completion::misses` meets its contract. Assumes nothing.
+-- `check_wiring::misses` meets its contract. Assumes nothing.
 use native.Mathlib.Omega.{arith}
 use mathlib.Core.Path.{_≡_, refl, sym, _∙_}
 use lib.ListN.{length, length-replicate}
@@ -38,7 +38,7 @@ returns c =
     let z = c .before .before .before .before .before .before .before .before .before .before .before in
     let g = c .before .before .before .before .mark-behind .ensures in
     λ p q s w. c .some-lacking .ensures
-    ∙ misses-is p (now (z .args .parts)) (z .args .first) (now (z .args .regs)) (now (z .args .from)) w (z .args .k) (omega (arith, z .pre .2)) _ _ _ refl
+    ∙ misses-is p (now (z .args .parts)) (z .args .first) (now (z .args .regs)) (now (z .args .sources)) w (z .args .k) (omega (arith, z .pre .2)) _ _ _ refl
     (g .long ∙ length-replicate (length (now (z .args .marks))) 0 ∙ sym s) (none-marked (length (now (z .args .marks)))) g (z .args .m) q
 
 pub misses-spec : {M : Type 1} → statement M

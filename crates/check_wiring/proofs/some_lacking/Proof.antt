@@ -1,4 +1,4 @@
--- `completion::some_lacking` meets its contract. The loop's invariant: no register before t is lacking. Assumes nothing.
+-- `check_wiring::some_lacking` meets its contract. The loop's invariant: no register before t is lacking. Assumes nothing.
 use Prim.Native.Nat.{_-_}
 use native.Mathlib.Omega.{arith}
 use mathlib.Core.Path.{_≡_, sym, ap, _∙_}
@@ -8,10 +8,10 @@ use Rattle.check_wiring.proofs.some_lacking.Statement.{statement}
 use Rattle.check_wiring.proofs.some_lacking.Tie as tie
 
 abbrev Inv-loop : tie.InvT-loop
-Inv-loop regs from m k marks t₀ t = SoughtTo (lacksIn regs from k marks) m t
+Inv-loop regs sources m k marks t₀ t = SoughtTo (lacksIn regs sources k marks) m t
 
 abbrev μ-loop : tie.MeasureT-loop
-μ-loop regs from m k marks t₀ t = m - t
+μ-loop regs sources m k marks t₀ t = m - t
 
 loop-holds : tie.Need-loop-holds Inv-loop μ-loop
 loop-holds c = let e : c .before .before .before .args .m - 0 ≡ c .before .before .before .args .m = omega arith in rw e
