@@ -1,4 +1,6 @@
 // Circuits in their flat form: settling the rows of a stage.
+pub mod form;
+
 use netlist::Counts;
 ghost use mathlib.Core.Path.{_≡_};
 ghost use Prim.Native.Nat.{_≤_, _<_};
