@@ -44,11 +44,11 @@ use Rattle.check_spec.specs.Rows.{noGate, driver, cellIn, netOf, risen, 
 use Rattle.check_spec.specs.Words.{railsFor, spelled, names, answer}
 use Rattle.check_spec.specs.Checks.{rest, wrong, incomplete, highAnd, unobservable, fallIncomplete, fallUnobservable, looped, retired, swept, checks}
 use Rattle.check_spec.specs.Verdicts.{refusal, reading, checksOn, verdictOn}
-use Rattle.check_spec.specs.Demands.{LoopFree}
-use Rattle.check_spec.proofs.First.{first-says}
+use Rattle.check_spec.specs.Demands.{Pass, LoopFree}
+use Rattle.check_spec.proofs.First.{first-pass}
 use Rattle.check_spec.proofs.Loops.{loop-found, found-loop, feeding-gate}
 use Rattle.check_spec.proofs.Pairs.{all-data, all-null}
-use Rattle.check_spec.proofs.Exactly.{pass-equal, looped-out}
+use Rattle.check_spec.proofs.Exactly.{EachCheck}
 use Rattle.check_spec.proofs.View.{pairOf, stageView, referenceView, stage-view, reference-view, net-view, rail-view, driver-view}
 use Rattle.check_spec.proofs.Alike.{spelled-alike, names-alike, answer-alike, rest-alike, missing-alike, held-alike, but-alike, keeping-alike}
 
@@ -58,7 +58,7 @@ abbrev foundOr : ℕ → ℕ → ℕ → Found → Verdict → Verdict
 foundOr number file w (At i) later = verdict number file i w
 foundOr number file w Nothing later = later
 
-abbrev faultOr : Finding → Verdict → Verdict
+abbrev pub faultOr : Finding → Verdict → Verdict
 faultOr (Fault v) later = v
 faultOr Passed later = later
 
@@ -86,7 +86,7 @@ module _ (number file : ℕ) (places : List ℕ) where
   found-fault w Nothing f later = refl
 
   -- where two tests agree at the places
-  sweep-is : (fails fails′ : ℕ → ℕ → Bool) (ws : List ℕ) → ((w : ℕ) → In w ws → (i : ℕ) → In i places → fails w i ≡ fails′ w i) → (later : Verdict)
+  pub sweep-is : (fails fails′ : ℕ → ℕ → Bool) (ws : List ℕ) → ((w : ℕ) → In w ws → (i : ℕ) → In i places → fails w i ≡ fails′ w i) → (later : Verdict)
       → first (sweep number file ws places fails) later ≡ faultOr (found.sweep number file (λ w. found.first (fails′ w) places) ws) later
   unfolding first sweep flatMap found.sweep
   sweep-is fails fails′ [] same later = refl
@@ -97,13 +97,13 @@ module _ (number file : ℕ) (places : List ℕ) where
       ∙ found-fault w (found.first (fails′ w) places) (found.sweep number file (λ w. found.first (fails′ w) places) ws) later
 
 -- some checks, and as many of the code's: each finds what the first failing case of the other says, as long as those before it find nothing
-abbrev Alike : List Check → List found.Check → Type 0
+abbrev pub Alike : List Check → List found.Check → Type 0
 Alike [] [] = Unit {0}
 Alike [] (d ∷ ds) = ⊥
 Alike (c ∷ cs) [] = ⊥
 Alike (c ∷ cs) (d ∷ ds) = ((later : Verdict) → first c later ≡ faultOr (found.finding d) later) × (found.finding d ≡ Passed → Alike cs ds)
 
-alike-judge : (cs : List Check) (ds : List found.Check) → Alike cs ds → judge cs ≡ given.verdictOf (found.firstFault ds)
+pub alike-judge : (cs : List Check) (ds : List found.Check) → Alike cs ds → judge cs ≡ given.verdictOf (found.firstFault ds)
 unfolding judge found.firstFault found.orLater given.verdictOf
 alike-judge [] [] a = refl
 alike-judge [] (d ∷ ds) a = absurd a
@@ -114,6 +114,25 @@ alike-judge (c ∷ cs) (d ∷ ds) a = a .0 (judge cs) ∙ go (found.finding d) r
         → faultOr x (judge cs) ≡ given.verdictOf (found.orLater x (found.firstFault ds))
     go (Fault v) e later = refl
     go Passed e later = later e
+
+pub fault-passed : {v : Verdict} → Fault v ≡ Passed → ⊥
+fault-passed e = let z : _≡_ {A = ℕ} 0 1 = cc in omega arith
+
+-- where all cases pass the code finds nothing
+pub alike-passed : (cs : List Check) (ds : List found.Check) → Alike cs ds → EachCheck Pass cs → found.firstFault ds ≡ Passed
+unfolding found.firstFault found.orLater
+alike-passed [] [] a p = refl
+alike-passed [] (d ∷ ds) a p = absurd a
+alike-passed (c ∷ cs) [] a p = absurd a
+alike-passed (c ∷ cs) (d ∷ ds) a p = go (found.finding d) refl (λ later. sym (a .0 later) ∙ first-pass c later (p .0)) (λ e. alike-passed cs ds (a .1 e) (p .1))
+  where
+    go : (x : Finding) → found.finding d ≡ x → ((later : Verdict) → faultOr (found.finding d) later ≡ later) → (found.finding d ≡ Passed → found.firstFault ds ≡ Passed)
+        → found.orLater x (found.firstFault ds) ≡ Passed
+    go (Fault v) e same later =
+        let a : v ≡ accepted = rw e at (same accepted) in
+        let b : v ≡ verdict 1 0 0 0 = rw e at (same (verdict 1 0 0 0)) in
+        absurd (omega (arith, ap (λ (x : Verdict). x .number) (sym a ∙ b)))
+    go Passed e same later = later e
 
 -- ---- the tests
 
@@ -135,7 +154,7 @@ module _ (c : Content) where
       pins (g ∷ gates) zero = refl
       pins (g ∷ gates) (suc k) = pins gates k
 
-  loop-alike : (g : ℕ) → g < length (c .gates) → reachesItself (netOf c) (2 * c .inputs + g) ≡ loops.reachesItself (c .inputs) (v .gates) g
+  pub loop-alike : (g : ℕ) → g < length (c .gates) → reachesItself (netOf c) (2 * c .inputs + g) ≡ loops.reachesItself (c .inputs) (v .gates) g
   unfolding reachesItself
   loop-alike g h = together _ _
       (λ e. reaches-complete (c .inputs) (v .gates) g (omega (arith, length-map (c .gates) gateOf))
@@ -227,7 +246,7 @@ module _ (c : Content) where
 -- ---- the checks
 
 -- a check that finds nothing in its one word finds nothing there
-found-none : (number file w : ℕ) (places : List ℕ) (fails : ℕ → ℕ → Bool) → found.sweep number file (λ w. found.first (fails w) places) (w ∷ []) ≡ Passed
+pub found-none : (number file w : ℕ) (places : List ℕ) (fails : ℕ → ℕ → Bool) → found.sweep number file (λ w. found.first (fails w) places) (w ∷ []) ≡ Passed
     → (i : ℕ) → In i places → fails w i ≡ false
 unfolding found.sweep found.atFault found.first
 found-none number file w places fails e = none places (nothing (found.first (fails w) places) e)
@@ -262,7 +281,7 @@ found-equal number mine theirs e =
     let n : not (eqb mine theirs) ≡ false = found-none number 0 theirs (mine ∷ []) (λ w i. not (eqb mine theirs)) e mine (inl refl) in
     eqb-eq mine theirs (not-false (eqb mine theirs) (λ q. clash (ap not q) n))
 
-placed-is : (number file m m′ : ℕ) (fails fails′ : ℕ → Bool) → m ≡ m′ → ((i : ℕ) → i < m → fails i ≡ fails′ i) → (later : Verdict)
+pub placed-is : (number file m m′ : ℕ) (fails fails′ : ℕ → Bool) → m ≡ m′ → ((i : ℕ) → i < m → fails i ≡ fails′ i) → (later : Verdict)
     → first (sweep number file (0 ∷ []) (numbers 0 m) (λ w. fails)) later
     ≡ faultOr (found.sweep number file (λ w. found.first fails′ (numbers 0 m′)) (0 ∷ [])) later
 placed-is number file m m′ fails fails′ e same later =
@@ -287,7 +306,7 @@ module _ (order : WordOrder) (c : Content) where
     abbrev q : parsed.Reference
     q = referenceView r
 
-    gates-long : length (c .gates) ≡ length (s .gates)
+    pub gates-long : length (c .gates) ≡ length (s .gates)
     gates-long = sym (length-map (c .gates) gateOf)
 
     outputs-long : length (c .outputs) ≡ length (s .outputs)
@@ -297,7 +316,7 @@ module _ (order : WordOrder) (c : Content) where
     signals-long = sym (length-map (r .outputs) (λ (vs : List ℕ). getD vs 0 0))
 
     -- a loop that the code does not find is none
-    found-free : found.finding (found.looped s) ≡ Passed → LoopFree (netOf c)
+    pub found-free : found.finding (found.looped s) ≡ Passed → LoopFree (netOf c)
     unfolding found.finding
     found-free e net h =
         let g = net - 2 * c .inputs in

@@ -28,7 +28,7 @@ use Rattle.check_spec.specs.Checks.{wrong, incomplete, unobservable, fal
 use Rattle.check_spec.specs.Verdicts.{reading, checksOn, verdictOn}
 use Rattle.check_spec.specs.Demands.{Pass, Named, StageReads, BothRead, LoopFree, Demand2, Broken, Demand3}
 use Rattle.check_spec.proofs.First.{Each, first-says, named-says, judged, sweep-each}
-use Rattle.check_spec.proofs.Loops.{some-out, risen-is, fallen-is}
+use Rattle.check_spec.proofs.Loops.{some-out, loops, risen-is, fallen-is}
 use Rattle.check_spec.proofs.Names.{named-word}
 use Rattle.check_spec.proofs.OneWord.{inside, hold-clean}
 use Rattle.check_spec.proofs.Exactly.{EachCheck, looped-out, swept-in, judge-later, passes-judge, other-number, swept-other, reading-number, rise-out, accepted-passes, exactly, either-order}
@@ -128,6 +128,7 @@ module _ (order : WordOrder) (f : Files) where
   demand-2 = record {
     exactly = exactly order f;
     least = judged (checksOn order f);
+    loops = loops s;
     risen-is = λ free. risen-is s free;
     fallen-is = λ free w X. fallen-is s free _ X (inside s r free w);
     hold-only = λ reads hold. hold-only hold;

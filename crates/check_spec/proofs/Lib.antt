@@ -10,3 +10,4 @@ pub mod Demanded
 pub mod View
 pub mod Alike
 pub mod Bridge
+pub mod Row

@@ -5,17 +5,17 @@ use native.Mathlib.Omega.{arith}
 use native.Mathlib.Decide.{decLt}
 use mathlib.Core.Path.{_≡_, refl, sym, ap, _∙_, subst}
 use mathlib.Core.Logic.{_⊎_, inl, inr, ⊎-elim}
-use mathlib.Core.Bool.{Bool, true, false, cond, not, _&&_, _||_}
+use mathlib.Core.Bool.{Bool, true, false, cond, not, _&&_, _||_, and-true}
 use mathlib.Core.List.{List, [], _∷_, map}
 use lib.ListN.{length, getD, replicate, List·getD-eq-default}
 use lib.Dec.{eqb, ltb}
 use Rattle.gates.specs.Expression.{holds}
 use Rattle.gates.specs.Cell.{setExpression, bit}
 use Rattle.gates.proofs.Expressions.{holds-mono, holds-low}
-use Rattle.runs.specs.Row.{Row}
-use Rattle.runs.specs.Net.{Net, rails, nets, IsGate}
+use Rattle.runs.specs.Row.{Row, low}
+use Rattle.runs.specs.Net.{Net, rails, nets, IsGate, riseUp}
 use Rattle.runs.specs.Acyclic.{Acyclic, AllPins}
-use Rattle.runs.specs.Settled.{SettledHeld, SettledKept}
+use Rattle.runs.specs.Settled.{Settled, SettledHeld, SettledKept}
 use Rattle.runs.proofs.Test.{clash, true?, or-cases, eqb-same, eqb-eq, lt-ltb, le-ltb, ltb-true}
 use Rattle.verdict.specs.Rows.{high, rounds}
 use Rattle.verdict.specs.Graph.{In, Leads, here, onward, OnLoop, anyHigh, tabulate, leading, onLoop}
@@ -130,6 +130,15 @@ feeding-gate s u v i = go (decLt u (rails (netOf s))) (decLt u (nets (netOf s)))
         let j : In v (driver s u .operands) = rw (le-ltb u (rails (netOf s)) (omega arith)) at i in
         absurd (subst (λ (g : Coded). In v (g .operands)) (List·getD-eq-default (s .gates) noGate (omega arith)) j)
 
+-- the field `loops` of demand 2
+pub loops : (s : Content) (g k : ℕ) → reaches (feeding (netOf s)) (eqb g) k g ≡ true → reachesItself (netOf s) g ≡ true
+unfolding reachesItself
+loops s g k e =
+    let l = found-loop (feeding (netOf s)) k g e in
+    let z : suc (nets (netOf s) - 1) ≡ nets (netOf s) = omega (arith, feeding-gate s g (l .0) (l .1) .1) in
+    subst (λ (m : ℕ). reaches (feeding (netOf s)) (eqb g) m g ≡ true) z
+    (loop-found (feeding (netOf s)) (nets (netOf s) - 1) (λ a b j. omega (arith, feeding-gate s a b j .1)) g l)
+
 module _ (s : Content) (free : LoopFree (netOf s)) where
   pub no-loop : (u v : ℕ) → In v (feeding (netOf s) u) → ¬ (OnLoop (feeding (netOf s)) u)
   unfolding reachesItself
@@ -165,3 +174,10 @@ module _ (s : Content) (free : LoopFree (netOf s)) where
   -- and `fallen-is`
   pub fallen-is : (R X : Row) → ((k : ℕ) → nets (netOf s) ≤ k → R k ≡ false) → TheOnly (SettledKept (netOf s) X R) (fallen (netOf s) R X)
   fallen-is R X inside = (fallen-settled acyclic R X inside, λ r h. fallen-only acyclic R X r inside h)
+
+  -- settled for some rails, with nothing held
+  pub settled-is : (c : Row) → TheOnly (Settled (netOf s) c) (risen (netOf s) c low)
+  settled-is c = (
+    (λ k. risen-is c low .0 k ∙ and-true (riseUp (netOf s) c (risen (netOf s) c low) k)),
+    (λ t h. risen-is c low .1 t (λ k. h k ∙ sym (and-true (riseUp (netOf s) c t k)))),
+  )

@@ -27,7 +27,7 @@ use Rattle.check_spec.specs.Rows.{netOf, risen, fallen, dataOf, allData,
 use Rattle.check_spec.specs.Words.{railsFor, answer}
 use Rattle.check_spec.specs.Checks.{rest, wrong, incomplete, highAnd, unobservable, fallIncomplete, fallUnobservable}
 use Rattle.check_spec.specs.Demands.{LoopFree}
-use Rattle.check_spec.proofs.Loops.{acyclic, risen-is, fallen-is}
+use Rattle.check_spec.proofs.Loops.{acyclic, risen-is, fallen-is, settled-is}
 use Rattle.check_spec.proofs.Pairs.{all-data, all-null}
 
 -- the tests of the rise find nothing in word w, and those of the fall
@@ -87,10 +87,10 @@ module _ (s r : Content) (free : LoopFree (netOf s)) (w : ℕ) where
 
   -- the rest is settled for the word's rails, and the only row that is
   pub rest-settled : Settled N c R
-  rest-settled k = risen-is s free c low .0 k ∙ and-true (riseUp N c R k)
+  rest-settled = settled-is s free c .0
 
   pub rest-only : (t : Row) → Settled N c t → t ≡ R
-  rest-only t h = risen-is s free c low .1 t (λ k. h k ∙ sym (and-true (riseUp N c t k)))
+  rest-only = settled-is s free c .1
 
   pub inside : (k : ℕ) → nets N ≤ k → R k ≡ false
   inside k h = not-true (R k) (λ e. omega (arith, settled-inside N c R rest-settled k e))

@@ -19,9 +19,9 @@ use Rattle.verdict.specs.declared.Verdict.{Verdict}
 use Rattle.verdict.specs.declared.WordOrder.{WordOrder}
 use Rattle.netlist.specs.declared.File.the-variants.{Stage, Reference}
 use Rattle.check_spec.specs.Cases.{accepted, Case, Check, casesOf}
-use Rattle.check_spec.specs.Lists.{bitOf, some}
+use Rattle.check_spec.specs.Lists.{bitOf, some, reaches}
 use Rattle.check_spec.specs.Content.{Content, Files, stageIn, referenceIn}
-use Rattle.check_spec.specs.Rows.{driver, cellIn, netOf, risen, fallen, reachesItself}
+use Rattle.check_spec.specs.Rows.{driver, cellIn, netOf, risen, fallen, feeding, reachesItself}
 use Rattle.check_spec.specs.Words.{railsFor, spelled, IsWord, answer}
 use Rattle.check_spec.specs.Checks.{rest}
 use Rattle.check_spec.specs.Verdicts.{reading, checksOn, verdictOn, railsIn, rowStage, rowChecksOn}
@@ -80,11 +80,13 @@ abbrev pub TheOnly : (Row → Type 0) → Row → Type 0
 TheOnly P R = P R × ((r : Row) → P r → r ≡ R)
 
 -- What demand 2 says of a verdict on two files: a comparable stage "is accepted exactly if" it is acceptable; "otherwise the verdict names
--- the earliest failing check and its least case", where the rows of 13 to 15, 20 and 21 are the settled ones of a loop-free stage. Of M-102: "a stage
+-- the earliest failing check and its least case", where a gate that reaches itself in however many steps is found by 12, and the rows of 13 to 15,
+-- 20 and 21 are the settled ones of a loop-free stage. Of M-102: "a stage
 -- without relaxed kinds" is "never to meet the two fall refusals". Of M-106: "acceptance is the same under either order".
 pub record Demand2 (order : WordOrder) (f : Files) (v : Verdict) : Type 0 where
   pub exactly : Comparable f → (v ≡ accepted) ↔ Acceptable f
   pub least : Judged (checksOn order f) v
+  pub loops : (g k : ℕ) → reaches (feeding (netOf (stageIn f))) (eqb g) k g ≡ true → reachesItself (netOf (stageIn f)) g ≡ true
   pub risen-is : LoopFree (netOf (stageIn f)) → (c X : Row) → TheOnly (SettledHeld (netOf (stageIn f)) c X) (risen (netOf (stageIn f)) c X)
   pub fallen-is : LoopFree (netOf (stageIn f)) → (w : ℕ) (X : Row)
       → TheOnly (SettledKept (netOf (stageIn f)) X (rest (stageIn f) w)) (fallen (netOf (stageIn f)) (rest (stageIn f) w) X)
