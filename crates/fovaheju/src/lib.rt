@@ -6,10 +6,10 @@ use verdict::Answer;
 use verdict::Verdict;
 use verdict::WordOrder;
 ghost use mathlib.Core.Path.{_≡_};
-ghost use Rattle.netlist.specs.Reading.{stageLimits, referenceLimits};
-ghost use Rattle.verdict.specs.Words.{orderOf};
-ghost use Rattle.verdict.specs.Verdicts.{verdictOn, settledRow};
-ghost use Rattle.verdict.specs.Demands.{Demand2, Demand3, DemandRow};
+ghost use Rattle.check_spec.specs.Content as content;
+ghost use Rattle.check_spec.specs.Words.{orderOf};
+ghost use Rattle.check_spec.specs.Verdicts.{verdictOn, rowVerdict, rowAfter};
+ghost use Rattle.check_spec.specs.Demands.{Demand2, Demand3, DemandRow};
 ghost use Rattle.report_spec.specs.Report.{reportOn};
 ghost use Rattle.report_spec.specs.Activity.{ReportMeans};
 ghost use Rattle.join_spec.specs.Join.{files};
@@ -22,9 +22,9 @@ ghost use Rattle.draw_spec.specs.Demand.{DrawnDemand};
 // The check of a stage file against a reference file, with words named in an order. The verdict is the one that the definitions give, and
 // demands 2 and 3 hold of it, with one run from another for an accepted stage.
 pub fn check(order: WordOrder, stage: &[u8], reference: &[u8]) -> Verdict
-    ensures verdict { λ r. ⌜ r ≡ verdictOn order (now (stage .entry)) (now (reference .entry)) ⌝ }
-    ensures demand2 { λ r. ⌜ Demand2 order stageLimits referenceLimits (now (stage .entry)) (now (reference .entry)) r ⌝ }
-    ensures runs { λ r. ⌜ Demand3 order stageLimits referenceLimits (now (stage .entry)) (now (reference .entry)) r ⌝ }
+    ensures verdict { λ r. ⌜ r ≡ verdictOn order (content.files (now (stage .entry)) (now (reference .entry))) ⌝ }
+    ensures demand2 { λ r. ⌜ Demand2 order (content.files (now (stage .entry)) (now (reference .entry))) r ⌝ }
+    ensures runs { λ r. ⌜ Demand3 order (content.files (now (stage .entry)) (now (reference .entry))) r ⌝ }
 {
     check_files::check(order, stage, reference)
 }
@@ -41,9 +41,9 @@ pub fn report(order: WordOrder, stage: &[u8], reference: &[u8]) -> Report
 // The settled-row call: the verdict on a stage file and a lent row, one byte for each net. A refusal leaves the row as it was; else the
 // bytes of the inputs keep their values and those of the gates become their settled levels.
 pub fn settled_row(stage: &[u8], row: &mut [u8]) -> Verdict
-    ensures verdict { λ r. ⌜ r ≡ settledRow (now (stage .entry)) (now (row .entry)) .verdict ⌝ }
-    ensures row { λ r. ⌜ now (row .exit) ≡ settledRow (now (stage .entry)) (now (row .entry)) .row ⌝ }
-    ensures demands { λ r. ⌜ DemandRow stageLimits (now (stage .entry)) (now (row .entry)) r (now (row .exit)) ⌝ }
+    ensures verdict { λ r. ⌜ r ≡ rowVerdict (now (stage .entry)) (now (row .entry)) ⌝ }
+    ensures row { λ r. ⌜ now (row .exit) ≡ rowAfter (now (stage .entry)) (now (row .entry)) ⌝ }
+    ensures demands { λ r. ⌜ DemandRow (now (stage .entry)) (now (row .entry)) r (now (row .exit)) ⌝ }
 {
     call_row::settled_row(stage, row)
 }
@@ -126,9 +126,9 @@ fn order_of(mark: u64) -> WordOrder
 // The check for callers in C and in Rust, with the contract of `check`.
 #[no_mangle]
 pub extern "C" fn fovaheju_check(order: u64, stage: &[u8], reference: &[u8]) -> Verdict
-    ensures verdict { λ r. ⌜ r ≡ verdictOn (orderOf order) (now (stage .entry)) (now (reference .entry)) ⌝ }
-    ensures demand2 { λ r. ⌜ Demand2 (orderOf order) stageLimits referenceLimits (now (stage .entry)) (now (reference .entry)) r ⌝ }
-    ensures runs { λ r. ⌜ Demand3 (orderOf order) stageLimits referenceLimits (now (stage .entry)) (now (reference .entry)) r ⌝ }
+    ensures verdict { λ r. ⌜ r ≡ verdictOn (orderOf order) (content.files (now (stage .entry)) (now (reference .entry))) ⌝ }
+    ensures demand2 { λ r. ⌜ Demand2 (orderOf order) (content.files (now (stage .entry)) (now (reference .entry))) r ⌝ }
+    ensures runs { λ r. ⌜ Demand3 (orderOf order) (content.files (now (stage .entry)) (now (reference .entry))) r ⌝ }
 {
     check(order_of(order), stage, reference)
 }
@@ -145,9 +145,9 @@ pub extern "C" fn fovaheju_report(order: u64, stage: &[u8], reference: &[u8]) ->
 // The settled-row call for callers in C and in Rust, with the contract of `settled_row`.
 #[no_mangle]
 pub extern "C" fn fovaheju_settled_row(stage: &[u8], row: &mut [u8]) -> Verdict
-    ensures verdict { λ r. ⌜ r ≡ settledRow (now (stage .entry)) (now (row .entry)) .verdict ⌝ }
-    ensures row { λ r. ⌜ now (row .exit) ≡ settledRow (now (stage .entry)) (now (row .entry)) .row ⌝ }
-    ensures demands { λ r. ⌜ DemandRow stageLimits (now (stage .entry)) (now (row .entry)) r (now (row .exit)) ⌝ }
+    ensures verdict { λ r. ⌜ r ≡ rowVerdict (now (stage .entry)) (now (row .entry)) ⌝ }
+    ensures row { λ r. ⌜ now (row .exit) ≡ rowAfter (now (stage .entry)) (now (row .entry)) ⌝ }
+    ensures demands { λ r. ⌜ DemandRow (now (stage .entry)) (now (row .entry)) r (now (row .exit)) ⌝ }
 {
     settled_row(stage, row)
 }
