@@ -14,7 +14,7 @@ use Rattle.verdict.specs.Checks.{firstFault}
 use Rattle.join_spec.specs.Join as joined
 use Rattle.circuit.specs.Stage.{stageIn, StageLoaded}
 use Rattle.circuit.specs.Reference.{referenceIn, ReferenceLoaded}
-use Rattle.call_join.specs.declared.Sizes.{Sizes}
+use Rattle.call_join.specs.declared.FileCounts.{FileCounts}
 
 -- the part that two files hold
 abbrev pub partOf : List ℕ → List ℕ → joined.Part
@@ -35,11 +35,11 @@ abbrev pub partLoaded : Counts → List ℕ → Counts → List ℕ → joined.P
 partLoaded c code d reference = record { circuit = stageIn c code; function = referenceIn d reference }
 
 -- two of them, whose references have the counts of their stages
-pub record PartsLoaded (sizes : Sizes) (stage1 reference1 stage2 reference2 : List ℕ) : Type 0 where
-  pub first : StageLoaded (sizes .stage1) stage1
-  pub first-function : ReferenceLoaded (sizes .reference1) reference1
-  pub second : StageLoaded (sizes .stage2) stage2
-  pub second-function : ReferenceLoaded (sizes .reference2) reference2
-  pub few-words : sizes .stage1 .care ≤ 0x10000
-  pub outputs : sizes .reference1 .outputs ≡ sizes .stage1 .outputs
-  pub inputs : sizes .reference2 .inputs ≡ sizes .stage2 .inputs
+pub record PartsLoaded (counts : FileCounts) (code1 reference1 code2 reference2 : List ℕ) : Type 0 where
+  pub stage1-loaded : StageLoaded (counts .stage1) code1
+  pub reference1-loaded : ReferenceLoaded (counts .reference1) reference1
+  pub stage2-loaded : StageLoaded (counts .stage2) code2
+  pub reference2-loaded : ReferenceLoaded (counts .reference2) reference2
+  pub few-words : counts .stage1 .care ≤ 0x10000
+  pub outputs : counts .reference1 .outputs ≡ counts .stage1 .outputs
+  pub inputs : counts .reference2 .inputs ≡ counts .stage2 .inputs

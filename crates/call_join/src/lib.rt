@@ -55,20 +55,20 @@ fn uncared_named(
     order: WordOrder,
     list: &[u16],
     inputs: usize,
-    reference: &[u16],
-    sizes: Counts,
-    second: &[u16],
-    others: Counts,
+    reference1: &[u16],
+    sizes1: Counts,
+    code2: &[u16],
+    counts2: Counts,
 ) -> Finding
-    requires { ⌜ (inputs ≤ stageLimits .inputs) × ReferenceLoaded sizes (now reference) × StageLoaded others (now second) ⌝ }
-    ensures { λ r. ⌜ r ≡ sweep 23 0 (uncaredUnder order inputs (referenceIn sizes (now (reference .entry))) (stageIn others (now (second .entry))))
+    requires { ⌜ (inputs ≤ stageLimits .inputs) × ReferenceLoaded sizes1 (now reference1) × StageLoaded counts2 (now code2) ⌝ }
+    ensures { λ r. ⌜ r ≡ sweep 23 0 (uncaredUnder order inputs (referenceIn sizes1 (now (reference1 .entry))) (stageIn counts2 (now (code2 .entry))))
         (now (list .entry)) ⌝ }
 {
     let mut k: usize = 0;
     while k < list.len() {
         let name = list[k] as usize;
         let w = words::word_of(order, inputs, name);
-        if words::is_word(second, others, answer_word(reference, sizes, w)) {
+        if words::is_word(code2, counts2, answer_word(reference1, sizes1, w)) {
             k += 1;
         } else {
             return Finding::Fault(Verdict {
@@ -85,34 +85,34 @@ fn uncared_named(
 // The least word of the first part, by its name, whose answer the second does not care for.
 fn uncared(
     order: WordOrder,
-    first: &[u16],
-    counts: Counts,
-    reference: &[u16],
-    sizes: Counts,
-    second: &[u16],
-    others: Counts,
+    code1: &[u16],
+    counts1: Counts,
+    reference1: &[u16],
+    sizes1: Counts,
+    code2: &[u16],
+    counts2: Counts,
 ) -> Finding
-    requires { ⌜ StageLoaded counts (now first) × ReferenceLoaded sizes (now reference) × StageLoaded others (now second) ⌝ }
-    ensures { λ r. ⌜ r ≡ finding (uncaredCheck order (stageIn counts (now (first .entry))) (referenceIn sizes (now (reference .entry))) (stageIn others (now
-        (second .entry)))) ⌝ }
+    requires { ⌜ StageLoaded counts1 (now code1) × ReferenceLoaded sizes1 (now reference1) × StageLoaded counts2 (now code2) ⌝ }
+    ensures { λ r. ⌜ r ≡ finding (uncaredCheck order (stageIn counts1 (now (code1 .entry))) (referenceIn sizes1 (now (reference1 .entry))) (stageIn counts2 (now
+        (code2 .entry)))) ⌝ }
 {
     let mut list = [0u16; words::NAMES];
-    let count = words::list_names(order, first, counts, &mut list);
+    let count = words::list_names(order, code1, counts1, &mut list);
     uncared_named(
         order,
         &list[..count],
-        counts.inputs,
-        reference,
-        sizes,
-        second,
-        others,
+        counts1.inputs,
+        reference1,
+        sizes1,
+        code2,
+        counts2,
     )
 }
 
 // ---- the call
 
 // The counts of the four files.
-pub struct Sizes {
+pub struct FileCounts {
     pub stage1: Counts,
     pub reference1: Counts,
     pub stage2: Counts,
@@ -169,37 +169,37 @@ fn load_function(s: &[u8], code: &mut [u16]) -> Counts
 // 22, 23, 24, or the whole: two parts that were loaded, and buffers for their join. Both lengths are looked at before a byte is written.
 fn join_loaded(
     order: WordOrder,
-    stage1: &[u16],
+    code1: &[u16],
     reference1: &[u16],
-    stage2: &[u16],
+    code2: &[u16],
     reference2: &[u16],
-    sizes: Sizes,
+    counts: FileCounts,
     stage_out: &mut [u8],
     reference_out: &mut [u8],
 ) -> JoinAnswer
-    requires { ⌜ PartsLoaded sizes (now stage1) (now reference1) (now stage2) (now reference2) ⌝ }
-    ensures { λ r. ⌜ Leaves (joinParts order (partLoaded (sizes .stage1) (now (stage1 .entry)) (sizes .reference1) (now (reference1 .entry)))
-        (partLoaded (sizes .stage2)
-        (now (stage2 .entry)) (sizes .reference2) (now (reference2 .entry))) (length (now («stage_out» .entry))) (length (now («reference_out» .entry)))) r
+    requires { ⌜ PartsLoaded counts (now code1) (now reference1) (now code2) (now reference2) ⌝ }
+    ensures { λ r. ⌜ Leaves (joinParts order (partLoaded (counts .stage1) (now (code1 .entry)) (counts .reference1) (now (reference1 .entry)))
+        (partLoaded (counts .stage2)
+        (now (code2 .entry)) (counts .reference2) (now (reference2 .entry))) (length (now («stage_out» .entry))) (length (now («reference_out» .entry)))) r
         (now («stage_out» .entry)) (now («reference_out» .entry)) (now («stage_out» .exit)) (now («reference_out» .exit)) ⌝ }
 {
-    let first = sizes.stage1;
-    let function = sizes.reference1;
-    let second = sizes.stage2;
-    let others = sizes.reference2;
-    if first.outputs != second.inputs {
+    let counts1 = counts.stage1;
+    let sizes1 = counts.reference1;
+    let counts2 = counts.stage2;
+    let sizes2 = counts.reference2;
+    if counts1.outputs != counts2.inputs {
         return refusal(Verdict {
             number: 22,
             file: 0,
-            at: first.outputs as u64,
-            word: second.inputs as u64,
+            at: counts1.outputs as u64,
+            word: counts2.inputs as u64,
         });
     }
-    if let Finding::Fault(v) = uncared(order, stage1, first, reference1, function, stage2, second) {
+    if let Finding::Fault(v) = uncared(order, code1, counts1, reference1, sizes1, code2, counts2) {
         return refusal(v);
     }
-    let stage_count = write_joined::stage_length(first, second);
-    let reference_count = write_joined::reference_length(function, others);
+    let stage_count = write_joined::stage_length(counts1, counts2);
+    let reference_count = write_joined::reference_length(sizes1, sizes2);
     if stage_out.len() < stage_count {
         return refusal(Verdict {
             number: 24,
@@ -216,8 +216,8 @@ fn join_loaded(
             word: 0,
         });
     }
-    write_joined::put_stage(stage_out, stage1, first, stage2, second);
-    write_joined::put_reference(reference_out, reference1, function, reference2, others);
+    write_joined::put_stage(stage_out, code1, counts1, code2, counts2);
+    write_joined::put_reference(reference_out, reference1, sizes1, reference2, sizes2);
     JoinAnswer {
         verdict: Verdict {
             number: 0,
@@ -247,23 +247,23 @@ fn join_accepted(
         (length (now («stage_out» .entry))) (length (now («reference_out» .entry)))) r (now («stage_out» .entry)) (now («reference_out» .entry))
         (now («stage_out» .exit)) (now («reference_out» .exit)) ⌝ }
 {
-    let mut first = [0u16; circuit_load::STAGE_CODE];
-    let mut function = [0u16; circuit_load::REFERENCE_CODE];
-    let mut second = [0u16; circuit_load::STAGE_CODE];
-    let mut others = [0u16; circuit_load::REFERENCE_CODE];
-    let sizes = Sizes {
-        stage1: load_part(stage1, &mut first),
-        reference1: load_function(reference1, &mut function),
-        stage2: load_part(stage2, &mut second),
-        reference2: load_function(reference2, &mut others),
+    let mut code1 = [0u16; circuit_load::STAGE_CODE];
+    let mut loaded1 = [0u16; circuit_load::REFERENCE_CODE];
+    let mut code2 = [0u16; circuit_load::STAGE_CODE];
+    let mut loaded2 = [0u16; circuit_load::REFERENCE_CODE];
+    let counts = FileCounts {
+        stage1: load_part(stage1, &mut code1),
+        reference1: load_function(reference1, &mut loaded1),
+        stage2: load_part(stage2, &mut code2),
+        reference2: load_function(reference2, &mut loaded2),
     };
     join_loaded(
         order,
-        &first,
-        &function,
-        &second,
-        &others,
-        sizes,
+        &code1,
+        &loaded1,
+        &code2,
+        &loaded2,
+        counts,
         stage_out,
         reference_out,
     )
@@ -285,17 +285,17 @@ pub fn join(
 {
     let most = netlist::part_stage_limits();
     let reference_most = netlist::part_reference_limits();
-    let first = check_files::check_within(order, stage1, reference1, most, reference_most);
-    if first.number != 0 {
-        return refusal(first);
+    let verdict1 = check_files::check_within(order, stage1, reference1, most, reference_most);
+    if verdict1.number != 0 {
+        return refusal(verdict1);
     }
-    let second = check_files::check_within(order, stage2, reference2, most, reference_most);
-    if second.number != 0 {
+    let verdict2 = check_files::check_within(order, stage2, reference2, most, reference_most);
+    if verdict2.number != 0 {
         return refusal(Verdict {
-            number: second.number,
-            file: second.file + 3,
-            at: second.at,
-            word: second.word,
+            number: verdict2.number,
+            file: verdict2.file + 3,
+            at: verdict2.at,
+            word: verdict2.word,
         });
     }
     join_accepted(

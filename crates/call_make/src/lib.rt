@@ -35,70 +35,70 @@ fn input_rails(rails: &mut [u16], inputs: usize)
 }
 
 // All gates, after the inputs; the rails of every signal are stored. Answers how many gates are put.
-fn put_gates(buffer: &mut [u8], code: &[u16], counts: Counts, rails: &mut [u16]) -> usize
-    requires { ⌜ ReferenceLoaded counts (now code) × ReferenceFormed referenceLimits (referenceIn counts (now code))
-        × (2 * (counts .inputs + counts .gates) ≤ length (now rails))
-        × (pairsIn (now rails) (counts .inputs) ≡ inputRails 0 (counts .inputs)) × (gatesNeeded (referenceIn counts (now code)) ≤ stageLimits .gates)
-        × (2 + 10 * gatesNeeded (referenceIn counts (now code)) ≤ length (now buffer)) ⌝ }
-    ensures count { λ r. ⌜ r ≡ gatesNeeded (referenceIn counts (now (code .entry))) ⌝ }
-    ensures put { λ r. ⌜ Put (now (buffer .entry)) 2 (bytesOf file.Stage gateItem (built (referenceIn counts (now (code .entry))) .gates))
+fn put_gates(buffer: &mut [u8], reference: &[u16], sizes: Counts, rails: &mut [u16]) -> usize
+    requires { ⌜ ReferenceLoaded sizes (now reference) × ReferenceFormed referenceLimits (referenceIn sizes (now reference))
+        × (2 * (sizes .inputs + sizes .gates) ≤ length (now rails))
+        × (pairsIn (now rails) (sizes .inputs) ≡ inputRails 0 (sizes .inputs)) × (gatesNeeded (referenceIn sizes (now reference)) ≤ stageLimits .gates)
+        × (2 + 10 * gatesNeeded (referenceIn sizes (now reference)) ≤ length (now buffer)) ⌝ }
+    ensures count { λ r. ⌜ r ≡ gatesNeeded (referenceIn sizes (now (reference .entry))) ⌝ }
+    ensures put { λ r. ⌜ Put (now (buffer .entry)) 2 (bytesOf file.Stage gateItem (built (referenceIn sizes (now (reference .entry))) .gates))
         (now (buffer .exit)) ⌝ }
-    ensures rails { λ r. ⌜ (pairsIn (now (rails .exit)) (counts .inputs + counts .gates) ≡ built (referenceIn counts (now (code .entry))) .rails) × (length
+    ensures rails { λ r. ⌜ (pairsIn (now (rails .exit)) (sizes .inputs + sizes .gates) ≡ built (referenceIn sizes (now (reference .entry))) .rails) × (length
         (now (rails .exit)) ≡ length (now (rails .entry))) ⌝ }
 {
-    let count = counts.gates;
+    let count = sizes.gates;
     let mut made: usize = 0;
     let mut k: usize = 0;
     while k < count {
-        made = write_made::put_gate(buffer, code, counts, k, rails, made);
+        made = write_made::put_gate(buffer, reference, sizes, k, rails, made);
         k += 1;
     }
     made
 }
 
 // The outputs: the rails of their signals.
-fn put_outputs(buffer: &mut [u8], at: usize, code: &[u16], counts: Counts, rails: &[u16])
-    requires { ⌜ ReferenceLoaded counts (now code) × (2 * (counts .inputs + counts .gates) ≤ length (now rails))
-        × (at + 5 * counts .outputs ≤ length (now buffer)) ⌝ }
+fn put_outputs(buffer: &mut [u8], at: usize, reference: &[u16], sizes: Counts, rails: &[u16])
+    requires { ⌜ ReferenceLoaded sizes (now reference) × (2 * (sizes .inputs + sizes .gates) ≤ length (now rails))
+        × (at + 5 * sizes .outputs ≤ length (now buffer)) ⌝ }
     ensures { λ _. ⌜ Put (now (buffer .entry)) at (bytesOf file.Stage pairItem
-        (railsAt (pairsIn (now (rails .entry)) (counts .inputs + counts .gates)) (signalsIn
-        counts (now (code .entry))))) (now (buffer .exit)) ⌝ }
+        (railsAt (pairsIn (now (rails .entry)) (sizes .inputs + sizes .gates)) (signalsIn
+        sizes (now (reference .entry))))) (now (buffer .exit)) ⌝ }
 {
-    let from = 3 * counts.gates;
-    let count = counts.outputs;
+    let from = 3 * sizes.gates;
+    let count = sizes.outputs;
     let mut j: usize = 0;
     while j < count {
-        let pair = write_made::rails_of(rails, code[from + j]);
+        let pair = write_made::rails_of(rails, reference[from + j]);
         write_command::put_stage_output(buffer, at + 5 * j, pair.rail0, pair.rail1);
         j += 1;
     }
 }
 
 // The whole stage: inputs, gates, outputs, end.
-fn put_stage(buffer: &mut [u8], code: &[u16], counts: Counts)
-    requires { ⌜ ReferenceLoaded counts (now code) × ReferenceFormed referenceLimits (referenceIn counts (now code))
-        × (gatesNeeded (referenceIn counts (now code)) ≤ stageLimits .gates)
-        × (length (madeBytes (referenceIn counts (now code))) ≤ length (now buffer)) ⌝ }
-    ensures { λ _. ⌜ Put (now (buffer .entry)) 0 (madeBytes (referenceIn counts (now (code .entry)))) (now (buffer .exit)) ⌝ }
+fn put_stage(buffer: &mut [u8], reference: &[u16], sizes: Counts)
+    requires { ⌜ ReferenceLoaded sizes (now reference) × ReferenceFormed referenceLimits (referenceIn sizes (now reference))
+        × (gatesNeeded (referenceIn sizes (now reference)) ≤ stageLimits .gates)
+        × (length (madeBytes (referenceIn sizes (now reference))) ≤ length (now buffer)) ⌝ }
+    ensures { λ _. ⌜ Put (now (buffer .entry)) 0 (madeBytes (referenceIn sizes (now (reference .entry)))) (now (buffer .exit)) ⌝ }
 {
     let mut rails = [0u16; 2 * circuit::SIGNALS];
-    input_rails(&mut rails, counts.inputs);
-    write_command::put_inputs(buffer, 0, counts.inputs);
-    let made = put_gates(buffer, code, counts, &mut rails);
+    input_rails(&mut rails, sizes.inputs);
+    write_command::put_inputs(buffer, 0, sizes.inputs);
+    let made = put_gates(buffer, reference, sizes, &mut rails);
     let outputs = 2 + 10 * made;
-    put_outputs(buffer, outputs, code, counts, &rails);
-    write_command::put_end(buffer, outputs + 5 * counts.outputs);
+    put_outputs(buffer, outputs, reference, sizes, &rails);
+    write_command::put_end(buffer, outputs + 5 * sizes.outputs);
 }
 
 // ---- the call
 
 // 25, 26, 27, or the stage, of a reference that was loaded. The length is known before a byte is written.
-fn make_loaded(code: &[u16], counts: Counts, buffer: &mut [u8]) -> Answer
-    requires { ⌜ ReferenceLoaded counts (now code) × ReferenceFormed referenceLimits (referenceIn counts (now code)) ⌝ }
-    ensures { λ r. ⌜ written r (now (buffer .exit)) ≡ leaves (makeRead (referenceIn counts (now (code .entry))) (length (now (buffer .entry)))) (now
+fn make_loaded(reference: &[u16], sizes: Counts, buffer: &mut [u8]) -> Answer
+    requires { ⌜ ReferenceLoaded sizes (now reference) × ReferenceFormed referenceLimits (referenceIn sizes (now reference)) ⌝ }
+    ensures { λ r. ⌜ written r (now (buffer .exit)) ≡ leaves (makeRead (referenceIn sizes (now (reference .entry))) (length (now (buffer .entry)))) (now
         (buffer .entry)) ⌝ }
 {
-    if let Found::At(x) = write_made::leading_nowhere(code, counts) {
+    if let Found::At(x) = write_made::leading_nowhere(reference, sizes) {
         return write_command::refused(Verdict {
             number: 25,
             file: 2,
@@ -106,7 +106,7 @@ fn make_loaded(code: &[u16], counts: Counts, buffer: &mut [u8]) -> Answer
             word: 0,
         });
     }
-    let gates = 2 * write_made::operation_count(code, counts);
+    let gates = 2 * write_made::operation_count(reference, sizes);
     if netlist::STAGE_GATES < gates {
         return write_command::refused(Verdict {
             number: 26,
@@ -115,7 +115,7 @@ fn make_loaded(code: &[u16], counts: Counts, buffer: &mut [u8]) -> Answer
             word: 0,
         });
     }
-    let count = 3 + 10 * gates + 5 * counts.outputs;
+    let count = 3 + 10 * gates + 5 * sizes.outputs;
     if buffer.len() < count {
         return write_command::refused(Verdict {
             number: 27,
@@ -124,7 +124,7 @@ fn make_loaded(code: &[u16], counts: Counts, buffer: &mut [u8]) -> Answer
             word: 0,
         });
     }
-    put_stage(buffer, code, counts);
+    put_stage(buffer, reference, sizes);
     write_command::wrote(count)
 }
 
@@ -132,14 +132,14 @@ fn make_loaded(code: &[u16], counts: Counts, buffer: &mut [u8]) -> Answer
 pub fn make_stage(reference: &[u8], buffer: &mut [u8]) -> Answer
     ensures { λ r. ⌜ MakeDemand (now (reference .entry)) (now (buffer .entry)) r (now (buffer .exit)) ⌝ }
 {
-    let mut code = [0u16; circuit_load::REFERENCE_CODE];
-    match circuit_load::read_reference_within(reference, netlist::reference_limits(), &mut code) {
+    let mut loaded = [0u16; circuit_load::REFERENCE_CODE];
+    match circuit_load::read_reference_within(reference, netlist::reference_limits(), &mut loaded) {
         Outcome::Refused { number, at } => write_command::refused(Verdict {
             number: number as u64,
             file: 2,
             at: at as u64,
             word: 0,
         }),
-        Outcome::Readable(counts) => make_loaded(&code, counts, buffer),
+        Outcome::Readable(sizes) => make_loaded(&loaded, sizes, buffer),
     }
 }

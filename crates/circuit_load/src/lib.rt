@@ -154,16 +154,16 @@ fn reference_number(s: &[u8], places: &[u16], most: Limits, counts: Counts, i: u
 }
 
 // The reference that the file holds, in its flat form.
-pub fn load_reference(s: &[u8], places: &[u16], most: Limits, counts: Counts, code: &mut [u16])
-    requires { ⌜ FileRead file.Reference most (now s) (now places) counts × NoMore most referenceLimits
-        × (3 * counts .gates + counts .outputs ≤ length (now code)) ⌝ }
-    ensures same { λ r. ⌜ referenceIn counts (now (code .exit)) ≡ referenceOf (now (s .entry)) (placesIn most counts (now (places .entry))) ⌝ }
-    ensures loaded { λ r. ⌜ ReferenceLoaded counts (now (code .exit)) ⌝ }
+pub fn load_reference(s: &[u8], places: &[u16], most: Limits, sizes: Counts, reference: &mut [u16])
+    requires { ⌜ FileRead file.Reference most (now s) (now places) sizes × NoMore most referenceLimits
+        × (3 * sizes .gates + sizes .outputs ≤ length (now reference)) ⌝ }
+    ensures same { λ r. ⌜ referenceIn sizes (now (reference .exit)) ≡ referenceOf (now (s .entry)) (placesIn most sizes (now (places .entry))) ⌝ }
+    ensures loaded { λ r. ⌜ ReferenceLoaded sizes (now (reference .exit)) ⌝ }
 {
-    let end = 3 * counts.gates + counts.outputs;
+    let end = 3 * sizes.gates + sizes.outputs;
     let mut i: usize = 0;
     while i < end {
-        code[i] = reference_number(s, places, most, counts, i);
+        reference[i] = reference_number(s, places, most, sizes, i);
         i += 1;
     }
 }

@@ -175,32 +175,32 @@ fn operate(operation: u16, a: u8, b: u8) -> u8
 }
 
 // The value of gate k, from the values of the signals before it.
-fn operator_value(code: &[u16], counts: Counts, k: usize, values: &[u8]) -> u8
-    requires { ⌜ ReferenceLoaded counts (now code) × (k < counts .gates) × (counts .inputs + k ≤ length (now values))
+fn operator_value(reference: &[u16], sizes: Counts, k: usize, values: &[u8]) -> u8
+    requires { ⌜ ReferenceLoaded sizes (now reference) × (k < sizes .gates) × (sizes .inputs + k ≤ length (now values))
         × ((i : ℕ) → getD (now values) i 0 ≤ 1) ⌝ }
-    ensures { λ r. ⌜ (r ≡ answers.operate (operatorIn (now (code .entry)) k .code) (answers.valuesAt (take (counts .inputs + k) (now (values .entry)))
-        (operatorIn (now (code .entry)) k .operands))) × (r ≤ 1) ⌝ }
+    ensures { λ r. ⌜ (r ≡ answers.operate (operatorIn (now (reference .entry)) k .code) (answers.valuesAt (take (sizes .inputs + k) (now (values .entry)))
+        (operatorIn (now (reference .entry)) k .operands))) × (r ≤ 1) ⌝ }
 {
     let at = 3 * k;
     operate(
-        code[at],
-        circuit::level(values, code[at + 1]),
-        circuit::level(values, code[at + 2]),
+        reference[at],
+        circuit::level(values, reference[at + 1]),
+        circuit::level(values, reference[at + 2]),
     )
 }
 
 // The values of all signals: the inputs' are there, and each gate's is written after those before it.
-pub fn signal_values(code: &[u16], counts: Counts, values: &mut [u8])
-    requires { ⌜ ReferenceLoaded counts (now code) × (counts .inputs + counts .gates ≤ length (now values))
+pub fn signal_values(reference: &[u16], sizes: Counts, values: &mut [u8])
+    requires { ⌜ ReferenceLoaded sizes (now reference) × (sizes .inputs + sizes .gates ≤ length (now values))
         × ((i : ℕ) → getD (now values) i 0 ≤ 1) ⌝ }
-    ensures { λ r. ⌜ (take (counts .inputs + counts .gates) (now (values .exit)) ≡ answers.signalValues (take (counts .inputs) (now (values .entry)))
-        (operatorsIn counts (now (code .entry)))) × ((i : ℕ) → getD (now (values .exit)) i 0 ≤ 1) ⌝ }
+    ensures { λ r. ⌜ (take (sizes .inputs + sizes .gates) (now (values .exit)) ≡ answers.signalValues (take (sizes .inputs) (now (values .entry)))
+        (operatorsIn sizes (now (reference .entry)))) × ((i : ℕ) → getD (now (values .exit)) i 0 ≤ 1) ⌝ }
 {
-    let inputs = counts.inputs;
-    let count = counts.gates;
+    let inputs = sizes.inputs;
+    let count = sizes.gates;
     let mut k: usize = 0;
     while k < count {
-        values[inputs + k] = operator_value(code, counts, k, values);
+        values[inputs + k] = operator_value(reference, sizes, k, values);
         k += 1;
     }
 }

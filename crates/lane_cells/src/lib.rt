@@ -284,16 +284,16 @@ fn operate(operation: u16, a: u64, b: u64) -> u64
 }
 
 // The values of gate k, from those of the signals before it.
-fn operator_lanes(code: &[u16], counts: Counts, k: usize, values: &[u64]) -> u64
-    requires { ⌜ ReferenceLoaded counts (now code) × (k < counts .gates) × (counts .inputs + k ≤ length (now values)) ⌝ }
-    ensures { λ r. ⌜ ((j : ℕ) → j < 64 → levelIn j r ≡ answers.operate (operatorIn (now (code .entry)) k .code)
-        (answers.valuesAt (take (counts .inputs + k) (laneOf j (now (values .entry)))) (operatorIn (now (code .entry)) k .operands))) ⌝ }
+fn operator_lanes(reference: &[u16], sizes: Counts, k: usize, values: &[u64]) -> u64
+    requires { ⌜ ReferenceLoaded sizes (now reference) × (k < sizes .gates) × (sizes .inputs + k ≤ length (now values)) ⌝ }
+    ensures { λ r. ⌜ ((j : ℕ) → j < 64 → levelIn j r ≡ answers.operate (operatorIn (now (reference .entry)) k .code)
+        (answers.valuesAt (take (sizes .inputs + k) (laneOf j (now (values .entry)))) (operatorIn (now (reference .entry)) k .operands))) ⌝ }
 {
     let at = 3 * k;
     operate(
-        code[at],
-        lanes_at(values, code[at + 1]),
-        lanes_at(values, code[at + 2]),
+        reference[at],
+        lanes_at(values, reference[at + 1]),
+        lanes_at(values, reference[at + 2]),
     )
 }
 
@@ -311,19 +311,19 @@ fn spell_inputs(inputs: usize, b: usize, values: &mut [u64])
 }
 
 // The values of all signals of a reference in block b: the inputs', and each gate's after those before it.
-pub fn signal_lanes(code: &[u16], counts: Counts, b: usize, values: &mut [u64])
-    requires { ⌜ ReferenceLoaded counts (now code) × (counts .inputs + counts .gates ≤ length (now values)) ⌝ }
+pub fn signal_lanes(reference: &[u16], sizes: Counts, b: usize, values: &mut [u64])
+    requires { ⌜ ReferenceLoaded sizes (now reference) × (sizes .inputs + sizes .gates ≤ length (now values)) ⌝ }
     ensures long { λ r. ⌜ length (now (values .exit)) ≡ length (now (values .entry)) ⌝ }
-    ensures values { λ r. ⌜ ((j : ℕ) → j < 64 → take (counts .inputs + counts .gates) (laneOf j (now (values .exit)))
-        ≡ answers.signalValues (bitsOf (counts .inputs) (64 * b + j))
-        (operatorsIn counts (now (code .entry)))) ⌝ }
+    ensures values { λ r. ⌜ ((j : ℕ) → j < 64 → take (sizes .inputs + sizes .gates) (laneOf j (now (values .exit)))
+        ≡ answers.signalValues (bitsOf (sizes .inputs) (64 * b + j))
+        (operatorsIn sizes (now (reference .entry)))) ⌝ }
 {
-    let inputs = counts.inputs;
+    let inputs = sizes.inputs;
     spell_inputs(inputs, b, values);
-    let count = counts.gates;
+    let count = sizes.gates;
     let mut k: usize = 0;
     while k < count {
-        values[inputs + k] = operator_lanes(code, counts, k, values);
+        values[inputs + k] = operator_lanes(reference, sizes, k, values);
         k += 1;
     }
 }

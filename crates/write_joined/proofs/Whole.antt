@@ -151,7 +151,7 @@ module _ (first : Reference) (m : Move) where
 pub record StagePlaces (first second : Stage) (p1 p2 p3 p4 p5 : ℕ) : Type 0 where
   pub cares : p1 ≡ 2
   pub gates : p2 ≡ p1 + 3 * length (first .care)
-  pub others : p3 ≡ p2 + 10 * length (first .gates)
+  pub gates2 : p3 ≡ p2 + 10 * length (first .gates)
   pub outputs : p4 ≡ p3 + 10 * length (second .gates)
   pub end : p5 ≡ p4 + 5 * length (second .outputs)
 
@@ -164,27 +164,27 @@ module _ (first second : Stage) {b0 b1 b2 b3 b4 b5 b6 : List ℕ} {p1 p2 p3 p4 p
   stage-put a b c d e f at =
       let cares = bytesOf file.Stage care (first .care) in
       let gates = bytesOf file.Stage gateItem (first .gates) in
-      let others = bytesOf file.Stage gateItem (map (gateInWhole first second) (second .gates)) in
+      let gates2 = bytesOf file.Stage gateItem (map (gateInWhole first second) (second .gates)) in
       let outputs = bytesOf file.Stage pairItem (map (pairInWhole first second) (second .outputs)) in
-      let whole : writeStage (joinedStage first second) ≡ (0x01 ∷ first .inputs ∷ []) ++ (cares ++ (gates ++ (others ++ (outputs ++ (0x00 ∷ []))))) =
+      let whole : writeStage (joinedStage first second) ≡ (0x01 ∷ first .inputs ∷ []) ++ (cares ++ (gates ++ (gates2 ++ (outputs ++ (0x00 ∷ []))))) =
       stage-parts (joinedStage first second)
       ∙ ap (λ (l : List ℕ). (0x01 ∷ first .inputs ∷ []) ++ (cares ++ l))
       (ap (λ (l : List ℕ). l ++ (outputs ++ (0x00 ∷ []))) (bytes-++ file.Stage gateItem (first .gates) (map (gateInWhole first second) (second .gates)))
-      ∙ append-assoc gates others (outputs ++ (0x00 ∷ []))) in
+      ∙ append-assoc gates gates2 (outputs ++ (0x00 ∷ []))) in
       put-same (sym whole)
       (put-++ a (put-++ b (put-++ c (put-++ d (put-++ e f
       (at .end ∙ ap (λ (n : ℕ). p4 + n) (sym (bytes-length file.Stage pairItem 5 (λ p. stage-output-width (pairOperands p)) _ ∙ ap (λ (n : ℕ). 5 * n) (length-map (second .outputs)
       (pairInWhole first second))))))
       (at .outputs ∙ ap (λ (n : ℕ). p3 + n) (sym (bytes-length file.Stage gateItem 10 (λ g. stage-gate-width (codedGate g)) _ ∙ ap (λ (n : ℕ). 10 * n) (length-map (second .gates)
       (gateInWhole first second))))))
-      (at .others ∙ ap (λ (n : ℕ). p2 + n) (sym (bytes-length file.Stage gateItem 10 (λ g. stage-gate-width (codedGate g)) (first .gates)))))
+      (at .gates2 ∙ ap (λ (n : ℕ). p2 + n) (sym (bytes-length file.Stage gateItem 10 (λ g. stage-gate-width (codedGate g)) (first .gates)))))
       (at .gates ∙ ap (λ (n : ℕ). p1 + n) (sym (bytes-length file.Stage care 3 care-width (first .care)))))
       (at .cares))
 
 -- where the parts of the joined reference begin
 pub record ReferencePlaces (first second : Reference) (p1 p2 p3 p4 : ℕ) : Type 0 where
   pub gates : p1 ≡ 2
-  pub others : p2 ≡ p1 + 6 * length (first .gates)
+  pub gates2 : p2 ≡ p1 + 6 * length (first .gates)
   pub outputs : p3 ≡ p2 + 6 * length (second .gates)
   pub end : p4 ≡ p3 + 3 * length (second .outputs)
 
@@ -196,17 +196,17 @@ module _ (first second : Reference) {b0 b1 b2 b3 b4 b5 : List ℕ} {p1 p2 p3 p4 
   unfolding joinedReference
   reference-put a c d e f at =
       let gates = bytesOf file.Reference gate (first .gates) in
-      let others = bytesOf file.Reference gate (map (operationInWhole first second) (second .gates)) in
+      let gates2 = bytesOf file.Reference gate (map (operationInWhole first second) (second .gates)) in
       let outputs = bytesOf file.Reference signalItem (map (signalInWhole first second) (second .outputs)) in
-      let whole : writeReference (joinedReference first second) ≡ (0x01 ∷ first .inputs ∷ []) ++ (gates ++ (others ++ (outputs ++ (0x00 ∷ [])))) =
+      let whole : writeReference (joinedReference first second) ≡ (0x01 ∷ first .inputs ∷ []) ++ (gates ++ (gates2 ++ (outputs ++ (0x00 ∷ [])))) =
       reference-parts (joinedReference first second)
       ∙ ap (λ (l : List ℕ). (0x01 ∷ first .inputs ∷ []) ++ l)
       (ap (λ (l : List ℕ). l ++ (outputs ++ (0x00 ∷ []))) (bytes-++ file.Reference gate (first .gates) (map (operationInWhole first second) (second .gates)))
-      ∙ append-assoc gates others (outputs ++ (0x00 ∷ []))) in
+      ∙ append-assoc gates gates2 (outputs ++ (0x00 ∷ []))) in
       put-same (sym whole)
       (put-++ a (put-++ c (put-++ d (put-++ e f
       (at .end ∙ ap (λ (n : ℕ). p3 + n) (sym (bytes-length file.Reference signalItem 3 (λ v. reference-output-width (v ∷ [])) _ ∙ ap (λ (n : ℕ). 3 * n) (length-map (second .outputs)
       (signalInWhole first second))))))
       (at .outputs ∙ ap (λ (n : ℕ). p2 + n) (sym (bytes-length file.Reference gate 6 reference-gate-width _ ∙ ap (λ (n : ℕ). 6 * n) (length-map (second .gates) (operationInWhole first second))))))
-      (at .others ∙ ap (λ (n : ℕ). p1 + n) (sym (bytes-length file.Reference gate 6 reference-gate-width (first .gates)))))
+      (at .gates2 ∙ ap (λ (n : ℕ). p1 + n) (sym (bytes-length file.Reference gate 6 reference-gate-width (first .gates)))))
       (at .gates))

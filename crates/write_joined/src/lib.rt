@@ -28,14 +28,14 @@ pub struct Move {
 // ---- a gate of a stage
 
 // A net of a part, where it stands in the whole.
-fn net_in_whole(first: &[u16], sizes: Counts, moved: Move, net: u16) -> u16
-    requires { ⌜ StageLoaded sizes (now first) × (moved .inputs ≤ sizes .outputs) × (moved .start + net < 0x10000) ⌝ }
-    ensures { λ r. ⌜ r ≡ netMoved (stageIn sizes (now (first .entry))) moved net ⌝ }
+fn net_in_whole(code1: &[u16], counts1: Counts, moved: Move, net: u16) -> u16
+    requires { ⌜ StageLoaded counts1 (now code1) × (moved .inputs ≤ counts1 .outputs) × (moved .start + net < 0x10000) ⌝ }
+    ensures { λ r. ⌜ r ≡ netMoved (stageIn counts1 (now (code1 .entry))) moved net ⌝ }
 {
     let n = net as usize;
     let rails = 2 * moved.inputs;
     if n < rails {
-        return first[8 * sizes.gates + n];
+        return code1[8 * counts1.gates + n];
     }
     (moved.start + (n - rails)) as u16
 }
@@ -73,17 +73,17 @@ fn pin_in_whole(
     counts: Counts,
     k: usize,
     i: usize,
-    first: &[u16],
-    sizes: Counts,
+    code1: &[u16],
+    counts1: Counts,
     moved: Move,
 ) -> u16
-    requires { ⌜ StageLoaded counts (now code) × StageMoves counts sizes (now first) moved × (k < counts .gates) × (i < 4) ⌝ }
+    requires { ⌜ StageLoaded counts (now code) × StageMoves counts counts1 (now code1) moved × (k < counts .gates) × (i < 4) ⌝ }
     ensures { λ r. ⌜ r ≡ cond (ltb i (pinCount (cellIn (now (code .entry)) k)))
-        (netMoved (stageIn sizes (now (first .entry))) moved (pinIn (now (code .entry)) k i))
+        (netMoved (stageIn counts1 (now (code1 .entry))) moved (pinIn (now (code .entry)) k i))
         absent ⌝ }
 {
     if i < pins_at(code, k) {
-        return net_in_whole(first, sizes, moved, code[8 * k + (1 + i)]);
+        return net_in_whole(code1, counts1, moved, code[8 * k + (1 + i)]);
     }
     0xFFFF
 }
@@ -95,18 +95,18 @@ fn put_gate(
     code: &[u16],
     counts: Counts,
     k: usize,
-    first: &[u16],
-    sizes: Counts,
+    code1: &[u16],
+    counts1: Counts,
     moved: Move,
 )
-    requires { ⌜ StageLoaded counts (now code) × StageMoves counts sizes (now first) moved × (k < counts .gates) × (at + 10 ≤ length (now buffer)) ⌝ }
-    ensures { λ _. ⌜ Put (now (buffer .entry)) at (writing.writeItem file.Stage (gateItem (gateMoved (stageIn sizes (now (first .entry))) moved (gateIn (now
+    requires { ⌜ StageLoaded counts (now code) × StageMoves counts counts1 (now code1) moved × (k < counts .gates) × (at + 10 ≤ length (now buffer)) ⌝ }
+    ensures { λ _. ⌜ Put (now (buffer .entry)) at (writing.writeItem file.Stage (gateItem (gateMoved (stageIn counts1 (now (code1 .entry))) moved (gateIn (now
         (code .entry)) k)))) (now (buffer .exit)) ⌝ }
 {
-    let a = pin_in_whole(code, counts, k, 0, first, sizes, moved);
-    let b = pin_in_whole(code, counts, k, 1, first, sizes, moved);
-    let c = pin_in_whole(code, counts, k, 2, first, sizes, moved);
-    let d = pin_in_whole(code, counts, k, 3, first, sizes, moved);
+    let a = pin_in_whole(code, counts, k, 0, code1, counts1, moved);
+    let b = pin_in_whole(code, counts, k, 1, code1, counts1, moved);
+    let c = pin_in_whole(code, counts, k, 2, code1, counts1, moved);
+    let d = pin_in_whole(code, counts, k, 3, code1, counts1, moved);
     write_command::put_stage_gate(buffer, at, kind_at(code, k), a, b, c, d);
 }
 
@@ -118,19 +118,19 @@ fn put_gates(
     at: usize,
     code: &[u16],
     counts: Counts,
-    first: &[u16],
-    sizes: Counts,
+    code1: &[u16],
+    counts1: Counts,
     moved: Move,
 )
-    requires { ⌜ StageLoaded counts (now code) × StageMoves counts sizes (now first) moved × (at + 10 * counts .gates ≤ length (now buffer)) ⌝ }
+    requires { ⌜ StageLoaded counts (now code) × StageMoves counts counts1 (now code1) moved × (at + 10 * counts .gates ≤ length (now buffer)) ⌝ }
     ensures { λ _. ⌜ Put (now (buffer .entry)) at (bytesOf file.Stage gateItem
-        (map (gateMoved (stageIn sizes (now (first .entry))) moved) (stageGates counts (now
+        (map (gateMoved (stageIn counts1 (now (code1 .entry))) moved) (stageGates counts (now
         (code .entry))))) (now (buffer .exit)) ⌝ }
 {
     let count = counts.gates;
     let mut k: usize = 0;
     while k < count {
-        put_gate(buffer, at + 10 * k, code, counts, k, first, sizes, moved);
+        put_gate(buffer, at + 10 * k, code, counts, k, code1, counts1, moved);
         k += 1;
     }
 }
@@ -141,21 +141,21 @@ fn put_outputs(
     at: usize,
     code: &[u16],
     counts: Counts,
-    first: &[u16],
-    sizes: Counts,
+    code1: &[u16],
+    counts1: Counts,
     moved: Move,
 )
-    requires { ⌜ StageLoaded counts (now code) × StageMoves counts sizes (now first) moved × (at + 5 * counts .outputs ≤ length (now buffer)) ⌝ }
+    requires { ⌜ StageLoaded counts (now code) × StageMoves counts counts1 (now code1) moved × (at + 5 * counts .outputs ≤ length (now buffer)) ⌝ }
     ensures { λ _. ⌜ Put (now (buffer .entry)) at (bytesOf file.Stage pairItem
-        (map (pairMoved (stageIn sizes (now (first .entry))) moved) (stageOutputs counts (now
+        (map (pairMoved (stageIn counts1 (now (code1 .entry))) moved) (stageOutputs counts (now
         (code .entry))))) (now (buffer .exit)) ⌝ }
 {
     let from = 8 * counts.gates;
     let count = counts.outputs;
     let mut j: usize = 0;
     while j < count {
-        let rail0 = net_in_whole(first, sizes, moved, code[from + 2 * j]);
-        let rail1 = net_in_whole(first, sizes, moved, code[from + 2 * j + 1]);
+        let rail0 = net_in_whole(code1, counts1, moved, code[from + 2 * j]);
+        let rail1 = net_in_whole(code1, counts1, moved, code[from + 2 * j + 1]);
         write_command::put_stage_output(buffer, at + 5 * j, rail0, rail1);
         j += 1;
     }
@@ -178,14 +178,14 @@ fn put_care_words(buffer: &mut [u8], at: usize, code: &[u16], counts: Counts)
 // ---- the parts of a reference file
 
 // A signal of a part, where it stands in the whole.
-fn signal_in_whole(first: &[u16], sizes: Counts, moved: Move, signal: u16) -> u16
-    requires { ⌜ ReferenceLoaded sizes (now first) × (moved .inputs ≤ sizes .outputs) × (moved .start + signal < 0x10000) ⌝ }
-    ensures { λ r. ⌜ r ≡ signalMoved (referenceIn sizes (now (first .entry))) moved signal ⌝ }
+fn signal_in_whole(reference1: &[u16], sizes1: Counts, moved: Move, signal: u16) -> u16
+    requires { ⌜ ReferenceLoaded sizes1 (now reference1) × (moved .inputs ≤ sizes1 .outputs) × (moved .start + signal < 0x10000) ⌝ }
+    ensures { λ r. ⌜ r ≡ signalMoved (referenceIn sizes1 (now (reference1 .entry))) moved signal ⌝ }
 {
     let n = signal as usize;
     let inputs = moved.inputs;
     if n < inputs {
-        return first[3 * sizes.gates + n];
+        return reference1[3 * sizes1.gates + n];
     }
     (moved.start + (n - inputs)) as u16
 }
@@ -194,23 +194,25 @@ fn signal_in_whole(first: &[u16], sizes: Counts, moved: Move, signal: u16) -> u1
 fn put_operation(
     buffer: &mut [u8],
     at: usize,
-    code: &[u16],
-    counts: Counts,
-    k: usize,
-    first: &[u16],
+    reference: &[u16],
     sizes: Counts,
+    k: usize,
+    reference1: &[u16],
+    sizes1: Counts,
     moved: Move,
 )
-    requires { ⌜ ReferenceLoaded counts (now code) × ReferenceMoves counts sizes (now first) moved × (k < counts .gates) × (at + 6 ≤ length (now buffer)) ⌝ }
-    ensures { λ _. ⌜ Put (now (buffer .entry)) at (writing.writeItem file.Reference (writing.gate (operationMoved (referenceIn sizes (now (first .entry))) moved
-        (operatorIn (now (code .entry)) k)))) (now (buffer .exit)) ⌝ }
+    requires { ⌜ ReferenceLoaded sizes (now reference) × ReferenceMoves sizes sizes1 (now reference1) moved × (k < sizes .gates)
+        × (at + 6 ≤ length (now buffer)) ⌝ }
+    ensures { λ _. ⌜ Put (now (buffer .entry)) at (writing.writeItem file.Reference
+        (writing.gate (operationMoved (referenceIn sizes1 (now (reference1 .entry))) moved
+        (operatorIn (now (reference .entry)) k)))) (now (buffer .exit)) ⌝ }
 {
-    let operation = (code[3 * k] % 256) as u8;
-    let a = signal_in_whole(first, sizes, moved, code[3 * k + 1]);
+    let operation = (reference[3 * k] % 256) as u8;
+    let a = signal_in_whole(reference1, sizes1, moved, reference[3 * k + 1]);
     if operation == 1 {
         write_command::put_reference_gate(buffer, at, operation, a, 0xFFFF);
     } else {
-        let b = signal_in_whole(first, sizes, moved, code[3 * k + 2]);
+        let b = signal_in_whole(reference1, sizes1, moved, reference[3 * k + 2]);
         write_command::put_reference_gate(buffer, at, operation, a, b);
     }
 }
@@ -219,20 +221,30 @@ fn put_operation(
 fn put_operations(
     buffer: &mut [u8],
     at: usize,
-    code: &[u16],
-    counts: Counts,
-    first: &[u16],
+    reference: &[u16],
     sizes: Counts,
+    reference1: &[u16],
+    sizes1: Counts,
     moved: Move,
 )
-    requires { ⌜ ReferenceLoaded counts (now code) × ReferenceMoves counts sizes (now first) moved × (at + 6 * counts .gates ≤ length (now buffer)) ⌝ }
-    ensures { λ _. ⌜ Put (now (buffer .entry)) at (bytesOf file.Reference writing.gate (map (operationMoved (referenceIn sizes (now (first .entry))) moved)
-        (operatorsIn counts (now (code .entry))))) (now (buffer .exit)) ⌝ }
+    requires { ⌜ ReferenceLoaded sizes (now reference) × ReferenceMoves sizes sizes1 (now reference1) moved × (at + 6 * sizes .gates ≤ length (now buffer)) ⌝ }
+    ensures { λ _. ⌜ Put (now (buffer .entry)) at (bytesOf file.Reference writing.gate
+        (map (operationMoved (referenceIn sizes1 (now (reference1 .entry))) moved)
+        (operatorsIn sizes (now (reference .entry))))) (now (buffer .exit)) ⌝ }
 {
-    let count = counts.gates;
+    let count = sizes.gates;
     let mut k: usize = 0;
     while k < count {
-        put_operation(buffer, at + 6 * k, code, counts, k, first, sizes, moved);
+        put_operation(
+            buffer,
+            at + 6 * k,
+            reference,
+            sizes,
+            k,
+            reference1,
+            sizes1,
+            moved,
+        );
         k += 1;
     }
 }
@@ -241,22 +253,23 @@ fn put_operations(
 fn put_signals(
     buffer: &mut [u8],
     at: usize,
-    code: &[u16],
-    counts: Counts,
-    first: &[u16],
+    reference: &[u16],
     sizes: Counts,
+    reference1: &[u16],
+    sizes1: Counts,
     moved: Move,
 )
-    requires { ⌜ ReferenceLoaded counts (now code) × ReferenceMoves counts sizes (now first) moved × (at + 3 * counts .outputs ≤ length (now buffer)) ⌝ }
+    requires { ⌜ ReferenceLoaded sizes (now reference) × ReferenceMoves sizes sizes1 (now reference1) moved
+        × (at + 3 * sizes .outputs ≤ length (now buffer)) ⌝ }
     ensures { λ _. ⌜ Put (now (buffer .entry)) at (bytesOf file.Reference signalItem
-        (map (signalMoved (referenceIn sizes (now (first .entry))) moved) (signalsIn
-        counts (now (code .entry))))) (now (buffer .exit)) ⌝ }
+        (map (signalMoved (referenceIn sizes1 (now (reference1 .entry))) moved) (signalsIn
+        sizes (now (reference .entry))))) (now (buffer .exit)) ⌝ }
 {
-    let from = 3 * counts.gates;
-    let count = counts.outputs;
+    let from = 3 * sizes.gates;
+    let count = sizes.outputs;
     let mut j: usize = 0;
     while j < count {
-        let signal = signal_in_whole(first, sizes, moved, code[from + j]);
+        let signal = signal_in_whole(reference1, sizes1, moved, reference[from + j]);
         write_command::put_reference_output(buffer, at + 3 * j, signal);
         j += 1;
     }
@@ -265,26 +278,28 @@ fn put_signals(
 // ---- the two files of the whole
 
 // How many bytes the joined stage takes.
-pub fn stage_length(sizes: Counts, counts: Counts) -> usize
-    requires { ⌜ Within stageLimits sizes × Within stageLimits counts × (sizes .care ≤ 0x10000) ⌝ }
-    ensures { λ r. ⌜ ((first second : List ℕ) → r ≡ length (writing.writeStage (joinedStage (stageIn sizes first) (stageIn counts second)))) ⌝ }
+pub fn stage_length(counts1: Counts, counts2: Counts) -> usize
+    requires { ⌜ Within stageLimits counts1 × Within stageLimits counts2 × (counts1 .care ≤ 0x10000) ⌝ }
+    ensures { λ r. ⌜ ((code1 code2 : List ℕ) → r ≡ length (writing.writeStage (joinedStage (stageIn counts1 code1) (stageIn counts2 code2)))) ⌝ }
 {
-    3 + 3 * sizes.care + 10 * (sizes.gates + counts.gates) + 5 * counts.outputs
+    3 + 3 * counts1.care + 10 * (counts1.gates + counts2.gates) + 5 * counts2.outputs
 }
 
 // How many bytes the joined reference takes.
-pub fn reference_length(sizes: Counts, counts: Counts) -> usize
-    requires { ⌜ Within referenceLimits sizes × Within referenceLimits counts ⌝ }
-    ensures { λ r. ⌜ ((first second : List ℕ) → r ≡ length (writing.writeReference (joinedReference (referenceIn sizes first) (referenceIn counts second)))) ⌝ }
+pub fn reference_length(sizes1: Counts, sizes2: Counts) -> usize
+    requires { ⌜ Within referenceLimits sizes1 × Within referenceLimits sizes2 ⌝ }
+    ensures { λ r. ⌜ ((reference1 reference2 : List ℕ) → r ≡ length
+        (writing.writeReference (joinedReference (referenceIn sizes1 reference1) (referenceIn sizes2 reference2)))) ⌝ }
 {
-    3 + 6 * (sizes.gates + counts.gates) + 3 * counts.outputs
+    3 + 6 * (sizes1.gates + sizes2.gates) + 3 * sizes2.outputs
 }
 
 // The joined stage, from the start of a buffer: inputs, the first part's care words, gates (first part first), the second's outputs, end.
-pub fn put_stage(buffer: &mut [u8], first: &[u16], sizes: Counts, second: &[u16], counts: Counts)
-    requires { ⌜ StageLoaded sizes (now first) × StageLoaded counts (now second) × (counts .inputs ≡ sizes .outputs)
-        × (length (writing.writeStage (joinedStage (stageIn sizes (now first)) (stageIn counts (now second)))) ≤ length (now buffer)) ⌝ }
-    ensures { λ _. ⌜ Put (now (buffer .entry)) 0 (writing.writeStage (joinedStage (stageIn sizes (now (first .entry))) (stageIn counts (now (second .entry)))))
+pub fn put_stage(buffer: &mut [u8], code1: &[u16], counts1: Counts, code2: &[u16], counts2: Counts)
+    requires { ⌜ StageLoaded counts1 (now code1) × StageLoaded counts2 (now code2) × (counts2 .inputs ≡ counts1 .outputs)
+        × (length (writing.writeStage (joinedStage (stageIn counts1 (now code1)) (stageIn counts2 (now code2)))) ≤ length (now buffer)) ⌝ }
+    ensures { λ _. ⌜ Put (now (buffer .entry)) 0 (writing.writeStage
+        (joinedStage (stageIn counts1 (now (code1 .entry))) (stageIn counts2 (now (code2 .entry)))))
         (now (buffer .exit)) ⌝ }
 {
     let stays = Move {
@@ -292,48 +307,66 @@ pub fn put_stage(buffer: &mut [u8], first: &[u16], sizes: Counts, second: &[u16]
         start: 0,
     };
     let moved = Move {
-        inputs: counts.inputs,
-        start: 2 * sizes.inputs + sizes.gates,
+        inputs: counts2.inputs,
+        start: 2 * counts1.inputs + counts1.gates,
     };
-    let gates = 2 + 3 * sizes.care;
-    let others = gates + 10 * sizes.gates;
-    let outputs = others + 10 * counts.gates;
-    let end = outputs + 5 * counts.outputs;
-    write_command::put_inputs(buffer, 0, sizes.inputs);
-    put_care_words(buffer, 2, first, sizes);
-    put_gates(buffer, gates, first, sizes, first, sizes, stays);
-    put_gates(buffer, others, second, counts, first, sizes, moved);
-    put_outputs(buffer, outputs, second, counts, first, sizes, moved);
+    let gates = 2 + 3 * counts1.care;
+    let gates2 = gates + 10 * counts1.gates;
+    let outputs = gates2 + 10 * counts2.gates;
+    let end = outputs + 5 * counts2.outputs;
+    write_command::put_inputs(buffer, 0, counts1.inputs);
+    put_care_words(buffer, 2, code1, counts1);
+    put_gates(buffer, gates, code1, counts1, code1, counts1, stays);
+    put_gates(buffer, gates2, code2, counts2, code1, counts1, moved);
+    put_outputs(buffer, outputs, code2, counts2, code1, counts1, moved);
     write_command::put_end(buffer, end);
 }
 
 // The joined reference, from the start of a buffer.
 pub fn put_reference(
     buffer: &mut [u8],
-    first: &[u16],
-    sizes: Counts,
-    second: &[u16],
-    counts: Counts,
+    reference1: &[u16],
+    sizes1: Counts,
+    reference2: &[u16],
+    sizes2: Counts,
 )
-    requires { ⌜ ReferenceLoaded sizes (now first) × ReferenceLoaded counts (now second) × (counts .inputs ≡ sizes .outputs)
-        × (length (writing.writeReference (joinedReference (referenceIn sizes (now first)) (referenceIn counts (now second)))) ≤ length (now buffer)) ⌝ }
-    ensures { λ _. ⌜ Put (now (buffer .entry)) 0 (writing.writeReference (joinedReference (referenceIn sizes (now (first .entry))) (referenceIn counts (now
-        (second .entry))))) (now (buffer .exit)) ⌝ }
+    requires { ⌜ ReferenceLoaded sizes1 (now reference1) × ReferenceLoaded sizes2 (now reference2) × (sizes2 .inputs ≡ sizes1 .outputs)
+        × (length (writing.writeReference (joinedReference (referenceIn sizes1 (now reference1)) (referenceIn sizes2 (now reference2)))) ≤ length
+        (now buffer)) ⌝ }
+    ensures { λ _. ⌜ Put (now (buffer .entry)) 0 (writing.writeReference
+        (joinedReference (referenceIn sizes1 (now (reference1 .entry))) (referenceIn sizes2 (now
+        (reference2 .entry))))) (now (buffer .exit)) ⌝ }
 {
     let stays = Move {
         inputs: 0,
         start: 0,
     };
     let moved = Move {
-        inputs: counts.inputs,
-        start: sizes.inputs + sizes.gates,
+        inputs: sizes2.inputs,
+        start: sizes1.inputs + sizes1.gates,
     };
-    let others = 2 + 6 * sizes.gates;
-    let outputs = others + 6 * counts.gates;
-    let end = outputs + 3 * counts.outputs;
-    write_command::put_inputs(buffer, 0, sizes.inputs);
-    put_operations(buffer, 2, first, sizes, first, sizes, stays);
-    put_operations(buffer, others, second, counts, first, sizes, moved);
-    put_signals(buffer, outputs, second, counts, first, sizes, moved);
+    let gates2 = 2 + 6 * sizes1.gates;
+    let outputs = gates2 + 6 * sizes2.gates;
+    let end = outputs + 3 * sizes2.outputs;
+    write_command::put_inputs(buffer, 0, sizes1.inputs);
+    put_operations(buffer, 2, reference1, sizes1, reference1, sizes1, stays);
+    put_operations(
+        buffer,
+        gates2,
+        reference2,
+        sizes2,
+        reference1,
+        sizes1,
+        moved,
+    );
+    put_signals(
+        buffer,
+        outputs,
+        reference2,
+        sizes2,
+        reference1,
+        sizes1,
+        moved,
+    );
     write_command::put_end(buffer, end);
 }

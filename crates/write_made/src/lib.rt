@@ -24,44 +24,44 @@ ghost use Rattle.write_made.specs.Rails.{pairOf, pairStored, becomes};
 // ---- 25: signals that are no output and lead to none
 
 // Marks the outputs.
-fn mark_outputs(code: &[u16], counts: Counts, marks: &mut [u8])
-    requires { ⌜ ReferenceLoaded counts (now code) × (counts .inputs + counts .gates ≤ length (now marks)) ⌝ }
-    ensures { λ _. ⌜ now (marks .exit) ≡ marked (now (marks .entry)) (signalsIn counts (now (code .entry))) ⌝ }
+fn mark_outputs(reference: &[u16], sizes: Counts, marks: &mut [u8])
+    requires { ⌜ ReferenceLoaded sizes (now reference) × (sizes .inputs + sizes .gates ≤ length (now marks)) ⌝ }
+    ensures { λ _. ⌜ now (marks .exit) ≡ marked (now (marks .entry)) (signalsIn sizes (now (reference .entry))) ⌝ }
 {
-    let from = 3 * counts.gates;
-    let count = counts.outputs;
+    let from = 3 * sizes.gates;
+    let count = sizes.outputs;
     let mut j: usize = 0;
     while j < count {
-        let signal = code[from + j] as usize;
+        let signal = reference[from + j] as usize;
         marks[signal] = 1;
         j += 1;
     }
 }
 
 // Marks the operands of gate k.
-fn mark_operands(code: &[u16], counts: Counts, k: usize, marks: &mut [u8])
-    requires { ⌜ ReferenceLoaded counts (now code) × (k < counts .gates) × (counts .inputs + counts .gates ≤ length (now marks)) ⌝ }
-    ensures { λ _. ⌜ now (marks .exit) ≡ marked (now (marks .entry)) (operatorIn (now (code .entry)) k .operands) ⌝ }
+fn mark_operands(reference: &[u16], sizes: Counts, k: usize, marks: &mut [u8])
+    requires { ⌜ ReferenceLoaded sizes (now reference) × (k < sizes .gates) × (sizes .inputs + sizes .gates ≤ length (now marks)) ⌝ }
+    ensures { λ _. ⌜ now (marks .exit) ≡ marked (now (marks .entry)) (operatorIn (now (reference .entry)) k .operands) ⌝ }
 {
-    let a = code[3 * k + 1] as usize;
+    let a = reference[3 * k + 1] as usize;
     marks[a] = 1;
-    if code[3 * k] != 1 {
-        let b = code[3 * k + 2] as usize;
+    if reference[3 * k] != 1 {
+        let b = reference[3 * k + 2] as usize;
         marks[b] = 1;
     }
 }
 
 // Marks the operands of every marked gate, of the last first.
-fn mark_leading(code: &[u16], counts: Counts, marks: &mut [u8])
-    requires { ⌜ ReferenceLoaded counts (now code) × (counts .inputs + counts .gates ≤ length (now marks)) ⌝ }
-    ensures { λ _. ⌜ now (marks .exit) ≡ markedFrom (counts .inputs) (operatorsIn counts (now (code .entry))) (now (marks .entry)) ⌝ }
+fn mark_leading(reference: &[u16], sizes: Counts, marks: &mut [u8])
+    requires { ⌜ ReferenceLoaded sizes (now reference) × (sizes .inputs + sizes .gates ≤ length (now marks)) ⌝ }
+    ensures { λ _. ⌜ now (marks .exit) ≡ markedFrom (sizes .inputs) (operatorsIn sizes (now (reference .entry))) (now (marks .entry)) ⌝ }
 {
-    let inputs = counts.inputs;
-    let mut k = counts.gates;
+    let inputs = sizes.inputs;
+    let mut k = sizes.gates;
     while 0 < k {
         k -= 1;
         if 0 < marks[inputs + k] {
-            mark_operands(code, counts, k, marks);
+            mark_operands(reference, sizes, k, marks);
         }
     }
 }
@@ -83,28 +83,28 @@ fn unmarked(marks: &[u8], count: usize) -> Found
 }
 
 // The least signal that is no output and leads to none.
-pub fn leading_nowhere(code: &[u16], counts: Counts) -> Found
-    requires { ⌜ ReferenceLoaded counts (now code) × ReferenceFormed referenceLimits (referenceIn counts (now code)) ⌝ }
-    ensures { λ r. ⌜ r ≡ least (λ x. not (leadsOut (referenceIn counts (now (code .entry))) x)) 0 (counts .inputs + counts .gates) ⌝ }
+pub fn leading_nowhere(reference: &[u16], sizes: Counts) -> Found
+    requires { ⌜ ReferenceLoaded sizes (now reference) × ReferenceFormed referenceLimits (referenceIn sizes (now reference)) ⌝ }
+    ensures { λ r. ⌜ r ≡ least (λ x. not (leadsOut (referenceIn sizes (now (reference .entry))) x)) 0 (sizes .inputs + sizes .gates) ⌝ }
 {
     let mut marks = [0u8; circuit::SIGNALS];
-    mark_outputs(code, counts, &mut marks);
-    mark_leading(code, counts, &mut marks);
-    unmarked(&marks, counts.inputs + counts.gates)
+    mark_outputs(reference, sizes, &mut marks);
+    mark_leading(reference, sizes, &mut marks);
+    unmarked(&marks, sizes.inputs + sizes.gates)
 }
 
 // ---- 26: how many gates are needed
 
 // How many gates of the reference are not NOT.
-pub fn operation_count(code: &[u16], counts: Counts) -> usize
-    requires { ⌜ ReferenceLoaded counts (now code) ⌝ }
-    ensures { λ r. ⌜ (r ≡ operations (operatorsIn counts (now (code .entry)))) × (r ≤ counts .gates) ⌝ }
+pub fn operation_count(reference: &[u16], sizes: Counts) -> usize
+    requires { ⌜ ReferenceLoaded sizes (now reference) ⌝ }
+    ensures { λ r. ⌜ (r ≡ operations (operatorsIn sizes (now (reference .entry)))) × (r ≤ sizes .gates) ⌝ }
 {
     let mut count: usize = 0;
-    let mut k = counts.gates;
+    let mut k = sizes.gates;
     while 0 < k {
         k -= 1;
-        if code[3 * k] != 1 {
+        if reference[3 * k] != 1 {
             count += 1;
         }
     }
@@ -193,26 +193,28 @@ fn put_operation(buffer: &mut [u8], at: usize, operation: u16, a: Rails, b: Rail
 // operand twice in the flat form, so that both are read without a test.
 pub fn put_gate(
     buffer: &mut [u8],
-    code: &[u16],
-    counts: Counts,
+    reference: &[u16],
+    sizes: Counts,
     k: usize,
     rails: &mut [u16],
     made: usize,
 ) -> usize
-    requires { ⌜ ReferenceLoaded counts (now code) × (k < counts .gates) × (2 * (counts .inputs + counts .gates) ≤ length (now rails))
+    requires { ⌜ ReferenceLoaded sizes (now reference) × (k < sizes .gates) × (2 * (sizes .inputs + sizes .gates) ≤ length (now rails))
         × (made ≤ stageLimits .gates)
-        × (2 + 10 * (made + 2 * operations (operatorIn (now code) k ∷ [])) ≤ length (now buffer)) ⌝ }
-    ensures count { λ r. ⌜ r ≡ made + length (becomes counts (now (code .entry)) k (now (rails .entry)) made .gates) ⌝ }
-    ensures put { λ r. ⌜ Put (now (buffer .entry)) (2 + 10 * made) (bytesOf file.Stage gateItem (becomes counts (now (code .entry)) k (now (rails .entry)) made
+        × (2 + 10 * (made + 2 * operations (operatorIn (now reference) k ∷ [])) ≤ length (now buffer)) ⌝ }
+    ensures count { λ r. ⌜ r ≡ made + length (becomes sizes (now (reference .entry)) k (now (rails .entry)) made .gates) ⌝ }
+    ensures put { λ r. ⌜ Put (now (buffer .entry)) (2 + 10 * made)
+        (bytesOf file.Stage gateItem (becomes sizes (now (reference .entry)) k (now (rails .entry)) made
         .gates)) (now (buffer .exit)) ⌝ }
-    ensures rails { λ r. ⌜ now (rails .exit) ≡ set (set (now (rails .entry)) (2 * (counts .inputs + k)) (becomes counts (now (code .entry)) k (now
-        (rails .entry)) made .rails .rail0)) (2 * (counts .inputs + k) + 1) (becomes counts (now (code .entry)) k (now (rails .entry)) made .rails .rail1) ⌝ }
+    ensures rails { λ r. ⌜ now (rails .exit) ≡ set (set (now (rails .entry)) (2 * (sizes .inputs + k)) (becomes sizes (now (reference .entry)) k (now
+        (rails .entry)) made .rails .rail0)) (2 * (sizes .inputs + k) + 1)
+        (becomes sizes (now (reference .entry)) k (now (rails .entry)) made .rails .rail1) ⌝ }
 {
-    let operation = code[3 * k];
-    let a = rails_of(rails, code[3 * k + 1]);
-    let b = rails_of(rails, code[3 * k + 2]);
-    let result = result_rails(operation, a, (2 * counts.inputs + made) as u16);
-    let at = 2 * (counts.inputs + k);
+    let operation = reference[3 * k];
+    let a = rails_of(rails, reference[3 * k + 1]);
+    let b = rails_of(rails, reference[3 * k + 2]);
+    let result = result_rails(operation, a, (2 * sizes.inputs + made) as u16);
+    let at = 2 * (sizes.inputs + k);
     rails[at] = result.rail0;
     rails[at + 1] = result.rail1;
     if operation == 1 {

@@ -17,11 +17,11 @@ join-loaded-requires c κs =
     let q = c .before .before .before .before .before .before .before .before .before .before .load-part2 .ensures in
     let g = c .before .before .before .before .before .before .before .load-function2 .ensures in
     record {
-      first = p .0;
-      first-function = f .0;
-      second = q .0;
-      second-function = g .0;
-      few-words = few-care (p .0) (c .before .before .before .before .before .before .before .before .before .before .before .before .before .before .before .first2 .given) (omega arith);
+      stage1-loaded = p .0;
+      reference1-loaded = f .0;
+      stage2-loaded = q .0;
+      reference2-loaded = g .0;
+      few-words = few-care (p .0) (c .before .before .before .before .before .before .before .before .before .before .before .before .before .before .before .code12 .given) (omega arith);
       outputs = same-outputs (now (a .stage1)) (now (a .reference1)) _ _ _ _ (p .1) (f .1) (a .order) (z .pre .0);
       inputs = same-inputs (now (a .stage2)) (now (a .reference2)) _ _ _ _ (q .1) (g .1) (a .order) (z .pre .1);
     }

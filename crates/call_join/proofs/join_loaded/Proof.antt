@@ -14,25 +14,25 @@ use Rattle.call_join.proofs.join_loaded.Statement.{statement}
 use Rattle.call_join.proofs.join_loaded.Tie as tie
 
 uncared-requires : tie.Need-uncared-requires
-uncared-requires c κs = let z = c .before .before .before .before .before .before .before .before .before .before .before .before .before in (z .pre .first, z .pre .first-function, z .pre .second)
+uncared-requires c κs = let z = c .before .before .before .before .before .before .before .before .before .before .before .before .before in (z .pre .stage1-loaded, z .pre .reference1-loaded, z .pre .stage2-loaded)
 
 stage-length-requires : tie.Need-stage-length-requires
 stage-length-requires c κs = let z = c .before .before .before .before .before .before .before .before .before .before .before .before .before .before .before .before in
-    (z .pre .first .within, z .pre .second .within, z .pre .few-words)
+    (z .pre .stage1-loaded .within, z .pre .stage2-loaded .within, z .pre .few-words)
 
 reference-length-requires : tie.Need-reference-length-requires
 reference-length-requires c κs = let z = c .before .before .before .before .before .before .before .before .before .before .before .before .before .before .before .before .before in
-    (z .pre .first-function .within, z .pre .second-function .within)
+    (z .pre .reference1-loaded .within, z .pre .reference2-loaded .within)
 
 put-stage-requires : tie.Need-put-stage-requires
 put-stage-requires c κs =
     let z = c .before .before .before .before .before .before .before .before .before .before .before .before .before .before .before .before .before .before .before .before .before in (
-      z .pre .first,
-      z .pre .second,
+      z .pre .stage1-loaded,
+      z .pre .stage2-loaded,
       omega (arith, c .before .before .before .before .before .before .before .before .if1 .left),
       omega (
         arith,
-        c .before .before .before .before .stage-length .ensures (now (z .args .stage1)) (now (z .args .stage2)),
+        c .before .before .before .before .stage-length .ensures (now (z .args .code1)) (now (z .args .code2)),
         c .before .before .if2 .left,
       ),
     )
@@ -41,8 +41,8 @@ put-reference-requires : tie.Need-put-reference-requires
 put-reference-requires c κs =
     let z = c .before .before .before .before .before .before .before .before .before .before .before .before .before .before .before .before .before .before .before .before .before .before
     .before .before .before in (
-      z .pre .first-function,
-      z .pre .second-function,
+      z .pre .reference1-loaded,
+      z .pre .reference2-loaded,
       omega (arith, c .before .before .before .before .before .before .before .before .before .before .before .before .if1 .left, z .pre .outputs, z .pre .inputs),
       omega (
         arith,
@@ -55,20 +55,20 @@ returns : tie.Need-returns
 returns c =
     let z = c .before .before .before .before .before .before .before .before .before .before .before .before .before .before in
     let a = z .args in
-    let n = outputs-count (a .sizes .stage1) (now (a .stage1)) in
+    let n = outputs-count (a .counts .stage1) (now (a .code1)) in
     leaves-refused _ _ _
-    (at-seam (a .order) (partLoaded (a .sizes .stage1) (now (a .stage1)) (a .sizes .reference1) (now (a .reference1))) (partLoaded (a .sizes .stage2) (now (a .stage2)) (a .sizes .reference2) (now
+    (at-seam (a .order) (partLoaded (a .counts .stage1) (now (a .code1)) (a .counts .reference1) (now (a .reference1))) (partLoaded (a .counts .stage2) (now (a .code2)) (a .counts .reference2) (now
     (a .reference2))) _ _
     (λ e. c .before .if1 .taken (sym n ∙ e)))
-    (c .refusal .ensures ∙ ap (λ (m : ℕ). answerWith (verdict 22 0 m (a .sizes .stage2 .inputs)) 0 0) (sym n))
+    (c .refusal .ensures ∙ ap (λ (m : ℕ). answerWith (verdict 22 0 m (a .counts .stage2 .inputs)) 0 0) (sym n))
 
 returns-2 : tie.Need-returns-2
 returns-2 c =
     let z = c .before .before .before .before .before .before .before .before .before .before .before .before .before .before .before .before .before .before in
     let a = z .args in
-    let n = outputs-count (a .sizes .stage1) (now (a .stage1)) in
+    let n = outputs-count (a .counts .stage1) (now (a .code1)) in
     leaves-refused _ _ _
-    (at-word (a .order) (partLoaded (a .sizes .stage1) (now (a .stage1)) (a .sizes .reference1) (now (a .reference1))) (partLoaded (a .sizes .stage2) (now (a .stage2)) (a .sizes .reference2) (now
+    (at-word (a .order) (partLoaded (a .counts .stage1) (now (a .code1)) (a .counts .reference1) (now (a .reference1))) (partLoaded (a .counts .stage2) (now (a .code2)) (a .counts .reference2) (now
     (a .reference2))) _ _
     (n ∙ omega (arith, c .before .before .before .before .before .if1 .left)) _ (sym (c .before .before .v .given .1) ∙ c .before .before .before .before .uncared .ensures))
     (c .refusal2 .ensures)
@@ -77,26 +77,26 @@ returns-3 : tie.Need-returns-3
 returns-3 c =
     let z = c .before .before .before .before .before .before .before .before .before .before .before .before .before .before .before .before .before .before .before .before in
     let a = z .args in
-    let n = outputs-count (a .sizes .stage1) (now (a .stage1)) in
+    let n = outputs-count (a .counts .stage1) (now (a .code1)) in
     leaves-refused _ _ _
-    (at-stage-room (a .order) (partLoaded (a .sizes .stage1) (now (a .stage1)) (a .sizes .reference1) (now (a .reference1))) (partLoaded (a .sizes .stage2) (now (a .stage2)) (a .sizes .reference2) (now
+    (at-stage-room (a .order) (partLoaded (a .counts .stage1) (now (a .code1)) (a .counts .reference1) (now (a .reference1))) (partLoaded (a .counts .stage2) (now (a .code2)) (a .counts .reference2) (now
     (a .reference2))) _ _
     (n ∙ omega (arith, c .before .before .before .before .before .before .before .if1 .left)) (sym
     (c .before .before .before .before .enum-told .given .1) ∙ c .before .before .before .before .before .before .uncared .ensures)
-    (omega (arith, c .before .before .before .stage-length .ensures (now (a .stage1)) (now (a .stage2)), c .before .if2 .taken)))
+    (omega (arith, c .before .before .before .stage-length .ensures (now (a .code1)) (now (a .code2)), c .before .if2 .taken)))
     (c .refusal3 .ensures)
 
 returns-4 : tie.Need-returns-4
 returns-4 c =
     let z = c .before .before .before .before .before .before .before .before .before .before .before .before .before .before .before .before .before .before .before .before .before in
     let a = z .args in
-    let n = outputs-count (a .sizes .stage1) (now (a .stage1)) in
+    let n = outputs-count (a .counts .stage1) (now (a .code1)) in
     leaves-refused _ _ _
-    (at-reference-room (a .order) (partLoaded (a .sizes .stage1) (now (a .stage1)) (a .sizes .reference1) (now (a .reference1))) (partLoaded (a .sizes .stage2) (now (a .stage2)) (a .sizes .reference2)
+    (at-reference-room (a .order) (partLoaded (a .counts .stage1) (now (a .code1)) (a .counts .reference1) (now (a .reference1))) (partLoaded (a .counts .stage2) (now (a .code2)) (a .counts .reference2)
     (now (a .reference2))) _ _
     (n ∙ omega (arith, c .before .before .before .before .before .before .before .before .if1 .left)) (sym
     (c .before .before .before .before .before .enum-told .given .1) ∙ c .before .before .before .before .before .before .before .uncared .ensures)
-    (omega (arith, c .before .before .before .before .stage-length .ensures (now (a .stage1)) (now (a .stage2)), c .before .before .if2 .left))
+    (omega (arith, c .before .before .before .before .stage-length .ensures (now (a .code1)) (now (a .code2)), c .before .before .if2 .left))
     (omega (arith, c .before .before .before .reference-length .ensures (now (a .reference1)) (now (a .reference2)), c .before .if3 .taken)))
     (c .refusal4 .ensures)
 
@@ -105,10 +105,10 @@ returns-5 c =
     let z = c .before .before .before .before .before .before .before .before .before .before .before .before .before .before .before .before .before .before .before .before .before .before
     .before .before .before .before .before .before in
     let a = z .args in
-    let p = partLoaded (a .sizes .stage1) (now (a .stage1)) (a .sizes .reference1) (now (a .reference1)) in
-    let q = partLoaded (a .sizes .stage2) (now (a .stage2)) (a .sizes .reference2) (now (a .reference2)) in
-    let n = outputs-count (a .sizes .stage1) (now (a .stage1)) in
-    let m = c .before .before .before .before .before .before .before .before .before .before .before .stage-length .ensures (now (a .stage1)) (now (a .stage2)) in
+    let p = partLoaded (a .counts .stage1) (now (a .code1)) (a .counts .reference1) (now (a .reference1)) in
+    let q = partLoaded (a .counts .stage2) (now (a .code2)) (a .counts .reference2) (now (a .reference2)) in
+    let n = outputs-count (a .counts .stage1) (now (a .code1)) in
+    let m = c .before .before .before .before .before .before .before .before .before .before .before .stage-length .ensures (now (a .code1)) (now (a .code2)) in
     let k = c .before .before .before .before .before .before .before .before .before .before .reference-length .ensures (now (a .reference1)) (now (a .reference2)) in
     leaves-written p q _
     (at-none (a .order) p q _ _ (n ∙ omega (arith, c .before .before .before .before .before .before .before .before .before .before .before .before .before .before .before .if1 .left)) (sym

@@ -30,7 +30,7 @@ uncared-named-requires c κs = search needs
 returns : tie.Need-returns
 returns c =
     let z = c .before .before .before .before .before .before .before .before in
-    found-uncared (z .args .order) (stageIn (z .args .counts) (now (z .args .first))) (referenceIn (z .args .sizes) (now (z .args .reference))) (stageIn (z .args .others) (now (z .args .second))) _
+    found-uncared (z .args .order) (stageIn (z .args .counts1) (now (z .args .code1))) (referenceIn (z .args .sizes1) (now (z .args .reference1))) (stageIn (z .args .counts2) (now (z .args .code2))) _
     (listed-start (c .before .before .before .list-names .ensures)) _ (c .uncared-named .ensures)
 
 pub uncared-spec : {M : Type 1} → statement M

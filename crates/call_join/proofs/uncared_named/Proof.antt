@@ -21,10 +21,10 @@ use Rattle.words.proofs.is_word.Reads as is-word-reads
 use Rattle.words.proofs.word_of.Reads as word-of-reads
 
 abbrev Inv-loop : tie.InvT-loop
-Inv-loop order list inputs reference sizes second others k₀ k = SweptTo 23 0 (uncaredUnder order inputs (referenceIn sizes reference) (stageIn others second)) list k
+Inv-loop order list inputs reference1 sizes1 code2 counts2 k₀ k = SweptTo 23 0 (uncaredUnder order inputs (referenceIn sizes1 reference1) (stageIn counts2 code2)) list k
 
 abbrev μ-loop : tie.MeasureT-loop
-μ-loop order list inputs reference sizes second others k₀ k = length list - k
+μ-loop order list inputs reference1 sizes1 code2 counts2 k₀ k = length list - k
 
 loop-holds : tie.Need-loop-holds Inv-loop μ-loop
 loop-holds c = swept-start _ _ _ _
@@ -57,8 +57,8 @@ loop-again : tie.Need-loop-again Inv-loop μ-loop
 loop-again c =
     let loop = c .before .before .before .before .before .before in
     let z = loop .before .before .before .before in
-    let r = referenceIn (z .args .sizes) (now (z .args .reference)) in
-    let t = stageIn (z .args .others) (now (z .args .second)) in
+    let r = referenceIn (z .args .sizes1) (now (z .args .reference1)) in
+    let t = stageIn (z .args .counts2) (now (z .args .code2)) in
     let under : isIn (answerWord r (spelled (z .args .order) (z .args .inputs) (getD (now (z .args .list)) (loop .loop .k) 0))) (words t) ≡ c .before .is-word .result =
     ap (λ (w : ℕ). isIn (answerWord r w) (words t)) (sym (c .before .before .before .word-of .ensures)) ∙ ap (λ (w : ℕ). isIn w (words t)) (sym (c .before .before .answer-word .ensures))
     ∙ sym (c .before .is-word .ensures) in
@@ -68,8 +68,8 @@ returns : tie.Need-returns Inv-loop μ-loop
 returns c =
     let loop = c .before .before .before .before .before .before in
     let z = loop .before .before .before .before in
-    let r = referenceIn (z .args .sizes) (now (z .args .reference)) in
-    let t = stageIn (z .args .others) (now (z .args .second)) in
+    let r = referenceIn (z .args .sizes1) (now (z .args .reference1)) in
+    let t = stageIn (z .args .counts2) (now (z .args .code2)) in
     let under : isIn (answerWord r (spelled (z .args .order) (z .args .inputs) (getD (now (z .args .list)) (loop .loop .k) 0))) (words t) ≡ c .before .is-word .result =
     ap (λ (w : ℕ). isIn (answerWord r w) (words t)) (sym (c .before .before .before .word-of .ensures)) ∙ ap (λ (w : ℕ). isIn w (words t)) (sym (c .before .before .answer-word .ensures))
     ∙ sym (c .before .is-word .ensures) in

@@ -17,45 +17,45 @@ use Rattle.call_make.proofs.make_loaded.Tie as tie
 returns : tie.Need-returns
 returns c =
     let z = c .before .before .before .before .before .before .before in
-    let r = referenceIn (z .args .counts) (now (z .args .code)) in
-    let found = sym (c .before .before .x .given .1) ∙ c .before .before .before .before .leading-nowhere .ensures ∙ search-in (z .args .counts) (now (z .args .code)) in
+    let r = referenceIn (z .args .sizes) (now (z .args .reference)) in
+    let found = sym (c .before .before .x .given .1) ∙ c .before .before .before .before .leading-nowhere .ensures ∙ search-in (z .args .sizes) (now (z .args .reference)) in
     refused-as r (now (z .args .buffer)) _ _ (c .refused .ensures) (faults-25 r (length (now (z .args .buffer))) _ found)
 
 returns-2 : tie.Need-returns-2
 returns-2 c =
     let z = c .before .before .before .before .before .before .before .before in
-    let r = referenceIn (z .args .counts) (now (z .args .code)) in
-    let n = needed-is (z .args .counts) (now (z .args .code)) (z .pre .1) _ (c .before .before .operation-count .ensures .0) in
-    let found = sym (c .before .before .before .enum-told .given .1) ∙ c .before .before .before .before .before .leading-nowhere .ensures ∙ search-in (z .args .counts) (now (z .args .code)) in
+    let r = referenceIn (z .args .sizes) (now (z .args .reference)) in
+    let n = needed-is (z .args .sizes) (now (z .args .reference)) (z .pre .1) _ (c .before .before .operation-count .ensures .0) in
+    let found = sym (c .before .before .before .enum-told .given .1) ∙ c .before .before .before .before .before .leading-nowhere .ensures ∙ search-in (z .args .sizes) (now (z .args .reference)) in
     refused-as r (now (z .args .buffer)) _ _ (c .refused2 .ensures ∙ ap (λ (g : ℕ). answerOf (verdict 26 2 g 0) 0) n)
     (faults-26 r (length (now (z .args .buffer))) found (omega (arith, n, c .before .if1 .taken)))
 
 returns-3 : tie.Need-returns-3
 returns-3 c =
     let z = c .before .before .before .before .before .before .before .before .before .before in
-    let r = referenceIn (z .args .counts) (now (z .args .code)) in
-    let n = needed-is (z .args .counts) (now (z .args .code)) (z .pre .1) _ (c .before .before .before .before .operation-count .ensures .0) in
+    let r = referenceIn (z .args .sizes) (now (z .args .reference)) in
+    let n = needed-is (z .args .sizes) (now (z .args .reference)) (z .pre .1) _ (c .before .before .before .before .operation-count .ensures .0) in
     let y = c .before .before .before .before .before in
-    let found = sym (y .enum-told .given .1) ∙ y .before .before .leading-nowhere .ensures ∙ search-in (z .args .counts) (now (z .args .code)) in
-    let long = made-long-in (z .args .counts) (now (z .args .code)) in
+    let found = sym (y .enum-told .given .1) ∙ y .before .before .leading-nowhere .ensures ∙ search-in (z .args .sizes) (now (z .args .reference)) in
+    let long = made-long-in (z .args .sizes) (now (z .args .reference)) in
     refused-as r (now (z .args .buffer)) _ _ (c .refused3 .ensures)
     (faults-27 r (length (now (z .args .buffer))) found (omega (arith, n, c .before .before .before .if1 .left)) (omega (arith, n, c .before .if2 .taken, long)))
 
 put-stage-requires : tie.Need-put-stage-requires
 put-stage-requires c κs =
     let z = c .before .before .before .before .before .before .before .before .before .before in
-    let n = needed-is (z .args .counts) (now (z .args .code)) (z .pre .1) _ (c .before .before .before .before .operation-count .ensures .0) in
-    let long = made-long-in (z .args .counts) (now (z .args .code)) in
+    let n = needed-is (z .args .sizes) (now (z .args .reference)) (z .pre .1) _ (c .before .before .before .before .operation-count .ensures .0) in
+    let long = made-long-in (z .args .sizes) (now (z .args .reference)) in
     (z .pre .0, z .pre .1, omega (arith, n, c .before .before .before .if1 .left), omega (arith, n, c .before .if2 .left, long))
 
 returns-4 : tie.Need-returns-4
 returns-4 c =
     let z = c .before .before .before .before .before .before .before .before .before .before .before .before .before .before in
-    let r = referenceIn (z .args .counts) (now (z .args .code)) in
-    let n = needed-is (z .args .counts) (now (z .args .code)) (z .pre .1) _ (c .before .before .before .before .before .before .before .before .operation-count .ensures .0) in
-    let long = made-long-in (z .args .counts) (now (z .args .code)) in
+    let r = referenceIn (z .args .sizes) (now (z .args .reference)) in
+    let n = needed-is (z .args .sizes) (now (z .args .reference)) (z .pre .1) _ (c .before .before .before .before .before .before .before .before .operation-count .ensures .0) in
+    let long = made-long-in (z .args .sizes) (now (z .args .reference)) in
     let y = c .before .before .before .before .before .before .before .before .before in
-    let found = sym (y .enum-told .given .1) ∙ y .before .before .leading-nowhere .ensures ∙ search-in (z .args .counts) (now (z .args .code)) in
+    let found = sym (y .enum-told .given .1) ∙ y .before .before .leading-nowhere .ensures ∙ search-in (z .args .sizes) (now (z .args .reference)) in
     let fits : length (madeBytes r) ≤ length (now (z .args .buffer)) = omega (arith, n, long, c .before .before .before .before .before .if2 .left) in
     made-as r (now (z .args .buffer)) _ _ (c .wrote .ensures ∙ ap (answerOf accepted) (omega (arith, n, long))) (c .before .before .before .put-stage .ensures) fits
     (faults-none r (length (now (z .args .buffer))) found (omega (arith, n, c .before .before .before .before .before .before .before .if1 .left)) fits)

@@ -18,7 +18,7 @@ make-loaded-requires c κs =
     let s = now (z .args .reference) in
     let f = reference-read-by _ s _ _ (c .before .before .before .before .before .before .before .before .reference-limits .ensures)
     (c .before .before .before .before .before .before .read-reference-within .ensures) in
-    file-loaded s (now (z .args .buffer)) _ _ (sym (c .before .before .before .counts .given .1) ∙ f .0) (f .1)
+    file-loaded s (now (z .args .buffer)) _ _ (sym (c .before .before .before .sizes .given .1) ∙ f .0) (f .1)
 
 returns : tie.Need-returns
 returns c =
@@ -35,7 +35,7 @@ returns-2 c =
     let f = reference-read-by _ s _ _ (c .before .before .before .before .before .before .before .before .before .before .before .reference-limits .ensures)
     (c .before .before .before .before .before .before .before .before .before .read-reference-within .ensures) in
     demanded s (now (z .args .buffer)) _ _
-    (file-made s (now (z .args .buffer)) _ _ (sym (c .before .before .before .before .before .before .counts .given .1) ∙ f .0) (f .1) _ _ (c .before .before .make-loaded .ensures))
+    (file-made s (now (z .args .buffer)) _ _ (sym (c .before .before .before .before .before .before .sizes .given .1) ∙ f .0) (f .1) _ _ (c .before .before .make-loaded .ensures))
 
 pub make-stage-spec : {M : Type 1} → statement M
 make-stage-spec =

@@ -7,10 +7,10 @@ use Rattle.call_make.proofs.put_gates.Statement.{statement}
 use Rattle.call_make.proofs.put_gates.Tie as tie
 
 abbrev Inv-loop : tie.InvT-loop
-Inv-loop buffer₀ code counts rails₀ count made₀ k₀ buffer rails made k = MadeTo counts code buffer₀ rails₀ buffer rails made k
+Inv-loop buffer₀ reference sizes rails₀ count made₀ k₀ buffer rails made k = MadeTo sizes reference buffer₀ rails₀ buffer rails made k
 
 abbrev μ-loop : tie.MeasureT-loop
-μ-loop buffer₀ code counts rails₀ count made₀ k₀ buffer rails made k = count - k
+μ-loop buffer₀ reference sizes rails₀ count made₀ k₀ buffer rails made k = count - k
 
 loop-holds : tie.Need-loop-holds Inv-loop μ-loop
 loop-holds c = let z = c .before .before .before in made-start _ _ (z .pre .1) _ _ (z .pre .3)

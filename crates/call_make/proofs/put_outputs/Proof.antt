@@ -19,11 +19,11 @@ use Rattle.call_make.proofs.put_outputs.Statement.{statement}
 use Rattle.call_make.proofs.put_outputs.Tie as tie
 
 abbrev Inv-loop : tie.InvT-loop
-Inv-loop buffer₀ at code rails from count j₀ buffer j =
-    PutTo file.Stage pairItem 5 (tabulate (λ i. pairStored rails (getD code (from + i) 0)) count) buffer₀ at buffer j
+Inv-loop buffer₀ at reference rails from count j₀ buffer j =
+    PutTo file.Stage pairItem 5 (tabulate (λ i. pairStored rails (getD reference (from + i) 0)) count) buffer₀ at buffer j
 
 abbrev μ-loop : tie.MeasureT-loop
-μ-loop buffer₀ at code rails from count j₀ buffer j = count - j
+μ-loop buffer₀ at reference rails from count j₀ buffer j = count - j
 
 -- room for the next output
 room-at : (g : ℕ → Pair) (m : ℕ) {at k : ℕ} {buffer₀ buffer : List ℕ} → PutTo file.Stage pairItem 5 (tabulate g m) buffer₀ at buffer k → k < m → at + 5 * k + 5 ≤ length buffer
@@ -59,7 +59,7 @@ same-length c = c .before .loop .inv .left .long
 returns : tie.Need-returns Inv-loop μ-loop
 returns c =
     let z = c .before .before .before .before .before .before in
-    put-same (ap (bytesOf file.Stage pairItem) (outputs-are (z .args .counts) (now (z .args .code)) (now (z .args .rails)) (λ j l. z .pre .0 .signal j l)))
+    put-same (ap (bytesOf file.Stage pairItem) (outputs-are (z .args .sizes) (now (z .args .reference)) (now (z .args .rails)) (λ j l. z .pre .0 .signal j l)))
     (put-done file.Stage pairItem 5 (λ p. stage-output-width (pairOperands p)) _ _ (c .before .loop .inv) (omega arith))
 
 pub put-outputs-spec : {M : Type 1} → statement M

@@ -11,10 +11,10 @@ use Rattle.circuit_load.proofs.load_reference.Statement.{statement}
 use Rattle.circuit_load.proofs.load_reference.Tie as tie
 
 abbrev Inv-loop : tie.InvT-loop
-Inv-loop s places most counts code₀ end i₀ code i = (length code ≡ length code₀) × WrittenTo (referenceNumber most s places counts) code i
+Inv-loop s places most sizes reference₀ end i₀ reference i = (length reference ≡ length reference₀) × WrittenTo (referenceNumber most s places sizes) reference i
 
 abbrev μ-loop : tie.MeasureT-loop
-μ-loop s places most counts code₀ end i₀ code i = end - i
+μ-loop s places most sizes reference₀ end i₀ reference i = end - i
 
 loop-holds : tie.Need-loop-holds Inv-loop μ-loop
 loop-holds c = (refl, λ q h. absurd (omega arith))
@@ -25,7 +25,7 @@ reference-number-requires c κs = let z = c .before .before .before .before .bef
 loop-again : tie.Need-loop-again Inv-loop μ-loop
 loop-again c =
     let l = c .before .before .loop in
-    (simp length-set (l .inv .0), write-more _ (l .code) (l .i) _ (omega arith) (l .inv .1) (c .reference-number .ensures))
+    (simp length-set (l .inv .0), write-more _ (l .reference) (l .i) _ (omega arith) (l .inv .1) (c .reference-number .ensures))
 
 same-length : tie.Need-same-length Inv-loop μ-loop
 same-length c = c .before .loop .inv .0
@@ -34,9 +34,9 @@ returns : tie.Need-returns Inv-loop μ-loop
 returns c =
     let z = c .before .before .before .before .before .before .before in
     let l = c .before .loop in (
-      reference-same (z .args .most) (now (z .args .s)) (now (z .args .places)) (z .args .counts) (l .code) (z .pre .0) (omega arith)
+      reference-same (z .args .most) (now (z .args .s)) (now (z .args .places)) (z .args .sizes) (l .reference) (z .pre .0) (omega arith)
           (λ q h. l .inv .1 q (omega arith)),
-      reference-loaded (z .args .most) (now (z .args .s)) (now (z .args .places)) (z .args .counts) (l .code) (z .pre .0) (omega arith)
+      reference-loaded (z .args .most) (now (z .args .s)) (now (z .args .places)) (z .args .sizes) (l .reference) (z .pre .0) (omega arith)
           (λ q h. l .inv .1 q (omega arith)) (z .pre .1),
     )
 

@@ -25,12 +25,12 @@ level-requires-2 c κs =
 returns : tie.Need-returns
 returns c =
     let z = c .before .before .before .before .before .before .before .before in
-    let code = now (z .args .code) in
+    let reference = now (z .args .reference) in
     let k = z .args .k in (
       c .operate .ensures .0
-          ∙ ap₂ (λ (a b : ℕ). answers.operate (operationIn code k) (a ∷ b ∷ [])) (c .before .before .before .level .ensures .is)
+          ∙ ap₂ (λ (a b : ℕ). answers.operate (operationIn reference k) (a ∷ b ∷ [])) (c .before .before .before .level .ensures .is)
           (c .before .level2 .ensures .is)
-          ∙ operator-is (operationIn code k) (z .args .counts .inputs + k) (now (z .args .values)) (operandIn code k 0) (operandIn code k 1)
+          ∙ operator-is (operationIn reference k) (z .args .sizes .inputs + k) (now (z .args .values)) (operandIn reference k 0) (operandIn reference k 1)
           (z .pre .0 .operand k 0 (z .pre .1) (omega arith)) (z .pre .0 .operand k 1 (z .pre .1) (omega arith)),
       c .operate .ensures .1,
     )

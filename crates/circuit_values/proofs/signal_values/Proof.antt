@@ -7,13 +7,13 @@ use Rattle.circuit_values.proofs.signal_values.Statement.{statement}
 use Rattle.circuit_values.proofs.signal_values.Tie as tie
 
 abbrev Inv-loop : tie.InvT-loop
-Inv-loop code counts values₀ inputs count k₀ values k = ValuesTo counts code values₀ values k
+Inv-loop reference sizes values₀ inputs count k₀ values k = ValuesTo sizes reference values₀ values k
 
 abbrev μ-loop : tie.MeasureT-loop
-μ-loop code counts values₀ inputs count k₀ values k = count - k
+μ-loop reference sizes values₀ inputs count k₀ values k = count - k
 
 loop-holds : tie.Need-loop-holds Inv-loop μ-loop
-loop-holds c = let z = c .before .before in values-start (z .args .counts) (now (z .args .code)) (now (z .args .values)) (z .pre .2)
+loop-holds c = let z = c .before .before in values-start (z .args .sizes) (now (z .args .reference)) (now (z .args .values)) (z .pre .2)
 
 operator-value-requires : tie.Need-operator-value-requires Inv-loop μ-loop
 operator-value-requires c κs =
@@ -25,7 +25,7 @@ loop-again : tie.Need-loop-again Inv-loop μ-loop
 loop-again c =
     let z = c .before .before .before .before .before .before in
     let l = c .before .before .before .loop in
-    values-turn (z .args .counts) (now (z .args .code)) (now (z .args .values)) (l .values) (l .k) (l .inv) (z .pre .1) (omega arith) _
+    values-turn (z .args .sizes) (now (z .args .reference)) (now (z .args .values)) (l .values) (l .k) (l .inv) (z .pre .1) (omega arith) _
     (c .operator-value .ensures)
 
 same-length : tie.Need-same-length Inv-loop μ-loop
@@ -35,7 +35,7 @@ returns : tie.Need-returns Inv-loop μ-loop
 returns c =
     let z = c .before .before .before .before in
     let l = c .before .loop in
-    (values-done (z .args .counts) (now (z .args .code)) (now (z .args .values)) (l .values) (l .k) (l .inv) (omega arith), l .inv .bits)
+    (values-done (z .args .sizes) (now (z .args .reference)) (now (z .args .values)) (l .values) (l .k) (l .inv) (omega arith), l .inv .bits)
 
 pub signal-values-spec : {M : Type 1} → statement M
 signal-values-spec =

@@ -23,16 +23,16 @@ lanes-at-requires-2 c κs = let z = c .before .before .before .before .before .b
 returns : tie.Need-returns
 returns c j h =
     let z = c .before .before .before .before .before .before .before .before in
-    let code = now (z .args .code) in
+    let reference = now (z .args .reference) in
     let values = now (z .args .values) in
     let k = z .args .k in
-    let p = operandIn code k 0 in
-    let q = operandIn code k 1 in
+    let p = operandIn reference k 0 in
+    let q = operandIn reference k 1 in
     c .operate .ensures j h
-    ∙ ap₂ (λ (a b : ℕ). answers.operate (operationIn code k) (a ∷ b ∷ []))
+    ∙ ap₂ (λ (a b : ℕ). answers.operate (operationIn reference k) (a ∷ b ∷ []))
     (ap (levelIn j) (c .before .before .before .lanes-at .ensures) ∙ sym (level-at j values p))
     (ap (levelIn j) (c .before .lanes-at2 .ensures) ∙ sym (level-at j values q))
-    ∙ operator-is (operationIn code k) (z .args .counts .inputs + k) (laneOf j values) p q (z .pre .0 .operand k 0 (z .pre .1) (omega arith)) (z .pre .0 .operand k 1 (z .pre .1) (omega arith))
+    ∙ operator-is (operationIn reference k) (z .args .sizes .inputs + k) (laneOf j values) p q (z .pre .0 .operand k 0 (z .pre .1) (omega arith)) (z .pre .0 .operand k 1 (z .pre .1) (omega arith))
 
 pub operator-lanes-spec : {M : Type 1} → statement M
 operator-lanes-spec =

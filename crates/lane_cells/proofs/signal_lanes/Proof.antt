@@ -8,10 +8,10 @@ use Rattle.lane_cells.proofs.signal_lanes.Statement.{statement}
 use Rattle.lane_cells.proofs.signal_lanes.Tie as tie
 
 abbrev Inv-loop : tie.InvT-loop
-Inv-loop code counts b values₀ inputs count k₀ values k = SignalsTo counts code values₀ values k
+Inv-loop reference sizes b values₀ inputs count k₀ values k = SignalsTo sizes reference values₀ values k
 
 abbrev μ-loop : tie.MeasureT-loop
-μ-loop code counts b values₀ inputs count k₀ values k = count - k
+μ-loop reference sizes b values₀ inputs count k₀ values k = count - k
 
 spell-inputs-requires : tie.Need-spell-inputs-requires Inv-loop μ-loop
 spell-inputs-requires c κs = let z = c .before .before .before in (z .pre .0 .within .inputs-in, omega (arith, z .pre .1))

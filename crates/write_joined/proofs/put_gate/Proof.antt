@@ -32,7 +32,7 @@ returns c =
     (five-equal (c .before .before .before .kind-at .ensures) (c .before .before .before .before .before .before .before .before .pin-in-whole .ensures)
     (c .before .before .before .before .before .before .before .pin-in-whole2 .ensures) (c .before .before .before .before .before .before .pin-in-whole3 .ensures)
     (c .before .before .before .before .before .pin-in-whole4 .ensures)
-    ∙ four-operands _ (pinCount (cellIn code k)) (netMoved (stageIn (z .args .sizes) (now (z .args .first))) (z .args .moved)) (pinIn code k) (pins-of (cellIn code k) (g .low) (g .high)))
+    ∙ four-operands _ (pinCount (cellIn code k)) (netMoved (stageIn (z .args .counts1) (now (z .args .code1))) (z .args .moved)) (pinIn code k) (pins-of (cellIn code k) (g .low) (g .high)))
     (c .before .before .put-stage-gate .ensures)
 
 pub put-gate-spec : {M : Type 1} → statement M

@@ -16,11 +16,11 @@ use Rattle.write_joined.proofs.put_gates.Statement.{statement}
 use Rattle.write_joined.proofs.put_gates.Tie as tie
 
 abbrev Inv-loop : tie.InvT-loop
-Inv-loop buffer₀ at code counts first sizes moved count k₀ buffer k =
-    PutTo file.Stage gateItem 10 (tabulate (λ i. gateMoved (stageIn sizes first) moved (gateIn code i)) count) buffer₀ at buffer k
+Inv-loop buffer₀ at code counts code1 counts1 moved count k₀ buffer k =
+    PutTo file.Stage gateItem 10 (tabulate (λ i. gateMoved (stageIn counts1 code1) moved (gateIn code i)) count) buffer₀ at buffer k
 
 abbrev μ-loop : tie.MeasureT-loop
-μ-loop buffer₀ at code counts first sizes moved count k₀ buffer k = count - k
+μ-loop buffer₀ at code counts code1 counts1 moved count k₀ buffer k = count - k
 
 loop-holds : tie.Need-loop-holds Inv-loop μ-loop
 loop-holds c = put-start file.Stage gateItem 10 (λ g. stage-gate-width (codedGate g)) _ _ _ _ (c .before .before .before .pre .2)
@@ -47,7 +47,7 @@ returns : tie.Need-returns Inv-loop μ-loop
 unfolding stageGates
 returns c =
     let z = c .before .before .before .before .before in
-    rw (map-tabulate (gateMoved (stageIn (z .args .sizes) (now (z .args .first))) (z .args .moved)) (gateIn (now (z .args .code))) (z .args .counts .gates))
+    rw (map-tabulate (gateMoved (stageIn (z .args .counts1) (now (z .args .code1))) (z .args .moved)) (gateIn (now (z .args .code))) (z .args .counts .gates))
     (put-done file.Stage gateItem 10 (λ g. stage-gate-width (codedGate g)) _ _ (c .before .loop .inv) (omega arith))
 
 pub put-gates-spec : {M : Type 1} → statement M

@@ -26,22 +26,22 @@ signal-in-whole-requires-2 c κs =
 returns : tie.Need-returns
 returns c =
     let z = c .before .before .before .before .before .before .before .before .before .before .before in
-    let code = now (z .args .code) in
+    let reference = now (z .args .reference) in
     let k = z .args .k in
-    let e : operationIn code k % 256 ≡ operationIn code k = omega (arith, z .pre .0 .high k (z .pre .2)) in
+    let e : operationIn reference k % 256 ≡ operationIn reference k = omega (arith, z .pre .0 .high k (z .pre .2)) in
     put-same
-    (one-operand (signalMoved (referenceIn (z .args .sizes) (now (z .args .first))) (z .args .moved)) (operandIn code k 0) (operandIn code k 1) e
+    (one-operand (signalMoved (referenceIn (z .args .sizes1) (now (z .args .reference1))) (z .args .moved)) (operandIn reference k 0) (operandIn reference k 1) e
     (sym e ∙ c .before .before .before .before .if1 .taken) (c .before .before .before .before .before .signal-in-whole .ensures))
     (c .before .before .put-reference-gate .ensures)
 
 returns-2 : tie.Need-returns-2
 returns-2 c =
     let z = c .before .before .before .before .before .before .before .before .before .before .before .before .before in
-    let code = now (z .args .code) in
+    let reference = now (z .args .reference) in
     let k = z .args .k in
-    let e : operationIn code k % 256 ≡ operationIn code k = omega (arith, z .pre .0 .high k (z .pre .2)) in
+    let e : operationIn reference k % 256 ≡ operationIn reference k = omega (arith, z .pre .0 .high k (z .pre .2)) in
     put-same
-    (two-operands (signalMoved (referenceIn (z .args .sizes) (now (z .args .first))) (z .args .moved)) (operandIn code k 0) (operandIn code k 1) e
+    (two-operands (signalMoved (referenceIn (z .args .sizes1) (now (z .args .reference1))) (z .args .moved)) (operandIn reference k 0) (operandIn reference k 1) e
     (λ o. c .before .before .before .before .before .before .if1 .left (e ∙ o)) (c .before .before .before .before .before .before .before .signal-in-whole .ensures)
     (c .before .before .before .before .signal-in-whole2 .ensures))
     (c .before .before .put-reference-gate2 .ensures)

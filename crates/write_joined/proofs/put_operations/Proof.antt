@@ -15,11 +15,11 @@ use Rattle.write_joined.proofs.put_operations.Statement.{statement}
 use Rattle.write_joined.proofs.put_operations.Tie as tie
 
 abbrev Inv-loop : tie.InvT-loop
-Inv-loop buffer₀ at code counts first sizes moved count k₀ buffer k =
-    PutTo file.Reference gate 6 (tabulate (λ i. operationMoved (referenceIn sizes first) moved (operatorIn code i)) count) buffer₀ at buffer k
+Inv-loop buffer₀ at reference sizes reference1 sizes1 moved count k₀ buffer k =
+    PutTo file.Reference gate 6 (tabulate (λ i. operationMoved (referenceIn sizes1 reference1) moved (operatorIn reference i)) count) buffer₀ at buffer k
 
 abbrev μ-loop : tie.MeasureT-loop
-μ-loop buffer₀ at code counts first sizes moved count k₀ buffer k = count - k
+μ-loop buffer₀ at reference sizes reference1 sizes1 moved count k₀ buffer k = count - k
 
 loop-holds : tie.Need-loop-holds Inv-loop μ-loop
 loop-holds c = put-start file.Reference gate 6 reference-gate-width _ _ _ _ (c .before .before .before .pre .2)
@@ -46,7 +46,7 @@ returns : tie.Need-returns Inv-loop μ-loop
 unfolding operatorsIn
 returns c =
     let z = c .before .before .before .before .before in
-    rw (map-tabulate (operationMoved (referenceIn (z .args .sizes) (now (z .args .first))) (z .args .moved)) (operatorIn (now (z .args .code))) (z .args .counts .gates))
+    rw (map-tabulate (operationMoved (referenceIn (z .args .sizes1) (now (z .args .reference1))) (z .args .moved)) (operatorIn (now (z .args .reference))) (z .args .sizes .gates))
     (put-done file.Reference gate 6 reference-gate-width _ _ (c .before .loop .inv) (omega arith))
 
 pub put-operations-spec : {M : Type 1} → statement M

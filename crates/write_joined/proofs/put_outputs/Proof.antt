@@ -20,15 +20,15 @@ use Rattle.write_joined.proofs.put_outputs.Statement.{statement}
 use Rattle.write_joined.proofs.put_outputs.Tie as tie
 
 abbrev Inv-loop : tie.InvT-loop
-Inv-loop buffer₀ at code first sizes moved from count j₀ buffer j =
-    PutTo file.Stage pairItem 5 (tabulate (λ i. pairMoved (stageIn sizes first) moved (record {
+Inv-loop buffer₀ at code code1 counts1 moved from count j₀ buffer j =
+    PutTo file.Stage pairItem 5 (tabulate (λ i. pairMoved (stageIn counts1 code1) moved (record {
       rail0 = getD code (from + 2 * i) 0;
       rail1 = getD code
           (from + 2 * i + 1) 0;
     })) count) buffer₀ at buffer j
 
 abbrev μ-loop : tie.MeasureT-loop
-μ-loop buffer₀ at code first sizes moved from count j₀ buffer j = count - j
+μ-loop buffer₀ at code code1 counts1 moved from count j₀ buffer j = count - j
 
 loop-holds : tie.Need-loop-holds Inv-loop μ-loop
 loop-holds c = put-start file.Stage pairItem 5 (λ p. stage-output-width (pairOperands p)) _ _ _ _ (c .before .before .before .before .pre .2)
@@ -77,7 +77,7 @@ returns : tie.Need-returns Inv-loop μ-loop
 unfolding stageOutputs
 returns c =
     let z = c .before .before .before .before .before .before in
-    rw (map-tabulate (pairMoved (stageIn (z .args .sizes) (now (z .args .first))) (z .args .moved)) (outputIn (z .args .counts) (now (z .args .code))) (z .args .counts .outputs))
+    rw (map-tabulate (pairMoved (stageIn (z .args .counts1) (now (z .args .code1))) (z .args .moved)) (outputIn (z .args .counts) (now (z .args .code))) (z .args .counts .outputs))
     (put-done file.Stage pairItem 5 (λ p. stage-output-width (pairOperands p)) _ _ (c .before .loop .inv) (omega arith))
 
 pub put-outputs-spec : {M : Type 1} → statement M

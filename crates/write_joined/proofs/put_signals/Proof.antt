@@ -20,11 +20,11 @@ use Rattle.write_joined.proofs.put_signals.Statement.{statement}
 use Rattle.write_joined.proofs.put_signals.Tie as tie
 
 abbrev Inv-loop : tie.InvT-loop
-Inv-loop buffer₀ at code first sizes moved from count j₀ buffer j =
-    PutTo file.Reference signalItem 3 (tabulate (λ i. signalMoved (referenceIn sizes first) moved (getD code (from + i) 0)) count) buffer₀ at buffer j
+Inv-loop buffer₀ at reference reference1 sizes1 moved from count j₀ buffer j =
+    PutTo file.Reference signalItem 3 (tabulate (λ i. signalMoved (referenceIn sizes1 reference1) moved (getD reference (from + i) 0)) count) buffer₀ at buffer j
 
 abbrev μ-loop : tie.MeasureT-loop
-μ-loop buffer₀ at code first sizes moved from count j₀ buffer j = count - j
+μ-loop buffer₀ at reference reference1 sizes1 moved from count j₀ buffer j = count - j
 
 loop-holds : tie.Need-loop-holds Inv-loop μ-loop
 loop-holds c = put-start file.Reference signalItem 3 (λ v. reference-output-width (v ∷ [])) _ _ _ _ (c .before .before .before .before .pre .2)
@@ -65,7 +65,7 @@ returns : tie.Need-returns Inv-loop μ-loop
 unfolding signalsIn
 returns c =
     let z = c .before .before .before .before .before .before in
-    rw (map-tabulate (signalMoved (referenceIn (z .args .sizes) (now (z .args .first))) (z .args .moved)) (signalIn (z .args .counts) (now (z .args .code))) (z .args .counts .outputs))
+    rw (map-tabulate (signalMoved (referenceIn (z .args .sizes1) (now (z .args .reference1))) (z .args .moved)) (signalIn (z .args .sizes) (now (z .args .reference))) (z .args .sizes .outputs))
     (put-done file.Reference signalItem 3 (λ v. reference-output-width (v ∷ [])) _ _ (c .before .loop .inv) (omega arith))
 
 pub put-signals-spec : {M : Type 1} → statement M

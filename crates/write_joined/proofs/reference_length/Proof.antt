@@ -6,7 +6,7 @@ use Rattle.write_joined.proofs.reference_length.Statement.{statement}
 use Rattle.write_joined.proofs.reference_length.Tie as tie
 
 returns : tie.Need-returns
-returns c first second = sym (reference-long-in (c .before .before .before .args .sizes) first (c .before .before .before .args .counts) second)
+returns c reference1 reference2 = sym (reference-long-in (c .before .before .before .args .sizes1) reference1 (c .before .before .before .args .sizes2) reference2)
 
 pub reference-length-spec : {M : Type 1} → statement M
 reference-length-spec =

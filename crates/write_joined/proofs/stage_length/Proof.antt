@@ -6,7 +6,7 @@ use Rattle.write_joined.proofs.stage_length.Statement.{statement}
 use Rattle.write_joined.proofs.stage_length.Tie as tie
 
 returns : tie.Need-returns
-returns c first second = sym (stage-long-in (c .before .before .before .before .args .sizes) first (c .before .before .before .before .args .counts) second)
+returns c code1 code2 = sym (stage-long-in (c .before .before .before .before .args .counts1) code1 (c .before .before .before .before .args .counts2) code2)
 
 pub stage-length-spec : {M : Type 1} → statement M
 stage-length-spec =

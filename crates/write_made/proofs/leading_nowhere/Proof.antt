@@ -11,7 +11,7 @@ returns : tie.Need-returns
 returns c =
     let z = c .before .before .before .before .before .before .before .before .before .before in
     c .unmarked .ensures
-    ∙ nowhere-in (z .args .counts) (now (z .args .code)) (z .pre .1) 522 (omega (arith, z .pre .0 .within .inputs-in, z .pre .0 .within .gates-in)) _ _
+    ∙ nowhere-in (z .args .sizes) (now (z .args .reference)) (z .pre .1) 522 (omega (arith, z .pre .0 .within .inputs-in, z .pre .0 .within .gates-in)) _ _
     (c .before .before .before .before .before .before .before .mark-outputs .ensures) (c .before .before .before .before .mark-leading .ensures)
 
 pub leading-nowhere-spec : {M : Type 1} → statement M

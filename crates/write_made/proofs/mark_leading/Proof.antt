@@ -9,10 +9,10 @@ use Rattle.write_made.proofs.mark_leading.Statement.{statement}
 use Rattle.write_made.proofs.mark_leading.Tie as tie
 
 abbrev Inv-loop : tie.InvT-loop
-Inv-loop code counts marks₀ inputs k₀ marks k = LeadingTo counts code marks₀ marks k
+Inv-loop reference sizes marks₀ inputs k₀ marks k = LeadingTo sizes reference marks₀ marks k
 
 abbrev μ-loop : tie.MeasureT-loop
-μ-loop code counts marks₀ inputs k₀ marks k = k
+μ-loop reference sizes marks₀ inputs k₀ marks k = k
 
 loop-holds : tie.Need-loop-holds Inv-loop μ-loop
 loop-holds c = leading-start _ _ _
@@ -37,7 +37,7 @@ loop-again c =
 loop-again-2 : tie.Need-loop-again-2 Inv-loop μ-loop
 loop-again-2 c =
     let l = c .before .before .before .loop in
-    leading-unmarked _ _ _ (omega arith) (l .inv) (le-ltb 0 (getD (l .marks) (c .before .before .before .before .before .before .args .counts .inputs + (l .k - 1)) 0) (omega arith))
+    leading-unmarked _ _ _ (omega arith) (l .inv) (le-ltb 0 (getD (l .marks) (c .before .before .before .before .before .before .args .sizes .inputs + (l .k - 1)) 0) (omega arith))
 
 same-length : tie.Need-same-length Inv-loop μ-loop
 same-length c = leading-long _ _ _ (c .before .loop .inv)

@@ -10,10 +10,10 @@ use Rattle.write_made.proofs.mark_outputs.Statement.{statement}
 use Rattle.write_made.proofs.mark_outputs.Tie as tie
 
 abbrev Inv-loop : tie.InvT-loop
-Inv-loop code marks₀ from count j₀ marks j = MarkedTo (λ i. getD code (from + i) 0) count marks₀ marks j
+Inv-loop reference marks₀ from count j₀ marks j = MarkedTo (λ i. getD reference (from + i) 0) count marks₀ marks j
 
 abbrev μ-loop : tie.MeasureT-loop
-μ-loop code marks₀ from count j₀ marks j = count - j
+μ-loop reference marks₀ from count j₀ marks j = count - j
 
 loop-holds : tie.Need-loop-holds Inv-loop μ-loop
 loop-holds c = record { long = refl; all = refl }

@@ -13,10 +13,10 @@ use Rattle.write_made.proofs.operation_count.Statement.{statement}
 use Rattle.write_made.proofs.operation_count.Tie as tie
 
 abbrev Inv-loop : tie.InvT-loop
-Inv-loop code count₀ k₀ count k = CountedTo code k₀ count k
+Inv-loop reference count₀ k₀ count k = CountedTo reference k₀ count k
 
 abbrev μ-loop : tie.MeasureT-loop
-μ-loop code count₀ k₀ count k = k
+μ-loop reference count₀ k₀ count k = k
 
 loop-holds : tie.Need-loop-holds Inv-loop μ-loop
 loop-holds c = counted-start _ _
@@ -36,7 +36,7 @@ returns c =
     let z = c .before .before in
     let l = c .before .loop in
     let e : l .k ≡ 0 = omega arith in
-    (l .inv .is ∙ ap (λ (k : ℕ). operations (drop k (tabulate (operatorIn (now (z .args .code))) (z .args .counts .gates)))) e, omega (arith, l .inv .few))
+    (l .inv .is ∙ ap (λ (k : ℕ). operations (drop k (tabulate (operatorIn (now (z .args .reference))) (z .args .sizes .gates)))) e, omega (arith, l .inv .few))
 
 pub operation-count-spec : {M : Type 1} → statement M
 operation-count-spec =

@@ -37,16 +37,16 @@ slice-write-rails-2 c =
 returns : tie.Need-returns
 returns c =
     let z = c .before .before .before .before .before .before .before .before .before .before .before .before .before .before in
-    let code = now (z .args .code) in
+    let reference = now (z .args .reference) in
     let k = z .args .k in
     let first = z .pre .0 .operand k 0 (z .pre .1) (omega arith) in
     let second = z .pre .0 .operand k 1 (z .pre .1) (omega arith) in
     let a-is = c .before .before .before .before .before .before .before .rails-of .ensures in
     let b-is = c .before .before .before .before .rails-of2 .ensures in
-    let is = becomes-is (z .args .counts) code k (now (z .args .rails)) (z .args .made) _ _ first second a-is b-is in
-    let none = not-gates (z .args .counts) code k (now (z .args .rails)) (z .args .made) _ _ first second a-is b-is (c .if1 .taken) in
+    let is = becomes-is (z .args .sizes) reference k (now (z .args .rails)) (z .args .made) _ _ first second a-is b-is in
+    let none = not-gates (z .args .sizes) reference k (now (z .args .rails)) (z .args .made) _ _ first second a-is b-is (c .if1 .taken) in
     let rails = c .before .before .result-rails .ensures _ ∙ ap (λ (x : Realized). x .rails) (sym is) in
-    (omega (arith, ap length none), (put-no-gate none, rails-stored (now (z .args .rails)) (2 * (z .args .counts .inputs + k)) rails))
+    (omega (arith, ap length none), (put-no-gate none, rails-stored (now (z .args .rails)) (2 * (z .args .sizes .inputs + k)) rails))
 
 put-operation-requires : tie.Need-put-operation-requires
 put-operation-requires c κs =
@@ -54,26 +54,26 @@ put-operation-requires c κs =
     let k = z .args .k in (
       omega (arith, z .pre .0 .low k (z .pre .1), c .before .if1 .left),
       z .pre .0 .high k (z .pre .1),
-      omega (arith, z .pre .4, one-operation (operatorIn (now (z .args .code)) k) (c .before .if1 .left)),
+      omega (arith, z .pre .4, one-operation (operatorIn (now (z .args .reference)) k) (c .before .if1 .left)),
     )
 
 returns-2 : tie.Need-returns-2
 returns-2 c =
     let z = c .before .before .before .before .before .before .before .before .before .before .before .before .before .before .before .before .before .before in
-    let code = now (z .args .code) in
+    let reference = now (z .args .reference) in
     let k = z .args .k in
     let first = z .pre .0 .operand k 0 (z .pre .1) (omega arith) in
     let second = z .pre .0 .operand k 1 (z .pre .1) (omega arith) in
     let a-is = c .before .before .before .before .before .before .before .before .before .before .before .rails-of .ensures in
     let b-is = c .before .before .before .before .before .before .before .before .rails-of2 .ensures in
-    let is = becomes-is (z .args .counts) code k (now (z .args .rails)) (z .args .made) _ _ first second a-is b-is in
+    let is = becomes-is (z .args .sizes) reference k (now (z .args .rails)) (z .args .made) _ _ first second a-is b-is in
     let rails = c .before .before .before .before .before .before .result-rails .ensures _ ∙ ap (λ (x : Realized). x .rails) (sym is) in
-    let low : 2 ≤ operationIn code k = omega (arith, z .pre .0 .low k (z .pre .1), c .before .before .before .before .if1 .left) in
-    let two = other-gates (z .args .counts) code k (now (z .args .rails)) (z .args .made) _ _ first second a-is b-is low (z .pre .0 .high k (z .pre .1)) in (
+    let low : 2 ≤ operationIn reference k = omega (arith, z .pre .0 .low k (z .pre .1), c .before .before .before .before .if1 .left) in
+    let two = other-gates (z .args .sizes) reference k (now (z .args .rails)) (z .args .made) _ _ first second a-is b-is low (z .pre .0 .high k (z .pre .1)) in (
       omega (arith, two),
       (
         put-same (ap (λ (x : Realized). bytesOf file.Stage gateItem (x .gates)) (sym is)) (c .before .before .put-operation .ensures _),
-        rails-stored (now (z .args .rails)) (2 * (z .args .counts .inputs + k)) rails,
+        rails-stored (now (z .args .rails)) (2 * (z .args .sizes .inputs + k)) rails,
       ),
     )
 
