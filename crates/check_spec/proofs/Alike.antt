@@ -8,6 +8,7 @@ use mathlib.Core.Logic.{_⊎_, inl, inr}
 use mathlib.Core.Bool.{Bool, true, false, cond, not, _&&_, _||_, and-true}
 use mathlib.Core.List.{List, [], _∷_, _++_, map, map-map, reverse}
 use lib.ListN.{length, getD, length-map, length-reverse, List·getD-map}
+use lib.Seq.{getD-append-add}
 use lib.Dec.{eqb, ltb}
 use Rattle.gates.specs.Cell.{bit}
 use Rattle.runs.specs.Row.{Row, low, only, _∖_}
@@ -15,11 +16,15 @@ use Rattle.runs.specs.Net.{Net, rails, nets, mayRise, riseUp, railsOfInputs}
 use Rattle.runs.specs.Settled.{Settled, SettledHeld, SettledKept}
 use Rattle.runs.specs.Theory.{wordRails}
 use Rattle.runs.specs.Pair.{AllData, AllNull}
-use Rattle.runs.proofs.Test.{eqb-other}
+use Rattle.runs.proofs.Test.{and-in, and-left, and-right, or-left, lt-ltb, ltb-true, eqb-eq, eqb-same, eqb-other}
 use Rattle.runs.proofs.Moves.{missing-held}
 use Rattle.runs.proofs.Net.{Place, rail, gate, none, place, byNet-rail, byNet-gate, byNet-none}
+use Rattle.netlist.specs.declared.File.the-variants as file
+use Rattle.netlist.specs.declared.Limits.{Limits}
+use Rattle.netlist.specs.Reading.{Places, Ascending, readable, readFile}
 use Rattle.netlist.specs.Content as parsed
-use Rattle.netlist.specs.Content.{Coded, gateOf}
+use Rattle.netlist.specs.Content.{Coded, gateOf, stageOf}
+use Rattle.netlist.proofs.Stages.{stage-formed}
 use Rattle.verdict.specs.declared.WordOrder.{WordOrder}
 use Rattle.verdict.specs.declared.WordOrder.the-variants.{FirstHighest, FirstLowest}
 use Rattle.verdict.specs.Graph.{In}
@@ -29,17 +34,19 @@ use Rattle.verdict.specs.Answers as answers
 use Rattle.verdict.specs.Nets as code
 use Rattle.verdict.specs.Falls as falls
 use Rattle.verdict.specs.Checks as found
-use Rattle.verdict.proofs.Words.{bits-of-length, bits-of-bit, rails-word, index-in, in-index}
+use Rattle.verdict.proofs.Levels.{bits-length, bits-get}
+use Rattle.verdict.proofs.Settling.{settled-bits}
+use Rattle.verdict.proofs.Words.{bits-of-length, bits-of-bit, rails-word, index-in, in-index, word-below}
 use Rattle.verdict.proofs.Names.{aux-bit, aux-at, spelled-below, select-alike, in-isIn}
 use Rattle.verdict.proofs.Bridge.{settled-row, held-row, missing-row}
 use Rattle.verdict.proofs.OneWord.{wires-length, but-settled, keeping-settled}
 use Rattle.check_spec.specs.Lists.{xor, numbers, select, some, bitOf, ofBits}
-use Rattle.check_spec.specs.Content.{Content}
+use Rattle.check_spec.specs.Content.{Content, contentAt, contentOf}
 use Rattle.check_spec.specs.Rows.{netOf, risen, fallen, dataOf, allData, allNull}
-use Rattle.check_spec.specs.Words.{railsFor, caresFor, spelled, names, operate, values, answer}
+use Rattle.check_spec.specs.Words.{IsWord, railsFor, caresFor, spelled, names, operate, values, answer}
 use Rattle.check_spec.specs.Checks.{rest, wrong, incomplete, highAnd, unobservable, fallIncomplete, fallUnobservable}
 use Rattle.check_spec.specs.Demands.{LoopFree}
-use Rattle.check_spec.proofs.Loops.{risen-is, fallen-is}
+use Rattle.check_spec.proofs.Loops.{some-in, some-out, risen-is, fallen-is}
 use Rattle.check_spec.proofs.Names.{bit-suc, same-bits, of-bits-below}
 use Rattle.check_spec.proofs.OneWord.{inside}
 use Rattle.check_spec.proofs.View.{stageView, referenceView, net-view, rail-view}
@@ -85,6 +92,10 @@ spelled-alike FirstHighest n name = sym (
 
 -- ---- names
 
+or-false : (b : Bool) → (b || false) ≡ b
+or-false true = refl
+or-false false = refl
+
 pub names-alike : (order : WordOrder) (c : Content) → names order c ≡ words.names order (stageView c)
 unfolding names words.names words.words words.caredFor words.isIn some caresFor
 names-alike order c = select-alike _ _ (numbers 0 (2 ^ c .inputs)) (λ name i.
@@ -98,10 +109,6 @@ names-alike order c = select-alike _ _ (numbers 0 (2 ^ c .inputs)) (λ name i.
     some-is : (x : ℕ) (ws : List ℕ) → some (eqb x) ws ≡ words.isIn x ws
     some-is x [] = refl
     some-is x (w ∷ ws) = or-is (eqb x w) _ _ (some-is x ws)
-
-    or-false : (b : Bool) → (b || false) ≡ b
-    or-false true = refl
-    or-false false = refl
 
     cares : (care : List ℕ) (x : ℕ) → x < 2 ^ c .inputs
         → (some (eqb x) care || eqb (length care) 0) ≡ words.isIn x (words.caredFor (c .inputs) care)
@@ -207,6 +214,20 @@ answer-alike r w j h =
 
 -- ---- rows
 
+-- a list by its members
+pub list-is : (f : ℕ → ℕ) (j : ℕ) (l : List ℕ) → ((i : ℕ) → i < length l → getD l i 0 ≡ f (j + i)) → l ≡ map f (numbers j (length l))
+unfolding numbers
+list-is f j [] h = refl
+list-is f j (x ∷ l) h =
+    let z : j + 0 ≡ j = omega arith in
+    ap₂ (λ (y : ℕ) (m : List ℕ). y ∷ m) (h 0 (omega arith) ∙ ap f z)
+    (list-is f (suc j) l (λ i k. let y : j + suc i ≡ suc j + i = omega arith in h (suc i) (omega arith) ∙ ap f y))
+
+pub level : (x : ℕ) → x ≤ 1 → x ≡ bit (ltb 0 x)
+level zero h = refl
+level (suc zero) h = refl
+level (suc (suc x)) h = absurd (omega arith)
+
 module _ (c : Content) (free : LoopFree (netOf c)) (w : ℕ) where
   abbrev v : parsed.Stage
   v = stageView c
@@ -244,3 +265,42 @@ module _ (c : Content) (free : LoopFree (netOf c)) (w : ℕ) where
   pub keeping-alike : (r : Content) (g : ℕ) → code.rowOf (falls.fallenKeeping v w g) ≡ fallen N (rest c w) (only (2 * c .inputs + g))
   keeping-alike r g = fallen-is c free (rest c w) (only (2 * c .inputs + g)) (inside c r free w) .1 (code.rowOf (falls.fallenKeeping v w g))
       (kept (only (2 * c .inputs + g)) _ (keeping-settled v w g))
+
+  -- the levels of the gates at the rest
+  pub levels-alike : levels.settledLevels (v .gates) (words.railsIn v w) ≡ map (λ k. bit (rest c w k)) (numbers (2 * c .inputs) (length (c .gates)))
+  levels-alike =
+      let wires = words.railsIn v w in
+      let L = levels.settledLevels (v .gates) wires in
+      let bits = settled-bits (v .gates) wires in
+      let long : length L ≡ length (c .gates) = bits-length (length (v .gates)) L bits ∙ length-map (c .gates) gateOf in
+      list-is (λ k. bit (rest c w k)) (2 * c .inputs) L (λ i h.
+          level (getD L i 0) (bits-get (length (v .gates)) L bits i)
+          ∙ ap (λ (x : ℕ). bit (ltb 0 x)) (sym (getD-append-add wires L i 0) ∙ ap (λ (n : ℕ). getD (wires ++ L) (n + i) 0) (wires-length v w))
+          ∙ ap (λ (R : Row). bit (R (2 * c .inputs + i))) rest-alike)
+      ∙ ap (λ (m : ℕ). map (λ k. bit (rest c w k)) (numbers (2 * c .inputs) m)) long
+
+-- ---- the words of a stage whose care words rise, as those of a readable file do
+
+module _ (c : Content) (care : Ascending (2 ^ c .inputs) 0 (c .care)) (w : ℕ) where
+  pub word-in : IsWord c w → words.IsWord (stageView c) w
+  unfolding words.words words.caredFor caresFor
+  word-in h = go (c .care) (and-left (ltb w (2 ^ c .inputs)) _ h) (and-right (ltb w (2 ^ c .inputs)) _ h)
+    where
+      go : (ws : List ℕ) → ltb w (2 ^ c .inputs) ≡ true → (some (eqb w) ws || eqb (length ws) 0) ≡ true → In w (words.caredFor (c .inputs) ws)
+      go [] l t = index-in (2 ^ c .inputs) w (ltb-true w (2 ^ c .inputs) l)
+      go (x ∷ ws) l t = let r = some-out (eqb w) (x ∷ ws) (sym (or-false _) ∙ sym (ap (λ (b : Bool). some (eqb w) (x ∷ ws) || b) (eqb-other (length (x ∷ ws)) 0 (λ e. omega arith))) ∙ t) in
+          subst (λ (y : ℕ). In y (x ∷ ws)) (sym (eqb-eq w (r .0) (r .2))) (r .1)
+
+  pub in-word : words.IsWord (stageView c) w → IsWord c w
+  unfolding words.words words.caredFor caresFor some
+  in-word i = and-in (ltb w (2 ^ c .inputs)) _ (lt-ltb w (2 ^ c .inputs) (word-below (stageView c) care w i)) (go (c .care) i)
+    where
+      go : (ws : List ℕ) → In w (words.caredFor (c .inputs) ws) → (some (eqb w) ws || eqb (length ws) 0) ≡ true
+      go [] i = refl
+      go (x ∷ ws) i = or-left (some (eqb w) (x ∷ ws)) _ (some-in (eqb w) (x ∷ ws) w i (eqb-same w))
+
+-- the care words of a file that reads rise
+pub care-rises : (most : Limits) (bytes : List ℕ) (p : Places) → readFile file.Stage most bytes ≡ readable p
+    → Ascending (2 ^ contentOf file.Stage most bytes .inputs) 0 (contentOf file.Stage most bytes .care)
+unfolding contentAt stageOf
+care-rises most bytes p e = rw e (stage-formed most bytes p e .care-in)

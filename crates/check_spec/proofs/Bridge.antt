@@ -166,6 +166,12 @@ module _ (c : Content) where
           subst (λ (k : ℕ). reaches (feeding (netOf c)) (eqb (2 * c .inputs + g)) k (2 * c .inputs + g) ≡ true) z
           (loop-found (feeding (netOf c)) (nets (netOf c) - 1) (λ a b j. omega (arith, feeding-gate c a b j .1)) (2 * c .inputs + g) l))
 
+  -- a stage without loops is one to the code
+  pub code-free : LoopFree (netOf c) → loops.NoLoop (c .inputs) (v .gates)
+  code-free free g h l =
+      let k : g < length (c .gates) = omega (arith, length-map (c .gates) gateOf) in
+      clash (loop-alike g k ∙ reaches-complete (c .inputs) (v .gates) g h l) (free (2 * c .inputs + g) (omega arith, omega arith))
+
   retired-alike : (g : ℕ) → g < length (c .gates) → isRetired (cellIn (driver c (2 * c .inputs + g))) ≡ retire.retiredAt (v .gates) g
   unfolding retire.retiredAt
   retired-alike g h = let e : 2 * c .inputs + g - 2 * c .inputs ≡ g = omega arith in rw e (ap isRetired (at (c .gates) g h))

@@ -44,7 +44,7 @@ use Rattle.check_spec.proofs.First.{Each, judged}
 use Rattle.check_spec.proofs.Exactly.{EachCheck, judge-passes, other-number, looped-out}
 use Rattle.check_spec.proofs.Loops.{acyclic, settled-is}
 use Rattle.check_spec.proofs.View.{stageView, stage-view, net-view}
-use Rattle.check_spec.proofs.Alike.{rise-alike}
+use Rattle.check_spec.proofs.Alike.{rise-alike, list-is, level}
 use Rattle.check_spec.proofs.Bridge.{Alike, alike-judge, alike-passed, fault-passed, sweep-is, placed-is, loop-alike}
 
 -- ---- the verdict
@@ -70,20 +70,6 @@ module _ (c : Content) (row : List ℕ) where
   row-checks-is = alike-judge (rowChecks c row) (found.rowChecks s row) row-checks-alike
 
 -- ---- the row
-
--- a list by its members
-list-is : (f : ℕ → ℕ) (j : ℕ) (l : List ℕ) → ((i : ℕ) → i < length l → getD l i 0 ≡ f (j + i)) → l ≡ map f (numbers j (length l))
-unfolding numbers
-list-is f j [] h = refl
-list-is f j (x ∷ l) h =
-    let z : j + 0 ≡ j = omega arith in
-    ap₂ (λ (y : ℕ) (m : List ℕ). y ∷ m) (h 0 (omega arith) ∙ ap f z)
-    (list-is f (suc j) l (λ i k. let y : j + suc i ≡ suc j + i = omega arith in h (suc i) (omega arith) ∙ ap f y))
-
-level : (x : ℕ) → x ≤ 1 → x ≡ bit (ltb 0 x)
-level zero h = refl
-level (suc zero) h = refl
-level (suc (suc x)) h = absurd (omega arith)
 
 module _ (c : Content) (free : LoopFree (netOf c)) (row : List ℕ) (fits : length row ≡ nets (netOf c)) where
   abbrev wires : List ℕ

@@ -10,8 +10,7 @@ ghost use Rattle.check_spec.specs.Content as content;
 ghost use Rattle.check_spec.specs.Words.{orderOf};
 ghost use Rattle.check_spec.specs.Verdicts.{verdictOn, rowVerdict, rowAfter};
 ghost use Rattle.check_spec.specs.Demands.{Demand2, Demand3, DemandRow};
-ghost use Rattle.report_spec.specs.Report.{reportOn};
-ghost use Rattle.report_spec.specs.Activity.{ReportMeans};
+ghost use Rattle.report_spec.specs.Report.{reportOn, ReportMeans};
 ghost use Rattle.join_spec.specs.Join.{files};
 ghost use Rattle.join_spec.specs.Call.{JoinDemand};
 ghost use Rattle.make_spec.specs.Call.{MakeDemand};
@@ -32,8 +31,8 @@ pub fn check(order: WordOrder, stage: &[u8], reference: &[u8]) -> Verdict
 // The switching report of a stage file against a reference file: the check's verdict, and of an accepted stage how many gates are high at the
 // rest of each word, in the order of their names, and in all words together, which is half of all gate switchings when each word rises and falls once.
 pub fn report(order: WordOrder, stage: &[u8], reference: &[u8]) -> Report
-    ensures report { λ r. ⌜ r ≡ reportOn order (now (stage .entry)) (now (reference .entry)) ⌝ }
-    ensures means { λ r. ⌜ ReportMeans order (now (stage .entry)) (now (reference .entry)) r ⌝ }
+    ensures report { λ r. ⌜ r ≡ reportOn order (content.files (now (stage .entry)) (now (reference .entry))) ⌝ }
+    ensures means { λ r. ⌜ ReportMeans (content.files (now (stage .entry)) (now (reference .entry))) r ⌝ }
 {
     call_report::report_on(order, stage, reference)
 }
@@ -136,8 +135,8 @@ pub extern "C" fn fovaheju_check(order: u64, stage: &[u8], reference: &[u8]) -> 
 // The report for callers in C and in Rust, with the contract of `report`.
 #[no_mangle]
 pub extern "C" fn fovaheju_report(order: u64, stage: &[u8], reference: &[u8]) -> Report
-    ensures report { λ r. ⌜ r ≡ reportOn (orderOf order) (now (stage .entry)) (now (reference .entry)) ⌝ }
-    ensures means { λ r. ⌜ ReportMeans (orderOf order) (now (stage .entry)) (now (reference .entry)) r ⌝ }
+    ensures report { λ r. ⌜ r ≡ reportOn (orderOf order) (content.files (now (stage .entry)) (now (reference .entry))) ⌝ }
+    ensures means { λ r. ⌜ ReportMeans (content.files (now (stage .entry)) (now (reference .entry))) r ⌝ }
 {
     report(order_of(order), stage, reference)
 }
