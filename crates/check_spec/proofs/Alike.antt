@@ -274,9 +274,9 @@ module _ (c : Content) (free : LoopFree (netOf c)) (w : ℕ) where
       let bits = settled-bits (v .gates) wires in
       let long : length L ≡ length (c .gates) = bits-length (length (v .gates)) L bits ∙ length-map (c .gates) gateOf in
       list-is (λ k. bit (rest c w k)) (2 * c .inputs) L (λ i h.
-          level (getD L i 0) (bits-get (length (v .gates)) L bits i)
-          ∙ ap (λ (x : ℕ). bit (ltb 0 x)) (sym (getD-append-add wires L i 0) ∙ ap (λ (n : ℕ). getD (wires ++ L) (n + i) 0) (wires-length v w))
-          ∙ ap (λ (R : Row). bit (R (2 * c .inputs + i))) rest-alike)
+      level (getD L i 0) (bits-get (length (v .gates)) L bits i)
+      ∙ ap (λ (x : ℕ). bit (ltb 0 x)) (sym (getD-append-add wires L i 0) ∙ ap (λ (n : ℕ). getD (wires ++ L) (n + i) 0) (wires-length v w))
+      ∙ ap (λ (R : Row). bit (R (2 * c .inputs + i))) rest-alike)
       ∙ ap (λ (m : ℕ). map (λ k. bit (rest c w k)) (numbers (2 * c .inputs) m)) long
 
 -- ---- the words of a stage whose care words rise, as those of a readable file do

@@ -160,11 +160,11 @@ module _ (c : Content) where
       (λ e. reaches-complete (c .inputs) (v .gates) g (omega (arith, length-map (c .gates) gateOf))
       (subst (λ (next : ℕ → List ℕ). OnLoop next (2 * c .inputs + g)) feeding-alike (found-loop (feeding (netOf c)) (nets (netOf c)) (2 * c .inputs + g) e)))
       (λ e.
-          let z : suc (nets (netOf c) - 1) ≡ nets (netOf c) = omega arith in
-          let l : OnLoop (feeding (netOf c)) (2 * c .inputs + g) =
-          subst (λ (next : ℕ → List ℕ). OnLoop next (2 * c .inputs + g)) (sym feeding-alike) (reaches-sound (c .inputs) (v .gates) g e) in
-          subst (λ (k : ℕ). reaches (feeding (netOf c)) (eqb (2 * c .inputs + g)) k (2 * c .inputs + g) ≡ true) z
-          (loop-found (feeding (netOf c)) (nets (netOf c) - 1) (λ a b j. omega (arith, feeding-gate c a b j .1)) (2 * c .inputs + g) l))
+      let z : suc (nets (netOf c) - 1) ≡ nets (netOf c) = omega arith in
+      let l : OnLoop (feeding (netOf c)) (2 * c .inputs + g) =
+      subst (λ (next : ℕ → List ℕ). OnLoop next (2 * c .inputs + g)) (sym feeding-alike) (reaches-sound (c .inputs) (v .gates) g e) in
+      subst (λ (k : ℕ). reaches (feeding (netOf c)) (eqb (2 * c .inputs + g)) k (2 * c .inputs + g) ≡ true) z
+      (loop-found (feeding (netOf c)) (nets (netOf c) - 1) (λ a b j. omega (arith, feeding-gate c a b j .1)) (2 * c .inputs + g) l))
 
   -- a stage without loops is one to the code
   pub code-free : LoopFree (netOf c) → loops.NoLoop (c .inputs) (v .gates)
@@ -356,9 +356,20 @@ module _ (order : WordOrder) (c : Content) where
         let n12 = placed-is 12 1 (length (c .gates)) (length (s .gates)) (λ g. reachesItself (netOf c) (2 * c .inputs + g))
         (loops.reachesItself (c .inputs) (s .gates)) gates-long (loop-alike c) in
         let n28 = placed-is 28 1 (length (c .gates)) (length (s .gates)) (λ g. isRetired (cellIn (driver c (2 * c .inputs + g))))
-        (retire.retiredAt (s .gates)) gates-long (retired-alike c) in
-        (n10, λ x. (n11, λ o. (n12, λ l. (n28, λ x.
-        sweeps-alike (found-free l) (outputs-long ∙ found-equal 11 (length (s .outputs)) (length (q .outputs)) o ∙ sym signals-long)))))
+        (retire.retiredAt (s .gates)) gates-long (retired-alike c) in (
+          n10,
+          λ x. (
+            n11,
+            λ o. (
+              n12,
+              λ l. (
+                n28,
+                λ x.
+                    sweeps-alike (found-free l) (outputs-long ∙ found-equal 11 (length (s .outputs)) (length (q .outputs)) o ∙ sym signals-long),
+              ),
+            ),
+          ),
+        )
 
     pub checks-is : judge (checks order c r) ≡ given.verdictOf (found.firstFault (found.checks order s q))
     checks-is = alike-judge (checks order c r) (found.checks order s q) checks-alike

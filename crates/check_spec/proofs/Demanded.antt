@@ -146,65 +146,65 @@ module _ (order : WordOrder) (f : Files) where
     all-claim =
         let sp = spelled order (s .inputs) in
         let a = sweep-each 13 1 (numbers 0 (length (s .outputs))) (λ name. wrong s r (sp name)) Claim (names order s) (λ name x j y e.
-            let l = in-index (length (s .outputs)) j y in
-            let b = wrong-shown s r free (sp name) j l e in
-            record {
-              word = named-word order s name x;
-              broken = b .1;
-              wrong = λ q. (l, b .0);
-              incomplete = λ q. absurd (omega (arith, q));
-              unobservable = λ q. absurd (omega (arith, q));
-              fall-incomplete = λ q. absurd (omega (arith, q));
-              fall-unobservable = λ q. absurd (omega (arith, q));
-            }) in
+        let l = in-index (length (s .outputs)) j y in
+        let b = wrong-shown s r free (sp name) j l e in
+        record {
+          word = named-word order s name x;
+          broken = b .1;
+          wrong = λ q. (l, b .0);
+          incomplete = λ q. absurd (omega (arith, q));
+          unobservable = λ q. absurd (omega (arith, q));
+          fall-incomplete = λ q. absurd (omega (arith, q));
+          fall-unobservable = λ q. absurd (omega (arith, q));
+        }) in
         let b = sweep-each 14 1 (numbers 0 (s .inputs)) (λ name. incomplete s (sp name)) Claim (names order s) (λ name x i y e.
-            let l = in-index (s .inputs) i y in
-            let b = incomplete-shown s r free (sp name) i l e in
-            record {
-              word = named-word order s name x;
-              broken = b .1;
-              wrong = λ q. absurd (omega (arith, q));
-              incomplete = λ q. (l, b .0);
-              unobservable = λ q. absurd (omega (arith, q));
-              fall-incomplete = λ q. absurd (omega (arith, q));
-              fall-unobservable = λ q. absurd (omega (arith, q));
-            }) in
+        let l = in-index (s .inputs) i y in
+        let b = incomplete-shown s r free (sp name) i l e in
+        record {
+          word = named-word order s name x;
+          broken = b .1;
+          wrong = λ q. absurd (omega (arith, q));
+          incomplete = λ q. (l, b .0);
+          unobservable = λ q. absurd (omega (arith, q));
+          fall-incomplete = λ q. absurd (omega (arith, q));
+          fall-unobservable = λ q. absurd (omega (arith, q));
+        }) in
         let c = sweep-each 15 1 (numbers 0 (length (s .gates))) (λ name. unobservable s (sp name)) Claim (names order s) (λ name x g y e.
-            let l = in-index (length (s .gates)) g y in
-            let b = unobservable-shown s r free (sp name) g l e in
-            record {
-              word = named-word order s name x;
-              broken = b .1;
-              wrong = λ q. absurd (omega (arith, q));
-              incomplete = λ q. absurd (omega (arith, q));
-              unobservable = λ q. (l, b .0);
-              fall-incomplete = λ q. absurd (omega (arith, q));
-              fall-unobservable = λ q. absurd (omega (arith, q));
-            }) in
+        let l = in-index (length (s .gates)) g y in
+        let b = unobservable-shown s r free (sp name) g l e in
+        record {
+          word = named-word order s name x;
+          broken = b .1;
+          wrong = λ q. absurd (omega (arith, q));
+          incomplete = λ q. absurd (omega (arith, q));
+          unobservable = λ q. (l, b .0);
+          fall-incomplete = λ q. absurd (omega (arith, q));
+          fall-unobservable = λ q. absurd (omega (arith, q));
+        }) in
         let d = sweep-each 20 1 (numbers 0 (s .inputs)) (λ name. fallIncomplete s (sp name)) Claim (names order s) (λ name x i y e.
-            let l = in-index (s .inputs) i y in
-            let b = fall-incomplete-shown s r free (sp name) i l e in
-            record {
-              word = named-word order s name x;
-              broken = b .1;
-              wrong = λ q. absurd (omega (arith, q));
-              incomplete = λ q. absurd (omega (arith, q));
-              unobservable = λ q. absurd (omega (arith, q));
-              fall-incomplete = λ q. (l, b .0);
-              fall-unobservable = λ q. absurd (omega (arith, q));
-            }) in
+        let l = in-index (s .inputs) i y in
+        let b = fall-incomplete-shown s r free (sp name) i l e in
+        record {
+          word = named-word order s name x;
+          broken = b .1;
+          wrong = λ q. absurd (omega (arith, q));
+          incomplete = λ q. absurd (omega (arith, q));
+          unobservable = λ q. absurd (omega (arith, q));
+          fall-incomplete = λ q. (l, b .0);
+          fall-unobservable = λ q. absurd (omega (arith, q));
+        }) in
         let e = sweep-each 21 1 (numbers 0 (length (s .gates))) (λ name. fallUnobservable s (sp name)) Claim (names order s) (λ name x g y e.
-            let l = in-index (length (s .gates)) g y in
-            let b = fall-unobservable-shown s r free (sp name) g l e in
-            record {
-              word = named-word order s name x;
-              broken = b .1;
-              wrong = λ q. absurd (omega (arith, q));
-              incomplete = λ q. absurd (omega (arith, q));
-              unobservable = λ q. absurd (omega (arith, q));
-              fall-incomplete = λ q. absurd (omega (arith, q));
-              fall-unobservable = λ q. (l, b .0);
-            }) in
+        let l = in-index (length (s .gates)) g y in
+        let b = fall-unobservable-shown s r free (sp name) g l e in
+        record {
+          word = named-word order s name x;
+          broken = b .1;
+          wrong = λ q. absurd (omega (arith, q));
+          incomplete = λ q. absurd (omega (arith, q));
+          unobservable = λ q. absurd (omega (arith, q));
+          fall-incomplete = λ q. absurd (omega (arith, q));
+          fall-unobservable = λ q. (l, b .0);
+        }) in
         (a, (b, (c, (d, (e, tt)))))
 
   broken : OfRuns (number (verdictOn order f)) → BothRead f × Broken f (spelled order (s .inputs) (verdictOn order f .word)) (verdictOn order f)

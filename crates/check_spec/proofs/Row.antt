@@ -61,10 +61,15 @@ module _ (c : Content) (row : List ℕ) where
   row-checks-alike =
       let n12 = placed-is 12 1 (length (c .gates)) (length (s .gates)) (λ g. reachesItself (netOf c) (2 * c .inputs + g))
       (loops.reachesItself (c .inputs) (s .gates)) long (loop-alike c) in
-      let n17 = placed-is 17 3 (c .inputs) (c .inputs) (illegal row) (found.illegal row) refl (λ i h. refl) in
-      (n12, λ x. ((λ later. sweep-is 16 3 (length row ∷ []) (λ w i. not (eqb (length row) (nets (netOf c))))
-      (λ w i. not (eqb (length row) (2 * c .inputs + length (s .gates)))) (0 ∷ [])
-      (λ w x i y. ap (λ (k : ℕ). not (eqb (length row) (2 * c .inputs + k))) long) later), λ x. (n17, λ x. tt)))
+      let n17 = placed-is 17 3 (c .inputs) (c .inputs) (illegal row) (found.illegal row) refl (λ i h. refl) in (
+        n12,
+        λ x. (
+          (λ later. sweep-is 16 3 (length row ∷ []) (λ w i. not (eqb (length row) (nets (netOf c))))
+              (λ w i. not (eqb (length row) (2 * c .inputs + length (s .gates)))) (0 ∷ [])
+              (λ w x i y. ap (λ (k : ℕ). not (eqb (length row) (2 * c .inputs + k))) long) later),
+          λ x. (n17, λ x. tt),
+        ),
+      )
 
   row-checks-is : judge (rowChecks c row) ≡ given.verdictOf (found.firstFault (found.rowChecks s row))
   row-checks-is = alike-judge (rowChecks c row) (found.rowChecks s row) row-checks-alike
@@ -101,9 +106,9 @@ module _ (c : Content) (free : LoopFree (netOf c)) (row : List ℕ) (fits : leng
       let long : length (c .gates) ≡ length L = sym (bits-length (length (stageView c .gates)) L bits ∙ length-map (c .gates) gateOf) in
       ap (λ (m : List ℕ). wires ++ m) (ap (λ (k : ℕ). map (λ k. bit (R k)) (numbers (2 * c .inputs) k)) long
       ∙ sym (list-is (λ k. bit (R k)) (2 * c .inputs) L (λ i h.
-          level (getD L i 0) (bits-get (length (stageView c .gates)) L bits i)
-          ∙ ap (λ (x : ℕ). bit (ltb 0 x)) (sym (getD-append-add wires L i 0) ∙ ap (λ (n : ℕ). getD after′ (n + i) 0) wires-long)
-          ∙ ap (λ (r : Row). bit (r (2 * c .inputs + i))) row-alike)))
+      level (getD L i 0) (bits-get (length (stageView c .gates)) L bits i)
+      ∙ ap (λ (x : ℕ). bit (ltb 0 x)) (sym (getD-append-add wires L i 0) ∙ ap (λ (n : ℕ). getD after′ (n + i) 0) wires-long)
+      ∙ ap (λ (r : Row). bit (r (2 * c .inputs + i))) row-alike)))
 
   row-given : RowGiven c row after′
   row-given =
@@ -169,9 +174,9 @@ row-is stage row = go (readFile file.Stage (limits 256) stage) refl
     settle c is e (Fault v) f =
         let z : judge (rowChecks c row) ≡ v = row-checks-is c row ∙ ap given.verdictOf f in
         refuse v (e ∙ z) (λ q.
-            let p = judge-passes (rowChecks c row) (none-zero c row) (ap (λ (x : Verdict). x .number) z ∙ q) .0 in
-            let y : Fault v ≡ Passed = sym f ∙ alike-passed (rowChecks c row) (found.rowChecks (stageView c) row) (row-checks-alike c row) p in
-            fault-passed y)
+        let p = judge-passes (rowChecks c row) (none-zero c row) (ap (λ (x : Verdict). x .number) z ∙ q) .0 in
+        let y : Fault v ≡ Passed = sym f ∙ alike-passed (rowChecks c row) (found.rowChecks (stageView c) row) (row-checks-alike c row) p in
+        fault-passed y)
     settle c is e Passed f =
         let z : rowVerdict stage row ≡ accepted = e ∙ row-checks-is c row ∙ ap given.verdictOf f in
         let fit = fitting c row (ap (λ (x : Verdict). x .number) (sym e ∙ z)) in

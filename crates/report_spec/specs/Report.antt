@@ -79,5 +79,5 @@ pub record Cycled (s : Content) (w : ℕ) : Type 0 where
 -- rises and falls once, in any order", of the words and of the switchings in each.
 pub record ReportMeans (f : Files) (r : Report) : Type 0 where
   pub cycled : r .verdict ≡ accepted → (w : ℕ) → IsWord (stageIn f) w → Cycled (stageIn f) w
-  pub half : r .verdict ≡ accepted → (cycles : List (Cycle (netOf (stageIn f)))) → EachWordOnce (stageIn f) (map (λ (p : Cycle (netOf (stageIn f))). p .word) cycles)
-      → sum (map (switchings (netOf (stageIn f))) cycles) ≡ 2 * r .total
+  pub half : r .verdict ≡ accepted → (cycles : List (Cycle (netOf (stageIn f))))
+      → EachWordOnce (stageIn f) (map (λ (p : Cycle (netOf (stageIn f))). p .word) cycles) → sum (map (switchings (netOf (stageIn f))) cycles) ≡ 2 * r .total
