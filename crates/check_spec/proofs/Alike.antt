@@ -117,7 +117,7 @@ names-alike order c = select-alike _ _ (numbers 0 (2 ^ c .inputs)) (λ name i.
 
 -- ---- rails
 
-rails-alike : (c : Content) (w k : ℕ) → k < 2 * c .inputs → code.railsFor (stageView c) w k ≡ railsFor w k
+pub rails-alike : (c : Content) (w k : ℕ) → k < 2 * c .inputs → code.railsFor (stageView c) w k ≡ railsFor w k
 rails-alike c w k h =
     let long = bits-of-length (c .inputs) w in
     let at = bits-at (c .inputs) w (k / 2) (omega arith) in

@@ -137,7 +137,7 @@ alike-passed (c ∷ cs) (d ∷ ds) a p = go (found.finding d) refl (λ later. sy
 -- ---- the tests
 
 -- two tests that pass together
-together : (a b : Bool) → (a ≡ true → b ≡ true) → (b ≡ true → a ≡ true) → a ≡ b
+pub together : (a b : Bool) → (a ≡ true → b ≡ true) → (b ≡ true → a ≡ true) → a ≡ b
 together true b f g = sym (f refl)
 together false b f g = sym (not-true b (λ e. clash (g e) refl))
 

@@ -11,3 +11,4 @@ pub mod View
 pub mod Alike
 pub mod Bridge
 pub mod Row
+pub mod Writing

@@ -79,6 +79,19 @@ module _ (next : ℕ → List ℕ) (goal : ℕ → Bool) where
       go true e = rw e
       go false e = rw e r
 
+  -- with a step more the same is reached
+  pub reaches-more : (k x : ℕ) → reaches next goal k x ≡ true → reaches next goal (suc k) x ≡ true
+  unfolding reaches
+  reaches-more zero x e = absurd (clash e refl)
+  reaches-more (suc k) x e =
+      let r = some-out (test k) (next x) e in
+      step-in (suc k) x (r .0) (r .1) (go (goal (r .0)) refl (reaches-more k (r .0)) (r .2))
+    where
+      go : {p : ℕ} (b : Bool) → goal p ≡ b → (reaches next goal k p ≡ true → reaches next goal (suc k) p ≡ true) → test k p ≡ true
+          → (goal p ≡ true) ⊎ (reaches next goal (suc k) p ≡ true)
+      go true q later t = inl q
+      go false q later t = inr (later (rw q at t))
+
   module _ (size : ℕ) where
     abbrev round : List ℕ → List ℕ
     round marks = tabulate (λ x. bit (goal x || anyHigh marks (next x))) size
@@ -96,7 +109,7 @@ module _ (next : ℕ → List ℕ) (goal : ℕ → Bool) where
         (sym (ap (λ (v : ℕ). ltb 0 v) (getD-tabulate (λ x. bit (goal x || anyHigh m (next x))) size x 0 h) ∙ high-bit (goal x || anyHigh m (next x))) ∙ e)
 
     -- what is marked after some rounds is a goal or reaches one in fewer steps
-    marked : (k x : ℕ) → high (rounds round size (suc k)) x ≡ true → (goal x ≡ true) ⊎ (reaches next goal k x ≡ true)
+    pub marked : (k x : ℕ) → high (rounds round size (suc k)) x ≡ true → (goal x ≡ true) ⊎ (reaches next goal k x ≡ true)
     unfolding rounds
     marked zero x e =
         ⊎-elim (λ g. inl g) (λ a. let r = anyHigh-out (rounds round size 0) (next x) a in absurd (none-high size (r .0) (r .2))) (again (rounds round size 0) x e)

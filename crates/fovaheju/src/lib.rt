@@ -13,7 +13,7 @@ ghost use Rattle.check_spec.specs.Demands.{Demand2, Demand3, DemandRow};
 ghost use Rattle.report_spec.specs.Report.{reportOn, ReportMeans};
 ghost use Rattle.join_spec.specs.Join.{files};
 ghost use Rattle.join_spec.specs.Call.{JoinDemand};
-ghost use Rattle.make_spec.specs.Call.{MakeDemand};
+ghost use Rattle.make_spec.specs.Make.{MakeDemand};
 ghost use Rattle.text_spec.specs.Promises.{ReadDemand, WriteDemand};
 ghost use Rattle.next_spec.specs.Family.{NextDemand};
 ghost use Rattle.draw_spec.specs.Demand.{DrawnDemand};
