@@ -151,9 +151,9 @@ module _ (c : Content) where
           ap (λ (k : ℕ). some (eqb x) (getD (g ∷ gates) k noGate .operands)) z ∙ among-alike x (g .operands) in
           let later = select-alike (λ y. some (eqb x) (getD (g ∷ gates) (y - s) noGate .operands)) (λ y. some (eqb x) (getD gates (y - suc s) noGate .operands))
           (numbers (suc s) (length gates)) (λ y i.
-              let h = numbers-in (suc s) (length gates) y i in
-              let e : y - s ≡ suc (y - suc s) = omega (arith, h .0) in
-              ap (λ (k : ℕ). some (eqb x) (getD (g ∷ gates) k noGate .operands)) e)
+          let h = numbers-in (suc s) (length gates) y i in
+          let e : y - s ≡ suc (y - suc s) = omega (arith, h .0) in
+          ap (λ (k : ℕ). some (eqb x) (getD (g ∷ gates) k noGate .operands)) e)
           ∙ go (suc s) gates in
           ap₂ (λ (b : Bool) (l : List ℕ). cond b (s ∷ l) l) first later
 
@@ -172,9 +172,9 @@ module _ (c : Content) where
       forth e = leadsOut-complete r formed x (⊎-elim
           (λ g. (x, among-in x (r .outputs) (sym (output-alike x) ∙ g), here))
           (λ h.
-              let s = reaches-sound (readers c) (isOutput c) (c .inputs + length (c .gates)) x h in
-              let l : Leads (readers c) (s .2) x = onward (s .1) (s .4) in
-              (s .2, among-in (s .2) (r .outputs) (sym (output-alike (s .2)) ∙ s .3), subst (λ (next : ℕ → List ℕ). Leads next (s .2) x) next-is l))
+          let s = reaches-sound (readers c) (isOutput c) (c .inputs + length (c .gates)) x h in
+          let l : Leads (readers c) (s .2) x = onward (s .1) (s .4) in
+          (s .2, among-in (s .2) (r .outputs) (sym (output-alike (s .2)) ∙ s .3), subst (λ (next : ℕ → List ℕ). Leads next (s .2) x) next-is l))
           (or-cases (isOutput c x) _ e))
 
       back : leads.leadsOut r x ≡ true → leadsOut c x ≡ true

@@ -84,13 +84,19 @@ module _ (c : Content) (formed : ReferenceFormed referenceLimits (referenceView 
       let n25 = placed-is 25 2 size size (λ x. not (leadsOut c x)) (λ x. not (leads.leadsOut (referenceView c) x)) refl
       (λ x h. ap not (leads-alike c formed x)) in
       let need = needed-alike c in
-      let long : length (writeFile file.Stage (madeStage c)) ≡ length (making.madeBytes (referenceView c)) = ap length (bytes-alike c) in
-      (n25, λ x. (
-        (λ after. sweep-is 26 2 (length (built c .gates) ∷ []) (λ w i. ltb 256 (length (built c .gates))) (λ w i. ltb 256 (made.gatesNeeded (referenceView c))) (0 ∷ [])
-        (λ w x i y. ap (ltb 256) need) after
-        ∙ ap (λ (k : ℕ). faultOr (found.sweep 26 2 (λ w. found.first (λ i. ltb 256 (made.gatesNeeded (referenceView c))) (k ∷ [])) (0 ∷ [])) after) need),
-        λ x. ((λ after. sweep-is 27 3 (0 ∷ []) (λ w i. ltb room (length (writeFile file.Stage (madeStage c)))) (λ w i. ltb room (length (making.madeBytes (referenceView c)))) (0 ∷ [])
-        (λ w x i y. ap (ltb room) long) after), λ x. tt)))
+      let long : length (writeFile file.Stage (madeStage c)) ≡ length (making.madeBytes (referenceView c)) = ap length (bytes-alike c) in (
+        n25,
+        λ x. (
+          (λ after. sweep-is 26 2 (length (built c .gates) ∷ []) (λ w i. ltb 256 (length (built c .gates))) (λ w i. ltb 256 (made.gatesNeeded (referenceView c))) (0 ∷ [])
+              (λ w x i y. ap (ltb 256) need) after
+              ∙ ap (λ (k : ℕ). faultOr (found.sweep 26 2 (λ w. found.first (λ i. ltb 256 (made.gatesNeeded (referenceView c))) (k ∷ [])) (0 ∷ [])) after) need),
+          λ x. (
+            (λ after. sweep-is 27 3 (0 ∷ []) (λ w i. ltb room (length (writeFile file.Stage (madeStage c)))) (λ w i. ltb room (length (making.madeBytes (referenceView c)))) (0 ∷ [])
+                (λ w x i y. ap (ltb room) long) after),
+            λ x. tt,
+          ),
+        ),
+      )
 
   none-zero : EachCheck (Each (λ d. ¬ (d .names .number ≡ 0))) (later c room)
   none-zero =
@@ -107,10 +113,12 @@ module _ (c : Content) (formed : ReferenceFormed referenceLimits (referenceView 
   left-alike buffer (Fault v) f =
       let z : judge (later c room) ≡ v = alike-judge (later c room) checks later-alike ∙ ap given.verdictOf f in
       let no : ¬ (v .number ≡ 0) = λ q.
-          let p = judge-passes (later c room) none-zero (ap (λ (y : Verdict). y .number) z ∙ q) .0 in
-          fault-passed {v = v} (sym f ∙ alike-passed (later c room) checks later-alike p) in
-      (z, ap (λ (y : Verdict). leaving y (writeFile file.Stage (madeStage c)) buffer) z
-      ∙ ap (λ (b : Bool). cond b (write (writeFile file.Stage (madeStage c)) buffer) (refuse v buffer)) (eqb-other (v .number) 0 no))
+      let p = judge-passes (later c room) none-zero (ap (λ (y : Verdict). y .number) z ∙ q) .0 in
+      fault-passed {v = v} (sym f ∙ alike-passed (later c room) checks later-alike p) in (
+        z,
+        ap (λ (y : Verdict). leaving y (writeFile file.Stage (madeStage c)) buffer) z
+            ∙ ap (λ (b : Bool). cond b (write (writeFile file.Stage (madeStage c)) buffer) (refuse v buffer)) (eqb-other (v .number) 0 no),
+      )
   left-alike buffer Passed f =
       let z : judge (later c room) ≡ accepted = alike-judge (later c room) checks later-alike ∙ ap given.verdictOf f in
       (z, ap (λ (y : Verdict). leaving y (writeFile file.Stage (madeStage c)) buffer) z ∙ ap (λ (l : List ℕ). write l buffer) (bytes-alike c))
