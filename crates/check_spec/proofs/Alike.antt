@@ -96,24 +96,29 @@ or-false : (b : Bool) → (b || false) ≡ b
 or-false true = refl
 or-false false = refl
 
+or-is : (b x y : Bool) → x ≡ y → cond b true x ≡ (b || y)
+or-is true x y e = refl
+or-is false x y e = e
+
+-- a word below 2 to the number of inputs is cared for
+pub cares-alike : (c : Content) (x : ℕ) → x < 2 ^ c .inputs → caresFor c x ≡ words.isIn x (words.words (stageView c))
+unfolding words.words words.caredFor words.isIn some caresFor
+cares-alike c x h = go (c .care)
+  where
+    some-is : (ws : List ℕ) → some (eqb x) ws ≡ words.isIn x ws
+    some-is [] = refl
+    some-is (w ∷ ws) = or-is (eqb x w) _ _ (some-is ws)
+
+    go : (care : List ℕ) → (some (eqb x) care || eqb (length care) 0) ≡ words.isIn x (words.caredFor (c .inputs) care)
+    go [] = sym (in-isIn x (numbers 0 (2 ^ c .inputs)) (index-in (2 ^ c .inputs) x h))
+    go (w ∷ ws) = rw (eqb-other (length (w ∷ ws)) 0 (λ e. omega arith)) (or-false (some (eqb x) (w ∷ ws)) ∙ some-is (w ∷ ws))
+
 pub names-alike : (order : WordOrder) (c : Content) → names order c ≡ words.names order (stageView c)
-unfolding names words.names words.words words.caredFor words.isIn some caresFor
+unfolding names words.names
 names-alike order c = select-alike _ _ (numbers 0 (2 ^ c .inputs)) (λ name i.
     let h = in-index (2 ^ c .inputs) name i in
-    ap (caresFor c) (spelled-alike order (c .inputs) name) ∙ cares (c .care) (words.spelled order (c .inputs) name) (spelled-below order (c .inputs) name h))
-  where
-    or-is : (b x y : Bool) → x ≡ y → cond b true x ≡ (b || y)
-    or-is true x y e = refl
-    or-is false x y e = e
-
-    some-is : (x : ℕ) (ws : List ℕ) → some (eqb x) ws ≡ words.isIn x ws
-    some-is x [] = refl
-    some-is x (w ∷ ws) = or-is (eqb x w) _ _ (some-is x ws)
-
-    cares : (care : List ℕ) (x : ℕ) → x < 2 ^ c .inputs
-        → (some (eqb x) care || eqb (length care) 0) ≡ words.isIn x (words.caredFor (c .inputs) care)
-    cares [] x h = sym (in-isIn x (numbers 0 (2 ^ c .inputs)) (index-in (2 ^ c .inputs) x h))
-    cares (w ∷ ws) x h = rw (eqb-other (length (w ∷ ws)) 0 (λ e. omega arith)) (or-false (some (eqb x) (w ∷ ws)) ∙ some-is x (w ∷ ws))
+    ap (caresFor c) (spelled-alike order (c .inputs) name)
+    ∙ cares-alike c (words.spelled order (c .inputs) name) (spelled-below order (c .inputs) name h))
 
 -- ---- rails
 
@@ -193,24 +198,27 @@ bits-alike w j (suc n) =
     (bits-alike w (suc j) n ∙ ap (words.bitsOf n) (ap (λ (x : ℕ). w / x) e ∙ sym (div-div-eq-div-mul w (2 ^ j) 2)))
 
 -- output j answers the value that the code has for it
-pub answer-alike : (r : Content) (w j : ℕ) → j < length (r .outputs)
-    → bit (answer r (bitOf w) j) ≡ getD (answers.answer (referenceView r) (words.bitsOf (r .inputs) w)) j 0
+pub answer-any : (r : Content) (bits : ℕ → Bool) (j : ℕ) → j < length (r .outputs)
+    → bit (answer r bits j) ≡ getD (answers.answer (referenceView r) (map bit (map bits (numbers 0 (r .inputs))))) j 0
 unfolding answer answers.answer
-answer-alike r w j h =
-    let signals = values (map (bitOf w) (numbers 0 (r .inputs))) (r .gates) in
-    let one : w / 2 ^ 0 ≡ w = omega arith in
-    let all : map bit signals ≡ answers.signalValues (words.bitsOf (r .inputs) w) (r .gates) =
-    values-alike (map (bitOf w) (numbers 0 (r .inputs))) (r .gates)
-    ∙ ap (λ (l : List ℕ). answers.signalValues l (r .gates)) (bits-alike w 0 (r .inputs) ∙ ap (words.bitsOf (r .inputs)) one) in
+answer-any r bits j h =
+    let signals = values (map bits (numbers 0 (r .inputs))) (r .gates) in
     sym (List·getD-map bit signals (getD (getD (r .outputs) j []) 0 0) false)
-    ∙ ap (λ (l : List ℕ). getD l (getD (getD (r .outputs) j []) 0 0) 0) all
-    ∙ at (answers.signalValues (words.bitsOf (r .inputs) w) (r .gates)) (r .outputs) j h
+    ∙ ap (λ (l : List ℕ). getD l (getD (getD (r .outputs) j []) 0 0) 0) (values-alike (map bits (numbers 0 (r .inputs))) (r .gates))
+    ∙ at (answers.signalValues (map bit (map bits (numbers 0 (r .inputs)))) (r .gates)) (r .outputs) j h
   where
     at : (l : List ℕ) (outputs : List (List ℕ)) (j : ℕ) → j < length outputs
         → getD l (getD (getD outputs j []) 0 0) 0 ≡ getD (answers.valuesAt l (map (λ (vs : List ℕ). getD vs 0 0) outputs)) j 0
     at l [] j h = absurd (omega arith)
     at l (o ∷ outputs) zero h = refl
     at l (o ∷ outputs) (suc j) h = at l outputs j (omega arith)
+
+pub answer-alike : (r : Content) (w j : ℕ) → j < length (r .outputs)
+    → bit (answer r (bitOf w) j) ≡ getD (answers.answer (referenceView r) (words.bitsOf (r .inputs) w)) j 0
+answer-alike r w j h =
+    let one : w / 2 ^ 0 ≡ w = omega arith in
+    answer-any r (bitOf w) j h
+    ∙ ap (λ (l : List ℕ). getD (answers.answer (referenceView r) l) j 0) (bits-alike w 0 (r .inputs) ∙ ap (words.bitsOf (r .inputs)) one)
 
 -- ---- rows
 

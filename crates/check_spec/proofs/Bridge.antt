@@ -274,14 +274,14 @@ found-none number file w places fails e = none places (nothing (found.first (fai
         go false q e (inr x) later = later e i x
 
 -- of a check that compares counts, of one that looks at places, and of one that sweeps words
-unequal-is : (number mine theirs mine′ theirs′ : ℕ) → mine ≡ mine′ → theirs ≡ theirs′ → (later : Verdict)
+pub unequal-is : (number mine theirs mine′ theirs′ : ℕ) → mine ≡ mine′ → theirs ≡ theirs′ → (later : Verdict)
     → first (unequal number mine theirs) later ≡ faultOr (found.finding (found.unequal number mine′ theirs′)) later
 unfolding found.finding sweep flatMap
 unequal-is number mine theirs mine′ theirs′ e e′ later =
     sweep-is number 0 (mine ∷ []) (λ w i. not (eqb mine theirs)) (λ w i. not (eqb mine theirs)) (theirs ∷ []) (λ w x i y. refl) later
     ∙ ap₂ (λ (a b : ℕ). faultOr (found.sweep number 0 (λ w. found.first (λ i. not (eqb a b)) (a ∷ [])) (b ∷ [])) later) e e′
 
-found-equal : (number mine theirs : ℕ) → found.finding (found.unequal number mine theirs) ≡ Passed → mine ≡ theirs
+pub found-equal : (number mine theirs : ℕ) → found.finding (found.unequal number mine theirs) ≡ Passed → mine ≡ theirs
 unfolding found.finding
 found-equal number mine theirs e =
     let n : not (eqb mine theirs) ≡ false = found-none number 0 theirs (mine ∷ []) (λ w i. not (eqb mine theirs)) e mine (inl refl) in
@@ -295,15 +295,15 @@ placed-is number file m m′ fails fails′ e same later =
     ∙ ap (λ (k : ℕ). faultOr (found.sweep number file (λ w. found.first fails′ (numbers 0 k)) (0 ∷ [])) later) e
 
 module _ (order : WordOrder) (c : Content) where
-  swept-is : (number m m′ : ℕ) (fails fails′ : ℕ → ℕ → Bool) → m ≡ m′ → ((w i : ℕ) → i < m → fails w i ≡ fails′ w i)
-      → (later : Verdict) → first (swept order c number 1 m fails) later
-      ≡ faultOr (found.sweep number 1 (λ name. found.first (fails′ (words.spelled order (c .inputs) name)) (numbers 0 m′)) (words.names order (stageView c))) later
-  swept-is number m m′ fails fails′ e same later =
+  pub swept-is : (number file m m′ : ℕ) (fails fails′ : ℕ → ℕ → Bool) → m ≡ m′ → ((w i : ℕ) → i < m → fails w i ≡ fails′ w i)
+      → (later : Verdict) → first (swept order c number file m fails) later
+      ≡ faultOr (found.sweep number file (λ name. found.first (fails′ (words.spelled order (c .inputs) name)) (numbers 0 m′)) (words.names order (stageView c))) later
+  swept-is number file m m′ fails fails′ e same later =
       let n = c .inputs in
       let find : ℕ → ℕ → Found = λ k name. found.first (fails′ (words.spelled order n name)) (numbers 0 k) in
-      sweep-is number 1 (numbers 0 m) (λ name. fails (spelled order n name)) (λ name. fails′ (words.spelled order n name)) (names order c)
+      sweep-is number file (numbers 0 m) (λ name. fails (spelled order n name)) (λ name. fails′ (words.spelled order n name)) (names order c)
       (λ name x i y. ap (λ (w : ℕ). fails w i) (spelled-alike order n name) ∙ same (words.spelled order n name) i (in-index m i y)) later
-      ∙ ap₂ (λ (k : ℕ) (ws : List ℕ). faultOr (found.sweep number 1 (find k) ws) later) e (names-alike order c)
+      ∙ ap₂ (λ (k : ℕ) (ws : List ℕ). faultOr (found.sweep number file (find k) ws) later) e (names-alike order c)
 
   module _ (r : Content) where
     abbrev s : parsed.Stage
@@ -338,13 +338,13 @@ module _ (order : WordOrder) (c : Content) where
         swept order c 21 1 (length (c .gates)) (fallUnobservable c) ∷ []) (found.sweeps order s q)
     unfolding found.riseSweeps found.fallSweeps found.finding
     sweeps-alike free o =
-        let n13 = swept-is 13 (length (c .outputs)) (length (s .outputs)) (wrong c r) (found.wrong s q) outputs-long
+        let n13 = swept-is 13 1 (length (c .outputs)) (length (s .outputs)) (wrong c r) (found.wrong s q) outputs-long
         (λ w j h. wrong-alike c r free w j (omega (arith, o))) in
-        let n14 = swept-is 14 (c .inputs) (c .inputs) (incomplete c) (found.incomplete s) refl (λ w i h. incomplete-alike c r free w i) in
-        let n15 = swept-is 15 (length (c .gates)) (length (s .gates)) (unobservable c) (found.unobservable s) gates-long
+        let n14 = swept-is 14 1 (c .inputs) (c .inputs) (incomplete c) (found.incomplete s) refl (λ w i h. incomplete-alike c r free w i) in
+        let n15 = swept-is 15 1 (length (c .gates)) (length (s .gates)) (unobservable c) (found.unobservable s) gates-long
         (λ w g h. unobservable-alike c r free w g h) in
-        let n20 = swept-is 20 (c .inputs) (c .inputs) (fallIncomplete c) (found.fallIncomplete s) refl (λ w i h. fall-incomplete-alike c r free w i) in
-        let n21 = swept-is 21 (length (c .gates)) (length (s .gates)) (fallUnobservable c) (found.fallUnobservable s) gates-long
+        let n20 = swept-is 20 1 (c .inputs) (c .inputs) (fallIncomplete c) (found.fallIncomplete s) refl (λ w i h. fall-incomplete-alike c r free w i) in
+        let n21 = swept-is 21 1 (length (c .gates)) (length (s .gates)) (fallUnobservable c) (found.fallUnobservable s) gates-long
         (λ w g h. fall-unobservable-alike c r free w g) in
         (n13, λ x. (n14, λ x. (n15, λ x. (n20, λ x. (n21, λ x. tt)))))
 

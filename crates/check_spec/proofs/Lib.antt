@@ -12,3 +12,4 @@ pub mod Alike
 pub mod Bridge
 pub mod Row
 pub mod Writing
+pub mod Back

@@ -73,7 +73,7 @@ module _ (c : Content) where
   cares-of : careIn (itemsOf c) ≡ c .care
   cares-of = careIn-items (λ g. g) (λ g. g) (λ vs. vs) (λ vs. vs) (c .care) (c .gates) (c .outputs)
 
-wired : (f : File) (s : List ℕ) (at : ℕ) → operands s (at + 1) (railsOfOutput f) ≡ wiredAt f s at
+pub wired : (f : File) (s : List ℕ) (at : ℕ) → operands s (at + 1) (railsOfOutput f) ≡ wiredAt f s at
 unfolding k.commandTable k.ownCommands k.formIn
 wired file.Stage s at = refl
 wired file.Reference s at = refl

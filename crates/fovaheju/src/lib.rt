@@ -11,8 +11,7 @@ ghost use Rattle.check_spec.specs.Words.{orderOf};
 ghost use Rattle.check_spec.specs.Verdicts.{verdictOn, rowVerdict, rowAfter};
 ghost use Rattle.check_spec.specs.Demands.{Demand2, Demand3, DemandRow};
 ghost use Rattle.report_spec.specs.Report.{reportOn, ReportMeans};
-ghost use Rattle.join_spec.specs.Join.{files};
-ghost use Rattle.join_spec.specs.Call.{JoinDemand};
+ghost use Rattle.join_spec.specs.Joining.{JoinDemand};
 ghost use Rattle.make_spec.specs.Make.{MakeDemand};
 ghost use Rattle.text_spec.specs.Promises.{ReadDemand, WriteDemand};
 ghost use Rattle.next_spec.specs.Family.{NextDemand};
@@ -58,7 +57,7 @@ pub fn join(
     stage_out: &mut [u8],
     reference_out: &mut [u8],
 ) -> JoinAnswer
-    ensures { λ r. ⌜ JoinDemand order (files (now (stage1 .entry)) (now (reference1 .entry))) (files (now (stage2 .entry)) (now (reference2 .entry)))
+    ensures { λ r. ⌜ JoinDemand order (content.partFiles (now (stage1 .entry)) (now (reference1 .entry))) (content.partFiles (now (stage2 .entry)) (now (reference2 .entry)))
         (now («stage_out» .entry)) (now («reference_out» .entry)) r (now («stage_out» .exit)) (now («reference_out» .exit)) ⌝ }
 {
     call_join::join(
@@ -162,7 +161,7 @@ pub extern "C" fn fovaheju_join(
     stage_out: &mut [u8],
     reference_out: &mut [u8],
 ) -> JoinAnswer
-    ensures { λ r. ⌜ JoinDemand (orderOf order) (files (now (stage1 .entry)) (now (reference1 .entry))) (files (now (stage2 .entry)) (now (reference2 .entry)))
+    ensures { λ r. ⌜ JoinDemand (orderOf order) (content.partFiles (now (stage1 .entry)) (now (reference1 .entry))) (content.partFiles (now (stage2 .entry)) (now (reference2 .entry)))
         (now («stage_out» .entry)) (now («reference_out» .entry)) r (now («stage_out» .exit)) (now («reference_out» .exit)) ⌝ }
 {
     join(

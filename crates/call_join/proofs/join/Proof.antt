@@ -56,7 +56,7 @@ returns c =
     let g = files (now (a .stage2)) (now (a .reference2)) in
     let v = judged-by (z .args .order) _ _ _ _ _ (c .before .before .before .check-within .ensures) (c .before .before .before .before .before .part-stage-limits .ensures)
     (c .before .before .before .before .part-reference-limits .ensures) in
-    join-demand (z .args .order) f g _ _ _ _ _ (
+    join-demand (z .args .order) (now (z .args .stage1)) (now (z .args .reference1)) (now (z .args .stage2)) (now (z .args .reference2)) _ _ _ _ _ (
     leaves-refused _ _ _ (first-refuses (z .args .order) f g _ _ _ v (c .before .if1 .taken)) (c .refusal .ensures)
     )
 
@@ -70,7 +70,7 @@ returns-2 c =
     let n = c .before .before .before .before .before .before .before .before .part-reference-limits .ensures in
     let v = judged-by (z .args .order) _ _ _ _ _ (c .before .before .before .before .before .before .before .check-within .ensures) m n in
     let w = judged-by (z .args .order) _ _ _ _ _ (c .before .before .before .before .check-within2 .ensures) m n in
-    join-demand (z .args .order) f g _ _ _ _ _ (leaves-refused _ _ _ (second-refuses (z .args .order) f g _ _ _ v (omega (arith, c .before .before .before .before .before .if1 .left)) _ w (c .before .before .if2 .taken)) (c .refusal2 .ensures))
+    join-demand (z .args .order) (now (z .args .stage1)) (now (z .args .reference1)) (now (z .args .stage2)) (now (z .args .reference2)) _ _ _ _ _ (leaves-refused _ _ _ (second-refuses (z .args .order) f g _ _ _ v (omega (arith, c .before .before .before .before .before .if1 .left)) _ w (c .before .before .if2 .taken)) (c .refusal2 .ensures))
 
 returns-3 : tie.Need-returns-3
 returns-3 c =
@@ -82,7 +82,7 @@ returns-3 c =
     let n = c .before .before .before .before .before .before .before .before .before .before .before .before .before .part-reference-limits .ensures in
     let v = judged-by (z .args .order) _ _ _ _ _ (c .before .before .before .before .before .before .before .before .before .before .before .before .check-within .ensures) m n in
     let w = judged-by (z .args .order) _ _ _ _ _ (c .before .before .before .before .before .before .before .before .before .check-within2 .ensures) m n in
-    join-demand (z .args .order) f g _ _ _ _ _ (
+    join-demand (z .args .order) (now (z .args .stage1)) (now (z .args .reference1)) (now (z .args .stage2)) (now (z .args .reference2)) _ _ _ _ _ (
     leaves-all (both-accepted (z .args .order) f g _ _ _ v (omega (arith, c .before .before .before .before .before .before .before .before .before .before .if1 .left)) _ w (omega (
       arith,
       c .before .before .before .before .before .before .before .if2 .left,
