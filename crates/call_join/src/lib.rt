@@ -15,7 +15,7 @@ ghost use Rattle.verdict.specs.Answers.{valuesAt};
 ghost use Rattle.verdict.specs.Words.{wordOf};
 ghost use Rattle.verdict.specs.Checks.{sweep, finding};
 ghost use Rattle.verdict.specs.Verdicts.{accepted, verdictWithin};
-ghost use Rattle.join_spec.specs.Join.{files, stageRead, referenceRead, answerWord, uncaredCheck};
+ghost use Rattle.join_spec.specs.Join.{stageRead, referenceRead, answerWord, uncaredCheck};
 ghost use Rattle.circuit.specs.Stage.{stageIn, StageLoaded};
 ghost use Rattle.circuit.specs.Reference.{signalsIn, referenceIn, ReferenceLoaded};
 ghost use Rattle.call_join.specs.Steps.{uncaredUnder, joinParts, partOf, partLoaded, PartsLoaded};

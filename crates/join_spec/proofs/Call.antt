@@ -115,9 +115,9 @@ module _ (s1 r1 s2 r2 : List ℕ) (read1 : BothRead (partFiles s1 r1)) (read2 : 
         answer-length (P .function) L ∙ sym (ap (λ (r : parsed.Reference). length (r .outputs)) (function-is s1 r1)) ∙ outs ∙ counts in
         let same : l ≡ map bit (map f (numbers 0 (referenceIn second .inputs))) =
         list-is (λ i. bit (f i)) 0 l (λ i k.
-            let z : 0 + i ≡ i = omega arith in
-            sym (ap (λ (x : ℕ). bit (f x)) z ∙ answer-any (referenceIn first) bits i (omega (arith, l-long, counts))
-            ∙ ap (λ (r : parsed.Reference). getD (answers.answer r L) i 0) (function-is s1 r1)))
+        let z : 0 + i ≡ i = omega arith in
+        sym (ap (λ (x : ℕ). bit (f x)) z ∙ answer-any (referenceIn first) bits i (omega (arith, l-long, counts))
+        ∙ ap (λ (r : parsed.Reference). getD (answers.answer r L) i 0) (function-is s1 r1)))
         ∙ ap (λ (k : ℕ). map (λ i. bit (f i)) (numbers 0 k)) l-long ∙ sym (map-map bit f (numbers 0 (referenceIn second .inputs))) in
         let e : bit (answer (joinedReference first second) bits j) ≡ bit (answer (referenceIn second) f j) =
         answer-any (joinedReference first second) bits j (omega (arith, outputs-long))
@@ -136,9 +136,9 @@ module _ (s1 r1 s2 r2 : List ℕ) (read1 : BothRead (partFiles s1 r1)) (read2 : 
     pub whole-joined : Joined first second
     whole-joined =
         let accepts : (order : WordOrder) → verdictOn order (whole first second) ≡ accepted = λ order.
-            verdict-is order (whole first second)
-            ∙ ap₂ (given.verdictWithin order stageLimits referenceLimits) (stage-same s1 r1 s2 r2 read1 read2) (reference-same s1 r1 s2 r2 read1 read2)
-            ∙ old .whole-accepted order in
+        verdict-is order (whole first second)
+        ∙ ap₂ (given.verdictWithin order stageLimits referenceLimits) (stage-same s1 r1 s2 r2 read1 read2) (reference-same s1 r1 s2 r2 read1 read2)
+        ∙ old .whole-accepted order in
         record {
           reads = (
             subst (λ (l : List ℕ). Pass (reading file.Stage (limits 256) l)) (sym (stage-same s1 r1 s2 r2 read1 read2))
@@ -204,8 +204,7 @@ module _ (order : WordOrder) (s1 r1 s2 r2 stage reference : List ℕ) (r : JoinA
       let z : judge checks ≡ v = found .judged ∙ ap given.verdictOf e in
       let n = found .numbered v e in
       let at : (bytes buffer : List ℕ) → refuse v buffer ≡ leaving (judge checks) bytes buffer =
-      λ bytes buffer. sym (ap (λ (y : Verdict). leaving y bytes buffer) z ∙ left-refused v n bytes buffer) in
-      (
+      λ bytes buffer. sym (ap (λ (y : Verdict). leaving y bytes buffer) z ∙ left-refused v n bytes buffer) in (
         (λ i. record { verdict = h .verdict i; count = h .stage-count i; buffer = h .stage-bytes i }) ∙ at (whole one two .stage) stage,
         (λ i. record { verdict = h .verdict i; count = h .reference-count i; buffer = h .reference-bytes i }) ∙ at (whole one two .reference) reference,
       )
@@ -213,8 +212,7 @@ module _ (order : WordOrder) (s1 r1 s2 r2 stage reference : List ℕ) (r : JoinA
       let z : judge checks ≡ accepted = found .judged ∙ ap given.verdictOf e in
       let p = found .read e in
       let at : (bytes bytes′ buffer : List ℕ) → bytes ≡ bytes′ → write bytes′ buffer ≡ leaving (judge checks) bytes buffer =
-      λ bytes bytes′ buffer q. sym (ap (λ (y : Verdict). leaving y bytes buffer) z ∙ left-written bytes buffer ∙ ap (λ (l : List ℕ). write l buffer) q) in
-      (
+      λ bytes bytes′ buffer q. sym (ap (λ (y : Verdict). leaving y bytes buffer) z ∙ left-written bytes buffer ∙ ap (λ (l : List ℕ). write l buffer) q) in (
         (λ i. record { verdict = h .verdict i; count = h .stage-count i; buffer = h .stage-bytes i })
             ∙ at (whole one two .stage) (joins.stageBytes (part s1 r1) (part s2 r2)) stage (stage-same s1 r1 s2 r2 (p .0) (p .1)),
         (λ i. record { verdict = h .verdict i; count = h .reference-count i; buffer = h .reference-bytes i })

@@ -144,23 +144,29 @@ module _ (s1 r1 s2 r2 : List ℕ) where
           let same : ltb stageRoom (length (whole one two .stage)) || ltb referenceRoom (length (whole one two .reference))
           ≡ ltb stageRoom (length (joins.stageBytes (asPart one) (asPart two))) || ltb referenceRoom (length (joins.referenceBytes (asPart one) (asPart two))) =
           ap₂ (λ (a b : List ℕ). ltb stageRoom (length a) || ltb referenceRoom (length b))
-          (stage-same ∙ ap₂ joins.stageBytes (sym (as-part s1 r1)) (sym (as-part s2 r2))) (reference-same ∙ ap₂ joins.referenceBytes (sym (as-part s1 r1)) (sym (as-part s2 r2))) in
-          (
+          (stage-same ∙ ap₂ joins.stageBytes (sym (as-part s1 r1)) (sym (as-part s2 r2))) (reference-same ∙ ap₂ joins.referenceBytes (sym (as-part s1 r1)) (sym (as-part s2 r2))) in (
             unequal-is 22 (length (stageIn one .outputs)) (stageIn two .inputs) (length (stageView (stageIn one) .outputs)) (stageIn two .inputs) long refl,
             λ x. (
               swept-is order (stageIn one) 23 0 1 1 (λ w i. not (caresFor (stageIn two) (answerWord (referenceIn one) w)))
-              (λ w i. not (joins.caresFor (stageView (stageIn two)) (joins.answerWord (referenceView (referenceIn one)) w))) refl
-              (λ w i h. ap not (cared (long ∙ found-equal 22 (length (stageView (stageIn one) .outputs)) (stageIn two .inputs) x) o w)),
-              λ x. ((λ later. sweep-is 24 3 (0 ∷ []) (λ w i. ltb stageRoom (length (whole one two .stage)) || ltb referenceRoom (length (whole one two .reference)))
-              (λ w i. ltb stageRoom (length (joins.stageBytes (asPart one) (asPart two))) || ltb referenceRoom (length (joins.referenceBytes (asPart one) (asPart two)))) (0 ∷ [])
-              (λ w x i y. same) later), λ x. tt),
+                  (λ w i. not (joins.caresFor (stageView (stageIn two)) (joins.answerWord (referenceView (referenceIn one)) w))) refl
+                  (λ w i h. ap not (cared (long ∙ found-equal 22 (length (stageView (stageIn one) .outputs)) (stageIn two .inputs) x) o w)),
+              λ x. (
+                (λ later. sweep-is 24 3 (0 ∷ []) (λ w i. ltb stageRoom (length (whole one two .stage)) || ltb referenceRoom (length (whole one two .reference)))
+                    (λ w i. ltb stageRoom (length (joins.stageBytes (asPart one) (asPart two))) || ltb referenceRoom (length (joins.referenceBytes (asPart one) (asPart two)))) (0 ∷ [])
+                    (λ w x i y. same) later),
+                λ x. tt,
+              ),
             ),
           )
 
       none-zero : EachCheck (Each (λ d. ¬ (d .names .number ≡ 0))) seam
-      none-zero =
-          (((λ q. omega arith), tt), (
-          other-number 0 23 0 (numbers 0 1) _ _ (λ q. omega arith), (((λ q. omega arith), tt), tt)))
+      none-zero = (
+        ((λ q. omega arith), tt),
+        (
+          other-number 0 23 0 (numbers 0 1) _ _ (λ q. omega arith),
+          (((λ q. omega arith), tt), tt),
+        ),
+      )
 
       -- what the code finds at the seam
       pub seam-found : length (stageIn one .outputs) ≡ length (referenceIn one .outputs) → (x : Finding) → found.firstFault (checks (part s1 r1) (part s2 r2)) ≡ x
@@ -170,10 +176,13 @@ module _ (s1 r1 s2 r2 : List ℕ) where
       seam-found o x e =
           let a : Alike seam (checks (part s1 r1) (part s2 r2)) =
           subst (λ (q : joins.Part). Alike seam (checks (part s1 r1) q)) (as-part s2 r2) (subst (λ (p : joins.Part). Alike seam (checks p (asPart two))) (as-part s1 r1) (seam-alike o)) in
-          let z : judge seam ≡ given.verdictOf x = alike-judge seam (checks (part s1 r1) (part s2 r2)) a ∙ ap given.verdictOf e in
-          (z, (λ v f n. no v f n a z), λ f.
-              let p = judge-passes seam none-zero (ap (λ (y : Verdict). y .number) (z ∙ ap given.verdictOf f)) .0 in
-              pass-equal 22 (length (stageIn one .outputs)) (stageIn two .inputs) (p .0))
+          let z : judge seam ≡ given.verdictOf x = alike-judge seam (checks (part s1 r1) (part s2 r2)) a ∙ ap given.verdictOf e in (
+            z,
+            (λ v f n. no v f n a z),
+            λ f.
+                let p = judge-passes seam none-zero (ap (λ (y : Verdict). y .number) (z ∙ ap given.verdictOf f)) .0 in
+                pass-equal 22 (length (stageIn one .outputs)) (stageIn two .inputs) (p .0),
+          )
         where
           no : (v : Verdict) → x ≡ Fault v → v .number ≡ 0 → Alike seam (checks (part s1 r1) (part s2 r2)) → judge seam ≡ given.verdictOf x → ⊥
           no v f n a z =
