@@ -57,7 +57,8 @@ pub fn join(
     stage_out: &mut [u8],
     reference_out: &mut [u8],
 ) -> JoinAnswer
-    ensures { λ r. ⌜ JoinDemand order (content.partFiles (now (stage1 .entry)) (now (reference1 .entry))) (content.partFiles (now (stage2 .entry)) (now (reference2 .entry)))
+    ensures { λ r. ⌜ JoinDemand order (content.partFiles (now (stage1 .entry)) (now (reference1 .entry)))
+        (content.partFiles (now (stage2 .entry)) (now (reference2 .entry)))
         (now («stage_out» .entry)) (now («reference_out» .entry)) r (now («stage_out» .exit)) (now («reference_out» .exit)) ⌝ }
 {
     call_join::join(
@@ -161,7 +162,8 @@ pub extern "C" fn fovaheju_join(
     stage_out: &mut [u8],
     reference_out: &mut [u8],
 ) -> JoinAnswer
-    ensures { λ r. ⌜ JoinDemand (orderOf order) (content.partFiles (now (stage1 .entry)) (now (reference1 .entry))) (content.partFiles (now (stage2 .entry)) (now (reference2 .entry)))
+    ensures { λ r. ⌜ JoinDemand (orderOf order) (content.partFiles (now (stage1 .entry)) (now (reference1 .entry)))
+        (content.partFiles (now (stage2 .entry)) (now (reference2 .entry)))
         (now («stage_out» .entry)) (now («reference_out» .entry)) r (now («stage_out» .exit)) (now («reference_out» .exit)) ⌝ }
 {
     join(
