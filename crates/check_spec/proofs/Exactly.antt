@@ -22,7 +22,7 @@ use Rattle.verdict.specs.declared.WordOrder.the-variants.{FirstHighest, FirstLo
 use Rattle.verdict.specs.Graph.{In}
 use Rattle.verdict.proofs.Words.{index-in, in-index}
 use Rattle.verdict.proofs.Refusals.{InTable, refused-number}
-use Rattle.check_spec.specs.Cases.{accepted, Case, case, Check, first, judge, casesOf, sweep, unequal}
+use Rattle.check_spec.specs.Cases.{accepted, Case, case, Check, first, judge, sweep, unequal}
 use Rattle.check_spec.specs.Lists.{numbers, select, bitOf}
 use Rattle.check_spec.specs.Content.{Content, Files, stageIn, referenceIn}
 use Rattle.check_spec.specs.Rows.{driver, cellIn, netOf, reachesItself}

@@ -8,7 +8,7 @@ use mathlib.Core.Bool.{Bool, true, false, cond}
 use mathlib.Core.List.{List, [], _∷_, _++_, map, flatMap}
 use Rattle.verdict.specs.declared.Verdict.{Verdict}
 use Rattle.verdict.specs.Graph.{In}
-use Rattle.check_spec.specs.Cases.{accepted, Case, case, Check, first, judge, casesOf, sweep}
+use Rattle.check_spec.specs.Cases.{accepted, Case, case, Check, first, judge, sweep}
 use Rattle.check_spec.specs.Demands.{Pass, Named, Judged}
 
 -- the earliest failing case is named, or all pass and what comes later is the answer
@@ -41,8 +41,12 @@ unfolding first
 first-++ [] b later = refl
 first-++ (c ∷ a) b later = ap (λ (v : Verdict). cond (c .fails) (c .names) v) (first-++ a b later)
 
+-- all cases of some checks
+abbrev casesOf : List Check → List Case
+casesOf checks = flatMap (λ c. c) checks
+
 judge-first : (checks : List Check) → judge checks ≡ first (casesOf checks) accepted
-unfolding judge casesOf first
+unfolding judge flatMap first
 judge-first [] = refl
 judge-first (c ∷ cs) = ap (first c) (judge-first cs) ∙ sym (first-++ c (casesOf cs) accepted)
 

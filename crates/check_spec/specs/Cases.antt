@@ -1,15 +1,10 @@
 -- The cases that a call tries, one after the other, and its verdict: the first that fails.
 use Prim.Native.Nat.{ℕ}
 use mathlib.Core.Bool.{Bool, cond, not}
-use mathlib.Core.List.{List, [], _∷_, _++_, map, flatMap}
+use mathlib.Core.List.{List, [], _∷_, map, flatMap}
 use lib.Dec.{eqb}
 use Rattle.verdict.specs.declared.Verdict.{Verdict}
-
-abbrev pub verdict : ℕ → ℕ → ℕ → ℕ → Verdict
-verdict number file at word = record { number = number; file = file; at = at; word = word }
-
-abbrev pub accepted : Verdict
-accepted = verdict 0 0 0 0
+pub use Rattle.verdict.specs.FourNumbers.{verdict, accepted}
 
 -- a refusal that may be named, and whether it is due
 pub record Case : Type 0 where
@@ -32,11 +27,6 @@ first (c ∷ cs) later = let rest = first cs later in cond (c .fails) (c .names)
 unfoldable pub judge : List Check → Verdict
 judge [] = accepted
 judge (check ∷ checks) = let later = judge checks in first check later
-
--- all their cases
-unfoldable pub casesOf : List Check → List Case
-casesOf [] = []
-casesOf (check ∷ checks) = check ++ casesOf checks
 
 -- a check of some words at some places: least word, then least place
 unfoldable pub sweep : ℕ → ℕ → List ℕ → List ℕ → (ℕ → ℕ → Bool) → Check

@@ -6,7 +6,7 @@ use Rattle.netlist.specs.declared.Limits.{Limits}
 use Rattle.netlist.specs.declared.File.the-variants.{Stage, Reference}
 use Rattle.netlist.specs.Bytes.{operands}
 use Rattle.netlist.specs.Reading.{Places, Reading, refused, readable, readFile}
-use Rattle.netlist.specs.Content.{Coded, codedAt}
+use Rattle.netlist.specs.Coded.{Coded, codedAt}
 
 -- A stage or a reference. An output of a stage is two nets, rail 0 and rail 1; one of a reference is a signal. The care words of a stage are those
 -- that are cared for; where there are none, every word is.
@@ -16,9 +16,6 @@ pub record Content : Type 0 where
   pub outputs : List (List ℕ)
   pub care : List ℕ
 
-abbrev pub nothing : Content
-nothing = record { inputs = 0; gates = []; outputs = []; care = [] }
-
 -- how many nets or signals an output names
 abbrev pub railsOfOutput : File → ℕ
 railsOfOutput Stage = 2
@@ -26,7 +23,7 @@ railsOfOutput Reference = 1
 
 -- what is seen through the places of its commands; a file that is refused holds nothing
 unfoldable pub contentAt : File → List ℕ → Reading → Content
-contentAt f bytes (refused number at) = nothing
+contentAt f bytes (refused number at) = record { inputs = 0; gates = []; outputs = []; care = [] }
 contentAt f bytes (readable p) = record {
   inputs = p .inputs;
   gates = map (codedAt f bytes) (p .gates);

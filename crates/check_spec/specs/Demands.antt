@@ -2,7 +2,7 @@
 use Prim.Native.Nat.{ℕ, _+_, _*_, _≤_, _<_}
 use mathlib.Core.Path.{_≡_}
 use mathlib.Core.Bool.{Bool, true, false}
-use mathlib.Core.List.{List, [], _∷_, _++_}
+use mathlib.Core.List.{List, [], _∷_, _++_, flatMap}
 use mathlib.Core.Logic.{_⊎_, _↔_}
 use lib.ListN.{length, getD, take}
 use lib.Dec.{eqb}
@@ -18,7 +18,7 @@ use Rattle.runs.specs.FallWitness.{Fall-incomplete, Fall-unobservable}
 use Rattle.verdict.specs.declared.Verdict.{Verdict}
 use Rattle.verdict.specs.declared.WordOrder.{WordOrder}
 use Rattle.netlist.specs.declared.File.the-variants.{Stage, Reference}
-use Rattle.check_spec.specs.Cases.{accepted, Case, Check, casesOf}
+use Rattle.check_spec.specs.Cases.{accepted, Case, Check}
 use Rattle.check_spec.specs.Lists.{bitOf, some, reaches}
 use Rattle.check_spec.specs.Content.{Content, Files, stageIn, referenceIn}
 use Rattle.check_spec.specs.Rows.{driver, cellIn, netOf, risen, fallen, feeding, reachesItself}
@@ -45,7 +45,7 @@ pub record Named (cases : List Case) (v : Verdict) : Type 0 where
 
 -- the earliest failing case of some checks is named, or all pass
 abbrev pub Judged : List Check → Verdict → Type 0
-Judged checks v = Named (casesOf checks) v ⊎ Pass (casesOf checks) × (v ≡ accepted)
+Judged checks v = Named (flatMap (λ c. c) checks) v ⊎ Pass (flatMap (λ c. c) checks) × (v ≡ accepted)
 
 -- ---- demand 2
 

@@ -5,7 +5,7 @@ use mathlib.Core.List.{List, [], _∷_, map}
 use lib.ListN.{getD}
 use lib.Dec.{eqb}
 use Rattle.gates.specs.Cell.{bit}
-unfoldable pub use Rattle.verdict.specs.Words.{numbers, select}
+unfoldable pub use Rattle.verdict.specs.Lists.{numbers, select}
 
 -- exactly one of two
 abbrev pub xor : Bool → Bool → Bool

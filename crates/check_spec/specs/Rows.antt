@@ -8,7 +8,7 @@ use Rattle.gates.specs.Expression.{holds}
 use Rattle.gates.specs.Cell.{setExpression, kindOf, bit}
 use Rattle.runs.specs.Row.{Row, low, _∖_}
 use Rattle.runs.specs.Net.{Net, nets, rails, riseUp, fallDown}
-use Rattle.netlist.specs.Content.{Coded, cellOf, holdOf}
+use Rattle.netlist.specs.Coded.{Coded, cellOf, holdOf}
 use Rattle.check_spec.specs.Content.{Content}
 use Rattle.check_spec.specs.Lists.{xor, numbers, every, reaches}
 

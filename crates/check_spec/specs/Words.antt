@@ -8,7 +8,7 @@ use lib.Dec.{eqb, ltb}
 use Rattle.runs.specs.Row.{Row}
 use Rattle.verdict.specs.declared.WordOrder.{WordOrder}
 use Rattle.verdict.specs.declared.WordOrder.the-variants.{FirstHighest, FirstLowest}
-use Rattle.netlist.specs.Content.{Coded}
+use Rattle.netlist.specs.Coded.{Coded}
 use Rattle.check_spec.specs.Content.{Content}
 use Rattle.check_spec.specs.Lists.{xor, numbers, select, some, bitOf, ofBits}
 

@@ -10,8 +10,8 @@ use Rattle.netlist.specs.declared.Sort.the-variants as sort
 use Rattle.netlist.specs.declared.Role.the-variants.{Number}
 use Rattle.netlist.specs.declared.Form.{Form}
 use Rattle.netlist.specs.Commands.{isSort, asForm, commandTable}
-use Rattle.netlist.specs.Content.{Coded}
-use Rattle.netlist.specs.Writing.{writeOperands}
+use Rattle.netlist.specs.Coded.{Coded}
+use Rattle.netlist.specs.Bytes.{writeOperands}
 use Rattle.verdict.specs.declared.Verdict.{Verdict}
 use Rattle.verdict.specs.Written.{Written, refuse, write}
 use Rattle.check_spec.specs.Content.{Content}

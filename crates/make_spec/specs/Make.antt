@@ -10,7 +10,7 @@ use Rattle.runs.specs.Row.{low, after}
 use Rattle.runs.specs.Net.{Net, RiseList, RiseEnd, FallList, riseStep, fallStep}
 use Rattle.runs.specs.Pair.{Data}
 use Rattle.netlist.specs.declared.File.the-variants.{Stage, Reference}
-use Rattle.netlist.specs.Content.{Coded}
+use Rattle.netlist.specs.Coded.{Coded}
 use Rattle.verdict.specs.declared.WordOrder.{WordOrder}
 use Rattle.verdict.specs.declared.Answer.{Answer}
 use Rattle.verdict.specs.Written.{written}

@@ -11,7 +11,7 @@ use Rattle.runs.specs.Net.{Net, rails, RiseList, RiseEnd, FallList, FallEnd}
 use Rattle.runs.specs.Pair.{AllLow}
 use Rattle.verdict.specs.declared.Verdict.{Verdict}
 use Rattle.verdict.specs.declared.WordOrder.{WordOrder}
-use Rattle.verdict.specs.Levels.{sum}
+use Rattle.verdict.specs.Lists.{sum}
 use Rattle.check_spec.specs.Cases.{accepted}
 use Rattle.check_spec.specs.Lists.{numbers}
 use Rattle.check_spec.specs.Content.{Content, Files, stageIn}
