@@ -28,8 +28,9 @@ use Rattle.check_spec.specs.Checks.{wrong, incomplete, unobservable, fal
 use Rattle.check_spec.specs.Verdicts.{reading, checksOn, verdictOn}
 use Rattle.check_spec.specs.Demands.{Pass, Named, StageReads, BothRead, LoopFree, Demand2, Broken, Demand3}
 use Rattle.check_spec.proofs.First.{Each, first-says, named-says, judged, sweep-each}
-use Rattle.check_spec.proofs.Loops.{some-out, loops, risen-is, fallen-is}
-use Rattle.check_spec.proofs.Names.{named-word}
+use Rattle.check_spec.proofs.Loops.{some-out, loops, settled-is, risen-is, fallen-is}
+use Rattle.check_spec.proofs.Pairs.{data-of, all-data, all-null}
+use Rattle.check_spec.proofs.Names.{named-below, named-word}
 use Rattle.check_spec.proofs.OneWord.{inside, hold-clean}
 use Rattle.check_spec.proofs.Exactly.{EachCheck, looped-out, swept-in, judge-later, passes-judge, other-number, swept-other, reading-number, rise-out, accepted-passes, exactly, either-order}
 use Rattle.check_spec.proofs.Shown.{word-kept, wrong-shown, incomplete-shown, unobservable-shown, fall-incomplete-shown, fall-unobservable-shown}
@@ -129,6 +130,10 @@ module _ (order : WordOrder) (f : Files) where
     exactly = exactly order f;
     least = judged (checksOn order f);
     loops = loops s;
+    data-is = data-of;
+    all-data-is = all-data (netOf s);
+    all-null-is = all-null (netOf s);
+    settled-is = λ free. settled-is s free;
     risen-is = λ free. risen-is s free;
     fallen-is = λ free w X. fallen-is s free _ X (inside s r free w);
     hold-only = λ reads hold. hold-only hold;
@@ -149,6 +154,7 @@ module _ (order : WordOrder) (f : Files) where
         let l = in-index (length (s .outputs)) j y in
         let b = wrong-shown s r free (sp name) j l e in
         record {
+          name = named-below order s name x;
           word = named-word order s name x;
           broken = b .1;
           wrong = λ q. (l, b .0);
@@ -161,6 +167,7 @@ module _ (order : WordOrder) (f : Files) where
         let l = in-index (s .inputs) i y in
         let b = incomplete-shown s r free (sp name) i l e in
         record {
+          name = named-below order s name x;
           word = named-word order s name x;
           broken = b .1;
           wrong = λ q. absurd (omega (arith, q));
@@ -173,6 +180,7 @@ module _ (order : WordOrder) (f : Files) where
         let l = in-index (length (s .gates)) g y in
         let b = unobservable-shown s r free (sp name) g l e in
         record {
+          name = named-below order s name x;
           word = named-word order s name x;
           broken = b .1;
           wrong = λ q. absurd (omega (arith, q));
@@ -185,6 +193,7 @@ module _ (order : WordOrder) (f : Files) where
         let l = in-index (s .inputs) i y in
         let b = fall-incomplete-shown s r free (sp name) i l e in
         record {
+          name = named-below order s name x;
           word = named-word order s name x;
           broken = b .1;
           wrong = λ q. absurd (omega (arith, q));
@@ -197,6 +206,7 @@ module _ (order : WordOrder) (f : Files) where
         let l = in-index (length (s .gates)) g y in
         let b = fall-unobservable-shown s r free (sp name) g l e in
         record {
+          name = named-below order s name x;
           word = named-word order s name x;
           broken = b .1;
           wrong = λ q. absurd (omega (arith, q));

@@ -99,6 +99,12 @@ unfolding spelled
 small FirstLowest n name h = h
 small FirstHighest n name h = of-bits-below n (λ i. bitOf name (n - (i + 1)))
 
+-- the names of a stage's words are below 2 to the n
+pub named-below : (order : WordOrder) (s : Content) (name : ℕ) → In name (names order s) → name < 2 ^ s .inputs
+unfolding names
+named-below order s name i =
+    in-index (2 ^ s .inputs) name (select-in (λ name. caresFor s (spelled order (s .inputs) name)) (numbers 0 (2 ^ s .inputs)) name i .0)
+
 -- a name spells a word of the stage
 pub named-word : (order : WordOrder) (s : Content) (name : ℕ) → In name (names order s) → IsWord s (spelled order (s .inputs) name)
 unfolding names

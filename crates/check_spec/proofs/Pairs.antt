@@ -50,6 +50,13 @@ xor-in true false e = refl
 xor-in false true e = refl
 xor-in false false e = absurd (clash e refl)
 
+-- DATA of a bit, tested and said
+pub data-of : (r : Row) (p : Bool → ℕ) (b : Bool) → (dataOf r p b ≡ true) ↔ DataOf r p b
+data-of r p b = (
+  (λ e. (and-left (r (p b)) _ e, of-not (r (p (not b))) (and-right (r (p b)) _ e))),
+  (λ d. rw (d .0, d .1)),
+)
+
 pub all-data : (N : Net) (r : Row) → (allData N r ≡ true) ↔ AllData N r
 all-data N r = (
   (λ e j h. let z : 0 + j ≡ j = omega arith in xor-out (r (N .rail j false)) (r (N .rail j true)) (ap test (sym z) ∙ every-out test 0 (N .outputs) e j h)),

@@ -16,7 +16,7 @@ use Rattle.runs.specs.Settled.{Settled}
 use Rattle.runs.proofs.Test.{clash, not-true, not-false, eqb-eq, eqb-other}
 use Rattle.runs.proofs.Rise.{rise-goes-on, rise-end-is}
 use Rattle.netlist.specs.declared.File.the-variants as file
-use Rattle.netlist.specs.Reading.{Reading, refused, readable, readFile}
+use Rattle.netlist.specs.Reading.{Reading, refused, readable, readFile, stageLimits}
 use Rattle.netlist.specs.Content as parsed
 use Rattle.netlist.specs.Content.{gateOf, stageOf}
 use Rattle.verdict.specs.declared.Verdict.{Verdict}
@@ -35,13 +35,13 @@ use Rattle.verdict.proofs.Bridge.{settled-row}
 use Rattle.verdict.proofs.Refusals.{refused-number}
 use Rattle.check_spec.specs.Cases.{accepted, Check, case, first, judge, sweep}
 use Rattle.check_spec.specs.Lists.{numbers}
-use Rattle.check_spec.specs.Content.{Content, contentAt, limits}
+use Rattle.check_spec.specs.Content.{Content, contentAt}
 use Rattle.check_spec.specs.Rows.{netOf, risen, reachesItself}
 use Rattle.check_spec.specs.Checks.{illegal, looped, rowChecks}
-use Rattle.check_spec.specs.Verdicts.{refusal, railsIn, rowStage, rowChecksOn, rowVerdict, settledBytes, rowAfter}
-use Rattle.check_spec.specs.Demands.{Judged, LoopFree, TheOnly, RisesTo, RowGiven, DemandRow}
+use Rattle.check_spec.specs.Verdicts.{refusal, reading, railsIn, rowStage, rowChecksOn, rowVerdict, settledBytes, rowAfter}
+use Rattle.check_spec.specs.Demands.{Pass, Judged, LoopFree, TheOnly, RisesTo, RowGiven, DemandRow}
 use Rattle.check_spec.proofs.First.{Each, judged}
-use Rattle.check_spec.proofs.Exactly.{EachCheck, judge-passes, other-number, looped-out}
+use Rattle.check_spec.proofs.Exactly.{EachCheck, judge-later, judge-passes, other-number, reading-number, looped-out}
 use Rattle.check_spec.proofs.Loops.{acyclic, settled-is}
 use Rattle.check_spec.proofs.View.{stageView, stage-view, net-view}
 use Rattle.check_spec.proofs.Alike.{rise-alike, list-is, level}
@@ -153,10 +153,15 @@ module _ (c : Content) (row : List ℕ) where
       let p = judge-passes (rowChecks c row) none-zero e .0 in
       (looped-out c (p .0), eqb-eq (length row) (nets (netOf c)) (not-false (eqb (length row) (nets (netOf c))) (λ q. clash (ap not q) (p .1 .0 .0))))
 
+-- an accepted call has read its stage
+row-reads : (stage row : List ℕ) → rowVerdict stage row .number ≡ 0 → Pass (reading file.Stage stageLimits stage)
+row-reads stage row e =
+    judge-later 0 (reading file.Stage stageLimits stage) (rowChecks (rowStage stage) row) (reading-number 0 (λ t. omega (arith, t .0)) file.Stage stageLimits stage) e .0
+
 -- the law that joins the two
 pub row-is : (stage row : List ℕ) → RowIs stage row (given.settledRow stage row)
 unfolding given.settledRowWithin given.settleReading given.settleUnless judge first refusal rowAfter given.verdictOf
-row-is stage row = go (readFile file.Stage (limits 256) stage) refl
+row-is stage row = go (readFile file.Stage (stageLimits) stage) refl
   where
     least : (v : Verdict) → rowVerdict stage row ≡ v → Judged (rowChecksOn stage row) v
     least v e = subst (Judged (rowChecksOn stage row)) e (judged (rowChecksOn stage row))
@@ -187,13 +192,13 @@ row-is stage row = go (readFile file.Stage (limits 256) stage) refl
           demand = record {
             least = least accepted z;
             unchanged = λ d. absurd (d refl);
-            given = λ q. subst (λ (x : Content). RowGiven x row (after′ c (fit .0) row (fit .1))) (sym is) (row-given c (fit .0) row (fit .1));
+            given = λ q. (row-reads stage row (ap (λ (x : Verdict). x .number) z), subst (λ (x : Content). RowGiven x row (after′ c (fit .0) row (fit .1))) (sym is) (row-given c (fit .0) row (fit .1)));
           };
         }
 
-    go : (x : Reading) → readFile file.Stage (limits 256) stage ≡ x → RowIs stage row (given.settleReading stage row x)
+    go : (x : Reading) → readFile file.Stage (stageLimits) stage ≡ x → RowIs stage row (given.settleReading stage row x)
     go (refused number at) e =
-        refuse (given.answerWith (record { number = number; file = 1; at = at; word = 0 }) row .verdict) (rw e) (λ q. omega (arith, q, refused-number file.Stage (limits 256) stage number at e .0))
+        refuse (given.answerWith (record { number = number; file = 1; at = at; word = 0 }) row .verdict) (rw e) (λ q. omega (arith, q, refused-number file.Stage (stageLimits) stage number at e .0))
     go (readable p) e =
         let c = contentAt file.Stage stage (readable p) in
         subst (λ (s : parsed.Stage). RowIs stage row (given.settleUnless (found.firstFault (found.rowChecks s row)) s row)) (stage-view stage p)

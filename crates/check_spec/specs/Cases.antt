@@ -32,10 +32,10 @@ judge (check ∷ checks) = let later = judge checks in first check later
 unfoldable pub sweep : ℕ → ℕ → List ℕ → List ℕ → (ℕ → ℕ → Bool) → Check
 sweep number file words places fails = flatMap (λ w. let test = fails w in map (λ i. let t = test i in case number file i w t) places) words
 
--- at some places, whatever the word
+-- at some places, whatever the word; its word field is 0
 abbrev pub sweepPlaces : ℕ → ℕ → List ℕ → (ℕ → Bool) → Check
 sweepPlaces number file places fails = sweep number file (0 ∷ []) places (λ w. fails)
 
--- two counts that have to be equal
+-- two counts that have to be equal: the stage's is `at`, the reference's stands in place of a word
 abbrev pub unequal : ℕ → ℕ → ℕ → Check
 unequal number mine theirs = case number 0 mine theirs (not (eqb mine theirs)) ∷ []

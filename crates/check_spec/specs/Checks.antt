@@ -14,7 +14,7 @@ use Rattle.check_spec.specs.Content.{Content}
 use Rattle.check_spec.specs.Rows.{driver, cellIn, netOf, risen, fallen, dataOf, allData, allNull, reachesItself}
 use Rattle.check_spec.specs.Words.{railsFor, spelled, names, answer}
 
--- the rest of word w
+-- the rest of word w: settled for its rails, with no net held low
 abbrev pub rest : Content → ℕ → Row
 rest s w = risen (netOf s) (railsFor w) low
 

@@ -5,7 +5,7 @@ use Rattle.netlist.specs.declared.File.{File}
 use Rattle.netlist.specs.declared.Limits.{Limits}
 use Rattle.netlist.specs.declared.File.the-variants.{Stage, Reference}
 use Rattle.netlist.specs.Bytes.{operands}
-use Rattle.netlist.specs.Reading.{Places, Reading, refused, readable, readFile}
+use Rattle.netlist.specs.Reading.{Places, Reading, refused, readable, readFile, stageLimits, referenceLimits, partStageLimits, partReferenceLimits}
 use Rattle.netlist.specs.Coded.{Coded, codedAt}
 
 -- A stage or a reference. An output of a stage is two nets, rail 0 and rail 1; one of a reference is a signal. The care words of a stage are those
@@ -47,12 +47,9 @@ stageIn f = contentOf Stage (f .stageMost) (f .stage)
 abbrev pub referenceIn : Files → Content
 referenceIn f = contentOf Reference (f .referenceMost) (f .reference)
 
-abbrev pub limits : ℕ → Limits
-limits gates = record { inputs = 10; gates = gates; outputs = 16 }
-
 -- those of the calls, and those of a part that is to be joined with another
 abbrev pub files : List ℕ → List ℕ → Files
-files stage reference = record { stage = stage; reference = reference; stageMost = limits 256; referenceMost = limits 512 }
+files stage reference = record { stage = stage; reference = reference; stageMost = stageLimits; referenceMost = referenceLimits }
 
 abbrev pub partFiles : List ℕ → List ℕ → Files
-partFiles stage reference = record { stage = stage; reference = reference; stageMost = limits 128; referenceMost = limits 256 }
+partFiles stage reference = record { stage = stage; reference = reference; stageMost = partStageLimits; referenceMost = partReferenceLimits }

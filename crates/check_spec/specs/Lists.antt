@@ -29,7 +29,7 @@ unfoldable pub ofBits : ℕ → (ℕ → Bool) → ℕ
 ofBits zero bits = 0
 ofBits (suc m) bits = bit (bits 0) + 2 * ofBits m (λ i. bits (suc i))
 
--- in at most k steps, each to one of the next, x comes to a goal
+-- in 1 to k steps, each to one of the next, x comes to a goal
 unfoldable pub reaches : (ℕ → List ℕ) → (ℕ → Bool) → ℕ → ℕ → Bool
 reaches next goal zero x = false
 reaches next goal (suc k) x = some (λ y. let further = reaches next goal k y in cond (goal y) true further) (next x)

@@ -12,10 +12,10 @@ use Rattle.netlist.specs.Coded.{Coded, cellOf, holdOf}
 use Rattle.check_spec.specs.Content.{Content}
 use Rattle.check_spec.specs.Lists.{xor, numbers, every, reaches}
 
--- the gate that drives a net from 2n on: gate k drives net 2n + k. It is asked of no other net
 abbrev pub noGate : Coded
 noGate = record { code = 1; operands = [] }
 
+-- the gate that drives a net from 2n on: gate k drives net 2n + k. It is asked of no other net
 abbrev pub driver : Content → ℕ → Coded
 driver s net = getD (s .gates) (net - 2 * s .inputs) noGate
 

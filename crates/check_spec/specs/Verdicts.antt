@@ -9,20 +9,20 @@ use Rattle.runs.specs.Row.{Row, low}
 use Rattle.netlist.specs.declared.File.{File}
 use Rattle.netlist.specs.declared.Limits.{Limits}
 use Rattle.netlist.specs.declared.File.the-variants.{Stage, Reference}
-use Rattle.netlist.specs.Reading.{Places, Reading, refused, readable, readFile}
+use Rattle.netlist.specs.Reading.{Places, Reading, refused, readable, readFile, stageLimits}
 use Rattle.verdict.specs.declared.Verdict.{Verdict}
 use Rattle.verdict.specs.declared.WordOrder.{WordOrder}
 use Rattle.check_spec.specs.Cases.{Check, case, judge}
 use Rattle.check_spec.specs.Lists.{numbers}
-use Rattle.check_spec.specs.Content.{Content, Files, stageIn, referenceIn, contentOf, limits}
+use Rattle.check_spec.specs.Content.{Content, Files, stageIn, referenceIn, contentOf}
 use Rattle.check_spec.specs.Rows.{netOf, risen}
 use Rattle.check_spec.specs.Checks.{checks, rowChecks}
 
--- the case that reading leaves: a refused file's, or none
 abbrev pub fileNumber : File → ℕ
 fileNumber Stage = 1
 fileNumber Reference = 2
 
+-- the case that reading leaves: a refused file's, or none
 unfoldable pub refusal : File → Reading → Check
 refusal f (refused number at) = case number (fileNumber f) at 0 true ∷ []
 refusal f (readable p) = []
@@ -48,10 +48,10 @@ railsIn bytes k = ltb 0 (getD bytes k 0)
 
 -- the stage that is settled
 abbrev pub rowStage : List ℕ → Content
-rowStage stage = contentOf Stage (limits 256) stage
+rowStage stage = contentOf Stage (stageLimits) stage
 
 abbrev pub rowChecksOn : List ℕ → List ℕ → List Check
-rowChecksOn stage row = reading Stage (limits 256) stage ∷ rowChecks (rowStage stage) row
+rowChecksOn stage row = reading Stage (stageLimits) stage ∷ rowChecks (rowStage stage) row
 
 abbrev pub rowVerdict : List ℕ → List ℕ → Verdict
 rowVerdict stage row = judge (rowChecksOn stage row)

@@ -12,7 +12,7 @@ use Rattle.netlist.specs.Coded.{Coded}
 use Rattle.check_spec.specs.Content.{Content}
 use Rattle.check_spec.specs.Lists.{xor, numbers, select, some, bitOf, ofBits}
 
--- the rails of word w: rail 1 of input i if bit i is 1, rail 0 if it is 0
+-- the rails of word w: rail 1 of input i if bit i is 1, rail 0 if it is 0. It is asked of the rails of inputs alone
 abbrev pub railsFor : ℕ → Row
 railsFor w k = eqb (w / 2 ^ (k / 2) % 2) (k % 2)
 
@@ -34,6 +34,7 @@ orderOf mark = cond (eqb mark 0) FirstHighest FirstLowest
 unfoldable pub names : WordOrder → Content → List ℕ
 names order s = select (λ name. caresFor s (spelled order (s .inputs) name)) (numbers 0 (2 ^ s .inputs))
 
+-- w is a word of the stage: below 2 to the n, and cared for
 abbrev pub IsWord : Content → ℕ → Type 0
 IsWord s w = (ltb w (2 ^ s .inputs) && caresFor s w) ≡ true
 

@@ -28,7 +28,7 @@ use Rattle.verdict.specs.Answers as answers
 use Rattle.verdict.specs.Verdicts as given
 use Rattle.check_spec.specs.Cases.{accepted, Check, judge}
 use Rattle.check_spec.specs.Lists.{numbers}
-use Rattle.check_spec.specs.Content.{Content, Files, contentOf, stageIn, referenceIn, limits, files, partFiles}
+use Rattle.check_spec.specs.Content.{Content, Files, contentOf, stageIn, referenceIn, files, partFiles}
 use Rattle.check_spec.specs.Words.{answer}
 use Rattle.check_spec.specs.Verdicts.{refusal, reading, verdictOn}
 use Rattle.check_spec.specs.Demands.{Pass, Judged, BothRead}
@@ -141,14 +141,14 @@ module _ (s1 r1 s2 r2 : List ℕ) (read1 : BothRead (partFiles s1 r1)) (read2 : 
         ∙ old .whole-accepted order in
         record {
           reads = (
-            subst (λ (l : List ℕ). Pass (reading file.Stage (limits 256) l)) (sym (stage-same s1 r1 s2 r2 read1 read2))
-                (read-pass file.Stage (limits 256) (joins.stageBytes P Q) (old .stage-is .places) (old .stage-is .reads)),
-            subst (λ (l : List ℕ). Pass (reading file.Reference (limits 512) l)) (sym (reference-same s1 r1 s2 r2 read1 read2))
-                (read-pass file.Reference (limits 512) (joins.referenceBytes P Q) (old .reference-is .places) (old .reference-is .reads)),
+            subst (λ (l : List ℕ). Pass (reading file.Stage stageLimits l)) (sym (stage-same s1 r1 s2 r2 read1 read2))
+                (read-pass file.Stage stageLimits (joins.stageBytes P Q) (old .stage-is .places) (old .stage-is .reads)),
+            subst (λ (l : List ℕ). Pass (reading file.Reference referenceLimits l)) (sym (reference-same s1 r1 s2 r2 read1 read2))
+                (read-pass file.Reference referenceLimits (joins.referenceBytes P Q) (old .reference-is .places) (old .reference-is .reads)),
           );
-          stage-is = ap (contentOf file.Stage (limits 256)) (stage-bytes (joinedStage first second)) ∙ content-write file.Stage stageLimits (joinedStage first second) stage-file;
+          stage-is = ap (contentOf file.Stage stageLimits) (stage-bytes (joinedStage first second)) ∙ content-write file.Stage stageLimits (joinedStage first second) stage-file;
           reference-is =
-              ap (contentOf file.Reference (limits 512)) (reference-bytes (joinedReference first second) (ap (λ (c : Content). c .care) (reference-joined s1 r1 s2 r2 read1 read2)))
+              ap (contentOf file.Reference referenceLimits) (reference-bytes (joinedReference first second) (ap (λ (c : Content). c .care) (reference-joined s1 r1 s2 r2 read1 read2)))
               ∙ content-write file.Reference referenceLimits (joinedReference first second) reference-file;
           answers = answers-are;
           whole-accepted = accepts;

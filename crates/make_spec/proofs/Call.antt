@@ -40,7 +40,7 @@ use Rattle.verdict.proofs.Refusals.{refused-number}
 use Rattle.verdict.proofs.Written.{holding-take}
 use Rattle.check_spec.specs.Cases.{verdict, accepted, Case, case, Check, first, judge, sweep}
 use Rattle.check_spec.specs.Lists.{numbers, some}
-use Rattle.check_spec.specs.Content.{Content, Files, contentAt, contentOf, stageIn, referenceIn, limits, files}
+use Rattle.check_spec.specs.Content.{Content, Files, contentAt, contentOf, stageIn, referenceIn, files}
 use Rattle.check_spec.specs.Rows.{noGate, netOf}
 use Rattle.check_spec.specs.Words.{railsFor, IsWord}
 use Rattle.check_spec.specs.Verdicts.{refusal, reading, verdictOn}
@@ -130,16 +130,16 @@ pub make-is : (reference buffer : List ℕ)
     → (judge (makeChecks reference (length buffer)) ≡ making.makeOn reference (length buffer) .verdict)
     × (leaving (judge (makeChecks reference (length buffer))) (madeBytes reference) buffer ≡ leaves (making.makeOn reference (length buffer)) buffer)
 unfolding making.makeWithin making.makeReading makeChecks judge first refusal leaving
-make-is reference buffer = go (readFile file.Reference (limits 512) reference) refl
+make-is reference buffer = go (readFile file.Reference referenceLimits reference) refl
   where
     room : ℕ
     room = length buffer
 
-    go : (x : Reading) → readFile file.Reference (limits 512) reference ≡ x
+    go : (x : Reading) → readFile file.Reference referenceLimits reference ≡ x
         → (judge (makeChecks reference (length buffer)) ≡ making.makeReading stageLimits reference (length buffer) x .verdict)
         × (leaving (judge (makeChecks reference (length buffer))) (madeBytes reference) buffer ≡ leaves (making.makeReading stageLimits reference (length buffer) x) buffer)
     go (refused number at) e =
-        let n = refused-number file.Reference (limits 512) reference number at e .0 in
+        let n = refused-number file.Reference referenceLimits reference number at e .0 in
         (rw e, rw (e, eqb-other number 0 (λ q. omega arith)))
     go (readable p) e =
         let c = contentAt file.Reference reference (readable p) in
@@ -221,12 +221,12 @@ module _ (reference bytes : List ℕ) (old : promises.MadeFrom stageLimits refer
       let n : c .inputs ≡ made.madeStage (old .function) .inputs = ap (λ (r : parsed.Reference). r .inputs) function-is in
       let g : FileFits file.Stage stageLimits (c .inputs) (itemsOf (madeStage c)) =
       subst (λ (l : List Item). FileFits file.Stage stageLimits (c .inputs) l) (sym same) (subst (λ (k : ℕ). FileFits file.Stage stageLimits k (items.stageItems (made.madeStage (old .function)))) (sym n) fits) in
-      ap (contentOf file.Stage (limits 256)) (old .bytes-are ∙ ap making.madeBytes (sym function-is) ∙ sym (bytes-alike c) ∙ stage-bytes (madeStage c))
+      ap (contentOf file.Stage stageLimits) (old .bytes-are ∙ ap making.madeBytes (sym function-is) ∙ sym (bytes-alike c) ∙ stage-bytes (madeStage c))
       ∙ content-write file.Stage stageLimits (madeStage c) g
 
   is-word : (w : ℕ) → IsWord (stageIn f) w → words.IsWord (made.madeStage (old .function)) w
   is-word w h = subst (λ (s : parsed.Stage). words.IsWord s w) (view-is ∙ ap made.madeStage function-is)
-      (word-in (stageIn f) (care-rises (limits 256) bytes (old .stage-is .places) (old .stage-is .reads)) w h)
+      (word-in (stageIn f) (care-rises stageLimits bytes (old .stage-is .places) (old .stage-is .reads)) w h)
 
   pub made-from : MadeFrom f
   made-from =

@@ -5,6 +5,7 @@ use mathlib.Core.Bool.{Bool, true, false, not, _||_}
 use mathlib.Core.List.{List, [], _∷_, _++_, map, reverse}
 use lib.ListN.{length, getD, take}
 use lib.Dec.{eqb, ltb}
+use Rattle.netlist.specs.Reading.{referenceLimits}
 use Rattle.gates.specs.Cell.{bit}
 use Rattle.runs.specs.Row.{low, after}
 use Rattle.runs.specs.Net.{Net, RiseList, RiseEnd, FallList, riseStep, fallStep}
@@ -16,7 +17,7 @@ use Rattle.verdict.specs.declared.Answer.{Answer}
 use Rattle.verdict.specs.Written.{written}
 use Rattle.check_spec.specs.Cases.{accepted, Check, case, judge, sweepPlaces}
 use Rattle.check_spec.specs.Lists.{numbers, select, some, reaches}
-use Rattle.check_spec.specs.Content.{Content, Files, stageIn, referenceIn, contentOf, limits, files}
+use Rattle.check_spec.specs.Content.{Content, Files, stageIn, referenceIn, contentOf, files}
 use Rattle.check_spec.specs.Rows.{noGate, netOf}
 use Rattle.check_spec.specs.Words.{railsFor, IsWord}
 use Rattle.check_spec.specs.Verdicts.{reading, verdictOn}
@@ -92,7 +93,7 @@ unfoldable pub leadsOut : Content → ℕ → Bool
 leadsOut r x = isOutput r x || reaches (readers r) (isOutput r) (r .inputs + length (r .gates)) x
 
 abbrev pub referenceRead : List ℕ → Content
-referenceRead bytes = contentOf Reference (limits 512) bytes
+referenceRead bytes = contentOf Reference referenceLimits bytes
 
 abbrev pub madeBytes : List ℕ → List ℕ
 madeBytes reference = writeFile Stage (madeStage (referenceRead reference))
@@ -102,7 +103,7 @@ unfoldable pub makeChecks : List ℕ → ℕ → List Check
 makeChecks reference room =
     let r = referenceRead reference in
     let needed = length (built r .gates) in
-    reading Reference (limits 512) reference ∷
+    reading Reference referenceLimits reference ∷
     sweepPlaces 25 2 (numbers 0 (r .inputs + length (r .gates))) (λ x. not (leadsOut r x)) ∷
     (case 26 2 needed 0 (ltb 256 needed) ∷ []) ∷
     (case 27 3 0 0 (ltb room (length (madeBytes reference))) ∷ []) ∷
