@@ -26,7 +26,7 @@ use Rattle.check_spec.specs.Rows.{driver, cellIn, netOf, reachesItself}
 use Rattle.check_spec.specs.Words.{railsFor, spelled, names, IsWord}
 use Rattle.check_spec.specs.Checks.{wrong, incomplete, unobservable, fallIncomplete, fallUnobservable, looped, retired, swept, checks}
 use Rattle.check_spec.specs.Verdicts.{reading, checksOn, verdictOn}
-use Rattle.check_spec.specs.Demands.{Pass, Named, StageReads, BothRead, LoopFree, Demand2, Broken, Demand3}
+use Rattle.check_spec.specs.Demands.{Pass, Named, BothRead, LoopFree, Demand2, Broken, Demand3}
 use Rattle.check_spec.proofs.First.{Each, first-says, named-says, judged, sweep-each}
 use Rattle.check_spec.proofs.Loops.{some-out, loops, settled-is, risen-is, fallen-is}
 use Rattle.check_spec.proofs.Pairs.{data-of, all-data, all-null}
@@ -136,7 +136,7 @@ module _ (order : WordOrder) (f : Files) where
     settled-is = λ free. settled-is s free;
     risen-is = λ free. risen-is s free;
     fallen-is = λ free w X. fallen-is s free _ X (inside s r free w);
-    hold-only = λ reads hold. hold-only hold;
+    hold-only = hold-only;
     either-order = λ other. (either-order order other f, either-order other order f);
   }
 

@@ -51,11 +51,8 @@ Judged checks v = Named (flatMap (λ c. c) checks) v ⊎ Pass (flatMap (λ c. c)
 
 -- ---- demand 2
 
-abbrev pub StageReads : Files → Type 0
-StageReads f = Pass (reading Stage (f .stageMost) (f .stage))
-
 abbrev pub BothRead : Files → Type 0
-BothRead f = StageReads f × Pass (reading Reference (f .referenceMost) (f .reference))
+BothRead f = Pass (reading Stage (f .stageMost) (f .stage)) × Pass (reading Reference (f .referenceMost) (f .reference))
 
 abbrev pub LoopFree : Net → Type 0
 LoopFree N = (net : ℕ) → IsGate N net → reachesItself N net ≡ false
@@ -97,7 +94,7 @@ pub record Demand2 (order : WordOrder) (f : Files) (v : Verdict) : Type 0 where
   pub risen-is : LoopFree (netOf (stageIn f)) → (c X : Row) → TheOnly (SettledHeld (netOf (stageIn f)) c X) (risen (netOf (stageIn f)) c X)
   pub fallen-is : LoopFree (netOf (stageIn f)) → (w : ℕ) (X : Row)
       → TheOnly (SettledKept (netOf (stageIn f)) X (rest (stageIn f) w)) (fallen (netOf (stageIn f)) (rest (stageIn f) w) X)
-  pub hold-only : StageReads f → ((net : ℕ) → IsGate (netOf (stageIn f)) net → netOf (stageIn f) .hold net ≡ true) → ¬ ((v .number ≡ 20) ⊎ (v .number ≡ 21))
+  pub hold-only : ((net : ℕ) → IsGate (netOf (stageIn f)) net → netOf (stageIn f) .hold net ≡ true) → ¬ ((v .number ≡ 20) ⊎ (v .number ≡ 21))
   pub either-order : (other : WordOrder) → (v ≡ accepted) ↔ (verdictOn other f ≡ accepted)
 
 -- ---- demand 3
@@ -107,8 +104,8 @@ pub record RisesTo (N : Net) (rails end : Row) : Type 0 where
   pub goes-on : (l : List ℕ) → RiseList N rails l → Goes-on (riseStep N rails) low l
   pub end-is : (l : List ℕ) → RiseList N rails l → RiseEnd N rails l → after low l ≡ end
 
--- of an accepted stage, in one word w: the promise is kept; all ends of its rises are the paper's "rest"; and any two full rises, and any two full falls from the
--- rest, list the same switchings and are turned into one another by exchanging neighbours
+-- of an accepted stage, in one word w: the promise is kept; all ends of its rises are the paper's "rest"; and any two full rises, and any two full
+-- falls from the rest, list the same switchings and are turned into one another by exchanging neighbours
 pub record Kept (f : Files) (w : ℕ) : Type 0 where
   pub promise : Promise (netOf (stageIn f)) (railsFor w) (answerTo f w)
   pub rest-is : RisesTo (netOf (stageIn f)) (railsFor w) (rest (stageIn f) w)

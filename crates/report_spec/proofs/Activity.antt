@@ -34,8 +34,8 @@ use Rattle.check_spec.specs.Content.{Content, Files, stageIn}
 use Rattle.check_spec.specs.Rows.{netOf}
 use Rattle.check_spec.specs.Words.{railsFor, spelled, names, IsWord}
 use Rattle.check_spec.specs.Checks.{rest}
-use Rattle.check_spec.specs.Verdicts.{refusal, verdictOn}
-use Rattle.check_spec.specs.Demands.{Pass, StageReads, LoopFree, answerTo, Kept}
+use Rattle.check_spec.specs.Verdicts.{refusal, reading, verdictOn}
+use Rattle.check_spec.specs.Demands.{Pass, LoopFree, answerTo, Kept}
 use Rattle.check_spec.proofs.View.{stageView}
 use Rattle.check_spec.proofs.Alike.{spelled-alike, names-alike, rest-alike, levels-alike, word-in, in-word, care-rises}
 use Rattle.check_spec.proofs.Exactly.{accepted-passes}
@@ -199,7 +199,7 @@ module _ (order : WordOrder) (c : Content) (care : Ascending (2 ^ c .inputs) 0 (
 -- ---- the report
 
 -- an accepted pair has read its stage
-pub stage-read : (f : Files) → StageReads f → (p : Places) × (readFile file.Stage (f .stageMost) (f .stage) ≡ readable p)
+pub stage-read : (f : Files) → Pass (reading file.Stage (f .stageMost) (f .stage)) → (p : Places) × (readFile file.Stage (f .stageMost) (f .stage) ≡ readable p)
 unfolding refusal
 stage-read f = go (readFile file.Stage (f .stageMost) (f .stage))
   where
