@@ -109,13 +109,14 @@ fn texts_of_stages() {
 }
 
 /// The bytes that the blocks of a document spell: in each line the pairs of hexadecimal digits at its
-/// start, or after its first word.
+/// start, or after its first word. A block that begins with a command shows what that prints.
 fn spelt(document: &str) -> Vec<u8> {
     let byte = |word: &str| {
         let digits = word.len() == 2 && !word.contains(|c: char| c.is_ascii_lowercase());
         u8::from_str_radix(word, 16).ok().filter(|_| digits)
     };
     let blocks = document.split("```").skip(1).step_by(2);
+    let blocks = blocks.filter(|block| !block.trim_start().starts_with('$'));
     let lines = blocks.flat_map(|block| block.lines().skip(1));
     lines
         .flat_map(|line| {

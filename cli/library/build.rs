@@ -1,13 +1,10 @@
-//! With the feature `library`, links the static library that `rt staticlib fovaheju` writes.
+//! Links the static library that `rt staticlib fovaheju` writes.
 
 use std::path::Path;
 
 fn main() {
     println!("cargo::rerun-if-changed=build.rs");
-    if std::env::var_os("CARGO_FEATURE_LIBRARY").is_none() {
-        return;
-    }
-    let folder = Path::new(env!("CARGO_MANIFEST_DIR")).join("../target/staticlib");
+    let folder = Path::new(env!("CARGO_MANIFEST_DIR")).join("../../target/staticlib");
     let archive = folder.join("libfovaheju.a");
     println!("cargo::rerun-if-changed={}", archive.display());
     if !archive.exists() {

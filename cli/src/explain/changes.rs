@@ -1,0 +1,411 @@
+//! Changes of a stage that the check accepts: one gate or output is changed, those that an explanation names first; or all gates of a sort,
+//! or some are added or taken out. Each is judged by the library; where more has to change at once, none is found.
+
+use super::{Order, Pair, Text};
+use crate::netlist::{commands, kind_name, pin_count, relaxed, Form, Side, Stage, ABSENT};
+
+/// How many of the changes that are accepted are shown.
+const SHOWN: usize = 3;
+/// How many of the gates that are named are changed first.
+const GATES: usize = 8;
+/// The kind that is no longer cast.
+const RETIRED: u8 = 24;
+const THAND0: u8 = 26;
+const TH12: u8 = 1;
+
+/// The file after a change, and what was changed.
+struct Change {
+    file: Vec<u8>,
+    says: String,
+    /// Of changes that have this alike, one is shown: the orders of pins on one kind.
+    sort: Option<(usize, u8)>,
+}
+
+/// Changes that are made one by one, as they are tried.
+type Changes<'a> = Box<dyn Iterator<Item = Change> + 'a>;
+
+/// A stage to be changed.
+#[derive(Clone, Copy)]
+struct Base<'a> {
+    file: &'a [u8],
+    stage: &'a Stage,
+}
+
+/// What an explanation names.
+pub struct Named<'a> {
+    /// The gates to look at.
+    pub gates: &'a [usize],
+    /// An output that is wrong.
+    pub output: Option<usize>,
+    /// A net that no output waits for.
+    pub net: Option<usize>,
+    /// Whether that is on the way to DATA.
+    pub rises: bool,
+}
+
+/// Says which changes of what is named the check accepts.
+pub fn accepted(text: &mut Text, pair: Pair, order: Order, stage: &Stage, named: &Named) {
+    let base = Base { file: pair.stage.bytes(), stage };
+    let late = named.net.and_then(|net| stage.driver(net));
+    let spare = late.or(named.gates.first().copied()).filter(|&gate| base.feeds_nothing(gate));
+    match spare {
+        // Of a gate that feeds nothing every change that keeps it low is accepted, and says nothing.
+        Some(gate) => say(text, pair, order, [Box::new(base.without(gate).into_iter()), Box::new(std::iter::empty())]),
+        None => {
+            let input = named.net.filter(|&net| net < 2 * stage.inputs && named.rises).map(|net| net / 2);
+            let waiting = input.into_iter().filter_map(move |input| base.waiting(input, pair, order));
+            say(text, pair, order, [base.of_named(named), Box::new(base.of_all(named).chain(waiting))]);
+        }
+    }
+}
+
+/// Says with which other kind in place of a retired one the check accepts.
+pub fn of_retired(text: &mut Text, pair: Pair, order: Order, stage: &Stage, gates: &[usize]) {
+    let base = Base { file: pair.stage.bytes(), stage };
+    // Where two pins are on one net, the net once will do.
+    let pins =
+        |gate: usize, count: usize| if count == 4 { stage.gates[gate].pins.clone() } else { super::words::once(&stage.gates[gate].pins) };
+    let change = |cell: u8, hold: u8| {
+        let count = pin_count(cell)?;
+        let mut changed = Change { file: base.file.to_vec(), says: String::new(), sort: None };
+        for &gate in gates {
+            let pins = pins(gate, count);
+            let kind = cell | stage.gates[gate].kind & hold;
+            let next = (pins.len() == count).then(|| Base { file: &changed.file, ..base }.gate_as(gate, kind, &pins))?;
+            let and = if changed.says.is_empty() { "" } else { ", " };
+            changed = Change { file: next.file, says: changed.says + and + &next.says, sort: None };
+        }
+        Some(changed)
+    };
+    let cells = [0x80, 0].into_iter().flat_map(|hold| (1..=27).filter(|&cell| cell != RETIRED).map(move |cell| (cell, hold)));
+    say(text, pair, order, [Box::new(cells.filter_map(|(cell, hold)| change(cell, hold))), Box::new(std::iter::empty())]);
+}
+
+/// Says which of some changes are accepted; where none is, which of the others.
+fn say(text: &mut Text, pair: Pair, order: Order, [changes, others]: [Changes; 2]) {
+    let found = tried(text.tries, pair, order, changes);
+    let found = if found.is_empty() { tried(text.tries, pair, order, others) } else { found };
+    for (k, change) in found.iter().enumerate() {
+        if k == 0 {
+            text.row("accepted", &format!("with {}", change.says));
+        } else {
+            text.row("", &format!("or: {}", change.says));
+        }
+    }
+}
+
+/// The first changes that are accepted.
+fn tried(tries: usize, pair: Pair, order: Order, changes: Changes) -> Vec<Change> {
+    let accepts = |change: &Change| fovaheju::check(order.mark(), &change.file, &pair.reference.bytes).accepts();
+    let mut found: Vec<Change> = Vec::new();
+    for change in changes.take(tries) {
+        // Two ways to one stage are one change.
+        let new = |other: &Change| other.file != change.file && (change.sort.is_none() || other.sort != change.sort);
+        if found.iter().all(new) && accepts(&change) {
+            found.push(change);
+        }
+        if found.len() == SHOWN {
+            break;
+        }
+    }
+    found
+}
+
+impl<'a> Base<'a> {
+    /// Changes of what is named, the likeliest first.
+    fn of_named(self, named: &Named) -> Changes<'a> {
+        let near: Vec<usize> = named.gates.iter().copied().take(GATES).collect();
+        let (output, net) = (named.output, named.net);
+        let late = net.and_then(|net| self.stage.driver(net)).filter(|_| named.rises);
+        let each = |gates: &Vec<usize>| gates.clone().into_iter();
+        let outputs = output.into_iter().flat_map(move |output| {
+            let others = (0..self.stage.outputs.len()).filter(move |&j| j != output);
+            self.rails_exchanged(output).into_iter().chain(others.filter_map(move |j| self.outputs_exchanged(output, j)))
+        });
+        let kinds = each(&near)
+            .flat_map(move |gate| self.completed(gate).into_iter().chain(self.completed_by_gates(gate)).chain(self.other_kinds(gate)));
+        let built_in = late.into_iter().flat_map(move |gate| self.built_in(gate));
+        let more = net
+            .into_iter()
+            .zip([near.clone()])
+            .flat_map(move |(net, near)| near.into_iter().flat_map(move |gate| self.one_pin_more(gate, net)));
+        let rails = output.into_iter().flat_map(move |output| self.other_rails(output));
+        let pins = each(&near).flat_map(move |gate| self.other_pins(gate));
+        Box::new(outputs.chain(kinds).chain(self.all_with_hold()).chain(built_in).chain(more).chain(rails).chain(pins))
+    }
+
+    /// Two changes of a gate that is named, its kind and the order of its pins, then changes of all other gates.
+    fn of_all(self, named: &Named) -> Changes<'a> {
+        let (near, far): (Vec<usize>, Vec<usize>) =
+            (0..self.stage.gates.len()).partition(|gate| named.gates.iter().take(GATES).any(|near| near == gate));
+        let mixed = near.into_iter().flat_map(move |gate| self.pins_and_kind(gate));
+        let kinds = far.clone().into_iter().flat_map(move |gate| self.other_kinds(gate));
+        let pins = far.into_iter().flat_map(move |gate| self.other_pins(gate));
+        Box::new(mixed.chain(kinds).chain(pins))
+    }
+
+    /// Whether no gate but itself reads a gate, and no output does.
+    fn feeds_nothing(&self, gate: usize) -> bool {
+        let net = self.stage.net_of(gate);
+        self.stage.readers(net).iter().all(|&reader| reader == gate) && !self.stage.outputs.iter().flatten().any(|&rail| rail == net)
+    }
+
+    /// The file with other bytes at a place.
+    fn with(&self, at: usize, bytes: &[u8]) -> Vec<u8> {
+        let mut file = self.file.to_vec();
+        if let Some(place) = file.get_mut(at..at + bytes.len()) {
+            place.copy_from_slice(bytes);
+        }
+        file
+    }
+
+    fn with_kinds(&self, kinds: &[(usize, u8)]) -> Vec<u8> {
+        let mut file = self.file.to_vec();
+        kinds.iter().for_each(|&(gate, kind)| file[self.stage.gates[gate].at + 1] = kind);
+        file
+    }
+
+    /// Where the rails of an output stand.
+    fn rails_at(&self, output: usize) -> Option<usize> {
+        let commands = commands(self.file, Side::Stage);
+        let mut outputs = commands.iter().filter(|command| command.form == Some(Form::Output));
+        outputs.nth(output).map(|command| command.at + 1)
+    }
+
+    fn rails_exchanged(&self, output: usize) -> Option<Change> {
+        let [low, high] = *self.stage.outputs.get(output)?;
+        let file = self.with(self.rails_at(output)?, &two([high, low]));
+        Some(Change { file, says: format!("the rails of {} exchanged", self.stage.output_name(output)), sort: None })
+    }
+
+    fn outputs_exchanged(&self, output: usize, other: usize) -> Option<Change> {
+        let file = self.with(self.rails_at(output)?, &two(self.stage.outputs[other]));
+        let file = Base { file: &file, ..*self }.with(self.rails_at(other)?, &two(self.stage.outputs[output]));
+        let names = [output, other].map(|output| self.stage.output_name(output));
+        Some(Change { file, says: format!("{} exchanged", names.join(" and ")), sort: None })
+    }
+
+    /// An output with one rail on another net.
+    fn other_rails(&self, output: usize) -> Vec<Change> {
+        let (Some(at), Some(&rails)) = (self.rails_at(output), self.stage.outputs.get(output)) else { return Vec::new() };
+        let places = (0..2).flat_map(|rail| (0..self.stage.nets()).map(move |net| (rail, net)));
+        let others = places.filter(|&(rail, net)| rails[rail] != net);
+        let name = self.stage.output_name(output);
+        let change = |(rail, net): (usize, usize)| Change {
+            file: self.with(at + 2 * rail, &(net as u16).to_le_bytes()),
+            says: format!("rail {rail} of {name} on {} in place of {}", self.stage.net_name(net), self.stage.net_name(rails[rail])),
+            sort: None,
+        };
+        others.map(change).collect()
+    }
+
+    /// A gate with this kind and these pins.
+    fn gate_as(&self, gate: usize, kind: u8, pins: &[usize]) -> Change {
+        let names: Vec<String> = pins.iter().map(|&net| self.stage.net_name(net)).collect();
+        let says = format!("{} = {}({})", self.stage.gate_name(gate), kind_name(kind).unwrap_or_default(), names.join(", "));
+        Change { file: self.with(self.stage.gates[gate].at, &gate_bytes(kind, pins)), says, sort: None }
+    }
+
+    /// A gate on two input rails in the form that waits for both inputs.
+    fn completed(&self, gate: usize) -> Option<Change> {
+        let found = &self.stage.gates[gate];
+        let &[a, b] = found.pins.as_slice() else { return None };
+        let rails = 2 * self.stage.inputs;
+        (a < rails && b < rails && a / 2 != b / 2).then(|| self.gate_as(gate, THAND0 | found.kind & 0x80, &[a, b, a ^ 1, b ^ 1]))
+    }
+
+    /// A TH12 in the form that waits for both signals, where a TH22 reads the other rails of the two.
+    fn completed_by_gates(&self, gate: usize) -> Vec<Change> {
+        let found = &self.stage.gates[gate];
+        let &[a, b] = found.pins.as_slice() else { return Vec::new() };
+        let others = self.stage.gates.iter().filter(|other| found.kind & 0x7F == TH12 && other.kind & 0x7F == 2);
+        let pins = others.flat_map(|other| [[a, b, other.pins[0], other.pins[1]], [a, b, other.pins[1], other.pins[0]]]);
+        pins.map(|pins| self.gate_as(gate, THAND0 | found.kind & 0x80, &pins)).collect()
+    }
+
+    /// A gate of another kind with as many pins, first with its hold or without; no retired kind.
+    fn other_kinds(&self, gate: usize) -> Vec<Change> {
+        let found = &self.stage.gates[gate];
+        let cells = (1..=27).map(|cell| cell | found.kind & 0x80);
+        let kinds = [found.kind ^ 0x80].into_iter().chain(cells);
+        let others = kinds.filter(|&kind| kind != found.kind && kind & 0x7F != RETIRED && pin_count(kind) == Some(found.pins.len()));
+        let change = |kind: u8| Change {
+            file: self.with_kinds(&[(gate, kind)]),
+            says: format!("{} as {} in place of {}", self.stage.gate_name(gate), kind_name(kind).unwrap_or_default(), found.name()),
+            sort: None,
+        };
+        others.map(change).collect()
+    }
+
+    /// All relaxed gates with their hold.
+    fn all_with_hold(&self) -> Option<Change> {
+        let gates = self.stage.gates.iter().enumerate().filter(|(_, gate)| relaxed(gate.kind));
+        let kinds: Vec<(usize, u8)> = gates.map(|(k, gate)| (k, gate.kind & 0x7F)).collect();
+        (kinds.len() > 1).then(|| Change {
+            file: self.with_kinds(&kinds),
+            says: "all gates with hold, the kinds without r".into(),
+            sort: None,
+        })
+    }
+
+    /// A gate that reads one net more.
+    fn one_pin_more(&self, gate: usize, net: usize) -> Vec<Change> {
+        let found = &self.stage.gates[gate];
+        let pins: Vec<usize> = found.pins.iter().copied().chain([net]).collect();
+        cells_of(pins.len()).map(|cell| self.gate_as(gate, cell | found.kind & 0x80, &pins)).collect()
+    }
+
+    /// A gate of another kind with its pins in another order.
+    fn pins_and_kind(self, gate: usize) -> Changes<'a> {
+        let found = &self.stage.gates[gate];
+        let orders = orders(&found.pins);
+        let kinds = cells_of(found.pins.len()).map(|cell| cell | found.kind & 0x80);
+        Box::new(kinds.flat_map(move |kind| {
+            let change = move |pins: Vec<usize>| Change { sort: Some((gate, kind)), ..self.gate_as(gate, kind, &pins) };
+            orders.clone().into_iter().map(change)
+        }))
+    }
+
+    /// A gate that one other gate reads, built into that one: its pins in place of its net, and the gate taken out.
+    fn built_in(self, gate: usize) -> Changes<'a> {
+        let net = self.stage.net_of(gate);
+        let rails = self.stage.outputs.iter().flatten();
+        let (&[reader], false) = (self.stage.readers(net).as_slice(), rails.into_iter().any(|&rail| rail == net)) else {
+            return Box::new(std::iter::empty());
+        };
+        let found = &self.stage.gates[reader];
+        let pins: Vec<usize> = found.pins.iter().copied().filter(|&pin| pin != net).chain(self.stage.gates[gate].pins.clone()).collect();
+        let orders = if pins.len() <= 4 { orders(&pins) } else { Vec::new() };
+        let kinds = cells_of(pins.len()).map(|cell| cell | found.kind & 0x80);
+        Box::new(kinds.flat_map(move |kind| {
+            let change = move |pins: Vec<usize>| {
+                let first = self.gate_as(reader, kind, &pins);
+                let out = Base { file: &first.file, ..self }.without(gate)?;
+                Some(Change { file: out.file, says: format!("{}, and {}", first.says, out.says), sort: Some((reader, kind)) })
+            };
+            orders.clone().into_iter().filter_map(change)
+        }))
+    }
+
+    /// An output that waits for an input: each of its rails passes a gate that needs the input too. Where the check then misses other inputs, it
+    /// waits for these as well.
+    fn waiting(self, input: usize, pair: Pair, order: Order) -> Option<Change> {
+        let mut inputs = vec![input];
+        for _ in 0..self.stage.inputs {
+            let change = self.output_waits(0, &inputs)?;
+            let verdict = fovaheju::check(order.mark(), &change.file, &pair.reference.bytes);
+            match verdict.number {
+                0 => return Some(change),
+                14 if !inputs.contains(&(verdict.at as usize)) => inputs.push(verdict.at as usize),
+                _ => return None,
+            }
+        }
+        None
+    }
+
+    /// An output whose rails wait for inputs: TH12 of the rails of an input tells that it has come, and TH22 to TH44 wait for all.
+    fn output_waits(self, output: usize, inputs: &[usize]) -> Option<Change> {
+        let rails = *self.stage.outputs.get(output)?;
+        let mut added = Vec::new();
+        let mut add = |kind: u8, pins: &[usize]| {
+            added.push((kind, pins.to_vec()));
+            self.stage.nets() + added.len() - 1
+        };
+        let mut come: Vec<usize> = inputs.iter().map(|&input| add(TH12, &[2 * input, 2 * input + 1])).collect();
+        while come.len() > 3 {
+            come = come.chunks(4).map(|some| if some.len() == 1 { some[0] } else { add(all_of(some.len()), some) }).collect();
+        }
+        let new = rails.map(|rail| add(all_of(come.len() + 1), &[&[rail][..], &come].concat()));
+        let mut file = self.with(self.rails_at(output)?, &two(new));
+        let gates: Vec<u8> = added.iter().flat_map(|(kind, pins)| gate_bytes(*kind, pins)).collect();
+        let end = file.len().checked_sub(1)?;
+        file.splice(end..end, gates);
+        let name = |net: usize| match net.checked_sub(self.stage.nets()) {
+            Some(k) => format!("new{k}"),
+            None => self.stage.net_name(net),
+        };
+        let said: Vec<String> = added
+            .iter()
+            .enumerate()
+            .map(|(k, (kind, pins))| {
+                let pins: Vec<String> = pins.iter().map(|&pin| name(pin)).collect();
+                format!("new{k} = {}({})", kind_name(*kind).unwrap_or_default(), pins.join(", "))
+            })
+            .collect();
+        let [low, high] = new.map(name);
+        let says = format!("new gates {}, and the rails of {} on {low} and {high}", said.join(", "), self.stage.output_name(output));
+        Some(Change { file, says, sort: None })
+    }
+
+    /// A gate with one pin on another net.
+    fn other_pins(&self, gate: usize) -> Vec<Change> {
+        let found = &self.stage.gates[gate];
+        let places = (0..found.pins.len()).flat_map(|pin| (0..self.stage.nets()).map(move |net| (pin, net)));
+        let others = places.filter(|&(pin, net)| found.pins[pin] != net);
+        let change = |(pin, net): (usize, usize)| {
+            let [now, before] = [net, found.pins[pin]].map(|net| self.stage.net_name(net));
+            let (name, letter) = (self.stage.gate_name(gate), ["A", "B", "C", "D"][pin.min(3)]);
+            Change {
+                file: self.with(found.at + 2 + 2 * pin, &(net as u16).to_le_bytes()),
+                says: format!("pin {letter} of {name} on {now} in place of {before}"),
+                sort: None,
+            }
+        };
+        others.map(change).collect()
+    }
+
+    /// A gate that nothing reads, taken out: the nets behind it are numbered one less.
+    fn without(&self, gate: usize) -> Option<Change> {
+        let (net, at) = (self.stage.net_of(gate), self.stage.gates.get(gate)?.at);
+        let mut file = Vec::new();
+        for command in commands(self.file, Side::Stage).iter().filter(|command| command.at != at) {
+            let operands = match command.form {
+                Some(Form::Gate) => 2..10,
+                Some(Form::Output) => 1..5,
+                _ => 0..0,
+            };
+            let mut bytes = command.bytes.to_vec();
+            for place in operands.step_by(2) {
+                let operand = u16::from_le_bytes([bytes[place], bytes[place + 1]]);
+                let less = usize::from(operand) > net && usize::from(operand) != ABSENT;
+                bytes[place..place + 2].copy_from_slice(&(operand - u16::from(less)).to_le_bytes());
+            }
+            file.extend(bytes);
+        }
+        Some(Change { file, says: format!("{} taken out", self.stage.gate_name(gate)), sort: None })
+    }
+}
+
+/// The command of a gate.
+fn gate_bytes(kind: u8, pins: &[usize]) -> Vec<u8> {
+    let operands = (0..4).flat_map(|pin| (pins.get(pin).copied().unwrap_or(ABSENT) as u16).to_le_bytes());
+    [2, kind].into_iter().chain(operands).collect()
+}
+
+/// The cells with so many pins, but the retired one.
+fn cells_of(count: usize) -> impl Iterator<Item = u8> {
+    (1..=27).filter(move |&cell| cell != RETIRED && pin_count(cell) == Some(count))
+}
+
+/// TH22, TH33 or TH44: the cell that waits for all of its pins.
+fn all_of(count: usize) -> u8 {
+    [2, 5, 11][count.clamp(2, 4) - 2]
+}
+
+/// All orders of some pins.
+fn orders(pins: &[usize]) -> Vec<Vec<usize>> {
+    if pins.is_empty() {
+        return vec![Vec::new()];
+    }
+    let first = |k: usize| {
+        let mut rest = pins.to_vec();
+        let pin = rest.remove(k);
+        orders(&rest).into_iter().map(move |rest| [vec![pin], rest].concat())
+    };
+    (0..pins.len()).flat_map(first).collect()
+}
+
+/// Two operands as bytes.
+fn two(nets: [usize; 2]) -> Vec<u8> {
+    nets.iter().flat_map(|&net| (net as u16).to_le_bytes()).collect()
+}

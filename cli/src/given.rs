@@ -1,0 +1,88 @@
+//! A stage as it is given: a stage file, or a text in the line form, of which the library makes one. That it is a text is said by an option
+//! or by its name, never by what it holds.
+
+use crate::explain::Order;
+use crate::failure::{Failure, Outcome};
+use crate::input::{read_within, Input, MOST};
+use crate::netlist::{Names, Stage};
+use fovaheju::{Verdict, MADE_STAGE};
+use std::path::Path;
+
+/// So many bytes of a text are taken, and a longer one is refused in words: a cut could leave a text that reads.
+pub const MOST_TEXT: usize = 32_768;
+
+pub struct Given {
+    /// What was read.
+    pub input: Input,
+    /// Of a text: the answer of reading it, and the stage file that was made.
+    made: Option<(Verdict, Vec<u8>)>,
+}
+
+/// Whether a name asks for a text.
+pub fn names_text(path: &Path) -> bool {
+    path.as_os_str().as_encoded_bytes().ends_with(b".txt")
+}
+
+impl Given {
+    /// Reads a stage, or standard input for '-'. It is a text where that is asked for, or its name ends in .txt.
+    pub fn read(path: &Path, text: bool) -> Outcome<Given> {
+        if text || names_text(path) {
+            Given::text(path)
+        } else {
+            Ok(Given::file(read_within(path, MOST)?))
+        }
+    }
+
+    /// A stage file.
+    pub fn file(input: Input) -> Given {
+        Given { input, made: None }
+    }
+
+    /// Reads a text.
+    pub fn text(path: &Path) -> Outcome<Given> {
+        let input = read_within(path, MOST_TEXT)?;
+        if input.longer {
+            let words = format!("{}: has more than {MOST_TEXT} bytes, and no text of a stage has more than 27322", input.name);
+            return Err(Failure::says(words));
+        }
+        let mut file = vec![0; MADE_STAGE];
+        let written = fovaheju::read_text(&input.bytes, &mut file);
+        file.truncate(written.count as usize);
+        Ok(Given { input, made: Some((written.verdict, file)) })
+    }
+
+    pub fn name(&self) -> &str {
+        &self.input.name
+    }
+
+    /// The bytes of the stage file; none of a text that is refused.
+    pub fn bytes(&self) -> &[u8] {
+        self.made.as_ref().map_or(&self.input.bytes, |made| &made.1)
+    }
+
+    /// The verdict that refuses the text.
+    pub fn refused(&self) -> Option<Verdict> {
+        self.made.as_ref().map(|made| made.0).filter(|verdict| !verdict.accepts())
+    }
+
+    /// The verdict on the stage and a reference.
+    pub fn check(&self, order: Order, reference: &[u8]) -> Verdict {
+        self.refused().unwrap_or_else(|| fovaheju::check(order.mark(), self.bytes(), reference))
+    }
+
+    /// What the stage holds, with the names of the text where it came as one.
+    pub fn stage(&self) -> Stage {
+        let named = self.made.is_some() && self.refused().is_none();
+        Stage { names: named.then(|| names(&self.input.bytes)), ..Stage::of(self.bytes()) }
+    }
+}
+
+/// The names in a text that reads.
+fn names(text: &[u8]) -> Names {
+    let text = String::from_utf8_lossy(text);
+    let mut lines = text.lines();
+    let mut list = || lines.next().unwrap_or_default().split(',').map(str::to_string).collect();
+    let (inputs, outputs) = (list(), list());
+    let gates = lines.map(|line| line.rsplit(' ').next().unwrap_or_default().to_string()).collect();
+    Names { inputs, outputs, gates }
+}

@@ -1,0 +1,386 @@
+//! What the bytes of the two files say: their commands one by one, and what a readable file holds. For showing only: that a file reads, and
+//! every number of a verdict, comes from the proved library. Names are those of a text where the stage came as one, and else those that a
+//! written text has: input i is `xi` with the rails `xi_0` and `xi_1`, gate k is `gk`, output j is `yj`; signal k of a reference is `sk`.
+
+/// An operand that is not used.
+pub const ABSENT: usize = 0xFFFF;
+
+/// Which of the two files.
+#[derive(Clone, Copy, PartialEq, Eq, Debug)]
+pub enum Side {
+    Stage,
+    Reference,
+}
+
+/// The 27 cells: name and set expression; a plus is OR, letters side by side are AND.
+pub const CELLS: [(&str, &str); 27] = [
+    ("TH12", "A+B"),
+    ("TH22", "AB"),
+    ("TH13", "A+B+C"),
+    ("TH23", "AB+AC+BC"),
+    ("TH33", "ABC"),
+    ("TH23w2", "A+BC"),
+    ("TH33w2", "AB+AC"),
+    ("TH14", "A+B+C+D"),
+    ("TH24", "AB+AC+AD+BC+BD+CD"),
+    ("TH34", "ABC+ABD+ACD+BCD"),
+    ("TH44", "ABCD"),
+    ("TH24w2", "A+BC+BD+CD"),
+    ("TH34w2", "AB+AC+AD+BCD"),
+    ("TH44w2", "ABC+ABD+ACD"),
+    ("TH34w3", "A+BCD"),
+    ("TH44w3", "AB+AC+AD"),
+    ("TH24w22", "A+B+CD"),
+    ("TH34w22", "AB+AC+AD+BC+BD"),
+    ("TH44w22", "AB+ACD+BCD"),
+    ("TH54w22", "ABC+ABD"),
+    ("TH34w32", "A+BC+BD"),
+    ("TH54w32", "AB+ACD"),
+    ("TH44w322", "AB+AC+AD+BC"),
+    ("TH54w322", "AB+AC+BCD"),
+    ("THxor0", "AB+CD"),
+    ("THand0", "AB+BC+AD"),
+    ("TH24comp", "AC+BC+AD+BD"),
+];
+
+/// The operations 1 to 6 of a reference.
+pub const OPERATIONS: [&str; 6] = ["NOT", "AND", "OR", "XOR", "NAND", "NOR"];
+
+/// The cell of a kind: 1 to 27, and 129 to 155 without hold.
+fn cell(kind: u8) -> Option<(&'static str, &'static str)> {
+    CELLS.get(usize::from(kind & 0x7F).checked_sub(1)?).copied()
+}
+
+/// A kind without hold.
+pub fn relaxed(kind: u8) -> bool {
+    kind > 128
+}
+
+/// A kind by its name, a relaxed one with a leading r.
+pub fn kind_name(kind: u8) -> Option<String> {
+    let mark = if relaxed(kind) { "r" } else { "" };
+    Some(format!("{mark}{}", cell(kind)?.0))
+}
+
+pub fn set_expression(kind: u8) -> Option<&'static str> {
+    Some(cell(kind)?.1)
+}
+
+/// How many pins a kind has, from A on.
+pub fn pin_count(kind: u8) -> Option<usize> {
+    let most = cell(kind)?.1.bytes().filter(u8::is_ascii_uppercase).max()?;
+    Some(usize::from(most - b'A') + 1)
+}
+
+/// An operation by its name.
+pub fn operation_name(operation: u8) -> Option<&'static str> {
+    OPERATIONS.get(usize::from(operation).checked_sub(1)?).copied()
+}
+
+/// The commands of the two files. A new command has a row here, and what it says in `Listing::said`.
+#[derive(Clone, Copy, PartialEq, Eq, Debug)]
+pub enum Form {
+    Inputs,
+    Gate,
+    Output,
+    Care,
+    Operation,
+    Signal,
+    End,
+}
+
+const FORMS: [(Side, u8, usize, Form); 9] = [
+    (Side::Stage, 0x01, 2, Form::Inputs),
+    (Side::Stage, 0x02, 10, Form::Gate),
+    (Side::Stage, 0x03, 5, Form::Output),
+    (Side::Stage, 0x06, 3, Form::Care),
+    (Side::Stage, 0x00, 1, Form::End),
+    (Side::Reference, 0x01, 2, Form::Inputs),
+    (Side::Reference, 0x11, 6, Form::Operation),
+    (Side::Reference, 0x12, 3, Form::Signal),
+    (Side::Reference, 0x00, 1, Form::End),
+];
+
+/// How many bytes a command of a file has.
+pub fn length_of(side: Side, byte: u8) -> Option<usize> {
+    FORMS.iter().find(|row| row.0 == side && row.1 == byte).map(|row| row.2)
+}
+
+/// A command where it stands: its bytes, and its form unless the byte is none of this file's or the file ends within it.
+pub struct Command<'a> {
+    pub at: usize,
+    pub bytes: &'a [u8],
+    pub form: Option<Form>,
+}
+
+impl Command<'_> {
+    /// The operand of two bytes at a place of the command.
+    fn operand(&self, place: usize) -> usize {
+        usize::from(self.bytes[place]) | usize::from(self.bytes[place + 1]) << 8
+    }
+}
+
+/// The commands of a file up to the end command, or to the first that cannot be told; then what is left over as one more.
+pub fn commands(file: &[u8], side: Side) -> Vec<Command<'_>> {
+    let (mut listed, mut at) = (Vec::new(), 0);
+    while at < file.len() {
+        let row = FORMS.iter().find(|row| row.0 == side && row.1 == file[at]);
+        let known = row.filter(|row| at + row.2 <= file.len());
+        let Some(&(_, _, width, form)) = known else {
+            let rest = row.map_or(1, |_| file.len() - at);
+            listed.push(Command { at, bytes: &file[at..at + rest], form: None });
+            return listed;
+        };
+        listed.push(Command { at, bytes: &file[at..at + width], form: Some(form) });
+        at += width;
+        if form == Form::End {
+            break;
+        }
+    }
+    if at < file.len() {
+        listed.push(Command { at, bytes: &file[at..], form: None });
+    }
+    listed
+}
+
+/// A gate of a stage, with the pins that its kind has.
+#[derive(Clone, Debug)]
+pub struct Gate {
+    pub kind: u8,
+    pub pins: Vec<usize>,
+    /// The byte at which its command stands.
+    pub at: usize,
+}
+
+impl Gate {
+    pub fn name(&self) -> String {
+        kind_name(self.kind).unwrap_or_else(|| format!("kind {}", self.kind))
+    }
+}
+
+/// The names that a text gives: those of its inputs, of its outputs, and of the nets of its gates.
+#[derive(Clone, Debug, Default, PartialEq, Eq)]
+pub struct Names {
+    pub inputs: Vec<String>,
+    pub outputs: Vec<String>,
+    pub gates: Vec<String>,
+}
+
+/// What a stage file holds, as far as it can be told.
+#[derive(Clone, Debug, Default)]
+pub struct Stage {
+    pub inputs: usize,
+    pub gates: Vec<Gate>,
+    pub outputs: Vec<[usize; 2]>,
+    pub care: Vec<usize>,
+    /// Where it came as text: what the text calls its parts.
+    pub names: Option<Names>,
+}
+
+impl Stage {
+    pub fn of(file: &[u8]) -> Stage {
+        let mut stage = Stage::default();
+        for command in commands(file, Side::Stage) {
+            match command.form {
+                Some(Form::Inputs) => stage.inputs = command.bytes[1].into(),
+                Some(Form::Gate) => {
+                    let kind = command.bytes[1];
+                    let count = pin_count(kind).unwrap_or(4);
+                    let pins = (0..count).map(|pin| command.operand(2 + 2 * pin)).collect();
+                    stage.gates.push(Gate { kind, pins, at: command.at });
+                }
+                Some(Form::Output) => stage.outputs.push([command.operand(1), command.operand(3)]),
+                Some(Form::Care) => stage.care.push(command.operand(1)),
+                _ => {}
+            }
+        }
+        stage
+    }
+
+    pub fn nets(&self) -> usize {
+        2 * self.inputs + self.gates.len()
+    }
+
+    pub fn net_of(&self, gate: usize) -> usize {
+        2 * self.inputs + gate
+    }
+
+    /// The gate that drives a net.
+    pub fn driver(&self, net: usize) -> Option<usize> {
+        net.checked_sub(2 * self.inputs).filter(|&gate| gate < self.gates.len())
+    }
+
+    /// What a text calls a part, or else its letter and number.
+    fn called(&self, part: impl Fn(&Names) -> &Vec<String>, letter: char, number: usize) -> String {
+        let given = self.names.as_ref().and_then(|names| part(names).get(number));
+        given.cloned().unwrap_or_else(|| format!("{letter}{number}"))
+    }
+
+    pub fn input_name(&self, input: usize) -> String {
+        self.called(|names| &names.inputs, 'x', input)
+    }
+
+    pub fn output_name(&self, output: usize) -> String {
+        self.called(|names| &names.outputs, 'y', output)
+    }
+
+    pub fn gate_name(&self, gate: usize) -> String {
+        self.called(|names| &names.gates, 'g', gate)
+    }
+
+    pub fn net_name(&self, net: usize) -> String {
+        match self.driver(net) {
+            _ if net == ABSENT => "-".into(),
+            _ if net < 2 * self.inputs => format!("{}_{}", self.input_name(net / 2), net % 2),
+            Some(gate) => self.gate_name(gate),
+            None => format!("net {net}"),
+        }
+    }
+
+    /// A gate as `g3 = TH22(x0_1, g1)`.
+    pub fn gate_text(&self, gate: usize) -> String {
+        let Some(found) = self.gates.get(gate) else { return self.gate_name(gate) };
+        let pins: Vec<String> = found.pins.iter().map(|&pin| self.net_name(pin)).collect();
+        format!("{} = {}({})", self.gate_name(gate), found.name(), pins.join(", "))
+    }
+
+    /// The gates that read a net, in file order.
+    pub fn readers(&self, net: usize) -> Vec<usize> {
+        (0..self.gates.len()).filter(|&gate| self.gates[gate].pins.contains(&net)).collect()
+    }
+
+    /// The counts in words: `2 inputs, 3 gates, 1 output`.
+    pub fn counts(&self) -> String {
+        let relaxed = self.gates.iter().filter(|gate| relaxed(gate.kind)).count();
+        let mut text = many(self.inputs, "input") + ", " + &many(self.gates.len(), "gate");
+        if relaxed > 0 {
+            text += &format!(" ({relaxed} relaxed)");
+        }
+        text += ", ";
+        text += &many(self.outputs.len(), "output");
+        if !self.care.is_empty() {
+            text += ", ";
+            text += &many(self.care.len(), "care word");
+        }
+        text
+    }
+}
+
+/// A gate of a reference: its operation and its operands.
+#[derive(Clone, Debug)]
+pub struct Operation {
+    pub operation: u8,
+    pub operands: [usize; 2],
+}
+
+/// What a reference file holds, as far as it can be told.
+#[derive(Clone, Debug, Default)]
+pub struct Reference {
+    pub inputs: usize,
+    pub gates: Vec<Operation>,
+    pub outputs: Vec<usize>,
+}
+
+impl Reference {
+    pub fn of(file: &[u8]) -> Reference {
+        let mut reference = Reference::default();
+        for command in commands(file, Side::Reference) {
+            match command.form {
+                Some(Form::Inputs) => reference.inputs = command.bytes[1].into(),
+                Some(Form::Operation) => {
+                    reference.gates.push(Operation { operation: command.bytes[1], operands: [command.operand(2), command.operand(4)] })
+                }
+                Some(Form::Signal) => reference.outputs.push(command.operand(1)),
+                _ => {}
+            }
+        }
+        reference
+    }
+
+    pub fn signal_name(&self, signal: usize) -> String {
+        match signal {
+            ABSENT => "-".into(),
+            _ if signal < self.inputs => format!("x{signal}"),
+            _ if signal < self.inputs + self.gates.len() => format!("s{signal}"),
+            _ => format!("signal {signal}"),
+        }
+    }
+
+    /// A signal as `s2 = AND(x0, x1)`; an input by its name alone.
+    pub fn signal_text(&self, signal: usize) -> String {
+        let name = self.signal_name(signal);
+        let gate = signal.checked_sub(self.inputs).and_then(|k| self.gates.get(k));
+        let Some(gate) = gate else { return name };
+        let operation = operation_name(gate.operation).unwrap_or("?");
+        let count = if gate.operation == 1 { 1 } else { 2 };
+        let operands: Vec<String> = gate.operands[..count].iter().map(|&s| self.signal_name(s)).collect();
+        format!("{name} = {operation}({})", operands.join(", "))
+    }
+
+    /// What the outputs answer where the inputs have these values.
+    pub fn answer(&self, inputs: &[bool]) -> Vec<bool> {
+        let mut values = inputs.to_vec();
+        for gate in &self.gates {
+            let [a, b] = gate.operands.map(|signal| values.get(signal).copied().unwrap_or(false));
+            values.push(match gate.operation {
+                1 => !a,
+                2 => a & b,
+                3 => a | b,
+                4 => a ^ b,
+                5 => !(a & b),
+                _ => !(a | b),
+            });
+        }
+        self.outputs.iter().map(|&signal| values.get(signal).copied().unwrap_or(false)).collect()
+    }
+}
+
+/// What each command of a file says, one after the other.
+pub struct Listing {
+    stage: Stage,
+    reference: Reference,
+    gates: usize,
+    outputs: usize,
+}
+
+impl Listing {
+    pub fn of(file: &[u8], side: Side) -> Listing {
+        let (stage, reference) = match side {
+            Side::Stage => (Stage::of(file), Reference::default()),
+            Side::Reference => (Stage::default(), Reference::of(file)),
+        };
+        Listing { stage, reference, gates: 0, outputs: 0 }
+    }
+
+    /// What the next command says.
+    pub fn said(&mut self, command: &Command) -> String {
+        match command.form {
+            None => String::new(),
+            Some(Form::End) => "end".into(),
+            Some(Form::Inputs) => many(command.bytes[1].into(), "input"),
+            Some(Form::Care) => format!("care word {}", command.operand(1)),
+            Some(Form::Gate) => {
+                self.gates += 1;
+                self.stage.gate_text(self.gates - 1)
+            }
+            Some(Form::Output) => {
+                self.outputs += 1;
+                let [low, high] = [1, 3].map(|place| self.stage.net_name(command.operand(place)));
+                format!("y{}: rail 0 is {low}, rail 1 is {high}", self.outputs - 1)
+            }
+            Some(Form::Operation) => {
+                self.gates += 1;
+                self.reference.signal_text(self.reference.inputs + self.gates - 1)
+            }
+            Some(Form::Signal) => {
+                self.outputs += 1;
+                format!("y{}: {}", self.outputs - 1, self.reference.signal_name(command.operand(1)))
+            }
+        }
+    }
+}
+
+/// `1 gate`, `2 gates`.
+pub fn many(count: usize, what: &str) -> String {
+    format!("{count} {what}{}", if count == 1 { "" } else { "s" })
+}
