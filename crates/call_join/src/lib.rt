@@ -15,11 +15,13 @@ ghost use Rattle.verdict.specs.Answers.{valuesAt};
 ghost use Rattle.verdict.specs.Words.{wordOf};
 ghost use Rattle.verdict.specs.Checks.{sweep, finding};
 ghost use Rattle.verdict.specs.Verdicts.{accepted, verdictWithin};
-ghost use Rattle.join_spec.specs.Join.{files, stageRead, referenceRead, answerWord, uncaredCheck};
+ghost use Rattle.join_spec.specs.Join.{stageRead, referenceRead, answerWord, uncaredCheck};
 ghost use Rattle.circuit.specs.Stage.{stageIn, StageLoaded};
 ghost use Rattle.circuit.specs.Reference.{signalsIn, referenceIn, ReferenceLoaded};
 ghost use Rattle.call_join.specs.Steps.{uncaredUnder, joinParts, partOf, partLoaded, PartsLoaded};
-ghost use Rattle.join_spec.specs.Call.{answerWith, Leaves, JoinDemand};
+ghost use Rattle.join_spec.specs.Call.{answerWith, Leaves};
+ghost use Rattle.check_spec.specs.Content.{partFiles};
+ghost use Rattle.join_spec.specs.Joining.{JoinDemand};
 
 // ---- 23: words whose answer the second part does not care for
 
@@ -280,7 +282,7 @@ pub fn join(
     stage_out: &mut [u8],
     reference_out: &mut [u8],
 ) -> JoinAnswer
-    ensures { λ r. ⌜ JoinDemand order (files (now (stage1 .entry)) (now (reference1 .entry))) (files (now (stage2 .entry)) (now (reference2 .entry)))
+    ensures { λ r. ⌜ JoinDemand order (partFiles (now (stage1 .entry)) (now (reference1 .entry))) (partFiles (now (stage2 .entry)) (now (reference2 .entry)))
         (now («stage_out» .entry)) (now («reference_out» .entry)) r (now («stage_out» .exit)) (now («reference_out» .exit)) ⌝ }
 {
     let most = netlist::part_stage_limits();

@@ -5,7 +5,7 @@ use native.Mathlib.Omega.{arith}
 use mathlib.Core.Path.{_≡_, refl, sym, ap, ap₂, _∙_, subst}
 use mathlib.Core.Bool.{not}
 use mathlib.Core.List.{List, [], _∷_, _++_}
-use lib.ListN.{length, getD, take, length-map}
+use lib.ListN.{length, getD, length-map}
 use Rattle.verdict.specs.Nets.{noPair}
 use borrow.Author.Tests.{lt-ltb, le-ltb}
 use Rattle.netlist.specs.declared.File.the-variants as file
@@ -32,21 +32,19 @@ use Rattle.make_spec.specs.Made.{railsAt, built, madeStage, gatesNeeded}
 use Rattle.make_spec.specs.Count.{operations}
 use Rattle.make_spec.specs.Leading.{signals, leadsOut}
 use Rattle.make_spec.specs.Making.{madeBytes, makeChecks, makeUnless, makeReading, makeWithin, makeOn}
-use Rattle.make_spec.specs.Promises.{MadeFrom, MakeMeans}
-use Rattle.make_spec.proofs.Making.{needed-counted, laterTests, checks-by-tests, make-means, limits-fit}
+use Rattle.make_spec.proofs.Making.{needed-counted, laterTests, checks-by-tests}
 use Rattle.verdict.specs.declared.Answer.{Answer}
 use Rattle.write_command.specs.Put.{Put}
 use Rattle.write_command.specs.Parts.{gateItem, pairItem, bytesOf}
 use Rattle.verdict.specs.Written.{Written, answerOf, written}
 use Rattle.write_command.proofs.Joining.{put-++, put-holding}
-use Rattle.verdict.proofs.Written.{holding-take}
 use Rattle.write_command.proofs.Files.{stage-parts, stage-length, bytes-length, stage-gate-width, stage-output-width}
 use Rattle.circuit.specs.Reference.{signalIn, signalsIn, operatorIn, operatorsIn, referenceIn, ReferenceLoaded}
 use Rattle.circuit.proofs.Tabulate.{length-tabulate}
 use Rattle.write_made.specs.Rails.{pairsIn}
 use Rattle.circuit_load.specs.Load.{HoldsReference}
 use Rattle.circuit_load.proofs.Reading.{was-refused, reference-held}
-use Rattle.make_spec.specs.Call.{leaves, makeRead, MakeDemand}
+use Rattle.make_spec.specs.Call.{leaves, makeRead}
 use Rattle.write_command.proofs.Putting.{put-same}
 
 -- ---- the stage
@@ -178,18 +176,3 @@ module _ (s buffer : List ℕ) where
         m
         ∙ ap (λ (r : Reference). leaves (makeRead r (length buffer)) buffer) (l .2)
         ∙ sym (ap (λ (x : Reading). leaves (makeReading stageLimits s (length buffer) x) buffer) (l .1))
-
--- ---- what is said of the call
-
-pub demanded : (s buffer : List ℕ) (a : Answer) (after : List ℕ) → written a after ≡ leaves (makeOn s (length buffer)) buffer → MakeDemand s buffer a after
-demanded s buffer a after e = record {
-  answer = e;
-  means = means;
-  made = λ z. subst (MadeFrom stageLimits referenceLimits s) (sym first) (means .made (sym (ap (λ (w : Written). w .verdict .number) e) ∙ z) .1);
-}
-  where
-    means : MakeMeans stageLimits referenceLimits s (length buffer) (makeOn s (length buffer))
-    means = make-means stageLimits referenceLimits limits-fit s (length buffer)
-
-    first : take (a .count) after ≡ makeOn s (length buffer) .bytes
-    first = ap₂ take (ap (λ (w : Written). w .count) e) (ap (λ (w : Written). w .buffer) e) ∙ holding-take (makeOn s (length buffer) .bytes) buffer

@@ -17,7 +17,8 @@ ghost use Rattle.write_command.specs.Parts.{gateItem, pairItem, bytesOf};
 ghost use Rattle.verdict.specs.Written.{written};
 ghost use Rattle.circuit.specs.Reference.{signalsIn, referenceIn, ReferenceLoaded};
 ghost use Rattle.write_made.specs.Rails.{pairsIn};
-ghost use Rattle.make_spec.specs.Call.{leaves, makeRead, MakeDemand};
+ghost use Rattle.make_spec.specs.Call.{leaves, makeRead};
+ghost use Rattle.make_spec.specs.Make.{MakeDemand};
 
 // ---- the stage
 

@@ -1,2 +1,3 @@
+pub mod ReportLines
 pub mod Lines
 pub mod Reporting

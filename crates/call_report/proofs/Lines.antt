@@ -17,8 +17,8 @@ use Rattle.verdict.specs.Words.{spelled, names}
 use Rattle.verdict.proofs.Names.{spelled-below, names-rise}
 use Rattle.words.specs.Listed.{Listed}
 use Rattle.report_spec.specs.High.{gatesHigh, HighIn}
-use Rattle.report_spec.proofs.Lines.{map-at, lines-long}
-use Rattle.report_spec.specs.Report.{lines, mostLines, padded}
+use Rattle.call_report.proofs.ReportLines.{map-at, lines-long}
+use Rattle.call_report.specs.Report.{lines, mostLines, padded}
 use Rattle.call_report.specs.Lines.{linesBy, ListedTo, LinesTo}
 use Rattle.lane_count.proofs.Summing.{sum-more}
 

@@ -10,7 +10,7 @@ use Rattle.verdict.specs.declared.WordOrder.{WordOrder}
 use Rattle.verdict.specs.Levels.{sum}
 use Rattle.verdict.specs.Words.{spelled}
 use Rattle.verdict.specs.Loops.{NoLoop}
-use Rattle.report_spec.specs.Report.{mostLines}
+use Rattle.call_report.specs.Report.{mostLines}
 
 -- the lines of words by their names, where it is known how many gates are high in each word of the files
 abbrev pub linesBy : WordOrder → ℕ → List ℕ → List ℕ → List ℕ

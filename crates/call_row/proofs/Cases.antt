@@ -21,9 +21,10 @@ use Rattle.verdict.specs.Rows.{settled}
 use Rattle.verdict.specs.Checks.{verdict, first, atFault, sweep, finding, orLater, firstFault, looped, illegal, rowChecks}
 use Rattle.verdict.specs.Search.{least}
 use Rattle.verdict.specs.Verdicts.{RowAnswer, answerWith, accepted, settleUnless, settleReading, settledRow, settledRowWithin}
-use Rattle.verdict.specs.Demands.{DemandRow}
+use Rattle.check_spec.specs.Verdicts.{rowVerdict, rowAfter}
+use Rattle.check_spec.specs.Demands.{DemandRow}
+use Rattle.check_spec.proofs.Row.{row-is}
 use Rattle.verdict.proofs.Least.{least-says}
-use Rattle.verdict.proofs.Demands.{demand-row}
 use Rattle.circuit.specs.Stage.{stageGates, stageIn}
 use Rattle.circuit.proofs.Settling.{length-stageGates}
 use Rattle.circuit_order.specs.Marks.{LoopFound}
@@ -104,12 +105,12 @@ module _ (bytes row : List ℕ) where
 
   -- the answer has the verdict and the row, and so the demands
   pub answered : (v : Verdict) (row′ : List ℕ) → answerWith v row′ ≡ settledRow bytes row →
-      (v ≡ settledRow bytes row .verdict) × ((row′ ≡ settledRow bytes row .row) × DemandRow stageLimits bytes row v row′)
-  answered v row′ e = (
-    ap (λ (a : RowAnswer). a .verdict) e,
-    (
-      ap (λ (a : RowAnswer). a .row) e,
-      subst (λ (a : RowAnswer). DemandRow stageLimits bytes row (a .verdict) (a .row)) (sym e)
-          (demand-row stageLimits bytes row),
-    ),
-  )
+      (v ≡ rowVerdict bytes row) × ((row′ ≡ rowAfter bytes row) × DemandRow bytes row v row′)
+  answered v row′ e =
+      let is = row-is bytes row in (
+        ap (λ (a : RowAnswer). a .verdict) e ∙ sym (is .verdict-is),
+        (
+          ap (λ (a : RowAnswer). a .row) e ∙ sym (is .row-is),
+          subst (λ (a : RowAnswer). DemandRow bytes row (a .verdict) (a .row)) (sym e) (is .demand),
+        ),
+      )

@@ -6,12 +6,12 @@ use verdict::Verdict;
 ghost use mathlib.Core.Path.{_≡_};
 ghost use Prim.Native.Nat.{ℕ, _+_, _*_, _≤_, _<_};
 ghost use lib.ListN.{length, getD, take};
-ghost use Rattle.netlist.specs.Reading.{stageLimits};
 ghost use Rattle.verdict.specs.Rows as rows;
 ghost use Rattle.verdict.specs.Search.{least};
 ghost use Rattle.verdict.specs.Checks as checks;
 ghost use Rattle.verdict.specs.Verdicts as verdicts;
-ghost use Rattle.verdict.specs.Demands.{DemandRow};
+ghost use Rattle.check_spec.specs.Verdicts.{rowVerdict, rowAfter};
+ghost use Rattle.check_spec.specs.Demands.{DemandRow};
 ghost use Rattle.circuit.specs.Stage.{stageGates, stageIn, StageLoaded};
 ghost use Rattle.circuit.specs.Order.{InOrder};
 
@@ -120,9 +120,9 @@ fn settle_stage(code: &mut [u16], counts: Counts, row: &mut [u8]) -> Verdict
 // The verdict on a stage's bytes and a lent row. A refusal leaves the row as it was; else the bytes of the inputs keep their values
 // and those of the gates become their settled levels.
 pub fn settled_row(stage: &[u8], row: &mut [u8]) -> Verdict
-    ensures verdict { λ r. ⌜ r ≡ verdicts.settledRow (now (stage .entry)) (now (row .entry)) .verdict ⌝ }
-    ensures row { λ r. ⌜ now (row .exit) ≡ verdicts.settledRow (now (stage .entry)) (now (row .entry)) .row ⌝ }
-    ensures demands { λ r. ⌜ DemandRow stageLimits (now (stage .entry)) (now (row .entry)) r (now (row .exit)) ⌝ }
+    ensures verdict { λ r. ⌜ r ≡ rowVerdict (now (stage .entry)) (now (row .entry)) ⌝ }
+    ensures row { λ r. ⌜ now (row .exit) ≡ rowAfter (now (stage .entry)) (now (row .entry)) ⌝ }
+    ensures demands { λ r. ⌜ DemandRow (now (stage .entry)) (now (row .entry)) r (now (row .exit)) ⌝ }
 {
     let mut code = [0u16; circuit_load::STAGE_CODE];
     match circuit_load::read_stage(stage, &mut code) {

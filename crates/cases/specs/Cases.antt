@@ -2,26 +2,24 @@
 -- from the definitions alone.
 use Prim.Native.Nat.{ℕ, zero, suc, _+_, _*_}
 use mathlib.Core.Path.{_≡_, refl}
-use mathlib.Core.List.{List, [], _∷_, _++_, map}
+use mathlib.Core.List.{List, [], _∷_, _++_, map, flatMap}
 use Rattle.gates.specs.Cell as c
 use Rattle.netlist.specs.Bytes as b
 use Rattle.netlist.specs.Commands as k
 use Rattle.netlist.specs.Reading as r
-use Rattle.netlist.specs.Content as t
 use Rattle.verdict.specs.declared.Verdict.{Verdict}
-use Rattle.verdict.specs.Rows as o
-use Rattle.verdict.specs.Graph as g
-use Rattle.verdict.specs.Loops as l
-use Rattle.verdict.specs.Words as w
-use Rattle.verdict.specs.Answers as a
-use Rattle.verdict.specs.Falls as f
-use Rattle.verdict.specs.Retired as e
-use Rattle.verdict.specs.Checks as h
-use Rattle.verdict.specs.Checks.{verdict}
-use Rattle.verdict.specs.Verdicts as v
+use Rattle.check_spec.specs.Cases as e
+use Rattle.check_spec.specs.Cases.{verdict}
+use Rattle.check_spec.specs.Lists as l
+use Rattle.check_spec.specs.Content as t
+use Rattle.check_spec.specs.Content.{files}
+use Rattle.check_spec.specs.Rows as o
+use Rattle.check_spec.specs.Words as w
+use Rattle.check_spec.specs.Checks as h
+use Rattle.check_spec.specs.Verdicts as v
+use Rattle.check_spec.specs.Verdicts.{verdictOn, rowVerdict, rowAfter}
 use Rattle.verdict.specs.declared.WordOrder.{WordOrder}
 use Rattle.verdict.specs.declared.WordOrder.the-variants.{FirstHighest, FirstLowest}
-use Rattle.verdict.specs.Verdicts.{verdictOn, settledRow, RowAnswer, answerWith}
 
 -- ---- files
 
@@ -382,7 +380,7 @@ retired =
     []
 
 abbrev judgedIn : WordOrder → List Case → List Verdict
-judgedIn order cases = map (λ (x : Case). verdictOn order (x .stage) (x .reference)) cases
+judgedIn order cases = map (λ (x : Case). verdictOn order (files (x .stage) (x .reference))) cases
 
 -- in the order that is taken where nothing is said
 abbrev judged : List Case → List Verdict
@@ -392,6 +390,17 @@ abbrev expected : List Case → List Verdict
 expected cases = map (λ (x : Case). x .expected) cases
 
 -- ---- the settled-row call
+
+-- the verdict, and the row after the call
+pub record RowAnswer : Type 0 where
+  pub verdict : Verdict
+  pub row : List ℕ
+
+abbrev answerWith : Verdict → List ℕ → RowAnswer
+answerWith v row = record { verdict = v; row = row }
+
+abbrev settledRow : List ℕ → List ℕ → RowAnswer
+settledRow stage row = answerWith (rowVerdict stage row) (rowAfter stage row)
 
 pub record RowCase : Type 0 where
   pub stage : List ℕ
@@ -423,16 +432,19 @@ rowExamples =
 -- ---- computed, the two long files each by itself and all others at once
 
 pub many-gates : judged manyGates ≡ expected manyGates
-unfolding manyGates gates c.cells c.cellAt c.pinCount c.kindOf b.operand
-    k.whenFound k.ownCommands k.commandTable k.formIn k.pinsNeeded k.needed k.stray k.misfit k.misfitFrom k.takeGate k.takeSort k.takeCommand k.nextAt
-    r.floorAfter r.noted r.onNext r.readFrom r.readFile v.judgeStage v.verdictWithin
+unfolding manyGates gates c.cells c.cellAt c.pinCount c.kindOf b.operand b.operands
+    k.whenFound k.ownCommands k.commandTable k.formIn k.pinsNeeded k.needed k.stray k.misfit k.misfitFrom k.takeGate k.takeCare k.takeSort
+    k.takeCommand k.nextAt
+    r.nameable r.nameless r.usedOperands r.namelessAt r.namelessFrom r.floorAfter r.noted r.finish r.onNext r.readFrom r.readFile
+    t.contentAt v.refusal e.first e.judge
 many-gates = refl
 
 pub many-operations : judged manyOperations ≡ expected manyOperations
 unfolding manyOperations wire inverters b.operand b.operands
-    k.whenFound k.ownCommands k.commandTable k.formIn k.needed k.stray k.misfit k.misfitFrom k.takeGate k.takeSort k.takeCommand k.nextAt
-    r.nameable r.nameless r.usedOperands r.namelessAt r.namelessFrom r.floorAfter r.noted r.finish r.onNext r.readFrom r.readFile t.stageOf
-    v.judgeReference v.judgeStage v.verdictWithin
+    k.whenFound k.ownCommands k.commandTable k.formIn k.pinsNeeded k.needed k.stray k.misfit k.misfitFrom k.takeGate k.takeCare k.takeSort
+    k.takeCommand k.nextAt
+    r.nameable r.nameless r.usedOperands r.namelessAt r.namelessFrom r.floorAfter r.noted r.finish r.onNext r.readFrom r.readFile
+    t.contentAt v.refusal e.first e.judge
 many-operations = refl
 
 abbrev Computed : Type 0
@@ -450,16 +462,15 @@ Computed =
 computed : Computed
 unfolding twelve examples ordered refused care inFilesOrder earlyGates earlyOr orReference unobserved twoWires fallsEarly andNotReference staysHigh
     relaxed retired rowExamples wire wireReference wholeStage andReference swapped notReference earlyAnd wires wireSignals
-    outputs firstInput inverters c.cells c.cellAt c.pinCount c.setExpression c.retiredCells c.among c.isRetired c.kindOf b.operand b.operands
+    outputs firstInput inverters b.operand b.operands
     k.whenFound k.ownCommands k.commandTable k.formIn k.pinsNeeded k.needed k.stray k.misfit k.misfitFrom k.takeGate k.takeCare k.takeSort
     k.takeCommand k.nextAt
-    r.nameable r.nameless r.usedOperands r.namelessAt r.namelessFrom r.floorAfter r.noted r.finish r.onNext r.readFrom r.readFile t.stageOf
-    t.referenceOf o.withNull o.isSet o.rounds o.settledLevels o.levelsHolding o.everyPair
-    g.tabulate g.leading l.gateSteps l.reachesItself w.numbers w.caredFor w.words w.bitsOf w.railsOf w.wordOf w.spelled w.isIn w.select w.names
-    a.operate a.signalValues a.answer h.first h.atFault h.sweep
-    h.finding h.orLater h.firstFault h.wrong h.incomplete h.unobservable h.fallIncomplete h.fallUnobservable h.riseSweeps h.fallSweeps f.stays
-    f.fallenLevels f.fallen
-    e.retiredAt h.checks h.illegal h.rowChecks v.verdictOf v.judgeReference v.judgeStage v.verdictWithin v.settleUnless v.settleReading v.settledRowWithin
+    r.nameable r.nameless r.usedOperands r.namelessAt r.namelessFrom r.floorAfter r.noted r.finish r.onNext r.readFrom r.readFile
+    t.contentAt v.refusal e.first e.judge
+    l.numbers l.select l.some l.every l.ofBits l.reaches e.sweep o.rounds o.risen o.fallen o.reachesItself
+    w.caresFor w.spelled w.names w.operate w.values w.answer
+    h.wrong h.incomplete h.highAnd h.unobservable h.fallIncomplete h.fallUnobservable h.looped h.retired h.checks h.rowChecks v.settledBytes v.rowAfter
+    c.cells c.cellAt c.pinCount c.setExpression c.retiredCells c.among c.isRetired c.kindOf flatMap
 computed = (refl, refl, refl, refl, refl, refl, refl, refl, refl)
 
 pub twelve-cases : judged twelve ≡ expected twelve

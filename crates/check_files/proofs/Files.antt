@@ -1,13 +1,13 @@
 -- The two files by what reading and loading them answers.
 -- Assumes nothing.
 use Prim.Native.Nat.{ℕ}
-use mathlib.Core.Path.{_≡_, sym, ap, subst, _∙_}
+use mathlib.Core.Path.{_≡_, sym, ap, ap₂, subst, _∙_}
 use mathlib.Core.List.{List}
 use Rattle.netlist.specs.declared.File.the-variants as file
 use Rattle.netlist.specs.declared.Limits.{Limits}
 use Rattle.netlist.specs.declared.Counts.{Counts}
 use Rattle.netlist.specs.declared.Outcome.the-variants as outcome
-use Rattle.netlist.specs.Reading.{Reading, refused, readable, readFile}
+use Rattle.netlist.specs.Reading.{Reading, refused, readable, readFile, stageLimits, referenceLimits}
 use Rattle.netlist.specs.Read.{outcomeOf}
 use Rattle.netlist.specs.Content.{Stage, Reference}
 use Rattle.verdict.specs.declared.Verdict.{Verdict}
@@ -15,8 +15,11 @@ use Rattle.verdict.specs.declared.WordOrder.{WordOrder}
 use Rattle.verdict.specs.declared.Finding.{Finding}
 use Rattle.verdict.specs.Checks.{verdict, firstFault, checks}
 use Rattle.verdict.specs.Verdicts.{verdictOf, judgeReference, judgeStage, verdictWithin}
-use Rattle.verdict.specs.Demands.{Demand2, Demand3}
-use Rattle.verdict.proofs.Demands.{demand-2, demand-3}
+use Rattle.check_spec.specs.Content.{files}
+use Rattle.check_spec.specs.Verdicts.{verdictOn}
+use Rattle.check_spec.specs.Demands.{Demand2, Demand3}
+use Rattle.check_spec.proofs.Demanded.{demand-2, demand-3}
+use Rattle.check_spec.proofs.Bridge.{verdict-is}
 use Rattle.circuit.specs.Stage.{stageIn}
 use Rattle.circuit.specs.Reference.{referenceIn}
 use Rattle.circuit_load.specs.Load.{HoldsStage, HoldsReference}
@@ -54,25 +57,13 @@ module _ (order : WordOrder) (stageMost referenceMost : Limits) (s t : List ℕ)
       let r = stage-held s reading c code e h in
       j ∙ ap (λ (y : Stage). judgeReference order y t (readFile file.Reference referenceMost t)) (r .2) ∙ sym (ap (judgeStage order referenceMost s t) (r .1))
 
--- ---- the demands
+-- ---- the call
 
--- what the check answers within some limits
-abbrev pub Checked : WordOrder → Limits → Limits → List ℕ → List ℕ → Verdict → Type 0
-Checked order stageMost referenceMost s t v =
-    (v ≡ verdictWithin order stageMost referenceMost s t) × (Demand2 order stageMost referenceMost s t v × Demand3 order stageMost referenceMost s t v)
-
-pub with-demands : (order : WordOrder) (stageMost referenceMost : Limits) (s t : List ℕ) (v : Verdict) → v ≡ verdictWithin order stageMost referenceMost s t →
-    Checked order stageMost referenceMost s t v
-with-demands order stageMost referenceMost s t v e = (
-  e,
-  (
-    subst (Demand2 order stageMost referenceMost s t) (sym e) (demand-2 order stageMost referenceMost s t),
-    subst (Demand3 order stageMost referenceMost s t) (sym e) (demand-3 order stageMost referenceMost s t),
-  ),
-)
-
--- the same where the limits are those that were handed on
-pub checked-by : (order : WordOrder) (given most given′ most′ : Limits) (s t : List ℕ) (v : Verdict) → given ≡ most → given′ ≡ most′ →
-    Checked order given given′ s t v → Checked order most most′ s t v
-checked-by order given most given′ most′ s t v e e′ c =
-    subst (λ (m : Limits). Checked order most m s t v) e′ (subst (λ (m : Limits). Checked order m given′ s t v) e c)
+-- what the check answers within the limits of the two files
+pub checked : (order : WordOrder) (stageMost referenceMost : Limits) (s t : List ℕ) (v : Verdict) → stageMost ≡ stageLimits → referenceMost ≡ referenceLimits
+    → v ≡ verdictWithin order stageMost referenceMost s t
+    → (v ≡ verdictOn order (files s t)) × (Demand2 order (files s t) v × Demand3 order (files s t) v)
+checked order stageMost referenceMost s t v e e′ is =
+    let z : v ≡ verdictOn order (files s t) =
+    is ∙ ap₂ (λ (a b : Limits). verdictWithin order a b s t) e e′ ∙ sym (verdict-is order (files s t)) in
+    (z, (subst (Demand2 order (files s t)) (sym z) (demand-2 order (files s t)), subst (Demand3 order (files s t)) (sym z) (demand-3 order (files s t))))

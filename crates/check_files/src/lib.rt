@@ -13,7 +13,9 @@ ghost use Rattle.verdict.specs.Retired.{retiredAt};
 ghost use Rattle.verdict.specs.Search.{least};
 ghost use Rattle.verdict.specs.Checks as checks;
 ghost use Rattle.verdict.specs.Verdicts as verdicts;
-ghost use Rattle.verdict.specs.Demands.{Demand2, Demand3};
+ghost use Rattle.check_spec.specs.Content.{files};
+ghost use Rattle.check_spec.specs.Verdicts.{verdictOn};
+ghost use Rattle.check_spec.specs.Demands.{Demand2, Demand3};
 ghost use Rattle.circuit.specs.Stage.{stageGates, stageIn, StageLoaded};
 ghost use Rattle.circuit.specs.Reference.{referenceIn, ReferenceLoaded};
 
@@ -126,9 +128,7 @@ pub fn check_within(
     reference_most: Limits,
 ) -> Verdict
     requires { ⌜ NoMore «stage_most» stageLimits × NoMore «reference_most» referenceLimits ⌝ }
-    ensures verdict { λ r. ⌜ r ≡ verdicts.verdictWithin order «stage_most» «reference_most» (now (stage .entry)) (now (reference .entry)) ⌝ }
-    ensures demand2 { λ r. ⌜ Demand2 order «stage_most» «reference_most» (now (stage .entry)) (now (reference .entry)) r ⌝ }
-    ensures runs { λ r. ⌜ Demand3 order «stage_most» «reference_most» (now (stage .entry)) (now (reference .entry)) r ⌝ }
+    ensures { λ r. ⌜ r ≡ verdicts.verdictWithin order «stage_most» «reference_most» (now (stage .entry)) (now (reference .entry)) ⌝ }
 {
     let mut code = [0u16; circuit_load::STAGE_CODE];
     match circuit_load::read_stage_within(stage, stage_most, &mut code) {
@@ -146,9 +146,9 @@ pub fn check_within(
 
 // The same within the limits of the two files.
 pub fn check(order: WordOrder, stage: &[u8], reference: &[u8]) -> Verdict
-    ensures verdict { λ r. ⌜ r ≡ verdicts.verdictOn order (now (stage .entry)) (now (reference .entry)) ⌝ }
-    ensures demand2 { λ r. ⌜ Demand2 order stageLimits referenceLimits (now (stage .entry)) (now (reference .entry)) r ⌝ }
-    ensures runs { λ r. ⌜ Demand3 order stageLimits referenceLimits (now (stage .entry)) (now (reference .entry)) r ⌝ }
+    ensures verdict { λ r. ⌜ r ≡ verdictOn order (files (now (stage .entry)) (now (reference .entry))) ⌝ }
+    ensures demand2 { λ r. ⌜ Demand2 order (files (now (stage .entry)) (now (reference .entry))) r ⌝ }
+    ensures runs { λ r. ⌜ Demand3 order (files (now (stage .entry)) (now (reference .entry))) r ⌝ }
 {
     check_within(
         order,

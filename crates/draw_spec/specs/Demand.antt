@@ -5,8 +5,7 @@ use mathlib.Core.Logic.{_⊎_}
 use mathlib.Core.List.{List}
 use lib.ListN.{take}
 use Rattle.netlist.specs.Reading.{referenceLimits}
-use Rattle.verdict.specs.Checks.{verdict}
-use Rattle.verdict.specs.Verdicts.{accepted}
+use Rattle.verdict.specs.FourNumbers.{verdict, accepted}
 use Rattle.verdict.specs.Demands.{ReferenceIs}
 use Rattle.make_spec.specs.Making.{makeOn}
 use Rattle.verdict.specs.declared.Answer.{Answer}

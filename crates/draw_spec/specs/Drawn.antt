@@ -7,8 +7,8 @@ use lib.Dec.{leb, ltb}
 use Rattle.gates.specs.Cell.{among}
 use Rattle.netlist.specs.Content.{Coded, Reference}
 use Rattle.netlist.specs.Writing.{writeReference}
-use Rattle.verdict.specs.Words.{numbers, select}
-use Rattle.verdict.specs.Checks.{verdict}
+use Rattle.verdict.specs.Lists.{numbers, select}
+use Rattle.verdict.specs.FourNumbers.{verdict}
 use Rattle.verdict.specs.Written.{Written, refuse, writeOr}
 use Rattle.draw_spec.specs.Draws.{gatesFrom}
 

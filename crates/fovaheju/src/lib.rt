@@ -6,15 +6,13 @@ use verdict::Answer;
 use verdict::Verdict;
 use verdict::WordOrder;
 ghost use mathlib.Core.Path.{_≡_};
-ghost use Rattle.netlist.specs.Reading.{stageLimits, referenceLimits};
-ghost use Rattle.verdict.specs.Words.{orderOf};
-ghost use Rattle.verdict.specs.Verdicts.{verdictOn, settledRow};
-ghost use Rattle.verdict.specs.Demands.{Demand2, Demand3, DemandRow};
-ghost use Rattle.report_spec.specs.Report.{reportOn};
-ghost use Rattle.report_spec.specs.Activity.{ReportMeans};
-ghost use Rattle.join_spec.specs.Join.{files};
-ghost use Rattle.join_spec.specs.Call.{JoinDemand};
-ghost use Rattle.make_spec.specs.Call.{MakeDemand};
+ghost use Rattle.check_spec.specs.Content as content;
+ghost use Rattle.check_spec.specs.Words.{orderOf};
+ghost use Rattle.check_spec.specs.Verdicts.{verdictOn, rowVerdict, rowAfter};
+ghost use Rattle.check_spec.specs.Demands.{Demand2, Demand3, DemandRow};
+ghost use Rattle.report_spec.specs.Report.{reportOn, ReportMeans};
+ghost use Rattle.join_spec.specs.Joining.{JoinDemand};
+ghost use Rattle.make_spec.specs.Make.{MakeDemand};
 ghost use Rattle.text_spec.specs.Promises.{ReadDemand, WriteDemand};
 ghost use Rattle.next_spec.specs.Family.{NextDemand};
 ghost use Rattle.draw_spec.specs.Demand.{DrawnDemand};
@@ -22,9 +20,9 @@ ghost use Rattle.draw_spec.specs.Demand.{DrawnDemand};
 // The check of a stage file against a reference file, with words named in an order. The verdict is the one that the definitions give, and
 // demands 2 and 3 hold of it, with one run from another for an accepted stage.
 pub fn check(order: WordOrder, stage: &[u8], reference: &[u8]) -> Verdict
-    ensures verdict { λ r. ⌜ r ≡ verdictOn order (now (stage .entry)) (now (reference .entry)) ⌝ }
-    ensures demand2 { λ r. ⌜ Demand2 order stageLimits referenceLimits (now (stage .entry)) (now (reference .entry)) r ⌝ }
-    ensures runs { λ r. ⌜ Demand3 order stageLimits referenceLimits (now (stage .entry)) (now (reference .entry)) r ⌝ }
+    ensures verdict { λ r. ⌜ r ≡ verdictOn order (content.files (now (stage .entry)) (now (reference .entry))) ⌝ }
+    ensures demand2 { λ r. ⌜ Demand2 order (content.files (now (stage .entry)) (now (reference .entry))) r ⌝ }
+    ensures runs { λ r. ⌜ Demand3 order (content.files (now (stage .entry)) (now (reference .entry))) r ⌝ }
 {
     check_files::check(order, stage, reference)
 }
@@ -32,8 +30,8 @@ pub fn check(order: WordOrder, stage: &[u8], reference: &[u8]) -> Verdict
 // The switching report of a stage file against a reference file: the check's verdict, and of an accepted stage how many gates are high at the
 // rest of each word, in the order of their names, and in all words together, which is half of all gate switchings when each word rises and falls once.
 pub fn report(order: WordOrder, stage: &[u8], reference: &[u8]) -> Report
-    ensures report { λ r. ⌜ r ≡ reportOn order (now (stage .entry)) (now (reference .entry)) ⌝ }
-    ensures means { λ r. ⌜ ReportMeans order (now (stage .entry)) (now (reference .entry)) r ⌝ }
+    ensures report { λ r. ⌜ r ≡ reportOn order (content.files (now (stage .entry)) (now (reference .entry))) ⌝ }
+    ensures means { λ r. ⌜ ReportMeans (content.files (now (stage .entry)) (now (reference .entry))) r ⌝ }
 {
     call_report::report_on(order, stage, reference)
 }
@@ -41,9 +39,9 @@ pub fn report(order: WordOrder, stage: &[u8], reference: &[u8]) -> Report
 // The settled-row call: the verdict on a stage file and a lent row, one byte for each net. A refusal leaves the row as it was; else the
 // bytes of the inputs keep their values and those of the gates become their settled levels.
 pub fn settled_row(stage: &[u8], row: &mut [u8]) -> Verdict
-    ensures verdict { λ r. ⌜ r ≡ settledRow (now (stage .entry)) (now (row .entry)) .verdict ⌝ }
-    ensures row { λ r. ⌜ now (row .exit) ≡ settledRow (now (stage .entry)) (now (row .entry)) .row ⌝ }
-    ensures demands { λ r. ⌜ DemandRow stageLimits (now (stage .entry)) (now (row .entry)) r (now (row .exit)) ⌝ }
+    ensures verdict { λ r. ⌜ r ≡ rowVerdict (now (stage .entry)) (now (row .entry)) ⌝ }
+    ensures row { λ r. ⌜ now (row .exit) ≡ rowAfter (now (stage .entry)) (now (row .entry)) ⌝ }
+    ensures demands { λ r. ⌜ DemandRow (now (stage .entry)) (now (row .entry)) r (now (row .exit)) ⌝ }
 {
     call_row::settled_row(stage, row)
 }
@@ -59,7 +57,8 @@ pub fn join(
     stage_out: &mut [u8],
     reference_out: &mut [u8],
 ) -> JoinAnswer
-    ensures { λ r. ⌜ JoinDemand order (files (now (stage1 .entry)) (now (reference1 .entry))) (files (now (stage2 .entry)) (now (reference2 .entry)))
+    ensures { λ r. ⌜ JoinDemand order (content.partFiles (now (stage1 .entry)) (now (reference1 .entry)))
+        (content.partFiles (now (stage2 .entry)) (now (reference2 .entry)))
         (now («stage_out» .entry)) (now («reference_out» .entry)) r (now («stage_out» .exit)) (now («reference_out» .exit)) ⌝ }
 {
     call_join::join(
@@ -126,9 +125,9 @@ fn order_of(mark: u64) -> WordOrder
 // The check for callers in C and in Rust, with the contract of `check`.
 #[no_mangle]
 pub extern "C" fn fovaheju_check(order: u64, stage: &[u8], reference: &[u8]) -> Verdict
-    ensures verdict { λ r. ⌜ r ≡ verdictOn (orderOf order) (now (stage .entry)) (now (reference .entry)) ⌝ }
-    ensures demand2 { λ r. ⌜ Demand2 (orderOf order) stageLimits referenceLimits (now (stage .entry)) (now (reference .entry)) r ⌝ }
-    ensures runs { λ r. ⌜ Demand3 (orderOf order) stageLimits referenceLimits (now (stage .entry)) (now (reference .entry)) r ⌝ }
+    ensures verdict { λ r. ⌜ r ≡ verdictOn (orderOf order) (content.files (now (stage .entry)) (now (reference .entry))) ⌝ }
+    ensures demand2 { λ r. ⌜ Demand2 (orderOf order) (content.files (now (stage .entry)) (now (reference .entry))) r ⌝ }
+    ensures runs { λ r. ⌜ Demand3 (orderOf order) (content.files (now (stage .entry)) (now (reference .entry))) r ⌝ }
 {
     check(order_of(order), stage, reference)
 }
@@ -136,8 +135,8 @@ pub extern "C" fn fovaheju_check(order: u64, stage: &[u8], reference: &[u8]) -> 
 // The report for callers in C and in Rust, with the contract of `report`.
 #[no_mangle]
 pub extern "C" fn fovaheju_report(order: u64, stage: &[u8], reference: &[u8]) -> Report
-    ensures report { λ r. ⌜ r ≡ reportOn (orderOf order) (now (stage .entry)) (now (reference .entry)) ⌝ }
-    ensures means { λ r. ⌜ ReportMeans (orderOf order) (now (stage .entry)) (now (reference .entry)) r ⌝ }
+    ensures report { λ r. ⌜ r ≡ reportOn (orderOf order) (content.files (now (stage .entry)) (now (reference .entry))) ⌝ }
+    ensures means { λ r. ⌜ ReportMeans (content.files (now (stage .entry)) (now (reference .entry))) r ⌝ }
 {
     report(order_of(order), stage, reference)
 }
@@ -145,9 +144,9 @@ pub extern "C" fn fovaheju_report(order: u64, stage: &[u8], reference: &[u8]) ->
 // The settled-row call for callers in C and in Rust, with the contract of `settled_row`.
 #[no_mangle]
 pub extern "C" fn fovaheju_settled_row(stage: &[u8], row: &mut [u8]) -> Verdict
-    ensures verdict { λ r. ⌜ r ≡ settledRow (now (stage .entry)) (now (row .entry)) .verdict ⌝ }
-    ensures row { λ r. ⌜ now (row .exit) ≡ settledRow (now (stage .entry)) (now (row .entry)) .row ⌝ }
-    ensures demands { λ r. ⌜ DemandRow stageLimits (now (stage .entry)) (now (row .entry)) r (now (row .exit)) ⌝ }
+    ensures verdict { λ r. ⌜ r ≡ rowVerdict (now (stage .entry)) (now (row .entry)) ⌝ }
+    ensures row { λ r. ⌜ now (row .exit) ≡ rowAfter (now (stage .entry)) (now (row .entry)) ⌝ }
+    ensures demands { λ r. ⌜ DemandRow (now (stage .entry)) (now (row .entry)) r (now (row .exit)) ⌝ }
 {
     settled_row(stage, row)
 }
@@ -163,7 +162,8 @@ pub extern "C" fn fovaheju_join(
     stage_out: &mut [u8],
     reference_out: &mut [u8],
 ) -> JoinAnswer
-    ensures { λ r. ⌜ JoinDemand (orderOf order) (files (now (stage1 .entry)) (now (reference1 .entry))) (files (now (stage2 .entry)) (now (reference2 .entry)))
+    ensures { λ r. ⌜ JoinDemand (orderOf order) (content.partFiles (now (stage1 .entry)) (now (reference1 .entry)))
+        (content.partFiles (now (stage2 .entry)) (now (reference2 .entry)))
         (now («stage_out» .entry)) (now («reference_out» .entry)) r (now («stage_out» .exit)) (now («reference_out» .exit)) ⌝ }
 {
     join(

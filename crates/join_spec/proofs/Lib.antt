@@ -6,4 +6,6 @@ pub mod Words
 pub mod Joining
 pub mod Because
 pub mod Cut
+pub mod Alike
+pub mod Judging
 pub mod Call

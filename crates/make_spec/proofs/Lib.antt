@@ -7,5 +7,7 @@ pub mod Values
 pub mod Leading
 pub mod Marks
 pub mod Stage
+pub mod Alike
 pub mod Making
 pub mod Cut
+pub mod Call

@@ -1,3 +1,4 @@
+pub mod Make
 pub mod Made
 pub mod Count
 pub mod Leading

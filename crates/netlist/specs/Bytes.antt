@@ -1,5 +1,5 @@
 -- Bytes of a file and the operands in them. A file is a list of bytes.
-use Prim.Native.Nat.{ℕ, zero, suc, _+_, _*_}
+use Prim.Native.Nat.{ℕ, zero, suc, _+_, _*_, _/_, _%_}
 use mathlib.Core.List.{List, [], _∷_}
 use lib.ListN.{getD}
 
@@ -18,3 +18,9 @@ operands s at (suc k) = operand s at ∷ operands s (at + 2) k
 -- what an operand that is not used holds; it names nothing
 abbrev pub absent : ℕ
 absent = 0xFFFF
+
+-- k operands as they are written, FFFF where there is none
+abbrev pub writeOperands : ℕ → List ℕ → List ℕ
+writeOperands zero vs = []
+writeOperands (suc k) [] = 0xFF ∷ 0xFF ∷ writeOperands k []
+writeOperands (suc k) (v ∷ vs) = v % 256 ∷ v / 256 ∷ writeOperands k vs

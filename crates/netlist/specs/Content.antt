@@ -1,23 +1,12 @@
 -- What a readable file holds: the parsed stage and the parsed reference, as views of the file through the places of its commands.
 use Prim.Native.Nat.{ℕ, _+_}
-use mathlib.Core.Bool.{Bool, true, false}
+use mathlib.Core.Bool.{Bool}
 use mathlib.Core.List.{List, map}
 use Rattle.gates.specs.Cell.{kindOf}
-use Rattle.gates.specs.declared.Kind.{Kind}
-use Rattle.gates.specs.declared.Kind.the-variants.{Hold, Relaxed, Unknown}
-use Rattle.netlist.specs.Types.{File}
 use Rattle.netlist.specs.Types.file
-use Rattle.netlist.specs.Bytes.{byte, operand, operands}
-use Rattle.netlist.specs.Commands.{needed}
+use Rattle.netlist.specs.Bytes.{operand}
 use Rattle.netlist.specs.Reading.{Places}
-
--- a gate command's kind or operation, and the operands that it needs
-pub record Coded : Type 0 where
-  pub code : ℕ
-  pub operands : List ℕ
-
-abbrev pub codedAt : File → List ℕ → ℕ → Coded
-codedAt f s at = record { code = byte s (at + 1); operands = operands s (at + 2) (needed f (byte s (at + 1))) }
+pub use Rattle.netlist.specs.Coded.{Coded, codedAt, cellOf, holdOf}
 
 -- a gate of a stage: its cell, 1 to 27; whether it has hold; and the nets at the pins that it has, from A on
 pub record Gate : Type 0 where
@@ -36,16 +25,6 @@ pub record Stage : Type 0 where
   pub gates : List Gate
   pub outputs : List Pair
   pub care : List ℕ
-
-abbrev pub cellOf : Kind → ℕ
-cellOf (Hold cell pins) = cell
-cellOf (Relaxed cell pins) = cell
-cellOf Unknown = 0
-
-abbrev pub holdOf : Kind → Bool
-holdOf (Hold cell pins) = true
-holdOf (Relaxed cell pins) = false
-holdOf Unknown = false
 
 abbrev pub gateOf : Coded → Gate
 gateOf c = record { cell = cellOf (kindOf (c .code)); hold = holdOf (kindOf (c .code)); pins = c .operands }

@@ -2,6 +2,7 @@ pub mod Types
 pub mod Bytes
 pub mod Commands
 pub mod Reading
+pub mod Coded
 pub mod Content
 pub mod Writing
 pub mod Formed

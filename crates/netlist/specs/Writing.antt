@@ -1,5 +1,5 @@
 -- Writing a file: the commands of a content, in any order; and which contents fit a file.
-use Prim.Native.Nat.{ℕ, zero, suc, _+_, _/_, _%_, _^_, _≤_, _<_}
+use Prim.Native.Nat.{ℕ, suc, _+_, _^_, _≤_, _<_}
 use mathlib.Core.Path.{_≡_}
 use mathlib.Core.List.{List, [], _∷_, _++_, map}
 use lib.ListN.{length}
@@ -8,6 +8,7 @@ use Rattle.netlist.specs.Types.{File, Sort, Role, Form, Limits}
 use Rattle.netlist.specs.Types.file
 use Rattle.netlist.specs.Types.sort
 use Rattle.netlist.specs.Bytes.{absent}
+pub use Rattle.netlist.specs.Bytes.{writeOperands}
 use Rattle.netlist.specs.Commands.{formOf, width, needed}
 use Rattle.netlist.specs.Reading.{nameable, Places, Ascending}
 use Rattle.netlist.specs.Content.{Coded, Gate, Pair, Stage, Reference}
@@ -82,12 +83,6 @@ abbrev pub placesOf : File → ℕ → List Item → Places
 placesOf f n items = record { inputs = n; gates = gatePlaces f 2 items; outputs = outputPlaces f 2 items; care = careIn items }
 
 -- ---- bytes
-
--- k operands, FFFF where there is none
-abbrev pub writeOperands : ℕ → List ℕ → List ℕ
-writeOperands zero vs = []
-writeOperands (suc k) [] = 0xFF ∷ 0xFF ∷ writeOperands k []
-writeOperands (suc k) (v ∷ vs) = v % 256 ∷ v / 256 ∷ writeOperands k vs
 
 abbrev pub writeItem : File → Item → List ℕ
 writeItem f (gate c) = commandByte f sort.Gate ∷ c .code ∷ writeOperands (operandCount f sort.Gate) (c .operands)

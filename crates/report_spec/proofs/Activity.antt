@@ -2,35 +2,46 @@
 -- Assumes nothing.
 use Prim.Native.Nat.{ℕ, zero, suc, _+_, _*_, _^_, _≤_, _<_}
 use native.Mathlib.Omega.{arith}
-use mathlib.Core.Path.{_≡_, refl, sym, ap, subst, _∙_}
-use mathlib.Core.Bool.{Bool, true, false, not}
+use mathlib.Core.Path.{_≡_, refl, sym, ap, ap₂, subst, _∙_, fun-ext}
+use mathlib.Core.Bool.{Bool, true, false, cond, not}
 use mathlib.Core.Logic.{_⊎_, inl, inr}
-use mathlib.Core.List.{List, [], _∷_, _++_, map}
+use mathlib.Core.List.{List, [], _∷_, _++_, map, map-map}
 use lib.ListN.{length, getD, length-append, List·getD-eq-default}
 use lib.Seq.{getD-append-add}
 use lib.Dec.{eqb, ltb}
 use borrow.Author.Tests.{lt-ltb, le-ltb, eq-eqb}
 use Rattle.runs.specs.Row.{Row, low, after, tally, times}
-use Rattle.runs.specs.Net.{rails, RiseList, RiseEnd}
+use Rattle.runs.specs.Net.{Net, rails, RiseList, RiseEnd}
 use Rattle.runs.specs.Promise.{Rest, Promise}
-use Rattle.netlist.specs.declared.Limits.{Limits}
-use Rattle.netlist.specs.Reading.{Ascending}
-use Rattle.netlist.specs.Content.{Stage, Reference}
-use Rattle.netlist.specs.Formed.{StageFormed}
-use Rattle.netlist.proofs.Stages.{stage-formed}
+use Rattle.runs.proofs.Test.{clash, eqb-eq}
+use Rattle.netlist.specs.declared.File.the-variants as file
+use Rattle.netlist.specs.Reading.{Places, Ascending, Reading, refused, readable, readFile}
+use Rattle.netlist.specs.Content.{Stage}
+use Rattle.verdict.specs.declared.Verdict.{Verdict}
+use Rattle.verdict.specs.declared.WordOrder.{WordOrder}
 use Rattle.verdict.specs.Levels.{Bits, sum}
 use Rattle.verdict.specs.Rows.{high, settled, settledLevels}
-use Rattle.verdict.specs.declared.WordOrder.{WordOrder}
-use Rattle.verdict.specs.Words.{IsWord, railsIn}
-use Rattle.verdict.specs.Nets.{netOf, rowOf, railsFor, answerBits, restRow}
-use Rattle.verdict.specs.Demands.{RisesTo, Kept}
+use Rattle.verdict.specs.Words as words
+use Rattle.verdict.specs.Words.{railsIn}
+use Rattle.verdict.specs.Nets as nets
+use Rattle.verdict.specs.Nets.{rowOf}
 use Rattle.verdict.proofs.Levels.{bits-length, bits-get}
 use Rattle.verdict.proofs.Settling.{settled-bits}
 use Rattle.verdict.proofs.Names.{words-once}
 use Rattle.verdict.proofs.OneWord.{wires-length}
-use Rattle.report_spec.specs.High.{gatesHigh}
-use Rattle.report_spec.specs.Report.{byName}
-use Rattle.report_spec.specs.Activity.{gateSwitchings, Cycle, switchings, EachWordOnce, Cycled, HalfOfAll}
+use Rattle.check_spec.specs.Cases.{accepted}
+use Rattle.check_spec.specs.Content.{Content, Files, stageIn}
+use Rattle.check_spec.specs.Rows.{netOf}
+use Rattle.check_spec.specs.Words.{railsFor, spelled, names, IsWord}
+use Rattle.check_spec.specs.Checks.{rest}
+use Rattle.check_spec.specs.Verdicts.{refusal, reading, verdictOn}
+use Rattle.check_spec.specs.Demands.{Pass, LoopFree, answerTo, Kept}
+use Rattle.check_spec.proofs.View.{stageView}
+use Rattle.check_spec.proofs.Alike.{spelled-alike, names-alike, rest-alike, levels-alike, word-in, in-word, care-rises}
+use Rattle.check_spec.proofs.Exactly.{accepted-passes}
+use Rattle.check_spec.proofs.Demanded.{demand-3}
+use Rattle.report_spec.specs.High as code
+use Rattle.report_spec.specs.Report.{gatesHigh, reportOf, lines, reportOn, gateSwitchings, Cycle, switchings, EachWordOnce, Cycled, ReportMeans}
 use Rattle.report_spec.proofs.Counting.{upTo, upTo-same, upTo-zero, upTo-split, upTo-levels, weigh, weigh-zero, sum-times, sum-same}
 
 -- ---- one list
@@ -70,43 +81,57 @@ module _ (s : Stage) (w : ℕ) (l : List ℕ) (once : (k : ℕ) → times k l �
   abbrev isGate : ℕ → ℕ
   isGate k = tally (not (ltb k n2)) 0
 
-  pub list-gates : gateSwitchings (netOf s) l ≡ gatesHigh s w
+  pub list-gates : gateSwitchings (nets.netOf s) l ≡ code.gatesHigh s w
   list-gates =
-      let a : gateSwitchings (netOf s) l ≡ upTo (n2 + g) (λ k. weigh (times k l) (isGate k)) = sum-times isGate (n2 + g) l past in
+      let a : gateSwitchings (nets.netOf s) l ≡ upTo (n2 + g) (λ k. weigh (times k l) (isGate k)) = sum-times isGate (n2 + g) l past in
       let b : upTo (n2 + g) (λ k. weigh (times k l) (isGate k)) ≡ upTo n2 (λ k. weigh (times k l) (isGate k)) + upTo g (λ k. weigh (times (n2 + k) l) (isGate (n2 + k))) = upTo-split n2 g (λ k. weigh (times k l) (isGate k)) in
       let c : upTo n2 (λ k. weigh (times k l) (isGate k)) ≡ 0 = upTo-zero n2 (λ k. weigh (times k l) (isGate k)) (λ k h. ap (λ b. weigh (times k l) (tally (not b) 0)) (lt-ltb k n2 h) ∙ weigh-zero (times k l)) in
       let d : upTo g (λ k. weigh (times (n2 + k) l) (isGate (n2 + k))) ≡ upTo g (λ k. getD levels k 0) = upTo-same g (λ k. weigh (times (n2 + k) l) (isGate (n2 + k))) (λ k. getD levels k 0) (λ k h. ap (λ b. weigh (times (n2 + k) l) (tally (not b) 0)) (le-ltb (n2 + k) n2 (omega arith)) ∙ gate k (getD levels k 0) refl (bits-get g levels (settled-bits (s .gates) wires) k)) in
       let e : sum levels ≡ upTo g (λ k. getD levels k 0) = upTo-levels levels ∙ ap (λ (m : ℕ). upTo m (λ k. getD levels k 0)) levels-long in
       omega (arith, a ∙ b, c, d, e)
 
+-- ---- what the theory counts
+
+module _ (c : Content) (free : LoopFree (netOf c)) (w : ℕ) where
+  pub high-alike : code.gatesHigh (stageView c) w ≡ gatesHigh c w
+  high-alike = ap sum (levels-alike c free w)
+
+  pub switched-gates : (l : List ℕ) → ((k : ℕ) → times k l ≡ tally (rest c w k) 0) → gateSwitchings (netOf c) l ≡ gatesHigh c w
+  switched-gates l once =
+      list-gates (stageView c) w l (λ k. once k ∙ ap (λ (R : Row). tally (R k) 0) (sym (rest-alike c free w))) ∙ high-alike
+
 -- ---- one word
 
 -- a word in which the promise is kept: it has cycles, and each switches the gates high at its rest, up and down again
-module _ (s : Stage) (r : Reference) (w : ℕ) (promise : Promise (netOf s) (railsFor s w) (answerBits r w)) (rises : RisesTo s (railsFor s w) (restRow s w)) where
-  module _ (p : Cycle s) (e : p .word ≡ w) where
-    legal : RiseList (netOf s) (railsFor s w) (p .rise)
-    legal = subst (λ (v : ℕ). RiseList (netOf s) (railsFor s v) (p .rise)) e (p .rise-legal)
+module _ (f : Files) (free : LoopFree (netOf (stageIn f))) (w : ℕ) (kept : Kept f w) where
+  abbrev N : Net
+  N = netOf (stageIn f)
 
-    ended : RiseEnd (netOf s) (railsFor s w) (p .rise)
-    ended = subst (λ (v : ℕ). RiseEnd (netOf s) (railsFor s v) (p .rise)) e (p .rise-ended)
+  module _ (p : Cycle N) (e : p .word ≡ w) where
+    legal : RiseList N (railsFor w) (p .rise)
+    legal = subst (λ (v : ℕ). RiseList N (railsFor v) (p .rise)) e (p .rise-legal)
 
-    rest : Rest (netOf s) (railsFor s w) (answerBits r w) (p .rise)
-    rest = promise .lists (p .rise) legal .end-rest ended
+    ended : RiseEnd N (railsFor w) (p .rise)
+    ended = subst (λ (v : ℕ). RiseEnd N (railsFor v) (p .rise)) e (p .rise-ended)
 
-    high-there : (i : ℕ) → tally (after low (p .rise) i) 0 ≡ tally (restRow s w i) 0
-    high-there i = ap (λ (R : Row). tally (R i) 0) (rises .end-is (p .rise) legal ended)
+    at-rest : Rest N (railsFor w) (answerTo f w) (p .rise)
+    at-rest = kept .promise .lists (p .rise) legal .end-rest ended
 
-    rise-gates : gateSwitchings (netOf s) (p .rise) ≡ gatesHigh s w
-    rise-gates = list-gates s w (p .rise) (λ i. rest .switched .once i ∙ high-there i)
+    high-there : (i : ℕ) → tally (after low (p .rise) i) 0 ≡ tally (rest (stageIn f) w i) 0
+    high-there i = ap (λ (R : Row). tally (R i) 0) (kept .rest-is .end-is (p .rise) legal ended)
 
-    fall-gates : gateSwitchings (netOf s) (p .fall) ≡ gatesHigh s w
-    fall-gates = list-gates s w (p .fall) (λ i. rest .falls (p .fall) (p .fall-legal) .end-switched (p .fall-ended) .once i ∙ high-there i)
+    rise-gates : gateSwitchings N (p .rise) ≡ gatesHigh (stageIn f) w
+    rise-gates = switched-gates (stageIn f) free w (p .rise) (λ i. at-rest .switched .once i ∙ high-there i)
 
-  pub cycled : Cycled s w
+    fall-gates : gateSwitchings N (p .fall) ≡ gatesHigh (stageIn f) w
+    fall-gates =
+        switched-gates (stageIn f) free w (p .fall) (λ i. at-rest .falls (p .fall) (p .fall-legal) .end-switched (p .fall-ended) .once i ∙ high-there i)
+
+  pub cycled : Cycled (stageIn f) w
   cycled = record {
     some =
-        let up = promise .lists [] tt .goes-on in
-        let down = promise .lists (up .more) (up .legal) .end-rest (up .ended) .falls [] tt .goes-on in (
+        let up = kept .promise .lists [] tt .goes-on in
+        let down = kept .promise .lists (up .more) (up .legal) .end-rest (up .ended) .falls [] tt .goes-on in (
           record {
             word = w;
             rise = up .more;
@@ -120,25 +145,43 @@ module _ (s : Stage) (r : Reference) (w : ℕ) (promise : Promise (netOf s) (rai
         );
     rises = rise-gates;
     falls = fall-gates;
-    back = λ p e. rest p e .falls (p .fall) (p .fall-legal) .end-low (p .fall-ended);
+    back = λ p e. at-rest p e .falls (p .fall) (p .fall-legal) .end-low (p .fall-ended);
   }
 
 -- ---- all words
 
-module _ (order : WordOrder) (s : Stage) (care : Ascending (2 ^ s .inputs) 0 (s .care)) where
-  module _ (cycle : (p : Cycle s) → IsWord s (p .word) → switchings s p ≡ 2 * gatesHigh s (p .word)) where
-    abbrev wordOf : Cycle s → ℕ
+module _ (order : WordOrder) (c : Content) (care : Ascending (2 ^ c .inputs) 0 (c .care)) where
+  abbrev byName : List ℕ
+  byName = map (spelled order (c .inputs)) (names order c)
+
+  -- each word stands once among those of the names
+  once : (w : ℕ) → (IsWord c w × (times w byName ≡ 1)) ⊎ ((¬ (IsWord c w)) × (times w byName ≡ 0))
+  once w = subst (λ (l : List ℕ). (IsWord c w × (times w l ≡ 1)) ⊎ ((¬ (IsWord c w)) × (times w l ≡ 0))) (sym same) (go (words-once order (stageView c) care w))
+    where
+      same : byName ≡ map (words.spelled order (c .inputs)) (words.names order (stageView c))
+      same = ap₂ (λ (f : ℕ → ℕ) (l : List ℕ). map f l) (fun-ext (spelled-alike order (c .inputs))) (names-alike order c)
+
+      listed : List ℕ
+      listed = map (words.spelled order (c .inputs)) (words.names order (stageView c))
+
+      go : (words.IsWord (stageView c) w × (times w listed ≡ 1)) ⊎ ((¬ (words.IsWord (stageView c) w)) × (times w listed ≡ 0))
+          → (IsWord c w × (times w listed ≡ 1)) ⊎ ((¬ (IsWord c w)) × (times w listed ≡ 0))
+      go (inl h) = inl (in-word c care w (h .0), h .1)
+      go (inr h) = inr (λ i. h .0 (word-in c care w i), h .1)
+
+  module _ (cycle : (p : Cycle (netOf c)) → IsWord c (p .word) → switchings (netOf c) p ≡ 2 * gatesHigh c (p .word)) where
+    abbrev wordOf : Cycle (netOf c) → ℕ
     wordOf p = p .word
 
-    cycles-twice : (cycles : List (Cycle s)) → ((w : ℕ) → ¬ (IsWord s w) → times w (map wordOf cycles) ≡ 0)
-        → sum (map (switchings s) cycles) ≡ 2 * sum (map (gatesHigh s) (map wordOf cycles))
+    cycles-twice : (cycles : List (Cycle (netOf c))) → ((w : ℕ) → ¬ (IsWord c w) → times w (map wordOf cycles) ≡ 0)
+        → sum (map (switchings (netOf c)) cycles) ≡ 2 * sum (map (gatesHigh c) (map wordOf cycles))
     cycles-twice [] none = refl
-    cycles-twice (p ∷ cycles) none = omega (arith, cycle p (first (words-once order s care (p .word))), cycles-twice cycles (λ w n. tail w (eqb w (p .word)) (none w n)))
+    cycles-twice (p ∷ cycles) none = omega (arith, cycle p (first (once (p .word))), cycles-twice cycles (λ w n. tail w (eqb w (p .word)) (none w n)))
       where
         later : ℕ → ℕ
         later w = times w (map wordOf cycles)
 
-        first : (IsWord s (p .word) × (times (p .word) (byName order s) ≡ 1)) ⊎ ((¬ (IsWord s (p .word))) × (times (p .word) (byName order s) ≡ 0)) → IsWord s (p .word)
+        first : (IsWord c (p .word) × (times (p .word) byName ≡ 1)) ⊎ ((¬ (IsWord c (p .word))) × (times (p .word) byName ≡ 0)) → IsWord c (p .word)
         first (inl h) = h .0
         first (inr h) = absurd (omega (arith, sym (ap (λ b. tally b (later (p .word))) (eq-eqb (p .word) (p .word) refl)) ∙ none (p .word) (h .0)))
 
@@ -146,20 +189,45 @@ module _ (order : WordOrder) (s : Stage) (care : Ascending (2 ^ s .inputs) 0 (s 
         tail w true e = absurd (omega (arith, e))
         tail w false e = e
 
-    half : HalfOfAll order s
-    half cycles each = omega (arith, cycles-twice cycles (each .none), sum-same (gatesHigh s) (map wordOf cycles) (byName order s) (λ w. as-often w (words-once order s care w)))
+    half : (cycles : List (Cycle (netOf c))) → EachWordOnce c (map wordOf cycles) → sum (map (switchings (netOf c)) cycles) ≡ 2 * sum (map (gatesHigh c) byName)
+    half cycles each = omega (arith, cycles-twice cycles (each .none), sum-same (gatesHigh c) (map wordOf cycles) byName (λ w. as-often w (once w)))
       where
-        as-often : (w : ℕ) → (IsWord s w × (times w (byName order s) ≡ 1)) ⊎ ((¬ (IsWord s w)) × (times w (byName order s) ≡ 0)) → times w (map wordOf cycles) ≡ times w (byName order s)
+        as-often : (w : ℕ) → (IsWord c w × (times w byName ≡ 1)) ⊎ ((¬ (IsWord c w)) × (times w byName ≡ 0)) → times w (map wordOf cycles) ≡ times w byName
         as-often w (inl h) = each .once w (h .0) ∙ sym (h .1)
         as-often w (inr h) = each .none w (h .0) ∙ sym (h .1)
 
--- of the stage of an accepted pair of files
-module _ (stageMost referenceMost : Limits) (stage reference : List ℕ) (k : Kept stageMost referenceMost stage reference) where
-  pub accepted-cycled : (w : ℕ) → IsWord (k .contents .circuit) w → Cycled (k .contents .circuit) w
-  accepted-cycled w h = cycled (k .contents .circuit) (k .contents .function) w (k .promise w h) (k .rest w h)
+-- ---- the report
 
-  pub accepted-half : (order : WordOrder) → HalfOfAll order (k .contents .circuit)
-  accepted-half order =
-      let is = k .contents .circuit-is in
-      let formed = subst (StageFormed stageMost) (is .content) (stage-formed stageMost stage (is .places) (is .reads)) in
-      half order (k .contents .circuit) (formed .care-in) (λ p h. let c = accepted-cycled (p .word) h in omega (arith, c .rises p refl, c .falls p refl))
+-- an accepted pair has read its stage
+pub stage-read : (f : Files) → Pass (reading file.Stage (f .stageMost) (f .stage)) → (p : Places) × (readFile file.Stage (f .stageMost) (f .stage) ≡ readable p)
+unfolding refusal
+stage-read f = go (readFile file.Stage (f .stageMost) (f .stage))
+  where
+    go : (x : Reading) → Pass (refusal file.Stage x) → (p : Places) × (x ≡ readable p)
+    go (refused number at) h = absurd (clash refl (h .0))
+    go (readable p) h = (p, refl)
+
+-- the report of two files means what is said of it
+pub report-means : (order : WordOrder) (f : Files) → ReportMeans f (reportOn order f)
+unfolding reportOn
+report-means order f = go (eqb (verdictOn order f .number) 0) refl
+  where
+    s : Content
+    s = stageIn f
+
+    go : (b : Bool) → eqb (verdictOn order f .number) 0 ≡ b
+        → ReportMeans f (cond b (reportOf (verdictOn order f) (names order (stageIn f)) (lines order (stageIn f))) (reportOf (verdictOn order f) [] []))
+    go false e = let no : verdictOn order f ≡ accepted → ⊥ = λ a. clash (ap (λ (v : Verdict). eqb (v .number) 0) a) e in
+        record { cycled = λ a. absurd (no a); half = λ a. absurd (no a) }
+    go true e =
+        let k = demand-3 order f .kept (eqb-eq (verdictOn order f .number) 0 e) in
+        let p = accepted-passes order f (eqb-eq (verdictOn order f .number) 0 e) in
+        let free = p .2 .free in
+        let read = stage-read f (k .1 .0) in
+        let care = care-rises (f .stageMost) (f .stage) (read .0) (read .1) in
+        record {
+          cycled = λ a w h. cycled f free w (k .2 w h);
+          half = λ a cycles each.
+              half order (stageIn f) care (λ p h. let c = cycled f free (p .word) (k .2 (p .word) h) in omega (arith, c .rises p refl, c .falls p refl)) cycles each
+              ∙ ap (λ (l : List ℕ). 2 * sum l) (map-map (gatesHigh (stageIn f)) (spelled order (stageIn f .inputs)) (names order (stageIn f)));
+        }

@@ -1,3 +1,2 @@
 pub mod High
 pub mod Report
-pub mod Activity

@@ -1,58 +1,83 @@
--- The switching report: how many gates are high at the rest of each word, and in all words together; and the report of two files.
-use Prim.Native.Nat.{ℕ, _-_, _^_}
+-- The switching report: how many gates are high at the rest of each word, and in all words together; and what its total counts.
+use Prim.Native.Nat.{ℕ, _+_, _-_, _*_, _^_}
 use mathlib.Core.Path.{_≡_}
-use mathlib.Core.Bool.{cond}
-use mathlib.Core.List.{List, [], _++_, map}
+use mathlib.Core.Bool.{cond, not}
+use mathlib.Core.List.{List, [], _∷_, _++_, map}
 use lib.ListN.{length, replicate}
-use lib.Dec.{eqb}
-use Rattle.netlist.specs.declared.File.the-variants as file
-use Rattle.netlist.specs.Reading.{Reading, refused, readable, readFile, stageLimits}
-use Rattle.netlist.specs.Content.{Stage, stageOf}
+use lib.Dec.{eqb, ltb}
+use Rattle.gates.specs.Cell.{bit}
+use Rattle.runs.specs.Row.{low, after, tally, times}
+use Rattle.runs.specs.Net.{Net, rails, RiseList, RiseEnd, FallList, FallEnd}
+use Rattle.runs.specs.Pair.{AllLow}
 use Rattle.verdict.specs.declared.Verdict.{Verdict}
 use Rattle.verdict.specs.declared.WordOrder.{WordOrder}
-use Rattle.verdict.specs.Levels.{sum}
-use Rattle.verdict.specs.Words.{spelled, names}
-use Rattle.verdict.specs.Verdicts.{verdictOn}
-use Rattle.report_spec.specs.High.{gatesHigh}
+use Rattle.verdict.specs.Lists.{sum}
+use Rattle.check_spec.specs.Cases.{accepted}
+use Rattle.check_spec.specs.Lists.{numbers}
+use Rattle.check_spec.specs.Content.{Content, Files, stageIn}
+use Rattle.check_spec.specs.Rows.{netOf}
+use Rattle.check_spec.specs.Words.{railsFor, spelled, names, IsWord}
+use Rattle.check_spec.specs.Checks.{rest}
+use Rattle.check_spec.specs.Verdicts.{verdictOn}
 use Rattle.report_spec.specs.declared.Report.{Report}
 
--- the words in the order of their names
-abbrev pub byName : WordOrder → Stage → List ℕ
-byName order s = map (spelled order (s .inputs)) (names order s)
+-- how many gates are high at the rest of word w
+abbrev pub gatesHigh : Content → ℕ → ℕ
+gatesHigh s w = sum (map (λ k. bit (rest s w k)) (numbers (2 * s .inputs) (length (s .gates))))
 
--- a line for each word, in that order
-abbrev pub lines : WordOrder → Stage → List ℕ
-lines order s = map (gatesHigh s) (byName order s)
-
--- "the total equals the sum of the printed lines"
-abbrev pub total : WordOrder → Stage → ℕ
-total order s = sum (lines order s)
-
--- ---- the report of two files
-
--- room for a line of each word of the most inputs
-abbrev pub mostLines : ℕ
-mostLines = 2 ^ stageLimits .inputs
-
--- with 0 behind the last
+-- with 0 behind the last, up to a line for each word of the most inputs
 abbrev pub padded : List ℕ → List ℕ
-padded l = l ++ replicate (mostLines - length l) 0
+padded l = l ++ replicate (2 ^ 10 - length l) 0
 
--- a verdict with the names of some words and a line for each: how many lines they are, their sum, the lines, and the names
+-- some words by their names, with a line for each: "the total equals the sum of the printed lines"
 abbrev pub reportOf : Verdict → List ℕ → List ℕ → Report
 reportOf v names l = record { verdict = v; words = length l; total = sum l; lines = padded l; names = padded names }
 
--- of a refused pair, and of a stage
-abbrev pub refusedReport : Verdict → Report
-refusedReport v = reportOf v [] []
-
-abbrev pub stageReport : WordOrder → Verdict → Stage → Report
-stageReport order v s = reportOf v (names order s) (lines order s)
+abbrev pub lines : WordOrder → Content → List ℕ
+lines order s = map (λ name. gatesHigh s (spelled order (s .inputs) name)) (names order s)
 
 -- an accepted stage has its lines, a refused pair none
-unfoldable pub reportReading : WordOrder → Verdict → List ℕ → Reading → Report
-reportReading order v stage (refused number at) = refusedReport v
-reportReading order v stage (readable p) = cond (eqb (v .number) 0) (stageReport order v (stageOf stage p)) (refusedReport v)
+unfoldable pub reportOn : WordOrder → Files → Report
+reportOn order f =
+    let v = verdictOn order f in
+    let full = reportOf v (names order (stageIn f)) (lines order (stageIn f)) in
+    cond (eqb (v .number) 0) full (reportOf v [] [])
 
-abbrev pub reportOn : WordOrder → List ℕ → List ℕ → Report
-reportOn order stage reference = reportReading order (verdictOn order stage reference) stage (readFile file.Stage stageLimits stage)
+-- ---- what the total counts
+
+-- how many switchings of a list are of gates: all but those of the inputs' rails
+abbrev pub gateSwitchings : Net → List ℕ → ℕ
+gateSwitchings N l = sum (map (λ k. tally (not (ltb k (rails N))) 0) l)
+
+-- a cycle of a word: it rises to an end, and falls from there to an end
+pub record Cycle (N : Net) : Type 0 where
+  pub word : ℕ
+  pub rise : List ℕ
+  pub rise-legal : RiseList N (railsFor word) rise
+  pub rise-ended : RiseEnd N (railsFor word) rise
+  pub fall : List ℕ
+  pub fall-legal : FallList N (after low rise) fall
+  pub fall-ended : FallEnd N (after low rise) fall
+
+abbrev pub switchings : (N : Net) → Cycle N → ℕ
+switchings N p = gateSwitchings N (p .rise) + gateSwitchings N (p .fall)
+
+-- each word of the stage stands exactly once in a list, and nothing else stands in it
+pub record EachWordOnce (s : Content) (list : List ℕ) : Type 0 where
+  pub once : (w : ℕ) → IsWord s w → times w list ≡ 1
+  pub none : (w : ℕ) → ¬ (IsWord s w) → times w list ≡ 0
+
+-- Of a word: it has a cycle; the rise and the fall of each of its cycles switch as many gates as its line says; and at the end every input
+-- and gate is low, so that another word can follow.
+pub record Cycled (s : Content) (w : ℕ) : Type 0 where
+  pub some : (p : Cycle (netOf s)) × (p .word ≡ w)
+  pub rises : (p : Cycle (netOf s)) → p .word ≡ w → gateSwitchings (netOf s) (p .rise) ≡ gatesHigh s w
+  pub falls : (p : Cycle (netOf s)) → p .word ≡ w → gateSwitchings (netOf s) (p .fall) ≡ gatesHigh s w
+  pub back : (p : Cycle (netOf s)) → p .word ≡ w → AllLow (netOf s) (after (after low (p .rise)) (p .fall))
+
+-- What the report of two files means, beside that it is as defined; of an accepted pair: "it is also half of all gate switchings when each word
+-- rises and falls once, in any order", of the words and of the switchings in each.
+pub record ReportMeans (f : Files) (r : Report) : Type 0 where
+  pub cycled : r .verdict ≡ accepted → (w : ℕ) → IsWord (stageIn f) w → Cycled (stageIn f) w
+  pub half : r .verdict ≡ accepted → (cycles : List (Cycle (netOf (stageIn f))))
+      → EachWordOnce (stageIn f) (map (λ (p : Cycle (netOf (stageIn f))). p .word) cycles) → sum (map (switchings (netOf (stageIn f))) cycles) ≡ 2 * r .total

@@ -55,16 +55,16 @@ module _ (test : DualRail → Bool) (row : List ℕ) where
   every-in (p ∷ pairs) f = rw (f 0 (omega arith)) (every-in pairs (λ j h. f (suc j) (omega arith)))
 
 module _ (s : Stage) (row : List ℕ) where
-  data-true : allData row (s .outputs) ≡ true → pair.AllData (netOf s) (rowOf row)
+  pub data-true : allData row (s .outputs) ≡ true → pair.AllData (netOf s) (rowOf row)
   data-true e j h = data-in row (outputPair s j) (every-out isData row (s .outputs) e j h)
 
-  true-data : pair.AllData (netOf s) (rowOf row) → allData row (s .outputs) ≡ true
+  pub true-data : pair.AllData (netOf s) (rowOf row) → allData row (s .outputs) ≡ true
   true-data d = every-in isData row (s .outputs) (λ j h. data-out row (outputPair s j) (d j h))
 
-  null-true : allNull row (s .outputs) ≡ true → pair.AllNull (netOf s) (rowOf row)
+  pub null-true : allNull row (s .outputs) ≡ true → pair.AllNull (netOf s) (rowOf row)
   null-true e j h = null-in row (outputPair s j) (every-out isNull row (s .outputs) e j h)
 
-  true-null : pair.AllNull (netOf s) (rowOf row) → allNull row (s .outputs) ≡ true
+  pub true-null : pair.AllNull (netOf s) (rowOf row) → allNull row (s .outputs) ≡ true
   true-null d = every-in isNull row (s .outputs) (λ j h. null-out row (outputPair s j) (d j h))
 
 -- ---- each check

@@ -48,7 +48,7 @@ wordOf-below (suc n) (b ∷ bits) e h = omega (arith, h 0, wordOf-below n bits (
 
 -- ---- turning
 
-aux-bit : (bits acc : List ℕ) → ((i : ℕ) → getD bits i 0 ≤ 1) → ((i : ℕ) → getD acc i 0 ≤ 1) → (i : ℕ) → getD (reverseAux bits acc) i 0 ≤ 1
+pub aux-bit : (bits acc : List ℕ) → ((i : ℕ) → getD bits i 0 ≤ 1) → ((i : ℕ) → getD acc i 0 ≤ 1) → (i : ℕ) → getD (reverseAux bits acc) i 0 ≤ 1
 aux-bit [] acc h k i = k i
 aux-bit (b ∷ bits) acc h k i = aux-bit bits (b ∷ acc) (λ j. h (suc j)) both i
   where
@@ -71,7 +71,7 @@ spelled-below FirstHighest n v h = wordOf-below n (reverse (bitsOf n v)) (length
 spelled-below FirstLowest n v h = h
 
 -- what stands in a list that is turned
-aux-at : (l acc : List ℕ) (i : ℕ) → i < length l → getD (reverseAux l acc) i 0 ≡ getD l (length l - 1 - i) 0
+pub aux-at : (l acc : List ℕ) (i : ℕ) → i < length l → getD (reverseAux l acc) i 0 ≡ getD l (length l - 1 - i) 0
 aux-at [] acc i h = absurd (omega arith)
 aux-at (x ∷ l) acc i h = go (decLt i (length l)) (aux-at l (x ∷ acc) i)
   where
@@ -107,7 +107,7 @@ in-isIn x [] i = absurd i
 in-isIn x (y ∷ l) (inl e) = or-left (eqb x y) (isIn x l) (rw e (eqb-same y))
 in-isIn x (y ∷ l) (inr i) = or-right (eqb x y) (isIn x l) (in-isIn x l i)
 
-select-in : (test : ℕ → Bool) (l : List ℕ) (x : ℕ) → In x (select test l) → In x l × (test x ≡ true)
+pub select-in : (test : ℕ → Bool) (l : List ℕ) (x : ℕ) → In x (select test l) → In x l × (test x ≡ true)
 unfolding select
 select-in test [] x h = absurd h
 select-in test (y ∷ l) x h = go (test y) refl h (select-in test l x)

@@ -82,7 +82,7 @@ module _ (s : Stage) (w : ℕ) where
   held-settled : (g : ℕ) → g < length (s .gates) → SettledHeld (netOf s) (railsFor s w) (only (2 * s .inputs + g)) (heldRow s w g)
   held-settled = held-row s (railsIn s w) wires-length
 
-  but-settled : (i : ℕ) → SettledKept (netOf s) (railsOfInputs (netOf s) (only i)) (restRow s w) (rowOf (fallenBut s w i))
+  pub but-settled : (i : ℕ) → SettledKept (netOf s) (railsOfInputs (netOf s) (only i)) (restRow s w) (rowOf (fallenBut s w i))
   but-settled i = fallen-settled s w wires-length (λ k. not (eqb k i)) (λ g. false) (railsOfInputs (netOf s) (only i))
       (λ k h. ap (λ (b : Bool). b && eqb (k / 2) i) (lt-ltb k (2 * s .inputs) h) ∙ twice (eqb (k / 2) i))
       (λ g. ap (λ (b : Bool). b && eqb ((2 * s .inputs + g) / 2) i) (le-ltb (2 * s .inputs + g) (2 * s .inputs) (omega arith)))
@@ -91,7 +91,7 @@ module _ (s : Stage) (w : ℕ) where
       twice true = refl
       twice false = refl
 
-  keeping-settled : (g : ℕ) → SettledKept (netOf s) (only (2 * s .inputs + g)) (restRow s w) (rowOf (fallenKeeping s w g))
+  pub keeping-settled : (g : ℕ) → SettledKept (netOf s) (only (2 * s .inputs + g)) (restRow s w) (rowOf (fallenKeeping s w g))
   keeping-settled g = fallen-settled s w wires-length (λ k. true) (only g) (only (2 * s .inputs + g)) (λ k h. eqb-other k (2 * s .inputs + g) (λ e. omega arith))
       (λ k. same (same? k g))
     where

@@ -15,6 +15,7 @@ use Rattle.netlist.specs.declared.Found.{Found}
 use Rattle.netlist.specs.declared.Found.the-variants.{At, Nothing}
 use Rattle.netlist.specs.Content.{Stage, Reference}
 use Rattle.verdict.specs.declared.Verdict.{Verdict}
+pub use Rattle.verdict.specs.FourNumbers.{verdict}
 use Rattle.verdict.specs.declared.WordOrder.{WordOrder}
 use Rattle.verdict.specs.declared.Finding.{Finding}
 use Rattle.verdict.specs.declared.Finding.the-variants.{Fault, Passed}
@@ -25,9 +26,6 @@ use Rattle.verdict.specs.Answers.{answer}
 use Rattle.verdict.specs.Nets.{outputPair, netOf, rowOf, railsFor, answerBits, restRow, missingRow, heldRow}
 use Rattle.verdict.specs.Falls.{fallenBut, fallenKeeping}
 use Rattle.verdict.specs.Retired.{RetiredAt, retiredAt}
-
-abbrev pub verdict : ℕ → ℕ → ℕ → ℕ → Verdict
-verdict number file at word = record { number = number; file = file; at = at; word = word }
 
 -- One check: its number and its file; the words in which it looks, by name, and the places that it tries in each, in their order; whether it fails in
 -- the word of a name at a place, computed; the paper's condition for that; and what a run shows then (demand 3). The counts that 10, 11 and 22 give in

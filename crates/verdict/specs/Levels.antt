@@ -1,10 +1,11 @@
 -- Lists of levels: which are 0 and 1, which lie below which, how many are high, and which are settled for given rails.
-use Prim.Native.Nat.{ℕ, zero, suc, _+_, _≤_}
+use Prim.Native.Nat.{ℕ, zero, suc, _≤_}
 use mathlib.Core.Path.{_≡_}
 use mathlib.Core.List.{List, [], _∷_, _++_, map}
 use lib.ListN.{getD, set}
 use Rattle.netlist.specs.Content.{Gate}
 use Rattle.verdict.specs.Rows.{isSet}
+pub use Rattle.verdict.specs.Lists.{sum}
 
 -- n values, each 0 or 1
 abbrev pub Bits : ℕ → List ℕ → Type 0
@@ -19,11 +20,6 @@ Below [] [] = Unit {0}
 Below [] (y ∷ ys) = ⊥
 Below (x ∷ xs) [] = ⊥
 Below (x ∷ xs) (y ∷ ys) = (x ≤ y) × Below xs ys
-
--- the sum; of levels that are 0 and 1, how many are high
-abbrev pub sum : List ℕ → ℕ
-sum [] = 0
-sum (x ∷ xs) = x + sum xs
 
 -- the level that gate k is to have in a row, with gate h held low: 1 where its set expression holds, else 0
 abbrev pub levelHolding : ℕ → List Gate → List ℕ → ℕ → ℕ

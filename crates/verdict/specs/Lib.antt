@@ -1,3 +1,5 @@
+pub mod FourNumbers
+pub mod Lists
 pub mod Rows
 pub mod Levels
 pub mod Graph

@@ -7,14 +7,12 @@ use Rattle.netlist.specs.declared.Limits.{Limits}
 use Rattle.netlist.specs.Reading.{Reading, refused, readable, readFile, stageLimits, referenceLimits}
 use Rattle.netlist.specs.Content.{Stage, Reference, stageOf, referenceOf}
 use Rattle.verdict.specs.declared.Verdict.{Verdict}
+pub use Rattle.verdict.specs.FourNumbers.{accepted}
 use Rattle.verdict.specs.declared.WordOrder.{WordOrder}
 use Rattle.verdict.specs.declared.Finding.{Finding}
 use Rattle.verdict.specs.declared.Finding.the-variants.{Fault, Passed}
 use Rattle.verdict.specs.Rows.{settled}
 use Rattle.verdict.specs.Checks.{verdict, firstFault, checks, rowChecks}
-
-abbrev pub accepted : Verdict
-accepted = verdict 0 0 0 0
 
 unfoldable pub verdictOf : Finding → Verdict
 verdictOf (Fault v) = v

@@ -7,13 +7,9 @@ use Rattle.netlist.specs.Content.{Stage}
 use Rattle.verdict.specs.declared.WordOrder.{WordOrder}
 use Rattle.verdict.specs.declared.WordOrder.the-variants.{FirstHighest, FirstLowest}
 use Rattle.verdict.specs.Loops.{In}
+unfoldable pub use Rattle.verdict.specs.Lists.{numbers, select}
 
 -- ---- words as files have them: input i is bit i
-
--- m numbers from j on
-unfoldable pub numbers : ℕ → ℕ → List ℕ
-numbers j zero = []
-numbers j (suc m) = j ∷ numbers (suc j) m
 
 -- the words that a care list stands for, with n inputs: those of the list, or every word where it is empty
 unfoldable pub caredFor : ℕ → List ℕ → List ℕ
@@ -62,11 +58,6 @@ orderOf mark = cond (eqb mark 0) FirstHighest FirstLowest
 unfoldable pub isIn : ℕ → List ℕ → Bool
 isIn x [] = false
 isIn x (y ∷ ys) = eqb x y || isIn x ys
-
--- those of some numbers that pass a test
-unfoldable pub select : (ℕ → Bool) → List ℕ → List ℕ
-select test [] = []
-select test (x ∷ xs) = let later = select test xs in cond (test x) (x ∷ later) later
 
 -- the names of the words of a stage, the least first: the order in which they are swept
 unfoldable pub names : WordOrder → Stage → List ℕ

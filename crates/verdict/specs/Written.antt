@@ -5,7 +5,7 @@ use mathlib.Core.List.{List, _++_}
 use lib.ListN.{length, drop}
 use lib.Dec.{ltb}
 use Rattle.verdict.specs.declared.Verdict.{Verdict}
-use Rattle.verdict.specs.Verdicts.{accepted}
+use Rattle.verdict.specs.FourNumbers.{accepted}
 use Rattle.verdict.specs.declared.Answer.{Answer}
 
 -- a buffer with some bytes at its start; what stands past their end keeps its value

@@ -31,7 +31,7 @@ add-t13 c =
     let z = c .before .before .before .before .before .before .before .before .before .before .before .before .before .before .before in
     omega (
       arith,
-      file-few (z .args .order) (now (z .args .stage2)) (now (z .args .reference2)) _ (judged-by (z .args .order) _ _ _ _ _ (c .before .before .before .check-within2 .ensures .0)
+      file-few (z .args .order) (now (z .args .stage2)) (now (z .args .reference2)) _ (judged-by (z .args .order) _ _ _ _ _ (c .before .before .before .check-within2 .ensures)
           (c .before .before .before .before .before .before .before .before .part-stage-limits .ensures) (c .before .before .before .before .before .before .before .part-reference-limits .ensures)),
     )
 
@@ -41,11 +41,11 @@ join-accepted-requires c κs =
     let a = z .args in
     let m = c .before .before .before .before .before .before .before .before .before .part-stage-limits .ensures in
     let n = c .before .before .before .before .before .before .before .before .part-reference-limits .ensures in (
-      accepts-zero (z .args .order) (now (a .stage1)) (now (a .reference1)) _ (judged-by (z .args .order) _ _ _ _ _ (c .before .before .before .before .before .before .before .check-within .ensures .0) m n) (omega (
+      accepts-zero (z .args .order) (now (a .stage1)) (now (a .reference1)) _ (judged-by (z .args .order) _ _ _ _ _ (c .before .before .before .before .before .before .before .check-within .ensures) m n) (omega (
         arith,
         c .before .before .before .before .before .if1 .left,
       )),
-      accepts-zero (z .args .order) (now (a .stage2)) (now (a .reference2)) _ (judged-by (z .args .order) _ _ _ _ _ (c .before .before .before .before .check-within2 .ensures .0) m n) (omega (arith, c .before .before .if2 .left)),
+      accepts-zero (z .args .order) (now (a .stage2)) (now (a .reference2)) _ (judged-by (z .args .order) _ _ _ _ _ (c .before .before .before .before .check-within2 .ensures) m n) (omega (arith, c .before .before .if2 .left)),
     )
 
 returns : tie.Need-returns
@@ -54,9 +54,9 @@ returns c =
     let a = z .args in
     let f = files (now (a .stage1)) (now (a .reference1)) in
     let g = files (now (a .stage2)) (now (a .reference2)) in
-    let v = judged-by (z .args .order) _ _ _ _ _ (c .before .before .before .check-within .ensures .0) (c .before .before .before .before .before .part-stage-limits .ensures)
+    let v = judged-by (z .args .order) _ _ _ _ _ (c .before .before .before .check-within .ensures) (c .before .before .before .before .before .part-stage-limits .ensures)
     (c .before .before .before .before .part-reference-limits .ensures) in
-    join-demand (z .args .order) f g _ _ _ _ _ (
+    join-demand (z .args .order) (now (z .args .stage1)) (now (z .args .reference1)) (now (z .args .stage2)) (now (z .args .reference2)) _ _ _ _ _ (
     leaves-refused _ _ _ (first-refuses (z .args .order) f g _ _ _ v (c .before .if1 .taken)) (c .refusal .ensures)
     )
 
@@ -68,9 +68,9 @@ returns-2 c =
     let g = files (now (a .stage2)) (now (a .reference2)) in
     let m = c .before .before .before .before .before .before .before .before .before .part-stage-limits .ensures in
     let n = c .before .before .before .before .before .before .before .before .part-reference-limits .ensures in
-    let v = judged-by (z .args .order) _ _ _ _ _ (c .before .before .before .before .before .before .before .check-within .ensures .0) m n in
-    let w = judged-by (z .args .order) _ _ _ _ _ (c .before .before .before .before .check-within2 .ensures .0) m n in
-    join-demand (z .args .order) f g _ _ _ _ _ (leaves-refused _ _ _ (second-refuses (z .args .order) f g _ _ _ v (omega (arith, c .before .before .before .before .before .if1 .left)) _ w (c .before .before .if2 .taken)) (c .refusal2 .ensures))
+    let v = judged-by (z .args .order) _ _ _ _ _ (c .before .before .before .before .before .before .before .check-within .ensures) m n in
+    let w = judged-by (z .args .order) _ _ _ _ _ (c .before .before .before .before .check-within2 .ensures) m n in
+    join-demand (z .args .order) (now (z .args .stage1)) (now (z .args .reference1)) (now (z .args .stage2)) (now (z .args .reference2)) _ _ _ _ _ (leaves-refused _ _ _ (second-refuses (z .args .order) f g _ _ _ v (omega (arith, c .before .before .before .before .before .if1 .left)) _ w (c .before .before .if2 .taken)) (c .refusal2 .ensures))
 
 returns-3 : tie.Need-returns-3
 returns-3 c =
@@ -80,9 +80,9 @@ returns-3 c =
     let g = files (now (a .stage2)) (now (a .reference2)) in
     let m = c .before .before .before .before .before .before .before .before .before .before .before .before .before .before .part-stage-limits .ensures in
     let n = c .before .before .before .before .before .before .before .before .before .before .before .before .before .part-reference-limits .ensures in
-    let v = judged-by (z .args .order) _ _ _ _ _ (c .before .before .before .before .before .before .before .before .before .before .before .before .check-within .ensures .0) m n in
-    let w = judged-by (z .args .order) _ _ _ _ _ (c .before .before .before .before .before .before .before .before .before .check-within2 .ensures .0) m n in
-    join-demand (z .args .order) f g _ _ _ _ _ (
+    let v = judged-by (z .args .order) _ _ _ _ _ (c .before .before .before .before .before .before .before .before .before .before .before .before .check-within .ensures) m n in
+    let w = judged-by (z .args .order) _ _ _ _ _ (c .before .before .before .before .before .before .before .before .before .check-within2 .ensures) m n in
+    join-demand (z .args .order) (now (z .args .stage1)) (now (z .args .reference1)) (now (z .args .stage2)) (now (z .args .reference2)) _ _ _ _ _ (
     leaves-all (both-accepted (z .args .order) f g _ _ _ v (omega (arith, c .before .before .before .before .before .before .before .before .before .before .if1 .left)) _ w (omega (
       arith,
       c .before .before .before .before .before .before .before .if2 .left,

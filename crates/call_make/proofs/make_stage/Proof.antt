@@ -4,7 +4,8 @@ use mathlib.Core.Path.{sym, _∙_}
 use denote.Ref.{now}
 use Rattle.netlist.specs.Reading.{referenceLimits}
 use Rattle.netlist.proofs.Bounds.{no-more}
-use Rattle.call_make.proofs.Answering.{file-refused, file-loaded, file-made, reference-read-by, demanded}
+use Rattle.call_make.proofs.Answering.{file-refused, file-loaded, file-made, reference-read-by}
+use Rattle.make_spec.proofs.Call.{make-demand}
 use borrow.Author.Needs.{needs}
 use Rattle.call_make.proofs.make_stage.Statement.{statement}
 use Rattle.call_make.proofs.make_stage.Tie as tie
@@ -26,7 +27,7 @@ returns c =
     let s = now (z .args .reference) in
     let f = reference-read-by _ s _ _ (c .before .before .before .before .before .before .before .reference-limits .ensures)
     (c .before .before .before .before .before .read-reference-within .ensures) in
-    demanded s (now (z .args .buffer)) _ _ (file-refused s (now (z .args .buffer)) _ _ _ (sym (c .before .before .number .given .1) ∙ f .0) (c .refused .ensures))
+    make-demand s (now (z .args .buffer)) _ _ (file-refused s (now (z .args .buffer)) _ _ _ (sym (c .before .before .number .given .1) ∙ f .0) (c .refused .ensures))
 
 returns-2 : tie.Need-returns-2
 returns-2 c =
@@ -34,7 +35,7 @@ returns-2 c =
     let s = now (z .args .reference) in
     let f = reference-read-by _ s _ _ (c .before .before .before .before .before .before .before .before .before .before .before .reference-limits .ensures)
     (c .before .before .before .before .before .before .before .before .before .read-reference-within .ensures) in
-    demanded s (now (z .args .buffer)) _ _
+    make-demand s (now (z .args .buffer)) _ _
     (file-made s (now (z .args .buffer)) _ _ (sym (c .before .before .before .before .before .before .sizes .given .1) ∙ f .0) (f .1) _ _ (c .before .before .make-loaded .ensures))
 
 pub make-stage-spec : {M : Type 1} → statement M

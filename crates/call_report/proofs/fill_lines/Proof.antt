@@ -8,7 +8,7 @@ use Rattle.netlist.specs.Reading.{Ascending}
 use Rattle.verdict.specs.Levels.{sum}
 use Rattle.verdict.proofs.Names.{names-rise}
 use Rattle.circuit.specs.Stage.{stageIn}
-use Rattle.report_spec.specs.Report.{padded}
+use Rattle.call_report.specs.Report.{padded}
 use Rattle.call_report.proofs.Lines.{lines-by}
 use Rattle.call_report.proofs.fill_lines.Statement.{statement}
 use Rattle.call_report.proofs.fill_lines.Tie as tie

@@ -1,7 +1,7 @@
 -- `call_report::report_on` meets its contract: an accepted stage reads and has no loop. Assumes nothing.
 use mathlib.Core.Path.{sym}
 use denote.Ref.{now}
-use Rattle.call_report.proofs.Reporting.{accepted-file, report-accepted, report-refused, report-means}
+use Rattle.call_report.proofs.Reporting.{accepted-file, report-accepted, report-refused}
 use borrow.Author.Needs.{needs}
 use Rattle.call_report.proofs.report_on.Statement.{statement}
 use Rattle.call_report.proofs.report_on.Tie as tie
@@ -14,16 +14,13 @@ report-stage-requires c κs =
 returns : tie.Need-returns
 returns c =
     let z = c .before .before .before .before .before .before in
-    let v = c .before .before .before .check .ensures .0 in
-    let is = report-accepted (z .args .order) (now (z .args .stage)) (now (z .args .reference)) _ v (c .before .if1 .taken) _ (c .report-stage .ensures) in
-    (is, report-means (z .args .order) (now (z .args .stage)) (now (z .args .reference)) _ is)
+    report-accepted (z .args .order) (now (z .args .stage)) (now (z .args .reference)) _ (c .before .before .before .check .ensures .0) (c .before .if1 .taken) _
+    (c .report-stage .ensures)
 
 returns-2 : tie.Need-returns-2
 returns-2 c =
     let z = c .before .before .before .before .before in
-    let v = c .before .before .check .ensures .0 in
-    let is = report-refused (z .args .order) (now (z .args .stage)) (now (z .args .reference)) _ v (c .if1 .left) in
-    (is, report-means (z .args .order) (now (z .args .stage)) (now (z .args .reference)) _ is)
+    report-refused (z .args .order) (now (z .args .stage)) (now (z .args .reference)) _ (c .before .before .check .ensures .0) (c .if1 .left)
 
 pub report-on-spec : {M : Type 1} → statement M
 report-on-spec =

@@ -7,7 +7,7 @@ use lib.ListN.{length, getD, length-replicate}
 use mathlib.Core.List.{List}
 use denote.Ref.{now}
 use borrow.Author.Needs.{needs}
-use Rattle.report_spec.specs.Report as spec
+use Rattle.call_report.specs.Report as spec
 use Rattle.call_report.specs.Lines.{linesBy, LinesTo}
 use Rattle.call_report.proofs.Lines.{lines-start, lines-more, lines-done, named-below, named-long, named-at}
 use Rattle.call_report.proofs.write_lines.Statement.{statement}

@@ -2,7 +2,7 @@
 use denote.Ref.{now}
 use Rattle.netlist.specs.Reading.{stageLimits, referenceLimits}
 use Rattle.netlist.proofs.Bounds.{no-more}
-use Rattle.check_files.proofs.Files.{checked-by}
+use Rattle.check_files.proofs.Files.{checked}
 use borrow.Author.Needs.{needs}
 use Rattle.check_files.proofs.check.Statement.{statement}
 use Rattle.check_files.proofs.check.Tie as tie
@@ -13,8 +13,8 @@ check-within-requires c κs = (no-more _ stageLimits (c .before .stage-limits .e
 returns : tie.Need-returns
 returns c =
     let z = c .before .before .before .before .before in
-    checked-by (z .args .order) _ stageLimits _ referenceLimits (now (z .args .stage)) (now (z .args .reference)) _ (c .before .before .stage-limits .ensures) (c .before .reference-limits .ensures)
-    (c .check-within .ensures)
+    checked (z .args .order) _ _ (now (z .args .stage)) (now (z .args .reference)) _ (c .before .before .stage-limits .ensures)
+    (c .before .reference-limits .ensures) (c .check-within .ensures)
 
 pub check-spec : {M : Type 1} → statement M
 check-spec = tie.close (tie.spec (λ c κs. search needs) (λ c κs. search needs) check-within-requires returns)

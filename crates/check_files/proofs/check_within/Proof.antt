@@ -2,7 +2,7 @@
 use mathlib.Core.Path.{sym, _∙_}
 use denote.Ref.{now}
 use Rattle.circuit_load.proofs.Reading.{stage-held}
-use Rattle.check_files.proofs.Files.{stage-refused, stage-judged, with-demands}
+use Rattle.check_files.proofs.Files.{stage-refused, stage-judged}
 use borrow.Author.Needs.{needs}
 use Rattle.check_files.proofs.check_within.Statement.{statement}
 use Rattle.check_files.proofs.check_within.Tie as tie
@@ -16,17 +16,15 @@ check-reference-requires c κs =
 returns : tie.Need-returns
 returns c =
     let z = c .before .before .before .before .before .before .before .before in
-    with-demands (z .args .order) (z .args .stage-most) (z .args .reference-most) (now (z .args .stage)) (now (z .args .reference)) _
-    (stage-refused (z .args .order) (z .args .stage-most) (z .args .reference-most) (now (z .args .stage)) (now (z .args .reference)) _ _
-    (sym (c .before .number .given .1) ∙ c .before .before .before .before .read-stage-within .ensures .0))
+    stage-refused (z .args .order) (z .args .stage-most) (z .args .reference-most) (now (z .args .stage)) (now (z .args .reference)) _ _
+    (sym (c .before .number .given .1) ∙ c .before .before .before .before .read-stage-within .ensures .0)
 
 returns-2 : tie.Need-returns-2
 returns-2 c =
     let z = c .before .before .before .before .before .before .before .before .before .before .before in
     let f = c .before .before .before .before .before .before .before .read-stage-within .ensures in
-    with-demands (z .args .order) (z .args .stage-most) (z .args .reference-most) (now (z .args .stage)) (now (z .args .reference)) _
-    (stage-judged (z .args .order) (z .args .stage-most) (z .args .reference-most) (now (z .args .stage)) (now (z .args .reference)) _ _ (sym (c .before .before .before .before .counts .given .1) ∙ f .0) (f .1) _
-    (c .before .check-reference .ensures))
+    stage-judged (z .args .order) (z .args .stage-most) (z .args .reference-most) (now (z .args .stage)) (now (z .args .reference)) _ _ (sym (c .before .before .before .before .counts .given .1) ∙ f .0) (f .1) _
+    (c .before .check-reference .ensures)
 
 pub check-within-spec : {M : Type 1} → statement M
 check-within-spec =

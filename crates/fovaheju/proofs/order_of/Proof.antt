@@ -1,7 +1,7 @@
 -- `fovaheju::order_of` meets its contract. Assumes nothing.
 use mathlib.Core.Path.{refl}
 use borrow.Author.Tests.{eq-eqb, ne-eqb}
-use Rattle.verdict.specs.Words.{orderOf}
+use Rattle.check_spec.specs.Words.{orderOf}
 use Rattle.fovaheju.proofs.order_of.Statement.{statement}
 use Rattle.fovaheju.proofs.order_of.Tie as tie
 use Rattle.fovaheju.proofs.order_of.Reads as reads

@@ -1,0 +1,15 @@
+pub mod First
+pub mod Settling
+pub mod Loops
+pub mod Pairs
+pub mod Names
+pub mod OneWord
+pub mod Exactly
+pub mod Shown
+pub mod Demanded
+pub mod View
+pub mod Alike
+pub mod Bridge
+pub mod Row
+pub mod Writing
+pub mod Back

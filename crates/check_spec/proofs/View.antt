@@ -1,0 +1,103 @@
+-- What a file holds, as the code has it: a stage with its gates' cells and pairs of rails, a reference with its signals.
+-- Assumes nothing.
+use Prim.Native.Nat.{ℕ, zero, suc, _+_, _-_, _*_, _/_, _%_, _^_, _≤_, _<_}
+use native.Mathlib.Omega.{arith}
+use native.Mathlib.Nat.{pow-succ', div-div-eq-div-mul}
+use mathlib.Core.Path.{_≡_, refl, sym, ap, ap₂, _∙_, subst, fun-ext}
+use mathlib.Core.Logic.{_⊎_, inl, inr, ⊎-elim}
+use mathlib.Core.Bool.{Bool, true, false, cond, not, _&&_, _||_}
+use mathlib.Core.List.{List, [], _∷_, _++_, map, map-map}
+use lib.ListN.{length, getD, length-map, List·getD-map}
+use lib.Dec.{eqb, ltb}
+use Rattle.gates.specs.Expression.{holds}
+use Rattle.gates.specs.Cell.{bit, setExpression, cells, cellAt, kindOf, pinCount}
+use Rattle.runs.specs.Row.{Row}
+use Rattle.runs.specs.Net.{Net}
+use Rattle.netlist.specs.declared.File.the-variants as file
+use Rattle.netlist.specs.Bytes.{operand, operands}
+use Rattle.netlist.specs.Reading.{Places, readable}
+use Rattle.netlist.specs.Content as old
+use Rattle.netlist.specs.Content.{Coded, Pair, codedAt, gateOf, pairAt, stageOf, referenceOf, cellOf, holdOf}
+use Rattle.verdict.specs.Nets as nets
+use Rattle.check_spec.specs.Content.{Content, contentAt, railsOfOutput}
+use Rattle.check_spec.specs.Rows.{noGate, driver, cellIn, setIn, netOf}
+
+abbrev pub pairOf : List ℕ → Pair
+pairOf vs = record { rail0 = getD vs 0 0; rail1 = getD vs 1 0 }
+
+abbrev pub stageView : Content → old.Stage
+stageView c = record { inputs = c .inputs; gates = map gateOf (c .gates); outputs = map pairOf (c .outputs); care = c .care }
+
+abbrev pub referenceView : Content → old.Reference
+referenceView c = record { inputs = c .inputs; gates = c .gates; outputs = map (λ (vs : List ℕ). getD vs 0 0) (c .outputs) }
+
+-- ---- files
+
+pub stage-view : (bytes : List ℕ) (p : Places) → stageView (contentAt file.Stage bytes (readable p)) ≡ stageOf bytes p
+unfolding contentAt stageOf operands
+stage-view bytes p =
+    ap₂ (λ (gates : List old.Gate) (outputs : List Pair). record { inputs = p .inputs; gates = gates; outputs = outputs; care = p .care })
+    (map-map gateOf (codedAt file.Stage bytes) (p .gates)) (pairs (p .outputs))
+  where
+    pairs : (places : List ℕ) → map pairOf (map (λ at. operands bytes (at + 1) 2) places) ≡ map (pairAt bytes) places
+    pairs [] = refl
+    pairs (at ∷ places) = let e : at + 1 + 2 ≡ at + 3 = omega arith in rw e (ap (λ (l : List Pair). pairAt bytes at ∷ l) (pairs places))
+
+pub reference-view : (bytes : List ℕ) (p : Places) → referenceView (contentAt file.Reference bytes (readable p)) ≡ referenceOf bytes p
+unfolding contentAt referenceOf operands
+reference-view bytes p =
+    ap (λ (outputs : List ℕ). record { inputs = p .inputs; gates = map (codedAt file.Reference bytes) (p .gates); outputs = outputs }) (signals (p .outputs))
+  where
+    signals : (places : List ℕ) → map (λ (vs : List ℕ). getD vs 0 0) (map (λ at. operands bytes (at + 1) 1) places) ≡ map (λ at. operand bytes (at + 1)) places
+    signals [] = refl
+    signals (at ∷ places) = ap (λ (l : List ℕ). operand bytes (at + 1) ∷ l) (signals places)
+
+-- ---- the net
+
+module _ (c : Content) where
+  pub driver-view : (net : ℕ) → nets.driver (stageView c) net .pins ≡ driver c net .operands
+  driver-view net = pins (c .gates) (net - 2 * c .inputs)
+    where
+      pins : (gates : List Coded) (k : ℕ) → getD (map gateOf gates) k nets.noGate .pins ≡ getD gates k noGate .operands
+      pins [] k = refl
+      pins (g ∷ gates) zero = refl
+      pins (g ∷ gates) (suc k) = pins gates k
+
+  pub hold-view : (net : ℕ) → nets.driver (stageView c) net .hold ≡ holdOf (kindOf (driver c net .code))
+  unfolding kindOf cells pinCount cellAt
+  hold-view net = at (c .gates) (net - 2 * c .inputs)
+    where
+      at : (gates : List Coded) (k : ℕ) → getD (map gateOf gates) k nets.noGate .hold ≡ holdOf (kindOf (getD gates k noGate .code))
+      at [] k = refl
+      at (g ∷ gates) zero = refl
+      at (g ∷ gates) (suc k) = at gates k
+
+  pub fires-view : (row : Row) (net : ℕ) → nets.setIn row (nets.driver (stageView c) net) ≡ setIn row (driver c net)
+  unfolding setExpression kindOf cells pinCount cellAt
+  fires-view row net = at (c .gates) (net - 2 * c .inputs)
+    where
+      at : (gates : List Coded) (k : ℕ) → nets.setIn row (getD (map gateOf gates) k nets.noGate) ≡ setIn row (getD gates k noGate)
+      at [] k = refl
+      at (g ∷ gates) zero = refl
+      at (g ∷ gates) (suc k) = at gates k
+
+  pub rail-view : (j : ℕ) (b : Bool) → nets.railOf (nets.outputPair (stageView c) j) b ≡ getD (getD (c .outputs) j []) (bit b) 0
+  rail-view j b = at (c .outputs) j b
+    where
+      at : (outputs : List (List ℕ)) (k : ℕ) (b : Bool) → nets.railOf (getD (map pairOf outputs) k nets.noPair) b ≡ getD (getD outputs k []) (bit b) 0
+      at [] k true = refl
+      at [] k false = refl
+      at (o ∷ outputs) zero true = refl
+      at (o ∷ outputs) zero false = refl
+      at (o ∷ outputs) (suc k) b = at outputs k b
+
+  pub net-view : nets.netOf (stageView c) ≡ netOf c
+  net-view = λ i. record {
+    inputs = c .inputs;
+    gates = length-map (c .gates) gateOf i;
+    outputs = length-map (c .outputs) pairOf i;
+    rail = λ j b. rail-view j b i;
+    pins = λ net. driver-view net i;
+    fires = λ row net. fires-view row net i;
+    hold = λ net. hold-view net i;
+  }

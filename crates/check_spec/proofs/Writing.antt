@@ -1,0 +1,93 @@
+-- Files as contents are written: their bytes are those of the code's items, and what was written reads as the content.
+-- Assumes nothing.
+use Prim.Native.Nat.{ℕ, _+_}
+use mathlib.Core.Path.{_≡_, refl, sym, ap, ap₂, _∙_}
+use mathlib.Core.List.{List, [], _∷_, _++_, append-assoc, map, map-id, flatMap}
+use lib.ListN.{length, take}
+use Rattle.netlist.specs.declared.File.{File}
+use Rattle.netlist.specs.declared.File.the-variants as file
+use Rattle.netlist.specs.declared.Sort.the-variants as sort
+use Rattle.netlist.specs.declared.Limits.{Limits}
+use Rattle.netlist.specs.Commands as k
+use Rattle.netlist.specs.Bytes.{operands}
+use Rattle.netlist.specs.Reading.{Places, readable, readFile}
+use Rattle.netlist.specs.Content.{Coded, codedAt}
+use Rattle.netlist.specs.Writing as items
+use Rattle.netlist.specs.Writing.{Item, gate, output, care, gatesIn, outputsIn, careIn, gatePlaces, outputPlaces, placesOf, writeItem, writeItems, FileFits}
+use Rattle.netlist.proofs.Laid.{wiredAt}
+use Rattle.netlist.proofs.GatesFirst.{gatesIn-items, outputsIn-items, careIn-items}
+use Rattle.netlist.proofs.ReadBack.{read-write, gates-write, outputs-write}
+use Rattle.check_spec.specs.Content.{Content, contentAt, contentOf, railsOfOutput}
+use Rattle.check_spec.specs.Writing.{rowFor, command, writeFile}
+
+abbrev pub itemsOf : Content → List Item
+itemsOf c = map care (c .care) ++ (map gate (c .gates) ++ map output (c .outputs))
+
+-- commands one after the other are items one after the other
+part : {X : Type 0} (f : File) (item : X → Item) (bytes : X → List ℕ) → ((x : X) → bytes x ≡ writeItem f (item x)) → (l : List X) (later : List Item) (end : List ℕ)
+    → flatMap bytes l ++ (writeItems f later ++ end) ≡ writeItems f (map item l ++ later) ++ end
+unfolding flatMap
+part f item bytes e [] later end = refl
+part f item bytes e (x ∷ l) later end =
+    append-assoc (bytes x) (flatMap bytes l) (writeItems f later ++ end)
+    ∙ ap₂ (λ (a b : List ℕ). a ++ b) (e x) (part f item bytes e l later end)
+    ∙ sym (append-assoc (writeItem f (item x)) (writeItems f (map item l ++ later)) end)
+
+last : (f : File) (l : List (List ℕ)) (end : List ℕ) → ((vs : List ℕ) → command f sort.Output 0 vs ≡ writeItem f (output vs))
+    → flatMap (command f sort.Output 0) l ++ end ≡ writeItems f (map output l) ++ end
+unfolding flatMap
+last f [] end e = refl
+last f (x ∷ l) end e =
+    append-assoc (command f sort.Output 0 x) (flatMap (command f sort.Output 0) l) end
+    ∙ ap₂ (λ (a b : List ℕ). a ++ b) (e x) (last f l end e)
+    ∙ sym (append-assoc (writeItem f (output x)) (writeItems f (map output l)) end)
+
+pub stage-bytes : (c : Content) → writeFile file.Stage c ≡ items.writeFile file.Stage (c .inputs) (itemsOf c)
+unfolding writeFile items.writeFile command rowFor k.commandTable k.ownCommands k.formIn
+stage-bytes c =
+    ap (λ (l : List ℕ). 0x01 ∷ c .inputs ∷ l) (
+    ap (λ (l : List ℕ). flatMap (λ w. command file.Stage sort.Care 0 (w ∷ [])) (c .care) ++ l) (
+    ap (λ (l : List ℕ). flatMap (λ (g : Coded). command file.Stage sort.Gate (g .code) (g .operands)) (c .gates) ++ l)
+    (last file.Stage (c .outputs) (0x00 ∷ []) (λ vs. refl))
+    ∙ part file.Stage gate (λ (g : Coded). command file.Stage sort.Gate (g .code) (g .operands)) (λ g. refl) (c .gates) (map output (c .outputs)) (0x00 ∷ []))
+    ∙ part file.Stage care (λ w. command file.Stage sort.Care 0 (w ∷ [])) (λ w. refl) (c .care) (map gate (c .gates) ++ map output (c .outputs)) (0x00 ∷ []))
+
+pub reference-bytes : (c : Content) → c .care ≡ [] → writeFile file.Reference c ≡ items.writeFile file.Reference (c .inputs) (itemsOf c)
+unfolding writeFile items.writeFile command rowFor k.commandTable k.ownCommands k.formIn flatMap
+reference-bytes c none = rw none (
+    ap (λ (l : List ℕ). 0x01 ∷ c .inputs ∷ l) (
+    ap (λ (l : List ℕ). flatMap (λ (g : Coded). command file.Reference sort.Gate (g .code) (g .operands)) (c .gates) ++ l)
+    (last file.Reference (c .outputs) (0x00 ∷ []) (λ vs. refl))
+    ∙ part file.Reference gate (λ (g : Coded). command file.Reference sort.Gate (g .code) (g .operands)) (λ g. refl) (c .gates) (map output (c .outputs)) (0x00 ∷ [])))
+
+-- ---- what was written reads as the content
+
+-- what stands among the items of a content
+module _ (c : Content) where
+  gates-of : gatesIn (itemsOf c) ≡ c .gates
+  gates-of = gatesIn-items (λ g. g) (λ g. g) (λ vs. vs) (λ vs. vs) (c .care) (c .gates) (c .outputs) ∙ map-id (c .gates)
+
+  outputs-of : outputsIn (itemsOf c) ≡ c .outputs
+  outputs-of = outputsIn-items (λ g. g) (λ g. g) (λ vs. vs) (λ vs. vs) (c .care) (c .gates) (c .outputs) ∙ map-id (c .outputs)
+
+  cares-of : careIn (itemsOf c) ≡ c .care
+  cares-of = careIn-items (λ g. g) (λ g. g) (λ vs. vs) (λ vs. vs) (c .care) (c .gates) (c .outputs)
+
+pub wired : (f : File) (s : List ℕ) (at : ℕ) → operands s (at + 1) (railsOfOutput f) ≡ wiredAt f s at
+unfolding k.commandTable k.ownCommands k.formIn
+wired file.Stage s at = refl
+wired file.Reference s at = refl
+
+pub content-write : (f : File) (most : Limits) (c : Content) → FileFits f most (c .inputs) (itemsOf c)
+    → contentOf f most (items.writeFile f (c .inputs) (itemsOf c)) ≡ c
+unfolding contentAt
+content-write f most c fits = rw (read-write f most (c .inputs) (itemsOf c) fits) (λ i. record {
+  inputs = c .inputs;
+  gates = (gates-write f most (c .inputs) (itemsOf c) fits ∙ gates-of c) i;
+  outputs = (outs (outputPlaces f 2 (itemsOf c)) ∙ outputs-write f most (c .inputs) (itemsOf c) fits ∙ outputs-of c) i;
+  care = cares-of c i;
+})
+  where
+    outs : (l : List ℕ) → map (λ at. operands (items.writeFile f (c .inputs) (itemsOf c)) (at + 1) (railsOfOutput f)) l ≡ map (wiredAt f (items.writeFile f (c .inputs) (itemsOf c))) l
+    outs [] = refl
+    outs (at ∷ l) = ap₂ (λ (x : List ℕ) (m : List (List ℕ)). x ∷ m) (wired f (items.writeFile f (c .inputs) (itemsOf c)) at) (outs l)

@@ -1,0 +1,55 @@
+-- What a file holds, and what two files do, with their limits.
+use Prim.Native.Nat.{ℕ, _+_}
+use mathlib.Core.List.{List, [], map}
+use Rattle.netlist.specs.declared.File.{File}
+use Rattle.netlist.specs.declared.Limits.{Limits}
+use Rattle.netlist.specs.declared.File.the-variants.{Stage, Reference}
+use Rattle.netlist.specs.Bytes.{operands}
+use Rattle.netlist.specs.Reading.{Places, Reading, refused, readable, readFile, stageLimits, referenceLimits, partStageLimits, partReferenceLimits}
+use Rattle.netlist.specs.Coded.{Coded, codedAt}
+
+-- A stage or a reference. An output of a stage is two nets, rail 0 and rail 1; one of a reference is a signal. The care words of a stage are those
+-- that are cared for; where there are none, every word is.
+pub record Content : Type 0 where
+  pub inputs : ℕ
+  pub gates : List Coded
+  pub outputs : List (List ℕ)
+  pub care : List ℕ
+
+-- how many nets or signals an output names
+abbrev pub railsOfOutput : File → ℕ
+railsOfOutput Stage = 2
+railsOfOutput Reference = 1
+
+-- what is seen through the places of its commands; a file that is refused holds nothing
+unfoldable pub contentAt : File → List ℕ → Reading → Content
+contentAt f bytes (refused number at) = record { inputs = 0; gates = []; outputs = []; care = [] }
+contentAt f bytes (readable p) = record {
+  inputs = p .inputs;
+  gates = map (codedAt f bytes) (p .gates);
+  outputs = map (λ at. operands bytes (at + 1) (railsOfOutput f)) (p .outputs);
+  care = p .care;
+}
+
+abbrev pub contentOf : File → Limits → List ℕ → Content
+contentOf f most bytes = contentAt f bytes (readFile f most bytes)
+
+-- two files, and the limits that they are read within
+pub record Files : Type 0 where
+  pub stage : List ℕ
+  pub reference : List ℕ
+  pub stageMost : Limits
+  pub referenceMost : Limits
+
+abbrev pub stageIn : Files → Content
+stageIn f = contentOf Stage (f .stageMost) (f .stage)
+
+abbrev pub referenceIn : Files → Content
+referenceIn f = contentOf Reference (f .referenceMost) (f .reference)
+
+-- those of the calls, and those of a part that is to be joined with another
+abbrev pub files : List ℕ → List ℕ → Files
+files stage reference = record { stage = stage; reference = reference; stageMost = stageLimits; referenceMost = referenceLimits }
+
+abbrev pub partFiles : List ℕ → List ℕ → Files
+partFiles stage reference = record { stage = stage; reference = reference; stageMost = partStageLimits; referenceMost = partReferenceLimits }

@@ -1,0 +1,9 @@
+pub mod Cases
+pub mod Lists
+pub mod Content
+pub mod Rows
+pub mod Writing
+pub mod Words
+pub mod Checks
+pub mod Verdicts
+pub mod Demands

@@ -1,0 +1,94 @@
+-- Two stages in a row as one: output j of the first is tied to input j of the second; and the call that joins them.
+use Prim.Native.Nat.{ℕ, _+_, _-_, _*_, _/_, _%_, _<_}
+use mathlib.Core.Path.{_≡_}
+use mathlib.Core.Bool.{Bool, cond, not, _||_}
+use mathlib.Core.List.{List, [], _∷_, _++_, map}
+use lib.ListN.{length, getD}
+use lib.Dec.{eqb, ltb}
+use Rattle.runs.specs.Net.{nets}
+use Rattle.netlist.specs.declared.File.the-variants.{Stage, Reference}
+use Rattle.netlist.specs.Coded.{Coded}
+use Rattle.verdict.specs.declared.Verdict.{Verdict}
+use Rattle.verdict.specs.declared.WordOrder.{WordOrder}
+use Rattle.verdict.specs.Written.{Written, written}
+use Rattle.check_spec.specs.Cases.{accepted, Check, case, judge, unequal}
+use Rattle.check_spec.specs.Lists.{bitOf, ofBits}
+use Rattle.check_spec.specs.Content.{Content, Files, stageIn, referenceIn, files}
+use Rattle.check_spec.specs.Rows.{netOf}
+use Rattle.check_spec.specs.Words.{caresFor, IsWord, answer}
+use Rattle.check_spec.specs.Checks.{swept}
+use Rattle.check_spec.specs.Verdicts.{verdictOn}
+use Rattle.check_spec.specs.Demands.{Judged, BothRead, Kept}
+use Rattle.check_spec.specs.Writing.{writeFile, leaving}
+use Rattle.join_spec.specs.declared.JoinAnswer.{JoinAnswer}
+
+-- ---- the whole
+
+-- "inputs, the first part's care list, gates (first part first), the second's outputs", where what the second part names is something else in the whole
+unfoldable pub joinedBy : (ℕ → ℕ) → Content → Content → Content
+joinedBy inWhole one two = record {
+  inputs = one .inputs;
+  gates = one .gates ++ map (λ (g : Coded). record { code = g .code; operands = map inWhole (g .operands) }) (two .gates);
+  outputs = map (map inWhole) (two .outputs);
+  care = one .care;
+}
+
+-- A net of the second part in the whole: rail 0 or 1 of its input j is that rail of the first part's output j, and its gates' nets follow
+-- those of the first part. The same of a signal.
+unfoldable pub netInWhole : Content → Content → ℕ → ℕ
+netInWhole one two net =
+    cond (ltb net (2 * two .inputs)) (netOf one .rail (net / 2) (eqb (net % 2) 1)) (nets (netOf one) + (net - 2 * two .inputs))
+
+unfoldable pub signalInWhole : Content → Content → ℕ → ℕ
+signalInWhole one two x = cond (ltb x (two .inputs)) (getD (getD (one .outputs) x []) 0 0) (one .inputs + length (one .gates) + (x - two .inputs))
+
+abbrev pub joinedStage : Files → Files → Content
+joinedStage one two = joinedBy (netInWhole (stageIn one) (stageIn two)) (stageIn one) (stageIn two)
+
+abbrev pub joinedReference : Files → Files → Content
+joinedReference one two = joinedBy (signalInWhole (referenceIn one) (referenceIn two)) (referenceIn one) (referenceIn two)
+
+abbrev pub whole : Files → Files → Files
+whole one two = files (writeFile Stage (joinedStage one two)) (writeFile Reference (joinedReference one two))
+
+-- ---- the call
+
+-- "a part's own refusal is passed on, first part first, the second's with 3 added to its file"
+abbrev pub passedOn : Verdict → ℕ → Check
+passedOn v added = case (v .number) (v .file + added) (v .at) (v .word) (not (eqb (v .number) 0)) ∷ []
+
+-- the answer to word w as a word: output j is bit j
+abbrev pub answerWord : Content → ℕ → ℕ
+answerWord r w = ofBits (length (r .outputs)) (answer r (bitOf w))
+
+-- the parts' refusals, 22 counts at the seam unequal, 23 the least care word whose answer the second does not care for, 24 a buffer too short
+unfoldable pub joinChecks : WordOrder → Files → Files → ℕ → ℕ → List Check
+joinChecks order one two stageRoom referenceRoom =
+    passedOn (verdictOn order one) 0 ∷
+    passedOn (verdictOn order two) 3 ∷
+    unequal 22 (length (stageIn one .outputs)) (stageIn two .inputs) ∷
+    swept order (stageIn one) 23 0 1 (λ w i. not (caresFor (stageIn two) (answerWord (referenceIn one) w))) ∷
+    (case 24 3 0 0 (ltb stageRoom (length (whole one two .stage)) || ltb referenceRoom (length (whole one two .reference))) ∷ []) ∷
+    []
+
+-- What is said of the whole: it reads as defined, its reference answers what the second part answers to the answer of the first, "the whole is
+-- accepted", in either order, "and its runs obey everything said of a stage".
+pub record Joined (one two : Files) : Type 0 where
+  pub reads : BothRead (whole one two)
+  pub stage-is : stageIn (whole one two) ≡ joinedStage one two
+  pub reference-is : referenceIn (whole one two) ≡ joinedReference one two
+  pub answers : (bits : ℕ → Bool) (j : ℕ) → j < length (referenceIn two .outputs)
+      → answer (joinedReference one two) bits j ≡ answer (referenceIn two) (answer (referenceIn one) bits) j
+  pub whole-accepted : (order : WordOrder) → verdictOn order (whole one two) ≡ accepted
+  pub kept : (w : ℕ) → IsWord (stageIn (whole one two)) w → Kept (whole one two) w
+
+-- What is said of the join, by the order of words, the files of its parts, the two buffers, its answer and the buffers after it: these are as defined,
+-- the earliest failing case is named, and where it accepts, the whole is as said, and in the other order it accepts too, and so writes the same.
+pub record JoinDemand (order : WordOrder) (one two : Files) (stage reference : List ℕ) (r : JoinAnswer) (stageLeft referenceLeft : List ℕ) : Type 0 where
+  pub stage-left : written (record { verdict = r .verdict; count = r .«stage_count» }) stageLeft
+      ≡ leaving (judge (joinChecks order one two (length stage) (length reference))) (whole one two .stage) stage
+  pub reference-left : written (record { verdict = r .verdict; count = r .«reference_count» }) referenceLeft
+      ≡ leaving (judge (joinChecks order one two (length stage) (length reference))) (whole one two .reference) reference
+  pub least : Judged (joinChecks order one two (length stage) (length reference)) (r .verdict)
+  pub joined : r .verdict .number ≡ 0 → (r .verdict ≡ accepted) × Joined one two
+  pub either-order : (other : WordOrder) → r .verdict ≡ accepted → judge (joinChecks other one two (length stage) (length reference)) ≡ accepted
