@@ -2,6 +2,7 @@
 use Prim.Native.Nat.{_-_, _≤_}
 use native.Mathlib.Omega.{arith}
 use mathlib.Core.Path.{refl, sym, ap, subst, _∙_}
+use mathlib.Core.Logic.{⊎-elim}
 use denote.Ref.{now}
 use borrow.Author.Needs.{needs}
 use Rattle.circuit.specs.Stage.{stageIn}
@@ -20,7 +21,7 @@ abbrev μ-loop : tie.MeasureT-loop
 μ-loop order list masks code counts reference sizes count i₀ i = count - i
 
 loop-holds : tie.Need-loop-holds Inv-loop μ-loop
-loop-holds c = (omega arith, refl)
+loop-holds c = (⊎-elim (λ all. omega arith) (λ rise. omega arith) (c .sweep-count .ensures .decides), refl)
 
 sweep-check-requires : tie.Need-sweep-check-requires Inv-loop μ-loop
 sweep-check-requires c κs =
