@@ -169,7 +169,16 @@ fn sweep_named(
     while i < count {
         let which = sweep_at(i);
         let mask = mask_of(which, masks);
-        if let Finding::Fault(v) = sweep_check(which, order, list, &mask, code, counts, reference, sizes) {
+        if let Finding::Fault(v) = sweep_check(
+            which,
+            order,
+            list,
+            &mask,
+            code,
+            counts,
+            reference,
+            sizes,
+        ) {
             return Finding::Fault(v);
         }
         i += 1;
