@@ -13,24 +13,24 @@ use Rattle.netlist.specs.declared.Counts.{Counts}
 use Rattle.netlist.specs.declared.Found.{Found}
 use Rattle.netlist.specs.declared.Found.the-variants.{At, Nothing}
 use Rattle.netlist.specs.declared.Outcome.the-variants as outcome
-use Rattle.netlist.specs.Reading.{Reading, refused, readable, readFile, stageLimits, referenceLimits}
+use Rattle.netlist.specs.Reading.{Reading, readFile, stageLimits, referenceLimits}
 use Rattle.netlist.specs.Read.{outcomeOf}
-use Rattle.netlist.specs.Content.{Stage, Reference, stageOf, referenceOf}
+use Rattle.netlist.specs.Content.{Stage, Reference}
 use Rattle.verdict.specs.declared.Verdict.{Verdict}
 use Rattle.verdict.specs.declared.WordOrder.{WordOrder}
 use Rattle.verdict.specs.declared.Finding.{Finding}
 use Rattle.verdict.specs.declared.Finding.the-variants.{Fault, Passed}
 use Rattle.verdict.specs.Checks.{verdict, Check, atFault, sweep, finding, orLater, firstFault, checks, riseSweeps, fallSweeps}
 use Rattle.verdict.specs.Verdicts as verdicts
-use Rattle.verdict.specs.Verdicts.{accepted, judgeReference, judgeStage, verdictWithin}
+use Rattle.verdict.specs.Verdicts.{judgeReference, judgeStage, verdictWithin}
 use Rattle.verdict.proofs.Refusals.{refused-number}
 use Rattle.check_spec.specs.Content.{files}
 use Rattle.check_spec.specs.Verdicts.{verdictOn}
 use Rattle.check_spec.specs.Demands.{Demand2, Demand3}
 use Rattle.check_spec.proofs.Demanded.{demand-2, demand-3}
 use Rattle.check_spec.proofs.Bridge.{verdict-is}
-use Rattle.circuit.specs.Stage.{stageIn, StageLoaded}
-use Rattle.circuit.specs.Reference.{referenceIn, ReferenceLoaded}
+use Rattle.circuit.specs.Stage.{stageIn}
+use Rattle.circuit.specs.Reference.{referenceIn}
 use Rattle.circuit_load.specs.Load.{HoldsStage, HoldsReference}
 use Rattle.circuit_load.proofs.Reading.{was-refused, stage-held, reference-held}
 use Rattle.check_word.specs.Loaded.{BothLoaded}
@@ -38,44 +38,52 @@ use Rattle.check_files.specs.declared.Judgement.{Judgement}
 use Rattle.check_files.specs.declared.Judgement.the-variants as judgement
 use Rattle.check_files.specs.Judgement.{StageFrom, ReferenceFrom, PairLoaded, JudgedAs}
 
--- ---- a verdict that refuses has a number
+-- ---- a verdict that refuses has a number, and file 0, 1 or 2
 
-each-numbered : List Check → Bool
-each-numbered [] = true
-each-numbered (c ∷ cs) = ltb 0 (c .number) && each-numbered cs
+abbrev Refusal : Verdict → Type 0
+Refusal v = (1 ≤ v .number) × (v .file ≤ 2)
 
-swept-number : (number file : ℕ) (find : ℕ → Found) (ws : List ℕ) (v : Verdict) → sweep number file find ws ≡ Fault v → v .number ≡ number
+named : Check → Bool
+named c = ltb 0 (c .number) && ltb (c .file) 3
+
+each-named : List Check → Bool
+each-named [] = true
+each-named (c ∷ cs) = named c && each-named cs
+
+swept-as : (number file : ℕ) (find : ℕ → Found) (ws : List ℕ) (v : Verdict) → sweep number file find ws ≡ Fault v → (v .number ≡ number) × (v .file ≡ file)
 unfolding sweep atFault
-swept-number number file find [] v e = absurd (let z : _≡_ {A = ℕ} 0 1 = cc in omega arith)
-swept-number number file find (w ∷ ws) v e = go (find w) e (swept-number number file find ws v)
+swept-as number file find [] v e = absurd (let z : _≡_ {A = ℕ} 0 1 = cc in omega arith)
+swept-as number file find (w ∷ ws) v e = go (find w) e (swept-as number file find ws v)
   where
-    go : (x : Found) → atFault number file w x (sweep number file find ws) ≡ Fault v → (sweep number file find ws ≡ Fault v → v .number ≡ number) → v .number ≡ number
-    go (At i) e later = let q : verdict number file i w ≡ v = cc in sym (ap (λ (x : Verdict). x .number) q)
+    go : (x : Found) → atFault number file w x (sweep number file find ws) ≡ Fault v → (sweep number file find ws ≡ Fault v → (v .number ≡ number) × (v .file ≡ file))
+        → (v .number ≡ number) × (v .file ≡ file)
+    go (At i) e later = let q : v ≡ verdict number file i w = cc in (ap (λ (x : Verdict). x .number) q, ap (λ (x : Verdict). x .file) q)
     go Nothing e later = later e
 
-fault-number : (cs : List Check) → each-numbered cs ≡ true → (v : Verdict) → firstFault cs ≡ Fault v → 1 ≤ v .number
-unfolding firstFault orLater finding each-numbered
-fault-number [] n v e = absurd (let z : _≡_ {A = ℕ} 0 1 = cc in omega arith)
-fault-number (c ∷ cs) n v e = go (finding c) refl e (fault-number cs (and-right (ltb 0 (c .number)) (each-numbered cs) n) v)
+fault-named : (cs : List Check) → each-named cs ≡ true → (v : Verdict) → firstFault cs ≡ Fault v → Refusal v
+unfolding firstFault orLater finding named each-named
+fault-named [] n v e = absurd (let z : _≡_ {A = ℕ} 0 1 = cc in omega arith)
+fault-named (c ∷ cs) n v e = go (finding c) refl e (fault-named cs (and-right (named c) (each-named cs) n) v)
   where
-    go : (x : Finding) → finding c ≡ x → orLater x (firstFault cs) ≡ Fault v → (firstFault cs ≡ Fault v → 1 ≤ v .number) → 1 ≤ v .number
+    go : (x : Finding) → finding c ≡ x → orLater x (firstFault cs) ≡ Fault v → (firstFault cs ≡ Fault v → Refusal v) → Refusal v
     go (Fault u) f e later =
-        let q : u ≡ v = cc in
-        omega (arith, swept-number (c .number) (c .file) _ (c .words) v (f ∙ e), ltb-true 0 (c .number) (and-left (ltb 0 (c .number)) (each-numbered cs) n))
+        let is = swept-as (c .number) (c .file) _ (c .words) v (f ∙ e) in
+        let own = and-left (named c) (each-named cs) n in
+        (omega (arith, is .0, ltb-true 0 (c .number) (and-left _ (ltb (c .file) 3) own)), omega (arith, is .1, ltb-true (c .file) 3 (and-right (ltb 0 (c .number)) _ own)))
     go Passed f e later = later e
 
-checks-numbered : (order : WordOrder) (s : Stage) (r : Reference) → each-numbered (checks order s r) ≡ true
-unfolding checks riseSweeps fallSweeps each-numbered
-checks-numbered order s r = refl
+checks-named : (order : WordOrder) (s : Stage) (r : Reference) → each-named (checks order s r) ≡ true
+unfolding checks riseSweeps fallSweeps named each-named
+checks-named order s r = refl
 
 -- ---- two files that are read
 
 module _ (order : WordOrder) (stageMost referenceMost : Limits) (s t : List ℕ) where
-  refused-as : {code reference : List ℕ} (v : Verdict) → v ≡ verdictWithin order stageMost referenceMost s t → 1 ≤ v .number
+  refused-as : {code reference : List ℕ} (v : Verdict) → v ≡ verdictWithin order stageMost referenceMost s t → Refusal v
       → JudgedAs order stageMost referenceMost s t (judgement.Refused v) code reference
   refused-as v e n = record {
     verdict-is = e;
-    refuses = λ u q. let i : v ≡ u = cc in omega (arith, ap (λ (x : Verdict). x .number) i);
+    refuses = λ u q. let i : v ≡ u = cc in subst Refusal i n;
     loaded = λ c d q. absurd (let z : _≡_ {A = ℕ} 0 1 = cc in omega arith);
   }
 
@@ -84,7 +92,7 @@ module _ (order : WordOrder) (stageMost referenceMost : Limits) (s t : List ℕ)
   unfolding judgeStage verdictWithin
   stage-refused number at e =
       let r = was-refused (readFile file.Stage stageMost s) number at e in
-      refused-as (verdict number 1 at 0) (sym (ap (judgeStage order referenceMost s t) r)) (refused-number file.Stage stageMost s number at r .0)
+      refused-as (verdict number 1 at 0) (sym (ap (judgeStage order referenceMost s t) r)) (refused-number file.Stage stageMost s number at r .0, omega arith)
 
   module _ (c : Counts) (code : List ℕ) (is : outcome.Readable c ≡ outcomeOf (readFile file.Stage stageMost s))
       (h : HoldsStage s (readFile file.Stage stageMost s) code) where
@@ -103,7 +111,7 @@ module _ (order : WordOrder) (stageMost referenceMost : Limits) (s t : List ℕ)
     reference-refused number at e =
         let r = was-refused (readFile file.Reference referenceMost t) number at e in
         refused-as (verdict number 2 at 0) (sym (ap (judgeReference order (stageIn c code) t) r) ∙ stage-then)
-        (refused-number file.Reference referenceMost t number at r .0)
+        (refused-number file.Reference referenceMost t number at r .0, omega arith)
 
     module _ (sizes : Counts) (reference : List ℕ) (it : outcome.Readable sizes ≡ outcomeOf (readFile file.Reference referenceMost t))
         (k : HoldsReference t (readFile file.Reference referenceMost t) reference) where
@@ -124,7 +132,7 @@ module _ (order : WordOrder) (stageMost referenceMost : Limits) (s t : List ℕ)
       unfolding verdicts.verdictOf
       checks-refuse v e =
           refused-as v (ap verdicts.verdictOf e ∙ judged)
-          (fault-number (checks order (stageIn c code) (referenceIn sizes reference)) (checks-numbered order (stageIn c code) (referenceIn sizes reference)) v (sym e))
+          (fault-named (checks order (stageIn c code) (referenceIn sizes reference)) (checks-named order (stageIn c code) (referenceIn sizes reference)) v (sym e))
 
       pub checks-pass : {code′ : List ℕ} → Passed ≡ found → BothLoaded c code′ sizes reference × (stageIn c code′ ≡ stageIn c code)
           → JudgedAs order stageMost referenceMost s t (judgement.Accepted c sizes) code′ reference

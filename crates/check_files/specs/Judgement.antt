@@ -39,5 +39,5 @@ verdictOf (Accepted c sizes) = accepted
 
 pub record JudgedAs (order : WordOrder) (stageMost referenceMost : Limits) (s t : List ℕ) (j : Judgement) (code reference : List ℕ) : Type 0 where
   pub verdict-is : verdictOf j ≡ verdictWithin order stageMost referenceMost s t
-  pub refuses : (v : Verdict) → j ≡ Refused v → 1 ≤ v .number
+  pub refuses : (v : Verdict) → j ≡ Refused v → (1 ≤ v .number) × (v .file ≤ 2)
   pub loaded : (c sizes : Counts) → j ≡ Accepted c sizes → PairLoaded stageMost referenceMost s t c code sizes reference

@@ -13,7 +13,6 @@ ghost use Rattle.netlist.specs.Reading.{stageLimits, referenceLimits, NoMore};
 ghost use Rattle.verdict.specs.Retired.{retiredAt};
 ghost use Rattle.verdict.specs.Search.{least};
 ghost use Rattle.verdict.specs.Checks as checks;
-ghost use Rattle.verdict.specs.Verdicts as verdicts;
 ghost use Rattle.check_spec.specs.Content.{files};
 ghost use Rattle.check_spec.specs.Verdicts.{verdictOn};
 ghost use Rattle.check_spec.specs.Demands.{Demand2, Demand3};
@@ -146,16 +145,11 @@ pub fn check_loading(
     }
 }
 
-// The verdict on a stage file and a reference file, which are read within some limits, with words named in an order.
-pub fn check_within(
-    order: WordOrder,
-    stage: &[u8],
-    reference: &[u8],
-    stage_most: Limits,
-    reference_most: Limits,
-) -> Verdict
-    requires { ⌜ NoMore «stage_most» stageLimits × NoMore «reference_most» referenceLimits ⌝ }
-    ensures { λ r. ⌜ r ≡ verdicts.verdictWithin order «stage_most» «reference_most» (now (stage .entry)) (now (reference .entry)) ⌝ }
+// The verdict on a stage file and a reference file, with words named in an order.
+pub fn check(order: WordOrder, stage: &[u8], reference: &[u8]) -> Verdict
+    ensures verdict { λ r. ⌜ r ≡ verdictOn order (files (now (stage .entry)) (now (reference .entry))) ⌝ }
+    ensures demand2 { λ r. ⌜ Demand2 order (files (now (stage .entry)) (now (reference .entry))) r ⌝ }
+    ensures runs { λ r. ⌜ Demand3 order (files (now (stage .entry)) (now (reference .entry))) r ⌝ }
 {
     let mut code = [0u16; circuit_load::STAGE_CODE];
     let mut loaded = [0u16; circuit_load::REFERENCE_CODE];
@@ -163,24 +157,9 @@ pub fn check_within(
         order,
         stage,
         reference,
-        stage_most,
-        reference_most,
+        netlist::stage_limits(),
+        netlist::reference_limits(),
         &mut code,
         &mut loaded,
     ))
-}
-
-// The same within the limits of the two files.
-pub fn check(order: WordOrder, stage: &[u8], reference: &[u8]) -> Verdict
-    ensures verdict { λ r. ⌜ r ≡ verdictOn order (files (now (stage .entry)) (now (reference .entry))) ⌝ }
-    ensures demand2 { λ r. ⌜ Demand2 order (files (now (stage .entry)) (now (reference .entry))) r ⌝ }
-    ensures runs { λ r. ⌜ Demand3 order (files (now (stage .entry)) (now (reference .entry))) r ⌝ }
-{
-    check_within(
-        order,
-        stage,
-        reference,
-        netlist::stage_limits(),
-        netlist::reference_limits(),
-    )
 }

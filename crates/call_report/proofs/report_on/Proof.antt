@@ -27,7 +27,7 @@ returns c =
     let is = c .before .judgement .given .1 in
     report-refused (z .args .order) (now (z .args .stage)) (now (z .args .reference)) _
     (answered (z .args .order) _ _ (now (z .args .stage)) (now (z .args .reference)) _ (c .before .before .before .before .before .before .before .before .before .stage-limits .ensures)
-    (c .before .before .before .before .before .before .before .before .reference-limits .ensures) (sym (ap verdictOf is) ∙ j .verdict-is)) (j .refuses _ is)
+    (c .before .before .before .before .before .before .before .before .reference-limits .ensures) (sym (ap verdictOf is) ∙ j .verdict-is)) (j .refuses _ is .0)
 
 returns-2 : tie.Need-returns-2
 returns-2 c =

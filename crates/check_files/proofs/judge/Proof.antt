@@ -1,5 +1,4 @@
 -- `check_files::judge` meets its contract. Assumes nothing.
-use mathlib.Core.Path.{sym, _∙_}
 use denote.Ref.{now}
 use Rattle.check_files.proofs.Judging.{not-passed, is-10, is-11, is-12, is-28, comparable, is-swept}
 use borrow.Author.Needs.{needs}
