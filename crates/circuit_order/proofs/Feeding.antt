@@ -5,6 +5,7 @@ use native.Mathlib.Omega.{arith}
 use native.Mathlib.Decide.{decLt, ℕ-discrete}
 use mathlib.Core.Path.{_≡_, refl, sym, ap, _∙_}
 use mathlib.Core.Bool.{Bool, false, _||_}
+use mathlib.Core.Logic.{inl, inr}
 use mathlib.Core.List.{List, [], _∷_}
 use lib.ListN.{length, getD, take, set, length-set}
 use lib.Seq.{getD-set-same, getD-set-other}
@@ -15,12 +16,32 @@ use Rattle.netlist.specs.declared.Counts.{Counts}
 use Rattle.netlist.specs.Content.{Gate}
 use Rattle.verdict.specs.Rows.{high}
 use Rattle.verdict.specs.Graph.{anyHigh}
-use Rattle.verdict.specs.Loops.{pinsAt}
+use Rattle.verdict.specs.Loops.{In, pinsAt}
 use Rattle.circuit.specs.Stage.{netCount, cellIn, pinIn, gateIn, stageGates, StageLoaded}
 use Rattle.circuit.specs.Rows.{RowFor, netsIn, patternIn}
 use Rattle.circuit.proofs.Pins.{pattern-nets}
 use Rattle.circuit.proofs.Tabulate.{getD-tabulate, map-tabulate}
 use Rattle.circuit_order.specs.Marks.{MarksFor, fedBy}
+
+first-in : (l : List ℕ) (m i : ℕ) → i < m → i < length l → In (getD l i 0) (take m l)
+first-in [] m i h l = absurd (omega arith)
+first-in (p ∷ ps) zero i h l = absurd (omega arith)
+first-in (p ∷ ps) (suc m) zero h l = inl refl
+first-in (p ∷ ps) (suc m) (suc i) h l = inr (first-in ps m i (omega arith) (omega arith))
+
+module _ (code : List ℕ) (k : ℕ) where
+  abbrev fourPins : List ℕ
+  fourPins = pinIn code k 0 ∷ pinIn code k 1 ∷ pinIn code k 2 ∷ pinIn code k 3 ∷ []
+
+  at-pin : (i : ℕ) → i < 4 → getD fourPins i 0 ≡ pinIn code k i
+  at-pin zero h = refl
+  at-pin (suc zero) h = refl
+  at-pin (suc (suc zero)) h = refl
+  at-pin (suc (suc (suc zero))) h = refl
+  at-pin (suc (suc (suc (suc i)))) h = absurd (omega arith)
+
+  pin-at : (i : ℕ) → i < pinCount (cellIn code k) → i < 4 → In (pinIn code k i) (gateIn code k .pins)
+  pin-at i a l = rw (at-pin i l) at (first-in fourPins (pinCount (cellIn code k)) i a l)
 
 pub pinsAt-stageGates : (c : Counts) (code : List ℕ) (k : ℕ) → k < c .gates → pinsAt (stageGates c code) k ≡ gateIn code k .pins
 unfolding stageGates
@@ -89,3 +110,18 @@ module _ (c : Counts) (code marks : List ℕ) (loaded : StageLoaded c code) (m :
       ∙ any-four (getD marks (pinIn code k 0) 0) (getD marks (pinIn code k 1) 0) (getD marks (pinIn code k 2) 0) (getD marks (pinIn code k 3) 0)
       ∙ any-first marks four (pinCount (cellIn code k)) low
       ∙ ap (anyHigh marks) (sym (pinsAt-stageGates c code k h))
+
+  -- no mark is at any of the four
+  pub unfed : ((i : ℕ) → i < 4 → getD marks (pinIn code k i) 0 ≡ 0) → fedBy (stageGates c code) marks k ≡ false
+  unfed z =
+      ap (anyHigh marks) (pinsAt-stageGates c code k h)
+      ∙ sym (any-first marks four (pinCount (cellIn code k)) low)
+      ∙ rw (z 0 (omega arith), z 1 (omega arith), z 2 (omega arith), z 3 (omega arith)) refl
+
+  -- a marked net at one of the four is at a pin of its cell
+  pub pin-in : (i : ℕ) → i < 4 → 0 < getD marks (pinIn code k i) 0 → In (pinIn code k i) (gateIn code k .pins)
+  pin-in i l e = go (decLt i (pinCount (cellIn code k)))
+    where
+      go : Dec (i < pinCount (cellIn code k)) → In (pinIn code k i) (gateIn code k .pins)
+      go (yes a) = pin-at code k i a l
+      go (no a) = absurd (omega (arith, e, loaded .gate k h .absent i (omega arith) l, ap (λ (p : ℕ). getD marks p 0) (loaded .gate k h .absent i (omega arith) l), m .ground))

@@ -3,6 +3,7 @@ pub mod Feeding
 pub mod Reordering
 pub mod Placing
 pub mod Ordering
+pub mod After
 pub mod Marking
 pub mod Searching
 pub mod Findings

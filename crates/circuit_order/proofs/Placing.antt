@@ -17,7 +17,7 @@ use Rattle.verdict.proofs.Graph.{anyHigh-in}
 use Rattle.circuit.specs.Stage.{gateAtPlace, placeOf, stageGates, StageLoaded}
 use Rattle.circuit_order.proofs.Feeding.{marks-set}
 use Rattle.circuit_order.specs.Marks.{Unmarked, fedBy}
-use Rattle.circuit_order.specs.Placing.{Reordered, WaitTo, Waits, Gone, Placing, isReady, PassTo}
+use Rattle.circuit_order.specs.Placing.{Reordered, WaitTo, Waits, Gone, Placing, isReady}
 use Rattle.circuit_order.proofs.Sums.{sum-none, sum-set}
 use Rattle.circuit_order.proofs.Reordering.{reordered-refl, reordered-set, gates-kept, loaded-kept}
 
@@ -206,25 +206,3 @@ module _ (c : Counts) (code waiting : List ℕ) (placed : ℕ) (p : Placing c co
     stands = λ m h g. stands′ m h g (ℕ-discrete m k);
     earlier = λ j m hj hm g f. earlier′ j m hj hm g (rw (gates-kept c code code′ placed-reordered) at f) (ℕ-discrete m k);
   }
-
--- ---- a pass
-
-not-ready : (a b : Bool) → (a && not b) ≡ false → a ≡ true → b ≡ true
-not-ready true true e h = refl
-not-ready true false e h = absurd (never refl e)
-not-ready false b e h = absurd (never h refl)
-
-pub pass-start : (c : Counts) (code waiting : List ℕ) (before : ℕ) → Placing c code waiting before → PassTo c code waiting before before 0
-pass-start c code waiting before p = record { placing = p; more = omega arith; none = λ e j h. absurd (omega arith) }
-
-module _ (c : Counts) (code waiting : List ℕ) (before placed k : ℕ) where
-  pub pass-place : (code′ waiting′ : List ℕ) → PassTo c code waiting before placed k → Placing c code′ waiting′ (placed + 1) →
-      PassTo c code′ waiting′ before (placed + 1) (k + 1)
-  pass-place code′ waiting′ w p = record { placing = p; more = omega (arith, w .more); none = λ e. absurd (omega (arith, w .more)) }
-
-  pub pass-skip : PassTo c code waiting before placed k → isReady c code waiting k ≡ false → PassTo c code waiting before placed (k + 1)
-  pass-skip w r = record { placing = w .placing; more = w .more; none = λ e j h v. at e j h v (ℕ-discrete j k) }
-    where
-      at : placed ≡ before → (j : ℕ) → j < k + 1 → Waits c waiting j → Dec (j ≡ k) → fedBy (stageGates c code) waiting j ≡ true
-      at e j h v (yes q) = rw q (not-ready (high waiting (2 * c .inputs + k)) (fedBy (stageGates c code) waiting k) r (rw q at v))
-      at e j h v (no d) = w .none e j (omega arith) v

@@ -1,0 +1,351 @@
+use Prim.Native.Nat.{ℕ, _-_, _≤_, _<_}
+use native.Mathlib.Omega.{arith}
+use Rattle.circuit_order.specs.Placing.{AfterPins, PlacedAfter}
+use Rattle.circuit_order.proofs.After.{after-none, pins-start, pins-skip, pin-waits, pins-more, pins-stuck, after-gone, after-ready, after-placed}
+use borrow.Fn.Kinds.{In}
+use borrow.Fn.PlainCycle.{Measures, is, falls, and}
+use Rattle.circuit_order.proofs.place_after.Reads as place-after
+use Rattle.circuit_order.proofs.place_after.Kinds as place-after-kinds
+use Rattle.circuit_order.proofs.+place_after.Lts-place_after as place-after-lts
+use Rattle.circuit_order.proofs.place.Reads as place-reads
+use Rattle.circuit_order.proofs.+place_after.{statement}
+use Rattle.circuit_order.proofs.+place_after.Tie.{close}
+
+abbrev μ-place-after : Measures 2 place-after-kinds.ps ℕ
+μ-place-after κs a = a .1 .1 .1 .1 .1 .0
+
+abbrev place-after-at : ℕ → In 2 place-after-kinds.ps
+place-after-at t =
+    and 2 place-after-kinds.ps (is 2 place-after-kinds.ps μ-place-after t) place-after.Pre
+
+abbrev place-after-below : ℕ → In 2 place-after-kinds.ps
+place-after-below t =
+    and 2 place-after-kinds.ps (falls 2 place-after-kinds.ps _<_ μ-place-after t) place-after.Pre
+
+abbrev place-after-Inv-loop : place-after-lts.InvT-loop
+place-after-Inv-loop code₀ counts k waiting₀ taken depth placed₀ i₀ code waiting placed i = (i ≤ 4) × AfterPins counts code₀ code waiting₀ waiting placed k i
+
+abbrev place-after-μ-loop : place-after-lts.MeasureT-loop
+place-after-μ-loop code₀ counts k waiting₀ taken depth placed₀ i₀ code waiting placed i = 4 - i
+
+-- src/lib.rt:55:9
+place-after-returns : (t : ℕ) → place-after-lts.Need-returns (
+  place-after-below t,
+  place-after.Post,
+  place-reads.Asked,
+  place-reads.Learnt,
+) (place-after-at t) place-after.Post place-after-Inv-loop place-after-μ-loop
+place-after-returns t c = ?
+
+-- src/lib.rt:59:5
+place-after-loop-holds : (t : ℕ) → place-after-lts.Need-loop-holds (
+  place-after-below t,
+  place-after.Post,
+  place-reads.Asked,
+  place-reads.Learnt,
+) (place-after-at t) place-after.Post place-after-Inv-loop place-after-μ-loop
+place-after-loop-holds t c = ?
+
+-- src/lib.rt:60:24
+place-after-mul-net : (t : ℕ) → place-after-lts.Need-mul-net (
+  place-after-below t,
+  place-after.Post,
+  place-reads.Asked,
+  place-reads.Learnt,
+) (place-after-at t) place-after.Post place-after-Inv-loop place-after-μ-loop
+place-after-mul-net t c = ?
+
+-- src/lib.rt:60:33
+place-after-add-net : (t : ℕ) → place-after-lts.Need-add-net (
+  place-after-below t,
+  place-after.Post,
+  place-reads.Asked,
+  place-reads.Learnt,
+) (place-after-at t) place-after.Post place-after-Inv-loop place-after-μ-loop
+place-after-add-net t c = ?
+
+-- src/lib.rt:60:24
+place-after-add-net-2 : (t : ℕ) → place-after-lts.Need-add-net-2 (
+  place-after-below t,
+  place-after.Post,
+  place-reads.Asked,
+  place-reads.Learnt,
+) (place-after-at t) place-after.Post place-after-Inv-loop place-after-μ-loop
+place-after-add-net-2 t c = ?
+
+-- src/lib.rt:60:19
+place-after-mul-net-2 : (t : ℕ) → place-after-lts.Need-mul-net-2 (
+  place-after-below t,
+  place-after.Post,
+  place-reads.Asked,
+  place-reads.Learnt,
+) (place-after-at t) place-after.Post place-after-Inv-loop place-after-μ-loop
+place-after-mul-net-2 t c = ?
+
+-- src/lib.rt:60:19
+place-after-slice-read-net : (t : ℕ) → place-after-lts.Need-slice-read-net (
+  place-after-below t,
+  place-after.Post,
+  place-reads.Asked,
+  place-reads.Learnt,
+) (place-after-at t) place-after.Post place-after-Inv-loop place-after-μ-loop
+place-after-slice-read-net t c = ?
+
+-- src/lib.rt:60:19
+place-after-cast-net : (t : ℕ) → place-after-lts.Need-cast-net (
+  place-after-below t,
+  place-after.Post,
+  place-reads.Asked,
+  place-reads.Learnt,
+) (place-after-at t) place-after.Post place-after-Inv-loop place-after-μ-loop
+place-after-cast-net t c = ?
+
+-- src/lib.rt:61:16
+place-after-slice-read-if2 : (t : ℕ) → place-after-lts.Need-slice-read-if2 (
+  place-after-below t,
+  place-after.Post,
+  place-reads.Asked,
+  place-reads.Learnt,
+) (place-after-at t) place-after.Post place-after-Inv-loop place-after-μ-loop
+place-after-slice-read-if2 t c = ?
+
+-- src/lib.rt:62:54
+place-after-mul-place-after : (t : ℕ) → place-after-lts.Need-mul-place-after (
+  place-after-below t,
+  place-after.Post,
+  place-reads.Asked,
+  place-reads.Learnt,
+) (place-after-at t) place-after.Post place-after-Inv-loop place-after-μ-loop
+place-after-mul-place-after t c = ?
+
+-- src/lib.rt:62:48
+place-after-sub-place-after : (t : ℕ) → place-after-lts.Need-sub-place-after (
+  place-after-below t,
+  place-after.Post,
+  place-reads.Asked,
+  place-reads.Learnt,
+) (place-after-at t) place-after.Post place-after-Inv-loop place-after-μ-loop
+place-after-sub-place-after t c = ?
+
+-- src/lib.rt:62:90
+place-after-sub-place-after-2 : (t : ℕ) → place-after-lts.Need-sub-place-after-2 (
+  place-after-below t,
+  place-after.Post,
+  place-reads.Asked,
+  place-reads.Learnt,
+) (place-after-at t) place-after.Post place-after-Inv-loop place-after-μ-loop
+place-after-sub-place-after-2 t c = ?
+
+-- src/lib.rt:62:13
+place-after-place-after-requires : (t : ℕ) → place-after-lts.Need-place-after-requires (
+  place-after-below t,
+  place-after.Post,
+  place-reads.Asked,
+  place-reads.Learnt,
+) (place-after-at t) place-after.Post place-after-Inv-loop place-after-μ-loop
+place-after-place-after-requires t c κs = ?
+
+-- src/lib.rt:63:20
+place-after-slice-read-if3 : (t : ℕ) → place-after-lts.Need-slice-read-if3 (
+  place-after-below t,
+  place-after.Post,
+  place-reads.Asked,
+  place-reads.Learnt,
+) (place-after-at t) place-after.Post place-after-Inv-loop place-after-μ-loop
+place-after-slice-read-if3 t c = ?
+
+-- src/lib.rt:64:17
+place-after-same-length : (t : ℕ) → place-after-lts.Need-same-length (
+  place-after-below t,
+  place-after.Post,
+  place-reads.Asked,
+  place-reads.Learnt,
+) (place-after-at t) place-after.Post place-after-Inv-loop place-after-μ-loop
+place-after-same-length t c = ?
+
+-- src/lib.rt:64:17
+place-after-same-length-2 : (t : ℕ) → place-after-lts.Need-same-length-2 (
+  place-after-below t,
+  place-after.Post,
+  place-reads.Asked,
+  place-reads.Learnt,
+) (place-after-at t) place-after.Post place-after-Inv-loop place-after-μ-loop
+place-after-same-length-2 t c = ?
+
+-- src/lib.rt:64:17
+place-after-returns-2 : (t : ℕ) → place-after-lts.Need-returns-2 (
+  place-after-below t,
+  place-after.Post,
+  place-reads.Asked,
+  place-reads.Learnt,
+) (place-after-at t) place-after.Post place-after-Inv-loop place-after-μ-loop
+place-after-returns-2 t c = ?
+
+-- src/lib.rt:67:9
+place-after-add-i : (t : ℕ) → place-after-lts.Need-add-i (
+  place-after-below t,
+  place-after.Post,
+  place-reads.Asked,
+  place-reads.Learnt,
+) (place-after-at t) place-after.Post place-after-Inv-loop place-after-μ-loop
+place-after-add-i t c = ?
+
+-- src/lib.rt:59:5
+place-after-loop-less : (t : ℕ) → place-after-lts.Need-loop-less (
+  place-after-below t,
+  place-after.Post,
+  place-reads.Asked,
+  place-reads.Learnt,
+) (place-after-at t) place-after.Post place-after-Inv-loop place-after-μ-loop
+place-after-loop-less t c = ?
+
+-- src/lib.rt:59:5
+place-after-loop-again : (t : ℕ) → place-after-lts.Need-loop-again (
+  place-after-below t,
+  place-after.Post,
+  place-reads.Asked,
+  place-reads.Learnt,
+) (place-after-at t) place-after.Post place-after-Inv-loop place-after-μ-loop
+place-after-loop-again t c = ?
+
+-- src/lib.rt:69:16
+place-after-mul-if4 : (t : ℕ) → place-after-lts.Need-mul-if4 (
+  place-after-below t,
+  place-after.Post,
+  place-reads.Asked,
+  place-reads.Learnt,
+) (place-after-at t) place-after.Post place-after-Inv-loop place-after-μ-loop
+place-after-mul-if4 t c = ?
+
+-- src/lib.rt:69:16
+place-after-add-if4 : (t : ℕ) → place-after-lts.Need-add-if4 (
+  place-after-below t,
+  place-after.Post,
+  place-reads.Asked,
+  place-reads.Learnt,
+) (place-after-at t) place-after.Post place-after-Inv-loop place-after-μ-loop
+place-after-add-if4 t c = ?
+
+-- src/lib.rt:69:8
+place-after-slice-read-if4 : (t : ℕ) → place-after-lts.Need-slice-read-if4 (
+  place-after-below t,
+  place-after.Post,
+  place-reads.Asked,
+  place-reads.Learnt,
+) (place-after-at t) place-after.Post place-after-Inv-loop place-after-μ-loop
+place-after-slice-read-if4 t c = ?
+
+-- src/lib.rt:70:9
+place-after-same-length-3 : (t : ℕ) → place-after-lts.Need-same-length-3 (
+  place-after-below t,
+  place-after.Post,
+  place-reads.Asked,
+  place-reads.Learnt,
+) (place-after-at t) place-after.Post place-after-Inv-loop place-after-μ-loop
+place-after-same-length-3 t c = ?
+
+-- src/lib.rt:70:9
+place-after-same-length-4 : (t : ℕ) → place-after-lts.Need-same-length-4 (
+  place-after-below t,
+  place-after.Post,
+  place-reads.Asked,
+  place-reads.Learnt,
+) (place-after-at t) place-after.Post place-after-Inv-loop place-after-μ-loop
+place-after-same-length-4 t c = ?
+
+-- src/lib.rt:70:9
+place-after-returns-3 : (t : ℕ) → place-after-lts.Need-returns-3 (
+  place-after-below t,
+  place-after.Post,
+  place-reads.Asked,
+  place-reads.Learnt,
+) (place-after-at t) place-after.Post place-after-Inv-loop place-after-μ-loop
+place-after-returns-3 t c = ?
+
+-- src/lib.rt:72:5
+place-after-place-requires : (t : ℕ) → place-after-lts.Need-place-requires (
+  place-after-below t,
+  place-after.Post,
+  place-reads.Asked,
+  place-reads.Learnt,
+) (place-after-at t) place-after.Post place-after-Inv-loop place-after-μ-loop
+place-after-place-requires t c κs = ?
+
+-- src/lib.rt:73:5
+place-after-add-result : (t : ℕ) → place-after-lts.Need-add-result (
+  place-after-below t,
+  place-after.Post,
+  place-reads.Asked,
+  place-reads.Learnt,
+) (place-after-at t) place-after.Post place-after-Inv-loop place-after-μ-loop
+place-after-add-result t c = ?
+
+-- src/lib.rt:50:1
+place-after-same-length-5 : (t : ℕ) → place-after-lts.Need-same-length-5 (
+  place-after-below t,
+  place-after.Post,
+  place-reads.Asked,
+  place-reads.Learnt,
+) (place-after-at t) place-after.Post place-after-Inv-loop place-after-μ-loop
+place-after-same-length-5 t c = ?
+
+-- src/lib.rt:50:1
+place-after-same-length-6 : (t : ℕ) → place-after-lts.Need-same-length-6 (
+  place-after-below t,
+  place-after.Post,
+  place-reads.Asked,
+  place-reads.Learnt,
+) (place-after-at t) place-after.Post place-after-Inv-loop place-after-μ-loop
+place-after-same-length-6 t c = ?
+
+-- src/lib.rt:50:1
+place-after-returns-4 : (t : ℕ) → place-after-lts.Need-returns-4 (
+  place-after-below t,
+  place-after.Post,
+  place-reads.Asked,
+  place-reads.Learnt,
+) (place-after-at t) place-after.Post place-after-Inv-loop place-after-μ-loop
+place-after-returns-4 t c = ?
+
+pub +place-after-spec : {M : Type 1} → statement M
++place-after-spec = close μ-place-after λ t. place-after-lts.spec (
+  place-after-below t,
+  place-after.Post,
+  place-reads.Asked,
+  place-reads.Learnt,
+)
+    (place-after-at t)
+    place-after.Post
+    place-after-Inv-loop
+    place-after-μ-loop
+    (place-after-returns t)
+    (place-after-loop-holds t)
+    (place-after-mul-net t)
+    (place-after-add-net t)
+    (place-after-add-net-2 t)
+    (place-after-mul-net-2 t)
+    (place-after-slice-read-net t)
+    (place-after-cast-net t)
+    (place-after-slice-read-if2 t)
+    (place-after-mul-place-after t)
+    (place-after-sub-place-after t)
+    (place-after-sub-place-after-2 t)
+    (place-after-place-after-requires t)
+    (place-after-slice-read-if3 t)
+    (place-after-same-length t)
+    (place-after-same-length-2 t)
+    (place-after-returns-2 t)
+    (place-after-add-i t)
+    (place-after-loop-less t)
+    (place-after-loop-again t)
+    (place-after-mul-if4 t)
+    (place-after-add-if4 t)
+    (place-after-slice-read-if4 t)
+    (place-after-same-length-3 t)
+    (place-after-same-length-4 t)
+    (place-after-returns-3 t)
+    (place-after-place-requires t)
+    (place-after-add-result t)
+    (place-after-same-length-5 t)
+    (place-after-same-length-6 t)
+    (place-after-returns-4 t)
