@@ -44,7 +44,7 @@ module _ (c : Counts) (code waiting : List ℕ) (taken k : ℕ) (w : Placing c c
 module _ (c : Counts) (before code waited waiting : List ℕ) (placed k : ℕ) (hk : k < c .gates) where
   module _ (i : ℕ) (a : AfterPins c before code waited waiting placed k i) where
     -- the pin waits no more
-    pub pins-skip : ¬ (0 < getD waiting (pinIn code k i) 0) → AfterPins c before code waited waiting placed k (i + 1)
+    pub pins-skip : getD waiting (pinIn code k i) 0 ≤ 0 → AfterPins c before code waited waiting placed k (i + 1)
     pins-skip h = record { placing = a .placing; reordered = a .reordered; kept = a .kept; done = λ m l. at m l (ℕ-discrete m i) }
       where
         at : (m : ℕ) → m < i + 1 → Dec (m ≡ i) → getD waiting (pinIn code k m) 0 ≡ 0
@@ -58,7 +58,7 @@ module _ (c : Counts) (before code waited waiting : List ℕ) (placed k : ℕ) (
     module _ (l : i < 4) (code′ waiting′ : List ℕ) (placed′ depth : ℕ) (h : 0 < getD waiting (pinIn code k i) 0)
         (p : PlacedAfter c code code′ waiting waiting′ placed′ (pinIn code k i - 2 * c .inputs) depth) where
       -- its gate is placed
-      pub pins-more : ¬ (0 < getD waiting′ (pinIn code k i) 0) → AfterPins c before code′ waited waiting′ placed′ k (i + 1)
+      pub pins-more : getD waiting′ (pinIn code k i) 0 ≤ 0 → AfterPins c before code′ waited waiting′ placed′ k (i + 1)
       pins-more n = record {
         placing = p .placing;
         reordered = reordered-trans c before code code′ (a .reordered) (p .reordered);
@@ -126,9 +126,12 @@ pub record PlacedTo (c : Counts) (before code waiting : List ℕ) (placed k : �
   pub reordered : Reordered c before code
   pub gone : (j : ℕ) → j < k → Gone c waiting j
 
+pub placed-start : (c : Counts) (code waiting : List ℕ) → Placing c code waiting 0 → PlacedTo c code code waiting 0 0
+placed-start c code waiting p = record { placing = p; reordered = reordered-refl c code; gone = λ j l. absurd (omega arith) }
+
 module _ (c : Counts) (before code waiting : List ℕ) (placed k : ℕ) (t : PlacedTo c before code waiting placed k) where
   module _ (code′ waiting′ : List ℕ) (placed′ depth : ℕ) (p : PlacedAfter c code code′ waiting waiting′ placed′ k depth) where
-    pub placed-more : ¬ (0 < getD waiting′ (2 * c .inputs + k) 0) → PlacedTo c before code′ waiting′ placed′ (k + 1)
+    pub placed-more : getD waiting′ (2 * c .inputs + k) 0 ≤ 0 → PlacedTo c before code′ waiting′ placed′ (k + 1)
     placed-more n = record {
       placing = p .placing;
       reordered = reordered-trans c before code code′ (t .reordered) (p .reordered);
