@@ -19,7 +19,7 @@ use Rattle.circuit.specs.Stage.{netCount, cellIn, pinIn, gateIn, stageGates, St
 use Rattle.circuit.proofs.Settling.{length-stageGates}
 use Rattle.circuit_order.specs.Marks.{fedBy}
 use Rattle.circuit_order.specs.Placing.{Reordered, Waits, Gone, Placing, isReady, Ranks, PlacedAfter, AfterPins, Ordered}
-use Rattle.circuit_order.proofs.Feeding.{pin-in, pinsAt-stageGates, unfed}
+use Rattle.circuit_order.proofs.Feeding.{pin-in, unfed}
 use Rattle.circuit_order.proofs.Sums.{sum-some}
 use Rattle.circuit_order.proofs.Reordering.{reordered-refl, reordered-trans, pin-kept, gates-kept}
 use Rattle.circuit_order.proofs.Placing.{never, low, high-same, high-other}
@@ -82,7 +82,7 @@ module _ (c : Counts) (before code waited waiting : List ℕ) (placed k : ℕ) (
       }
         where
           in-pins : In (pinIn code k i) (pinsAt (stageGates c code) k)
-          in-pins = rw (pinsAt-stageGates c code k hk) (pin-in c code waiting (a .placing .loaded) (a .placing .marks-for) k hk i l h)
+          in-pins = let net = pin-waits h in pin-in c code (a .placing .loaded) k hk i l (omega (arith, net .0, net .1))
 
           left : (rank : ℕ → ℕ) → Ranks c before rank → rank (2 * c .inputs + k) < suc depth → ⊥
           left rank r b =

@@ -4,6 +4,6 @@ pub mod Reordering
 pub mod Placing
 pub mod Ordering
 pub mod After
-pub mod Marking
+pub mod Visiting
 pub mod Searching
 pub mod Findings

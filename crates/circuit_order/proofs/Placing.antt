@@ -1,20 +1,22 @@
 -- Placing the gates: all of them wait; one that no waiting gate feeds takes the next place; and a pass over all of them.
 -- Assumes nothing.
-use Prim.Native.Nat.{ℕ, _+_, _*_, _≤_, _<_}
+use Prim.Native.Nat.{ℕ, zero, suc, _+_, _*_, _≤_, _<_}
 use native.Mathlib.Omega.{arith}
 use native.Mathlib.Decide.{ℕ-discrete, decLt}
 use mathlib.Core.Path.{_≡_, refl, sym, ap, _∙_, subst}
 use mathlib.Core.Bool.{Bool, true, false, _&&_, not}
 use mathlib.Core.List.{List}
-use lib.ListN.{length, getD, set, length-set}
+use lib.ListN.{length, getD, set, length-set, replicate, length-replicate}
 use lib.Seq.{getD-set-same, getD-set-other}
 use lib.Dec.{ltb}
 use borrow.Author.Tests.{ltb-true, lt-ltb}
 use Rattle.netlist.specs.declared.Counts.{Counts}
+use Rattle.netlist.specs.Reading.{stageLimits, Within}
 use Rattle.verdict.specs.Rows.{high}
 use Rattle.verdict.specs.Loops.{pinsAt, Feeds}
 use Rattle.verdict.proofs.Graph.{anyHigh-in}
-use Rattle.circuit.specs.Stage.{gateAtPlace, placeOf, stageGates, StageLoaded}
+use Rattle.circuit.specs.Stage.{netCount, gateAtPlace, placeOf, stageGates, StageLoaded}
+use Rattle.circuit.specs.Rows.{rowSize}
 use Rattle.circuit_order.proofs.Feeding.{marks-set}
 use Rattle.circuit_order.specs.Marks.{Unmarked, fedBy}
 use Rattle.circuit_order.specs.Placing.{Reordered, WaitTo, Waits, Gone, Placing, isReady}
@@ -41,6 +43,23 @@ low v p h = go (decLt 0 (getD v p 0))
     go (no l) = omega arith
 
 -- ---- all wait
+
+-- the marks of a stage within the limits, in an array of zeros
+pub fresh : (c : Counts) → Within stageLimits c → Unmarked c (replicate rowSize 0)
+fresh c w = record {
+  marks-for = record {
+    long = length-replicate {A = ℕ} rowSize 0;
+    room = omega (arith, w .inputs-in, w .gates-in);
+    bit = λ p. omega (arith, zeros rowSize p);
+    ground = zeros rowSize (netCount c);
+  };
+  none = zeros rowSize;
+}
+  where
+    zeros : (m p : ℕ) → _≡_ {A = ℕ} (getD (replicate m 0) p 0) 0
+    zeros zero p = refl
+    zeros (suc m) zero = refl
+    zeros (suc m) (suc p) = zeros m p
 
 module _ (c : Counts) where
   pub wait-none : (marks : List ℕ) → Unmarked c marks → WaitTo c marks 0

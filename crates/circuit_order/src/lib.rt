@@ -10,15 +10,7 @@ ghost use Rattle.verdict.specs.Loops.{reachesItself};
 ghost use Rattle.verdict.specs.Search.{least};
 ghost use Rattle.circuit.specs.Stage.{stageGates, StageLoaded};
 ghost use Rattle.circuit_order.specs.Placing.{Placing, isReady, WaitTo, PlacedAfter, Ordered, Reordered};
-ghost use Rattle.circuit_order.specs.Marks.{MarksFor, Unmarked, fedBy, Marking, Grown, LoopFound};
-
-// Whether a marked net is at a pin of gate k.
-fn fed(code: &[u16], counts: Counts, k: usize, marks: &[u8]) -> bool
-    requires { ⌜ StageLoaded counts (now code) × (k < counts .gates) × MarksFor counts (now marks) ⌝ }
-    ensures { λ r. ⌜ r ≡ fedBy (stageGates counts (now (code .entry))) (now (marks .entry)) k ⌝ }
-{
-    0 < circuit::pattern(code, counts, k, marks)
-}
+ghost use Rattle.circuit_order.specs.Marks.{Unmarked, Left, Visited, Pins, From, LoopFound};
 
 // ---- a topological order
 
@@ -47,7 +39,14 @@ fn place(code: &mut [u16], counts: Counts, k: usize, waiting: &mut [u8], placed:
 
 // Gate k is placed, after the gates that feed it and wait: these are placed in the same way first, `depth` gates deep at most. It is left where one of
 // them is: then there is a loop, or the order is deeper than that. How many gates are placed then.
-fn place_after(code: &mut [u16], counts: Counts, k: usize, waiting: &mut [u8], taken: usize, depth: usize) -> usize
+fn place_after(
+    code: &mut [u16],
+    counts: Counts,
+    k: usize,
+    waiting: &mut [u8],
+    taken: usize,
+    depth: usize,
+) -> usize
     requires { ⌜ Placing counts (now code) (now waiting) taken × (k < counts .gates) ⌝ }
     ensures { λ r. ⌜ PlacedAfter counts (now (code .entry)) (now (code .exit)) (now (waiting .entry)) (now (waiting .exit)) r k depth ⌝ }
 {
@@ -59,7 +58,14 @@ fn place_after(code: &mut [u16], counts: Counts, k: usize, waiting: &mut [u8], t
     while i < 4 {
         let net = code[8 * k + (1 + i)] as usize;
         if 0 < waiting[net] {
-            placed = place_after(code, counts, net - 2 * counts.inputs, waiting, placed, depth - 1);
+            placed = place_after(
+                code,
+                counts,
+                net - 2 * counts.inputs,
+                waiting,
+                placed,
+                depth - 1,
+            );
             if 0 < waiting[net] {
                 return placed;
             }
@@ -94,33 +100,29 @@ fn place_all(code: &mut [u16], counts: Counts, waiting: &mut [u8]) -> usize
 
 // ---- loops
 
-// A pass over the gates: each with a marked net at a pin is marked. Whether one was not marked before.
-fn mark_fed(code: &[u16], counts: Counts, marks: &mut [u8]) -> bool
-    requires { ⌜ StageLoaded counts (now code) × MarksFor counts (now marks) ⌝ }
-    ensures { λ r. ⌜ Grown counts (now (code .entry)) (now (marks .entry)) (now (marks .exit)) r (counts .gates) ⌝ }
+// Visits the gates that gate k comes from and that are left: each is left no more, and what it comes from is visited in turn.
+fn visit(code: &[u16], counts: Counts, k: usize, left: &mut [u8])
+    requires { ⌜ StageLoaded counts (now code) × (k < counts .gates) × Left counts (now left) ⌝ }
+    ensures { λ r. ⌜ Visited counts (now (code .entry)) (now (left .entry)) (now (left .exit)) (Pins counts (now (code .entry)) k) ⌝ }
 {
-    let mut more = false;
-    let mut k: usize = 0;
-    while k < counts.gates {
-        if marks[2 * counts.inputs + k] == 0 {
-            if fed(code, counts, k, marks) {
-                marks[2 * counts.inputs + k] = 1;
-                more = true;
-            }
+    let mut i: usize = 0;
+    while i < 4 {
+        let net = code[8 * k + (1 + i)] as usize;
+        if 0 < left[net] {
+            left[net] = 0;
+            visit(code, counts, net - 2 * counts.inputs, left);
         }
-        k += 1;
+        i += 1;
     }
-    more
 }
 
-// Whether gate g reaches itself: it is marked, then what has a marked net at a pin, until there is none left to mark.
-fn reaches_itself(code: &[u16], counts: Counts, g: usize, marks: &mut [u8]) -> bool
-    requires { ⌜ StageLoaded counts (now code) × (g < counts .gates) × Unmarked counts (now marks) ⌝ }
+// Whether gate g reaches itself: it does if it is visited among what it comes from. The gates before it, which do not reach themselves, need no visit.
+fn reaches_itself(code: &[u16], counts: Counts, g: usize, left: &mut [u8]) -> bool
+    requires { ⌜ StageLoaded counts (now code) × (g < counts .gates) × From counts (now code) (now left) g ⌝ }
     ensures { λ r. ⌜ r ≡ reachesItself (counts .inputs) (stageGates counts (now (code .entry))) g ⌝ }
 {
-    marks[2 * counts.inputs + g] = 1;
-    while mark_fed(code, counts, marks) {}
-    fed(code, counts, g, marks)
+    visit(code, counts, g, left);
+    left[2 * counts.inputs + g] == 0
 }
 
 // The least gate that reaches itself, gate by gate.
@@ -128,12 +130,15 @@ fn least_loop(code: &[u16], counts: Counts) -> Found
     requires { ⌜ StageLoaded counts (now code) ⌝ }
     ensures { λ r. ⌜ r ≡ least (reachesItself (counts .inputs) (stageGates counts (now (code .entry)))) 0 (counts .gates) ⌝ }
 {
+    let mut later = [0u8; circuit::ROW];
+    wait_all(counts, &mut later);
     let mut g: usize = 0;
     while g < counts.gates {
-        let mut marks = [0u8; circuit::ROW];
-        if reaches_itself(code, counts, g, &mut marks) {
+        let mut left = later;
+        if reaches_itself(code, counts, g, &mut left) {
             return Found::At(g);
         }
+        later[2 * counts.inputs + g] = 0;
         g += 1;
     }
     Found::Nothing

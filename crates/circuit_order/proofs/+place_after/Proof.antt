@@ -233,11 +233,13 @@ place-after-loop-again : (t : ℕ) → place-after-lts.Need-loop-again (
 ) (place-after-at t) place-after.Post place-after-Inv-loop place-after-μ-loop
 place-after-loop-again t c =
     let z = c .before .before .before .before .before .before .before .before in let l = c .before .before .before .before .loop in let h = c .before .before .before .loop-test .taken in
-    let on : List ℕ → List ℕ → ℕ → Type 0 = λ u v m. AfterPins (z .args .counts) (now (z .args .code)) u (now (z .args .waiting)) v m (z .args .k) (l .i + 1) in
-    (omega arith, ⊎-elim
-    (λ w. subst₃ on (sym (w .11)) (sym (w .12)) (sym (w .13)) (pins-more _ _ _ _ _ _ _ (z .pre .1 .1) _ (l .inv .1) h _ _ _ _ (w .0 .taken) (w .4 .ensures) (w .10 .left)))
-    (λ w. subst₃ on (sym (w .1)) (sym (w .2)) (sym (w .3)) (pins-skip _ _ _ _ _ _ _ (z .pre .1 .1) _ (l .inv .1) (w .0 .left)))
-    (c .if2 .came))
+    let on : List ℕ → List ℕ → ℕ → Type 0 = λ u v m. AfterPins (z .args .counts) (now (z .args .code)) u (now (z .args .waiting)) v m (z .args .k) (l .i + 1) in (
+      omega arith,
+      ⊎-elim
+          (λ w. subst₃ on (sym (w .11)) (sym (w .12)) (sym (w .13)) (pins-more _ _ _ _ _ _ _ (z .pre .1 .1) _ (l .inv .1) h _ _ _ _ (w .0 .taken) (w .4 .ensures) (w .10 .left)))
+          (λ w. subst₃ on (sym (w .1)) (sym (w .2)) (sym (w .3)) (pins-skip _ _ _ _ _ _ _ (z .pre .1 .1) _ (l .inv .1) (w .0 .left)))
+          (c .if2 .came),
+    )
 
 -- src/lib.rt:69:16
 place-after-mul-if4 : (t : ℕ) → place-after-lts.Need-mul-if4 (
