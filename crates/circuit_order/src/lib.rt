@@ -54,23 +54,23 @@ fn place_after(
         return taken;
     }
     let mut placed = taken;
-    let mut i: usize = 0;
-    while i < 4 {
-        let net = code[8 * k + (1 + i)] as usize;
-        if 0 < waiting[net] {
+    let mut pin: usize = 0;
+    while pin < 4 {
+        let feeder = code[8 * k + (1 + pin)] as usize;
+        if 0 < waiting[feeder] {
             placed = place_after(
                 code,
                 counts,
-                net - 2 * counts.inputs,
+                feeder - 2 * counts.inputs,
                 waiting,
                 placed,
                 depth - 1,
             );
-            if 0 < waiting[net] {
+            if 0 < waiting[feeder] {
                 return placed;
             }
         }
-        i += 1;
+        pin += 1;
     }
     if waiting[2 * counts.inputs + k] == 0 {
         return placed;

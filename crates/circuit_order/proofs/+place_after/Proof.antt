@@ -27,10 +27,10 @@ place-after-below t =
     and 2 place-after-kinds.ps (falls 2 place-after-kinds.ps _<_ μ-place-after t) place-after.Pre
 
 abbrev place-after-Inv-loop : place-after-lts.InvT-loop
-place-after-Inv-loop code₀ counts k waiting₀ taken depth placed₀ i₀ code waiting placed i = (i ≤ 4) × AfterPins counts code₀ code waiting₀ waiting placed k i
+place-after-Inv-loop code₀ counts k waiting₀ taken depth placed₀ pin₀ code waiting placed pin = (pin ≤ 4) × AfterPins counts code₀ code waiting₀ waiting placed k pin
 
 abbrev place-after-μ-loop : place-after-lts.MeasureT-loop
-place-after-μ-loop code₀ counts k waiting₀ taken depth placed₀ i₀ code waiting placed i = 4 - i
+place-after-μ-loop code₀ counts k waiting₀ taken depth placed₀ pin₀ code waiting placed pin = 4 - pin
 
 -- src/lib.rt:55:9
 place-after-returns : (t : ℕ) → place-after-lts.Need-returns (
@@ -53,64 +53,64 @@ place-after-loop-holds t c =
     let z = c .before .before .before in (omega arith, pins-start (z .args .counts) (now (z .args .code)) (now (z .args .waiting)) (z .args .taken) (z .args .k) (z .pre .1 .0))
 
 -- src/lib.rt:60:24
-place-after-mul-net : (t : ℕ) → place-after-lts.Need-mul-net (
+place-after-mul-feeder : (t : ℕ) → place-after-lts.Need-mul-feeder (
   place-after-below t,
   place-after.Post,
   place-reads.Asked,
   place-reads.Learnt,
 ) (place-after-at t) place-after.Post place-after-Inv-loop place-after-μ-loop
-place-after-mul-net t c =
+place-after-mul-feeder t c =
     omega (arith, c .before .before .before .before .before .pre .1 .1, c .before .loop .inv .0, c .before .loop .inv .1 .placing .loaded .within .gates-in, c .before .loop .inv .1 .placing .loaded .within .inputs-in)
 
 -- src/lib.rt:60:33
-place-after-add-net : (t : ℕ) → place-after-lts.Need-add-net (
+place-after-add-feeder : (t : ℕ) → place-after-lts.Need-add-feeder (
   place-after-below t,
   place-after.Post,
   place-reads.Asked,
   place-reads.Learnt,
 ) (place-after-at t) place-after.Post place-after-Inv-loop place-after-μ-loop
-place-after-add-net t c =
+place-after-add-feeder t c =
     omega (arith, c .before .before .before .before .before .pre .1 .1, c .before .loop .inv .0, c .before .loop .inv .1 .placing .loaded .within .gates-in, c .before .loop .inv .1 .placing .loaded .within .inputs-in)
 
 -- src/lib.rt:60:24
-place-after-add-net-2 : (t : ℕ) → place-after-lts.Need-add-net-2 (
+place-after-add-feeder-2 : (t : ℕ) → place-after-lts.Need-add-feeder-2 (
   place-after-below t,
   place-after.Post,
   place-reads.Asked,
   place-reads.Learnt,
 ) (place-after-at t) place-after.Post place-after-Inv-loop place-after-μ-loop
-place-after-add-net-2 t c =
+place-after-add-feeder-2 t c =
     omega (arith, c .before .before .before .before .before .pre .1 .1, c .before .loop .inv .0, c .before .loop .inv .1 .placing .loaded .within .gates-in, c .before .loop .inv .1 .placing .loaded .within .inputs-in)
 
 -- src/lib.rt:60:19
-place-after-mul-net-2 : (t : ℕ) → place-after-lts.Need-mul-net-2 (
+place-after-mul-feeder-2 : (t : ℕ) → place-after-lts.Need-mul-feeder-2 (
   place-after-below t,
   place-after.Post,
   place-reads.Asked,
   place-reads.Learnt,
 ) (place-after-at t) place-after.Post place-after-Inv-loop place-after-μ-loop
-place-after-mul-net-2 t c =
+place-after-mul-feeder-2 t c =
     omega (arith, c .before .before .before .before .before .pre .1 .1, c .before .loop .inv .0, c .before .loop .inv .1 .placing .loaded .within .gates-in, c .before .loop .inv .1 .placing .loaded .within .inputs-in)
 
 -- src/lib.rt:60:19
-place-after-slice-read-net : (t : ℕ) → place-after-lts.Need-slice-read-net (
+place-after-slice-read-feeder : (t : ℕ) → place-after-lts.Need-slice-read-feeder (
   place-after-below t,
   place-after.Post,
   place-reads.Asked,
   place-reads.Learnt,
 ) (place-after-at t) place-after.Post place-after-Inv-loop place-after-μ-loop
-place-after-slice-read-net t c =
+place-after-slice-read-feeder t c =
     omega (arith, c .before .before .before .before .before .before .pre .1 .1, c .before .loop-test .taken, c .before .before .loop .inv .1 .placing .loaded .room)
 
 -- src/lib.rt:60:19
-place-after-cast-net : (t : ℕ) → place-after-lts.Need-cast-net (
+place-after-cast-feeder : (t : ℕ) → place-after-lts.Need-cast-feeder (
   place-after-below t,
   place-after.Post,
   place-reads.Asked,
   place-reads.Learnt,
 ) (place-after-at t) place-after.Post place-after-Inv-loop place-after-μ-loop
-place-after-cast-net t c =
-    omega (arith, c .slice-known3 .given (8 * c .before .before .before .before .before .before .args .k + (1 + c .before .before .loop .i)))
+place-after-cast-feeder t c =
+    omega (arith, c .slice-known3 .given (8 * c .before .before .before .before .before .before .args .k + (1 + c .before .before .loop .pin)))
 
 -- src/lib.rt:61:16
 place-after-slice-read-if2 : (t : ℕ) → place-after-lts.Need-slice-read-if2 (
@@ -120,7 +120,7 @@ place-after-slice-read-if2 : (t : ℕ) → place-after-lts.Need-slice-read-if2 (
   place-reads.Learnt,
 ) (place-after-at t) place-after.Post place-after-Inv-loop place-after-μ-loop
 place-after-slice-read-if2 t c =
-    let i = c .before .before .before .loop .inv .1 in omega (arith, i .placing .marks-for .long, i .placing .marks-for .room, i .placing .loaded .gate _ (c .before .before .before .before .before .before .before .pre .1 .1) .pin (c .before .before .before .loop .i) (c .before .before .loop-test .taken))
+    let i = c .before .before .before .loop .inv .1 in omega (arith, i .placing .marks-for .long, i .placing .marks-for .room, i .placing .loaded .gate _ (c .before .before .before .before .before .before .before .pre .1 .1) .pin (c .before .before .before .loop .pin) (c .before .before .loop-test .taken))
 
 -- src/lib.rt:62:54
 place-after-mul-place-after : (t : ℕ) → place-after-lts.Need-mul-place-after (
@@ -170,7 +170,7 @@ place-after-slice-read-if3 : (t : ℕ) → place-after-lts.Need-slice-read-if3 (
   place-reads.Learnt,
 ) (place-after-at t) place-after.Post place-after-Inv-loop place-after-μ-loop
 place-after-slice-read-if3 t c =
-    let p = c .before .before .before .before .before .place-after .ensures in let i = c .before .before .before .before .before .before .before .before .before .before .before .before .before .loop .inv .1 in omega (arith, p .placing .marks-for .long, p .placing .marks-for .room, i .placing .loaded .gate _ (c .before .before .before .before .before .before .before .before .before .before .before .before .before .before .before .before .before .pre .1 .1) .pin (c .before .before .before .before .before .before .before .before .before .before .before .before .before .loop .i) (c .before .before .before .before .before .before .before .before .before .before .before .before .loop-test .taken))
+    let p = c .before .before .before .before .before .place-after .ensures in let i = c .before .before .before .before .before .before .before .before .before .before .before .before .before .loop .inv .1 in omega (arith, p .placing .marks-for .long, p .placing .marks-for .room, i .placing .loaded .gate _ (c .before .before .before .before .before .before .before .before .before .before .before .before .before .before .before .before .before .pre .1 .1) .pin (c .before .before .before .before .before .before .before .before .before .before .before .before .before .loop .pin) (c .before .before .before .before .before .before .before .before .before .before .before .before .loop-test .taken))
 
 -- src/lib.rt:64:17
 place-after-same-length : (t : ℕ) → place-after-lts.Need-same-length (
@@ -205,13 +205,13 @@ place-after-returns-2 t c =
     (pins-stuck _ _ _ _ _ _ _ (z .pre .1 .1) _ (c .before .before .before .before .before .before .before .before .before .before .before .before .before .before .loop .inv .1) (c .before .before .before .before .before .before .before .before .before .before .before .before .before .loop-test .taken) _ _ _ _ (c .before .before .before .before .before .before .before .before .before .before .if2 .taken) (p .ensures) (c .if3 .taken))
 
 -- src/lib.rt:67:9
-place-after-add-i : (t : ℕ) → place-after-lts.Need-add-i (
+place-after-add-pin : (t : ℕ) → place-after-lts.Need-add-pin (
   place-after-below t,
   place-after.Post,
   place-reads.Asked,
   place-reads.Learnt,
 ) (place-after-at t) place-after.Post place-after-Inv-loop place-after-μ-loop
-place-after-add-i t c =
+place-after-add-pin t c =
     omega arith
 
 -- src/lib.rt:59:5
@@ -233,7 +233,7 @@ place-after-loop-again : (t : ℕ) → place-after-lts.Need-loop-again (
 ) (place-after-at t) place-after.Post place-after-Inv-loop place-after-μ-loop
 place-after-loop-again t c =
     let z = c .before .before .before .before .before .before .before .before in let l = c .before .before .before .before .loop in let h = c .before .before .before .loop-test .taken in
-    let on : List ℕ → List ℕ → ℕ → Type 0 = λ u v m. AfterPins (z .args .counts) (now (z .args .code)) u (now (z .args .waiting)) v m (z .args .k) (l .i + 1) in (
+    let on : List ℕ → List ℕ → ℕ → Type 0 = λ u v m. AfterPins (z .args .counts) (now (z .args .code)) u (now (z .args .waiting)) v m (z .args .k) (l .pin + 1) in (
       omega arith,
       ⊎-elim
           (λ w. subst₃ on (sym (w .11)) (sym (w .12)) (sym (w .13)) (pins-more _ _ _ _ _ _ _ (z .pre .1 .1) _ (l .inv .1) h _ _ _ _ (w .0 .taken) (w .4 .ensures) (w .10 .left)))
@@ -299,7 +299,7 @@ place-after-returns-3 : (t : ℕ) → place-after-lts.Need-returns-3 (
   place-reads.Learnt,
 ) (place-after-at t) place-after.Post place-after-Inv-loop place-after-μ-loop
 place-after-returns-3 t c =
-    let z = c .before .before .before .before .before .before .before .before in let four : c .before .before .before .before .loop .i ≡ 4 = omega (arith, c .before .before .before .before .loop .inv .0, c .before .before .before .loop-test .left) in after-gone _ _ _ _ _ _ _ (z .pre .1 .1) (subst (AfterPins (z .args .counts) (now (z .args .code)) (c .before .before .before .before .loop .code) (now (z .args .waiting)) (c .before .before .before .before .loop .waiting) (c .before .before .before .before .loop .placed) (z .args .k)) four (c .before .before .before .before .loop .inv .1)) _ (c .if4 .taken)
+    let z = c .before .before .before .before .before .before .before .before in let four : c .before .before .before .before .loop .pin ≡ 4 = omega (arith, c .before .before .before .before .loop .inv .0, c .before .before .before .loop-test .left) in after-gone _ _ _ _ _ _ _ (z .pre .1 .1) (subst (AfterPins (z .args .counts) (now (z .args .code)) (c .before .before .before .before .loop .code) (now (z .args .waiting)) (c .before .before .before .before .loop .waiting) (c .before .before .before .before .loop .placed) (z .args .k)) four (c .before .before .before .before .loop .inv .1)) _ (c .if4 .taken)
 
 -- src/lib.rt:72:5
 place-after-place-requires : (t : ℕ) → place-after-lts.Need-place-requires (
@@ -309,7 +309,7 @@ place-after-place-requires : (t : ℕ) → place-after-lts.Need-place-requires (
   place-reads.Learnt,
 ) (place-after-at t) place-after.Post place-after-Inv-loop place-after-μ-loop
 place-after-place-requires t c κs =
-    let z = c .before .before .before .before .before .before .before .before .before .before in let four : c .before .before .before .before .before .before .loop .i ≡ 4 = omega (arith, c .before .before .before .before .before .before .loop .inv .0, c .before .before .before .before .before .loop-test .left) in (c .before .before .before .before .before .before .loop .inv .1 .placing, z .pre .1 .1, after-ready _ _ _ _ _ _ _ (z .pre .1 .1) (subst (AfterPins (z .args .counts) (now (z .args .code)) (c .before .before .before .before .before .before .loop .code) (now (z .args .waiting)) (c .before .before .before .before .before .before .loop .waiting) (c .before .before .before .before .before .before .loop .placed) (z .args .k)) four (c .before .before .before .before .before .before .loop .inv .1)) 0 (c .before .before .if4 .left))
+    let z = c .before .before .before .before .before .before .before .before .before .before in let four : c .before .before .before .before .before .before .loop .pin ≡ 4 = omega (arith, c .before .before .before .before .before .before .loop .inv .0, c .before .before .before .before .before .loop-test .left) in (c .before .before .before .before .before .before .loop .inv .1 .placing, z .pre .1 .1, after-ready _ _ _ _ _ _ _ (z .pre .1 .1) (subst (AfterPins (z .args .counts) (now (z .args .code)) (c .before .before .before .before .before .before .loop .code) (now (z .args .waiting)) (c .before .before .before .before .before .before .loop .waiting) (c .before .before .before .before .before .before .loop .placed) (z .args .k)) four (c .before .before .before .before .before .before .loop .inv .1)) 0 (c .before .before .if4 .left))
 
 -- src/lib.rt:73:5
 place-after-add-result : (t : ℕ) → place-after-lts.Need-add-result (
@@ -349,7 +349,7 @@ place-after-returns-4 : (t : ℕ) → place-after-lts.Need-returns-4 (
   place-reads.Learnt,
 ) (place-after-at t) place-after.Post place-after-Inv-loop place-after-μ-loop
 place-after-returns-4 t c =
-    let z = c .before .before .before .before .before .before .before .before .before .before .before .before .before .before .before in let four : c .before .before .before .before .before .before .before .before .before .before .before .loop .i ≡ 4 = omega (arith, c .before .before .before .before .before .before .before .before .before .before .before .loop .inv .0, c .before .before .before .before .before .before .before .before .before .before .loop-test .left) in let p = c .before .before .before .before .place in
+    let z = c .before .before .before .before .before .before .before .before .before .before .before .before .before .before .before in let four : c .before .before .before .before .before .before .before .before .before .before .before .loop .pin ≡ 4 = omega (arith, c .before .before .before .before .before .before .before .before .before .before .before .loop .inv .0, c .before .before .before .before .before .before .before .before .before .before .loop-test .left) in let p = c .before .before .before .before .place in
     subst (λ (v : List ℕ). PlacedAfter (z .args .counts) (now (z .args .code)) (p .last .0) (now (z .args .waiting)) v (c .before .before .before .before .before .before .before .before .before .before .before .loop .placed + 1) (z .args .k) (z .args .depth)) (sym (p .ensures .2))
     (after-placed _ _ _ _ _ _ _ (z .pre .1 .1) (subst (AfterPins (z .args .counts) (now (z .args .code)) (c .before .before .before .before .before .before .before .before .before .before .before .loop .code) (now (z .args .waiting)) (c .before .before .before .before .before .before .before .before .before .before .before .loop .waiting) (c .before .before .before .before .before .before .before .before .before .before .before .loop .placed) (z .args .k)) four (c .before .before .before .before .before .before .before .before .before .before .before .loop .inv .1)) _ _ (subst (λ (v : List ℕ). Placing (z .args .counts) (p .last .0) v (c .before .before .before .before .before .before .before .before .before .before .before .loop .placed + 1)) (p .ensures .2) (p .ensures .0)) (p .ensures .1))
 
@@ -366,12 +366,12 @@ pub +place-after-spec : {M : Type 1} → statement M
     place-after-μ-loop
     (place-after-returns t)
     (place-after-loop-holds t)
-    (place-after-mul-net t)
-    (place-after-add-net t)
-    (place-after-add-net-2 t)
-    (place-after-mul-net-2 t)
-    (place-after-slice-read-net t)
-    (place-after-cast-net t)
+    (place-after-mul-feeder t)
+    (place-after-add-feeder t)
+    (place-after-add-feeder-2 t)
+    (place-after-mul-feeder-2 t)
+    (place-after-slice-read-feeder t)
+    (place-after-cast-feeder t)
     (place-after-slice-read-if2 t)
     (place-after-mul-place-after t)
     (place-after-sub-place-after t)
@@ -381,7 +381,7 @@ pub +place-after-spec : {M : Type 1} → statement M
     (place-after-same-length t)
     (place-after-same-length-2 t)
     (place-after-returns-2 t)
-    (place-after-add-i t)
+    (place-after-add-pin t)
     (place-after-loop-less t)
     (place-after-loop-again t)
     (place-after-mul-if4 t)
