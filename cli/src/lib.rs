@@ -12,6 +12,7 @@ pub mod levels;
 pub mod netlist;
 pub mod numbers;
 pub mod output;
+pub mod situation;
 
 use failure::{Failure, Outcome};
 use std::ffi::OsString;

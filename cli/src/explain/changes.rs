@@ -64,7 +64,7 @@ pub fn of_retired(text: &mut Text, pair: Pair, order: Order, stage: &Stage, gate
     let base = Base { file: pair.stage.bytes(), stage };
     // Where two pins are on one net, the net once will do.
     let pins =
-        |gate: usize, count: usize| if count == 4 { stage.gates[gate].pins.clone() } else { super::words::once(&stage.gates[gate].pins) };
+        |gate: usize, count: usize| if count == 4 { stage.gates[gate].pins.clone() } else { crate::situation::once(&stage.gates[gate].pins) };
     let change = |cell: u8, hold: u8| {
         let count = pin_count(cell)?;
         let mut changed = Change { file: base.file.to_vec(), says: String::new(), sort: None };
