@@ -3,6 +3,7 @@
 mod batch;
 mod check;
 mod completion;
+mod draw;
 mod explain;
 mod join;
 mod load;
@@ -13,7 +14,7 @@ mod row;
 mod text;
 
 use crate::explain::{explain as explain_verdict, sentence, Order, Question, TRIES};
-use crate::failure::Outcome;
+use crate::failure::{Failure, Outcome};
 use crate::given::Given;
 use crate::input::{one_standard_input, read, Input};
 use crate::output::{on_terminal, put, Paint};
@@ -27,9 +28,10 @@ use std::path::{Path, PathBuf};
 type Row = (&'static str, fn() -> Command, fn(&ArgMatches) -> Outcome<Found>);
 
 /// In the order of the help.
-const ROWS: [Row; 11] = [
+const ROWS: [Row; 12] = [
     ("check", check::command, check::run),
     ("explain", explain::command, explain::run),
+    ("draw", draw::command, draw::run),
     ("batch", batch::command, batch::run),
     ("report", report::command, report::run),
     ("row", row::command, row::run),
@@ -132,6 +134,17 @@ fn given_pair(matches: &ArgMatches) -> Outcome<(Given, Input)> {
     let reference = path(matches, "reference");
     one_standard_input(&[path(matches, "stage"), reference])?;
     Ok((given(matches)?, read(reference)?))
+}
+
+/// Inputs that are given as signs, input 0 first.
+fn signs(inputs: &str) -> Outcome<Vec<Option<bool>>> {
+    let value = |(k, sign): (usize, char)| match sign {
+        '0' => Ok(Some(false)),
+        '1' => Ok(Some(true)),
+        '.' => Ok(None),
+        _ => Err(Failure::says(format!("'{inputs}': sign {k} is '{sign}'; an input is 0, 1, or . for NULL"))),
+    };
+    inputs.chars().enumerate().map(value).collect()
 }
 
 fn order(matches: &ArgMatches) -> Order {

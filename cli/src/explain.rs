@@ -7,6 +7,8 @@ mod lines;
 mod small;
 mod words;
 
+pub use words::{inputs_text, word_text, DEPTH};
+
 use crate::given::Given;
 use crate::input::Input;
 use crate::netlist::{many, Reference, Side};
@@ -154,7 +156,7 @@ impl Text {
 }
 
 /// Words in lines of at most this width, where none is wider by itself.
-fn wrapped(words: &str, width: usize) -> Vec<String> {
+pub fn wrapped(words: &str, width: usize) -> Vec<String> {
     let mut lines = vec![String::new()];
     for word in words.split(' ') {
         let line = lines.last_mut().expect("there is a line");

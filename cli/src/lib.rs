@@ -3,6 +3,7 @@
 
 pub mod batch;
 mod commands;
+pub mod draw;
 pub mod explain;
 pub mod failure;
 pub mod fresh;
@@ -13,6 +14,7 @@ pub mod netlist;
 pub mod numbers;
 pub mod output;
 pub mod situation;
+pub mod tools;
 
 use failure::{Failure, Outcome};
 use std::ffi::OsString;

@@ -2,6 +2,8 @@
 //! every number of a verdict, comes from the proved library. Names are those of a text where the stage came as one, and else those that a
 //! written text has: input i is `xi` with the rails `xi_0` and `xi_1`, gate k is `gk`, output j is `yj`; signal k of a reference is `sk`.
 
+use std::collections::VecDeque;
+
 /// An operand that is not used.
 pub const ABSENT: usize = 0xFFFF;
 
@@ -249,6 +251,31 @@ impl Stage {
         (0..self.gates.len()).filter(|&gate| self.gates[gate].pins.contains(&net)).collect()
     }
 
+    /// The gates of the same cell as one, with hold or without.
+    pub fn alike(&self, gate: usize) -> Vec<usize> {
+        let cell = |k: usize| self.gates.get(k).map(|gate| gate.kind & 0x7F);
+        (0..self.gates.len()).filter(|&k| cell(k) == cell(gate)).collect()
+    }
+
+    /// The gates from one to itself by the fewest steps, each reading the one before it; the last is the gate. None where it is on no loop.
+    pub fn shortest_loop(&self, start: usize) -> Vec<usize> {
+        let mut before = vec![None; self.gates.len()];
+        let mut queue = VecDeque::from([start]);
+        while let Some(gate) = queue.pop_front() {
+            for reader in self.readers(self.net_of(gate)) {
+                if before[reader].is_some() {
+                    continue;
+                }
+                before[reader] = Some(gate);
+                if reader == start {
+                    return path_to(&before, start);
+                }
+                queue.push_back(reader);
+            }
+        }
+        Vec::new()
+    }
+
     /// The counts in words: `2 inputs, 3 gates, 1 output`.
     pub fn counts(&self) -> String {
         let relaxed = self.gates.iter().filter(|gate| relaxed(gate.kind)).count();
@@ -264,6 +291,18 @@ impl Stage {
         }
         text
     }
+}
+
+/// The way to a gate, by what came before each.
+fn path_to(before: &[Option<usize>], start: usize) -> Vec<usize> {
+    let mut path = vec![start];
+    let mut gate = before[start].unwrap_or(start);
+    while gate != start {
+        path.push(gate);
+        gate = before[gate].unwrap_or(start);
+    }
+    path.reverse();
+    path
 }
 
 /// A gate of a reference: its operation and its operands.

@@ -1,8 +1,8 @@
 //! `ncl row`: the settled row of a stage.
 
-use super::{answer, explain_flag, found, given, json_flag, path, put_json, quiet, stage_arg, text_flag, verdict_json};
+use super::{answer, explain_flag, found, given, json_flag, path, put_json, quiet, signs, stage_arg, text_flag, verdict_json};
 use crate::explain::{Order, Question};
-use crate::failure::{Failure, Outcome};
+use crate::failure::Outcome;
 use crate::given::Given;
 use crate::input::{one_standard_input, read};
 use crate::output::put;
@@ -38,27 +38,14 @@ Examples:
         )
 }
 
-/// The rails of inputs that are given as signs.
-fn rails(inputs: &str) -> Outcome<Vec<u8>> {
-    let mut row = Vec::new();
-    for (k, sign) in inputs.chars().enumerate() {
-        row.extend(match sign {
-            '0' => [1, 0],
-            '1' => [0, 1],
-            '.' => [0, 0],
-            _ => return Err(Failure::says(format!("'{inputs}': sign {k} is '{sign}'; an input is 0, 1, or . for NULL"))),
-        });
-    }
-    Ok(row)
-}
-
 /// The row that is handed in, and the stage.
 fn handed_in(matches: &ArgMatches) -> Outcome<(Given, Vec<u8>)> {
     if let Some(bytes) = matches.get_one::<PathBuf>("bytes") {
         one_standard_input(&[path(matches, "stage"), bytes])?;
         return Ok((given(matches)?, read(bytes)?.bytes));
     }
-    let mut row = rails(matches.get_one::<String>("inputs").expect("clap asks for it"))?;
+    let values = signs(matches.get_one::<String>("inputs").expect("clap asks for it"))?;
+    let mut row: Vec<u8> = values.iter().flat_map(|&value| [value == Some(false), value == Some(true)]).map(u8::from).collect();
     let stage = given(matches)?;
     row.resize(row.len() + stage.stage().gates.len(), 0);
     Ok((stage, row))

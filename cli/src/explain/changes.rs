@@ -3,6 +3,7 @@
 
 use super::{Order, Pair, Text};
 use crate::netlist::{commands, kind_name, pin_count, relaxed, Form, Side, Stage, ABSENT};
+use crate::situation::once;
 
 /// How many of the changes that are accepted are shown.
 const SHOWN: usize = 3;
@@ -63,8 +64,7 @@ pub fn accepted(text: &mut Text, pair: Pair, order: Order, stage: &Stage, named:
 pub fn of_retired(text: &mut Text, pair: Pair, order: Order, stage: &Stage, gates: &[usize]) {
     let base = Base { file: pair.stage.bytes(), stage };
     // Where two pins are on one net, the net once will do.
-    let pins =
-        |gate: usize, count: usize| if count == 4 { stage.gates[gate].pins.clone() } else { crate::situation::once(&stage.gates[gate].pins) };
+    let pins = |gate: usize, count: usize| if count == 4 { stage.gates[gate].pins.clone() } else { once(&stage.gates[gate].pins) };
     let change = |cell: u8, hold: u8| {
         let count = pin_count(cell)?;
         let mut changed = Change { file: base.file.to_vec(), says: String::new(), sort: None };

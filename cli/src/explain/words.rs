@@ -32,15 +32,25 @@ pub fn in_a_word(text: &mut Text, verdict: Verdict, pair: Pair, order: Order) {
 
 /// A word by its inputs.
 pub fn say_word(text: &mut Text, word: u64, values: &[bool], order: Order, stage: &Stage) {
-    let digit = |&value: &bool| if value { '1' } else { '0' };
+    text.row("word", &word_text(word, values, order, stage));
+}
+
+/// A word's name, and what it says of the inputs.
+pub fn word_text(word: u64, values: &[bool], order: Order, stage: &Stage) -> String {
     let named = if order.lowest { " (input 0 as the lowest bit)" } else { "" };
-    let inputs = if stage.names.is_some() {
-        let each = values.iter().enumerate().map(|(input, value)| format!("{} = {}", stage.input_name(input), digit(value)));
+    let values: Vec<Option<bool>> = values.iter().map(|&value| Some(value)).collect();
+    format!("{word}{named} is {}", inputs_text(&values, stage))
+}
+
+/// The inputs with these values; a dot is NULL.
+pub fn inputs_text(values: &[Option<bool>], stage: &Stage) -> String {
+    let sign = |value: &Option<bool>| value.map_or('.', |value| if value { '1' } else { '0' });
+    if stage.names.is_some() {
+        let each = values.iter().enumerate().map(|(input, value)| format!("{} = {}", stage.input_name(input), sign(value)));
         each.collect::<Vec<String>>().join(", ")
     } else {
-        format!("{} = {}", range("x", values.len()), values.iter().map(digit).collect::<String>())
-    };
-    text.row("word", &format!("{word}{named} is {inputs}"));
+        format!("{} = {}", range("x", values.len()), values.iter().map(sign).collect::<String>())
+    }
 }
 
 /// `x0`, or `x0..x3`.
