@@ -105,6 +105,10 @@ fn lowest() -> Arg {
 }
 
 fn quiet() -> Arg {
+    silent().conflicts_with("json")
+}
+
+fn silent() -> Arg {
     flag("quiet", "Print nothing: the exit status is the answer").short('q')
 }
 
@@ -113,7 +117,7 @@ fn json_flag() -> Arg {
 }
 
 fn force() -> Arg {
-    flag("force", "Write over a file that was read")
+    flag("force", "Write over a file that was read, or is write-protected")
 }
 
 fn explain_flag() -> Arg {
