@@ -8,6 +8,7 @@ mod explain;
 mod join;
 mod load;
 mod make;
+mod mend;
 mod next;
 mod report;
 mod row;
@@ -28,10 +29,11 @@ use std::path::{Path, PathBuf};
 type Row = (&'static str, fn() -> Command, fn(&ArgMatches) -> Outcome<Found>);
 
 /// In the order of the help.
-const ROWS: [Row; 12] = [
+const ROWS: [Row; 13] = [
     ("check", check::command, check::run),
     ("explain", explain::command, explain::run),
     ("draw", draw::command, draw::run),
+    ("mend", mend::command, mend::run),
     ("batch", batch::command, batch::run),
     ("report", report::command, report::run),
     ("row", row::command, row::run),

@@ -1,16 +1,18 @@
 //! A verdict in sentences: what was found, where, and what to do about it.
 
 mod bytes;
-mod changes;
 mod circuit;
 mod lines;
+mod mended;
 mod small;
 mod words;
 
 pub use words::{inputs_text, word_text, DEPTH};
 
+use crate::changes::Mending;
 use crate::given::Given;
 use crate::input::Input;
+use crate::mend::Mended;
 use crate::netlist::{many, Reference, Side};
 use crate::numbers::title;
 use crate::output::Paint;
@@ -172,15 +174,29 @@ pub fn wrapped(words: &str, width: usize) -> Vec<String> {
     lines
 }
 
+/// How many of the changes that are accepted are shown.
+const SHOWN: usize = 3;
 /// How many changes of a stage are tried for one explanation, and how many for each of a batch.
 pub const TRIES: usize = 20_000;
 pub const TRIES_OF_MANY: usize = 500;
 
 /// The verdict and all that can be said of it, with so many changes tried.
 pub fn explain(question: Question, verdict: Verdict, order: Order, tries: usize, paint: Paint) -> String {
+    headed(question, verdict, &said(question, verdict, order, tries), paint)
+}
+
+/// The verdict on a pair, and the changes that make the stage accepted.
+pub fn mended(pair: Pair, verdict: Verdict, order: Order, mended: Option<&Mended>, paint: Paint) -> String {
+    let mut text = Text { lines: Vec::new(), tries: 0 };
+    mended::of_mended(&mut text, verdict, pair, order, mended);
+    headed(Question::Check(pair), verdict, &text, paint)
+}
+
+/// The verdict with what it is called, and then what is said.
+fn headed(question: Question, verdict: Verdict, text: &Text, paint: Paint) -> String {
     let called = question.title(verdict.number);
     let called = if verdict.accepts() { paint.good(called) } else { paint.bad(called) };
-    format!("{verdict}  {called}\n{}", said(question, verdict, order, tries).rendered(paint))
+    format!("{verdict}  {called}\n{}", text.rendered(paint))
 }
 
 /// What was found, as one sentence.
@@ -249,15 +265,34 @@ fn of_pair(text: &mut Text, verdict: Verdict, pair: Pair, order: Order) {
             text.row("to do", &format!("pair the stage with its own reference, or give the one that lacks {what}s what is missing"));
         }
         (12, _) => {
-            let gates = circuit::on_a_loop(text, verdict, pair.stage);
-            if text.tries > 0 {
-                let named = changes::Named { gates: &gates, output: None, net: None, rises: true };
-                changes::accepted(text, pair, order, &pair.stage.stage(), &named);
-            }
+            circuit::on_a_loop(text, verdict, pair.stage);
+            say_changes(text, verdict, pair, order);
         }
-        (28, _) => circuit::retired(text, verdict, pair, order),
-        (13 | 14 | 15 | 20 | 21, _) => words::in_a_word(text, verdict, pair, order),
+        (28, _) => {
+            circuit::retired(text, verdict, pair);
+            say_changes(text, verdict, pair, order);
+        }
+        (13 | 14 | 15 | 20 | 21, _) => {
+            words::in_a_word(text, verdict, pair, order);
+            say_changes(text, verdict, pair, order);
+        }
         _ => unknown(text, verdict),
+    }
+}
+
+/// Some changes that the check accepts.
+fn say_changes(text: &mut Text, verdict: Verdict, pair: Pair, order: Order) {
+    if text.tries == 0 {
+        return;
+    }
+    let stage = pair.stage.stage();
+    let mending = Mending::of(verdict, pair.stage.bytes(), &pair.reference.bytes, &stage, order);
+    for (k, change) in mending.map_or(Vec::new(), |mending| mending.some(SHOWN, text.tries)).iter().enumerate() {
+        if k == 0 {
+            text.row("accepted", &format!("with {}", change.says));
+        } else {
+            text.row("", &format!("or: {}", change.says));
+        }
     }
 }
 
@@ -271,9 +306,7 @@ fn of_row(text: &mut Text, verdict: Verdict, file: &Given, row: &[u8]) {
     match verdict.number {
         0 => text.row("found", "the row is settled: each gate is high exactly if its set expression holds"),
         1..=9 | 18 | 19 => bytes::unreadable(text, verdict, &file.input, Side::Stage, 256),
-        12 => {
-            circuit::on_a_loop(text, verdict, file);
-        }
+        12 => circuit::on_a_loop(text, verdict, file),
         16 => {
             text.row("stage", &format!("{}: {}", file.name(), stage.counts()));
             let nets = stage.nets();

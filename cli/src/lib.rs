@@ -2,6 +2,7 @@
 //! shows what was judged, and writes.
 
 pub mod batch;
+pub mod changes;
 mod commands;
 pub mod draw;
 pub mod explain;
@@ -10,9 +11,11 @@ pub mod fresh;
 pub mod given;
 pub mod input;
 pub mod levels;
+pub mod mend;
 pub mod netlist;
 pub mod numbers;
 pub mod output;
+pub mod progress;
 pub mod situation;
 pub mod streams;
 pub mod tools;

@@ -8,20 +8,15 @@ use crate::input::Identity;
 use crate::netlist::many;
 use crate::numbers::title;
 use crate::output::{is_standard_output, put, tell, write_files};
+use crate::progress::Progress;
 use crate::Found;
 use clap::{value_parser, Arg, ArgGroup, ArgMatches, Command};
-use indicatif::{ProgressBar, ProgressDrawTarget, ProgressStyle};
 use std::collections::BTreeMap;
-use std::io::IsTerminal;
 use std::os::unix::fs::MetadataExt;
 use std::path::PathBuf;
-use std::sync::atomic::{AtomicBool, Ordering};
-use std::time::{Duration, Instant};
 
 /// So many pairs are judged before their lines are written.
 const AT_A_TIME: usize = 1_024;
-/// A batch that takes longer than this shows how far it is.
-const PATIENCE: Duration = Duration::from_secs(1);
 
 pub fn command() -> Command {
     let from = Arg::new("from").value_name("FROM").required(true).num_args(1..).value_parser(value_parser!(PathBuf));
@@ -73,14 +68,14 @@ struct Lines {
 }
 
 impl Lines {
-    fn add(&mut self, bytes: &[u8], bar: &ProgressBar) -> Outcome<()> {
+    fn add(&mut self, bytes: &[u8], progress: &Progress) -> Outcome<()> {
         match &mut self.kept {
             Some(kept) => {
                 kept.extend_from_slice(bytes);
                 Ok(())
             }
             None if self.silent || bytes.is_empty() => Ok(()),
-            None => bar.suspend(|| put(bytes)),
+            None => progress.aside(|| put(bytes)),
         }
     }
 }
@@ -118,32 +113,21 @@ pub fn run(matches: &ArgMatches) -> Outcome<Found> {
 fn judge_all(all: &[Named], matches: &ArgMatches, lines: &mut Lines, summary: &mut Summary) -> Outcome<()> {
     let format = format(matches);
     let manner = Manner { order: order(matches), text: matches.get_flag("text"), explain: matches.get_flag("explain") };
-    let began = Instant::now();
-    let bar = ProgressBar::with_draw_target(Some(all.len() as u64), ProgressDrawTarget::hidden());
-    let style = ProgressStyle::with_template("{bar:30} {pos}/{len} pairs, {eta} to go");
-    bar.set_style(style.unwrap_or_else(|_| ProgressStyle::default_bar()));
-    let seen = std::io::stderr().is_terminal() && !matches.get_flag("quiet");
-    let shown = AtomicBool::new(!seen);
-    let done = || {
-        bar.inc(1);
-        if began.elapsed() > PATIENCE && !shown.swap(true, Ordering::Relaxed) {
-            bar.set_draw_target(ProgressDrawTarget::stderr());
-        }
-    };
+    let progress = Progress::new(all.len(), "pairs", matches.get_flag("quiet"));
     let mut report = Vec::new();
-    lines.add(&head(format), &bar)?;
+    lines.add(&head(format), &progress)?;
     for some in all.chunks(AT_A_TIME) {
-        let judged = judge(some, manner, done);
+        let judged = judge(some, manner, || progress.done(1));
         let text: Vec<u8> = judged.iter().flat_map(|judged| line(format, judged)).collect();
-        judged.iter().for_each(|judged| summary.add(judged, &bar));
+        judged.iter().for_each(|judged| summary.add(judged, &progress));
         if format == Format::Junit {
             report.extend(judged);
         }
-        lines.add(&text, &bar)?;
+        lines.add(&text, &progress)?;
     }
-    bar.finish_and_clear();
+    progress.finish();
     if format == Format::Junit {
-        lines.add(&junit(&report), &bar)?;
+        lines.add(&junit(&report), &progress)?;
     }
     Ok(())
 }
@@ -157,13 +141,13 @@ struct Summary {
 }
 
 impl Summary {
-    fn add(&mut self, judged: &Judged, bar: &ProgressBar) {
+    fn add(&mut self, judged: &Judged, progress: &Progress) {
         self.identities.extend(&judged.identities);
         match &judged.verdict {
             Ok(verdict) => *self.numbers.entry(verdict.number).or_default() += 1,
             Err(words) => {
                 self.unread += 1;
-                bar.suspend(|| tell(words));
+                progress.aside(|| tell(words));
             }
         }
     }

@@ -1,11 +1,11 @@
 //! What can be seen in the gates of a stage without a word: loops and retired kinds.
 
-use super::{changes, Order, Pair, Text};
+use super::{Pair, Text};
 use crate::given::Given;
 use fovaheju::Verdict;
 
-/// 12: the loop, gate by gate. Answers its gates.
-pub fn on_a_loop(text: &mut Text, verdict: Verdict, given: &Given) -> Vec<usize> {
+/// 12: the loop, gate by gate.
+pub fn on_a_loop(text: &mut Text, verdict: Verdict, given: &Given) {
     let stage = given.stage();
     let start = verdict.at as usize;
     text.row("stage", &format!("{}: {}", given.name(), stage.counts()));
@@ -25,11 +25,10 @@ pub fn on_a_loop(text: &mut Text, verdict: Verdict, given: &Given) -> Vec<usize>
         "to do",
         &format!("put {which} on another net: a stage is combinational, and what is to be kept goes through a register, outside the stage"),
     );
-    path
 }
 
 /// 28: the gate, and all others of its sort.
-pub fn retired(text: &mut Text, verdict: Verdict, pair: Pair, order: Order) {
+pub fn retired(text: &mut Text, verdict: Verdict, pair: Pair) {
     let stage = pair.stage.stage();
     let gate = verdict.at as usize;
     let alike = stage.alike(gate);
@@ -50,7 +49,4 @@ pub fn retired(text: &mut Text, verdict: Verdict, pair: Pair, order: Order) {
              have to wait for the new gates too"
         },
     );
-    if text.tries > 0 {
-        changes::of_retired(text, pair, order, &stage, &alike);
-    }
 }

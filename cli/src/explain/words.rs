@@ -1,6 +1,5 @@
 //! What is found in a word: a wrong output, or an input or a gate that the outputs do not wait for. The levels shown are the library's.
 
-use super::changes::{self, Named};
 use super::{Order, Pair, Text};
 use crate::levels::{Levels, Odd};
 use crate::netlist::{many, relaxed, set_expression, Reference, Stage};
@@ -21,12 +20,9 @@ pub fn in_a_word(text: &mut Text, verdict: Verdict, pair: Pair, order: Order) {
         text.row("found", "the levels of this word cannot be shown");
         return;
     };
-    let (gates, output) = match case.odd {
-        None => (wrong(text, &case, verdict.at as usize, pair), Some(verdict.at as usize)),
-        Some(odd) => (not_awaited(text, &case, odd), None),
-    };
-    if text.tries > 0 {
-        changes::accepted(text, pair, order, &stage, &Named { gates: &gates, output, net: case.odd_net(), rises: !case.falls });
+    match case.odd {
+        None => wrong(text, &case, verdict.at as usize, pair),
+        Some(odd) => not_awaited(text, &case, odd),
     }
 }
 
@@ -69,10 +65,10 @@ fn level(case: &Situation, net: usize) -> &'static str {
     }
 }
 
-/// 13: what the output shows, what it should, and the gates behind its wrong rails. Answers the gates that are shown.
-fn wrong(text: &mut Text, case: &Situation, at: usize, pair: Pair) -> Vec<usize> {
+/// 13: what the output shows, what it should, and the gates behind its wrong rails.
+fn wrong(text: &mut Text, case: &Situation, at: usize, pair: Pair) {
     let (stage, row) = (case.stage, &case.row);
-    let Some(&rails) = stage.outputs.get(at) else { return Vec::new() };
+    let Some(&rails) = stage.outputs.get(at) else { return };
     let reference = Reference::of(&pair.reference.bytes);
     let answer = reference.answer(&case.values);
     let value = answer.get(at).copied().unwrap_or(false);
@@ -109,7 +105,6 @@ fn wrong(text: &mut Text, case: &Situation, at: usize, pair: Pair) -> Vec<usize>
         why += &format!(". If this word never comes, {care}");
     }
     text.row("to do", &format!("{whole}: {why}"));
-    shown
 }
 
 /// How many words are named.
@@ -154,8 +149,8 @@ fn say_behind(text: &mut Text, case: &Situation, &Behind { gate, depth, again }:
     text.below(depth, &format!("{name} {own}: {} is set by {set}; {}", found.name(), pins.join(", ")));
 }
 
-/// 14, 15, 20 and 21: what is late, what the outputs show by then, and where the waiting ends. Answers the gates to look at.
-fn not_awaited(text: &mut Text, case: &Situation, odd: Odd) -> Vec<usize> {
+/// 14, 15, 20 and 21: what is late, what the outputs show by then, and where the waiting ends.
+fn not_awaited(text: &mut Text, case: &Situation, odd: Odd) {
     let stage = case.stage;
     let (name, still) = match (odd, case.falls) {
         (Odd::Input(input), false) => (stage.input_name(input), "NULL"),
@@ -184,9 +179,7 @@ fn not_awaited(text: &mut Text, case: &Situation, odd: Odd) -> Vec<usize> {
             text.row("set by", &format!("{}{more}, which the other inputs set without {without}", shown.join(", ")));
         }
     }
-    let places = case.places();
-    say_todo(text, case, odd, &places);
-    places
+    say_todo(text, case, odd, &case.places());
 }
 
 /// What each output shows, and by which gate.

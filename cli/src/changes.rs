@@ -1,12 +1,13 @@
-//! Changes of a stage that the check accepts: one gate or output is changed, those that an explanation names first; or all gates of a sort,
-//! or some are added or taken out. Each is judged by the library; where more has to change at once, none is found.
+//! Changes of a stage that the check accepts. Each is judged by the library; nothing here says of itself that a stage is right. `explain` tries the
+//! likeliest and shows some, `mend` tries every single one: both take them from here. Single changes are another kind, another hold, a pin or a rail of
+//! an output on another net; where more has to change at once, only some ways are tried.
 
-use super::{Order, Pair, Text};
-use crate::netlist::{commands, kind_name, pin_count, relaxed, Form, Side, Stage, ABSENT};
-use crate::situation::once;
+use crate::explain::Order;
+use crate::explain::DEPTH;
+use crate::netlist::{commands, kind_name, pin_count, relaxed, Form, Reference, Side, Stage, ABSENT};
+use crate::situation::{once, Situation};
+use fovaheju::Verdict;
 
-/// How many of the changes that are accepted are shown.
-const SHOWN: usize = 3;
 /// How many of the gates that are named are changed first.
 const GATES: usize = 8;
 /// The kind that is no longer cast.
@@ -15,15 +16,35 @@ const THAND0: u8 = 26;
 const TH12: u8 = 1;
 
 /// The file after a change, and what was changed.
-struct Change {
-    file: Vec<u8>,
-    says: String,
+#[derive(Clone)]
+pub struct Change {
+    pub file: Vec<u8>,
+    pub says: String,
     /// Of changes that have this alike, one is shown: the orders of pins on one kind.
     sort: Option<(usize, u8)>,
+    /// Whether it is of one kind, hold, pin or rail alone.
+    pub single: bool,
+}
+
+impl Change {
+    /// A change of one kind, hold, pin or rail.
+    fn single(file: Vec<u8>, says: String) -> Change {
+        Change { file, says, sort: None, single: true }
+    }
+
+    /// A change of more than that.
+    fn several(file: Vec<u8>, says: String) -> Change {
+        Change { file, says, sort: None, single: false }
+    }
+
+    /// Whether it is another change than one that was found: two ways to one stage are one.
+    pub fn differs(&self, other: &Change) -> bool {
+        other.file != self.file && (self.sort.is_none() || other.sort != self.sort)
+    }
 }
 
 /// Changes that are made one by one, as they are tried.
-type Changes<'a> = Box<dyn Iterator<Item = Change> + 'a>;
+pub type Changes<'a> = Box<dyn Iterator<Item = Change> + 'a>;
 
 /// A stage to be changed.
 #[derive(Clone, Copy)]
@@ -32,83 +53,180 @@ struct Base<'a> {
     stage: &'a Stage,
 }
 
-/// What an explanation names.
-pub struct Named<'a> {
+/// What a verdict names: where changes are likely to help.
+struct Named {
     /// The gates to look at.
-    pub gates: &'a [usize],
+    gates: Vec<usize>,
     /// An output that is wrong.
-    pub output: Option<usize>,
+    output: Option<usize>,
     /// A net that no output waits for.
-    pub net: Option<usize>,
+    net: Option<usize>,
     /// Whether that is on the way to DATA.
-    pub rises: bool,
+    rises: bool,
+    /// The gates of a kind that is no longer cast.
+    retired: Vec<usize>,
 }
 
-/// Says which changes of what is named the check accepts.
-pub fn accepted(text: &mut Text, pair: Pair, order: Order, stage: &Stage, named: &Named) {
-    let base = Base { file: pair.stage.bytes(), stage };
-    let late = named.net.and_then(|net| stage.driver(net));
-    let spare = late.or(named.gates.first().copied()).filter(|&gate| base.feeds_nothing(gate));
-    match spare {
-        // Of a gate that feeds nothing every change that keeps it low is accepted, and says nothing.
-        Some(gate) => say(text, pair, order, [Box::new(base.without(gate).into_iter()), Box::new(std::iter::empty())]),
-        None => {
-            let input = named.net.filter(|&net| net < 2 * stage.inputs && named.rises).map(|net| net / 2);
-            let waiting = input.into_iter().filter_map(move |input| base.waiting(input, pair, order));
-            say(text, pair, order, [base.of_named(named), Box::new(base.of_all(named).chain(waiting))]);
+impl Named {
+    /// What a verdict on the gates of a stage names; of other verdicts nothing.
+    fn of(verdict: Verdict, base: Base, reference: &[u8], order: Order) -> Option<Named> {
+        let (stage, at) = (base.stage, verdict.at as usize);
+        let mut named = Named { gates: Vec::new(), output: None, net: None, rises: true, retired: Vec::new() };
+        match verdict.number {
+            12 => named.gates = stage.shortest_loop(at),
+            28 => named.retired = stage.alike(at),
+            32 => named.gates = vec![at],
+            13 => {
+                let case = Situation::of(verdict, base.file, stage, order)?;
+                let value = Reference::of(reference).answer(&case.values).get(at).copied().unwrap_or(false);
+                for (_, net) in case.wrong_rails(at, value) {
+                    case.behind(net, DEPTH, &mut named.gates);
+                }
+                named.output = Some(at);
+            }
+            _ => {
+                let case = Situation::of(verdict, base.file, stage, order)?;
+                (named.gates, named.net, named.rises) = (case.places(), case.odd_net(), !case.falls);
+            }
         }
+        Some(named)
     }
 }
 
-/// Says with which other kind in place of a retired one the check accepts.
-pub fn of_retired(text: &mut Text, pair: Pair, order: Order, stage: &Stage, gates: &[usize]) {
-    let base = Base { file: pair.stage.bytes(), stage };
-    // Where two pins are on one net, the net once will do.
-    let pins = |gate: usize, count: usize| if count == 4 { stage.gates[gate].pins.clone() } else { once(&stage.gates[gate].pins) };
-    let change = |cell: u8, hold: u8| {
-        let count = pin_count(cell)?;
-        let mut changed = Change { file: base.file.to_vec(), says: String::new(), sort: None };
-        for &gate in gates {
-            let pins = pins(gate, count);
-            let kind = cell | stage.gates[gate].kind & hold;
-            let next = (pins.len() == count).then(|| Base { file: &changed.file, ..base }.gate_as(gate, kind, &pins))?;
-            let and = if changed.says.is_empty() { "" } else { ", " };
-            changed = Change { file: next.file, says: changed.says + and + &next.says, sort: None };
-        }
-        Some(changed)
-    };
-    let cells = [0x80, 0].into_iter().flat_map(|hold| (1..=27).filter(|&cell| cell != RETIRED).map(move |cell| (cell, hold)));
-    say(text, pair, order, [Box::new(cells.filter_map(|(cell, hold)| change(cell, hold))), Box::new(std::iter::empty())]);
+/// A refused stage that some change may mend.
+pub struct Mending<'a> {
+    base: Base<'a>,
+    reference: &'a [u8],
+    order: Order,
+    named: Named,
+    /// A gate that feeds nothing. Of it every change that keeps it low is accepted, and says nothing: it is only taken out.
+    spare: Option<usize>,
+    number: u64,
 }
 
-/// Says which of some changes are accepted; where none is, which of the others.
-fn say(text: &mut Text, pair: Pair, order: Order, [changes, others]: [Changes; 2]) {
-    let found = tried(text.tries, pair, order, changes);
-    let found = if found.is_empty() { tried(text.tries, pair, order, others) } else { found };
-    for (k, change) in found.iter().enumerate() {
-        if k == 0 {
-            text.row("accepted", &format!("with {}", change.says));
+impl<'a> Mending<'a> {
+    /// None where the verdict speaks of bytes, lines or counts, or accepts.
+    pub fn of(verdict: Verdict, file: &'a [u8], reference: &'a [u8], stage: &'a Stage, order: Order) -> Option<Mending<'a>> {
+        let base = Base { file, stage };
+        let named = Named::of(verdict, base, reference, order)?;
+        let late = named.net.and_then(|net| stage.driver(net));
+        let spare = late.or(named.gates.first().copied()).filter(|&gate| base.feeds_nothing(gate));
+        Some(Mending { base, reference, order, named, spare, number: verdict.number })
+    }
+
+    /// The library's answer to a change.
+    pub fn accepts(&self, change: &Change) -> bool {
+        fovaheju::check(self.order.mark(), &change.file, self.reference).accepts()
+    }
+
+    /// The first changes that are accepted: of those that are likely, and where none is, of others. So many of each are tried.
+    pub fn some(&self, shown: usize, tries: usize) -> Vec<Change> {
+        let found = self.first(self.likely(), shown, tries);
+        if found.is_empty() {
+            self.first(Box::new(self.others().chain(std::iter::once_with(|| self.waiting()).flatten())), shown, tries)
         } else {
-            text.row("", &format!("or: {}", change.says));
+            found
         }
+    }
+
+    fn first(&self, changes: Changes<'_>, shown: usize, tries: usize) -> Vec<Change> {
+        let mut found: Vec<Change> = Vec::new();
+        for change in changes.take(tries) {
+            if found.iter().all(|other| change.differs(other)) && self.accepts(&change) {
+                found.push(change);
+            }
+            if found.len() == shown {
+                break;
+            }
+        }
+        found
+    }
+
+    /// Changes of what is named, single ones and others, the likeliest first.
+    fn likely(&self) -> Changes<'a> {
+        match self.spare {
+            Some(gate) => Box::new(self.base.without(gate).into_iter()),
+            None if !self.named.retired.is_empty() => self.base.of_retired(self.named.retired.clone()),
+            None => self.base.of_named(&self.named),
+        }
+    }
+
+    /// Two changes of a gate that is named, then single ones of all others.
+    fn others(&self) -> Changes<'a> {
+        match self.spare {
+            None if self.named.retired.is_empty() => self.base.of_all(&self.named),
+            _ => Box::new(std::iter::empty()),
+        }
+    }
+
+    /// Changes of what is named that are no single ones.
+    pub fn several(&self) -> Changes<'a> {
+        Box::new(self.likely().chain(self.others()).filter(|change| !change.single))
+    }
+
+    /// An output that waits for the input that it does not wait for, by gates that are added.
+    pub fn waiting(&self) -> Option<Change> {
+        let net = self.named.net.filter(|&net| net < 2 * self.base.stage.inputs && self.named.rises)?;
+        self.base.waiting(net / 2, self.reference, self.order)
+    }
+
+    /// The parts whose single changes are tried: each output, then each gate; none where a gate is only to be taken out.
+    pub fn parts(&self) -> Vec<Part> {
+        if self.spare.is_some() {
+            return Vec::new();
+        }
+        let stage = self.base.stage;
+        (0..stage.outputs.len()).map(Part::Output).chain((0..stage.gates.len()).map(Part::Gate)).collect()
+    }
+
+    /// Every single change of a part.
+    pub fn singles(&self, part: Part) -> Vec<Change> {
+        match part {
+            Part::Output(output) => self.base.rails_exchanged(output).into_iter().chain(self.base.other_rails(output)).collect(),
+            Part::Gate(gate) => [self.base.other_kinds(gate), self.base.other_pins(gate)].concat(),
+        }
+    }
+
+    /// The single changes of pins of the gates on the way, under 14 and 15: those that put a pin on a late net first. Two of them at once are tried
+    /// where nothing else helps.
+    pub fn pins(&self) -> Vec<Pin> {
+        let stage = self.base.stage;
+        if !matches!(self.number, 14 | 15) || self.spare.is_some() {
+            return Vec::new();
+        }
+        let gates = self.named.gates.iter().take(GATES);
+        let places = gates.flat_map(|&gate| (0..stage.gates[gate].pins.len()).map(move |pin| (gate, pin)));
+        let mut pins: Vec<Pin> = places.flat_map(|(gate, pin)| (0..stage.nets()).map(move |net| Pin { gate, pin, net })).collect();
+        pins.retain(|pin| stage.gates[pin.gate].pins[pin.pin] != pin.net);
+        let late = self.named.net;
+        pins.sort_by_key(|pin| Some(pin.net) != late);
+        pins
+    }
+
+    /// Two changes of pins at once; none where both are of one pin.
+    pub fn both(&self, first: Pin, second: Pin) -> Option<Change> {
+        if (first.gate, first.pin) == (second.gate, second.pin) {
+            return None;
+        }
+        let one = self.base.other_pin(first);
+        let two = Base { file: &one.file, ..self.base }.other_pin(second);
+        Some(Change::several(two.file, format!("{}, and {}", one.says, two.says)))
     }
 }
 
-/// The first changes that are accepted.
-fn tried(tries: usize, pair: Pair, order: Order, changes: Changes) -> Vec<Change> {
-    let accepts = |change: &Change| fovaheju::check(order.mark(), &change.file, &pair.reference.bytes).accepts();
-    let mut found: Vec<Change> = Vec::new();
-    for change in changes.take(tries) {
-        // Two ways to one stage are one change.
-        let new = |other: &Change| other.file != change.file && (change.sort.is_none() || other.sort != change.sort);
-        if found.iter().all(new) && accepts(&change) {
-            found.push(change);
-        }
-        if found.len() == SHOWN {
-            break;
-        }
-    }
-    found
+/// An output or a gate.
+#[derive(Clone, Copy, PartialEq, Eq, Debug)]
+pub enum Part {
+    Output(usize),
+    Gate(usize),
+}
+
+/// A pin of a gate that is put on another net.
+#[derive(Clone, Copy, PartialEq, Eq, Debug)]
+pub struct Pin {
+    pub gate: usize,
+    pub pin: usize,
+    pub net: usize,
 }
 
 impl<'a> Base<'a> {
@@ -175,14 +293,14 @@ impl<'a> Base<'a> {
     fn rails_exchanged(&self, output: usize) -> Option<Change> {
         let [low, high] = *self.stage.outputs.get(output)?;
         let file = self.with(self.rails_at(output)?, &two([high, low]));
-        Some(Change { file, says: format!("the rails of {} exchanged", self.stage.output_name(output)), sort: None })
+        Some(Change::single(file, format!("the rails of {} exchanged", self.stage.output_name(output))))
     }
 
     fn outputs_exchanged(&self, output: usize, other: usize) -> Option<Change> {
         let file = self.with(self.rails_at(output)?, &two(self.stage.outputs[other]));
         let file = Base { file: &file, ..*self }.with(self.rails_at(other)?, &two(self.stage.outputs[output]));
         let names = [output, other].map(|output| self.stage.output_name(output));
-        Some(Change { file, says: format!("{} exchanged", names.join(" and ")), sort: None })
+        Some(Change::several(file, format!("{} exchanged", names.join(" and "))))
     }
 
     /// An output with one rail on another net.
@@ -191,10 +309,10 @@ impl<'a> Base<'a> {
         let places = (0..2).flat_map(|rail| (0..self.stage.nets()).map(move |net| (rail, net)));
         let others = places.filter(|&(rail, net)| rails[rail] != net);
         let name = self.stage.output_name(output);
-        let change = |(rail, net): (usize, usize)| Change {
-            file: self.with(at + 2 * rail, &(net as u16).to_le_bytes()),
-            says: format!("rail {rail} of {name} on {} in place of {}", self.stage.net_name(net), self.stage.net_name(rails[rail])),
-            sort: None,
+        let change = |(rail, net): (usize, usize)| {
+            let [now, before] = [net, rails[rail]].map(|net| self.stage.net_name(net));
+            let file = self.with(at + 2 * rail, &(net as u16).to_le_bytes());
+            Change::single(file, format!("rail {rail} of {name} on {now} in place of {before}"))
         };
         others.map(change).collect()
     }
@@ -203,7 +321,7 @@ impl<'a> Base<'a> {
     fn gate_as(&self, gate: usize, kind: u8, pins: &[usize]) -> Change {
         let names: Vec<String> = pins.iter().map(|&net| self.stage.net_name(net)).collect();
         let says = format!("{} = {}({})", self.stage.gate_name(gate), kind_name(kind).unwrap_or_default(), names.join(", "));
-        Change { file: self.with(self.stage.gates[gate].at, &gate_bytes(kind, pins)), says, sort: None }
+        Change::several(self.with(self.stage.gates[gate].at, &gate_bytes(kind, pins)), says)
     }
 
     /// A gate on two input rails in the form that waits for both inputs.
@@ -229,10 +347,9 @@ impl<'a> Base<'a> {
         let cells = (1..=27).map(|cell| cell | found.kind & 0x80);
         let kinds = [found.kind ^ 0x80].into_iter().chain(cells);
         let others = kinds.filter(|&kind| kind != found.kind && kind & 0x7F != RETIRED && pin_count(kind) == Some(found.pins.len()));
-        let change = |kind: u8| Change {
-            file: self.with_kinds(&[(gate, kind)]),
-            says: format!("{} as {} in place of {}", self.stage.gate_name(gate), kind_name(kind).unwrap_or_default(), found.name()),
-            sort: None,
+        let change = |kind: u8| {
+            let [name, new] = [self.stage.gate_name(gate), kind_name(kind).unwrap_or_default()];
+            Change::single(self.with_kinds(&[(gate, kind)]), format!("{name} as {new} in place of {}", found.name()))
         };
         others.map(change).collect()
     }
@@ -241,11 +358,7 @@ impl<'a> Base<'a> {
     fn all_with_hold(&self) -> Option<Change> {
         let gates = self.stage.gates.iter().enumerate().filter(|(_, gate)| relaxed(gate.kind));
         let kinds: Vec<(usize, u8)> = gates.map(|(k, gate)| (k, gate.kind & 0x7F)).collect();
-        (kinds.len() > 1).then(|| Change {
-            file: self.with_kinds(&kinds),
-            says: "all gates with hold, the kinds without r".into(),
-            sort: None,
-        })
+        (kinds.len() > 1).then(|| Change::several(self.with_kinds(&kinds), "all gates with hold, the kinds without r".into()))
     }
 
     /// A gate that reads one net more.
@@ -281,7 +394,8 @@ impl<'a> Base<'a> {
             let change = move |pins: Vec<usize>| {
                 let first = self.gate_as(reader, kind, &pins);
                 let out = Base { file: &first.file, ..self }.without(gate)?;
-                Some(Change { file: out.file, says: format!("{}, and {}", first.says, out.says), sort: Some((reader, kind)) })
+                let says = format!("{}, and {}", first.says, out.says);
+                Some(Change { sort: Some((reader, kind)), ..Change::several(out.file, says) })
             };
             orders.clone().into_iter().filter_map(change)
         }))
@@ -289,11 +403,11 @@ impl<'a> Base<'a> {
 
     /// An output that waits for an input: each of its rails passes a gate that needs the input too. Where the check then misses other inputs, it
     /// waits for these as well.
-    fn waiting(self, input: usize, pair: Pair, order: Order) -> Option<Change> {
+    fn waiting(self, input: usize, reference: &[u8], order: Order) -> Option<Change> {
         let mut inputs = vec![input];
         for _ in 0..self.stage.inputs {
             let change = self.output_waits(0, &inputs)?;
-            let verdict = fovaheju::check(order.mark(), &change.file, &pair.reference.bytes);
+            let verdict = fovaheju::check(order.mark(), &change.file, reference);
             match verdict.number {
                 0 => return Some(change),
                 14 if !inputs.contains(&(verdict.at as usize)) => inputs.push(verdict.at as usize),
@@ -334,24 +448,43 @@ impl<'a> Base<'a> {
             .collect();
         let [low, high] = new.map(name);
         let says = format!("new gates {}, and the rails of {} on {low} and {high}", said.join(", "), self.stage.output_name(output));
-        Some(Change { file, says, sort: None })
+        Some(Change::several(file, says))
     }
 
     /// A gate with one pin on another net.
     fn other_pins(&self, gate: usize) -> Vec<Change> {
+        let pins = &self.stage.gates[gate].pins;
+        let places = (0..pins.len()).flat_map(|pin| (0..self.stage.nets()).map(move |net| Pin { gate, pin, net }));
+        places.filter(|place| pins[place.pin] != place.net).map(|place| self.other_pin(place)).collect()
+    }
+
+    /// A pin on another net.
+    fn other_pin(&self, Pin { gate, pin, net }: Pin) -> Change {
         let found = &self.stage.gates[gate];
-        let places = (0..found.pins.len()).flat_map(|pin| (0..self.stage.nets()).map(move |net| (pin, net)));
-        let others = places.filter(|&(pin, net)| found.pins[pin] != net);
-        let change = |(pin, net): (usize, usize)| {
-            let [now, before] = [net, found.pins[pin]].map(|net| self.stage.net_name(net));
-            let (name, letter) = (self.stage.gate_name(gate), ["A", "B", "C", "D"][pin.min(3)]);
-            Change {
-                file: self.with(found.at + 2 + 2 * pin, &(net as u16).to_le_bytes()),
-                says: format!("pin {letter} of {name} on {now} in place of {before}"),
-                sort: None,
+        let [now, before] = [net, found.pins[pin]].map(|net| self.stage.net_name(net));
+        let (name, letter) = (self.stage.gate_name(gate), ["A", "B", "C", "D"][pin.min(3)]);
+        let file = self.with(found.at + 2 + 2 * pin, &(net as u16).to_le_bytes());
+        Change::single(file, format!("pin {letter} of {name} on {now} in place of {before}"))
+    }
+
+    /// All gates of a retired kind by another one. Where two pins are on one net, the net once will do.
+    fn of_retired(self, gates: Vec<usize>) -> Changes<'a> {
+        let all = |gate: usize| self.stage.gates[gate].pins.clone();
+        let pins = move |gate: usize, count: usize| if count == 4 { all(gate) } else { once(&all(gate)) };
+        let change = move |cell: u8, hold: u8| {
+            let count = pin_count(cell)?;
+            let mut changed = Change::several(self.file.to_vec(), String::new());
+            for &gate in &gates {
+                let pins = pins(gate, count);
+                let kind = cell | self.stage.gates[gate].kind & hold;
+                let next = (pins.len() == count).then(|| Base { file: &changed.file, ..self }.gate_as(gate, kind, &pins))?;
+                let and = if changed.says.is_empty() { "" } else { ", " };
+                changed = Change::several(next.file, changed.says + and + &next.says);
             }
+            Some(changed)
         };
-        others.map(change).collect()
+        let cells = [0x80, 0].into_iter().flat_map(|hold| (1..=27).filter(|&cell| cell != RETIRED).map(move |cell| (cell, hold)));
+        Box::new(cells.filter_map(move |(cell, hold)| change(cell, hold)))
     }
 
     /// A gate that nothing reads, taken out: the nets behind it are numbered one less.
@@ -372,7 +505,7 @@ impl<'a> Base<'a> {
             }
             file.extend(bytes);
         }
-        Some(Change { file, says: format!("{} taken out", self.stage.gate_name(gate)), sort: None })
+        Some(Change::several(file, format!("{} taken out", self.stage.gate_name(gate))))
     }
 }
 
