@@ -6,6 +6,7 @@ pub mod Names
 pub mod OneWord
 pub mod Exactly
 pub mod Shown
+pub mod Sound
 pub mod Demanded
 pub mod View
 pub mod Alike
