@@ -3,10 +3,9 @@
 use Prim.Native.Nat.{ℕ, suc, _+_, _*_, _≤_, _<_}
 use native.Mathlib.Omega.{arith}
 use mathlib.Core.Path.{_≡_, refl, sym, ap, ap₂, _∙_, subst}
-use mathlib.Core.Bool.{cond, not}
+use mathlib.Core.Bool.{not}
 use mathlib.Core.List.{List, [], _∷_, _++_, append-assoc, map, flatMap}
 use lib.ListN.{length, getD, length-map, length-append}
-use lib.Dec.{ltb}
 use borrow.Author.Tests.{ne-eqb, lt-ltb, le-ltb}
 use Rattle.netlist.specs.declared.File.the-variants as file
 use Rattle.netlist.specs.declared.Sort.the-variants as sort
@@ -36,7 +35,7 @@ use Rattle.check_spec.specs.Writing as w
 use Rattle.check_spec.specs.Writing.{leaving}
 use Rattle.make_spec.specs.Make.{built, railsAt, madeStage, leadsOut, referenceRead, madeBytes, makeChecks, makeChecksOn}
 use Rattle.make_spec.specs.Loaded.{asContent, operations}
-use Rattle.make_spec.proofs.Making.{needed-counted, judged-by, content-is}
+use Rattle.make_spec.proofs.Making.{needed-counted, laterVerdict, judged-by, content-is}
 use Rattle.write_command.specs.Put.{Put}
 use Rattle.write_command.specs.Parts.{bytesOf}
 use Rattle.write_command.proofs.Joining.{put-++, put-holding}
@@ -140,14 +139,10 @@ module _ (c : Counts) (code buffer : List ℕ) where
   abbrev search : Found
   search = least (λ x. not (leadsOut (loaded c code) x)) 0 (c .inputs + c .gates)
 
-  -- 26, 27 or none
-  abbrev later : Verdict
-  later = cond (ltb (stageLimits .gates) needed) (verdict 26 2 needed 0) (cond (ltb (length buffer) (length bytes)) (verdict 27 3 0 0) accepted)
-
-  told : (x : Found) → x ≡ search → verdictOf ≡ whenFound x (λ x. verdict 25 2 x 0) later
+  told : (x : Found) → x ≡ search → verdictOf ≡ whenFound x (λ x. verdict 25 2 x 0) (laterVerdict (loaded c code) (length buffer))
   told x e =
       judged-by (loaded c code) (length buffer)
-      ∙ ap (λ (f : Found). whenFound f (λ x. verdict 25 2 x 0) later) (ap (λ (m : ℕ). least (λ x. not (leadsOut (loaded c code) x)) 0 (c .inputs + m)) (gates-count c code) ∙ sym e)
+      ∙ ap (λ (f : Found). whenFound f (λ x. verdict 25 2 x 0) (laterVerdict (loaded c code) (length buffer))) (ap (λ (m : ℕ). least (λ x. not (leadsOut (loaded c code) x)) 0 (c .inputs + m)) (gates-count c code) ∙ sym e)
 
   pub told-25 : (x : ℕ) → At x ≡ search → verdictOf ≡ verdict 25 2 x 0
   unfolding whenFound

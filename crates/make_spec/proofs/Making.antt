@@ -69,11 +69,14 @@ first-swept number file f (x ∷ l) v = go (f x) (first-swept number file f l v)
     go true e = refl
     go false e = e
 
--- what the call finds: a search for 25, then 26 and 27
-pub judged-by : (r : Content) (room : ℕ) → judge (makeChecks r room)
-    ≡ whenFound (least (λ x. not (leadsOut r x)) 0 (r .inputs + length (r .gates))) (λ x. verdict 25 2 x 0)
-    (cond (ltb (stageLimits .gates) (length (built r .gates))) (verdict 26 2 (length (built r .gates)) 0)
-    (cond (ltb room (length (madeBytes r))) (verdict 27 3 0 0) accepted))
+-- 26, 27 or none, as tests
+abbrev pub laterVerdict : Content → ℕ → Verdict
+laterVerdict r room =
+    cond (ltb (stageLimits .gates) (length (built r .gates))) (verdict 26 2 (length (built r .gates)) 0) (cond (ltb room (length (madeBytes r))) (verdict 27 3 0 0) accepted)
+
+-- what the call finds: a search for 25, then these
+pub judged-by : (r : Content) (room : ℕ)
+    → judge (makeChecks r room) ≡ whenFound (least (λ x. not (leadsOut r x)) 0 (r .inputs + length (r .gates))) (λ x. verdict 25 2 x 0) (laterVerdict r room)
 unfolding makeChecks judge first
 judged-by r room = first-swept 25 2 (λ x. not (leadsOut r x)) (numbers 0 (r .inputs + length (r .gates))) _
 
