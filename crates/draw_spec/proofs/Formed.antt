@@ -5,27 +5,24 @@ use native.Mathlib.Omega.{arith}
 use native.Mathlib.Nat.{mod-lt}
 use mathlib.Core.Path.{_≡_, refl, ap, _∙_}
 use mathlib.Core.Bool.{not}
-use mathlib.Core.List.{List, [], _∷_, _++_, map, map-map}
+use mathlib.Core.List.{List, [], _∷_, _++_}
 use lib.ListN.{length, length-map}
 use lib.Dec.{eqb}
 use Rattle.runs.proofs.Test.{not-true}
 use Rattle.netlist.specs.declared.File.the-variants as file
 use Rattle.netlist.specs.Reading.{readable, readFile, referenceLimits}
 use Rattle.netlist.specs.Content.{Coded, Reference, referenceOf}
-use Rattle.netlist.specs.Writing as items
-use Rattle.netlist.specs.Writing.{Item, gate, output, All, placesOf, referenceItems, writeReference, FileFits}
+use Rattle.netlist.specs.Writing.{All, placesOf, referenceItems, writeReference, FileFits}
 use Rattle.netlist.specs.Formed.{OperationFormed, FormedFrom, ReferenceFormed}
 use Rattle.netlist.proofs.Lists.{All-map, All-++}
 use Rattle.netlist.proofs.References.{reference-fits, read-writeReference, referenceOf-writeReference}
 use Rattle.verdict.proofs.Names.{in-select}
 use Rattle.verdict.proofs.Words.{index-in}
 use Rattle.check_spec.specs.Lists.{numbers, select, some}
-use Rattle.check_spec.specs.Content.{contentAt}
-use Rattle.check_spec.proofs.Writing.{reference-bytes}
+use Rattle.check_spec.proofs.Back.{reference-content, reference-write}
 use Rattle.make_spec.specs.Make.{referenceRead}
-use Rattle.make_spec.specs.Loaded.{asContent}
+use Rattle.check_spec.specs.Loaded.{fromReference}
 use Rattle.make_spec.proofs.Lists.{all-in, among-in}
-use Rattle.make_spec.proofs.Making.{content-is}
 use Rattle.draw_spec.specs.Draws.{yield, advance, operandsFrom, gateFrom, afterGate, gatesFrom}
 use Rattle.draw_spec.specs.Drawn.{usedBy, unused, drawnReference, drawnBytes}
 use Rattle.draw_spec.proofs.Selected.{in-some, selected-below}
@@ -75,10 +72,8 @@ abbrev pub parsed : ℕ → ℕ → ℕ → Reference
 parsed seed n g = record { inputs = n; gates = gatesFrom n g seed; outputs = free seed n g }
 
 pub bytes-are : (seed n g : ℕ) → drawnBytes seed n g ≡ writeReference (parsed seed n g)
-unfolding drawnReference writeReference
-bytes-are seed n g =
-    reference-bytes (asContent (parsed seed n g)) refl
-    ∙ ap (λ (l : List Item). items.writeFile file.Reference n (map gate (gatesFrom n g seed) ++ l)) (map-map output (λ (v : ℕ). v ∷ []) (free seed n g))
+unfolding drawnReference
+bytes-are seed n g = reference-write (parsed seed n g)
 
 module _ (seed n g : ℕ) (some-input : 1 ≤ n) where
   -- so that the last one is an output
@@ -116,5 +111,5 @@ module _ (seed n g : ℕ) (some-input : 1 ≤ n) where
     pub reads-as : referenceRead (drawnBytes seed n g) ≡ drawnReference seed n g
     unfolding drawnReference
     reads-as =
-        ap (contentAt file.Reference (drawnBytes seed n g)) reads ∙ content-is (drawnBytes seed n g) _ reads
-        ∙ ap asContent (ap (λ (b : List ℕ). referenceOf b (placesOf file.Reference n (referenceItems (parsed seed n g)))) (bytes-are seed n g) ∙ referenceOf-writeReference referenceLimits (parsed seed n g) fits)
+        reference-content referenceLimits (drawnBytes seed n g) _ reads
+        ∙ ap fromReference (ap (λ (b : List ℕ). referenceOf b (placesOf file.Reference n (referenceItems (parsed seed n g)))) (bytes-are seed n g) ∙ referenceOf-writeReference referenceLimits (parsed seed n g) fits)

@@ -28,7 +28,8 @@ use Rattle.check_spec.specs.Lists.{numbers, some}
 use Rattle.check_spec.specs.Rows.{noGate}
 use Rattle.check_spec.specs.Verdicts.{refusal}
 use Rattle.make_spec.specs.Make.{built, leadsOut, madeBytes, makeChecks, makeChecksOn}
-use Rattle.make_spec.specs.Loaded.{asContent, operations}
+use Rattle.check_spec.specs.Loaded.{fromReference}
+use Rattle.make_spec.specs.Count.{operations}
 use Rattle.make_spec.proofs.Lists.{among-in, in-among}
 use Rattle.make_spec.proofs.Leading.{reads-later, output-leads, operand-leads, output-is}
 use Rattle.make_spec.proofs.Making.{needed-counted, laterVerdict, judged-by}
@@ -58,20 +59,20 @@ not-25 v (inl e) h = let z : _≡_ {A = ℕ} 0 25 = sym (ap (λ (v : Verdict). v
 not-25 v (inr e) h = let z : _≡_ {A = ℕ} 27 25 = sym (ap (λ (v : Verdict). v .number) e) ∙ h in omega arith
 
 -- 25 finds nothing, nor does 26 where the gates are few
-module _ (r : Reference) (well : ReferenceFormed referenceLimits r) (lead : (x : ℕ) → x < r .inputs + length (r .gates) → leadsOut (asContent r) x ≡ true) (few : length (r .gates) ≤ 128) where
-  none-25 : (x : Found) → least (λ x. not (leadsOut (asContent r) x)) 0 (r .inputs + length (r .gates)) ≡ x → x ≡ Nothing
+module _ (r : Reference) (well : ReferenceFormed referenceLimits r) (lead : (x : ℕ) → x < r .inputs + length (r .gates) → leadsOut (fromReference r) x ≡ true) (few : length (r .gates) ≤ 128) where
+  none-25 : (x : Found) → least (λ x. not (leadsOut (fromReference r) x)) 0 (r .inputs + length (r .gates)) ≡ x → x ≡ Nothing
   none-25 (At x) e =
-      let s = least-says (λ x. not (leadsOut (asContent r) x)) 0 (r .inputs + length (r .gates)) (At x) e in
+      let s = least-says (λ x. not (leadsOut (fromReference r) x)) 0 (r .inputs + length (r .gates)) (At x) e in
       absurd (clash (s .passes) (ap not (lead x (omega (arith, s .below)))))
   none-25 Nothing e = refl
 
-  pub made-or-27 : (room : ℕ) → MadeOr27 (judge (makeChecks (asContent r) room))
+  pub made-or-27 : (room : ℕ) → MadeOr27 (judge (makeChecks (fromReference r) room))
   unfolding whenFound
-  made-or-27 room = go (ltb room (length (madeBytes (asContent r)))) (judged-by (asContent r) room
-      ∙ ap (λ (x : Found). whenFound x (λ x. verdict 25 2 x 0) (laterVerdict (asContent r) room)) (none-25 _ refl)
-      ∙ rw (le-ltb (stageLimits .gates) (length (built (asContent r) .gates)) (omega (arith, needed-counted r well, operations-most (r .gates)))))
+  made-or-27 room = go (ltb room (length (madeBytes (fromReference r)))) (judged-by (fromReference r) room
+      ∙ ap (λ (x : Found). whenFound x (λ x. verdict 25 2 x 0) (laterVerdict (fromReference r) room)) (none-25 _ refl)
+      ∙ rw (le-ltb (stageLimits .gates) (length (built (fromReference r) .gates)) (omega (arith, needed-counted r well, operations-most (r .gates)))))
     where
-      go : (short : Bool) → judge (makeChecks (asContent r) room) ≡ cond short (verdict 27 3 0 0) accepted → MadeOr27 (judge (makeChecks (asContent r) room))
+      go : (short : Bool) → judge (makeChecks (fromReference r) room) ≡ cond short (verdict 27 3 0 0) accepted → MadeOr27 (judge (makeChecks (fromReference r) room))
       go true e = inr e
       go false e = inl e
 
@@ -103,19 +104,19 @@ module _ (seed n g : ℕ) (some-input : 1 ≤ n) (low : n ≤ 10) (few : g ≤ 4
   well = formed seed n g some-input low few outputs
 
   -- a signal with at most `more` signals above it leads out: it is an output, or a gate above it uses it
-  leads-from : (more x : ℕ) → x < n + g → n + g ≤ x + more → leadsOut (asContent (parsed seed n g)) x ≡ true
+  leads-from : (more x : ℕ) → x < n + g → n + g ≤ x + more → leadsOut (fromReference (parsed seed n g)) x ≡ true
   leads-from zero x l m = absurd (omega arith)
   leads-from (suc more) x l m = go (true? (some (eqb x) (usedBy gates))) (leads-from more)
     where
       go : (some (eqb x) (usedBy gates) ≡ true) ⊎ (some (eqb x) (usedBy gates) ≡ false)
-          → ((y : ℕ) → y < n + g → n + g ≤ y + more → leadsOut (asContent (parsed seed n g)) y ≡ true) → leadsOut (asContent (parsed seed n g)) x ≡ true
+          → ((y : ℕ) → y < n + g → n + g ≤ y + more → leadsOut (fromReference (parsed seed n g)) y ≡ true) → leadsOut (fromReference (parsed seed n g)) x ≡ true
       go (inr none) later =
-          output-leads (asContent (parsed seed n g)) (well .gates-formed) x
+          output-leads (fromReference (parsed seed n g)) (well .gates-formed) x
           (output-is x (free seed n g) ∙ in-among x (free seed n g) (in-select (unused gates) (numbers 0 (n + g)) x (index-in (n + g) x l) (ap not none)))
       go (inl taken) later =
           let u = user x gates (among-in x (usedBy gates) taken) in
-          let before = reads-later (asContent (parsed seed n g)) (well .gates-formed) (u .0) x (u .1, u .2) in
-          operand-leads (asContent (parsed seed n g)) (well .gates-formed) x (u .0) (u .1, u .2) (later (n + u .0) (omega (arith, u .1, gates-long n g seed)) (omega arith))
+          let before = reads-later (fromReference (parsed seed n g)) (well .gates-formed) (u .0) x (u .1, u .2) in
+          operand-leads (fromReference (parsed seed n g)) (well .gates-formed) x (u .0) (u .1, u .2) (later (n + u .0) (omega (arith, u .1, gates-long n g seed)) (omega arith))
 
   pub makeable : Makeable seed n g (drawnBytes seed n g)
   unfolding judge first refusal drawnReference
@@ -123,6 +124,6 @@ module _ (seed n g : ℕ) (some-input : 1 ≤ n) (low : n ≤ 10) (few : g ≤ 4
       let read = reads seed n g some-input low few outputs in
       let is = reads-as seed n g some-input low few outputs in
       let long = gates-long n g seed in
-      let all-lead : (x : ℕ) → x < n + length gates → leadsOut (asContent (parsed seed n g)) x ≡ true = λ x l. leads-from (n + g) x (omega arith) (omega arith) in
+      let all-lead : (x : ℕ) → x < n + length gates → leadsOut (fromReference (parsed seed n g)) x ≡ true = λ x l. leads-from (n + g) x (omega arith) (omega arith) in
       let made : (room : ℕ) → MadeOr27 (judge (makeChecksOn (drawnBytes seed n g) room)) = λ room. rw (is, read) (made-or-27 (parsed seed n g) well all-lead (omega arith) room) in
       record { readable = (rw read tt, is); never-25 = λ room. not-25 (judge (makeChecksOn (drawnBytes seed n g) room)) (made room); made = made }
