@@ -10,7 +10,7 @@ use lib.Dec.{eqb}
 use borrow.Author.Tests.{lt-ltb, le-ltb}
 use Rattle.netlist.specs.declared.File.the-variants as file
 use Rattle.netlist.specs.Content.{Coded}
-use Rattle.netlist.specs.Writing.{All, gate, writeItem}
+use Rattle.netlist.specs.Writing.{gate, writeItem}
 use Rattle.netlist.proofs.Lists.{All-map}
 use Rattle.verdict.specs.Rows.{high}
 use Rattle.verdict.proofs.Names.{select-alike}

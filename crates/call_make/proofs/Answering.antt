@@ -4,7 +4,7 @@ use Prim.Native.Nat.{ℕ, _+_, _*_, _≤_, _<_}
 use native.Mathlib.Omega.{arith}
 use mathlib.Core.Path.{_≡_, refl, sym, ap, ap₂, _∙_, subst}
 use mathlib.Core.Bool.{not}
-use mathlib.Core.List.{List, [], _∷_, _++_, map}
+use mathlib.Core.List.{List, [], _∷_, map}
 use lib.ListN.{length, getD, length-map}
 use borrow.Author.Tests.{lt-ltb, le-ltb}
 use Rattle.netlist.specs.declared.File.the-variants as file
@@ -15,7 +15,7 @@ use Rattle.netlist.specs.declared.Found.the-variants.{At, Nothing}
 use Rattle.netlist.specs.declared.Outcome.{Outcome}
 use Rattle.netlist.specs.declared.Outcome.the-variants as outcome
 use Rattle.netlist.specs.Commands.{whenFound}
-use Rattle.netlist.specs.Reading.{Reading, readable, readFile, stageLimits, referenceLimits}
+use Rattle.netlist.specs.Reading.{Reading, readFile, stageLimits, referenceLimits}
 use Rattle.netlist.specs.Read.{outcomeOf}
 use Rattle.netlist.specs.Formed.{ReferenceFormed}
 use Rattle.netlist.specs.Writing.{gate, output, All}
@@ -23,7 +23,7 @@ use Rattle.netlist.proofs.References.{reference-formed}
 use Rattle.verdict.specs.declared.Verdict.{Verdict}
 use Rattle.verdict.specs.declared.Answer.{Answer}
 use Rattle.verdict.specs.Search.{least}
-use Rattle.verdict.specs.Written.{Written, answerOf, written, refuse}
+use Rattle.verdict.specs.Written.{Written, answerOf, written}
 use Rattle.verdict.proofs.Refusals.{refused-number}
 use Rattle.check_spec.specs.Cases.{verdict, accepted, first, judge}
 use Rattle.check_spec.specs.Content.{Content}

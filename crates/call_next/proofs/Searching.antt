@@ -2,14 +2,14 @@
 -- Assumes nothing.
 use Prim.Native.Nat.{ℕ, _+_, _*_, _-_, _≤_, _<_}
 use native.Mathlib.Omega.{arith}
-use mathlib.Core.Path.{_≡_, refl, sym, ap, subst, _∙_}
+use mathlib.Core.Path.{_≡_, sym, ap, subst, _∙_}
 use mathlib.Core.Bool.{Bool, true, false}
-use mathlib.Core.List.{List, [], _∷_, _++_}
+use mathlib.Core.List.{List, _∷_, _++_}
 use lib.ListN.{drop}
 use Rattle.netlist.specs.declared.Found.the-variants.{At, Nothing}
 use Rattle.check_spec.specs.Content.{Content}
 use Rattle.next_spec.specs.Numbered.{stages, stageNumbered}
-use Rattle.next_spec.specs.Listing.{InShape, free, loopFreeFrom, stagesOf, shapes, Listed, onward}
+use Rattle.next_spec.specs.Listing.{InShape, free, loopFreeFrom, stagesOf, shapes, onward}
 use Rattle.next_spec.proofs.Onward.{zero-free, stages-some, from-free, from-loop, from-none, onward-free, onward-start}
 use Rattle.call_next.specs.declared.Place.{Place}
 use Rattle.call_next.specs.declared.Place.the-variants as place

@@ -18,7 +18,7 @@ use Rattle.write_command.specs.Put.{Put, coded}
 use Rattle.write_command.specs.Parts.{bytesOf}
 use Rattle.write_command.proofs.Joining.{put-++, put-none}
 use Rattle.write_command.proofs.Putting.{put-same}
-use Rattle.write_command.proofs.Files.{gate-absent, bytes-++, bytes-length, stage-gate-width, stage-output-width, file-parts}
+use Rattle.write_command.proofs.Files.{gate-absent, bytes-length, stage-gate-width, stage-output-width, file-parts}
 use Rattle.check_spec.proofs.Writing.{stage-bytes}
 use Rattle.next_spec.specs.Family.{fileOf}
 use Rattle.next_spec.specs.Numbered.{netsOf, lists, gateNumbered, gatesNumbered, stageNumbered}

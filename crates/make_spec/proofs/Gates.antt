@@ -23,7 +23,7 @@ use Rattle.netlist.specs.Writing.{All}
 use Rattle.check_spec.specs.Lists.{xor}
 use Rattle.check_spec.specs.Rows.{noGate, cellIn, setIn}
 use Rattle.check_spec.specs.Words.{operate}
-use Rattle.make_spec.specs.Make.{Built, realize}
+use Rattle.make_spec.specs.Make.{realize}
 use Rattle.make_spec.proofs.Signals.{Cause}
 
 -- ---- the operations with two operands

@@ -1,7 +1,7 @@
 -- The stage that is made from a well-formed reference: it has no loop, its gates are cast and have hold, and in every word it conforms if every
 -- signal leads to an output; its rails wait for their operands.
 -- Assumes nothing.
-use Prim.Native.Nat.{ℕ, zero, suc, _+_, _-_, _*_, _/_, _%_, _^_, _≤_, _<_}
+use Prim.Native.Nat.{ℕ, zero, suc, _+_, _-_, _*_, _/_, _%_, _≤_, _<_}
 use native.Mathlib.Omega.{arith}
 use native.Mathlib.Decide.{decLt}
 use mathlib.Core.Path.{_≡_, refl, sym, ap, _∙_, subst}
@@ -9,8 +9,8 @@ use mathlib.Core.Bool.{Bool, true, false, not, cond}
 use mathlib.Core.Logic.{_⊎_, inl, inr}
 use mathlib.Core.List.{List, [], _∷_, map, map-map}
 use lib.ListN.{length, getD, length-map}
-use lib.Dec.{eqb, ltb}
-use Rattle.gates.specs.Cell.{bit, isRetired}
+use lib.Dec.{ltb}
+use Rattle.gates.specs.Cell.{bit}
 use Rattle.runs.specs.Row.{Row, low, after}
 use Rattle.runs.specs.Net.{nets, rails, IsGate, inputRail, riseUp, riseDown, riseStep, RiseList}
 use Rattle.runs.specs.Theory.{AllHold}
@@ -27,21 +27,20 @@ use Rattle.runs.proofs.Complete.{hold-checks-conforms}
 use Rattle.netlist.specs.declared.Limits.{Limits}
 use Rattle.netlist.specs.Coded.{Coded}
 use Rattle.netlist.specs.Content.{Reference}
-use Rattle.netlist.specs.Formed.{FormedFrom, ReferenceFormed}
+use Rattle.netlist.specs.Formed.{ReferenceFormed}
 use Rattle.verdict.specs.Graph.{In}
-use Rattle.check_spec.specs.Lists.{xor, numbers, some, bitOf}
+use Rattle.check_spec.specs.Lists.{xor, numbers, bitOf}
 use Rattle.check_spec.specs.Content.{Content}
-use Rattle.check_spec.specs.Rows.{noGate, driver, cellIn, setIn, netOf}
+use Rattle.check_spec.specs.Rows.{noGate, driver, setIn, netOf}
 use Rattle.check_spec.specs.Words.{railsFor, operate, values, answer}
 use Rattle.check_spec.specs.Demands.{LoopFree}
 use Rattle.check_spec.proofs.Loops.{feeding-gate, ranked-free, acyclic}
 use Rattle.check_spec.proofs.OneWord.{word-data}
-use Rattle.make_spec.specs.Make.{Built, gate, railsAt, built, isOutput, leadsOut, madeStage, Operand, Waits}
+use Rattle.make_spec.specs.Make.{Built, gate, railsAt, built, isOutput, leadsOut, Operand, Waits}
 use Rattle.check_spec.specs.Loaded.{fromReference}
-use Rattle.make_spec.specs.Count.{operations}
 use Rattle.make_spec.proofs.Lists.{all-at, all-in, index-of, map-at, among-in}
 use Rattle.make_spec.proofs.Signals.{TwoGates, Driven, input, inverse, operation, Signals, operands-data, gates-wait, signals-tight}
-use Rattle.make_spec.proofs.Gates.{Binary, codeOf, turned, railsFrom, rail, rail-at, xor-twice, withRails, cell, Fit, BothBelow, gate-fit, gateFor, gate-set, gate-cause}
+use Rattle.make_spec.proofs.Gates.{codeOf, turned, railsFrom, rail, rail-at, xor-twice, Fit, BothBelow, gate-fit, gateFor, gate-set, gate-cause}
 use Rattle.make_spec.proofs.Building.{swapped, Two, Placed, as-not, as-two, Owner, Laid, laid}
 use Rattle.make_spec.proofs.Values.{valueOf, values-prefix, values-at}
 use Rattle.make_spec.proofs.Leading.{reads-later, leads-cases, output-is}

@@ -1,11 +1,11 @@
 -- The definitions tried on files: the first of the family, the first with two inputs, the last of all, and files that are none of it.
 -- Assumes nothing.
-use Prim.Native.Nat.{ℕ, _+_, _*_, _-_, _≤_}
+use Prim.Native.Nat.{ℕ, _≤_}
 use native.Mathlib.Omega.{arith}
 use mathlib.Core.Path.{_≡_, refl, sym, ap, subst, _∙_}
-use mathlib.Core.Bool.{Bool, true, false}
-use mathlib.Core.List.{List, [], _∷_, _++_}
-use lib.ListN.{length, drop}
+use mathlib.Core.Bool.{true, false}
+use mathlib.Core.List.{List, [], _∷_}
+use lib.ListN.{length}
 use Rattle.gates.specs.Cell.{cells, cellAt, pinCount, kindOf}
 use Rattle.netlist.specs.declared.File.the-variants.{Stage}
 use Rattle.netlist.specs.Bytes.{operand, operands}
@@ -19,8 +19,8 @@ use Rattle.check_spec.specs.Content.{contentAt, contentOf}
 use Rattle.check_spec.specs.Rows.{reachesItself}
 use Rattle.check_spec.specs.Verdicts.{refusal, reading}
 use Rattle.check_spec.specs.Demands.{Pass}
-use Rattle.next_spec.specs.Numbered.{stages, lists, stageNumbered}
-use Rattle.next_spec.specs.Listing.{InShape, free, loopFreeFrom, stagesOf, shapes, listing, Listed, onward}
+use Rattle.next_spec.specs.Numbered.{lists, stageNumbered}
+use Rattle.next_spec.specs.Listing.{InShape, free, loopFreeFrom, shapes, listing, Listed, onward}
 use Rattle.next_spec.specs.Family.{Small, fileOf, Member, NextIs, outside, last, next}
 use Rattle.next_spec.proofs.Bytes.{listBytes}
 use Rattle.next_spec.proofs.Less.{stage-bytes}

@@ -12,8 +12,8 @@ use Rattle.netlist.specs.Writing.{All}
 use Rattle.netlist.proofs.Lists.{All-map, All-++}
 use Rattle.next_spec.specs.Numbered.{netsOf, stages, lists, stageNumbered}
 use Rattle.next_spec.proofs.Bytes.{listBytes, outputBytes}
-use Rattle.next_spec.specs.Listing.{InShape, Listed, free, loopFreeFrom, group, Shape, shape, stagesOf, shapes, listing}
-use Rattle.next_spec.specs.Family.{fileOf, InFamily, Less, key, Before, Ascending, Among, Shaped, Lists}
+use Rattle.next_spec.specs.Listing.{InShape, free, loopFreeFrom, group, Shape, shape, stagesOf, shapes, listing}
+use Rattle.next_spec.specs.Family.{fileOf, InFamily, Less, key, Ascending, Among, Shaped, Lists}
 use Rattle.next_spec.proofs.Digits.{apart}
 use Rattle.next_spec.proofs.Less.{stage-less, stage-bytes}
 use Rattle.next_spec.proofs.Members.{nets-some, nets-low, gates-long, listed-in, in-listed}

@@ -3,7 +3,7 @@
 use Prim.Native.Nat.{ℕ, _+_, _*_}
 use native.Mathlib.Omega.{arith}
 use mathlib.Core.Path.{_≡_, refl, sym, ap, ap₂, subst, _∙_}
-use mathlib.Core.Logic.{_⊎_, inl, inr, ⊎-elim}
+use mathlib.Core.Logic.{_⊎_, inl, inr}
 use mathlib.Core.List.{List, [], _∷_, _++_, append-assoc}
 use lib.ListN.{length}
 use Rattle.netlist.specs.declared.File.the-variants.{Stage}
@@ -13,7 +13,7 @@ use Rattle.netlist.specs.Writing.{All}
 use Rattle.check_spec.specs.Content.{Content, contentOf}
 use Rattle.check_spec.specs.Writing.{rowFor, command, writeFile}
 use Rattle.verdict.specs.FourNumbers.{verdict}
-use Rattle.verdict.specs.Written.{Written, refuse, writeOr}
+use Rattle.verdict.specs.Written.{Written, writeOr}
 use Rattle.next_spec.specs.Family.{fileOf, InFamily, Member, key, Before, After, Next, Last, NextIs, outside, last, next, Walk, Ascending, Among, Family}
 use Rattle.next_spec.specs.Listing.{InShape, listing, group}
 use Rattle.next_spec.proofs.Members.{in-listed, readable-member}
