@@ -1,15 +1,15 @@
 -- Numbers that pass a test: how many there are, and where they are.
 -- Assumes nothing.
-use Prim.Native.Nat.{ℕ, zero, suc, _+_, _≤_, _<_}
+use Prim.Native.Nat.{ℕ, zero, suc, _≤_, _<_}
 use native.Mathlib.Omega.{arith}
-use mathlib.Core.Path.{_≡_, refl}
+use mathlib.Core.Path.{refl}
 use mathlib.Core.Bool.{Bool, true, false, cond}
 use mathlib.Core.Logic.{inl, inr}
 use mathlib.Core.List.{List, [], _∷_}
 use lib.ListN.{length}
 use Rattle.netlist.specs.Writing.{All}
 use Rattle.verdict.specs.Graph.{In}
-use Rattle.verdict.specs.Words.{numbers, select}
+use Rattle.check_spec.specs.Lists.{numbers, select}
 use Rattle.verdict.proofs.Words.{in-index}
 
 pub in-some : (x : ℕ) (xs : List ℕ) → In x xs → 1 ≤ length xs
