@@ -15,3 +15,4 @@ pub mod Row
 pub mod Writing
 pub mod Formed
 pub mod Back
+pub mod Cut
