@@ -179,8 +179,9 @@ module _ (seed n g : ℕ) (some-input : 1 ≤ n) (low : n ≤ 10) (few : g ≤ 4
   -- the marks show which signals are used
   marks-show : (y : ℕ) → high marks y ≡ some (eqb y) (usedBy gates)
   marks-show y =
+      let inside = used-in n gates (gates-formed n g seed some-input) in
       ap (λ (ms : List ℕ). high ms y) all
-      ∙ marked-alone 50 (usedBy gates) (All-map (λ v. suc v < n + length gates) (λ v. v < 50) (λ v b. omega (arith, gates-long n g seed)) (usedBy gates) (used-in n gates (gates-formed n g seed some-input))) y
+      ∙ marked-alone 50 (usedBy gates) (All-map (λ v. suc v < n + length gates) (λ v. v < 50) (λ v b. omega (arith, gates-long n g seed)) (usedBy gates) inside) y
 
   -- so those without a mark are the outputs
   outputs-free : free ≡ parsed seed n g .outputs

@@ -83,7 +83,8 @@ module _ (c : Counts) (code : List ℕ) where
       put-same (sym (stage-bytes (madeStage loaded) ∙ file-parts file.Stage gate output (c .inputs) [] (built loaded .gates) outs))
       (put-++ p
       (put-++ g
-      (put-++ (put-same (ap (bytesOf file.Stage output) (rails-of (signalsIn c code) (formed .outputs-formed))) o) z (omega (arith, h, outs-long, bytes-length file.Stage output 5 stage-output-width outs)))
+      (put-++ (put-same (ap (bytesOf file.Stage output) (rails-of (signalsIn c code) (formed .outputs-formed))) o) z
+      (omega (arith, h, outs-long, bytes-length file.Stage output 5 stage-output-width outs)))
       (omega (arith, f, bytes-length file.Stage gate 10 stage-gate-width (built loaded .gates))))
       refl)
     where
@@ -114,7 +115,8 @@ module _ (c : Counts) (code buffer : List ℕ) where
   told : (x : Found) → x ≡ search → verdictOf ≡ whenFound x (λ x. verdict 25 2 x 0) (laterVerdict (loaded c code) (length buffer))
   told x e =
       judged-by (loaded c code) (length buffer)
-      ∙ ap (λ (f : Found). whenFound f (λ x. verdict 25 2 x 0) (laterVerdict (loaded c code) (length buffer))) (ap (λ (m : ℕ). least (λ x. not (leadsOut (loaded c code) x)) 0 (c .inputs + m)) (gates-count c code) ∙ sym e)
+      ∙ ap (λ (f : Found). whenFound f (λ x. verdict 25 2 x 0) (laterVerdict (loaded c code) (length buffer)))
+      (ap (λ (m : ℕ). least (λ x. not (leadsOut (loaded c code) x)) 0 (c .inputs + m)) (gates-count c code) ∙ sym e)
 
   pub told-25 : (x : ℕ) → At x ≡ search → verdictOf ≡ verdict 25 2 x 0
   unfolding whenFound

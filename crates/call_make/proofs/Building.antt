@@ -189,7 +189,9 @@ module _ (c : Counts) (code : List ℕ) where
           record {
             so-far = record { gates = b .gates ++ m .gates; rails = b .rails ++ m .rails };
             within = omega arith;
-            left = ap (λ (i : ℕ). build (c .inputs) (record { gates = b .gates ++ m .gates; rails = b .rails ++ m .rails }) (drop i (operatorsIn c code))) (add-one k) ∙ sym (ap (build (c .inputs) b) step) ∙ t .left;
+            left =
+                ap (λ (i : ℕ). build (c .inputs) (record { gates = b .gates ++ m .gates; rails = b .rails ++ m .rails }) (drop i (operatorsIn c code))) (add-one k)
+                ∙ sym (ap (build (c .inputs) b) step) ∙ t .left;
             rails-are =
                 ap₂ pairsIn q s
                 ∙ rails-more rails (c .inputs + k) (r .rail0) (r .rail1) (omega (arith, t .long))

@@ -67,9 +67,6 @@ module _ (n a b : ℕ) (p : Bool) (e : p ≡ hasPin (2 * n + 2) a (2 * n)) where
       free-none t = rw (← e, f, ← h, g, ← i, t)
 
 module _ (n g x : ℕ) where
-  pub loop-none : g ≡ 0 → true ≡ noLoop n g x
-  loop-none e = rw e
-
   pub loop-one : g ≡ 1 → (p : Bool) → p ≡ hasPin (2 * n + 1) x (2 * n) → not p ≡ noLoop n g x
   loop-one e p h = rw (e, h)
 

@@ -3,7 +3,7 @@
 use Prim.Native.Nat.{ℕ, _+_}
 use mathlib.Core.Path.{_≡_, refl, sym, ap, ap₂, _∙_}
 use mathlib.Core.Logic.{⊎-elim}
-use mathlib.Core.List.{List, [], _∷_, _++_, append-assoc, map, map-id, flatMap}
+use mathlib.Core.List.{List, [], _∷_, _++_, append-assoc, map, flatMap}
 use Rattle.runs.proofs.Test.{same?, eqb-other}
 use Rattle.netlist.specs.declared.File.{File}
 use Rattle.netlist.specs.declared.File.the-variants as file
@@ -15,7 +15,7 @@ use Rattle.netlist.specs.Content.{Coded}
 use Rattle.netlist.specs.Writing as items
 use Rattle.netlist.specs.Writing.{Item, gate, output, care, gatesIn, outputsIn, careIn, outputPlaces, writeItem, writeItems, FileFits}
 use Rattle.netlist.proofs.Laid.{wiredAt}
-use Rattle.netlist.proofs.GatesFirst.{gatesIn-items, outputsIn-items, careIn-items}
+use Rattle.netlist.proofs.GatesFirst.{inOrder, gatesIn-items, outputsIn-items, careIn-items}
 use Rattle.netlist.proofs.ReadBack.{read-write, gates-write, outputs-write}
 use Rattle.verdict.specs.declared.Verdict.{Verdict}
 use Rattle.verdict.specs.Written.{Written, refuse, write}
@@ -24,7 +24,7 @@ use Rattle.check_spec.specs.Content.{Content, contentAt, contentOf, rail
 use Rattle.check_spec.specs.Writing.{rowFor, command, writeFile, leaving}
 
 abbrev pub itemsOf : Content → List Item
-itemsOf c = map care (c .care) ++ (map gate (c .gates) ++ map output (c .outputs))
+itemsOf c = inOrder (c .care) (c .gates) (c .outputs)
 
 -- commands one after the other are items one after the other
 part : {X : Type 0} (f : File) (item : X → Item) (bytes : X → List ℕ) → ((x : X) → bytes x ≡ writeItem f (item x)) → (l : List X) (later : List Item) (end : List ℕ)
@@ -68,13 +68,13 @@ reference-bytes c none = rw none (
 -- what stands among the items of a content
 module _ (c : Content) where
   pub gates-of : gatesIn (itemsOf c) ≡ c .gates
-  gates-of = gatesIn-items (λ g. g) (λ g. g) (λ vs. vs) (λ vs. vs) (c .care) (c .gates) (c .outputs) ∙ map-id (c .gates)
+  gates-of = gatesIn-items (c .care) (c .gates) (c .outputs)
 
   pub outputs-of : outputsIn (itemsOf c) ≡ c .outputs
-  outputs-of = outputsIn-items (λ g. g) (λ g. g) (λ vs. vs) (λ vs. vs) (c .care) (c .gates) (c .outputs) ∙ map-id (c .outputs)
+  outputs-of = outputsIn-items (c .care) (c .gates) (c .outputs)
 
   pub cares-of : careIn (itemsOf c) ≡ c .care
-  cares-of = careIn-items (λ g. g) (λ g. g) (λ vs. vs) (λ vs. vs) (c .care) (c .gates) (c .outputs)
+  cares-of = careIn-items (c .care) (c .gates) (c .outputs)
 
 pub wired : (f : File) (s : List ℕ) (at : ℕ) → operands s (at + 1) (railsOfOutput f) ≡ wiredAt f s at
 unfolding k.commandTable k.ownCommands k.formIn

@@ -3,24 +3,30 @@
 use Prim.Native.Nat.{ℕ, zero, suc, _+_, _-_, _≤_, _<_}
 use native.Mathlib.Omega.{arith}
 use native.Mathlib.Nat.{mod-lt}
-use mathlib.Core.Path.{_≡_, refl, sym, ap, _∙_}
+use mathlib.Core.Path.{_≡_, refl, ap, subst, _∙_}
+use mathlib.Core.Logic.{inl}
 use mathlib.Core.Bool.{not}
-use mathlib.Core.List.{List, [], _∷_}
+use mathlib.Core.List.{List, [], _∷_, map}
 use lib.ListN.{length, length-map}
 use lib.Dec.{eqb}
 use Rattle.runs.proofs.Test.{not-true}
 use Rattle.netlist.specs.declared.File.the-variants as file
-use Rattle.netlist.specs.Reading.{readable, readFile, referenceLimits}
-use Rattle.netlist.specs.Content.{Coded, Reference, referenceOf}
-use Rattle.netlist.specs.Writing.{All, placesOf, referenceItems, writeReference, FileFits}
+use Rattle.netlist.specs.Commands.{commandTable, ownCommands, formIn}
+use Rattle.netlist.specs.Reading.{nameable, referenceLimits}
+use Rattle.netlist.specs.Content.{Coded, Reference}
+use Rattle.netlist.specs.Writing.{All, writeReference}
 use Rattle.netlist.specs.Formed.{OperationFormed, FormedFrom, ReferenceFormed}
 use Rattle.netlist.proofs.Lists.{All-map, All-++}
-use Rattle.netlist.proofs.References.{reference-fits, read-writeReference, referenceOf-writeReference}
+use Rattle.netlist.proofs.Encoding.{operation-needs}
+use Rattle.netlist.proofs.Formed.{GatesFormed, OutputFormed}
 use Rattle.verdict.proofs.Names.{in-select}
 use Rattle.verdict.proofs.Words.{index-in}
 use Rattle.check_spec.specs.Lists.{numbers, select, some}
 use Rattle.check_spec.specs.Writing.{writeFile}
-use Rattle.check_spec.proofs.Back.{reference-content, reference-write}
+use Rattle.check_spec.specs.Verdicts.{reading}
+use Rattle.check_spec.specs.Demands.{Pass}
+use Rattle.check_spec.proofs.Back.{reference-write}
+use Rattle.check_spec.proofs.Formed.{Formed, written-reads}
 use Rattle.make_spec.specs.Make.{referenceRead}
 use Rattle.check_spec.specs.Loaded.{fromReference}
 use Rattle.make_spec.proofs.Lists.{all-in, among-in}
@@ -65,6 +71,20 @@ used-in below (c ∷ cs) h =
     (All-map (λ v. v < below) (λ v. suc v < below + suc (length cs)) (λ v l. omega arith) (c .operands) (h .0 .operands-in))
     (All-map (λ v. suc v < suc below + length cs) (λ v. suc v < below + suc (length cs)) (λ v l. omega arith) (usedBy cs) (used-in (suc below) cs (h .1)))
 
+-- gates and outputs as a file holds them
+gates-held : (n m k : ℕ) (cs : List Coded) → FormedFrom (n + k) cs → GatesFormed file.Reference n m k cs
+unfolding nameable commandTable ownCommands formIn
+gates-held n m k [] h = tt
+gates-held n m k (c ∷ cs) h =
+    let z : suc (n + k) ≡ n + suc k = omega arith in
+    let in-six = h .0 .operation-in in
+    (record { known = operation-needs (c .code) .2 (in-six .0) (in-six .1); whole = h .0 .whole; named = h .0 .operands-in }, gates-held n m (suc k) cs (rw z at (h .1)))
+
+outputs-held : (n m : ℕ) (vs : List ℕ) → All (λ v. v < n + m) vs → All (OutputFormed file.Reference n m) (map (λ v. v ∷ []) vs)
+unfolding nameable commandTable ownCommands formIn
+outputs-held n m [] h = tt
+outputs-held n m (v ∷ vs) h = (record { whole = refl; named = (h .0, tt) }, outputs-held n m vs (h .1))
+
 -- the outputs, and the reference with its signals as the code has them
 abbrev pub free : ℕ → ℕ → ℕ → List ℕ
 free seed n g = select (unused (gatesFrom n g seed)) (numbers 0 (n + g))
@@ -104,16 +124,17 @@ module _ (seed n g : ℕ) (some-input : 1 ≤ n) where
           outputs-formed = rw long (selected-below (unused (gatesFrom n g seed)) (n + g));
         }
 
-    fits : FileFits file.Reference referenceLimits n (referenceItems (parsed seed n g))
-    fits = reference-fits referenceLimits (parsed seed n g) (omega arith) (omega arith) formed
+    held : Formed file.Reference referenceLimits (drawnReference seed n g)
+    held = let z : n ≡ n + 0 = omega arith in rw (drawn-is seed n g) (record {
+      inputs-in = formed .inputs-in;
+      gates-in = formed .gates-in;
+      outputs-in = rw (length-map (free seed n g) (λ (v : ℕ). v ∷ [])) (formed .outputs-in);
+      gates = gates-held n _ 0 (gatesFrom n g seed) (subst (λ (b : ℕ). FormedFrom b (gatesFrom n g seed)) z (formed .gates-formed));
+      outputs = outputs-held n _ (free seed n g) (formed .outputs-formed);
+      care-in = tt;
+      care-stage = inl refl;
+    })
 
-    -- "Every such file is readable"
-    pub reads : readFile file.Reference referenceLimits (drawnBytes seed n g) ≡ readable (placesOf file.Reference n (referenceItems (parsed seed n g)))
-    reads = ap (readFile file.Reference referenceLimits) (bytes-are seed n g) ∙ read-writeReference referenceLimits (parsed seed n g) fits
-
-    -- as the reference that was drawn
-    pub reads-as : referenceRead (drawnBytes seed n g) ≡ drawnReference seed n g
-    reads-as =
-        let places = placesOf file.Reference n (referenceItems (parsed seed n g)) in
-        let back = ap (λ (b : List ℕ). referenceOf b places) (bytes-are seed n g) ∙ referenceOf-writeReference referenceLimits (parsed seed n g) fits in
-        reference-content referenceLimits (drawnBytes seed n g) places reads ∙ ap fromReference back ∙ sym (drawn-is seed n g)
+    -- "Every such file is readable", as the reference that was drawn
+    pub reads : Pass (reading file.Reference referenceLimits (drawnBytes seed n g)) × (referenceRead (drawnBytes seed n g) ≡ drawnReference seed n g)
+    reads = written-reads file.Reference referenceLimits (drawnReference seed n g) (record { words = omega arith; nets = omega arith }) held

@@ -10,6 +10,7 @@ use lib.ListN.{length, getD}
 use lib.Dec.{eqb, ltb}
 use borrow.Author.Tests.{le-ltb}
 use Rattle.runs.proofs.Test.{clash, true?}
+use Rattle.netlist.specs.declared.File.the-variants as file
 use Rattle.netlist.specs.declared.Found.{Found}
 use Rattle.netlist.specs.declared.Found.the-variants.{At, Nothing}
 use Rattle.netlist.specs.Commands.{whenFound}
@@ -26,6 +27,7 @@ use Rattle.check_spec.specs.Cases.{verdict, accepted, judge, first}
 use Rattle.check_spec.specs.Lists.{numbers, some}
 use Rattle.check_spec.specs.Rows.{noGate}
 use Rattle.check_spec.specs.Verdicts.{refusal}
+use Rattle.check_spec.proofs.Formed.{read-of}
 use Rattle.make_spec.specs.Make.{built, leadsOut, madeBytes, makeChecks, makeChecksOn}
 use Rattle.check_spec.specs.Loaded.{fromReference}
 use Rattle.make_spec.specs.Count.{operations}
@@ -35,7 +37,7 @@ use Rattle.make_spec.proofs.Making.{needed-counted, laterVerdict, judged-by}
 use Rattle.draw_spec.specs.Draws.{gatesFrom}
 use Rattle.draw_spec.specs.Drawn.{usedBy, unused, drawnReference, drawnBytes}
 use Rattle.draw_spec.specs.Demand.{Makeable}
-use Rattle.draw_spec.proofs.Formed.{parsed, free, gates-long, formed, reads, reads-as}
+use Rattle.draw_spec.proofs.Formed.{parsed, free, gates-long, formed, reads}
 
 -- ---- a reference all of whose signals lead out
 
@@ -58,7 +60,8 @@ not-25 v (inl e) h = let z : _≡_ {A = ℕ} 0 25 = sym (ap (λ (v : Verdict). v
 not-25 v (inr e) h = let z : _≡_ {A = ℕ} 27 25 = sym (ap (λ (v : Verdict). v .number) e) ∙ h in omega arith
 
 -- 25 finds nothing, nor does 26 where the gates are few
-module _ (r : Reference) (well : ReferenceFormed referenceLimits r) (lead : (x : ℕ) → x < r .inputs + length (r .gates) → leadsOut (fromReference r) x ≡ true) (few : length (r .gates) ≤ 128) where
+module _ (r : Reference) (well : ReferenceFormed referenceLimits r) (few : length (r .gates) ≤ 128)
+    (lead : (x : ℕ) → x < r .inputs + length (r .gates) → leadsOut (fromReference r) x ≡ true) where
   none-25 : (x : Found) → least (λ x. not (leadsOut (fromReference r) x)) 0 (r .inputs + length (r .gates)) ≡ x → x ≡ Nothing
   none-25 (At x) e =
       let s = least-says (λ x. not (leadsOut (fromReference r) x)) 0 (r .inputs + length (r .gates)) (At x) e in
@@ -120,9 +123,9 @@ module _ (seed n g : ℕ) (some-input : 1 ≤ n) (low : n ≤ 10) (few : g ≤ 4
   pub makeable : Makeable seed n g (drawnBytes seed n g)
   unfolding judge first refusal drawnReference
   makeable =
-      let read = reads seed n g some-input low few outputs in
-      let is = reads-as seed n g some-input low few outputs in
+      let h = reads seed n g some-input low few outputs in
+      let read = read-of file.Reference referenceLimits (drawnBytes seed n g) (h .0) .1 in
       let long = gates-long n g seed in
       let all-lead : (x : ℕ) → x < n + length gates → leadsOut (fromReference (parsed seed n g)) x ≡ true = λ x l. leads-from (n + g) x (omega arith) (omega arith) in
-      let made : (room : ℕ) → MadeOr27 (judge (makeChecksOn (drawnBytes seed n g) room)) = λ room. rw (is, read) (made-or-27 (parsed seed n g) well all-lead (omega arith) room) in
-      record { readable = (rw read tt, is); never-25 = λ room. not-25 (judge (makeChecksOn (drawnBytes seed n g) room)) (made room); made = made }
+      let made : (room : ℕ) → MadeOr27 (judge (makeChecksOn (drawnBytes seed n g) room)) = λ room. rw (h .1, read) (made-or-27 (parsed seed n g) well (omega arith) all-lead room) in
+      record { readable = h; never-25 = λ room. not-25 (judge (makeChecksOn (drawnBytes seed n g) room)) (made room); made = made }

@@ -260,7 +260,8 @@ module _ (k : Binary) (r : Row) (a b : List ℕ) where
   gate-set p q ha hb =
       sets-at (operate (codeOf k) p q)
       ∙ implies-out (level p a0 a1 && level q b0 b1) _
-      (four-out (setWhere k p q) (every-out (λ q. ofFour (setWhere k p q)) (every-out (λ p. every (λ q. ofFour (setWhere k p q))) (all-out (λ k. every (λ p. every (λ q. ofFour (setWhere k p q)))) all-where k) p) q) a0 a1 b0 b1)
+      (four-out (setWhere k p q) (every-out (λ q. ofFour (setWhere k p q))
+      (every-out (λ p. every (λ q. ofFour (setWhere k p q))) (all-out (λ k. every (λ p. every (λ q. ofFour (setWhere k p q)))) all-where k) p) q) a0 a1 b0 b1)
       (and-in (level p a0 a1) (level q b0 b1) (sym (level-at p a) ∙ ha) (sym (level-at q b) ∙ hb))
 
   not-and : (x y : Bool) → ¬ ((x ≡ true) × (y ≡ true)) → not (x && y) ≡ true

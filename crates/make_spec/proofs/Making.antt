@@ -185,7 +185,8 @@ module _ (reference : List ℕ) where
         made = λ n.
             let z : judge checks .number ≡ 0 = ap (λ (v : Verdict). v .number) (sym is) ∙ n in
             let a = accepts (length buffer) z in
-            let t : take (r .count) left ≡ madeBytes R = ap (λ (x : Written). take (x .count) (x .buffer)) (e ∙ leaves-bytes (judge checks) z (madeBytes R) buffer) ∙ holding-take (madeBytes R) buffer in
+            let w = e ∙ leaves-bytes (judge checks) z (madeBytes R) buffer in
+            let t : take (r .count) left ≡ madeBytes R = ap (λ (x : Written). take (x .count) (x .buffer)) w ∙ holding-take (madeBytes R) buffer in
             (is ∙ a .2, subst (λ (b : List ℕ). MadeFrom (files b reference)) (sym t) (made (length buffer) (a .0) (a .1)));
       }
 

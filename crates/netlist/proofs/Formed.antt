@@ -10,7 +10,7 @@ use Rattle.netlist.specs.Bytes.{byte, operands}
 use Rattle.netlist.specs.Commands.{needed}
 use Rattle.netlist.specs.Reading.{nameable, Places, readFile, readable}
 use Rattle.netlist.specs.Content.{Coded, codedAt}
-use Rattle.netlist.specs.Writing.{widthFor, operandCount, roleFor, Item, gate, output, care, gatesIn, outputsIn, All, ItemsFit}
+use Rattle.netlist.specs.Writing.{widthFor, operandCount, roleFor, Item, gate, output, care, gatesIn, outputsIn, All}
 use Rattle.netlist.proofs.Operands.{length-operands}
 use Rattle.netlist.proofs.Laid.{Laid, Named, wiredAt, laid-code, laid-operands, laid-gates, laid-outputs, length-gatePlaces}
 use Rattle.netlist.proofs.Walk.{readable-laid}
@@ -37,16 +37,6 @@ abbrev pub ItemsFormed : File → ℕ → ℕ → ℕ → List Item → Type 0
 ItemsFormed f n g k items = GatesFormed f n g k (gatesIn items) × All (OutputFormed f n g) (outputsIn items)
 
 module _ (f : File) (n g : ℕ) where
-  pub fits-formed : (k : ℕ) (items : List Item) → ItemsFit f n g k items → ItemsFormed f n g k items
-  fits-formed k [] h = (tt, tt)
-  fits-formed k (gate c ∷ items) h =
-      let r = fits-formed (suc k) items (h .1) in
-      ((record { known = h .0 .known; whole = h .0 .whole; named = h .0 .named }, r .0), r .1)
-  fits-formed k (output vs ∷ items) h =
-      let r = fits-formed k items (h .1) in
-      (r .0, (record { whole = h .0 .whole; named = rw (output-names f n g k) (h .0 .named) }, r .1))
-  fits-formed k (care w ∷ items) h = fits-formed k items (h .1)
-
   laid-formed : (s : List ℕ) (at k : ℕ) (items : List Item) → Laid f s at items → Named f n g k items → ItemsFormed f n g k items
   laid-formed s at k [] h m = (tt, tt)
   laid-formed s at k (gate c ∷ items) h m =

@@ -1,23 +1,21 @@
--- Files with the care words first and the gates before the outputs: a content of care words, gates G and outputs O that is written is what
--- its places show, and readable bytes are what writing their content gives.
+-- Files with the care words first and the gates before the outputs: readable bytes are what writing their content gives.
 -- Assumes nothing.
 use Prim.Native.Nat.{ℕ, zero, suc, _+_, _*_, _≤_, _<_}
 use native.Mathlib.Omega.{arith}
-use mathlib.Core.Path.{_≡_, refl, sym, ap, ap₂, subst, _∙_}
-use mathlib.Core.List.{List, [], _∷_, _++_, map, map-map}
+use mathlib.Core.Path.{_≡_, refl, sym, ap, subst, _∙_}
+use mathlib.Core.List.{List, [], _∷_, _++_, map}
 use lib.ListN.{length, getD}
 use Rattle.netlist.specs.Types.{File, Limits}
 use Rattle.netlist.specs.Types.file
 use Rattle.netlist.specs.Types.sort
 use Rattle.netlist.specs.Reading.{Places, readFile, readable}
 use Rattle.netlist.specs.Content.{Coded, codedAt}
-use Rattle.netlist.specs.Writing.{widthFor, Item, gate, output, care, gatesIn, outputsIn, careIn, gatePlaces, outputPlaces, writeFile, All, FileFits}
-use Rattle.netlist.proofs.Lists.{Bytes, map-back, map-again}
+use Rattle.netlist.specs.Writing.{widthFor, Item, gate, output, care, gatesIn, outputsIn, careIn, gatePlaces, outputPlaces, writeFile}
+use Rattle.netlist.proofs.Lists.{Bytes}
 use Rattle.netlist.proofs.Encoding.{width-output, width-care}
 use Rattle.netlist.proofs.Laid.{wiredAt, length-gatePlaces}
-use Rattle.netlist.proofs.ReadBack.{gates-write, outputs-write, write-read}
+use Rattle.netlist.proofs.ReadBack.{write-read}
 use Rattle.netlist.proofs.Readable.{readable-read}
-use Rattle.netlist.proofs.Formed.{GatesFormed, OutputFormed, readable-formed}
 
 -- ---- items with the gates first
 
@@ -88,60 +86,34 @@ in-order f at (output vs ∷ items) c h =
     let n = none-left f at (careIn items) (c .1 0 (omega arith)) in
     gates-first f at (output vs ∷ items) n h ∙ rw n
 
--- ---- contents with gates G and outputs O: to them from coded gates and lists of operands, and back
+-- ---- a content with the care words and then the gates first
 
-module _ {G O : Type 0} (toG : Coded → G) (fromG : G → Coded) (toO : List ℕ → O) (fromO : O → List ℕ) where
-  abbrev pub itemsOf : List ℕ → List G → List O → List Item
-  itemsOf ws gs os = map care ws ++ (map (λ g. gate (fromG g)) gs ++ map (λ o. output (fromO o)) os)
+abbrev pub inOrder : List ℕ → List Coded → List (List ℕ) → List Item
+inOrder ws gs os = map care ws ++ (map gate gs ++ map output os)
 
-  pub gatesIn-items : (ws : List ℕ) (gs : List G) (os : List O) → gatesIn (itemsOf ws gs os) ≡ map fromG gs
-  gatesIn-items (w ∷ ws) gs os = gatesIn-items ws gs os
-  gatesIn-items [] [] [] = refl
-  gatesIn-items [] [] (o ∷ os) = gatesIn-items [] [] os
-  gatesIn-items [] (g ∷ gs) os = ap {B = List Coded} (λ l. fromG g ∷ l) (gatesIn-items [] gs os)
+pub gatesIn-items : (ws : List ℕ) (gs : List Coded) (os : List (List ℕ)) → gatesIn (inOrder ws gs os) ≡ gs
+gatesIn-items (w ∷ ws) gs os = gatesIn-items ws gs os
+gatesIn-items [] [] [] = refl
+gatesIn-items [] [] (o ∷ os) = gatesIn-items [] [] os
+gatesIn-items [] (g ∷ gs) os = ap {B = List Coded} (λ l. g ∷ l) (gatesIn-items [] gs os)
 
-  pub outputsIn-items : (ws : List ℕ) (gs : List G) (os : List O) → outputsIn (itemsOf ws gs os) ≡ map fromO os
-  outputsIn-items (w ∷ ws) gs os = outputsIn-items ws gs os
-  outputsIn-items [] [] [] = refl
-  outputsIn-items [] [] (o ∷ os) = ap {B = List (List ℕ)} (λ l. fromO o ∷ l) (outputsIn-items [] [] os)
-  outputsIn-items [] (g ∷ gs) os = outputsIn-items [] gs os
+pub outputsIn-items : (ws : List ℕ) (gs : List Coded) (os : List (List ℕ)) → outputsIn (inOrder ws gs os) ≡ os
+outputsIn-items (w ∷ ws) gs os = outputsIn-items ws gs os
+outputsIn-items [] [] [] = refl
+outputsIn-items [] [] (o ∷ os) = ap {B = List (List ℕ)} (λ l. o ∷ l) (outputsIn-items [] [] os)
+outputsIn-items [] (g ∷ gs) os = outputsIn-items [] gs os
 
-  pub careIn-items : (ws : List ℕ) (gs : List G) (os : List O) → careIn (itemsOf ws gs os) ≡ ws
-  careIn-items (w ∷ ws) gs os = ap {B = List ℕ} (λ l. w ∷ l) (careIn-items ws gs os)
-  careIn-items [] [] [] = refl
-  careIn-items [] [] (o ∷ os) = careIn-items [] [] os
-  careIn-items [] (g ∷ gs) os = careIn-items [] gs os
+pub careIn-items : (ws : List ℕ) (gs : List Coded) (os : List (List ℕ)) → careIn (inOrder ws gs os) ≡ ws
+careIn-items (w ∷ ws) gs os = ap {B = List ℕ} (λ l. w ∷ l) (careIn-items ws gs os)
+careIn-items [] [] [] = refl
+careIn-items [] [] (o ∷ os) = careIn-items [] [] os
+careIn-items [] (g ∷ gs) os = careIn-items [] gs os
 
-  module _ (f : File) (most : Limits) where
-    -- a content that is written is what its places show
-    module _ (n : ℕ) (ws : List ℕ) (gs : List G) (os : List O) (fits : FileFits f most n (itemsOf ws gs os)) where
-      pub gates-back : All (λ g. toG (fromG g) ≡ g) gs → map (λ p. toG (codedAt f (writeFile f n (itemsOf ws gs os)) p)) (gatePlaces f 2 (itemsOf ws gs os)) ≡ gs
-      gates-back h =
-          sym (map-map toG (codedAt f (writeFile f n (itemsOf ws gs os))) (gatePlaces f 2 (itemsOf ws gs os)))
-          ∙ ap (map toG) (gates-write f most n (itemsOf ws gs os) fits ∙ gatesIn-items ws gs os)
-          ∙ map-back toG fromG gs h
-
-      pub outputs-back : All (λ o. toO (fromO o) ≡ o) os → map (λ p. toO (wiredAt f (writeFile f n (itemsOf ws gs os)) p)) (outputPlaces f 2 (itemsOf ws gs os)) ≡ os
-      outputs-back h =
-          sym (map-map toO (wiredAt f (writeFile f n (itemsOf ws gs os))) (outputPlaces f 2 (itemsOf ws gs os)))
-          ∙ ap (map toO) (outputs-write f most n (itemsOf ws gs os) fits ∙ outputsIn-items ws gs os)
-          ∙ map-back toO fromO os h
-
-    -- bytes that are readable, with the care words and then the gates first, are what writing their content gives
-    module _ (s : List ℕ) (small : Bytes s) (p : Places) (e : readFile f most s ≡ readable p) where
-      pub write-back : CareFirst f 2 (length (p .care)) (p .gates) (p .outputs) → AllBefore (p .gates) (p .outputs) →
-          ((cs : List Coded) → GatesFormed f (p .inputs) (length (p .gates)) 0 cs → All (λ c. fromG (toG c) ≡ c) cs) →
-          ((vss : List (List ℕ)) → All (OutputFormed f (p .inputs) (length (p .gates))) vss → All (λ vs. fromO (toO vs) ≡ vs) vss) →
-          s ≡ writeFile f (p .inputs) (itemsOf (p .care) (map (λ at. toG (codedAt f s at)) (p .gates)) (map (λ at. toO (wiredAt f s at)) (p .outputs)))
-      write-back before first codes wires =
-          let h = write-read f most s p e in
-          let formed = readable-formed f most s p e in
-          let ordered = subst (λ (x : Places). AllBefore (x .gates) (x .outputs)) (h .item-places) first in
-          let leading = subst (λ (x : Places). CareFirst f 2 (length (x .care)) (x .gates) (x .outputs)) (h .item-places) before in
-          h .bytes small
-          ∙ ap (writeFile f (p .inputs))
-          (in-order f 2 (h .items) leading ordered
-          ∙ sym (ap₂ (λ (x y : List Item). map care (p .care) ++ (x ++ y))
-          (map-again gate fromG toG (codedAt f s) (p .gates) (codes (map (codedAt f s) (p .gates)) (formed .0)) ∙ ap (map gate) (h .gates))
-          (map-again output fromO toO (wiredAt f s) (p .outputs) (wires (map (wiredAt f s) (p .outputs)) (formed .1)) ∙ ap (map output) (h .outputs))
-          ∙ ap (λ (ws : List ℕ). map care ws ++ (map gate (gatesIn (h .items)) ++ map output (outputsIn (h .items)))) (h .cares)))
+-- readable bytes in that order are what writing their content gives
+pub write-back : (f : File) (most : Limits) (s : List ℕ) (p : Places) → readFile f most s ≡ readable p → Bytes s → CareFirst f 2 (length (p .care)) (p .gates) (p .outputs) →
+    AllBefore (p .gates) (p .outputs) → s ≡ writeFile f (p .inputs) (inOrder (p .care) (map (codedAt f s) (p .gates)) (map (wiredAt f s) (p .outputs)))
+write-back f most s p e small before first =
+    let h = write-read f most s p e in
+    let ordered = subst (λ (x : Places). AllBefore (x .gates) (x .outputs)) (h .item-places) first in
+    let leading = subst (λ (x : Places). CareFirst f 2 (length (x .care)) (x .gates) (x .outputs)) (h .item-places) before in
+    h .bytes small ∙ ap (writeFile f (p .inputs)) (in-order f 2 (h .items) leading ordered ∙ (λ i. inOrder (sym (h .cares) i) (sym (h .gates) i) (sym (h .outputs) i)))

@@ -13,10 +13,6 @@ pub All-++ : {X : Type 0} (P : X → Type 0) (xs ys : List X) → All P xs → A
 All-++ P [] ys h k = k
 All-++ P (x ∷ xs) ys h k = (h .0, All-++ P xs ys (h .1) k)
 
-pub All-every : {X : Type 0} (P : X → Type 0) → ((x : X) → P x) → (xs : List X) → All P xs
-All-every P h [] = tt
-All-every P h (x ∷ xs) = (h x, All-every P h xs)
-
 pub All-map : {X : Type 0} (P Q : X → Type 0) → ((x : X) → P x → Q x) → (xs : List X) → All P xs → All Q xs
 All-map P Q f [] h = tt
 All-map P Q f (x ∷ xs) h = (f x (h .0), All-map P Q f xs (h .1))

@@ -112,11 +112,6 @@ length-written zero vs = refl
 length-written (suc m) [] = omega (arith, length-written m [])
 length-written (suc m) (v ∷ vs) = omega (arith, length-written m vs)
 
-pub bytes-written : (m : ℕ) (vs : List ℕ) → All (λ v. v < 65536) vs → Bytes (writeOperands m vs)
-bytes-written zero vs h = tt
-bytes-written (suc m) [] h = (omega arith, (omega arith, bytes-written m [] tt))
-bytes-written (suc m) (v ∷ vs) h = (omega arith, (omega (arith, h .0), bytes-written m vs (h .1)))
-
 module _ (s : List ℕ) (at v : ℕ) (tail : List ℕ) (e : drop at s ≡ v % 256 ∷ v / 256 ∷ tail) where
   operand-written : operand s at ≡ v
   unfolding operand

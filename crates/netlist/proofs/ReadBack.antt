@@ -15,8 +15,8 @@ use Rattle.netlist.specs.Reading.{nameable, Places, readFile, readable}
 use Rattle.netlist.specs.Content.{Coded, codedAt}
 use Rattle.netlist.specs.Writing.{commandByte, widthFor, operandCount, roleFor, Item, gate, output, care, gatesIn, outputsIn, careIn, gatePlaces, outputPlaces, placesOf}
 use Rattle.netlist.specs.Writing.{writeOperands, writeItem, writeItems, writeFile, All, GateFits, OutputFits, CareFits, ItemsFit, FileFits}
-use Rattle.netlist.proofs.Lists.{Bytes, All-++, All-map, byte-small}
-use Rattle.netlist.proofs.Operands.{bytes-written, operand-small, length-operands, each-operands, byte-after, drop-after, length-after}
+use Rattle.netlist.proofs.Lists.{Bytes, byte-small}
+use Rattle.netlist.proofs.Operands.{operand-small, length-operands, each-operands, byte-after, drop-after, length-after}
 use Rattle.netlist.proofs.Operands.{length-written, operands-written, fits-written, drop-one, drop-two, written-operands}
 use Rattle.netlist.proofs.Encoding.{byte-for, sort-for, care-form, width-gate, width-output, width-care, needed-in}
 use Rattle.netlist.proofs.Laid.{GateLaid, OutputLaid, CareLaid, Laid, Named, FileLaid, wiredAt, laid-code, laid-operands, laid-used, laid-bare, laid-gates, laid-outputs, laid-length}
@@ -108,24 +108,6 @@ module _ (f : File) (s : List ℕ) where
   written-laid n g k at (care w ∷ items) h e =
       let r = written-laid n g k (at + widthFor f sort.Care) items (h .1) (items-after at (care w) items e) in
       ((written-care n g k at (writeItems f items ++ (0 ∷ [])) w (h .0) (item-first at (care w) items e), r .0), (h .0 .u16, r .1))
-
-command-bytes : (f : File) → (commandByte f sort.Gate < 256) × (commandByte f sort.Output < 256)
-command-bytes file.Stage = omega arith
-command-bytes file.Reference = omega arith
-
-bytes-items : (f : File) (n g k : ℕ) (items : List Item) → ItemsFit f n g k items → Bytes (writeItems f items)
-bytes-items f n g k [] h = tt
-bytes-items f n g k (gate c ∷ items) h =
-    let wide : All (λ v. v < 65536) (c .operands) = All-map (λ v. v < absent) (λ v. v < 65536) (λ v l. omega arith) (c .operands) (h .0 .used) in
-    let m = operandCount f sort.Gate in
-    let rest = bytes-items f n g (suc k) items (h .1) in
-    (command-bytes f .0, (h .0 .code-byte, All-++ (λ b. b < 256) (writeOperands m (c .operands)) (writeItems f items) (bytes-written m (c .operands) wide) rest))
-bytes-items f n g k (output vs ∷ items) h =
-    let m = operandCount f sort.Output in
-    (command-bytes f .1, All-++ (λ b. b < 256) (writeOperands m vs) (writeItems f items) (bytes-written m vs (h .0 .u16s)) (bytes-items f n g k items (h .1)))
-bytes-items f n g k (care w ∷ items) h =
-    let m = operandCount f sort.Care in
-    (omega arith, All-++ (λ b. b < 256) (writeOperands m (w ∷ [])) (writeItems f items) (bytes-written m (w ∷ []) (h .0 .u16, tt)) (bytes-items f n g k items (h .1)))
 
 -- ---- items that are laid are what is written
 
@@ -247,11 +229,6 @@ module _ (f : File) (most : Limits) where
 
     pub outputs-write : map (wiredAt f (writeFile f n items)) (outputPlaces f 2 items) ≡ outputsIn items
     outputs-write = laid-outputs f (writeFile f n items) 2 items (written-file n items fits .laid)
-
-    -- and its elements are bytes
-    pub bytes-write : Bytes (writeFile f n items)
-    unfolding writeFile
-    bytes-write = (omega arith, (fits .inputs-byte, All-++ (λ b. b < 256) (writeItems f items) (0 ∷ []) (bytes-items f n (length (gatesIn items)) 0 items (fits .items-fit)) (omega arith, tt)))
 
   -- ---- what is readable was written
 

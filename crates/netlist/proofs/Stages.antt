@@ -5,7 +5,7 @@ use Prim.Native.Nat.{ℕ, suc, _+_, _*_, _≤_, _<_}
 use native.Mathlib.Omega.{arith}
 use mathlib.Core.Path.{_≡_, refl, sym, ap, ap₂, subst, _∙_, fun-ext}
 use mathlib.Core.Bool.{Bool, true, false}
-use mathlib.Core.List.{List, [], _∷_, map, map-map}
+use mathlib.Core.List.{List, [], _∷_, _++_, map, map-map}
 use lib.ListN.{length, getD, length-map}
 use Rattle.gates.specs.Cell.{pinCount, kindByte}
 use Rattle.gates.proofs.Ranges.{kind-known}
@@ -16,15 +16,14 @@ use Rattle.netlist.specs.Bytes.{operands}
 use Rattle.netlist.specs.Commands.{commandTable, ownCommands, formIn, needed}
 use Rattle.netlist.specs.Reading.{nameable, Places, readFile, readable}
 use Rattle.netlist.specs.Content.{Coded, codedAt, Gate, Pair, Stage, gateOf, pairAt, stageOf}
-use Rattle.netlist.specs.Writing.{roleFor, care, careIn, placesOf, All, FileFits, codedGate, pairOperands, stageItems, writeStage}
+use Rattle.netlist.specs.Writing.{roleFor, Item, gate, output, care, writeFile, All, codedGate, pairOperands, writeStage}
 use Rattle.netlist.specs.Formed.{CellFormed, RailsFormed, StageFormed}
-use Rattle.netlist.proofs.Lists.{Bytes, All-every, All-map}
+use Rattle.netlist.proofs.Lists.{Bytes, All-map, map-again}
 use Rattle.netlist.proofs.Encoding.{KindOfCell, kind-in, kind-needs}
 use Rattle.netlist.proofs.Laid.{wiredAt}
-use Rattle.netlist.proofs.ReadBack.{read-write}
 use Rattle.netlist.proofs.Readable.{readable-read, named-pin, named-rail}
 use Rattle.netlist.proofs.Formed.{GatesFormed, OutputFormed, readable-formed}
-use Rattle.netlist.proofs.GatesFirst.{AllBefore, CareFirst, none-first, careIn-items, gates-back, outputs-back, write-back}
+use Rattle.netlist.proofs.GatesFirst.{AllBefore, none-first, write-back}
 
 -- ---- gates and outputs, coded and as a stage has them
 
@@ -95,43 +94,17 @@ module _ (n g : ℕ) where
 pairs-view : (s os : List ℕ) → map (pairAt s) os ≡ map (λ p. pairOf (wiredAt file.Stage s p)) os
 pairs-view s os = ap (λ (h : ℕ → Pair). map h os) (fun-ext (λ p. sym (pairAt-wiredAt s p)))
 
-abbrev stage : ℕ → List Gate → List Pair → List ℕ → Stage
-stage n gs os ws = record { inputs = n; gates = gs; outputs = os; care = ws }
-
--- the cells of a stage are among the 27
-abbrev pub CellsIn : List Gate → Type 0
-CellsIn = All (λ g. (1 ≤ g .cell) × (g .cell ≤ 27))
-
-cells-back : (gs : List Gate) → CellsIn gs → All (λ g. gateOf (codedGate g) ≡ g) gs
-cells-back = All-map (λ g. (1 ≤ g .cell) × (g .cell ≤ 27)) (λ g. gateOf (codedGate g) ≡ g) (λ g h. cell-of (g .hold) (g .cell) (g .pins) (h .0) (h .1))
-
--- a stage that is written is read back
-module _ (most : Limits) (c : Stage) (fits : FileFits file.Stage most (c .inputs) (stageItems c)) where
-  pub read-writeStage : readFile file.Stage most (writeStage c) ≡ readable (placesOf file.Stage (c .inputs) (stageItems c))
-  unfolding writeStage
-  read-writeStage = read-write file.Stage most (c .inputs) (stageItems c) fits
-
-  pub stageOf-writeStage : CellsIn (c .gates) → stageOf (writeStage c) (placesOf file.Stage (c .inputs) (stageItems c)) ≡ c
-  unfolding writeStage stageOf
-  stageOf-writeStage cells =
-      ap₂ (λ (gs : List Gate) (os : List Pair). stage (c .inputs) gs os (careIn (stageItems c)))
-      (gates-back gateOf codedGate pairOf pairOperands file.Stage most (c .inputs) (c .care) (c .gates) (c .outputs) fits (cells-back (c .gates) cells))
-      (pairs-view (writeStage c) (placesOf file.Stage (c .inputs) (stageItems c) .outputs)
-      ∙ outputs-back gateOf codedGate pairOf pairOperands file.Stage most (c .inputs) (c .care) (c .gates) (c .outputs) fits (All-every (λ p. pairOf (pairOperands p) ≡ p) (λ p. refl) (c .outputs)))
-      ∙ ap (stage (c .inputs) (c .gates) (c .outputs)) (careIn-items gateOf codedGate pairOf pairOperands (c .care) (c .gates) (c .outputs))
-
 module _ (most : Limits) (s : List ℕ) (p : Places) (e : readFile file.Stage most s ≡ readable p) where
-  -- readable bytes with the care words and then the gates first are what writing their stage gives
-  pub writeStage-stageOf : Bytes s → CareFirst file.Stage 2 (length (p .care)) (p .gates) (p .outputs) → AllBefore (p .gates) (p .outputs) →
-      s ≡ writeStage (stageOf s p)
-  unfolding writeStage stageOf
-  writeStage-stageOf small before first =
-      rw (pairs-view s (p .outputs))
-      (write-back gateOf codedGate pairOf pairOperands file.Stage most s small p e before first (known-again (p .inputs) (length (p .gates)) 0) (wired-again (p .inputs) (length (p .gates))))
-
-  -- so are those of a stage without care words, with the gates first
+  -- readable bytes without care words, with the gates first, are what writing their stage gives
   pub writeStage-no-care : Bytes s → p .care ≡ [] → AllBefore (p .gates) (p .outputs) → s ≡ writeStage (stageOf s p)
-  writeStage-no-care small none first = writeStage-stageOf small (none-first file.Stage most s p e none) first
+  unfolding writeStage stageOf
+  writeStage-no-care small none first =
+      let formed = readable-formed file.Stage most s p e in
+      write-back file.Stage most s p e small (none-first file.Stage most s p e none) first
+      ∙ ap (writeFile file.Stage (p .inputs)) (ap₂ (λ (x y : List Item). map care (p .care) ++ (x ++ y))
+      (sym (map-again gate codedGate gateOf (codedAt file.Stage s) (p .gates) (known-again (p .inputs) (length (p .gates)) 0 (map (codedAt file.Stage s) (p .gates)) (formed .0))))
+      (sym (map-again output pairOperands pairOf (wiredAt file.Stage s) (p .outputs) (wired-again (p .inputs) (length (p .gates)) (map (wiredAt file.Stage s) (p .outputs)) (formed .1)))
+      ∙ ap (map (λ o. output (pairOperands o))) (sym (pairs-view s (p .outputs)))))
 
   pub stage-formed : StageFormed most (stageOf s p)
   unfolding stageOf

@@ -56,8 +56,11 @@ loopless n gates = allBelow (λ g. not (reachesItself (netOf (bare n gates)) (2 
 of-loopless : (c : Content) → loopless (c .inputs) (c .gates) ≡ true → LoopFree (netOf c)
 unfolding loopless reachesItself
 of-loopless c e net i =
-    let z : 2 * c .inputs + (net - 2 * c .inputs) ≡ net = omega (arith, i .0) in
-    rw z at (of-not (reachesItself (netOf c) (2 * c .inputs + (net - 2 * c .inputs))) (below-at (λ g. not (reachesItself (netOf (bare (c .inputs) (c .gates))) (2 * c .inputs + g))) (length (c .gates)) (net - 2 * c .inputs) e (omega (arith, i .0, i .1))))
+    let n = c .inputs in
+    let k = net - 2 * n in
+    let z : 2 * n + k ≡ net = omega (arith, i .0) in
+    let gates = c .gates in
+    rw z at (of-not (reachesItself (netOf c) (2 * n + k)) (below-at (λ g. not (reachesItself (netOf (bare n gates)) (2 * n + g))) (length gates) k e (omega (arith, i .0, i .1))))
 
 to-loopless : (c : Content) → LoopFree (netOf c) → loopless (c .inputs) (c .gates) ≡ true
 unfolding loopless reachesItself

@@ -135,7 +135,8 @@ module _ (c : Stage) where
   pub stage-length : length (writeStage c) ≡ 3 + 3 * length (c .care) + 10 * length (c .gates) + 5 * length (c .outputs)
   unfolding writeStage
   stage-length =
-      file-length file.Stage gateItem pairItem (c .inputs) (c .care) (c .gates) (c .outputs) 10 5 (bytes-length file.Stage care 3 care-width (c .care)) (λ g. stage-gate-width (codedGate g)) (λ p. stage-output-width (pairOperands p))
+      file-length file.Stage gateItem pairItem (c .inputs) (c .care) (c .gates) (c .outputs) 10 5 (bytes-length file.Stage care 3 care-width (c .care))
+      (λ g. stage-gate-width (codedGate g)) (λ p. stage-output-width (pairOperands p))
 
 module _ (r : Reference) where
   pub reference-parts : writeReference r ≡
