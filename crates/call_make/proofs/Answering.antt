@@ -44,14 +44,14 @@ use Rattle.circuit.specs.Reference.{signalIn, signalsIn, operatorIn, operatorsI
 use Rattle.circuit.proofs.Tabulate.{length-tabulate}
 use Rattle.circuit_load.specs.Load.{HoldsReference}
 use Rattle.circuit_load.proofs.Reading.{was-refused, reference-held}
-use Rattle.write_made.specs.Rails.{pairStored, pairsIn}
+use Rattle.write_made.specs.Rails.{contentIn, pairStored, pairsIn}
 use Rattle.call_make.proofs.Building.{signal-pair}
 
 -- ---- the stage
 
 module _ (c : Counts) (code : List ℕ) where
   abbrev loaded : Content
-  loaded = fromReference (referenceIn c code)
+  loaded = contentIn c code
 
   outputs-count : length (signalsIn c code) ≡ c .outputs
   unfolding signalsIn

@@ -69,6 +69,10 @@ rail-at true false net = omega arith
 rail-at false true net = omega arith
 rail-at false false net = omega arith
 
+pub bit-small : (x : Bool) → bit x < 2
+bit-small true = omega arith
+bit-small false = omega arith
+
 pub xor-twice : (t x : Bool) → xor t (xor t x) ≡ x
 xor-twice true true = refl
 xor-twice true false = refl

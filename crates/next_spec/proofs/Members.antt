@@ -212,8 +212,7 @@ module _ (c : Content) (i : InFamily c) where
 -- so it is listed
 pub in-listed : (c : Content) → InFamily c → (z : ℕ) × Listed (c .inputs) (length (c .gates)) z × (stageNumbered (c .inputs) (length (c .gates)) z ≡ c)
 in-listed c i =
-    let k = numbered c i in
-    (
+    let k = numbered c i in (
       k .0,
       record {
         shaped = shaped c i;
