@@ -363,11 +363,11 @@ module _ (order : WordOrder) (c : Content) where
       hold-passes few hold e =
           let p = passed-alike (rises-alike few alike) e in
           let clean : (w : ℕ) → IsWord c w → CleanFall c w = λ w i. hold-clean c r free w hold (record {
-            right = swept-passes c order 13 1 _ _ .0 (p .0) w i;
-            complete = swept-passes c order 14 1 _ _ .0 (p .1 .0) w i;
-            observable = swept-passes c order 15 1 _ _ .0 (p .1 .1 .0) w i;
+            right = swept-passes c order 13 1 (length (c .outputs)) (wrong c r) .0 (p .0) w i;
+            complete = swept-passes c order 14 1 (c .inputs) (incomplete c) .0 (p .1 .0) w i;
+            observable = swept-passes c order 15 1 (length (c .gates)) (unobservable c) .0 (p .1 .1 .0) w i;
           }) in
-          alike-passed falls-alike (swept-passes c order 20 1 _ _ .1 (λ w i. clean w i .complete), (swept-passes c order 21 1 _ _ .1 (λ w i. clean w i .observable), tt))
+          alike-passed falls-alike (swept-passes c order 20 1 (c .inputs) (fallIncomplete c) .1 (λ w i. clean w i .complete), (swept-passes c order 21 1 (length (c .gates)) (fallUnobservable c) .1 (λ w i. clean w i .observable), tt))
 
     pub checks-alike : Alike (checks order c r) (found.checks order s q)
     unfolding checks looped retired found.checks found.finding

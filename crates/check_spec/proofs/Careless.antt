@@ -2,8 +2,10 @@
 -- Assumes nothing.
 use Prim.Native.Nat.{ℕ, suc}
 use mathlib.Core.Path.{_≡_, refl, sym, ap, _∙_}
+use mathlib.Core.Bool.{cond}
 use mathlib.Core.List.{List, [], _∷_}
 use lib.ListN.{length}
+use lib.Dec.{eqb}
 use Rattle.netlist.specs.declared.File.{File}
 use Rattle.netlist.specs.declared.File.the-variants as file
 use Rattle.netlist.specs.declared.Limits.{Limits}
@@ -81,7 +83,7 @@ pub row-without-care : (n : ℕ) (items : List Item) → FileFits file.Stage sta
 unfolding rowChecks looped settledBytes
 row-without-care n items fits row =
     written-answer n items fits row
-    ∙ (λ i. answerFor (record { inputs = n; gates = same-gates items i; outputs = same-outputs items i; care = [] }) row)
+    ∙ (λ i. answerFor (record { inputs = n; gates = sym (same-gates items) i; outputs = sym (same-outputs items) i; care = sym (no-words items) i }) row)
     ∙ sym (written-answer n (withoutCare items) (fits-without file.Stage stageLimits n items fits) row)
 
 -- any readable stage file, by the items that it holds
