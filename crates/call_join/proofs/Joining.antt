@@ -25,7 +25,6 @@ use Rattle.verdict.specs.declared.Finding.the-variants.{Fault, Passed}
 use Rattle.verdict.specs.Graph.{tabulate}
 use Rattle.verdict.specs.Words.{words, names, spelled, isIn}
 use Rattle.verdict.specs.Checks.{sweep}
-use Rattle.verdict.specs.Verdicts.{verdictWithin}
 use Rattle.verdict.specs.Written.{holding}
 use Rattle.check_spec.specs.Cases.{verdict, accepted, case, Check, first, judge, unequal}
 use Rattle.check_spec.specs.Lists.{numbers}
@@ -34,12 +33,11 @@ use Rattle.check_spec.specs.Content.{Content, Files, contentAt, contentOf, part
 use Rattle.check_spec.specs.Words.{caresFor}
 use Rattle.check_spec.specs.Checks.{swept}
 use Rattle.check_spec.specs.Verdicts.{verdictOn}
-use Rattle.check_spec.specs.Loaded.{fromStage, fromReference}
+use Rattle.check_spec.specs.Loaded.{fromStage, fromReference, filesWithin, stageView, referenceView}
 use Rattle.check_spec.specs.Writing.{leaving}
 use Rattle.check_spec.proofs.Names.{of-bits-below}
-use Rattle.check_spec.proofs.View.{stageView, referenceView}
 use Rattle.check_spec.proofs.Alike.{cares-alike}
-use Rattle.check_spec.proofs.Bridge.{faultOr, swept-is, sweep-number, verdict-is}
+use Rattle.check_spec.proofs.Bridge.{faultOr, swept-is, sweep-number}
 use Rattle.check_spec.proofs.Back.{stage-content, reference-content}
 use Rattle.check_spec.proofs.Writing.{leaves-none, leaves-bytes}
 use Rattle.check_spec.proofs.Sound.{Sound, accepted-sound}
@@ -242,8 +240,8 @@ few-care l e h = omega (arith, l .room)
 -- ---- the parts' verdicts
 
 -- a verdict within limits that are those of a part
-pub judged-by : (order : WordOrder) (m n : Limits) (s t : List ℕ) (v : Verdict) → v ≡ verdictWithin order m n s t → m ≡ partStageLimits → n ≡ partReferenceLimits → v ≡ verdictOn order (partFiles s t)
-judged-by order m n s t v e em en = e ∙ ap₂ (λ (x y : Limits). verdictWithin order x y s t) em en ∙ sym (verdict-is order (partFiles s t))
+pub judged-by : (order : WordOrder) (m n : Limits) (s t : List ℕ) (v : Verdict) → v ≡ verdictOn order (filesWithin m n s t) → m ≡ partStageLimits → n ≡ partReferenceLimits → v ≡ verdictOn order (partFiles s t)
+judged-by order m n s t v e em en = e ∙ ap₂ (λ (x y : Limits). verdictOn order (filesWithin x y s t)) em en
 
 pub accepts-zero : {v w : Verdict} → v ≡ w → v .number ≡ 0 → w .number ≡ 0
 accepts-zero e z = ap (λ (x : Verdict). x .number) (sym e) ∙ z

@@ -33,9 +33,10 @@ use Rattle.check_spec.specs.Rows.{netOf}
 use Rattle.check_spec.specs.Words.{names}
 use Rattle.check_spec.specs.Verdicts.{verdictOn}
 use Rattle.check_spec.specs.Demands.{LoopFree}
+use Rattle.check_spec.specs.Loaded.{stageView}
 use Rattle.verdict.proofs.Least.{least-says}
 use Rattle.verdict.proofs.Reaching.{reaches-sound}
-use Rattle.check_spec.proofs.View.{stageView, stage-view}
+use Rattle.check_spec.proofs.View.{stage-view}
 use Rattle.check_spec.proofs.Alike.{spelled-alike, names-alike}
 use Rattle.check_spec.proofs.Sound.{accepted-sound}
 use Rattle.check_spec.proofs.Bridge.{code-free}

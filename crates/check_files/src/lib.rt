@@ -7,14 +7,18 @@ use verdict::Finding;
 use verdict::Verdict;
 use verdict::WordOrder;
 ghost use mathlib.Core.Path.{_≡_};
-ghost use Rattle.netlist.specs.declared.File.the-variants as file;
-ghost use Rattle.netlist.specs.Reading.{readFile, stageLimits, referenceLimits, NoMore};
+ghost use mathlib.Core.List.{_∷_};
+ghost use Rattle.netlist.specs.declared.File.the-variants.{Reference};
+ghost use Rattle.netlist.specs.Reading.{stageLimits, referenceLimits, NoMore};
 ghost use Rattle.verdict.specs.Retired.{retiredAt};
 ghost use Rattle.verdict.specs.Search.{least};
 ghost use Rattle.verdict.specs.Checks as checks;
 ghost use Rattle.verdict.specs.Verdicts as verdicts;
-ghost use Rattle.check_spec.specs.Content.{files};
-ghost use Rattle.check_spec.specs.Verdicts.{verdictOn};
+ghost use Rattle.check_spec.specs.Cases as cases;
+ghost use Rattle.check_spec.specs.Content.{Content, contentOf, files};
+ghost use Rattle.check_spec.specs.Checks as tests;
+ghost use Rattle.check_spec.specs.Verdicts.{reading, verdictOn};
+ghost use Rattle.check_spec.specs.Loaded.{stageView, filesWithin};
 ghost use Rattle.check_spec.specs.Demands.{Demand2, Demand3};
 ghost use Rattle.circuit.specs.Stage.{stageGates, stageIn, StageLoaded};
 ghost use Rattle.circuit.specs.Reference.{referenceIn, ReferenceLoaded};
@@ -104,8 +108,8 @@ fn check_reference(
     most: Limits,
 ) -> Verdict
     requires { ⌜ StageLoaded counts (now code) × NoMore most referenceLimits ⌝ }
-    ensures { λ r. ⌜ r ≡ verdicts.judgeReference order (stageIn counts (now (code .entry))) (now (reference .entry))
-        (readFile file.Reference most (now (reference .entry))) ⌝ }
+    ensures { λ r. ⌜ ((c : Content) → stageView c ≡ stageIn counts (now (code .entry)) → r ≡ cases.judge (reading Reference most (now (reference .entry))
+        ∷ tests.checks order c (contentOf Reference most (now (reference .entry))))) ⌝ }
 {
     let mut loaded = [0u16; circuit_load::REFERENCE_CODE];
     match circuit_load::read_reference_within(reference, most, &mut loaded) {
@@ -128,7 +132,7 @@ pub fn check_within(
     reference_most: Limits,
 ) -> Verdict
     requires { ⌜ NoMore «stage_most» stageLimits × NoMore «reference_most» referenceLimits ⌝ }
-    ensures { λ r. ⌜ r ≡ verdicts.verdictWithin order «stage_most» «reference_most» (now (stage .entry)) (now (reference .entry)) ⌝ }
+    ensures { λ r. ⌜ r ≡ verdictOn order (filesWithin «stage_most» «reference_most» (now (stage .entry)) (now (reference .entry))) ⌝ }
 {
     let mut code = [0u16; circuit_load::STAGE_CODE];
     match circuit_load::read_stage_within(stage, stage_most, &mut code) {

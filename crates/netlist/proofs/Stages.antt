@@ -32,7 +32,7 @@ abbrev pairOf : List ℕ → Pair
 pairOf vs = record { rail0 = getD vs 0 0; rail1 = getD vs 1 0 }
 
 -- a gate of a known kind is that cell
-cell-of : (hold : Bool) (c : ℕ) (pins : List ℕ) → 1 ≤ c → c ≤ 27 → gateOf (record { code = kindByte c hold; operands = pins }) ≡ record { cell = c; hold = hold; pins = pins }
+pub cell-of : (hold : Bool) (c : ℕ) (pins : List ℕ) → 1 ≤ c → c ≤ 27 → gateOf (record { code = kindByte c hold; operands = pins }) ≡ record { cell = c; hold = hold; pins = pins }
 cell-of true c pins lo hi = rw (kind-known true c (pinCount c) lo hi refl)
 cell-of false c pins lo hi = rw (kind-known false c (pinCount c) lo hi refl)
 

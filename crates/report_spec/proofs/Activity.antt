@@ -36,7 +36,7 @@ use Rattle.check_spec.specs.Words.{railsFor, spelled, names, IsWord}
 use Rattle.check_spec.specs.Checks.{rest}
 use Rattle.check_spec.specs.Verdicts.{refusal, reading, verdictOn}
 use Rattle.check_spec.specs.Demands.{Pass, LoopFree, answerTo, Kept}
-use Rattle.check_spec.proofs.View.{stageView}
+use Rattle.check_spec.specs.Loaded.{stageView}
 use Rattle.check_spec.proofs.Alike.{spelled-alike, names-alike, rest-alike, levels-alike, word-in, in-word, care-rises}
 use Rattle.check_spec.proofs.Sound.{accepted-sound, sound-kept}
 use Rattle.report_spec.specs.High as code

@@ -14,14 +14,14 @@ judge-requires c κs =
     (z .pre .0, reference-held (now (z .args .reference)) _ _ _ (sym (c .before .before .before .sizes .given .1) ∙ f .0) (f .1) .3)
 
 returns : tie.Need-returns
-returns c = reference-refused _ _ _ _ _ _ (sym (c .before .number .given .1) ∙ c .before .before .before .before .read-reference-within .ensures .0)
+returns c = λ x view. reference-refused _ _ _ _ _ (sym (c .before .number .given .1) ∙ c .before .before .before .before .read-reference-within .ensures .0)
 
 returns-2 : tie.Need-returns-2
 returns-2 c =
     let z = c .before .before .before .before .before .before .before .before .before .before .before .before .before .before in
     let f = c .before .before .before .before .before .before .before .before .before .before .read-reference-within .ensures in
-    reference-judged _ _ (now (z .args .reference)) _ _ _ (sym (c .before .before .before .before .before .before .before .sizes .given .1) ∙ f .0)
-    (f .1) _ _ (c .verdict-of .ensures) (c .before .before .before .judge .ensures)
+    reference-judged _ _ (now (z .args .reference)) _ _ (sym (c .before .before .before .before .before .before .before .sizes .given .1) ∙ f .0)
+    (f .1) _ _ (c .verdict-of .ensures) _ (c .before .before .before .judge .ensures)
 
 pub check-reference-spec : {M : Type 1} → statement M
 check-reference-spec =
