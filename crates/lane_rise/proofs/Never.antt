@@ -1,0 +1,70 @@
+-- A gate that is low in each word of a stage never rises, and one that is high in some word does not pass that test.
+-- Assumes nothing.
+use Prim.Native.Nat.{ℕ, zero, suc, _+_, _-_, _≤_, _<_}
+use native.Mathlib.Omega.{arith}
+use mathlib.Core.Path.{_≡_, refl, ap, subst, _∙_}
+use mathlib.Core.Bool.{Bool, true, false, cond}
+use mathlib.Core.Logic.{_⊎_, inl, inr}
+use mathlib.Core.List.{List, [], _∷_}
+use lib.ListN.{length, getD}
+use Rattle.runs.proofs.Test.{clash, not-true}
+use Rattle.netlist.specs.declared.Found.the-variants.{At, Nothing}
+use Rattle.netlist.specs.Content.{Stage}
+use Rattle.verdict.specs.Loops.{In}
+use Rattle.verdict.specs.Search.{least}
+use Rattle.verdict.specs.Words.{words}
+use Rattle.verdict.proofs.Least.{SoughtTo, sought-on, sought-here, sought-none}
+use Rattle.lane_cells.specs.Lane.{lane, rowIn}
+use Rattle.lane_cells.proofs.Lane.{lane-zero}
+use Rattle.lane_rise.specs.Rising.{highAt, lowIn, neverRises, NeverRises, Rises, Noted}
+
+low-in : (s : Stage) (g : ℕ) (ws : List ℕ) → lowIn s g ws ≡ true → (w : ℕ) → In w ws → highAt s w g ≡ false
+unfolding lowIn
+low-in s g [] e w i = absurd i
+low-in s g (x ∷ ws) e w i = go (highAt s x g) refl e (λ l. low-in s g ws l w) i
+  where
+    go : (b : Bool) → highAt s x g ≡ b → cond b false (lowIn s g ws) ≡ true → (lowIn s g ws ≡ true → In w ws → highAt s w g ≡ false)
+        → (w ≡ x) ⊎ In w ws → highAt s w g ≡ false
+    go true h e later i = absurd (clash e refl)
+    go false h e later (inl q) = ap (λ (v : ℕ). highAt s v g) q ∙ h
+    go false h e later (inr i) = later e i
+
+in-low : (s : Stage) (g : ℕ) (ws : List ℕ) → ((w : ℕ) → In w ws → highAt s w g ≡ false) → lowIn s g ws ≡ true
+unfolding lowIn
+in-low s g [] f = refl
+in-low s g (x ∷ ws) f = ap (λ (b : Bool). cond b false (lowIn s g ws)) (f x (inl refl)) ∙ in-low s g ws (λ w i. f w (inr i))
+
+-- the test and the paper's condition agree
+module _ (s : Stage) (g : ℕ) where
+  pub never-rises : neverRises s g ≡ true → NeverRises s g
+  never-rises e = low-in s g (words s) e
+
+  pub rises-never : NeverRises s g → neverRises s g ≡ true
+  rises-never f = in-low s g (words s) f
+
+  pub rises-not : Rises s g → neverRises s g ≡ false
+  rises-not r = not-true (neverRises s g) (λ e. clash (r .high) (never-rises e (r .word) (r .is-word)))
+
+-- ---- the least of them
+
+-- none before k passes a test
+sought-all : (f : ℕ → Bool) (m k : ℕ) → k ≤ m → ((g : ℕ) → g < k → f g ≡ false) → SoughtTo f m k
+sought-all f m zero h l = ap (least f 0) (omega arith)
+sought-all f m (suc k) h l =
+    let e : k + 1 ≡ suc k = omega arith in
+    subst (SoughtTo f m) e (sought-on f m k (omega arith) (sought-all f m k (omega arith) (λ g d. l g (omega arith))) (l k (omega arith)))
+
+-- gate g is noted in some word of a block
+abbrev pub NotedAt : List ℕ → ℕ → Type 0
+NotedAt rose g = (j : ℕ) × (j < 64) × (rowIn j rose g ≡ true)
+
+module _ (s : Stage) (rose : List ℕ) (noted : Noted s rose) (k : ℕ) (before : (g : ℕ) → g < k → NotedAt rose g) where
+  risen-before : k ≤ length (s .gates) → (g : ℕ) → g < k → neverRises s g ≡ false
+  risen-before h g d = let n = before g d in rises-not s g (noted .risen g (n .0) (omega arith) (n .1) (n .2))
+
+  pub least-never : k < length (s .gates) → getD rose k 0 ≡ 0 → At k ≡ least (neverRises s) 0 (length (s .gates))
+  least-never h e = sought-here (neverRises s) (length (s .gates)) k h (sought-all (neverRises s) (length (s .gates)) k (omega arith) (risen-before (omega arith)))
+      (rises-never s k (λ w i. not-true (highAt s w k) (λ u. let n = noted .kept k w h i u in clash (n .1) (ap (lane (n .0)) e ∙ lane-zero (n .0)))))
+
+  pub none-never : k ≡ length (s .gates) → Nothing ≡ least (neverRises s) 0 (length (s .gates))
+  none-never e = sought-none (neverRises s) (length (s .gates)) k (omega arith) (sought-all (neverRises s) (length (s .gates)) k (omega arith) (risen-before (omega arith)))
