@@ -28,6 +28,7 @@ fn generated_pairs() {
             "{summary}"
         );
         assert!(summary.unobservable_fall >= 10, "{summary}");
+        assert!(summary.never_rises >= 200, "{summary}");
     }
 }
 
@@ -38,7 +39,7 @@ fn small_examples() {
     let mut explored = Vec::new();
     for example in examples() {
         let verdict = check(&example.pair.stage, &example.pair.reference);
-        if !matches!(verdict[0], 0 | 13 | 14 | 15 | 20 | 21) {
+        if !matches!(verdict[0], 0 | 13 | 14 | 15 | 20 | 21 | 32) {
             continue;
         }
         let stage = read_stage(&example.pair.stage).unwrap();
