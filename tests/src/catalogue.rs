@@ -416,6 +416,7 @@ pub fn examples() -> Vec<Example> {
     list.extend(pair_examples());
     list.extend(joins::parts_and_wholes());
     list.extend(retired_examples());
+    list.extend(low_examples());
     list
 }
 
@@ -564,6 +565,71 @@ pub fn pair_examples() -> Vec<Example> {
             }
         })
         .collect()
+}
+
+/// Gates that rise in no care word, or in one alone (document 02, M-110).
+pub fn low_examples() -> Vec<Example> {
+    let mut list: Vec<Example> = Vec::new();
+    let mut add =
+        |name: &str, about: &'static str, number: u64, stage: &Stage, reference: &Reference| {
+            let pair = write_pair(stage, reference);
+            list.push(Example {
+                name: name.to_string(),
+                about,
+                number,
+                pair,
+            });
+        };
+    let and = one_operation(AND);
+    let whole_case = dual_rail(&and);
+    let both_rails = Stage {
+        gates: [
+            &whole_case.gates[..],
+            &[Gate {
+                kind: kind_named("TH22"),
+                pins: vec![0, 1],
+            }],
+        ]
+        .concat(),
+        ..whole_case.clone()
+    };
+    add(
+        "and-both-rails",
+        "AND, and a gate on both rails of input 0, which rises in no word",
+        32,
+        &both_rails,
+        &and,
+    );
+    let cares_for = |care: &[u64]| Stage {
+        care: care.to_vec(),
+        ..whole_case.clone()
+    };
+    add(
+        "and-without-word-3",
+        "AND, its rail 1 rises only in word 3, which nobody cares for",
+        32,
+        &cares_for(&[0, 1, 2]),
+        &and,
+    );
+    add(
+        "and-words-0-and-3",
+        "the same, word 3 the last that is cared for: the only one in which rail 1 rises",
+        0,
+        &cares_for(&[0, 3]),
+        &and,
+    );
+    let mut contradiction = ReferenceBuilder::new(1);
+    let not = contradiction.gate(NOT, &[0]);
+    let both = contradiction.gate(AND, &[0, not]);
+    contradiction.output(both);
+    add(
+        "and-of-own-not-made",
+        "AND of an input with its NOT, made from the reference: rail 1 rises in no word",
+        32,
+        &made_stage(&contradiction.reference),
+        &contradiction.reference,
+    );
+    list
 }
 
 /// Stages with relaxed gates (document 02, M-102).
@@ -892,54 +958,6 @@ pub fn care_examples() -> Vec<Example> {
         14,
         &s.stage,
         &and,
-    );
-    let whole_case = dual_rail(&and);
-    let both_rails = Stage {
-        gates: [
-            &whole_case.gates[..],
-            &[Gate {
-                kind: kind_named("TH22"),
-                pins: vec![0, 1],
-            }],
-        ]
-        .concat(),
-        ..whole_case.clone()
-    };
-    add(
-        "and-both-rails",
-        "AND, and a gate on both rails of input 0, which rises in no word",
-        32,
-        &both_rails,
-        &and,
-    );
-    let cares_for = |care: &[u64]| Stage {
-        care: care.to_vec(),
-        ..whole_case.clone()
-    };
-    add(
-        "and-without-word-3",
-        "AND, its rail 1 rises only in word 3, which nobody cares for",
-        32,
-        &cares_for(&[0, 1, 2]),
-        &and,
-    );
-    add(
-        "and-words-0-and-3",
-        "the same, word 3 the last that is cared for: the only one in which rail 1 rises",
-        0,
-        &cares_for(&[0, 3]),
-        &and,
-    );
-    let mut contradiction = ReferenceBuilder::new(1);
-    let not = contradiction.gate(NOT, &[0]);
-    let both = contradiction.gate(AND, &[0, not]);
-    contradiction.output(both);
-    add(
-        "and-of-own-not-made",
-        "AND of an input with its NOT, made from the reference: rail 1 rises in no word",
-        32,
-        &made_stage(&contradiction.reference),
-        &contradiction.reference,
     );
     let too_high = Stage {
         care: vec![3, 4],

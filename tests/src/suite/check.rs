@@ -4,8 +4,8 @@
 //! hand from document 01.
 
 use crate::catalogue::{
-    care_examples, examples_of_document_01, pair_examples, relaxed_examples, retired_examples,
-    Example, MARKED,
+    care_examples, examples_of_document_01, low_examples, pair_examples, relaxed_examples,
+    retired_examples, Example, MARKED,
 };
 use crate::circuits::{dual_rail, kind_named, ReferenceBuilder, Signal, StageBuilder};
 use crate::files::{
@@ -136,6 +136,7 @@ pub fn cases() -> Vec<Case> {
     stored_examples(&mut cases, retired_examples());
     refusals_of_the_stage(&mut cases, row::retired_cases());
     retired_kinds(&mut cases);
+    stored_examples(&mut cases, low_examples());
     gates_that_never_rise(&mut cases);
     cases.0
 }

@@ -3,7 +3,8 @@
 //! What a case prints is also written by hand where it is short.
 
 use crate::catalogue::{
-    care_examples, examples_of_document_01, relaxed_examples, retired_examples, Example, MARKED,
+    care_examples, examples_of_document_01, low_examples, relaxed_examples, retired_examples,
+    Example, MARKED,
 };
 use crate::circuits::{ReferenceBuilder, Signal, StageBuilder};
 use crate::files::{unhex, write_pair, FilePair};
@@ -68,6 +69,7 @@ pub fn cases() -> Vec<Case> {
     care_words(&mut cases);
     stored_examples(&mut cases, relaxed_examples());
     stored_examples(&mut cases, retired_examples());
+    stored_examples(&mut cases, low_examples());
     cases.0
 }
 
