@@ -60,7 +60,9 @@ module _ (masks : List ℕ) (w : ℕ) (room : w / 64 < length masks) where
 
       go : Dec (b ≡ w / 64) → (lane j (getD masks b 0) ≡ true) ⊎ (w ≡ 64 * b + j)
       go (yes q) =
-          here q (or-cases (lane j (getD masks (w / 64) 0)) (lane j (oneAt (w % 64))) (sym (lane-here j) ∙ sym (ap (λ (n : ℕ). lane j (getD (withWord masks w) n 0)) q) ∙ e))
+          here q
+          (or-cases (lane j (getD masks (w / 64) 0)) (lane j (oneAt (w % 64)))
+          (sym (lane-here j) ∙ sym (ap (λ (n : ℕ). lane j (getD (withWord masks w) n 0)) q) ∙ e))
       go (no q) = inl (sym (lane-elsewhere b j q) ∙ e)
 
   -- and both are
@@ -92,7 +94,8 @@ module _ (code : List ℕ) (from inputs : ℕ) where
   abbrev wordAt : ℕ → ℕ
   wordAt k = getD code (from + k) 0 % 2 ^ inputs
 
-  pub listed-more : (masks : List ℕ) (k : ℕ) → ListedIn code from k inputs masks → wordAt k / 64 < length masks → ListedIn code from (k + 1) inputs (withWord masks (wordAt k))
+  pub listed-more : (masks : List ℕ) (k : ℕ) → ListedIn code from k inputs masks → wordAt k / 64 < length masks
+      → ListedIn code from (k + 1) inputs (withWord masks (wordAt k))
   listed-more masks k l room = record { named = named; all = all }
     where
       named : (b j : ℕ) → j < 64 → lane j (getD (withWord masks (wordAt k)) b 0) ≡ true → (i : ℕ) × (i < k + 1) × (wordAt i ≡ 64 * b + j)
@@ -120,10 +123,12 @@ module _ (c : Counts) (code : List ℕ) where
         (v % 2 ^ c .inputs, word-of-all c code none (v % 2 ^ c .inputs) (mod-lt v (pow-pos (c .inputs))), bits-mod (c .inputs) v);
     all = λ w i.
         let v = w % 2 ^ c .inputs in
-        ap (lane (v % 64)) (getD-replicate 16 (v / 64) 0xFFFF_FFFF_FFFF_FFFF 0 (block-of (c .inputs) w few)) ∙ ap (λ (x : ℕ). eqb x 1) (all-at (v % 64) (mod-lt v (lit< tt)));
+        ap (lane (v % 64)) (getD-replicate 16 (v / 64) 0xFFFF_FFFF_FFFF_FFFF 0 (block-of (c .inputs) w few))
+        ∙ ap (λ (x : ℕ). eqb x 1) (all-at (v % 64) (mod-lt v (lit< tt)));
   }
 
-  pub care-masks : (c .care ≡ 0 → ⊥) → (masks : List ℕ) → ListedIn code (8 * c .gates + 2 * c .outputs) (c .care) (c .inputs) masks → WordMasks (stageIn c code) masks
+  pub care-masks : (c .care ≡ 0 → ⊥) → (masks : List ℕ) → ListedIn code (8 * c .gates + 2 * c .outputs) (c .care) (c .inputs) masks
+      → WordMasks (stageIn c code) masks
   care-masks some masks l = record {
     named = λ b j d e.
         let p = l .named b j d e in

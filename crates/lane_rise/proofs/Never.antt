@@ -59,12 +59,16 @@ abbrev pub NotedAt : List ℕ → ℕ → Type 0
 NotedAt rose g = (j : ℕ) × (j < 64) × (rowIn j rose g ≡ true)
 
 module _ (s : Stage) (rose : List ℕ) (noted : Noted s rose) (k : ℕ) (before : (g : ℕ) → g < k → NotedAt rose g) where
-  risen-before : k ≤ length (s .gates) → (g : ℕ) → g < k → neverRises s g ≡ false
-  risen-before h g d = let n = before g d in rises-not s g (noted .risen g (n .0) (omega arith) (n .1) (n .2))
+  sought : k ≤ length (s .gates) → SoughtTo (neverRises s) (length (s .gates)) k
+  sought h =
+      sought-all (neverRises s) (length (s .gates)) k h
+      (λ g d. let n = before g d in rises-not s g (noted .risen g (n .0) (omega arith) (n .1) (n .2)))
 
   pub least-never : k < length (s .gates) → getD rose k 0 ≡ 0 → At k ≡ least (neverRises s) 0 (length (s .gates))
-  least-never h e = sought-here (neverRises s) (length (s .gates)) k h (sought-all (neverRises s) (length (s .gates)) k (omega arith) (risen-before (omega arith)))
-      (rises-never s k (λ w i. not-true (highAt s w k) (λ u. let n = noted .kept k w h i u in clash (n .1) (ap (lane (n .0)) e ∙ lane-zero (n .0)))))
+  least-never h e = sought-here (neverRises s) (length (s .gates)) k h (sought (omega arith)) (rises-never s k low)
+    where
+      low : NeverRises s k
+      low w i = not-true (highAt s w k) (λ u. let n = noted .kept k w h i u in clash (n .1) (ap (lane (n .0)) e ∙ lane-zero (n .0)))
 
   pub none-never : k ≡ length (s .gates) → Nothing ≡ least (neverRises s) 0 (length (s .gates))
-  none-never e = sought-none (neverRises s) (length (s .gates)) k (omega arith) (sought-all (neverRises s) (length (s .gates)) k (omega arith) (risen-before (omega arith)))
+  none-never e = sought-none (neverRises s) (length (s .gates)) k (omega arith) (sought (omega arith))

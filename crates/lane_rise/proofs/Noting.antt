@@ -41,7 +41,8 @@ module _ (row : List ℕ) (from words : ℕ) (start : List ℕ) where
   abbrev noteAt : List ℕ → ℕ → ℕ
   noteAt rose k = bitOr (getD rose k 0) (bitAnd (getD row (from + k) 0) words)
 
-  pub so-far-more : (rose : List ℕ) (k : ℕ) → NotedSoFar row from words start rose k → k < length rose → NotedSoFar row from words start (set rose k (noteAt rose k)) (k + 1)
+  pub so-far-more : (rose : List ℕ) (k : ℕ) → NotedSoFar row from words start rose k → k < length rose
+      → NotedSoFar row from words start (set rose k (noteAt rose k)) (k + 1)
   so-far-more rose k s room = record {
     noted = record { same-long = length-set rose k (noteAt rose k) ∙ s .noted .same-long; at = λ j g h. at j g h (ℕ-discrete g k) };
     after = λ g h. getD-set-other rose k g (noteAt rose k) 0 (λ e. omega arith) ∙ s .after g (omega arith);
@@ -61,7 +62,8 @@ module _ (row : List ℕ) (from words : ℕ) (start : List ℕ) where
 -- ---- the loop over the blocks
 
 -- the rest of a word is told by its bits
-same-rest : (c : Counts) (code : List ℕ) (v w net : ℕ) → bitsOf (c .inputs) v ≡ bitsOf (c .inputs) w → restRow (stageIn c code) v net ≡ restRow (stageIn c code) w net
+same-rest : (c : Counts) (code : List ℕ) (v w net : ℕ) → bitsOf (c .inputs) v ≡ bitsOf (c .inputs) w
+    → restRow (stageIn c code) v net ≡ restRow (stageIn c code) w net
 same-rest c code v w net e = ap (λ (bits : List ℕ). rowOf (settled (stageGates c code) (railsOf bits)) net) e
 
 module _ (c : Counts) (code masks : List ℕ) where
@@ -73,14 +75,16 @@ module _ (c : Counts) (code masks : List ℕ) where
   }
 
   module _ (words : WordMasks (stageIn c code) masks) (rose : List ℕ) (b : ℕ) (n : NotedTo c code masks rose b) where
-    pub noted-more : (row rose′ : List ℕ) → Resting c code b row → NotedIn row (2 * c .inputs) (c .gates) (getD masks b 0) rose rose′ → NotedTo c code masks rose′ (b + 1)
+    pub noted-more : (row rose′ : List ℕ) → Resting c code b row → NotedIn row (2 * c .inputs) (c .gates) (getD masks b 0) rose rose′
+        → NotedTo c code masks rose′ (b + 1)
     noted-more row rose′ at-rest new = record {
       long = new .same-long ∙ n .long;
       risen = λ g j h d e. from-word g j h d (or-cases (rowIn j rose g) (rowIn j row (2 * c .inputs + g) && lane j (getD masks b 0)) (sym (new .at j g h) ∙ e));
       kept = λ g a j h l d m r. new .at j g h ∙ is-kept g a j h l d m r (ℕ-discrete a b);
     }
       where
-        from-word : (g j : ℕ) → g < c .gates → j < 64 → (rowIn j rose g ≡ true) ⊎ ((rowIn j row (2 * c .inputs + g) && lane j (getD masks b 0)) ≡ true) → Rises (stageIn c code) g
+        from-word : (g j : ℕ) → g < c .gates → j < 64
+            → (rowIn j rose g ≡ true) ⊎ ((rowIn j row (2 * c .inputs + g) && lane j (getD masks b 0)) ≡ true) → Rises (stageIn c code) g
         from-word g j h d (inl x) = n .risen g j h d x
         from-word g j h d (inr x) =
             let p = words .named b j d (and-right (rowIn j row (2 * c .inputs + g)) (lane j (getD masks b 0)) x) in
@@ -99,7 +103,8 @@ module _ (c : Counts) (code masks : List ℕ) where
             (and-in (rowIn j row (2 * c .inputs + g)) (lane j (getD masks b 0))
             (at-rest .rest j (2 * c .inputs + g) d (omega arith) ∙ sym (ap (λ (x : ℕ). restIn c code x j (2 * c .inputs + g)) q) ∙ r)
             (sym (ap (λ (x : ℕ). lane j (getD masks x 0)) q) ∙ m))
-        is-kept g a j h l d m r (no q) = or-left (rowIn j rose g) (rowIn j row (2 * c .inputs + g) && lane j (getD masks b 0)) (n .kept g a j h (omega arith) d m r)
+        is-kept g a j h l d m r (no q) =
+            or-left (rowIn j rose g) (rowIn j row (2 * c .inputs + g) && lane j (getD masks b 0)) (n .kept g a j h (omega arith) d m r)
 
     -- all words of the stage stand in those blocks
     pub noted-all : 2 ^ c .inputs ≤ 64 * b → Noted (stageIn c code) rose

@@ -35,7 +35,8 @@ returns c s e noted =
 loop-again : tie.Need-loop-again Inv-loop μ-loop
 loop-again c =
     let t = c .before .before .before in
-    below-more _ _ (t .loop .inv) (some-lane 64 (getD (now (t .before .args .rose)) (t .loop .g) 0) (c .before .shared-slice-known .given (t .loop .g) .fits) (c .if1 .left))
+    let fits = c .before .shared-slice-known .given (t .loop .g) .fits in
+    below-more _ _ (t .loop .inv) (some-lane 64 (getD (now (t .before .args .rose)) (t .loop .g) 0) fits (c .if1 .left))
 
 returns-2 : tie.Need-returns-2 Inv-loop μ-loop
 returns-2 c s e noted =
