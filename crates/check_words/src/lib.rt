@@ -254,7 +254,8 @@ pub fn sweep_all(
     requires { ⌜ BothLoaded counts (now code) sizes (now reference) ⌝ }
     ensures { λ r. ⌜ r ≡ checks.firstFault (checks.sweeps order (stageIn counts (now (code .entry))) (referenceIn sizes (now (reference .entry)))) ⌝ }
 {
-    let masks = lane_screen::screen(code, counts, reference, sizes);
+    let screened = lane_screen::screen(code, counts, reference, sizes);
+    let masks = screened.masks;
     if nothing_named(masks, code, counts) {
         return Finding::Passed;
     }

@@ -6,7 +6,7 @@ use Rattle.check_words.proofs.sweep_all.Statement.{statement}
 use Rattle.check_words.proofs.sweep_all.Tie as tie
 
 returns : tie.Need-returns
-returns c = c .before .nothing-named .ensures (c .if1 .taken) _ _ (c .before .before .screen .ensures)
+returns c = c .before .nothing-named .ensures (c .if1 .taken) _ _ (c .before .before .before .screen .ensures .0)
 
 array-share-prefix-list : tie.Need-array-share-prefix-list
 array-share-prefix-list c = listed-in (c .before .list-names .ensures)
@@ -16,9 +16,9 @@ slice-aggregate-sweep-named c = listed-count (c .before .before .list-names .ens
 
 sweep-named-requires : tie.Need-sweep-named-requires
 sweep-named-requires c κs = (
-  c .before .before .before .before .before .before .before .before .before .pre,
+  c .before .before .before .before .before .before .before .before .before .before .pre,
   listed-start (c .before .before .list-names .ensures),
-  c .before .before .before .before .before .before .screen .ensures,
+  c .before .before .before .before .before .before .before .screen .ensures .0,
 )
 
 pub sweep-all-spec : {M : Type 1} → statement M
