@@ -61,7 +61,7 @@ fn every_verdict_comes_and_known_ones_agree() {
             assert!(histogram.contains_key(&(number, 1)), "{number}");
         }
         assert!(2 * small >= count, "half of the pairs are small");
-        assert!(4 * histogram[&(0, 0)] >= count, "a good part is accepted");
+        assert!(5 * histogram[&(0, 0)] >= count, "a fifth is accepted");
         assert!(long > 0);
     }
 }

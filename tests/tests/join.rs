@@ -145,7 +145,7 @@ fn generated_joins() {
     if count >= 4_000 {
         for number in [22, 23, 24] {
             let file = if number == 24 { 3 } else { 0 };
-            assert!(histogram[&(number, file)] >= 200, "{number}");
+            assert!(histogram[&(number, file)] >= 150, "{number}");
         }
         // Each number of a part in the first or in the second.
         for number in (1..=15).chain([18, 19, 20, 21, 32]) {
@@ -156,10 +156,7 @@ fn generated_joins() {
             let seen = |file| histogram.contains_key(&(number, file));
             assert!(seen(file) || seen(file + 3), "{number}");
         }
-        assert!(
-            5 * histogram[&(0, 0)] >= 2 * count,
-            "a good part is accepted"
-        );
+        assert!(3 * histogram[&(0, 0)] >= count, "a third is accepted");
         assert!(small >= 500 && relaxed >= 200 && with_list >= 400);
         assert_eq!(most, 256);
     }

@@ -221,7 +221,7 @@ fn lines_of_the_cases() {
     }
     let numbers = [
         "1 ", "2 ", "3 ", "7 ", "9 ", "10 ", "11 ", "12 ", "13 ", "14 ", "15 ", "18 ", "19 ",
-        "20 ", "21 ", "28 ",
+        "20 ", "21 ", "28 ", "32 ",
     ];
     for number in numbers {
         let refused = lines.iter().any(|line| line.starts_with(number));

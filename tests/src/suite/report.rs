@@ -174,7 +174,7 @@ fn care_words(cases: &mut Cases) {
     };
     add(3, &[0, 5, 6], Some("0:0 5:4 6:5 total 9"));
     add(3, &[7], Some("7:6 total 6"));
-    add(3, &[0], Some("0:0 total 0"));
+    add(3, &[0], Some("32 1 0 0"));
     let all: Vec<u64> = (0..8).collect();
     add(3, &all, Some("0:0 1:1 2:2 3:3 4:3 5:4 6:5 7:6 total 24"));
     add(3, &[8], Some("18 1 3 0"));
@@ -182,8 +182,8 @@ fn care_words(cases: &mut Cases) {
     add(10, &[1023], Some("1023:55 total 55"));
     add(
         10,
-        &[512, 1000, 1001],
-        Some("512:10 1000:44 1001:45 total 99"),
+        &[512, 1000, 1023],
+        Some("512:10 1000:44 1023:55 total 109"),
     );
     let all: Vec<u64> = (0..1024).collect();
     add(10, &all, None);
