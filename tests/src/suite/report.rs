@@ -180,11 +180,7 @@ fn care_words(cases: &mut Cases) {
     add(3, &[8], Some("18 1 3 0"));
     add(3, &[1, 1], Some("19 1 6 0"));
     add(10, &[1023], Some("1023:55 total 55"));
-    add(
-        10,
-        &[512, 1000, 1023],
-        Some("512:10 1000:44 1023:55 total 109"),
-    );
+    add(10, &[512, 1000, 1001], Some("32 1 1 0"));
     let all: Vec<u64> = (0..1024).collect();
     add(10, &all, None);
     let odd: Vec<u64> = (0..1024).filter(|word| word % 2 == 1).collect();
