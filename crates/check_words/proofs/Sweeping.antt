@@ -16,7 +16,8 @@ use Rattle.verdict.specs.declared.Finding.the-variants.{Fault, Passed}
 use Rattle.verdict.specs.declared.Verdict.{Verdict}
 use Rattle.verdict.specs.declared.WordOrder.{WordOrder}
 use Rattle.verdict.specs.Words.{IsWord, spelled, names}
-use Rattle.verdict.specs.Checks.{verdict, atFault, sweep, finding, orLater, firstFault, riseSweeps, fallSweeps, sweeps}
+use Rattle.verdict.specs.Checks.{verdict, atFault, sweep, finding, orLater, firstFault, neverRises, idle, riseSweeps, fallSweeps, sweeps, wordChecks}
+use Rattle.verdict.specs.Search.{least}
 use Rattle.verdict.specs.Demands.{WithHold}
 use Rattle.verdict.proofs.Reaching.{loopFree-noLoop}
 use Rattle.verdict.specs.Loops.{In}
@@ -26,6 +27,7 @@ use Rattle.verdict.proofs.Demands.{hold-passes}
 use Rattle.circuit.specs.Stage.{stageGates, stageIn}
 use Rattle.circuit.specs.Order.{orderIn, InOrder}
 use Rattle.circuit.proofs.Order.{order-no-loop}
+use Rattle.circuit.proofs.Settling.{length-stageGates}
 use Rattle.check_word.specs.declared.Sweep.{Sweep}
 use Rattle.check_word.specs.declared.Sweep.the-variants.{Wrong, Missing, Unobserved, Remaining, StillHigh}
 use Rattle.check_word.specs.Finds.{finds}
@@ -129,6 +131,24 @@ module _ (order : WordOrder) (s : Stage) (r : Reference) where
 
   pub then-fall : Passed ≡ firstFault (riseSweeps order s r) → (f : Finding) → f ≡ firstFault (fallSweeps order s r) → f ≡ firstFault (sweeps order s r)
   then-fall e f q = sym (fault-++ (riseSweeps order s r) (fallSweeps order s r) ∙ later-passed _ e ∙ sym q)
+
+-- 32 after those that sweep: what is found by the least gate that never rises
+pub idle-is : (s : Stage) (low : Found) → low ≡ least (neverRises s) 0 (length (s .gates)) → atFault 32 1 0 low Passed ≡ firstFault (idle s ∷ [])
+unfolding firstFault finding sweep
+idle-is s low e = ap (λ (x : Found). atFault 32 1 0 x Passed) e ∙ sym (later-none (finding (idle s)))
+
+module _ (order : WordOrder) (c : Counts) (code : List ℕ) (r : Reference) where
+  abbrev s : Stage
+  s = stageIn c code
+
+  pub swept-fault : (v : Verdict) → Fault v ≡ firstFault (sweeps order s r) → Fault v ≡ firstFault (wordChecks order s r)
+  swept-fault v e = sym (fault-++ (sweeps order s r) (idle s ∷ []) ∙ later-fault _ e)
+
+  pub then-idle : Passed ≡ firstFault (sweeps order s r) → (low : Found) → low ≡ least (neverRises s) 0 (c .gates)
+      → (f : Finding) → f ≡ atFault 32 1 0 low Passed → f ≡ firstFault (wordChecks order s r)
+  then-idle e low is f q =
+      q ∙ idle-is s low (is ∙ ap (least (neverRises s) 0) (sym (length-stageGates c code)))
+      ∙ sym (fault-++ (sweeps order s r) (idle s ∷ []) ∙ later-passed _ e)
 
 -- a stage with hold everywhere passes the fall where it passes the rise
 pub no-fall : (order : WordOrder) (c : Counts) (code : List ℕ) → InOrder c code → WithHold (stageIn c code) → (r : Reference)

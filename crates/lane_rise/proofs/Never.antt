@@ -1,49 +1,25 @@
--- A gate that is low in each word of a stage never rises, and one that is high in some word does not pass that test.
+-- The least gate that was never noted is the least that never rises.
 -- Assumes nothing.
 use Prim.Native.Nat.{ℕ, zero, suc, _+_, _-_, _≤_, _<_}
 use native.Mathlib.Omega.{arith}
 use mathlib.Core.Path.{_≡_, refl, ap, subst, _∙_}
-use mathlib.Core.Bool.{Bool, true, false, cond}
-use mathlib.Core.Logic.{_⊎_, inl, inr}
-use mathlib.Core.List.{List, [], _∷_}
+use mathlib.Core.Bool.{Bool, true, false}
+use mathlib.Core.List.{List}
 use lib.ListN.{length, getD}
 use Rattle.runs.proofs.Test.{clash, not-true}
 use Rattle.netlist.specs.declared.Found.the-variants.{At, Nothing}
 use Rattle.netlist.specs.Content.{Stage}
-use Rattle.verdict.specs.Loops.{In}
 use Rattle.verdict.specs.Search.{least}
-use Rattle.verdict.specs.Words.{words}
+use Rattle.verdict.specs.Checks.{highAt, neverRises, NeverRises}
+use Rattle.verdict.proofs.Rising.{never-rises, rises-never}
 use Rattle.verdict.proofs.Least.{SoughtTo, sought-on, sought-here, sought-none}
 use Rattle.lane_cells.specs.Lane.{lane, rowIn}
 use Rattle.lane_cells.proofs.Lane.{lane-zero}
-use Rattle.lane_rise.specs.Rising.{highAt, lowIn, neverRises, NeverRises, Rises, Noted}
+use Rattle.lane_rise.specs.Rising.{Rises, Noted}
 
-low-in : (s : Stage) (g : ℕ) (ws : List ℕ) → lowIn s g ws ≡ true → (w : ℕ) → In w ws → highAt s w g ≡ false
-unfolding lowIn
-low-in s g [] e w i = absurd i
-low-in s g (x ∷ ws) e w i = go (highAt s x g) refl e (λ l. low-in s g ws l w) i
-  where
-    go : (b : Bool) → highAt s x g ≡ b → cond b false (lowIn s g ws) ≡ true → (lowIn s g ws ≡ true → In w ws → highAt s w g ≡ false)
-        → (w ≡ x) ⊎ In w ws → highAt s w g ≡ false
-    go true h e later i = absurd (clash e refl)
-    go false h e later (inl q) = ap (λ (v : ℕ). highAt s v g) q ∙ h
-    go false h e later (inr i) = later e i
-
-in-low : (s : Stage) (g : ℕ) (ws : List ℕ) → ((w : ℕ) → In w ws → highAt s w g ≡ false) → lowIn s g ws ≡ true
-unfolding lowIn
-in-low s g [] f = refl
-in-low s g (x ∷ ws) f = ap (λ (b : Bool). cond b false (lowIn s g ws)) (f x (inl refl)) ∙ in-low s g ws (λ w i. f w (inr i))
-
--- the test and the paper's condition agree
-module _ (s : Stage) (g : ℕ) where
-  pub never-rises : neverRises s g ≡ true → NeverRises s g
-  never-rises e = low-in s g (words s) e
-
-  pub rises-never : NeverRises s g → neverRises s g ≡ true
-  rises-never f = in-low s g (words s) f
-
-  pub rises-not : Rises s g → neverRises s g ≡ false
-  rises-not r = not-true (neverRises s g) (λ e. clash (r .high) (never-rises e (r .word) (r .is-word)))
+-- a gate that rises does not pass the test
+pub rises-not : (s : Stage) (g : ℕ) → Rises s g → neverRises s g ≡ false
+rises-not s g r = not-true (neverRises s g) (λ e. clash (r .high) (never-rises s g e (r .word) (r .is-word)))
 
 -- ---- the least of them
 

@@ -1,4 +1,4 @@
--- The gates of a stage that rise, and those that rise in no word that it cares for.
+-- The gates of a stage that rise in some word that it cares for.
 use Prim.Native.Nat.{ℕ, _+_, _*_, _/_, _%_, _^_, _<_}
 use mathlib.Core.Path.{_≡_}
 use mathlib.Core.Bool.{Bool, true, false, cond, _&&_, _||_}
@@ -7,28 +7,11 @@ use lib.ListN.{length, getD}
 use Rattle.netlist.specs.declared.Counts.{Counts}
 use Rattle.netlist.specs.Reading.{stageLimits}
 use Rattle.netlist.specs.Content.{Stage}
-use Rattle.verdict.specs.Words.{words, IsWord, bitsOf}
-use Rattle.verdict.specs.Nets.{restRow}
+use Rattle.verdict.specs.Words.{IsWord, bitsOf}
+use Rattle.verdict.specs.Checks.{highAt}
 use Rattle.circuit.specs.Stage.{stageIn}
 use Rattle.lane_cells.specs.Lane.{lane, rowIn}
 use Rattle.lane_settle.specs.Block.{restIn}
-
--- whether gate g is high at the rest of word w
-abbrev pub highAt : Stage → ℕ → ℕ → Bool
-highAt s w g = restRow s w (2 * s .inputs + g)
-
--- gate g is low at the rest of each of some words
-unfoldable pub lowIn : Stage → ℕ → List ℕ → Bool
-lowIn s g [] = true
-lowIn s g (w ∷ ws) = let later = lowIn s g ws in cond (highAt s w g) false later
-
--- gate g rises in no care word, computed
-abbrev pub neverRises : Stage → ℕ → Bool
-neverRises s g = lowIn s g (words s)
-
--- the same in the paper's words: in every word of the stage it is low at the rest
-abbrev pub NeverRises : Stage → ℕ → Type 0
-NeverRises s g = (w : ℕ) → IsWord s w → highAt s w g ≡ false
 
 -- it rises: in some word of the stage it is high at the rest
 pub record Rises (s : Stage) (g : ℕ) : Type 0 where

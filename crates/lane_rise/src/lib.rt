@@ -7,8 +7,9 @@ ghost use lib.ListN.{length};
 ghost use Rattle.netlist.specs.Reading.{stageLimits};
 ghost use Rattle.netlist.specs.Content.{Stage};
 ghost use Rattle.verdict.specs.Search.{least};
+ghost use Rattle.verdict.specs.Checks.{neverRises};
 ghost use Rattle.circuit.specs.Stage.{stageIn, StageLoaded};
-ghost use Rattle.lane_rise.specs.Rising.{neverRises, WordMasks, ListedIn, NotedIn, Noted};
+ghost use Rattle.lane_rise.specs.Rising.{WordMasks, ListedIn, NotedIn, Noted};
 
 // The words that stand from a place of the flat form on, so many, as a mask for each block. Words of so many inputs are taken.
 fn listed_words(

@@ -21,4 +21,5 @@ pub mod Bounds
 pub mod Cut
 pub mod Careless
 pub mod Rises
+pub mod Rising
 pub mod Written

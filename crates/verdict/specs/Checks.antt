@@ -21,7 +21,7 @@ use Rattle.verdict.specs.declared.Finding.{Finding}
 use Rattle.verdict.specs.declared.Finding.the-variants.{Fault, Passed}
 use Rattle.verdict.specs.Rows.{high, withNull, settled, settledHolding, pairIn, spells, allData, allNull}
 use Rattle.verdict.specs.Loops.{ReachesItself, reachesItself}
-use Rattle.verdict.specs.Words.{numbers, bitsOf, railsIn, spelled, names}
+use Rattle.verdict.specs.Words.{numbers, words, IsWord, bitsOf, railsIn, spelled, names}
 use Rattle.verdict.specs.Answers.{answer}
 use Rattle.verdict.specs.Nets.{outputPair, netOf, rowOf, railsFor, answerBits, restRow, missingRow, heldRow}
 use Rattle.verdict.specs.Falls.{fallenBut, fallenKeeping}
@@ -108,6 +108,20 @@ fallUnobservable s w =
     let row = settled (s .gates) (railsIn s w) in
     λ g. elim (high row (2 * s .inputs + g)) [ true ↦ allNull (fallenKeeping s w g) (s .outputs) | false ↦ false ]
 
+-- ---- 32, computed
+
+-- gate g is high at the rest of word w; it is low at the rest of each of some words
+abbrev pub highAt : Stage → ℕ → ℕ → Bool
+highAt s w g = restRow s w (2 * s .inputs + g)
+
+unfoldable pub lowIn : Stage → ℕ → List ℕ → Bool
+lowIn s g [] = true
+lowIn s g (w ∷ ws) = let later = lowIn s g ws in cond (highAt s w g) false later
+
+-- gate g rises in no care word
+abbrev pub neverRises : Stage → ℕ → Bool
+neverRises s g = lowIn s g (words s)
+
 -- ---- the same in the paper's words; that these rows are the settled ones of a loop-free stage is said in Demands (`RowsAre`)
 
 abbrev pub WrongAt : Stage → Reference → ℕ → ℕ → Type 0
@@ -125,6 +139,9 @@ FallIncompleteAt s w i = AllNull (netOf s) (rowOf (fallenBut s w i))
 abbrev pub FallUnobservableAt : Stage → ℕ → ℕ → Type 0
 FallUnobservableAt s w g = (restRow s w (2 * s .inputs + g) ≡ true) × AllNull (netOf s) (rowOf (fallenKeeping s w g))
 
+abbrev pub NeverRises : Stage → ℕ → Type 0
+NeverRises s g = (w : ℕ) → IsWord s w → highAt s w g ≡ false
+
 -- some run of word w shows it, and the promise is broken
 pub record Broken (s : Stage) (r : Reference) (w : ℕ) (Run : Type 0) : Type 0 where
   pub run : Run
@@ -141,6 +158,9 @@ looped s =
 
 abbrev pub retired : Stage → Check
 retired s = check 28 1 (0 ∷ []) (numbers 0 (length (s .gates))) (λ w. retiredAt (s .gates)) (λ w. RetiredAt (s .gates)) unsaid
+
+abbrev pub idle : Stage → Check
+idle s = check 32 1 (0 ∷ []) (numbers 0 (length (s .gates))) (λ w. neverRises s) (λ w. NeverRises s) unsaid
 
 -- a check that sweeps the words of a stage by name: under a name it looks at the word which that spells
 abbrev pub sweeping : WordOrder → Stage → ℕ → ℕ → List ℕ → (ℕ → ℕ → Bool) → (ℕ → ℕ → Type 0) → (ℕ → ℕ → Type 0) → Check
@@ -169,6 +189,10 @@ fallSweeps order s r =
 
 abbrev pub sweeps : WordOrder → Stage → Reference → List Check
 sweeps order s r = riseSweeps order s r ++ fallSweeps order s r
+
+-- the checks that settle a stage in its words: those, and 32 after all others
+abbrev pub wordChecks : WordOrder → Stage → Reference → List Check
+wordChecks order s r = sweeps order s r ++ (idle s ∷ [])
 
 -- all checks, in their order: those of the counts, of loops and of retired kinds, and those that sweep the words
 unfoldable pub checks : WordOrder → Stage → Reference → List Check
