@@ -3,6 +3,7 @@
 mod bytes;
 mod changes;
 mod circuit;
+mod idle;
 mod lines;
 mod small;
 mod words;
@@ -232,7 +233,7 @@ fn of_pair(text: &mut Text, verdict: Verdict, pair: Pair, order: Order) {
                 "found",
                 &format!(
                     "{words}, and in every order in which its gates may switch, the stage answers what the reference says, waits for each \
-                     input and each gate, and goes back to NULL in the same way"
+                     input and each gate, and goes back to NULL in the same way; each gate rises in some word"
                 ),
             );
         }
@@ -255,6 +256,7 @@ fn of_pair(text: &mut Text, verdict: Verdict, pair: Pair, order: Order) {
         }
         (28, _) => circuit::retired(text, verdict, pair, order),
         (13 | 14 | 15 | 20 | 21, _) => words::in_a_word(text, verdict, pair, order),
+        (32, _) => idle::never_rises(text, verdict, pair, order),
         _ => unknown(text, verdict),
     }
 }
@@ -292,7 +294,9 @@ fn of_row(text: &mut Text, verdict: Verdict, file: &Given, row: &[u8]) {
 /// What the join finds: the first part's own refusal, the second's with 3 added to its file, or what stands between them.
 fn of_join(text: &mut Text, verdict: Verdict, [first, second]: [Pair; 2], order: Order) {
     match (verdict.number, verdict.file) {
-        (0, _) => text.row("found", "both parts are accepted and fit, so the whole is accepted too"),
+        (0, _) => {
+            text.row("found", "both parts are accepted and fit; the check accepts the whole too, unless a gate never rises in it (32)")
+        }
         (22, _) => {
             let (outputs, inputs) = (verdict.at as usize, verdict.word as usize);
             text.row("first", &format!("{}: {}", first.stage.name(), many(outputs, "output")));
@@ -345,7 +349,7 @@ fn of_make(text: &mut Text, verdict: Verdict, file: &Input) {
     let reference = Reference::of(&file.bytes);
     let at = verdict.at as usize;
     match verdict.number {
-        0 => text.row("found", "a stage was made of the reference; the check accepts it"),
+        0 => text.row("found", "a stage was made of the reference; the check accepts it, unless a gate never rises (32)"),
         1..=9 => bytes::unreadable(text, verdict, file, Side::Reference, 512),
         25 => {
             text.row(

@@ -2,12 +2,14 @@
 //! or some are added or taken out. Each is judged by the library; where more has to change at once, none is found.
 
 use super::{Order, Pair, Text};
-use crate::netlist::{commands, kind_name, pin_count, relaxed, Form, Side, Stage, ABSENT};
+use crate::netlist::{commands, kind_name, pin_count, relaxed, set_expression, Form, Side, Stage, ABSENT};
 
 /// How many of the changes that are accepted are shown.
 const SHOWN: usize = 3;
 /// How many of the gates that are named are changed first.
 const GATES: usize = 8;
+/// How many gates of one change are named.
+const PARTS: usize = 8;
 /// The kind that is no longer cast.
 const RETIRED: u8 = 24;
 const THAND0: u8 = 26;
@@ -49,7 +51,7 @@ pub fn accepted(text: &mut Text, pair: Pair, order: Order, stage: &Stage, named:
     let late = named.net.and_then(|net| stage.driver(net));
     let spare = late.or(named.gates.first().copied()).filter(|&gate| base.feeds_nothing(gate));
     match spare {
-        // Of a gate that feeds nothing every change that keeps it low is accepted, and says nothing.
+        // A gate that feeds nothing is not observable where it rises, and where it never does it is refused for that.
         Some(gate) => say(text, pair, order, [Box::new(base.without(gate).into_iter()), Box::new(std::iter::empty())]),
         None => {
             let input = named.net.filter(|&net| net < 2 * stage.inputs && named.rises).map(|net| net / 2);
@@ -79,6 +81,15 @@ pub fn of_retired(text: &mut Text, pair: Pair, order: Order, stage: &Stage, gate
     };
     let cells = [0x80, 0].into_iter().flat_map(|hold| (1..=27).filter(|&cell| cell != RETIRED).map(move |cell| (cell, hold)));
     say(text, pair, order, [Box::new(cells.filter_map(|(cell, hold)| change(cell, hold))), Box::new(std::iter::empty())]);
+}
+
+/// Says with which change no gate is left that never rises: these gates taken out, or one more word cared for.
+pub fn of_idle(text: &mut Text, pair: Pair, order: Order, stage: &Stage, gates: &[usize], words: &[usize]) {
+    let base = Base { file: pair.stage.bytes(), stage };
+    let named = Named { gates, output: None, net: None, rises: true };
+    let out = base.without_idle(gates).into_iter();
+    let more = words.iter().map(move |&word| base.with_care(word));
+    say(text, pair, order, [Box::new(out.chain(more)), base.of_named(&named)]);
 }
 
 /// Says which of some changes are accepted; where none is, which of the others.
@@ -354,6 +365,91 @@ impl<'a> Base<'a> {
         others.map(change).collect()
     }
 
+    /// One more care word, where there are some: they stand in rising order.
+    fn with_care(&self, word: usize) -> Change {
+        let commands = commands(self.file, Side::Stage);
+        let mut care = commands.iter().filter(|command| command.form == Some(Form::Care)).zip(&self.stage.care);
+        let end = care.clone().last().map_or(2, |(command, _)| command.at + command.bytes.len());
+        let at = care.find(|(_, &other)| other > word).map_or(end, |(command, _)| command.at);
+        let mut file = self.file.to_vec();
+        file.splice(at..at, [&[6][..], &(word as u16).to_le_bytes()].concat());
+        Change { file, says: format!("word {word} cared for too"), sort: None }
+    }
+
+    /// Gates that never rise, taken out: those that read them do without.
+    fn without_idle(&self, idle: &[usize]) -> Option<Change> {
+        let left: Vec<Left> = (0..self.stage.gates.len()).map(|gate| self.left(gate, idle)).collect::<Option<_>>()?;
+        let kept: Vec<usize> = (0..left.len()).filter(|&gate| matches!(left[gate], Left::Gate(..))).collect();
+        let number = |mut net: usize| loop {
+            match self.stage.driver(net).map(|gate| (gate, &left[gate])) {
+                None => return Some(net),
+                Some((gate, Left::Gate(..))) => return Some(self.stage.net_of(kept.binary_search(&gate).ok()?)),
+                Some((_, Left::Net(other))) => net = *other,
+                Some((_, Left::Nothing)) => return None,
+            }
+        };
+        let mut file = Vec::new();
+        let (mut gate, mut output) = (0, 0);
+        for command in commands(self.file, Side::Stage) {
+            match command.form {
+                Some(Form::Gate) => {
+                    if let Left::Gate(kind, pins) = &left[gate] {
+                        let pins: Vec<usize> = pins.iter().map(|&pin| number(pin)).collect::<Option<_>>()?;
+                        file.extend(gate_bytes(*kind, &pins));
+                    }
+                    gate += 1;
+                }
+                Some(Form::Output) => {
+                    let [low, high] = self.stage.outputs[output].map(number);
+                    file.push(command.bytes[0]);
+                    file.extend(two([low?, high?]));
+                    output += 1;
+                }
+                _ => file.extend(command.bytes),
+            }
+        }
+        Some(Change { file, says: self.says_without(idle, &left), sort: None })
+    }
+
+    /// What is left of a gate where those that never rise are taken out.
+    fn left(&self, gate: usize, idle: &[usize]) -> Option<Left> {
+        let found = &self.stage.gates[gate];
+        let low = |net: &usize| self.stage.driver(*net).is_some_and(|driver| idle.contains(&driver));
+        if idle.contains(&gate) {
+            return Some(Left::Nothing);
+        }
+        if !found.pins.iter().any(low) {
+            return Some(Left::Gate(found.kind, found.pins.clone()));
+        }
+        let products: Vec<Vec<usize>> = products(found.kind, &found.pins).into_iter().filter(|nets| !nets.iter().any(low)).collect();
+        let mut nets: Vec<usize> = smallest(&products).concat();
+        nets.sort();
+        nets.dedup();
+        if let [net] = nets[..] {
+            return Some(Left::Net(net));
+        }
+        let same = |&(cell, ref pins): &(u8, Vec<usize>)| smallest(&self::products(cell, pins)) == smallest(&products);
+        let all = cells_of(nets.len()).flat_map(|cell| orders(&nets).into_iter().map(move |pins| (cell, pins)));
+        all.into_iter().find(same).map(|(cell, pins)| Left::Gate(cell | found.kind & 0x80, pins))
+    }
+
+    fn says_without(&self, idle: &[usize], left: &[Left]) -> String {
+        let mut parts: Vec<String> = idle.iter().map(|&gate| self.stage.gate_name(gate)).collect();
+        parts = vec![format!("{} taken out", some_of(&parts))];
+        let mut changed = Vec::new();
+        for (gate, left) in left.iter().enumerate() {
+            match left {
+                Left::Gate(kind, pins) if pins != &self.stage.gates[gate].pins => changed.push(self.gate_as(gate, *kind, pins).says),
+                Left::Net(net) => changed.push(format!("{} in place of {}", self.stage.net_name(*net), self.stage.gate_name(gate))),
+                _ => {}
+            }
+        }
+        if !changed.is_empty() {
+            parts.push(some_of(&changed));
+        }
+        parts.join(", and ")
+    }
+
     /// A gate that nothing reads, taken out: the nets behind it are numbered one less.
     fn without(&self, gate: usize) -> Option<Change> {
         let (net, at) = (self.stage.net_of(gate), self.stage.gates.get(gate)?.at);
@@ -374,6 +470,39 @@ impl<'a> Base<'a> {
         }
         Some(Change { file, says: format!("{} taken out", self.stage.gate_name(gate)), sort: None })
     }
+}
+
+/// What is left of a gate: nothing, the one net that it would follow, or a gate of a kind on some pins.
+enum Left {
+    Nothing,
+    Net(usize),
+    Gate(u8, Vec<usize>),
+}
+
+/// The products of a kind's set expression on these pins, each as its nets in rising order.
+fn products(kind: u8, pins: &[usize]) -> Vec<Vec<usize>> {
+    let product = |letters: &str| {
+        let mut nets: Vec<usize> = letters.bytes().filter_map(|letter| pins.get(usize::from(letter - b'A')).copied()).collect();
+        nets.sort();
+        nets.dedup();
+        nets
+    };
+    set_expression(kind).unwrap_or_default().split('+').map(product).collect()
+}
+
+/// Products that hold no other one, in order: two set expressions are the same where these are.
+fn smallest(products: &[Vec<usize>]) -> Vec<Vec<usize>> {
+    let holds = |one: &Vec<usize>, other: &Vec<usize>| one != other && other.iter().all(|net| one.contains(net));
+    let mut kept: Vec<Vec<usize>> = products.iter().filter(|one| !products.iter().any(|other| holds(one, other))).cloned().collect();
+    kept.sort();
+    kept.dedup();
+    kept
+}
+
+/// Some parts of a sentence, the first ones.
+fn some_of(parts: &[String]) -> String {
+    let more = if parts.len() > PARTS { ", .." } else { "" };
+    parts[..parts.len().min(PARTS)].join(", ") + more
 }
 
 /// The command of a gate.
