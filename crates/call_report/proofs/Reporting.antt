@@ -37,7 +37,7 @@ use Rattle.verdict.proofs.Least.{least-says}
 use Rattle.verdict.proofs.Reaching.{reaches-sound}
 use Rattle.check_spec.proofs.View.{stageView, stage-view}
 use Rattle.check_spec.proofs.Alike.{spelled-alike, names-alike}
-use Rattle.check_spec.proofs.Exactly.{accepted-passes}
+use Rattle.check_spec.proofs.Sound.{accepted-sound}
 use Rattle.check_spec.proofs.Bridge.{code-free}
 use Rattle.circuit.specs.Stage.{stageIn, StageLoaded}
 use Rattle.circuit.specs.Order.{InOrder}
@@ -124,21 +124,21 @@ module _ (order : WordOrder) (stage reference : List ℕ) (v : Verdict) (e : v �
   -- an accepted stage reads and has no loop
   pub accepted-file : v .number ≡ 0 → LoopFreeFile stage
   accepted-file n =
-      let a = accepted-passes order f (sym (ap (λ (x : Verdict). x .number) e) ∙ n) in
-      let r = stage-read f (a .1 .0) in
+      let a = accepted-sound order f (sym (ap (λ (x : Verdict). x .number) e) ∙ n) .1 in
+      let r = stage-read f (a .read .0) in
       let is : stageView (content.stageIn f) ≡ stageOf stage (r .0) = ap (λ (x : Reading). stageView (contentAt file.Stage stage x)) (r .1) ∙ stage-view stage (r .0) in
-      let free = code-free (content.stageIn f) (a .2 .free) in
+      let free = code-free (content.stageIn f) (a .free) in
       record { places = r .0; reads = r .1; free = subst (λ (s : Stage). NoLoop (s .inputs) (s .gates)) is free }
 
   pub report-accepted : (n : v .number ≡ 0) → (r : Report) → ((p : Places) → readFile file.Stage stageLimits stage ≡ readable p → r ≡ stageReport order v (stageOf stage p))
       → (r ≡ reportOn order f) × ReportMeans f r
   unfolding reportOn
   report-accepted n r is =
-      let a = accepted-passes order f (sym (ap (λ (x : Verdict). x .number) e) ∙ n) in
-      let p = stage-read f (a .1 .0) in
+      let a = accepted-sound order f (sym (ap (λ (x : Verdict). x .number) e) ∙ n) .1 in
+      let p = stage-read f (a .read .0) in
       let same : stageView (content.stageIn f) ≡ stageOf stage (p .0) = ap (λ (x : Reading). stageView (contentAt file.Stage stage x)) (p .1) ∙ stage-view stage (p .0) in
       let z : r ≡ reportOn order f =
-      is (p .0) (p .1) ∙ ap (stageReport order v) (sym same) ∙ report-alike order v (content.stageIn f) (a .2 .free)
+      is (p .0) (p .1) ∙ ap (stageReport order v) (sym same) ∙ report-alike order v (content.stageIn f) (a .free)
       ∙ sym (ap (λ (b : Bool). cond b (reportOf v (names order (content.stageIn f)) (spec.lines order (content.stageIn f))) (reportOf v [] [])) (eq-eqb (v .number) 0 n))
       ∙ ap (λ (x : Verdict). cond (eqb (x .number) 0) (reportOf x (names order (content.stageIn f)) (spec.lines order (content.stageIn f))) (reportOf x [] [])) e in
       (z, subst (ReportMeans f) (sym z) (report-means order f))

@@ -1,8 +1,8 @@
 -- What a file holds, from the code's form of it and back.
 -- Assumes nothing.
-use Prim.Native.Nat.{ℕ, zero, suc, _+_, _*_, _≤_, _<_}
+use Prim.Native.Nat.{ℕ, suc, _+_, _≤_}
 use native.Mathlib.Omega.{arith}
-use mathlib.Core.Path.{_≡_, refl, sym, ap, ap₂, _∙_, subst}
+use mathlib.Core.Path.{_≡_, refl, sym, ap, ap₂, _∙_}
 use mathlib.Core.Bool.{Bool, true, false}
 use mathlib.Core.List.{List, [], _∷_, _++_, map, map-map}
 use lib.ListN.{length, getD}
@@ -14,15 +14,15 @@ use Rattle.netlist.specs.Bytes.{operands}
 use Rattle.netlist.specs.Commands.{commandTable, ownCommands, formIn, needed}
 use Rattle.netlist.specs.Reading.{Places, readable, readFile}
 use Rattle.netlist.specs.Content as parsed
-use Rattle.netlist.specs.Content.{Coded, Pair, codedAt, gateOf}
+use Rattle.netlist.specs.Content.{Coded, codedAt, gateOf}
 use Rattle.netlist.specs.Writing.{Item, gate, output, care, All, codedGate, pairOperands, stageItems, referenceItems}
-use Rattle.netlist.proofs.Encoding.{KindOfCell, kind-in}
+use Rattle.netlist.proofs.Encoding.{kind-in}
 use Rattle.netlist.proofs.Laid.{wiredAt}
 use Rattle.netlist.proofs.Formed.{GatesFormed, OutputFormed, readable-formed}
 use Rattle.netlist.proofs.References.{no-care}
-use Rattle.check_spec.specs.Content.{Content, contentAt, railsOfOutput}
+use Rattle.check_spec.specs.Content.{Content, contentAt}
 use Rattle.check_spec.proofs.View.{pairOf}
-use Rattle.check_spec.proofs.Writing.{itemsOf, wired}
+use Rattle.check_spec.proofs.Writing.{itemsOf}
 
 -- a stage and a reference as their files have them
 abbrev pub fromStage : parsed.Stage → Content

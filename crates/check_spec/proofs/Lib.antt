@@ -4,8 +4,9 @@ pub mod Loops
 pub mod Pairs
 pub mod Names
 pub mod OneWord
-pub mod Exactly
+pub mod Laws
 pub mod Shown
+pub mod Sound
 pub mod Demanded
 pub mod View
 pub mod Alike

@@ -3,15 +3,14 @@
 use Prim.Native.Nat.{ℕ, zero, suc, _+_, _-_, _*_, _/_, _%_, _^_, _≤_, _<_}
 use native.Mathlib.Omega.{arith}
 use mathlib.Core.Path.{_≡_, refl, sym, ap, _∙_, subst}
-use mathlib.Core.Logic.{_⊎_, inl, inr, _↔_, ⊎-elim}
-use mathlib.Core.Bool.{Bool, true, false, cond, not, _&&_, _||_, and-true}
+use mathlib.Core.Logic.{_↔_}
+use mathlib.Core.Bool.{Bool, true, false, cond, not}
 use lib.ListN.{length}
 use lib.Dec.{eqb}
-use Rattle.runs.specs.Row.{Row, low, only, _∖_}
-use Rattle.runs.specs.Net.{Net, rails, nets, IsGate, inputRail, riseUp, railsOfInputs}
-use Rattle.runs.specs.Settled.{Settled, SettledHeld, SettledKept}
-use Rattle.runs.specs.Pair.{DataOf, AllData, AllNull, InputsData}
-use Rattle.runs.specs.Acyclic.{Acyclic}
+use Rattle.runs.specs.Row.{Row, only, _∖_}
+use Rattle.runs.specs.Net.{Net, nets, IsGate, railsOfInputs}
+use Rattle.runs.specs.Settled.{Settled, SettledKept}
+use Rattle.runs.specs.Pair.{DataOf, InputsData}
 use Rattle.runs.specs.Checks.{Passes, Fall-passes}
 use Rattle.runs.specs.Complete.{Conforms}
 use Rattle.runs.proofs.Test.{clash, not-true, not-false, of-not, and-in, and-left, and-right}

@@ -3,17 +3,15 @@
 use Prim.Native.Nat.{ℕ, _+_}
 use mathlib.Core.Path.{_≡_, refl, sym, ap, ap₂, _∙_}
 use mathlib.Core.List.{List, [], _∷_, _++_, append-assoc, map, map-id, flatMap}
-use lib.ListN.{length, take}
 use Rattle.netlist.specs.declared.File.{File}
 use Rattle.netlist.specs.declared.File.the-variants as file
 use Rattle.netlist.specs.declared.Sort.the-variants as sort
 use Rattle.netlist.specs.declared.Limits.{Limits}
 use Rattle.netlist.specs.Commands as k
 use Rattle.netlist.specs.Bytes.{operands}
-use Rattle.netlist.specs.Reading.{Places, readable, readFile}
-use Rattle.netlist.specs.Content.{Coded, codedAt}
+use Rattle.netlist.specs.Content.{Coded}
 use Rattle.netlist.specs.Writing as items
-use Rattle.netlist.specs.Writing.{Item, gate, output, care, gatesIn, outputsIn, careIn, gatePlaces, outputPlaces, placesOf, writeItem, writeItems, FileFits}
+use Rattle.netlist.specs.Writing.{Item, gate, output, care, gatesIn, outputsIn, careIn, outputPlaces, writeItem, writeItems, FileFits}
 use Rattle.netlist.proofs.Laid.{wiredAt}
 use Rattle.netlist.proofs.GatesFirst.{gatesIn-items, outputsIn-items, careIn-items}
 use Rattle.netlist.proofs.ReadBack.{read-write, gates-write, outputs-write}
