@@ -1,6 +1,6 @@
 -- The verdict as the first failing case is the one that the code finds, check by check: the law that joins the definitions with those of the code.
 -- Assumes nothing.
-use Prim.Native.Nat.{ℕ, zero, suc, _+_, _-_, _*_, _<_}
+use Prim.Native.Nat.{ℕ, zero, suc, _+_, _-_, _*_, _^_, _<_}
 use native.Mathlib.Omega.{arith}
 use mathlib.Core.Path.{_≡_, refl, sym, ap, ap₂, _∙_, subst, fun-ext}
 use mathlib.Core.Logic.{inl, inr}
@@ -16,7 +16,7 @@ use Rattle.runs.proofs.Test.{clash, not-true}
 use Rattle.netlist.specs.declared.Found.{Found}
 use Rattle.netlist.specs.declared.Found.the-variants.{At, Nothing}
 use Rattle.netlist.specs.declared.File.the-variants as file
-use Rattle.netlist.specs.Reading.{Reading, refused, readable, readFile}
+use Rattle.netlist.specs.Reading.{Ascending, Reading, refused, readable, readFile}
 use Rattle.netlist.specs.Content as parsed
 use Rattle.netlist.specs.Content.{Coded, gateOf}
 use Rattle.verdict.specs.declared.Verdict.{Verdict}
@@ -33,13 +33,14 @@ use Rattle.verdict.specs.Checks as found
 use Rattle.verdict.specs.Verdicts as given
 use Rattle.verdict.proofs.Words.{in-index}
 use Rattle.verdict.proofs.Reaching.{reaches-sound, reaches-complete}
+use Rattle.verdict.proofs.Rising.{never-rises, rises-never}
 use Rattle.verdict.proofs.Because.{data-true, true-data, null-true, true-null}
 use Rattle.check_spec.specs.Cases.{verdict, accepted, case, Check, first, judge, sweep, unequal}
 use Rattle.check_spec.specs.Lists.{numbers, bitOf, reaches}
 use Rattle.check_spec.specs.Content.{Content, Files, contentAt}
 use Rattle.check_spec.specs.Rows.{noGate, driver, cellIn, netOf, dataOf, allData, allNull, feeding, reachesItself}
 use Rattle.check_spec.specs.Words.{spelled, names, answer}
-use Rattle.check_spec.specs.Checks.{rest, wrong, incomplete, highAnd, unobservable, fallIncomplete, fallUnobservable, looped, retired, swept, checks}
+use Rattle.check_spec.specs.Checks.{rest, wrong, incomplete, highAnd, unobservable, fallIncomplete, fallUnobservable, looped, retired, swept, neverRises, idle, checks}
 use Rattle.check_spec.specs.Verdicts.{refusal, verdictOn}
 use Rattle.check_spec.specs.Demands.{Pass, LoopFree}
 use Rattle.check_spec.proofs.First.{first-pass, first-++}
@@ -47,7 +48,8 @@ use Rattle.check_spec.proofs.Laws.{Laws, none, _&_, equal-passes, gates
 use Rattle.check_spec.proofs.Loops.{loop-found, found-loop, feeding-gate}
 use Rattle.check_spec.proofs.Pairs.{all-data, all-null}
 use Rattle.check_spec.proofs.View.{pairOf, stageView, referenceView, stage-view, reference-view, net-view, rail-view}
-use Rattle.check_spec.proofs.Alike.{spelled-alike, names-alike, answer-alike, rest-alike, missing-alike, held-alike, but-alike, keeping-alike}
+use Rattle.check_spec.proofs.Alike.{spelled-alike, names-alike, answer-alike, rest-alike, missing-alike, held-alike, but-alike, keeping-alike, word-in, in-word, read-care}
+use Rattle.check_spec.proofs.Rising.{never-low, low-never}
 
 -- ---- a sweep finds what its cases say
 
@@ -245,6 +247,15 @@ module _ (c : Content) where
     unfolding fallUnobservable found.fallUnobservable
     fall-unobservable-alike g = high-alike g _ _ (null-alike _ _ (keeping-alike c free w r g))
 
+  -- 32, of a stage whose care words rise
+  never-alike : LoopFree (netOf c) → Ascending (2 ^ c .inputs) 0 (c .care) → (g : ℕ) → neverRises c (2 * c .inputs + g) ≡ found.neverRises v g
+  never-alike free care g =
+      let net = 2 * c .inputs + g in
+      let level : (w : ℕ) → found.highAt v w g ≡ rest c w net = λ w. ap (λ (R : Row). R net) (rest-alike c free w) in
+      together _ _
+      (λ e. rises-never v g (λ w i. level w ∙ never-low c net e w (in-word c care w i)))
+      (λ e. low-never c net (λ w i. sym (level w) ∙ never-rises v g e w (word-in c care w i)))
+
 -- ---- the checks
 
 -- of a check that compares counts, of one that looks at places, and of one that sweeps words
@@ -289,9 +300,9 @@ module _ (order : WordOrder) (c : Content) where
     signals-long : length (r .outputs) ≡ length (q .outputs)
     signals-long = sym (length-map (r .outputs) (λ (vs : List ℕ). getD vs 0 0))
 
-    pub checks-alike : Alike (checks order c r) (found.checks order s q)
-    unfolding checks looped retired found.checks found.riseSweeps found.fallSweeps found.finding
-    checks-alike =
+    pub checks-alike : Ascending (2 ^ c .inputs) 0 (c .care) → Alike (checks order c r) (found.checks order s q)
+    unfolding checks looped retired idle found.checks found.riseSweeps found.fallSweeps found.finding
+    checks-alike care =
         also (unequal-is 10 (c .inputs) (r .inputs) (c .inputs) (r .inputs) refl refl) λ n10.
         also (unequal-is 11 (length (c .outputs)) (length (r .outputs)) (length (s .outputs)) (length (q .outputs)) outputs-long signals-long) λ n11.
         also (placed-is 12 1 (length (c .gates)) (length (s .gates)) (λ g. reachesItself (netOf c) (2 * c .inputs + g))
@@ -305,6 +316,8 @@ module _ (order : WordOrder) (c : Content) where
         also (swept-is 15 1 (length (c .gates)) (length (s .gates)) (unobservable c) (found.unobservable s) gates-long (λ w g h. unobservable-alike c r free w g h)) λ n15.
         also (swept-is 20 1 (c .inputs) (c .inputs) (fallIncomplete c) (found.fallIncomplete s) refl (λ w i h. fall-incomplete-alike c r free w i)) λ n20.
         also (swept-is 21 1 (length (c .gates)) (length (s .gates)) (fallUnobservable c) (found.fallUnobservable s) gates-long (λ w g h. fall-unobservable-alike c r free w g)) λ n21.
+        also (placed-is 32 1 (length (c .gates)) (length (s .gates)) (λ g. neverRises c (2 * c .inputs + g)) (found.neverRises s) gates-long
+        (λ g h. never-alike c free care g)) λ n32.
         alike
 
 -- ---- the verdict
@@ -312,13 +325,14 @@ module _ (order : WordOrder) (c : Content) where
 -- the law that joins the two
 pub verdict-is : (order : WordOrder) (f : Files) → verdictOn order f ≡ given.verdictWithin order (f .stageMost) (f .referenceMost) (f .stage) (f .reference)
 unfolding judge first refusal given.verdictWithin given.judgeStage given.judgeReference
-verdict-is order f = go (readFile file.Stage (f .stageMost) (f .stage)) (readFile file.Reference (f .referenceMost) (f .reference)) refl
+verdict-is order f = go (readFile file.Stage (f .stageMost) (f .stage)) (readFile file.Reference (f .referenceMost) (f .reference)) refl refl
   where
-    go : (x y : Reading) → readFile file.Reference (f .referenceMost) (f .reference) ≡ y
+    go : (x y : Reading) → readFile file.Stage (f .stageMost) (f .stage) ≡ x → readFile file.Reference (f .referenceMost) (f .reference) ≡ y
         → first (refusal file.Stage x) (first (refusal file.Reference y) (judge (checks order (contentAt file.Stage (f .stage) x) (contentAt file.Reference (f .reference) y))))
         ≡ given.judgeStage order (f .referenceMost) (f .stage) (f .reference) x
-    go (refused number at) y e = refl
-    go (readable p) (refused number at) e = rw e
-    go (readable p) (readable p′) e =
-        rw e (alike-judge (checks-alike order (contentAt file.Stage (f .stage) (readable p)) (contentAt file.Reference (f .reference) (readable p′)))
+    go (refused number at) y s e = refl
+    go (readable p) (refused number at) s e = rw e
+    go (readable p) (readable p′) s e =
+        rw e (alike-judge (checks-alike order (contentAt file.Stage (f .stage) (readable p)) (contentAt file.Reference (f .reference) (readable p′))
+        (read-care (f .stageMost) (f .stage) p s))
         ∙ ap₂ (λ (s : parsed.Stage) (r : parsed.Reference). given.verdictOf (found.firstFault (found.checks order s r))) (stage-view (f .stage) p) (reference-view (f .reference) p′))

@@ -23,7 +23,7 @@ use Rattle.check_spec.proofs.Loops.{some-all, loops, settled-is, risen-
 use Rattle.check_spec.proofs.Pairs.{data-of, all-data, all-null}
 use Rattle.check_spec.proofs.OneWord.{inside, hold-clean}
 use Rattle.check_spec.proofs.Laws.{before, claimed, not-named, judge-from}
-use Rattle.check_spec.proofs.Sound.{Ran, laws, past-reading, reads-past, accepted-sound, sound-accepted, sound-kept}
+use Rattle.check_spec.proofs.Sound.{Ran, laws, past-reading, reads-past, accepted-sound, idle-sound, sound-accepted, sound-answers, sound-kept}
 
 -- demand 3 speaks of numbers above 12, and of none by which a file is refused in reading
 of-runs : (n : ℕ) → Ran n → (12 < n) × (¬ (InTable n))
@@ -43,7 +43,7 @@ module _ (order : WordOrder) (f : Files) where
 
   exactly : Comparable f → (verdictOn order f ≡ accepted) ↔ Acceptable f
   exactly k = (
-    (λ v. let h = accepted-sound order f (ap number v) .1 in record { cast = h .cast; conforms = h .conforms }),
+    (λ v. let h = accepted-sound f order (ap number v) in record { cast = h .1 .cast; conforms = h .1 .conforms; rises = h .2 }),
     (λ a. sound-accepted (record {
       read = k .read;
       inputs = k .inputs;
@@ -51,7 +51,7 @@ module _ (order : WordOrder) (f : Files) where
       free = k .loop-free;
       cast = a .cast;
       conforms = a .conforms;
-    }) order),
+    }) (a .rises) order),
   )
 
   -- with hold everywhere the checks of the fall find nothing where those of the rise do
@@ -77,7 +77,7 @@ module _ (order : WordOrder) (f : Files) where
   unfolding laws judge sweep flatMap
   retired k g l e none =
       reads-past f order (k .read) ∙ judge-from 28 (laws f order) (k .inputs, (k .outputs, (k .loop-free, tt)))
-      ∙ places-first 28 1 0 (retiredGate s) 0 (length (s .gates)) g (omega arith) (omega arith) (λ k a b. none k b) e [] _
+      ∙ places-first 28 1 0 (retiredGate s) [] _ 0 (length (s .gates)) g (omega arith) (omega arith) (λ k a b. none k b) e
 
   -- Demand 2 holds of the verdict, whatever the two files hold.
   pub demand-2 : Demand2 order f (verdictOn order f)
@@ -93,7 +93,10 @@ module _ (order : WordOrder) (f : Files) where
     fallen-is = λ free w X. fallen-is s free _ X (inside s r free w);
     hold-only = hold-only;
     retired = retired;
-    either-order = λ other. ((λ e. sound-accepted (accepted-sound order f (ap number e) .1) other), (λ e. sound-accepted (accepted-sound other f (ap number e) .1) order));
+    either-order = λ other. (
+      (λ e. let h = accepted-sound f order (ap number e) in sound-accepted (h .1) (h .2) other),
+      (λ e. let h = accepted-sound f other (ap number e) in sound-accepted (h .1) (h .2) order),
+    );
   }
 
   -- ---- demand 3
@@ -116,6 +119,7 @@ module _ (order : WordOrder) (f : Files) where
   -- Demand 3 holds of the verdict, whatever the two files hold.
   pub demand-3 : Demand3 order f (verdictOn order f)
   demand-3 = record {
-    kept = λ e. let p = accepted-sound order f e in (p .0, p .1 .read, sound-kept (p .1));
+    kept = λ e. let p = accepted-sound f order e in (p .0, p .1 .read, sound-kept (p .1));
     broken = broken;
+    idle = λ e. let h = idle-sound f order e in (h .read, ⊎-elim (λ q. absurd (omega (arith, sym e ∙ ap number q))) (λ i. i) (sound-answers f order h));
   }
