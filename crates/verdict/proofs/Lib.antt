@@ -17,7 +17,6 @@ pub mod Retired
 pub mod Because
 pub mod OneWord
 pub mod Demands
-pub mod Bounds
 pub mod Cut
 pub mod Careless
 pub mod Rises
