@@ -1,230 +1,269 @@
--- The call's answer: its reasons, and that the stage it writes is accepted against its reference.
+-- The call: its checks by their tests, that the stage it writes reads back, and that this stage is accepted against its reference.
 -- Assumes nothing.
-use Prim.Native.Nat.{ℕ, _+_, _*_, _≤_, _<_}
+use Prim.Native.Nat.{ℕ, suc, _+_, _*_, _≤_, _<_}
 use native.Mathlib.Omega.{arith}
-use native.Mathlib.Decide.{decLt}
-use mathlib.Core.Path.{_≡_, refl, ap, _∙_}
-use mathlib.Core.Bool.{Bool, cond, true, false, not}
-use mathlib.Core.Logic.{_⊎_, inl, inr}
-use mathlib.Core.List.{List, [], _∷_}
-use lib.ListN.{length, getD}
-use lib.Dec.{ltb}
-use borrow.Author.Tests.{ltb-true, lt-ltb}
-use Rattle.runs.proofs.Test.{clash, true?, not-true, of-not}
+use mathlib.Core.Path.{_≡_, refl, sym, ap, ap₂, _∙_, subst}
+use mathlib.Core.Bool.{Bool, true, false, cond, not}
+use mathlib.Core.Logic.{inl, inr}
+use mathlib.Core.List.{List, [], _∷_, _++_, map, map-id, flatMap}
+use lib.ListN.{length, getD, take, length-map}
+use lib.Dec.{eqb, ltb}
+use Rattle.gates.specs.Cell.{isRetired}
+use Rattle.runs.specs.Net.{IsGate}
+use Rattle.runs.specs.Complete.{Conforms}
+use Rattle.runs.proofs.Test.{clash, not-false, eqb-eq, ltb-false}
+use Rattle.netlist.specs.declared.File.{File}
 use Rattle.netlist.specs.declared.File.the-variants as file
 use Rattle.netlist.specs.declared.Limits.{Limits}
 use Rattle.netlist.specs.declared.Found.{Found}
-use Rattle.netlist.specs.declared.Found.the-variants.{At, Nothing}
-use Rattle.netlist.specs.Commands.{whenFound}
-use Rattle.netlist.specs.Reading.{Reading, refused, readable, readFile, stageLimits, referenceLimits}
-use Rattle.netlist.specs.Content.{Stage, Reference, referenceOf}
-use Rattle.netlist.specs.Writing.{All, FileFits, placesOf, stageItems}
-use Rattle.netlist.specs.Formed.{CellFormed, RailsFormed, StageFormed, ReferenceFormed}
+use Rattle.netlist.specs.declared.Found.the-variants.{At}
+use Rattle.netlist.specs.Bytes.{operand, operands, absent}
+use Rattle.netlist.specs.Commands.{whenFound, commandTable, ownCommands, formIn}
+use Rattle.netlist.specs.Reading.{nameable, Places, Reading, refused, readable, readFile, stageLimits, referenceLimits}
+use Rattle.netlist.specs.Read.{farthest, mostBytes}
+use Rattle.netlist.specs.Coded.{Coded}
+use Rattle.netlist.specs.Content.{Reference, referenceOf}
+use Rattle.netlist.specs.Writing as items
+use Rattle.netlist.specs.Writing.{Item, gate, output, gatesIn, outputsIn, All, ItemsFit, FileFits}
+use Rattle.netlist.specs.Formed.{ReferenceFormed}
 use Rattle.netlist.proofs.Lists.{All-map}
-use Rattle.netlist.proofs.Stages.{CellsIn, read-writeStage, stageOf-writeStage, stage-fits}
-use Rattle.netlist.proofs.References.{reference-formed}
+use Rattle.netlist.proofs.ReadBack.{read-write}
+use Rattle.netlist.proofs.References.{no-care, reference-formed}
+use Rattle.netlist.proofs.GatesFirst.{gatesIn-items, outputsIn-items, careIn-items}
+use Rattle.netlist.proofs.Cut.{readFile-take}
 use Rattle.verdict.specs.declared.Verdict.{Verdict}
-use Rattle.verdict.specs.declared.WordOrder.{WordOrder}
-use Rattle.verdict.specs.declared.WordOrder.the-variants as order
-use Rattle.verdict.specs.declared.Finding.{Finding}
-use Rattle.verdict.specs.declared.Finding.the-variants.{Fault, Passed}
-use Rattle.verdict.specs.Words.{numbers}
-use Rattle.verdict.specs.Checks.{verdict, first, atFault, sweep, finding, orLater, firstFault}
+use Rattle.verdict.specs.declared.Answer.{Answer}
+use Rattle.verdict.specs.Checks as found
 use Rattle.verdict.specs.Search.{least}
-use Rattle.verdict.specs.Verdicts.{accepted, verdictWithin}
-use Rattle.verdict.specs.Nets.{noGate}
-use Rattle.verdict.specs.Demands.{StageIs, ReferenceIs, Contents, Comparable, Acceptable, Nowhere, Named, EachOf}
-use Rattle.verdict.proofs.Reaching.{loopFree-noLoop}
+use Rattle.verdict.specs.Written.{Written, written, refuse, write}
 use Rattle.verdict.proofs.Words.{index-in}
-use Rattle.verdict.proofs.Sweeps.{Means, FirstFault, first-fault, named-one}
-use Rattle.verdict.proofs.Because.{holds}
-use Rattle.verdict.proofs.Refusals.{refused-number}
-use Rattle.verdict.proofs.Demands.{demand-2, demand-3}
-use Rattle.make_spec.specs.Made.{railsAt, inputRails, built, madeStage, gatesNeeded}
-use Rattle.make_spec.specs.Count.{operations}
-use Rattle.make_spec.specs.Leading.{signals, LeadsOut, leadsOut}
-use Rattle.make_spec.specs.Making.{madeBytes, makeChecks, MakeAnswer, makeUnless, makeReading, makeWithin}
-use Rattle.make_spec.specs.Promises.{Fitting, MadeFrom, MakeBecause, reference-refused, make-refused, stage-made, MakeMeans}
+use Rattle.verdict.proofs.Written.{holding-take}
+use Rattle.verdict.proofs.Cut.{read-short}
+use Rattle.check_spec.specs.Cases.{verdict, accepted, Check, first, judge, sweep, sweepPlaces}
+use Rattle.check_spec.specs.Lists.{numbers, bitOf}
+use Rattle.check_spec.specs.Content.{Content, Files, contentAt, contentOf, stageIn, referenceIn, files}
+use Rattle.check_spec.specs.Rows.{noGate, driver, cellIn, netOf}
+use Rattle.check_spec.specs.Words.{railsFor, IsWord, answer}
+use Rattle.check_spec.specs.Verdicts.{refusal, reading}
+use Rattle.check_spec.specs.Demands.{Pass, Judged, LoopFree}
+use Rattle.check_spec.specs.Writing.{writeFile, leaving}
+use Rattle.check_spec.proofs.First.{Each, judged, sweep-out}
+use Rattle.check_spec.proofs.Exactly.{EachCheck, judge-passes, other-number, reading-number}
+use Rattle.check_spec.proofs.Sound.{Sound, sound-accepted, sound-kept}
+use Rattle.check_spec.proofs.Writing.{itemsOf, stage-bytes, content-write}
+use Rattle.make_spec.specs.Make.{railsAt, built, madeStage, leadsOut, referenceRead, madeBytes, makeChecks, makeChecksOn, Waits, MadeFrom, MakeDemand}
+use Rattle.make_spec.specs.Loaded.{asContent, operations}
 use Rattle.make_spec.proofs.Lists.{at-all}
-use Rattle.make_spec.proofs.Building.{sound-more, all-long}
-use Rattle.make_spec.proofs.Leading.{leadsOut-sound, leadsOut-complete}
-use Rattle.make_spec.proofs.Stage.{stage, sane, free, none-retired, outputs-long, word-conforms, word-waits}
-
--- ---- the stage fits a file
-
-module _ {referenceMost : Limits} (r : Reference) (formed : ReferenceFormed referenceMost r) where
-  pub needed-counted : gatesNeeded r ≡ 2 * operations (r .gates)
-  unfolding built
-  needed-counted = all-long (r .inputs) (record { gates = []; rails = inputRails 0 (r .inputs) }) (r .inputs) (r .gates) (formed .gates-formed) ∙ omega arith
-
-  rails-formed : (vs : List ℕ) → All (λ v. v < signals r) vs → All (RailsFormed (2 * r .inputs + length (built r .gates))) (railsAt (built r .rails) vs)
-  rails-formed [] h = tt
-  rails-formed (v ∷ vs) h =
-      let below = sane r formed .below v (h .0) in
-      (record { rail0-in = below false; rail1-in = below true }, rails-formed vs (h .1))
-
-  module _ (stageMost : Limits) (fitting : Fitting stageMost referenceMost) (few : gatesNeeded r ≤ stageMost .gates) where
-    stage-formed : StageFormed stageMost (stage r formed)
-    stage-formed =
-        let i = formed .inputs-in in
-        let o = formed .outputs-in in
-        record {
-          inputs-in = omega (arith, fitting .inputs);
-          gates-in = few;
-          outputs-in = omega (arith, fitting .outputs, outputs-long r formed 0);
-          gates-formed = at-all (CellFormed (2 * r .inputs + length (built r .gates))) (built r .gates) noGate (λ k l.
-              sound-more (2 * r .inputs + k) (2 * r .inputs + length (built r .gates)) (omega arith) (getD (built r .gates) k noGate) (sane r formed .sound k l) .formed);
-          outputs-formed = rails-formed (r .outputs) (formed .outputs-formed);
-          care-in = tt;
-        }
-
-    stage-file : FileFits file.Stage stageMost (r .inputs) (stageItems (stage r formed))
-    stage-file = stage-fits stageMost (stage r formed) (fitting .words) (fitting .nets) stage-formed
-
-    cells : CellsIn (built r .gates)
-    cells = All-map (CellFormed (2 * r .inputs + length (built r .gates))) (λ g. (1 ≤ g .cell) × (g .cell ≤ 27)) (λ g h. h .cell-in) (built r .gates) (stage-formed .gates-formed)
-
-    -- the bytes read as the stage
-    pub reads-back : StageIs stageMost (madeBytes r) (madeStage r)
-    unfolding madeStage
-    reads-back = record {
-      places = placesOf file.Stage (r .inputs) (stageItems (stage r formed));
-      reads = read-writeStage stageMost (stage r formed) stage-file;
-      content = stageOf-writeStage stageMost (stage r formed) stage-file cells;
-    }
-
-    -- ---- it is accepted
-
-    pub comparable : Comparable (madeStage r) r
-    unfolding madeStage
-    comparable = record { inputs = refl; outputs = outputs-long r formed 0; loop-free = loopFree-noLoop (r .inputs) (built r .gates) (free r formed) }
-
-    module _ (lead : (s : ℕ) → s < signals r → LeadsOut r s) (reference : List ℕ) (is : ReferenceIs referenceMost reference r) where
-      pub acceptable : Acceptable (madeStage r) r
-      unfolding madeStage
-      acceptable = record { cast = none-retired r formed; conforms = λ w h. word-conforms r formed w lead }
-
-      pub made-accepted : (order : WordOrder) → verdictWithin order stageMost referenceMost (madeBytes r) reference ≡ accepted
-      made-accepted order =
-          let c : Contents stageMost referenceMost (madeBytes r) reference = record { circuit = madeStage r; function = r; circuit-is = reads-back; function-is = is } in
-          demand-2 order stageMost referenceMost (madeBytes r) reference .exactly c comparable .1 acceptable
-
-      pub made-from : MadeFrom stageMost referenceMost reference (madeBytes r)
-      made-from = record {
-        function = r;
-        function-is = is;
-        bytes-are = refl;
-        stage-is = reads-back;
-        stage-accepted = made-accepted;
-        kept = demand-3 order.FirstHighest stageMost referenceMost (madeBytes r) reference .kept (ap (λ (v : Verdict). v .number) (made-accepted order.FirstHighest)) .1;
-        waits = λ w h. word-waits r formed w;
-      }
+use Rattle.make_spec.proofs.Gates.{Fit, rail, BothBelow}
+use Rattle.make_spec.proofs.Stage.{stage, size, all, whole, two-rails, fit, fit-at, free, outputs-are, outputs-long, word-conforms, word-waits}
 
 -- ---- the checks
 
-module _ (stageMost referenceMost : Limits) (r : Reference) (formed : ReferenceFormed referenceMost r) (room : ℕ) where
-  pub checks-mean : EachOf Means (makeChecks stageMost r room)
-  unfolding makeChecks
-  checks-mean = (
+first-swept : (number file : ℕ) (f : ℕ → Bool) (l : List ℕ) (v : Verdict) → first (sweepPlaces number file l f) v ≡ whenFound (found.first f l) (λ x. verdict number file x 0) v
+unfolding first sweep flatMap found.first whenFound
+first-swept number file f [] v = refl
+first-swept number file f (x ∷ l) v = go (f x) (first-swept number file f l v)
+  where
+    go : (b : Bool) {u : Verdict} → u ≡ whenFound (found.first f l) (λ x. verdict number file x 0) v
+        → cond b (verdict number file x 0) u ≡ whenFound (cond b (At x) (found.first f l)) (λ x. verdict number file x 0) v
+    go true e = refl
+    go false e = e
+
+-- what the call finds: a search for 25, then 26 and 27
+pub judged-by : (r : Content) (room : ℕ) → judge (makeChecks r room)
+    ≡ whenFound (least (λ x. not (leadsOut r x)) 0 (r .inputs + length (r .gates))) (λ x. verdict 25 2 x 0)
+    (cond (ltb (stageLimits .gates) (length (built r .gates))) (verdict 26 2 (length (built r .gates)) 0)
+    (cond (ltb room (length (madeBytes r))) (verdict 27 3 0 0) accepted))
+unfolding makeChecks judge first
+judged-by r room = first-swept 25 2 (λ x. not (leadsOut r x)) (numbers 0 (r .inputs + length (r .gates))) _
+
+-- ---- what a readable reference holds
+
+pub content-is : (reference : List ℕ) (p : Places) → readFile file.Reference referenceLimits reference ≡ readable p
+    → contentAt file.Reference reference (readable p) ≡ asContent (referenceOf reference p)
+unfolding contentAt referenceOf operands
+content-is reference p e = ap₂ (λ (outputs : List (List ℕ)) (care : List ℕ). record { inputs = p .inputs; gates = referenceOf reference p .gates; outputs = outputs; care = care })
+    (outputs (p .outputs)) (no-care referenceLimits reference p e)
+  where
+    outputs : (l : List ℕ) → map (λ at. operands reference (at + 1) 1) l ≡ map (λ (v : ℕ). v ∷ []) (map (λ at. operand reference (at + 1)) l)
+    outputs [] = refl
+    outputs (at ∷ l) = ap (λ (m : List (List ℕ)). (operand reference (at + 1) ∷ []) ∷ m) (outputs l)
+
+-- ---- the stage's file
+
+module _ (n g : ℕ) (small : 2 * n + g ≤ absent) where
+  gates-fit : (k : ℕ) (xs : List Coded) (rest : List Item) → All (Fit (2 * n + g)) xs → ((k : ℕ) → ItemsFit file.Stage n g k rest) → ItemsFit file.Stage n g k (map gate xs ++ rest)
+  unfolding nameable commandTable ownCommands formIn
+  gates-fit k [] rest h r = r k
+  gates-fit k (x ∷ xs) rest h r = (
     record {
-      passes = λ w x h e l. clash (leadsOut-complete r formed x l) (of-not (leadsOut r x) e);
-      occurs = λ w x h d. ap not (not-true (leadsOut r x) (λ e. d (leadsOut-sound r x e)));
+      code-byte = h .0 .code-byte;
+      known = h .0 .known;
+      whole = h .0 .whole;
+      used = All-map (λ v. v < 2 * n + g) (λ v. v < absent) (λ v l. omega arith) (x .operands) (h .0 .pins-in);
+      named = h .0 .pins-in;
     },
-    (
-      record { passes = λ w i h. ltb-true (stageMost .gates) (gatesNeeded r); occurs = λ w i h. lt-ltb (stageMost .gates) (gatesNeeded r) },
-      (record { passes = λ w i h. ltb-true room (length (madeBytes r)); occurs = λ w i h. lt-ltb room (length (madeBytes r)) }, tt),
-    ),
+    gates-fit (suc k) xs rest (h .1) r,
   )
 
-  not-below : (m k : ℕ) → ¬ (m < k) → k ≤ m
-  not-below m k d = go (decLt m k)
+  outputs-fit : (vss : List (List ℕ)) → All (λ vs. (length vs ≡ 2) × BothBelow (2 * n + g) vs) vss → (k : ℕ) → ItemsFit file.Stage n g k (map output vss)
+  unfolding nameable commandTable ownCommands formIn
+  outputs-fit [] h k = tt
+  outputs-fit (vs ∷ vss) h k = (record { whole = h .0 .0; u16s = All-map (λ v. v < 2 * n + g) (λ v. v < 65536) (λ v l. omega arith) vs below; named = below }, outputs-fit vss (h .1) k)
     where
-      go : Dec (m < k) → k ≤ m
-      go (yes h) = absurd (d h)
-      go (no h) = omega arith
+      go : (vs : List ℕ) → length vs ≡ 2 → BothBelow (2 * n + g) vs → All (λ v. v < 2 * n + g) vs
+      go [] e b = tt
+      go (x ∷ []) e b = absurd (omega arith)
+      go (x ∷ y ∷ []) e b = (b false, (b true, tt))
+      go (x ∷ y ∷ z ∷ vs) e b = absurd (omega arith)
 
-  -- what it means that they find nothing
-  found-nothing : EachOf Nowhere (makeChecks stageMost r room)
-      → ((s : ℕ) → s < signals r → LeadsOut r s) × (gatesNeeded r ≤ stageMost .gates) × (length (madeBytes r) ≤ room)
+      below : All (λ v. v < 2 * n + g) vs
+      below = go vs (h .0 .0) (h .0 .1)
+
+module _ (r : Reference) (formed : ReferenceFormed referenceLimits r) where
+  -- two gates for each operation that is not NOT
+  pub needed-counted : length (built (asContent r) .gates) ≡ 2 * operations (r .gates)
+  needed-counted = whole r formed .count ∙ omega arith
+
+  module _ (few : length (built (asContent r) .gates) ≤ stageLimits .gates) where
+    abbrev c : Content
+    c = stage r formed
+
+    fits : FileFits file.Stage stageLimits (r .inputs) (itemsOf c)
+    fits =
+        let i = formed .inputs-in in
+        let o = formed .outputs-in in
+        let g : gatesIn (itemsOf c) ≡ c .gates = gatesIn-items (λ g. g) (λ g. g) (λ vs. vs) (λ vs. vs) [] (c .gates) (c .outputs) ∙ map-id (c .gates) in
+        let os : outputsIn (itemsOf c) ≡ c .outputs = outputsIn-items (λ g. g) (λ g. g) (λ vs. vs) (λ vs. vs) [] (c .gates) (c .outputs) ∙ map-id (c .outputs) in
+        let small : 2 * r .inputs + length (c .gates) ≤ absent = omega arith in
+        record {
+          inputs-in = i;
+          inputs-byte = omega arith;
+          gates-in = rw g few;
+          outputs-in = rw (os, outputs-long r formed) o;
+          care-in = rw (careIn-items (λ g. g) (λ g. g) (λ vs. vs) (λ vs. vs) [] (c .gates) (c .outputs)) tt;
+          items-fit = rw g (gates-fit (r .inputs) (length (c .gates)) small 0 (c .gates) (map output (c .outputs))
+              (at-all (Fit (2 * r .inputs + length (c .gates))) (c .gates) noGate (λ j l. fit r formed j l _ (omega arith)))
+              (outputs-fit (r .inputs) (length (c .gates)) small (c .outputs) (rw (outputs-are r formed) (rails (r .outputs) (formed .outputs-formed)))));
+        }
+      where
+        rails : (l : List ℕ) → All (λ v. v < size r formed) l → All (λ vs. (length vs ≡ 2) × BothBelow (2 * r .inputs + length (c .gates)) vs) (map (railsAt (all r formed)) l)
+        rails [] h = tt
+        rails (v ∷ l) h = (two-rails r formed v (h .0), rails l (h .1))
+
+    -- the bytes read as the stage
+    bytes-are : madeBytes (asContent r) ≡ items.writeFile file.Stage (r .inputs) (itemsOf c)
+    unfolding madeStage
+    bytes-are = stage-bytes c
+
+    reads : Pass (reading file.Stage stageLimits (madeBytes (asContent r)))
+    unfolding refusal
+    reads = rw (ap (readFile file.Stage stageLimits) bytes-are ∙ read-write file.Stage stageLimits (r .inputs) (itemsOf c) fits) tt
+
+    reads-as : contentOf file.Stage stageLimits (madeBytes (asContent r)) ≡ c
+    reads-as = ap (contentOf file.Stage stageLimits) bytes-are ∙ content-write file.Stage stageLimits c fits
+
+    -- ---- it is accepted
+
+    module _ (lead : (s : ℕ) → s < size r formed → leadsOut (asContent r) s ≡ true) (reference : List ℕ)
+        (read : Pass (reading file.Reference referenceLimits reference)) (is : referenceRead reference ≡ asContent r) where
+      abbrev f : Files
+      f = files (madeBytes (asContent r)) reference
+
+      -- checks 10 to 21 find nothing
+      pub made-sound : Sound f
+      made-sound = record {
+        read = (reads, read);
+        inputs = ap (λ (s : Content). s .inputs) reads-as ∙ sym (ap (λ (s : Content). s .inputs) is);
+        outputs = ap (λ (s : Content). length (s .outputs)) reads-as ∙ outputs-long r formed ∙ sym (ap (λ (s : Content). length (s .outputs)) is ∙ length-map (r .outputs) (λ (v : ℕ). v ∷ []));
+        free = rw reads-as (free r formed);
+        cast = rw reads-as (λ net g. fit-at r formed net g .cast);
+        conforms = rw (reads-as, is) (λ w h. word-conforms r formed w lead);
+      }
+
+      pub made-from : MadeFrom f
+      unfolding madeStage
+      made-from = record {
+        reads = made-sound .read;
+        stage-is = reads-as ∙ ap madeStage (sym is);
+        stage-accepted = sound-accepted made-sound;
+        kept = sound-kept made-sound;
+        waits = rw (reads-as, is) (λ w h. word-waits r formed w);
+      }
+
+-- ---- the call
+
+module _ (reference : List ℕ) where
+  none-zero : (room : ℕ) → EachCheck (Each (λ c. ¬ (c .names .number ≡ 0))) (makeChecksOn reference room)
   unfolding makeChecks
-  found-nothing (a, (b, (c, e))) = (
-    λ s l. lead s l (true? (leadsOut r s)),
-    not-below (stageMost .gates) (gatesNeeded r) (λ h. b 0 (inl refl) (gatesNeeded r, inl refl, h)),
-    not-below room (length (madeBytes r)) (λ h. c 0 (inl refl) (0, inl refl, h)),
-  )
+  none-zero room =
+      let r = referenceRead reference in
+      let a = reading-number 0 (λ t. omega (arith, t .0)) file.Reference referenceLimits reference in
+      let b = other-number 0 25 2 (numbers 0 (r .inputs + length (r .gates))) (λ w x. not (leadsOut r x)) (0 ∷ []) (λ q. omega arith) in
+      (a, (b, (((λ q. omega arith), tt), (((λ q. omega arith), tt), tt))))
+
+  -- a file that is not refused is read
+  places : (x : Reading) → Pass (refusal file.Reference x) → (p : Places) × (x ≡ readable p)
+  unfolding refusal
+  places (refused number at) p = absurd (clash refl (p .0))
+  places (readable p) e = (p, refl)
+
+  pub passes-made : (room : ℕ) → EachCheck Pass (makeChecksOn reference room) → MadeFrom (files (madeBytes (referenceRead reference)) reference)
+  unfolding makeChecks
+  passes-made room (a, (b, (d, e))) =
+      let p = places (readFile file.Reference referenceLimits reference) a in
+      let r = referenceOf reference (p .0) in
+      let is : referenceRead reference ≡ asContent r = ap (contentAt file.Reference reference) (p .1) ∙ content-is reference (p .0) (p .1) in
+      let formed = reference-formed referenceLimits reference (p .0) (p .1) in
+      let few : length (built (asContent r) .gates) ≤ stageLimits .gates = subst (λ (c : Content). length (built c .gates) ≤ 256) is (ltb-false 256 _ (d .0)) in
+      let leads : (s : ℕ) → s < referenceRead reference .inputs + length (referenceRead reference .gates) → leadsOut (referenceRead reference) s ≡ true = λ s l.
+      not-false _ (λ z. clash (ap not z) (sweep-out 25 2 (numbers 0 _) (λ w x. not (leadsOut (referenceRead reference) x)) (0 ∷ []) b 0 (inl refl) s (index-in _ s l))) in
+      rw is (made-from r formed few (rw is at leads) reference a is)
+
+  -- what is said of the call, of an answer that is the one defined
+  pub make-demand : (buffer : List ℕ) (r : Answer) (left : List ℕ)
+      → written r left ≡ leaving (judge (makeChecksOn reference (length buffer))) (madeBytes (referenceRead reference)) buffer → MakeDemand reference buffer r left
+  unfolding leaving
+  make-demand buffer r left e = go (eqb (judge checks .number) 0) refl
     where
-      lead : (s : ℕ) → s < signals r → (leadsOut r s ≡ true) ⊎ (leadsOut r s ≡ false) → LeadsOut r s
-      lead s l (inl h) = leadsOut-sound r s h
-      lead s l (inr h) = absurd (a 0 (inl refl) (s, index-in (signals r) s l, λ x. clash (leadsOut-complete r formed s x) h))
+      checks : List Check
+      checks = makeChecksOn reference (length buffer)
 
--- 26 and 27 as tests
-abbrev pub laterTests : Limits → Reference → ℕ → Finding
-laterTests stageMost r room =
-    cond (ltb (stageMost .gates) (gatesNeeded r)) (Fault (verdict 26 2 (gatesNeeded r) 0))
-    (cond (ltb room (length (madeBytes r))) (Fault (verdict 27 3 0 0)) Passed)
+      bytes : List ℕ
+      bytes = madeBytes (referenceRead reference)
 
--- what the checks find: a search for 25, then these
-pub checks-by-tests : (stageMost : Limits) (r : Reference) (room : ℕ)
-    → firstFault (makeChecks stageMost r room) ≡ whenFound (least (λ x. not (leadsOut r x)) 0 (signals r)) (λ x. Fault (verdict 25 2 x 0)) (laterTests stageMost r room)
-unfolding makeChecks firstFault finding sweep atFault orLater first whenFound
-checks-by-tests stageMost r room =
-    go (first (λ x. not (leadsOut r x)) (numbers 0 (signals r))) (ltb (stageMost .gates) (gatesNeeded r)) (ltb room (length (madeBytes r)))
-  where
-    go : (x : Found) (a b : Bool)
-        → orLater (atFault 25 2 0 x Passed) (orLater (atFault 26 2 0 (cond a (At (gatesNeeded r)) Nothing) Passed) (orLater (atFault 27 3 0 (cond b (At 0) Nothing) Passed) Passed))
-        ≡ whenFound x (λ x. Fault (verdict 25 2 x 0)) (cond a (Fault (verdict 26 2 (gatesNeeded r) 0)) (cond b (Fault (verdict 27 3 0 0)) Passed))
-    go (At x) a b = refl
-    go Nothing true b = refl
-    go Nothing false true = refl
-    go Nothing false false = refl
+      says : r .verdict ≡ judge checks → (r .verdict .number ≡ 0 → (r .verdict ≡ accepted) × MadeFrom (files (take (r .count) left) reference)) → MakeDemand reference buffer r left
+      says v made = record { answer = e; least = subst (Judged checks) (sym v) (judged checks); made = made }
 
-made-number : (stageMost : Limits) (r : Reference) (room : ℕ) (v : Verdict) → Named (makeChecks stageMost r room) v → 25 ≤ v .number
-unfolding makeChecks
-made-number stageMost r room v n = named-one (λ k. 25 ≤ k) (makeChecks stageMost r room) v (omega arith, (omega arith, (omega arith, tt))) n
+      go : (b : Bool) → eqb (judge checks .number) 0 ≡ b → MakeDemand reference buffer r left
+      go false q =
+          let w : written r left ≡ refuse (judge checks) buffer = e ∙ rw q in
+          let v : r .verdict ≡ judge checks = ap (λ (x : Written). x .verdict) w in
+          says v (λ z. absurd (clash (eqb-is-zero (sym (ap (λ (x : Verdict). x .number) v) ∙ z)) q))
+        where
+          eqb-is-zero : judge checks .number ≡ 0 → eqb (judge checks .number) 0 ≡ true
+          eqb-is-zero z = rw z
+      go true q =
+          let p = judge-passes checks (none-zero (length buffer)) (eqb-eq (judge checks .number) 0 q) in
+          let w : written r left ≡ write bytes buffer = e ∙ rw q in
+          let v : r .verdict ≡ accepted = ap (λ (x : Written). x .verdict) w in
+          let t : take (r .count) left ≡ bytes = ap (λ (x : Written). take (x .count) (x .buffer)) w ∙ holding-take bytes buffer in
+          says (v ∙ sym (p .1)) (λ z. (v, subst (λ (b : List ℕ). MadeFrom (files b reference)) (sym t) (passes-made (length buffer) (p .0))))
 
--- ---- the answer
+  -- cutting a longer reference at what the program reads of it changes neither the verdict nor the stage
+  pub make-cut : (room : ℕ) → (judge (makeChecksOn (take mostBytes reference) room) ≡ judge (makeChecksOn reference room)) × (referenceRead (take mostBytes reference) ≡ referenceRead reference)
+  unfolding commandTable ownCommands formIn contentAt
+  make-cut room = (ap₂ (λ (x : Reading) (c : Content). judge (refusal file.Reference x ∷ makeChecks c room)) same is, is)
+    where
+      far : farthest file.Reference referenceLimits ≤ mostBytes
+      far = omega arith
 
--- Whatever the reference's file holds, and whatever the buffer's length.
-pub make-means : (stageMost referenceMost : Limits) → Fitting stageMost referenceMost → (reference : List ℕ) (room : ℕ)
-    → MakeMeans stageMost referenceMost reference room (makeWithin stageMost referenceMost reference room)
-unfolding makeWithin makeReading makeUnless
-make-means stageMost referenceMost fitting reference room = go (readFile file.Reference referenceMost reference) refl
-  where
-    answered : (r : Reference) → ReferenceFormed referenceMost r → ReferenceIs referenceMost reference r → (x : Finding) → FirstFault (makeChecks stageMost r room) x
-        → MakeMeans stageMost referenceMost reference room (makeUnless x r)
-    answered r formed is (Fault v) n = record {
-      because = make-refused r is n;
-      fits = omega arith;
-      made = λ e. absurd (omega (arith, made-number stageMost r room v n));
-    }
-    answered r formed is Passed a =
-        let f = found-nothing stageMost referenceMost r formed room a in
-        record { because = stage-made r is a; fits = f .2; made = λ e. (refl, made-from r formed stageMost fitting (f .1) (f .0) reference is) }
+      same : readFile file.Reference referenceLimits (take mostBytes reference) ≡ readFile file.Reference referenceLimits reference
+      same = readFile-take file.Reference referenceLimits reference mostBytes far
 
-    go : (x : Reading) → readFile file.Reference referenceMost reference ≡ x → MakeMeans stageMost referenceMost reference room (makeReading stageMost reference room x)
-    go (refused number at) p = record {
-      because = reference-refused p;
-      fits = omega arith;
-      made = λ e. absurd (omega (arith, refused-number file.Reference referenceMost reference number at p .0));
-    }
-    go (readable places) p =
-        let r = referenceOf reference places in
-        let formed = reference-formed referenceMost reference places p in
-        answered r formed (holds p) (firstFault (makeChecks stageMost r room)) (first-fault (makeChecks stageMost r room) (checks-mean stageMost referenceMost r formed room))
+      go : (x : Reading) → readFile file.Reference referenceLimits reference ≡ x → contentAt file.Reference (take mostBytes reference) x ≡ contentAt file.Reference reference x
+      go (refused number at) e = refl
+      go (readable p) e = ap (λ (b : List ℕ). contentAt file.Reference b (readable p)) (read-short file.Reference referenceLimits far reference p e)
 
--- a refusal writes nothing
-pub refusal-writes-nothing : {stageMost referenceMost : Limits} {reference : List ℕ} {room : ℕ} {a : MakeAnswer} → MakeBecause stageMost referenceMost reference room a
-    → ¬ (a .verdict ≡ accepted) → a .bytes ≡ []
-refusal-writes-nothing (reference-refused e) d = refl
-refusal-writes-nothing (make-refused r is n) d = refl
-refusal-writes-nothing (stage-made r is n) d = absurd (d refl)
-
--- what the limits of the two files are fits
-pub limits-fit : Fitting stageLimits referenceLimits
-limits-fit = record { inputs = omega arith; outputs = omega arith; words = omega arith; nets = omega arith }
-
--- Each stage so written is accepted against its reference.
-pub written-accepted : (stageMost referenceMost : Limits) → Fitting stageMost referenceMost → (reference : List ℕ) (room : ℕ)
-    → makeWithin stageMost referenceMost reference room .verdict .number ≡ 0 → (order : WordOrder)
-    → verdictWithin order stageMost referenceMost (makeWithin stageMost referenceMost reference room .bytes) reference ≡ accepted
-written-accepted stageMost referenceMost fitting reference room e order = make-means stageMost referenceMost fitting reference room .made e .1 .stage-accepted order
+      is : referenceRead (take mostBytes reference) ≡ referenceRead reference
+      is = ap (contentAt file.Reference (take mostBytes reference)) same ∙ go (readFile file.Reference referenceLimits reference) refl

@@ -63,7 +63,7 @@ returns c =
     let y = c .before .before .before .before .before .before .before .before .before .before .before .before .before in
     let z = y .before .before .before .before .before .before .before .before .before .before .before .before in
     let g = y .put-gates .ensures in
-    made-put-in (z .args .sizes) (now (z .args .reference)) _ (y .before .before .before .before .before .put-inputs .ensures) (g .1 .0)
+    made-put-in (z .args .sizes) (now (z .args .reference)) _ (z .pre .1) (y .before .before .before .before .before .put-inputs .ensures) (g .1 .0)
     (c .before .before .before .before .before .before .before .put-outputs .ensures) (c .before .before .put-end .ensures)
     (g .1 .1 .0) (omega (arith, g .0)) refl
 
