@@ -43,7 +43,7 @@ module _ (order : WordOrder) (f : Files) where
 
   exactly : Comparable f → (verdictOn order f ≡ accepted) ↔ Acceptable f
   exactly k = (
-    (λ v. let h = accepted-sound f order (ap number v) in record { cast = h .1 .cast; conforms = h .1 .conforms; rises = h .2 }),
+    (λ v. let h = accepted-sound order f (ap number v) in record { cast = h .1 .cast; conforms = h .1 .conforms; rises = h .2 }),
     (λ a. sound-accepted (record {
       read = k .read;
       inputs = k .inputs;
@@ -94,8 +94,8 @@ module _ (order : WordOrder) (f : Files) where
     hold-only = hold-only;
     retired = retired;
     either-order = λ other. (
-      (λ e. let h = accepted-sound f order (ap number e) in sound-accepted (h .1) (h .2) other),
-      (λ e. let h = accepted-sound f other (ap number e) in sound-accepted (h .1) (h .2) order),
+      (λ e. let h = accepted-sound order f (ap number e) in sound-accepted (h .1) (h .2) other),
+      (λ e. let h = accepted-sound other f (ap number e) in sound-accepted (h .1) (h .2) order),
     );
   }
 
@@ -119,7 +119,7 @@ module _ (order : WordOrder) (f : Files) where
   -- Demand 3 holds of the verdict, whatever the two files hold.
   pub demand-3 : Demand3 order f (verdictOn order f)
   demand-3 = record {
-    kept = λ e. let p = accepted-sound f order e in (p .0, p .1 .read, sound-kept (p .1));
+    kept = λ e. let p = accepted-sound order f e in (p .0, p .1 .read, sound-kept (p .1));
     broken = broken;
-    idle = λ e. let h = idle-sound f order e in (h .read, ⊎-elim (λ q. absurd (omega (arith, sym e ∙ ap number q))) (λ i. i) (sound-answers f order h));
+    idle = λ e. let h = idle-sound order f e in (h .read, ⊎-elim (λ q. absurd (omega (arith, sym e ∙ ap number q))) (λ i. i) (sound-answers h order));
   }

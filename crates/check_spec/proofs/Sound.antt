@@ -159,7 +159,7 @@ sound-kept {f} h w i = let k = sound-clean f h w i in word-kept f (h .free) w (k
 pub sound-accepted : {f : Files} → Sound f → AllRise f → (order : WordOrder) → verdictOn order f ≡ accepted
 sound-accepted {f} h rise order = reads-past f order (h .read) ∙ whole-accepted (h, rise) (laws f order)
 
-module _ (f : Files) (order : WordOrder) where
+module _ (order : WordOrder) (f : Files) where
   abbrev v : Verdict
   v = verdictOn order f
 
@@ -195,10 +195,9 @@ module _ (f : Files) (order : WordOrder) where
   unfolding laws judge idle sweep flatMap
   last-is h = reads-past f order (h .read) ∙ judge-from 32 (laws f order) (sound-before h)
 
-  -- "unless a gate never rises": what is sound is accepted, or refused by 32 at the least such gate
-  pub sound-answers : Sound f → AcceptedUnlessIdle order f
+  answers : Sound f → AcceptedUnlessIdle order f
   unfolding first
-  sound-answers h = go (last-is h) (places-say 32 1 0 fails [] accepted 0 (length (stageIn f .gates)))
+  answers h = go (last-is h) (places-say 32 1 0 fails [] accepted 0 (length (stageIn f .gates)))
     where
       go : {x : Verdict} → v ≡ x → Placed fails (λ g. verdict 32 1 g 0) 0 (length (stageIn f .gates)) accepted x → AcceptedUnlessIdle order f
       go e (inr (all, is)) = inl (e ∙ is)
@@ -228,3 +227,7 @@ module _ (f : Files) (order : WordOrder) where
   idle-sound e =
       let p = past-reading f order 32 (λ t. omega (arith, t .1)) e in
       before-sound (p .0) (all-before 32 32 (laws f order) refl (ap (λ (v : Verdict). v .number) (sym (p .1)) ∙ e))
+
+-- "unless a gate never rises": what is sound is accepted, or refused by 32 at the least such gate
+pub sound-answers : {f : Files} → Sound f → (order : WordOrder) → AcceptedUnlessIdle order f
+sound-answers {f} h order = answers order f h

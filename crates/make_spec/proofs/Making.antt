@@ -49,7 +49,7 @@ use Rattle.check_spec.specs.Demands.{Pass, Judged, LoopFree}
 use Rattle.check_spec.specs.Writing.{writeFile, leaving}
 use Rattle.check_spec.proofs.First.{Each, judged, sweep-out}
 use Rattle.check_spec.proofs.Exactly.{EachCheck, judge-passes, other-number, reading-number}
-use Rattle.check_spec.proofs.Sound.{Sound, sound-accepted, sound-kept}
+use Rattle.check_spec.proofs.Sound.{Sound, sound-answers, sound-kept}
 use Rattle.check_spec.proofs.Writing.{itemsOf, stage-bytes, content-write}
 use Rattle.make_spec.specs.Make.{railsAt, built, madeStage, leadsOut, referenceRead, madeBytes, makeChecks, makeChecksOn, Waits, MadeFrom, MakeDemand}
 use Rattle.make_spec.specs.Loaded.{asContent, operations}
@@ -186,7 +186,7 @@ module _ (r : Reference) (formed : ReferenceFormed referenceLimits r) where
       made-from = record {
         reads = made-sound .read;
         stage-is = reads-as ∙ ap madeStage (sym is);
-        stage-accepted = sound-accepted made-sound;
+        stage-accepted = sound-answers made-sound;
         kept = sound-kept made-sound;
         waits = rw (reads-as, is) (λ w h. word-waits r formed w);
       }
