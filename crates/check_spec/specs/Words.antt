@@ -36,7 +36,7 @@ names order s = select (λ name. caresFor s (spelled order (s .inputs) name)) (n
 
 -- the words of a stage: those below 2 to the n that are cared for
 unfoldable pub words : Content → List ℕ
-words s = select (caresFor s) (numbers 0 (2 ^ s .inputs))
+words s = select (λ w. caresFor s w) (numbers 0 (2 ^ s .inputs))
 
 -- w is one of them
 abbrev pub IsWord : Content → ℕ → Type 0
