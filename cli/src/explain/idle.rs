@@ -19,8 +19,11 @@ pub fn never_rises(text: &mut Text, verdict: Verdict, pair: Pair, order: Order) 
         text.row("found", &format!("{} never rises, and its levels cannot be shown", stage.gate_name(gate)));
         return;
     };
-    let words = stage.word_count();
-    text.row("found", &format!("{} rises in none of {words}: no test can tell whether it works", stage.gate_text(gate)));
+    let words = match rests.len() {
+        1 => "does not rise in the one care word".into(),
+        _ => format!("rises in none of {}", stage.word_count()),
+    };
+    text.row("found", &format!("{} {words}: no test can tell whether it works", stage.gate_text(gate)));
     let idle: Vec<usize> = (0..stage.gates.len()).filter(|&k| rests.iter().all(|rest| !rest[stage.net_of(k)])).collect();
     let others: Vec<String> = idle.iter().filter(|&&k| k != gate).take(SHOWN).map(|&k| stage.gate_text(k)).collect();
     if !others.is_empty() {
