@@ -90,6 +90,16 @@ module _ (number file : ℕ) (places : List ℕ) where
       ∙ ap (foundOr number file w (found.first (fails′ w) places)) (sweep-is fails fails′ ws (λ u x. same u (inr x)) later)
       ∙ found-fault w (found.first (fails′ w) places) (found.sweep number file (λ w. found.first (fails′ w) places) ws) later
 
+-- a fault that the code finds has the number of its check
+pub sweep-number : (number file : ℕ) (find : ℕ → Found) (ws : List ℕ) (v : Verdict) → found.sweep number file find ws ≡ Fault v → v .number ≡ number
+unfolding found.sweep found.atFault
+sweep-number number file find [] v e = let z : _≡_ {A = ℕ} 0 1 = cc in absurd (omega arith)
+sweep-number number file find (w ∷ ws) v e = go (find w) e (sweep-number number file find ws v)
+  where
+    go : (x : Found) → found.atFault number file w x (found.sweep number file find ws) ≡ Fault v → (found.sweep number file find ws ≡ Fault v → v .number ≡ number) → v .number ≡ number
+    go (At i) e later = let q : verdict number file i w ≡ v = cc in sym (ap (λ (x : Verdict). x .number) q)
+    go Nothing e later = later e
+
 -- a check, and what the code finds for it
 abbrev pub Same : Check → found.Check → Type 0
 Same c d = (later : Verdict) → first c later ≡ faultOr (found.finding d) later

@@ -1,6 +1,6 @@
 -- Demands 2 and 3 as theorems about the verdict on two files.
 -- Assumes nothing.
-use Prim.Native.Nat.{ℕ, _<_}
+use Prim.Native.Nat.{ℕ, _≤_, _<_}
 use native.Mathlib.Omega.{arith}
 use mathlib.Core.Path.{_≡_, refl, sym, ap, _∙_, subst}
 use mathlib.Core.Logic.{_⊎_, inl, inr, _↔_, ⊎-elim}
@@ -8,15 +8,17 @@ use mathlib.Core.Bool.{true, false}
 use mathlib.Core.List.{[], _∷_, flatMap}
 use lib.ListN.{length}
 use Rattle.runs.specs.Theory.{AllHold}
+use Rattle.netlist.specs.declared.File.the-variants.{Stage, Reference}
+use Rattle.netlist.specs.Reading.{Reading, refused, readable, readFile}
 use Rattle.verdict.specs.declared.Verdict.{Verdict}
 use Rattle.verdict.specs.declared.WordOrder.{WordOrder}
 use Rattle.verdict.proofs.Refusals.{InTable}
-use Rattle.check_spec.specs.Cases.{verdict, accepted, judge, sweep}
+use Rattle.check_spec.specs.Cases.{verdict, accepted, first, judge, sweep}
 use Rattle.check_spec.specs.Content.{Content, Files, stageIn, referenceIn}
 use Rattle.check_spec.specs.Rows.{netOf}
 use Rattle.check_spec.specs.Words.{spelled}
 use Rattle.check_spec.specs.Checks.{retiredGate, checks}
-use Rattle.check_spec.specs.Verdicts.{checksOn, verdictOn}
+use Rattle.check_spec.specs.Verdicts.{refusal, checksOn, verdictOn}
 use Rattle.check_spec.specs.Demands.{BothRead, LoopFree, Comparable, Acceptable, Demand2, Broken, Demand3}
 use Rattle.check_spec.proofs.First.{judged, places-first}
 use Rattle.check_spec.proofs.Loops.{some-all, loops, settled-is, risen-is, fallen-is}
@@ -113,8 +115,18 @@ module _ (order : WordOrder) (f : Files) where
       (before 13 12 ls, (before 14 12 ls, (before 15 12 ls, (before 20 12 ls, (before 21 12 ls, tt))))) n e z in (
         p .0,
         subst (λ (v : Verdict). Broken f (spelled order (s .inputs) (v .word)) v) (sym (p .1))
-            (⊎-elim (λ c. c free (rw (p .1) at e)) (λ q. absurd (omega (arith, h .0, ap number (p .1 ∙ q)))) (claimed ls)),
+            (⊎-elim (λ c. c .1 free (rw (p .1) at e)) (λ q. absurd (omega (arith, h .0, ap number (p .1 ∙ q)))) (claimed ls)),
       )
+
+  -- a verdict names one of the two files, or none
+  pub verdict-file : verdictOn order f .file ≤ 2
+  unfolding judge first refusal
+  verdict-file = go (readFile Stage (f .stageMost) (f .stage)) (readFile Reference (f .referenceMost) (f .reference))
+    where
+      go : (x y : Reading) → first (refusal Stage x) (first (refusal Reference y) (judge (checks order s r))) .file ≤ 2
+      go (refused number at) y = omega arith
+      go (readable p) (refused number at) = omega arith
+      go (readable p) (readable q) = ⊎-elim (λ c. c .0) (λ e. omega (arith, ap (λ (v : Verdict). v .file) e)) (claimed (laws f order))
 
   -- Demand 3 holds of the verdict, whatever the two files hold.
   pub demand-3 : Demand3 order f (verdictOn order f)

@@ -191,27 +191,34 @@ module _ (s : Content) where
       )
 
 -- their laws
-module _ {Whole : Type 0} {Claim : Verdict → Type 0} where
-  pub equal-law : (number file at word mine theirs : ℕ) → (Whole → mine ≡ theirs) → ((v : Verdict) → v .number ≡ number → Claim v)
-      → Law Whole Claim number (mine ≡ theirs) (case number file at word (not (eqb mine theirs)) ∷ [])
-  equal-law number file at word mine theirs h claim =
-      record { passes = equal-passes number file at word mine theirs; in-whole = h; cases = ((refl, λ e. claim (verdict number file at word) refl), tt) }
+zero-in : (w : ℕ) → In w (0 ∷ []) → w ≡ 0
+zero-in w (inl e) = e
+zero-in w (inr h) = absurd h
 
-  pub places-law : (number file m : ℕ) (fails : ℕ → Bool) → (Whole → (i : ℕ) → i < m → fails i ≡ false) → ((v : Verdict) → v .number ≡ number → Claim v)
+module _ {Whole : Type 0} {Claim : Verdict → Type 0} where
+  pub test-law : (number file at word : ℕ) (fails : Bool) → (Whole → fails ≡ false) → Claim (verdict number file at word)
+      → Law Whole Claim number (fails ≡ false) (case number file at word fails ∷ [])
+  test-law number file at word fails h claim = record { passes = (λ p. p .0, λ e. (e, tt)); in-whole = h; cases = ((refl, λ e. claim), tt) }
+
+  pub equal-law : (number file at word mine theirs : ℕ) → (Whole → mine ≡ theirs) → Claim (verdict number file at word)
+      → Law Whole Claim number (mine ≡ theirs) (case number file at word (not (eqb mine theirs)) ∷ [])
+  equal-law number file at word mine theirs h claim = record { passes = equal-passes number file at word mine theirs; in-whole = h; cases = ((refl, λ e. claim), tt) }
+
+  pub places-law : (number file m : ℕ) (fails : ℕ → Bool) → (Whole → (i : ℕ) → i < m → fails i ≡ false) → ((i : ℕ) → Claim (verdict number file i 0))
       → Law Whole Claim number ((i : ℕ) → i < m → fails i ≡ false) (sweep number file (0 ∷ []) (numbers 0 m) (λ w. fails))
   places-law number file m fails h claim = record {
     passes = places-passes number file m fails;
     in-whole = h;
-    cases = sweep-each number file (numbers 0 m) (λ w. fails) _ (0 ∷ []) (λ w x i y. (refl, λ e. claim (verdict number file i w) refl));
+    cases = sweep-each number file (numbers 0 m) (λ w. fails) _ (0 ∷ []) (λ w x i y. (refl, λ e. rw (zero-in w x) (claim i)));
   }
 
   module _ (s : Content) where
-    pub gates-law : (number : ℕ) (fails : ℕ → Bool) → (Whole → (g : ℕ) → IsGate (netOf s) g → fails g ≡ false) → ((v : Verdict) → v .number ≡ number → Claim v)
+    pub gates-law : (number : ℕ) (fails : ℕ → Bool) → (Whole → (g : ℕ) → IsGate (netOf s) g → fails g ≡ false) → ((i : ℕ) → Claim (verdict number 1 i 0))
         → Law Whole Claim number ((g : ℕ) → IsGate (netOf s) g → fails g ≡ false) (sweep number 1 (0 ∷ []) (numbers 0 (length (s .gates))) (λ w g. fails (2 * s .inputs + g)))
     gates-law number fails h claim = record {
       passes = gates-passes s number fails;
       in-whole = h;
-      cases = sweep-each number 1 (numbers 0 (length (s .gates))) (λ w g. fails (2 * s .inputs + g)) _ (0 ∷ []) (λ w x i y. (refl, λ e. claim (verdict number 1 i w) refl));
+      cases = sweep-each number 1 (numbers 0 (length (s .gates))) (λ w g. fails (2 * s .inputs + g)) _ (0 ∷ []) (λ w x i y. (refl, λ e. rw (zero-in w x) (claim i)));
     }
 
     pub swept-law : (order : WordOrder) (number file m : ℕ) (fails : ℕ → ℕ → Bool) → (Whole → (w : ℕ) → IsWord s w → (i : ℕ) → i < m → fails w i ≡ false)

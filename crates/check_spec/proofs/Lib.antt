@@ -14,4 +14,5 @@ pub mod Alike
 pub mod Bridge
 pub mod Row
 pub mod Writing
+pub mod Formed
 pub mod Back

@@ -16,7 +16,7 @@ use Rattle.runs.specs.Row.{Row, low}
 use Rattle.runs.specs.Net.{rails, nets, IsGate, riseUp}
 use Rattle.runs.specs.Acyclic.{Acyclic, AllPins}
 use Rattle.runs.specs.Settled.{Settled, SettledHeld, SettledKept}
-use Rattle.runs.proofs.Test.{clash, or-cases, eqb-eq, lt-ltb, le-ltb, ltb-true}
+use Rattle.runs.proofs.Test.{clash, not-true, or-cases, eqb-eq, lt-ltb, le-ltb, ltb-true}
 use Rattle.verdict.specs.Rows.{high, rounds}
 use Rattle.verdict.specs.Graph.{In, Leads, here, onward, OnLoop, anyHigh, tabulate, leading}
 use Rattle.verdict.proofs.Graph as graph
@@ -152,6 +152,16 @@ feeding-gate s u v i = go (decLt u (rails (netOf s))) (decLt u (nets (netOf s)))
     go (no h) (no b) =
         let j : In v (driver s u .operands) = rw (le-ltb u (rails (netOf s)) (omega arith)) at i in
         absurd (subst (λ (g : Coded). In v (g .operands)) (List·getD-eq-default (s .gates) noGate (omega arith)) j)
+
+-- a stage whose nets have a rank that falls with each step has no loop
+pub ranked-free : (s : Content) (rank : ℕ → ℕ) → ((u v : ℕ) → In v (feeding (netOf s) u) → rank v < rank u) → LoopFree (netOf s)
+unfolding reachesItself
+ranked-free s rank falls net g =
+    not-true _ (λ e. let l = found-loop (feeding (netOf s)) (nets (netOf s)) net e in omega (arith, falls net (l .0) (l .1), down (l .2)))
+  where
+    down : {x y : ℕ} → Leads (feeding (netOf s)) y x → rank y ≤ rank x
+    down here = omega arith
+    down {x} {y} (onward {z = z} i l) = omega (arith, falls x z i, down l)
 
 -- the field `loops` of demand 2
 pub loops : (s : Content) (g k : ℕ) → reaches (feeding (netOf s)) (eqb g) k g ≡ true → reachesItself (netOf s) g ≡ true

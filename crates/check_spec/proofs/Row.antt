@@ -68,9 +68,9 @@ module _ (c : Content) (row : List ℕ) where
   unfoldable row-laws : Laws (Fits c row) (λ v. ¬ (v .number ≡ 28)) (rowChecks c row)
   unfolding rowChecks looped
   row-laws =
-      gates-law c 12 (reachesItself (netOf c)) (λ h. h .loop-free) (λ v e q. omega arith)
-      & equal-law 16 3 (length row) 0 (length row) (nets (netOf c)) (λ h. h .long) (λ v e q. omega arith)
-      & places-law 17 3 (c .inputs) (illegal row) (λ h. h .legal) (λ v e q. omega arith)
+      gates-law c 12 (reachesItself (netOf c)) (λ h. h .loop-free) (λ g q. omega arith)
+      & equal-law 16 3 (length row) 0 (length row) (nets (netOf c)) (λ h. h .long) (λ q. omega arith)
+      & places-law 17 3 (c .inputs) (illegal row) (λ h. h .legal) (λ i q. omega arith)
       & none
 
   -- a row that passes fits the stage

@@ -3,7 +3,7 @@
 -- Assumes nothing.
 use Prim.Native.Nat.{ℕ, _+_, _*_, _≤_, _<_}
 use native.Mathlib.Omega.{arith}
-use mathlib.Core.Path.{_≡_, refl, sym, ap, _∙_, subst}
+use mathlib.Core.Path.{_≡_, refl, sym, ap, _∙_, subst, subst₂}
 use mathlib.Core.Bool.{Bool, true, false}
 use mathlib.Core.Logic.{_⊎_, inl, inr}
 use mathlib.Core.List.{List, [], _∷_, map, flatMap, _++_}
@@ -23,11 +23,11 @@ use Rattle.netlist.specs.Reading.{Reading, refused, readable, readFile}
 use Rattle.verdict.specs.declared.Verdict.{Verdict}
 use Rattle.verdict.specs.declared.WordOrder.{WordOrder}
 use Rattle.verdict.proofs.Refusals.{InTable, refused-number}
-use Rattle.check_spec.specs.Cases.{accepted, verdict, case, Check, first, judge, sweep}
-use Rattle.check_spec.specs.Lists.{some, numbers}
+use Rattle.check_spec.specs.Cases.{verdict, accepted, case, first, judge, sweep}
+use Rattle.check_spec.specs.Lists.{some, numbers, bitOf}
 use Rattle.check_spec.specs.Content.{Content, Files, stageIn, referenceIn}
 use Rattle.check_spec.specs.Rows.{driver, cellIn, netOf, reachesItself}
-use Rattle.check_spec.specs.Words.{railsFor, spelled, IsWord}
+use Rattle.check_spec.specs.Words.{railsFor, spelled, IsWord, answer}
 use Rattle.check_spec.specs.Checks.{wrong, incomplete, unobservable, fallIncomplete, fallUnobservable, looped, retired, swept, neverRises, idle, checks}
 use Rattle.check_spec.specs.Verdicts.{refusal, reading, verdictOn}
 use Rattle.check_spec.specs.Demands.{BothRead, LoopFree, answerTo, Rises, Kept, Broken, Idle, AcceptedUnlessIdle}
@@ -99,19 +99,19 @@ module _ (f : Files) where
       ]
 
   module _ (order : WordOrder) where
-    -- what demand 3 says of a refusal
+    -- a refusal names one of the two files or none; and what demand 3 says of it
     abbrev pub Claim : Verdict → Type 0
-    Claim v = LoopFree (netOf s) → Ran (v .number) → Broken f (spelled order (s .inputs) (v .word)) v
+    Claim v = (v .file ≤ 2) × (LoopFree (netOf s) → Ran (v .number) → Broken f (spelled order (s .inputs) (v .word)) v)
 
     -- it says nothing of the other numbers
-    pub silent : (n : ℕ) → some (eqb n) (13 ∷ 14 ∷ 15 ∷ 20 ∷ 21 ∷ []) ≡ false → (v : Verdict) → v .number ≡ n → Claim v
-    silent n h v e free ran = absurd (clash ran (ap (λ (k : ℕ). some (eqb k) (13 ∷ 14 ∷ 15 ∷ 20 ∷ 21 ∷ [])) e ∙ h))
+    pub silent : (n file at word : ℕ) → file ≤ 2 → some (eqb n) (13 ∷ 14 ∷ 15 ∷ 20 ∷ 21 ∷ []) ≡ false → Claim (verdict n file at word)
+    silent n file at word few h = (few, λ free ran. absurd (clash ran h))
 
     -- a check of the words, which a run shows to be broken where it fails
     pub run-law : (n m : ℕ) (fails : ℕ → ℕ → Bool) → ((w : ℕ) → CleanRise s r w × CleanFall s w → (i : ℕ) → i < m → fails w i ≡ false)
         → (LoopFree (netOf s) → (w i : ℕ) → i < m → fails w i ≡ true → Shows w i n × (¬ (Promise (netOf s) (railsFor w) (answerTo f w))))
         → Law (Sound f × AllRise f) Claim n ((w : ℕ) → IsWord s w → (i : ℕ) → i < m → fails w i ≡ false) (swept order s n 1 m fails)
-    run-law n m fails clean shown = swept-law s order n 1 m fails (λ h w i. clean w (sound-clean (h .0) w i)) (λ name x i l e free ran.
+    run-law n m fails clean shown = swept-law s order n 1 m fails (λ h w i. clean w (sound-clean (h .0) w i)) (λ name x i l e. (omega arith, λ free ran.
         let w = spelled order (s .inputs) name in
         let b = shown free w i l e in
         record {
@@ -123,21 +123,21 @@ module _ (f : Files) where
           unobservable = λ q. subst (Shows w i) q (b .0);
           fall-incomplete = λ q. subst (Shows w i) q (b .0);
           fall-unobservable = λ q. subst (Shows w i) q (b .0);
-        })
+        }))
 
     unfoldable pub laws : Laws (Sound f × AllRise f) Claim (checks order s r)
     unfolding checks looped retired idle some
     laws =
-        equal-law 10 0 (s .inputs) (r .inputs) (s .inputs) (r .inputs) (λ h. h .0 .inputs) (silent 10 refl)
-        & equal-law 11 0 (length (s .outputs)) (length (r .outputs)) (length (s .outputs)) (length (r .outputs)) (λ h. h .0 .outputs) (silent 11 refl)
-        & gates-law s 12 (reachesItself (netOf s)) (λ h. h .0 .free) (silent 12 refl)
-        & gates-law s 28 (λ net. isRetired (cellIn (driver s net))) (λ h. h .0 .cast) (silent 28 refl)
+        equal-law 10 0 (s .inputs) (r .inputs) (s .inputs) (r .inputs) (λ h. h .0 .inputs) (silent 10 0 _ _ (omega arith) refl)
+        & equal-law 11 0 (length (s .outputs)) (length (r .outputs)) (length (s .outputs)) (length (r .outputs)) (λ h. h .0 .outputs) (silent 11 0 _ _ (omega arith) refl)
+        & gates-law s 12 (reachesItself (netOf s)) (λ h. h .0 .free) (λ g. silent 12 1 g 0 (omega arith) refl)
+        & gates-law s 28 (λ net. isRetired (cellIn (driver s net))) (λ h. h .0 .cast) (λ g. silent 28 1 g 0 (omega arith) refl)
         & run-law 13 (length (s .outputs)) (wrong s r) (λ w c. c .0 .right) (wrong-shown s r)
         & run-law 14 (s .inputs) (incomplete s) (λ w c. c .0 .complete) (incomplete-shown s r)
         & run-law 15 (length (s .gates)) (unobservable s) (λ w c. c .0 .observable) (unobservable-shown s r)
         & run-law 20 (s .inputs) (fallIncomplete s) (λ w c. c .1 .complete) (fall-incomplete-shown s r)
         & run-law 21 (length (s .gates)) (fallUnobservable s) (λ w c. c .1 .observable) (fall-unobservable-shown s r)
-        & gates-law s 32 (neverRises s) (λ h net i. rises-not f (h .0 .free) net (h .1 net i)) (silent 32 refl)
+        & gates-law s 32 (neverRises s) (λ h net i. rises-not f (h .0 .free) net (h .1 net i)) (λ g. silent 32 1 g 0 (omega arith) refl)
         & none
 
     -- a verdict of a number that is not one of reading: both files read, and it is that of the checks
@@ -231,3 +231,16 @@ module _ (order : WordOrder) (f : Files) where
 -- "unless a gate never rises": what is sound is accepted, or refused by 32 at the least such gate
 pub sound-answers : {f : Files} → Sound f → (order : WordOrder) → AcceptedUnlessIdle order f
 sound-answers {f} h order = answers order f h
+
+-- from what two files hold
+pub record Agrees (s r : Content) : Type 0 where
+  pub inputs : s .inputs ≡ r .inputs
+  pub outputs : length (s .outputs) ≡ length (r .outputs)
+  pub free : LoopFree (netOf s)
+  pub cast : (net : ℕ) → IsGate (netOf s) net → isRetired (cellIn (driver s net)) ≡ false
+  pub conforms : (w : ℕ) → IsWord s w → Conforms (netOf s) (railsFor w) (answer r (bitOf w))
+
+pub sound-from : {f : Files} {s r : Content} → BothRead f → stageIn f ≡ s → referenceIn f ≡ r → Agrees s r → Sound f
+sound-from read e e′ a =
+    let h = subst₂ Agrees (sym e) (sym e′) a in
+    record { read = read; inputs = h .inputs; outputs = h .outputs; free = h .free; cast = h .cast; conforms = h .conforms }

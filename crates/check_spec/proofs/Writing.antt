@@ -1,8 +1,10 @@
--- Files as contents are written: their bytes are those of the code's items, and what was written reads as the content.
+-- Files as contents are written: their bytes are those of the code's items, and what was written reads as the content; and what a call leaves.
 -- Assumes nothing.
 use Prim.Native.Nat.{ℕ, _+_}
 use mathlib.Core.Path.{_≡_, refl, sym, ap, ap₂, _∙_}
+use mathlib.Core.Logic.{⊎-elim}
 use mathlib.Core.List.{List, [], _∷_, _++_, append-assoc, map, map-id, flatMap}
+use Rattle.runs.proofs.Test.{same?, eqb-other}
 use Rattle.netlist.specs.declared.File.{File}
 use Rattle.netlist.specs.declared.File.the-variants as file
 use Rattle.netlist.specs.declared.Sort.the-variants as sort
@@ -15,8 +17,11 @@ use Rattle.netlist.specs.Writing.{Item, gate, output, care, gatesIn, outputsIn,
 use Rattle.netlist.proofs.Laid.{wiredAt}
 use Rattle.netlist.proofs.GatesFirst.{gatesIn-items, outputsIn-items, careIn-items}
 use Rattle.netlist.proofs.ReadBack.{read-write, gates-write, outputs-write}
+use Rattle.verdict.specs.declared.Verdict.{Verdict}
+use Rattle.verdict.specs.Written.{Written, refuse, write}
+use Rattle.check_spec.specs.Cases.{accepted}
 use Rattle.check_spec.specs.Content.{Content, contentAt, contentOf, railsOfOutput}
-use Rattle.check_spec.specs.Writing.{rowFor, command, writeFile}
+use Rattle.check_spec.specs.Writing.{rowFor, command, writeFile, leaving}
 
 abbrev pub itemsOf : Content → List Item
 itemsOf c = map care (c .care) ++ (map gate (c .gates) ++ map output (c .outputs))
@@ -62,13 +67,13 @@ reference-bytes c none = rw none (
 
 -- what stands among the items of a content
 module _ (c : Content) where
-  gates-of : gatesIn (itemsOf c) ≡ c .gates
+  pub gates-of : gatesIn (itemsOf c) ≡ c .gates
   gates-of = gatesIn-items (λ g. g) (λ g. g) (λ vs. vs) (λ vs. vs) (c .care) (c .gates) (c .outputs) ∙ map-id (c .gates)
 
-  outputs-of : outputsIn (itemsOf c) ≡ c .outputs
+  pub outputs-of : outputsIn (itemsOf c) ≡ c .outputs
   outputs-of = outputsIn-items (λ g. g) (λ g. g) (λ vs. vs) (λ vs. vs) (c .care) (c .gates) (c .outputs) ∙ map-id (c .outputs)
 
-  cares-of : careIn (itemsOf c) ≡ c .care
+  pub cares-of : careIn (itemsOf c) ≡ c .care
   cares-of = careIn-items (λ g. g) (λ g. g) (λ vs. vs) (λ vs. vs) (c .care) (c .gates) (c .outputs)
 
 pub wired : (f : File) (s : List ℕ) (at : ℕ) → operands s (at + 1) (railsOfOutput f) ≡ wiredAt f s at
@@ -89,3 +94,18 @@ content-write f most c fits = rw (read-write f most (c .inputs) (itemsOf c) fits
     outs : (l : List ℕ) → map (λ at. operands (items.writeFile f (c .inputs) (itemsOf c)) (at + 1) (railsOfOutput f)) l ≡ map (wiredAt f (items.writeFile f (c .inputs) (itemsOf c))) l
     outs [] = refl
     outs (at ∷ l) = ap₂ (λ (x : List ℕ) (m : List (List ℕ)). x ∷ m) (wired f (items.writeFile f (c .inputs) (itemsOf c)) at) (outs l)
+
+-- ---- what a call leaves
+
+pub leaves-none : (v : Verdict) → ¬ (v .number ≡ 0) → (bytes buffer : List ℕ) → leaving v bytes buffer ≡ refuse v buffer
+unfolding leaving
+leaves-none v n bytes buffer = rw (eqb-other (v .number) 0 n)
+
+pub leaves-bytes : (v : Verdict) → v .number ≡ 0 → (bytes buffer : List ℕ) → leaving v bytes buffer ≡ write bytes buffer
+unfolding leaving
+leaves-bytes v z bytes buffer = rw z
+
+-- the verdict, where 0 is the number of acceptance alone
+pub leaves-verdict : (v : Verdict) → (v .number ≡ 0 → v ≡ accepted) → (bytes buffer : List ℕ) → leaving v bytes buffer .verdict ≡ v
+leaves-verdict v a bytes buffer =
+    ⊎-elim (λ z. ap (λ (x : Written). x .verdict) (leaves-bytes v z bytes buffer) ∙ sym (a z)) (λ n. ap (λ (x : Written). x .verdict) (leaves-none v n bytes buffer)) (same? (v .number) 0)

@@ -62,7 +62,7 @@ pairOperands-pairOf (a ∷ b ∷ c ∷ vs) e = absurd (omega arith)
 
 -- the gates and outputs of a stage file, coded and as a stage has them
 module _ (n g : ℕ) where
-  known-again : (k : ℕ) (cs : List Coded) → GatesFormed file.Stage n g k cs → All (λ c. codedGate (gateOf c) ≡ c) cs
+  pub known-again : (k : ℕ) (cs : List Coded) → GatesFormed file.Stage n g k cs → All (λ c. codedGate (gateOf c) ≡ c) cs
   known-again k [] h = tt
   known-again k (c ∷ cs) h = (codedGate-gateOf c (h .0 .known), known-again (suc k) cs (h .1))
 

@@ -1,8 +1,8 @@
 -- `call_join::join_accepted` meets its contract: the four files are loaded, and are the parts. Assumes nothing.
 use native.Mathlib.Omega.{arith}
-use mathlib.Core.Path.{_≡_, subst}
 use denote.Ref.{now}
-use Rattle.call_join.proofs.Joining.{same-inputs, same-outputs, part-same, leaves-same, few-care}
+use Rattle.check_spec.specs.Content.{partFiles}
+use Rattle.call_join.proofs.Joining.{same-inputs, same-outputs, few-care}
 use borrow.Author.Needs.{needs}
 use Rattle.call_join.proofs.join_accepted.Statement.{statement}
 use Rattle.call_join.proofs.join_accepted.Tie as tie
@@ -36,8 +36,8 @@ returns c =
     let f = c .before .before .before .before .before .before .before .before .before .before .before .before .before .before .before .before .before .before .load-function .ensures in
     let q = c .before .before .before .before .before .before .before .before .before .before .before .before .before .before .before .load-part2 .ensures in
     let g = c .before .before .before .before .before .before .before .before .before .before .before .before .load-function2 .ensures in
-    leaves-same _ _ _ _ _ _ _ (part-same (now (a .stage1)) (now (a .reference1)) _ _ _ _ (p .1) (f .1)) (part-same (now (a .stage2)) (now (a .reference2)) _ _ _ _ (q .1) (g .1))
-    (c .before .before .before .before .join-loaded .ensures)
+    c .before .before .before .before .join-loaded .ensures (partFiles (now (a .stage1)) (now (a .reference1))) (partFiles (now (a .stage2)) (now (a .reference2)))
+    (record { stage1-is = p .1; reference1-is = f .1; stage2-is = q .1; reference2-is = g .1 })
 
 pub join-accepted-spec : {M : Type 1} → statement M
 join-accepted-spec =
