@@ -25,7 +25,7 @@ use Rattle.check_spec.proofs.Loops.{some-all, loops, settled-is, risen-
 use Rattle.check_spec.proofs.Pairs.{data-of, all-data, all-null}
 use Rattle.check_spec.proofs.OneWord.{inside, hold-clean}
 use Rattle.check_spec.proofs.Laws.{before, claimed, not-named, judge-from}
-use Rattle.check_spec.proofs.Sound.{Ran, laws, past-reading, reads-past, accepted-sound, idle-sound, sound-accepted, sound-answers, sound-kept}
+use Rattle.check_spec.proofs.Sound.{Ran, laws, past-reading, reads-past, accepted-faultless, accepted-sound, idle-sound, faultless-accepted, sound-answers, sound-kept}
 
 -- demand 3 speaks of numbers above 12, and of none by which a file is refused in reading
 of-runs : (n : ℕ) → Ran n → (12 < n) × (¬ (InTable n))
@@ -45,15 +45,15 @@ module _ (order : WordOrder) (f : Files) where
 
   exactly : Comparable f → (verdictOn order f ≡ accepted) ↔ Acceptable f
   exactly k = (
-    (λ v. let h = accepted-sound order f (ap number v) in record { cast = h .1 .cast; conforms = h .1 .conforms; rises = h .2 }),
-    (λ a. sound-accepted (record {
+    (λ v. let h = accepted-faultless order f (ap number v) .1 in record { cast = h .0 .cast; conforms = h .0 .conforms; rises = h .1 }),
+    (λ a. faultless-accepted (record {
       read = k .read;
       inputs = k .inputs;
       outputs = k .outputs;
       free = k .loop-free;
       cast = a .cast;
       conforms = a .conforms;
-    }) (a .rises) order),
+    }, a .rises) order),
   )
 
   -- with hold everywhere the checks of the fall find nothing where those of the rise do
@@ -96,8 +96,8 @@ module _ (order : WordOrder) (f : Files) where
     hold-only = hold-only;
     retired = retired;
     either-order = λ other. (
-      (λ e. let h = accepted-sound order f (ap number e) in sound-accepted (h .1) (h .2) other),
-      (λ e. let h = accepted-sound other f (ap number e) in sound-accepted (h .1) (h .2) order),
+      (λ e. faultless-accepted (accepted-faultless order f (ap number e) .1) other),
+      (λ e. faultless-accepted (accepted-faultless other f (ap number e) .1) order),
     );
   }
 

@@ -50,6 +50,10 @@ pub record Sound (f : Files) : Type 0 where
 abbrev pub AllRise : Files → Type 0
 AllRise f = (net : ℕ) → IsGate (netOf (stageIn f)) net → Rises f net
 
+-- what no check finds anything in
+abbrev pub Faultless : Files → Type 0
+Faultless f = Sound f × AllRise f
+
 -- reading names numbers of its table only
 pub reading-number : (other : ℕ) → ¬ (InTable other) → (f : File) (most : Limits) (bytes : List ℕ)
     → Each (λ c. ¬ (c .names .number ≡ other)) (reading f most bytes)
@@ -110,7 +114,7 @@ module _ (f : Files) where
     -- a check of the words, which a run shows to be broken where it fails
     pub run-law : (n m : ℕ) (fails : ℕ → ℕ → Bool) → ((w : ℕ) → CleanRise s r w × CleanFall s w → (i : ℕ) → i < m → fails w i ≡ false)
         → (LoopFree (netOf s) → (w i : ℕ) → i < m → fails w i ≡ true → Shows w i n × (¬ (Promise (netOf s) (railsFor w) (answerTo f w))))
-        → Law (Sound f × AllRise f) Claim n ((w : ℕ) → IsWord s w → (i : ℕ) → i < m → fails w i ≡ false) (swept order s n 1 m fails)
+        → Law (Faultless f) Claim n ((w : ℕ) → IsWord s w → (i : ℕ) → i < m → fails w i ≡ false) (swept order s n 1 m fails)
     run-law n m fails clean shown = swept-law s order n 1 m fails (λ h w i. clean w (sound-clean (h .0) w i)) (λ name x i l e. (omega arith, λ free ran.
         let w = spelled order (s .inputs) name in
         let b = shown free w i l e in
@@ -125,7 +129,7 @@ module _ (f : Files) where
           fall-unobservable = λ q. subst (Shows w i) q (b .0);
         }))
 
-    unfoldable pub laws : Laws (Sound f × AllRise f) Claim (checks order s r)
+    unfoldable pub laws : Laws (Faultless f) Claim (checks order s r)
     unfolding checks looped retired idle some
     laws =
         equal-law 10 0 (s .inputs) (r .inputs) (s .inputs) (r .inputs) (λ h. h .0 .inputs) (silent 10 0 _ _ (omega arith) refl)
@@ -155,9 +159,9 @@ sound-kept {f} h w i = let k = sound-clean f h w i in word-kept f (h .free) w (k
 
 -- ---- acceptance
 
--- where every gate rises, what is sound is accepted in every order
-pub sound-accepted : {f : Files} → Sound f → AllRise f → (order : WordOrder) → verdictOn order f ≡ accepted
-sound-accepted {f} h rise order = reads-past f order (h .read) ∙ whole-accepted (h, rise) (laws f order)
+-- what is faultless is accepted in every order
+pub faultless-accepted : {f : Files} → Faultless f → (order : WordOrder) → verdictOn order f ≡ accepted
+faultless-accepted {f} h order = reads-past f order (h .0 .read) ∙ whole-accepted h (laws f order)
 
 module _ (order : WordOrder) (f : Files) where
   abbrev v : Verdict
@@ -213,14 +217,17 @@ module _ (order : WordOrder) (f : Files) where
           }))
 
   -- an accepted verdict, and 32
-  pub accepted-sound : v .number ≡ 0 → (v ≡ accepted) × Sound f × AllRise f
+  pub accepted-faultless : v .number ≡ 0 → (v ≡ accepted) × Faultless f
   unfolding laws
-  accepted-sound e =
+  accepted-faultless e =
       let p = past-reading f order 0 (λ t. omega (arith, t .0)) e in
       let z : judge (checks order (stageIn f) (referenceIn f)) .number ≡ 0 = ap (λ (v : Verdict). v .number) (sym (p .1)) ∙ e in
       let h : Sound f = before-sound (p .0) (all-before 32 0 (laws f order) refl z) in
       let rise : AllRise f = λ net i. rises f (h .free) net (before 0 32 (laws f order) z net i) in
-      (sound-accepted h rise order, h, rise)
+      (faultless-accepted (h, rise) order, (h, rise))
+
+  pub accepted-sound : v .number ≡ 0 → (v ≡ accepted) × Sound f
+  accepted-sound e = let a = accepted-faultless e in (a .0, a .1 .0)
 
   pub idle-sound : v .number ≡ 32 → Sound f
   unfolding laws
