@@ -3,11 +3,10 @@
 use Prim.Native.Nat.{ℕ, suc, _+_, _*_, _≤_, _<_}
 use native.Mathlib.Omega.{arith}
 use mathlib.Core.Path.{_≡_, refl, sym, ap, ap₂, _∙_, subst}
-use mathlib.Core.Bool.{cond, not}
+use mathlib.Core.Bool.{not}
 use mathlib.Core.List.{List, [], _∷_, _++_, append-assoc, map, flatMap}
 use lib.ListN.{length, getD, length-map, length-append}
-use lib.Dec.{ltb}
-use borrow.Author.Tests.{ne-eqb, lt-ltb, le-ltb}
+use borrow.Author.Tests.{lt-ltb, le-ltb}
 use Rattle.netlist.specs.declared.File.the-variants as file
 use Rattle.netlist.specs.declared.Sort.the-variants as sort
 use Rattle.netlist.specs.declared.Counts.{Counts}
@@ -30,13 +29,16 @@ use Rattle.verdict.specs.Search.{least}
 use Rattle.verdict.specs.Written.{Written, answerOf, written, refuse}
 use Rattle.verdict.proofs.Refusals.{refused-number}
 use Rattle.check_spec.specs.Cases.{verdict, accepted, first, judge}
-use Rattle.check_spec.specs.Content.{Content, contentAt}
+use Rattle.check_spec.specs.Content.{Content}
 use Rattle.check_spec.specs.Verdicts.{refusal}
 use Rattle.check_spec.specs.Writing as w
 use Rattle.check_spec.specs.Writing.{leaving}
+use Rattle.check_spec.proofs.Back.{reference-content}
+use Rattle.check_spec.proofs.Writing.{leaves-none}
 use Rattle.make_spec.specs.Make.{built, railsAt, madeStage, leadsOut, referenceRead, madeBytes, makeChecks, makeChecksOn}
-use Rattle.make_spec.specs.Loaded.{asContent, operations}
-use Rattle.make_spec.proofs.Making.{needed-counted, judged-by, content-is}
+use Rattle.check_spec.specs.Loaded.{fromReference}
+use Rattle.make_spec.specs.Count.{operations}
+use Rattle.make_spec.proofs.Making.{needed-counted, laterVerdict, judged-by}
 use Rattle.write_command.specs.Put.{Put}
 use Rattle.write_command.specs.Parts.{bytesOf}
 use Rattle.write_command.proofs.Joining.{put-++, put-holding}
@@ -59,7 +61,7 @@ flat-bytes item bytes e (x ∷ l) = ap₂ (λ (a b : List ℕ). a ++ b) (e x) (f
 
 module _ (r : Reference) where
   abbrev c : Content
-  c = asContent r
+  c = fromReference r
 
   -- the rails of the outputs
   abbrev outs : List (List ℕ)
@@ -92,7 +94,7 @@ module _ (r : Reference) where
 -- of a reference in its flat form
 module _ (c : Counts) (code : List ℕ) where
   abbrev loaded : Content
-  loaded = asContent (referenceIn c code)
+  loaded = fromReference (referenceIn c code)
 
   outputs-count : length (signalsIn c code) ≡ c .outputs
   unfolding signalsIn
@@ -121,11 +123,6 @@ module _ (c : Counts) (code : List ℕ) where
 
 -- ---- the answer
 
--- what a call that refuses leaves
-refused-left : (v : Verdict) (bytes buffer : List ℕ) → 1 ≤ v .number → refuse v buffer ≡ leaving v bytes buffer
-unfolding leaving
-refused-left v bytes buffer l = sym (rw (ne-eqb (v .number) 0 (λ e. omega arith)))
-
 -- of a reference that was loaded: 25 as the loop finds it, then 26 and 27 by the count of gates
 module _ (c : Counts) (code buffer : List ℕ) where
   abbrev pub bytes : List ℕ
@@ -140,14 +137,10 @@ module _ (c : Counts) (code buffer : List ℕ) where
   abbrev search : Found
   search = least (λ x. not (leadsOut (loaded c code) x)) 0 (c .inputs + c .gates)
 
-  -- 26, 27 or none
-  abbrev later : Verdict
-  later = cond (ltb (stageLimits .gates) needed) (verdict 26 2 needed 0) (cond (ltb (length buffer) (length bytes)) (verdict 27 3 0 0) accepted)
-
-  told : (x : Found) → x ≡ search → verdictOf ≡ whenFound x (λ x. verdict 25 2 x 0) later
+  told : (x : Found) → x ≡ search → verdictOf ≡ whenFound x (λ x. verdict 25 2 x 0) (laterVerdict (loaded c code) (length buffer))
   told x e =
       judged-by (loaded c code) (length buffer)
-      ∙ ap (λ (f : Found). whenFound f (λ x. verdict 25 2 x 0) later) (ap (λ (m : ℕ). least (λ x. not (leadsOut (loaded c code) x)) 0 (c .inputs + m)) (gates-count c code) ∙ sym e)
+      ∙ ap (λ (f : Found). whenFound f (λ x. verdict 25 2 x 0) (laterVerdict (loaded c code) (length buffer))) (ap (λ (m : ℕ). least (λ x. not (leadsOut (loaded c code) x)) 0 (c .inputs + m)) (gates-count c code) ∙ sym e)
 
   pub told-25 : (x : ℕ) → At x ≡ search → verdictOf ≡ verdict 25 2 x 0
   unfolding whenFound
@@ -166,7 +159,7 @@ module _ (c : Counts) (code buffer : List ℕ) where
   told-none e l s = told Nothing e ∙ rw (le-ltb (stageLimits .gates) needed l, le-ltb (length buffer) (length bytes) s)
 
   pub refused-as : (a : Answer) (v : Verdict) → a ≡ answerOf v 0 → verdictOf ≡ v → 1 ≤ v .number → written a buffer ≡ leaving verdictOf bytes buffer
-  refused-as a v e f l = ap (λ (x : Answer). written x buffer) e ∙ refused-left v bytes buffer l ∙ sym (ap (λ (u : Verdict). leaving u bytes buffer) f)
+  refused-as a v e f l = ap (λ (x : Answer). written x buffer) e ∙ sym (leaves-none v (λ z. omega arith) bytes buffer) ∙ sym (ap (λ (u : Verdict). leaving u bytes buffer) f)
 
   pub made-as : (a : Answer) (after : List ℕ) → a ≡ answerOf accepted (length bytes) → Put buffer 0 bytes after → length bytes ≤ length buffer → verdictOf ≡ accepted
       → written a after ≡ leaving verdictOf bytes buffer
@@ -194,7 +187,7 @@ module _ (s buffer : List ℕ) where
   file-refused a number at e h =
       let r = was-refused reading number at e in
       ap (λ (x : Answer). written x buffer) h
-      ∙ refused-left (verdict number 2 at 0) (madeBytes (referenceRead s)) buffer (refused-number file.Reference referenceLimits s number at r .0)
+      ∙ sym (leaves-none (verdict number 2 at 0) (λ z. omega (arith, refused-number file.Reference referenceLimits s number at r .0)) (madeBytes (referenceRead s)) buffer)
       ∙ sym (ap (λ (x : Reading). leaving (judge (refusal file.Reference x ∷ makeChecks (referenceRead s) (length buffer))) (madeBytes (referenceRead s)) buffer) r)
 
   module _ (c : Counts) (code : List ℕ) (e : outcome.Readable c ≡ outcomeOf reading) (h : HoldsReference s reading code) where
@@ -207,5 +200,5 @@ module _ (s buffer : List ℕ) where
     unfolding judge first refusal
     file-made a after m =
         let l = reference-held s reading c code e h in
-        let is : loaded c code ≡ referenceRead s = ap asContent (l .2) ∙ sym (ap (contentAt file.Reference s) (l .1) ∙ content-is s (l .0) (l .1)) in
+        let is : loaded c code ≡ referenceRead s = ap fromReference (l .2) ∙ sym (reference-content referenceLimits s (l .0) (l .1)) in
         m ∙ ap₂ (λ (x : Reading) (r : Content). leaving (judge (refusal file.Reference x ∷ makeChecks r (length buffer))) (madeBytes r) buffer) (sym (l .1)) is

@@ -19,7 +19,8 @@ use Rattle.netlist.specs.Formed.{ReferenceFormed}
 use Rattle.netlist.specs.Writing.{gate}
 use Rattle.check_spec.specs.Lists.{numbers}
 use Rattle.make_spec.specs.Make.{Built, realize, railsAt, build, built}
-use Rattle.make_spec.specs.Loaded.{asContent, operations}
+use Rattle.check_spec.specs.Loaded.{fromReference}
+use Rattle.make_spec.specs.Count.{operations}
 use Rattle.make_spec.proofs.Building.{operations-cons}
 use Rattle.make_spec.proofs.Making.{needed-counted}
 use Rattle.write_command.specs.Put.{Put}
@@ -98,7 +99,7 @@ signal-pair rails m x b e l = ap (λ (l : List (List ℕ)). getD l x (0 ∷ 0 �
 
 module _ (c : Counts) (code : List ℕ) where
   abbrev whole : Built
-  whole = built (asContent (referenceIn c code))
+  whole = built (fromReference (referenceIn c code))
 
   -- the gates before gate k are made: those after them make of these the whole
   pub record MadeTo (buffer₀ rails₀ buffer rails : List ℕ) (made k : ℕ) : Type 0 where

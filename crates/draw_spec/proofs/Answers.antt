@@ -10,7 +10,7 @@ use lib.Dec.{leb, ltb}
 use borrow.Author.Tests.{leb-true, ltb-false}
 use Rattle.runs.proofs.Test.{and-left, and-right}
 use Rattle.verdict.specs.declared.Verdict.{Verdict}
-use Rattle.verdict.specs.Checks.{verdict}
+use Rattle.verdict.specs.FourNumbers.{verdict}
 use Rattle.verdict.specs.declared.Answer.{Answer}
 use Rattle.verdict.specs.Written.{Written, written, refuse, write, writeOr}
 use Rattle.verdict.proofs.Written.{holding-take}

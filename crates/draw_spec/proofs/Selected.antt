@@ -9,7 +9,7 @@ use mathlib.Core.List.{List, [], _∷_}
 use lib.ListN.{length}
 use Rattle.netlist.specs.Writing.{All}
 use Rattle.verdict.specs.Graph.{In}
-use Rattle.verdict.specs.Words.{numbers, select}
+use Rattle.check_spec.specs.Lists.{numbers, select}
 use Rattle.verdict.proofs.Words.{in-index}
 
 pub in-some : (x : ℕ) (xs : List ℕ) → In x xs → 1 ≤ length xs

@@ -18,7 +18,7 @@ use Rattle.netlist.specs.Formed.{OperationFormed, FormedFrom}
 use Rattle.check_spec.specs.Lists.{xor}
 use Rattle.check_spec.specs.Rows.{noGate}
 use Rattle.make_spec.specs.Make.{Built, gate, realize, railsAt, build}
-use Rattle.make_spec.specs.Loaded.{operations}
+use Rattle.make_spec.specs.Count.{operations}
 use Rattle.make_spec.proofs.Gates.{Binary, and, or, xor′, nand, nor, codeOf, turned, railsFrom, rail, rail-at, withRails, cell, realize-two, BothBelow}
 
 -- ---- gates of a reference by their form

@@ -20,7 +20,7 @@ use Rattle.verdict.specs.Rows.{high}
 use Rattle.check_spec.specs.Lists.{some}
 use Rattle.check_spec.specs.Rows.{noGate}
 use Rattle.make_spec.specs.Make.{leadsOut}
-use Rattle.make_spec.specs.Loaded.{asContent}
+use Rattle.check_spec.specs.Loaded.{fromReference}
 use Rattle.make_spec.specs.Marks.{marked, markedFrom}
 use Rattle.make_spec.proofs.Lists.{all-in, among-in, in-among}
 use Rattle.make_spec.proofs.Leading.{output-leads, operand-leads, leads-cases, output-is}
@@ -128,8 +128,8 @@ module _ (marks : List ℕ) where
 
 -- the marks, in a row of at least as many signals, are the test of 25
 pub marks-are : {most : Limits} (r : Reference) → ReferenceFormed most r → (m : ℕ) → r .inputs + length (r .gates) ≤ m
-    → (x : ℕ) → high (markedFrom (r .inputs) (r .gates) (marked (replicate m 0) (r .outputs))) x ≡ leadsOut (asContent r) x
-marks-are r formed m l x = go (true? (leadsOut (asContent r) x))
+    → (x : ℕ) → high (markedFrom (r .inputs) (r .gates) (marked (replicate m 0) (r .outputs))) x ≡ leadsOut (fromReference r) x
+marks-are r formed m l x = go (true? (leadsOut (fromReference r) x))
   where
     gates : FormedFrom (r .inputs) (r .gates)
     gates = formed .gates-formed
@@ -149,19 +149,19 @@ marks-are r formed m l x = go (true? (leadsOut (asContent r) x))
     outputs y = marked-high (replicate m 0) (r .outputs) (All-map (λ v. v < r .inputs + length (r .gates)) (λ v. v < length (replicate m 0)) (λ v h. omega (arith, long)) (r .outputs) (formed .outputs-formed)) y
 
     L : ℕ → Type 0
-    L y = leadsOut (asContent r) y ≡ true
+    L y = leadsOut (fromReference r) y ≡ true
 
     is : (y : ℕ) → L y ↔ Says marks L (r .inputs) (r .gates) y
     is y = (
-      (λ e. ⊎-elim (λ o. inl (outputs y ∙ or-left (some (eqb y) (r .outputs)) _ (sym (output-is y (r .outputs)) ∙ o))) (λ h. inr (h .0, h .1 .0, h .1 .1, h .2)) (leads-cases (asContent r) gates y e)),
+      (λ e. ⊎-elim (λ o. inl (outputs y ∙ or-left (some (eqb y) (r .outputs)) _ (sym (output-is y (r .outputs)) ∙ o))) (λ h. inr (h .0, h .1 .0, h .1 .1, h .2)) (leads-cases (fromReference r) gates y e)),
       ⊎-elim
-          (λ h. ⊎-elim (λ o. output-leads (asContent r) gates y (output-is y (r .outputs) ∙ o)) (λ z. absurd (clash z (none m y))) (or-cases (some (eqb y) (r .outputs)) _ (sym (outputs y) ∙ h)))
-          (λ h. operand-leads (asContent r) gates y (h .0) (h .1, h .2) (h .3)),
+          (λ h. ⊎-elim (λ o. output-leads (fromReference r) gates y (output-is y (r .outputs) ∙ o)) (λ z. absurd (clash z (none m y))) (or-cases (some (eqb y) (r .outputs)) _ (sym (outputs y) ∙ h)))
+          (λ h. operand-leads (fromReference r) gates y (h .0) (h .1, h .2) (h .3)),
     )
 
     says : (high (markedFrom (r .inputs) (r .gates) marks) x ≡ true) ↔ Says marks L (r .inputs) (r .gates) x
     says = from-says marks L (r .inputs) (r .gates) gates (omega (arith, long, marked-long (replicate m 0) (r .outputs))) (λ y h. is y) x
 
-    go : (leadsOut (asContent r) x ≡ true) ⊎ (leadsOut (asContent r) x ≡ false) → high (markedFrom (r .inputs) (r .gates) marks) x ≡ leadsOut (asContent r) x
+    go : (leadsOut (fromReference r) x ≡ true) ⊎ (leadsOut (fromReference r) x ≡ false) → high (markedFrom (r .inputs) (r .gates) marks) x ≡ leadsOut (fromReference r) x
     go (inl e) = says .1 (is x .0 e) ∙ sym e
     go (inr e) = not-true _ (λ h. clash (is x .1 (says .0 h)) e) ∙ sym e

@@ -28,31 +28,23 @@ use Rattle.netlist.specs.declared.Limits.{Limits}
 use Rattle.netlist.specs.Coded.{Coded}
 use Rattle.netlist.specs.Content.{Reference}
 use Rattle.netlist.specs.Formed.{FormedFrom, ReferenceFormed}
-use Rattle.verdict.specs.Graph.{In, Leads, here, onward}
+use Rattle.verdict.specs.Graph.{In}
 use Rattle.check_spec.specs.Lists.{xor, numbers, some, bitOf}
 use Rattle.check_spec.specs.Content.{Content}
-use Rattle.check_spec.specs.Rows.{noGate, driver, cellIn, setIn, netOf, feeding, reachesItself}
+use Rattle.check_spec.specs.Rows.{noGate, driver, cellIn, setIn, netOf}
 use Rattle.check_spec.specs.Words.{railsFor, operate, values, answer}
 use Rattle.check_spec.specs.Demands.{LoopFree}
-use Rattle.check_spec.proofs.Loops.{found-loop, feeding-gate, acyclic}
+use Rattle.check_spec.proofs.Loops.{feeding-gate, ranked-free, acyclic}
 use Rattle.check_spec.proofs.OneWord.{word-data}
 use Rattle.make_spec.specs.Make.{Built, gate, railsAt, built, isOutput, leadsOut, madeStage, Operand, Waits}
-use Rattle.make_spec.specs.Loaded.{asContent, operations}
+use Rattle.check_spec.specs.Loaded.{fromReference}
+use Rattle.make_spec.specs.Count.{operations}
 use Rattle.make_spec.proofs.Lists.{all-at, all-in, index-of, map-at, among-in}
 use Rattle.make_spec.proofs.Signals.{TwoGates, Driven, input, inverse, operation, Signals, operands-data, gates-wait, signals-tight}
 use Rattle.make_spec.proofs.Gates.{Binary, codeOf, turned, railsFrom, rail, rail-at, xor-twice, withRails, cell, Fit, BothBelow, gate-fit, gateFor, gate-set, gate-cause}
 use Rattle.make_spec.proofs.Building.{swapped, Two, Placed, as-not, as-two, Owner, Laid, laid}
 use Rattle.make_spec.proofs.Values.{valueOf, values-prefix, values-at}
 use Rattle.make_spec.proofs.Leading.{reads-later, leads-cases, output-is}
-
--- a stage whose pins name earlier nets has no loop
-pub falling-free : (s : Content) → ((u v : ℕ) → In v (feeding (netOf s) u) → v < u) → LoopFree (netOf s)
-unfolding reachesItself
-falling-free s falls net g = not-true _ (λ e. let l = found-loop (feeding (netOf s)) (nets (netOf s)) net e in omega (arith, falls net (l .0) (l .1), down (l .2)))
-  where
-    down : {y x : ℕ} → Leads (feeding (netOf s)) y x → y ≤ x
-    down here = omega arith
-    down (onward {x = x} {z = z} i l) = omega (arith, falls x z i, down l)
 
 numbers-long : (j m : ℕ) → length (numbers j m) ≡ m
 unfolding numbers
@@ -73,7 +65,7 @@ module _ {most : Limits} (r : Reference) (formed : ReferenceFormed most r) where
   size = n + length (r .gates)
 
   abbrev pub all : Built
-  all = built (asContent r)
+  all = built (fromReference r)
 
   abbrev pub stage : Content
   stage = record { inputs = n; gates = all .gates; outputs = map (λ (o : List ℕ). railsAt all (getD o 0 0)) (map (λ (v : ℕ). v ∷ []) (r .outputs)); care = [] }
@@ -139,7 +131,7 @@ module _ {most : Limits} (r : Reference) (formed : ReferenceFormed most r) where
   fit-at net g = fit (net - 2 * n) (omega (arith, g .0, g .1)) net (omega (arith, g .0))
 
   pub free : LoopFree (netOf stage)
-  free = falling-free stage (λ u v i.
+  free = ranked-free stage (λ u. u) (λ u v i.
       let g = feeding-gate stage u v i in
       all-in (λ p. p < u) (driver stage u .operands) (fit-at u g .pins-in) v (rw (le-ltb u (rails (netOf stage)) (g .0)) at i))
 
@@ -283,7 +275,7 @@ module _ {most : Limits} (r : Reference) (formed : ReferenceFormed most r) where
     abbrev out : ℕ → ℕ
     out j = getD (r .outputs) j 0
 
-    answer-at : (j : ℕ) → j < length (r .outputs) → value (out j) ≡ answer (asContent r) (bitOf w) j
+    answer-at : (j : ℕ) → j < length (r .outputs) → value (out j) ≡ answer (fromReference r) (bitOf w) j
     unfolding answer
     answer-at j l = sym (ap (λ (o : List ℕ). value (getD o 0 0)) (map-at (λ (v : ℕ). v ∷ []) (r .outputs) j [] l))
 
@@ -302,33 +294,33 @@ module _ {most : Limits} (r : Reference) (formed : ReferenceFormed most r) where
 
     -- ---- 13, 14 and 15 find nothing
 
-    pub word-tight : ((s : ℕ) → s < size → leadsOut (asContent r) s ≡ true) → Tight (netOf stage) c (answer (asContent r) (bitOf w))
+    pub word-tight : ((s : ℕ) → s < size → leadsOut (fromReference r) s ≡ true) → Tight (netOf stage) c (answer (fromReference r) (bitOf w))
     unfolding word-signals
     word-tight lead =
-        let t = signals-tight S c word-signals (λ s l. led s (leads-cases (asContent r) (formed .gates-formed) s (lead s l))) in
+        let t = signals-tight S c word-signals (λ s l. led s (leads-cases (fromReference r) (formed .gates-formed) s (lead s l))) in
         record {
           right = λ R rest j h. subst (DataOf R (netOf stage .rail j)) (answer-at j (omega (arith, outputs-long))) (t .right R rest j h);
           tight = t .tight;
         }
       where
-        led : (s : ℕ) → (isOutput (asContent r) s ≡ true) ⊎ ((k : ℕ) × ((k < length (r .gates)) × In s (getD (r .gates) k noGate .operands)) × (leadsOut (asContent r) (n + k) ≡ true))
+        led : (s : ℕ) → (isOutput (fromReference r) s ≡ true) ⊎ ((k : ℕ) × ((k < length (r .gates)) × In s (getD (r .gates) k noGate .operands)) × (leadsOut (fromReference r) (n + k) ≡ true))
             → ((j : ℕ) × (j < length (stage .outputs)) × (out j ≡ s)) ⊎ ((z : ℕ) × (s < z) × (z < size) × In s (operands z))
         led s (inl o) =
             let j = index-of (r .outputs) s (among-in s (r .outputs) (sym (output-is s (r .outputs)) ∙ o)) in
             inl (j .0, omega (arith, j .1, outputs-long), j .2)
-        led s (inr (k, g, e)) = inr (n + k, reads-later (asContent r) (formed .gates-formed) k s g, omega (arith, g .0), rw (gate-operands k) (g .1))
+        led s (inr (k, g, e)) = inr (n + k, reads-later (fromReference r) (formed .gates-formed) k s g, omega (arith, g .0), rw (gate-operands k) (g .1))
 
-    pub word-conforms : ((s : ℕ) → s < size → leadsOut (asContent r) s ≡ true) → Conforms (netOf stage) c (answer (asContent r) (bitOf w))
+    pub word-conforms : ((s : ℕ) → s < size → leadsOut (fromReference r) s ≡ true) → Conforms (netOf stage) c (answer (fromReference r) (bitOf w))
     word-conforms lead =
         let word = word-data (netOf stage) w in
-        hold-checks-conforms S c (answer (asContent r) (bitOf w)) word holds .0 (tight-passes S c (answer (asContent r) (bitOf w)) word (word-tight lead))
+        hold-checks-conforms S c (answer (fromReference r) (bitOf w)) word holds .0 (tight-passes S c (answer (fromReference r) (bitOf w)) word (word-tight lead))
 
     -- ---- rails wait for their operands
 
     -- the rails of an operation other than NOT, where they are set in a supported row
     set-waits : (m : Row) → Supported (netOf stage) c m → (k : ℕ) → k < length (r .gates) → ¬ (getD (r .gates) k noGate .code ≡ 1)
         → Placed n all (n + k) (getD (r .gates) k noGate) → (b : Bool) → riseUp (netOf stage) c m (signalRail (n + k) b) ≡ true
-        → (x : ℕ) → Operand (asContent r) k x → Data m (signalRail x)
+        → (x : ℕ) → Operand (fromReference r) k x → Data m (signalRail x)
     unfolding word-signals
     set-waits m supported k l other (as-not a before is e) b u x o = absurd (other (ap (λ (x : Coded). x .code) is))
     set-waits m supported k l other (as-two t) b u x o =
@@ -348,7 +340,7 @@ module _ {most : Limits} (r : Reference) (formed : ReferenceFormed most r) where
     may-rise l p net e =
         subst (λ (b : Bool). cond b (riseDown (netOf stage) (after low l) net) (riseUp (netOf stage) c (after low l) net) ≡ true) (rise-low S c l p net e) e
 
-    pub word-waits : Waits (asContent r) (netOf stage) w
+    pub word-waits : Waits (fromReference r) (netOf stage) w
     unfolding word-signals
     word-waits = record {
       high = λ l p k hk b e x o.

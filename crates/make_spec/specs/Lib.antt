@@ -1,3 +1,3 @@
 pub mod Make
-pub mod Loaded
+pub mod Count
 pub mod Marks

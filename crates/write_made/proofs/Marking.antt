@@ -22,7 +22,8 @@ use Rattle.verdict.specs.Words.{numbers}
 use Rattle.verdict.specs.Checks.{first}
 use Rattle.verdict.specs.Search.{least}
 use Rattle.make_spec.specs.Make.{leadsOut}
-use Rattle.make_spec.specs.Loaded.{asContent, operations}
+use Rattle.check_spec.specs.Loaded.{fromReference}
+use Rattle.make_spec.specs.Count.{operations}
 use Rattle.make_spec.specs.Marks.{marked, markedFrom}
 use Rattle.make_spec.proofs.Marks.{from-long, marks-are}
 use Rattle.circuit.specs.Stage.{tabulate}
@@ -165,7 +166,7 @@ least-same f g j (suc m) h =
 -- among the marks, in a row of at least as many signals
 pub nowhere-in : (c : Counts) (code : List ℕ) → ReferenceFormed referenceLimits (referenceIn c code) → (size : ℕ) → c .inputs + c .gates ≤ size → (between marks : List ℕ)
     → between ≡ marked (replicate size 0) (signalsIn c code) → marks ≡ markedFrom (c .inputs) (operatorsIn c code) between
-    → least (λ x. not (high marks x)) 0 (c .inputs + c .gates) ≡ least (λ x. not (leadsOut (asContent (referenceIn c code)) x)) 0 (c .inputs + c .gates)
+    → least (λ x. not (high marks x)) 0 (c .inputs + c .gates) ≡ least (λ x. not (leadsOut (fromReference (referenceIn c code)) x)) 0 (c .inputs + c .gates)
 unfolding operatorsIn
 nowhere-in c code formed size l between marks e f =
     ap (λ (m : List ℕ). least (λ x. not (high m x)) 0 (c .inputs + c .gates)) (f ∙ ap (markedFrom (c .inputs) (operatorsIn c code)) e)

@@ -13,7 +13,7 @@ use Rattle.netlist.specs.Content.{Coded}
 use Rattle.netlist.specs.Writing as writing
 use Rattle.netlist.specs.Writing.{writeItem}
 use Rattle.make_spec.specs.Make.{Built, gate, realize}
-use Rattle.make_spec.specs.Loaded.{operations}
+use Rattle.make_spec.specs.Count.{operations}
 use Rattle.write_command.specs.Put.{Put}
 use Rattle.write_command.specs.Parts.{bytesOf}
 use Rattle.write_command.proofs.Joining.{put-none, put-++}

@@ -4,7 +4,7 @@ use native.Mathlib.Omega.{arith}
 use mathlib.Core.Path.{_≡_, ap, _∙_}
 use lib.ListN.{drop}
 use denote.Ref.{now}
-use Rattle.make_spec.specs.Loaded.{operations}
+use Rattle.make_spec.specs.Count.{operations}
 use Rattle.circuit.specs.Stage.{tabulate}
 use Rattle.circuit.specs.Reference.{operatorIn, operatorsIn}
 use Rattle.write_made.proofs.Marking.{CountedTo, counted-start, counted-not, counted-one}
