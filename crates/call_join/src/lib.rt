@@ -2,6 +2,7 @@
 // buffers that the caller lends.
 use join_spec::JoinAnswer;
 use netlist::Counts;
+use netlist::File;
 use netlist::Outcome;
 use verdict::Finding;
 use verdict::Verdict;
@@ -138,7 +139,7 @@ fn load_part(s: &[u8], code: &mut [u16]) -> Counts
     ensures { λ r. ⌜ StageLoaded r (now (code .exit)) × (stageIn r (now (code .exit))
         ≡ stageRead (now (s .entry)) (readFile file.Stage partStageLimits (now (s .entry)))) ⌝ }
 {
-    match circuit_load::read_stage_within(s, netlist::part_stage_limits(), code) {
+    match circuit_load::read_stage_within(File::Stage, s, netlist::part_stage_limits(), code) {
         Outcome::Readable(counts) => counts,
         Outcome::Refused { number: _, at: _ } => Counts {
             inputs: 0,
@@ -287,11 +288,25 @@ pub fn join(
 {
     let most = netlist::part_stage_limits();
     let reference_most = netlist::part_reference_limits();
-    let verdict1 = check_files::check_within(order, stage1, reference1, most, reference_most);
+    let verdict1 = check_files::check_within(
+        order,
+        File::Stage,
+        stage1,
+        reference1,
+        most,
+        reference_most,
+    );
     if verdict1.number != 0 {
         return refusal(verdict1);
     }
-    let verdict2 = check_files::check_within(order, stage2, reference2, most, reference_most);
+    let verdict2 = check_files::check_within(
+        order,
+        File::Stage,
+        stage2,
+        reference2,
+        most,
+        reference_most,
+    );
     if verdict2.number != 0 {
         return refusal(Verdict {
             number: verdict2.number,

@@ -27,7 +27,7 @@ use Rattle.verdict.specs.Loops.{NoLoop, reachesItself}
 use Rattle.verdict.specs.declared.WordOrder.{WordOrder}
 use Rattle.verdict.specs.Words as words
 use Rattle.verdict.specs.Search.{least}
-use Rattle.check_spec.specs.Content.{Content, Files, contentAt, files}
+use Rattle.check_spec.specs.Content.{Content, Files, contentAt, plainFiles}
 use Rattle.check_spec.specs.Content as content
 use Rattle.check_spec.specs.Rows.{netOf}
 use Rattle.check_spec.specs.Words.{names}
@@ -117,16 +117,16 @@ report-alike order v c free =
     (fun-ext (λ name. high-alike c free (words.spelled order (c .inputs) name) ∙ ap (spec.gatesHigh c) (sym (spelled-alike order (c .inputs) name))))
     (sym (names-alike order c)))
 
-module _ (order : WordOrder) (stage reference : List ℕ) (v : Verdict) (e : v ≡ verdictOn order (files stage reference)) where
+module _ (order : WordOrder) (stage reference : List ℕ) (v : Verdict) (e : v ≡ verdictOn order (plainFiles stage reference)) where
   abbrev f : Files
-  f = files stage reference
+  f = plainFiles stage reference
 
   -- an accepted stage reads and has no loop
   pub accepted-file : v .number ≡ 0 → LoopFreeFile stage
   accepted-file n =
       let a = accepted-passes order f (sym (ap (λ (x : Verdict). x .number) e) ∙ n) in
       let r = stage-read f (a .1 .0) in
-      let is : stageView (content.stageIn f) ≡ stageOf stage (r .0) = ap (λ (x : Reading). stageView (contentAt file.Stage stage x)) (r .1) ∙ stage-view stage (r .0) in
+      let is : stageView (content.stageIn f) ≡ stageOf stage (r .0) = ap (λ (x : Reading). stageView (contentAt file.Stage stage x)) (r .1) ∙ stage-view false stage (r .0) in
       let free = code-free (content.stageIn f) (a .2 .free) in
       record { places = r .0; reads = r .1; free = subst (λ (s : Stage). NoLoop (s .inputs) (s .gates)) is free }
 
@@ -136,7 +136,7 @@ module _ (order : WordOrder) (stage reference : List ℕ) (v : Verdict) (e : v �
   report-accepted n r is =
       let a = accepted-passes order f (sym (ap (λ (x : Verdict). x .number) e) ∙ n) in
       let p = stage-read f (a .1 .0) in
-      let same : stageView (content.stageIn f) ≡ stageOf stage (p .0) = ap (λ (x : Reading). stageView (contentAt file.Stage stage x)) (p .1) ∙ stage-view stage (p .0) in
+      let same : stageView (content.stageIn f) ≡ stageOf stage (p .0) = ap (λ (x : Reading). stageView (contentAt file.Stage stage x)) (p .1) ∙ stage-view false stage (p .0) in
       let z : r ≡ reportOn order f =
       is (p .0) (p .1) ∙ ap (stageReport order v) (sym same) ∙ report-alike order v (content.stageIn f) (a .2 .free)
       ∙ sym (ap (λ (b : Bool). cond b (reportOf v (names order (content.stageIn f)) (spec.lines order (content.stageIn f))) (reportOf v [] [])) (eq-eqb (v .number) 0 n))

@@ -15,7 +15,7 @@ ghost use Rattle.verdict.specs.Words.{names};
 ghost use Rattle.circuit.specs.Stage.{stageIn, StageLoaded};
 ghost use Rattle.circuit.specs.Order.{InOrder};
 ghost use Rattle.call_report.specs.Report as spec;
-ghost use Rattle.check_spec.specs.Content.{files};
+ghost use Rattle.check_spec.specs.Content.{plainFiles};
 ghost use Rattle.report_spec.specs.Report.{reportOn, ReportMeans};
 ghost use Rattle.call_report.specs.Lines.{linesBy, LoopFreeFile};
 
@@ -94,10 +94,10 @@ fn report_stage(order: WordOrder, stage: &[u8], verdict: Verdict) -> Report
 
 // The report of a stage file against a reference file, with words named in an order.
 pub fn report_on(order: WordOrder, stage: &[u8], reference: &[u8]) -> Report
-    ensures report { λ r. ⌜ r ≡ reportOn order (files (now (stage .entry)) (now (reference .entry))) ⌝ }
-    ensures means { λ r. ⌜ ReportMeans (files (now (stage .entry)) (now (reference .entry))) r ⌝ }
+    ensures report { λ r. ⌜ r ≡ reportOn order (plainFiles (now (stage .entry)) (now (reference .entry))) ⌝ }
+    ensures means { λ r. ⌜ ReportMeans (plainFiles (now (stage .entry)) (now (reference .entry))) r ⌝ }
 {
-    let verdict = check_files::check(order, stage, reference);
+    let verdict = check_files::check_plain(order, stage, reference);
     if verdict.number == 0 {
         return report_stage(order, stage, verdict);
     }

@@ -2,7 +2,9 @@
 -- Assumes nothing.
 use Prim.Native.Nat.{ℕ}
 use mathlib.Core.Path.{_≡_, sym, ap, ap₂, subst, _∙_}
+use mathlib.Core.Bool.{Bool}
 use mathlib.Core.List.{List}
+use Rattle.netlist.specs.declared.File.{File}
 use Rattle.netlist.specs.declared.File.the-variants as file
 use Rattle.netlist.specs.declared.Limits.{Limits}
 use Rattle.netlist.specs.declared.Counts.{Counts}
@@ -14,8 +16,8 @@ use Rattle.verdict.specs.declared.Verdict.{Verdict}
 use Rattle.verdict.specs.declared.WordOrder.{WordOrder}
 use Rattle.verdict.specs.declared.Finding.{Finding}
 use Rattle.verdict.specs.Checks.{verdict, firstFault, checks}
-use Rattle.verdict.specs.Verdicts.{verdictOf, judgeReference, judgeStage, verdictWithin}
-use Rattle.check_spec.specs.Content.{files}
+use Rattle.verdict.specs.Verdicts.{verdictOf, judgeReference, judgeStage, verdictAs}
+use Rattle.check_spec.specs.Content.{Files, stageFile, filesWith}
 use Rattle.check_spec.specs.Verdicts.{verdictOn}
 use Rattle.check_spec.specs.Demands.{Demand2, Demand3}
 use Rattle.check_spec.proofs.Demanded.{demand-2, demand-3}
@@ -42,17 +44,17 @@ module _ (order : WordOrder) (s : Stage) (t : List ℕ) (x : Reading) where
 
 -- ---- the stage
 
-module _ (order : WordOrder) (stageMost referenceMost : Limits) (s t : List ℕ) where
+module _ (f : File) (order : WordOrder) (stageMost referenceMost : Limits) (s t : List ℕ) where
   abbrev reading : Reading
-  reading = readFile file.Stage stageMost s
+  reading = readFile f stageMost s
 
-  pub stage-refused : (number at : ℕ) → outcome.Refused number at ≡ outcomeOf reading → verdict number 1 at 0 ≡ verdictWithin order stageMost referenceMost s t
-  unfolding judgeStage verdictWithin
+  pub stage-refused : (number at : ℕ) → outcome.Refused number at ≡ outcomeOf reading → verdict number 1 at 0 ≡ verdictAs f order stageMost referenceMost s t
+  unfolding judgeStage verdictAs
   stage-refused number at e = sym (ap (judgeStage order referenceMost s t) (was-refused reading number at e))
 
   pub stage-judged : (c : Counts) (code : List ℕ) → outcome.Readable c ≡ outcomeOf reading → HoldsStage s reading code → (v : Verdict) →
-      v ≡ judgeReference order (stageIn c code) t (readFile file.Reference referenceMost t) → v ≡ verdictWithin order stageMost referenceMost s t
-  unfolding judgeStage verdictWithin
+      v ≡ judgeReference order (stageIn c code) t (readFile file.Reference referenceMost t) → v ≡ verdictAs f order stageMost referenceMost s t
+  unfolding judgeStage verdictAs
   stage-judged c code e h v j =
       let r = stage-held s reading c code e h in
       j ∙ ap (λ (y : Stage). judgeReference order y t (readFile file.Reference referenceMost t)) (r .2) ∙ sym (ap (judgeStage order referenceMost s t) (r .1))
@@ -60,10 +62,12 @@ module _ (order : WordOrder) (stageMost referenceMost : Limits) (s t : List ℕ)
 -- ---- the call
 
 -- what the check answers within the limits of the two files
-pub checked : (order : WordOrder) (stageMost referenceMost : Limits) (s t : List ℕ) (v : Verdict) → stageMost ≡ stageLimits → referenceMost ≡ referenceLimits
-    → v ≡ verdictWithin order stageMost referenceMost s t
-    → (v ≡ verdictOn order (files s t)) × (Demand2 order (files s t) v × Demand3 order (files s t) v)
-checked order stageMost referenceMost s t v e e′ is =
-    let z : v ≡ verdictOn order (files s t) =
-    is ∙ ap₂ (λ (a b : Limits). verdictWithin order a b s t) e e′ ∙ sym (verdict-is order (files s t)) in
-    (z, (subst (Demand2 order (files s t)) (sym z) (demand-2 order (files s t)), subst (Demand3 order (files s t)) (sym z) (demand-3 order (files s t))))
+pub checked : (registers : Bool) (order : WordOrder) (stageMost referenceMost : Limits) (s t : List ℕ) (v : Verdict)
+    → stageMost ≡ stageLimits → referenceMost ≡ referenceLimits → v ≡ verdictAs (stageFile registers) order stageMost referenceMost s t
+    → v ≡ verdictOn order (filesWith registers s t)
+checked registers order stageMost referenceMost s t v e e′ is =
+    is ∙ ap₂ (λ (a b : Limits). verdictAs (stageFile registers) order a b s t) e e′ ∙ sym (verdict-is order (filesWith registers s t))
+
+-- and what is demanded of it
+pub demanded : (order : WordOrder) (f : Files) (v : Verdict) → v ≡ verdictOn order f → (v ≡ verdictOn order f) × (Demand2 order f v × Demand3 order f v)
+demanded order f v is = (is, (subst (Demand2 order f) (sym is) (demand-2 order f), subst (Demand3 order f) (sym is) (demand-3 order f)))

@@ -1,5 +1,6 @@
 // The check of two files: both are read and loaded, then the checks 10, 11, 12, 28 and those that sweep the words follow in this order.
 use netlist::Counts;
+use netlist::File;
 use netlist::Found;
 use netlist::Limits;
 use netlist::Outcome;
@@ -8,12 +9,13 @@ use verdict::Verdict;
 use verdict::WordOrder;
 ghost use mathlib.Core.Path.{_≡_};
 ghost use Rattle.netlist.specs.declared.File.the-variants as file;
+ghost use Rattle.netlist.specs.Commands.{IsStage};
 ghost use Rattle.netlist.specs.Reading.{readFile, stageLimits, referenceLimits, NoMore};
 ghost use Rattle.verdict.specs.Retired.{retiredAt};
 ghost use Rattle.verdict.specs.Search.{least};
 ghost use Rattle.verdict.specs.Checks as checks;
 ghost use Rattle.verdict.specs.Verdicts as verdicts;
-ghost use Rattle.check_spec.specs.Content.{files};
+ghost use Rattle.check_spec.specs.Content.{files, plainFiles};
 ghost use Rattle.check_spec.specs.Verdicts.{verdictOn};
 ghost use Rattle.check_spec.specs.Demands.{Demand2, Demand3};
 ghost use Rattle.circuit.specs.Stage.{stageGates, stageIn, StageLoaded};
@@ -119,19 +121,20 @@ fn check_reference(
     }
 }
 
-// The verdict on a stage file and a reference file, which are read within some limits, with words named in an order.
+// The verdict on a stage file, which may be a pipeline, and a reference file, which are read within some limits, with words named in an order.
 pub fn check_within(
     order: WordOrder,
+    file: File,
     stage: &[u8],
     reference: &[u8],
     stage_most: Limits,
     reference_most: Limits,
 ) -> Verdict
-    requires { ⌜ NoMore «stage_most» stageLimits × NoMore «reference_most» referenceLimits ⌝ }
-    ensures { λ r. ⌜ r ≡ verdicts.verdictWithin order «stage_most» «reference_most» (now (stage .entry)) (now (reference .entry)) ⌝ }
+    requires { ⌜ IsStage file × NoMore «stage_most» stageLimits × NoMore «reference_most» referenceLimits ⌝ }
+    ensures { λ r. ⌜ r ≡ verdicts.verdictAs file order «stage_most» «reference_most» (now (stage .entry)) (now (reference .entry)) ⌝ }
 {
     let mut code = [0u16; circuit_load::STAGE_CODE];
-    match circuit_load::read_stage_within(stage, stage_most, &mut code) {
+    match circuit_load::read_stage_within(file, stage, stage_most, &mut code) {
         Outcome::Refused { number, at } => Verdict {
             number: number as u64,
             file: 1,
@@ -144,7 +147,7 @@ pub fn check_within(
     }
 }
 
-// The same within the limits of the two files.
+// The check: the same within the limits of the two files. It alone reads registers.
 pub fn check(order: WordOrder, stage: &[u8], reference: &[u8]) -> Verdict
     ensures verdict { λ r. ⌜ r ≡ verdictOn order (files (now (stage .entry)) (now (reference .entry))) ⌝ }
     ensures demand2 { λ r. ⌜ Demand2 order (files (now (stage .entry)) (now (reference .entry))) r ⌝ }
@@ -152,6 +155,21 @@ pub fn check(order: WordOrder, stage: &[u8], reference: &[u8]) -> Verdict
 {
     check_within(
         order,
+        File::Pipeline,
+        stage,
+        reference,
+        netlist::stage_limits(),
+        netlist::reference_limits(),
+    )
+}
+
+// The same for the other calls, which read no registers.
+pub fn check_plain(order: WordOrder, stage: &[u8], reference: &[u8]) -> Verdict
+    ensures { λ r. ⌜ r ≡ verdictOn order (plainFiles (now (stage .entry)) (now (reference .entry))) ⌝ }
+{
+    check_within(
+        order,
+        File::Stage,
         stage,
         reference,
         netlist::stage_limits(),

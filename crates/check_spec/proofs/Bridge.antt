@@ -39,7 +39,7 @@ use Rattle.verdict.proofs.Reaching.{reaches-sound, reaches-complete}
 use Rattle.verdict.proofs.Because.{data-true, true-data, null-true, true-null}
 use Rattle.check_spec.specs.Cases.{verdict, accepted, Case, case, Check, first, judge, sweep, unequal}
 use Rattle.check_spec.specs.Lists.{xor, numbers, bitOf, reaches}
-use Rattle.check_spec.specs.Content.{Content, Files, contentAt, stageIn, referenceIn}
+use Rattle.check_spec.specs.Content.{Content, Files, contentAt, stageFile, stageIn, referenceIn}
 use Rattle.check_spec.specs.Rows.{noGate, driver, cellIn, netOf, risen, fallen, dataOf, allData, allNull, feeding, reachesItself}
 use Rattle.check_spec.specs.Words.{railsFor, spelled, names, answer}
 use Rattle.check_spec.specs.Checks.{rest, wrong, incomplete, highAnd, unobservable, fallIncomplete, fallUnobservable, looped, retired, swept, checks}
@@ -49,7 +49,7 @@ use Rattle.check_spec.proofs.First.{first-pass}
 use Rattle.check_spec.proofs.Loops.{loop-found, found-loop, feeding-gate}
 use Rattle.check_spec.proofs.Pairs.{all-data, all-null}
 use Rattle.check_spec.proofs.Exactly.{EachCheck}
-use Rattle.check_spec.proofs.View.{pairOf, stageView, referenceView, stage-view, reference-view, net-view, rail-view, driver-view}
+use Rattle.check_spec.proofs.View.{pairOf, stageView, referenceView, read-plain, stage-view, reference-view, net-view, rail-view, driver-view}
 use Rattle.check_spec.proofs.Alike.{spelled-alike, names-alike, answer-alike, rest-alike, missing-alike, held-alike, but-alike, keeping-alike}
 
 -- ---- a sweep finds what its cases say
@@ -377,15 +377,22 @@ module _ (order : WordOrder) (c : Content) where
 -- ---- the verdict
 
 -- the law that joins the two
-pub verdict-is : (order : WordOrder) (f : Files) → verdictOn order f ≡ given.verdictWithin order (f .stageMost) (f .referenceMost) (f .stage) (f .reference)
-unfolding judge first refusal given.verdictWithin given.judgeStage given.judgeReference
-verdict-is order f = go (readFile file.Stage (f .stageMost) (f .stage)) (readFile file.Reference (f .referenceMost) (f .reference)) refl
+pub verdict-is : (order : WordOrder) (f : Files) → verdictOn order f ≡ given.verdictAs (stageFile (f .registers)) order (f .stageMost) (f .referenceMost) (f .stage) (f .reference)
+unfolding judge first refusal given.verdictAs given.judgeStage given.judgeReference
+verdict-is order f = go (f .registers) (readFile (stageFile (f .registers)) (f .stageMost) (f .stage)) (readFile file.Reference (f .referenceMost) (f .reference)) refl
   where
-    go : (x y : Reading) → readFile file.Reference (f .referenceMost) (f .reference) ≡ y
-        → first (refusal file.Stage x) (first (refusal file.Reference y) (judge (checks order (contentAt file.Stage (f .stage) x) (contentAt file.Reference (f .reference) y))))
+    go : (b : Bool) (x y : Reading) → readFile file.Reference (f .referenceMost) (f .reference) ≡ y
+        → first (refusal (stageFile b) x) (first (refusal file.Reference y) (judge (checks order (contentAt (stageFile b) (f .stage) x) (contentAt file.Reference (f .reference) y))))
         ≡ given.judgeStage order (f .referenceMost) (f .stage) (f .reference) x
-    go (refused number at) y e = refl
-    go (readable p) (refused number at) e = rw e
-    go (readable p) (readable p′) e =
-        rw e (checks-is order (contentAt file.Stage (f .stage) (readable p)) (contentAt file.Reference (f .reference) (readable p′))
-        ∙ ap₂ (λ (s : parsed.Stage) (r : parsed.Reference). given.verdictOf (found.firstFault (found.checks order s r))) (stage-view (f .stage) p) (reference-view (f .reference) p′))
+    go false (refused number at) y e = refl
+    go true (refused number at) y e = refl
+    go b (readable p) (refused number at) e = rw e
+    go b (readable p) (readable p′) e =
+        rw e (checks-is order (contentAt (stageFile b) (f .stage) (readable p)) (contentAt file.Reference (f .reference) (readable p′))
+        ∙ ap₂ (λ (s : parsed.Stage) (r : parsed.Reference). given.verdictOf (found.firstFault (found.checks order s r))) (stage-view b (f .stage) p) (reference-view (f .reference) p′))
+
+-- for now, whether registers are read makes no difference
+pub plain-verdict : (order : WordOrder) (f : Files) → verdictOn order f ≡ given.verdictWithin order (f .stageMost) (f .referenceMost) (f .stage) (f .reference)
+unfolding given.verdictAs
+plain-verdict order f =
+    verdict-is order f ∙ ap (given.judgeStage order (f .referenceMost) (f .stage) (f .reference)) (read-plain (f .registers) (f .stageMost) (f .stage))

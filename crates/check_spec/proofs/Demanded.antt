@@ -21,7 +21,7 @@ use Rattle.verdict.proofs.Words.{in-index}
 use Rattle.verdict.proofs.Refusals.{InTable}
 use Rattle.check_spec.specs.Cases.{accepted, verdict, Case, case, Check, first, judge}
 use Rattle.check_spec.specs.Lists.{numbers, some}
-use Rattle.check_spec.specs.Content.{Content, Files, stageIn, referenceIn}
+use Rattle.check_spec.specs.Content.{Content, Files, stageFile, stageIn, referenceIn}
 use Rattle.check_spec.specs.Rows.{driver, cellIn, netOf, reachesItself}
 use Rattle.check_spec.specs.Words.{railsFor, spelled, names, IsWord}
 use Rattle.check_spec.specs.Checks.{wrong, incomplete, unobservable, fallIncomplete, fallUnobservable, looped, retired, swept, checks}
@@ -92,7 +92,7 @@ module _ (order : WordOrder) (f : Files) where
   unfolding checks looped retired
   swept-verdict n h e =
       let gates = numbers 0 (length (s .gates)) in
-      let a = judge-later n (reading Stage (f .stageMost) (f .stage)) _ (reading-number n (h .not-read) Stage (f .stageMost) (f .stage)) e in
+      let a = judge-later n (reading (stageFile (f .registers)) (f .stageMost) (f .stage)) _ (reading-number n (h .not-read) (stageFile (f .registers)) (f .stageMost) (f .stage)) e in
       let b = judge-later n (reading Reference (f .referenceMost) (f .reference)) (checks order s r)
       (reading-number n (h .not-read) Reference (f .referenceMost) (f .reference)) (ap number (sym (a .1)) ∙ e) in
       let c = judge-later n _ _ ((λ q. omega (arith, h .after-12)), tt) (ap number (sym (a .1 ∙ b .1)) ∙ e) in

@@ -24,7 +24,7 @@ use Rattle.verdict.proofs.Words.{index-in, in-index}
 use Rattle.verdict.proofs.Refusals.{InTable, refused-number}
 use Rattle.check_spec.specs.Cases.{accepted, Case, case, Check, first, judge, sweep, unequal}
 use Rattle.check_spec.specs.Lists.{numbers, select, bitOf}
-use Rattle.check_spec.specs.Content.{Content, Files, stageIn, referenceIn}
+use Rattle.check_spec.specs.Content.{Content, Files, stageFile, stageIn, referenceIn}
 use Rattle.check_spec.specs.Rows.{driver, cellIn, netOf, reachesItself}
 use Rattle.check_spec.specs.Words.{spelled, names, IsWord}
 use Rattle.check_spec.specs.Checks.{wrong, incomplete, unobservable, fallIncomplete, fallUnobservable, looped, retired, swept, checks}
@@ -180,7 +180,7 @@ module _ (order : WordOrder) (f : Files) where
       let s = stageIn f in
       let r = referenceIn f in
       let gates = numbers 0 (length (s .gates)) in
-      let x = reading-number 0 (λ t. omega (arith, t .0)) Stage (f .stageMost) (f .stage) in
+      let x = reading-number 0 (λ t. omega (arith, t .0)) (stageFile (f .registers)) (f .stageMost) (f .stage) in
       let y = reading-number 0 (λ t. omega (arith, t .0)) Reference (f .referenceMost) (f .reference) in
       let l = other-number 0 12 1 gates (λ w g. reachesItself (netOf s) (2 * s .inputs + g)) (0 ∷ []) (λ q. omega arith) in
       let t = other-number 0 28 1 gates (λ w g. isRetired (cellIn (driver s (2 * s .inputs + g)))) (0 ∷ []) (λ q. omega arith) in

@@ -201,5 +201,5 @@ row-is stage row = go (readFile file.Stage (stageLimits) stage) refl
         refuse (given.answerWith (record { number = number; file = 1; at = at; word = 0 }) row .verdict) (rw e) (λ q. omega (arith, q, refused-number file.Stage (stageLimits) stage number at e .0))
     go (readable p) e =
         let c = contentAt file.Stage stage (readable p) in
-        subst (λ (s : parsed.Stage). RowIs stage row (given.settleUnless (found.firstFault (found.rowChecks s row)) s row)) (stage-view stage p)
+        subst (λ (s : parsed.Stage). RowIs stage row (given.settleUnless (found.firstFault (found.rowChecks s row)) s row)) (stage-view false stage p)
         (settle c (ap (contentAt file.Stage stage) e) (rw e) (found.firstFault (found.rowChecks (stageView c) row)) refl)

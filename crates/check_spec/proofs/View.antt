@@ -14,12 +14,15 @@ use Rattle.gates.specs.Cell.{bit, setExpression, cells, cellAt, kindOf, pinCoun
 use Rattle.runs.specs.Row.{Row}
 use Rattle.runs.specs.Net.{Net}
 use Rattle.netlist.specs.declared.File.the-variants as file
+use Rattle.netlist.specs.declared.Limits.{Limits}
 use Rattle.netlist.specs.Bytes.{operand, operands}
-use Rattle.netlist.specs.Reading.{Places, readable}
+use Rattle.netlist.specs.Commands.{needed}
+use Rattle.netlist.specs.Reading.{Places, Reading, refused, readable, readFile}
 use Rattle.netlist.specs.Content as old
 use Rattle.netlist.specs.Content.{Coded, Pair, codedAt, gateOf, pairAt, stageOf, referenceOf, cellOf, holdOf}
+use Rattle.netlist.proofs.Alike.{stage-alike}
 use Rattle.verdict.specs.Nets as nets
-use Rattle.check_spec.specs.Content.{Content, contentAt, railsOfOutput}
+use Rattle.check_spec.specs.Content.{Content, contentAt, contentOf, stageFile, railsOfOutput}
 use Rattle.check_spec.specs.Rows.{noGate, driver, cellIn, setIn, netOf}
 
 abbrev pub pairOf : List ℕ → Pair
@@ -33,9 +36,25 @@ referenceView c = record { inputs = c .inputs; gates = c .gates; outputs = map (
 
 -- ---- files
 
-pub stage-view : (bytes : List ℕ) (p : Places) → stageView (contentAt file.Stage bytes (readable p)) ≡ stageOf bytes p
+-- for now a pipeline reads as a stage, and holds what a stage does
+pub read-plain : (registers : Bool) (most : Limits) (bytes : List ℕ) → readFile (stageFile registers) most bytes ≡ readFile file.Stage most bytes
+read-plain false most bytes = refl
+read-plain true most bytes = stage-alike file.Pipeline tt most bytes
+
+pub content-alike : (registers : Bool) (bytes : List ℕ) (x : Reading) → contentAt (stageFile registers) bytes x ≡ contentAt file.Stage bytes x
+unfolding contentAt needed
+content-alike false bytes x = refl
+content-alike true bytes (refused number at) = refl
+content-alike true bytes (readable p) = refl
+
+pub content-plain : (registers : Bool) (most : Limits) (bytes : List ℕ) → contentOf (stageFile registers) most bytes ≡ contentOf file.Stage most bytes
+content-plain registers most bytes =
+    content-alike registers bytes (readFile (stageFile registers) most bytes) ∙ ap (contentAt file.Stage bytes) (read-plain registers most bytes)
+
+pub stage-view : (registers : Bool) (bytes : List ℕ) (p : Places) → stageView (contentAt (stageFile registers) bytes (readable p)) ≡ stageOf bytes p
 unfolding contentAt stageOf operands
-stage-view bytes p =
+stage-view registers bytes p =
+    ap stageView (content-alike registers bytes (readable p)) ∙
     ap₂ (λ (gates : List old.Gate) (outputs : List Pair). record { inputs = p .inputs; gates = gates; outputs = outputs; care = p .care })
     (map-map gateOf (codedAt file.Stage bytes) (p .gates)) (pairs (p .outputs))
   where

@@ -76,6 +76,7 @@ module _ (c : Content) where
 pub wired : (f : File) (s : List ℕ) (at : ℕ) → operands s (at + 1) (railsOfOutput f) ≡ wiredAt f s at
 unfolding k.commandTable k.ownCommands k.formIn
 wired file.Stage s at = refl
+wired file.Pipeline s at = refl
 wired file.Reference s at = refl
 
 pub content-write : (f : File) (most : Limits) (c : Content) → FileFits f most (c .inputs) (itemsOf c)

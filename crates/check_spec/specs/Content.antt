@@ -1,9 +1,10 @@
 -- What a file holds, and what two files do, with their limits.
 use Prim.Native.Nat.{ℕ, _+_}
+use mathlib.Core.Bool.{Bool, true, false}
 use mathlib.Core.List.{List, [], map}
 use Rattle.netlist.specs.declared.File.{File}
 use Rattle.netlist.specs.declared.Limits.{Limits}
-use Rattle.netlist.specs.declared.File.the-variants.{Stage, Reference}
+use Rattle.netlist.specs.declared.File.the-variants.{Stage, Pipeline, Reference}
 use Rattle.netlist.specs.Bytes.{operands}
 use Rattle.netlist.specs.Reading.{Places, Reading, refused, readable, readFile, stageLimits, referenceLimits, partStageLimits, partReferenceLimits}
 use Rattle.netlist.specs.Coded.{Coded, codedAt}
@@ -19,6 +20,7 @@ pub record Content : Type 0 where
 -- how many nets or signals an output names
 abbrev pub railsOfOutput : File → ℕ
 railsOfOutput Stage = 2
+railsOfOutput Pipeline = 2
 railsOfOutput Reference = 1
 
 -- what is seen through the places of its commands; a file that is refused holds nothing
@@ -34,22 +36,35 @@ contentAt f bytes (readable p) = record {
 abbrev pub contentOf : File → Limits → List ℕ → Content
 contentOf f most bytes = contentAt f bytes (readFile f most bytes)
 
--- two files, and the limits that they are read within
+-- two files, whether the stage is read as a pipeline, which may have registers, and the limits that they are read within
 pub record Files : Type 0 where
   pub stage : List ℕ
   pub reference : List ℕ
+  pub registers : Bool
   pub stageMost : Limits
   pub referenceMost : Limits
 
+abbrev pub stageFile : Bool → File
+stageFile false = Stage
+stageFile true = Pipeline
+
 abbrev pub stageIn : Files → Content
-stageIn f = contentOf Stage (f .stageMost) (f .stage)
+stageIn f = contentOf (stageFile (f .registers)) (f .stageMost) (f .stage)
 
 abbrev pub referenceIn : Files → Content
 referenceIn f = contentOf Reference (f .referenceMost) (f .reference)
 
--- those of the calls, and those of a part that is to be joined with another
+-- those of the check, which alone reads registers; those of the other calls; and those of a part that is to be joined with another
+abbrev pub filesWith : Bool → List ℕ → List ℕ → Files
+filesWith registers stage reference =
+    record { stage = stage; reference = reference; registers = registers; stageMost = stageLimits; referenceMost = referenceLimits }
+
 abbrev pub files : List ℕ → List ℕ → Files
-files stage reference = record { stage = stage; reference = reference; stageMost = stageLimits; referenceMost = referenceLimits }
+files = filesWith true
+
+abbrev pub plainFiles : List ℕ → List ℕ → Files
+plainFiles = filesWith false
 
 abbrev pub partFiles : List ℕ → List ℕ → Files
-partFiles stage reference = record { stage = stage; reference = reference; stageMost = partStageLimits; referenceMost = partReferenceLimits }
+partFiles stage reference =
+    record { stage = stage; reference = reference; registers = false; stageMost = partStageLimits; referenceMost = partReferenceLimits }

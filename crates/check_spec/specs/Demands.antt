@@ -22,7 +22,7 @@ use Rattle.netlist.specs.declared.File.the-variants.{Stage, Reference}
 use Rattle.netlist.specs.Reading.{stageLimits}
 use Rattle.check_spec.specs.Cases.{accepted, Case, Check}
 use Rattle.check_spec.specs.Lists.{bitOf, some, reaches}
-use Rattle.check_spec.specs.Content.{Content, Files, stageIn, referenceIn}
+use Rattle.check_spec.specs.Content.{Content, Files, stageFile, stageIn, referenceIn}
 use Rattle.check_spec.specs.Rows.{driver, cellIn, netOf, risen, fallen, dataOf, allData, allNull, feeding, reachesItself}
 use Rattle.check_spec.specs.Words.{railsFor, spelled, IsWord, answer}
 use Rattle.check_spec.specs.Checks.{rest}
@@ -52,7 +52,7 @@ Judged checks v = Named (flatMap (λ c. c) checks) v ⊎ Pass (flatMap (λ c. c)
 -- ---- demand 2
 
 abbrev pub BothRead : Files → Type 0
-BothRead f = Pass (reading Stage (f .stageMost) (f .stage)) × Pass (reading Reference (f .referenceMost) (f .reference))
+BothRead f = Pass (reading (stageFile (f .registers)) (f .stageMost) (f .stage)) × Pass (reading Reference (f .referenceMost) (f .reference))
 
 abbrev pub LoopFree : Net → Type 0
 LoopFree N = (net : ℕ) → IsGate N net → reachesItself N net ≡ false

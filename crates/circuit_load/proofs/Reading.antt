@@ -12,7 +12,7 @@ use Rattle.netlist.specs.declared.File.the-variants as file
 use Rattle.netlist.specs.declared.Sort.the-variants as sort
 use Rattle.netlist.specs.declared.Limits.{Limits}
 use Rattle.netlist.specs.declared.Counts.{Counts}
-use Rattle.netlist.specs.Commands.{commandTable, ownCommands, formIn}
+use Rattle.netlist.specs.Commands.{IsStage, commandTable, ownCommands, formIn}
 use Rattle.netlist.specs.declared.Outcome.{Outcome}
 use Rattle.netlist.specs.declared.Outcome.the-variants as outcome
 use Rattle.netlist.specs.Reading.{Places, countsOf, Reading, refused, readable, readFile, Within}
@@ -20,6 +20,7 @@ use Rattle.netlist.specs.Read.{GateRead, OutputRead, Read, outcomeOf}
 use Rattle.netlist.specs.Content.{stageOf, referenceOf}
 use Rattle.netlist.proofs.Readable.{readable-read, rising-length}
 use Rattle.netlist.proofs.References.{no-care}
+use Rattle.netlist.proofs.Alike.{stage-alike}
 use Rattle.read_file.specs.Files.{mostCare, Placed}
 use Rattle.circuit.specs.Stage.{stageIn, StageLoaded}
 use Rattle.circuit.specs.Reference.{referenceIn, ReferenceLoaded}
@@ -86,6 +87,9 @@ unfolding mostCare
 few-care file.Stage most s p e =
     let r = readable-read file.Stage most s p e in
     omega (arith, rising-length (2 ^ p .inputs) 0 (p .care) (r .care-in), pow-mono {i = p .inputs} {j = most .inputs} (r .inputs-in .1))
+few-care file.Pipeline most s p e =
+    let r = readable-read file.Pipeline most s p e in
+    omega (arith, rising-length (2 ^ p .inputs) 0 (p .care) (r .care-in), pow-mono {i = p .inputs} {j = most .inputs} (r .inputs-in .1))
 few-care file.Reference most s p e = omega (arith, ap length (no-care most s p e))
 
 pub was-read : (f : File) (most : Limits) (s places : List ℕ) (c : Counts) → most .gates + most .outputs + mostCare f most ≤ length places → outcome.Readable c ≡ outcomeOf (readFile f most s) →
@@ -110,15 +114,21 @@ was-read f most s places c room e placed = go (readFile f most s) refl e placed
           counts = ap countsOf same;
         })
 
-module _ (most : Limits) (s : List ℕ) where
-  pub holds-stage : (places : List ℕ) (c : Counts) (code : List ℕ) → WasRead file.Stage most s places c →
-      stageIn c code ≡ stageOf s (placesIn most c places) → StageLoaded c code →
-      HoldsStage s (readFile file.Stage most s) code
+-- a stage file that was read, with registers or without, was read as a stage
+module _ (f : File) (is : IsStage f) (most : Limits) (s places : List ℕ) (c : Counts) where
+  pub stage-was-read : most .gates + most .outputs + 2 ^ most .inputs ≤ length places → outcome.Readable c ≡ outcomeOf (readFile f most s) →
+      Placed most (readFile f most s) places → WasRead file.Stage most s places c
+  unfolding mostCare
+  stage-was-read room e placed = was-read file.Stage most s places c room (rw (← stage-alike f is most s) e) (rw (← stage-alike f is most s) placed)
+
+  pub holds-stage : (code : List ℕ) → WasRead file.Stage most s places c → stageIn c code ≡ stageOf s (placesIn most c places) → StageLoaded c code →
+      HoldsStage s (readFile f most s) code
   unfolding HoldsStage
-  holds-stage places c code w e l =
-      subst (λ (x : Reading). HoldsStage s x code) (sym (w .reading))
+  holds-stage code w e l =
+      rw (stage-alike f is most s, w .reading)
       (subst (λ (d : Counts). StageLoaded d code × (stageIn d code ≡ stageOf s (placesIn most c places))) (sym (w .counts)) (l, e))
 
+module _ (most : Limits) (s : List ℕ) where
   pub holds-reference : (places : List ℕ) (c : Counts) (code : List ℕ) → WasRead file.Reference most s places c →
       referenceIn c code ≡ referenceOf s (placesIn most c places) → ReferenceLoaded c code →
       HoldsReference s (readFile file.Reference most s) code

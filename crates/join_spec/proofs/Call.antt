@@ -35,9 +35,9 @@ use Rattle.check_spec.specs.Demands.{Pass, Judged, BothRead}
 use Rattle.check_spec.specs.Writing.{writeFile, leaving}
 use Rattle.check_spec.proofs.First.{judged}
 use Rattle.check_spec.proofs.Demanded.{demand-3}
-use Rattle.check_spec.proofs.View.{referenceView}
+use Rattle.check_spec.proofs.View.{referenceView, read-plain, content-plain}
 use Rattle.check_spec.proofs.Alike.{answer-any, list-is}
-use Rattle.check_spec.proofs.Bridge.{verdict-is}
+use Rattle.check_spec.proofs.Bridge.{plain-verdict}
 use Rattle.check_spec.proofs.Writing.{itemsOf, stage-bytes, reference-bytes, content-write}
 use Rattle.check_spec.proofs.Back.{fromStage, fromReference, stage-items, reference-items}
 use Rattle.join_spec.specs.declared.JoinAnswer.{JoinAnswer}
@@ -136,17 +136,17 @@ module _ (s1 r1 s2 r2 : List ℕ) (read1 : BothRead (partFiles s1 r1)) (read2 : 
     pub whole-joined : Joined first second
     whole-joined =
         let accepts : (order : WordOrder) → verdictOn order (whole first second) ≡ accepted = λ order.
-        verdict-is order (whole first second)
+        plain-verdict order (whole first second)
         ∙ ap₂ (given.verdictWithin order stageLimits referenceLimits) (stage-same s1 r1 s2 r2 read1 read2) (reference-same s1 r1 s2 r2 read1 read2)
         ∙ old .whole-accepted order in
         record {
           reads = (
-            subst (λ (l : List ℕ). Pass (reading file.Stage stageLimits l)) (sym (stage-same s1 r1 s2 r2 read1 read2))
-                (read-pass file.Stage stageLimits (joins.stageBytes P Q) (old .stage-is .places) (old .stage-is .reads)),
+            subst (λ (l : List ℕ). Pass (reading file.Pipeline stageLimits l)) (sym (stage-same s1 r1 s2 r2 read1 read2))
+                (read-pass file.Pipeline stageLimits (joins.stageBytes P Q) (old .stage-is .places) (read-plain true stageLimits (joins.stageBytes P Q) ∙ old .stage-is .reads)),
             subst (λ (l : List ℕ). Pass (reading file.Reference referenceLimits l)) (sym (reference-same s1 r1 s2 r2 read1 read2))
                 (read-pass file.Reference referenceLimits (joins.referenceBytes P Q) (old .reference-is .places) (old .reference-is .reads)),
           );
-          stage-is = ap (contentOf file.Stage stageLimits) (stage-bytes (joinedStage first second)) ∙ content-write file.Stage stageLimits (joinedStage first second) stage-file;
+          stage-is = content-plain true stageLimits (whole first second .stage) ∙ ap (contentOf file.Stage stageLimits) (stage-bytes (joinedStage first second)) ∙ content-write file.Stage stageLimits (joinedStage first second) stage-file;
           reference-is =
               ap (contentOf file.Reference referenceLimits) (reference-bytes (joinedReference first second) (ap (λ (c : Content). c .care) (reference-joined s1 r1 s2 r2 read1 read2)))
               ∙ content-write file.Reference referenceLimits (joinedReference first second) reference-file;

@@ -234,6 +234,6 @@ unfolding joins answers expected wire wireReference twoWires twoWiresReference a
     n.writeFile n.writeStage n.writeReference o.withNull o.isSet o.rounds o.settledLevels o.levelsHolding o.everyPair
     g.tabulate g.leading l.gateSteps l.reachesItself w.numbers w.caredFor w.words w.bitsOf w.railsOf w.wordOf w.spelled w.isIn w.select w.names a.operate a.signalValues a.answer h.first h.atFault h.sweep
     h.finding h.orLater h.firstFault h.wrong h.incomplete h.unobservable h.fallIncomplete h.fallUnobservable h.riseSweeps h.fallSweeps f.stays f.fallenLevels f.fallen h.checks v.verdictOf
-    q.retiredAt v.judgeReference v.judgeStage v.verdictWithin x.netInWhole x.joinedStage x.signalInWhole x.joinedReference j.stageRead j.referenceRead j.partIn j.refusalOf j.ofSecond
+    q.retiredAt v.judgeReference v.judgeStage v.verdictAs x.netInWhole x.joinedStage x.signalInWhole x.joinedReference j.stageRead j.referenceRead j.partIn j.refusalOf j.ofSecond
     j.joinChecks j.joinUnless j.joinFault j.joinWithin
 computed = refl

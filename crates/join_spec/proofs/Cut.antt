@@ -46,8 +46,8 @@ module _ (stageMost referenceMost : Limits) (far : farthest file.Stage stageMost
   unfolding joinWithin joinFault
   join-within-cut order first second stageRoom referenceRoom =
       rw (
-        within-cut order stageMost referenceMost far far′ (first .stage) (first .reference),
-        within-cut order stageMost referenceMost far far′ (second .stage) (second .reference),
+        within-cut file.Stage order stageMost referenceMost far far′ (first .stage) (first .reference),
+        within-cut file.Stage order stageMost referenceMost far far′ (second .stage) (second .reference),
         part-cut first,
         part-cut second,
       ) refl

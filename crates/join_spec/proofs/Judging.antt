@@ -63,7 +63,7 @@ module _ (s r : List ℕ) where
     where
       go : (x : Reading) → stageView (contentAt file.Stage s x) ≡ joins.stageRead s x
       go (refused number at) = refl
-      go (readable p) = stage-view s p
+      go (readable p) = stage-view false s p
 
   pub function-is : referenceView (referenceIn (partFiles s r)) ≡ part .function
   unfolding joins.partIn joins.referenceRead contentAt

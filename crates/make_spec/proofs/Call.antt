@@ -50,9 +50,9 @@ use Rattle.check_spec.proofs.First.{Each, judged}
 use Rattle.check_spec.proofs.Loops.{some-out}
 use Rattle.check_spec.proofs.Exactly.{EachCheck, judge-passes, other-number}
 use Rattle.check_spec.proofs.Demanded.{demand-3}
-use Rattle.check_spec.proofs.View.{stageView, referenceView, stage-view, reference-view, net-view}
+use Rattle.check_spec.proofs.View.{stageView, referenceView, read-plain, content-plain, stage-view, reference-view, net-view}
 use Rattle.check_spec.proofs.Alike.{rails-alike, rise-alike, word-in, care-rises}
-use Rattle.check_spec.proofs.Bridge.{Alike, faultOr, alike-judge, alike-passed, fault-passed, sweep-is, placed-is, verdict-is}
+use Rattle.check_spec.proofs.Bridge.{Alike, faultOr, alike-judge, alike-passed, fault-passed, sweep-is, placed-is, plain-verdict}
 use Rattle.check_spec.proofs.Writing.{itemsOf, stage-bytes, content-write}
 use Rattle.make_spec.specs.Made as made
 use Rattle.make_spec.specs.Leading as leads
@@ -205,9 +205,12 @@ module _ (reference bytes : List ℕ) (old : promises.MadeFrom stageLimits refer
   function-is : referenceView c ≡ old .function
   function-is = ap (λ (x : Reading). referenceView (contentAt file.Reference reference x)) (old .function-is .reads) ∙ reference-view reference (old .function-is .places) ∙ old .function-is .content
 
+  reads : readFile file.Pipeline stageLimits bytes ≡ readable (old .stage-is .places)
+  reads = read-plain true stageLimits bytes ∙ old .stage-is .reads
+
   view-is : stageView (stageIn f) ≡ made.madeStage (referenceView c)
   view-is =
-      ap (λ (x : Reading). stageView (contentAt file.Stage bytes x)) (old .stage-is .reads) ∙ stage-view bytes (old .stage-is .places) ∙ old .stage-is .content
+      ap (λ (x : Reading). stageView (contentAt file.Pipeline bytes x)) reads ∙ stage-view true bytes (old .stage-is .places) ∙ old .stage-is .content
       ∙ ap made.madeStage (sym function-is)
 
   fits : FileFits file.Stage stageLimits (made.madeStage (old .function) .inputs) (items.stageItems (made.madeStage (old .function)))
@@ -221,18 +224,19 @@ module _ (reference bytes : List ℕ) (old : promises.MadeFrom stageLimits refer
       let n : c .inputs ≡ made.madeStage (old .function) .inputs = ap (λ (r : parsed.Reference). r .inputs) function-is in
       let g : FileFits file.Stage stageLimits (c .inputs) (itemsOf (madeStage c)) =
       subst (λ (l : List Item). FileFits file.Stage stageLimits (c .inputs) l) (sym same) (subst (λ (k : ℕ). FileFits file.Stage stageLimits k (items.stageItems (made.madeStage (old .function)))) (sym n) fits) in
-      ap (contentOf file.Stage stageLimits) (old .bytes-are ∙ ap making.madeBytes (sym function-is) ∙ sym (bytes-alike c) ∙ stage-bytes (madeStage c))
+      content-plain true stageLimits bytes
+      ∙ ap (contentOf file.Stage stageLimits) (old .bytes-are ∙ ap making.madeBytes (sym function-is) ∙ sym (bytes-alike c) ∙ stage-bytes (madeStage c))
       ∙ content-write file.Stage stageLimits (madeStage c) g
 
   is-word : (w : ℕ) → IsWord (stageIn f) w → words.IsWord (made.madeStage (old .function)) w
   is-word w h = subst (λ (s : parsed.Stage). words.IsWord s w) (view-is ∙ ap made.madeStage function-is)
-      (word-in (stageIn f) (care-rises stageLimits bytes (old .stage-is .places) (old .stage-is .reads)) w h)
+      (word-in (stageIn f) (care-rises file.Pipeline stageLimits bytes (old .stage-is .places) reads) w h)
 
   pub made-from : MadeFrom f
   made-from =
-      let accepts : (order : WordOrder) → verdictOn order f ≡ accepted = λ order. verdict-is order f ∙ old .stage-accepted order in
+      let accepts : (order : WordOrder) → verdictOn order f ≡ accepted = λ order. plain-verdict order f ∙ old .stage-accepted order in
       record {
-        reads = (read-pass file.Stage stageLimits bytes (old .stage-is .places) (old .stage-is .reads), read-pass file.Reference referenceLimits reference (old .function-is .places) (old .function-is .reads));
+        reads = (read-pass file.Pipeline stageLimits bytes (old .stage-is .places) reads, read-pass file.Reference referenceLimits reference (old .function-is .places) (old .function-is .reads));
         stage-is = stage-is;
         stage-accepted = accepts;
         kept = demand-3 order.FirstHighest f .kept (ap (λ (v : Verdict). v .number) (accepts order.FirstHighest)) .2;

@@ -14,8 +14,8 @@ use Rattle.gates.proofs.Ranges.{kind-known, KindCases, of-cell, no-kind, kind-c
 use Rattle.netlist.specs.Types.{File, Sort, Number, Form}
 use Rattle.netlist.specs.Types.file
 use Rattle.netlist.specs.Types.sort
-use Rattle.netlist.specs.Commands.{asForm, commandTable, ownCommands, formIn, formOf, width, isSort, pinsNeeded, needed}
-use Rattle.netlist.specs.Writing.{commandByte, formFor, widthFor, operandCount, roleFor, All}
+use Rattle.netlist.specs.Commands.{asForm, IsStage, commandTable, ownCommands, formIn, formOf, width, isSort, pinsNeeded, needed}
+use Rattle.netlist.specs.Writing.{Has, commandByte, formFor, widthFor, operandCount, roleFor, All}
 
 -- two constructors are never equal: `cc` makes 0 ≡ 1 of it
 pub clash : _≡_ {A = ℕ} 0 1 → ⊥
@@ -34,27 +34,51 @@ table-all P u (r ∷ rs) h b = go (ℕ-discrete b (r .0)) (table-all P u rs (h .
     go (yes e) l = rw (eq-eqb b (r .0) e, e) (h .0)
     go (no d) l = rw (ne-eqb b (r .0) d) l
 
--- a row is the only one of its sort in its file
-pub form-for : (f : File) (b : ℕ) → formOf f b ≡ formFor f (formOf f b .sort)
-unfolding commandTable ownCommands formIn
-form-for file.Stage = table-all (λ b form. form ≡ formFor file.Stage (form .sort)) (λ b. refl) (commandTable file.Stage) (refl, (refl, (refl, (refl, (refl, tt)))))
-form-for file.Reference = table-all (λ b form. form ≡ formFor file.Reference (form .sort)) (λ b. refl) (commandTable file.Reference) (refl, (refl, (refl, (refl, tt))))
+-- what holds of each file holds of every file
+pub each-file : (P : File → Type 0) → P file.Stage × P file.Pipeline × P file.Reference → (f : File) → P f
+each-file P h file.Stage = h .0
+each-file P h file.Pipeline = h .1
+each-file P h file.Reference = h .2
 
--- either file has each sort of command, but for care words, which a stage alone has
-pub sort-for : (f : File) (c : Sort) → isSort sort.Care c ≡ false → formFor f c .sort ≡ c
+pub each-stage : (P : File → Type 0) → P file.Stage × P file.Pipeline → (f : File) → IsStage f → P f
+each-stage P h file.Stage s = h .0
+each-stage P h file.Pipeline s = h .1
+each-stage P h file.Reference s = absurd s
+
+-- a row is the only one of its sort in its file
+abbrev Alone : File → Form → Type 0
+Alone f form = form ≡ formFor f (form .sort)
+
+pub form-for : (f : File) (b : ℕ) → Alone f (formOf f b)
 unfolding commandTable ownCommands formIn
-sort-for file.Stage sort.End e = refl
-sort-for file.Stage sort.Inputs e = refl
-sort-for file.Stage sort.Gate e = refl
-sort-for file.Stage sort.Output e = refl
-sort-for file.Stage sort.Unknown e = refl
-sort-for file.Stage sort.Care e = absurd (clash (cc))
-sort-for file.Reference sort.End e = refl
-sort-for file.Reference sort.Inputs e = refl
-sort-for file.Reference sort.Gate e = refl
-sort-for file.Reference sort.Output e = refl
-sort-for file.Reference sort.Unknown e = refl
-sort-for file.Reference sort.Care e = absurd (clash (cc))
+form-for file.Stage = table-all (λ b. Alone file.Stage) (λ b. refl) (commandTable file.Stage) (refl, (refl, (refl, (refl, (refl, tt)))))
+form-for file.Pipeline = table-all (λ b. Alone file.Pipeline) (λ b. refl) (commandTable file.Pipeline) (refl, (refl, (refl, (refl, (refl, tt)))))
+form-for file.Reference = table-all (λ b. Alone file.Reference) (λ b. refl) (commandTable file.Reference) (refl, (refl, (refl, (refl, tt))))
+
+-- every file has these sorts of commands; care words a reference has not
+pub has-end : (f : File) → Has f sort.End
+unfolding commandTable ownCommands formIn
+has-end = each-file (λ f. Has f sort.End) (refl, refl, refl)
+
+pub has-inputs : (f : File) → Has f sort.Inputs
+unfolding commandTable ownCommands formIn
+has-inputs = each-file (λ f. Has f sort.Inputs) (refl, refl, refl)
+
+pub has-gate : (f : File) → Has f sort.Gate
+unfolding commandTable ownCommands formIn
+has-gate = each-file (λ f. Has f sort.Gate) (refl, refl, refl)
+
+pub has-output : (f : File) → Has f sort.Output
+unfolding commandTable ownCommands formIn
+has-output = each-file (λ f. Has f sort.Output) (refl, refl, refl)
+
+pub stage-care : Has file.Stage sort.Care
+unfolding commandTable ownCommands formIn
+stage-care = refl
+
+pub reference-careless : Has file.Reference sort.Care → ⊥
+unfolding commandTable ownCommands formIn
+reference-careless e = clash (cc)
 
 -- and only its byte stands for it
 abbrev Only : File → ℕ → Form → Type 0
@@ -65,24 +89,25 @@ unfolding commandTable ownCommands
 only-byte file.Stage =
     table-all (Only file.Stage) (λ b e. absurd (clash (cc))) (commandTable file.Stage)
     ((λ e. refl), ((λ e. refl), ((λ e. refl), ((λ e. refl), ((λ e. refl), tt)))))
+only-byte file.Pipeline =
+    table-all (Only file.Pipeline) (λ b e. absurd (clash (cc))) (commandTable file.Pipeline)
+    ((λ e. refl), ((λ e. refl), ((λ e. refl), ((λ e. refl), ((λ e. refl), tt)))))
 only-byte file.Reference =
     table-all (Only file.Reference) (λ b e. absurd (clash (cc))) (commandTable file.Reference) ((λ e. refl), ((λ e. refl), ((λ e. refl), ((λ e. refl), tt))))
 
-pub byte-for : (f : File) (b : ℕ) (c : Sort) → formOf f b ≡ formFor f c → formFor f c .sort ≡ c → isSort sort.Unknown c ≡ false → b ≡ commandByte f c
+pub byte-for : (f : File) (b : ℕ) (c : Sort) → formOf f b ≡ formFor f c → Has f c → isSort sort.Unknown c ≡ false → b ≡ commandByte f c
 byte-for f b c e own known =
     let s : formOf f b .sort ≡ c = ap (λ (x : Form). x .sort) e ∙ own in
     rw s at (only-byte f b (rw s known))
 
--- the commandTable of the four sorts in either file
+-- the rows of the sorts that every file has, and of care words where it has them
 pub gate-form : (f : File) → formFor f sort.Gate ≡ asForm sort.Gate 2 (operandCount f sort.Gate) (roleFor f sort.Gate)
 unfolding commandTable ownCommands formIn
-gate-form file.Stage = refl
-gate-form file.Reference = refl
+gate-form = each-file (λ f. formFor f sort.Gate ≡ asForm sort.Gate 2 (operandCount f sort.Gate) (roleFor f sort.Gate)) (refl, refl, refl)
 
 pub output-form : (f : File) → formFor f sort.Output ≡ asForm sort.Output 1 (operandCount f sort.Output) (roleFor f sort.Output)
 unfolding commandTable ownCommands formIn
-output-form file.Stage = refl
-output-form file.Reference = refl
+output-form = each-file (λ f. formFor f sort.Output ≡ asForm sort.Output 1 (operandCount f sort.Output) (roleFor f sort.Output)) (refl, refl, refl)
 
 pub inputs-form : (f : File) → formFor f sort.Inputs ≡ asForm sort.Inputs 2 0 Number
 unfolding commandTable ownCommands formIn
@@ -92,19 +117,15 @@ pub end-form : (f : File) → formFor f sort.End ≡ asForm sort.End 1 0 Number
 unfolding commandTable ownCommands formIn
 end-form f = refl
 
-pub care-stage : (f : File) → formFor f sort.Care .sort ≡ sort.Care → f ≡ file.Stage
+pub care-form : (f : File) → Has f sort.Care → formFor f sort.Care ≡ asForm sort.Care 1 1 Number
 unfolding commandTable ownCommands formIn
-care-stage file.Stage e = refl
-care-stage file.Reference e = absurd (clash (cc))
-
-pub care-form : (f : File) → f ≡ file.Stage → formFor f sort.Care ≡ asForm sort.Care 1 1 Number
-unfolding commandTable ownCommands formIn
-care-form f e = rw e
+care-form file.Stage e = refl
+care-form file.Pipeline e = refl
+care-form file.Reference e = absurd (clash (cc))
 
 pub width-care : (f : File) → widthFor f sort.Care ≡ 1 + 2 * operandCount f sort.Care
 unfolding commandTable ownCommands formIn
-width-care file.Stage = refl
-width-care file.Reference = refl
+width-care = each-file (λ f. widthFor f sort.Care ≡ 1 + 2 * operandCount f sort.Care) (refl, refl, refl)
 
 module _ (f : File) where
   pub width-gate : widthFor f sort.Gate ≡ 2 + 2 * operandCount f sort.Gate
@@ -128,12 +149,14 @@ unfolding commandTable ownCommands formIn
 width-in file.Stage =
     table-all (λ b form. Sized file.Stage form) (λ b. omega arith) (commandTable file.Stage)
     (omega arith, (omega arith, (omega arith, (omega arith, (omega arith, tt)))))
+width-in file.Pipeline =
+    table-all (λ b form. Sized file.Pipeline form) (λ b. omega arith) (commandTable file.Pipeline)
+    (omega arith, (omega arith, (omega arith, (omega arith, (omega arith, tt)))))
 width-in file.Reference = table-all (λ b form. Sized file.Reference form) (λ b. omega arith) (commandTable file.Reference) (omega arith, (omega arith, (omega arith, (omega arith, tt))))
 
 pub wide-gate : (f : File) → 3 ≤ widthFor f sort.Gate
 unfolding commandTable ownCommands formIn
-wide-gate file.Stage = omega arith
-wide-gate file.Reference = omega arith
+wide-gate = each-file (λ f. 3 ≤ widthFor f sort.Gate) (omega arith)
 
 -- ---- kinds and operations
 
@@ -188,10 +211,9 @@ operation-needs (suc (suc (suc (suc (suc zero))))) = omega arith
 operation-needs (suc (suc (suc (suc (suc (suc zero)))))) = omega arith
 operation-needs (suc (suc (suc (suc (suc (suc (suc c))))))) = omega arith
 
--- what is needed has room
-pub needed-in : (f : File) (c : ℕ) → needed f c ≤ operandCount f sort.Gate
-unfolding commandTable ownCommands formIn
-needed-in file.Stage c = go (decLt 0 (needed file.Stage c))
+-- a kind needs four pins at most
+kind-room : (c : ℕ) → needed file.Stage c ≤ 4
+kind-room c = go (decLt 0 (needed file.Stage c))
   where
     go : Dec (0 < needed file.Stage c) → needed file.Stage c ≤ 4
     go (no h) = omega arith
@@ -199,4 +221,14 @@ needed-in file.Stage c = go (decLt 0 (needed file.Stage c))
         let k = kind-in c h in
         let four : pinCount (k .cell) ≤ 4 = leb→le (pinCount (k .cell)) 4 (every-at (λ x. leb (pinCount x) 4) 28 few-pins (k .cell) (omega (arith, k .cell-in .1))) in
         omega (arith, ap (needed file.Stage) (k .kind-is), kind-needs (k .hold) (k .cell) (k .cell-in .0) (k .cell-in .1))
+
+pub pipeline-needs : (c : ℕ) → needed file.Pipeline c ≡ needed file.Stage c
+unfolding needed
+pipeline-needs c = refl
+
+-- what is needed has room
+pub needed-in : (f : File) (c : ℕ) → needed f c ≤ operandCount f sort.Gate
+unfolding commandTable ownCommands formIn
+needed-in file.Stage c = kind-room c
+needed-in file.Pipeline c = omega (arith, kind-room c, pipeline-needs c)
 needed-in file.Reference c = operation-needs c .0

@@ -13,7 +13,7 @@ use Rattle.netlist.specs.Bytes.{byte, operand, operands, absent}
 use Rattle.netlist.specs.Commands.{formOf, needed, misfit, misfitFrom}
 use Rattle.netlist.specs.Reading.{nameable, Ascending}
 use Rattle.netlist.specs.Content.{Coded, codedAt}
-use Rattle.netlist.specs.Writing.{formFor, widthFor, operandCount, roleFor, Item, gate, output, care, gatesIn, outputsIn, careIn, gatePlaces, outputPlaces, All}
+use Rattle.netlist.specs.Writing.{Has, formFor, widthFor, operandCount, roleFor, Item, gate, output, care, gatesIn, outputsIn, careIn, gatePlaces, outputPlaces, All}
 use Rattle.netlist.proofs.Operands.{misfit-none, needed-there, bare-absent}
 use Rattle.netlist.proofs.Encoding.{needed-in}
 
@@ -54,7 +54,7 @@ pub record OutputLaid (f : File) (s : List ℕ) (at : ℕ) (vs : List ℕ) : Typ
 
 -- a care command, in a stage
 pub record CareLaid (f : File) (s : List ℕ) (at w : ℕ) : Type 0 where
-  pub stage : f ≡ file.Stage
+  pub has : Has f sort.Care
   pub command : formOf f (byte s at) ≡ formFor f sort.Care
   pub room : at + widthFor f sort.Care ≤ length s
   pub content : operand s (at + 1) ≡ w

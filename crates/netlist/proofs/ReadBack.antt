@@ -13,12 +13,12 @@ use Rattle.netlist.specs.Bytes.{byte, operand, operands, absent}
 use Rattle.netlist.specs.Commands.{formOf, needed}
 use Rattle.netlist.specs.Reading.{nameable, Places, readFile, readable}
 use Rattle.netlist.specs.Content.{Coded, codedAt}
-use Rattle.netlist.specs.Writing.{commandByte, widthFor, operandCount, roleFor, Item, gate, output, care, gatesIn, outputsIn, careIn, gatePlaces, outputPlaces, placesOf}
+use Rattle.netlist.specs.Writing.{Has, commandByte, widthFor, operandCount, roleFor, Item, gate, output, care, gatesIn, outputsIn, careIn, gatePlaces, outputPlaces, placesOf}
 use Rattle.netlist.specs.Writing.{writeOperands, writeItem, writeItems, writeFile, All, GateFits, OutputFits, CareFits, ItemsFit, FileFits}
 use Rattle.netlist.proofs.Lists.{Bytes, All-++, All-map, byte-small}
 use Rattle.netlist.proofs.Operands.{bytes-written, operand-small, length-operands, each-operands, byte-after, drop-after, length-after}
 use Rattle.netlist.proofs.Operands.{length-written, operands-written, fits-written, drop-one, drop-two, written-operands}
-use Rattle.netlist.proofs.Encoding.{byte-for, sort-for, care-form, width-gate, width-output, width-care, needed-in}
+use Rattle.netlist.proofs.Encoding.{byte-for, has-end, has-inputs, has-gate, has-output, care-form, width-gate, width-output, width-care, needed-in}
 use Rattle.netlist.proofs.Laid.{GateLaid, OutputLaid, CareLaid, Laid, Named, FileLaid, wiredAt, laid-code, laid-operands, laid-used, laid-bare, laid-gates, laid-outputs, laid-length}
 use Rattle.netlist.proofs.Walk.{readable-laid, laid-readable}
 
@@ -36,7 +36,7 @@ length-item f (output vs) = omega (arith, width-output f, length-written (operan
 length-item f (care w) = omega (arith, width-care f, length-written (operandCount f sort.Care) (w ∷ []))
 
 -- the operands of a care command
-care-one : (f : File) → f ≡ file.Stage → operandCount f sort.Care ≡ 1
+care-one : (f : File) → Has f sort.Care → operandCount f sort.Care ≡ 1
 care-one f e = ap (λ (x : Form). x .operands) (care-form f e)
 
 -- ---- written items are laid
@@ -78,12 +78,12 @@ module _ (f : File) (s : List ℕ) where
     unfolding operands
     written-care w h e =
         let m = operandCount f sort.Care in
-        let one : m ≡ 1 = care-one f (h .stage) in
+        let one : m ≡ 1 = care-one f (h .has) in
         let tail = writeOperands m (w ∷ []) ++ rest in
         let e′ : drop (at + 1) s ≡ tail = drop-after s at (commandByte f sort.Care ∷ []) tail 1 e refl in
         let size : length s ≡ at + suc (length tail) = length-after s at (commandByte f sort.Care) tail e in
         record {
-          stage = h .stage;
+          has = h .has;
           command = ap (formOf f) (byte-at at (commandByte f sort.Care) tail e);
           room = omega (arith, width-care f, length-append (writeOperands m (w ∷ [])) rest, length-written m (w ∷ []));
           content = ap (λ (l : List ℕ). getD l 0 0) (operands-written s rest (at + 1) m (w ∷ []) (omega arith) e′);
@@ -111,6 +111,7 @@ module _ (f : File) (s : List ℕ) where
 
 command-bytes : (f : File) → (commandByte f sort.Gate < 256) × (commandByte f sort.Output < 256)
 command-bytes file.Stage = omega arith
+command-bytes file.Pipeline = omega arith
 command-bytes file.Reference = omega arith
 
 bytes-items : (f : File) (n g k : ℕ) (items : List Item) → ItemsFit f n g k items → Bytes (writeItems f items)
@@ -134,7 +135,7 @@ module _ (f : File) (s : List ℕ) (small : Bytes s) where
     laid-gate : (c : Coded) → GateLaid f s at c → drop at s ≡ writeItem f (gate c) ++ drop (at + widthFor f sort.Gate) s
     laid-gate c h =
         let m = operandCount f sort.Gate in
-        let is : byte s at ≡ commandByte f sort.Gate = byte-for f (byte s at) sort.Gate (h .command) (sort-for f sort.Gate refl) refl in
+        let is : byte s at ≡ commandByte f sort.Gate = byte-for f (byte s at) sort.Gate (h .command) (has-gate f) refl in
         let w : at + widthFor f sort.Gate ≡ at + 2 + 2 * m = omega (arith, width-gate f) in
         drop-two s at (omega (arith, h .room, width-gate f))
         ∙ rw (is, laid-code h, w)
@@ -143,7 +144,7 @@ module _ (f : File) (s : List ℕ) (small : Bytes s) where
     laid-output : (vs : List ℕ) → OutputLaid f s at vs → drop at s ≡ writeItem f (output vs) ++ drop (at + widthFor f sort.Output) s
     laid-output vs h =
         let m = operandCount f sort.Output in
-        let is : byte s at ≡ commandByte f sort.Output = byte-for f (byte s at) sort.Output (h .command) (sort-for f sort.Output refl) refl in
+        let is : byte s at ≡ commandByte f sort.Output = byte-for f (byte s at) sort.Output (h .command) (has-output f) refl in
         let w : at + widthFor f sort.Output ≡ at + 1 + 2 * m = omega (arith, width-output f) in
         drop-one s at (omega (arith, h .room, width-output f))
         ∙ rw (is, w)
@@ -153,8 +154,8 @@ module _ (f : File) (s : List ℕ) (small : Bytes s) where
     unfolding operands
     laid-care w h =
         let m = operandCount f sort.Care in
-        let one : m ≡ 1 = care-one f (h .stage) in
-        let own = ap (λ (x : Form). x .sort) (care-form f (h .stage)) in
+        let one : m ≡ 1 = care-one f (h .has) in
+        let own = ap (λ (x : Form). x .sort) (care-form f (h .has)) in
         let is : byte s at ≡ commandByte f sort.Care = byte-for f (byte s at) sort.Care (h .command) own refl in
         let e : at + widthFor f sort.Care ≡ at + 1 + 2 * m = omega (arith, width-care f) in
         drop-one s at (omega (arith, h .room, width-care f))
@@ -185,11 +186,11 @@ module _ (f : File) (s : List ℕ) (small : Bytes s) where
   laid-fits n g k at [] h m = tt
   laid-fits n g k at (gate c ∷ items) h m = (gate-fits at n g k c (h .0) (m .0), laid-fits n g (suc k) (at + widthFor f sort.Gate) items (h .1) (m .1))
   laid-fits n g k at (output vs ∷ items) h m = (output-fits at n g k vs (h .0) (m .0), laid-fits n g k (at + widthFor f sort.Output) items (h .1) (m .1))
-  laid-fits n g k at (care w ∷ items) h m = (record { stage = h .0 .stage; u16 = m .0 }, laid-fits n g k (at + widthFor f sort.Care) items (h .1) (m .1))
+  laid-fits n g k at (care w ∷ items) h m = (record { has = h .0 .has; u16 = m .0 }, laid-fits n g k (at + widthFor f sort.Care) items (h .1) (m .1))
 
   laid-written : (at : ℕ) (items : List Item) → Laid f s at items → drop at s ≡ writeItems f items ++ (0 ∷ [])
   laid-written at [] h =
-      let is : byte s at ≡ 0 = byte-for f (byte s at) sort.End (h .command) (sort-for f sort.End refl) refl in
+      let is : byte s at ≡ 0 = byte-for f (byte s at) sort.End (h .command) (has-end f) refl in
       drop-one s at (omega (arith, h .last)) ∙ ap₂ (λ (x : ℕ) (xs : List ℕ). x ∷ xs) is (drop-of-length-le s {i = at + 1} (omega (arith, h .last)))
   laid-written at (gate c ∷ items) h =
       laid-gate at c (h .0) ∙ ap (λ (l : List ℕ). writeItem f (gate c) ++ l) (laid-written (at + widthFor f sort.Gate) items (h .1))
@@ -222,7 +223,7 @@ module _ (f : File) (most : Limits) where
   laid-file : (s : List ℕ) → Bytes s → (n : ℕ) (items : List Item) → FileLaid f most s n items → (s ≡ writeFile f n items) × FileFits f most n items
   unfolding writeFile
   laid-file s small n items h =
-      let is : byte s 0 ≡ 1 = byte-for f (byte s 0) sort.Inputs (h .command) (sort-for f sort.Inputs refl) refl in
+      let is : byte s 0 ≡ 1 = byte-for f (byte s 0) sort.Inputs (h .command) (has-inputs f) refl in
       let size = laid-length f s 2 items (h .laid) in (
         drop-two s 0 (omega arith) ∙ rw (is, h .count) (ap (λ (l : List ℕ). 1 ∷ n ∷ l) (laid-written f s small 2 items (h .laid))),
         record {

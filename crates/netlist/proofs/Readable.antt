@@ -50,6 +50,7 @@ operation-read {s} {at} r = operation-needs (byte s (at + 1)) .1 (r .known)
 pub output-names : (f : File) (n g k : ℕ) → nameable (roleFor f sort.Output) n g g ≡ nameable (roleFor f sort.Output) n g k
 unfolding nameable commandTable ownCommands formIn
 output-names file.Stage n g k = refl
+output-names file.Pipeline n g k = refl
 output-names file.Reference n g k = refl
 
 -- there are no more rising words than numbers

@@ -16,7 +16,7 @@ use Rattle.netlist.specs.Content.{Coded, codedAt, Reference, referenceOf
 use Rattle.netlist.specs.Writing.{widthFor, roleFor, Item, gate, output, care, gatesIn, outputsIn, careIn, ItemsFit, placesOf, writeFile, All, FileFits, referenceItems, writeReference}
 use Rattle.netlist.specs.Formed.{OperationFormed, FormedFrom, ReferenceFormed}
 use Rattle.netlist.proofs.Lists.{Bytes, All-every, All-map}
-use Rattle.netlist.proofs.Encoding.{clash, operation-needs}
+use Rattle.netlist.proofs.Encoding.{reference-careless, operation-needs}
 use Rattle.netlist.proofs.Laid.{Laid, wiredAt}
 use Rattle.netlist.proofs.Walk.{readable-laid}
 use Rattle.netlist.proofs.ReadBack.{read-write}
@@ -103,7 +103,7 @@ module _ (most : Limits) (s : List ℕ) (p : Places) (e : readFile file.Referenc
       go at [] h = refl
       go at (gate c ∷ items) h = go (at + widthFor file.Reference sort.Gate) items (h .1)
       go at (output vs ∷ items) h = go (at + widthFor file.Reference sort.Output) items (h .1)
-      go at (care w ∷ items) h = let stage = h .0 .stage in absurd (clash (cc))
+      go at (care w ∷ items) h = absurd (reference-careless (h .0 .has))
 
   -- readable bytes with the gates first are what writing their reference gives
   pub writeReference-referenceOf : Bytes s → AllBefore (p .gates) (p .outputs) → s ≡ writeReference (referenceOf s p)

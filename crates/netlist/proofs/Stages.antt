@@ -20,7 +20,7 @@ use Rattle.netlist.specs.Content.{Coded, codedAt, Gate, Pair, Stage, gat
 use Rattle.netlist.specs.Writing.{roleFor, Item, gate, output, care, outputsIn, ItemsFit, gatesIn, careIn, placesOf, All, FileFits, codedGate, pairOperands, stageItems, writeStage}
 use Rattle.netlist.specs.Formed.{CellFormed, RailsFormed, nets, StageFormed}
 use Rattle.netlist.proofs.Lists.{Bytes, All-every, All-map}
-use Rattle.netlist.proofs.Encoding.{KindOfCell, kind-in, kind-needs, kind-some}
+use Rattle.netlist.proofs.Encoding.{stage-care, KindOfCell, kind-in, kind-needs, kind-some}
 use Rattle.netlist.proofs.Laid.{wiredAt}
 use Rattle.netlist.proofs.ReadBack.{read-write}
 use Rattle.netlist.proofs.Readable.{readable-read, named-pin, named-rail}
@@ -194,7 +194,7 @@ words-fit : (n g m floor : ℕ) (ws : List ℕ) (rest : List Item) → m ≤ 16 
 words-fit n g m floor [] rest l h r = r
 words-fit n g m floor (w ∷ ws) rest l h r =
     let u16 : w < 65536 = omega (arith, h .1, pow-mono {i = m} {j = 16} l) in
-    (record { stage = refl; u16 = u16 }, words-fit n g m (w + 1) ws rest l (h .2) r)
+    (record { has = stage-care; u16 = u16 }, words-fit n g m (w + 1) ws rest l (h .2) r)
 
 module _ (most : Limits) (c : Stage) where
   pub stage-fits : most .inputs ≤ 16 → 2 * most .inputs + most .gates ≤ absent → StageFormed most c → FileFits file.Stage most (c .inputs) (stageItems c)

@@ -18,10 +18,10 @@ use Rattle.netlist.specs.Bytes.{byte, operand, operands}
 use Rattle.netlist.specs.Commands.{whenFound, isSort, formOf, width, needed, stray, nextAt}
 use Rattle.netlist.specs.Reading.{nameable, nameless, usedOperands, namelessAt, namelessFrom, Places, noPlaces, floorAfter, Ascending, countsOf, noted, Reading, refused, readable, finish, onNext, readFrom, readFile}
 use Rattle.netlist.specs.Content.{codedAt}
-use Rattle.netlist.specs.Writing.{formFor, widthFor, operandCount, roleFor, Item, gate, output, care, gatesIn, outputsIn, careIn, gatePlaces, outputPlaces, placesOf}
+use Rattle.netlist.specs.Writing.{Has, formFor, widthFor, operandCount, roleFor, Item, gate, output, care, gatesIn, outputsIn, careIn, gatePlaces, outputPlaces, placesOf}
 use Rattle.netlist.specs.Read.{farthest}
 use Rattle.netlist.proofs.Operands.{nameless-named, named-nameless}
-use Rattle.netlist.proofs.Encoding.{clash, sort-for, care-stage, care-form, gate-form, output-form, inputs-form, end-form, width-gate, width-output, width-inputs, width-end}
+use Rattle.netlist.proofs.Encoding.{clash, has-end, has-inputs, has-gate, has-output, care-form, gate-form, output-form, inputs-form, end-form, width-gate, width-output, width-inputs, width-end}
 use Rattle.netlist.proofs.OneCommand.{Taken, There, there-next, next-there}
 use Rattle.netlist.proofs.Laid.{Laid, Named, FileLaid, wiredAt, laid-operands, length-gatePlaces, length-outputPlaces, laid-length}
 
@@ -85,7 +85,7 @@ floor-snoc floor (v ∷ ws) w = floor-snoc (v + 1) ws w
 -- what the reader asks of a care command
 pub care-taken : (f : File) (most : Limits) (s : List ℕ) (at : ℕ) (before : Counts) → There f most s at before sort.Care →
     (operand s (at + 1) < 2 ^ before .inputs) × (before .floor ≤ operand s (at + 1))
-care-taken f most s at before t = subst (λ (form : Form). Taken f most s at before form sort.Care) (care-form f (care-stage f (t .own))) (t .taken)
+care-taken f most s at before t = subst (λ (form : Form). Taken f most s at before form sort.Care) (care-form f (t .own)) (t .taken)
 
 -- ---- where commands stand
 
@@ -191,7 +191,7 @@ module _ (f : File) (most : Limits) (s : List ℕ) (P : Places) where
         let taken = care-taken f most s at (countsOf p) t in
         record {
           items = care (operand s (at + 1)) ∷ w .items;
-          laid = (record { stage = care-stage f (t .own); command = t .command; room = t .room; content = refl }, w .laid);
+          laid = (record { has = t .own; command = t .command; room = t .room; content = refl }, w .laid);
           same = w .same ∙ added-care f s at p (w .items);
           care-in = (taken .1, taken .0, rw (floor-snoc 0 (p .care) (operand s (at + 1))) at (w .care-in));
           at-end = w .at-end;
@@ -278,9 +278,9 @@ module _ (f : File) (n g : ℕ) (s : List ℕ) (fuel at k : ℕ) where
   unfolding namelessFrom namelessAt usedOperands step
   step-output e = ap step (e ∙ output-form f) ∙ ap (λ (w : ℕ). whenFound inOutput At (onFrom w k)) (sym (width-output f))
 
-  step-care : f ≡ file.Stage → formOf f (byte s at) ≡ formFor f sort.Care → namelessFrom (suc fuel) f n g s at k ≡ whenFound inCare At (onFrom (widthFor f sort.Care) k)
+  step-care : Has f sort.Care → formOf f (byte s at) ≡ formFor f sort.Care → namelessFrom (suc fuel) f n g s at k ≡ whenFound inCare At (onFrom (widthFor f sort.Care) k)
   unfolding namelessFrom namelessAt usedOperands step nameable
-  step-care stage e = ap step (e ∙ care-form f stage) ∙ ap (λ (w : ℕ). whenFound inCare At (onFrom w k)) (sym (ap width (care-form f stage)))
+  step-care has e = ap step (e ∙ care-form f has) ∙ ap (λ (w : ℕ). whenFound inCare At (onFrom w k)) (sym (ap width (care-form f has)))
 
   step-inputs : formOf f (byte s at) ≡ formFor f sort.Inputs → namelessFrom (suc fuel) f n g s at k ≡ onFrom 2 k
   unfolding namelessFrom namelessAt usedOperands step nameless whenFound
@@ -297,9 +297,9 @@ module _ (f : File) (n g : ℕ) (s : List ℕ) (fuel at k : ℕ) where
   output-none : formOf f (byte s at) ≡ formFor f sort.Output → namelessFrom (suc fuel) f n g s at k ≡ Nothing → (inOutput ≡ Nothing) × (onFrom (widthFor f sort.Output) k ≡ Nothing)
   output-none e none = or-later inOutput (onFrom (widthFor f sort.Output) k) (sym (step-output e) ∙ none)
 
-  care-none : f ≡ file.Stage → formOf f (byte s at) ≡ formFor f sort.Care → namelessFrom (suc fuel) f n g s at k ≡ Nothing →
+  care-none : Has f sort.Care → formOf f (byte s at) ≡ formFor f sort.Care → namelessFrom (suc fuel) f n g s at k ≡ Nothing →
       (inCare ≡ Nothing) × (onFrom (widthFor f sort.Care) k ≡ Nothing)
-  care-none stage e none = or-later inCare (onFrom (widthFor f sort.Care) k) (sym (step-care stage e) ∙ none)
+  care-none has e none = or-later inCare (onFrom (widthFor f sort.Care) k) (sym (step-care has e) ∙ none)
 
 -- past the last byte nothing is found
 pub nameless-past : (f : File) (n g : ℕ) (s : List ℕ) (fuel at k : ℕ) → length s ≤ at → namelessFrom fuel f n g s at k ≡ Nothing
@@ -315,7 +315,7 @@ module _ (f : File) (n g : ℕ) (s : List ℕ) where
   named-walk fuel at k [] h l e = tt
   named-walk zero at k (gate c ∷ items) h l e = absurd (omega (arith, h .0 .room, width-gate f))
   named-walk zero at k (output vs ∷ items) h l e = absurd (omega (arith, h .0 .room, width-output f))
-  named-walk zero at k (care w ∷ items) h l e = absurd (omega (arith, h .0 .room, ap width (care-form f (h .0 .stage))))
+  named-walk zero at k (care w ∷ items) h l e = absurd (omega (arith, h .0 .room, ap width (care-form f (h .0 .has))))
   named-walk (suc fuel) at k (gate c ∷ items) h l e =
       let d = gate-none f n g s fuel at k (h .0 .command) e in (
         rw (laid-operands (h .0)) at (nameless-named (nameable (roleFor f sort.Gate) n g k) s (at + 2) (needed f (byte s (at + 1))) (d .0)),
@@ -327,9 +327,9 @@ module _ (f : File) (n g : ℕ) (s : List ℕ) where
         named-walk fuel (at + widthFor f sort.Output) k items (h .1) (omega (arith, width-output f)) (d .1),
       )
   named-walk (suc fuel) at k (care w ∷ items) h l e =
-      let d = care-none f n g s fuel at k (h .0 .stage) (h .0 .command) e in (
+      let d = care-none f n g s fuel at k (h .0 .has) (h .0 .command) e in (
         rw (h .0 .content) at (nameless-named 0x10000 s (at + 1) 1 (d .0) .0),
-        named-walk fuel (at + widthFor f sort.Care) k items (h .1) (omega (arith, ap width (care-form f (h .0 .stage)))) (d .1),
+        named-walk fuel (at + widthFor f sort.Care) k items (h .1) (omega (arith, ap width (care-form f (h .0 .has)))) (d .1),
       )
 
   walk-named : (fuel at k : ℕ) (items : List Item) → Laid f s at items → Named f n g k items → namelessFrom fuel f n g s at k ≡ Nothing
@@ -345,7 +345,7 @@ module _ (f : File) (n g : ℕ) (s : List ℕ) where
       ∙ rw (named-nameless (nameable (roleFor f sort.Output) n g k) s (at + 1) (operandCount f sort.Output) (rw (h .0 .content) (m .0)))
       (walk-named fuel (at + widthFor f sort.Output) k items (h .1) (m .1))
   walk-named (suc fuel) at k (care w ∷ items) h m =
-      step-care f n g s fuel at k (h .0 .stage) (h .0 .command)
+      step-care f n g s fuel at k (h .0 .has) (h .0 .command)
       ∙ rw (named-nameless 0x10000 s (at + 1) 1 (rw (h .0 .content) (m .0), tt))
       (walk-named fuel (at + widthFor f sort.Care) k items (h .1) (m .1))
 
@@ -361,11 +361,11 @@ module _ (f : File) (most : Limits) (s : List ℕ) (last : ℕ) (ends : length s
   walk-laid zero at p [] h i l few thin up = absurd (omega (arith, h .last))
   walk-laid zero at p (gate c ∷ items) h i l few thin up = absurd (omega (arith, h .0 .room, width-gate f))
   walk-laid zero at p (output vs ∷ items) h i l few thin up = absurd (omega (arith, h .0 .room, width-output f))
-  walk-laid zero at p (care w ∷ items) h i l few thin up = absurd (omega (arith, h .0 .room, ap width (care-form f (h .0 .stage))))
+  walk-laid zero at p (care w ∷ items) h i l few thin up = absurd (omega (arith, h .0 .room, ap width (care-form f (h .0 .has))))
   walk-laid (suc fuel) at p [] h i l few thin up =
       let e : at ≡ last = omega (arith, h .last) in
       let t : There f most s at (countsOf p) sort.End = record {
-        own = sort-for f sort.End refl;
+        own = has-end f;
         command = h .command;
         ordered = not-first at i;
         room = omega (arith, h .last, width-end f);
@@ -374,7 +374,7 @@ module _ (f : File) (most : Limits) (s : List ℕ) (last : ℕ) (ends : length s
       rw (there-next f most s at (countsOf p) sort.End t) (ap₂ (finish f s) e (sym (added-nil f s at p)))
   walk-laid (suc fuel) at p (gate c ∷ items) h i l few thin up =
       rw (there-next f most s at (countsOf p) sort.Gate (record {
-        own = sort-for f sort.Gate refl;
+        own = has-gate f;
         command = h .0 .command;
         ordered = not-first at i;
         room = h .0 .room;
@@ -384,7 +384,7 @@ module _ (f : File) (most : Limits) (s : List ℕ) (last : ℕ) (ends : length s
       ∙ ap (finish f s last) (added-gate f s at p items))
   walk-laid (suc fuel) at p (output vs ∷ items) h i l few thin up =
       rw (there-next f most s at (countsOf p) sort.Output (record {
-        own = sort-for f sort.Output refl;
+        own = has-output f;
         command = h .0 .command;
         ordered = not-first at i;
         room = h .0 .room;
@@ -394,7 +394,7 @@ module _ (f : File) (most : Limits) (s : List ℕ) (last : ℕ) (ends : length s
       ∙ ap (finish f s last) (added-output f s at p items))
   walk-laid (suc fuel) at p (care w ∷ items) h i l few thin up =
       let v = operand s (at + 1) in
-      let form = care-form f (h .0 .stage) in
+      let form = care-form f (h .0 .has) in
       let rest = rw (← h .0 .content, ← floor-snoc 0 (p .care) v) at (up .2) in
       rw (there-next f most s at (countsOf p) sort.Care (record {
         own = ap (λ (x : Form). x .sort) form;
@@ -463,7 +463,7 @@ module _ (f : File) (most : Limits) (s : List ℕ) where
       let ends : length s ≡ last + 1 = omega arith in
       let few : length (p .gates) ≡ length (gatesIn items) = length-gatePlaces f 2 items in
       let named : Named f n (length (p .gates)) 0 items = rw few (h .named) in
-      let t : There f most s 0 (countsOf noPlaces) sort.Inputs = record { own = sort-for f sort.Inputs refl; command = h .command; ordered = refl; room = omega (arith, width-inputs f); taken = rw (h .count) (h .inputs-in) } in
+      let t : There f most s 0 (countsOf noPlaces) sort.Inputs = record { own = has-inputs f; command = h .command; ordered = refl; room = omega (arith, width-inputs f); taken = rw (h .count) (h .inputs-in) } in
       rw (there-next f most s 0 (countsOf noPlaces) sort.Inputs t)
       (ap₂ (λ (at m : ℕ). readFrom (length s) f most s at (places m [] [] [])) two (h .count)
       ∙ walk-laid f most s last ends (length s) 2 (places n [] [] []) items (h .laid) (omega arith) (omega arith) (omega (arith, h .gates-in)) (omega (arith, h .outputs-in)) (h .care-in)

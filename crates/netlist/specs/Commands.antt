@@ -10,7 +10,7 @@ use Rattle.gates.specs.declared.Kind.{Kind}
 use Rattle.gates.specs.declared.Kind.the-variants.{Hold, Relaxed, Unknown}
 use Rattle.netlist.specs.Types.{File, Sort, Role, AnyNet, EarlierSignal, AnySignal, Number, Form, Limits, Counts, Next, Command, Refused, Found, At}
 use Rattle.netlist.specs.Types.{Nothing}
-use Rattle.netlist.specs.Types.file.{Stage, Reference}
+use Rattle.netlist.specs.Types.file.{Stage, Pipeline, Reference}
 use Rattle.netlist.specs.Types.sort
 use Rattle.netlist.specs.Bytes.{byte, operand, absent}
 
@@ -38,14 +38,24 @@ abbrev pub asForm : Sort → ℕ → ℕ → Role → Form
 asForm c lead operands role = record { sort = c; lead = lead; operands = operands; role = role }
 
 -- The table: a row for each command byte of a file. The command byte counts among the bytes before the operands, and so do the count
--- of inputs and a gate's kind or operation.
-unfoldable pub ownCommands : File → List (ℕ × Form)
-ownCommands Stage =
+-- of inputs and a gate's kind or operation. A pipeline is a stage with registers: for now its commands are the stage's.
+abbrev pub stageCommands : List (ℕ × Form)
+stageCommands =
     (0x02, asForm sort.Gate 2 4 AnyNet) ∷
     (0x03, asForm sort.Output 1 2 AnyNet) ∷
     (0x06, asForm sort.Care 1 1 Number) ∷
     []
+
+unfoldable pub ownCommands : File → List (ℕ × Form)
+ownCommands Stage = stageCommands
+ownCommands Pipeline = stageCommands
 ownCommands Reference = (0x11, asForm sort.Gate 2 2 EarlierSignal) ∷ (0x12, asForm sort.Output 1 1 AnySignal) ∷ []
+
+-- a stage file, with registers or without
+abbrev pub IsStage : File → Type 0
+IsStage Stage = Unit {0}
+IsStage Pipeline = Unit {0}
+IsStage Reference = ⊥
 
 unfoldable pub commandTable : File → List (ℕ × Form)
 commandTable f = (0x00, asForm sort.End 1 0 Number) ∷ (0x01, asForm sort.Inputs 2 0 Number) ∷ ownCommands f
@@ -72,6 +82,7 @@ pinsNeeded Unknown = 0
 -- 1 NOT needs one, 2 AND, 3 OR, 4 XOR, 5 NAND and 6 NOR need two
 unfoldable pub needed : File → ℕ → ℕ
 needed Stage kind = pinsNeeded (kindOf kind)
+needed Pipeline kind = pinsNeeded (kindOf kind)
 needed Reference operation = getD (0 ∷ 1 ∷ 2 ∷ 2 ∷ 2 ∷ 2 ∷ 2 ∷ []) operation 0
 
 -- ---- the command at a position

@@ -21,6 +21,8 @@ commandByte f sort.End = 0x00
 commandByte f sort.Inputs = 0x01
 commandByte file.Stage sort.Gate = 0x02
 commandByte file.Stage sort.Output = 0x03
+commandByte file.Pipeline sort.Gate = 0x02
+commandByte file.Pipeline sort.Output = 0x03
 commandByte file.Reference sort.Gate = 0x11
 commandByte file.Reference sort.Output = 0x12
 commandByte f sort.Care = 0x06
@@ -37,6 +39,10 @@ operandCount f c = formFor f c .operands
 
 abbrev pub roleFor : File → Sort → Role
 roleFor f c = formFor f c .role
+
+-- a file has commands of a sort
+abbrev pub Has : File → Sort → Type 0
+Has f c = formFor f c .sort ≡ c
 
 -- ---- items
 
@@ -116,9 +122,9 @@ pub record OutputFits (f : File) (n g k : ℕ) (vs : List ℕ) : Type 0 where
   pub u16s : All (λ v. v < 65536) vs
   pub named : All (λ v. v < nameable (roleFor f sort.Output) n g k) vs
 
--- a care word: only a stage has them
+-- a care word, where the file may have some
 pub record CareFits (f : File) (w : ℕ) : Type 0 where
-  pub stage : f ≡ file.Stage
+  pub has : Has f sort.Care
   pub u16 : w < 65536
 
 abbrev pub ItemsFit : File → ℕ → ℕ → ℕ → List Item → Type 0

@@ -8,6 +8,7 @@ ghost use Rattle.netlist.specs.Reading as reading;
 // Which of the two files is read.
 pub enum File {
     Stage,
+    Pipeline,
     Reference,
 }
 

@@ -14,12 +14,17 @@ use Rattle.netlist.specs.declared.Role.the-variants.{Number}
 use Rattle.netlist.specs.declared.Form.{Form}
 use Rattle.netlist.specs.Commands.{asForm, commandTable, ownCommands, formIn, formOf, width, needed}
 use Rattle.netlist.specs.Writing.{formFor, All}
-use Rattle.netlist.proofs.Encoding.{form-for, gate-form, inputs-form, care-form, care-stage, width-in}
+use Rattle.netlist.proofs.Encoding.{form-for, gate-form, inputs-form, care-form, width-in}
 
 pub in-no-row : (rs : List (ℕ × Form)) (b : ℕ) → All (λ r. b ≡ r .0 → ⊥) rs → asForm sort.Unknown 1 0 Number ≡ formIn rs b
 unfolding formIn
 in-no-row [] b h = refl
 in-no-row (r ∷ rs) b h = rw (ne-eqb b (r .0) (h .0)) (in-no-row rs b (h .1))
+
+-- a byte that stands for neither end nor inputs stands for a command of its file alone, if for any
+pub own-row : (f : File) (b : ℕ) → (b ≡ 0 → ⊥) → (b ≡ 1 → ⊥) → formIn (ownCommands f) b ≡ formOf f b
+unfolding commandTable formIn
+own-row f b no-end no-inputs = rw (ne-eqb b 0 no-end, ne-eqb b 1 no-inputs)
 
 -- the row of a byte
 module _ (f : File) (b : ℕ) {form : Form} (is : form ≡ formOf f b) where
@@ -29,6 +34,7 @@ module _ (f : File) (b : ℕ) {form : Form} (is : form ≡ formOf f b) where
     where
       go : (f : File) → (1 ≤ width (formOf f b)) × (width (formOf f b) < 2 ^ 16)
       go file.Stage = omega (arith, width-in file.Stage b)
+      go file.Pipeline = omega (arith, width-in file.Pipeline b)
       go file.Reference = omega (arith, width-in file.Reference b)
 
   pub form-sort : {c : Sort} → form .sort ≡ c → form ≡ formFor f c
@@ -40,7 +46,7 @@ module _ (f : File) (b : ℕ) {form : Form} (is : form ≡ formOf f b) where
   pub care-wide : form .sort ≡ sort.Care → form .lead + 2 ≡ width form
   care-wide e =
       let is-care = form-sort e in
-      let row = is-care ∙ care-form f (care-stage f (ap (λ (x : Form). x .sort) (sym is-care) ∙ e)) in
+      let row = is-care ∙ care-form f (ap (λ (x : Form). x .sort) (sym is-care) ∙ e) in
       rw row
 
   pub inputs-wide : form .sort ≡ sort.Inputs → width form ≡ 2

@@ -13,6 +13,7 @@ ghost use mathlib.Core.Path.{_≡_};
 ghost use Prim.Native.Nat.{_+_, _*_, _^_, _<_, _≤_};
 ghost use lib.ListN.{length};
 ghost use lib.Dec.{ltb};
+ghost use Rattle.netlist.specs.declared.File.the-variants as file;
 ghost use Rattle.netlist.specs.Bytes as bytes;
 ghost use Rattle.netlist.specs.Commands as commands;
 
@@ -30,6 +31,29 @@ fn as_form(sort: Sort, lead: usize, operands: usize, role: Role) -> Form
     }
 }
 
+// The row of a command byte that only a stage has.
+fn stage_form(command: u8) -> Form
+    ensures { λ r. ⌜ r ≡ commands.formIn (commands.ownCommands file.Stage) command ⌝ }
+{
+    match command {
+        0x02 => as_form(Sort::Gate, 2, 4, Role::AnyNet),
+        0x03 => as_form(Sort::Output, 1, 2, Role::AnyNet),
+        0x06 => as_form(Sort::Care, 1, 1, Role::Number),
+        _ => as_form(Sort::Unknown, 1, 0, Role::Number),
+    }
+}
+
+// The row of a command byte that only a reference has.
+fn reference_form(command: u8) -> Form
+    ensures { λ r. ⌜ r ≡ commands.formIn (commands.ownCommands file.Reference) command ⌝ }
+{
+    match command {
+        0x11 => as_form(Sort::Gate, 2, 2, Role::EarlierSignal),
+        0x12 => as_form(Sort::Output, 1, 1, Role::AnySignal),
+        _ => as_form(Sort::Unknown, 1, 0, Role::Number),
+    }
+}
+
 // The row of a command byte. The byte alone says which operands follow.
 pub fn form_of(file: File, command: u8) -> Form
     ensures { λ r. ⌜ r ≡ commands.formOf file command ⌝ }
@@ -38,17 +62,9 @@ pub fn form_of(file: File, command: u8) -> Form
         0x00 => as_form(Sort::End, 1, 0, Role::Number),
         0x01 => as_form(Sort::Inputs, 2, 0, Role::Number),
         _ => match file {
-            File::Stage => match command {
-                0x02 => as_form(Sort::Gate, 2, 4, Role::AnyNet),
-                0x03 => as_form(Sort::Output, 1, 2, Role::AnyNet),
-                0x06 => as_form(Sort::Care, 1, 1, Role::Number),
-                _ => as_form(Sort::Unknown, 1, 0, Role::Number),
-            },
-            File::Reference => match command {
-                0x11 => as_form(Sort::Gate, 2, 2, Role::EarlierSignal),
-                0x12 => as_form(Sort::Output, 1, 1, Role::AnySignal),
-                _ => as_form(Sort::Unknown, 1, 0, Role::Number),
-            },
+            File::Stage => stage_form(command),
+            File::Pipeline => stage_form(command),
+            File::Reference => reference_form(command),
         },
     }
 }
@@ -78,6 +94,7 @@ pub fn needed(file: File, code: u8) -> usize
 {
     match file {
         File::Stage => pins_needed(gates::kind_of(code)),
+        File::Pipeline => pins_needed(gates::kind_of(code)),
         File::Reference => match code {
             1 => 1,
             2..=6 => 2,

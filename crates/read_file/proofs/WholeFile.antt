@@ -27,11 +27,18 @@ use Rattle.netlist.specs.declared.Found.the-variants.{At, Nothing}
 use Rattle.netlist.specs.Bytes.{byte, operand}
 use Rattle.netlist.specs.Commands.{whenFound, isSort, formOf, width, stray, nextAt}
 use Rattle.netlist.specs.Reading.{namelessFrom, Places, floorAfter, countsOf, noted, Reading, refused, readable, finish, onNext, readFrom, readFile}
-use Rattle.netlist.specs.Writing.{commandByte, widthFor}
+use Rattle.netlist.specs.Writing.{Has, commandByte, widthFor}
 use Rattle.read_file.specs.Files.{Follow, FilledTo, Countable, mostCare, RoomFor, standing, Placed}
-use Rattle.netlist.proofs.Encoding.{clash, care-stage, care-form, width-in, width-inputs, width-end}
+use Rattle.netlist.proofs.Encoding.{reference-careless, clash, care-form, width-in, width-inputs, width-end}
 use Rattle.netlist.proofs.OneCommand.{There, next-there}
 use Rattle.netlist.proofs.Walk.{floor-snoc, care-taken, Near, near-start, near-far, near-noted}
+
+-- where a file has care words, there may be as many as words of its inputs
+words-most : (f : File) (most : Limits) → Has f sort.Care → mostCare f most ≡ 2 ^ most .inputs
+unfolding mostCare
+words-most file.Stage most e = refl
+words-most file.Pipeline most e = refl
+words-most file.Reference most e = absurd (reference-careless e)
 
 -- ---- at the end command
 
@@ -213,10 +220,9 @@ module _ {f : File} {most : Limits} {s : List ℕ} {long : ℕ} {places : List �
       unfolding mostCare
       care-room read =
           let t = there read in
-          let stage = care-stage f (t .own) in
           let taken = care-taken f most s at c t in
-          let most-words : mostCare f most ≡ 2 ^ most .inputs = ap (λ (x : File). mostCare x most) stage in
-          omega (arith, t .room, ap width (care-form f stage), taken, w .near .care-in, most-words, pow-mono {i = c .inputs} {j = most .inputs} (w .near .inputs-in))
+          let most-words = words-most f most (t .own) in
+          omega (arith, t .room, ap width (care-form f (t .own)), taken, w .near .care-in, most-words, pow-mono {i = c .inputs} {j = most .inputs} (w .near .inputs-in))
 
       pub walk-inputs : x ≡ Command sort.Inputs next → byte s (at + 1) < 256 → Walking f most s long places (next .at) (counts (byte s (at + 1)) (c .gates) (c .outputs) (c .care) (c .floor))
       unfolding noted

@@ -30,7 +30,7 @@ use Rattle.verdict.proofs.Settling.{settled-bits}
 use Rattle.verdict.proofs.Names.{words-once}
 use Rattle.verdict.proofs.OneWord.{wires-length}
 use Rattle.check_spec.specs.Cases.{accepted}
-use Rattle.check_spec.specs.Content.{Content, Files, stageIn}
+use Rattle.check_spec.specs.Content.{Content, Files, stageFile, stageIn}
 use Rattle.check_spec.specs.Rows.{netOf}
 use Rattle.check_spec.specs.Words.{railsFor, spelled, names, IsWord}
 use Rattle.check_spec.specs.Checks.{rest}
@@ -199,11 +199,12 @@ module _ (order : WordOrder) (c : Content) (care : Ascending (2 ^ c .inputs) 0 (
 -- ---- the report
 
 -- an accepted pair has read its stage
-pub stage-read : (f : Files) → Pass (reading file.Stage (f .stageMost) (f .stage)) → (p : Places) × (readFile file.Stage (f .stageMost) (f .stage) ≡ readable p)
+pub stage-read : (f : Files) → Pass (reading (stageFile (f .registers)) (f .stageMost) (f .stage))
+    → (p : Places) × (readFile (stageFile (f .registers)) (f .stageMost) (f .stage) ≡ readable p)
 unfolding refusal
-stage-read f = go (readFile file.Stage (f .stageMost) (f .stage))
+stage-read f = go (readFile (stageFile (f .registers)) (f .stageMost) (f .stage))
   where
-    go : (x : Reading) → Pass (refusal file.Stage x) → (p : Places) × (x ≡ readable p)
+    go : (x : Reading) → Pass (refusal (stageFile (f .registers)) x) → (p : Places) × (x ≡ readable p)
     go (refused number at) h = absurd (clash refl (h .0))
     go (readable p) h = (p, refl)
 
@@ -224,7 +225,7 @@ report-means order f = go (eqb (verdictOn order f .number) 0) refl
         let p = accepted-passes order f (eqb-eq (verdictOn order f .number) 0 e) in
         let free = p .2 .free in
         let read = stage-read f (k .1 .0) in
-        let care = care-rises (f .stageMost) (f .stage) (read .0) (read .1) in
+        let care = care-rises (stageFile (f .registers)) (f .stageMost) (f .stage) (read .0) (read .1) in
         record {
           cycled = λ a w h. cycled f free w (k .2 w h);
           half = λ a cycles each.

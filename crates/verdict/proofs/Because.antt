@@ -25,7 +25,7 @@ use Rattle.verdict.specs.Answers.{answer}
 use Rattle.verdict.specs.Nets.{noPair, outputPair, netOf, rowOf, restRow}
 use Rattle.verdict.specs.Falls.{fallenBut, fallenKeeping}
 use Rattle.verdict.specs.Checks.{Check, check, unsaid, wrong, incomplete, unobservable, fallIncomplete, fallUnobservable, WrongAt, IncompleteAt, UnobservableAt, FallIncompleteAt, FallUnobservableAt, unequal, looped, retired, riseSweeps, fallSweeps, checks, illegal, IllegalAt, rowChecks}
-use Rattle.verdict.specs.Verdicts.{judgeReference, judgeStage, verdictWithin}
+use Rattle.verdict.specs.Verdicts.{judgeReference, judgeStage, verdictAs, verdictWithin}
 use Rattle.verdict.specs.Demands.{Holds, EachOf, Because, stage-refused, reference-refused, both-read}
 use Rattle.verdict.proofs.Reaching.{reaches-sound, reaches-complete}
 use Rattle.verdict.proofs.Retired.{test-retired, retired-test}
@@ -198,7 +198,7 @@ holds {places = places} e = record { places = places; reads = e; content = refl 
 -- every verdict on two files has its reason
 pub verdict-because : (order : WordOrder) (stageMost referenceMost : Limits) (stage reference : List ℕ)
     → Because order stageMost referenceMost stage reference (verdictWithin order stageMost referenceMost stage reference)
-unfolding verdictWithin judgeStage judgeReference
+unfolding verdictAs judgeStage judgeReference
 verdict-because order stageMost referenceMost stage reference = go (readFile file.Stage stageMost stage) refl (readFile file.Reference referenceMost reference) refl
   where
     go : (x : Reading) → readFile file.Stage stageMost stage ≡ x → (y : Reading) → readFile file.Reference referenceMost reference ≡ y

@@ -10,13 +10,13 @@ use Rattle.netlist.specs.Content.{stageOf}
 use Rattle.netlist.proofs.Bounds.{readable-more}
 use Rattle.verdict.specs.declared.Verdict.{Verdict}
 use Rattle.verdict.specs.declared.WordOrder.{WordOrder}
-use Rattle.verdict.specs.Verdicts.{judgeReference, judgeStage, verdictWithin}
+use Rattle.verdict.specs.Verdicts.{judgeReference, judgeStage, verdictAs, verdictWithin}
 use Rattle.verdict.proofs.Demands.{accepted-contents}
 
 module _ (few most few′ most′ : Limits) (less : NoMore few most) (less′ : NoMore few′ most′) (s t : List ℕ) where
   pub verdict-more : (order : WordOrder) (p q : Places) → readFile file.Stage few s ≡ readable p → readFile file.Reference few′ t ≡ readable q →
       verdictWithin order most most′ s t ≡ verdictWithin order few few′ s t
-  unfolding verdictWithin judgeStage
+  unfolding verdictAs judgeStage
   verdict-more order p q a b =
       ap (judgeStage order most′ s t) (readable-more less file.Stage s p a)
       ∙ ap (judgeReference order (stageOf s p) t) (readable-more less′ file.Reference t q b ∙ sym b)

@@ -17,14 +17,14 @@ use Rattle.netlist.proofs.Encoding.{width-gate}
 use Rattle.netlist.proofs.Readable.{readable-length}
 use Rattle.netlist.proofs.Cut.{readFile-take}
 use Rattle.verdict.specs.declared.WordOrder.{WordOrder}
-use Rattle.verdict.specs.Verdicts.{judgeReference, judgeStage, verdictWithin, verdictOn, settleReading, settledRowWithin, settledRow}
+use Rattle.verdict.specs.Verdicts.{judgeReference, judgeStage, verdictAs, verdictOn, settleReading, settledRowWithin, settledRow}
 
 -- a readable file is not cut
 pub read-short : (f : File) (most : Limits) → farthest f most ≤ mostBytes → (s : List ℕ) (p : Places) → readFile f most s ≡ readable p → take mostBytes s ≡ s
 read-short f most far s p e = take-all mostBytes s (omega (arith, far, width-gate f, readable-length f most s p e))
 
 -- limits within which the program reads far enough
-module _ (order : WordOrder) (stageMost referenceMost : Limits) (far : farthest file.Stage stageMost ≤ mostBytes) (far′ : farthest file.Reference referenceMost ≤ mostBytes) where
+module _ (f : File) (order : WordOrder) (stageMost referenceMost : Limits) (far : farthest f stageMost ≤ mostBytes) (far′ : farthest file.Reference referenceMost ≤ mostBytes) where
   cut-reference : (c : Stage) (r : List ℕ)
       → judgeReference order c (take mostBytes r) (readFile file.Reference referenceMost (take mostBytes r)) ≡ judgeReference order c r (readFile file.Reference referenceMost r)
   unfolding judgeReference
@@ -34,17 +34,17 @@ module _ (order : WordOrder) (stageMost referenceMost : Limits) (far : farthest 
       go (refused number at) e = refl
       go (readable p) e = ap (λ (b : List ℕ). judgeReference order c b (readable p)) (read-short file.Reference referenceMost far′ r p e)
 
-  pub within-cut : (s r : List ℕ) → verdictWithin order stageMost referenceMost (take mostBytes s) (take mostBytes r) ≡ verdictWithin order stageMost referenceMost s r
-  unfolding verdictWithin judgeStage
-  within-cut s r = rw (readFile-take file.Stage stageMost s mostBytes far) (go (readFile file.Stage stageMost s) refl)
+  pub within-cut : (s r : List ℕ) → verdictAs f order stageMost referenceMost (take mostBytes s) (take mostBytes r) ≡ verdictAs f order stageMost referenceMost s r
+  unfolding verdictAs judgeStage
+  within-cut s r = rw (readFile-take f stageMost s mostBytes far) (go (readFile f stageMost s) refl)
     where
-      go : (x : Reading) → readFile file.Stage stageMost s ≡ x → judgeStage order referenceMost (take mostBytes s) (take mostBytes r) x ≡ judgeStage order referenceMost s r x
+      go : (x : Reading) → readFile f stageMost s ≡ x → judgeStage order referenceMost (take mostBytes s) (take mostBytes r) x ≡ judgeStage order referenceMost s r x
       go (refused number at) e = refl
-      go (readable p) e = ap (λ (b : List ℕ). judgeStage order referenceMost b (take mostBytes r) (readable p)) (read-short file.Stage stageMost far s p e) ∙ cut-reference (stageOf s p) r
+      go (readable p) e = ap (λ (b : List ℕ). judgeStage order referenceMost b (take mostBytes r) (readable p)) (read-short f stageMost far s p e) ∙ cut-reference (stageOf s p) r
 
 pub verdict-cut : (order : WordOrder) (s r : List ℕ) → verdictOn order (take mostBytes s) (take mostBytes r) ≡ verdictOn order s r
 unfolding commandTable ownCommands formIn
-verdict-cut order = within-cut order stageLimits referenceLimits (omega arith) (omega arith)
+verdict-cut order = within-cut file.Pipeline order stageLimits referenceLimits (omega arith) (omega arith)
 
 stage-far : farthest file.Stage stageLimits ≤ mostBytes
 unfolding commandTable ownCommands formIn

@@ -30,7 +30,7 @@ use Rattle.verdict.specs.Words.{numbers, IsWord, spelled}
 use Rattle.verdict.specs.Nets.{noGate, netOf, rowOf, railsFor, answerBits}
 use Rattle.verdict.specs.Retired.{RetiredAt, NoneRetired, LeastRetired}
 use Rattle.verdict.specs.Checks.{verdict, Check, unequal, looped, retired, riseSweeps, fallSweeps, sweeps, firstFault, checks, rowChecks}
-use Rattle.verdict.specs.Verdicts.{accepted, verdictOf, judgeReference, judgeStage, verdictWithin, RowAnswer, settleUnless, settleReading, settledRowWithin}
+use Rattle.verdict.specs.Verdicts.{accepted, verdictOf, judgeReference, judgeStage, verdictAs, verdictWithin, RowAnswer, settleUnless, settleReading, settledRowWithin}
 use Rattle.verdict.specs.Demands as demands
 use Rattle.verdict.specs.Demands.{StageIs, ReferenceIs, Contents, Nowhere, NamedBy, Named, EachOf, Judged, Because, both-read, Comparable, Acceptable, Demand2, Kept, Shown, ShownBy, Demand3, WithHold, RefusesRetired, RowGiven, DemandRow, row-refused, row-settled, Fits, ServesRetired}
 use Rattle.verdict.proofs.Levels.{bits-length, bits-get}
@@ -262,7 +262,7 @@ module _ (order : WordOrder) (stageMost referenceMost : Limits) (stage reference
 
   -- files that read are judged by what they hold
   verdict-judged : (c : Contents stageMost referenceMost stage reference) → Judged (checks order (c .circuit) (c .function)) given
-  unfolding verdictWithin judgeStage judgeReference
+  unfolding verdictAs judgeStage judgeReference
   verdict-judged c =
       let is = c .circuit-is in
       let ir = c .function-is in

@@ -2,6 +2,7 @@
 use Prim.Native.Nat.{ℕ, _*_}
 use mathlib.Core.List.{List}
 use lib.ListN.{take}
+use Rattle.netlist.specs.declared.File.{File}
 use Rattle.netlist.specs.declared.File.the-variants as file
 use Rattle.netlist.specs.declared.Limits.{Limits}
 use Rattle.netlist.specs.Reading.{Reading, refused, readable, readFile, stageLimits, referenceLimits}
@@ -30,12 +31,16 @@ judgeStage order referenceMost bytes reference (refused number at) = verdict num
 judgeStage order referenceMost bytes reference (readable places) =
     judgeReference order (stageOf bytes places) reference (readFile file.Reference referenceMost reference)
 
-unfoldable pub verdictWithin : WordOrder → Limits → Limits → List ℕ → List ℕ → Verdict
-verdictWithin order stageMost referenceMost stage reference = judgeStage order referenceMost stage reference (readFile file.Stage stageMost stage)
+-- where the stage is read as a stage or as a pipeline
+unfoldable pub verdictAs : File → WordOrder → Limits → Limits → List ℕ → List ℕ → Verdict
+verdictAs f order stageMost referenceMost stage reference = judgeStage order referenceMost stage reference (readFile f stageMost stage)
 
--- the verdict on a stage file and a reference file
+abbrev pub verdictWithin : WordOrder → Limits → Limits → List ℕ → List ℕ → Verdict
+verdictWithin = verdictAs file.Stage
+
+-- the verdict on a stage file and a reference file, by the check, which alone reads a pipeline
 abbrev pub verdictOn : WordOrder → List ℕ → List ℕ → Verdict
-verdictOn order = verdictWithin order stageLimits referenceLimits
+verdictOn order = verdictAs file.Pipeline order stageLimits referenceLimits
 
 -- ---- the settled-row call
 

@@ -16,18 +16,20 @@ use Rattle.call_join.proofs.join.Tie as tie
 
 check-within-requires : tie.Need-check-within-requires
 check-within-requires c κs = (
+  tt,
   subst (λ (m : Limits). NoMore m stageLimits) (sym (c .before .part-stage-limits .ensures)) part-stage-less,
   subst (λ (m : Limits). NoMore m referenceLimits) (sym (c .part-reference-limits .ensures)) part-reference-less,
 )
 
 check-within-requires-2 : tie.Need-check-within-requires-2
 check-within-requires-2 c κs = (
+  tt,
   subst (λ (m : Limits). NoMore m stageLimits) (sym (c .before .before .before .before .part-stage-limits .ensures)) part-stage-less,
   subst (λ (m : Limits). NoMore m referenceLimits) (sym (c .before .before .before .part-reference-limits .ensures)) part-reference-less,
 )
 
-add-t13 : tie.Need-add-t13
-add-t13 c =
+add-t14 : tie.Need-add-t14
+add-t14 c =
     let z = c .before .before .before .before .before .before .before .before .before .before .before .before .before .before .before in
     omega (
       arith,
@@ -99,7 +101,7 @@ join-spec =
     (λ c κs. search needs)
     returns
     check-within-requires-2
-    add-t13
+    add-t14
     (λ c κs. search needs)
     returns-2
     join-accepted-requires

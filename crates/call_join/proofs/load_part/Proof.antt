@@ -12,7 +12,7 @@ use Rattle.call_join.proofs.load_part.Tie as tie
 read-stage-within-requires : tie.Need-read-stage-within-requires
 read-stage-within-requires c κs =
     let z = c .before .before .before .before in
-    (subst (λ (m : Limits). NoMore m stageLimits) (sym (c .before .part-stage-limits .ensures)) part-stage-less, z .pre)
+    (tt, subst (λ (m : Limits). NoMore m stageLimits) (sym (c .before .part-stage-limits .ensures)) part-stage-less, z .pre)
 
 returns : tie.Need-returns
 returns c =

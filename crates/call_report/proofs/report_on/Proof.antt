@@ -9,18 +9,18 @@ use Rattle.call_report.proofs.report_on.Tie as tie
 report-stage-requires : tie.Need-report-stage-requires
 report-stage-requires c κs =
     let z = c .before .before .before .before .before in
-    accepted-file (z .args .order) (now (z .args .stage)) (now (z .args .reference)) _ (c .before .before .check .ensures .0) (c .if1 .taken)
+    accepted-file (z .args .order) (now (z .args .stage)) (now (z .args .reference)) _ (c .before .before .check-plain .ensures) (c .if1 .taken)
 
 returns : tie.Need-returns
 returns c =
     let z = c .before .before .before .before .before .before in
-    report-accepted (z .args .order) (now (z .args .stage)) (now (z .args .reference)) _ (c .before .before .before .check .ensures .0) (c .before .if1 .taken) _
+    report-accepted (z .args .order) (now (z .args .stage)) (now (z .args .reference)) _ (c .before .before .before .check-plain .ensures) (c .before .if1 .taken) _
     (c .report-stage .ensures)
 
 returns-2 : tie.Need-returns-2
 returns-2 c =
     let z = c .before .before .before .before .before in
-    report-refused (z .args .order) (now (z .args .stage)) (now (z .args .reference)) _ (c .before .before .check .ensures .0) (c .if1 .left)
+    report-refused (z .args .order) (now (z .args .stage)) (now (z .args .reference)) _ (c .before .before .check-plain .ensures) (c .if1 .left)
 
 pub report-on-spec : {M : Type 1} → statement M
 report-on-spec =
