@@ -14,12 +14,14 @@ use Rattle.runs.specs.Row.{Row, only}
 use Rattle.runs.specs.Net.{Net, nets, rails}
 use Rattle.runs.specs.Pair.{AllData, AllNull}
 use Rattle.runs.proofs.Test.{clash, not-true, not-false, eqb-eq}
+use Rattle.netlist.specs.Commands.{stageFile}
 use Rattle.netlist.specs.declared.Found.{Found}
 use Rattle.netlist.specs.declared.Found.the-variants.{At, Nothing}
 use Rattle.netlist.specs.declared.File.the-variants as file
 use Rattle.netlist.specs.Reading.{Reading, refused, readable, readFile}
 use Rattle.netlist.specs.Content as parsed
 use Rattle.netlist.specs.Content.{Coded, gateOf, stageOf, referenceOf}
+use Rattle.netlist.proofs.Alike.{stage-alike}
 use Rattle.verdict.specs.declared.Verdict.{Verdict}
 use Rattle.verdict.specs.declared.WordOrder.{WordOrder}
 use Rattle.verdict.specs.declared.Finding.{Finding}
@@ -39,7 +41,7 @@ use Rattle.verdict.proofs.Reaching.{reaches-sound, reaches-complete}
 use Rattle.verdict.proofs.Because.{data-true, true-data, null-true, true-null}
 use Rattle.check_spec.specs.Cases.{verdict, accepted, Case, case, Check, first, judge, sweep, unequal}
 use Rattle.check_spec.specs.Lists.{xor, numbers, bitOf, reaches}
-use Rattle.check_spec.specs.Content.{Content, Files, contentAt, stageFile, stageIn, referenceIn}
+use Rattle.check_spec.specs.Content.{Content, Files, contentAt, stageIn, referenceIn}
 use Rattle.check_spec.specs.Rows.{noGate, driver, cellIn, netOf, risen, fallen, dataOf, allData, allNull, feeding, reachesItself}
 use Rattle.check_spec.specs.Words.{railsFor, spelled, names, answer}
 use Rattle.check_spec.specs.Checks.{rest, wrong, incomplete, highAnd, unobservable, fallIncomplete, fallUnobservable, looped, retired, swept, checks}
@@ -49,7 +51,7 @@ use Rattle.check_spec.proofs.First.{first-pass}
 use Rattle.check_spec.proofs.Loops.{loop-found, found-loop, feeding-gate}
 use Rattle.check_spec.proofs.Pairs.{all-data, all-null}
 use Rattle.check_spec.proofs.Exactly.{EachCheck}
-use Rattle.check_spec.proofs.View.{pairOf, stageView, referenceView, read-plain, stage-view, reference-view, net-view, rail-view, driver-view}
+use Rattle.check_spec.proofs.View.{pairOf, stageView, referenceView, stage-view, reference-view, net-view, rail-view, driver-view}
 use Rattle.check_spec.proofs.Alike.{spelled-alike, names-alike, answer-alike, rest-alike, missing-alike, held-alike, but-alike, keeping-alike}
 
 -- ---- a sweep finds what its cases say
@@ -395,4 +397,4 @@ verdict-is order f = go (f .registers) (readFile (stageFile (f .registers)) (f .
 pub plain-verdict : (order : WordOrder) (f : Files) → verdictOn order f ≡ given.verdictWithin order (f .stageMost) (f .referenceMost) (f .stage) (f .reference)
 unfolding given.verdictAs
 plain-verdict order f =
-    verdict-is order f ∙ ap (given.judgeStage order (f .referenceMost) (f .stage) (f .reference)) (read-plain (f .registers) (f .stageMost) (f .stage))
+    verdict-is order f ∙ ap (given.judgeStage order (f .referenceMost) (f .stage) (f .reference)) (stage-alike (f .registers) (f .stageMost) (f .stage))

@@ -13,6 +13,7 @@ use Rattle.runs.specs.Row.{Row}
 use Rattle.runs.specs.Net.{IsGate}
 use Rattle.runs.specs.Theory.{AllHold}
 use Rattle.runs.proofs.Test.{eqb-eq}
+use Rattle.netlist.specs.Commands.{stageFile}
 use Rattle.netlist.specs.declared.File.the-variants.{Stage, Reference}
 use Rattle.verdict.specs.declared.Verdict.{Verdict}
 use Rattle.verdict.specs.declared.WordOrder.{WordOrder}
@@ -21,7 +22,7 @@ use Rattle.verdict.proofs.Words.{in-index}
 use Rattle.verdict.proofs.Refusals.{InTable}
 use Rattle.check_spec.specs.Cases.{accepted, verdict, Case, case, Check, first, judge}
 use Rattle.check_spec.specs.Lists.{numbers, some}
-use Rattle.check_spec.specs.Content.{Content, Files, stageFile, stageIn, referenceIn}
+use Rattle.check_spec.specs.Content.{Content, Files, stageIn, referenceIn}
 use Rattle.check_spec.specs.Rows.{driver, cellIn, netOf, reachesItself}
 use Rattle.check_spec.specs.Words.{railsFor, spelled, names, IsWord}
 use Rattle.check_spec.specs.Checks.{wrong, incomplete, unobservable, fallIncomplete, fallUnobservable, looped, retired, swept, checks}

@@ -12,6 +12,7 @@ use lib.Dec.{eqb, ltb}
 use Rattle.gates.specs.Cell.{isRetired}
 use Rattle.runs.specs.Net.{IsGate}
 use Rattle.runs.proofs.Test.{clash, not-true, not-false, and-in, eqb-same, eqb-eq, lt-ltb}
+use Rattle.netlist.specs.Commands.{stageFile}
 use Rattle.netlist.specs.declared.File.{File}
 use Rattle.netlist.specs.declared.File.the-variants.{Stage, Reference}
 use Rattle.netlist.specs.declared.Limits.{Limits}
@@ -24,7 +25,7 @@ use Rattle.verdict.proofs.Words.{index-in, in-index}
 use Rattle.verdict.proofs.Refusals.{InTable, refused-number}
 use Rattle.check_spec.specs.Cases.{accepted, Case, case, Check, first, judge, sweep, unequal}
 use Rattle.check_spec.specs.Lists.{numbers, select, bitOf}
-use Rattle.check_spec.specs.Content.{Content, Files, stageFile, stageIn, referenceIn}
+use Rattle.check_spec.specs.Content.{Content, Files, stageIn, referenceIn}
 use Rattle.check_spec.specs.Rows.{driver, cellIn, netOf, reachesItself}
 use Rattle.check_spec.specs.Words.{spelled, names, IsWord}
 use Rattle.check_spec.specs.Checks.{wrong, incomplete, unobservable, fallIncomplete, fallUnobservable, looped, retired, swept, checks}

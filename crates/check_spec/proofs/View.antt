@@ -16,13 +16,13 @@ use Rattle.runs.specs.Net.{Net}
 use Rattle.netlist.specs.declared.File.the-variants as file
 use Rattle.netlist.specs.declared.Limits.{Limits}
 use Rattle.netlist.specs.Bytes.{operand, operands}
-use Rattle.netlist.specs.Commands.{needed}
+use Rattle.netlist.specs.Commands.{stageFile, needed}
 use Rattle.netlist.specs.Reading.{Places, Reading, refused, readable, readFile}
 use Rattle.netlist.specs.Content as old
 use Rattle.netlist.specs.Content.{Coded, Pair, codedAt, gateOf, pairAt, stageOf, referenceOf, cellOf, holdOf}
 use Rattle.netlist.proofs.Alike.{stage-alike}
 use Rattle.verdict.specs.Nets as nets
-use Rattle.check_spec.specs.Content.{Content, contentAt, contentOf, stageFile, railsOfOutput}
+use Rattle.check_spec.specs.Content.{Content, contentAt, contentOf, railsOfOutput}
 use Rattle.check_spec.specs.Rows.{noGate, driver, cellIn, setIn, netOf}
 
 abbrev pub pairOf : List ℕ → Pair
@@ -36,11 +36,7 @@ referenceView c = record { inputs = c .inputs; gates = c .gates; outputs = map (
 
 -- ---- files
 
--- for now a pipeline reads as a stage, and holds what a stage does
-pub read-plain : (registers : Bool) (most : Limits) (bytes : List ℕ) → readFile (stageFile registers) most bytes ≡ readFile file.Stage most bytes
-read-plain false most bytes = refl
-read-plain true most bytes = stage-alike file.Pipeline tt most bytes
-
+-- for now a pipeline holds what a stage does
 pub content-alike : (registers : Bool) (bytes : List ℕ) (x : Reading) → contentAt (stageFile registers) bytes x ≡ contentAt file.Stage bytes x
 unfolding contentAt needed
 content-alike false bytes x = refl
@@ -49,7 +45,7 @@ content-alike true bytes (readable p) = refl
 
 pub content-plain : (registers : Bool) (most : Limits) (bytes : List ℕ) → contentOf (stageFile registers) most bytes ≡ contentOf file.Stage most bytes
 content-plain registers most bytes =
-    content-alike registers bytes (readFile (stageFile registers) most bytes) ∙ ap (contentAt file.Stage bytes) (read-plain registers most bytes)
+    content-alike registers bytes (readFile (stageFile registers) most bytes) ∙ ap (contentAt file.Stage bytes) (stage-alike registers most bytes)
 
 pub stage-view : (registers : Bool) (bytes : List ℕ) (p : Places) → stageView (contentAt (stageFile registers) bytes (readable p)) ≡ stageOf bytes p
 unfolding contentAt stageOf operands

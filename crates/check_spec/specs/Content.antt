@@ -6,6 +6,7 @@ use Rattle.netlist.specs.declared.File.{File}
 use Rattle.netlist.specs.declared.Limits.{Limits}
 use Rattle.netlist.specs.declared.File.the-variants.{Stage, Pipeline, Reference}
 use Rattle.netlist.specs.Bytes.{operands}
+use Rattle.netlist.specs.Commands.{stageFile}
 use Rattle.netlist.specs.Reading.{Places, Reading, refused, readable, readFile, stageLimits, referenceLimits, partStageLimits, partReferenceLimits}
 use Rattle.netlist.specs.Coded.{Coded, codedAt}
 
@@ -44,27 +45,22 @@ pub record Files : Type 0 where
   pub stageMost : Limits
   pub referenceMost : Limits
 
-abbrev pub stageFile : Bool → File
-stageFile false = Stage
-stageFile true = Pipeline
-
 abbrev pub stageIn : Files → Content
 stageIn f = contentOf (stageFile (f .registers)) (f .stageMost) (f .stage)
 
 abbrev pub referenceIn : Files → Content
 referenceIn f = contentOf Reference (f .referenceMost) (f .reference)
 
--- those of the check, which alone reads registers; those of the other calls; and those of a part that is to be joined with another
-abbrev pub filesWith : Bool → List ℕ → List ℕ → Files
-filesWith registers stage reference =
-    record { stage = stage; reference = reference; registers = registers; stageMost = stageLimits; referenceMost = referenceLimits }
+abbrev pub filesWithin : Bool → Limits → Limits → List ℕ → List ℕ → Files
+filesWithin registers stageMost referenceMost stage reference =
+    record { stage = stage; reference = reference; registers = registers; stageMost = stageMost; referenceMost = referenceMost }
 
+-- those of the check, which alone reads registers; those of the other calls; and those of a part that is to be joined with another
 abbrev pub files : List ℕ → List ℕ → Files
-files = filesWith true
+files = filesWithin true stageLimits referenceLimits
 
 abbrev pub plainFiles : List ℕ → List ℕ → Files
-plainFiles = filesWith false
+plainFiles = filesWithin false stageLimits referenceLimits
 
 abbrev pub partFiles : List ℕ → List ℕ → Files
-partFiles stage reference =
-    record { stage = stage; reference = reference; registers = false; stageMost = partStageLimits; referenceMost = partReferenceLimits }
+partFiles = filesWithin false partStageLimits partReferenceLimits

@@ -18,11 +18,12 @@ use Rattle.runs.specs.Witness.{Wrong, Incomplete, Unobservable}
 use Rattle.runs.specs.FallWitness.{Fall-incomplete, Fall-unobservable}
 use Rattle.verdict.specs.declared.Verdict.{Verdict}
 use Rattle.verdict.specs.declared.WordOrder.{WordOrder}
+use Rattle.netlist.specs.Commands.{stageFile}
 use Rattle.netlist.specs.declared.File.the-variants.{Stage, Reference}
 use Rattle.netlist.specs.Reading.{stageLimits}
 use Rattle.check_spec.specs.Cases.{accepted, Case, Check}
 use Rattle.check_spec.specs.Lists.{bitOf, some, reaches}
-use Rattle.check_spec.specs.Content.{Content, Files, stageFile, stageIn, referenceIn}
+use Rattle.check_spec.specs.Content.{Content, Files, stageIn, referenceIn}
 use Rattle.check_spec.specs.Rows.{driver, cellIn, netOf, risen, fallen, dataOf, allData, allNull, feeding, reachesItself}
 use Rattle.check_spec.specs.Words.{railsFor, spelled, IsWord, answer}
 use Rattle.check_spec.specs.Checks.{rest}

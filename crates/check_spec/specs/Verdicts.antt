@@ -6,6 +6,7 @@ use lib.ListN.{length, getD, take}
 use lib.Dec.{eqb, ltb}
 use Rattle.gates.specs.Cell.{bit}
 use Rattle.runs.specs.Row.{Row, low}
+use Rattle.netlist.specs.Commands.{stageFile}
 use Rattle.netlist.specs.declared.File.{File}
 use Rattle.netlist.specs.declared.Limits.{Limits}
 use Rattle.netlist.specs.declared.File.the-variants.{Stage, Pipeline, Reference}
@@ -14,7 +15,7 @@ use Rattle.verdict.specs.declared.Verdict.{Verdict}
 use Rattle.verdict.specs.declared.WordOrder.{WordOrder}
 use Rattle.check_spec.specs.Cases.{Check, case, judge}
 use Rattle.check_spec.specs.Lists.{numbers}
-use Rattle.check_spec.specs.Content.{Content, Files, stageFile, stageIn, referenceIn, contentOf}
+use Rattle.check_spec.specs.Content.{Content, Files, stageIn, referenceIn, contentOf}
 use Rattle.check_spec.specs.Rows.{netOf, risen}
 use Rattle.check_spec.specs.Checks.{checks, rowChecks}
 

@@ -4,6 +4,7 @@ use Prim.Native.Nat.{ℕ, _+_, _^_, _≤_, _<_}
 use native.Mathlib.Omega.{arith}
 use lib.Pow.{pow-mono}
 use mathlib.Core.Path.{_≡_, refl, sym, ap, ap₂, _∙_, subst, subst₂}
+use mathlib.Core.Bool.{Bool}
 use mathlib.Core.List.{List}
 use lib.ListN.{length, getD, take, drop, length-drop}
 use lib.Seq.{length-take-le, getD-take, getD-drop}
@@ -12,7 +13,7 @@ use Rattle.netlist.specs.declared.File.the-variants as file
 use Rattle.netlist.specs.declared.Sort.the-variants as sort
 use Rattle.netlist.specs.declared.Limits.{Limits}
 use Rattle.netlist.specs.declared.Counts.{Counts}
-use Rattle.netlist.specs.Commands.{IsStage, commandTable, ownCommands, formIn}
+use Rattle.netlist.specs.Commands.{stageFile, commandTable, ownCommands, formIn}
 use Rattle.netlist.specs.declared.Outcome.{Outcome}
 use Rattle.netlist.specs.declared.Outcome.the-variants as outcome
 use Rattle.netlist.specs.Reading.{Places, countsOf, Reading, refused, readable, readFile, Within}
@@ -115,17 +116,20 @@ was-read f most s places c room e placed = go (readFile f most s) refl e placed
         })
 
 -- a stage file that was read, with registers or without, was read as a stage
-module _ (f : File) (is : IsStage f) (most : Limits) (s places : List ℕ) (c : Counts) where
+module _ (registers : Bool) {f : File} (is : f ≡ stageFile registers) (most : Limits) (s places : List ℕ) (c : Counts) where
+  plain : readFile f most s ≡ readFile file.Stage most s
+  plain = rw is (stage-alike registers most s)
+
   pub stage-was-read : most .gates + most .outputs + 2 ^ most .inputs ≤ length places → outcome.Readable c ≡ outcomeOf (readFile f most s) →
       Placed most (readFile f most s) places → WasRead file.Stage most s places c
   unfolding mostCare
-  stage-was-read room e placed = was-read file.Stage most s places c room (rw (← stage-alike f is most s) e) (rw (← stage-alike f is most s) placed)
+  stage-was-read room e placed = was-read file.Stage most s places c room (rw plain at e) (rw plain at placed)
 
   pub holds-stage : (code : List ℕ) → WasRead file.Stage most s places c → stageIn c code ≡ stageOf s (placesIn most c places) → StageLoaded c code →
-      HoldsStage s (readFile f most s) code
+      HoldsStage s (readFile (stageFile registers) most s) code
   unfolding HoldsStage
   holds-stage code w e l =
-      rw (stage-alike f is most s, w .reading)
+      rw (stage-alike registers most s, w .reading)
       (subst (λ (d : Counts). StageLoaded d code × (stageIn d code ≡ stageOf s (placesIn most c places))) (sym (w .counts)) (l, e))
 
 module _ (most : Limits) (s : List ℕ) where

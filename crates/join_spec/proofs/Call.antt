@@ -18,6 +18,7 @@ use Rattle.netlist.specs.Writing.{Item, FileFits}
 use Rattle.netlist.specs.Formed.{StageFormed, ReferenceFormed}
 use Rattle.netlist.proofs.Stages.{stage-fits, stage-formed}
 use Rattle.netlist.proofs.References.{reference-fits, reference-formed}
+use Rattle.netlist.proofs.Alike.{stage-alike}
 use Rattle.verdict.specs.declared.Verdict.{Verdict}
 use Rattle.verdict.specs.declared.WordOrder.{WordOrder}
 use Rattle.verdict.specs.declared.WordOrder.the-variants as order
@@ -35,7 +36,7 @@ use Rattle.check_spec.specs.Demands.{Pass, Judged, BothRead}
 use Rattle.check_spec.specs.Writing.{writeFile, leaving}
 use Rattle.check_spec.proofs.First.{judged}
 use Rattle.check_spec.proofs.Demanded.{demand-3}
-use Rattle.check_spec.proofs.View.{referenceView, read-plain, content-plain}
+use Rattle.check_spec.proofs.View.{referenceView, content-plain}
 use Rattle.check_spec.proofs.Alike.{answer-any, list-is}
 use Rattle.check_spec.proofs.Bridge.{plain-verdict}
 use Rattle.check_spec.proofs.Writing.{itemsOf, stage-bytes, reference-bytes, content-write}
@@ -142,7 +143,7 @@ module _ (s1 r1 s2 r2 : List ℕ) (read1 : BothRead (partFiles s1 r1)) (read2 : 
         record {
           reads = (
             subst (λ (l : List ℕ). Pass (reading file.Pipeline stageLimits l)) (sym (stage-same s1 r1 s2 r2 read1 read2))
-                (read-pass file.Pipeline stageLimits (joins.stageBytes P Q) (old .stage-is .places) (read-plain true stageLimits (joins.stageBytes P Q) ∙ old .stage-is .reads)),
+                (read-pass file.Pipeline stageLimits (joins.stageBytes P Q) (old .stage-is .places) (stage-alike true stageLimits (joins.stageBytes P Q) ∙ old .stage-is .reads)),
             subst (λ (l : List ℕ). Pass (reading file.Reference referenceLimits l)) (sym (reference-same s1 r1 s2 r2 read1 read2))
                 (read-pass file.Reference referenceLimits (joins.referenceBytes P Q) (old .reference-is .places) (old .reference-is .reads)),
           );

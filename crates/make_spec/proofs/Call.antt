@@ -24,6 +24,7 @@ use Rattle.netlist.specs.Writing.{Item, FileFits, pairOperands}
 use Rattle.netlist.specs.Formed.{StageFormed, ReferenceFormed}
 use Rattle.netlist.proofs.Stages.{stage-fits, stage-formed}
 use Rattle.netlist.proofs.References.{reference-formed}
+use Rattle.netlist.proofs.Alike.{stage-alike}
 use Rattle.verdict.specs.declared.Verdict.{Verdict}
 use Rattle.verdict.specs.declared.WordOrder.{WordOrder}
 use Rattle.verdict.specs.declared.WordOrder.the-variants as order
@@ -50,7 +51,7 @@ use Rattle.check_spec.proofs.First.{Each, judged}
 use Rattle.check_spec.proofs.Loops.{some-out}
 use Rattle.check_spec.proofs.Exactly.{EachCheck, judge-passes, other-number}
 use Rattle.check_spec.proofs.Demanded.{demand-3}
-use Rattle.check_spec.proofs.View.{stageView, referenceView, read-plain, content-plain, stage-view, reference-view, net-view}
+use Rattle.check_spec.proofs.View.{stageView, referenceView, content-plain, stage-view, reference-view, net-view}
 use Rattle.check_spec.proofs.Alike.{rails-alike, rise-alike, word-in, care-rises}
 use Rattle.check_spec.proofs.Bridge.{Alike, faultOr, alike-judge, alike-passed, fault-passed, sweep-is, placed-is, plain-verdict}
 use Rattle.check_spec.proofs.Writing.{itemsOf, stage-bytes, content-write}
@@ -206,7 +207,7 @@ module _ (reference bytes : List ℕ) (old : promises.MadeFrom stageLimits refer
   function-is = ap (λ (x : Reading). referenceView (contentAt file.Reference reference x)) (old .function-is .reads) ∙ reference-view reference (old .function-is .places) ∙ old .function-is .content
 
   reads : readFile file.Pipeline stageLimits bytes ≡ readable (old .stage-is .places)
-  reads = read-plain true stageLimits bytes ∙ old .stage-is .reads
+  reads = stage-alike true stageLimits bytes ∙ old .stage-is .reads
 
   view-is : stageView (stageIn f) ≡ made.madeStage (referenceView c)
   view-is =

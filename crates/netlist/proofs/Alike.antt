@@ -2,16 +2,15 @@
 -- Assumes nothing.
 use Prim.Native.Nat.{ℕ, zero, suc, _+_}
 use mathlib.Core.Path.{_≡_, refl}
-use mathlib.Core.Bool.{cond}
+use mathlib.Core.Bool.{Bool, true, false, cond}
 use mathlib.Core.List.{List}
 use lib.ListN.{length}
-use Rattle.netlist.specs.Types.{File, Sort, Form, Limits, Counts, Next, Command, Refused}
+use Rattle.netlist.specs.Types.{Sort, Form, Limits, Counts, Next, Command, Refused}
 use Rattle.netlist.specs.Types.file
 use Rattle.netlist.specs.Types.sort
 use Rattle.netlist.specs.Bytes.{byte}
-use Rattle.netlist.specs.Commands.{IsStage, isSort, commandTable, ownCommands, formOf, width, needed, takeGate, takeSort, takeCommand, nextAt}
+use Rattle.netlist.specs.Commands.{stageFile, isSort, commandTable, ownCommands, formOf, width, needed, takeGate, takeSort, takeCommand, nextAt}
 use Rattle.netlist.specs.Reading.{usedOperands, namelessAt, namelessFrom, Places, noPlaces, countsOf, noted, Reading, finish, onNext, readFrom, readFile}
-use Rattle.netlist.proofs.Encoding.{each-stage}
 
 taken-alike : (most : Limits) (s : List ℕ) (at : ℕ) (before : Counts) (form : Form) (taken : Next) (c : Sort) →
     takeSort file.Pipeline most s at before form taken c ≡ takeSort file.Stage most s at before form taken c
@@ -50,7 +49,7 @@ read-alike (suc fuel) most s at p = rw (next-alike most s at (countsOf p)) (go (
     go later (Refused number place) = refl
     go later (Command c next) = rw (later (next .at) (noted c s at p), finish-alike s at p)
 
-pub stage-alike : (f : File) → IsStage f → (most : Limits) (s : List ℕ) → readFile f most s ≡ readFile file.Stage most s
+pub stage-alike : (registers : Bool) (most : Limits) (s : List ℕ) → readFile (stageFile registers) most s ≡ readFile file.Stage most s
 unfolding readFile
-stage-alike f is most s =
-    each-stage (λ f. readFile f most s ≡ readFile file.Stage most s) (refl, read-alike (suc (length s)) most s 0 noPlaces) f is
+stage-alike true most s = read-alike (suc (length s)) most s 0 noPlaces
+stage-alike false most s = refl

@@ -14,7 +14,7 @@ use Rattle.gates.proofs.Ranges.{kind-known, KindCases, of-cell, no-kind, kind-c
 use Rattle.netlist.specs.Types.{File, Sort, Number, Form}
 use Rattle.netlist.specs.Types.file
 use Rattle.netlist.specs.Types.sort
-use Rattle.netlist.specs.Commands.{asForm, IsStage, commandTable, ownCommands, formIn, formOf, width, isSort, pinsNeeded, needed}
+use Rattle.netlist.specs.Commands.{asForm, commandTable, ownCommands, formIn, formOf, width, isSort, pinsNeeded, needed}
 use Rattle.netlist.specs.Writing.{Has, commandByte, formFor, widthFor, operandCount, roleFor, All}
 
 -- two constructors are never equal: `cc` makes 0 ≡ 1 of it
@@ -39,11 +39,6 @@ pub each-file : (P : File → Type 0) → P file.Stage × P file.Pipeline × P f
 each-file P h file.Stage = h .0
 each-file P h file.Pipeline = h .1
 each-file P h file.Reference = h .2
-
-pub each-stage : (P : File → Type 0) → P file.Stage × P file.Pipeline → (f : File) → IsStage f → P f
-each-stage P h file.Stage s = h .0
-each-stage P h file.Pipeline s = h .1
-each-stage P h file.Reference s = absurd s
 
 -- a row is the only one of its sort in its file
 abbrev Alone : File → Form → Type 0

@@ -1,7 +1,7 @@
 -- The commands of the two files: the table that says what a command byte calls for, and the command that stands at a position or
 -- the refusal, 1 to 6, 18 or 19, with its place.
 use Prim.Native.Nat.{ℕ, zero, suc, _+_, _*_, _^_}
-use mathlib.Core.Bool.{Bool, cond, not, _&&_, _||_}
+use mathlib.Core.Bool.{Bool, true, false, cond, not, _&&_, _||_}
 use mathlib.Core.List.{List, [], _∷_}
 use lib.ListN.{length, getD}
 use lib.Dec.{eqb, leb, ltb}
@@ -52,10 +52,9 @@ ownCommands Pipeline = stageCommands
 ownCommands Reference = (0x11, asForm sort.Gate 2 2 EarlierSignal) ∷ (0x12, asForm sort.Output 1 1 AnySignal) ∷ []
 
 -- a stage file, with registers or without
-abbrev pub IsStage : File → Type 0
-IsStage Stage = Unit {0}
-IsStage Pipeline = Unit {0}
-IsStage Reference = ⊥
+abbrev pub stageFile : Bool → File
+stageFile true = Pipeline
+stageFile false = Stage
 
 unfoldable pub commandTable : File → List (ℕ × Form)
 commandTable f = (0x00, asForm sort.End 1 0 Number) ∷ (0x01, asForm sort.Inputs 2 0 Number) ∷ ownCommands f

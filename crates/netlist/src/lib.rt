@@ -3,13 +3,25 @@ ghost use mathlib.Core.Path.{_≡_};
 ghost use Prim.Native.Nat.{_+_, _<_};
 ghost use lib.ListN.{length};
 ghost use Rattle.netlist.specs.Bytes as bytes;
+ghost use Rattle.netlist.specs.Commands as commands;
 ghost use Rattle.netlist.specs.Reading as reading;
 
-// Which of the two files is read.
+// Which file is read: a stage, a stage with registers, or a reference.
 pub enum File {
     Stage,
     Pipeline,
     Reference,
+}
+
+// A stage file, with registers or without.
+pub fn stage_file(registers: bool) -> File
+    ensures { λ r. ⌜ r ≡ commands.stageFile registers ⌝ }
+{
+    if registers {
+        File::Pipeline
+    } else {
+        File::Stage
+    }
 }
 
 // What a command byte calls for.

@@ -14,6 +14,7 @@ use Rattle.runs.specs.Row.{Row, low, after, tally, times}
 use Rattle.runs.specs.Net.{Net, rails, RiseList, RiseEnd}
 use Rattle.runs.specs.Promise.{Rest, Promise}
 use Rattle.runs.proofs.Test.{clash, eqb-eq}
+use Rattle.netlist.specs.Commands.{stageFile}
 use Rattle.netlist.specs.declared.File.the-variants as file
 use Rattle.netlist.specs.Reading.{Places, Ascending, Reading, refused, readable, readFile}
 use Rattle.netlist.specs.Content.{Stage}
@@ -30,7 +31,7 @@ use Rattle.verdict.proofs.Settling.{settled-bits}
 use Rattle.verdict.proofs.Names.{words-once}
 use Rattle.verdict.proofs.OneWord.{wires-length}
 use Rattle.check_spec.specs.Cases.{accepted}
-use Rattle.check_spec.specs.Content.{Content, Files, stageFile, stageIn}
+use Rattle.check_spec.specs.Content.{Content, Files, stageIn}
 use Rattle.check_spec.specs.Rows.{netOf}
 use Rattle.check_spec.specs.Words.{railsFor, spelled, names, IsWord}
 use Rattle.check_spec.specs.Checks.{rest}

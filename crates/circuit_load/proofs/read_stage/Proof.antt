@@ -8,7 +8,7 @@ use Rattle.circuit_load.proofs.read_stage.Statement.{statement}
 use Rattle.circuit_load.proofs.read_stage.Tie as tie
 
 read-stage-within-requires : tie.Need-read-stage-within-requires
-read-stage-within-requires c κs = (tt, no-more _ stageLimits (c .before .stage-limits .ensures), c .before .before .before .before .pre)
+read-stage-within-requires c κs = (no-more _ stageLimits (c .before .stage-limits .ensures), c .before .before .before .before .pre)
 
 returns : tie.Need-returns
 returns c = stage-read-by _ stageLimits (now (c .before .before .before .before .before .before .before .args .s)) _ _ (c .before .before .before .before .stage-limits .ensures) (c .before .before .read-stage-within .ensures)
