@@ -3,19 +3,20 @@
 use Prim.Native.Nat.{ℕ, zero, suc, _+_, _-_, _*_, _≤_, _<_}
 use native.Mathlib.Omega.{arith}
 use native.Mathlib.Decide.{ℕ-discrete, decLt}
-use mathlib.Core.Path.{_≡_, refl, ap, _∙_}
+use mathlib.Core.Path.{_≡_, refl, sym, ap, _∙_}
 use mathlib.Core.Bool.{Bool, true, false}
 use mathlib.Core.List.{List, [], _∷_}
+use lib.ListN.{length}
 use lib.Dec.{T, leb, leb→le}
 use borrow.Author.Tests.{eq-eqb, ne-eqb}
 use Rattle.gates.specs.Cell.{cells, cellAt, pinCount, kindOf, kindByte, asKind}
 use Rattle.gates.proofs.Every.{every, every-at}
 use Rattle.gates.proofs.Ranges.{kind-known, KindCases, of-cell, no-kind, kind-cases}
-use Rattle.netlist.specs.Types.{File, Sort, Number, Form}
+use Rattle.netlist.specs.Types.{File, Sort, Form}
 use Rattle.netlist.specs.Types.file
 use Rattle.netlist.specs.Types.sort
 use Rattle.netlist.specs.Commands.{asForm, commandTable, ownCommands, formIn, formOf, width, isSort, pinsNeeded, needed}
-use Rattle.netlist.specs.Writing.{Has, commandByte, formFor, widthFor, operandCount, roleFor, All}
+use Rattle.netlist.specs.Writing.{commandByte, formFor, widthFor, operandCount, Has, Item, gate, output, care, sortOf, codesOf, All}
 
 -- two constructors are never equal: `cc` makes 0 ≡ 1 of it
 pub clash : _≡_ {A = ℕ} 0 1 → ⊥
@@ -24,7 +25,7 @@ clash e = omega arith
 -- ---- the command table
 
 -- what holds of each row, and of what stands for no command, holds of the row of a byte
-pub table-all : (P : ℕ → Form → Type 0) → ((b : ℕ) → P b (asForm sort.Unknown 1 0 Number)) →
+pub table-all : (P : ℕ → Form → Type 0) → ((b : ℕ) → P b (asForm sort.Unknown 1 0)) →
     (rs : List (ℕ × Form)) → All (λ r. P (r .0) (r .1)) rs → (b : ℕ) → P b (formIn rs b)
 unfolding formIn
 table-all P u [] h b = u b
@@ -96,23 +97,23 @@ byte-for f b c e own known =
     rw s at (only-byte f b (rw s known))
 
 -- the rows of the sorts that every file has, and of care words where it has them
-pub gate-form : (f : File) → formFor f sort.Gate ≡ asForm sort.Gate 2 (operandCount f sort.Gate) (roleFor f sort.Gate)
+pub gate-form : (f : File) → formFor f sort.Gate ≡ asForm sort.Gate 2 (operandCount f sort.Gate)
 unfolding commandTable ownCommands formIn
-gate-form = each-file (λ f. formFor f sort.Gate ≡ asForm sort.Gate 2 (operandCount f sort.Gate) (roleFor f sort.Gate)) (refl, refl, refl)
+gate-form = each-file (λ f. formFor f sort.Gate ≡ asForm sort.Gate 2 (operandCount f sort.Gate)) (refl, refl, refl)
 
-pub output-form : (f : File) → formFor f sort.Output ≡ asForm sort.Output 1 (operandCount f sort.Output) (roleFor f sort.Output)
+pub output-form : (f : File) → formFor f sort.Output ≡ asForm sort.Output 1 (operandCount f sort.Output)
 unfolding commandTable ownCommands formIn
-output-form = each-file (λ f. formFor f sort.Output ≡ asForm sort.Output 1 (operandCount f sort.Output) (roleFor f sort.Output)) (refl, refl, refl)
+output-form = each-file (λ f. formFor f sort.Output ≡ asForm sort.Output 1 (operandCount f sort.Output)) (refl, refl, refl)
 
-pub inputs-form : (f : File) → formFor f sort.Inputs ≡ asForm sort.Inputs 2 0 Number
+pub inputs-form : (f : File) → formFor f sort.Inputs ≡ asForm sort.Inputs 2 0
 unfolding commandTable ownCommands formIn
 inputs-form f = refl
 
-pub end-form : (f : File) → formFor f sort.End ≡ asForm sort.End 1 0 Number
+pub end-form : (f : File) → formFor f sort.End ≡ asForm sort.End 1 0
 unfolding commandTable ownCommands formIn
 end-form f = refl
 
-pub care-form : (f : File) → Has f sort.Care → formFor f sort.Care ≡ asForm sort.Care 1 1 Number
+pub care-form : (f : File) → Has f sort.Care → formFor f sort.Care ≡ asForm sort.Care 1 1
 unfolding commandTable ownCommands formIn
 care-form file.Stage e = refl
 care-form file.Pipeline e = refl
@@ -134,6 +135,15 @@ module _ (f : File) where
 
   pub width-end : widthFor f sort.End ≡ 1
   width-end = ap width (end-form f)
+
+-- the row of an item
+pub item-form : (f : File) (i : Item) → Has f (sortOf i) → formFor f (sortOf i) ≡ asForm (sortOf i) (1 + length (codesOf i)) (operandCount f (sortOf i))
+item-form f (gate c) h = gate-form f
+item-form f (output vs) h = output-form f
+item-form f (care w) h = care-form f h ∙ ap (asForm sort.Care 1) (sym (ap (λ (x : Form). x .operands) (care-form f h)))
+
+pub item-width : (f : File) (i : Item) → Has f (sortOf i) → widthFor f (sortOf i) ≡ 1 + length (codesOf i) + 2 * operandCount f (sortOf i)
+item-width f i h = ap width (item-form f i h)
 
 -- every command has a byte, none is wider than a gate, and no first operand ends further on
 abbrev Sized : File → Form → Type 0

@@ -8,19 +8,21 @@ use mathlib.Core.Bool.{Bool, true, false}
 use mathlib.Core.List.{List, [], _∷_, _++_, map, map-map}
 use lib.ListN.{length, getD, length-map}
 use lib.Pow.{pow-mono}
+use borrow.Author.Tests.{lt-ltb}
 use Rattle.gates.specs.Cell.{pinCount, kindByte}
 use Rattle.gates.proofs.Ranges.{kind-known}
 use Rattle.netlist.specs.Types.{Limits}
 use Rattle.netlist.specs.Types.file
 use Rattle.netlist.specs.Types.sort
 use Rattle.netlist.specs.Bytes.{operands, absent}
-use Rattle.netlist.specs.Commands.{commandTable, ownCommands, formIn, needed}
-use Rattle.netlist.specs.Reading.{nameable, Places, Ascending, readFile, readable}
+use Rattle.netlist.specs.Commands.{commandTable, ownCommands, formIn, roleOf, needed}
+use Rattle.netlist.specs.Reading.{Nets, names, asked, Places, Ascending, netsOf, readFile, readable}
 use Rattle.netlist.specs.Content.{Coded, codedAt, Gate, Pair, Stage, gateOf, pairAt, stageOf}
-use Rattle.netlist.specs.Writing.{roleFor, Item, gate, output, care, outputsIn, ItemsFit, gatesIn, careIn, placesOf, All, FileFits, codedGate, pairOperands, stageItems, writeStage}
+use Rattle.netlist.specs.Writing.{Item, gate, output, care, outputsIn, ItemsFit, gatesIn, careIn, placesOf, All, EachFrom, FileFits, codedGate, pairOperands, stageItems, writeStage}
 use Rattle.netlist.specs.Formed.{CellFormed, RailsFormed, nets, StageFormed}
 use Rattle.netlist.proofs.Lists.{Bytes, All-every, All-map}
-use Rattle.netlist.proofs.Encoding.{stage-care, KindOfCell, kind-in, kind-needs, kind-some}
+use Rattle.netlist.proofs.Operands.{same-asked, asked-same}
+use Rattle.netlist.proofs.Encoding.{has-gate, has-output, stage-care, KindOfCell, kind-in, kind-needs, kind-some}
 use Rattle.netlist.proofs.Laid.{wiredAt}
 use Rattle.netlist.proofs.ReadBack.{read-write}
 use Rattle.netlist.proofs.Readable.{readable-read, named-pin, named-rail}
@@ -61,35 +63,35 @@ pairOperands-pairOf (a ∷ b ∷ []) e = refl
 pairOperands-pairOf (a ∷ b ∷ c ∷ vs) e = absurd (omega arith)
 
 -- the gates and outputs of a stage file, coded and as a stage has them
-module _ (n g : ℕ) where
-  known-again : (k : ℕ) (cs : List Coded) → GatesFormed file.Stage n g k cs → All (λ c. codedGate (gateOf c) ≡ c) cs
+module _ (N : Nets) where
+  known-again : (k : ℕ) (cs : List Coded) → GatesFormed file.Stage N k cs → All (λ c. codedGate (gateOf c) ≡ c) cs
   known-again k [] h = tt
   known-again k (c ∷ cs) h = (codedGate-gateOf c (h .0 .known), known-again (suc k) cs (h .1))
 
-  wired-again : (vss : List (List ℕ)) → All (OutputFormed file.Stage n g) vss → All (λ vs. pairOperands (pairOf vs) ≡ vs) vss
+  wired-again : (vss : List (List ℕ)) → All (OutputFormed file.Stage N) vss → All (λ vs. pairOperands (pairOf vs) ≡ vs) vss
   unfolding commandTable ownCommands formIn
-  wired-again = All-map (OutputFormed file.Stage n g) (λ vs. pairOperands (pairOf vs) ≡ vs) (λ vs w. pairOperands-pairOf vs (w .whole))
+  wired-again = All-map (OutputFormed file.Stage N) (λ vs. pairOperands (pairOf vs) ≡ vs) (λ vs w. pairOperands-pairOf vs (w .whole))
 
-  codes-gates : (k : ℕ) (cs : List Coded) → GatesFormed file.Stage n g k cs → All (CellFormed (2 * n + g)) (map gateOf cs)
+  codes-gates : (k : ℕ) (cs : List Coded) → GatesFormed file.Stage N k cs → All (CellFormed (2 * N .inputs + N .gates)) (map gateOf cs)
   codes-gates i [] h = tt
   codes-gates i (c ∷ cs) h =
       let k = kind-in (c .code) (h .0 .known) in
-      let formed : CellFormed (2 * n + g) (record { cell = k .cell; hold = k .hold; pins = c .operands }) = record {
+      let formed : CellFormed (2 * N .inputs + N .gates) (record { cell = k .cell; hold = k .hold; pins = c .operands }) = record {
         cell-in = k .cell-in;
         whole = h .0 .whole ∙ ap (needed file.Stage) (k .kind-is) ∙ kind-needs (k .hold) (k .cell) (k .cell-in .0) (k .cell-in .1);
-        pins-in = All-map (λ v. v < nameable (roleFor file.Stage sort.Gate) n g i) (λ v. v < 2 * n + g) (named-pin i n g) (c .operands) (h .0 .named);
+        pins-in = same-asked (asked file.Stage sort.Gate N i) (λ v. v < 2 * N .inputs + N .gates) (named-pin N i) 0 (c .operands) (h .0 .named);
       } in
-      (subst (CellFormed (2 * n + g)) (sym (gate-cell c (h .0 .known))) formed, codes-gates (suc i) cs (h .1))
+      (subst (CellFormed (2 * N .inputs + N .gates)) (sym (gate-cell c (h .0 .known))) formed, codes-gates (suc i) cs (h .1))
 
-  wires-pairs : (vss : List (List ℕ)) → All (OutputFormed file.Stage n g) vss → All (RailsFormed (2 * n + g)) (map pairOf vss)
+  wires-pairs : (vss : List (List ℕ)) → All (OutputFormed file.Stage N) vss → All (RailsFormed (2 * N .inputs + N .gates)) (map pairOf vss)
   unfolding commandTable ownCommands formIn
   wires-pairs [] h = tt
   wires-pairs (vs ∷ vss) h = (go vs (h .0 .whole) (h .0 .named), wires-pairs vss (h .1))
     where
-      go : (vs : List ℕ) → length vs ≡ 2 → All (λ v. v < nameable (roleFor file.Stage sort.Output) n g g) vs → RailsFormed (2 * n + g) (pairOf vs)
+      go : (vs : List ℕ) → length vs ≡ 2 → EachFrom (asked file.Stage sort.Output N (N .gates)) 0 vs → RailsFormed (2 * N .inputs + N .gates) (pairOf vs)
       go [] e a = absurd (omega arith)
       go (x ∷ []) e a = absurd (omega arith)
-      go (x ∷ y ∷ vs) e a = record { rail0-in = named-rail g n g x (a .0); rail1-in = named-rail g n g y (a .1 .0) }
+      go (x ∷ y ∷ vs) e a = record { rail0-in = named-rail N (N .gates) 0 x (a .0); rail1-in = named-rail N (N .gates) 1 y (a .1 .0) }
 
 -- ---- written and read
 
@@ -128,7 +130,7 @@ module _ (most : Limits) (s : List ℕ) (p : Places) (e : readFile file.Stage mo
   unfolding writeStage stageOf
   writeStage-stageOf small before first =
       rw (pairs-view s (p .outputs))
-      (write-back gateOf codedGate pairOf pairOperands file.Stage most s small p e before first (known-again (p .inputs) (length (p .gates)) 0) (wired-again (p .inputs) (length (p .gates))))
+      (write-back gateOf codedGate pairOf pairOperands file.Stage most s small p e before first (known-again (netsOf p) 0) (wired-again (netsOf p)))
 
   -- so are those of a stage without care words, with the gates first
   pub writeStage-no-care : Bytes s → p .care ≡ [] → AllBefore (p .gates) (p .outputs) → s ≡ writeStage (stageOf s p)
@@ -147,9 +149,9 @@ module _ (most : Limits) (s : List ℕ) (p : Places) (e : readFile file.Stage mo
         inputs-in = r .inputs-in;
         gates-in = rw g (r .gates-in);
         outputs-in = rw o (r .outputs-in);
-        gates-formed = rw g (rw (map-map gateOf (codedAt file.Stage s) gs) at (codes-gates (p .inputs) (length gs) 0 (map (codedAt file.Stage s) gs) (formed .0)));
+        gates-formed = rw g (rw (map-map gateOf (codedAt file.Stage s) gs) at (codes-gates (netsOf p) 0 (map (codedAt file.Stage s) gs) (formed .0)));
         care-in = r .care-in;
-        outputs-formed = rw (g, pairs-view s os) (rw (map-map pairOf (wiredAt file.Stage s) os) at (wires-pairs (p .inputs) (length gs) (map (wiredAt file.Stage s) os) (formed .1)));
+        outputs-formed = rw (g, pairs-view s os) (rw (map-map pairOf (wiredAt file.Stage s) os) at (wires-pairs (netsOf p) (map (wiredAt file.Stage s) os) (formed .1)));
       }
 
 -- ---- a well-formed stage, and no other, fits a file
@@ -158,43 +160,49 @@ kind-small : (hold : Bool) (c : ℕ) → c ≤ 27 → kindByte c hold < 256
 kind-small true c h = omega arith
 kind-small false c h = omega arith
 
-module _ (n g : ℕ) (small : 2 * n + g ≤ absent) where
-  cells-fit : (k : ℕ) (xs : List Gate) (rest : List Item) → All (CellFormed (2 * n + g)) xs →
-      ((k : ℕ) → ItemsFit file.Stage n g k rest) → ItemsFit file.Stage n g k (map (λ x. gate (codedGate x)) xs ++ rest)
-  unfolding nameable commandTable ownCommands formIn
+module _ (N : Nets) (small : 2 * N .inputs + N .gates ≤ absent) where
+  cells-fit : (k : ℕ) (xs : List Gate) (rest : List Item) → All (CellFormed (2 * N .inputs + N .gates)) xs →
+      ((k : ℕ) → ItemsFit file.Stage N k rest) → ItemsFit file.Stage N k (map (λ x. gate (codedGate x)) xs ++ rest)
+  unfolding names roleOf
   cells-fit k [] rest h r = r k
   cells-fit k (x ∷ xs) rest h r =
       let inside = h .0 .cell-in in (
         record {
-          code-byte = kind-small (x .hold) (x .cell) (inside .1);
-          known = kind-some (x .hold) (x .cell) (inside .0) (inside .1);
-          whole = h .0 .whole ∙ sym (kind-needs (x .hold) (x .cell) (inside .0) (inside .1));
-          used = All-map (λ v. v < 2 * n + g) (λ v. v < absent) (λ v l. omega arith) (x .pins) (h .0 .pins-in);
-          named = h .0 .pins-in;
+          has = has-gate file.Stage;
+          whole = (
+            kind-small (x .hold) (x .cell) (inside .1),
+            kind-some (x .hold) (x .cell) (inside .0) (inside .1),
+            h .0 .whole ∙ sym (kind-needs (x .hold) (x .cell) (inside .0) (inside .1)),
+            All-map (λ v. v < 2 * N .inputs + N .gates) (λ v. v < absent) (λ v l. omega arith) (x .pins) (h .0 .pins-in),
+          );
+          u16s = All-map (λ v. v < 2 * N .inputs + N .gates) (λ v. v < 65536) (λ v l. omega arith) (x .pins) (h .0 .pins-in);
+          named = asked-same (asked file.Stage sort.Gate N k) (λ v. v < 2 * N .inputs + N .gates) (λ i v. lt-ltb v (2 * N .inputs + N .gates)) 0 (x .pins) (h .0 .pins-in);
         },
         cells-fit (suc k) xs rest (h .1) r,
       )
 
-  rails-fit : (ps : List Pair) → All (RailsFormed (2 * n + g)) ps → (k : ℕ) → ItemsFit file.Stage n g k (map (λ p. output (pairOperands p)) ps)
-  unfolding nameable commandTable ownCommands formIn
+  rails-fit : (ps : List Pair) → All (RailsFormed (2 * N .inputs + N .gates)) ps → (k : ℕ) → ItemsFit file.Stage N k (map (λ p. output (pairOperands p)) ps)
+  unfolding names roleOf commandTable ownCommands formIn
   rails-fit [] h k = tt
   rails-fit (p ∷ ps) h k =
       let a = h .0 .rail0-in in
       let b = h .0 .rail1-in in (
         record {
+          has = has-output file.Stage;
           whole = refl;
           u16s = (omega arith, (omega arith, tt));
-          named = (a, (b, tt));
+          named = (lt-ltb (p .rail0) (2 * N .inputs + N .gates) a, (lt-ltb (p .rail1) (2 * N .inputs + N .gates) b, tt));
         },
         rails-fit ps (h .1) k,
       )
 
 -- care words of at most 16 inputs are u16
-words-fit : (n g m floor : ℕ) (ws : List ℕ) (rest : List Item) → m ≤ 16 → Ascending (2 ^ m) floor ws → ItemsFit file.Stage n g 0 rest → ItemsFit file.Stage n g 0 (map care ws ++ rest)
-words-fit n g m floor [] rest l h r = r
-words-fit n g m floor (w ∷ ws) rest l h r =
+words-fit : (N : Nets) (m floor : ℕ) (ws : List ℕ) (rest : List Item) → m ≤ 16 → Ascending (2 ^ m) floor ws → ItemsFit file.Stage N 0 rest → ItemsFit file.Stage N 0 (map care ws ++ rest)
+unfolding names roleOf
+words-fit N m floor [] rest l h r = r
+words-fit N m floor (w ∷ ws) rest l h r =
     let u16 : w < 65536 = omega (arith, h .1, pow-mono {i = m} {j = 16} l) in
-    (record { has = stage-care; u16 = u16 }, words-fit n g m (w + 1) ws rest l (h .2) r)
+    (record { has = stage-care; whole = tt; u16s = (u16, tt); named = (refl, tt) }, words-fit N m (w + 1) ws rest l (h .2) r)
 
 module _ (most : Limits) (c : Stage) where
   pub stage-fits : most .inputs ≤ 16 → 2 * most .inputs + most .gates ≤ absent → StageFormed most c → FileFits file.Stage most (c .inputs) (stageItems c)
@@ -202,6 +210,7 @@ module _ (most : Limits) (c : Stage) where
       let g : length (gatesIn (stageItems c)) ≡ length (c .gates) = ap length (gatesIn-items gateOf codedGate pairOf pairOperands (c .care) (c .gates) (c .outputs)) ∙ length-map (c .gates) codedGate in
       let o : length (outputsIn (stageItems c)) ≡ length (c .outputs) =
       ap length (outputsIn-items gateOf codedGate pairOf pairOperands (c .care) (c .gates) (c .outputs)) ∙ length-map (c .outputs) pairOperands in
+      let N : Nets = record { inputs = c .inputs; gates = length (c .gates) } in
       let in-reach : nets c ≤ absent = omega (arith, h .inputs-in, h .gates-in) in
       let wired = map (λ g. gate (codedGate g)) (c .gates) ++ map (λ p. output (pairOperands p)) (c .outputs) in
       record {
@@ -210,9 +219,9 @@ module _ (most : Limits) (c : Stage) where
         gates-in = rw g (h .gates-in);
         outputs-in = rw o (h .outputs-in);
         care-in = rw (careIn-items gateOf codedGate pairOf pairOperands (c .care) (c .gates) (c .outputs)) (h .care-in);
-        items-fit = rw g (words-fit (c .inputs) (length (c .gates)) (c .inputs) 0 (c .care) wired (omega (arith, h .inputs-in)) (h .care-in)
-            (cells-fit (c .inputs) (length (c .gates)) in-reach 0 (c .gates) (map (λ p. output (pairOperands p)) (c .outputs)) (h .gates-formed)
-            (rails-fit (c .inputs) (length (c .gates)) in-reach (c .outputs) (h .outputs-formed))));
+        items-fit = rw g (words-fit N (c .inputs) 0 (c .care) wired (omega (arith, h .inputs-in)) (h .care-in)
+            (cells-fit N in-reach 0 (c .gates) (map (λ p. output (pairOperands p)) (c .outputs)) (h .gates-formed)
+            (rails-fit N in-reach (c .outputs) (h .outputs-formed))));
       }
 
   pub fits-stage : FileFits file.Stage most (c .inputs) (stageItems c) → CellsIn (c .gates) → StageFormed most c

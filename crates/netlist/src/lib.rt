@@ -132,13 +132,12 @@ pub enum Role {
     Number,
 }
 
-// A row of the command table: the sort of a command, how many bytes stand before its operands, the command byte included, how many u16
-// operands follow, and what they name.
+// A row of the command table: the sort of a command, how many bytes stand before its operands, the command byte included, and how many u16
+// operands follow.
 pub struct Form {
     pub sort: Sort,
     pub lead: usize,
     pub operands: usize,
-    pub role: Role,
 }
 
 // A place or an index, if there is one.

@@ -10,13 +10,12 @@ use Rattle.netlist.specs.declared.File.{File}
 use Rattle.netlist.specs.declared.File.the-variants as file
 use Rattle.netlist.specs.declared.Sort.{Sort}
 use Rattle.netlist.specs.declared.Sort.the-variants as sort
-use Rattle.netlist.specs.declared.Role.the-variants.{Number}
 use Rattle.netlist.specs.declared.Form.{Form}
 use Rattle.netlist.specs.Commands.{asForm, commandTable, ownCommands, formIn, formOf, width, needed}
 use Rattle.netlist.specs.Writing.{formFor, All}
 use Rattle.netlist.proofs.Encoding.{form-for, gate-form, inputs-form, care-form, width-in}
 
-pub in-no-row : (rs : List (ℕ × Form)) (b : ℕ) → All (λ r. b ≡ r .0 → ⊥) rs → asForm sort.Unknown 1 0 Number ≡ formIn rs b
+pub in-no-row : (rs : List (ℕ × Form)) (b : ℕ) → All (λ r. b ≡ r .0 → ⊥) rs → asForm sort.Unknown 1 0 ≡ formIn rs b
 unfolding formIn
 in-no-row [] b h = refl
 in-no-row (r ∷ rs) b h = rw (ne-eqb b (r .0) (h .0)) (in-no-row rs b (h .1))
