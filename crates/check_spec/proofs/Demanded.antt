@@ -36,7 +36,7 @@ use Rattle.check_spec.proofs.Exactly.{EachCheck, looped-out, swept-in, 
 use Rattle.check_spec.proofs.Shown.{word-kept, wrong-shown, incomplete-shown, unobservable-shown, fall-incomplete-shown, fall-unobservable-shown}
 
 -- some checks name a case that says something, or all pass
-judge-says : (P : Case → Type 0) (cs : List Check) → EachCheck (Each P) cs
+pub judge-says : (P : Case → Type 0) (cs : List Check) → EachCheck (Each P) cs
     → ((c : Case) × P c × (c .fails ≡ true) × (judge cs ≡ c .names)) ⊎ (judge cs ≡ accepted)
 unfolding judge
 judge-says P [] p = inr refl
@@ -54,7 +54,7 @@ pub record OfRuns (n : ℕ) : Type 0 where
   pub not-28 : n < 28
   pub not-read : ¬ (InTable n)
 
-of-runs : (n : ℕ) → some (eqb n) (13 ∷ 14 ∷ 15 ∷ 20 ∷ 21 ∷ []) ≡ true → OfRuns n
+pub of-runs : (n : ℕ) → some (eqb n) (13 ∷ 14 ∷ 15 ∷ 20 ∷ 21 ∷ []) ≡ true → OfRuns n
 of-runs n e = let r = some-out (eqb n) (13 ∷ 14 ∷ 15 ∷ 20 ∷ 21 ∷ []) e in go (r .0) (r .1) (eqb-eq n (r .0) (r .2))
   where
     is : (m : ℕ) → (12 < m) × (m < 28) → ¬ (InTable m) → n ≡ m → OfRuns n
@@ -79,16 +79,16 @@ module _ (order : WordOrder) (f : Files) where
   number v = v .number
 
   -- the checks that sweep the words: those of the fall, and all
-  abbrev falls : List Check
+  abbrev pub falls : List Check
   falls = swept order s 20 1 (s .inputs) (fallIncomplete s) ∷ swept order s 21 1 (length (s .gates)) (fallUnobservable s) ∷ []
 
-  abbrev sweeps : List Check
+  abbrev pub sweeps : List Check
   sweeps =
       swept order s 13 1 (length (s .outputs)) (wrong s r) ∷ swept order s 14 1 (s .inputs) (incomplete s) ∷
       swept order s 15 1 (length (s .gates)) (unobservable s) ∷ falls
 
   -- a verdict of such a number is one of the sweeps, of a loop-free stage
-  swept-verdict : (n : ℕ) → OfRuns n → number (verdictOn order f) ≡ n → BothRead f × LoopFree (netOf s) × (verdictOn order f ≡ judge sweeps)
+  pub swept-verdict : (n : ℕ) → OfRuns n → number (verdictOn order f) ≡ n → BothRead f × LoopFree (netOf s) × (verdictOn order f ≡ judge sweeps)
   unfolding checks looped retired
   swept-verdict n h e =
       let gates = numbers 0 (length (s .gates)) in

@@ -1,3 +1,4 @@
 pub mod Cases
 pub mod Played
 pub mod Runs
+pub mod Named
