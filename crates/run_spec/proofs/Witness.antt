@@ -1,0 +1,164 @@
+-- The witness of two files, whatever they hold: it shows what the verdict says.
+-- Assumes nothing.
+use Prim.Native.Nat.{ℕ, _+_, _*_}
+use native.Mathlib.Omega.{arith}
+use mathlib.Core.Path.{_≡_, refl, sym, ap, ap₂, _∙_}
+use mathlib.Core.Logic.{_⊎_, inl, inr}
+use mathlib.Core.Bool.{Bool, true, false, cond}
+use mathlib.Core.List.{List, [], _∷_, _++_}
+use lib.ListN.{length, drop}
+use lib.Dec.{eqb, ltb}
+use borrow.Author.Tests.{ne-eqb}
+use Rattle.runs.specs.Row.{Row, low, only}
+use Rattle.runs.specs.Net.{Net, railsOfInputs}
+use Rattle.runs.specs.Witness.{ShowsWrong, ShowsIncomplete, ShowsUnobservable}
+use Rattle.runs.specs.FallWitness.{ShowsFallIncomplete, ShowsFallUnobservable, FullCycle}
+use Rattle.runs.proofs.Test.{clash, true?, not-true, eqb-eq, le-ltb}
+use Rattle.verdict.specs.declared.Verdict.{Verdict}
+use Rattle.verdict.specs.declared.WordOrder.{WordOrder}
+use Rattle.check_spec.specs.Lists.{some}
+use Rattle.check_spec.specs.Content.{Content, Files, stageIn, referenceIn}
+use Rattle.check_spec.specs.Rows.{netOf}
+use Rattle.check_spec.specs.Words.{railsFor, spelled}
+use Rattle.check_spec.specs.Verdicts.{verdictOn}
+use Rattle.check_spec.specs.Demands.{BothRead, LoopFree, answerTo}
+use Rattle.run_spec.specs.declared.RunAnswer.{RunAnswer}
+use Rattle.run_spec.specs.Played.{Run, switchings, answering, handedOut}
+use Rattle.run_spec.specs.Witness.{ofRuns, ofFalls, heldBack, witnessRun, wordShown, witnessOn, Shows, WitnessDemand}
+use Rattle.run_spec.proofs.OneWord.{full, shows-wrong, shows-incomplete, shows-unobservable, shows-fall-incomplete, shows-fall-unobservable}
+use Rattle.run_spec.proofs.Named.{named, accepted-free, refused-free, at-13, at-14, at-15, at-20, at-21}
+use Rattle.run_spec.proofs.Numbers.{self, known, held-input, held-gate, held-none, rise-is, fall-is, rise-none, fall-none, run-few}
+
+-- ---- what it shows
+
+module _ (order : WordOrder) (f : Files) (w : ℕ) where
+  abbrev s : Content
+  s = stageIn f
+
+  abbrev v : Verdict
+  v = verdictOn order f
+
+  abbrev run : Run
+  run = witnessRun s v w
+
+  abbrev N : Net
+  N = netOf s
+
+  abbrev c : Row
+  c = railsFor w
+
+  abbrev of : Row
+  of = railsOfInputs N (only (v .at))
+
+  abbrev net : ℕ
+  net = 2 * s .inputs + v .at
+
+  on-0 : v .number ≡ 0 → FullCycle N c (run .rise) (run .fall)
+  unfolding some
+  on-0 e =
+      let x = held-none s v 14 15 (λ q. omega arith) (λ q. omega arith) in
+      let y = held-none s v 20 21 (λ q. omega arith) (λ q. omega arith) in
+      rw (rise-is s v w 0 e low low x y refl, fall-is s v w 0 e low low x y refl) (full s (referenceIn f) (accepted-free order f e .1) w self self)
+
+  module _ (word : named order f ≡ w) where
+    free : (n : ℕ) → v .number ≡ n → some (eqb n) (13 ∷ 14 ∷ 15 ∷ 20 ∷ 21 ∷ []) ≡ true → LoopFree N
+    free n e h = refused-free order f (known (13 ∷ 14 ∷ 15 ∷ 20 ∷ 21 ∷ []) true n h (v .number) e) .1
+
+    on-13 : v .number ≡ 13 → ShowsWrong N c (answerTo f w) (v .at) (run .rise) × (run .fall ≡ [])
+    unfolding some
+    on-13 e =
+        let x = held-none s v 14 15 (λ q. omega arith) (λ q. omega arith) in
+        let t = rw word at (at-13 order f e) in
+        (rw (rise-is s v w 13 e low (heldBack s v 20 21) x refl refl) (shows-wrong s (referenceIn f) (free 13 e refl) w self self (v .at) (t .1)), fall-none s v w 13 e refl)
+
+    on-14 : v .number ≡ 14 → ShowsIncomplete N c (v .at) (run .rise) × (run .fall ≡ [])
+    unfolding some
+    on-14 e =
+        let x = held-input s v 14 15 e in
+        let t = rw word at (at-14 order f e) in
+        (rw (rise-is s v w 14 e of (heldBack s v 20 21) x refl refl) (shows-incomplete s (referenceIn f) (free 14 e refl) w self self (v .at) (t .0) (t .1)), fall-none s v w 14 e refl)
+
+    on-15 : v .number ≡ 15 → ShowsUnobservable N c net (run .rise) × (run .fall ≡ [])
+    unfolding some
+    on-15 e =
+        let x = held-gate s v 14 15 (λ q. omega arith) e in
+        let t = rw word at (at-15 order f e) in
+        (rw (rise-is s v w 15 e (only net) (heldBack s v 20 21) x refl refl) (shows-unobservable s (referenceIn f) (free 15 e refl) w self self (v .at) (t .0) (t .1)), fall-none s v w 15 e refl)
+
+    on-20 : v .number ≡ 20 → ShowsFallIncomplete N c (v .at) (run .rise) (run .fall)
+    unfolding some
+    on-20 e =
+        let x = held-none s v 14 15 (λ q. omega arith) (λ q. omega arith) in
+        let y = held-input s v 20 21 e in
+        let t = rw word at (at-20 order f e) in
+        rw (rise-is s v w 20 e low of x y refl, fall-is s v w 20 e low of x y refl) (shows-fall-incomplete s (referenceIn f) (free 20 e refl) w self self (v .at) (t .0) (t .1))
+
+    on-21 : v .number ≡ 21 → ShowsFallUnobservable N c net (run .rise) (run .fall)
+    unfolding some
+    on-21 e =
+        let x = held-none s v 14 15 (λ q. omega arith) (λ q. omega arith) in
+        let y = held-gate s v 20 21 (λ q. omega arith) e in
+        let t = rw word at (at-21 order f e) in
+        rw (rise-is s v w 21 e low (only net) x y refl, fall-is s v w 21 e low (only net) x y refl)
+        (shows-fall-unobservable s (referenceIn f) (free 21 e refl) w self self (v .at) (t .0) (t .1))
+
+  pub shown : (¬ (v .number ≡ 0) → named order f ≡ w) → Shows f w v run
+  shown word = record {
+    accepted = on-0;
+    wrong = λ e. on-13 (word (λ q. omega arith)) e;
+    incomplete = λ e. on-14 (word (λ q. omega arith)) e;
+    unobservable = λ e. on-15 (word (λ q. omega arith)) e;
+    fall-incomplete = λ e. on-20 (word (λ q. omega arith)) e;
+    fall-unobservable = λ e. on-21 (word (λ q. omega arith)) e;
+  }
+
+-- ---- the call
+
+module _ (order : WordOrder) (f : Files) (asked : ℕ) (before : List ℕ) where
+  abbrev verdict : Verdict
+  verdict = verdictOn order f
+
+  abbrev given : Run
+  given = witnessOn order f asked
+
+  word-is : ¬ (verdict .number ≡ 0) → named order f ≡ wordShown order f asked
+  word-is d = ap (λ (b : Bool). spelled order (stageIn f .inputs) (cond b asked (verdict .word))) (sym (ne-eqb (verdict .number) 0 d))
+
+  both-read : some (eqb (verdict .number)) ofRuns ≡ true → BothRead f
+  unfolding some
+  both-read h = go (true? (eqb (verdict .number) 0))
+    where
+      go : (eqb (verdict .number) 0 ≡ true) ⊎ (eqb (verdict .number) 0 ≡ false) → BothRead f
+      go (inl e) = accepted-free order f (eqb-eq (verdict .number) 0 e) .0
+      go (inr e) = refused-free order f (rw e at h) .0
+
+  -- a number that is not of runs is not of falls
+  no-falls : (n : ℕ) → some (eqb n) ofRuns ≡ false → some (eqb n) ofFalls ≡ false
+  unfolding some
+  no-falls n = go (eqb n 0) (eqb n 13) (eqb n 14) (eqb n 15) (eqb n 20) (eqb n 21)
+    where
+      go : (a b c d e g : Bool) → cond a true (cond b true (cond c true (cond d true (cond e true (cond g true false))))) ≡ false
+          → cond a true (cond e true (cond g true false)) ≡ false
+      go true b c d e g h = h
+      go false true c d e g h = absurd (clash refl h)
+      go false false true d e g h = absurd (clash refl h)
+      go false false false true e g h = absurd (clash refl h)
+      go false false false false e g h = h
+
+  module _ (h : some (eqb (verdict .number)) ofRuns ≡ false) where
+    none : switchings given ≡ []
+    none = ap₂ (λ (a b : List ℕ). a ++ b) (rise-none (stageIn f) verdict (wordShown order f asked) (verdict .number) refl h)
+        (fall-none (stageIn f) verdict (wordShown order f asked) (verdict .number) refl (no-falls (verdict .number) h))
+
+    unchanged : handedOut given before ≡ before
+    unfolding handedOut
+    unchanged = ap (λ (l : List ℕ). cond (ltb (length before) (length l)) before (l ++ drop (length l) before)) none ∙ ap (λ (b : Bool). cond b before before) (le-ltb (length before) 0 (omega arith))
+
+  pub witness-demand : (r : RunAnswer) (after′ : List ℕ) → r ≡ answering verdict given → after′ ≡ handedOut given before → WitnessDemand order f asked before r after′
+  witness-demand r after′ p q = rw (p, q) (record {
+    answer = refl;
+    list = refl;
+    few = run-few (stageIn f) verdict (wordShown order f asked);
+    shows = λ h. (both-read h, shown order f (wordShown order f asked) word-is);
+    nothing = λ d. let h = not-true (some (eqb (verdict .number)) ofRuns) d in (ap length (none h), unchanged h);
+  })
