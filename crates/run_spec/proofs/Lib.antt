@@ -5,3 +5,4 @@ pub mod Named
 pub mod OneWord
 pub mod Numbers
 pub mod Witness
+pub mod Play
