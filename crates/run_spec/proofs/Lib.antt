@@ -6,3 +6,4 @@ pub mod OneWord
 pub mod Numbers
 pub mod Witness
 pub mod Play
+pub mod Refusals
