@@ -7,3 +7,4 @@ pub mod Numbers
 pub mod Witness
 pub mod Play
 pub mod Refusals
+pub mod Keys

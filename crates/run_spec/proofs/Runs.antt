@@ -130,7 +130,7 @@ none-held : (step : Rule) → (λ s. step s ∖ low) ≡ step
 none-held step = fun-ext (λ s. fun-ext (λ k. and-true (step s k)))
 
 module _ (S : System) (key : ℕ → ℕ) where
-  least-up : (r : Row) (l : List ℕ) → LeastFirst (can (dual S)) key (complement r) l → LeastFirst (can S) key r l
+  pub least-up : (r : Row) (l : List ℕ) → LeastFirst (can (dual S)) key (complement r) l → LeastFirst (can S) key r l
   least-up r [] p = λ k. sym (can-dual S r k) ∙ p k
   least-up r (k ∷ l) p = (
     sym (can-dual S r k) ∙ p .0,
