@@ -8,3 +8,4 @@ pub mod Witness
 pub mod Play
 pub mod Refusals
 pub mod Keys
+pub mod Calls
