@@ -37,7 +37,7 @@ use Rattle.check_spec.proofs.Loops.{acyclic}
 use Rattle.check_spec.proofs.OneWord.{rest-settled}
 use Rattle.run_spec.specs.declared.RunAnswer.{RunAnswer}
 use Rattle.run_spec.specs.declared.PlayAnswer.{PlayAnswer}
-use Rattle.run_spec.specs.Played.{Run, riseBy, fallBy, answering, handedOut}
+use Rattle.run_spec.specs.Played.{Run, riseBy, fallBy, switchings, answering, handedOut}
 use Rattle.run_spec.specs.Play.{playChecksOn, playedSteps, playOn, playRow, levelsOf, PlayDemand}
 use Rattle.run_spec.specs.Keys.{keyIn, runByKeys, keyChecksOn, keysOn, KeysFor, RunOfKeys, KeysDemand}
 use Rattle.run_spec.proofs.OneWord.{full, to-rest, to-low}
@@ -178,7 +178,7 @@ abbrev pub noRun : Run
 noRun = record { rise = []; fall = [] }
 
 -- of no run nothing is handed out
-pub none-handed : (list : List ℕ) → handedOut noRun list ≡ list
+pub none-handed : (list : List ℕ) → handedOut [] list ≡ list
 unfolding handedOut
 none-handed list = ap (λ (b : Bool). cond b list list) (le-ltb (length list) 0 (omega arith))
 
@@ -197,7 +197,7 @@ module _ (order : WordOrder) (stage : List ℕ) (name : ℕ) (keys before : List
   unfolding keysOn
   keyed-refused d = ap (λ (b : Bool). cond b (runByKeys (rowStage stage) keys word) noRun) (ne-eqb (verdict .number) 0 d)
 
-  pub keys-demand : (r : RunAnswer) (after′ : List ℕ) → r ≡ answering verdict (keysOn order stage name keys) → after′ ≡ handedOut (keysOn order stage name keys) before
+  pub keys-demand : (r : RunAnswer) (after′ : List ℕ) → r ≡ answering verdict (keysOn order stage name keys) → after′ ≡ handedOut (switchings (keysOn order stage name keys)) before
       → KeysDemand order stage name keys before r after′
   keys-demand r after′ p q =
       let is : r .verdict ≡ verdict = ap (λ (x : RunAnswer). x .verdict) p in
@@ -208,7 +208,7 @@ module _ (order : WordOrder) (stage : List ℕ) (name : ℕ) (keys before : List
         least = rw is (judged (keyChecksOn stage keys));
         unchanged = λ d.
             let no : keysOn order stage name keys ≡ noRun = keyed-refused (λ e. d (is ∙ unrefused stage n keys e .is)) in
-            (q ∙ ap (λ (x : Run). handedOut x before) no ∙ none-handed before, ap (λ (x : RunAnswer). x .count) p ∙ ap (λ (x : Run). answering verdict x .count) no);
+            (q ∙ ap (λ (x : Run). handedOut (switchings x) before) no ∙ none-handed before, ap (λ (x : RunAnswer). x .count) p ∙ ap (λ (x : Run). answering verdict x .count) no);
         run = λ e.
             let z : verdict .number ≡ 0 = zero-of (sym is ∙ e) in
             let u = unrefused stage n keys z in

@@ -24,7 +24,7 @@ use Rattle.check_spec.specs.Verdicts.{verdictOn}
 use Rattle.run_spec.specs.declared.RunAnswer.{RunAnswer}
 use Rattle.run_spec.specs.declared.PlayAnswer.{PlayAnswer}
 use Rattle.run_spec.specs.Played as p
-use Rattle.run_spec.specs.Played.{Run, answering, handedOut}
+use Rattle.run_spec.specs.Played.{switchings, answering, handedOut}
 use Rattle.run_spec.specs.Witness as q
 use Rattle.run_spec.specs.Witness.{witnessOn}
 use Rattle.run_spec.specs.Play as y
@@ -193,12 +193,12 @@ abbrev Computed : Type 0
 Computed =
     (map (λ (x : Case). answering (verdictOn (x .order) (files (x .stage) (x .reference))) (witnessOn (x .order) (files (x .stage) (x .reference)) (x .asked))) cases
     ≡ map (λ (x : Case). x .answer) cases)
-    × (map (λ (x : Case). handedOut (witnessOn (x .order) (files (x .stage) (x .reference)) (x .asked)) (lent (x .room))) cases ≡ map (λ (x : Case). x .list) cases)
+    × (map (λ (x : Case). handedOut (switchings (witnessOn (x .order) (files (x .stage) (x .reference)) (x .asked))) (lent (x .room))) cases ≡ map (λ (x : Case). x .list) cases)
     × (map (λ (x : Judging). playOn FirstHighest (x .stage) (x .name) (x .fall) (x .list) (lent (x .bytes))) judgings ≡ map (λ (x : Judging). x .answer) judgings)
     × (map (λ (x : Judging). playRow FirstHighest (x .stage) (x .name) (x .fall) (x .list) (lent (x .bytes))) judgings ≡ map (λ (x : Judging). x .row) judgings)
     × (map (λ (x : Keyed). answering (judge (keyChecksOn whole (x .keys))) (keysOn FirstHighest whole (x .name) (x .keys))) keyedRuns
     ≡ map (λ (x : Keyed). x .answer) keyedRuns)
-    × (map (λ (x : Keyed). handedOut (keysOn FirstHighest whole (x .name) (x .keys)) (lent (x .room))) keyedRuns ≡ map (λ (x : Keyed). x .list) keyedRuns)
+    × (map (λ (x : Keyed). handedOut (switchings (keysOn FirstHighest whole (x .name) (x .keys))) (lent (x .room))) keyedRuns ≡ map (λ (x : Keyed). x .list) keyedRuns)
 
 computed : Computed
 unfolding wireReference andReference twoWires whole lent cases judgings keyedRuns b.operand b.operands

@@ -150,11 +150,11 @@ module _ (order : WordOrder) (f : Files) (asked : ℕ) (before : List ℕ) where
     none = ap₂ (λ (a b : List ℕ). a ++ b) (rise-none (stageIn f) verdict (wordShown order f asked) (verdict .number) refl h)
         (fall-none (stageIn f) verdict (wordShown order f asked) (verdict .number) refl (no-falls (verdict .number) h))
 
-    unchanged : handedOut given before ≡ before
+    unchanged : handedOut (switchings given) before ≡ before
     unfolding handedOut
     unchanged = ap (λ (l : List ℕ). cond (ltb (length before) (length l)) before (l ++ drop (length l) before)) none ∙ ap (λ (b : Bool). cond b before before) (le-ltb (length before) 0 (omega arith))
 
-  pub witness-demand : (r : RunAnswer) (after′ : List ℕ) → r ≡ answering verdict given → after′ ≡ handedOut given before → WitnessDemand order f asked before r after′
+  pub witness-demand : (r : RunAnswer) (after′ : List ℕ) → r ≡ answering verdict given → after′ ≡ handedOut (switchings given) before → WitnessDemand order f asked before r after′
   witness-demand r after′ p q = rw (p, q) (record {
     answer = refl;
     list = refl;

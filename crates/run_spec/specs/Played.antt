@@ -58,6 +58,6 @@ switchings run = run .rise ++ run .fall
 abbrev pub answering : Verdict → Run → RunAnswer
 answering v run = record { verdict = v; rise = length (run .rise); count = length (switchings run) }
 
--- A list that has room for a run holds it from its start, and what stands behind keeps its value; a list too short is left as it was.
-unfoldable pub handedOut : Run → List ℕ → List ℕ
-handedOut run list = let held = holding (switchings run) list in cond (ltb (length list) (length (switchings run))) list held
+-- A list that has room for some entries holds them from its start, and what stands behind keeps its value; a list too short is left as it was.
+unfoldable pub handedOut : List ℕ → List ℕ → List ℕ
+handedOut entries list = let held = holding entries list in cond (ltb (length list) (length entries)) list held

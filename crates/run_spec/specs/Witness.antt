@@ -68,7 +68,7 @@ pub record Shows (f : Files) (w : ℕ) (v : Verdict) (run : Run) : Type 0 where
 -- numbers nothing is written.
 pub record WitnessDemand (order : WordOrder) (f : Files) (asked : ℕ) (before : List ℕ) (r : RunAnswer) (after′ : List ℕ) : Type 0 where
   pub answer : r ≡ answering (verdictOn order f) (witnessOn order f asked)
-  pub list : after′ ≡ handedOut (witnessOn order f asked) before
+  pub list : after′ ≡ handedOut (switchings (witnessOn order f asked)) before
   pub few : r .count ≤ 2 * nets (netOf (stageIn f))
   pub shows : some (eqb (r .verdict .number)) ofRuns ≡ true → BothRead f × Shows f (wordShown order f asked) (r .verdict) (witnessOn order f asked)
   pub nothing : ¬ (some (eqb (r .verdict .number)) ofRuns ≡ true) → (r .count ≡ 0) × (after′ ≡ before)
