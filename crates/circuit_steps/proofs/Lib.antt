@@ -1,2 +1,5 @@
 pub mod Moves
+pub mod Toggle
 pub mod Fed
+pub mod Rules
+pub mod Local

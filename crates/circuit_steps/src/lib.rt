@@ -4,6 +4,7 @@ ghost use mathlib.Core.Path.{_≡_};
 ghost use Prim.Native.Nat.{_+_, _*_, _<_};
 ghost use lib.ListN.{length, set};
 ghost use Rattle.gates.specs.Table.{GateTable};
+ghost use Rattle.runs.specs.Row.{toggle};
 ghost use Rattle.circuit.specs.Stage.{netCount, StageLoaded};
 ghost use Rattle.circuit.specs.Rows.{RowFor};
 ghost use Rattle.circuit_steps.specs.Moves.{gateMoves, moves, loadedNet, rowIn};
@@ -39,6 +40,15 @@ pub fn may_switch(
         return row[net] != goal[net];
     }
     gate_moves(entries, code, counts, net - first, row)
+}
+
+// A net switches: a low one rises, a high one falls.
+pub fn switch_net(counts: Counts, row: &mut [u8], net: usize)
+    requires { ⌜ RowFor counts (now row) × (net < netCount counts) ⌝ }
+    ensures row { λ _. ⌜ RowFor counts (now (row .exit)) ⌝ }
+    ensures toggled { λ _. ⌜ rowIn counts (now (row .exit)) ≡ toggle (rowIn counts (now (row .entry))) net ⌝ }
+{
+    row[net] = 1 - row[net];
 }
 
 // ---- where to look next
