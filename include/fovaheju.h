@@ -146,6 +146,53 @@ struct fovaheju_written fovaheju_next_stage(const uint8_t *stage, size_t stage_l
 struct fovaheju_written fovaheju_draw_reference(uint32_t seed, size_t inputs, size_t gates,
                                                 uint8_t *reference_out, size_t reference_out_len);
 
+/* A run of a word: the nets that switch, one after the other, first in its rise from all low, then in its fall from where
+   the rise has ended. Net 2i is rail 0 of input i and net 2i + 1 its rail 1; gate k drives net 2n + k, with n inputs. */
+struct fovaheju_run {
+    struct fovaheju_verdict verdict;
+    /* How many switchings the rise has: the fall begins at this place of the list. */
+    uint64_t rise;
+    /* How many both have together. Where the list has fewer places it is left as it was. 552 places have room for every
+       run. */
+    uint64_t count;
+};
+
+/* The witness of a verdict: what fovaheju_check answers, and a run that shows it, at the start of the list. Under 13 it is a
+   full run of the word that is named, at whose end output `at` is not the reference's DATA; under 14 a rise after which all
+   outputs are DATA and input `at` is NULL; under 15 one after which all outputs are DATA and gate `at` is low with its set
+   expression true; under 20 and 21 a full rise and a fall after which all outputs are NULL, but input `at` is DATA or gate
+   `at` high. Where the pair is accepted it is a full rise and a full fall of the word that the name `asked` spells; of a name
+   the lowest bits count, as many as there are inputs. Other numbers have no run: `rise` and `count` are 0. At each step the
+   least net that may switch does; what is named under 14, 15, 20 and 21 is held back. Places past the run keep their
+   values. */
+struct fovaheju_run fovaheju_witness(uint64_t order, const uint8_t *stage, size_t stage_len,
+                                     const uint8_t *reference, size_t reference_len,
+                                     size_t asked, uint16_t *list, size_t list_len);
+
+/* What a list of switchings comes to. */
+struct fovaheju_played {
+    struct fovaheju_verdict verdict;
+    /* How many steps come before the first that the rules bar; all of them where they bar none. */
+    uint64_t steps;
+};
+
+/* Judges a list of switchings of the word that a name spells: its steps are those of a rise up to place `fall`, and from
+   there on those of a fall. A step is barred if its net may not switch then, and the first of the fall also if the rise has
+   not ended. Where the number is 0, the row, one byte for each net, is 1 for each net that is high after the steps before
+   the first that is barred, and 0 for the others. Where it is another, the row is left as it was. The numbers are 0 to 9,
+   18, 19, 12, and 16 for the row's length. */
+struct fovaheju_played fovaheju_play(uint64_t order, const uint8_t *stage, size_t stage_len,
+                                     size_t name, size_t fall, const uint16_t *list, size_t list_len,
+                                     uint8_t *row, size_t row_len);
+
+/* Plays a full rise and a full fall of the word that a name spells, in an order that is chosen by keys: one for each net in
+   the rise, then one for each in the fall. At each step, of the nets that may switch, that with the least key does, the least
+   net of equal keys. Every full rise with every full fall is played by some keys. The run stands at the start of the list;
+   places past it keep their values. The numbers are 0 to 9, 18, 19, 12, and 16 for how many keys there are. */
+struct fovaheju_run fovaheju_run_by_keys(uint64_t order, const uint8_t *stage, size_t stage_len,
+                                         size_t name, const uint32_t *keys, size_t keys_len,
+                                         uint16_t *list, size_t list_len);
+
 #ifdef __cplusplus
 }
 #endif

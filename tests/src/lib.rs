@@ -4,6 +4,7 @@
 pub mod catalogue;
 pub mod circuits;
 pub mod compare;
+pub mod compare_runs;
 pub mod draw;
 pub mod exchange;
 pub mod explore;
@@ -15,6 +16,7 @@ pub mod judge;
 pub mod library;
 pub mod make;
 pub mod next;
+pub mod run;
 pub mod suite;
 pub mod text;
 

@@ -3,3 +3,5 @@ pub mod Toggle
 pub mod Fed
 pub mod Rules
 pub mod Local
+pub mod Goals
+pub mod Stages

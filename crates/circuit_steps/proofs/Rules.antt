@@ -9,7 +9,7 @@ use Rattle.runs.specs.Row.{Row, low, only, toggle, _∖_}
 use Rattle.runs.specs.Net.{Net, nets, rails, IsGate, mayRise, mayFall, riseUp, riseDown, riseStep, fallUp, fallDown, fallStep, railsOfInputs}
 use Rattle.runs.proofs.Test.{clash, true?, not-true, and-left, and-right, same?, eqb-same, eqb-other, lt-ltb, le-ltb}
 use Rattle.runs.proofs.Row.{toggle-same, toggle-other}
-use Rattle.runs.proofs.Net.{Place, rail, gate, none, place, byNet-rail, byNet-gate}
+use Rattle.runs.proofs.Net.{Place, rail, gate, none, place, byNet-rail, byNet-gate, byNet-none, byNet-both}
 use Rattle.check_spec.specs.Lists.{xor}
 use Rattle.circuit_steps.specs.Moves.{gateMoves, moves}
 
@@ -163,10 +163,22 @@ module _ (N : Net) (c : Row) (i g : ℕ) (goal : Row) (low-gate : rails N ≤ g)
 
 -- ---- with nothing held back
 
-module _ (N : Net) (r : Row) (k : ℕ) (h : k < nets N) where
+module _ (N : Net) (r : Row) (k : ℕ) where
   free-case : (a x : Bool) → (a ≡ true → x ≡ true) → xor a x ≡ cond a false x
   free-case true x f = rw (f refl)
   free-case false x f = refl
+
+  to-low : (a : Bool) → xor a false ≡ a
+  to-low true = refl
+  to-low false = refl
+
+  -- a net that does not exist never switches
+  pub moves-none : (goal : Row) → nets N ≤ k → moves N goal r k ≡ false
+  moves-none goal h = byNet-none N k (xor (r k) (goal k)) (gateMoves N r k) h
+
+  cond-false : (b u d : Bool) → u ≡ false → d ≡ false → cond b d u ≡ false
+  cond-false true u d p q = q
+  cond-false false u d p q = p
 
   pub rise-free : (c goal : Row) → ((j : ℕ) → j < rails N → goal j ≡ c j) → RailsBelow N c r → moves N goal r k ≡ riseStep N c r k
   rise-free c goal is below = go (place N k)
@@ -174,11 +186,8 @@ module _ (N : Net) (r : Row) (k : ℕ) (h : k < nets N) where
       go : Place N k → moves N goal r k ≡ riseStep N c r k
       go (rail l) = moves-rail N r k goal l ∙ ap (xor (r k)) (is k l) ∙ free-case (r k) (c k) (below k l) ∙ sym (rise-rail N r k c l)
       go (gate l) = moves-gate N r k goal l ∙ sym (rise-gate N r k c l)
-      go (none l) = absurd (omega arith)
-
-  to-low : (a : Bool) → xor a false ≡ a
-  to-low true = refl
-  to-low false = refl
+      go (none l) =
+          moves-none goal l ∙ sym (cond-false (r k) (riseUp N c r k) (riseDown N r k) (byNet-none N k (c k) (mayRise N r k) l) (byNet-none N k false (mayFall N r k) l))
 
   pub fall-free : (goal : Row) → ((j : ℕ) → j < rails N → goal j ≡ false) → moves N goal r k ≡ fallStep N r k
   fall-free goal is = go (place N k)
@@ -186,7 +195,8 @@ module _ (N : Net) (r : Row) (k : ℕ) (h : k < nets N) where
       go : Place N k → moves N goal r k ≡ fallStep N r k
       go (rail l) = moves-rail N r k goal l ∙ ap (xor (r k)) (is k l) ∙ to-low (r k) ∙ sym (fall-rail N r k l)
       go (gate l) = moves-gate N r k goal l ∙ sym (fall-gate N r k l)
-      go (none l) = absurd (omega arith)
+      go (none l) =
+          moves-none goal l ∙ sym (cond-false (r k) (fallUp N r k) (fallDown N r k) (byNet-none N k false (mayRise N r k) l) (byNet-none N k true (mayFall N r k) l))
 
 -- in a rise no rail rises that is not called for
 pub free-stays : (N : Net) (c r : Row) (k : ℕ) → RailsBelow N c r → riseStep N c r k ≡ true → RailsBelow N c (toggle r k)
@@ -201,3 +211,9 @@ free-stays N c r k below e j h t = go (same? j k)
     go (inl q) =
         let l : k < rails N = subst (λ (x : ℕ). x < rails N) q h in
         subst (λ (x : ℕ). c x ≡ true) (sym q) (risen (r k) (c k) (sym (rise-rail N r k c l) ∙ e))
+
+-- only the rails of a goal count
+pub goal-alike : (N : Net) (goal goal′ : Row) → ((k : ℕ) → k < rails N → goal k ≡ goal′ k) → (r : Row) (k : ℕ) → moves N goal r k ≡ moves N goal′ r k
+goal-alike N goal goal′ same r k =
+    byNet-both (λ x y. x ≡ y) N k (xor (r k) (goal k)) (gateMoves N r k) (xor (r k) (goal′ k)) (gateMoves N r k)
+    (λ h. ap (xor (r k)) (same k h)) (λ x. refl) (λ x. refl)

@@ -93,11 +93,11 @@ module _ (order : WordOrder) (stage : List ℕ) (name fall : ℕ) (list before :
         row = q;
         least = rw is (judged (playChecksOn stage before));
         unchanged = λ d.
-            let n : ¬ (v .number ≡ 0) = λ e. d (is ∙ unrefused stage (nets N) before e .is) in
+            let n : ¬ (v .number ≡ 0) = λ e. d (is ∙ unrefused stage 1 before e .is) in
             (q ∙ played-refused n .1, ap (λ (x : PlayAnswer). x .steps) (p ∙ played-refused n .0));
         steps = λ e.
             let z : v .number ≡ 0 = zero-of (sym is ∙ e) in (
-              unrefused stage (nets N) before z .reads,
+              unrefused stage 1 before z .reads,
               rw (ap (λ (x : PlayAnswer). x .steps) (p ∙ played-accepted z .0)) (steps-barred N (railsFor (spelled order (s .inputs) name)) fall list),
             );
       }
@@ -201,16 +201,15 @@ module _ (order : WordOrder) (stage : List ℕ) (name : ℕ) (keys before : List
       → KeysDemand order stage name keys before r after′
   keys-demand r after′ p q =
       let is : r .verdict ≡ verdict = ap (λ (x : RunAnswer). x .verdict) p in
-      let n = 2 * nets (netOf (rowStage stage)) in
       record {
         answer = p;
         list = q;
         least = rw is (judged (keyChecksOn stage keys));
         unchanged = λ d.
-            let no : keysOn order stage name keys ≡ noRun = keyed-refused (λ e. d (is ∙ unrefused stage n keys e .is)) in
+            let no : keysOn order stage name keys ≡ noRun = keyed-refused (λ e. d (is ∙ unrefused stage 2 keys e .is)) in
             (q ∙ ap (λ (x : Run). handedOut (switchings x) before) no ∙ none-handed before, ap (λ (x : RunAnswer). x .count) p ∙ ap (λ (x : Run). answering verdict x .count) no);
         run = λ e.
             let z : verdict .number ≡ 0 = zero-of (sym is ∙ e) in
-            let u = unrefused stage n keys z in
+            let u = unrefused stage 2 keys z in
             (u .reads, rw (keyed-accepted z) (run-of-keys (rowStage stage) (u .free) (few-nets stage (u .reads)) word keys));
       }

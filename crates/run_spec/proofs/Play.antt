@@ -3,7 +3,7 @@
 use Prim.Native.Nat.{ℕ, zero, suc, _+_, _-_, _≤_, _<_}
 use native.Mathlib.Omega.{arith}
 use native.Mathlib.Decide.{decLt}
-use mathlib.Core.Path.{_≡_, refl, sym, ap, _∙_, subst}
+use mathlib.Core.Path.{_≡_, refl, sym, ap, _∙_, subst, fun-ext}
 use mathlib.Core.Logic.{_⊎_, inl, inr}
 use mathlib.Core.Bool.{Bool, true, false, cond, not, _&&_}
 use mathlib.Core.List.{List, [], _∷_, _++_}
@@ -72,6 +72,38 @@ every-in : (test : ℕ → Bool) (l : List ℕ) → ((x : ℕ) → In x l → te
 unfolding every
 every-in test [] h = refl
 every-in test (y ∷ l) h = rw (h y (inl refl)) (every-in test l (λ x m. h x (inr m)))
+
+module _ (can : Rule) (n : ℕ) (r : Row) where
+  pub none-left : ((k : ℕ) → k < n → can r k ≡ false) → noneLeft can n r ≡ true
+  unfolding noneLeft
+  none-left h = every-in (λ i. not (can r i)) (numbers 0 n) (λ k l. ap not (h k (in-index n k l)))
+
+  pub some-left : (k : ℕ) → k < n → can r k ≡ true → noneLeft can n r ≡ false
+  unfolding noneLeft
+  some-left k h e =
+      not-true (every (λ i. not (can r i)) (numbers 0 n)) (λ q. clash (every-out (λ i. not (can r i)) (numbers 0 n) q k (index-in n k h)) (ap not e))
+
+-- ---- two rules that allow the same
+
+module _ (a b : Rule) (I : Row → Type 0) (same : (r : Row) → I r → (k : ℕ) → a r k ≡ b r k) (stays : (r : Row) (k : ℕ) → I r → a r k ≡ true → I (toggle r k)) where
+  pub allowed-alike : (r : Row) (l : List ℕ) → I r → allowed a r l ≡ allowed b r l
+  unfolding allowed
+  allowed-alike r [] x = refl
+  allowed-alike r (k ∷ l) x = go (a r k) refl (λ e. allowed-alike (toggle r k) l (stays r k x e))
+    where
+      go : (t : Bool) → a r k ≡ t → (a r k ≡ true → allowed a (toggle r k) l ≡ allowed b (toggle r k) l)
+          → cond t (suc (allowed a (toggle r k) l)) 0 ≡ cond (b r k) (suc (allowed b (toggle r k) l)) 0
+      go true e later = ap suc (later e) ∙ sym (ap (λ (t : Bool). cond t (suc (allowed b (toggle r k) l)) 0) (sym (same r x k) ∙ e))
+      go false e later = sym (ap (λ (t : Bool). cond t (suc (allowed b (toggle r k) l)) 0) (sym (same r x k) ∙ e))
+
+  pub left-alike : (n : ℕ) (r : Row) → I r → noneLeft a n r ≡ noneLeft b n r
+  unfolding noneLeft
+  left-alike n r x = ap (λ (f : ℕ → Bool). every (λ k. not (f k)) (numbers 0 n)) (fun-ext (same r x))
+
+  -- what is known of a row is known after every list
+  pub kept-after : (r : Row) (l : List ℕ) → Legal a r l → I r → I (after r l)
+  kept-after r [] p x = x
+  kept-after r (k ∷ l) p x = kept-after (toggle r k) l (p .1) (stays r k x (p .0))
 
 module _ (N : Net) (c : Row) (r : Row) where
   pub left-ended : noneLeft (riseStep N c) (nets N) r ≡ true → Ended (riseStep N c) r

@@ -8,7 +8,7 @@ use mathlib.Core.Bool.{Bool, true, false, cond, not}
 use mathlib.Core.List.{List, [], _∷_, _++_, map, flatMap}
 use lib.ListN.{length}
 use lib.Dec.{eqb}
-use Rattle.runs.specs.Net.{IsGate}
+use Rattle.runs.specs.Net.{nets}
 use Rattle.runs.proofs.Test.{clash, not-false, same?, eqb-eq, eqb-same, eqb-other}
 use Rattle.netlist.specs.declared.File.the-variants.{Stage}
 use Rattle.netlist.specs.Reading.{Places, Reading, refused, readable, readFile, stageLimits}
@@ -24,7 +24,7 @@ use Rattle.check_spec.specs.Verdicts.{refusal, reading, rowStage}
 use Rattle.check_spec.specs.Demands.{Pass, Named, LoopFree}
 use Rattle.check_spec.proofs.First.{Each, each-++, first-pass, judged, named-says, sweep-each, sweep-in, sweep-out}
 use Rattle.check_spec.proofs.Exactly.{reading-number}
-use Rattle.run_spec.specs.Play.{wrongLength}
+use Rattle.run_spec.specs.Play.{wrongLength, openingChecks}
 
 -- the first place of several that fails is named
 places-first : (number file w : ℕ) (fails : ℕ → Bool) (j m g : ℕ) → j ≤ g → g < j + m → ((k : ℕ) → j ≤ k → k < g → fails k ≡ false) → fails g ≡ true
@@ -50,42 +50,45 @@ pass-right : (a b : List Case) → Pass (a ++ b) → Pass b
 pass-right [] b p = p
 pass-right (c ∷ a) b p = pass-right a b (p .1)
 
-module _ (stage : List ℕ) (n : ℕ) (list : List ℕ) where
+module _ (stage : List ℕ) (each : ℕ) (list : List ℕ) where
   abbrev s : Content
   s = rowStage stage
+
+  abbrev n : ℕ
+  n = each * nets (netOf s)
+
+  abbrev checks : List Check
+  checks = openingChecks stage each list
 
   abbrev loops : ℕ → Bool
   loops g = reachesItself (netOf s) (2 * s .inputs + g)
 
-  abbrev pub threeChecks : List Check
-  threeChecks = reading Stage stageLimits stage ∷ looped s ∷ wrongLength n list ∷ []
-
   -- ---- each refusal at its condition
 
-  pub by-reading : (number at : ℕ) → readFile Stage stageLimits stage ≡ refused number at → judge threeChecks ≡ verdict number 1 at 0
+  pub by-reading : (number at : ℕ) → readFile Stage stageLimits stage ≡ refused number at → judge checks ≡ verdict number 1 at 0
   unfolding judge first refusal
   by-reading number at e = ap (λ (x : Reading). first (refusal Stage x) (judge (looped s ∷ wrongLength n list ∷ []))) e
 
   module _ (p : Places) (reads : readFile Stage stageLimits stage ≡ readable p) where
-    past-reading : judge threeChecks ≡ judge (looped s ∷ wrongLength n list ∷ [])
+    past-reading : judge checks ≡ judge (looped s ∷ wrongLength n list ∷ [])
     unfolding judge first refusal
     past-reading = ap (λ (x : Reading). first (refusal Stage x) (judge (looped s ∷ wrongLength n list ∷ []))) reads
 
-    pub by-12 : (g : ℕ) → g < length (s .gates) → ((k : ℕ) → k < g → loops k ≡ false) → loops g ≡ true → judge threeChecks ≡ verdict 12 1 g 0
+    pub by-12 : (g : ℕ) → g < length (s .gates) → ((k : ℕ) → k < g → loops k ≡ false) → loops g ≡ true → judge checks ≡ verdict 12 1 g 0
     unfolding judge looped sweep flatMap
     by-12 g h none e = past-reading ∙ places-first 12 1 0 loops 0 (length (s .gates)) g (omega arith) (omega arith) (λ k a b. none k b) e [] (judge (wrongLength n list ∷ []))
 
     module _ (free : (k : ℕ) → k < length (s .gates) → loops k ≡ false) where
-      past-12 : judge threeChecks ≡ judge (wrongLength n list ∷ [])
+      past-12 : judge checks ≡ judge (wrongLength n list ∷ [])
       unfolding judge looped
       past-12 = past-reading ∙ first-pass (looped s) (judge (wrongLength n list ∷ []))
           (sweep-in 12 1 (numbers 0 (length (s .gates))) (λ w. loops) (0 ∷ []) (λ w x i y. free i (in-index (length (s .gates)) i y)))
 
-      pub by-16 : ¬ (length list ≡ n) → judge threeChecks ≡ verdict 16 3 (length list) 0
+      pub by-16 : ¬ (length list ≡ n) → judge checks ≡ verdict 16 3 (length list) 0
       unfolding judge first
       by-16 d = past-12 ∙ ap (λ (b : Bool). cond (not b) (verdict 16 3 (length list) 0) accepted) (eqb-other (length list) n d)
 
-      pub by-none : length list ≡ n → judge threeChecks ≡ accepted
+      pub by-none : length list ≡ n → judge checks ≡ accepted
       unfolding judge first
       by-none e =
           let z : eqb (length list) n ≡ true = rw e (eqb-same n) in
@@ -94,25 +97,25 @@ module _ (stage : List ℕ) (n : ℕ) (list : List ℕ) where
   -- ---- where there is none
 
   pub record Unrefused : Type 0 where
-    pub is : judge threeChecks ≡ accepted
+    pub is : judge checks ≡ accepted
     pub reads : Pass (reading Stage stageLimits stage)
     pub free : LoopFree (netOf s)
     pub fits : length list ≡ n
 
-  numbered : Each (λ c. ¬ (c .names .number ≡ 0)) (flatMap (λ c. c) threeChecks)
+  numbered : Each (λ c. ¬ (c .names .number ≡ 0)) (flatMap (λ c. c) checks)
   unfolding looped flatMap
   numbered =
       each-++ (λ c. ¬ (c .names .number ≡ 0)) (reading Stage stageLimits stage) _ (reading-number 0 (λ t. omega (arith, t .0)) Stage stageLimits stage)
       (each-++ (λ c. ¬ (c .names .number ≡ 0)) (looped s) _ (sweep-each 12 1 (numbers 0 (length (s .gates))) (λ w. loops) (λ c. ¬ (c .names .number ≡ 0)) (0 ∷ []) (λ w x i y q. omega arith))
       ((λ q. omega arith), tt))
 
-  pub unrefused : judge threeChecks .number ≡ 0 → Unrefused
+  pub unrefused : judge checks .number ≡ 0 → Unrefused
   unfolding flatMap looped
-  unrefused e = go (judged threeChecks)
+  unrefused e = go (judged checks)
     where
-      go : Named (flatMap (λ c. c) threeChecks) (judge threeChecks) ⊎ Pass (flatMap (λ c. c) threeChecks) × (judge threeChecks ≡ accepted) → Unrefused
+      go : Named (flatMap (λ c. c) checks) (judge checks) ⊎ Pass (flatMap (λ c. c) checks) × (judge checks ≡ accepted) → Unrefused
       go (inl x) =
-          let y = named-says (λ c. ¬ (c .names .number ≡ 0)) (flatMap (λ c. c) threeChecks) (judge threeChecks) numbered x in
+          let y = named-says (λ c. ¬ (c .names .number ≡ 0)) (flatMap (λ c. c) checks) (judge checks) numbered x in
           absurd (y .1 (sym (ap (λ (v : Verdict). v .number) (y .3)) ∙ e))
       go (inr (p, is)) =
           let later = pass-right (reading Stage stageLimits stage) _ p in

@@ -146,13 +146,22 @@ module _ (order : WordOrder) (f : Files) (asked : ℕ) (before : List ℕ) where
       go false false false false e g h = h
 
   module _ (h : some (eqb (verdict .number)) ofRuns ≡ false) where
+    rise-empty : given .rise ≡ []
+    rise-empty = rise-none (stageIn f) verdict (wordShown order f asked) (verdict .number) refl h
+
+    fall-empty : given .fall ≡ []
+    fall-empty = fall-none (stageIn f) verdict (wordShown order f asked) (verdict .number) refl (no-falls (verdict .number) h)
+
     none : switchings given ≡ []
-    none = ap₂ (λ (a b : List ℕ). a ++ b) (rise-none (stageIn f) verdict (wordShown order f asked) (verdict .number) refl h)
-        (fall-none (stageIn f) verdict (wordShown order f asked) (verdict .number) refl (no-falls (verdict .number) h))
+    none = ap₂ (λ (a b : List ℕ). a ++ b) rise-empty fall-empty
 
     unchanged : handedOut (switchings given) before ≡ before
     unfolding handedOut
     unchanged = ap (λ (l : List ℕ). cond (ltb (length before) (length l)) before (l ++ drop (length l) before)) none ∙ ap (λ (b : Bool). cond b before before) (le-ltb (length before) 0 (omega arith))
+
+    -- of the other numbers the answer has no run, and the list stays
+    pub nothing-given : (answering verdict given ≡ record { verdict = verdict; rise = 0; count = 0 }) × (handedOut (switchings given) before ≡ before)
+    nothing-given = (ap₂ {C = RunAnswer} (λ (a b : List ℕ). record { verdict = verdict; rise = length a; count = length b }) rise-empty none, unchanged)
 
   pub witness-demand : (r : RunAnswer) (after′ : List ℕ) → r ≡ answering verdict given → after′ ≡ handedOut (switchings given) before → WitnessDemand order f asked before r after′
   witness-demand r after′ p q = rw (p, q) (record {

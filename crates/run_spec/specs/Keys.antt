@@ -16,12 +16,12 @@ use Rattle.check_spec.specs.Cases.{Check, judge, accepted}
 use Rattle.check_spec.specs.Content.{Content}
 use Rattle.check_spec.specs.Rows.{netOf}
 use Rattle.check_spec.specs.Words.{railsFor, spelled}
-use Rattle.check_spec.specs.Checks.{rest, looped}
+use Rattle.check_spec.specs.Checks.{rest}
 use Rattle.check_spec.specs.Verdicts.{reading, rowStage}
 use Rattle.check_spec.specs.Demands.{Pass, Judged}
 use Rattle.run_spec.specs.declared.RunAnswer.{RunAnswer}
 use Rattle.run_spec.specs.Played.{Run, riseBy, fallBy, switchings, answering, handedOut}
-use Rattle.run_spec.specs.Play.{wrongLength}
+use Rattle.run_spec.specs.Play.{openingChecks}
 
 -- the key of a net, in a list of keys
 abbrev pub keyIn : List ℕ → ℕ → ℕ
@@ -34,9 +34,9 @@ runByKeys s keys w =
     let fall = fallBy (keyIn (drop (nets (netOf s)) keys)) (netOf s) (after low rise) low in
     record { rise = rise; fall = fall }
 
--- reading, then 12, then 16 of a list with two keys for each net
+-- the refusals, of a list with two keys for each net
 abbrev pub keyChecksOn : List ℕ → List ℕ → List Check
-keyChecksOn stage keys = reading Stage stageLimits stage ∷ looped (rowStage stage) ∷ wrongLength (2 * nets (netOf (rowStage stage))) keys ∷ []
+keyChecksOn stage keys = openingChecks stage 2 keys
 
 -- the run of the word of a name; a refusal has none
 unfoldable pub keysOn : WordOrder → List ℕ → ℕ → List ℕ → Run

@@ -1,5 +1,5 @@
 -- A list of switchings, judged: the first step that the rules bar, and the row before it.
-use Prim.Native.Nat.{ℕ, suc, _+_, _≤_, _<_}
+use Prim.Native.Nat.{ℕ, suc, _+_, _*_, _≤_, _<_}
 use mathlib.Core.Path.{_≡_}
 use mathlib.Core.Bool.{Bool, cond, not, _&&_}
 use mathlib.Core.List.{List, [], _∷_, map}
@@ -49,9 +49,13 @@ stepsOf N c fall list =
 abbrev pub wrongLength : ℕ → List ℕ → Check
 wrongLength n list = case 16 3 (length list) 0 (not (eqb (length list) n)) ∷ []
 
--- reading, then 12, then 16 of a row with a byte for each net
+-- the refusals of a call that takes a stage and a list with some entries for each net: reading, then 12, then 16
+abbrev pub openingChecks : List ℕ → ℕ → List ℕ → List Check
+openingChecks stage each list = reading Stage stageLimits stage ∷ looped (rowStage stage) ∷ wrongLength (each * nets (netOf (rowStage stage))) list ∷ []
+
+-- here of a row with a byte for each net
 abbrev pub playChecksOn : List ℕ → List ℕ → List Check
-playChecksOn stage row = reading Stage stageLimits stage ∷ looped (rowStage stage) ∷ wrongLength (nets (netOf (rowStage stage))) row ∷ []
+playChecksOn stage row = openingChecks stage 1 row
 
 -- the steps of a list that the rules allow to the word of a name
 abbrev pub playedSteps : WordOrder → List ℕ → ℕ → ℕ → List ℕ → ℕ

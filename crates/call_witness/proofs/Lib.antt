@@ -1,0 +1,5 @@
+pub mod Steps
+pub mod Goals
+pub mod Runs
+pub mod Files
+pub mod Numbers
