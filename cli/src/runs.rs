@@ -29,8 +29,8 @@ pub struct Played {
 
 /// The calls that hand out and judge runs. Words are given by their names.
 pub trait Calls {
-    /// The run that shows what a verdict says: under 13, 14 and 15 a rise of the named word, under 20 and 21 a full rise and some of the fall; of an accepted
-    /// stage a full rise and fall of the word that is asked for. At each step the least net that may switch does. Other verdicts have none.
+    /// The run that shows the verdict on the pair: under 13, 14 and 15 a rise of the named word, under 20 and 21 a full rise and some of the fall; of an
+    /// accepted stage a full rise and fall of the word that is asked for. At each step the least net that may switch does. Other verdicts have none.
     fn witness(&self, verdict: Verdict, asked: u64) -> Option<Run>;
     /// The first step of a list that the rules bar, and the levels before it.
     fn play(&self, word: u64, run: &Run) -> Option<Played>;
@@ -38,9 +38,18 @@ pub trait Calls {
     fn by_keys(&self, word: u64, keys: &[u32]) -> Option<Run>;
 }
 
-/// The calls on a stage file that reads and has no loop.
-pub fn calls<'a>(file: &'a [u8], stage: &'a Stage, order: Order) -> impl Calls + 'a {
-    Settled::new(file, stage, order)
+/// A stage file that reads and has no loop, what it holds, and its reference.
+#[derive(Clone, Copy)]
+pub struct Files<'a> {
+    pub stage_file: &'a [u8],
+    pub stage: &'a Stage,
+    pub reference_file: &'a [u8],
+    pub order: Order,
+}
+
+/// The calls on a pair. Where the library has them by itself, this is the one place to take them.
+pub fn calls(files: Files<'_>) -> impl Calls + '_ {
+    Settled::new(files)
 }
 
 /// Whether a list is legal from its first step to its last, and the levels after it.

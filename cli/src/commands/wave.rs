@@ -8,7 +8,7 @@ use crate::explain::{word_text, Pair, Question};
 use crate::failure::{Failure, Outcome};
 use crate::netlist::Stage;
 use crate::output::{put, tell, write_files};
-use crate::runs::{calls, shortened, Calls, Run};
+use crate::runs::{calls, shortened, Calls, Files, Run};
 use crate::wave::Wave;
 use crate::Found;
 use clap::{value_parser, Arg, ArgMatches, Command};
@@ -56,11 +56,12 @@ fn asked(matches: &ArgMatches, verdict: Verdict, stage: &Stage, calls: &impl Cal
         return Err(Failure::says(format!("--word {word}: words of {} inputs are 0 to {}", stage.inputs, (1u64 << stage.inputs) - 1)));
     }
     let named = word.unwrap_or(if matches!(verdict.number, 13 | 14 | 15 | 20 | 21) { verdict.word } else { 0 });
-    let order = matches.get_one::<u32>("seed").map(|&seed| keys(seed, 2 * stage.nets()));
-    let run = match (order, word) {
-        (Some(keys), _) => calls.by_keys(named, &keys).map(|run| (run, named, false)),
-        (None, Some(word)) => calls.witness(Verdict::ACCEPTED, word).map(|run| (run, word, false)),
-        (None, None) => calls.witness(verdict, 0).map(|run| {
+    // A word that is asked for without an order has the least net first, as the run of a verdict has.
+    let least = || (0..2).flat_map(|_| 0..stage.nets() as u32).collect();
+    let seed = matches.get_one::<u32>("seed").map(|&seed| keys(seed, 2 * stage.nets()));
+    let run = match seed.or(word.map(|_| least())) {
+        Some(keys) => calls.by_keys(named, &keys).map(|run| (run, named, false)),
+        None => calls.witness(verdict, 0).map(|run| {
             let run = if matches.get_flag("short") { shortened(calls, stage, verdict, &run) } else { run };
             (run, named, !verdict.accepts())
         }),
@@ -75,7 +76,8 @@ pub fn run(matches: &ArgMatches) -> Outcome<Found> {
     let question = Question::Check(Pair::whole(&given, &reference));
     let stage = given.stage();
     // A stage that reads and has no loop has runs, whatever else is said of it.
-    let shown = if given.read_verdict().accepts() { asked(matches, verdict, &stage, &calls(given.bytes(), &stage, order))? } else { None };
+    let files = Files { stage_file: given.bytes(), stage: &stage, reference_file: &reference.bytes, order };
+    let shown = if given.read_verdict().accepts() { asked(matches, verdict, &stage, &calls(files))? } else { None };
     if let Some((run, word, broken)) = &shown {
         let values = order.values(*word, stage.inputs);
         let title = format!("{verdict}, {}: word {}", question.title(verdict.number), word_text(*word, &values, order, &stage));

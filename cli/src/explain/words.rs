@@ -4,7 +4,7 @@ use super::{wrapped, Order, Pair, Text, INDENT, WIDTH};
 use crate::levels::{Levels, Odd};
 use crate::names::{buses, values_text};
 use crate::netlist::{many, relaxed, set_expression, Reference, Stage};
-use crate::runs::{calls, shortened, Calls};
+use crate::runs::{calls, shortened, Calls, Files};
 use crate::situation::{data, pair_state, Behind, End, Situation, PLACES};
 use fovaheju::Verdict;
 
@@ -33,7 +33,7 @@ const GATES: usize = 6;
 
 /// The run that breaks the promise, without what is not needed for it.
 fn say_run(text: &mut Text, verdict: Verdict, pair: Pair, order: Order, stage: &Stage) {
-    let calls = calls(pair.stage.bytes(), stage, order);
+    let calls = calls(Files { stage_file: pair.stage.bytes(), stage, reference_file: &pair.reference.bytes, order });
     let Some(run) = calls.witness(verdict, 0).filter(|_| text.tries > 0) else { return };
     let short = shortened(&calls, stage, verdict, &run);
     let falls = matches!(verdict.number, 20 | 21);

@@ -1,7 +1,7 @@
 //! The calls on runs, made of the settled-row call until the library hands them out by itself. Whether a set expression holds is asked of that call, on a
 //! stage of one gate whose pins are rails 1 of its inputs; so no gate rule of ours stands here but the fall of a hold.
 
-use super::{Calls, Played, Run};
+use super::{Calls, Files, Played, Run};
 use crate::explain::Order;
 use crate::levels::Row;
 use crate::netlist::{gate_command, relaxed, Stage};
@@ -22,7 +22,7 @@ enum Way {
 }
 
 impl<'a> Settled<'a> {
-    pub fn new(_file: &'a [u8], stage: &'a Stage, order: Order) -> Settled<'a> {
+    pub fn new(Files { stage, order, .. }: Files<'a>) -> Settled<'a> {
         let set = stage.gates.iter().map(|gate| patterns(gate.kind, gate.pins.len())).collect();
         Settled { stage, order, set }
     }
