@@ -100,6 +100,14 @@ pub fn print_verdict(v: Verdict) {
     print_next(v.word);
 }
 
+// The end of what a program prints. A program has no exit status, so what standard output does not take, as on a full disk, is said on standard
+// error.
+pub fn end_line() {
+    if !io::write_all(STDOUT_FILENO, b"\n") {
+        io::write_all(STDERR_FILENO, b"standard output could not be written\n");
+    }
+}
+
 // A number, some bytes, another number and some bytes: the line of a word in a report.
 fn print_line(word: u64, high: u64, between: &[u8], after: &[u8]) {
     io::print_decimal(STDOUT_FILENO, word);
