@@ -2,9 +2,8 @@
 //! likeliest and shows some, `mend` tries every single one: both take them from here. Single changes are another kind, another hold, a pin or a rail of
 //! an output on another net; where more has to change at once, only some ways are tried.
 
-use crate::explain::Order;
-use crate::explain::DEPTH;
-use crate::netlist::{commands, kind_name, pin_count, relaxed, Form, Reference, Side, Stage, ABSENT};
+use crate::explain::{Order, DEPTH};
+use crate::netlist::{commands, gate_command, kind_name, pin_count, relaxed, two, Form, Reference, Side, Stage, ABSENT};
 use crate::situation::{once, Situation};
 use fovaheju::Verdict;
 
@@ -327,7 +326,7 @@ impl<'a> Base<'a> {
     fn gate_as(&self, gate: usize, kind: u8, pins: &[usize]) -> Change {
         let names: Vec<String> = pins.iter().map(|&net| self.stage.net_name(net)).collect();
         let says = format!("{} = {}({})", self.stage.gate_name(gate), kind_name(kind).unwrap_or_default(), names.join(", "));
-        Change::several(self.with(self.stage.gates[gate].at, &gate_bytes(kind, pins)), says)
+        Change::several(self.with(self.stage.gates[gate].at, &gate_command(kind, pins)), says)
     }
 
     /// A gate on two input rails in the form that waits for both inputs.
@@ -471,7 +470,7 @@ impl<'a> Base<'a> {
         }
         let new = rails.map(|rail| add(all_of(come.len() + 1), &[&[rail][..], &come].concat()));
         let mut file = self.with(self.rails_at(output)?, &two(new));
-        let gates: Vec<u8> = added.iter().flat_map(|(kind, pins)| gate_bytes(*kind, pins)).collect();
+        let gates: Vec<u8> = added.iter().flat_map(|(kind, pins)| gate_command(*kind, pins)).collect();
         let end = file.len().checked_sub(1)?;
         file.splice(end..end, gates);
         let name = |net: usize| match net.checked_sub(self.stage.nets()) {
@@ -552,12 +551,6 @@ impl<'a> Base<'a> {
     }
 }
 
-/// The command of a gate.
-fn gate_bytes(kind: u8, pins: &[usize]) -> Vec<u8> {
-    let operands = (0..4).flat_map(|pin| (pins.get(pin).copied().unwrap_or(ABSENT) as u16).to_le_bytes());
-    [2, kind].into_iter().chain(operands).collect()
-}
-
 /// The cells with so many pins, but the retired one.
 fn cells_of(count: usize) -> impl Iterator<Item = u8> {
     (1..=27).filter(move |&cell| cell != RETIRED && pin_count(cell) == Some(count))
@@ -579,9 +572,4 @@ fn orders(pins: &[usize]) -> Vec<Vec<usize>> {
         orders(&rest).into_iter().map(move |rest| [vec![pin], rest].concat())
     };
     (0..pins.len()).flat_map(first).collect()
-}
-
-/// Two operands as bytes.
-fn two(nets: [usize; 2]) -> Vec<u8> {
-    nets.iter().flat_map(|&net| (net as u16).to_le_bytes()).collect()
 }

@@ -5,6 +5,7 @@ mod check;
 mod completion;
 mod draw;
 mod explain;
+mod from;
 mod join;
 mod load;
 mod make;
@@ -13,11 +14,13 @@ mod next;
 mod report;
 mod row;
 mod text;
+mod to;
 
 use crate::explain::{explain as explain_verdict, sentence, Order, Question, TRIES};
 use crate::failure::{Failure, Outcome};
 use crate::given::Given;
 use crate::input::{one_standard_input, read, Input};
+use crate::names::NamesFile;
 use crate::output::{on_terminal, put, Paint};
 use crate::Found;
 use clap::{value_parser, Arg, ArgAction, ArgMatches, Command};
@@ -29,7 +32,7 @@ use std::path::{Path, PathBuf};
 type Row = (&'static str, fn() -> Command, fn(&ArgMatches) -> Outcome<Found>);
 
 /// In the order of the help.
-const ROWS: [Row; 13] = [
+const ROWS: [Row; 15] = [
     ("check", check::command, check::run),
     ("explain", explain::command, explain::run),
     ("draw", draw::command, draw::run),
@@ -37,6 +40,8 @@ const ROWS: [Row; 13] = [
     ("batch", batch::command, batch::run),
     ("report", report::command, report::run),
     ("row", row::command, row::run),
+    ("from", from::command, from::run),
+    ("to", to::command, to::run),
     ("join", join::command, join::run),
     ("make", make::command, make::run),
     ("text", text::command, text::run),
@@ -106,6 +111,11 @@ fn lowest() -> Arg {
     flag("lowest", "Name words with input 0 as the lowest bit, as stored verdicts of before do")
 }
 
+fn names_arg() -> Arg {
+    let names = Arg::new("names").long("names").value_name("NAMES").value_parser(value_parser!(PathBuf));
+    names.help("What inputs and outputs are called: two lines of names, as 'ncl from' writes them")
+}
+
 fn quiet() -> Arg {
     silent().conflicts_with("json")
 }
@@ -135,11 +145,33 @@ fn given(matches: &ArgMatches) -> Outcome<Given> {
     Given::read(path(matches, "stage"), matches.get_flag("text"))
 }
 
+/// The same by the names of a names file, where one is given.
+fn called(matches: &ArgMatches) -> Outcome<Given> {
+    let names = names(matches)?;
+    let given = given(matches)?;
+    match names {
+        Some(names) => given.called(names),
+        None => Ok(given),
+    }
+}
+
+/// The names file that is given.
+fn names(matches: &ArgMatches) -> Outcome<Option<NamesFile>> {
+    matches.get_one::<PathBuf>("names").map(|path| NamesFile::read(path)).transpose()
+}
+
 /// The same with its reference.
 fn given_pair(matches: &ArgMatches) -> Outcome<(Given, Input)> {
     let reference = path(matches, "reference");
     one_standard_input(&[path(matches, "stage"), reference])?;
     Ok((given(matches)?, read(reference)?))
+}
+
+/// The same by the names of a names file, where one is given.
+fn called_pair(matches: &ArgMatches) -> Outcome<(Given, Input)> {
+    let reference = path(matches, "reference");
+    one_standard_input(&[path(matches, "stage"), reference])?;
+    Ok((called(matches)?, read(reference)?))
 }
 
 /// Inputs that are given as signs, input 0 first.

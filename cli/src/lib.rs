@@ -4,6 +4,7 @@
 pub mod batch;
 pub mod changes;
 mod commands;
+pub mod convert;
 pub mod draw;
 pub mod explain;
 pub mod failure;
@@ -12,6 +13,7 @@ pub mod given;
 pub mod input;
 pub mod levels;
 pub mod mend;
+pub mod names;
 pub mod netlist;
 pub mod numbers;
 pub mod output;

@@ -68,6 +68,16 @@ pub fn set_expression(kind: u8) -> Option<&'static str> {
     Some(cell(kind)?.1)
 }
 
+/// The kind of a name.
+pub fn kind_of(name: &str) -> Option<u8> {
+    let (cell, hold) = match name.strip_prefix('r') {
+        Some(cell) => (cell, 0x80),
+        None => (name, 0),
+    };
+    let place = CELLS.iter().position(|row| row.0 == cell)?;
+    Some((place as u8 + 1) | hold)
+}
+
 /// How many pins a kind has, from A on.
 pub fn pin_count(kind: u8) -> Option<usize> {
     let most = cell(kind)?.1.bytes().filter(u8::is_ascii_uppercase).max()?;
@@ -199,6 +209,19 @@ impl Stage {
         stage
     }
 
+    /// The stage file: inputs, care words, gates, outputs, end.
+    pub fn encoded(&self) -> Vec<u8> {
+        let mut file = vec![0x01, self.inputs as u8];
+        self.care.iter().for_each(|&word| file.extend([0x06].into_iter().chain((word as u16).to_le_bytes())));
+        self.gates.iter().for_each(|gate| file.extend(gate_command(gate.kind, &gate.pins)));
+        for rails in &self.outputs {
+            file.push(0x03);
+            file.extend(two(*rails));
+        }
+        file.push(0x00);
+        file
+    }
+
     pub fn nets(&self) -> usize {
         2 * self.inputs + self.gates.len()
     }
@@ -293,6 +316,17 @@ impl Stage {
     }
 }
 
+/// The command of a gate.
+pub fn gate_command(kind: u8, pins: &[usize]) -> Vec<u8> {
+    let operands = (0..4).flat_map(|pin| (pins.get(pin).copied().unwrap_or(ABSENT) as u16).to_le_bytes());
+    [0x02, kind].into_iter().chain(operands).collect()
+}
+
+/// Two operands as bytes.
+pub fn two(nets: [usize; 2]) -> Vec<u8> {
+    nets.iter().flat_map(|&net| (net as u16).to_le_bytes()).collect()
+}
+
 /// The way to a gate, by what came before each.
 fn path_to(before: &[Option<usize>], start: usize) -> Vec<usize> {
     let mut path = vec![start];
@@ -318,6 +352,8 @@ pub struct Reference {
     pub inputs: usize,
     pub gates: Vec<Operation>,
     pub outputs: Vec<usize>,
+    /// What its inputs are called, where a names file says it.
+    pub called: Vec<String>,
 }
 
 impl Reference {
@@ -336,10 +372,22 @@ impl Reference {
         reference
     }
 
+    /// The reference file: inputs, gates, outputs, end.
+    pub fn encoded(&self) -> Vec<u8> {
+        let mut file = vec![0x01, self.inputs as u8];
+        for gate in &self.gates {
+            file.extend([0x11, gate.operation]);
+            file.extend(two(gate.operands));
+        }
+        self.outputs.iter().for_each(|&signal| file.extend([0x12].into_iter().chain((signal as u16).to_le_bytes())));
+        file.push(0x00);
+        file
+    }
+
     pub fn signal_name(&self, signal: usize) -> String {
         match signal {
             ABSENT => "-".into(),
-            _ if signal < self.inputs => format!("x{signal}"),
+            _ if signal < self.inputs => self.called.get(signal).cloned().unwrap_or_else(|| format!("x{signal}")),
             _ if signal < self.inputs + self.gates.len() => format!("s{signal}"),
             _ => format!("signal {signal}"),
         }

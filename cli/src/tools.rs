@@ -21,9 +21,36 @@ pub const DOT: Tool =
 /// So many of the last lines that a program printed are shown where it fails.
 const LINES: usize = 12;
 
+/// What a run of a program gave.
+pub struct Ran {
+    pub success: bool,
+    pub out: Vec<u8>,
+    err: Vec<u8>,
+}
+
+impl Ran {
+    /// The last lines that it printed: on standard error, or where nothing is there, on standard output.
+    pub fn said(&self) -> Vec<String> {
+        let words = if self.err.trim_ascii().is_empty() && !self.success { &self.out } else { &self.err };
+        let words = String::from_utf8_lossy(words);
+        let plain = |line: &str| line.trim_end().chars().filter(|sign| !sign.is_control()).collect::<String>();
+        let lines: Vec<String> = words.lines().map(plain).filter(|line| !line.is_empty()).collect();
+        lines[lines.len().saturating_sub(LINES)..].to_vec()
+    }
+}
+
 impl Tool {
     /// Runs it with these arguments and this on its standard input, and answers what it prints. Where it fails, its last words are said.
     pub fn run<S: AsRef<OsStr>>(&self, arguments: &[S], given: &[u8]) -> Outcome<Vec<u8>> {
+        let ran = self.ran(arguments, given)?;
+        if ran.success {
+            return Ok(ran.out);
+        }
+        Err(Failure::says(format!("{} could not do it: {}", self.name, ran.said().join("\n"))))
+    }
+
+    /// Runs it, whether it does its work or not.
+    pub fn ran<S: AsRef<OsStr>>(&self, arguments: &[S], given: &[u8]) -> Outcome<Ran> {
         let piped = Command::new(self.name).args(arguments).stdin(Stdio::piped()).stdout(Stdio::piped()).stderr(Stdio::piped()).spawn();
         let mut child = piped.map_err(|error| self.missing(&error))?;
         let mut input = child.stdin.take();
@@ -33,23 +60,7 @@ impl Tool {
             child.wait_with_output()
         });
         let ended = ended.map_err(|error| Failure::says(format!("{}: {}", self.name, plain(&error))))?;
-        if ended.status.success() {
-            return Ok(ended.stdout);
-        }
-        Err(Failure::says(format!("{} could not do it: {}", self.name, self.said(&ended.stderr, &ended.stdout))))
-    }
-
-    /// The last lines that it printed, those on standard error first.
-    fn said(&self, error: &[u8], output: &[u8]) -> String {
-        let words = if error.trim_ascii().is_empty() { output } else { error };
-        let words = String::from_utf8_lossy(words);
-        let lines: Vec<&str> = words.lines().filter(|line| !line.trim().is_empty()).collect();
-        let last = lines[lines.len().saturating_sub(LINES)..].join("\n");
-        if last.is_empty() {
-            "it says nothing".into()
-        } else {
-            last.chars().filter(|&sign| !sign.is_control() || sign == '\n').collect()
-        }
+        Ok(Ran { success: ended.status.success(), out: ended.stdout, err: ended.stderr })
     }
 
     fn missing(&self, error: &std::io::Error) -> Failure {

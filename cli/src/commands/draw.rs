@@ -1,6 +1,8 @@
 //! `ncl draw`: a stage as a drawing, with the fault.
 
-use super::{flag, force, found, given, json_flag, lowest, order, path, put_json, quiet, signs, stage_arg, text_flag, verdict_json};
+use super::{
+    called, flag, force, found, json_flag, lowest, names_arg, order, path, put_json, quiet, signs, stage_arg, text_flag, verdict_json,
+};
 use crate::draw::{dot, Scene};
 use crate::explain::{inputs_text, sentence, word_text, Order, Pair, Question};
 use crate::failure::{Failure, Outcome};
@@ -25,7 +27,7 @@ pub fn command() -> Command {
         .arg(output.help("Where it is written: by its name .svg, .png or .pdf through Graphviz's dot, else in dot's language"))
         .arg(inputs.help("The levels for these inputs in place of the verdict's: a sign for each, input 0 first: 0, 1, or . for NULL"))
         .arg(flag("all", "Draw every gate; else of a stage with more than 40 gates those around the fault"))
-        .args([text_flag(), lowest(), json_flag(), force(), quiet()])
+        .args([names_arg(), text_flag(), lowest(), json_flag(), force(), quiet()])
         .after_help(
             "\
 Of a refused stage the drawing shows the situation of the verdict: what is high, the fault in red, what is still to switch dashed.
@@ -58,11 +60,11 @@ impl Asked {
         if let Some(name) = name {
             one_standard_input(&[path(matches, "stage"), name])?;
         }
-        let stage = given(matches)?;
+        let stage = called(matches)?;
         let reference = name.map(|name| read(name)).transpose()?;
         let verdict = match &reference {
             Some(reference) => stage.check(order(matches), &reference.bytes),
-            None => stage.refused().unwrap_or_else(|| readable(&stage)),
+            None => stage.read_verdict(),
         };
         Ok(Asked { stage, reference, verdict })
     }
@@ -75,17 +77,11 @@ impl Asked {
     }
 }
 
-/// The settled-row call's verdict on a stage with all inputs NULL: 0 or 12 where it reads.
-fn readable(stage: &Given) -> Verdict {
-    fovaheju::settled_row(stage.bytes(), &mut vec![0; stage.stage().nets()])
-}
-
 pub fn run(matches: &ArgMatches) -> Outcome<Found> {
     let inputs = matches.get_one::<String>("inputs").map(|text| signs(text)).transpose()?;
     let asked = Asked::of(matches)?;
     let (stage, order) = (asked.stage.stage(), order(matches));
-    let reads = asked.stage.refused().is_none() && matches!(readable(&asked.stage).number, 0 | 12);
-    let text = if reads { Some(drawing(&asked, &stage, inputs.as_deref(), order, matches.get_flag("all"))?) } else { None };
+    let text = if asked.stage.reads() { Some(drawing(&asked, &stage, inputs.as_deref(), order, matches.get_flag("all"))?) } else { None };
     let output = matches.get_one::<PathBuf>("output").filter(|path| !is_standard_output(path));
     match (&text, output) {
         (Some(text), Some(path)) => {

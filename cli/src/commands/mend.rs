@@ -1,6 +1,8 @@
 //! `ncl mend`: the changes that make a refused stage accepted.
 
-use super::{force, found, given_pair, json_flag, lowest, order, put_json, quiet, reference_arg, stage_arg, text_flag, verdict_json};
+use super::{
+    called_pair, force, found, json_flag, lowest, names_arg, order, put_json, quiet, reference_arg, stage_arg, text_flag, verdict_json,
+};
 use crate::changes::{Change, Mending};
 use crate::explain::{mended, Pair, Question};
 use crate::failure::{Failure, Outcome};
@@ -26,7 +28,7 @@ pub fn command() -> Command {
         .arg(seconds.help("How long other changes are tried where no single one is accepted"))
         .arg(output.help("Write the stage with a change to a file"))
         .arg(take.help("Which of the changes is written, by its number [default: 1]"))
-        .args([text_flag(), lowest(), json_flag(), force(), quiet()])
+        .args([names_arg(), text_flag(), lowest(), json_flag(), force(), quiet()])
         .after_help(
             "\
 A single change is another kind of gate, its hold given or taken, or a pin or a rail of an output on another net. All of them are
@@ -44,7 +46,7 @@ Examples:
 
 pub fn run(matches: &ArgMatches) -> Outcome<Found> {
     let order = order(matches);
-    let (given, reference) = given_pair(matches)?;
+    let (given, reference) = called_pair(matches)?;
     let verdict = given.check(order, &reference.bytes);
     let pair = Pair::whole(&given, &reference);
     let stage = given.stage();

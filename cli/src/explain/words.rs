@@ -2,6 +2,7 @@
 
 use super::{Order, Pair, Text};
 use crate::levels::{Levels, Odd};
+use crate::names::{buses, values_text};
 use crate::netlist::{many, relaxed, set_expression, Reference, Stage};
 use crate::situation::{data, pair_state, Behind, End, Situation, PLACES};
 use fovaheju::Verdict;
@@ -41,11 +42,9 @@ pub fn word_text(word: u64, values: &[bool], order: Order, stage: &Stage) -> Str
 /// The inputs with these values; a dot is NULL.
 pub fn inputs_text(values: &[Option<bool>], stage: &Stage) -> String {
     let sign = |value: &Option<bool>| value.map_or('.', |value| if value { '1' } else { '0' });
-    if stage.names.is_some() {
-        let each = values.iter().enumerate().map(|(input, value)| format!("{} = {}", stage.input_name(input), sign(value)));
-        each.collect::<Vec<String>>().join(", ")
-    } else {
-        format!("{} = {}", range("x", values.len()), values.iter().map(sign).collect::<String>())
+    match &stage.names {
+        Some(names) => values_text(&names.inputs, values),
+        None => format!("{} = {}", range("x", values.len()), values.iter().map(sign).collect::<String>()),
     }
 }
 
@@ -69,7 +68,8 @@ fn level(case: &Situation, net: usize) -> &'static str {
 fn wrong(text: &mut Text, case: &Situation, at: usize, pair: Pair) {
     let (stage, row) = (case.stage, &case.row);
     let Some(&rails) = stage.outputs.get(at) else { return };
-    let reference = Reference::of(&pair.reference.bytes);
+    let called = stage.names.as_ref().map_or(Vec::new(), |names| names.inputs.clone());
+    let reference = Reference { called, ..Reference::of(&pair.reference.bytes) };
     let answer = reference.answer(&case.values);
     let value = answer.get(at).copied().unwrap_or(false);
     let signal = reference.outputs.get(at).map_or(String::new(), |&signal| reference.signal_text(signal));
@@ -82,6 +82,10 @@ fn wrong(text: &mut Text, case: &Situation, at: usize, pair: Pair) {
         .count();
     if others > 0 {
         text.below(0, &format!("{} wrong in this word too", many(others, "other output") + if others == 1 { " is" } else { " are" }));
+    }
+    if let Some(names) = stage.names.as_ref().filter(|names| buses(&names.outputs).len() < names.outputs.len()) {
+        let answer: Vec<Option<bool>> = answer.iter().map(|&value| Some(value)).collect();
+        text.row("answer", &format!("{} by the reference", values_text(&names.outputs, &answer)));
     }
     if text.tries > 0 {
         say_words(text, at, &reference, pair);
