@@ -1,9 +1,9 @@
 -- Which words a stage has, and masks that name none of them.
 -- Assumes nothing.
-use Prim.Native.Nat.{ℕ, zero, suc, _+_, _*_, _^_, _<_}
+use Prim.Native.Nat.{ℕ, suc, _+_, _*_, _^_, _<_}
 use native.Mathlib.Omega.{arith}
-use mathlib.Core.Path.{_≡_, refl, sym, ap, _∙_}
-use mathlib.Core.Logic.{_⊎_, inl, inr}
+use mathlib.Core.Path.{_≡_, refl, sym, _∙_}
+use mathlib.Core.Logic.{inl, inr}
 use mathlib.Core.List.{List, [], _∷_}
 use lib.ListN.{length, getD}
 use Rattle.netlist.specs.declared.Counts.{Counts}
@@ -13,7 +13,6 @@ use Rattle.verdict.specs.Words.{caredFor, words, IsWord}
 use Rattle.verdict.proofs.Words.{in-index}
 use Rattle.circuit.specs.Stage.{stageCare, stageIn}
 use Rattle.circuit.proofs.Tabulate.{length-tabulate, getD-tabulate}
-use Rattle.lane_screen.specs.Suspects.{Unnamed}
 
 -- what stands in a list stands at some place of it
 in-place : (x : ℕ) (l : List ℕ) → In x l → (k : ℕ) × (k < length l) × (getD l k 0 ≡ x)

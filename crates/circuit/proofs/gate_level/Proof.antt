@@ -10,9 +10,13 @@ use Rattle.circuit.proofs.gate_level.Tie as tie
 sets-requires : tie.Need-sets-requires
 sets-requires c κs =
     let z = c .before .before .before .before in
-    let cell = c .before .cell-of .ensures in
-    (z .pre .0, cell .low, cell .high, rw (cell .is, c .pattern .ensures)
-    (pattern-small (z .args .counts) (now (z .args .code)) (now (z .args .row)) (z .pre .1) (z .pre .3) (z .args .k) (z .pre .2)))
+    let cell = c .before .cell-of .ensures in (
+      z .pre .0,
+      cell .low,
+      cell .high,
+      rw (cell .is, c .pattern .ensures)
+          (pattern-small (z .args .counts) (now (z .args .code)) (now (z .args .row)) (z .pre .1) (z .pre .3) (z .args .k) (z .pre .2)),
+    )
 
 returns : tie.Need-returns
 returns c =
