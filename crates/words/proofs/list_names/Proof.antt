@@ -64,7 +64,10 @@ add-name : tie.Need-add-name Inv-loop μ-loop
 add-name c = search needs
 
 loop-less : tie.Need-loop-less Inv-loop μ-loop
-loop-less c = search needs
+loop-less c =
+    let loop = c .before .before .before .before in
+    let z = loop .before .before .before in
+    omega (arith, few-words (z .args .counts .inputs) (z .pre .0 .within .inputs-in))
 
 loop-again : tie.Need-loop-again Inv-loop μ-loop
 loop-again c =
