@@ -18,8 +18,10 @@ pub mod netlist;
 pub mod numbers;
 pub mod output;
 pub mod progress;
+pub mod runs;
 pub mod situation;
 pub mod tools;
+pub mod wave;
 
 use failure::{Failure, Outcome};
 use std::ffi::OsString;
