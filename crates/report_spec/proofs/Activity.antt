@@ -41,6 +41,7 @@ use Rattle.check_spec.proofs.Alike.{spelled-alike, names-alike, rest-alike, lev
 use Rattle.check_spec.proofs.Sound.{accepted-sound, sound-kept}
 use Rattle.report_spec.specs.High as code
 use Rattle.report_spec.specs.Report.{gatesHigh, reportOf, lines, reportOn, gateSwitchings, Cycle, switchings, EachWordOnce, Cycled, ReportMeans}
+use Rattle.report_spec.proofs.Cycles.{low-again}
 use Rattle.report_spec.proofs.Counting.{upTo, upTo-same, upTo-zero, upTo-split, upTo-levels, weigh, weigh-zero, sum-times, sum-same}
 
 -- ---- one list
@@ -144,7 +145,8 @@ module _ (f : Files) (free : LoopFree (netOf (stageIn f))) (w : ℕ) (kept : Kep
         );
     rises = rise-gates;
     falls = fall-gates;
-    back = λ p e. at-rest p e .falls (p .fall) (p .fall-legal) .end-low (p .fall-ended);
+    back = λ p e.
+        low-again N (railsFor (p .word)) (p .rise) (p .fall) (p .rise-legal) (p .fall-legal) (at-rest p e .falls (p .fall) (p .fall-legal) .end-low (p .fall-ended));
   }
 
 -- ---- all words
