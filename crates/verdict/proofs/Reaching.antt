@@ -11,7 +11,7 @@ use borrow.Author.Tests.{lt-ltb, le-ltb}
 use Rattle.netlist.specs.Content.{Gate}
 use Rattle.verdict.specs.Graph.{Leads, here, onward}
 use Rattle.verdict.specs.Loops.{In, pinsAt, Feeds, gateSteps, ReachesItself, reachesItself, NoLoop, LoopFree}
-use Rattle.verdict.proofs.Graph.{onLoop-sound, onLoop-complete, rank, rank-falls}
+use Rattle.verdict.proofs.Graph.{onLoop-sound, onLoop-complete, rank, rank-≤, rank-falls}
 
 module _ (n : ℕ) (gates : List Gate) where
   -- ---- the steps
@@ -65,6 +65,10 @@ module _ (n : ℕ) (gates : List Gate) where
 
   pub rankOf : ℕ → ℕ
   rankOf x = rank (gateSteps n gates) (2 * n + length gates) inside x
+
+  pub rankOf-≤ : (x : ℕ) → rankOf x ≤ 2 * n + length gates
+  unfolding rankOf
+  rankOf-≤ x = rank-≤ (gateSteps n gates) (2 * n + length gates) inside x
 
   pub rank-pin : LoopFree n gates → (p k : ℕ) → In p (pinsAt gates k) → rankOf p < rankOf (2 * n + k)
   unfolding rankOf
