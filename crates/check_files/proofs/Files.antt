@@ -13,7 +13,7 @@ use Rattle.netlist.specs.declared.Counts.{Counts}
 use Rattle.netlist.specs.declared.Found.{Found}
 use Rattle.netlist.specs.declared.Found.the-variants.{At, Nothing}
 use Rattle.netlist.specs.declared.Outcome.the-variants as outcome
-use Rattle.netlist.specs.Reading.{Reading, readFile, stageLimits, referenceLimits}
+use Rattle.netlist.specs.Reading.{refused, readable, readFile, stageLimits, referenceLimits}
 use Rattle.netlist.specs.Read.{outcomeOf}
 use Rattle.netlist.specs.Content.{Stage, Reference}
 use Rattle.verdict.specs.declared.Verdict.{Verdict}
@@ -22,13 +22,15 @@ use Rattle.verdict.specs.declared.Finding.{Finding}
 use Rattle.verdict.specs.declared.Finding.the-variants.{Fault, Passed}
 use Rattle.verdict.specs.Checks.{verdict, Check, atFault, sweep, finding, orLater, firstFault, checks, riseSweeps, fallSweeps}
 use Rattle.verdict.specs.Verdicts as verdicts
-use Rattle.verdict.specs.Verdicts.{judgeReference, judgeStage, verdictWithin}
 use Rattle.verdict.proofs.Refusals.{refused-number}
-use Rattle.check_spec.specs.Content.{files}
-use Rattle.check_spec.specs.Verdicts.{verdictOn}
+use Rattle.check_spec.specs.Cases.{first, judge}
+use Rattle.check_spec.specs.Content.{contentAt, files}
+use Rattle.check_spec.specs.Verdicts.{refusal, verdictOn}
 use Rattle.check_spec.specs.Demands.{Demand2, Demand3}
+use Rattle.check_spec.specs.Loaded.{stageView, referenceView, filesWithin}
 use Rattle.check_spec.proofs.Demanded.{demand-2, demand-3}
-use Rattle.check_spec.proofs.Bridge.{verdict-is}
+use Rattle.check_spec.proofs.View.{stage-view, reference-view}
+use Rattle.check_spec.proofs.Bridge.{alike-judge, checks-alike}
 use Rattle.circuit.specs.Stage.{stageIn}
 use Rattle.circuit.specs.Reference.{referenceIn}
 use Rattle.circuit_load.specs.Load.{HoldsStage, HoldsReference}
@@ -79,39 +81,40 @@ checks-named order s r = refl
 -- ---- two files that are read
 
 module _ (order : WordOrder) (stageMost referenceMost : Limits) (s t : List ℕ) where
-  refused-as : {code reference : List ℕ} (v : Verdict) → v ≡ verdictWithin order stageMost referenceMost s t → Refusal v
-      → JudgedAs order stageMost referenceMost s t (judgement.Refused v) code reference
+  abbrev given : Verdict
+  given = verdictOn order (filesWithin stageMost referenceMost s t)
+
+  refused-as : {code reference : List ℕ} (v : Verdict) → v ≡ given → Refusal v → JudgedAs order stageMost referenceMost s t (judgement.Refused v) code reference
   refused-as v e n = record {
     verdict-is = e;
     refuses = λ u q. let i : v ≡ u = cc in subst Refusal i n;
     loaded = λ c d q. absurd (let z : _≡_ {A = ℕ} 0 1 = cc in omega arith);
   }
 
+  refuses-stage : (number at : ℕ) → readFile file.Stage stageMost s ≡ refused number at → verdict number 1 at 0 ≡ given
+  unfolding judge first refusal
+  refuses-stage number at e = rw e
+
   pub stage-refused : {code reference : List ℕ} (number at : ℕ) → outcome.Refused number at ≡ outcomeOf (readFile file.Stage stageMost s)
       → JudgedAs order stageMost referenceMost s t (judgement.Refused (verdict number 1 at 0)) code reference
-  unfolding judgeStage verdictWithin
   stage-refused number at e =
       let r = was-refused (readFile file.Stage stageMost s) number at e in
-      refused-as (verdict number 1 at 0) (sym (ap (judgeStage order referenceMost s t) r)) (refused-number file.Stage stageMost s number at r .0, omega arith)
+      refused-as (verdict number 1 at 0) (refuses-stage number at r) (refused-number file.Stage stageMost s number at r .0, omega arith)
 
   module _ (c : Counts) (code : List ℕ) (is : outcome.Readable c ≡ outcomeOf (readFile file.Stage stageMost s))
       (h : HoldsStage s (readFile file.Stage stageMost s) code) where
     from : StageFrom stageMost s c code
     from = let r = stage-held s (readFile file.Stage stageMost s) c code is h in record { places = r .0; reads = r .1; content = r .2 }
 
-    stage-then : judgeReference order (stageIn c code) t (readFile file.Reference referenceMost t) ≡ verdictWithin order stageMost referenceMost s t
-    unfolding judgeStage verdictWithin
-    stage-then =
-        ap (λ (y : Stage). judgeReference order y t (readFile file.Reference referenceMost t)) (from .content)
-        ∙ sym (ap (judgeStage order referenceMost s t) (from .reads))
+    refuses-reference : (number at : ℕ) → readFile file.Reference referenceMost t ≡ refused number at → verdict number 2 at 0 ≡ given
+    unfolding judge first refusal
+    refuses-reference number at e = rw (from .reads, e)
 
     pub reference-refused : {code′ reference : List ℕ} (number at : ℕ) → outcome.Refused number at ≡ outcomeOf (readFile file.Reference referenceMost t)
         → JudgedAs order stageMost referenceMost s t (judgement.Refused (verdict number 2 at 0)) code′ reference
-    unfolding judgeReference
     reference-refused number at e =
         let r = was-refused (readFile file.Reference referenceMost t) number at e in
-        refused-as (verdict number 2 at 0) (sym (ap (judgeReference order (stageIn c code) t) r) ∙ stage-then)
-        (refused-number file.Reference referenceMost t number at r .0, omega arith)
+        refused-as (verdict number 2 at 0) (refuses-reference number at r) (refused-number file.Reference referenceMost t number at r .0, omega arith)
 
     module _ (sizes : Counts) (reference : List ℕ) (it : outcome.Readable sizes ≡ outcomeOf (readFile file.Reference referenceMost t))
         (k : HoldsReference t (readFile file.Reference referenceMost t) reference) where
@@ -122,11 +125,15 @@ module _ (order : WordOrder) (stageMost referenceMost : Limits) (s t : List ℕ)
       abbrev found : Finding
       found = firstFault (checks order (stageIn c code) (referenceIn sizes reference))
 
-      judged : verdicts.verdictOf found ≡ verdictWithin order stageMost referenceMost s t
-      unfolding judgeReference
+      judged : verdicts.verdictOf found ≡ given
+      unfolding judge first refusal
       judged =
-          ap (λ (y : Reference). verdicts.verdictOf (firstFault (checks order (stageIn c code) y))) (of-reference .content)
-          ∙ sym (ap (judgeReference order (stageIn c code) t) (of-reference .reads)) ∙ stage-then
+          let p = contentAt file.Stage s (readable (from .places)) in
+          let q = contentAt file.Reference t (readable (of-reference .places)) in
+          let view : stageIn c code ≡ stageView p = from .content ∙ sym (stage-view s (from .places)) in
+          let same : referenceIn sizes reference ≡ referenceView q = of-reference .content ∙ sym (reference-view t (of-reference .places)) in
+          rw (from .reads, of-reference .reads)
+          (ap verdicts.verdictOf (ap₂ (λ (x : Stage) (y : Reference). firstFault (checks order x y)) view same) ∙ sym (alike-judge (checks-alike order p q)))
 
       pub checks-refuse : {code′ : List ℕ} (v : Verdict) → Fault v ≡ found → JudgedAs order stageMost referenceMost s t (judgement.Refused v) code′ reference
       unfolding verdicts.verdictOf
@@ -156,9 +163,9 @@ module _ (order : WordOrder) (stageMost referenceMost : Limits) (s t : List ℕ)
 
 -- what the check answers within the limits of the two files
 module _ (order : WordOrder) (stageMost referenceMost : Limits) (s t : List ℕ) (v : Verdict) (e : stageMost ≡ stageLimits) (e′ : referenceMost ≡ referenceLimits)
-    (is : v ≡ verdictWithin order stageMost referenceMost s t) where
+    (is : v ≡ verdictOn order (filesWithin stageMost referenceMost s t)) where
   pub answered : v ≡ verdictOn order (files s t)
-  answered = is ∙ ap₂ (λ (a b : Limits). verdictWithin order a b s t) e e′ ∙ sym (verdict-is order (files s t))
+  answered = is ∙ ap₂ (λ (a b : Limits). verdictOn order (filesWithin a b s t)) e e′
 
   pub checked : (v ≡ verdictOn order (files s t)) × (Demand2 order (files s t) v × Demand3 order (files s t) v)
   checked =

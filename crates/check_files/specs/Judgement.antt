@@ -9,7 +9,9 @@ use Rattle.netlist.specs.Reading.{Places, readable, readFile}
 use Rattle.netlist.specs.Content.{stageOf, referenceOf}
 use Rattle.verdict.specs.declared.Verdict.{Verdict}
 use Rattle.verdict.specs.declared.WordOrder.{WordOrder}
-use Rattle.verdict.specs.Verdicts.{accepted, verdictWithin}
+use Rattle.verdict.specs.Verdicts.{accepted}
+use Rattle.check_spec.specs.Verdicts.{verdictOn}
+use Rattle.check_spec.specs.Loaded.{filesWithin}
 use Rattle.circuit.specs.Stage.{stageIn}
 use Rattle.circuit.specs.Reference.{referenceIn}
 use Rattle.check_word.specs.Loaded.{BothLoaded}
@@ -38,6 +40,6 @@ verdictOf (Refused v) = v
 verdictOf (Accepted c sizes) = accepted
 
 pub record JudgedAs (order : WordOrder) (stageMost referenceMost : Limits) (s t : List ℕ) (j : Judgement) (code reference : List ℕ) : Type 0 where
-  pub verdict-is : verdictOf j ≡ verdictWithin order stageMost referenceMost s t
+  pub verdict-is : verdictOf j ≡ verdictOn order (filesWithin stageMost referenceMost s t)
   pub refuses : (v : Verdict) → j ≡ Refused v → (1 ≤ v .number) × (v .file ≤ 2)
   pub loaded : (c sizes : Counts) → j ≡ Accepted c sizes → PairLoaded stageMost referenceMost s t c code sizes reference

@@ -36,10 +36,9 @@ use Rattle.check_spec.specs.Words.{railsFor, spelled, names, IsWord}
 use Rattle.check_spec.specs.Checks.{rest}
 use Rattle.check_spec.specs.Verdicts.{refusal, reading, verdictOn}
 use Rattle.check_spec.specs.Demands.{Pass, LoopFree, answerTo, Kept}
-use Rattle.check_spec.proofs.View.{stageView}
+use Rattle.check_spec.specs.Loaded.{stageView}
 use Rattle.check_spec.proofs.Alike.{spelled-alike, names-alike, rest-alike, levels-alike, word-in, in-word, care-rises}
-use Rattle.check_spec.proofs.Exactly.{accepted-passes}
-use Rattle.check_spec.proofs.Demanded.{demand-3}
+use Rattle.check_spec.proofs.Sound.{accepted-sound, sound-kept}
 use Rattle.report_spec.specs.High as code
 use Rattle.report_spec.specs.Report.{gatesHigh, reportOf, lines, reportOn, gateSwitchings, Cycle, switchings, EachWordOnce, Cycled, ReportMeans}
 use Rattle.report_spec.proofs.Cycles.{low-again}
@@ -222,14 +221,13 @@ report-means order f = go (eqb (verdictOn order f .number) 0) refl
     go false e = let no : verdictOn order f ≡ accepted → ⊥ = λ a. clash (ap (λ (v : Verdict). eqb (v .number) 0) a) e in
         record { cycled = λ a. absurd (no a); half = λ a. absurd (no a) }
     go true e =
-        let k = demand-3 order f .kept (eqb-eq (verdictOn order f .number) 0 e) in
-        let p = accepted-passes order f (eqb-eq (verdictOn order f .number) 0 e) in
-        let free = p .2 .free in
-        let read = stage-read f (k .1 .0) in
+        let p = accepted-sound order f (eqb-eq (verdictOn order f .number) 0 e) .1 in
+        let free = p .free in
+        let read = stage-read f (p .read .0) in
         let care = care-rises (f .stageMost) (f .stage) (read .0) (read .1) in
         record {
-          cycled = λ a w h. cycled f free w (k .2 w h);
+          cycled = λ a w h. cycled f free w (sound-kept p w h);
           half = λ a cycles each.
-              half order (stageIn f) care (λ p h. let c = cycled f free (p .word) (k .2 (p .word) h) in omega (arith, c .rises p refl, c .falls p refl)) cycles each
+              half order (stageIn f) care (λ q h. let c = cycled f free (q .word) (sound-kept p (q .word) h) in omega (arith, c .rises q refl, c .falls q refl)) cycles each
               ∙ ap (λ (l : List ℕ). 2 * sum l) (map-map (gatesHigh (stageIn f)) (spelled order (stageIn f .inputs)) (names order (stageIn f)));
         }
