@@ -1,22 +1,22 @@
 -- What one turn of each loop leaves, and the file of which they put the parts.
 -- Assumes nothing.
-use Prim.Native.Nat.{ℕ, zero, suc, _+_, _-_, _*_, _≤_, _<_}
+use Prim.Native.Nat.{ℕ, suc, _+_, _-_, _*_, _≤_, _<_}
 use native.Mathlib.Omega.{arith}
 use mathlib.Core.Path.{_≡_, refl, sym, ap, _∙_}
-use mathlib.Core.Bool.{Bool, true, false, cond, not, _||_}
+use mathlib.Core.Bool.{Bool, true, false, cond, not}
 use mathlib.Core.List.{List, [], _∷_, _++_}
-use lib.ListN.{length, getD, set, replicate, length-map, length-replicate}
+use lib.ListN.{length, getD, set, replicate, length-map}
 use lib.Dec.{eqb}
 use borrow.Author.Tests.{lt-ltb, le-ltb}
 use Rattle.netlist.specs.declared.File.the-variants as file
 use Rattle.netlist.specs.Content.{Coded}
-use Rattle.netlist.specs.Writing.{All, gate, writeItem}
+use Rattle.netlist.specs.Writing.{gate, writeItem}
 use Rattle.netlist.proofs.Lists.{All-map}
 use Rattle.verdict.specs.Rows.{high}
 use Rattle.verdict.proofs.Names.{select-alike}
 use Rattle.check_spec.specs.Lists.{numbers, select, some}
 use Rattle.make_spec.specs.Marks.{marked}
-use Rattle.make_spec.proofs.Marks.{marked-long, marked-high}
+use Rattle.make_spec.proofs.Marks.{marked-long, marked-alone}
 use Rattle.write_command.specs.Put.{Put, coded}
 use Rattle.write_command.specs.Parts.{signalItem, bytesOf}
 use Rattle.write_command.proofs.Joining.{put-++}
@@ -168,15 +168,6 @@ module _ {marks : List ℕ} {m : ℕ} {buffer₀ : List ℕ} {from : ℕ} where
 
 -- ---- the whole
 
-or-false : (b : Bool) → (b || false) ≡ b
-or-false true = refl
-or-false false = refl
-
-none-marked : (m x : ℕ) → high (replicate m 0) x ≡ false
-none-marked zero x = refl
-none-marked (suc m) zero = refl
-none-marked (suc m) (suc x) = none-marked m x
-
 module _ (seed n g : ℕ) (some-input : 1 ≤ n) (low : n ≤ 10) (few : g ≤ 40) (marks : List ℕ)
     (all : marks ≡ marked (replicate 50 0) (usedBy (gatesFrom n g seed))) where
   abbrev gates : List Coded
@@ -188,10 +179,8 @@ module _ (seed n g : ℕ) (some-input : 1 ≤ n) (low : n ≤ 10) (few : g ≤ 4
   -- the marks show which signals are used
   marks-show : (y : ℕ) → high marks y ≡ some (eqb y) (usedBy gates)
   marks-show y =
-      let fits = All-map (λ v. suc v < n + length gates) (λ v. v < length {A = ℕ} (replicate 50 0))
-      (λ v b. omega (arith, gates-long n g seed, length-replicate {A = ℕ} 50 0)) (usedBy gates) (used-in n gates (gates-formed n g seed some-input)) in
-      ap (λ (ms : List ℕ). high ms y) all ∙ marked-high (replicate 50 0) (usedBy gates) fits y
-      ∙ ap (λ (b : Bool). some (eqb y) (usedBy gates) || b) (none-marked 50 y) ∙ or-false (some (eqb y) (usedBy gates))
+      ap (λ (ms : List ℕ). high ms y) all
+      ∙ marked-alone 50 (usedBy gates) (All-map (λ v. suc v < n + length gates) (λ v. v < 50) (λ v b. omega (arith, gates-long n g seed)) (usedBy gates) (used-in n gates (gates-formed n g seed some-input))) y
 
   -- so those without a mark are the outputs
   outputs-free : free ≡ parsed seed n g .outputs

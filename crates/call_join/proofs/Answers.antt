@@ -24,9 +24,8 @@ use Rattle.verdict.specs.Checks.{first, sweep, finding}
 use Rattle.verdict.proofs.Words.{bits-of-bit, answer-bit}
 use Rattle.check_spec.specs.Lists.{bitOf, ofBits}
 use Rattle.check_spec.specs.Words as content
-use Rattle.check_spec.specs.Loaded.{fromReference}
+use Rattle.check_spec.specs.Loaded.{fromReference, referenceView}
 use Rattle.check_spec.proofs.Names.{same-bits}
-use Rattle.check_spec.proofs.View.{referenceView}
 use Rattle.check_spec.proofs.Alike.{word-of, answer-alike}
 use Rattle.join_spec.specs.Joining as joins
 use Rattle.circuit.specs.Reference.{operatorsIn, signalIn, signalsIn, referenceIn, ReferenceLoaded}

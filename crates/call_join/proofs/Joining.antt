@@ -11,11 +11,9 @@ use lib.Dec.{eqb, ltb}
 use borrow.Author.Tests.{eq-eqb, ne-eqb, lt-ltb, le-ltb}
 use Rattle.netlist.specs.declared.File.the-variants.{Stage, Reference}
 use Rattle.netlist.specs.declared.Counts.{Counts}
-use Rattle.netlist.specs.declared.Outcome.the-variants as outcome
 use Rattle.netlist.specs.declared.Limits.{Limits}
 use Rattle.netlist.specs.declared.Found.{Found}
 use Rattle.netlist.specs.Reading.{Reading, refused, readable, readFile, partStageLimits, partReferenceLimits}
-use Rattle.netlist.specs.Read.{outcomeOf}
 use Rattle.netlist.specs.Content as parsed
 use Rattle.netlist.specs.Writing.{pairOperands, writeStage, writeReference}
 use Rattle.verdict.specs.declared.Verdict.{Verdict}
@@ -25,7 +23,6 @@ use Rattle.verdict.specs.declared.Finding.the-variants.{Fault, Passed}
 use Rattle.verdict.specs.Graph.{tabulate}
 use Rattle.verdict.specs.Words.{words, names, spelled, isIn}
 use Rattle.verdict.specs.Checks.{sweep}
-use Rattle.verdict.specs.Verdicts.{verdictWithin}
 use Rattle.verdict.specs.Written.{holding}
 use Rattle.check_spec.specs.Cases.{verdict, accepted, case, Check, first, judge, unequal}
 use Rattle.check_spec.specs.Lists.{numbers}
@@ -34,19 +31,17 @@ use Rattle.check_spec.specs.Content.{Content, Files, contentAt, contentOf, part
 use Rattle.check_spec.specs.Words.{caresFor}
 use Rattle.check_spec.specs.Checks.{swept}
 use Rattle.check_spec.specs.Verdicts.{verdictOn}
-use Rattle.check_spec.specs.Loaded.{fromStage, fromReference}
+use Rattle.check_spec.specs.Loaded.{fromStage, fromReference, filesWithin, stageView, referenceView}
 use Rattle.check_spec.specs.Writing.{leaving}
 use Rattle.check_spec.proofs.Names.{of-bits-below}
-use Rattle.check_spec.proofs.View.{stageView, referenceView}
 use Rattle.check_spec.proofs.Alike.{cares-alike}
-use Rattle.check_spec.proofs.Bridge.{faultOr, swept-is, sweep-number, verdict-is}
+use Rattle.check_spec.proofs.Bridge.{faultOr, swept-is, sweep-number}
 use Rattle.check_spec.proofs.Back.{stage-content, reference-content}
 use Rattle.check_spec.proofs.Writing.{leaves-none, leaves-bytes}
 use Rattle.check_spec.proofs.Sound.{Sound, accepted-sound}
 use Rattle.circuit.specs.Stage.{stageGates, stageOutputs, stageCare, stageIn, StageLoaded}
 use Rattle.circuit.specs.Reference.{operatorsIn, signalsIn, referenceIn, ReferenceLoaded}
-use Rattle.circuit_load.specs.Load.{HoldsStage, HoldsReference}
-use Rattle.circuit_load.proofs.Reading.{was-refused, stage-held, reference-held}
+use Rattle.check_files.specs.Judgement.{PairLoaded}
 use Rattle.join_spec.specs.declared.JoinAnswer.{JoinAnswer}
 use Rattle.join_spec.specs.Joining as joins
 use Rattle.join_spec.specs.Joining.{whole, seamChecks, joinChecks, JoinDemand}
@@ -162,78 +157,15 @@ module _ (order : WordOrder) (counts : FileCounts) (code1 reference1 code2 refer
         reference-left = (λ i. record { verdict = v i; count = en i; buffer = put-holding t fits′ i }) ∙ sym (leaves-bytes accepted refl _ reference);
       })
 
--- ---- a part that was loaded
+-- ---- a part that the check left
 
-nothing-stage : (code : List ℕ) (c : Counts) → c ≡ record { inputs = 0; gates = 0; outputs = 0; care = 0; floor = 0 } → StageLoaded c code × (record { inputs = 0; gates = []; outputs = []; care = [] } ≡ fromStage (stageIn c code))
-unfolding stageGates stageOutputs stageCare tabulate
-nothing-stage code c e = rw e (
-  record {
-    within = record { inputs-in = omega arith; gates-in = omega arith; outputs-in = omega arith };
-    room = omega arith;
-    gate = λ k h. absurd (omega arith);
-    rail0-net = λ j h. absurd (omega arith);
-    rail1-net = λ j h. absurd (omega arith);
-  },
-  refl,
+pub part-held : {m n : Limits} {s t : List ℕ} {c : Counts} {code : List ℕ} {d : Counts} {reference : List ℕ} → m ≡ partStageLimits → n ≡ partReferenceLimits
+    → PairLoaded m n s t c code d reference
+    → (contentOf Stage partStageLimits s ≡ fromStage (stageIn c code)) × (contentOf Reference partReferenceLimits t ≡ fromReference (referenceIn d reference))
+part-held {m} {n} {s} {t} em en p = (
+  ap (λ (l : Limits). contentOf Stage l s) (sym em) ∙ stage-content m s (p .stage-from .places) (p .stage-from .reads) ∙ ap fromStage (sym (p .stage-from .content)),
+  ap (λ (l : Limits). contentOf Reference l t) (sym en) ∙ reference-content n t (p .reference-from .places) (p .reference-from .reads) ∙ ap fromReference (sym (p .reference-from .content)),
 )
-
-nothing-reference : (code : List ℕ) (c : Counts) → c ≡ record { inputs = 0; gates = 0; outputs = 0; care = 0; floor = 0 } → ReferenceLoaded c code × (record { inputs = 0; gates = []; outputs = []; care = [] } ≡ fromReference (referenceIn c code))
-unfolding operatorsIn signalsIn tabulate
-nothing-reference code c e = rw e (
-  record {
-    within = record { inputs-in = omega arith; gates-in = omega arith; outputs-in = omega arith };
-    room = omega arith;
-    low = λ k h. absurd (omega arith);
-    high = λ k h. absurd (omega arith);
-    operand = λ k i h l. absurd (omega arith);
-    signal = λ j h. absurd (omega arith);
-  },
-  refl,
-)
-
-module _ (most : Limits) (s code : List ℕ) where
-  -- read within limits that are those of a part
-  pub stage-read : (c : Counts) → outcome.Readable c ≡ outcomeOf (readFile Stage most s) → HoldsStage s (readFile Stage most s) code → most ≡ partStageLimits →
-      StageLoaded c code × (contentOf Stage partStageLimits s ≡ fromStage (stageIn c code))
-  stage-read c e h m = let r = stage-held s (readFile Stage most s) c code e h in
-      (r .3, ap (λ (l : Limits). contentOf Stage l s) (sym m) ∙ stage-content most s (r .0) (r .1) ∙ ap fromStage (sym (r .2)))
-
-  pub stage-unread : (number at : ℕ) → outcome.Refused number at ≡ outcomeOf (readFile Stage most s) → most ≡ partStageLimits → (c : Counts) →
-      c ≡ record { inputs = 0; gates = 0; outputs = 0; care = 0; floor = 0 } → StageLoaded c code × (contentOf Stage partStageLimits s ≡ fromStage (stageIn c code))
-  unfolding contentAt
-  stage-unread number at e m c n =
-      let r = nothing-stage code c n in
-      (r .0, ap (λ (l : Limits). contentOf Stage l s) (sym m) ∙ ap (contentAt Stage s) (was-refused (readFile Stage most s) number at e) ∙ r .1)
-
-  pub reference-read : (c : Counts) → outcome.Readable c ≡ outcomeOf (readFile Reference most s) → HoldsReference s (readFile Reference most s) code → most ≡ partReferenceLimits →
-      ReferenceLoaded c code × (contentOf Reference partReferenceLimits s ≡ fromReference (referenceIn c code))
-  reference-read c e h m = let r = reference-held s (readFile Reference most s) c code e h in
-      (r .3, ap (λ (l : Limits). contentOf Reference l s) (sym m) ∙ reference-content most s (r .0) (r .1) ∙ ap fromReference (sym (r .2)))
-
-  pub reference-unread : (number at : ℕ) → outcome.Refused number at ≡ outcomeOf (readFile Reference most s) → most ≡ partReferenceLimits → (c : Counts) →
-      c ≡ record { inputs = 0; gates = 0; outputs = 0; care = 0; floor = 0 } → ReferenceLoaded c code × (contentOf Reference partReferenceLimits s ≡ fromReference (referenceIn c code))
-  unfolding contentAt
-  reference-unread number at e m c n =
-      let r = nothing-reference code c n in
-      (r .0, ap (λ (l : Limits). contentOf Reference l s) (sym m) ∙ ap (contentAt Reference s) (was-refused (readFile Reference most s) number at e) ∙ r .1)
-
--- an accepted part in its flat forms: its reference has the counts of its stage
-module _ (s t : List ℕ) (c : Counts) (code : List ℕ) (d : Counts) (reference : List ℕ) (es : contentOf Stage partStageLimits s ≡ fromStage (stageIn c code))
-    (et : contentOf Reference partReferenceLimits t ≡ fromReference (referenceIn d reference)) (order : WordOrder) (z : verdictOn order (partFiles s t) .number ≡ 0) where
-  pub same-inputs : d .inputs ≡ c .inputs
-  same-inputs = ap (λ (x : Content). x .inputs) (sym et) ∙ sym (accepted-sound order (partFiles s t) z .1 .inputs) ∙ ap (λ (x : Content). x .inputs) es
-
-  pub same-outputs : d .outputs ≡ c .outputs
-  same-outputs = omega (
-    arith,
-    ap (λ (x : Content). length (x .outputs)) et,
-    ap (λ (x : Content). length (x .outputs)) es,
-    accepted-sound order (partFiles s t) z .1 .outputs,
-    length-map (stageIn c code .outputs) pairOperands,
-    length-map (referenceIn d reference .outputs) (λ (v : ℕ). v ∷ []),
-    outputs-count c code,
-    signals-count d reference,
-  )
 
 -- a flat form of few numbers has few care words
 pub few-care : {c : Counts} {code : List ℕ} {n : ℕ} → StageLoaded c code → length code ≡ n → n ≤ 0x10000 → c .care ≤ 0x10000
@@ -242,8 +174,8 @@ few-care l e h = omega (arith, l .room)
 -- ---- the parts' verdicts
 
 -- a verdict within limits that are those of a part
-pub judged-by : (order : WordOrder) (m n : Limits) (s t : List ℕ) (v : Verdict) → v ≡ verdictWithin order m n s t → m ≡ partStageLimits → n ≡ partReferenceLimits → v ≡ verdictOn order (partFiles s t)
-judged-by order m n s t v e em en = e ∙ ap₂ (λ (x y : Limits). verdictWithin order x y s t) em en ∙ sym (verdict-is order (partFiles s t))
+pub judged-by : (order : WordOrder) (m n : Limits) (s t : List ℕ) (v : Verdict) → v ≡ verdictOn order (filesWithin m n s t) → m ≡ partStageLimits → n ≡ partReferenceLimits → v ≡ verdictOn order (partFiles s t)
+judged-by order m n s t v e em en = e ∙ ap₂ (λ (x y : Limits). verdictOn order (filesWithin x y s t)) em en
 
 pub accepts-zero : {v w : Verdict} → v ≡ w → v .number ≡ 0 → w .number ≡ 0
 accepts-zero e z = ap (λ (x : Verdict). x .number) (sym e) ∙ z

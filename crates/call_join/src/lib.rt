@@ -1,8 +1,8 @@
 // The join of two stages with their references: output j of the first is tied to input j of the second, and the whole is written into two
 // buffers that the caller lends.
+use check_files::Judgement;
 use join_spec::JoinAnswer;
 use netlist::Counts;
-use netlist::Outcome;
 use verdict::Finding;
 use verdict::Verdict;
 use verdict::WordOrder;
@@ -132,41 +132,6 @@ fn refusal(verdict: Verdict) -> JoinAnswer
     }
 }
 
-// Reads and loads the stage of a part; what cannot be read counts for nothing.
-fn load_part(s: &[u8], code: &mut [u16]) -> Counts
-    requires { ⌜ 8 * stageLimits .gates + 2 * stageLimits .outputs + 2 ^ stageLimits .inputs ≤ length (now code) ⌝ }
-    ensures { λ r. ⌜ StageLoaded r (now (code .exit)) × (contentOf Stage partStageLimits (now (s .entry)) ≡ fromStage (stageIn r (now (code .exit)))) ⌝ }
-{
-    match circuit_load::read_stage_within(s, netlist::part_stage_limits(), code) {
-        Outcome::Readable(counts) => counts,
-        Outcome::Refused { number: _, at: _ } => Counts {
-            inputs: 0,
-            gates: 0,
-            outputs: 0,
-            care: 0,
-            floor: 0,
-        },
-    }
-}
-
-// The same of a part's reference.
-fn load_function(s: &[u8], code: &mut [u16]) -> Counts
-    requires { ⌜ 3 * referenceLimits .gates + referenceLimits .outputs ≤ length (now code) ⌝ }
-    ensures { λ r. ⌜ ReferenceLoaded r (now (code .exit)) × (contentOf Reference partReferenceLimits (now (s .entry))
-        ≡ fromReference (referenceIn r (now (code .exit)))) ⌝ }
-{
-    match circuit_load::read_reference_within(s, netlist::part_reference_limits(), code) {
-        Outcome::Readable(counts) => counts,
-        Outcome::Refused { number: _, at: _ } => Counts {
-            inputs: 0,
-            gates: 0,
-            outputs: 0,
-            care: 0,
-            floor: 0,
-        },
-    }
-}
-
 // 22, 23, 24, or the whole: two parts that were loaded, and buffers for their join. Both lengths are looked at before a byte is written.
 fn join_loaded(
     order: WordOrder,
@@ -230,44 +195,6 @@ fn join_loaded(
     }
 }
 
-// The join of two parts that are accepted.
-fn join_accepted(
-    order: WordOrder,
-    stage1: &[u8],
-    reference1: &[u8],
-    stage2: &[u8],
-    reference2: &[u8],
-    stage_out: &mut [u8],
-    reference_out: &mut [u8],
-) -> JoinAnswer
-    requires { ⌜ (verdictOn order (partFiles (now stage1) (now reference1)) .number ≡ 0) × (verdictOn order (partFiles (now stage2) (now reference2)) .number ≡ 0) ⌝ }
-    ensures { λ r. ⌜ Leaves (judge (seamChecks order (partFiles (now (stage1 .entry)) (now (reference1 .entry))) (partFiles (now (stage2 .entry))
-        (now (reference2 .entry))) (length (now («stage_out» .entry))) (length (now («reference_out» .entry))))) (whole (partFiles (now (stage1 .entry))
-        (now (reference1 .entry))) (partFiles (now (stage2 .entry)) (now (reference2 .entry)))) r (now («stage_out» .entry)) (now («reference_out» .entry))
-        (now («stage_out» .exit)) (now («reference_out» .exit)) ⌝ }
-{
-    let mut code1 = [0u16; circuit_load::STAGE_CODE];
-    let mut loaded1 = [0u16; circuit_load::REFERENCE_CODE];
-    let mut code2 = [0u16; circuit_load::STAGE_CODE];
-    let mut loaded2 = [0u16; circuit_load::REFERENCE_CODE];
-    let counts = FileCounts {
-        stage1: load_part(stage1, &mut code1),
-        reference1: load_function(reference1, &mut loaded1),
-        stage2: load_part(stage2, &mut code2),
-        reference2: load_function(reference2, &mut loaded2),
-    };
-    join_loaded(
-        order,
-        &code1,
-        &loaded1,
-        &code2,
-        &loaded2,
-        counts,
-        stage_out,
-        reference_out,
-    )
-}
-
 // The join of two stages with their references into two buffers. A part's own refusal is passed on, first part first, the second's with 3
 // added to its file; 22, 23 and 24 follow. Words are named in an order.
 pub fn join(
@@ -284,26 +211,52 @@ pub fn join(
 {
     let most = netlist::part_stage_limits();
     let reference_most = netlist::part_reference_limits();
-    let verdict1 = check_files::check_within(order, stage1, reference1, most, reference_most);
-    if verdict1.number != 0 {
-        return refusal(verdict1);
-    }
-    let verdict2 = check_files::check_within(order, stage2, reference2, most, reference_most);
-    if verdict2.number != 0 {
-        return refusal(Verdict {
-            number: verdict2.number,
-            file: verdict2.file + 3,
-            at: verdict2.at,
-            word: verdict2.word,
-        });
-    }
-    join_accepted(
+    let mut code1 = [0u16; circuit_load::STAGE_CODE];
+    let mut loaded1 = [0u16; circuit_load::REFERENCE_CODE];
+    let mut code2 = [0u16; circuit_load::STAGE_CODE];
+    let mut loaded2 = [0u16; circuit_load::REFERENCE_CODE];
+    match check_files::check_loading(
         order,
         stage1,
         reference1,
-        stage2,
-        reference2,
-        stage_out,
-        reference_out,
-    )
+        most,
+        reference_most,
+        &mut code1,
+        &mut loaded1,
+    ) {
+        Judgement::Refused(v) => refusal(v),
+        Judgement::Accepted(counts1, sizes1) => {
+            match check_files::check_loading(
+                order,
+                stage2,
+                reference2,
+                most,
+                reference_most,
+                &mut code2,
+                &mut loaded2,
+            ) {
+                Judgement::Refused(v) => refusal(Verdict {
+                    number: v.number,
+                    file: v.file + 3,
+                    at: v.at,
+                    word: v.word,
+                }),
+                Judgement::Accepted(counts2, sizes2) => join_loaded(
+                    order,
+                    &code1,
+                    &loaded1,
+                    &code2,
+                    &loaded2,
+                    FileCounts {
+                        stage1: counts1,
+                        reference1: sizes1,
+                        stage2: counts2,
+                        reference2: sizes2,
+                    },
+                    stage_out,
+                    reference_out,
+                ),
+            }
+        }
+    }
 }

@@ -1,40 +1,36 @@
 -- The whole stage, put part by part, and what the call answers by its checks.
 -- Assumes nothing.
-use Prim.Native.Nat.{ℕ, suc, _+_, _*_, _≤_, _<_}
+use Prim.Native.Nat.{ℕ, _+_, _*_, _≤_, _<_}
 use native.Mathlib.Omega.{arith}
 use mathlib.Core.Path.{_≡_, refl, sym, ap, ap₂, _∙_, subst}
 use mathlib.Core.Bool.{not}
-use mathlib.Core.List.{List, [], _∷_, _++_, append-assoc, map, flatMap}
-use lib.ListN.{length, getD, length-map, length-append}
+use mathlib.Core.List.{List, [], _∷_, map}
+use lib.ListN.{length, getD, length-map}
 use borrow.Author.Tests.{lt-ltb, le-ltb}
 use Rattle.netlist.specs.declared.File.the-variants as file
-use Rattle.netlist.specs.declared.Sort.the-variants as sort
 use Rattle.netlist.specs.declared.Counts.{Counts}
 use Rattle.netlist.specs.declared.Limits.{Limits}
 use Rattle.netlist.specs.declared.Found.{Found}
 use Rattle.netlist.specs.declared.Found.the-variants.{At, Nothing}
 use Rattle.netlist.specs.declared.Outcome.{Outcome}
 use Rattle.netlist.specs.declared.Outcome.the-variants as outcome
-use Rattle.netlist.specs.Commands as k
 use Rattle.netlist.specs.Commands.{whenFound}
-use Rattle.netlist.specs.Reading.{Reading, readable, readFile, stageLimits, referenceLimits}
+use Rattle.netlist.specs.Reading.{Reading, readFile, stageLimits, referenceLimits}
 use Rattle.netlist.specs.Read.{outcomeOf}
-use Rattle.netlist.specs.Content.{Coded, Reference}
 use Rattle.netlist.specs.Formed.{ReferenceFormed}
-use Rattle.netlist.specs.Writing.{Item, gate, output, All, writeItem}
+use Rattle.netlist.specs.Writing.{gate, output, All}
 use Rattle.netlist.proofs.References.{reference-formed}
 use Rattle.verdict.specs.declared.Verdict.{Verdict}
 use Rattle.verdict.specs.declared.Answer.{Answer}
 use Rattle.verdict.specs.Search.{least}
-use Rattle.verdict.specs.Written.{Written, answerOf, written, refuse}
+use Rattle.verdict.specs.Written.{Written, answerOf, written}
 use Rattle.verdict.proofs.Refusals.{refused-number}
 use Rattle.check_spec.specs.Cases.{verdict, accepted, first, judge}
 use Rattle.check_spec.specs.Content.{Content}
 use Rattle.check_spec.specs.Verdicts.{refusal}
-use Rattle.check_spec.specs.Writing as w
 use Rattle.check_spec.specs.Writing.{leaving}
 use Rattle.check_spec.proofs.Back.{reference-content}
-use Rattle.check_spec.proofs.Writing.{leaves-none}
+use Rattle.check_spec.proofs.Writing.{stage-bytes, leaves-none}
 use Rattle.make_spec.specs.Make.{built, railsAt, madeStage, leadsOut, referenceRead, madeBytes, makeChecks, makeChecksOn}
 use Rattle.check_spec.specs.Loaded.{fromReference}
 use Rattle.make_spec.specs.Count.{operations}
@@ -42,59 +38,20 @@ use Rattle.make_spec.proofs.Making.{needed-counted, laterVerdict, judged-by}
 use Rattle.write_command.specs.Put.{Put}
 use Rattle.write_command.specs.Parts.{bytesOf}
 use Rattle.write_command.proofs.Joining.{put-++, put-holding}
-use Rattle.write_command.proofs.Files.{bytes-length, stage-gate-width, stage-output-width}
+use Rattle.write_command.proofs.Files.{bytes-length, stage-gate-width, stage-output-width, file-parts, file-length}
 use Rattle.write_command.proofs.Putting.{put-same}
 use Rattle.circuit.specs.Reference.{signalIn, signalsIn, operatorIn, operatorsIn, referenceIn, ReferenceLoaded}
 use Rattle.circuit.proofs.Tabulate.{length-tabulate}
 use Rattle.circuit_load.specs.Load.{HoldsReference}
 use Rattle.circuit_load.proofs.Reading.{was-refused, reference-held}
-use Rattle.write_made.specs.Rails.{pairStored, pairsIn}
+use Rattle.write_made.specs.Rails.{contentIn, pairStored, pairsIn}
 use Rattle.call_make.proofs.Building.{signal-pair}
 
 -- ---- the stage
 
--- commands one after the other, as they are put
-flat-bytes : {X : Type 0} (item : X → Item) (bytes : X → List ℕ) → ((x : X) → bytes x ≡ writeItem file.Stage (item x)) → (l : List X) → flatMap bytes l ≡ bytesOf file.Stage item l
-unfolding flatMap bytesOf
-flat-bytes item bytes e [] = refl
-flat-bytes item bytes e (x ∷ l) = ap₂ (λ (a b : List ℕ). a ++ b) (e x) (flat-bytes item bytes e l)
-
-module _ (r : Reference) where
-  abbrev c : Content
-  c = fromReference r
-
-  -- the rails of the outputs
-  abbrev outs : List (List ℕ)
-  outs = map (λ (o : List ℕ). railsAt (built c) (getD o 0 0)) (c .outputs)
-
-  outs-long : length outs ≡ length (r .outputs)
-  outs-long = length-map (c .outputs) (λ (o : List ℕ). railsAt (built c) (getD o 0 0)) ∙ length-map (r .outputs) (λ (v : ℕ). v ∷ [])
-
-  made-parts : madeBytes c ≡ (0x01 ∷ r .inputs ∷ []) ++ (bytesOf file.Stage gate (built c .gates) ++ (bytesOf file.Stage output outs ++ (0x00 ∷ [])))
-  unfolding madeStage w.writeFile w.command w.rowFor k.commandTable k.ownCommands k.formIn flatMap
-  made-parts = ap₂ (λ (a b : List ℕ). 0x01 ∷ r .inputs ∷ a ++ (b ++ (0x00 ∷ [])))
-      (flat-bytes gate (λ (g : Coded). w.command file.Stage sort.Gate (g .code) (g .operands)) (λ g. refl) (built c .gates)) (flat-bytes output (w.command file.Stage sort.Output 0) (λ o. refl) outs)
-
-  made-long : length (madeBytes c) ≡ 3 + 10 * length (built c .gates) + 5 * length (r .outputs)
-  made-long =
-      let gates = bytesOf file.Stage gate (built c .gates) in
-      let outputs = bytesOf file.Stage output outs in
-      omega (arith, ap length made-parts, length-append gates (outputs ++ (0x00 ∷ [])), length-append outputs (0x00 ∷ []), outs-long,
-      bytes-length file.Stage gate 10 stage-gate-width (built c .gates), bytes-length file.Stage output 5 stage-output-width outs)
-
-  made-put : {b0 b1 b2 b3 b4 : List ℕ} {at end : ℕ} → Put b0 0 (0x01 ∷ r .inputs ∷ []) b1 → Put b1 2 (bytesOf file.Stage gate (built c .gates)) b2
-      → Put b2 at (bytesOf file.Stage output outs) b3 → Put b3 end (0x00 ∷ []) b4
-      → at ≡ 2 + 10 * length (built c .gates) → end ≡ at + 5 * length (r .outputs) → Put b0 0 (madeBytes c) b4
-  made-put p g o z e f =
-      put-same (sym made-parts)
-      (put-++ p
-      (put-++ g (put-++ o z (omega (arith, f, outs-long, bytes-length file.Stage output 5 stage-output-width outs))) (omega (arith, e, bytes-length file.Stage gate 10 stage-gate-width (built c .gates))))
-      refl)
-
--- of a reference in its flat form
 module _ (c : Counts) (code : List ℕ) where
   abbrev loaded : Content
-  loaded = fromReference (referenceIn c code)
+  loaded = contentIn c code
 
   outputs-count : length (signalsIn c code) ≡ c .outputs
   unfolding signalsIn
@@ -104,14 +61,31 @@ module _ (c : Counts) (code : List ℕ) where
   unfolding operatorsIn
   gates-count = length-tabulate (operatorIn code) (c .gates)
 
-  pub made-long-in : length (madeBytes loaded) ≡ 3 + 10 * length (built loaded .gates) + 5 * c .outputs
-  made-long-in = omega (arith, made-long (referenceIn c code), outputs-count)
+  -- the rails of the outputs
+  abbrev outs : List (List ℕ)
+  outs = madeStage loaded .outputs
 
-  pub made-put-in : {b0 b1 b2 b3 b4 : List ℕ} {at end : ℕ} (rails : List ℕ) → ReferenceFormed referenceLimits (referenceIn c code) → Put b0 0 (0x01 ∷ c .inputs ∷ []) b1
+  outs-long : length outs ≡ c .outputs
+  unfolding madeStage
+  outs-long = length-map (loaded .outputs) (λ (o : List ℕ). railsAt (built loaded) (getD o 0 0)) ∙ length-map (signalsIn c code) (λ (v : ℕ). v ∷ []) ∙ outputs-count
+
+  pub made-long : length (madeBytes loaded) ≡ 3 + 10 * length (built loaded .gates) + 5 * c .outputs
+  unfolding madeStage bytesOf
+  made-long =
+      ap length (stage-bytes (madeStage loaded)) ∙ file-length file.Stage gate output (c .inputs) [] (built loaded .gates) outs 10 5 refl stage-gate-width stage-output-width
+      ∙ omega (arith, outs-long)
+
+  pub made-put : {b0 b1 b2 b3 b4 : List ℕ} {at end : ℕ} (rails : List ℕ) → ReferenceFormed referenceLimits (referenceIn c code) → Put b0 0 (0x01 ∷ c .inputs ∷ []) b1
       → Put b1 2 (bytesOf file.Stage gate (built loaded .gates)) b2 → Put b2 at (bytesOf file.Stage output (map (pairStored rails) (signalsIn c code))) b3 → Put b3 end (0x00 ∷ []) b4
       → pairsIn rails (c .inputs + c .gates) ≡ built loaded .rails → at ≡ 2 + 10 * length (built loaded .gates) → end ≡ at + 5 * c .outputs → Put b0 0 (madeBytes loaded) b4
-  made-put-in rails formed p g o z e f h =
-      made-put (referenceIn c code) p g (put-same (ap (bytesOf file.Stage output) (rails-of (signalsIn c code) (formed .outputs-formed))) o) z f (omega (arith, h, outputs-count))
+  unfolding madeStage bytesOf
+  made-put rails formed p g o z e f h =
+      put-same (sym (stage-bytes (madeStage loaded) ∙ file-parts file.Stage gate output (c .inputs) [] (built loaded .gates) outs))
+      (put-++ p
+      (put-++ g
+      (put-++ (put-same (ap (bytesOf file.Stage output) (rails-of (signalsIn c code) (formed .outputs-formed))) o) z (omega (arith, h, outs-long, bytes-length file.Stage output 5 stage-output-width outs)))
+      (omega (arith, f, bytes-length file.Stage gate 10 stage-gate-width (built loaded .gates))))
+      refl)
     where
       rails-of : (l : List ℕ) → All (λ v. v < c .inputs + length (operatorsIn c code)) l
           → map (pairStored rails) l ≡ map (λ (o : List ℕ). railsAt (built loaded) (getD o 0 0)) (map (λ (v : ℕ). v ∷ []) l)

@@ -19,7 +19,6 @@ use Rattle.netlist.specs.Formed.{ReferenceFormed}
 use Rattle.netlist.specs.Writing.{gate}
 use Rattle.check_spec.specs.Lists.{numbers}
 use Rattle.make_spec.specs.Make.{Built, realize, railsAt, build, built}
-use Rattle.check_spec.specs.Loaded.{fromReference}
 use Rattle.make_spec.specs.Count.{operations}
 use Rattle.make_spec.proofs.Building.{operations-cons}
 use Rattle.make_spec.proofs.Making.{needed-counted}
@@ -32,7 +31,7 @@ use Rattle.circuit.specs.Stage.{tabulate}
 use Rattle.circuit.specs.Reference.{operationIn, operandIn, operatorIn, operatorsIn, referenceIn, ReferenceLoaded}
 use Rattle.circuit.proofs.Tabulate.{getD-tabulate, from-at, none-from, one-more, all-same}
 use Rattle.write_made.specs.declared.Rails.{Rails}
-use Rattle.write_made.specs.Rails.{pairOf, pairStored, pairsIn, becomes}
+use Rattle.write_made.specs.Rails.{contentIn, pairOf, pairStored, pairsIn, becomes}
 use Rattle.write_made.proofs.Operations.{not-gates, other-gates, one-operation}
 
 -- ---- rails
@@ -99,7 +98,7 @@ signal-pair rails m x b e l = ap (λ (l : List (List ℕ)). getD l x (0 ∷ 0 �
 
 module _ (c : Counts) (code : List ℕ) where
   abbrev whole : Built
-  whole = built (fromReference (referenceIn c code))
+  whole = built (contentIn c code)
 
   -- the gates before gate k are made: those after them make of these the whole
   pub record MadeTo (buffer₀ rails₀ buffer rails : List ℕ) (made k : ℕ) : Type 0 where

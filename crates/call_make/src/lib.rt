@@ -16,12 +16,11 @@ ghost use Rattle.check_spec.specs.Cases.{judge};
 ghost use Rattle.check_spec.specs.Lists.{numbers};
 ghost use Rattle.check_spec.specs.Writing.{leaving};
 ghost use Rattle.make_spec.specs.Make.{built, madeBytes, makeChecks, MakeDemand};
-ghost use Rattle.check_spec.specs.Loaded.{fromReference};
 ghost use Rattle.write_command.specs.Put.{Put};
 ghost use Rattle.write_command.specs.Parts.{bytesOf};
 ghost use Rattle.verdict.specs.Written.{written};
 ghost use Rattle.circuit.specs.Reference.{signalsIn, referenceIn, ReferenceLoaded};
-ghost use Rattle.write_made.specs.Rails.{pairStored, pairsIn};
+ghost use Rattle.write_made.specs.Rails.{contentIn, pairStored, pairsIn};
 
 // ---- the stage
 
@@ -44,12 +43,12 @@ fn put_gates(buffer: &mut [u8], reference: &[u16], sizes: Counts, rails: &mut [u
     requires { ⌜ ReferenceLoaded sizes (now reference) × ReferenceFormed referenceLimits (referenceIn sizes (now reference))
         × (2 * (sizes .inputs + sizes .gates) ≤ length (now rails))
         × (pairsIn (now rails) (sizes .inputs) ≡ map (λ i. 2 * i ∷ (2 * i + 1) ∷ []) (numbers 0 (sizes .inputs)))
-        × (length (built (fromReference (referenceIn sizes (now reference))) .gates) ≤ stageLimits .gates)
-        × (2 + 10 * length (built (fromReference (referenceIn sizes (now reference))) .gates) ≤ length (now buffer)) ⌝ }
-    ensures count { λ r. ⌜ r ≡ length (built (fromReference (referenceIn sizes (now (reference .entry)))) .gates) ⌝ }
-    ensures put { λ r. ⌜ Put (now (buffer .entry)) 2 (bytesOf file.Stage writing.gate (built (fromReference (referenceIn sizes (now (reference .entry)))) .gates))
+        × (length (built (contentIn sizes (now reference)) .gates) ≤ stageLimits .gates)
+        × (2 + 10 * length (built (contentIn sizes (now reference)) .gates) ≤ length (now buffer)) ⌝ }
+    ensures count { λ r. ⌜ r ≡ length (built (contentIn sizes (now (reference .entry))) .gates) ⌝ }
+    ensures put { λ r. ⌜ Put (now (buffer .entry)) 2 (bytesOf file.Stage writing.gate (built (contentIn sizes (now (reference .entry))) .gates))
         (now (buffer .exit)) ⌝ }
-    ensures rails { λ r. ⌜ (pairsIn (now (rails .exit)) (sizes .inputs + sizes .gates) ≡ built (fromReference (referenceIn sizes (now (reference .entry)))) .rails)
+    ensures rails { λ r. ⌜ (pairsIn (now (rails .exit)) (sizes .inputs + sizes .gates) ≡ built (contentIn sizes (now (reference .entry))) .rails)
         × (length (now (rails .exit)) ≡ length (now (rails .entry))) ⌝ }
 {
     let count = sizes.gates;
@@ -82,9 +81,9 @@ fn put_outputs(buffer: &mut [u8], at: usize, reference: &[u16], sizes: Counts, r
 // The whole stage: inputs, gates, outputs, end.
 fn put_stage(buffer: &mut [u8], reference: &[u16], sizes: Counts)
     requires { ⌜ ReferenceLoaded sizes (now reference) × ReferenceFormed referenceLimits (referenceIn sizes (now reference))
-        × (length (built (fromReference (referenceIn sizes (now reference))) .gates) ≤ stageLimits .gates)
-        × (length (madeBytes (fromReference (referenceIn sizes (now reference)))) ≤ length (now buffer)) ⌝ }
-    ensures { λ _. ⌜ Put (now (buffer .entry)) 0 (madeBytes (fromReference (referenceIn sizes (now (reference .entry))))) (now (buffer .exit)) ⌝ }
+        × (length (built (contentIn sizes (now reference)) .gates) ≤ stageLimits .gates)
+        × (length (madeBytes (contentIn sizes (now reference))) ≤ length (now buffer)) ⌝ }
+    ensures { λ _. ⌜ Put (now (buffer .entry)) 0 (madeBytes (contentIn sizes (now (reference .entry)))) (now (buffer .exit)) ⌝ }
 {
     let mut rails = [0u16; 2 * circuit::SIGNALS];
     input_rails(&mut rails, sizes.inputs);
@@ -100,8 +99,8 @@ fn put_stage(buffer: &mut [u8], reference: &[u16], sizes: Counts)
 // 25, 26, 27, or the stage, of a reference that was loaded. The length is known before a byte is written.
 fn make_loaded(reference: &[u16], sizes: Counts, buffer: &mut [u8]) -> Answer
     requires { ⌜ ReferenceLoaded sizes (now reference) × ReferenceFormed referenceLimits (referenceIn sizes (now reference)) ⌝ }
-    ensures { λ r. ⌜ written r (now (buffer .exit)) ≡ leaving (judge (makeChecks (fromReference (referenceIn sizes (now (reference .entry))))
-        (length (now (buffer .entry))))) (madeBytes (fromReference (referenceIn sizes (now (reference .entry))))) (now (buffer .entry)) ⌝ }
+    ensures { λ r. ⌜ written r (now (buffer .exit)) ≡ leaving (judge (makeChecks (contentIn sizes (now (reference .entry)))
+        (length (now (buffer .entry))))) (madeBytes (contentIn sizes (now (reference .entry)))) (now (buffer .entry)) ⌝ }
 {
     if let Found::At(x) = write_made::leading_nowhere(reference, sizes) {
         return write_command::refused(Verdict {

@@ -42,10 +42,11 @@ use Rattle.check_spec.specs.Rows.{netOf, risen, fallen}
 use Rattle.check_spec.specs.Words.{IsWord, railsFor, caresFor, spelled, names, operate, values, answer}
 use Rattle.check_spec.specs.Checks.{rest}
 use Rattle.check_spec.specs.Demands.{LoopFree}
+use Rattle.check_spec.specs.Loaded.{stageView, referenceView}
 use Rattle.check_spec.proofs.Loops.{some-in, some-out, risen-is, fallen-is}
 use Rattle.check_spec.proofs.Names.{same-bits}
 use Rattle.check_spec.proofs.OneWord.{inside}
-use Rattle.check_spec.proofs.View.{stageView, referenceView, net-view}
+use Rattle.check_spec.proofs.View.{net-view}
 
 -- ---- bits
 

@@ -1,15 +1,16 @@
 -- The verdict as the first failing case is the one that the code finds, check by check: the law that joins the definitions with those of the code.
 -- Assumes nothing.
-use Prim.Native.Nat.{ℕ, zero, suc, _+_, _-_, _*_, _^_, _<_}
+use Prim.Native.Nat.{ℕ, zero, suc, _+_, _-_, _*_, _^_, _≤_, _<_}
 use native.Mathlib.Omega.{arith}
 use mathlib.Core.Path.{_≡_, refl, sym, ap, ap₂, _∙_, subst, fun-ext}
 use mathlib.Core.Logic.{inl, inr}
-use mathlib.Core.Bool.{Bool, true, false, cond, not, _&&_}
-use mathlib.Core.List.{List, [], _∷_, map, flatMap}
+use mathlib.Core.Bool.{Bool, true, false, cond, not, _&&_, _||_}
+use mathlib.Core.List.{List, [], _∷_, map, flatMap, _++_}
 use lib.ListN.{length, getD, length-map}
 use lib.Dec.{eqb, ltb}
 use Rattle.gates.specs.Cell.{bit, isRetired}
 use Rattle.runs.specs.Row.{Row}
+use Rattle.runs.specs.Theory.{AllHold}
 use Rattle.runs.specs.Net.{Net, nets}
 use Rattle.runs.specs.Pair.{AllData, AllNull}
 use Rattle.runs.proofs.Test.{clash, not-true}
@@ -34,21 +35,22 @@ use Rattle.verdict.specs.Verdicts as given
 use Rattle.verdict.proofs.Words.{in-index}
 use Rattle.verdict.proofs.Reaching.{reaches-sound, reaches-complete}
 use Rattle.verdict.proofs.Rising.{never-rises, rises-never}
-use Rattle.verdict.proofs.Because.{data-true, true-data, null-true, true-null}
 use Rattle.check_spec.specs.Cases.{verdict, accepted, case, Check, first, judge, sweep, unequal}
-use Rattle.check_spec.specs.Lists.{numbers, bitOf, reaches}
+use Rattle.check_spec.specs.Lists.{xor, numbers, every, bitOf, reaches}
 use Rattle.check_spec.specs.Content.{Content, Files, contentAt}
 use Rattle.check_spec.specs.Rows.{noGate, driver, cellIn, netOf, dataOf, allData, allNull, feeding, reachesItself}
-use Rattle.check_spec.specs.Words.{spelled, names, answer}
-use Rattle.check_spec.specs.Checks.{rest, wrong, incomplete, highAnd, unobservable, fallIncomplete, fallUnobservable, looped, retired, swept, neverRises, idle, checks}
+use Rattle.check_spec.specs.Words.{spelled, names, IsWord, answer}
+use Rattle.check_spec.specs.Checks.{rest, wrong, incomplete, highAnd, unobservable, fallIncomplete, fallUnobservable, looped, retiredGate, retired, swept, neverRises, idle, checks}
 use Rattle.check_spec.specs.Verdicts.{refusal, verdictOn}
 use Rattle.check_spec.specs.Demands.{Pass, LoopFree}
+use Rattle.check_spec.specs.Loaded.{pairOf, stageView, referenceView}
 use Rattle.check_spec.proofs.First.{first-pass, first-++}
-use Rattle.check_spec.proofs.Laws.{Laws, none, _&_, equal-passes, gates-passes}
+use Rattle.check_spec.proofs.OneWord.{CleanFall, hold-clean}
+use Rattle.check_spec.proofs.Laws.{Law, Laws, none, _&_, equal-passes, gates-passes, swept-passes}
 use Rattle.check_spec.proofs.Loops.{loop-found, found-loop, feeding-gate}
 use Rattle.check_spec.proofs.Pairs.{all-data, all-null}
-use Rattle.check_spec.proofs.View.{pairOf, stageView, referenceView, stage-view, reference-view, net-view, rail-view}
-use Rattle.check_spec.proofs.Alike.{spelled-alike, names-alike, answer-alike, rest-alike, missing-alike, held-alike, but-alike, keeping-alike, word-in, in-word, read-care}
+use Rattle.check_spec.proofs.View.{stage-view, reference-view, net-view, rail-view}
+use Rattle.check_spec.proofs.Alike.{spelled-alike, names-alike, answer-alike, rest-alike, missing-alike, held-alike, but-alike, keeping-alike, word-in, in-word}
 use Rattle.check_spec.proofs.Rising.{never-low, low-never}
 
 -- ---- a sweep finds what its cases say
@@ -132,17 +134,61 @@ alike-judge (also {c = c} {d = d} {cs = cs} {ds = ds} e a) = e (judge cs) ∙ go
     go (Fault v) q later = rw q
     go Passed q later = rw q (later (same-pass c (λ y. e y ∙ ap (λ (x : Finding). faultOr x y) q)))
 
--- the code finds nothing in a whole
-pub alike-passed : {Whole : Type 0} {Claim : Verdict → Type 0} {cs : List Check} {ds : List found.Check} → Alike cs ds → Laws Whole Claim cs → Whole → found.firstFault ds ≡ Passed
+abbrev pub AllPass : List Check → Type 0
+AllPass [] = Unit {0}
+AllPass (c ∷ cs) = Pass c × AllPass cs
+
+-- the code finds nothing exactly if all checks pass
+pub alike-passed : {cs : List Check} {ds : List found.Check} → Alike cs ds → AllPass cs → found.firstFault ds ≡ Passed
 unfolding found.firstFault found.orLater
-alike-passed alike none w = refl
-alike-passed (also {c = c} {d = d} {ds = ds} e a) (l & ls) w = let p = l .passes .1 (l .in-whole w) in go (found.finding d) (λ y. sym (e y) ∙ first-pass c y p) (alike-passed (a p) ls w)
+alike-passed alike p = refl
+alike-passed (also {c = c} {d = d} {ds = ds} e a) p = go (found.finding d) (λ y. sym (e y) ∙ first-pass c y (p .0)) (alike-passed (a (p .0)) (p .1))
   where
     go : (x : Finding) → ((later : Verdict) → faultOr x later ≡ later) → found.firstFault ds ≡ Passed → found.orLater x (found.firstFault ds) ≡ Passed
     go (Fault v) same later = absurd (omega (arith, ap (λ (x : Verdict). x .number) (sym (same accepted) ∙ same (verdict 1 0 0 0))))
     go Passed same later = later
 
+pub passed-alike : {cs : List Check} {ds : List found.Check} → Alike cs ds → found.firstFault ds ≡ Passed → AllPass cs
+unfolding found.firstFault found.orLater
+passed-alike alike e = tt
+passed-alike (also {c = c} {d = d} {cs = cs} {ds = ds} e a) q = go (found.finding d) refl q (λ p. passed-alike (a p))
+  where
+    go : (x : Finding) → found.finding d ≡ x → found.orLater x (found.firstFault ds) ≡ Passed → (Pass c → found.firstFault ds ≡ Passed → AllPass cs) → Pass c × AllPass cs
+    go (Fault v) z q later = let y : _≡_ {A = ℕ} 0 1 = cc in absurd (omega arith)
+    go Passed z q later = let p = same-pass c (λ y. e y ∙ ap (λ (x : Finding). faultOr x y) z) in (p, later p q)
+
+-- all pass in a whole
+pub whole-passes : {Whole : Type 0} {Claim : Verdict → Type 0} → Whole → {cs : List Check} → Laws Whole Claim cs → AllPass cs
+whole-passes w none = tt
+whole-passes w (l & ls) = (l .passes .1 (l .in-whole w), whole-passes w ls)
+
 -- ---- the tests
+
+every-shift : (test : ℕ → Bool) (j m : ℕ) → every test (numbers (suc j) m) ≡ every (λ i. test (suc i)) (numbers j m)
+unfolding every numbers
+every-shift test j zero = refl
+every-shift test j (suc m) = ap (λ (b : Bool). cond (test (suc j)) b false) (every-shift test (suc j) m)
+
+-- every pair of outputs passes a test of its two levels
+every-pair : (T : Bool → Bool → Bool) (test : levels.DualRail → Bool) → ((a b : Bool) → T a b ≡ test (levels.dualRail a b)) → (row : List ℕ) (outputs : List (List ℕ))
+    → every (λ j. T (code.rowOf row (getD (getD outputs j []) 0 0)) (code.rowOf row (getD (getD outputs j []) 1 0))) (numbers 0 (length outputs)) ≡ levels.everyPair test row (map pairOf outputs)
+unfolding every numbers levels.everyPair
+every-pair T test same row [] = refl
+every-pair T test same row (o ∷ outputs) = rw (same (code.rowOf row (getD o 0 0)) (code.rowOf row (getD o 1 0)))
+    (ap (λ (b : Bool). cond (test (levels.pairIn row (pairOf o))) b false)
+    (every-shift (λ j. T (code.rowOf row (getD (getD (o ∷ outputs) j []) 0 0)) (code.rowOf row (getD (getD (o ∷ outputs) j []) 1 0))) 0 (length outputs) ∙ every-pair T test same row outputs))
+
+is-data : (a b : Bool) → xor a b ≡ levels.isData (levels.dualRail a b)
+is-data true true = refl
+is-data true false = refl
+is-data false true = refl
+is-data false false = refl
+
+is-null : (a b : Bool) → not (a || b) ≡ levels.isNull (levels.dualRail a b)
+is-null true true = refl
+is-null true false = refl
+is-null false true = refl
+is-null false false = refl
 
 -- two tests that pass together
 pub together : (a b : Bool) → (a ≡ true → b ≡ true) → (b ≡ true → a ≡ true) → a ≡ b
@@ -190,14 +236,10 @@ module _ (c : Content) where
       at (g ∷ gates) (suc k) h = at gates k (omega arith)
 
   data-alike : (row : List ℕ) (R : Row) → code.rowOf row ≡ R → allData (netOf c) R ≡ levels.allData row (v .outputs)
-  data-alike row R e = together _ _
-      (λ p. true-data v row (subst (λ (N : Net). AllData N (code.rowOf row)) (sym (net-view c)) (subst (AllData (netOf c)) (sym e) (all-data (netOf c) R .0 p))))
-      (λ p. all-data (netOf c) R .1 (subst (AllData (netOf c)) e (subst (λ (N : Net). AllData N (code.rowOf row)) (net-view c) (data-true v row p))))
+  data-alike row R e = ap (allData (netOf c)) (sym e) ∙ every-pair xor levels.isData is-data row (c .outputs)
 
   null-alike : (row : List ℕ) (R : Row) → code.rowOf row ≡ R → allNull (netOf c) R ≡ levels.allNull row (v .outputs)
-  null-alike row R e = together _ _
-      (λ p. true-null v row (subst (λ (N : Net). AllNull N (code.rowOf row)) (sym (net-view c)) (subst (AllNull (netOf c)) (sym e) (all-null (netOf c) R .0 p))))
-      (λ p. all-null (netOf c) R .1 (subst (AllNull (netOf c)) e (subst (λ (N : Net). AllNull N (code.rowOf row)) (net-view c) (null-true v row p))))
+  null-alike row R e = ap (allNull (netOf c)) (sym e) ∙ every-pair (λ a b. not (a || b)) levels.isNull is-null row (c .outputs)
 
   module _ (r : Content) (free : LoopFree (netOf c)) (w : ℕ) where
     wrong-alike : (j : ℕ) → j < length (r .outputs) → wrong c r w j ≡ found.wrong v (referenceView r) w j
@@ -310,6 +352,36 @@ module _ (order : WordOrder) (c : Content) where
     signals-long : length (r .outputs) ≡ length (q .outputs)
     signals-long = sym (length-map (r .outputs) (λ (vs : List ℕ). getD vs 0 0))
 
+    -- the checks of the rise and those of the fall, with others after them
+    module _ (free : LoopFree (netOf c)) where
+      rises-alike : length (c .outputs) ≤ length (r .outputs) → {cs : List Check} {ds : List found.Check} → Alike cs ds
+          → Alike (swept order c 13 1 (length (c .outputs)) (wrong c r) ∷ swept order c 14 1 (c .inputs) (incomplete c) ∷ swept order c 15 1 (length (c .gates)) (unobservable c) ∷ cs) (found.riseSweeps order s q ++ ds)
+      unfolding found.riseSweeps found.finding
+      rises-alike few later =
+          also (swept-is 13 1 (length (c .outputs)) (length (s .outputs)) (wrong c r) (found.wrong s q) outputs-long (λ w j h. wrong-alike c r free w j (omega arith))) λ n13.
+          also (swept-is 14 1 (c .inputs) (c .inputs) (incomplete c) (found.incomplete s) refl (λ w i h. incomplete-alike c r free w i)) λ n14.
+          also (swept-is 15 1 (length (c .gates)) (length (s .gates)) (unobservable c) (found.unobservable s) gates-long (λ w g h. unobservable-alike c r free w g h)) λ n15. later
+
+      falls-alike : {cs : List Check} {ds : List found.Check} → Alike cs ds
+          → Alike (swept order c 20 1 (c .inputs) (fallIncomplete c) ∷ swept order c 21 1 (length (c .gates)) (fallUnobservable c) ∷ cs) (found.fallSweeps order s q ++ ds)
+      unfolding found.fallSweeps found.finding
+      falls-alike later =
+          also (swept-is 20 1 (c .inputs) (c .inputs) (fallIncomplete c) (found.fallIncomplete s) refl (λ w i h. fall-incomplete-alike c r free w i)) λ n20.
+          also (swept-is 21 1 (length (c .gates)) (length (s .gates)) (fallUnobservable c) (found.fallUnobservable s) gates-long (λ w g h. fall-unobservable-alike c r free w g)) λ n21. later
+
+      -- with hold everywhere the code passes the fall where it passes the rise
+      pub hold-passes : length (c .outputs) ≤ length (r .outputs) → AllHold (netOf c) → found.firstFault (found.riseSweeps order s q) ≡ Passed → found.firstFault (found.fallSweeps order s q) ≡ Passed
+      unfolding found.riseSweeps found.fallSweeps
+      hold-passes few hold e =
+          let p = passed-alike (rises-alike few alike) e in
+          let clean : (w : ℕ) → IsWord c w → CleanFall c w = λ w i. hold-clean c r free w hold (record {
+            right = swept-passes c order 13 1 (length (c .outputs)) (wrong c r) .0 (p .0) w i;
+            complete = swept-passes c order 14 1 (c .inputs) (incomplete c) .0 (p .1 .0) w i;
+            observable = swept-passes c order 15 1 (length (c .gates)) (unobservable c) .0 (p .1 .1 .0) w i;
+          }) in
+          alike-passed (falls-alike alike) (swept-passes c order 20 1 (c .inputs) (fallIncomplete c) .1 (λ w i. clean w i .complete), (swept-passes c order 21 1 (length (c .gates)) (fallUnobservable c) .1 (λ w i. clean w i .observable), tt))
+
+    -- all of them, of a stage whose care words rise
     pub checks-alike : Ascending (2 ^ c .inputs) 0 (c .care) → Alike (checks order c r) (found.checks order s q)
     unfolding checks looped retired idle found.checks found.riseSweeps found.fallSweeps found.finding
     checks-alike care =
@@ -317,32 +389,9 @@ module _ (order : WordOrder) (c : Content) where
         also (unequal-is 11 (length (c .outputs)) (length (r .outputs)) (length (s .outputs)) (length (q .outputs)) outputs-long signals-long) λ n11.
         also (placed-is 12 1 (length (c .gates)) (length (s .gates)) (λ g. reachesItself (netOf c) (2 * c .inputs + g))
         (loops.reachesItself (c .inputs) (s .gates)) gates-long (loop-alike c)) λ n12.
-        also (placed-is 28 1 (length (c .gates)) (length (s .gates)) (λ g. isRetired (cellIn (driver c (2 * c .inputs + g))))
-        (retire.retiredAt (s .gates)) gates-long (retired-alike c)) λ n28.
+        also (placed-is 28 1 (length (c .gates)) (length (s .gates)) (retiredGate c) (retire.retiredAt (s .gates)) gates-long (retired-alike c)) λ n28.
         let o = equal-passes 11 0 (length (c .outputs)) (length (r .outputs)) (length (c .outputs)) (length (r .outputs)) .0 n11 in
         let free = gates-passes c 12 (reachesItself (netOf c)) .0 n12 in
-        also (swept-is 13 1 (length (c .outputs)) (length (s .outputs)) (wrong c r) (found.wrong s q) outputs-long (λ w j h. wrong-alike c r free w j (omega (arith, o)))) λ n13.
-        also (swept-is 14 1 (c .inputs) (c .inputs) (incomplete c) (found.incomplete s) refl (λ w i h. incomplete-alike c r free w i)) λ n14.
-        also (swept-is 15 1 (length (c .gates)) (length (s .gates)) (unobservable c) (found.unobservable s) gates-long (λ w g h. unobservable-alike c r free w g h)) λ n15.
-        also (swept-is 20 1 (c .inputs) (c .inputs) (fallIncomplete c) (found.fallIncomplete s) refl (λ w i h. fall-incomplete-alike c r free w i)) λ n20.
-        also (swept-is 21 1 (length (c .gates)) (length (s .gates)) (fallUnobservable c) (found.fallUnobservable s) gates-long (λ w g h. fall-unobservable-alike c r free w g)) λ n21.
-        also (placed-is 32 1 (length (c .gates)) (length (s .gates)) (λ g. neverRises c (2 * c .inputs + g)) (found.neverRises s) gates-long
-        (λ g h. never-alike c free care g)) λ n32.
-        alike
-
--- ---- the verdict
-
--- the law that joins the two
-pub verdict-is : (order : WordOrder) (f : Files) → verdictOn order f ≡ given.verdictWithin order (f .stageMost) (f .referenceMost) (f .stage) (f .reference)
-unfolding judge first refusal given.verdictWithin given.judgeStage given.judgeReference
-verdict-is order f = go (readFile file.Stage (f .stageMost) (f .stage)) (readFile file.Reference (f .referenceMost) (f .reference)) refl refl
-  where
-    go : (x y : Reading) → readFile file.Stage (f .stageMost) (f .stage) ≡ x → readFile file.Reference (f .referenceMost) (f .reference) ≡ y
-        → first (refusal file.Stage x) (first (refusal file.Reference y) (judge (checks order (contentAt file.Stage (f .stage) x) (contentAt file.Reference (f .reference) y))))
-        ≡ given.judgeStage order (f .referenceMost) (f .stage) (f .reference) x
-    go (refused number at) y s e = refl
-    go (readable p) (refused number at) s e = rw e
-    go (readable p) (readable p′) s e =
-        rw e (alike-judge (checks-alike order (contentAt file.Stage (f .stage) (readable p)) (contentAt file.Reference (f .reference) (readable p′))
-        (read-care (f .stageMost) (f .stage) p s))
-        ∙ ap₂ (λ (s : parsed.Stage) (r : parsed.Reference). given.verdictOf (found.firstFault (found.checks order s r))) (stage-view (f .stage) p) (reference-view (f .reference) p′))
+        rises-alike free (omega arith) (falls-alike free
+        (also (placed-is 32 1 (length (c .gates)) (length (s .gates)) (λ g. neverRises c (2 * c .inputs + g)) (found.neverRises s) gates-long
+        (λ g h. never-alike c free care g)) λ n32. alike))

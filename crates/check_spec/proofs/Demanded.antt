@@ -24,7 +24,7 @@ use Rattle.check_spec.proofs.First.{judged, places-first}
 use Rattle.check_spec.proofs.Loops.{some-all, loops, settled-is, risen-is, fallen-is}
 use Rattle.check_spec.proofs.Pairs.{data-of, all-data, all-null}
 use Rattle.check_spec.proofs.OneWord.{inside, hold-clean}
-use Rattle.check_spec.proofs.Laws.{before, claimed, not-named, judge-from}
+use Rattle.check_spec.proofs.Laws.{numbersOf, before, claimed, not-named, judge-from}
 use Rattle.check_spec.proofs.Sound.{Ran, laws, past-reading, reads-past, accepted-faultless, accepted-sound, idle-sound, faultless-accepted, sound-answers, sound-kept}
 
 -- demand 3 speaks of numbers above 12, and of none by which a file is refused in reading
@@ -40,6 +40,11 @@ module _ (order : WordOrder) (f : Files) where
 
   abbrev number : Verdict → ℕ
   number v = v .number
+
+  -- the checks stand in the order of the papers: 28 "between 12 and 13", 20 and 21 "after 15", 32 "after all other checks"
+  pub check-order : numbersOf (laws f order) ≡ 10 ∷ 11 ∷ 12 ∷ 28 ∷ 13 ∷ 14 ∷ 15 ∷ 20 ∷ 21 ∷ 32 ∷ []
+  unfolding laws
+  check-order = refl
 
   -- ---- demand 2
 

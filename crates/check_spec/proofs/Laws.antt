@@ -153,6 +153,11 @@ module _ {Whole : Type 0} {Claim : Verdict → Type 0} where
       go true p later = refl
       go false p later = judge-pass c cs (l .passes .1 (p .0)) ∙ later (p .1)
 
+  -- the numbers of a list, in its order
+  abbrev pub numbersOf : {cs : List Check} → Laws Whole Claim cs → List ℕ
+  numbersOf none = []
+  numbersOf (_&_ {number = k} l ls) = k ∷ numbersOf ls
+
 -- ---- laws of checks
 
 -- where a check passes that compares two numbers, one that looks at some places, one at the gates, and one that sweeps the words

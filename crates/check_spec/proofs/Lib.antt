@@ -16,3 +16,7 @@ pub mod Row
 pub mod Writing
 pub mod Formed
 pub mod Back
+pub mod Cut
+pub mod Hold
+pub mod Retired
+pub mod Careless

@@ -39,13 +39,14 @@ use Rattle.check_spec.specs.Rows.{netOf, risen, reachesItself}
 use Rattle.check_spec.specs.Checks.{illegal, looped, rowChecks}
 use Rattle.check_spec.specs.Verdicts.{refusal, reading, railsIn, rowStage, rowChecksOn, rowVerdict, settledBytes, rowAfter}
 use Rattle.check_spec.specs.Demands.{Pass, Judged, LoopFree, TheOnly, RisesTo, RowGiven, Fits, DemandRow}
+use Rattle.check_spec.specs.Loaded.{stageView}
 use Rattle.check_spec.proofs.First.{judged}
-use Rattle.check_spec.proofs.Laws.{Laws, none, _&_, judge-later, before, claimed, equal-law, places-law, gates-law}
+use Rattle.check_spec.proofs.Laws.{Laws, none, _&_, numbersOf, judge-later, before, claimed, equal-law, places-law, gates-law}
 use Rattle.check_spec.proofs.Sound.{reading-number}
 use Rattle.check_spec.proofs.Loops.{acyclic, settled-is}
-use Rattle.check_spec.proofs.View.{stageView, stage-view, net-view}
+use Rattle.check_spec.proofs.View.{stage-view, net-view}
 use Rattle.check_spec.proofs.Alike.{rise-alike, list-is, level}
-use Rattle.check_spec.proofs.Bridge.{Alike, alike, also, alike-judge, alike-passed, sweep-is, placed-is, loop-alike}
+use Rattle.check_spec.proofs.Bridge.{Alike, alike, also, alike-judge, alike-passed, whole-passes, sweep-is, placed-is, loop-alike}
 
 -- ---- the verdict
 
@@ -65,13 +66,17 @@ module _ (c : Content) (row : List ℕ) where
       also (placed-is 17 3 (c .inputs) (c .inputs) (illegal row) (found.illegal row) refl (λ i h. refl)) λ n17.
       alike
 
-  unfoldable row-laws : Laws (Fits c row) (λ v. ¬ (v .number ≡ 28)) (rowChecks c row)
+  unfoldable pub row-laws : Laws (Fits c row) (λ v. ¬ (v .number ≡ 28)) (rowChecks c row)
   unfolding rowChecks looped
   row-laws =
       gates-law c 12 (reachesItself (netOf c)) (λ h. h .loop-free) (λ g q. omega arith)
       & equal-law 16 3 (length row) 0 (length row) (nets (netOf c)) (λ h. h .long) (λ q. omega arith)
       & places-law 17 3 (c .inputs) (illegal row) (λ h. h .legal) (λ i q. omega arith)
       & none
+
+  pub row-order : numbersOf row-laws ≡ 12 ∷ 16 ∷ 17 ∷ []
+  unfolding row-laws
+  row-order = refl
 
   -- a row that passes fits the stage
   fitting : judge (rowChecks c row) .number ≡ 0 → Fits c row
@@ -171,7 +176,7 @@ row-is stage row = go (readFile file.Stage (stageLimits) stage) refl
         → (x : Finding) → found.firstFault (found.rowChecks (stageView c) row) ≡ x → RowIs stage row (given.settleUnless x (stageView c) row)
     settle c is e (Fault v) f =
         let z : judge (rowChecks c row) ≡ v = alike-judge (row-checks-alike c row) ∙ ap given.verdictOf f in
-        let found-none : Fits c row → Fault v ≡ Passed = λ fit. sym f ∙ alike-passed (row-checks-alike c row) (row-laws c row) fit in
+        let found-none : Fits c row → Fault v ≡ Passed = λ fit. sym f ∙ alike-passed (row-checks-alike c row) (whole-passes fit (row-laws c row)) in
         refuse v (e ∙ z) (λ q. fault-passed (found-none (fitting c row (number-of z ∙ q)))) (λ read fit. absurd (fault-passed (found-none (subst (λ (x : Content). Fits x row) is fit))))
         (⊎-elim (λ n q. n (number-of z ∙ q)) (λ y q. omega (arith, number-of (sym z ∙ y))) (claimed (row-laws c row)))
     settle c is e Passed f =

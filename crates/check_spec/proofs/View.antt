@@ -15,16 +15,8 @@ use Rattle.netlist.specs.Content as old
 use Rattle.netlist.specs.Content.{Coded, Pair, codedAt, gateOf, pairAt, stageOf, referenceOf, holdOf}
 use Rattle.verdict.specs.Nets as nets
 use Rattle.check_spec.specs.Content.{Content, contentAt}
+use Rattle.check_spec.specs.Loaded.{pairOf, stageView, referenceView}
 use Rattle.check_spec.specs.Rows.{noGate, driver, setIn, netOf}
-
-abbrev pub pairOf : List ℕ → Pair
-pairOf vs = record { rail0 = getD vs 0 0; rail1 = getD vs 1 0 }
-
-abbrev pub stageView : Content → old.Stage
-stageView c = record { inputs = c .inputs; gates = map gateOf (c .gates); outputs = map pairOf (c .outputs); care = c .care }
-
-abbrev pub referenceView : Content → old.Reference
-referenceView c = record { inputs = c .inputs; gates = c .gates; outputs = map (λ (vs : List ℕ). getD vs 0 0) (c .outputs) }
 
 -- ---- files
 

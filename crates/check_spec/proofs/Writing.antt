@@ -81,19 +81,25 @@ unfolding k.commandTable k.ownCommands k.formIn
 wired file.Stage s at = refl
 wired file.Reference s at = refl
 
-pub content-write : (f : File) (most : Limits) (c : Content) → FileFits f most (c .inputs) (itemsOf c)
-    → contentOf f most (items.writeFile f (c .inputs) (itemsOf c)) ≡ c
+-- the items of a file that fits, as a content
+pub items-content : (f : File) (most : Limits) (n : ℕ) (is : List Item) → FileFits f most n is
+    → contentOf f most (items.writeFile f n is) ≡ record { inputs = n; gates = gatesIn is; outputs = outputsIn is; care = careIn is }
 unfolding contentAt
-content-write f most c fits = rw (read-write f most (c .inputs) (itemsOf c) fits) (λ i. record {
-  inputs = c .inputs;
-  gates = (gates-write f most (c .inputs) (itemsOf c) fits ∙ gates-of c) i;
-  outputs = (outs (outputPlaces f 2 (itemsOf c)) ∙ outputs-write f most (c .inputs) (itemsOf c) fits ∙ outputs-of c) i;
-  care = cares-of c i;
+items-content f most n is fits = rw (read-write f most n is fits) (λ i. record {
+  inputs = n;
+  gates = gates-write f most n is fits i;
+  outputs = (outs (outputPlaces f 2 is) ∙ outputs-write f most n is fits) i;
+  care = careIn is;
 })
   where
-    outs : (l : List ℕ) → map (λ at. operands (items.writeFile f (c .inputs) (itemsOf c)) (at + 1) (railsOfOutput f)) l ≡ map (wiredAt f (items.writeFile f (c .inputs) (itemsOf c))) l
+    outs : (l : List ℕ) → map (λ at. operands (items.writeFile f n is) (at + 1) (railsOfOutput f)) l ≡ map (wiredAt f (items.writeFile f n is)) l
     outs [] = refl
-    outs (at ∷ l) = ap₂ (λ (x : List ℕ) (m : List (List ℕ)). x ∷ m) (wired f (items.writeFile f (c .inputs) (itemsOf c)) at) (outs l)
+    outs (at ∷ l) = ap₂ (λ (x : List ℕ) (m : List (List ℕ)). x ∷ m) (wired f (items.writeFile f n is) at) (outs l)
+
+pub content-write : (f : File) (most : Limits) (c : Content) → FileFits f most (c .inputs) (itemsOf c)
+    → contentOf f most (items.writeFile f (c .inputs) (itemsOf c)) ≡ c
+content-write f most c fits =
+    items-content f most (c .inputs) (itemsOf c) fits ∙ (λ i. record { inputs = c .inputs; gates = gates-of c i; outputs = outputs-of c i; care = cares-of c i })
 
 -- ---- what a call leaves
 

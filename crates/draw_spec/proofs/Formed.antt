@@ -3,9 +3,9 @@
 use Prim.Native.Nat.{ℕ, zero, suc, _+_, _-_, _≤_, _<_}
 use native.Mathlib.Omega.{arith}
 use native.Mathlib.Nat.{mod-lt}
-use mathlib.Core.Path.{_≡_, refl, ap, _∙_}
+use mathlib.Core.Path.{_≡_, refl, sym, ap, _∙_}
 use mathlib.Core.Bool.{not}
-use mathlib.Core.List.{List, [], _∷_, _++_}
+use mathlib.Core.List.{List, [], _∷_}
 use lib.ListN.{length, length-map}
 use lib.Dec.{eqb}
 use Rattle.runs.proofs.Test.{not-true}
@@ -19,6 +19,7 @@ use Rattle.netlist.proofs.References.{reference-fits, read-writeReference, refe
 use Rattle.verdict.proofs.Names.{in-select}
 use Rattle.verdict.proofs.Words.{index-in}
 use Rattle.check_spec.specs.Lists.{numbers, select, some}
+use Rattle.check_spec.specs.Writing.{writeFile}
 use Rattle.check_spec.proofs.Back.{reference-content, reference-write}
 use Rattle.make_spec.specs.Make.{referenceRead}
 use Rattle.check_spec.specs.Loaded.{fromReference}
@@ -71,9 +72,12 @@ free seed n g = select (unused (gatesFrom n g seed)) (numbers 0 (n + g))
 abbrev pub parsed : ℕ → ℕ → ℕ → Reference
 parsed seed n g = record { inputs = n; gates = gatesFrom n g seed; outputs = free seed n g }
 
-pub bytes-are : (seed n g : ℕ) → drawnBytes seed n g ≡ writeReference (parsed seed n g)
+drawn-is : (seed n g : ℕ) → drawnReference seed n g ≡ fromReference (parsed seed n g)
 unfolding drawnReference
-bytes-are seed n g = reference-write (parsed seed n g)
+drawn-is seed n g = refl
+
+pub bytes-are : (seed n g : ℕ) → drawnBytes seed n g ≡ writeReference (parsed seed n g)
+bytes-are seed n g = ap (writeFile file.Reference) (drawn-is seed n g) ∙ reference-write (parsed seed n g)
 
 module _ (seed n g : ℕ) (some-input : 1 ≤ n) where
   -- so that the last one is an output
@@ -109,7 +113,7 @@ module _ (seed n g : ℕ) (some-input : 1 ≤ n) where
 
     -- as the reference that was drawn
     pub reads-as : referenceRead (drawnBytes seed n g) ≡ drawnReference seed n g
-    unfolding drawnReference
     reads-as =
-        reference-content referenceLimits (drawnBytes seed n g) _ reads
-        ∙ ap fromReference (ap (λ (b : List ℕ). referenceOf b (placesOf file.Reference n (referenceItems (parsed seed n g)))) (bytes-are seed n g) ∙ referenceOf-writeReference referenceLimits (parsed seed n g) fits)
+        let places = placesOf file.Reference n (referenceItems (parsed seed n g)) in
+        let back = ap (λ (b : List ℕ). referenceOf b places) (bytes-are seed n g) ∙ referenceOf-writeReference referenceLimits (parsed seed n g) fits in
+        reference-content referenceLimits (drawnBytes seed n g) places reads ∙ ap fromReference back ∙ sym (drawn-is seed n g)

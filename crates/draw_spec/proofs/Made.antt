@@ -10,17 +10,16 @@ use lib.ListN.{length, getD}
 use lib.Dec.{eqb, ltb}
 use borrow.Author.Tests.{le-ltb}
 use Rattle.runs.proofs.Test.{clash, true?}
-use Rattle.netlist.specs.declared.File.the-variants as file
 use Rattle.netlist.specs.declared.Found.{Found}
 use Rattle.netlist.specs.declared.Found.the-variants.{At, Nothing}
 use Rattle.netlist.specs.Commands.{whenFound}
-use Rattle.netlist.specs.Reading.{Reading, readFile, stageLimits, referenceLimits}
+use Rattle.netlist.specs.Reading.{stageLimits, referenceLimits}
 use Rattle.netlist.specs.Content.{Coded, Reference}
 use Rattle.netlist.specs.Formed.{ReferenceFormed}
 use Rattle.verdict.specs.declared.Verdict.{Verdict}
 use Rattle.verdict.specs.Graph.{In}
 use Rattle.verdict.specs.Search.{least}
-use Rattle.verdict.proofs.Least.{LeastSays, least-says}
+use Rattle.verdict.proofs.Least.{least-says}
 use Rattle.verdict.proofs.Names.{in-select}
 use Rattle.verdict.proofs.Words.{index-in}
 use Rattle.check_spec.specs.Cases.{verdict, accepted, judge, first}

@@ -10,8 +10,8 @@ use Rattle.runs.proofs.Test.{clash, not-true}
 use Rattle.netlist.specs.declared.Found.the-variants.{At, Nothing}
 use Rattle.netlist.specs.Content.{Stage}
 use Rattle.verdict.specs.Search.{least}
-use Rattle.verdict.specs.Checks.{highAt, neverRises, NeverRises}
-use Rattle.verdict.proofs.Rising.{never-rises, rises-never}
+use Rattle.verdict.specs.Checks.{highAt, neverRises}
+use Rattle.verdict.proofs.Rising.{NeverRises, never-rises, rises-never}
 use Rattle.verdict.proofs.Least.{SoughtTo, sought-on, sought-here, sought-none}
 use Rattle.lane_cells.specs.Lane.{lane, rowIn}
 use Rattle.lane_cells.proofs.Lane.{lane-zero}

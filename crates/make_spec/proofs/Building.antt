@@ -5,7 +5,7 @@ use native.Mathlib.Omega.{arith}
 use native.Mathlib.Decide.{decLt}
 use mathlib.Core.Path.{_≡_, refl, sym, ap, _∙_, subst}
 use mathlib.Core.Bool.{Bool, true, false, cond}
-use mathlib.Core.List.{List, [], _∷_, _++_, map}
+use mathlib.Core.List.{List, [], _∷_, _++_}
 use lib.ListN.{length, getD, length-append, List·getD-append}
 use lib.Seq.{getD-append-add, getD-append-seam}
 use lib.Dec.{eqb}
@@ -19,7 +19,7 @@ use Rattle.check_spec.specs.Lists.{xor}
 use Rattle.check_spec.specs.Rows.{noGate}
 use Rattle.make_spec.specs.Make.{Built, gate, realize, railsAt, build}
 use Rattle.make_spec.specs.Count.{operations}
-use Rattle.make_spec.proofs.Gates.{Binary, and, or, xor′, nand, nor, codeOf, turned, railsFrom, rail, rail-at, withRails, cell, realize-two, BothBelow}
+use Rattle.make_spec.proofs.Gates.{Binary, and, or, xor′, nand, nor, codeOf, turned, railsFrom, rail, rail-at, bit-small, withRails, cell, realize-two, BothBelow}
 
 -- ---- gates of a reference by their form
 
@@ -226,10 +226,6 @@ module _ (n : ℕ) (b : Built) (cs : List Coded) (low : Below n b) where
 
     abbrev pair : List ℕ
     pair = railsFrom (turned k) (2 * n + first)
-
-    bit-small : (x : Bool) → bit x < 2
-    bit-small true = omega arith
-    bit-small false = omega arith
 
     two-below : BothBelow (2 * n + (first + 2)) pair
     two-below x = omega (arith, rail-at (turned k) x (2 * n + first), bit-small (xor (turned k) x))

@@ -1,10 +1,9 @@
 -- Small references, and what the call leaves of a buffer, computed from the definitions alone.
 -- Assumes nothing.
 use Prim.Native.Nat.{ℕ}
-use Prim.Native.String.{String}
 use mathlib.Core.Path.{_≡_, refl}
 use mathlib.Core.List.{List, [], _∷_, map, flatMap}
-use lib.ListN.{length, replicate}
+use lib.ListN.{replicate}
 use Rattle.gates.specs.Cell as c
 use Rattle.netlist.specs.Bytes as b
 use Rattle.netlist.specs.Commands as k

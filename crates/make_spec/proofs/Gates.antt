@@ -23,7 +23,7 @@ use Rattle.netlist.specs.Writing.{All}
 use Rattle.check_spec.specs.Lists.{xor}
 use Rattle.check_spec.specs.Rows.{noGate, cellIn, setIn}
 use Rattle.check_spec.specs.Words.{operate}
-use Rattle.make_spec.specs.Make.{Built, realize}
+use Rattle.make_spec.specs.Make.{realize}
 use Rattle.make_spec.proofs.Signals.{Cause}
 
 -- ---- the operations with two operands
@@ -68,6 +68,10 @@ rail-at true true net = omega arith
 rail-at true false net = omega arith
 rail-at false true net = omega arith
 rail-at false false net = omega arith
+
+pub bit-small : (x : Bool) → bit x < 2
+bit-small true = omega arith
+bit-small false = omega arith
 
 pub xor-twice : (t x : Bool) → xor t (xor t x) ≡ x
 xor-twice true true = refl

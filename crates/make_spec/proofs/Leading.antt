@@ -8,8 +8,7 @@ use mathlib.Core.Logic.{_⊎_, inl, inr, ⊎-elim}
 use mathlib.Core.List.{List, [], _∷_, map}
 use lib.ListN.{length, getD}
 use lib.Dec.{eqb}
-use Rattle.runs.proofs.Test.{clash, not-true, or-left, or-right, or-cases}
-use Rattle.netlist.specs.Coded.{Coded}
+use Rattle.runs.proofs.Test.{or-left, or-right, or-cases}
 use Rattle.netlist.specs.Formed.{FormedFrom}
 use Rattle.netlist.proofs.References.{in-order-at}
 use Rattle.verdict.specs.Graph.{In}

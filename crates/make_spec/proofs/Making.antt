@@ -28,7 +28,7 @@ use Rattle.verdict.specs.Checks as found
 use Rattle.verdict.specs.Search.{least}
 use Rattle.verdict.specs.Written.{Written, written}
 use Rattle.verdict.proofs.Written.{holding-take}
-use Rattle.verdict.proofs.Cut.{read-short}
+use Rattle.check_spec.proofs.Cut.{read-short}
 use Rattle.check_spec.specs.Cases.{verdict, accepted, first, judge, sweep, sweepPlaces}
 use Rattle.check_spec.specs.Lists.{numbers}
 use Rattle.check_spec.specs.Content.{Content, contentAt, files}

@@ -3,7 +3,7 @@
 use Prim.Native.Nat.{ℕ, zero, suc, _+_, _≤_, _<_}
 use native.Mathlib.Omega.{arith}
 use mathlib.Core.Path.{_≡_, refl, sym, ap, _∙_, subst}
-use mathlib.Core.Bool.{Bool, true, false, cond, _&&_, _||_}
+use mathlib.Core.Bool.{Bool, true, false, cond, _&&_, _||_, or-false}
 use mathlib.Core.Logic.{_⊎_, inl, inr, _≢_, _↔_, ⊎-elim}
 use mathlib.Core.List.{List, [], _∷_}
 use lib.ListN.{length, getD, set, replicate, length-set, length-replicate}
@@ -54,6 +54,16 @@ marked-high marks (x ∷ xs) h y =
     marked-high (set marks x 1) xs (rw long (h .1)) y
     ∙ ap (λ (b : Bool). some (eqb y) xs || b) (high-set marks x y (h .0))
     ∙ or-move (eqb y x) (some (eqb y) xs) (high marks y)
+
+-- in a row without marks
+pub marked-alone : (m : ℕ) (xs : List ℕ) → All (λ x. x < m) xs → (y : ℕ) → high (marked (replicate m 0) xs) y ≡ some (eqb y) xs
+marked-alone m xs h y =
+    marked-high (replicate m 0) xs (rw (length-replicate {A = ℕ} m 0) h) y ∙ ap (λ (b : Bool). some (eqb y) xs || b) (none m y) ∙ or-false (some (eqb y) xs)
+  where
+    none : (m y : ℕ) → high (replicate m 0) y ≡ false
+    none zero y = refl
+    none (suc m) zero = refl
+    none (suc m) (suc y) = none m y
 
 -- ---- the gates from signal s on, with some signals marked before
 
@@ -134,33 +144,25 @@ marks-are r formed m l x = go (true? (leadsOut (fromReference r) x))
     gates : FormedFrom (r .inputs) (r .gates)
     gates = formed .gates-formed
 
-    long : length (replicate {A = ℕ} m 0) ≡ m
-    long = length-replicate {A = ℕ} m 0
-
-    none : (m y : ℕ) → high (replicate m 0) y ≡ false
-    none zero y = refl
-    none (suc m) zero = refl
-    none (suc m) (suc y) = none m y
-
     marks : List ℕ
     marks = marked (replicate m 0) (r .outputs)
 
-    outputs : (y : ℕ) → high marks y ≡ (some (eqb y) (r .outputs) || high (replicate m 0) y)
-    outputs y = marked-high (replicate m 0) (r .outputs) (All-map (λ v. v < r .inputs + length (r .gates)) (λ v. v < length (replicate m 0)) (λ v h. omega (arith, long)) (r .outputs) (formed .outputs-formed)) y
+    outputs : (y : ℕ) → high marks y ≡ some (eqb y) (r .outputs)
+    outputs = marked-alone m (r .outputs) (All-map (λ v. v < r .inputs + length (r .gates)) (λ v. v < m) (λ v h. omega arith) (r .outputs) (formed .outputs-formed))
 
     L : ℕ → Type 0
     L y = leadsOut (fromReference r) y ≡ true
 
     is : (y : ℕ) → L y ↔ Says marks L (r .inputs) (r .gates) y
     is y = (
-      (λ e. ⊎-elim (λ o. inl (outputs y ∙ or-left (some (eqb y) (r .outputs)) _ (sym (output-is y (r .outputs)) ∙ o))) (λ h. inr (h .0, h .1 .0, h .1 .1, h .2)) (leads-cases (fromReference r) gates y e)),
+      (λ e. ⊎-elim (λ o. inl (outputs y ∙ sym (output-is y (r .outputs)) ∙ o)) (λ h. inr (h .0, h .1 .0, h .1 .1, h .2)) (leads-cases (fromReference r) gates y e)),
       ⊎-elim
-          (λ h. ⊎-elim (λ o. output-leads (fromReference r) gates y (output-is y (r .outputs) ∙ o)) (λ z. absurd (clash z (none m y))) (or-cases (some (eqb y) (r .outputs)) _ (sym (outputs y) ∙ h)))
+          (λ h. output-leads (fromReference r) gates y (output-is y (r .outputs) ∙ sym (outputs y) ∙ h))
           (λ h. operand-leads (fromReference r) gates y (h .0) (h .1, h .2) (h .3)),
     )
 
     says : (high (markedFrom (r .inputs) (r .gates) marks) x ≡ true) ↔ Says marks L (r .inputs) (r .gates) x
-    says = from-says marks L (r .inputs) (r .gates) gates (omega (arith, long, marked-long (replicate m 0) (r .outputs))) (λ y h. is y) x
+    says = from-says marks L (r .inputs) (r .gates) gates (omega (arith, length-replicate {A = ℕ} m 0, marked-long (replicate m 0) (r .outputs))) (λ y h. is y) x
 
     go : (leadsOut (fromReference r) x ≡ true) ⊎ (leadsOut (fromReference r) x ≡ false) → high (markedFrom (r .inputs) (r .gates) marks) x ≡ leadsOut (fromReference r) x
     go (inl e) = says .1 (is x .0 e) ∙ sym e

@@ -1,7 +1,7 @@
 -- The stage that is made from a well-formed reference: it has no loop, its gates are cast and have hold, and in every word it conforms if every
 -- signal leads to an output; its rails wait for their operands.
 -- Assumes nothing.
-use Prim.Native.Nat.{ℕ, zero, suc, _+_, _-_, _*_, _/_, _%_, _^_, _≤_, _<_}
+use Prim.Native.Nat.{ℕ, zero, suc, _+_, _-_, _*_, _/_, _%_, _≤_, _<_}
 use native.Mathlib.Omega.{arith}
 use native.Mathlib.Decide.{decLt}
 use mathlib.Core.Path.{_≡_, refl, sym, ap, _∙_, subst}
@@ -9,8 +9,8 @@ use mathlib.Core.Bool.{Bool, true, false, not, cond}
 use mathlib.Core.Logic.{_⊎_, inl, inr}
 use mathlib.Core.List.{List, [], _∷_, map, map-map}
 use lib.ListN.{length, getD, length-map}
-use lib.Dec.{eqb, ltb}
-use Rattle.gates.specs.Cell.{bit, isRetired}
+use lib.Dec.{ltb}
+use Rattle.gates.specs.Cell.{bit}
 use Rattle.runs.specs.Row.{Row, low, after}
 use Rattle.runs.specs.Net.{nets, rails, IsGate, inputRail, riseUp, riseDown, riseStep, RiseList}
 use Rattle.runs.specs.Theory.{AllHold}
@@ -27,21 +27,20 @@ use Rattle.runs.proofs.Complete.{hold-checks-conforms}
 use Rattle.netlist.specs.declared.Limits.{Limits}
 use Rattle.netlist.specs.Coded.{Coded}
 use Rattle.netlist.specs.Content.{Reference}
-use Rattle.netlist.specs.Formed.{FormedFrom, ReferenceFormed}
+use Rattle.netlist.specs.Formed.{ReferenceFormed}
 use Rattle.verdict.specs.Graph.{In}
-use Rattle.check_spec.specs.Lists.{xor, numbers, some, bitOf}
+use Rattle.check_spec.specs.Lists.{xor, numbers, bitOf}
 use Rattle.check_spec.specs.Content.{Content}
-use Rattle.check_spec.specs.Rows.{noGate, driver, cellIn, setIn, netOf}
+use Rattle.check_spec.specs.Rows.{noGate, driver, setIn, netOf}
 use Rattle.check_spec.specs.Words.{railsFor, operate, values, answer}
 use Rattle.check_spec.specs.Demands.{LoopFree}
 use Rattle.check_spec.proofs.Loops.{feeding-gate, ranked-free, acyclic}
 use Rattle.check_spec.proofs.OneWord.{word-data}
-use Rattle.make_spec.specs.Make.{Built, gate, railsAt, built, isOutput, leadsOut, madeStage, Operand, Waits}
+use Rattle.make_spec.specs.Make.{Built, gate, railsAt, built, isOutput, leadsOut, Operand, Waits}
 use Rattle.check_spec.specs.Loaded.{fromReference}
-use Rattle.make_spec.specs.Count.{operations}
 use Rattle.make_spec.proofs.Lists.{all-at, all-in, index-of, map-at, among-in}
 use Rattle.make_spec.proofs.Signals.{TwoGates, Driven, input, inverse, operation, Signals, operands-data, gates-wait, signals-tight}
-use Rattle.make_spec.proofs.Gates.{Binary, codeOf, turned, railsFrom, rail, rail-at, xor-twice, withRails, cell, Fit, BothBelow, gate-fit, gateFor, gate-set, gate-cause}
+use Rattle.make_spec.proofs.Gates.{codeOf, turned, railsFrom, rail, rail-at, bit-small, xor-twice, Fit, BothBelow, gate-fit, gateFor, gate-set, gate-cause}
 use Rattle.make_spec.proofs.Building.{swapped, Two, Placed, as-not, as-two, Owner, Laid, laid}
 use Rattle.make_spec.proofs.Values.{valueOf, values-prefix, values-at}
 use Rattle.make_spec.proofs.Leading.{reads-later, leads-cases, output-is}
@@ -142,29 +141,25 @@ module _ {most : Limits} (r : Reference) (formed : ReferenceFormed most r) where
   holds net g = fit-at net g .has-hold
 
   -- the two gates of an operation
-  two-gates : (s : ℕ) (c : Coded) (t : Two n all s c)
-      → TwoGates (netOf stage) (rail (railsAt all s)) (operate (codeOf (t .kind))) (rail (railsAt all (t .p))) (rail (railsAt all (t .q)))
-  two-gates s c t =
-      let k = t .kind in
-      let a = railsAt all (t .p) in
-      let b = railsAt all (t .q) in
-      record {
-        gate = λ x. (omega (arith, net x), omega (arith, net x, t .inside, small (xor (turned k) x)));
-        set = λ m u v hu hv. ap (setIn m) (drives (operate (codeOf k) u v)) ∙ gate-set k m a b u v hu hv;
-        cause = λ m x na nb e. gate-cause k m a b x na nb (sym (ap (setIn m) (drives x)) ∙ e);
-      }
-    where
-      small : (x : Bool) → bit x ≤ 1
-      small true = omega arith
-      small false = omega arith
+  module _ (s : ℕ) (c : Coded) (t : Two n all s c) where
+    two-net : (x : Bool) → rail (railsAt all s) x ≡ 2 * n + t .first + bit (xor (turned (t .kind)) x)
+    two-net x = ap (λ (p : List ℕ). rail p x) (t .rails-are) ∙ rail-at (turned (t .kind)) x (2 * n + t .first)
 
-      net : (x : Bool) → rail (railsAt all s) x ≡ 2 * n + t .first + bit (xor (turned (t .kind)) x)
-      net x = ap (λ (p : List ℕ). rail p x) (t .rails-are) ∙ rail-at (turned (t .kind)) x (2 * n + t .first)
-
-      drives : (x : Bool) → driver stage (rail (railsAt all s) x) ≡ gateFor (t .kind) x (railsAt all (t .p)) (railsAt all (t .q))
-      drives x =
-          let e : rail (railsAt all s) x - 2 * n ≡ t .first + bit (xor (turned (t .kind)) x) = omega (arith, net x) in
-          ap (λ (i : ℕ). getD (all .gates) i noGate) e ∙ t .gates-are (xor (turned (t .kind)) x)
+    two-gates : TwoGates (netOf stage) (rail (railsAt all s)) (operate (codeOf (t .kind))) (rail (railsAt all (t .p))) (rail (railsAt all (t .q)))
+    two-gates =
+        let k = t .kind in
+        let a = railsAt all (t .p) in
+        let b = railsAt all (t .q) in
+        record {
+          gate = λ x. (omega (arith, two-net x), omega (arith, two-net x, t .inside, bit-small (xor (turned k) x)));
+          set = λ m u v hu hv. ap (setIn m) (drives (operate (codeOf k) u v)) ∙ gate-set k m a b u v hu hv;
+          cause = λ m x na nb e. gate-cause k m a b x na nb (sym (ap (setIn m) (drives x)) ∙ e);
+        }
+      where
+        drives : (x : Bool) → driver stage (rail (railsAt all s) x) ≡ gateFor (t .kind) x (railsAt all (t .p)) (railsAt all (t .q))
+        drives x =
+            let e : rail (railsAt all s) x - 2 * n ≡ t .first + bit (xor (turned (t .kind)) x) = omega (arith, two-net x) in
+            ap (λ (i : ℕ). getD (all .gates) i noGate) e ∙ t .gates-are (xor (turned (t .kind)) x)
 
   -- ---- the outputs
 
@@ -269,8 +264,8 @@ module _ {most : Limits} (r : Reference) (formed : ReferenceFormed most r) where
             let o = owner (k - 2 * n) (omega arith) in
             let t = o .2 .two in
             let y = o .2 .which in
-            let e = ap (λ (p : List ℕ). rail p (xor (turned (t .kind)) y)) (t .rails-are) ∙ rail-at (turned (t .kind)) (xor (turned (t .kind)) y) (2 * n + t .first) in
-            (n + o .0, omega (arith, o .1), (xor (turned (t .kind)) y, e ∙ ap (λ (x : Bool). 2 * n + t .first + bit x) (xor-twice (turned (t .kind)) y) ∙ omega (arith, o .2 .index-is)))
+            let x = xor (turned (t .kind)) y in
+            (n + o .0, omega (arith, o .1), (x, two-net (n + o .0) _ t x ∙ ap (λ (b : Bool). 2 * n + t .first + bit b) (xor-twice (turned (t .kind)) y) ∙ omega (arith, o .2 .index-is)))
 
     abbrev out : ℕ → ℕ
     out j = getD (r .outputs) j 0

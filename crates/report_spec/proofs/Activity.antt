@@ -36,11 +36,12 @@ use Rattle.check_spec.specs.Words.{railsFor, spelled, names, IsWord}
 use Rattle.check_spec.specs.Checks.{rest}
 use Rattle.check_spec.specs.Verdicts.{refusal, reading, verdictOn}
 use Rattle.check_spec.specs.Demands.{Pass, LoopFree, answerTo, Kept}
-use Rattle.check_spec.proofs.View.{stageView}
+use Rattle.check_spec.specs.Loaded.{stageView}
 use Rattle.check_spec.proofs.Alike.{spelled-alike, names-alike, rest-alike, levels-alike, word-in, in-word, care-rises}
 use Rattle.check_spec.proofs.Sound.{accepted-sound, sound-kept}
 use Rattle.report_spec.specs.High as code
 use Rattle.report_spec.specs.Report.{gatesHigh, reportOf, lines, reportOn, gateSwitchings, Cycle, switchings, EachWordOnce, Cycled, ReportMeans}
+use Rattle.report_spec.proofs.Cycles.{low-again}
 use Rattle.report_spec.proofs.Counting.{upTo, upTo-same, upTo-zero, upTo-split, upTo-levels, weigh, weigh-zero, sum-times, sum-same}
 
 -- ---- one list
@@ -144,7 +145,8 @@ module _ (f : Files) (free : LoopFree (netOf (stageIn f))) (w : ℕ) (kept : Kep
         );
     rises = rise-gates;
     falls = fall-gates;
-    back = λ p e. at-rest p e .falls (p .fall) (p .fall-legal) .end-low (p .fall-ended);
+    back = λ p e.
+        low-again N (railsFor (p .word)) (p .rise) (p .fall) (p .rise-legal) (p .fall-legal) (at-rest p e .falls (p .fall) (p .fall-legal) .end-low (p .fall-ended));
   }
 
 -- ---- all words

@@ -8,8 +8,8 @@ use mathlib.Core.List.{List, [], _∷_}
 use Rattle.runs.proofs.Test.{clash}
 use Rattle.netlist.specs.Content.{Stage}
 use Rattle.verdict.specs.Loops.{In}
-use Rattle.verdict.specs.Words.{words}
-use Rattle.verdict.specs.Checks.{highAt, lowIn, neverRises, NeverRises}
+use Rattle.verdict.specs.Words.{words, IsWord}
+use Rattle.verdict.specs.Checks.{highAt, lowIn, neverRises}
 
 low-in : (s : Stage) (g : ℕ) (ws : List ℕ) → lowIn s g ws ≡ true → (w : ℕ) → In w ws → highAt s w g ≡ false
 unfolding lowIn
@@ -26,6 +26,10 @@ in-low : (s : Stage) (g : ℕ) (ws : List ℕ) → ((w : ℕ) → In w ws → hi
 unfolding lowIn
 in-low s g [] f = refl
 in-low s g (x ∷ ws) f = ap (λ (b : Bool). cond b false (lowIn s g ws)) (f x (inl refl)) ∙ in-low s g ws (λ w i. f w (inr i))
+
+-- gate g is low at the rest of every word of the stage
+abbrev pub NeverRises : Stage → ℕ → Type 0
+NeverRises s g = (w : ℕ) → IsWord s w → highAt s w g ≡ false
 
 module _ (s : Stage) (g : ℕ) where
   pub never-rises : neverRises s g ≡ true → NeverRises s g

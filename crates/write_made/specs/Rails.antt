@@ -1,12 +1,17 @@
--- The rails of signals in one list of numbers: signal x has two, from 2x on.
+-- A reference in its flat form as content, and the rails of signals in one list of numbers: signal x has two, from 2x on.
 use Prim.Native.Nat.{ℕ, _+_, _*_}
 use mathlib.Core.List.{List, [], _∷_}
 use lib.ListN.{getD}
 use Rattle.netlist.specs.declared.Counts.{Counts}
+use Rattle.check_spec.specs.Content.{Content}
+use Rattle.check_spec.specs.Loaded.{fromReference}
 use Rattle.make_spec.specs.Make.{Built, realize}
 use Rattle.circuit.specs.Stage.{tabulate}
-use Rattle.circuit.specs.Reference.{operationIn, operandIn}
+use Rattle.circuit.specs.Reference.{operationIn, operandIn, referenceIn}
 use Rattle.write_made.specs.declared.Rails.{Rails}
+
+abbrev pub contentIn : Counts → List ℕ → Content
+contentIn c code = fromReference (referenceIn c code)
 
 abbrev pub pairOf : Rails → List ℕ
 pairOf p = p .rail0 ∷ p .rail1 ∷ []

@@ -14,13 +14,12 @@ ghost use Rattle.verdict.specs.Rows.{high};
 ghost use Rattle.verdict.specs.Search.{least};
 ghost use Rattle.netlist.specs.Writing as writing;
 ghost use Rattle.make_spec.specs.Make.{gate, realize, leadsOut};
-ghost use Rattle.check_spec.specs.Loaded.{fromReference};
 ghost use Rattle.make_spec.specs.Count.{operations};
 ghost use Rattle.make_spec.specs.Marks.{marked, markedFrom};
 ghost use Rattle.circuit.specs.Reference.{operatorIn, operatorsIn, signalsIn, referenceIn, ReferenceLoaded};
 ghost use Rattle.write_command.specs.Put.{Put};
 ghost use Rattle.write_command.specs.Parts.{bytesOf};
-ghost use Rattle.write_made.specs.Rails.{pairOf, pairStored, becomes};
+ghost use Rattle.write_made.specs.Rails.{contentIn, pairOf, pairStored, becomes};
 
 // ---- 25: signals that are no output and lead to none
 
@@ -86,7 +85,7 @@ fn unmarked(marks: &[u8], count: usize) -> Found
 // The least signal that is no output and leads to none.
 pub fn leading_nowhere(reference: &[u16], sizes: Counts) -> Found
     requires { ⌜ ReferenceLoaded sizes (now reference) × ReferenceFormed referenceLimits (referenceIn sizes (now reference)) ⌝ }
-    ensures { λ r. ⌜ r ≡ least (λ x. not (leadsOut (fromReference (referenceIn sizes (now (reference .entry)))) x)) 0 (sizes .inputs + sizes .gates) ⌝ }
+    ensures { λ r. ⌜ r ≡ least (λ x. not (leadsOut (contentIn sizes (now (reference .entry))) x)) 0 (sizes .inputs + sizes .gates) ⌝ }
 {
     let mut marks = [0u8; circuit::SIGNALS];
     mark_outputs(reference, sizes, &mut marks);

@@ -6,7 +6,7 @@ use denote.Ref.{now}
 use lib.ListN.{length}
 use Rattle.verdict.specs.FourNumbers.{verdict, accepted}
 use Rattle.verdict.specs.Written.{answerOf}
-use Rattle.call_make.proofs.Answering.{bytes, made-long-in, told-25, told-26, told-27, told-none, refused-as, made-as, needed-is}
+use Rattle.call_make.proofs.Answering.{bytes, made-long, told-25, told-26, told-27, told-none, refused-as, made-as, needed-is}
 use borrow.Author.Needs.{needs}
 use Rattle.call_make.proofs.make_loaded.Statement.{statement}
 use Rattle.call_make.proofs.make_loaded.Tie as tie
@@ -35,14 +35,14 @@ returns-3 c =
     let y = c .before .before .before .before .before in
     let found = sym (y .enum-told .given .1) ∙ y .before .before .leading-nowhere .ensures in
     refused-as (z .args .sizes) code (now (z .args .buffer)) _ _ (c .refused3 .ensures)
-    (told-27 (z .args .sizes) code (now (z .args .buffer)) found (omega (arith, n, c .before .before .before .if1 .left)) (omega (arith, n, c .before .if2 .taken, made-long-in (z .args .sizes) code)))
+    (told-27 (z .args .sizes) code (now (z .args .buffer)) found (omega (arith, n, c .before .before .before .if1 .left)) (omega (arith, n, c .before .if2 .taken, made-long (z .args .sizes) code)))
     (omega arith)
 
 put-stage-requires : tie.Need-put-stage-requires
 put-stage-requires c κs =
     let z = c .before .before .before .before .before .before .before .before .before .before in
     let n = needed-is (z .args .sizes) (now (z .args .reference)) (z .pre .1) _ (c .before .before .before .before .operation-count .ensures .0) in
-    let long = made-long-in (z .args .sizes) (now (z .args .reference)) in
+    let long = made-long (z .args .sizes) (now (z .args .reference)) in
     (z .pre .0, z .pre .1, omega (arith, n, c .before .before .before .if1 .left), omega (arith, n, c .before .if2 .left, long))
 
 returns-4 : tie.Need-returns-4
@@ -50,7 +50,7 @@ returns-4 c =
     let z = c .before .before .before .before .before .before .before .before .before .before .before .before .before .before in
     let code = now (z .args .reference) in
     let n = needed-is (z .args .sizes) code (z .pre .1) _ (c .before .before .before .before .before .before .before .before .operation-count .ensures .0) in
-    let long = made-long-in (z .args .sizes) code in
+    let long = made-long (z .args .sizes) code in
     let y = c .before .before .before .before .before .before .before .before .before in
     let found = sym (y .enum-told .given .1) ∙ y .before .before .leading-nowhere .ensures in
     let fits : length (bytes (z .args .sizes) code (now (z .args .buffer))) ≤ length (now (z .args .buffer)) = omega (arith, n, long, c .before .before .before .before .before .if2 .left) in

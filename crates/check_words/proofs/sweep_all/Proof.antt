@@ -1,9 +1,11 @@
 -- `check_words::sweep_all` meets its contract: where the masks name no word all checks that sweep pass; else the start of the list is the names of the
 -- stage's words. Then 32 is what the least gate says that never rises.
 -- Assumes nothing.
+use native.Mathlib.Omega.{arith}
 use mathlib.Core.Path.{sym, _∙_}
+use denote.Ref.{now}
 use Rattle.words.proofs.Listing.{listed-start, listed-in, listed-count}
-use Rattle.check_words.proofs.Sweeping.{swept-fault, then-idle}
+use Rattle.check_words.proofs.Sweeping.{enough-signals, swept-fault, then-idle}
 use borrow.Author.Needs.{needs}
 use Rattle.check_words.proofs.sweep_all.Statement.{statement}
 use Rattle.check_words.proofs.sweep_all.Tie as tie
@@ -11,7 +13,9 @@ use Rattle.check_words.proofs.sweep_all.Tie as tie
 returns : tie.Need-returns
 returns c =
     let z = c .before .before .before .before in
-    then-idle _ _ _ _ (c .before .nothing-named .ensures (c .if1 .taken) _ _ (z .screen .ensures .0)) _ (z .screen .ensures .1) _
+    let w = z .before .before .before in
+    let few = enough-signals (w .args .sizes) (now (w .args .reference)) (omega (arith, w .pre .outputs)) in
+    then-idle _ _ _ _ (c .before .nothing-named .ensures (c .if1 .taken) _ _ few (z .screen .ensures .0)) _ (z .screen .ensures .1) _
     (c .before .before .find-idle .ensures)
 
 array-share-prefix-list : tie.Need-array-share-prefix-list
