@@ -501,7 +501,8 @@ unfolding twelve examples ordered refused care inFilesOrder earlyGates earlyOr o
     t.contentAt v.refusal e.first e.judge
     l.numbers l.select l.some l.every l.ofBits l.reaches e.sweep o.rounds o.risen o.fallen o.reachesItself
     w.caresFor w.spelled w.names w.words w.operate w.values w.answer
-    h.wrong h.incomplete h.highAnd h.unobservable h.fallIncomplete h.fallUnobservable h.looped h.retired h.neverRises h.idle h.checks h.rowChecks v.settledBytes v.rowAfter
+    h.wrong h.incomplete h.highAnd h.unobservable h.fallIncomplete h.fallUnobservable h.looped h.retired h.neverRises
+    h.idle h.checks h.rowChecks v.settledBytes v.rowAfter
     c.cells c.cellAt c.pinCount c.setExpression c.retiredCells c.among c.isRetired c.kindOf flatMap
 computed = (refl, refl, refl, refl, refl, refl, refl, refl, refl, refl)
 
