@@ -51,14 +51,17 @@ module _ (order : WordOrder) (f : Files) where
   exactly : Comparable f → (verdictOn order f ≡ accepted) ↔ Acceptable f
   exactly k = (
     (λ v. let h = accepted-faultless order f (ap number v) .1 in record { cast = h .0 .cast; conforms = h .0 .conforms; rises = h .1 }),
-    (λ a. faultless-accepted (record {
-      read = k .read;
-      inputs = k .inputs;
-      outputs = k .outputs;
-      free = k .loop-free;
-      cast = a .cast;
-      conforms = a .conforms;
-    }, a .rises) order),
+    (λ a. faultless-accepted (
+      record {
+        read = k .read;
+        inputs = k .inputs;
+        outputs = k .outputs;
+        free = k .loop-free;
+        cast = a .cast;
+        conforms = a .conforms;
+      },
+      a .rises,
+    ) order),
   )
 
   -- with hold everywhere the checks of the fall find nothing where those of the rise do

@@ -245,9 +245,15 @@ pub fn sweep_all(
     }
     let mut list = [0u16; words::NAMES];
     let count = words::list_names(order, code, counts, &mut list);
-    if let Finding::Fault(v) =
-        sweep_named(order, &list[..count], masks, code, counts, reference, sizes)
-    {
+    if let Finding::Fault(v) = sweep_named(
+        order,
+        &list[..count],
+        masks,
+        code,
+        counts,
+        reference,
+        sizes,
+    ) {
         return Finding::Fault(v);
     }
     last
