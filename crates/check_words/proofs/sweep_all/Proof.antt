@@ -14,7 +14,7 @@ returns : tie.Need-returns
 returns c =
     let z = c .before .before .before .before in
     let w = z .before .before .before in
-    let few = enough-signals (w .args .sizes) (now (w .args .reference)) (omega (arith, w .pre .outputs)) in
+    let few = enough-signals (w .args .sizes) (now (w .args .reference)) {m = w .args .counts .outputs} (omega (arith, w .pre .outputs)) in
     then-idle _ _ _ _ (c .before .nothing-named .ensures (c .if1 .taken) _ _ few (z .screen .ensures .0)) _ (z .screen .ensures .1) _
     (c .before .before .find-idle .ensures)
 
