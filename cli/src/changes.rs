@@ -118,19 +118,21 @@ impl<'a> Mending<'a> {
         fovaheju::check(self.order.mark(), &change.file, self.reference).accepts()
     }
 
-    /// The first changes that are accepted: of those that are likely, and where none is, of others. So many of each are tried.
-    pub fn some(&self, shown: usize, tries: usize) -> Vec<Change> {
-        let found = self.first(self.likely(), shown, tries);
-        if found.is_empty() {
-            self.first(Box::new(self.others().chain(std::iter::once_with(|| self.waiting()).flatten())), shown, tries)
-        } else {
-            found
+    /// The first changes that are accepted: of those that are likely, and where none is, of others. At most so many of each are tried; how many
+    /// were is answered too.
+    pub fn some(&self, shown: usize, tries: usize) -> (Vec<Change>, usize) {
+        let (found, tried) = self.first(self.likely(), shown, tries);
+        if !found.is_empty() {
+            return (found, tried);
         }
+        let (found, more) = self.first(Box::new(self.others().chain(std::iter::once_with(|| self.waiting()).flatten())), shown, tries);
+        (found, tried + more)
     }
 
-    fn first(&self, changes: Changes<'_>, shown: usize, tries: usize) -> Vec<Change> {
-        let mut found: Vec<Change> = Vec::new();
+    fn first(&self, changes: Changes<'_>, shown: usize, tries: usize) -> (Vec<Change>, usize) {
+        let (mut found, mut tried) = (Vec::<Change>::new(), 0);
         for change in changes.take(tries) {
+            tried += 1;
             if found.iter().all(|other| change.differs(other)) && self.accepts(&change) {
                 found.push(change);
             }
@@ -138,7 +140,7 @@ impl<'a> Mending<'a> {
                 break;
             }
         }
-        found
+        (found, tried)
     }
 
     /// Changes of what is named, single ones and others, the likeliest first.
@@ -146,7 +148,11 @@ impl<'a> Mending<'a> {
         match self.spare {
             Some(gate) => Box::new(self.base.without(gate).into_iter()),
             None if !self.named.retired.is_empty() => self.base.of_retired(self.named.retired.clone()),
-            None => self.base.of_named(&self.named),
+            None => {
+                let (base, reference, order) = (self.base, self.reference, self.order);
+                let holds = (!self.named.rises).then(|| std::iter::once_with(move || base.needed_hold(reference, order)).flatten());
+                self.base.of_named(&self.named, Box::new(holds.into_iter().flatten()))
+            }
         }
     }
 
@@ -229,8 +235,8 @@ pub struct Pin {
 }
 
 impl<'a> Base<'a> {
-    /// Changes of what is named, the likeliest first.
-    fn of_named(self, named: &Named) -> Changes<'a> {
+    /// Changes of what is named, the likeliest first, among them those of the gates' hold.
+    fn of_named(self, named: &Named, holds: Changes<'a>) -> Changes<'a> {
         let near: Vec<usize> = named.gates.iter().copied().take(GATES).collect();
         let (output, net) = (named.output, named.net);
         let late = net.and_then(|net| self.stage.driver(net)).filter(|_| named.rises);
@@ -248,7 +254,7 @@ impl<'a> Base<'a> {
             .flat_map(move |(net, near)| near.into_iter().flat_map(move |gate| self.one_pin_more(gate, net)));
         let rails = output.into_iter().flat_map(move |output| self.other_rails(output));
         let pins = each(&near).flat_map(move |gate| self.other_pins(gate));
-        Box::new(outputs.chain(kinds).chain(self.all_with_hold()).chain(built_in).chain(more).chain(rails).chain(pins))
+        Box::new(outputs.chain(kinds).chain(holds).chain(built_in).chain(more).chain(rails).chain(pins))
     }
 
     /// Two changes of a gate that is named, its kind and the order of its pins, then changes of all other gates.
@@ -353,11 +359,45 @@ impl<'a> Base<'a> {
         others.map(change).collect()
     }
 
-    /// All relaxed gates with their hold.
-    fn all_with_hold(&self) -> Option<Change> {
-        let gates = self.stage.gates.iter().enumerate().filter(|(_, gate)| relaxed(gate.kind));
-        let kinds: Vec<(usize, u8)> = gates.map(|(k, gate)| (k, gate.kind & 0x7F)).collect();
-        (kinds.len() > 1).then(|| Change::several(self.with_kinds(&kinds), "all gates with hold, the kinds without r".into()))
+    /// The relaxed gates that need their hold, with it: those that the check names one after the other, but for those that it does without.
+    fn needed_hold(self, reference: &[u8], order: Order) -> Option<Change> {
+        let verdict = |held: &[usize]| fovaheju::check(order.mark(), &self.with_hold(held), reference);
+        let all: Vec<usize> = (0..self.stage.gates.len()).filter(|&gate| relaxed(self.stage.gates[gate].kind)).collect();
+        let mut held = Vec::new();
+        loop {
+            let found = verdict(&held);
+            if found.accepts() {
+                break;
+            }
+            let case = Situation::of(found, &self.with_hold(&held), self.stage, order).filter(|case| case.falls)?;
+            let next = case.places().into_iter().find(|gate| all.contains(gate) && !held.contains(gate));
+            match next {
+                Some(gate) => held.push(gate),
+                None if held.len() < all.len() => held = all.clone(),
+                None => return None,
+            }
+        }
+        for gate in held.clone() {
+            let fewer: Vec<usize> = held.iter().copied().filter(|&other| other != gate).collect();
+            if verdict(&fewer).accepts() {
+                held = fewer;
+            }
+        }
+        held.sort();
+        let names: Vec<String> = held.iter().map(|&gate| self.stage.gate_name(gate)).collect();
+        let says = match names.as_slice() {
+            _ if held == all => "all gates with hold, the kinds without r".into(),
+            [one] => format!("{one} with its hold, the kind without r"),
+            [some @ .., last] => format!("{} and {last} with their hold, the kinds without r", some.join(", ")),
+            [] => return None,
+        };
+        Some(Change::several(self.with_hold(&held), says))
+    }
+
+    /// The file in which these gates have their hold.
+    fn with_hold(&self, gates: &[usize]) -> Vec<u8> {
+        let kinds: Vec<(usize, u8)> = gates.iter().map(|&gate| (gate, self.stage.gates[gate].kind & 0x7F)).collect();
+        self.with_kinds(&kinds)
     }
 
     /// A gate that reads one net more.
@@ -504,7 +544,10 @@ impl<'a> Base<'a> {
             }
             file.extend(bytes);
         }
-        Some(Change::several(file, format!("{} taken out", self.stage.gate_name(gate))))
+        // Names of a text stay; numbers do not.
+        let later = gate + 1 < self.stage.gates.len() && self.stage.names.is_none();
+        let moved = if later { " (later gates and nets move down by one)" } else { "" };
+        Some(Change::several(file, format!("{} taken out{moved}", self.stage.gate_name(gate))))
     }
 }
 

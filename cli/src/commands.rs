@@ -119,6 +119,10 @@ fn names_arg() -> Arg {
 }
 
 fn quiet() -> Arg {
+    silent().conflicts_with("json")
+}
+
+fn silent() -> Arg {
     flag("quiet", "Print nothing: the exit status is the answer").short('q')
 }
 
@@ -127,7 +131,7 @@ fn json_flag() -> Arg {
 }
 
 fn force() -> Arg {
-    flag("force", "Write over a file that was read")
+    flag("force", "Write over a file that was read, or is write-protected")
 }
 
 fn explain_flag() -> Arg {

@@ -20,9 +20,11 @@ pub mod output;
 pub mod progress;
 pub mod runs;
 pub mod situation;
+pub mod streams;
 pub mod tools;
 pub mod wave;
 
+use clap::error::ErrorKind;
 use failure::{Failure, Outcome};
 use std::ffi::OsString;
 
@@ -55,6 +57,10 @@ fn found(arguments: &[OsString]) -> Outcome<Found> {
         Ok(matches) => commands::run(&matches),
         // Help and version, which were asked for.
         Err(error) if !error.use_stderr() => output::put(error.to_string().as_bytes()).map(|()| Found::Accepted),
+        Err(error) if error.kind() == ErrorKind::DisplayHelpOnMissingArgumentOrSubcommand => {
+            output::tell_as_it_is(&error.to_string());
+            Err(Failure(None))
+        }
         Err(error) => {
             let words = error.to_string();
             let words = words.strip_prefix("error: ").unwrap_or(&words);

@@ -132,6 +132,12 @@ impl<'a> Situation<'a> {
         rails.into_iter().filter(|&(rail, net)| self.high(net) != (value == (rail == 1))).collect()
     }
 
+    /// The gates that went ahead: those that read a late net and have switched without it, and those that the other inputs set.
+    pub fn early(&self) -> Vec<usize> {
+        let ahead = self.ends().into_iter().flat_map(|end| end.readers).filter(|reader| reader.ahead).map(|reader| reader.gate);
+        once(&ahead.chain(self.first_gates()).collect::<Vec<usize>>())
+    }
+
     /// The gates to look at where something is not awaited, the likeliest first.
     pub fn places(&self) -> Vec<usize> {
         let mut places = Vec::new();

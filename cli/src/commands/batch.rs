@@ -1,13 +1,13 @@
 //! `ncl batch`: the verdicts on many pairs.
 
-use super::{flag, lowest, order, quiet, text_flag};
+use super::{flag, lowest, order, silent, text_flag};
 use crate::batch::formats::{head, junit, line, Format};
 use crate::batch::{judge, pairs, Judged, Manner, Named};
 use crate::failure::{Failure, Outcome};
 use crate::input::Identity;
 use crate::netlist::many;
 use crate::numbers::title;
-use crate::output::{put, tell, write_files};
+use crate::output::{is_standard_output, put, tell, write_files};
 use crate::progress::Progress;
 use crate::Found;
 use clap::{value_parser, Arg, ArgGroup, ArgMatches, Command};
@@ -34,14 +34,15 @@ pub fn command() -> Command {
         .arg(jobs.help("How many pairs are judged side by side [default: one for each core]"))
         .arg(output.help("Write the lines to a file, whole or not at all"))
         .arg(flag("explain", "Say of each refused pair why it is refused, and what to do").conflicts_with("csv"))
-        .arg(flag("force", "Let the file be one of those that were read"))
-        .args([text_flag().help("All stages are texts in the line form; of a folder every stage.txt is judged"), lowest(), quiet()])
+        .arg(flag("force", "Let the file be one of those that were read, or write-protected"))
+        .args([text_flag().help("All stages are texts in the line form; of a folder every stage.txt is judged"), lowest(), silent()])
         .after_help(
             "\
 Of a folder every stage.ncl in it or below it is judged against the reference.ncl beside it. A list has the names of a stage and
-its reference on each line, with white space or one tab between them, from the current folder on; lines with # are passed over,
-and a stage whose name ends in .txt is a text. A summary by number follows on standard error. Exit status: 0 all accepted, 1 some refused,
-2 some could not be read.
+its reference on each line, with blanks between them, or one tab where names hold blanks, from the current folder on; lines with #
+are passed over, and a stage whose name ends in .txt is a text. A summary by number follows on standard error.
+
+Exit status: 0 all accepted, 1 some refused, 2 some could not be read.
 
 Examples:
   ncl batch designs
@@ -80,6 +81,11 @@ impl Lines {
 }
 
 pub fn run(matches: &ArgMatches) -> Outcome<Found> {
+    let output = matches.get_one::<PathBuf>("output").filter(|path| !is_standard_output(path));
+    let quiet = matches.get_flag("quiet");
+    if let Some(format) = ["json", "csv", "junit"].into_iter().find(|format| quiet && output.is_none() && matches.get_flag(format)) {
+        return Err(Failure::says(format!("--quiet prints nothing, so --{format} needs a file: --output FILE")));
+    }
     let froms: Vec<&PathBuf> = matches.get_many("from").expect("clap asks for it").collect();
     let stage = if matches.get_flag("text") { "stage.txt" } else { "stage.ncl" };
     let mut all = Vec::new();
@@ -90,8 +96,6 @@ pub fn run(matches: &ArgMatches) -> Outcome<Found> {
         let pool = rayon::ThreadPoolBuilder::new().num_threads(jobs.into()).build_global();
         pool.map_err(|error| Failure::says(error.to_string()))?;
     }
-    let output = matches.get_one::<PathBuf>("output").filter(|path| path.as_os_str() != "-");
-    let quiet = matches.get_flag("quiet");
     let mut lines = Lines { kept: output.map(|_| Vec::new()), silent: quiet };
     let mut summary = Summary::default();
     summary.identities.extend(froms.iter().filter_map(|from| from.metadata().ok()).map(|data| (data.dev(), data.ino())));

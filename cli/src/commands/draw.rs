@@ -9,7 +9,7 @@ use crate::failure::{Failure, Outcome};
 use crate::given::Given;
 use crate::input::{one_standard_input, read, Input};
 use crate::netlist::{many, Stage};
-use crate::output::{put, write_files};
+use crate::output::{is_standard_output, put, write_files};
 use crate::tools::DOT;
 use crate::Found;
 use clap::{value_parser, Arg, ArgMatches, Command};
@@ -82,7 +82,7 @@ pub fn run(matches: &ArgMatches) -> Outcome<Found> {
     let asked = Asked::of(matches)?;
     let (stage, order) = (asked.stage.stage(), order(matches));
     let text = if asked.stage.reads() { Some(drawing(&asked, &stage, inputs.as_deref(), order, matches.get_flag("all"))?) } else { None };
-    let output = matches.get_one::<PathBuf>("output").filter(|path| path.as_os_str() != "-");
+    let output = matches.get_one::<PathBuf>("output").filter(|path| !is_standard_output(path));
     match (&text, output) {
         (Some(text), Some(path)) => {
             let bytes = match format(path) {

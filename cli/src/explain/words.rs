@@ -275,6 +275,16 @@ fn say_end(text: &mut Text, case: &Situation, end: &End, odd: Odd) {
     }
 }
 
+/// Whether a gate is a TH12 where an AND or an OR needs THand0: it went ahead by itself, or it drives a rail of an output whose other rail is a TH22.
+/// A TH12 of gates of which one rises at a time is no fault.
+fn too_early_by_half(case: &Situation, gate: usize) -> bool {
+    let stage = case.stage;
+    let kind = |gate: usize| stage.gates[gate].kind & 0x7F;
+    let beside =
+        |rails: &[usize; 2]| rails.contains(&stage.net_of(gate)) && rails.iter().any(|&rail| stage.driver(rail).map(kind) == Some(2));
+    kind(gate) == 1 && (case.early().contains(&gate) || stage.outputs.iter().any(beside))
+}
+
 /// What to do about it.
 fn say_todo(text: &mut Text, case: &Situation, odd: Odd, places: &[usize]) {
     let stage = case.stage;
@@ -287,7 +297,7 @@ fn say_todo(text: &mut Text, case: &Situation, odd: Odd, places: &[usize]) {
             });
             if unused {
                 todo += &format!(". Nothing reads {name}: let an output depend on it, or take it out of both files");
-            } else if places.iter().any(|&gate| stage.gates[gate].kind & 0x7F == 1) {
+            } else if places.iter().any(|&gate| too_early_by_half(case, gate)) {
                 todo += ". TH12(a, b) is set by one of two signals; THand0(a, b, a', b') waits for both, where a' is the other rail of a";
             } else {
                 todo += &format!(": a gate on the way to an output has to need {name}");
@@ -306,7 +316,10 @@ fn say_todo(text: &mut Text, case: &Situation, odd: Odd, places: &[usize]) {
             let named: Vec<String> =
                 places.iter().filter(|&&gate| relaxed(stage.gates[gate].kind)).map(|&gate| stage.gate_name(gate)).collect();
             let which = if named.is_empty() { "one of the relaxed gates".into() } else { named.join(" or ") };
-            format!("give {which} its hold back (the kind without r, 128 less), so that it waits until all its pins are low")
+            format!(
+                "give {which} its hold back (the kind without r, 128 less), so that it waits until all its pins are low; then do \
+                 the same for each gate that the check names next"
+            )
         }
     };
     text.row("to do", &todo);

@@ -1,6 +1,6 @@
 -- The total of the report is half of all gate switchings when each word rises and falls once.
 -- Assumes nothing.
-use Prim.Native.Nat.{ℕ, zero, suc, _+_, _*_, _^_, _≤_, _<_}
+use Prim.Native.Nat.{ℕ, zero, suc, _+_, _*_, _^_, _≤_}
 use native.Mathlib.Omega.{arith}
 use mathlib.Core.Path.{_≡_, refl, sym, ap, ap₂, subst, _∙_, fun-ext}
 use mathlib.Core.Bool.{Bool, true, false, cond, not}
@@ -11,16 +11,16 @@ use lib.Seq.{getD-append-add}
 use lib.Dec.{eqb, ltb}
 use borrow.Author.Tests.{lt-ltb, le-ltb, eq-eqb}
 use Rattle.runs.specs.Row.{Row, low, after, tally, times}
-use Rattle.runs.specs.Net.{Net, rails, RiseList, RiseEnd}
-use Rattle.runs.specs.Promise.{Rest, Promise}
+use Rattle.runs.specs.Net.{Net, RiseList, RiseEnd}
+use Rattle.runs.specs.Promise.{Rest}
 use Rattle.runs.proofs.Test.{clash, eqb-eq}
 use Rattle.netlist.specs.declared.File.the-variants as file
 use Rattle.netlist.specs.Reading.{Places, Ascending, Reading, refused, readable, readFile}
 use Rattle.netlist.specs.Content.{Stage}
 use Rattle.verdict.specs.declared.Verdict.{Verdict}
 use Rattle.verdict.specs.declared.WordOrder.{WordOrder}
-use Rattle.verdict.specs.Levels.{Bits, sum}
-use Rattle.verdict.specs.Rows.{high, settled, settledLevels}
+use Rattle.verdict.specs.Levels.{sum}
+use Rattle.verdict.specs.Rows.{settled, settledLevels}
 use Rattle.verdict.specs.Words as words
 use Rattle.verdict.specs.Words.{railsIn}
 use Rattle.verdict.specs.Nets as nets
@@ -42,6 +42,7 @@ use Rattle.check_spec.proofs.Exactly.{accepted-passes}
 use Rattle.check_spec.proofs.Demanded.{demand-3}
 use Rattle.report_spec.specs.High as code
 use Rattle.report_spec.specs.Report.{gatesHigh, reportOf, lines, reportOn, gateSwitchings, Cycle, switchings, EachWordOnce, Cycled, ReportMeans}
+use Rattle.report_spec.proofs.Cycles.{low-again}
 use Rattle.report_spec.proofs.Counting.{upTo, upTo-same, upTo-zero, upTo-split, upTo-levels, weigh, weigh-zero, sum-times, sum-same}
 
 -- ---- one list
@@ -145,7 +146,8 @@ module _ (f : Files) (free : LoopFree (netOf (stageIn f))) (w : ℕ) (kept : Kep
         );
     rises = rise-gates;
     falls = fall-gates;
-    back = λ p e. at-rest p e .falls (p .fall) (p .fall-legal) .end-low (p .fall-ended);
+    back = λ p e.
+        low-again N (railsFor (p .word)) (p .rise) (p .fall) (p .rise-legal) (p .fall-legal) (at-rest p e .falls (p .fall) (p .fall-legal) .end-low (p .fall-ended));
   }
 
 -- ---- all words

@@ -2,11 +2,9 @@
 -- Assumes nothing.
 use Prim.Native.Nat.{ℕ, zero, suc, _+_, _*_, _/_, _%_, _≤_, _<_}
 use native.Mathlib.Omega.{arith}
-use native.Mathlib.Numerals.{add-one}
 use mathlib.Core.Path.{_≡_, refl, sym, ap, _∙_}
 use mathlib.Core.List.{List, [], _∷_, _++_, map, append-assoc}
-use lib.ListN.{length, getD, drop, replicate, length-append}
-use lib.Seq.{drop-cons}
+use lib.ListN.{length, replicate, length-append}
 use Rattle.netlist.specs.declared.File.{File}
 use Rattle.netlist.specs.declared.File.the-variants as file
 use Rattle.netlist.specs.declared.Sort.the-variants as sort
@@ -38,21 +36,6 @@ items-++ f [] ys = refl
 items-++ f (x ∷ xs) ys = ap (λ (l : List ℕ). writeItem f x ++ l) (items-++ f xs ys) ∙ sym (append-assoc (writeItem f x) (writeItems f xs) (writeItems f ys))
 
 module _ {X : Type 0} (f : File) (item : X → Item) where
-  -- from the k-th on: the k-th, then those after it
-  pub bytes-next : (xs : List X) (k : ℕ) (d : X) → k < length xs → bytesOf f item (drop k xs) ≡ writeItem f (item (getD xs k d)) ++ bytesOf f item (drop (k + 1) xs)
-  unfolding bytesOf
-  bytes-next xs k d l = rw (add-one k, drop-cons xs k d l)
-
-  pub bytes-none : (xs : List X) (k : ℕ) → length xs ≤ k → bytesOf f item (drop k xs) ≡ []
-  unfolding bytesOf
-  bytes-none [] k l = go k
-    where
-      go : (k : ℕ) → bytesOf f item (drop k []) ≡ []
-      go zero = refl
-      go (suc k) = refl
-  bytes-none (x ∷ xs) zero l = absurd (omega arith)
-  bytes-none (x ∷ xs) (suc k) l = bytes-none xs k (omega arith)
-
   pub bytes-++ : (xs ys : List X) → bytesOf f item (xs ++ ys) ≡ bytesOf f item xs ++ bytesOf f item ys
   unfolding bytesOf
   bytes-++ [] ys = refl

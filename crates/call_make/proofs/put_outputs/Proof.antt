@@ -54,7 +54,7 @@ loop-again c =
     (put-same (ap (λ (p : Pair). writeItem file.Stage (pairItem p)) (c .before .before .before .before .rails-of .ensures)) (c .before .before .put-stage-output .ensures))
 
 same-length : tie.Need-same-length Inv-loop μ-loop
-same-length c = c .before .loop .inv .left .long
+same-length c = c .before .loop .inv .items .left .long
 
 returns : tie.Need-returns Inv-loop μ-loop
 returns c =

@@ -25,7 +25,7 @@ returns-2 c e order r clean =
     then-fall order s r (rises-pass order s r (z .args .masks) clean
     (c .before .before .before .before .before .before .before .before .before .before .before .none-named .ensures
     (c .before .before .before .before .before .before .before .before .before .before .if1 .taken))
-    (c .before .before .before .before .before .before .before .none-named2 .ensures (c .before .before .before .before .before .before .if2 .taken))) Passed
+    (c .before .before .before .before .before .before .before .none-named2 .ensures (c .before .before .before .before .before .before .if2 .taken)))
     (falls-pass order s r (z .args .masks) clean (c .before .none-named3 .ensures (c .if4 .taken)))
 
 pub nothing-named-spec : {M : Type 1} → statement M
