@@ -5,8 +5,8 @@ mod settled;
 
 use crate::explain::Order;
 use crate::levels::Row;
-use crate::netlist::Stage;
-use crate::situation::pair_state;
+use crate::netlist::{Reference, Stage};
+use crate::situation::{data, pair_state};
 use fovaheju::Verdict;
 pub use settled::Settled;
 
@@ -57,13 +57,24 @@ fn legal(calls: &impl Calls, word: u64, run: &Run) -> Option<Row> {
     calls.play(word, run).filter(|played| played.steps == run.nets.len()).map(|played| played.row)
 }
 
-/// Whether a run shows the fault of a verdict at its end.
-pub fn shows(calls: &impl Calls, stage: &Stage, verdict: Verdict, run: &Run) -> bool {
+/// Whether a list cannot be carried on.
+fn ended(calls: &impl Calls, stage: &Stage, word: u64, run: &Run) -> bool {
+    (0..stage.nets()).all(|net| legal(calls, word, &run.and(net)).is_none())
+}
+
+/// Whether a run shows the fault of a verdict at its end: each step of it may be, and what the verdict names is as it says. No run is shown or handed
+/// out as that of a fault before it was tried so.
+pub fn shows(calls: &impl Calls, files: Files<'_>, verdict: Verdict, run: &Run) -> bool {
+    let (stage, at) = (files.stage, verdict.at as usize);
     let Some(row) = legal(calls, verdict.word, run) else { return false };
-    let at = verdict.at as usize;
     let high = |net: usize| row.get(net) == Some(&true);
     let state = |state: &str| stage.outputs.iter().all(|&rails| pair_state(&row, rails).starts_with(state));
     match verdict.number {
+        13 => {
+            let answer = Reference::of(files.reference_file).answer(&files.order.values(verdict.word, stage.inputs));
+            let wrong = stage.outputs.get(at).zip(answer.get(at)).is_some_and(|(&rails, &value)| pair_state(&row, rails) != data(value));
+            wrong && ended(calls, stage, verdict.word, run)
+        }
         14 => state("DATA") && !high(2 * at) && !high(2 * at + 1),
         // It could rise: with this step more the list is one of a run too.
         15 => state("DATA") && !high(stage.net_of(at)) && legal(calls, verdict.word, &run.and(stage.net_of(at))).is_some(),
@@ -98,7 +109,7 @@ impl Run {
 
 /// A run that shows a verdict, without what can be left out: each step that is not needed goes, the last ones first, and every list on the way is judged. A
 /// fall begins at the end of the rise, so of a rise before a fall nothing goes, and of a wrong output nothing at all.
-pub fn shortened(calls: &impl Calls, stage: &Stage, verdict: Verdict, run: &Run) -> Run {
+pub fn shortened(calls: &impl Calls, files: Files<'_>, verdict: Verdict, run: &Run) -> Run {
     let mut short = run.clone();
     let first = match verdict.number {
         14 | 15 => 0,
@@ -107,7 +118,7 @@ pub fn shortened(calls: &impl Calls, stage: &Stage, verdict: Verdict, run: &Run)
     };
     for place in (first..run.nets.len()).rev() {
         let less = short.without(place);
-        if shows(calls, stage, verdict, &less) {
+        if shows(calls, files, verdict, &less) {
             short = less;
         }
     }

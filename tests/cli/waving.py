@@ -1,94 +1,59 @@
-"""Tests of runs: every run that is shown or handed out is played by the gate rule of the papers, and shows what the verdict says; waveforms."""
+"""Tests of runs: every run that is explained or handed out is played by the judge, and shows what the verdict says; waveforms."""
 import json
+import os
 import re
+import subprocess
 
 from mending import places
-from trying import ACCEPTED, WIRE, WIRE_REFERENCE, Ran, compared, examples, folder, holds, pair_of, root, same, stored, tried
+from trying import ACCEPTED, WIRE, WIRE_REFERENCE, Ran, compared, examples, folder, holds, pair_of, root, same, stored, tried, watching
 
-# The set expressions of the 27 cells, from the documents.
-TABLE = re.findall(r"(?m)^\| (\d+) \| \w+ \| \w+ \| [A-D ]+ \| ([A-D +]+) \|", (root / "docs/FILES.md").read_text())
-PRODUCTS = {int(kind): [["ABCD".index(pin) for pin in product.strip()] for product in expression.split("+")] for kind, expression in TABLE}
-PINS = {kind: 1 + max(pin for product in products for pin in product) for kind, products in PRODUCTS.items()}
+# The runs that the judge is to play, in one go: what each is about, whether it shows its verdict, and the run as a line.
+asked = []
 
 
-class Stage:
-    """a stage file, and how it moves: document 01, and 02 for cells without hold"""
-
-    def __init__(self, data):
-        gates, outputs, self.nets = places(data)
-        word = lambda at: int.from_bytes(data[at:at + 2], "little")
-        self.inputs = data[1]
-        self.gates = [(data[at + 1], [word(at + 2 + 2 * pin) for pin in range(PINS[data[at + 1] & 127])]) for at in gates]
-        self.outputs = [(word(at + 1), word(at + 3)) for at in outputs]
-
-    def called(self, word):
-        """the rails of a word: input 0 is the leftmost digit"""
-        return {2 * k + (word >> self.inputs - 1 - k & 1) for k in range(self.inputs)}
-
-    def may(self, row, net, word, falls):
-        if net < 2 * self.inputs:
-            return bool(row[net]) if falls else net in self.called(word) and not row[net]
-        kind, pins = self.gates[net - 2 * self.inputs]
-        holding = any(all(row[pins[pin]] for pin in product) for product in PRODUCTS[kind & 127])
-        if not row[net]:
-            return holding
-        return not holding if kind > 128 else not any(row[pin] for pin in pins)
-
-    def played(self, nets, fall, word):
-        """the row after a list, or the place of the first step that is barred"""
-        row = [0] * self.nets
-        for place, net in enumerate(nets):
-            if place == fall and any(self.may(row, other, word, False) for other in range(self.nets)):
-                return place
-            if not self.may(row, net, word, place >= fall):
-                return place
-            row[net] ^= 1
-        return row
+def ask(about, verdict, run, stage, reference=b"", shown=True, order="highest"):
+    """asks the judge whether a run shows a verdict: a list of nets, and where the fall begins"""
+    (number, _, at, word), (nets, fall) = verdict, run
+    asked.append((about, shown, " ".join(map(str, [stage.hex(), reference.hex() or "-", order, number, at, word, fall, *nets]))))
 
 
-def broken(stage, verdict, nets, fall, reference=None):
-    """what is wrong with a run that should show a verdict; nothing where it does"""
-    number, _, at, word = verdict
-    row = stage.played(nets, fall, word)
-    if not isinstance(row, list):
-        return f"step {row} is barred"
-    pairs = [(row[low], row[high]) for low, high in stage.outputs]
-    data, null = all(pair in ((1, 0), (0, 1)) for pair in pairs), not any(map(any, pairs))
-    if number == 14:
-        return "" if data and not row[2 * at] and not row[2 * at + 1] and fall == len(nets) else "no input is missing"
-    if number == 15:
-        net = 2 * stage.inputs + at
-        return "" if data and not row[net] and stage.may(row, net, word, False) and fall == len(nets) else "no gate is behind"
-    if number == 20:
-        return "" if null and (row[2 * at] or row[2 * at + 1]) and fall < len(nets) + 1 else "no input is left"
-    if number == 21:
-        return "" if null and row[2 * stage.inputs + at] else "no gate is left"
-    if any(stage.may(row, net, word, fall < len(nets)) for net in range(stage.nets)):
-        return "steps are left"
-    return ""
+def judged():
+    """what the judge says of all that was asked"""
+    if not asked:
+        return
+    words = ["cargo", "run", "--offline", "--release", "--quiet", "--bin", "play_runs"]
+    env = {**os.environ, "CARGO_TARGET_DIR": "../target/tests"}
+    given = "".join(f"{line}\n" for _, _, line in asked)
+    said = subprocess.run(words, cwd=root / "tests", env=env, input=given, stdout=subprocess.PIPE, text=True, check=True).stdout.splitlines()
+    same("the judge plays every run", len(asked), len(said))
+    for (about, shown, line), answer in zip(asked, said):
+        if shown or answer == "no run":
+            same(f"{about}, by the judge", "shown", answer)
+        else:
+            holds(f"{about}, by the judge", answer != "shown", line)
 
 
 def try_run(stage, reference, verdict, about):
     """the run of a verdict, whole and short; a rise and fall of a word by several seeds"""
     here = folder()
-    moves = Stage((root / stage).read_bytes())
+    files = [(root / file).read_bytes() for file in [stage, reference]]
     for option in [[], ["--short"]]:
         ran = Ran("wave", "--json", *option, stage, reference, here / "new.vcd")
         answer = json.loads(ran.out)["run"]
-        same(f"{about} {option}, the run", "", broken(moves, verdict, answer["nets"], answer["fall"]))
+        same(f"{about} {option}, broken", verdict[0] != 0, answer["broken"])
+        ask(f"{about} {option}, the run", [*verdict[:3], answer["word"]], (answer["nets"], answer["fall"]), *files)
         whole = answer if not option else whole
         holds(f"{about} {option}, no longer", len(answer["nets"]) <= len(whole["nets"]))
     # Nothing more can be left out of the short one.
     if verdict[0] in (14, 15, 20, 21):
-        first = 0 if verdict[0] < 20 else answer["fall"]
-        less = [answer["nets"][:k] + answer["nets"][k + 1:] for k in range(first, len(answer["nets"]))]
-        same(f"{about}, nothing can be left out", [], [nets for nets in less if not broken(moves, verdict, nets, answer["fall"] - (first == 0))])
+        nets, fall = answer["nets"], answer["fall"]
+        for k in range(0 if verdict[0] < 20 else fall, len(nets)):
+            ask(f"{about}, without step {k}", verdict, (nets[:k] + nets[k + 1:], fall - (k < fall)), *files, shown=False)
     if verdict[0] not in (0, 14, 15):
         return
     for seed in ["1", "2"]:
         answer = json.loads(Ran("wave", "--json", "--seed", seed, stage, reference, here / "new.vcd").out)["run"]
-        row = moves.played(answer["nets"], answer["fall"], answer["word"])
-        same(f"{about}, a rise and fall by seed {seed}", [0] * moves.nets, row)
+        ask(f"{about}, a rise and fall by seed {seed}", [0, 0, 0, answer["word"]], (answer["nets"], answer["fall"]), *files)
 
 
 def changes(vcd):
@@ -146,31 +111,84 @@ def try_waving():
     tried("wave of a wire", 0, ACCEPTED, "", "wave", "stage.ncl", "reference.ncl", "new.vcd", cwd=here)
 
 
-def shown_run(text, stage):
+def net_names(stage, names=None, text=None):
+    """the nets of a stage file by the names that an explanation has for them: plain ones, those of a names file, or those of a text"""
+    gates, _, nets = places(stage)
+    inputs = [f"x{i}" for i in range(stage[1])]
+    lines = [f"g{k}" for k in range(len(gates))]
+    if names or text:
+        inputs = (names or text).decode().split("\n")[0].split(",")
+    if text:
+        lines = [line.split(" ")[2] for line in text.decode().split("\n")[2:] if line]
+    return {name: net for net, name in enumerate([f"{name}_{rail}" for name in inputs for rail in (0, 1)] + lines)}
+
+
+def shown_run(explanation, nets):
     """the nets of the run in an explanation, in order, and which way it goes"""
-    block = re.search(r"(?m)^  run       .*\n(?: {12}.*\n)*?((?: {14}.*\n)+)", text)
+    block = re.search(r"(?m)^  run       .*\n(?: {12}\S.*\n)*((?: {14}.*\n)+)", explanation)
     words = " ".join(block.group(1).split())
-    nets = []
-    for part in re.split(r"\b(?:rise|fall) ", words)[1:]:
-        gate = re.match(r"g(\d+) = ", part)
-        names = [f"g{gate.group(1)}"] if gate else part.split()
-        nets += [2 * stage.inputs + int(name[1:]) if name[0] == "g" else 2 * int(name[1:].split("_")[0]) + int(name[-1]) for name in names]
-    return nets, "fall" if words.startswith("fall") else "rise"
+    list_of = []
+    for part in re.split(r"(?:^| )(?:rise|fall) ", words)[1:]:
+        gate = re.match(r"(\S+) = ", part)
+        list_of += [nets[name] for name in ([gate.group(1)] if gate else part.split())]
+    return list_of, words.split(" ")[0]
+
+
+def ask_explained(about, explanation, stage, nets, order="highest"):
+    """asks the judge about the run in an explanation; before a fall comes the rise, all of it"""
+    verdict = [int(number) for number in explanation.split("  ")[0].split()]
+    steps, way = shown_run(explanation, nets)
+    counted = re.search(r"(\d+) switchings? (?:is|are) enough", explanation).group(1)
+    same(f"{about}, as many as is said", int(counted), len(steps))
+    fall = len(steps)
+    if way == "fall":
+        here = folder(stage=stage, reference=WIRE_REFERENCE)
+        lowest = ["--lowest"] if order == "lowest" else []
+        rise = json.loads(Ran("wave", "--json", "--word", verdict[3], *lowest, "stage.ncl", "reference.ncl", "new.vcd", cwd=here).out)["run"]
+        steps, fall = rise["nets"][:rise["fall"]] + steps, rise["fall"]
+    ask(about, verdict, (steps, fall), stage, order=order)
+
+
+# How many explained runs were asked about.
+explained = {"by a command": 0, "of a batch": 0}
+
+
+def note_explained(words, cwd, given, ran):
+    """each run of the command that explains one: the run is played by the judge"""
+    text = ran.out if "\n  run       " in ran.out else ran.err
+    if "\n  run       " not in text or words[0] not in ("explain", "check", "report", "join"):
+        return
+    name = re.search(r"(?m)^  stage     ((?:.|\n {12})*?): \d+ input", text).group(1).replace("\n            ", "")
+    data = given if name in ("-", "standard input") else (cwd / name).read_bytes()
+    names = (cwd / words[words.index("--names") + 1]).read_bytes() if "--names" in words else None
+    spelt = data if name.endswith(".txt") or "--text" in words else None
+    if spelt:
+        here = folder()
+        (here / "stage.txt").write_bytes(spelt)
+        Ran("text", "read", "stage.txt", "stage.ncl", cwd=here)
+        data = (here / "stage.ncl").read_bytes()
+    explained["by a command"] += 1
+    ask_explained(f"ncl {' '.join(map(str, words))}, the run", text[re.search(r"(?m)^\d+ \d+ \d+ \d+  ", text).start():], data,
+                  net_names(data, names, spelt), "lowest" if "--lowest" in words else "highest")
+
+
+watching.append(note_explained)
 
 
 def try_explained_runs(rows):
-    """every run that is explained, of the examples and of generated pairs, is played by the rules and shows the verdict"""
-    tested = 0
+    """every run that a batch explains"""
     for row in rows:
+        text = row.get("explanation", "")
         verdict = [row[key] for key in ["number", "file", "at", "word"]]
-        if verdict[0] not in (14, 15, 20, 21):
-            continue
-        tested += 1
-        stage = Stage((root / row["stage"]).read_bytes())
-        nets, way = shown_run(row["explanation"], stage)
-        fall = len(nets)
-        if way == "fall":
-            rise = json.loads(Ran("wave", "--json", row["stage"], row["reference"], "/dev/null").out)["run"]
-            nets, fall = rise["nets"][:rise["fall"]] + nets, rise["fall"]
-        same(f"the run that is explained of {row['stage']}", "", broken(stage, verdict, nets, fall))
-    return tested
+        same(f"a run of {row['stage']} is explained", verdict[0] in (14, 15, 20, 21), "\n  run       " in f"\n{text}")
+        if verdict[0] in (14, 15, 20, 21):
+            explained["of a batch"] += 1
+            stage = (root / row["stage"]).read_bytes()
+            ask_explained(f"the run that is explained of {row['stage']}", f"{' '.join(map(str, verdict))}  \n{text}", stage, net_names(stage))
+
+
+def try_judged():
+    """all of these runs, by the judge"""
+    holds("explained runs of commands", explained["by a command"] > 30, explained)
+    holds("explained runs of a batch", explained["of a batch"] > 215, explained)
+    judged()

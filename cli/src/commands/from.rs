@@ -23,7 +23,7 @@ pub fn command() -> Command {
         .about("A reference from BLIF or Verilog, or a stage from a netlist of threshold cells")
         .arg(file("source", "SOURCE", "BLIF, or Verilog where the name ends in .v or .sv, through yosys; '-' is BLIF on standard input"))
         .arg(file("new", "NEW-FILE", "Where the reference is written, or the stage"))
-        .arg(names.help("Where the names of its inputs and outputs are written, for --names of explain, draw and mend"))
+        .arg(names.help("Where the names of its inputs and outputs are written, for --names of explain, draw, wave and mend"))
         .arg(flag("stage", "SOURCE is made of threshold cells (TH12 to TH24comp, rTH12 ..), and a stage is made of it"))
         .arg(
             Arg::new("top")

@@ -6,9 +6,8 @@ use super::{
 };
 use crate::explain::{word_text, Pair, Question};
 use crate::failure::{Failure, Outcome};
-use crate::netlist::Stage;
 use crate::output::{put, tell, write_files};
-use crate::runs::{calls, shortened, Calls, Files, Run};
+use crate::runs::{calls, shortened, shows, Calls, Files, Run};
 use crate::wave::Wave;
 use crate::Found;
 use clap::{value_parser, Arg, ArgMatches, Command};
@@ -49,8 +48,9 @@ fn keys(seed: u32, count: usize) -> Vec<u32> {
     (0..count).map(|_| next()).collect()
 }
 
-/// The run that is asked for, with the word that it is of, and whether it ends in a fault.
-fn asked(matches: &ArgMatches, verdict: Verdict, stage: &Stage, calls: &impl Calls) -> Outcome<Option<(Run, u64, bool)>> {
+/// The run that is asked for, with the word that it is of, and whether it was seen to end in the fault.
+fn asked(matches: &ArgMatches, verdict: Verdict, files: Files<'_>) -> Outcome<Option<(Run, u64, bool)>> {
+    let (stage, calls) = (files.stage, &calls(files));
     let word = matches.get_one::<u64>("word").copied();
     if let Some(word) = word.filter(|&word| word >> stage.inputs.min(63) != 0) {
         return Err(Failure::says(format!("--word {word}: words of {} inputs are 0 to {}", stage.inputs, (1u64 << stage.inputs) - 1)));
@@ -62,8 +62,9 @@ fn asked(matches: &ArgMatches, verdict: Verdict, stage: &Stage, calls: &impl Cal
     let run = match seed.or(word.map(|_| least())) {
         Some(keys) => calls.by_keys(named, &keys).map(|run| (run, named, false)),
         None => calls.witness(verdict, 0).map(|run| {
-            let run = if matches.get_flag("short") { shortened(calls, stage, verdict, &run) } else { run };
-            (run, named, !verdict.accepts())
+            let run = if matches.get_flag("short") { shortened(calls, files, verdict, &run) } else { run };
+            let broken = shows(calls, files, verdict, &run);
+            (run, named, broken)
         }),
     };
     Ok(run)
@@ -77,7 +78,7 @@ pub fn run(matches: &ArgMatches) -> Outcome<Found> {
     let stage = given.stage();
     // A stage that reads and has no loop has runs, whatever else is said of it.
     let files = Files { stage_file: given.bytes(), stage: &stage, reference_file: &reference.bytes, order };
-    let shown = if given.read_verdict().accepts() { asked(matches, verdict, &stage, &calls(files))? } else { None };
+    let shown = if given.read_verdict().accepts() { asked(matches, verdict, files)? } else { None };
     if let Some((run, word, broken)) = &shown {
         let values = order.values(*word, stage.inputs);
         let title = format!("{verdict}, {}: word {}", question.title(verdict.number), word_text(*word, &values, order, &stage));

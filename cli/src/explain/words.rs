@@ -4,7 +4,7 @@ use super::{wrapped, Order, Pair, Text, INDENT, WIDTH};
 use crate::levels::{Levels, Odd};
 use crate::names::{buses, values_text};
 use crate::netlist::{many, relaxed, set_expression, Reference, Stage};
-use crate::runs::{calls, shortened, Calls, Files};
+use crate::runs::{calls, shortened, shows, Calls, Files};
 use crate::situation::{data, pair_state, Behind, End, Situation, PLACES};
 use fovaheju::Verdict;
 
@@ -31,11 +31,12 @@ pub fn in_a_word(text: &mut Text, verdict: Verdict, pair: Pair, order: Order) {
 /// With more gates than these a run has their names alone.
 const GATES: usize = 6;
 
-/// The run that breaks the promise, without what is not needed for it.
+/// The run that breaks the promise, without what is not needed for it; none that was not seen to break it.
 fn say_run(text: &mut Text, verdict: Verdict, pair: Pair, order: Order, stage: &Stage) {
-    let calls = calls(Files { stage_file: pair.stage.bytes(), stage, reference_file: &pair.reference.bytes, order });
-    let Some(run) = calls.witness(verdict, 0).filter(|_| text.tries > 0) else { return };
-    let short = shortened(&calls, stage, verdict, &run);
+    let files = Files { stage_file: pair.stage.bytes(), stage, reference_file: &pair.reference.bytes, order };
+    let calls = calls(files);
+    let Some(run) = calls.witness(verdict, 0).filter(|run| text.tries > 0 && shows(&calls, files, verdict, run)) else { return };
+    let short = shortened(&calls, files, verdict, &run);
     let falls = matches!(verdict.number, 20 | 21);
     let (steps, way, from) = if falls {
         (short.fallen(), "fall", format!("from the rest of the word, after its {}", many(short.fall, "switching")))
@@ -44,18 +45,17 @@ fn say_run(text: &mut Text, verdict: Verdict, pair: Pair, order: Order, stage: &
     };
     let enough = if steps.len() == 1 { "1 switching is enough".into() } else { format!("{} switchings are enough", steps.len()) };
     text.row("run", &format!("{from}, {enough}:"));
-    let (rails, gates): (Vec<usize>, Vec<usize>) = steps.iter().partition(|&&net| net < 2 * stage.inputs);
-    let names = |nets: &[usize]| nets.iter().map(|&net| stage.net_name(net)).collect::<Vec<String>>().join(" ");
+    let is_gate = |net: usize| stage.driver(net).is_some();
+    let few = steps.iter().filter(|&&net| is_gate(net)).count() <= GATES;
     let mut say = |words: String| wrapped(&words, WIDTH - INDENT - 2).iter().for_each(|line| text.below(0, line));
-    if !rails.is_empty() {
-        say(format!("{way} {}", names(&rails)));
-    }
-    match gates.as_slice() {
-        [] => {}
-        few if few.len() <= GATES => {
-            few.iter().filter_map(|&net| stage.driver(net)).for_each(|gate| say(format!("{way} {}", stage.gate_text(gate))))
+    // In their order: rails that switch one after the other in a line, and so gates, or each of a few gates in its own.
+    for part in steps.chunk_by(|&net, &next| is_gate(net) == is_gate(next)) {
+        if few && is_gate(part[0]) {
+            part.iter().filter_map(|&net| stage.driver(net)).for_each(|gate| say(format!("{way} {}", stage.gate_text(gate))));
+        } else {
+            let names: Vec<String> = part.iter().map(|&net| stage.net_name(net)).collect();
+            say(format!("{way} {}", names.join(" ")));
         }
-        many => say(format!("{way} {}", names(many))),
     }
 }
 
