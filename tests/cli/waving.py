@@ -102,6 +102,11 @@ def try_waving():
     for example in ["and", "full-adder", "hamming-4-relaxed"]:
         runs = [json.loads(Ran("wave", "--json", *pair_of(example), here / "new.vcd", *words).out)["run"] for words in [[], ["--word", "0"]]]
         same(f"wave {example}, word 0 is the one that is shown", runs[0], runs[1])
+    tried("wave, a word without care", 0, ACCEPTED, "word 0, for which the stage does not care: nothing is promised of it",
+          "wave", *pair_of("and-one-word"), here / "new.vcd", "--word", "0")
+    for words in [[], ["--seed", "3"]]:
+        answer = json.loads(Ran("wave", "--json", *pair_of("and-one-word"), here / "new.vcd", *words).out)["run"]
+        same(f"wave, the least word with care {words}", 3, answer["word"])
     tried("wave, a word that is none", 2, "", "--word 4: words of 2 inputs are 0 to 3", "wave", *pair_of("and"), here / "new.vcd", "--word", "4")
     tried("wave, quiet", 1, "", "", "wave", "-q", *pair_of("or-incomplete"), here / "new.vcd")
     tried("wave over its stage", 2, "", "is one of the files read", "wave", "stage.ncl", "reference.ncl", "stage.ncl", cwd=here)

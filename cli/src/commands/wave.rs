@@ -4,8 +4,9 @@ use super::{
     called_pair, file, flag, force, found, json_flag, lowest, names_arg, order, path, put_json, quiet, reference_arg, stage_arg, text_flag,
     verdict_json,
 };
-use crate::explain::{word_text, Pair, Question};
+use crate::explain::{word_text, Order, Pair, Question};
 use crate::failure::{Failure, Outcome};
+use crate::netlist::Stage;
 use crate::output::{put, tell, write_files};
 use crate::runs::{calls, shortened, shows, Calls, Files, Run};
 use crate::wave::Wave;
@@ -22,7 +23,7 @@ pub fn command() -> Command {
         .about("A run of a stage as a waveform: the one that shows the fault, or a rise and fall of a word")
         .args([stage_arg(), reference_arg(), file("new", "NEW-VCD", "Where the waveform is written, as VCD")])
         .arg(save.help("Write what GTKWave has to know to show it: gtkwave NEW-VCD NEW-SAVE"))
-        .arg(word.help("The word whose rise and fall is shown, by its name [default: 0, or the one that the verdict names]"))
+        .arg(word.help("The word whose rise and fall is shown, by its name [default: the one that the verdict names, or the least that is cared for]"))
         .arg(seed.help("The gates switch in an order drawn from this seed: a full rise and fall"))
         .arg(flag("short", "Of a run that shows a fault what is needed for it, and no more").conflicts_with_all(["word", "seed"]))
         .args([names_arg(), text_flag(), lowest(), json_flag(), force(), quiet()])
@@ -48,6 +49,12 @@ fn keys(seed: u32, count: usize) -> Vec<u32> {
     (0..count).map(|_| next()).collect()
 }
 
+/// Whether a stage cares for a word, by its name. In files bit i of a word is input i.
+fn cares(stage: &Stage, order: Order, word: u64) -> bool {
+    let bits = order.values(word, stage.inputs).iter().enumerate().map(|(input, &value)| usize::from(value) << input).sum();
+    stage.care.is_empty() || stage.care.contains(&bits)
+}
+
 /// The run that is asked for, with the word that it is of, and whether it was seen to end in the fault.
 fn asked(matches: &ArgMatches, verdict: Verdict, files: Files<'_>) -> Outcome<Option<(Run, u64, bool)>> {
     let (stage, calls) = (files.stage, &calls(files));
@@ -55,13 +62,16 @@ fn asked(matches: &ArgMatches, verdict: Verdict, files: Files<'_>) -> Outcome<Op
     if let Some(word) = word.filter(|&word| word >> stage.inputs.min(63) != 0) {
         return Err(Failure::says(format!("--word {word}: words of {} inputs are 0 to {}", stage.inputs, (1u64 << stage.inputs) - 1)));
     }
-    let named = word.unwrap_or(if matches!(verdict.number, 13 | 14 | 15 | 20 | 21) { verdict.word } else { 0 });
+    let named = word.unwrap_or_else(|| match verdict.number {
+        13 | 14 | 15 | 20 | 21 => verdict.word,
+        _ => (0..1 << stage.inputs).find(|&word| cares(stage, files.order, word)).unwrap_or(0),
+    });
     // A word that is asked for without an order has the least net first, as the run of a verdict has.
     let least = || (0..2).flat_map(|_| 0..stage.nets() as u32).collect();
     let seed = matches.get_one::<u32>("seed").map(|&seed| keys(seed, 2 * stage.nets()));
     let run = match seed.or(word.map(|_| least())) {
         Some(keys) => calls.by_keys(named, &keys).map(|run| (run, named, false)),
-        None => calls.witness(verdict, 0).map(|run| {
+        None => calls.witness(verdict, named).map(|run| {
             let run = if matches.get_flag("short") { shortened(calls, files, verdict, &run) } else { run };
             let broken = shows(calls, files, verdict, &run);
             (run, named, broken)
@@ -81,7 +91,11 @@ pub fn run(matches: &ArgMatches) -> Outcome<Found> {
     let shown = if given.read_verdict().accepts() { asked(matches, verdict, files)? } else { None };
     if let Some((run, word, broken)) = &shown {
         let values = order.values(*word, stage.inputs);
-        let title = format!("{verdict}, {}: word {}", question.title(verdict.number), word_text(*word, &values, order, &stage));
+        let cared = if cares(&stage, order, *word) { "" } else { ", for which the stage does not care" };
+        let title = format!("{verdict}, {}: word {}{cared}", question.title(verdict.number), word_text(*word, &values, order, &stage));
+        if !cared.is_empty() && !matches.get_flag("quiet") {
+            tell(&format!("{}: word {word}{cared}: nothing is promised of it", given.name()));
+        }
         let gate = matches!(verdict.number, 15 | 21).then_some(verdict.at as usize);
         let wave = Wave { stage: &stage, run, title, broken: *broken, gate };
         let new = path(matches, "new");
