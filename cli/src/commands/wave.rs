@@ -23,9 +23,7 @@ pub fn command() -> Command {
         .about("A run of a stage as a waveform: the one that shows the fault, or a rise and fall of a word")
         .args([stage_arg(), reference_arg(), file("new", "NEW-VCD", "Where the waveform is written, as VCD")])
         .arg(save.help("Write what GTKWave has to know to show it: gtkwave NEW-VCD NEW-SAVE"))
-        .arg(word.help(
-            "The word whose rise and fall is shown, by its name [default: the one that the verdict names, or the least that is cared for]",
-        ))
+        .arg(word.help("The word whose rise and fall is shown, by its name [default: the verdict's, or the least with care]"))
         .arg(seed.help("The gates switch in an order drawn from this seed: a full rise and fall"))
         .arg(flag("short", "Of a run that shows a fault what is needed for it, and no more").conflicts_with_all(["word", "seed"]))
         .args([names_arg(), text_flag(), lowest(), json_flag(), force(), quiet()])
