@@ -127,7 +127,7 @@ impl Wave<'_> {
         let mut text = format!("[*]\n[*] {}\n[dumpfile] \"{dump}\"\n[timestart] 0\n[size] 1400 800\n[pos] -1 -1\n", self.title);
         // The zoom, and the place of the mark; then of 26 others, which are not set.
         let _ = writeln!(text, "*-1.500000 {}{}", self.end(), " -1".repeat(26));
-        text += "[treeopen] stage.\n[sst_expanded] 1\n";
+        text += "[treeopen] stage.\n[signals_width] 230\n[sst_expanded] 1\n";
         let mut shown = None;
         for (group, _, name, string) in self.signals() {
             let title = match group {
