@@ -18,13 +18,14 @@ use Rattle.check_spec.specs.Rows.{netOf}
 use Rattle.check_spec.specs.Words.{caresFor, IsWord, answer}
 use Rattle.check_spec.specs.Checks.{swept}
 use Rattle.check_spec.specs.Verdicts.{verdictOn}
-use Rattle.check_spec.specs.Demands.{Judged, BothRead, Kept}
+use Rattle.check_spec.specs.Demands.{Judged, BothRead, Kept, AcceptedUnlessIdle}
 use Rattle.check_spec.specs.Writing.{writeFile, leaving}
 use Rattle.join_spec.specs.declared.JoinAnswer.{JoinAnswer}
 
 -- ---- the whole
 
--- "inputs, the first part's care list, gates (first part first), the second's outputs", where what the second part names is something else in the whole
+-- "inputs, the first part's care list, gates (first part first), the second's outputs". What the second part names has another number in the whole:
+-- `inWhole` gives it, for a net or for a signal
 unfoldable pub joinedBy : (ℕ → ℕ) → Content → Content → Content
 joinedBy inWhole one two = record {
   inputs = one .inputs;
@@ -74,14 +75,14 @@ joinChecks order one two stageRoom referenceRoom =
     passedOn (verdictOn order one) 0 ∷ passedOn (verdictOn order two) 3 ∷ seamChecks order one two stageRoom referenceRoom
 
 -- What is said of two files that are to be the whole: they read as defined, the reference answers what the second part answers to the answer of the
--- first, "the whole is accepted", in either order, "and its runs obey everything said of a stage".
+-- first, "the whole is accepted", in either order, "unless a gate never rises" (M-110), "and its runs obey everything said of a stage" in either case.
 pub record Joined (one two f : Files) : Type 0 where
   pub reads : BothRead f
   pub stage-is : stageIn f ≡ joinedStage one two
   pub reference-is : referenceIn f ≡ joinedReference one two
   pub answers : (bits : ℕ → Bool) (j : ℕ) → j < length (referenceIn two .outputs)
       → answer (referenceIn f) bits j ≡ answer (referenceIn two) (answer (referenceIn one) bits) j
-  pub whole-accepted : (order : WordOrder) → verdictOn order f ≡ accepted
+  pub whole-accepted : (order : WordOrder) → AcceptedUnlessIdle order f
   pub kept : (w : ℕ) → IsWord (stageIn f) w → Kept f w
 
 -- "both parts are accepted and every answer the first gives on its care words is a care word of the second", with equal counts at the seam
@@ -94,14 +95,14 @@ pub record Joinable (order : WordOrder) (one two : Files) : Type 0 where
 -- What is said of the join, by the order of words, the files of its parts, the two buffers, its answer and the buffers after it: these are as defined,
 -- the earliest failing case is named, and where it accepts, the bytes at the start of the buffers, as many as it says, are the whole, and in the other
 -- order it accepts too, and so writes the same. Parts that can be joined are accepted where the buffers have room.
-pub record JoinDemand (order : WordOrder) (one two : Files) (stage reference : List ℕ) (r : JoinAnswer) (stageLeft referenceLeft : List ℕ) : Type 0 where
+pub record JoinDemand (order : WordOrder) (one two : Files) (stageOut referenceOut : List ℕ) (r : JoinAnswer) (stageLeft referenceLeft : List ℕ) : Type 0 where
   pub stage-left : written (record { verdict = r .verdict; count = r .«stage_count» }) stageLeft
-      ≡ leaving (judge (joinChecks order one two (length stage) (length reference))) (whole one two .stage) stage
+      ≡ leaving (judge (joinChecks order one two (length stageOut) (length referenceOut))) (whole one two .stage) stageOut
   pub reference-left : written (record { verdict = r .verdict; count = r .«reference_count» }) referenceLeft
-      ≡ leaving (judge (joinChecks order one two (length stage) (length reference))) (whole one two .reference) reference
-  pub least : Judged (joinChecks order one two (length stage) (length reference)) (r .verdict)
+      ≡ leaving (judge (joinChecks order one two (length stageOut) (length referenceOut))) (whole one two .reference) referenceOut
+  pub least : Judged (joinChecks order one two (length stageOut) (length referenceOut)) (r .verdict)
   pub joined : r .verdict .number ≡ 0
       → (r .verdict ≡ accepted) × Joined one two (files (take (r .«stage_count») stageLeft) (take (r .«reference_count») referenceLeft))
-  pub accepts : Joinable order one two → length (whole one two .stage) ≤ length stage → length (whole one two .reference) ≤ length reference
+  pub accepts : Joinable order one two → length (whole one two .stage) ≤ length stageOut → length (whole one two .reference) ≤ length referenceOut
       → r .verdict ≡ accepted
-  pub either-order : (other : WordOrder) → r .verdict ≡ accepted → judge (joinChecks other one two (length stage) (length reference)) ≡ accepted
+  pub either-order : (other : WordOrder) → r .verdict ≡ accepted → judge (joinChecks other one two (length stageOut) (length referenceOut)) ≡ accepted

@@ -20,13 +20,13 @@ use Rattle.check_spec.specs.Lists.{numbers, select, some, reaches}
 use Rattle.check_spec.specs.Content.{Content, Files, stageIn, referenceIn, contentOf, files}
 use Rattle.check_spec.specs.Rows.{noGate, netOf}
 use Rattle.check_spec.specs.Words.{railsFor, IsWord}
-use Rattle.check_spec.specs.Verdicts.{reading, verdictOn}
-use Rattle.check_spec.specs.Demands.{Judged, BothRead, Kept}
+use Rattle.check_spec.specs.Verdicts.{reading}
+use Rattle.check_spec.specs.Demands.{Judged, BothRead, Kept, AcceptedUnlessIdle}
 use Rattle.check_spec.specs.Writing.{writeFile, leaving}
 
 -- ---- the stage
 
--- what is made of the first gates of a reference: the gates of the stage, and the rails of each signal, rail 0 first
+-- what is made of one gate of a reference, or of its first gates: gates of the stage, and the rails of each signal, rail 0 first
 pub record Built : Type 0 where
   pub gates : List Coded
   pub rails : List (List ℕ)
@@ -79,16 +79,19 @@ madeStage r = record { inputs = r .inputs; gates = built r .gates; outputs = map
 
 -- ---- the call
 
--- the signals of the gates that have signal x as an operand; x is an output; it is or leads to one
+-- the operands of the gate whose signal is x
 abbrev pub operandsOf : Content → ℕ → List ℕ
 operandsOf r x = getD (r .gates) (x - r .inputs) noGate .operands
 
+-- the signals of the gates that have signal x as an operand
 unfoldable pub readers : Content → ℕ → List ℕ
 readers r x = select (λ y. some (eqb x) (operandsOf r y)) (numbers (r .inputs) (length (r .gates)))
 
+-- x is an output
 abbrev pub isOutput : Content → ℕ → Bool
 isOutput r x = some (λ (o : List ℕ). eqb x (getD o 0 0)) (r .outputs)
 
+-- it is an output or leads to one
 unfoldable pub leadsOut : Content → ℕ → Bool
 leadsOut r x = isOutput r x || reaches (readers r) (isOutput r) (r .inputs + length (r .gates)) x
 
@@ -113,6 +116,10 @@ makeChecksOn reference room = reading Reference referenceLimits reference ∷ ma
 
 -- ---- what is promised
 
+-- the search of 25 finds every way out: a signal that leads to an output in however many steps
+abbrev pub LeadsFound : Content → Type 0
+LeadsFound r = (x k : ℕ) → reaches (readers r) (isOutput r) k x ≡ true → leadsOut r x ≡ true
+
 -- the net of rail b of signal x
 abbrev pub signalNet : Content → ℕ → Bool → ℕ
 signalNet r x b = getD (railsAt (built r) x) (bit b) 0
@@ -133,12 +140,12 @@ pub record Waits (r : Content) (N : Net) (w : ℕ) : Type 0 where
   pub fall : (l : List ℕ) → RiseList N (railsFor w) l → RiseEnd N (railsFor w) l → (m : List ℕ) → FallList N (after low l) m
       → (net : ℕ) → after (after low l) m net ≡ false → fallStep N (after (after low l) m) net ≡ false
 
--- "Each stage so written is accepted against its reference", in either order of words, so that its runs obey everything said of an accepted stage; and
--- in every word its rails wait for their operands.
+-- "Each stage so written is accepted against its reference", in either order of words, "unless a gate never rises" (M-110); its runs obey everything
+-- said of an accepted stage in either case; and in every word its rails wait for their operands.
 pub record MadeFrom (f : Files) : Type 0 where
   pub reads : BothRead f
   pub stage-is : stageIn f ≡ madeStage (referenceIn f)
-  pub stage-accepted : (order : WordOrder) → verdictOn order f ≡ accepted
+  pub stage-accepted : (order : WordOrder) → AcceptedUnlessIdle order f
   pub kept : (w : ℕ) → IsWord (stageIn f) w → Kept f w
   pub waits : (w : ℕ) → IsWord (stageIn f) w → Waits (referenceIn f) (netOf (stageIn f)) w
 
@@ -147,4 +154,5 @@ pub record MadeFrom (f : Files) : Type 0 where
 pub record MakeDemand (reference buffer : List ℕ) (r : Answer) (left : List ℕ) : Type 0 where
   pub answer : written r left ≡ leaving (judge (makeChecksOn reference (length buffer))) (madeBytes (referenceRead reference)) buffer
   pub least : Judged (makeChecksOn reference (length buffer)) (r .verdict)
+  pub leads : LeadsFound (referenceRead reference)
   pub made : r .verdict .number ≡ 0 → (r .verdict ≡ accepted) × MadeFrom (files (take (r .count) left) reference)
