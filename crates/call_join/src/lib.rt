@@ -7,19 +7,21 @@ use verdict::Finding;
 use verdict::Verdict;
 use verdict::WordOrder;
 ghost use mathlib.Core.Path.{_≡_};
-ghost use Prim.Native.Nat.{ℕ, _+_, _≤_};
+ghost use Prim.Native.Nat.{ℕ, _+_, _*_, _^_, _≤_, _<_};
 ghost use lib.ListN.{length, getD};
-ghost use Rattle.netlist.specs.Reading.{stageLimits};
+ghost use Rattle.netlist.specs.declared.File.the-variants.{Stage, Reference};
+ghost use Rattle.netlist.specs.Reading.{stageLimits, referenceLimits, partStageLimits, partReferenceLimits};
 ghost use Rattle.verdict.specs.Answers.{valuesAt};
-ghost use Rattle.verdict.specs.Words.{wordOf};
-ghost use Rattle.verdict.specs.Checks.{sweep, finding};
-ghost use Rattle.join_spec.specs.Join.{answerWord, uncaredCheck};
+ghost use Rattle.verdict.specs.Words.{wordOf, names};
+ghost use Rattle.verdict.specs.Checks.{sweep};
 ghost use Rattle.circuit.specs.Stage.{stageIn, StageLoaded};
 ghost use Rattle.circuit.specs.Reference.{signalsIn, referenceIn, ReferenceLoaded};
-ghost use Rattle.call_join.specs.Steps.{uncaredUnder, joinParts, partLoaded, PartsLoaded};
-ghost use Rattle.join_spec.specs.Call.{answerWith, Leaves};
-ghost use Rattle.check_spec.specs.Content.{partFiles};
-ghost use Rattle.join_spec.specs.Joining.{JoinDemand};
+ghost use Rattle.check_spec.specs.Cases.{judge};
+ghost use Rattle.check_spec.specs.Content.{Files, contentOf, partFiles};
+ghost use Rattle.check_spec.specs.Verdicts.{verdictOn};
+ghost use Rattle.check_spec.specs.Loaded.{fromStage, fromReference};
+ghost use Rattle.join_spec.specs.Joining.{whole, seamChecks, JoinDemand};
+ghost use Rattle.call_join.specs.Steps.{answerWord, uncaredUnder, PartsLoaded, PartsHeld, answerWith, Leaves};
 
 // ---- 23: words whose answer the second part does not care for
 
@@ -93,8 +95,8 @@ fn uncared(
     counts2: Counts,
 ) -> Finding
     requires { ⌜ StageLoaded counts1 (now code1) × ReferenceLoaded sizes1 (now reference1) × StageLoaded counts2 (now code2) ⌝ }
-    ensures { λ r. ⌜ r ≡ finding (uncaredCheck order (stageIn counts1 (now (code1 .entry))) (referenceIn sizes1 (now (reference1 .entry))) (stageIn counts2 (now
-        (code2 .entry)))) ⌝ }
+    ensures { λ r. ⌜ r ≡ sweep 23 0 (uncaredUnder order (counts1 .inputs) (referenceIn sizes1 (now (reference1 .entry))) (stageIn counts2 (now
+        (code2 .entry)))) (names order (stageIn counts1 (now (code1 .entry)))) ⌝ }
 {
     let mut list = [0u16; words::NAMES];
     let count = words::list_names(order, code1, counts1, &mut list);
@@ -142,10 +144,9 @@ fn join_loaded(
     reference_out: &mut [u8],
 ) -> JoinAnswer
     requires { ⌜ PartsLoaded counts (now code1) (now reference1) (now code2) (now reference2) ⌝ }
-    ensures { λ r. ⌜ Leaves (joinParts order (partLoaded (counts .stage1) (now (code1 .entry)) (counts .reference1) (now (reference1 .entry)))
-        (partLoaded (counts .stage2)
-        (now (code2 .entry)) (counts .reference2) (now (reference2 .entry))) (length (now («stage_out» .entry))) (length (now («reference_out» .entry)))) r
-        (now («stage_out» .entry)) (now («reference_out» .entry)) (now («stage_out» .exit)) (now («reference_out» .exit)) ⌝ }
+    ensures { λ r. ⌜ ((one two : Files) → PartsHeld counts (now (code1 .entry)) (now (reference1 .entry)) (now (code2 .entry)) (now (reference2 .entry)) one two
+        → Leaves (judge (seamChecks order one two (length (now («stage_out» .entry))) (length (now («reference_out» .entry))))) (whole one two) r
+        (now («stage_out» .entry)) (now («reference_out» .entry)) (now («stage_out» .exit)) (now («reference_out» .exit))) ⌝ }
 {
     let counts1 = counts.stage1;
     let sizes1 = counts.reference1;

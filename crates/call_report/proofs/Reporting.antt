@@ -23,9 +23,10 @@ use Rattle.check_spec.specs.Rows.{netOf}
 use Rattle.check_spec.specs.Words.{names}
 use Rattle.check_spec.specs.Verdicts.{verdictOn}
 use Rattle.check_spec.specs.Demands.{LoopFree}
-use Rattle.check_spec.proofs.View.{stageView, stage-view}
+use Rattle.check_spec.specs.Loaded.{stageView}
+use Rattle.check_spec.proofs.View.{stage-view}
 use Rattle.check_spec.proofs.Alike.{spelled-alike, names-alike}
-use Rattle.check_spec.proofs.Exactly.{accepted-passes}
+use Rattle.check_spec.proofs.Sound.{accepted-sound}
 use Rattle.circuit.specs.Stage.{stageIn}
 use Rattle.check_files.specs.Judgement.{StageFrom}
 use Rattle.words.specs.Listed.{Listed}
@@ -66,12 +67,12 @@ module _ (order : WordOrder) (stage reference : List ℕ) where
       → (r : Report) → r ≡ stageReport order accepted (stageIn c code) → (r ≡ reportOn order f) × ReportMeans f r
   unfolding reportOn
   report-accepted e {most} {c} {code} m from r is =
-      let a = accepted-passes order f (sym (ap (λ (x : Verdict). x .number) e)) in
+      let a = accepted-sound order f (sym (ap (λ (x : Verdict). x .number) e)) .1 in
       let reads = ap (λ (x : Limits). readFile file.Stage x stage) (sym m) ∙ from .reads in
       let same : stageView (content.stageIn f) ≡ stageIn c code =
       ap (λ (x : Reading). stageView (contentAt file.Stage stage x)) reads ∙ stage-view false stage (from .places) ∙ sym (from .content) in
       let z : r ≡ reportOn order f =
-      is ∙ ap (stageReport order accepted) (sym same) ∙ report-alike order accepted (content.stageIn f) (a .2 .free)
+      is ∙ ap (stageReport order accepted) (sym same) ∙ report-alike order accepted (content.stageIn f) (a .free)
       ∙ ap (λ (x : Verdict). cond (eqb (x .number) 0) (reportOf x (names order (content.stageIn f)) (spec.lines order (content.stageIn f))) (reportOf x [] [])) e in
       (z, subst (ReportMeans f) (sym z) (report-means order f))
 

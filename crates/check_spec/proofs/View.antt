@@ -1,56 +1,28 @@
 -- What a file holds, as the code has it: a stage with its gates' cells and pairs of rails, a reference with its signals.
 -- Assumes nothing.
-use Prim.Native.Nat.{ℕ, zero, suc, _+_, _-_, _*_, _/_, _%_, _^_, _≤_, _<_}
+use Prim.Native.Nat.{ℕ, zero, suc, _+_, _-_, _*_}
 use native.Mathlib.Omega.{arith}
-use native.Mathlib.Nat.{pow-succ', div-div-eq-div-mul}
-use mathlib.Core.Path.{_≡_, refl, sym, ap, ap₂, _∙_, subst, fun-ext}
-use mathlib.Core.Logic.{_⊎_, inl, inr, ⊎-elim}
-use mathlib.Core.Bool.{Bool, true, false, cond, not, _&&_, _||_}
-use mathlib.Core.List.{List, [], _∷_, _++_, map, map-map}
-use lib.ListN.{length, getD, length-map, List·getD-map}
-use lib.Dec.{eqb, ltb}
-use Rattle.gates.specs.Expression.{holds}
+use mathlib.Core.Path.{_≡_, refl, ap, ap₂}
+use mathlib.Core.Bool.{Bool, true, false}
+use mathlib.Core.List.{List, [], _∷_, map, map-map}
+use lib.ListN.{getD, length-map}
 use Rattle.gates.specs.Cell.{bit, setExpression, cells, cellAt, kindOf, pinCount}
 use Rattle.runs.specs.Row.{Row}
-use Rattle.runs.specs.Net.{Net}
 use Rattle.netlist.specs.declared.File.the-variants as file
-use Rattle.netlist.specs.declared.Limits.{Limits}
 use Rattle.netlist.specs.Bytes.{operand, operands}
-use Rattle.netlist.specs.Commands.{stageFile, needed}
-use Rattle.netlist.specs.Reading.{Places, Reading, refused, readable, readFile}
+use Rattle.netlist.specs.Reading.{Places, readable}
 use Rattle.netlist.specs.Content as old
-use Rattle.netlist.specs.Content.{Coded, Pair, codedAt, gateOf, pairAt, stageOf, referenceOf, cellOf, holdOf}
-use Rattle.netlist.proofs.Alike.{stage-alike}
+use Rattle.netlist.specs.Content.{Coded, Pair, codedAt, gateOf, pairAt, stageOf, referenceOf, holdOf}
 use Rattle.verdict.specs.Nets as nets
-use Rattle.check_spec.specs.Content.{Content, contentAt, contentOf, railsOfOutput}
-use Rattle.check_spec.specs.Rows.{noGate, driver, cellIn, setIn, netOf}
-
-abbrev pub pairOf : List ℕ → Pair
-pairOf vs = record { rail0 = getD vs 0 0; rail1 = getD vs 1 0 }
-
-abbrev pub stageView : Content → old.Stage
-stageView c = record { inputs = c .inputs; gates = map gateOf (c .gates); outputs = map pairOf (c .outputs); care = c .care }
-
-abbrev pub referenceView : Content → old.Reference
-referenceView c = record { inputs = c .inputs; gates = c .gates; outputs = map (λ (vs : List ℕ). getD vs 0 0) (c .outputs) }
+use Rattle.check_spec.specs.Content.{Content, contentAt}
+use Rattle.check_spec.specs.Loaded.{pairOf, stageView, referenceView}
+use Rattle.check_spec.specs.Rows.{noGate, driver, setIn, netOf}
 
 -- ---- files
 
--- for now a pipeline holds what a stage does
-pub content-alike : (registers : Bool) (bytes : List ℕ) (x : Reading) → contentAt (stageFile registers) bytes x ≡ contentAt file.Stage bytes x
-unfolding contentAt needed
-content-alike false bytes x = refl
-content-alike true bytes (refused number at) = refl
-content-alike true bytes (readable p) = refl
-
-pub content-plain : (registers : Bool) (most : Limits) (bytes : List ℕ) → contentOf (stageFile registers) most bytes ≡ contentOf file.Stage most bytes
-content-plain registers most bytes =
-    content-alike registers bytes (readFile (stageFile registers) most bytes) ∙ ap (contentAt file.Stage bytes) (stage-alike registers most bytes)
-
-pub stage-view : (registers : Bool) (bytes : List ℕ) (p : Places) → stageView (contentAt (stageFile registers) bytes (readable p)) ≡ stageOf bytes p
+pub stage-view : (bytes : List ℕ) (p : Places) → stageView (contentAt file.Stage bytes (readable p)) ≡ stageOf bytes p
 unfolding contentAt stageOf operands
-stage-view registers bytes p =
-    ap stageView (content-alike registers bytes (readable p)) ∙
+stage-view bytes p =
     ap₂ (λ (gates : List old.Gate) (outputs : List Pair). record { inputs = p .inputs; gates = gates; outputs = outputs; care = p .care })
     (map-map gateOf (codedAt file.Stage bytes) (p .gates)) (pairs (p .outputs))
   where

@@ -1,11 +1,11 @@
 -- All words, name by name, and check by check.
 -- Assumes nothing.
-use Prim.Native.Nat.{ℕ, zero, suc, _+_, _≤_, _<_}
+use Prim.Native.Nat.{ℕ, zero, suc, _+_, _-_, _*_, _≤_, _<_}
 use native.Mathlib.Omega.{arith}
 use native.Mathlib.Numerals.{add-one}
 use mathlib.Core.Path.{_≡_, refl, sym, ap, subst, _∙_}
 use mathlib.Core.Logic.{inl, inr, ⊎-elim}
-use mathlib.Core.List.{List, [], _∷_}
+use mathlib.Core.List.{List, [], _∷_, _++_}
 use lib.ListN.{length, getD, take, drop, drop-of-length-le}
 use lib.Seq.{drop-cons}
 use Rattle.netlist.specs.Content.{Stage, Reference}
@@ -17,19 +17,21 @@ use Rattle.verdict.specs.declared.Finding.the-variants.{Fault, Passed}
 use Rattle.verdict.specs.declared.Verdict.{Verdict}
 use Rattle.verdict.specs.declared.WordOrder.{WordOrder}
 use Rattle.verdict.specs.Words.{IsWord, spelled, names}
-use Rattle.verdict.specs.Checks.{verdict, atFault, sweep, finding, orLater, firstFault, riseSweeps, fallSweeps, sweeps}
-use Rattle.verdict.specs.Demands.{WithHold}
-use Rattle.verdict.proofs.Reaching.{loopFree-noLoop}
+use Rattle.verdict.specs.Checks.{verdict, Check, atFault, sweep, finding, orLater, firstFault, riseSweeps, fallSweeps, sweeps}
+use Rattle.verdict.specs.Nets.{noGate}
 use Rattle.verdict.specs.Loops.{In}
 use Rattle.verdict.proofs.Names.{name-spells}
-use Rattle.verdict.proofs.Sweeps.{fault-++}
-use Rattle.verdict.proofs.Demands.{hold-passes}
-use Rattle.circuit.specs.Stage.{stageGates, stageIn}
+use Rattle.check_spec.proofs.Hold.{fall-passes}
+use Rattle.circuit.specs.Stage.{gateIn, stageGates, outputIn, stageOutputs, stageIn, StageLoaded}
+use Rattle.circuit.specs.Reference.{signalIn, signalsIn, referenceIn}
 use Rattle.circuit.specs.Order.{orderIn, InOrder}
 use Rattle.circuit.proofs.Order.{order-no-loop}
+use Rattle.circuit.proofs.Tabulate.{length-tabulate, getD-tabulate}
 use Rattle.check_word.specs.declared.Sweep.{Sweep}
 use Rattle.check_word.specs.declared.Sweep.the-variants.{Wrong, Missing, Unobserved, Remaining, StillHigh}
 use Rattle.check_word.specs.Finds.{finds}
+use Rattle.check_word.specs.Loaded.{BothLoaded}
+use Rattle.lane_screen.specs.Hold.{WithHold}
 use Rattle.lane_screen.specs.declared.Masks.{Masks}
 use Rattle.lane_screen.specs.Suspects.{Unnamed, Clean, AllClean}
 use Rattle.check_words.specs.Sweeps.{numberOf, swept, allSweeps, sweepAt, maskOf, Enough}
@@ -105,6 +107,16 @@ unfolding orLater
 later-both (Fault v) later e = let z : _≡_ {A = ℕ} 0 1 = cc in absurd (omega arith)
 later-both Passed later e = (refl, e)
 
+-- of two lists: the first list's, or else the second's
+fault-++ : (cs ds : List Check) → firstFault (cs ++ ds) ≡ orLater (firstFault cs) (firstFault ds)
+unfolding firstFault orLater
+fault-++ [] ds = refl
+fault-++ (c ∷ cs) ds = go (finding c) (fault-++ cs ds)
+  where
+    go : (x : Finding) → firstFault (cs ++ ds) ≡ orLater (firstFault cs) (firstFault ds) → orLater x (firstFault (cs ++ ds)) ≡ orLater (orLater x (firstFault cs)) (firstFault ds)
+    go (Fault v) e = refl
+    go Passed e = e
+
 module _ (order : WordOrder) (s : Stage) (r : Reference) where
   -- the first fault that some of the checks find
   abbrev pub sweptBy : List Sweep → Finding
@@ -172,19 +184,31 @@ module _ (order : WordOrder) (s : Stage) (r : Reference) where
     pub falls-pass : ((w : ℕ) → IsWord s w → Unnamed (m .fall) w) → Passed ≡ firstFault (fallSweeps order s r)
     falls-pass fall = later-passed _ (passes StillHigh fall) ∙ later-passed _ (passes Remaining fall) ∙ falls-are
 
+-- a loaded reference has the outputs that it counts
+pub enough-signals : (sizes : Counts) (reference : List ℕ) {m : ℕ} → m ≤ sizes .outputs → m ≤ length (signalsIn sizes reference)
+unfolding signalsIn
+enough-signals sizes reference h = omega (arith, length-tabulate (signalIn sizes reference) (sizes .outputs))
+
 -- a stage with hold everywhere passes the fall where it passes the rise
-pub no-fall : (order : WordOrder) (c : Counts) (code : List ℕ) → InOrder c code → WithHold (stageIn c code) → (r : Reference)
+pub no-fall : (order : WordOrder) (c : Counts) (code : List ℕ) → StageLoaded c code → InOrder c code → WithHold (stageIn c code) → (r : Reference) → c .outputs ≤ length (r .outputs)
     → Passed ≡ firstFault (riseSweeps order (stageIn c code) r) → Passed ≡ firstFault (sweeps order (stageIn c code) r)
-no-fall order c code o hold r e =
+unfolding stageGates stageOutputs
+no-fall order c code loaded o hold r few e =
     let s = stageIn c code in
-    let l = loopFree-noLoop (c .inputs) (stageGates c code) (order-no-loop (c .inputs) (stageGates c code) (orderIn c code) (o .ordered)) in
-    then-fall order s r e (sym (hold-passes order s r l hold (sym e)))
+    let cells : (k : ℕ) → k < length (s .gates) → (1 ≤ getD (s .gates) k noGate .cell) × (getD (s .gates) k noGate .cell ≤ 27) =
+    λ k h. let l : k < c .gates = omega (arith, length-tabulate (gateIn code) (c .gates)) in rw (getD-tabulate (gateIn code) (c .gates) k noGate l) (loaded .gate k l .low, loaded .gate k l .high) in
+    then-fall order s r e (sym (fall-passes s cells order r (order-no-loop (c .inputs) (stageGates c code) (orderIn c code) (o .ordered))
+    (omega (arith, few, length-tabulate (outputIn c code) (c .outputs))) (λ k g. hold (k - 2 * c .inputs) (omega (arith, g .0, g .1))) (sym e)))
 
 -- so many have passed that all do
-pub enough-passed : (order : WordOrder) (c : Counts) (code : List ℕ) → InOrder c code → (r : Reference) (m i : ℕ) → Enough (stageIn c code) m → i ≡ m
-    → PassedTo order (stageIn c code) r i → Passed ≡ firstFault (sweeps order (stageIn c code) r)
-enough-passed order c code o r m i enough e p =
+pub enough-passed : (order : WordOrder) {c : Counts} {code : List ℕ} {sizes : Counts} {reference : List ℕ} → BothLoaded c code sizes reference
+    → (m i : ℕ) → Enough (stageIn c code) m → i ≡ m
+    → PassedTo order (stageIn c code) (referenceIn sizes reference) i → Passed ≡ firstFault (sweeps order (stageIn c code) (referenceIn sizes reference))
+enough-passed order {c} {code} {sizes} {reference} both m i enough e p =
     let s = stageIn c code in
+    let r = referenceIn sizes reference in
     let passed : (k : ℕ) → m ≡ k → PassedTo order s r k = λ k q. subst (PassedTo order s r) (e ∙ q) p in
-    ⊎-elim (λ all. passed 5 all ∙ sweeps-are order s r) (λ rise. no-fall order c code o (rise .1) r (passed 3 (rise .0) ∙ rises-are order s r))
+    let few = enough-signals sizes reference {m = c .outputs} (omega (arith, both .outputs)) in
+    ⊎-elim (λ all. passed 5 all ∙ sweeps-are order s r)
+    (λ rise. no-fall order c code (both .stage) (both .ordered) (rise .1) r few (passed 3 (rise .0) ∙ rises-are order s r))
     (enough .decides)

@@ -11,9 +11,9 @@ use Rattle.verdict.specs.Words.{spelled, names}
 use Rattle.verdict.specs.Checks.{sweep}
 use Rattle.check_word.specs.declared.Sweep.{Sweep}
 use Rattle.check_word.specs.declared.Sweep.the-variants.{Wrong, Missing, Unobserved, Remaining, StillHigh}
-use Rattle.verdict.specs.Demands.{WithHold}
 use Rattle.check_word.specs.Finds.{finds}
 use Rattle.lane_screen.specs.declared.Masks.{Masks}
+use Rattle.lane_screen.specs.Hold.{WithHold}
 
 -- the number of a check
 abbrev pub numberOf : Sweep → ℕ

@@ -8,7 +8,7 @@ use verdict::Verdict;
 use verdict::WordOrder;
 ghost use mathlib.Core.Path.{_≡_};
 ghost use mathlib.Core.Bool.{true};
-ghost use Prim.Native.Nat.{_<_};
+ghost use Prim.Native.Nat.{_≤_, _<_};
 ghost use lib.ListN.{length};
 ghost use Rattle.netlist.specs.Content.{Reference};
 ghost use Rattle.verdict.specs.Words.{names};
@@ -189,7 +189,8 @@ fn sweep_named(
 // Whether the masks name no word in which a check may find something: where every gate has hold those of the fall are not asked for.
 fn nothing_named(masks: Masks, code: &[u16], counts: Counts) -> bool
     requires { ⌜ StageLoaded counts (now code) × InOrder counts (now code) ⌝ }
-    ensures { λ r. ⌜ (r ≡ true → (order : WordOrder) (reference : Reference) → AllClean (stageIn counts (now (code .entry))) reference masks
+    ensures { λ r. ⌜ (r ≡ true → (order : WordOrder) (reference : Reference) → counts .outputs ≤ length (reference .outputs)
+        → AllClean (stageIn counts (now (code .entry))) reference masks
         → Finding.Passed ≡ checks.firstFault (checks.sweeps order (stageIn counts (now (code .entry))) reference)) ⌝ }
 {
     let wrong = masks.wrong;

@@ -1,7 +1,7 @@
 -- References: one that is written is read back, readable bytes with the gates first are what writing their reference gives, and the reference of a
 -- readable file is well-formed.
 -- Assumes nothing.
-use Prim.Native.Nat.{ℕ, zero, suc, _+_, _*_, _≤_, _<_}
+use Prim.Native.Nat.{ℕ, zero, suc, _+_, _≤_, _<_}
 use native.Mathlib.Omega.{arith}
 use mathlib.Core.Path.{_≡_, refl, ap, ap₂, subst, _∙_}
 use mathlib.Core.List.{List, [], _∷_, _++_, map, map-map}
@@ -134,7 +134,7 @@ module _ (most : Limits) (s : List ℕ) (p : Places) (e : readFile file.Referenc
         outputs-formed = rw (g, signals-view s os) (rw (map-map signalOf (wiredAt file.Reference s) os) at (wires-signals (netsOf p) (map (wiredAt file.Reference s) os) (formed .1)));
       }
 
--- ---- a well-formed reference, and no other, fits a file
+-- ---- a well-formed reference fits a file
 
 module _ (N : Nets) (small : N .inputs + N .gates ≤ absent) where
   operations-fit : (k : ℕ) (cs : List Coded) (rest : List Item) → k + length cs ≤ N .gates → FormedFrom (N .inputs + k) cs →
@@ -183,8 +183,3 @@ module _ (most : Limits) (r : Reference) where
         items-fit = rw g (operations-fit N in-reach 0 (r .gates) (map (λ v. output (v ∷ [])) (r .outputs)) (omega arith) ordered
             (signals-fit N in-reach (r .outputs) (h .outputs-formed)));
       }
-
-  pub fits-reference : FileFits file.Reference most (r .inputs) (referenceItems r) → ReferenceFormed most r
-  fits-reference fits =
-      subst (ReferenceFormed most) (referenceOf-writeReference most r fits)
-      (reference-formed most (writeReference r) (placesOf file.Reference (r .inputs) (referenceItems r)) (read-writeReference most r fits))

@@ -1,14 +1,13 @@
 -- `call_join::join` meets its contract: the parts' verdicts first, then the join of what the check left of both. Assumes nothing.
 use native.Mathlib.Omega.{arith}
-use mathlib.Core.Path.{sym, ap, subst, _∙_}
+use mathlib.Core.Path.{refl, sym, ap, subst, _∙_}
 use denote.Ref.{now}
 use Rattle.netlist.specs.declared.Limits.{Limits}
 use Rattle.netlist.specs.Reading.{stageLimits, referenceLimits, NoMore}
 use Rattle.netlist.proofs.Bounds.{part-stage-less, part-reference-less}
 use Rattle.check_files.specs.Judgement.{verdictOf}
-use Rattle.join_spec.specs.Join.{files}
-use Rattle.call_join.proofs.Joining.{judged-by, part-same, leaves-all, leaves-same, few-care, first-refuses, second-refuses, both-accepted}
-use Rattle.join_spec.proofs.Call.{leaves-refused, join-demand}
+use Rattle.check_spec.specs.Content.{partFiles}
+use Rattle.call_join.proofs.Joining.{judged-by, accepts-zero, part-held, few-care, first-refused, second-refused, both-accepted, demanded}
 use borrow.Author.Needs.{needs}
 use Rattle.call_join.proofs.join.Statement.{statement}
 use Rattle.call_join.proofs.join.Tie as tie
@@ -52,9 +51,8 @@ returns c =
     let a = one .before .before .before .before .before .before .before .before .before .before .before .args in
     let is = c .before .before .v .given .1 in
     let v = judged-by (a .order) _ _ _ _ _ (sym (ap verdictOf is) ∙ one .check-loading .ensures .verdict-is) (one .before .before .before .before .part-stage-limits .ensures) (one .before .before .before .part-reference-limits .ensures) in
-    join-demand (a .order) (now (a .stage1)) (now (a .reference1)) (now (a .stage2)) (now (a .reference2)) _ _ _ _ _
-    (leaves-refused _ _ _ (first-refuses (a .order) (files (now (a .stage1)) (now (a .reference1))) (files (now (a .stage2)) (now (a .reference2))) _ _ _ v
-    (λ q. omega (arith, one .check-loading .ensures .refuses _ is .0))) (c .refusal .ensures))
+    demanded (a .order) (now (a .stage1)) (now (a .reference1)) (now (a .stage2)) (now (a .reference2))
+    (first-refused (a .order) _ _ _ _ _ v (λ q. omega (arith, one .check-loading .ensures .refuses _ is .0)) (c .refusal .ensures))
 
 returns-2 : tie.Need-returns-2
 returns-2 c =
@@ -66,9 +64,8 @@ returns-2 c =
     let is = c .before .before .before .v2 .given .1 in
     let v = judged-by (a .order) _ _ _ _ _ (sym (ap verdictOf (two .before .before .before .before .counts1 .given .1)) ∙ one .check-loading .ensures .verdict-is) m n in
     let w = judged-by (a .order) _ _ _ _ _ (sym (ap verdictOf is) ∙ two .check-loading2 .ensures .verdict-is) m n in
-    join-demand (a .order) (now (a .stage1)) (now (a .reference1)) (now (a .stage2)) (now (a .reference2)) _ _ _ _ _
-    (leaves-refused _ _ _ (second-refuses (a .order) (files (now (a .stage1)) (now (a .reference1))) (files (now (a .stage2)) (now (a .reference2))) _ _ _ v (omega arith) _ w
-    (λ q. omega (arith, two .check-loading2 .ensures .refuses _ is .0))) (c .refusal2 .ensures))
+    demanded (a .order) (now (a .stage1)) (now (a .reference1)) (now (a .stage2)) (now (a .reference2))
+    (second-refused (a .order) _ _ _ _ (accepts-zero v refl) _ w (λ q. omega (arith, two .check-loading2 .ensures .refuses _ is .0)) (c .refusal2 .ensures))
 
 returns-3 : tie.Need-returns-3
 returns-3 c =
@@ -81,10 +78,12 @@ returns-3 c =
     let it = c .before .before .before .before .before .before .before .before .before .before .before .before .counts2 .given .1 in
     let v = judged-by (a .order) _ _ _ _ _ (sym (ap verdictOf is) ∙ one .check-loading .ensures .verdict-is) m n in
     let w = judged-by (a .order) _ _ _ _ _ (sym (ap verdictOf it) ∙ two .check-loading2 .ensures .verdict-is) m n in
-    join-demand (a .order) (now (a .stage1)) (now (a .reference1)) (now (a .stage2)) (now (a .reference2)) _ _ _ _ _
-    (leaves-all (both-accepted (a .order) (files (now (a .stage1)) (now (a .reference1))) (files (now (a .stage2)) (now (a .reference2))) _ _ _ v (omega arith) _ w (omega arith))
-    (leaves-same _ _ _ _ _ _ _ (part-same m n (one .check-loading .ensures .loaded _ _ is)) (part-same m n (two .check-loading2 .ensures .loaded _ _ it))
-    (c .before .before .before .before .join-loaded .ensures)))
+    let p = part-held m n (one .check-loading .ensures .loaded _ _ is) in
+    let q = part-held m n (two .check-loading2 .ensures .loaded _ _ it) in
+    demanded (a .order) (now (a .stage1)) (now (a .reference1)) (now (a .stage2)) (now (a .reference2))
+    (both-accepted (a .order) _ _ _ _ (accepts-zero v refl) (accepts-zero w refl)
+    (c .before .before .before .before .join-loaded .ensures (partFiles (now (a .stage1)) (now (a .reference1))) (partFiles (now (a .stage2)) (now (a .reference2)))
+    (record { stage1-is = p .0; reference1-is = p .1; stage2-is = q .0; reference2-is = q .1 })))
 
 pub join-spec : {M : Type 1} → statement M
 join-spec =

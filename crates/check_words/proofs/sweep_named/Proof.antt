@@ -55,8 +55,7 @@ returns-2 : tie.Need-returns-2 Inv-loop μ-loop
 returns-2 c =
     let z = c .before .before .before .before .before .before in
     let loop = c .before .loop in
-    let r = referenceIn (z .args .sizes) (now (z .args .reference)) in
-    enough-passed (z .args .order) (z .args .counts) (now (z .args .code)) (z .pre .0 .ordered) r _ (loop .i) (c .before .before .sweep-count .ensures) (omega arith) (loop .inv .1)
+    enough-passed (z .args .order) (z .pre .0) _ (loop .i) (c .before .before .sweep-count .ensures) (omega arith) (loop .inv .1)
 
 pub sweep-named-spec : {M : Type 1} → statement M
 sweep-named-spec =
