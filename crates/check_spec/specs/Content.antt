@@ -37,6 +37,11 @@ contentAt f bytes (readable p) = record {
 abbrev pub contentOf : File → Limits → List ℕ → Content
 contentOf f most bytes = contentAt f bytes (readFile f most bytes)
 
+-- A stage as runs and the checks from 28 on see it, in which a register is two wires. For now no file has registers, so that it is the stage as
+-- reading gives it.
+abbrev pub wired : Content → Content
+wired raw = raw
+
 -- two files, whether the stage is read as a pipeline, which may have registers, and the limits that they are read within
 pub record Files : Type 0 where
   pub stage : List ℕ
@@ -45,8 +50,12 @@ pub record Files : Type 0 where
   pub stageMost : Limits
   pub referenceMost : Limits
 
+-- the stage as reading gives it, and as runs and the checks from 28 on see it
+abbrev pub rawIn : Files → Content
+rawIn f = contentOf (stageFile (f .registers)) (f .stageMost) (f .stage)
+
 abbrev pub stageIn : Files → Content
-stageIn f = contentOf (stageFile (f .registers)) (f .stageMost) (f .stage)
+stageIn f = wired (rawIn f)
 
 abbrev pub referenceIn : Files → Content
 referenceIn f = contentOf Reference (f .referenceMost) (f .reference)

@@ -23,7 +23,7 @@ use Rattle.netlist.specs.declared.File.the-variants.{Stage, Reference}
 use Rattle.netlist.specs.Reading.{stageLimits}
 use Rattle.check_spec.specs.Cases.{verdict, accepted, Case, Check}
 use Rattle.check_spec.specs.Lists.{bitOf, some, reaches}
-use Rattle.check_spec.specs.Content.{Content, Files, stageIn, referenceIn}
+use Rattle.check_spec.specs.Content.{Content, Files, rawIn, stageIn, referenceIn}
 use Rattle.check_spec.specs.Rows.{driver, cellIn, netOf, risen, fallen, dataOf, allData, allNull, feeding, reachesItself}
 use Rattle.check_spec.specs.Words.{railsFor, spelled, IsWord, answer}
 use Rattle.check_spec.specs.Checks.{rest, retiredGate, illegal}
@@ -61,9 +61,9 @@ LoopFree N = (net : ℕ) → IsGate N net → reachesItself N net ≡ false
 -- "a readable, loop-free stage whose counts match"
 pub record Comparable (f : Files) : Type 0 where
   pub read : BothRead f
-  pub inputs : stageIn f .inputs ≡ referenceIn f .inputs
-  pub outputs : length (stageIn f .outputs) ≡ length (referenceIn f .outputs)
-  pub loop-free : LoopFree (netOf (stageIn f))
+  pub inputs : rawIn f .inputs ≡ referenceIn f .inputs
+  pub outputs : length (rawIn f .outputs) ≡ length (referenceIn f .outputs)
+  pub loop-free : LoopFree (netOf (rawIn f))
 
 -- the reference's answer to word w
 abbrev pub answerTo : Files → ℕ → ℕ → Bool
@@ -88,7 +88,7 @@ TheOnly P R = P R × ((r : Row) → P r → r ≡ R)
 pub record Demand2 (order : WordOrder) (f : Files) (v : Verdict) : Type 0 where
   pub exactly : Comparable f → (v ≡ accepted) ↔ Acceptable f
   pub least : Judged (checksOn order f) v
-  pub loops : (net k : ℕ) → reaches (feeding (netOf (stageIn f))) (eqb net) k net ≡ true → reachesItself (netOf (stageIn f)) net ≡ true
+  pub loops : (net k : ℕ) → reaches (feeding (netOf (rawIn f))) (eqb net) k net ≡ true → reachesItself (netOf (rawIn f)) net ≡ true
   pub data-is : (r : Row) (p : Bool → ℕ) (b : Bool) → (dataOf r p b ≡ true) ↔ DataOf r p b
   pub all-data-is : (r : Row) → (allData (netOf (stageIn f)) r ≡ true) ↔ AllData (netOf (stageIn f)) r
   pub all-null-is : (r : Row) → (allNull (netOf (stageIn f)) r ≡ true) ↔ AllNull (netOf (stageIn f)) r

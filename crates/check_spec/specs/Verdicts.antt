@@ -15,7 +15,7 @@ use Rattle.verdict.specs.declared.Verdict.{Verdict}
 use Rattle.verdict.specs.declared.WordOrder.{WordOrder}
 use Rattle.check_spec.specs.Cases.{Check, case, judge}
 use Rattle.check_spec.specs.Lists.{numbers}
-use Rattle.check_spec.specs.Content.{Content, Files, stageIn, referenceIn, contentOf}
+use Rattle.check_spec.specs.Content.{Content, Files, rawIn, referenceIn, contentOf}
 use Rattle.check_spec.specs.Rows.{netOf, risen}
 use Rattle.check_spec.specs.Checks.{checks, rowChecks}
 
@@ -37,7 +37,7 @@ abbrev pub checksOn : WordOrder → Files → List Check
 checksOn order f =
     reading (stageFile (f .registers)) (f .stageMost) (f .stage) ∷
     reading Reference (f .referenceMost) (f .reference) ∷
-    checks order (stageIn f) (referenceIn f)
+    checks order (rawIn f) (referenceIn f)
 
 abbrev pub verdictOn : WordOrder → Files → Verdict
 verdictOn order f = judge (checksOn order f)

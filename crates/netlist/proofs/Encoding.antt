@@ -72,6 +72,10 @@ pub stage-care : Has file.Stage sort.Care
 unfolding commandTable ownCommands formIn
 stage-care = refl
 
+pub pipeline-care : Has file.Pipeline sort.Care
+unfolding commandTable ownCommands formIn
+pipeline-care = refl
+
 pub reference-careless : Has file.Reference sort.Care → ⊥
 unfolding commandTable ownCommands formIn
 reference-careless e = clash (cc)

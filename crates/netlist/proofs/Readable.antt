@@ -8,16 +8,16 @@ use mathlib.Core.Path.{_≡_, refl, sym, ap, subst, subst₂, _∙_}
 use mathlib.Core.Bool.{Bool, true}
 use mathlib.Core.List.{List, [], _∷_}
 use lib.ListN.{length, getD}
-use borrow.Author.Tests.{ltb-true}
+use borrow.Author.Tests.{ltb-true, lt-ltb}
 use Rattle.netlist.specs.Types.{File, Limits}
 use Rattle.netlist.specs.Types.file
 use Rattle.netlist.specs.Types.sort
 use Rattle.netlist.specs.Bytes.{byte, operand}
 use Rattle.netlist.specs.Commands.{roleOf, needed}
 use Rattle.netlist.specs.Reading.{Nets, names, asked, Places, Ascending, netsOf, readFile, readable}
-use Rattle.netlist.specs.Writing.{widthFor, operandCount, Item, gate, output, care, gatesIn, outputsIn, careIn, gatePlaces, outputPlaces, netsIn}
+use Rattle.netlist.specs.Writing.{widthFor, operandCount, Item, gate, output, care, gatesIn, outputsIn, careIn, gatePlaces, outputPlaces, All, EachFrom, netsIn}
 use Rattle.netlist.specs.Read.{GateRead, OutputRead, Read}
-use Rattle.netlist.proofs.Operands.{each-named}
+use Rattle.netlist.proofs.Operands.{each-named, same-asked, asked-same}
 use Rattle.netlist.proofs.Encoding.{each-file, KindOfCell, kind-in, operation-needs}
 use Rattle.netlist.proofs.Laid.{Laid, Named, laid-operands, laid-used, laid-length, length-gatePlaces, length-outputPlaces}
 use Rattle.netlist.proofs.Walk.{LaidItems, readable-laid, nets-places}
@@ -41,6 +41,36 @@ module _ (N : Nets) (k i v : ℕ) where
   pub named-signal : asked file.Reference sort.Output N k i v ≡ true → v < N .inputs + N .gates
   unfolding names roleOf
   named-signal = ltb-true v (N .inputs + N .gates)
+
+-- of all operands of a command, as bounds
+module _ (N : Nets) (k i : ℕ) (vs : List ℕ) where
+  pub pins-in : EachFrom (asked file.Stage sort.Gate N k) i vs → All (λ v. v < 2 * N .inputs + N .gates) vs
+  pins-in = same-asked (asked file.Stage sort.Gate N k) (λ v. v < 2 * N .inputs + N .gates) (named-pin N k) i vs
+
+  pub in-pins : All (λ v. v < 2 * N .inputs + N .gates) vs → EachFrom (asked file.Stage sort.Gate N k) i vs
+  unfolding names roleOf
+  in-pins = asked-same (asked file.Stage sort.Gate N k) (λ v. v < 2 * N .inputs + N .gates) (λ j v. lt-ltb v (2 * N .inputs + N .gates)) i vs
+
+  pub rails-in : EachFrom (asked file.Stage sort.Output N k) i vs → All (λ v. v < 2 * N .inputs + N .gates) vs
+  rails-in = same-asked (asked file.Stage sort.Output N k) (λ v. v < 2 * N .inputs + N .gates) (named-rail N k) i vs
+
+  pub in-rails : All (λ v. v < 2 * N .inputs + N .gates) vs → EachFrom (asked file.Stage sort.Output N k) i vs
+  unfolding names roleOf
+  in-rails = asked-same (asked file.Stage sort.Output N k) (λ v. v < 2 * N .inputs + N .gates) (λ j v. lt-ltb v (2 * N .inputs + N .gates)) i vs
+
+  pub earlier-in : EachFrom (asked file.Reference sort.Gate N k) i vs → All (λ v. v < N .inputs + k) vs
+  earlier-in = same-asked (asked file.Reference sort.Gate N k) (λ v. v < N .inputs + k) (named-earlier N k) i vs
+
+  pub in-earlier : All (λ v. v < N .inputs + k) vs → EachFrom (asked file.Reference sort.Gate N k) i vs
+  unfolding names roleOf
+  in-earlier = asked-same (asked file.Reference sort.Gate N k) (λ v. v < N .inputs + k) (λ j v. lt-ltb v (N .inputs + k)) i vs
+
+  pub signals-in : EachFrom (asked file.Reference sort.Output N k) i vs → All (λ v. v < N .inputs + N .gates) vs
+  signals-in = same-asked (asked file.Reference sort.Output N k) (λ v. v < N .inputs + N .gates) (named-signal N k) i vs
+
+  pub in-signals : All (λ v. v < N .inputs + N .gates) vs → EachFrom (asked file.Reference sort.Output N k) i vs
+  unfolding names roleOf
+  in-signals = asked-same (asked file.Reference sort.Output N k) (λ v. v < N .inputs + N .gates) (λ j v. lt-ltb v (N .inputs + N .gates)) i vs
 
 -- a gate's kind is one of 27, its operation one of 6
 pub kind-read : {s : List ℕ} {N : Nets} {k at : ℕ} → GateRead file.Stage s N k at → KindOfCell (byte s (at + 1))

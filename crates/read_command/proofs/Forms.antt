@@ -1,19 +1,24 @@
--- A byte that is in no row of the table, how many bytes a command has at most, and which bytes are an operation.
+-- A byte that is in no row of the table, how many bytes a command has at most, which sorts of command name nothing, and which bytes are an operation.
 -- Assumes nothing.
 use Prim.Native.Nat.{ℕ, zero, suc, _+_, _^_, _≤_, _<_}
 use native.Mathlib.Omega.{arith}
 use mathlib.Core.Path.{_≡_, refl, sym, ap, _∙_}
 use mathlib.Core.List.{List, [], _∷_}
 use lib.ListN.{List·getD-eq-default}
+use types.Run.{OneOf}
+use denote.Enum.Declared.{tagOf}
 use borrow.Author.Tests.{ne-eqb}
 use Rattle.netlist.specs.declared.File.{File}
 use Rattle.netlist.specs.declared.File.the-variants as file
 use Rattle.netlist.specs.declared.Sort.{Sort}
 use Rattle.netlist.specs.declared.Sort.the-variants as sort
+use Rattle.netlist.specs.declared.Role.the-variants.{Number}
 use Rattle.netlist.specs.declared.Form.{Form}
-use Rattle.netlist.specs.Commands.{asForm, commandTable, ownCommands, formIn, formOf, width, needed}
+use Rattle.netlist.specs.Commands.{asForm, commandTable, ownCommands, formIn, formOf, roleOf, width, needed}
 use Rattle.netlist.specs.Writing.{formFor, All}
-use Rattle.netlist.proofs.Encoding.{form-for, gate-form, inputs-form, care-form, width-in}
+use Rattle.netlist.proofs.Sort.{the-type}
+use Rattle.netlist.proofs.Encoding.{each-file, form-for, gate-form, inputs-form, care-form, width-in}
+use Rattle.read_command.proofs.Arms.{arm}
 
 pub in-no-row : (rs : List (ℕ × Form)) (b : ℕ) → All (λ r. b ≡ r .0 → ⊥) rs → asForm sort.Unknown 1 0 ≡ formIn rs b
 unfolding formIn
@@ -50,6 +55,18 @@ module _ (f : File) (b : ℕ) {form : Form} (is : form ≡ formOf f b) where
 
   pub inputs-wide : form .sort ≡ sort.Inputs → width form ≡ 2
   inputs-wide e = ap width (form-sort e ∙ inputs-form f)
+
+-- the operands of a command that is neither gate nor output name nothing
+pub number-role : (f : File) (i : ℕ) (c : Sort) → OneOf (0 ∷ 1 ∷ 4 ∷ 5 ∷ []) (tagOf the-type c) → Number ≡ roleOf f c i
+unfolding roleOf
+number-role f i = arm (0 ∷ 1 ∷ 4 ∷ 5 ∷ []) (λ c. Number ≡ roleOf f c i) (
+  each-file (λ f. Number ≡ roleOf f sort.End i) (refl, refl, refl) f,
+  each-file (λ f. Number ≡ roleOf f sort.Inputs i) (refl, refl, refl) f,
+  tt,
+  tt,
+  each-file (λ f. Number ≡ roleOf f sort.Care i) (refl, refl, refl) f,
+  each-file (λ f. Number ≡ roleOf f sort.Unknown i) (refl, refl, refl) f,
+)
 
 -- operations 2 to 6 need two operands
 pub operation-two : (b : ℕ) → 2 ≤ b → b ≤ 6 → needed file.Reference b ≡ 2

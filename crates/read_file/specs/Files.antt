@@ -9,8 +9,12 @@ use Rattle.netlist.specs.declared.Limits.{Limits}
 use Rattle.netlist.specs.declared.Counts.{Counts}
 use Rattle.netlist.specs.Bytes.{byte}
 use Rattle.netlist.specs.Commands.{formOf, width}
-use Rattle.netlist.specs.Reading.{Places, countsOf, Reading, refused, readable}
+use Rattle.netlist.specs.Reading.{Nets, Places, countsOf, Reading, refused, readable}
 use Rattle.netlist.specs.Read.{farthest}
+
+-- what there is to name in a file with n inputs and g gates
+abbrev pub netsWith : ℕ → ℕ → Nets
+netsWith n g = record { inputs = n; gates = g }
 
 -- k commands stand one after the other, each with all of its bytes, from one position to another
 unfoldable pub Follow : File → List ℕ → ℕ → ℕ → ℕ → Type 0

@@ -1,81 +1,49 @@
+-- `read_command::role_of` meets its contract: a gate and an output by the file, other commands name nothing. Assumes nothing.
 use borrow.Author.Needs.{needs}
+use Rattle.netlist.specs.Commands.{roleOf}
+use Rattle.read_command.proofs.Forms.{number-role}
 use Rattle.read_command.proofs.role_of.Statement.{statement}
 use Rattle.read_command.proofs.role_of.Tie as tie
-use Rattle.read_command.proofs.role_of.Reads as reads
-use Rattle.read_command.proofs.role_of.Lts as lts
 
--- src/lib.rt:76:23
-enum-told : tie.Need-enum-told
-enum-told c = search needs
-
--- src/lib.rt:77:28
-enum-told-2 : tie.Need-enum-told-2
-enum-told-2 c = search needs
-
--- src/lib.rt:78:31
-enum-told-3 : tie.Need-enum-told-3
-enum-told-3 c = search needs
-
--- src/lib.rt:79:32
-enum-told-4 : tie.Need-enum-told-4
-enum-told-4 c = search needs
-
--- src/lib.rt:81:25
-enum-told-5 : tie.Need-enum-told-5
-enum-told-5 c = search needs
-
--- src/lib.rt:82:28
-enum-told-6 : tie.Need-enum-told-6
-enum-told-6 c = search needs
-
--- src/lib.rt:83:31
-enum-told-7 : tie.Need-enum-told-7
-enum-told-7 c = search needs
-
--- src/lib.rt:84:32
-enum-told-8 : tie.Need-enum-told-8
-enum-told-8 c = search needs
-
--- src/lib.rt:72:1
 returns : tie.Need-returns
-returns c = ?
+unfolding roleOf
+returns c = rw (c .before .before .enum-told .given .1, c .enum-told2 .given .1)
 
--- src/lib.rt:72:1
 returns-2 : tie.Need-returns-2
-returns-2 c = ?
+unfolding roleOf
+returns-2 c = rw (c .before .before .enum-told .given .1, c .enum-told3 .given .1)
 
--- src/lib.rt:72:1
 returns-3 : tie.Need-returns-3
-returns-3 c = ?
+unfolding roleOf
+returns-3 c = rw (c .before .before .enum-told .given .1, c .enum-told4 .given .1)
 
--- src/lib.rt:72:1
 returns-4 : tie.Need-returns-4
-returns-4 c = ?
+unfolding roleOf
+returns-4 c = rw (c .before .before .enum-told5 .given .1, c .enum-told6 .given .1)
 
--- src/lib.rt:72:1
 returns-5 : tie.Need-returns-5
-returns-5 c = ?
+unfolding roleOf
+returns-5 c = rw (c .before .before .enum-told5 .given .1, c .enum-told7 .given .1)
 
--- src/lib.rt:72:1
 returns-6 : tie.Need-returns-6
-returns-6 c = ?
+unfolding roleOf
+returns-6 c = rw (c .before .before .enum-told5 .given .1, c .enum-told8 .given .1)
 
--- src/lib.rt:72:1
 returns-7 : tie.Need-returns-7
-returns-7 c = ?
+returns-7 c = number-role _ _ _ (c .match .keys3)
 
 pub role-of-spec : {M : Type 1} → statement M
 role-of-spec =
     tie.close
     (tie.spec
-    enum-told
-    enum-told-2
-    enum-told-3
-    enum-told-4
-    enum-told-5
-    enum-told-6
-    enum-told-7
-    enum-told-8
+    (λ c. search needs)
+    (λ c. search needs)
+    (λ c. search needs)
+    (λ c. search needs)
+    (λ c. search needs)
+    (λ c. search needs)
+    (λ c. search needs)
+    (λ c. search needs)
     returns
     returns-2
     returns-3

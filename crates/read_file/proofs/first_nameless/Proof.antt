@@ -5,16 +5,17 @@ use native.Mathlib.Numerals.{unary-clauses}
 use native.Mathlib.Omega.{arith}
 use mathlib.Core.Path.{_≡_, sym, _∙_}
 use borrow.Author.Needs.{needs}
-use Rattle.netlist.specs.Reading.{nameless}
+use Rattle.netlist.specs.Reading.{asked, nameless}
+use Rattle.read_file.specs.Files.{netsWith}
 use Rattle.read_file.proofs.Search.{nameless-found, nameless-passed, nameless-none}
 use Rattle.read_file.proofs.first_nameless.Statement.{statement}
 use Rattle.read_file.proofs.first_nameless.Tie as tie
 
 abbrev Inv-loop : tie.InvT-loop
-Inv-loop names s at m j₀ j = (j ≤ m) × (nameless names s at m ≡ nameless names s (at + 2 * j) (m - j))
+Inv-loop file sort n g k s at m j₀ j = (j ≤ m) × (nameless (asked file sort (netsWith n g) k) 0 s at m ≡ nameless (asked file sort (netsWith n g) k) j s (at + 2 * j) (m - j))
 
 abbrev μ-loop : tie.MeasureT-loop
-μ-loop names s at m j₀ j = m - j
+μ-loop file sort n g k s at m j₀ j = m - j
 
 loop-holds : tie.Need-loop-holds Inv-loop μ-loop
 loop-holds c = (omega arith, simp unary-clauses)
