@@ -22,7 +22,7 @@ use Rattle.netlist.specs.Content.{stageOf, referenceOf}
 use Rattle.netlist.proofs.Readable.{readable-read, rising-length}
 use Rattle.netlist.proofs.References.{no-care}
 use Rattle.netlist.proofs.Alike.{stage-alike}
-use Rattle.read_file.specs.Files.{mostCare, Placed}
+use Rattle.read_file.specs.Files.{netsWith, mostCare, Placed}
 use Rattle.circuit.specs.Stage.{stageIn, StageLoaded}
 use Rattle.circuit.specs.Reference.{referenceIn, ReferenceLoaded}
 use Rattle.circuit_load.specs.Load.{placesIn, FileRead, HoldsStage, HoldsReference}
@@ -41,17 +41,17 @@ module _ (f : File) (most : Limits) (s places : List ℕ) (c : Counts) (r : File
   pub length-care : length (take (c .care) (drop (most .gates + most .outputs) places)) ≡ c .care
   length-care = length-take-le (c .care) (drop (most .gates + most .outputs) places) (omega (arith, length-drop (most .gates + most .outputs) places, r .room, r .few-care))
 
-  pub gate-at : (k : ℕ) → k < c .gates → GateRead f s (c .inputs) (c .gates) k (getD places k 0)
+  pub gate-at : (k : ℕ) → k < c .gates → GateRead f s (netsWith (c .inputs) (c .gates)) k (getD places k 0)
   gate-at k h =
-      subst₂ (λ (g at : ℕ). GateRead f s (c .inputs) g k at) length-gates (getD-take (c .gates) places k 0 h)
+      subst₂ (λ (g at : ℕ). GateRead f s (netsWith (c .inputs) g) k at) length-gates (getD-take (c .gates) places k 0 h)
       (r .read .gate-at k (omega (arith, length-gates)))
 
   pub output-place : (j : ℕ) → j < c .outputs → getD (take (c .outputs) (drop (most .gates) places)) j 0 ≡ getD places (most .gates + j) 0
   output-place j h = getD-take (c .outputs) (drop (most .gates) places) j 0 h ∙ getD-drop (most .gates) places j 0
 
-  pub output-at : (j : ℕ) → j < c .outputs → OutputRead f s (c .inputs) (c .gates) (getD places (most .gates + j) 0)
+  pub output-at : (j : ℕ) → j < c .outputs → OutputRead f s (netsWith (c .inputs) (c .gates)) (getD places (most .gates + j) 0)
   output-at j h =
-      subst₂ (λ (g at : ℕ). OutputRead f s (c .inputs) g at) length-gates (output-place j h)
+      subst₂ (λ (g at : ℕ). OutputRead f s (netsWith (c .inputs) g) at) length-gates (output-place j h)
       (r .read .output-at j (omega (arith, length-outputs)))
 
 -- ---- the bytes of each command are in the file

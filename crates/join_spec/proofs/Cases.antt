@@ -239,7 +239,7 @@ pub computed : answers joins ≡ expected joins
 unfolding joins answers result expected wire wireReference twoWires twoWiresReference andOf and not cared either neither fiveGates fiveOperations
     c.cells c.cellAt c.pinCount c.setExpression c.retiredCells c.among c.isRetired c.kindOf b.operand b.operands
     k.whenFound k.ownCommands k.commandTable k.formIn k.pinsNeeded k.needed k.stray k.misfit k.misfitFrom k.takeGate k.takeCare k.takeSort k.takeCommand k.nextAt
-    r.nameable r.nameless r.usedOperands r.namelessAt r.namelessFrom r.floorAfter r.noted r.finish r.onNext r.readFrom r.readFile t.contentAt v.refusal e.first e.judge
+    r.names k.roleOf k.used r.nameless r.namelessAt r.namelessFrom r.floorAfter r.noted r.finish r.onNext r.readFrom r.readFile t.contentAt v.refusal e.first e.judge
     l.numbers l.select l.some l.every l.ofBits l.reaches e.sweep o.rounds o.risen o.fallen o.reachesItself w.caresFor w.spelled w.names w.operate w.values w.answer
     h.wrong h.incomplete h.highAnd h.unobservable h.fallIncomplete h.fallUnobservable h.looped h.retired h.checks n.rowFor n.command n.writeFile
     netInWhole signalInWhole joinedBy j.seamChecks flatMap
