@@ -21,17 +21,21 @@ loop-holds : tie.Need-loop-holds Inv-loop μ-loop
 loop-holds c = (omega arith, simp unary-clauses)
 
 loop-again : tie.Need-loop-again Inv-loop μ-loop
-loop-again c = (
-  omega arith,
-  c .before .before .before .loop .inv .1 ∙ nameless-passed _ _ _ _ _ (c .before .before .loop-test .taken) _ (c .before .operand .ensures) (c .if1 .taken),
-)
+loop-again c =
+    let read = c .before .before .before in (
+      omega arith,
+      read .before .before .loop .inv .1 ∙ nameless-passed _ _ _ _ _ (read .before .loop-test .taken) _ (read .operand .ensures)
+          (rw (← c .before .before .role-of .ensures) (sym (c .before .names .ensures) ∙ c .if1 .taken)),
+    )
 
 returns : tie.Need-returns Inv-loop μ-loop
 returns c =
-    sym (c .before .before .before .loop .inv .1 ∙ nameless-found _ _ _ _ _ (c .before .before .loop-test .taken) _ (c .before .operand .ensures) (c .if1 .left))
+    let read = c .before .before .before in
+    sym (read .before .before .loop .inv .1 ∙ nameless-found _ _ _ _ _ (read .before .loop-test .taken) _ (read .operand .ensures)
+    (rw (← c .before .before .role-of .ensures) (sym (c .before .names .ensures) ∙ c .if1 .left)))
 
 returns-2 : tie.Need-returns-2 Inv-loop μ-loop
-returns-2 c = sym (c .before .loop .inv .1 ∙ nameless-none _ _ _ _ (omega arith))
+returns-2 c = sym (c .before .loop .inv .1 ∙ nameless-none _ _ _ _ _ (omega arith))
 
 pub first-nameless-spec : {M : Type 1} → statement M
 first-nameless-spec =
@@ -44,6 +48,8 @@ first-nameless-spec =
     (λ c. omega arith)
     (λ c κs. omega arith)
     (λ c. search needs)
+    (λ c κs. search needs)
+    (λ c κs. omega arith)
     (λ c. omega arith)
     (λ c. omega arith)
     loop-again

@@ -9,7 +9,7 @@ use Rattle.read_file.proofs.nameless_at.Tie as tie
 first-nameless-requires : tie.Need-first-nameless-requires
 first-nameless-requires c κs =
     let start = c .before .before .before in
-    (omega (arith, c .before .used-operands .ensures, used-in _ _ (start .args .at) _ (start .pre .0 .0), start .pre .0 .1), start .pre .1)
+    (omega (arith, c .before .used-operands .ensures, used-in _ (start .args .s .now) (start .args .at) _ (start .pre .0 .0), start .pre .0 .1), start .pre .1)
 
 returns : tie.Need-returns
 unfolding namelessAt
