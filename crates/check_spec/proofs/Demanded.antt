@@ -52,7 +52,7 @@ module _ (order : WordOrder) (f : Files) where
   exactly : Comparable f → (verdictOn order f ≡ accepted) ↔ Acceptable f
   exactly k = (
     (λ v. let h = accepted-sound order f (ap number v) .1 in record { cast = h .cast; conforms = h .conforms }),
-    (λ a. sound-accepted {f} (record {
+    (λ a. sound-accepted {f = f} (record {
       read = k .read;
       inputs = k .inputs;
       outputs = k .outputs;

@@ -161,7 +161,7 @@ module _ (one two : Content) where
     stage-formed most′ room = joined-formed Stage move one two most most′ room h h′ (record {
       first = λ k i v e. lt-ltb v _ (omega (arith, named-pin (netsOf one) k i v e));
       second = λ k i v e. lt-ltb (move v) _ (below v (named-pin (netsOf two) k i v e));
-      outputs = λ i v e. lt-ltb (move v) _ (below v (named-rail (netsOf two) _ i v e));
+      outputs = λ i v e. lt-ltb (move v) _ (below v (named-rail (netsOf two) (length (two .gates)) i v e));
     })
 
     -- ---- no loop
