@@ -30,7 +30,8 @@ pub struct Played {
 /// The calls that hand out and judge runs. Words are given by their names.
 pub trait Calls {
     /// The run that shows the verdict on the pair: under 13, 14 and 15 a rise of the named word, under 20 and 21 a full rise and some of the fall; of an
-    /// accepted stage a full rise and fall of the word that is asked for. At each step the least net that may switch does. Other verdicts have none.
+    /// accepted stage, and under 32, a full rise and fall of the word that is asked for. At each step the least net that may switch does. Other verdicts
+    /// have none.
     fn witness(&self, verdict: Verdict, asked: u64) -> Option<Run>;
     /// The first step of a list that the rules bar, and the levels before it.
     fn play(&self, word: u64, run: &Run) -> Option<Played>;

@@ -40,7 +40,7 @@ def try_run(stage, reference, verdict, about):
     for option in [[], ["--short"]]:
         ran = Ran("wave", "--json", *option, stage, reference, here / "new.vcd")
         answer = json.loads(ran.out)["run"]
-        same(f"{about} {option}, broken", verdict[0] != 0, answer["broken"])
+        same(f"{about} {option}, broken", verdict[0] not in (0, 32), answer["broken"])
         ask(f"{about} {option}, the run", [*verdict[:3], answer["word"]], (answer["nets"], answer["fall"]), *files)
         whole = answer if not option else whole
         holds(f"{about} {option}, no longer", len(answer["nets"]) <= len(whole["nets"]))
@@ -49,7 +49,7 @@ def try_run(stage, reference, verdict, about):
         nets, fall = answer["nets"], answer["fall"]
         for k in range(0 if verdict[0] < 20 else fall, len(nets)):
             ask(f"{about}, without step {k}", verdict, (nets[:k] + nets[k + 1:], fall - (k < fall)), *files, shown=False)
-    if verdict[0] not in (0, 14, 15):
+    if verdict[0] not in (0, 14, 15, 32):
         return
     for seed in ["1", "2"]:
         answer = json.loads(Ran("wave", "--json", "--seed", seed, stage, reference, here / "new.vcd").out)["run"]
@@ -87,7 +87,7 @@ def try_waving():
     compared("what is waved", stored / "waved.txt", "".join(text))
     for example in examples:
         verdict = [int(number) for number in (root / "examples" / example / "verdict").read_text().split()]
-        if verdict[0] in (0, 13, 14, 15, 20, 21):
+        if verdict[0] in (0, 13, 14, 15, 20, 21, 32):
             try_run(*pair_of(example), verdict, f"wave {example}")
         elif verdict[0] not in (10, 11, 28):
             Ran("wave", *pair_of(example), here / "none.vcd")
@@ -102,7 +102,7 @@ def try_waving():
     for example in ["and", "full-adder", "hamming-4-relaxed"]:
         runs = [json.loads(Ran("wave", "--json", *pair_of(example), here / "new.vcd", *words).out)["run"] for words in [[], ["--word", "0"]]]
         same(f"wave {example}, word 0 is the one that is shown", runs[0], runs[1])
-    tried("wave, a word without care", 0, ACCEPTED, "word 0, for which the stage does not care: nothing is promised of it",
+    tried("wave, a word without care", 1, "32 1 1 0\n", "word 0, for which the stage does not care: nothing is promised of it",
           "wave", *pair_of("and-one-word"), here / "new.vcd", "--word", "0")
     for words in [[], ["--seed", "3"]]:
         answer = json.loads(Ran("wave", "--json", *pair_of("and-one-word"), here / "new.vcd", *words).out)["run"]

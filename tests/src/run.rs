@@ -45,7 +45,7 @@ pub fn has_ended(stage: &Stage, way: Way, row: &[bool]) -> bool {
     (0..stage.nets()).all(|net| !may_switch(stage, way, row, net))
 }
 
-/// Document 01 and 02, M-102: whether a run of a word shows what a verdict says, by playing it; however it was made.
+/// Document 01 and 02, M-102 and M-110: whether a run of a word shows what a verdict says, by playing it; however it was made.
 pub fn shows(
     stage: &Stage,
     reference: &Reference,
@@ -92,6 +92,11 @@ pub fn shows(
         }
         20 => full_rise && all_null && matches!(input(at), PairState::Data(_)),
         21 => full_rise && all_null && row[stage.net_of_gate(at)],
+        32 => {
+            let net = stage.net_of_gate(at) as u16;
+            let whole = full_rise && has_ended(stage, Way::Fall, &row);
+            whole && !run.rise.contains(&net) && !run.fall.contains(&net)
+        }
         _ => false,
     };
     if shown {

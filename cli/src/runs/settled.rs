@@ -82,14 +82,14 @@ impl Calls for Settled<'_> {
             let (of_input, of_gate) = (verdict.number == input, verdict.number == gate);
             move |net: usize| of_input && net / 2 == at && net < 2 * stage.inputs || of_gate && net == stage.net_of(at)
         };
-        if !matches!(verdict.number, 0 | 13 | 14 | 15 | 20 | 21) {
+        if !matches!(verdict.number, 0 | 13 | 14 | 15 | 20 | 21 | 32) {
             return None;
         }
-        let values = self.values(if verdict.accepts() { asked } else { verdict.word });
+        let values = self.values(if matches!(verdict.number, 0 | 32) { asked } else { verdict.word });
         let mut row = vec![false; stage.nets()];
         let mut nets = self.run(Way::Rise, &values, &mut row, |net| net as u64, held(14, 15));
         let fall = nets.len();
-        if matches!(verdict.number, 0 | 20 | 21) {
+        if matches!(verdict.number, 0 | 20 | 21 | 32) {
             nets.extend(self.run(Way::Fall, &values, &mut row, |net| net as u64, held(20, 21)));
         }
         Some(Run { nets, fall })
