@@ -30,7 +30,7 @@ pub fn command() -> Command {
         .after_help(
             "\
 One net switches each nanosecond. Inputs and outputs are shown as NULL, DATA0 and DATA1, and then each rail and gate as a wire. Of a refused
-stage the run ends where the promise breaks, and promise_broken rises; under 32 nothing breaks, and a full rise and fall is shown. Prints the
+stage the run ends where the promise breaks, and promise_broken rises. Under 32 nothing breaks: a full rise and fall is shown. Prints the
 verdict; where it speaks of no run, as of bytes, a loop or a kind, nothing is written, and it is said so.
 
 Examples:
