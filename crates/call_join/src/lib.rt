@@ -221,6 +221,7 @@ pub fn join(
     let mut loaded2 = [0u16; circuit_load::REFERENCE_CODE];
     match check_files::check_loading(
         order,
+        false,
         stage1,
         reference1,
         most,
@@ -232,6 +233,7 @@ pub fn join(
         Judgement::Accepted(counts1, sizes1) => {
             match check_files::check_loading(
                 order,
+                false,
                 stage2,
                 reference2,
                 most,

@@ -65,7 +65,7 @@ pub computed : map (λ (x : Case). toText stageLimits (x .room) (x .given)) case
 unfolding cases b.operand b.operands c.cells c.cellAt c.pinCount c.kindOf
     k.whenFound k.ownCommands k.commandTable k.formIn k.pinsNeeded k.needed k.stray k.misfit k.misfitFrom k.takeGate k.takeCare k.takeSort
     k.takeCommand k.nextAt
-    r.nameable r.nameless r.usedOperands r.namelessAt r.namelessFrom r.floorAfter r.noted r.finish r.onNext r.readFrom r.readFile t.stageOf
+    r.names k.roleOf k.used r.nameless r.namelessAt r.namelessFrom r.floorAfter r.noted r.finish r.onNext r.readFrom r.readFile t.stageOf
     h.cellName h.kindName f.unless f.ifRoom w.numbered w.gateName w.netName w.outputName w.secondName w.linesOf w.textFor
     w.careList w.stageText w.onReading w.toText
 computed = refl
@@ -124,7 +124,7 @@ pub read-computed : map (λ (x : Case). fromText stageLimits (x .room) (x .given
 unfolding readings b.operand b.operands c.cells c.cellAt c.pinCount c.kindOf
     k.whenFound k.ownCommands k.commandTable k.formIn k.pinsNeeded k.needed k.stray k.misfit k.misfitFrom k.takeGate k.takeCare k.takeSort
     k.takeCommand k.nextAt
-    r.nameable r.nameless r.usedOperands r.namelessAt r.namelessFrom r.floorAfter r.noted r.finish r.onNext r.readFrom r.readFile n.writeFile
+    r.names k.roleOf k.used r.nameless r.namelessAt r.namelessFrom r.floorAfter r.noted r.finish r.onNext r.readFrom r.readFile n.writeFile
     h.isName h.same h.cellName h.cellNamed h.kindNamed l.split l.isNamesLine l.gateLine l.isGateLine l.formed l.otherForm l.textOf
     f.net f.undriven f.drivenAgain f.fileOf f.unless f.unlessRefused f.ifRoom f.unlessMore f.fromText
 read-computed = refl
@@ -138,7 +138,7 @@ pub gates-computed : fromText stageLimits 2643 (gateTexts 257) ≡ refusal 6 1 2
 unfolding w.numbered b.operand b.operands c.cells c.cellAt c.pinCount c.kindOf
     k.whenFound k.ownCommands k.commandTable k.formIn k.pinsNeeded k.needed k.stray k.misfit k.misfitFrom k.takeGate k.takeCare k.takeSort
     k.takeCommand k.nextAt
-    r.nameable r.nameless r.usedOperands r.namelessAt r.namelessFrom r.floorAfter r.noted r.finish r.onNext r.readFrom r.readFile n.writeFile
+    r.names k.roleOf k.used r.nameless r.namelessAt r.namelessFrom r.floorAfter r.noted r.finish r.onNext r.readFrom r.readFile n.writeFile
     h.isName h.same h.cellName h.cellNamed h.kindNamed l.split l.isNamesLine l.gateLine l.isGateLine l.formed l.otherForm l.textOf
     f.net f.undriven f.drivenAgain f.fileOf f.unless f.unlessRefused f.ifRoom f.unlessMore f.fromText
 gates-computed = refl
