@@ -3,9 +3,9 @@
 pub mod formats;
 
 use crate::explain::{explain, Order, Pair, Question, TRIES_OF_MANY};
-use crate::failure::{Failure, Outcome};
+use crate::failure::{plain, shown, Failure, Outcome};
 use crate::given::Given;
-use crate::input::{read, Identity};
+use crate::input::{read, standard_input, Identity};
 use crate::output::Paint;
 use rayon::prelude::*;
 use std::ffi::OsStr;
@@ -19,6 +19,18 @@ use std::path::{Path, PathBuf};
 pub struct Named {
     pub stage: PathBuf,
     pub reference: PathBuf,
+    /// In place of a pair a folder that cannot be listed, and why: nobody knows what is in it.
+    pub unlisted: Option<String>,
+}
+
+impl Named {
+    fn pair(stage: PathBuf, reference: PathBuf) -> Named {
+        Named { stage, reference, unlisted: None }
+    }
+
+    fn folder(folder: &Path, error: &io::Error) -> Named {
+        Named { stage: folder.into(), reference: PathBuf::new(), unlisted: Some(format!("{}: {}", shown(folder), plain(error))) }
+    }
 }
 
 /// What came of a pair: its verdict, or why it could not be read.
@@ -38,35 +50,43 @@ const MOST_BYTES: usize = 16_384;
 /// The pairs of a folder, or of a list: a file, or standard input for '-'. Of a folder those with a stage of this name.
 pub fn pairs(from: &Path, stage: &str) -> Outcome<Vec<Named>> {
     let found = if from.as_os_str() == "-" {
-        of_list(io::stdin().lock(), from)?
+        of_list(standard_input()?, from)?
     } else if fs::metadata(from).map_err(|error| Failure::of(from, &error))?.is_dir() {
-        of_folder(from, stage)?
+        of_folder(from, stage)
     } else {
         of_list(BufReader::new(File::open(from).map_err(|error| Failure::of(from, &error))?), from)?
     };
     if found.is_empty() {
         let what = if from.is_dir() { format!("no {stage} in it or below it") } else { "no pair in it".into() };
-        return Err(Failure::says(format!("{}: {what}", crate::failure::shown(from))));
+        return Err(Failure::says(format!("{}: {what}", shown(from))));
     }
     Ok(found)
 }
 
-/// Every stage in a folder or below it, with the reference.ncl beside it, by the order of their names. Links to folders are not followed.
-fn of_folder(top: &Path, stage: &str) -> Outcome<Vec<Named>> {
+/// Every stage in a folder or below it, with the reference.ncl beside it, by the order of their names, and the folders that cannot be
+/// listed. Links to folders are not followed.
+fn of_folder(top: &Path, stage: &str) -> Vec<Named> {
     let (mut found, mut folders) = (Vec::new(), vec![top.to_path_buf()]);
     while let Some(folder) = folders.pop() {
-        let failed = |error: io::Error| Failure::of(&folder, &error);
-        for entry in fs::read_dir(&folder).map_err(failed)? {
-            let entry = entry.map_err(failed)?;
-            if entry.file_type().map_err(failed)?.is_dir() {
-                folders.push(entry.path());
-            } else if entry.file_name() == stage {
-                found.push(Named { stage: entry.path(), reference: folder.join("reference.ncl") });
-            }
+        if let Err(error) = list(&folder, stage, &mut found, &mut folders) {
+            found.push(Named::folder(&folder, &error));
         }
     }
     found.sort_by(|a, b| a.stage.cmp(&b.stage));
-    Ok(found)
+    found
+}
+
+/// The stage in a folder, and the folders.
+fn list(folder: &Path, stage: &str, found: &mut Vec<Named>, folders: &mut Vec<PathBuf>) -> io::Result<()> {
+    for entry in fs::read_dir(folder)? {
+        let entry = entry?;
+        if entry.file_type()?.is_dir() {
+            folders.push(entry.path());
+        } else if entry.file_name() == stage {
+            found.push(Named::pair(entry.path(), folder.join("reference.ncl")));
+        }
+    }
+    Ok(())
 }
 
 /// A stage and a reference on each line, between them a tab or, where there is none, white space. Empty lines and those that begin with #
@@ -76,7 +96,7 @@ fn of_list(mut from: impl BufRead, name: &Path) -> Outcome<Vec<Named>> {
     for number in 1.. {
         let mut line = Vec::new();
         let taken = from.by_ref().take(MOST_BYTES as u64 + 1).read_until(b'\n', &mut line);
-        let wrong = |words: &str| Failure::says(format!("{}, line {number}: {words}", crate::failure::shown(name)));
+        let wrong = |words: &str| Failure::says(format!("{}, line {number}: {words}", shown(name)));
         if taken.map_err(|error| Failure::of(name, &error))? == 0 {
             break;
         }
@@ -91,7 +111,7 @@ fn of_list(mut from: impl BufRead, name: &Path) -> Outcome<Vec<Named>> {
         if found.len() == MOST_PAIRS {
             return Err(wrong("more than 1,000,000 pairs; split the list"));
         }
-        found.push(Named { stage: OsStr::from_bytes(stage).into(), reference: OsStr::from_bytes(reference).into() });
+        found.push(Named::pair(OsStr::from_bytes(stage).into(), OsStr::from_bytes(reference).into()));
     }
     Ok(found)
 }
@@ -124,7 +144,9 @@ pub fn judge(pairs: &[Named], manner: Manner, done: impl Fn() + Sync) -> Vec<Jud
 
 fn judge_one(named: &Named, manner: Manner) -> Judged {
     let no_file = |path: &PathBuf| path.as_os_str() == "-";
-    let files = if no_file(&named.stage) || no_file(&named.reference) {
+    let files = if let Some(words) = &named.unlisted {
+        Err(Failure::says(words.as_str()))
+    } else if no_file(&named.stage) || no_file(&named.reference) {
         Err(Failure::says("'-': a list names files"))
     } else {
         Given::read(&named.stage, manner.text).and_then(|stage| Ok((stage, read(&named.reference)?)))

@@ -3,19 +3,24 @@
 mod batch;
 mod check;
 mod completion;
+mod draw;
 mod explain;
+mod from;
 mod join;
 mod load;
 mod make;
+mod mend;
 mod next;
 mod report;
 mod row;
 mod text;
+mod to;
 
 use crate::explain::{explain as explain_verdict, sentence, Order, Question, TRIES};
-use crate::failure::Outcome;
+use crate::failure::{Failure, Outcome};
 use crate::given::Given;
 use crate::input::{one_standard_input, read, Input};
+use crate::names::NamesFile;
 use crate::output::{on_terminal, put, Paint};
 use crate::Found;
 use clap::{value_parser, Arg, ArgAction, ArgMatches, Command};
@@ -27,12 +32,16 @@ use std::path::{Path, PathBuf};
 type Row = (&'static str, fn() -> Command, fn(&ArgMatches) -> Outcome<Found>);
 
 /// In the order of the help.
-const ROWS: [Row; 11] = [
+const ROWS: [Row; 15] = [
     ("check", check::command, check::run),
     ("explain", explain::command, explain::run),
+    ("draw", draw::command, draw::run),
+    ("mend", mend::command, mend::run),
     ("batch", batch::command, batch::run),
     ("report", report::command, report::run),
     ("row", row::command, row::run),
+    ("from", from::command, from::run),
+    ("to", to::command, to::run),
     ("join", join::command, join::run),
     ("make", make::command, make::run),
     ("text", text::command, text::run),
@@ -102,7 +111,16 @@ fn lowest() -> Arg {
     flag("lowest", "Name words with input 0 as the lowest bit, as stored verdicts of before do")
 }
 
+fn names_arg() -> Arg {
+    let names = Arg::new("names").long("names").value_name("NAMES").value_parser(value_parser!(PathBuf));
+    names.help("What inputs and outputs are called: two lines of names, as 'ncl from' writes them")
+}
+
 fn quiet() -> Arg {
+    silent().conflicts_with("json")
+}
+
+fn silent() -> Arg {
     flag("quiet", "Print nothing: the exit status is the answer").short('q')
 }
 
@@ -111,7 +129,7 @@ fn json_flag() -> Arg {
 }
 
 fn force() -> Arg {
-    flag("force", "Write over a file that was read")
+    flag("force", "Write over a file that was read, or is write-protected")
 }
 
 fn explain_flag() -> Arg {
@@ -127,11 +145,44 @@ fn given(matches: &ArgMatches) -> Outcome<Given> {
     Given::read(path(matches, "stage"), matches.get_flag("text"))
 }
 
+/// The same by the names of a names file, where one is given.
+fn called(matches: &ArgMatches) -> Outcome<Given> {
+    let names = names(matches)?;
+    let given = given(matches)?;
+    match names {
+        Some(names) => given.called(names),
+        None => Ok(given),
+    }
+}
+
+/// The names file that is given.
+fn names(matches: &ArgMatches) -> Outcome<Option<NamesFile>> {
+    matches.get_one::<PathBuf>("names").map(|path| NamesFile::read(path)).transpose()
+}
+
 /// The same with its reference.
 fn given_pair(matches: &ArgMatches) -> Outcome<(Given, Input)> {
     let reference = path(matches, "reference");
     one_standard_input(&[path(matches, "stage"), reference])?;
     Ok((given(matches)?, read(reference)?))
+}
+
+/// The same by the names of a names file, where one is given.
+fn called_pair(matches: &ArgMatches) -> Outcome<(Given, Input)> {
+    let reference = path(matches, "reference");
+    one_standard_input(&[path(matches, "stage"), reference])?;
+    Ok((called(matches)?, read(reference)?))
+}
+
+/// Inputs that are given as signs, input 0 first.
+fn signs(inputs: &str) -> Outcome<Vec<Option<bool>>> {
+    let value = |(k, sign): (usize, char)| match sign {
+        '0' => Ok(Some(false)),
+        '1' => Ok(Some(true)),
+        '.' => Ok(None),
+        _ => Err(Failure::says(format!("'{inputs}': sign {k} is '{sign}'; an input is 0, 1, or . for NULL"))),
+    };
+    inputs.chars().enumerate().map(value).collect()
 }
 
 fn order(matches: &ArgMatches) -> Order {

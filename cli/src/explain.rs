@@ -1,17 +1,22 @@
 //! A verdict in sentences: what was found, where, and what to do about it.
 
 mod bytes;
-mod changes;
 mod circuit;
 mod lines;
+mod mended;
 mod small;
 mod words;
 
+pub use words::{inputs_text, word_text, DEPTH};
+
+use crate::changes::Mending;
 use crate::given::Given;
 use crate::input::Input;
+use crate::mend::Mended;
 use crate::netlist::{many, Reference, Side};
 use crate::numbers::title;
 use crate::output::Paint;
+use bytes::Taken;
 use fovaheju::Verdict;
 
 /// Which call gave the verdict, on which files. A new call has its case here.
@@ -46,23 +51,30 @@ impl Question<'_> {
     }
 }
 
-/// A stage and its reference, with the gates that each may have.
+/// A stage and its reference.
 #[derive(Clone, Copy)]
 pub struct Pair<'a> {
     pub stage: &'a Given,
     pub reference: &'a Input,
-    limits: [usize; 2],
+    /// Whether the two are a part of a join.
+    part: bool,
 }
 
 impl<'a> Pair<'a> {
     /// Two files of the check.
     pub fn whole(stage: &'a Given, reference: &'a Input) -> Pair<'a> {
-        Pair { stage, reference, limits: [256, 512] }
+        Pair { stage, reference, part: false }
     }
 
     /// Two files that are a part of a join.
     pub fn part(stage: &'a Given, reference: &'a Input) -> Pair<'a> {
-        Pair { stage, reference, limits: [128, 256] }
+        Pair { stage, reference, part: true }
+    }
+
+    /// How its files are taken. A part has half of the gates, and is no text.
+    fn taken(self, side: Side) -> Taken {
+        let whole = if side == Side::Stage { 256 } else { 512 };
+        Taken { side, most: if self.part { whole / 2 } else { whole }, texts: !self.part, alone: None }
     }
 }
 
@@ -154,7 +166,7 @@ impl Text {
 }
 
 /// Words in lines of at most this width, where none is wider by itself.
-fn wrapped(words: &str, width: usize) -> Vec<String> {
+pub fn wrapped(words: &str, width: usize) -> Vec<String> {
     let mut lines = vec![String::new()];
     for word in words.split(' ') {
         let line = lines.last_mut().expect("there is a line");
@@ -170,15 +182,29 @@ fn wrapped(words: &str, width: usize) -> Vec<String> {
     lines
 }
 
+/// How many of the changes that are accepted are shown.
+const SHOWN: usize = 3;
 /// How many changes of a stage are tried for one explanation, and how many for each of a batch.
 pub const TRIES: usize = 20_000;
 pub const TRIES_OF_MANY: usize = 500;
 
 /// The verdict and all that can be said of it, with so many changes tried.
 pub fn explain(question: Question, verdict: Verdict, order: Order, tries: usize, paint: Paint) -> String {
+    headed(question, verdict, &said(question, verdict, order, tries), paint)
+}
+
+/// The verdict on a pair, and the changes that make the stage accepted.
+pub fn mended(pair: Pair, verdict: Verdict, order: Order, mended: Option<&Mended>, paint: Paint) -> String {
+    let mut text = Text { lines: Vec::new(), tries: 0 };
+    mended::of_mended(&mut text, verdict, pair, order, mended);
+    headed(Question::Check(pair), verdict, &text, paint)
+}
+
+/// The verdict with what it is called, and then what is said.
+fn headed(question: Question, verdict: Verdict, text: &Text, paint: Paint) -> String {
     let called = question.title(verdict.number);
     let called = if verdict.accepts() { paint.good(called) } else { paint.bad(called) };
-    format!("{verdict}  {called}\n{}", said(question, verdict, order, tries).rendered(paint))
+    format!("{verdict}  {called}\n{}", text.rendered(paint))
 }
 
 /// What was found, as one sentence.
@@ -198,7 +224,7 @@ fn said(question: Question, verdict: Verdict, order: Order, tries: usize) -> Tex
         Question::Row { stage, row } => of_row(&mut text, verdict, stage, row),
         Question::Join(parts) => of_join(&mut text, verdict, parts, order),
         Question::Make { reference } => of_make(&mut text, verdict, reference),
-        Question::ReadText { text: given } => of_read_text(&mut text, verdict, given),
+        Question::ReadText { text: given } => of_read_text(&mut text, verdict, given, "nothing: it is a stage file already"),
         Question::WriteText { stage } => small::of_write_text(&mut text, verdict, stage),
         Question::Next { stage } => small::of_next(&mut text, verdict, stage),
         Question::Draw(load) => small::of_draw(&mut text, verdict, load),
@@ -206,22 +232,31 @@ fn said(question: Question, verdict: Verdict, order: Order, tries: usize) -> Tex
     text
 }
 
-/// What reading a text finds.
-fn of_read_text(text: &mut Text, verdict: Verdict, given: &Given) {
+/// What reading a text finds. `instead` is what to do with a stage file that was taken for one.
+fn of_read_text(text: &mut Text, verdict: Verdict, given: &Given, instead: &str) {
     match verdict.number {
         0 => {
             text.row("text", &format!("{}: {}", given.name(), given.stage().counts()));
             text.row("found", "the text reads, and its stage file is made; 'ncl check' judges it");
         }
-        3 | 5 | 6 | 29..=31 => lines::refused(text, verdict, given),
+        3 | 5 | 6 | 29..=31 => lines::refused(text, verdict, given, instead),
         _ => unknown(text, verdict),
+    }
+}
+
+/// What to do with a stage file that was taken for a text.
+fn no_text(given: &Given) -> &'static str {
+    if given.name().ends_with(".txt") {
+        "give it a name that does not end in .txt: such a name asks for a text"
+    } else {
+        "leave out --text"
     }
 }
 
 /// What the check finds in two files.
 fn of_pair(text: &mut Text, verdict: Verdict, pair: Pair, order: Order) {
     if pair.stage.refused().is_some() {
-        return of_read_text(text, verdict, pair.stage);
+        return of_read_text(text, verdict, pair.stage, no_text(pair.stage));
     }
     match (verdict.number, verdict.file) {
         (0, _) => {
@@ -236,8 +271,8 @@ fn of_pair(text: &mut Text, verdict: Verdict, pair: Pair, order: Order) {
                 ),
             );
         }
-        (1..=9 | 18 | 19, 2) => bytes::unreadable(text, verdict, pair.reference, Side::Reference, pair.limits[1]),
-        (1..=9 | 18 | 19, _) => bytes::unreadable(text, verdict, &pair.stage.input, Side::Stage, pair.limits[0]),
+        (1..=9 | 18 | 19, 2) => bytes::unreadable(text, verdict, pair.reference, pair.taken(Side::Reference)),
+        (1..=9 | 18 | 19, _) => bytes::unreadable(text, verdict, &pair.stage.input, pair.taken(Side::Stage)),
         (10 | 11, _) => {
             let what = if verdict.number == 10 { "input" } else { "output" };
             let (at, word) = (verdict.at as usize, verdict.word as usize);
@@ -247,31 +282,59 @@ fn of_pair(text: &mut Text, verdict: Verdict, pair: Pair, order: Order) {
             text.row("to do", &format!("pair the stage with its own reference, or give the one that lacks {what}s what is missing"));
         }
         (12, _) => {
-            let gates = circuit::on_a_loop(text, verdict, pair.stage);
-            if text.tries > 0 {
-                let named = changes::Named { gates: &gates, output: None, net: None, rises: true };
-                changes::accepted(text, pair, order, &pair.stage.stage(), &named);
-            }
+            circuit::on_a_loop(text, verdict, pair.stage);
+            say_changes(text, verdict, pair, order);
         }
-        (28, _) => circuit::retired(text, verdict, pair, order),
-        (13 | 14 | 15 | 20 | 21, _) => words::in_a_word(text, verdict, pair, order),
+        (28, _) => {
+            circuit::retired(text, verdict, pair);
+            say_changes(text, verdict, pair, order);
+        }
+        (13 | 14 | 15 | 20 | 21, _) => {
+            words::in_a_word(text, verdict, pair, order);
+            say_changes(text, verdict, pair, order);
+        }
         _ => unknown(text, verdict),
+    }
+}
+
+/// Some changes that the check accepts.
+fn say_changes(text: &mut Text, verdict: Verdict, pair: Pair, order: Order) {
+    if text.tries == 0 {
+        return;
+    }
+    let stage = pair.stage.stage();
+    let Some(mending) = Mending::of(verdict, pair.stage.bytes(), &pair.reference.bytes, &stage, order) else { return };
+    let (found, tried) = mending.some(SHOWN, text.tries);
+    if found.is_empty() {
+        let words = format!(
+            "{}, of one gate or output or a few of them, and none is accepted; 'ncl mend' tries every single one",
+            many(tried, "change")
+        );
+        text.row("tried", &words);
+    }
+    for (k, change) in found.iter().enumerate() {
+        if k == 0 {
+            text.row("accepted", &format!("with {}", change.says));
+        } else {
+            text.row("", &format!("or: {}", change.says));
+        }
     }
 }
 
 /// What the settled-row call finds.
 fn of_row(text: &mut Text, verdict: Verdict, file: &Given, row: &[u8]) {
     if file.refused().is_some() {
-        return of_read_text(text, verdict, file);
+        return of_read_text(text, verdict, file, no_text(file));
     }
     let stage = file.stage();
     let at = verdict.at as usize;
     match verdict.number {
         0 => text.row("found", "the row is settled: each gate is high exactly if its set expression holds"),
-        1..=9 | 18 | 19 => bytes::unreadable(text, verdict, &file.input, Side::Stage, 256),
-        12 => {
-            circuit::on_a_loop(text, verdict, file);
+        1..=9 | 18 | 19 => {
+            let taken = Taken { side: Side::Stage, most: 256, texts: true, alone: Some("ncl row") };
+            bytes::unreadable(text, verdict, &file.input, taken);
         }
+        12 => circuit::on_a_loop(text, verdict, file),
         16 => {
             text.row("stage", &format!("{}: {}", file.name(), stage.counts()));
             let nets = stage.nets();
@@ -346,7 +409,10 @@ fn of_make(text: &mut Text, verdict: Verdict, file: &Input) {
     let at = verdict.at as usize;
     match verdict.number {
         0 => text.row("found", "a stage was made of the reference; the check accepts it"),
-        1..=9 => bytes::unreadable(text, verdict, file, Side::Reference, 512),
+        1..=9 => {
+            let taken = Taken { side: Side::Reference, most: 512, texts: false, alone: Some("ncl make") };
+            bytes::unreadable(text, verdict, file, taken);
+        }
         25 => {
             text.row(
                 "reference",

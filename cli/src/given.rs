@@ -4,6 +4,7 @@
 use crate::explain::Order;
 use crate::failure::{Failure, Outcome};
 use crate::input::{read_within, Input, MOST};
+use crate::names::NamesFile;
 use crate::netlist::{Names, Stage};
 use fovaheju::{Verdict, MADE_STAGE};
 use std::path::Path;
@@ -16,6 +17,8 @@ pub struct Given {
     pub input: Input,
     /// Of a text: the answer of reading it, and the stage file that was made.
     made: Option<(Verdict, Vec<u8>)>,
+    /// What its inputs and outputs are called, where a names file says it.
+    names: Option<Names>,
 }
 
 /// Whether a name asks for a text.
@@ -35,7 +38,7 @@ impl Given {
 
     /// A stage file.
     pub fn file(input: Input) -> Given {
-        Given { input, made: None }
+        Given { input, made: None, names: None }
     }
 
     /// Reads a text.
@@ -48,7 +51,7 @@ impl Given {
         let mut file = vec![0; MADE_STAGE];
         let written = fovaheju::read_text(&input.bytes, &mut file);
         file.truncate(written.count as usize);
-        Ok(Given { input, made: Some((written.verdict, file)) })
+        Ok(Given { input, made: Some((written.verdict, file)), names: None })
     }
 
     pub fn name(&self) -> &str {
@@ -70,10 +73,34 @@ impl Given {
         self.refused().unwrap_or_else(|| fovaheju::check(order.mark(), self.bytes(), reference))
     }
 
-    /// What the stage holds, with the names of the text where it came as one.
+    /// The verdict of reading the stage: a text's, or that of the settled-row call with all inputs NULL, which is 0 or 12 where it reads.
+    pub fn read_verdict(&self) -> Verdict {
+        self.refused().unwrap_or_else(|| fovaheju::settled_row(self.bytes(), &mut vec![0; Stage::of(self.bytes()).nets()]))
+    }
+
+    /// Whether it reads: whether it holds a stage, with loops or without.
+    pub fn reads(&self) -> bool {
+        matches!(self.read_verdict().number, 0 | 12)
+    }
+
+    /// The same by the names of a file, which has to fit a stage that reads.
+    pub fn called(self, file: NamesFile) -> Outcome<Given> {
+        if self.reads() {
+            let stage = Stage::of(self.bytes());
+            file.fit(stage.inputs, stage.outputs.len())?;
+            return Ok(Given { names: Some(file.names), ..self });
+        }
+        Ok(self)
+    }
+
+    /// What the stage holds, with the names of the text where it came as one, or of a names file.
     pub fn stage(&self) -> Stage {
-        let named = self.made.is_some() && self.refused().is_none();
-        Stage { names: named.then(|| names(&self.input.bytes)), ..Stage::of(self.bytes()) }
+        let spelt = (self.made.is_some() && self.refused().is_none()).then(|| names(&self.input.bytes));
+        let names = match (&self.names, spelt) {
+            (Some(called), spelt) => Some(Names { gates: spelt.unwrap_or_default().gates, ..called.clone() }),
+            (None, spelt) => spelt,
+        };
+        Stage { names, ..Stage::of(self.bytes()) }
     }
 }
 

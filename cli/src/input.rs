@@ -1,8 +1,9 @@
 //! Reading of files: at most as much as counts, whatever the file's length, and never as empty what cannot be read.
 
 use crate::failure::{shown, Failure, Outcome};
+use crate::streams;
 use std::fs::File;
-use std::io::{self, Read};
+use std::io::{self, Read, StdinLock};
 use std::os::unix::fs::MetadataExt;
 use std::path::Path;
 
@@ -20,7 +21,7 @@ pub struct Input {
     pub bytes: Vec<u8>,
     /// Whether it goes on behind them.
     pub longer: bool,
-    /// None of standard input.
+    /// None of standard input, where that is no plain file.
     pub identity: Option<Identity>,
 }
 
@@ -40,8 +41,8 @@ pub fn read(path: &Path) -> Outcome<Input> {
 pub fn read_within(path: &Path, most: usize) -> Outcome<Input> {
     let mut bytes = Vec::new();
     let identity = if path.as_os_str() == "-" {
-        take(io::stdin().lock(), most, &mut bytes).map_err(|error| Failure::of(path, &error))?;
-        None
+        take(standard_input()?, most, &mut bytes).map_err(|error| Failure::of(path, &error))?;
+        streams::input()
     } else {
         let file = File::open(path).map_err(|error| Failure::of(path, &error))?;
         let data = file.metadata().map_err(|error| Failure::of(path, &error))?;
@@ -59,6 +60,14 @@ pub fn read_within(path: &Path, most: usize) -> Outcome<Input> {
 /// One byte more than counts, so that a longer file is seen.
 fn take(from: impl Read, most: usize, bytes: &mut Vec<u8>) -> io::Result<usize> {
     from.take(most as u64 + 1).read_to_end(bytes)
+}
+
+/// Standard input, where it is open.
+pub fn standard_input() -> Outcome<StdinLock<'static>> {
+    if streams::closed(0) {
+        return Err(Failure::says("standard input: is closed"));
+    }
+    Ok(io::stdin().lock())
 }
 
 /// Standard input can be only one of the files.

@@ -45,10 +45,14 @@ impl<'a> Levels<'a> {
         verdict.accepts().then(|| row.iter().map(|&level| level == 1).collect())
     }
 
+    /// What it settles to where these inputs have come; no value is NULL.
+    pub fn settled_for(&self, values: &[Option<bool>]) -> Option<Row> {
+        self.settled(self.file, self.rails(values))
+    }
+
     /// The rest of a word.
     pub fn rest(&self, word: &[bool]) -> Option<Row> {
-        let values: Vec<Option<bool>> = word.iter().map(|&value| Some(value)).collect();
-        self.settled(self.file, self.rails(&values))
+        self.settled_for(&word.iter().map(|&value| Some(value)).collect::<Vec<Option<bool>>>())
     }
 
     /// The word with an input still NULL, or with a gate held low.

@@ -2,17 +2,27 @@
 //! shows what was judged, and writes.
 
 pub mod batch;
+pub mod changes;
 mod commands;
+pub mod convert;
+pub mod draw;
 pub mod explain;
 pub mod failure;
 pub mod fresh;
 pub mod given;
 pub mod input;
 pub mod levels;
+pub mod mend;
+pub mod names;
 pub mod netlist;
 pub mod numbers;
 pub mod output;
+pub mod progress;
+pub mod situation;
+pub mod streams;
+pub mod tools;
 
+use clap::error::ErrorKind;
 use failure::{Failure, Outcome};
 use std::ffi::OsString;
 
@@ -45,6 +55,10 @@ fn found(arguments: &[OsString]) -> Outcome<Found> {
         Ok(matches) => commands::run(&matches),
         // Help and version, which were asked for.
         Err(error) if !error.use_stderr() => output::put(error.to_string().as_bytes()).map(|()| Found::Accepted),
+        Err(error) if error.kind() == ErrorKind::DisplayHelpOnMissingArgumentOrSubcommand => {
+            output::tell_as_it_is(&error.to_string());
+            Err(Failure(None))
+        }
         Err(error) => {
             let words = error.to_string();
             let words = words.strip_prefix("error: ").unwrap_or(&words);

@@ -2,6 +2,8 @@
 //! every number of a verdict, comes from the proved library. Names are those of a text where the stage came as one, and else those that a
 //! written text has: input i is `xi` with the rails `xi_0` and `xi_1`, gate k is `gk`, output j is `yj`; signal k of a reference is `sk`.
 
+use std::collections::VecDeque;
+
 /// An operand that is not used.
 pub const ABSENT: usize = 0xFFFF;
 
@@ -64,6 +66,16 @@ pub fn kind_name(kind: u8) -> Option<String> {
 
 pub fn set_expression(kind: u8) -> Option<&'static str> {
     Some(cell(kind)?.1)
+}
+
+/// The kind of a name.
+pub fn kind_of(name: &str) -> Option<u8> {
+    let (cell, hold) = match name.strip_prefix('r') {
+        Some(cell) => (cell, 0x80),
+        None => (name, 0),
+    };
+    let place = CELLS.iter().position(|row| row.0 == cell)?;
+    Some((place as u8 + 1) | hold)
 }
 
 /// How many pins a kind has, from A on.
@@ -197,6 +209,19 @@ impl Stage {
         stage
     }
 
+    /// The stage file: inputs, care words, gates, outputs, end.
+    pub fn encoded(&self) -> Vec<u8> {
+        let mut file = vec![0x01, self.inputs as u8];
+        self.care.iter().for_each(|&word| file.extend([0x06].into_iter().chain((word as u16).to_le_bytes())));
+        self.gates.iter().for_each(|gate| file.extend(gate_command(gate.kind, &gate.pins)));
+        for rails in &self.outputs {
+            file.push(0x03);
+            file.extend(two(*rails));
+        }
+        file.push(0x00);
+        file
+    }
+
     pub fn nets(&self) -> usize {
         2 * self.inputs + self.gates.len()
     }
@@ -249,6 +274,31 @@ impl Stage {
         (0..self.gates.len()).filter(|&gate| self.gates[gate].pins.contains(&net)).collect()
     }
 
+    /// The gates of the same cell as one, with hold or without.
+    pub fn alike(&self, gate: usize) -> Vec<usize> {
+        let cell = |k: usize| self.gates.get(k).map(|gate| gate.kind & 0x7F);
+        (0..self.gates.len()).filter(|&k| cell(k) == cell(gate)).collect()
+    }
+
+    /// The gates from one to itself by the fewest steps, each reading the one before it; the last is the gate. None where it is on no loop.
+    pub fn shortest_loop(&self, start: usize) -> Vec<usize> {
+        let mut before = vec![None; self.gates.len()];
+        let mut queue = VecDeque::from([start]);
+        while let Some(gate) = queue.pop_front() {
+            for reader in self.readers(self.net_of(gate)) {
+                if before[reader].is_some() {
+                    continue;
+                }
+                before[reader] = Some(gate);
+                if reader == start {
+                    return path_to(&before, start);
+                }
+                queue.push_back(reader);
+            }
+        }
+        Vec::new()
+    }
+
     /// The counts in words: `2 inputs, 3 gates, 1 output`.
     pub fn counts(&self) -> String {
         let relaxed = self.gates.iter().filter(|gate| relaxed(gate.kind)).count();
@@ -266,6 +316,29 @@ impl Stage {
     }
 }
 
+/// The command of a gate.
+pub fn gate_command(kind: u8, pins: &[usize]) -> Vec<u8> {
+    let operands = (0..4).flat_map(|pin| (pins.get(pin).copied().unwrap_or(ABSENT) as u16).to_le_bytes());
+    [0x02, kind].into_iter().chain(operands).collect()
+}
+
+/// Two operands as bytes.
+pub fn two(nets: [usize; 2]) -> Vec<u8> {
+    nets.iter().flat_map(|&net| (net as u16).to_le_bytes()).collect()
+}
+
+/// The way to a gate, by what came before each.
+fn path_to(before: &[Option<usize>], start: usize) -> Vec<usize> {
+    let mut path = vec![start];
+    let mut gate = before[start].unwrap_or(start);
+    while gate != start {
+        path.push(gate);
+        gate = before[gate].unwrap_or(start);
+    }
+    path.reverse();
+    path
+}
+
 /// A gate of a reference: its operation and its operands.
 #[derive(Clone, Debug)]
 pub struct Operation {
@@ -279,6 +352,8 @@ pub struct Reference {
     pub inputs: usize,
     pub gates: Vec<Operation>,
     pub outputs: Vec<usize>,
+    /// What its inputs are called, where a names file says it.
+    pub called: Vec<String>,
 }
 
 impl Reference {
@@ -297,10 +372,22 @@ impl Reference {
         reference
     }
 
+    /// The reference file: inputs, gates, outputs, end.
+    pub fn encoded(&self) -> Vec<u8> {
+        let mut file = vec![0x01, self.inputs as u8];
+        for gate in &self.gates {
+            file.extend([0x11, gate.operation]);
+            file.extend(two(gate.operands));
+        }
+        self.outputs.iter().for_each(|&signal| file.extend([0x12].into_iter().chain((signal as u16).to_le_bytes())));
+        file.push(0x00);
+        file
+    }
+
     pub fn signal_name(&self, signal: usize) -> String {
         match signal {
             ABSENT => "-".into(),
-            _ if signal < self.inputs => format!("x{signal}"),
+            _ if signal < self.inputs => self.called.get(signal).cloned().unwrap_or_else(|| format!("x{signal}")),
             _ if signal < self.inputs + self.gates.len() => format!("s{signal}"),
             _ => format!("signal {signal}"),
         }

@@ -212,6 +212,9 @@ pub fn store_example(
 /// Where the stored texts are, in the folder of the stored pairs.
 const TEXTS: &str = "text";
 
+/// Where modules in Verilog are, which the tests of the command make references of.
+const MODULES: &str = "verilog";
+
 /// Stores a text as text/NAME/stage.txt, its verdict, and the stage file that it gives where it reads.
 pub fn store_text(
     folder: &Path,
@@ -256,7 +259,7 @@ pub fn stored_texts(folder: &Path) -> io::Result<Vec<String>> {
 /// The names of all stored pairs, in order.
 pub fn stored_examples(folder: &Path) -> io::Result<Vec<String>> {
     let mut names = folders_in(folder)?;
-    names.retain(|name| name != TEXTS);
+    names.retain(|name| name != TEXTS && name != MODULES);
     Ok(names)
 }
 

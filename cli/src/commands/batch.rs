@@ -1,27 +1,22 @@
 //! `ncl batch`: the verdicts on many pairs.
 
-use super::{flag, lowest, order, quiet, text_flag};
+use super::{flag, lowest, order, silent, text_flag};
 use crate::batch::formats::{head, junit, line, Format};
 use crate::batch::{judge, pairs, Judged, Manner, Named};
 use crate::failure::{Failure, Outcome};
 use crate::input::Identity;
 use crate::netlist::many;
 use crate::numbers::title;
-use crate::output::{put, tell, write_files};
+use crate::output::{is_standard_output, put, tell, write_files};
+use crate::progress::Progress;
 use crate::Found;
 use clap::{value_parser, Arg, ArgGroup, ArgMatches, Command};
-use indicatif::{ProgressBar, ProgressDrawTarget, ProgressStyle};
 use std::collections::BTreeMap;
-use std::io::IsTerminal;
 use std::os::unix::fs::MetadataExt;
 use std::path::PathBuf;
-use std::sync::atomic::{AtomicBool, Ordering};
-use std::time::{Duration, Instant};
 
 /// So many pairs are judged before their lines are written.
 const AT_A_TIME: usize = 1_024;
-/// A batch that takes longer than this shows how far it is.
-const PATIENCE: Duration = Duration::from_secs(1);
 
 pub fn command() -> Command {
     let from = Arg::new("from").value_name("FROM").required(true).num_args(1..).value_parser(value_parser!(PathBuf));
@@ -39,14 +34,15 @@ pub fn command() -> Command {
         .arg(jobs.help("How many pairs are judged side by side [default: one for each core]"))
         .arg(output.help("Write the lines to a file, whole or not at all"))
         .arg(flag("explain", "Say of each refused pair why it is refused, and what to do").conflicts_with("csv"))
-        .arg(flag("force", "Let the file be one of those that were read"))
-        .args([text_flag().help("All stages are texts in the line form; of a folder every stage.txt is judged"), lowest(), quiet()])
+        .arg(flag("force", "Let the file be one of those that were read, or write-protected"))
+        .args([text_flag().help("All stages are texts in the line form; of a folder every stage.txt is judged"), lowest(), silent()])
         .after_help(
             "\
 Of a folder every stage.ncl in it or below it is judged against the reference.ncl beside it. A list has the names of a stage and
-its reference on each line, with white space or one tab between them, from the current folder on; lines with # are passed over,
-and a stage whose name ends in .txt is a text. A summary by number follows on standard error. Exit status: 0 all accepted, 1 some refused,
-2 some could not be read.
+its reference on each line, with blanks between them, or one tab where names hold blanks, from the current folder on; lines with #
+are passed over, and a stage whose name ends in .txt is a text. A summary by number follows on standard error.
+
+Exit status: 0 all accepted, 1 some refused, 2 some could not be read.
 
 Examples:
   ncl batch designs
@@ -72,19 +68,24 @@ struct Lines {
 }
 
 impl Lines {
-    fn add(&mut self, bytes: &[u8], bar: &ProgressBar) -> Outcome<()> {
+    fn add(&mut self, bytes: &[u8], progress: &Progress) -> Outcome<()> {
         match &mut self.kept {
             Some(kept) => {
                 kept.extend_from_slice(bytes);
                 Ok(())
             }
             None if self.silent || bytes.is_empty() => Ok(()),
-            None => bar.suspend(|| put(bytes)),
+            None => progress.aside(|| put(bytes)),
         }
     }
 }
 
 pub fn run(matches: &ArgMatches) -> Outcome<Found> {
+    let output = matches.get_one::<PathBuf>("output").filter(|path| !is_standard_output(path));
+    let quiet = matches.get_flag("quiet");
+    if let Some(format) = ["json", "csv", "junit"].into_iter().find(|format| quiet && output.is_none() && matches.get_flag(format)) {
+        return Err(Failure::says(format!("--quiet prints nothing, so --{format} needs a file: --output FILE")));
+    }
     let froms: Vec<&PathBuf> = matches.get_many("from").expect("clap asks for it").collect();
     let stage = if matches.get_flag("text") { "stage.txt" } else { "stage.ncl" };
     let mut all = Vec::new();
@@ -95,8 +96,6 @@ pub fn run(matches: &ArgMatches) -> Outcome<Found> {
         let pool = rayon::ThreadPoolBuilder::new().num_threads(jobs.into()).build_global();
         pool.map_err(|error| Failure::says(error.to_string()))?;
     }
-    let output = matches.get_one::<PathBuf>("output").filter(|path| path.as_os_str() != "-");
-    let quiet = matches.get_flag("quiet");
     let mut lines = Lines { kept: output.map(|_| Vec::new()), silent: quiet };
     let mut summary = Summary::default();
     summary.identities.extend(froms.iter().filter_map(|from| from.metadata().ok()).map(|data| (data.dev(), data.ino())));
@@ -114,32 +113,21 @@ pub fn run(matches: &ArgMatches) -> Outcome<Found> {
 fn judge_all(all: &[Named], matches: &ArgMatches, lines: &mut Lines, summary: &mut Summary) -> Outcome<()> {
     let format = format(matches);
     let manner = Manner { order: order(matches), text: matches.get_flag("text"), explain: matches.get_flag("explain") };
-    let began = Instant::now();
-    let bar = ProgressBar::with_draw_target(Some(all.len() as u64), ProgressDrawTarget::hidden());
-    let style = ProgressStyle::with_template("{bar:30} {pos}/{len} pairs, {eta} to go");
-    bar.set_style(style.unwrap_or_else(|_| ProgressStyle::default_bar()));
-    let seen = std::io::stderr().is_terminal() && !matches.get_flag("quiet");
-    let shown = AtomicBool::new(!seen);
-    let done = || {
-        bar.inc(1);
-        if began.elapsed() > PATIENCE && !shown.swap(true, Ordering::Relaxed) {
-            bar.set_draw_target(ProgressDrawTarget::stderr());
-        }
-    };
+    let progress = Progress::new(all.len(), "pairs", matches.get_flag("quiet"));
     let mut report = Vec::new();
-    lines.add(&head(format), &bar)?;
+    lines.add(&head(format), &progress)?;
     for some in all.chunks(AT_A_TIME) {
-        let judged = judge(some, manner, done);
+        let judged = judge(some, manner, || progress.done(1));
         let text: Vec<u8> = judged.iter().flat_map(|judged| line(format, judged)).collect();
-        judged.iter().for_each(|judged| summary.add(judged, &bar));
+        judged.iter().for_each(|judged| summary.add(judged, &progress));
         if format == Format::Junit {
             report.extend(judged);
         }
-        lines.add(&text, &bar)?;
+        lines.add(&text, &progress)?;
     }
-    bar.finish_and_clear();
+    progress.finish();
     if format == Format::Junit {
-        lines.add(&junit(&report), &bar)?;
+        lines.add(&junit(&report), &progress)?;
     }
     Ok(())
 }
@@ -153,13 +141,13 @@ struct Summary {
 }
 
 impl Summary {
-    fn add(&mut self, judged: &Judged, bar: &ProgressBar) {
+    fn add(&mut self, judged: &Judged, progress: &Progress) {
         self.identities.extend(&judged.identities);
         match &judged.verdict {
             Ok(verdict) => *self.numbers.entry(verdict.number).or_default() += 1,
             Err(words) => {
                 self.unread += 1;
-                bar.suspend(|| tell(words));
+                progress.aside(|| tell(words));
             }
         }
     }

@@ -2,7 +2,7 @@
 
 use super::{answered, explain_flag, force, json_flag, put_json, quiet};
 use crate::explain::{Load, Order, Question};
-use crate::failure::Outcome;
+use crate::failure::{Failure, Outcome};
 use crate::output::{put, write_files};
 use crate::Found;
 use clap::{value_parser, Arg, ArgMatches, Command};
@@ -23,6 +23,7 @@ pub fn command() -> Command {
     let seeds = Arg::new("seeds").long("seeds").value_name("N").value_parser(value_parser!(u32));
     Command::new("load")
         .about("A reference drawn from a seed: the same numbers give the same file everywhere")
+        .override_usage("ncl load [OPTIONS] <SEED> <INPUTS> <GATES> <NEW-REFERENCE>\n       ncl load [OPTIONS] --seeds <N> [SEED]")
         .arg(
             number("seed", "SEED")
                 .value_parser(value_parser!(u32))
@@ -84,8 +85,12 @@ fn taken(load: Load) -> Verdict {
 
 /// Seeds in a row, with all counts of inputs and gates in turn.
 fn many_seeds(matches: &ArgMatches, first: u32, count: u32) -> Outcome<Found> {
+    let left = (1_u64 << 32) - u64::from(first);
+    if u64::from(count) > left {
+        return Err(Failure::says(format!("--seeds {count}: from seed {first} on there are {left}; the last is {}", u32::MAX)));
+    }
     let load = |k: u32| {
-        let seed = first.wrapping_add(k);
+        let seed = first + k;
         Load { seed, inputs: 1 + seed as usize % INPUTS, gates: seed as usize / INPUTS % GATES }
     };
     let verdicts: Vec<Verdict> = (0..count).into_par_iter().map(|k| taken(load(k))).collect();

@@ -17,18 +17,20 @@ const AT_A_TIME: usize = 1_024;
 
 pub fn command() -> Command {
     let path = |name: &'static str, value: &'static str| Arg::new(name).value_name(value).value_parser(value_parser!(PathBuf));
-    let most = Arg::new("most").long("most").value_name("N").requires("walk").value_parser(value_parser!(u64));
+    let most = Arg::new("most").long("most").value_name("N").value_parser(value_parser!(u64));
+    let walks = ["walk", "most"];
     Command::new("next")
         .about("The small stage that comes after one: 1 or 2 inputs, at most two gates TH12 or TH22, one output")
+        .override_usage("ncl next [OPTIONS] <STAGE> <NEW-STAGE>\n       ncl next [OPTIONS] --walk [--most <N>] [STAGE]")
         .arg(
             path("stage", "STAGE")
-                .required_unless_present("walk")
+                .required_unless_present_any(walks)
                 .help("A small stage, or an empty file, after which the first comes; '-' is standard input"),
         )
-        .arg(path("new", "NEW-STAGE").required_unless_present("walk").conflicts_with("walk").help("Where the next one is written"))
+        .arg(path("new", "NEW-STAGE").required_unless_present_any(walks).conflicts_with_all(walks).help("Where the next one is written"))
         .arg(flag("walk", "Print all that come after STAGE, or without it all, a line of hexadecimal bytes each"))
-        .arg(most.help("Print at most so many"))
-        .args([json_flag().conflicts_with("walk"), explain_flag(), force(), quiet()])
+        .arg(most.help("Print so many of them at most, without --walk too"))
+        .args([json_flag().conflicts_with_all(walks), explain_flag(), force(), quiet()])
         .after_help(
             "\
 Prints the verdict: 36 1 0 0 after the last, 37 1 0 0 for a file that is no small stage; a refusal writes nothing. From the
@@ -53,7 +55,7 @@ fn after(stage: &[u8]) -> (Verdict, Vec<u8>) {
 pub fn run(matches: &ArgMatches) -> Outcome<Found> {
     let given = matches.get_one::<PathBuf>("stage").map(|path| read(path)).transpose()?;
     let stage = given.unwrap_or_else(|| Input::empty(Path::new("the empty file")));
-    if matches.get_flag("walk") {
+    if matches.get_flag("walk") || matches.contains_id("most") {
         return walk(matches, &stage);
     }
     let (verdict, file) = after(&stage.bytes);

@@ -1,14 +1,17 @@
 //! `ncl row`: the settled row of a stage.
 
-use super::{answer, explain_flag, found, given, json_flag, path, put_json, quiet, stage_arg, text_flag, verdict_json};
+use super::{answer, explain_flag, found, given, json_flag, path, put_json, quiet, signs, stage_arg, text_flag, verdict_json};
 use crate::explain::{Order, Question};
 use crate::failure::{Failure, Outcome};
 use crate::given::Given;
-use crate::input::{one_standard_input, read};
+use crate::input::{one_standard_input, read, MOST};
 use crate::output::put;
 use crate::Found;
 use clap::{value_parser, Arg, ArgMatches, Command};
 use std::path::PathBuf;
+
+/// A stage has at most 10 inputs of two rails each, and 256 gates.
+const MOST_NETS: usize = 276;
 
 pub fn command() -> Command {
     let bytes = Arg::new("bytes")
@@ -18,6 +21,7 @@ pub fn command() -> Command {
         .help("A row as bytes: two for each input (rail 0, rail 1), then one for each gate");
     Command::new("row")
         .about("The levels of all nets once a stage has settled for given inputs")
+        .override_usage("ncl row [OPTIONS] <STAGE> <INPUTS>\n       ncl row [OPTIONS] --bytes <FILE> <STAGE>")
         .arg(stage_arg())
         .arg(
             Arg::new("inputs")
@@ -38,27 +42,19 @@ Examples:
         )
 }
 
-/// The rails of inputs that are given as signs.
-fn rails(inputs: &str) -> Outcome<Vec<u8>> {
-    let mut row = Vec::new();
-    for (k, sign) in inputs.chars().enumerate() {
-        row.extend(match sign {
-            '0' => [1, 0],
-            '1' => [0, 1],
-            '.' => [0, 0],
-            _ => return Err(Failure::says(format!("'{inputs}': sign {k} is '{sign}'; an input is 0, 1, or . for NULL"))),
-        });
-    }
-    Ok(row)
-}
-
 /// The row that is handed in, and the stage.
 fn handed_in(matches: &ArgMatches) -> Outcome<(Given, Vec<u8>)> {
     if let Some(bytes) = matches.get_one::<PathBuf>("bytes") {
         one_standard_input(&[path(matches, "stage"), bytes])?;
-        return Ok((given(matches)?, read(bytes)?.bytes));
+        let (stage, row) = (given(matches)?, read(bytes)?);
+        if row.longer {
+            let words = format!("{}: has more than {MOST} bytes, and no row has more than {MOST_NETS}", row.name);
+            return Err(Failure::says(words));
+        }
+        return Ok((stage, row.bytes));
     }
-    let mut row = rails(matches.get_one::<String>("inputs").expect("clap asks for it"))?;
+    let values = signs(matches.get_one::<String>("inputs").expect("clap asks for it"))?;
+    let mut row: Vec<u8> = values.iter().flat_map(|&value| [value == Some(false), value == Some(true)]).map(u8::from).collect();
     let stage = given(matches)?;
     row.resize(row.len() + stage.stage().gates.len(), 0);
     Ok((stage, row))

@@ -11,13 +11,25 @@ const AFTER: usize = 1;
 /// How many bytes of one command are shown: as many as the longest has.
 const SHOWN: usize = 10;
 
-/// The listing and the sentence for 1 to 9, 18 and 19. `most` is how many gates such a file may have.
-pub fn unreadable(text: &mut Text, verdict: Verdict, file: &Input, side: Side, most: usize) {
+/// How a call takes a file.
+#[derive(Clone, Copy)]
+pub struct Taken {
+    pub side: Side,
+    /// How many gates it may have.
+    pub most: usize,
+    /// Whether the call takes a stage as text too.
+    pub texts: bool,
+    /// The call, where it takes this file alone; else a stage comes with its reference.
+    pub alone: Option<&'static str>,
+}
+
+/// The listing and the sentence for 1 to 9, 18 and 19.
+pub fn unreadable(text: &mut Text, verdict: Verdict, file: &Input, taken: Taken) {
     let at = verdict.at as usize;
     let length = if file.longer { format!("more than {MOST}") } else { file.bytes.len().to_string() };
     text.row("file", &format!("{}, byte {at} of {length}", file.name));
-    list(text, verdict, file, side);
-    let [found, todo] = wrong(verdict, file, side, most);
+    list(text, verdict, file, taken.side);
+    let [found, todo] = wrong(verdict, file, taken);
     text.row("found", &found);
     text.row("to do", &todo);
 }
@@ -48,8 +60,8 @@ fn list(text: &mut Text, verdict: Verdict, file: &Input, side: Side) {
 }
 
 /// What is wrong at the place, and what to do.
-fn wrong(verdict: Verdict, file: &Input, side: Side, most: usize) -> [String; 2] {
-    let (at, bytes) = (verdict.at as usize, &file.bytes[..]);
+fn wrong(verdict: Verdict, file: &Input, taken: Taken) -> [String; 2] {
+    let (at, bytes, side) = (verdict.at as usize, &file.bytes[..], taken.side);
     let byte = bytes.get(at).copied().unwrap_or(0);
     let operand = usize::from(byte) | usize::from(bytes.get(at + 1).copied().unwrap_or(0)) << 8;
     let listed = commands(bytes, side);
@@ -57,11 +69,8 @@ fn wrong(verdict: Verdict, file: &Input, side: Side, most: usize) -> [String; 2]
     let (found, todo) = match verdict.number {
         1 if bytes.is_empty() => ("the file is empty".into(), "see why nothing was written into it".into()),
         1 => (cut_off(&listed, side), "see whether it was written to its end".into()),
-        2 if at == 0 && side == Side::Stage && is_text(bytes) => (
-            "the file begins like a text, and a stage file with its inputs (01)".into(),
-            "where it is a stage in the line form, say so: --text, or a name that ends in .txt".into(),
-        ),
-        2 => out_of_step(byte, at, &listed, side),
+        2 if at == 0 && is_text(bytes) => like_a_text(file, taken),
+        2 => out_of_step(byte, at, &listed, taken),
         3 => (
             format!("{}; a file has 1 to 10", many(byte.into(), "input")),
             if byte == 0 { "give the count of inputs" } else { "split the circuit, check the parts, and join them ('ncl join')" }.into(),
@@ -76,7 +85,7 @@ fn wrong(verdict: Verdict, file: &Input, side: Side, most: usize) -> [String; 2]
             }
         },
         5 => operand_wrong(at, operand, command, side),
-        6 => too_many(command, side, most),
+        6 => too_many(command, side, taken.most),
         7 => {
             let count = if file.longer { "bytes".into() } else { many(bytes.len() - at.min(bytes.len()), "byte") };
             (format!("{count} after the end command"), "cut the file off there: end stands last".into())
@@ -104,8 +113,22 @@ fn is_text(bytes: &[u8]) -> bool {
     !line.is_empty() && line.len() < bytes.len() && line.iter().all(of_name)
 }
 
+/// 2: a text in place of a file.
+fn like_a_text(file: &Input, taken: Taken) -> (String, String) {
+    let this = if taken.side == Side::Stage { "stage file" } else { "reference" };
+    let todo = match taken.side {
+        Side::Stage if taken.texts => "where it is a stage in the line form, say so: --text, or a name that ends in .txt".into(),
+        Side::Stage => {
+            format!("where it is a stage in the line form, make a stage file of it first: ncl text read {} NEW-STAGE", file.name)
+        }
+        Side::Reference => "give a reference file: a reference has no line form".into(),
+    };
+    (format!("the file begins like a text, and a {this} with its inputs (01)"), todo)
+}
+
 /// 2: no command of this file, or the inputs command where it does not belong.
-fn out_of_step(byte: u8, at: usize, listed: &[Command], side: Side) -> (String, String) {
+fn out_of_step(byte: u8, at: usize, listed: &[Command], taken: Taken) -> (String, String) {
+    let side = taken.side;
     let (this, other) = match side {
         Side::Stage => ("stage", "reference"),
         Side::Reference => ("reference", "stage"),
@@ -121,10 +144,10 @@ fn out_of_step(byte: u8, at: usize, listed: &[Command], side: Side) -> (String, 
         Side::Stage => [0x11, 0x12].contains(&byte),
         Side::Reference => [0x02, 0x03, 0x06].contains(&byte),
     };
-    let todo = if of_other {
-        format!("{byte:02X} is a command of a {other}: give the stage first and its reference second, each once")
-    } else {
-        "see whether this is the right file, and whether the command before it has all its operands".into()
+    let todo = match taken.alone {
+        Some(call) if of_other => format!("{byte:02X} is a command of a {other}, so this is one: '{call}' takes a {this}"),
+        None if of_other => format!("{byte:02X} is a command of a {other}: give the stage first and its reference second, each once"),
+        _ => "see whether this is the right file, and whether the command before it has all its operands".into(),
     };
     (format!("{byte:02X} is no command of a {this}"), todo)
 }

@@ -28,11 +28,16 @@ struct Fault {
     todo: String,
 }
 
-/// The listing and the sentences for 29 to 31, and for 3, 5 and 6 of the stage file that a text would give.
-pub fn refused(text: &mut Text, verdict: Verdict, given: &Given) {
+/// The listing and the sentences for 29 to 31, and for 3, 5 and 6 of the stage file that a text would give. `instead` is what to do with a
+/// stage file that was taken for a text.
+pub fn refused(text: &mut Text, verdict: Verdict, given: &Given, instead: &str) {
     let lines = Lines::of(&given.input.bytes);
     let at = verdict.at as usize;
     let fault = match verdict.number {
+        29 if at == 0 && is_stage_file(&given.input.bytes) => {
+            let found = "the file begins like a stage file, with its inputs (01), and a text with their names";
+            lines.fault(0, (0, &given.input.bytes[..1]), found.into(), instead)
+        }
         3 => lines.too_many_inputs(),
         5 => lines.wrong_pins(at),
         6 => lines.too_many(),
@@ -50,6 +55,11 @@ pub fn refused(text: &mut Text, verdict: Verdict, given: &Given) {
 struct Lines<'a> {
     lines: Vec<&'a [u8]>,
     ended: bool,
+}
+
+/// Whether a file begins with the inputs command. It decides what is said, not what is read.
+fn is_stage_file(bytes: &[u8]) -> bool {
+    matches!(bytes, [1, 1..=10, 0..=6, ..])
 }
 
 /// A part of a line, and where it begins.
@@ -161,22 +171,7 @@ impl<'a> Lines<'a> {
         }
         let odd = |&byte: &u8| !byte.is_ascii_alphanumeric() && byte != b'_';
         if let Some(k) = name.iter().position(odd) {
-            let place = (at + k, &name[k..=k]);
-            let ends = at + k + 1 == self.line(line).len();
-            return Some(match name[k] {
-                b'\r' if ends => {
-                    let todo = "save the text with plain newlines: tr -d '\\r' < TEXT > NEW-TEXT does it";
-                    self.fault(line, place, "the line ends in a carriage return before its newline".into(), todo)
-                }
-                b' ' if line < 2 => {
-                    let todo = "one comma stands between two names, and no space. Lines 0 and 1 have the names of inputs and outputs, gates follow";
-                    self.fault(line, place, "a space".into(), todo)
-                }
-                _ => {
-                    let found = format!("'{}' cannot stand in a name", words(&name[k..=k]));
-                    self.fault(line, place, found, "use letters, digits and underscores")
-                }
-            });
+            return Some(self.odd_byte(line, at + k));
         }
         let too_long = name.len() > most;
         let what = if line < 2 { "a name" } else { "a pin or a net" };
@@ -186,8 +181,39 @@ impl<'a> Lines<'a> {
         })
     }
 
+    /// A byte that cannot stand in a name.
+    fn odd_byte(&self, line: usize, at: usize) -> Fault {
+        let rest = &self.line(line)[at..];
+        match rest {
+            [b'\r'] => {
+                let todo = "save the text with plain newlines: tr -d '\\r' < TEXT > NEW-TEXT does it";
+                self.fault(line, (at, rest), "the line ends in a carriage return before its newline".into(), todo)
+            }
+            [0xEF, 0xBB, 0xBF, ..] if line == 0 && at == 0 => {
+                let found = "the text begins with a byte order mark, EF BB BF, and a name has letters, digits and underscores";
+                self.fault(line, (at, &rest[..3]), found.into(), "save the text without a byte order mark, as plain ASCII")
+            }
+            [b' ', ..] if line < 2 => {
+                let todo =
+                    "one comma stands between two names, and no space. Lines 0 and 1 have the names of inputs and outputs, gates follow";
+                self.fault(line, (at, &rest[..1]), "a space".into(), todo)
+            }
+            [b'\t', ..] if line >= 2 => self.fault(line, (at, &rest[..1]), "byte 09, a tab".into(), FORM),
+            _ => {
+                let (sign, wide) = sign_at(rest);
+                let found = format!("{sign} cannot stand in a name");
+                self.fault(line, (at, &rest[..wide]), found, "use letters, digits and underscores")
+            }
+        }
+    }
+
     /// What is wrong in a gate's line.
     fn wrong_gate(&self, line: usize) -> Option<Fault> {
+        // Where a sign cannot be seen, or is of another alphabet, the parts of the line would mislead.
+        let hidden = |byte: &u8| byte.is_ascii_control() || !byte.is_ascii();
+        if let Some(at) = self.line(line).iter().position(hidden) {
+            return Some(self.odd_byte(line, at));
+        }
         let parts = self.parts(line);
         let &kind = parts.first()?;
         if !kind.1.is_empty() && kind_of(kind.1).is_none() {
@@ -237,17 +263,24 @@ impl<'a> Lines<'a> {
             let part = outputs.into_iter().find(|part| rails(part.1).iter().any(|rail| missing(rail))).unwrap_or_default();
             let lost: Vec<String> = rails(part.1).iter().filter(|rail| missing(rail)).map(|rail| words(rail)).collect();
             let found = format!("nobody drives {}; the rails of an output are its name with _0 and _1", lost.join(" and "));
-            let todo = "let a gate drive each rail, or write the name of a signal whose rails are both driven";
+            let todo = match is_rail(part.1) {
+                true => SIGNALS,
+                false => "let a gate drive each rail, or write the name of a signal whose rails are both driven",
+            };
             return self.fault(line, part, found, todo);
         }
         let pins = self.pins(line).into_iter().zip(["A", "B", "C", "D"]);
         let (part, letter) = pins.into_iter().find(|(part, _)| missing(part.1)).unwrap_or_default();
+        let found = format!("nobody drives {}, pin {letter} of this gate", words(part.1));
+        if self.names(0).iter().any(|name| name.1 == part.1 && is_rail(name.1)) {
+            return self.fault(line, part, found + "; line 0 has it as the name of a whole signal", SIGNALS);
+        }
         let mut todo = "write the name of an input's rail or of a gate's net, or add the gate that drives it".to_string();
         let near = alike(part.1, driven.keys());
         if !near.is_empty() {
             todo += &format!(". Names like it that are driven: {}", near.join(", "));
         }
-        self.fault(line, part, format!("nobody drives {}, pin {letter} of this gate", words(part.1)), &todo)
+        self.fault(line, part, found, &todo)
     }
 
     /// 31: a name that is driven again.
@@ -305,7 +338,33 @@ impl<'a> Lines<'a> {
 }
 
 const RAILS: [&[u8]; 2] = [b"_0", b"_1"];
+const SIGNALS: &str = "lines 0 and 1 have signals, each once and without _0 and _1: a for a_0 and a_1";
 const FORM: &str = "a gate's line is its kind, its pins and its net, with one space between them and one comma between pins";
+
+/// Whether a name is written like that of a rail.
+fn is_rail(name: &[u8]) -> bool {
+    RAILS.iter().any(|rail| name.ends_with(rail))
+}
+
+/// The first sign of some bytes in words, and how many bytes it has.
+fn sign_at(bytes: &[u8]) -> (String, usize) {
+    let called = |byte: u8| match byte {
+        0 => ", a zero byte,",
+        b'\t' => ", a tab,",
+        b'\r' => ", a carriage return,",
+        0x1B => ", an escape,",
+        0x7F => ", a delete,",
+        _ => "",
+    };
+    let whole = (1..=bytes.len().min(4)).find_map(|wide| Some((std::str::from_utf8(&bytes[..wide]).ok()?, wide)));
+    match whole {
+        Some((sign, wide)) if !sign.chars().any(char::is_control) => (format!("'{sign}'"), wide),
+        _ => {
+            let byte = bytes.first().copied().unwrap_or(0);
+            (format!("byte {byte:02X}{}", called(byte)), 1)
+        }
+    }
+}
 
 fn are(count: usize) -> String {
     format!("{count} {}", if count == 1 { "is" } else { "are" })

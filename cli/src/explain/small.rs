@@ -1,6 +1,7 @@
 //! What the calls find that write one file: a text of a stage, the next small stage, a drawn reference.
 
-use super::{bytes, unknown, Load, Text};
+use super::bytes::{self, Taken};
+use super::{unknown, Load, Text};
 use crate::given::Given;
 use crate::input::Input;
 use crate::netlist::{commands, kind_name, many, Form, Side, Stage};
@@ -12,7 +13,10 @@ pub fn of_write_text(text: &mut Text, verdict: Verdict, given: &Given) {
     let stage = given.stage();
     match verdict.number {
         0 => text.row("found", "the text is written; read again it gives this stage, gates before outputs"),
-        1..=9 | 18 | 19 => bytes::unreadable(text, verdict, &given.input, Side::Stage, 256),
+        1..=9 | 18 | 19 => {
+            let taken = Taken { side: Side::Stage, most: 256, texts: false, alone: Some("ncl text write") };
+            bytes::unreadable(text, verdict, &given.input, taken);
+        }
         29 => {
             text.row("stage", &format!("{}: {}", given.name(), stage.counts()));
             text.row("found", &format!("the stage has {}, and a text has no line for them", many(stage.care.len(), "care word")));

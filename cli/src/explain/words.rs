@@ -1,64 +1,51 @@
 //! What is found in a word: a wrong output, or an input or a gate that the outputs do not wait for. The levels shown are the library's.
 
-use super::changes::{self, Named};
 use super::{Order, Pair, Text};
-use crate::levels::{Levels, Odd, Row};
+use crate::levels::{Levels, Odd};
+use crate::names::{buses, values_text};
 use crate::netlist::{many, relaxed, set_expression, Reference, Stage};
+use crate::situation::{data, pair_state, Behind, End, Situation, PLACES};
 use fovaheju::Verdict;
 
-/// How many outputs, and how many nets to look at, are shown before the rest is only counted.
+/// How many outputs are shown before the rest is only counted.
 const OUTPUTS: usize = 4;
-const PLACES: usize = 6;
 /// How many gates back from a wrong output are shown.
-const DEPTH: usize = 2;
+pub const DEPTH: usize = 2;
 
 /// 13, 14, 15, 20 and 21.
 pub fn in_a_word(text: &mut Text, verdict: Verdict, pair: Pair, order: Order) {
     let stage = pair.stage.stage();
-    let values = order.values(verdict.word, stage.inputs);
     text.row("stage", &format!("{}: {}", pair.stage.name(), stage.counts()));
-    say_word(text, verdict.word, &values, order, &stage);
-    let levels = Levels::new(pair.stage.bytes(), &stage);
-    let at = verdict.at as usize;
-    let odd = if matches!(verdict.number, 14 | 20) { Odd::Input(at) } else { Odd::Gate(at) };
-    let rows = match verdict.number {
-        13 => levels.rest(&values).map(|rest| (rest.clone(), rest)),
-        14 | 15 => levels.rest(&values).zip(levels.without(&values, odd)),
-        _ => levels.rest(&values).zip(levels.fallen(&values, odd)),
-    };
-    let Some((rest, row)) = rows else {
+    say_word(text, verdict.word, &order.values(verdict.word, stage.inputs), order, &stage);
+    let Some(case) = Situation::of(verdict, pair.stage.bytes(), &stage, order) else {
         text.row("found", "the levels of this word cannot be shown");
         return;
     };
-    let case = Case { stage: &stage, rest: &rest, row: &row, falls: matches!(verdict.number, 20 | 21) };
-    let (gates, output, net) = if verdict.number == 13 {
-        let answer = Reference::of(&pair.reference.bytes).answer(&values);
-        let gates = wrong(text, &case, at, &answer, pair);
-        (gates, Some(at), None)
-    } else {
-        let gates = not_awaited(text, &case, odd, &values);
-        let net = match odd {
-            Odd::Input(input) => 2 * input + usize::from(values.get(input) == Some(&true)),
-            Odd::Gate(gate) => stage.net_of(gate),
-        };
-        (gates, None, Some(net))
-    };
-    if text.tries > 0 {
-        changes::accepted(text, pair, order, &stage, &Named { gates: &gates, output, net, rises: !case.falls });
+    match case.odd {
+        None => wrong(text, &case, verdict.at as usize, pair),
+        Some(odd) => not_awaited(text, &case, odd),
     }
 }
 
 /// A word by its inputs.
 pub fn say_word(text: &mut Text, word: u64, values: &[bool], order: Order, stage: &Stage) {
-    let digit = |&value: &bool| if value { '1' } else { '0' };
+    text.row("word", &word_text(word, values, order, stage));
+}
+
+/// A word's name, and what it says of the inputs.
+pub fn word_text(word: u64, values: &[bool], order: Order, stage: &Stage) -> String {
     let named = if order.lowest { " (input 0 as the lowest bit)" } else { "" };
-    let inputs = if stage.names.is_some() {
-        let each = values.iter().enumerate().map(|(input, value)| format!("{} = {}", stage.input_name(input), digit(value)));
-        each.collect::<Vec<String>>().join(", ")
-    } else {
-        format!("{} = {}", range("x", values.len()), values.iter().map(digit).collect::<String>())
-    };
-    text.row("word", &format!("{word}{named} is {inputs}"));
+    let values: Vec<Option<bool>> = values.iter().map(|&value| Some(value)).collect();
+    format!("{word}{named} is {}", inputs_text(&values, stage))
+}
+
+/// The inputs with these values; a dot is NULL.
+pub fn inputs_text(values: &[Option<bool>], stage: &Stage) -> String {
+    let sign = |value: &Option<bool>| value.map_or('.', |value| if value { '1' } else { '0' });
+    match &stage.names {
+        Some(names) => values_text(&names.inputs, values),
+        None => format!("{} = {}", range("x", values.len()), values.iter().map(sign).collect::<String>()),
+    }
 }
 
 /// `x0`, or `x0..x3`.
@@ -69,46 +56,22 @@ pub fn range(name: &str, count: usize) -> String {
     }
 }
 
-/// A stage at the rest of a word, and in the row that shows the fault.
-struct Case<'a> {
-    stage: &'a Stage,
-    rest: &'a Row,
-    row: &'a Row,
-    falls: bool,
-}
-
-fn level(row: &Row, net: usize) -> &'static str {
-    if row.get(net) == Some(&true) {
+fn level(case: &Situation, net: usize) -> &'static str {
+    if case.high(net) {
         "high"
     } else {
         "low"
     }
 }
 
-/// What an output pair shows.
-fn pair_state(row: &Row, [low, high]: [usize; 2]) -> &'static str {
-    match (row.get(low) == Some(&true), row.get(high) == Some(&true)) {
-        (false, false) => "NULL",
-        (true, false) => "DATA0",
-        (false, true) => "DATA1",
-        (true, true) => "both rails high",
-    }
-}
-
-fn data(value: bool) -> &'static str {
-    if value {
-        "DATA1"
-    } else {
-        "DATA0"
-    }
-}
-
-/// 13: what the output shows, what it should, and the gates behind its wrong rails. Answers the gates that are shown.
-fn wrong(text: &mut Text, case: &Case, at: usize, answer: &[bool], pair: Pair) -> Vec<usize> {
-    let (stage, row) = (case.stage, case.row);
-    let Some(&rails) = stage.outputs.get(at) else { return Vec::new() };
+/// 13: what the output shows, what it should, and the gates behind its wrong rails.
+fn wrong(text: &mut Text, case: &Situation, at: usize, pair: Pair) {
+    let (stage, row) = (case.stage, &case.row);
+    let Some(&rails) = stage.outputs.get(at) else { return };
+    let called = stage.names.as_ref().map_or(Vec::new(), |names| names.inputs.clone());
+    let reference = Reference { called, ..Reference::of(&pair.reference.bytes) };
+    let answer = reference.answer(&case.values);
     let value = answer.get(at).copied().unwrap_or(false);
-    let reference = Reference::of(&pair.reference.bytes);
     let signal = reference.outputs.get(at).map_or(String::new(), |&signal| reference.signal_text(signal));
     let shows = pair_state(row, rails);
     let is = if shows.starts_with("both") { "has" } else { "is" };
@@ -120,18 +83,20 @@ fn wrong(text: &mut Text, case: &Case, at: usize, answer: &[bool], pair: Pair) -
     if others > 0 {
         text.below(0, &format!("{} wrong in this word too", many(others, "other output") + if others == 1 { " is" } else { " are" }));
     }
+    if let Some(names) = stage.names.as_ref().filter(|names| buses(&names.outputs).len() < names.outputs.len()) {
+        let answer: Vec<Option<bool>> = answer.iter().map(|&value| Some(value)).collect();
+        text.row("answer", &format!("{} by the reference", values_text(&names.outputs, &answer)));
+    }
     if text.tries > 0 {
         say_words(text, at, &reference, pair);
     }
     let mut shown = Vec::new();
-    for (rail, net) in rails.into_iter().enumerate() {
-        let wanted = value == (rail == 1);
-        if (row.get(net) == Some(&true)) == wanted {
-            continue;
+    for (rail, net) in case.wrong_rails(at, value) {
+        let should = if case.high(net) { "low" } else { "high" };
+        text.row("look at", &format!("rail {rail} of {name} is {}: {}, and should be {should}", stage.net_name(net), level(case, net)));
+        for gate in case.behind(net, DEPTH, &mut shown) {
+            say_behind(text, case, &gate);
         }
-        let should = if wanted { "high" } else { "low" };
-        text.row("look at", &format!("rail {rail} of {name} is {}: {}, and should be {should}", stage.net_name(net), level(row, net)));
-        behind(text, case, net, 0, &mut shown);
     }
     let (whole, wrong) = match shown.is_empty() {
         true => (format!("see which nets are the rails of {name}"), "a wrong net"),
@@ -144,7 +109,6 @@ fn wrong(text: &mut Text, case: &Case, at: usize, answer: &[bool], pair: Pair) -
         why += &format!(". If this word never comes, {care}");
     }
     text.row("to do", &format!("{whole}: {why}"));
-    shown
 }
 
 /// How many words are named.
@@ -170,50 +134,31 @@ fn say_words(text: &mut Text, at: usize, reference: &Reference, pair: Pair) {
     text.row("words", &format!("{} is wrong in {} of {of}: {}{more}", stage.output_name(at), wrong.len(), named.join(" ")));
 }
 
-/// The gate of a net with the levels of its pins, and those behind it that make its level.
-fn behind(text: &mut Text, case: &Case, net: usize, depth: usize, shown: &mut Vec<usize>) {
-    let Some(gate) = case.stage.driver(net) else { return };
+/// A gate behind a wrong rail, with the levels of its pins.
+fn say_behind(text: &mut Text, case: &Situation, &Behind { gate, depth, again }: &Behind) {
     let name = case.stage.gate_name(gate);
-    if shown.contains(&gate) {
+    if again {
         text.below(depth, &format!("{name}: see above"));
         return;
     }
-    shown.push(gate);
     let found = &case.stage.gates[gate];
     let pins: Vec<String> = found
         .pins
         .iter()
         .zip("ABCD".chars())
-        .map(|(&pin, letter)| format!("{letter} {} {}", case.stage.net_name(pin), level(case.row, pin)))
+        .map(|(&pin, letter)| format!("{letter} {} {}", case.stage.net_name(pin), level(case, pin)))
         .collect();
     let set = set_expression(found.kind).unwrap_or("?");
-    text.below(depth, &format!("{name} {}: {} is set by {set}; {}", level(case.row, net), found.name(), pins.join(", ")));
-    if depth < DEPTH {
-        for &pin in found.pins.iter().filter(|&&pin| case.row.get(pin) == case.row.get(net)) {
-            behind(text, case, pin, depth + 1, shown);
-        }
-    }
+    let own = level(case, case.stage.net_of(gate));
+    text.below(depth, &format!("{name} {own}: {} is set by {set}; {}", found.name(), pins.join(", ")));
 }
 
-impl Case<'_> {
-    /// Whether a net is still to follow: to rise, or on the way back to fall.
-    fn late(&self, net: usize) -> bool {
-        self.rest[net] && self.row[net] == self.falls
-    }
-
-    /// The nets that are late and that no late gate reads: where the waiting ends.
-    fn ends(&self) -> Vec<usize> {
-        let waited = |net: usize| self.stage.readers(net).into_iter().any(|gate| self.late(self.stage.net_of(gate)));
-        (0..self.stage.nets()).filter(|&net| self.late(net) && !waited(net)).collect()
-    }
-}
-
-/// 14, 15, 20 and 21: what is late, what the outputs show by then, and where the waiting ends. Answers the gates to look at.
-fn not_awaited(text: &mut Text, case: &Case, odd: Odd, values: &[bool]) -> Vec<usize> {
+/// 14, 15, 20 and 21: what is late, what the outputs show by then, and where the waiting ends.
+fn not_awaited(text: &mut Text, case: &Situation, odd: Odd) {
     let stage = case.stage;
     let (name, still) = match (odd, case.falls) {
         (Odd::Input(input), false) => (stage.input_name(input), "NULL"),
-        (Odd::Input(input), true) => (stage.input_name(input), data(values.get(input).copied().unwrap_or(false))),
+        (Odd::Input(input), true) => (stage.input_name(input), data(case.values.get(input).copied().unwrap_or(false))),
         (Odd::Gate(gate), false) => (stage.gate_text(gate), "low, and could rise"),
         (Odd::Gate(gate), true) => (stage.gate_text(gate), "high, and could fall"),
     };
@@ -222,61 +167,36 @@ fn not_awaited(text: &mut Text, case: &Case, odd: Odd, values: &[bool]) -> Vec<u
     if !case.falls {
         say_outputs(text, case);
     }
-    let mut places = Vec::new();
     let ends = case.ends();
-    for &net in ends.iter().take(PLACES) {
-        say_end(text, case, net, odd, &mut places);
+    for end in ends.iter().take(PLACES) {
+        say_end(text, case, end, odd);
     }
     if ends.len() > PLACES {
         text.row("", &format!("and {} more nets that nothing waits for", ends.len() - PLACES));
     }
-    if !case.falls {
-        let first = first_gates(case);
+    if let (Odd::Input(input), false) = (odd, case.falls) {
+        let first = case.first_gates();
         let shown: Vec<String> = first.iter().take(PLACES).map(|&gate| stage.gate_text(gate)).collect();
-        if let Odd::Input(input) = odd {
-            let more = if first.len() > PLACES { ", .." } else { "" };
-            if !shown.is_empty() {
-                let without = stage.input_name(input);
-                text.row("set by", &format!("{}{more}, which the other inputs set without {without}", shown.join(", ")));
-            }
-        }
-        places.extend(first);
-        places.extend(stage.outputs.iter().flatten().filter(|&&net| case.row[net]).filter_map(|&net| stage.driver(net)));
-    }
-    let places = once(&places);
-    say_todo(text, case, odd, &places);
-    places
-}
-
-/// A list without what came before.
-pub fn once(list: &[usize]) -> Vec<usize> {
-    let mut kept = Vec::new();
-    for item in list {
-        if !kept.contains(item) {
-            kept.push(*item);
+        let more = if first.len() > PLACES { ", .." } else { "" };
+        if !shown.is_empty() {
+            let without = stage.input_name(input);
+            text.row("set by", &format!("{}{more}, which the other inputs set without {without}", shown.join(", ")));
         }
     }
-    kept
-}
-
-/// The gates that are high and read a high input rail: those from which the outputs have their DATA.
-fn first_gates(case: &Case) -> Vec<usize> {
-    let rails = 2 * case.stage.inputs;
-    let fed = |gate: &usize| case.stage.gates[*gate].pins.iter().any(|&pin| pin < rails && case.row[pin]);
-    (0..case.stage.gates.len()).filter(|&gate| case.row[case.stage.net_of(gate)]).filter(fed).collect()
+    say_todo(text, case, odd, &case.places());
 }
 
 /// What each output shows, and by which gate.
-fn say_outputs(text: &mut Text, case: &Case) {
+fn say_outputs(text: &mut Text, case: &Situation) {
     let stage = case.stage;
     for (j, &rails) in stage.outputs.iter().enumerate().take(OUTPUTS) {
         let label = if j == 0 { "outputs" } else { "" };
-        let net = rails.into_iter().find(|&net| case.row[net]).unwrap_or(rails[0]);
+        let net = rails.into_iter().find(|&net| case.high(net)).unwrap_or(rails[0]);
         let by = match stage.driver(net) {
             Some(gate) => stage.gate_text(gate) + &high_pins(case, gate),
             None => stage.net_name(net),
         };
-        text.row(label, &format!("{} is {} by {by}", stage.output_name(j), pair_state(case.row, rails)));
+        text.row(label, &format!("{} is {} by {by}", stage.output_name(j), pair_state(&case.row, rails)));
     }
     if stage.outputs.len() > OUTPUTS {
         text.row("", &format!("and {} more", stage.outputs.len() - OUTPUTS));
@@ -284,9 +204,9 @@ fn say_outputs(text: &mut Text, case: &Case) {
 }
 
 /// Which pins of a gate are high in the row, where not all are.
-fn high_pins(case: &Case, gate: usize) -> String {
+fn high_pins(case: &Situation, gate: usize) -> String {
     let pins = &case.stage.gates[gate].pins;
-    let high: Vec<String> = pins.iter().filter(|&&pin| case.row[pin]).map(|&pin| case.stage.net_name(pin)).collect();
+    let high: Vec<String> = pins.iter().filter(|&&pin| case.high(pin)).map(|&pin| case.stage.net_name(pin)).collect();
     if high.len() == pins.len() {
         return String::new();
     }
@@ -294,40 +214,46 @@ fn high_pins(case: &Case, gate: usize) -> String {
 }
 
 /// A net where the waiting ends, and why who reads it does not wait.
-fn say_end(text: &mut Text, case: &Case, net: usize, odd: Odd, places: &mut Vec<usize>) {
+fn say_end(text: &mut Text, case: &Situation, end: &End, odd: Odd) {
     let stage = case.stage;
-    let name = stage.net_name(net);
-    let what = match (stage.driver(net), odd) {
+    let name = stage.net_name(end.net);
+    let what = match (stage.driver(end.net), odd) {
         (Some(gate), Odd::Gate(late)) if gate == late => name.clone(),
         (Some(gate), Odd::Gate(late)) => format!("{}, which waits for {},", stage.gate_text(gate), stage.gate_name(late)),
         (Some(gate), Odd::Input(input)) => format!("{}, which waits for {},", stage.gate_text(gate), stage.input_name(input)),
         (None, _) => format!("rail {name}"),
     };
-    let readers = stage.readers(net);
-    if readers.is_empty() {
+    if end.readers.is_empty() {
         text.row("look at", &format!("{what} is read by no gate and is no output"));
-        places.extend(stage.driver(net));
         return;
     }
     text.row("look at", &format!("{what} is read by"));
-    for gate in readers {
-        let own = stage.net_of(gate);
-        let why = if !case.rest[own] {
+    for reader in &end.readers {
+        let gate = reader.gate;
+        let why = if !reader.ahead {
             format!("low in this word, whatever {name} does")
         } else if case.falls {
-            places.push(gate);
             let how = if relaxed(stage.gates[gate].kind) { "it has no hold" } else { "it is low" };
             format!("has fallen while {name} is high: {how}")
         } else {
-            places.push(gate);
             format!("is high without {name}{}", high_pins(case, gate))
         };
         text.below(0, &format!("{}: {why}", stage.gate_text(gate)));
     }
 }
 
+/// Whether a gate is a TH12 where an AND or an OR needs THand0: it went ahead by itself, or it drives a rail of an output whose other rail is a TH22.
+/// A TH12 of gates of which one rises at a time is no fault.
+fn too_early_by_half(case: &Situation, gate: usize) -> bool {
+    let stage = case.stage;
+    let kind = |gate: usize| stage.gates[gate].kind & 0x7F;
+    let beside =
+        |rails: &[usize; 2]| rails.contains(&stage.net_of(gate)) && rails.iter().any(|&rail| stage.driver(rail).map(kind) == Some(2));
+    kind(gate) == 1 && (case.early().contains(&gate) || stage.outputs.iter().any(beside))
+}
+
 /// What to do about it.
-fn say_todo(text: &mut Text, case: &Case, odd: Odd, places: &[usize]) {
+fn say_todo(text: &mut Text, case: &Situation, odd: Odd, places: &[usize]) {
     let stage = case.stage;
     let todo = match (odd, case.falls) {
         (Odd::Input(input), false) => {
@@ -338,7 +264,7 @@ fn say_todo(text: &mut Text, case: &Case, odd: Odd, places: &[usize]) {
             });
             if unused {
                 todo += &format!(". Nothing reads {name}: let an output depend on it, or take it out of both files");
-            } else if places.iter().any(|&gate| stage.gates[gate].kind & 0x7F == 1) {
+            } else if places.iter().any(|&gate| too_early_by_half(case, gate)) {
                 todo += ". TH12(a, b) is set by one of two signals; THand0(a, b, a', b') waits for both, where a' is the other rail of a";
             } else {
                 todo += &format!(": a gate on the way to an output has to need {name}");
@@ -357,7 +283,10 @@ fn say_todo(text: &mut Text, case: &Case, odd: Odd, places: &[usize]) {
             let named: Vec<String> =
                 places.iter().filter(|&&gate| relaxed(stage.gates[gate].kind)).map(|&gate| stage.gate_name(gate)).collect();
             let which = if named.is_empty() { "one of the relaxed gates".into() } else { named.join(" or ") };
-            format!("give {which} its hold back (the kind without r, 128 less), so that it waits until all its pins are low")
+            format!(
+                "give {which} its hold back (the kind without r, 128 less), so that it waits until all its pins are low; then do \
+                 the same for each gate that the check names next"
+            )
         }
     };
     text.row("to do", &todo);

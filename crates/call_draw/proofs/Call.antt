@@ -2,14 +2,13 @@
 -- Assumes nothing.
 use Prim.Native.Nat.{ℕ, _+_, _*_, _≤_, _<_}
 use native.Mathlib.Omega.{arith}
-use mathlib.Core.Path.{_≡_, refl, sym, ap, _∙_}
-use mathlib.Core.Bool.{Bool, true, false, not}
+use mathlib.Core.Path.{_≡_, sym, _∙_}
+use mathlib.Core.Bool.{Bool, true, false}
 use mathlib.Core.List.{List}
 use lib.ListN.{length, take}
 use lib.Dec.{leb}
 use borrow.Author.Tests.{le-leb, lt-leb, lt-ltb, le-ltb}
-use Rattle.verdict.specs.Checks.{verdict}
-use Rattle.verdict.specs.Verdicts.{accepted}
+use Rattle.verdict.specs.FourNumbers.{verdict, accepted}
 use Rattle.verdict.specs.declared.Answer.{Answer}
 use Rattle.write_command.specs.Put.{Put}
 use Rattle.verdict.specs.Written.{answerOf, written, writeOr}

@@ -1,22 +1,22 @@
 -- What one turn of each loop leaves, and the file of which they put the parts.
 -- Assumes nothing.
-use Prim.Native.Nat.{ℕ, zero, suc, _+_, _-_, _*_, _≤_, _<_}
+use Prim.Native.Nat.{ℕ, suc, _+_, _-_, _*_, _≤_, _<_}
 use native.Mathlib.Omega.{arith}
 use mathlib.Core.Path.{_≡_, refl, sym, ap, _∙_}
-use mathlib.Core.Bool.{Bool, true, false, cond, not, _||_}
+use mathlib.Core.Bool.{Bool, true, false, cond, not}
 use mathlib.Core.List.{List, [], _∷_, _++_}
-use lib.ListN.{length, getD, set, replicate, length-replicate}
+use lib.ListN.{length, getD, set, replicate, length-map}
+use lib.Dec.{eqb}
 use borrow.Author.Tests.{lt-ltb, le-ltb}
-use Rattle.gates.specs.Cell.{among}
 use Rattle.netlist.specs.declared.File.the-variants as file
 use Rattle.netlist.specs.Content.{Coded}
-use Rattle.netlist.specs.Writing.{All, gate, writeItem}
+use Rattle.netlist.specs.Writing.{gate, writeItem}
 use Rattle.netlist.proofs.Lists.{All-map}
 use Rattle.verdict.specs.Rows.{high}
-use Rattle.verdict.specs.Words.{numbers, select}
 use Rattle.verdict.proofs.Names.{select-alike}
+use Rattle.check_spec.specs.Lists.{numbers, select, some}
 use Rattle.make_spec.specs.Marks.{marked}
-use Rattle.make_spec.proofs.Marks.{marked-long, marked-high}
+use Rattle.make_spec.proofs.Marks.{marked-long, marked-alone}
 use Rattle.write_command.specs.Put.{Put, coded}
 use Rattle.write_command.specs.Parts.{signalItem, bytesOf}
 use Rattle.write_command.proofs.Joining.{put-++}
@@ -26,7 +26,7 @@ use Rattle.write_command.proofs.Items.{ItemsLeft, items-all, items-room, items-
 use Rattle.draw_spec.specs.Draws.{gateFrom, afterGate, gatesFrom}
 use Rattle.draw_spec.specs.Drawn.{usedBy, unused, drawnReference, drawnBytes}
 use Rattle.draw_spec.proofs.Selected.{selected-few}
-use Rattle.draw_spec.proofs.Formed.{gates-formed, gates-long, used-in}
+use Rattle.draw_spec.proofs.Formed.{parsed, bytes-are, gates-formed, gates-long, used-in}
 use Rattle.call_draw.specs.declared.Gate.{Gate}
 use Rattle.call_draw.specs.Steps.{operandsOf, GateDrawn, unmarked}
 use Rattle.call_draw.proofs.Draws.{turn, no-turn}
@@ -168,16 +168,7 @@ module _ {marks : List ℕ} {m : ℕ} {buffer₀ : List ℕ} {from : ℕ} where
 
 -- ---- the whole
 
-or-false : (b : Bool) → (b || false) ≡ b
-or-false true = refl
-or-false false = refl
-
-none-marked : (m x : ℕ) → high (replicate m 0) x ≡ false
-none-marked zero x = refl
-none-marked (suc m) zero = refl
-none-marked (suc m) (suc x) = none-marked m x
-
-module _ (seed n g : ℕ) (some : 1 ≤ n) (low : n ≤ 10) (few : g ≤ 40) (marks : List ℕ)
+module _ (seed n g : ℕ) (some-input : 1 ≤ n) (low : n ≤ 10) (few : g ≤ 40) (marks : List ℕ)
     (all : marks ≡ marked (replicate 50 0) (usedBy (gatesFrom n g seed))) where
   abbrev gates : List Coded
   gates = gatesFrom n g seed
@@ -186,16 +177,13 @@ module _ (seed n g : ℕ) (some : 1 ≤ n) (low : n ≤ 10) (few : g ≤ 40) (ma
   free = select (unmarked marks) (numbers 0 (n + g))
 
   -- the marks show which signals are used
-  marks-show : (y : ℕ) → high marks y ≡ among y (usedBy gates)
+  marks-show : (y : ℕ) → high marks y ≡ some (eqb y) (usedBy gates)
   marks-show y =
-      let fits = All-map (λ v. suc v < n + length gates) (λ v. v < length {A = ℕ} (replicate 50 0))
-      (λ v b. omega (arith, gates-long n g seed, length-replicate {A = ℕ} 50 0)) (usedBy gates) (used-in n gates (gates-formed n g seed some)) in
-      ap (λ (ms : List ℕ). high ms y) all ∙ marked-high (replicate 50 0) (usedBy gates) fits y
-      ∙ ap (λ (b : Bool). among y (usedBy gates) || b) (none-marked 50 y) ∙ or-false (among y (usedBy gates))
+      ap (λ (ms : List ℕ). high ms y) all
+      ∙ marked-alone 50 (usedBy gates) (All-map (λ v. suc v < n + length gates) (λ v. v < 50) (λ v b. omega (arith, gates-long n g seed)) (usedBy gates) (used-in n gates (gates-formed n g seed some-input))) y
 
   -- so those without a mark are the outputs
-  outputs-free : free ≡ drawnReference seed n g .outputs
-  unfolding drawnReference
+  outputs-free : free ≡ parsed seed n g .outputs
   outputs-free = select-alike (unmarked marks) (unused gates) (numbers 0 (n + g)) (λ y i. ap not (marks-show y))
 
   pub file-long : {end : ℕ} → end ≡ 2 + 6 * g + 3 * length free
@@ -203,16 +191,16 @@ module _ (seed n g : ℕ) (some : 1 ≤ n) (low : n ≤ 10) (few : g ≤ 40) (ma
   unfolding drawnReference
   file-long e =
       let o = ap length outputs-free in
-      (omega (arith, reference-length (drawnReference seed n g), gates-long n g seed), omega arith, omega (arith, selected-few (unmarked marks) 0 (n + g)))
+      let m = length-map (parsed seed n g .outputs) (λ (v : ℕ). v ∷ []) in
+      (omega (arith, ap length (bytes-are seed n g), reference-length (parsed seed n g), gates-long n g seed), omega arith, omega (arith, selected-few (unmarked marks) 0 (n + g)))
 
   pub file-put : {b0 b1 b2 b3 b4 : List ℕ} {end : ℕ} → Put b0 0 (0x01 ∷ n ∷ []) b1 → Put b1 2 (bytesOf file.Reference gate gates) b2
       → Put b2 (2 + 6 * g) (bytesOf file.Reference signalItem free) b3 → Put b3 end (0x00 ∷ []) b4
       → end ≡ 2 + 6 * g + 3 * length free → Put b0 0 (drawnBytes seed n g) b4
-  unfolding drawnReference
   file-put p q o z e =
       let parts = ap (λ (vs : List ℕ). (0x01 ∷ n ∷ []) ++ (bytesOf file.Reference gate gates ++ (bytesOf file.Reference signalItem vs ++ (0x00 ∷ []))))
       outputs-free in
-      put-same (parts ∙ sym (reference-parts (drawnReference seed n g)))
+      put-same (parts ∙ sym (bytes-are seed n g ∙ reference-parts (parsed seed n g)))
       (put-++ p
       (put-++ q
       (put-++ o z (omega (arith, outputs-length free)))

@@ -6,7 +6,7 @@ ghost use Prim.Native.Nat.{ℕ, _+_, _*_, _/_, _%_, _≤_, _<_};
 ghost use lib.ListN.{length};
 ghost use Rattle.netlist.specs.declared.File.the-variants as file;
 ghost use Rattle.netlist.specs.Writing as writing;
-ghost use Rattle.verdict.specs.Words.{numbers, select};
+ghost use Rattle.check_spec.specs.Lists.{numbers, select};
 ghost use Rattle.make_spec.specs.Marks.{marked};
 ghost use Rattle.write_command.specs.Put.{Put};
 ghost use Rattle.write_command.specs.Parts.{signalItem, bytesOf};

@@ -4,11 +4,13 @@ use Prim.Native.Nat.{ℕ, zero, suc, _+_, _-_, _*_, _^_, _≤_, _<_}
 use native.Mathlib.Omega.{arith}
 use native.Mathlib.Nat.{two-pow-succ}
 use mathlib.Core.Path.{_≡_, refl, sym, ap, ap₂, _∙_}
-use mathlib.Core.Bool.{true, false}
-use mathlib.Core.List.{List, [], _∷_, map}
-use lib.ListN.{length, getD, take, drop, length-drop, drop-of-length-le}
+use mathlib.Core.Bool.{Bool, true, false}
+use mathlib.Core.List.{List, [], _∷_, map, map-map, map-id}
+use lib.ListN.{length, getD, take, drop, length-drop, length-map, drop-of-length-le}
 use lib.Seq.{drop-cons, getD-take}
 use lib.Pow.{pow-mono}
+use lib.Dec.{eqb}
+use Rattle.gates.specs.Cell.{bit}
 use Rattle.netlist.specs.declared.Counts.{Counts}
 use Rattle.netlist.specs.declared.Found.{Found}
 use Rattle.netlist.specs.declared.Found.the-variants.{At, Nothing}
@@ -19,11 +21,17 @@ use Rattle.verdict.specs.declared.WordOrder.{WordOrder}
 use Rattle.verdict.specs.Words.{words, bitsOf, wordOf, spelled, isIn, names}
 use Rattle.verdict.specs.Answers.{answer, valuesAt, signalValues}
 use Rattle.verdict.specs.Checks.{first, sweep, finding}
+use Rattle.verdict.proofs.Words.{bits-of-bit, answer-bit}
+use Rattle.check_spec.specs.Lists.{bitOf, ofBits}
+use Rattle.check_spec.specs.Words as content
+use Rattle.check_spec.specs.Loaded.{fromReference, referenceView}
+use Rattle.check_spec.proofs.Names.{same-bits}
+use Rattle.check_spec.proofs.Alike.{word-of, answer-alike}
+use Rattle.join_spec.specs.Joining as joins
 use Rattle.circuit.specs.Reference.{operatorsIn, signalIn, signalsIn, referenceIn, ReferenceLoaded}
 use Rattle.circuit.proofs.Tabulate.{length-tabulate, getD-tabulate}
 use Rattle.words.proofs.Spelling.{bits-prefix}
-use Rattle.join_spec.specs.Join.{answerWord, uncaredCheck}
-use Rattle.call_join.specs.Steps.{uncaredUnder}
+use Rattle.call_join.specs.Steps.{answerWord, uncaredUnder}
 
 -- ---- a word from its bits, the last first
 
@@ -90,8 +98,19 @@ module _ (order : WordOrder) (inputs : ℕ) (r : Reference) (t : Stage) (name : 
   unfolding first
   uncared-under e = rw e
 
--- under the names of a part's words it is what the check finds
-pub found-uncared : (order : WordOrder) (s : Stage) (r : Reference) (t : Stage) (list : List ℕ) → list ≡ names order s → (f : Finding)
-    → f ≡ sweep 23 0 (uncaredUnder order (s .inputs) r t) list → f ≡ finding (uncaredCheck order s r t)
-unfolding finding
-found-uncared order s r t list is f e = e ∙ ap (sweep 23 0 (uncaredUnder order (s .inputs) r t)) is
+-- ---- the answer of the content
+
+unbit : (b : Bool) → eqb (bit b) 1 ≡ b
+unbit true = refl
+unbit false = refl
+
+pub answer-word : (r : Reference) (w : ℕ) → joins.answerWord (fromReference r) w ≡ answerWord r w
+unfolding answer
+answer-word r w =
+    let l = answer r (bitsOf (r .inputs) w) in
+    let c = fromReference r in
+    let view : referenceView c ≡ r = ap (λ (o : List ℕ). record { inputs = r .inputs; gates = r .gates; outputs = o }) (map-map (λ (vs : List ℕ). getD vs 0 0) (λ (v : ℕ). v ∷ []) (r .outputs) ∙ map-id (r .outputs)) in
+    let long : length l ≡ length (c .outputs) = length-map (r .outputs) (λ (v : ℕ). getD (signalValues (bitsOf (r .inputs) w) (r .gates)) v 0) ∙ sym (length-map (r .outputs) (λ (v : ℕ). v ∷ [])) in
+    same-bits (length (c .outputs)) (content.answer c (bitOf w)) (λ i. eqb (getD l i 0) 1) (λ i h.
+        sym (unbit (content.answer c (bitOf w) i)) ∙ ap (λ (x : ℕ). eqb x 1) (answer-alike c w i h ∙ ap (λ (q : Reference). getD (answer q (bitsOf (r .inputs) w)) i 0) view))
+    ∙ ap (λ (m : ℕ). ofBits m (λ i. eqb (getD l i 0) 1)) (sym long) ∙ sym (word-of l (answer-bit r (bitsOf (r .inputs) w) (bits-of-bit (r .inputs) w)))

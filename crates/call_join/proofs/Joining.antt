@@ -1,283 +1,205 @@
 -- The join from its steps: the parts' verdicts, then 22, 23 and 24, and what the call leaves in the buffers.
 -- Assumes nothing.
-use Prim.Native.Nat.{ℕ, _+_, _*_, _≤_, _<_}
+use Prim.Native.Nat.{ℕ, _+_, _*_, _^_, _≤_, _<_}
 use native.Mathlib.Omega.{arith}
 use mathlib.Core.Path.{_≡_, refl, sym, ap, ap₂, _∙_, subst}
 use mathlib.Core.Bool.{Bool, true, false, not, cond, _||_}
-use mathlib.Core.Logic.{_⊎_, inl, inr, ⊎-elim}
-use mathlib.Core.List.{List, [], _∷_}
-use lib.ListN.{length, drop}
+use mathlib.Core.Logic.{_⊎_, ⊎-elim}
+use mathlib.Core.List.{List, [], _∷_, map, map-map, map-id}
+use lib.ListN.{length, getD, drop, length-map}
 use lib.Dec.{eqb, ltb}
 use borrow.Author.Tests.{eq-eqb, ne-eqb, lt-ltb, le-ltb}
-use Rattle.netlist.specs.declared.File.the-variants as file
+use Rattle.netlist.specs.declared.File.the-variants.{Stage, Reference}
 use Rattle.netlist.specs.declared.Counts.{Counts}
-use Rattle.netlist.specs.declared.Outcome.the-variants as outcome
 use Rattle.netlist.specs.declared.Limits.{Limits}
+use Rattle.netlist.specs.declared.Found.{Found}
 use Rattle.netlist.specs.Reading.{Reading, refused, readable, readFile, partStageLimits, partReferenceLimits}
-use Rattle.netlist.specs.Read.{outcomeOf}
-use Rattle.netlist.specs.Content.{Stage, Reference}
+use Rattle.netlist.specs.Content as parsed
+use Rattle.netlist.specs.Writing.{pairOperands, writeStage, writeReference}
 use Rattle.verdict.specs.declared.Verdict.{Verdict}
 use Rattle.verdict.specs.declared.WordOrder.{WordOrder}
 use Rattle.verdict.specs.declared.Finding.{Finding}
 use Rattle.verdict.specs.declared.Finding.the-variants.{Fault, Passed}
 use Rattle.verdict.specs.Graph.{tabulate}
-use Rattle.verdict.specs.Checks.{verdict, Check, check, unsaid, unequal, first, atFault, sweep, finding, orLater, firstFault, checks, riseSweeps, fallSweeps}
-use Rattle.verdict.specs.Verdicts.{accepted, verdictWithin}
-use Rattle.verdict.specs.Demands as demands
-use Rattle.verdict.specs.Demands.{Because, both-read, Named, EachOf, Contents, Comparable}
-use Rattle.verdict.proofs.Demands.{demand-2, demand-3, accepted-contents}
+use Rattle.verdict.specs.Words.{words, names, spelled, isIn}
+use Rattle.verdict.specs.Checks.{sweep}
+use Rattle.verdict.specs.Written.{holding}
+use Rattle.check_spec.specs.Cases.{verdict, accepted, case, Check, first, judge, unequal}
+use Rattle.check_spec.specs.Lists.{numbers}
+use Rattle.check_spec.specs.Content as content
+use Rattle.check_spec.specs.Content.{Content, Files, contentAt, contentOf, partFiles}
+use Rattle.check_spec.specs.Words.{caresFor}
+use Rattle.check_spec.specs.Checks.{swept}
+use Rattle.check_spec.specs.Verdicts.{verdictOn}
+use Rattle.check_spec.specs.Loaded.{fromStage, fromReference, filesWithin, stageView, referenceView}
+use Rattle.check_spec.specs.Writing.{leaving}
+use Rattle.check_spec.proofs.Names.{of-bits-below}
+use Rattle.check_spec.proofs.Alike.{cares-alike}
+use Rattle.check_spec.proofs.Bridge.{faultOr, swept-is, sweep-number}
+use Rattle.check_spec.proofs.Back.{stage-content, reference-content}
+use Rattle.check_spec.proofs.Writing.{leaves-none, leaves-bytes}
+use Rattle.check_spec.proofs.Sound.{Sound, accepted-sound}
 use Rattle.circuit.specs.Stage.{stageGates, stageOutputs, stageCare, stageIn, StageLoaded}
 use Rattle.circuit.specs.Reference.{operatorsIn, signalsIn, referenceIn, ReferenceLoaded}
-use Rattle.circuit_load.specs.Load.{HoldsStage, HoldsReference}
-use Rattle.circuit_load.proofs.Reading.{was-refused, stage-held, reference-held}
-use Rattle.join_spec.specs.Join as joined
-use Rattle.join_spec.specs.Join.{Part, Files, partIn, stageRead, referenceRead, refusalOf, ofSecond, threeAdded}
-use Rattle.join_spec.specs.Join.{stageBytes, referenceBytes, joinChecks, joinUnless, joinFault, joinWithin, joinRefused, joinWritten}
+use Rattle.check_files.specs.Judgement.{PairLoaded}
+use Rattle.join_spec.specs.declared.JoinAnswer.{JoinAnswer}
+use Rattle.join_spec.specs.Joining as joins
+use Rattle.join_spec.specs.Joining.{whole, seamChecks, joinChecks, JoinDemand}
+use Rattle.join_spec.proofs.Call.{passed-accepts, passed-refuses, join-demand}
 use Rattle.write_command.specs.Put.{Put}
 use Rattle.write_command.proofs.Joining.{put-holding}
-use Rattle.join_spec.specs.declared.JoinAnswer.{JoinAnswer}
-use Rattle.join_spec.specs.Join.{uncaredCheck}
-use Rattle.call_join.specs.Steps.{joinParts, partOf, partLoaded}
-use Rattle.join_spec.specs.Call.{Leaves}
+use Rattle.write_joined.specs.Whole as code
 use Rattle.write_joined.proofs.Whole.{outputs-count, signals-count}
+use Rattle.call_join.specs.declared.FileCounts.{FileCounts}
+use Rattle.call_join.specs.Steps.{answerWord, uncaredUnder, PartsLoaded, PartsHeld, answerWith, Leaves}
+use Rattle.call_join.proofs.Answers.{answer-word}
+use Rattle.call_join.proofs.Wholes.{stage-bytes, reference-bytes}
 
 -- ---- what is left in the buffers
 
-pub leaves-written : {a : joined.JoinResult} (p q : Part) (r : JoinAnswer) {stage reference after after′ : List ℕ} → a ≡ joinWritten p q → r .verdict ≡ accepted →
-    r .«stage_count» ≡ length (stageBytes p q) → r .«reference_count» ≡ length (referenceBytes p q) →
-    Put stage 0 (stageBytes p q) after → length (stageBytes p q) ≤ length stage → Put reference 0 (referenceBytes p q) after′ → length (referenceBytes p q) ≤ length reference →
-    Leaves a r stage reference after after′
-leaves-written p q r e v m n s l t k = rw e (record { verdict = v; stage-count = m; reference-count = n; stage-bytes = put-holding s l; reference-bytes = put-holding t k })
+-- a refusal writes nothing
+pub leaves-refused : {v : Verdict} (w : Verdict) (f : Files) {r : JoinAnswer} (stage reference : List ℕ) → v ≡ w → ¬ (w .number ≡ 0) → r ≡ answerWith w 0 0 → Leaves v f r stage reference stage reference
+leaves-refused w f stage reference e n is = rw (e, is) (record {
+  stage-left = sym (leaves-none w n (f .stage) stage);
+  reference-left = sym (leaves-none w n (f .reference) reference);
+})
 
--- ---- 22, 23 and 24
+or-true : (b : Bool) → (b || true) ≡ true
+or-true true = refl
+or-true false = refl
 
-module _ (order : WordOrder) (p q : Part) (stageRoom referenceRoom : ℕ) where
-  abbrev seam : Check
-  seam = unequal 22 (length (p .circuit .outputs)) (q .circuit .inputs)
+-- ---- two parts
 
-  abbrev uncared : Check
-  uncared = uncaredCheck order (p .circuit) (p .function) (q .circuit)
+module _ (order : WordOrder) (counts : FileCounts) (code1 reference1 code2 reference2 : List ℕ) (loaded : PartsLoaded counts code1 reference1 code2 reference2)
+    (one two : Files) (held : PartsHeld counts code1 reference1 code2 reference2 one two) where
+  abbrev S1 : parsed.Stage
+  S1 = stageIn (counts .stage1) code1
 
-  abbrev isShort : Bool
-  isShort = ltb stageRoom (length (stageBytes p q)) || ltb referenceRoom (length (referenceBytes p q))
+  abbrev R1 : parsed.Reference
+  R1 = referenceIn (counts .reference1) reference1
 
-  abbrev short : Check
-  short =
-      check 24 3 (0 ∷ []) (0 ∷ []) (λ w i. isShort)
-      (λ w i. (stageRoom < length (stageBytes p q)) ⊎ (referenceRoom < length (referenceBytes p q))) unsaid
+  abbrev S2 : parsed.Stage
+  S2 = stageIn (counts .stage2) code2
 
-  found-is : firstFault (joinChecks order p q stageRoom referenceRoom) ≡ orLater (finding seam) (orLater (finding uncared) (orLater (finding short) Passed))
-  unfolding joinChecks firstFault
-  found-is = refl
+  abbrev R2 : parsed.Reference
+  R2 = referenceIn (counts .reference2) reference2
 
-  seam-found : (b : Bool) → eqb (length (p .circuit .outputs)) (q .circuit .inputs) ≡ b →
-      finding seam ≡ cond b Passed (Fault (verdict 22 0 (length (p .circuit .outputs)) (q .circuit .inputs)))
-  unfolding finding sweep first atFault
-  seam-found true e = rw e
-  seam-found false e = rw e
+  pub stage-is : whole one two .stage ≡ writeStage (code.joinedStage S1 S2)
+  stage-is = rw (held .stage1-is, held .stage2-is) (stage-bytes S1 S2)
 
-  short-found : (b : Bool) → isShort ≡ b → finding short ≡ cond b (Fault (verdict 24 3 0 0)) Passed
-  unfolding finding sweep first atFault
-  short-found true e = rw e
-  short-found false e = rw e
+  pub reference-is : whole one two .reference ≡ writeReference (code.joinedReference R1 R2)
+  reference-is = rw (held .reference1-is, held .reference2-is) (reference-bytes R1 R2)
 
-  abbrev answer : joined.JoinResult
-  answer = joinParts order p q stageRoom referenceRoom
+  outputs-are : length (content.stageIn one .outputs) ≡ counts .stage1 .outputs
+  outputs-are = ap (λ (c : Content). length (c .outputs)) (held .stage1-is) ∙ length-map (S1 .outputs) pairOperands ∙ outputs-count (counts .stage1) code1
 
-  pub at-seam : (length (p .circuit .outputs) ≡ q .circuit .inputs → ⊥) → answer ≡ joinRefused (verdict 22 0 (length (p .circuit .outputs)) (q .circuit .inputs))
-  unfolding joinUnless orLater
-  at-seam n =
-      let e : firstFault (joinChecks order p q stageRoom referenceRoom) ≡ Fault (verdict 22 0 (length (p .circuit .outputs)) (q .circuit .inputs)) = found-is ∙ rw (seam-found false (ne-eqb _ _ n)) in
-      ap (λ (f : Finding). joinUnless f p q) e
+  inputs-are : content.stageIn two .inputs ≡ counts .stage2 .inputs
+  inputs-are = ap (λ (c : Content). c .inputs) (held .stage2-is)
 
-  module _ (same : length (p .circuit .outputs) ≡ q .circuit .inputs) where
-    pub at-word : (v : Verdict) → Fault v ≡ finding uncared → answer ≡ joinRefused v
-    unfolding joinUnless orLater
-    at-word v e =
-        let f : firstFault (joinChecks order p q stageRoom referenceRoom) ≡ Fault v = found-is ∙ rw (seam-found true (eq-eqb _ _ same), ← e) in
-        ap (λ (f : Finding). joinUnless f p q) f
+  -- the code's answer and the code's words are those of the contents
+  cared : counts .stage1 .outputs ≡ counts .stage2 .inputs → (w : ℕ) → caresFor (content.stageIn two) (joins.answerWord (content.referenceIn one) w) ≡ isIn (answerWord R1 w) (words S2)
+  unfolding words
+  cared e w =
+      let same : joins.answerWord (content.referenceIn one) w ≡ answerWord R1 w = ap (λ (c : Content). joins.answerWord c w) (held .reference1-is) ∙ answer-word R1 w in
+      let long : length (content.referenceIn one .outputs) ≡ content.stageIn two .inputs =
+      ap (λ (c : Content). length (c .outputs)) (held .reference1-is) ∙ length-map (R1 .outputs) (λ (v : ℕ). v ∷ []) ∙ omega (arith, signals-count (counts .reference1) reference1, loaded .outputs, e) ∙ sym inputs-are in
+      let below : joins.answerWord (content.referenceIn one) w < 2 ^ content.stageIn two .inputs =
+      subst (λ (k : ℕ). joins.answerWord (content.referenceIn one) w < 2 ^ k) long (of-bits-below (length (content.referenceIn one .outputs)) _) in
+      cares-alike (content.stageIn two) (joins.answerWord (content.referenceIn one) w) below
+      ∙ ap₂ (λ (x : ℕ) (c : Content). isIn x (words (stageView c))) same (held .stage2-is)
 
-    module _ (passed : Passed ≡ finding uncared) where
-      pub at-stage-room : stageRoom < length (stageBytes p q) → answer ≡ joinRefused (verdict 24 3 0 0)
-      unfolding joinUnless orLater
-      at-stage-room l =
-          let f : firstFault (joinChecks order p q stageRoom referenceRoom) ≡ Fault (verdict 24 3 0 0) = found-is ∙ rw (seam-found true (eq-eqb _ _ same), ← passed, short-found true (rw (lt-ltb _ _ l))) in
-          ap (λ (f : Finding). joinUnless f p q) f
+  module _ (stageRoom referenceRoom : ℕ) where
+    abbrev m : ℕ
+    m = length (writeStage (code.joinedStage S1 S2))
 
-      pub at-reference-room : length (stageBytes p q) ≤ stageRoom → referenceRoom < length (referenceBytes p q) → answer ≡ joinRefused (verdict 24 3 0 0)
-      unfolding joinUnless orLater
-      at-reference-room h l =
-          let f : firstFault (joinChecks order p q stageRoom referenceRoom) ≡ Fault (verdict 24 3 0 0) = found-is ∙ rw (
-            seam-found true (eq-eqb _ _ same),
-            ← passed,
-            short-found true (rw
-                (le-ltb _ _ h, lt-ltb _ _ l)),
-          ) in
-          ap (λ (f : Finding). joinUnless f p q) f
+    abbrev n : ℕ
+    n = length (writeReference (code.joinedReference R1 R2))
 
-      pub at-none : length (stageBytes p q) ≤ stageRoom → length (referenceBytes p q) ≤ referenceRoom → answer ≡ joinWritten p q
-      unfolding joinUnless orLater
-      at-none h k =
-          let f : firstFault (joinChecks order p q stageRoom referenceRoom) ≡ Passed = found-is ∙ rw (seam-found true (eq-eqb _ _ same), ← passed, short-found false (rw (le-ltb _ _ h, le-ltb _ _ k))) in
-          ap (λ (f : Finding). joinUnless f p q) f
+    abbrev isShort : Bool
+    isShort = ltb stageRoom m || ltb referenceRoom n
 
--- ---- a part that was loaded
+    pub seam-22 : ¬ (counts .stage1 .outputs ≡ counts .stage2 .inputs) → judge (seamChecks order one two stageRoom referenceRoom) ≡ verdict 22 0 (counts .stage1 .outputs) (counts .stage2 .inputs)
+    unfolding seamChecks judge first
+    seam-22 d = rw (outputs-are, inputs-are, ne-eqb (counts .stage1 .outputs) (counts .stage2 .inputs) d)
 
-nothing-stage : (code : List ℕ) (c : Counts) → c ≡ record { inputs = 0; gates = 0; outputs = 0; care = 0; floor = 0 } → StageLoaded c code × (stageIn c code ≡ joined.noStage)
-unfolding stageGates stageOutputs stageCare tabulate
-nothing-stage code c e = rw e (
-  record {
-    within = record { inputs-in = omega arith; gates-in = omega arith; outputs-in = omega arith };
-    room = omega arith;
-    gate = λ k h. absurd (omega arith);
-    rail0-net = λ j h. absurd (omega arith);
-    rail1-net = λ j h. absurd (omega arith);
-  },
-  refl,
+    pub seam-is : counts .stage1 .outputs ≡ counts .stage2 .inputs → (x : Finding) → x ≡ sweep 23 0 (uncaredUnder order (counts .stage1 .inputs) R1 S2) (names order S1)
+        → judge (seamChecks order one two stageRoom referenceRoom) ≡ faultOr x (cond isShort (verdict 24 3 0 0) accepted)
+    unfolding seamChecks judge first names words numbers
+    seam-is e x is =
+        let rest : Verdict = cond (ltb stageRoom (length (whole one two .stage)) || ltb referenceRoom (length (whole one two .reference))) (verdict 24 3 0 0) accepted in
+        let under : Content → Finding = λ c. sweep 23 0 (uncaredUnder order (c .inputs) R1 S2) (names order (stageView c)) in
+        let fails : ℕ → ℕ → Bool = λ w i. not (caresFor (content.stageIn two) (joins.answerWord (content.referenceIn one) w)) in
+        ap (λ (b : Bool). cond (not b) (verdict 22 0 (length (content.stageIn one .outputs)) (content.stageIn two .inputs)) (first (swept order (content.stageIn one) 23 0 1 fails) rest))
+        (eq-eqb (length (content.stageIn one .outputs)) (content.stageIn two .inputs) (outputs-are ∙ e ∙ sym inputs-are))
+        ∙ swept-is order (content.stageIn one) 23 0 1 1 fails (λ w i. not (isIn (answerWord R1 w) (words S2))) refl (λ w i l. ap not (cared e w)) rest
+        ∙ ap₂ faultOr (ap under (held .stage1-is) ∙ sym is) (ap₂ (λ (a b : List ℕ). cond (ltb stageRoom (length a) || ltb referenceRoom (length b)) (verdict 24 3 0 0) accepted) stage-is reference-is)
+
+    -- a fault of 23 has its number
+    pub leaves-uncared : counts .stage1 .outputs ≡ counts .stage2 .inputs → (v : Verdict) → Fault v ≡ sweep 23 0 (uncaredUnder order (counts .stage1 .inputs) R1 S2) (names order S1)
+        → {r : JoinAnswer} (stage reference : List ℕ) → r ≡ answerWith v 0 0 → Leaves (judge (seamChecks order one two stageRoom referenceRoom)) (whole one two) r stage reference stage reference
+    leaves-uncared e v is stage reference a = leaves-refused v (whole one two) stage reference (seam-is e (Fault v) is) (λ z. omega (arith, sweep-number 23 0 _ (names order S1) v (sym is), z)) a
+
+    module _ (e : counts .stage1 .outputs ≡ counts .stage2 .inputs) (passed : Passed ≡ sweep 23 0 (uncaredUnder order (counts .stage1 .inputs) R1 S2) (names order S1)) where
+      pub leaves-short : (stageRoom < m) ⊎ (referenceRoom < n) → {r : JoinAnswer} (stage reference : List ℕ) → r ≡ answerWith (verdict 24 3 0 0) 0 0
+          → Leaves (judge (seamChecks order one two stageRoom referenceRoom)) (whole one two) r stage reference stage reference
+      leaves-short l stage reference a =
+          let short : isShort ≡ true = ⊎-elim (λ h. rw (lt-ltb stageRoom m h)) (λ h. rw (lt-ltb referenceRoom n h) (or-true (ltb stageRoom m))) l in
+          leaves-refused (verdict 24 3 0 0) (whole one two) stage reference (seam-is e Passed passed ∙ rw short) (λ z. omega arith) a
+
+      pub leaves-written : m ≤ stageRoom → n ≤ referenceRoom
+          → (r : JoinAnswer) {stage reference after after′ : List ℕ} → r .verdict ≡ accepted
+          → r .«stage_count» ≡ m → r .«reference_count» ≡ n
+          → Put stage 0 (writeStage (code.joinedStage S1 S2)) after → m ≤ length stage
+          → Put reference 0 (writeReference (code.joinedReference R1 R2)) after′ → n ≤ length reference
+          → Leaves (judge (seamChecks order one two stageRoom referenceRoom)) (whole one two) r stage reference after after′
+      leaves-written l l′ r {stage} {reference} v em en s fits t fits′ = rw (seam-is e Passed passed, le-ltb stageRoom m l, le-ltb referenceRoom n l′, stage-is, reference-is) (record {
+        stage-left = (λ i. record { verdict = v i; count = em i; buffer = put-holding s fits i }) ∙ sym (leaves-bytes accepted refl _ stage);
+        reference-left = (λ i. record { verdict = v i; count = en i; buffer = put-holding t fits′ i }) ∙ sym (leaves-bytes accepted refl _ reference);
+      })
+
+-- ---- a part that the check left
+
+pub part-held : {m n : Limits} {s t : List ℕ} {c : Counts} {code : List ℕ} {d : Counts} {reference : List ℕ} → m ≡ partStageLimits → n ≡ partReferenceLimits
+    → PairLoaded m n s t c code d reference
+    → (contentOf Stage partStageLimits s ≡ fromStage (stageIn c code)) × (contentOf Reference partReferenceLimits t ≡ fromReference (referenceIn d reference))
+part-held {m} {n} {s} {t} em en p = (
+  ap (λ (l : Limits). contentOf Stage l s) (sym em) ∙ stage-content m s (p .stage-from .places) (p .stage-from .reads) ∙ ap fromStage (sym (p .stage-from .content)),
+  ap (λ (l : Limits). contentOf Reference l t) (sym en) ∙ reference-content n t (p .reference-from .places) (p .reference-from .reads) ∙ ap fromReference (sym (p .reference-from .content)),
 )
-
-nothing-reference : (code : List ℕ) (c : Counts) → c ≡ record { inputs = 0; gates = 0; outputs = 0; care = 0; floor = 0 } → ReferenceLoaded c code × (referenceIn c code ≡ joined.noReference)
-unfolding operatorsIn signalsIn tabulate
-nothing-reference code c e = rw e (
-  record {
-    within = record { inputs-in = omega arith; gates-in = omega arith; outputs-in = omega arith };
-    room = omega arith;
-    low = λ k h. absurd (omega arith);
-    high = λ k h. absurd (omega arith);
-    operand = λ k i h l. absurd (omega arith);
-    signal = λ j h. absurd (omega arith);
-  },
-  refl,
-)
-
-module _ (most : Limits) (s code : List ℕ) where
-  -- read within limits that are those of a part
-  pub stage-read : (c : Counts) → outcome.Readable c ≡ outcomeOf (readFile file.Stage most s) → HoldsStage s (readFile file.Stage most s) code → most ≡ partStageLimits →
-      StageLoaded c code × (stageIn c code ≡ stageRead s (readFile file.Stage partStageLimits s))
-  unfolding stageRead
-  stage-read c e h m = let r = stage-held s (readFile file.Stage most s) c code e h in (r .3, r .2 ∙ sym (ap (stageRead s) (r .1)) ∙ ap (λ (l : Limits). stageRead s (readFile file.Stage l s)) m)
-
-  pub stage-unread : (number at : ℕ) → outcome.Refused number at ≡ outcomeOf (readFile file.Stage most s) → most ≡ partStageLimits → (c : Counts) →
-      c ≡ record { inputs = 0; gates = 0; outputs = 0; care = 0; floor = 0 } → StageLoaded c code × (stageIn c code ≡ stageRead s (readFile file.Stage partStageLimits s))
-  unfolding stageRead
-  stage-unread number at e m c n =
-      let r = nothing-stage code c n in
-      (r .0, r .1 ∙ sym (ap (stageRead s) (was-refused (readFile file.Stage most s) number at e)) ∙ ap (λ (l : Limits). stageRead s (readFile file.Stage l s)) m)
-
-  pub reference-read : (c : Counts) → outcome.Readable c ≡ outcomeOf (readFile file.Reference most s) → HoldsReference s (readFile file.Reference most s) code → most ≡ partReferenceLimits →
-      ReferenceLoaded c code × (referenceIn c code ≡ referenceRead s (readFile file.Reference partReferenceLimits s))
-  unfolding referenceRead
-  reference-read c e h m =
-      let r = reference-held s (readFile file.Reference most s) c code e h in
-      (r .3, r .2 ∙ sym (ap (referenceRead s) (r .1)) ∙ ap (λ (l : Limits). referenceRead s (readFile file.Reference l s)) m)
-
-  pub reference-unread : (number at : ℕ) → outcome.Refused number at ≡ outcomeOf (readFile file.Reference most s) → most ≡ partReferenceLimits → (c : Counts) →
-      c ≡ record { inputs = 0; gates = 0; outputs = 0; care = 0; floor = 0 } → ReferenceLoaded c code × (referenceIn c code ≡ referenceRead s (readFile file.Reference partReferenceLimits s))
-  unfolding referenceRead
-  reference-unread number at e m c n =
-      let r = nothing-reference code c n in
-      (r .0, r .1 ∙ sym (ap (referenceRead s) (was-refused (readFile file.Reference most s) number at e)) ∙ ap (λ (l : Limits). referenceRead s (readFile file.Reference l s)) m)
-
--- an accepted part in its flat forms: it is the part, and its reference has the counts of its stage
-module _ (s t : List ℕ) (c : Counts) (code : List ℕ) (d : Counts) (reference : List ℕ)
-    (es : stageIn c code ≡ stageRead s (readFile file.Stage partStageLimits s)) (et : referenceIn d reference ≡ referenceRead t (readFile file.Reference partReferenceLimits t)) where
-  pub part-same : partLoaded c code d reference ≡ partOf s t
-  unfolding partIn
-  part-same = ap₂ (λ (x : Stage) (y : Reference). record { circuit = x; function = y }) es et
-
-  module _ (order : WordOrder) (accepts : verdictWithin order partStageLimits partReferenceLimits s t ≡ accepted) where
-    comparable : Comparable (stageIn c code) (referenceIn d reference)
-    unfolding stageRead referenceRead
-    comparable =
-        let r = accepted-contents order partStageLimits partReferenceLimits s t (ap (λ (v : Verdict). v .number) accepts) in
-        let is = r .0 .circuit-is in
-        let ir = r .0 .function-is in
-        let a : r .0 .circuit ≡ stageIn c code = sym (es ∙ ap (stageRead s) (is .reads) ∙ is .content) in
-        let b : r .0 .function ≡ referenceIn d reference = sym (et ∙ ap (referenceRead t) (ir .reads) ∙ ir .content) in
-        subst (λ (x : Stage). Comparable x (referenceIn d reference)) a (subst (λ (y : Reference). Comparable (r .0 .circuit) y) b (r .1))
-
-    pub same-inputs : d .inputs ≡ c .inputs
-    same-inputs = sym (comparable .inputs)
-
-    pub same-outputs : d .outputs ≡ c .outputs
-    same-outputs = omega (arith, comparable .outputs, outputs-count c code, signals-count d reference)
-
--- ---- the parts' verdicts
-
-module _ (order : WordOrder) (f g : Files) (stageRoom referenceRoom : ℕ) where
-  abbrev judge : Files → Verdict
-  judge h = verdictWithin order partStageLimits partReferenceLimits (h .stage) (h .reference)
-
-  abbrev whole : joined.JoinResult
-  whole = joinWithin order partStageLimits partReferenceLimits f g stageRoom referenceRoom
-
-  pub first-refuses : (v : Verdict) → v ≡ judge f → (v .number ≡ 0 → ⊥) → whole ≡ joinRefused v
-  unfolding joinWithin joinFault refusalOf orLater joinUnless
-  first-refuses v e n = rw (← e, ne-eqb (v .number) 0 n)
-
-  module _ (w : Verdict) (ew : w ≡ judge f) (accepts : w .number ≡ 0) where
-    pub second-refuses : (v : Verdict) → v ≡ judge g → (v .number ≡ 0 → ⊥) → whole ≡ joinRefused (threeAdded v)
-    unfolding joinWithin joinFault refusalOf ofSecond orLater joinUnless
-    second-refuses v e n = rw (← ew, eq-eqb (w .number) 0 accepts, ← e, ne-eqb (v .number) 0 n)
-
-    pub both-accepted : (v : Verdict) → v ≡ judge g → v .number ≡ 0 →
-        whole ≡ joinParts order (partIn partStageLimits partReferenceLimits f) (partIn partStageLimits partReferenceLimits g) stageRoom referenceRoom
-    unfolding joinWithin joinFault refusalOf ofSecond orLater
-    both-accepted v e z = rw (← ew, eq-eqb (w .number) 0 accepts, ← e, eq-eqb (v .number) 0 z)
-
--- a verdict of the check with the number 0 accepts, and its file is below 3
-module _ (order : WordOrder) (s t : List ℕ) where
-  pub accepts-zero : (v : Verdict) → v ≡ verdictWithin order partStageLimits partReferenceLimits s t → v .number ≡ 0 → verdictWithin order partStageLimits partReferenceLimits s t ≡ accepted
-  accepts-zero v e z = demand-3 order partStageLimits partReferenceLimits s t .kept (ap (λ (u : Verdict). u .number) (sym e) ∙ z) .0
-
-  named-file : (cs : List Check) (v : Verdict) → EachOf (λ c. c .file ≤ 2) cs → Named cs v → v .file ≤ 2
-  named-file [] v a n = absurd n
-  named-file (c ∷ cs) v a (inl n) = omega (arith, a .0, ap (λ (u : Verdict). u .file) (n .is))
-  named-file (c ∷ cs) v a (inr n) = named-file cs v (a .1) (n .1)
-
-  because-file : {v : Verdict} → Because order partStageLimits partReferenceLimits s t v → v .file ≤ 2
-  unfolding checks riseSweeps fallSweeps
-  because-file (demands.Because.stage-refused e) = omega arith
-  because-file (demands.Because.reference-refused is e) = omega arith
-  because-file (both-read {v = v} c (inl n)) = named-file (checks order (c .circuit) (c .function)) v (
-    omega arith,
-    (
-      omega arith,
-      (
-        omega arith,
-        (
-          omega arith,
-          (
-            omega arith,
-            (
-              omega arith,
-              (omega arith, (omega arith, (omega arith, tt))),
-            ),
-          ),
-        ),
-      ),
-    ),
-  ) n
-  because-file (both-read {v = v} c (inr a)) = omega (arith, ap (λ (u : Verdict). u .file) (a .1))
-
-  pub file-few : (v : Verdict) → v ≡ verdictWithin order partStageLimits partReferenceLimits s t → v .file ≤ 2
-  file-few v e = omega (arith, ap (λ (u : Verdict). u .file) e, because-file (demand-2 order partStageLimits partReferenceLimits s t .least))
-
--- ---- the same said of equal things
-
--- a verdict within the limits that a call answered is one within the limits that it named
-pub judged-by : (order : WordOrder) (m n : Limits) (s t : List ℕ) (v : Verdict) → v ≡ verdictWithin order m n s t → m ≡ partStageLimits → n ≡ partReferenceLimits →
-    v ≡ verdictWithin order partStageLimits partReferenceLimits s t
-judged-by order m n s t v e em en = e ∙ ap₂ (λ (x y : Limits). verdictWithin order x y s t) em en
-
--- an answer that is another
-pub leaves-all : {a b : joined.JoinResult} {r : JoinAnswer} {stage reference after after′ : List ℕ} → a ≡ b → Leaves b r stage reference after after′ → Leaves a r stage reference after after′
-leaves-all {r = r} {stage} {reference} {after} {after′} e l = subst (λ (x : joined.JoinResult). Leaves x r stage reference after after′) (sym e) l
-
-pub leaves-same : (order : WordOrder) (p p′ q q′ : Part) (stageRoom referenceRoom : ℕ) {r : JoinAnswer} {stage reference after after′ : List ℕ} → p ≡ p′ → q ≡ q′ →
-    Leaves (joinParts order p q stageRoom referenceRoom) r stage reference after after′ → Leaves (joinParts order p′ q′ stageRoom referenceRoom) r stage reference after after′
-leaves-same order p p′ q q′ stageRoom referenceRoom e f l = leaves-all (ap₂ (λ (x y : Part). joinParts order x y stageRoom referenceRoom) (sym e) (sym f)) l
 
 -- a flat form of few numbers has few care words
 pub few-care : {c : Counts} {code : List ℕ} {n : ℕ} → StageLoaded c code → length code ≡ n → n ≤ 0x10000 → c .care ≤ 0x10000
 few-care l e h = omega (arith, l .room)
+
+-- ---- the parts' verdicts
+
+-- a verdict within limits that are those of a part
+pub judged-by : (order : WordOrder) (m n : Limits) (s t : List ℕ) (v : Verdict) → v ≡ verdictOn order (filesWithin m n s t) → m ≡ partStageLimits → n ≡ partReferenceLimits → v ≡ verdictOn order (partFiles s t)
+judged-by order m n s t v e em en = e ∙ ap₂ (λ (x y : Limits). verdictOn order (filesWithin x y s t)) em en
+
+pub accepts-zero : {v w : Verdict} → v ≡ w → v .number ≡ 0 → w .number ≡ 0
+accepts-zero e z = ap (λ (x : Verdict). x .number) (sym e) ∙ z
+
+module _ (order : WordOrder) (one two : Files) (stage reference : List ℕ) where
+  abbrev checks : Verdict
+  checks = judge (joinChecks order one two (length stage) (length reference))
+
+  pub first-refused : (v : Verdict) → v ≡ verdictOn order one → ¬ (v .number ≡ 0) → {r : JoinAnswer} → r ≡ answerWith v 0 0 → Leaves checks (whole one two) r stage reference stage reference
+  first-refused v e n a =
+      let z : v .file + 0 ≡ v .file = omega arith in
+      leaves-refused v (whole one two) stage reference
+      (rw (← e) (passed-refuses v 0 _ n) ∙ ap (λ (k : ℕ). verdict (v .number) k (v .at) (v .word)) z) n a
+
+  module _ (accepts : verdictOn order one .number ≡ 0) where
+    pub second-refused : (v : Verdict) → v ≡ verdictOn order two → ¬ (v .number ≡ 0) → {r : JoinAnswer} → r ≡ answerWith (verdict (v .number) (v .file + 3) (v .at) (v .word)) 0 0
+        → Leaves checks (whole one two) r stage reference stage reference
+    second-refused v e n a = leaves-refused _ (whole one two) stage reference (passed-accepts (verdictOn order one) 0 _ accepts ∙ rw (← e) (passed-refuses v 3 _ n)) n a
+
+    pub both-accepted : verdictOn order two .number ≡ 0 → {r : JoinAnswer} {after after′ : List ℕ} → Leaves (judge (seamChecks order one two (length stage) (length reference))) (whole one two) r stage reference after after′
+        → Leaves checks (whole one two) r stage reference after after′
+    both-accepted accepts′ {r} {after} {after′} l = subst (λ (v : Verdict). Leaves v (whole one two) r stage reference after after′) (sym (passed-accepts (verdictOn order one) 0 _ accepts ∙ passed-accepts (verdictOn order two) 3 _ accepts′)) l
+
+pub demanded : (order : WordOrder) (s1 r1 s2 r2 : List ℕ) {r : JoinAnswer} {stage reference after after′ : List ℕ}
+    → Leaves (judge (joinChecks order (partFiles s1 r1) (partFiles s2 r2) (length stage) (length reference))) (whole (partFiles s1 r1) (partFiles s2 r2)) r stage reference after after′
+    → JoinDemand order (partFiles s1 r1) (partFiles s2 r2) stage reference r after after′
+demanded order s1 r1 s2 r2 {r} {stage} {reference} {after} {after′} l = join-demand order s1 r1 s2 r2 stage reference r after after′ (l .stage-left) (l .reference-left)

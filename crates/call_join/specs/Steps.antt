@@ -4,37 +4,32 @@ use mathlib.Core.Path.{_≡_}
 use mathlib.Core.Bool.{not}
 use mathlib.Core.List.{List, [], _∷_}
 use Rattle.netlist.specs.declared.Counts.{Counts}
-use Rattle.netlist.specs.Reading.{partStageLimits, partReferenceLimits}
-use Rattle.netlist.specs.Content.{Stage, Reference}
 use Rattle.netlist.specs.declared.Found.{Found}
+use Rattle.netlist.specs.Content.{Stage, Reference}
+use Rattle.verdict.specs.declared.Verdict.{Verdict}
 use Rattle.verdict.specs.declared.WordOrder.{WordOrder}
-use Rattle.verdict.specs.Words.{spelled}
-use Rattle.verdict.specs.Checks as checks
-use Rattle.verdict.specs.Checks.{firstFault}
-use Rattle.join_spec.specs.Join as joined
+use Rattle.verdict.specs.Words.{words, bitsOf, wordOf, spelled, isIn}
+use Rattle.verdict.specs.Answers.{answer}
+use Rattle.verdict.specs.Checks.{first}
+use Rattle.verdict.specs.Written.{written}
+use Rattle.check_spec.specs.Content as content
+use Rattle.check_spec.specs.Content.{Files}
+use Rattle.check_spec.specs.Loaded.{fromStage, fromReference}
+use Rattle.check_spec.specs.Writing.{leaving}
+use Rattle.join_spec.specs.declared.JoinAnswer.{JoinAnswer}
 use Rattle.circuit.specs.Stage.{stageIn, StageLoaded}
 use Rattle.circuit.specs.Reference.{referenceIn, ReferenceLoaded}
 use Rattle.call_join.specs.declared.FileCounts.{FileCounts}
 
--- the part that two files hold
-abbrev pub partOf : List ℕ → List ℕ → joined.Part
-partOf stage reference = joined.partIn partStageLimits partReferenceLimits (joined.files stage reference)
-
--- 22, 23 and 24, or the whole, of two parts that are accepted
-abbrev pub joinParts : WordOrder → joined.Part → joined.Part → ℕ → ℕ → joined.JoinResult
-joinParts order first second stageRoom referenceRoom = joined.joinUnless
-    (firstFault (joined.joinChecks order first second stageRoom referenceRoom)) first second
+-- the answer to word w as a word: output j is bit j
+abbrev pub answerWord : Reference → ℕ → ℕ
+answerWord r w = wordOf (answer r (bitsOf (r .inputs) w))
 
 -- what 23 finds under a name, by the number of the first part's inputs
 abbrev pub uncaredUnder : WordOrder → ℕ → Reference → Stage → ℕ → Found
-uncaredUnder order inputs function second name = checks.first
-    (λ i. not (joined.caresFor second (joined.answerWord function (spelled order inputs name)))) (0 ∷ [])
+uncaredUnder order inputs function second name = first (λ i. not (isIn (answerWord function (spelled order inputs name)) (words second))) (0 ∷ [])
 
--- a part in its flat forms
-abbrev pub partLoaded : Counts → List ℕ → Counts → List ℕ → joined.Part
-partLoaded c code d reference = record { circuit = stageIn c code; function = referenceIn d reference }
-
--- two of them, whose references have the counts of their stages
+-- two parts in their flat forms, whose references have the counts of their stages
 pub record PartsLoaded (counts : FileCounts) (code1 reference1 code2 reference2 : List ℕ) : Type 0 where
   pub stage1-loaded : StageLoaded (counts .stage1) code1
   pub reference1-loaded : ReferenceLoaded (counts .reference1) reference1
@@ -43,3 +38,18 @@ pub record PartsLoaded (counts : FileCounts) (code1 reference1 code2 reference2 
   pub few-words : counts .stage1 .care ≤ 0x10000
   pub outputs : counts .reference1 .outputs ≡ counts .stage1 .outputs
   pub inputs : counts .reference2 .inputs ≡ counts .stage2 .inputs
+
+-- they are what two pairs of files hold
+pub record PartsHeld (counts : FileCounts) (code1 reference1 code2 reference2 : List ℕ) (one two : Files) : Type 0 where
+  pub stage1-is : content.stageIn one ≡ fromStage (stageIn (counts .stage1) code1)
+  pub reference1-is : content.referenceIn one ≡ fromReference (referenceIn (counts .reference1) reference1)
+  pub stage2-is : content.stageIn two ≡ fromStage (stageIn (counts .stage2) code2)
+  pub reference2-is : content.referenceIn two ≡ fromReference (referenceIn (counts .reference2) reference2)
+
+abbrev pub answerWith : Verdict → ℕ → ℕ → JoinAnswer
+answerWith v stage reference = record { verdict = v; «stage_count» = stage; «reference_count» = reference }
+
+-- what the call leaves in the two buffers, by its verdict and the two files of the whole
+pub record Leaves (v : Verdict) (f : Files) (r : JoinAnswer) (stage reference stageLeft referenceLeft : List ℕ) : Type 0 where
+  pub stage-left : written (record { verdict = r .verdict; count = r .«stage_count» }) stageLeft ≡ leaving v (f .stage) stage
+  pub reference-left : written (record { verdict = r .verdict; count = r .«reference_count» }) referenceLeft ≡ leaving v (f .reference) reference

@@ -1,27 +1,27 @@
 // The join of two stages with their references: output j of the first is tied to input j of the second, and the whole is written into two
 // buffers that the caller lends.
+use check_files::Judgement;
 use join_spec::JoinAnswer;
 use netlist::Counts;
-use netlist::Outcome;
 use verdict::Finding;
 use verdict::Verdict;
 use verdict::WordOrder;
 ghost use mathlib.Core.Path.{_≡_};
 ghost use Prim.Native.Nat.{ℕ, _+_, _*_, _^_, _≤_, _<_};
 ghost use lib.ListN.{length, getD};
-ghost use Rattle.netlist.specs.declared.File.the-variants as file;
-ghost use Rattle.netlist.specs.Reading.{readFile, stageLimits, referenceLimits, partStageLimits, partReferenceLimits};
+ghost use Rattle.netlist.specs.declared.File.the-variants.{Stage, Reference};
+ghost use Rattle.netlist.specs.Reading.{stageLimits, referenceLimits, partStageLimits, partReferenceLimits};
 ghost use Rattle.verdict.specs.Answers.{valuesAt};
-ghost use Rattle.verdict.specs.Words.{wordOf};
-ghost use Rattle.verdict.specs.Checks.{sweep, finding};
-ghost use Rattle.verdict.specs.Verdicts.{accepted, verdictWithin};
-ghost use Rattle.join_spec.specs.Join.{stageRead, referenceRead, answerWord, uncaredCheck};
+ghost use Rattle.verdict.specs.Words.{wordOf, names};
+ghost use Rattle.verdict.specs.Checks.{sweep};
 ghost use Rattle.circuit.specs.Stage.{stageIn, StageLoaded};
 ghost use Rattle.circuit.specs.Reference.{signalsIn, referenceIn, ReferenceLoaded};
-ghost use Rattle.call_join.specs.Steps.{uncaredUnder, joinParts, partOf, partLoaded, PartsLoaded};
-ghost use Rattle.join_spec.specs.Call.{answerWith, Leaves};
-ghost use Rattle.check_spec.specs.Content.{partFiles};
-ghost use Rattle.join_spec.specs.Joining.{JoinDemand};
+ghost use Rattle.check_spec.specs.Cases.{judge};
+ghost use Rattle.check_spec.specs.Content.{Files, contentOf, partFiles};
+ghost use Rattle.check_spec.specs.Verdicts.{verdictOn};
+ghost use Rattle.check_spec.specs.Loaded.{fromStage, fromReference};
+ghost use Rattle.join_spec.specs.Joining.{whole, seamChecks, JoinDemand};
+ghost use Rattle.call_join.specs.Steps.{answerWord, uncaredUnder, PartsLoaded, PartsHeld, answerWith, Leaves};
 
 // ---- 23: words whose answer the second part does not care for
 
@@ -95,8 +95,8 @@ fn uncared(
     counts2: Counts,
 ) -> Finding
     requires { ⌜ StageLoaded counts1 (now code1) × ReferenceLoaded sizes1 (now reference1) × StageLoaded counts2 (now code2) ⌝ }
-    ensures { λ r. ⌜ r ≡ finding (uncaredCheck order (stageIn counts1 (now (code1 .entry))) (referenceIn sizes1 (now (reference1 .entry))) (stageIn counts2 (now
-        (code2 .entry)))) ⌝ }
+    ensures { λ r. ⌜ r ≡ sweep 23 0 (uncaredUnder order (counts1 .inputs) (referenceIn sizes1 (now (reference1 .entry))) (stageIn counts2 (now
+        (code2 .entry)))) (names order (stageIn counts1 (now (code1 .entry)))) ⌝ }
 {
     let mut list = [0u16; words::NAMES];
     let count = words::list_names(order, code1, counts1, &mut list);
@@ -132,42 +132,6 @@ fn refusal(verdict: Verdict) -> JoinAnswer
     }
 }
 
-// Reads and loads the stage of a part; what cannot be read counts for nothing.
-fn load_part(s: &[u8], code: &mut [u16]) -> Counts
-    requires { ⌜ 8 * stageLimits .gates + 2 * stageLimits .outputs + 2 ^ stageLimits .inputs ≤ length (now code) ⌝ }
-    ensures { λ r. ⌜ StageLoaded r (now (code .exit)) × (stageIn r (now (code .exit))
-        ≡ stageRead (now (s .entry)) (readFile file.Stage partStageLimits (now (s .entry)))) ⌝ }
-{
-    match circuit_load::read_stage_within(s, netlist::part_stage_limits(), code) {
-        Outcome::Readable(counts) => counts,
-        Outcome::Refused { number: _, at: _ } => Counts {
-            inputs: 0,
-            gates: 0,
-            outputs: 0,
-            care: 0,
-            floor: 0,
-        },
-    }
-}
-
-// The same of a part's reference.
-fn load_function(s: &[u8], code: &mut [u16]) -> Counts
-    requires { ⌜ 3 * referenceLimits .gates + referenceLimits .outputs ≤ length (now code) ⌝ }
-    ensures { λ r. ⌜ ReferenceLoaded r (now (code .exit)) × (referenceIn r (now (code .exit)) ≡ referenceRead (now (s .entry)) (readFile file.Reference
-        partReferenceLimits (now (s .entry)))) ⌝ }
-{
-    match circuit_load::read_reference_within(s, netlist::part_reference_limits(), code) {
-        Outcome::Readable(counts) => counts,
-        Outcome::Refused { number: _, at: _ } => Counts {
-            inputs: 0,
-            gates: 0,
-            outputs: 0,
-            care: 0,
-            floor: 0,
-        },
-    }
-}
-
 // 22, 23, 24, or the whole: two parts that were loaded, and buffers for their join. Both lengths are looked at before a byte is written.
 fn join_loaded(
     order: WordOrder,
@@ -180,10 +144,9 @@ fn join_loaded(
     reference_out: &mut [u8],
 ) -> JoinAnswer
     requires { ⌜ PartsLoaded counts (now code1) (now reference1) (now code2) (now reference2) ⌝ }
-    ensures { λ r. ⌜ Leaves (joinParts order (partLoaded (counts .stage1) (now (code1 .entry)) (counts .reference1) (now (reference1 .entry)))
-        (partLoaded (counts .stage2)
-        (now (code2 .entry)) (counts .reference2) (now (reference2 .entry))) (length (now («stage_out» .entry))) (length (now («reference_out» .entry)))) r
-        (now («stage_out» .entry)) (now («reference_out» .entry)) (now («stage_out» .exit)) (now («reference_out» .exit)) ⌝ }
+    ensures { λ r. ⌜ ((one two : Files) → PartsHeld counts (now (code1 .entry)) (now (reference1 .entry)) (now (code2 .entry)) (now (reference2 .entry)) one two
+        → Leaves (judge (seamChecks order one two (length (now («stage_out» .entry))) (length (now («reference_out» .entry))))) (whole one two) r
+        (now («stage_out» .entry)) (now («reference_out» .entry)) (now («stage_out» .exit)) (now («reference_out» .exit))) ⌝ }
 {
     let counts1 = counts.stage1;
     let sizes1 = counts.reference1;
@@ -232,45 +195,6 @@ fn join_loaded(
     }
 }
 
-// The join of two parts that are accepted.
-fn join_accepted(
-    order: WordOrder,
-    stage1: &[u8],
-    reference1: &[u8],
-    stage2: &[u8],
-    reference2: &[u8],
-    stage_out: &mut [u8],
-    reference_out: &mut [u8],
-) -> JoinAnswer
-    requires { ⌜ (verdictWithin order partStageLimits partReferenceLimits (now stage1) (now reference1) ≡ accepted)
-        × (verdictWithin order partStageLimits partReferenceLimits
-        (now stage2) (now reference2) ≡ accepted) ⌝ }
-    ensures { λ r. ⌜ Leaves (joinParts order (partOf (now (stage1 .entry)) (now (reference1 .entry))) (partOf (now (stage2 .entry)) (now (reference2 .entry)))
-        (length (now («stage_out» .entry))) (length (now («reference_out» .entry)))) r (now («stage_out» .entry)) (now («reference_out» .entry))
-        (now («stage_out» .exit)) (now («reference_out» .exit)) ⌝ }
-{
-    let mut code1 = [0u16; circuit_load::STAGE_CODE];
-    let mut loaded1 = [0u16; circuit_load::REFERENCE_CODE];
-    let mut code2 = [0u16; circuit_load::STAGE_CODE];
-    let mut loaded2 = [0u16; circuit_load::REFERENCE_CODE];
-    let counts = FileCounts {
-        stage1: load_part(stage1, &mut code1),
-        reference1: load_function(reference1, &mut loaded1),
-        stage2: load_part(stage2, &mut code2),
-        reference2: load_function(reference2, &mut loaded2),
-    };
-    join_loaded(
-        order,
-        &code1,
-        &loaded1,
-        &code2,
-        &loaded2,
-        counts,
-        stage_out,
-        reference_out,
-    )
-}
-
 // The join of two stages with their references into two buffers. A part's own refusal is passed on, first part first, the second's with 3
 // added to its file; 22, 23 and 24 follow. Words are named in an order.
 pub fn join(
@@ -287,26 +211,52 @@ pub fn join(
 {
     let most = netlist::part_stage_limits();
     let reference_most = netlist::part_reference_limits();
-    let verdict1 = check_files::check_within(order, stage1, reference1, most, reference_most);
-    if verdict1.number != 0 {
-        return refusal(verdict1);
-    }
-    let verdict2 = check_files::check_within(order, stage2, reference2, most, reference_most);
-    if verdict2.number != 0 {
-        return refusal(Verdict {
-            number: verdict2.number,
-            file: verdict2.file + 3,
-            at: verdict2.at,
-            word: verdict2.word,
-        });
-    }
-    join_accepted(
+    let mut code1 = [0u16; circuit_load::STAGE_CODE];
+    let mut loaded1 = [0u16; circuit_load::REFERENCE_CODE];
+    let mut code2 = [0u16; circuit_load::STAGE_CODE];
+    let mut loaded2 = [0u16; circuit_load::REFERENCE_CODE];
+    match check_files::check_loading(
         order,
         stage1,
         reference1,
-        stage2,
-        reference2,
-        stage_out,
-        reference_out,
-    )
+        most,
+        reference_most,
+        &mut code1,
+        &mut loaded1,
+    ) {
+        Judgement::Refused(v) => refusal(v),
+        Judgement::Accepted(counts1, sizes1) => {
+            match check_files::check_loading(
+                order,
+                stage2,
+                reference2,
+                most,
+                reference_most,
+                &mut code2,
+                &mut loaded2,
+            ) {
+                Judgement::Refused(v) => refusal(Verdict {
+                    number: v.number,
+                    file: v.file + 3,
+                    at: v.at,
+                    word: v.word,
+                }),
+                Judgement::Accepted(counts2, sizes2) => join_loaded(
+                    order,
+                    &code1,
+                    &loaded1,
+                    &code2,
+                    &loaded2,
+                    FileCounts {
+                        stage1: counts1,
+                        reference1: sizes1,
+                        stage2: counts2,
+                        reference2: sizes2,
+                    },
+                    stage_out,
+                    reference_out,
+                ),
+            }
+        }
+    }
 }

@@ -4,51 +4,55 @@ use Prim.Native.Nat.{ℕ, zero, suc, _+_, _*_, _≤_, _<_}
 use native.Mathlib.Omega.{arith}
 use native.Mathlib.Numerals.{add-one}
 use native.Mathlib.Decide.{ℕ-discrete}
-use mathlib.Core.Path.{_≡_, refl, sym, ap, ap₂, _∙_, subst}
-use mathlib.Core.List.{List, [], _∷_, _++_}
-use lib.ListN.{length, getD, set, drop, length-set, length-append}
+use mathlib.Core.Path.{_≡_, refl, sym, ap, ap₂, _∙_}
+use mathlib.Core.Bool.{cond}
+use mathlib.Core.List.{List, [], _∷_, _++_, map}
+use lib.ListN.{length, getD, set, drop, take, length-set, length-append}
 use lib.Seq.{getD-set-same, getD-set-other}
+use lib.Dec.{eqb}
+use borrow.Author.Tests.{ne-eqb}
 use Rattle.netlist.specs.declared.File.the-variants as file
 use Rattle.netlist.specs.declared.Counts.{Counts}
-use Rattle.netlist.specs.declared.Limits.{Limits}
-use Rattle.netlist.specs.Content.{Gate, Pair}
-use Rattle.netlist.specs.Formed.{OperationFormed, ReferenceFormed}
-use Rattle.netlist.specs.Writing.{codedGate}
-use Rattle.netlist.proofs.References.{in-order-at}
-use Rattle.verdict.specs.Nets.{noPair}
-use Rattle.make_spec.specs.Made.{pair, Realized, railsAt, Built, realize, addGate, addGates, built, inputRails, gatesNeeded}
+use Rattle.netlist.specs.Reading.{referenceLimits}
+use Rattle.netlist.specs.Content.{Coded}
+use Rattle.netlist.specs.Formed.{ReferenceFormed}
+use Rattle.netlist.specs.Writing.{gate}
+use Rattle.check_spec.specs.Lists.{numbers}
+use Rattle.make_spec.specs.Make.{Built, realize, railsAt, build, built}
 use Rattle.make_spec.specs.Count.{operations}
-use Rattle.make_spec.proofs.Building.{operations-cons, all-long}
+use Rattle.make_spec.proofs.Building.{operations-cons}
 use Rattle.make_spec.proofs.Making.{needed-counted}
 use Rattle.write_command.specs.Put.{Put}
-use Rattle.write_command.specs.Parts.{gateItem, bytesOf}
+use Rattle.write_command.specs.Parts.{bytesOf}
 use Rattle.write_command.proofs.Joining.{put-none, put-++}
 use Rattle.write_command.proofs.Files.{bytes-++, bytes-length, stage-gate-width}
-use Rattle.circuit.specs.Stage.{tabulate}
-use Rattle.circuit.specs.Reference.{operatorIn, operatorsIn, signalsIn, referenceIn}
-use Rattle.circuit.proofs.Tabulate.{length-tabulate, getD-tabulate, map-tabulate, from-at, none-from, one-more, all-same}
-use Rattle.write_made.specs.Rails.{pairStored, pairsIn, becomes}
-use Rattle.write_made.proofs.Operations.{signal-pair}
 use Rattle.write_command.proofs.Putting.{put-same}
+use Rattle.circuit.specs.Stage.{tabulate}
+use Rattle.circuit.specs.Reference.{operationIn, operandIn, operatorIn, operatorsIn, referenceIn, ReferenceLoaded}
+use Rattle.circuit.proofs.Tabulate.{getD-tabulate, from-at, none-from, one-more, all-same}
+use Rattle.write_made.specs.declared.Rails.{Rails}
+use Rattle.write_made.specs.Rails.{contentIn, pairOf, pairStored, pairsIn, becomes}
+use Rattle.write_made.proofs.Operations.{not-gates, other-gates, one-operation}
 
 -- ---- rails
 
-inputs-from : (j m : ℕ) → tabulate (λ i. pair (2 * (j + i)) (2 * (j + i) + 1)) m ≡ inputRails j m
-unfolding tabulate inputRails
+abbrev inputPair : ℕ → List ℕ
+inputPair i = 2 * i ∷ (2 * i + 1) ∷ []
+
+inputs-from : (j m : ℕ) → tabulate (λ i. inputPair (j + i)) m ≡ map inputPair (numbers j m)
+unfolding tabulate numbers
 inputs-from j zero = refl
 inputs-from j (suc m) =
     let z : j + 0 ≡ j = omega arith in
-    ap₂ _∷_ (ap (λ (i : ℕ). pair (2 * i) (2 * i + 1)) z)
-    (all-same (λ i. pair (2 * (j + suc i)) (2 * (j + suc i) + 1)) (λ i. pair (2 * (suc j + i)) (2 * (suc j + i) + 1)) m
-    (λ i l. let e : j + suc i ≡ suc j + i = omega arith in ap (λ (k : ℕ). pair (2 * k) (2 * k + 1)) e)
-    ∙ inputs-from (suc j) m)
+    ap₂ _∷_ (ap inputPair z)
+    (all-same (λ i. inputPair (j + suc i)) (λ i. inputPair (suc j + i)) m (λ i l. let e : j + suc i ≡ suc j + i = omega arith in ap inputPair e) ∙ inputs-from (suc j) m)
 
 -- the rails of the inputs
-pub inputs-are : (rails : List ℕ) (m : ℕ) → ((i : ℕ) → i < 2 * m → getD rails i 0 ≡ i) → pairsIn rails m ≡ inputRails 0 m
+pub inputs-are : (rails : List ℕ) (m : ℕ) → ((i : ℕ) → i < 2 * m → getD rails i 0 ≡ i) → pairsIn rails m ≡ map inputPair (numbers 0 m)
 unfolding pairsIn
 inputs-are rails m h =
-    all-same (pairStored rails) (λ i. pair (2 * (0 + i)) (2 * (0 + i) + 1)) m
-    (λ i l. let z : i ≡ 0 + i = omega arith in ap₂ pair (h (2 * i) (omega arith)) (h (2 * i + 1) (omega arith)) ∙ ap (λ (k : ℕ). pair (2 * k) (2 * k + 1)) z)
+    all-same (pairStored rails) (λ i. inputPair (0 + i)) m
+    (λ i l. let z : i ≡ 0 + i = omega arith in ap₂ (λ (a b : ℕ). a ∷ b ∷ []) (h (2 * i) (omega arith)) (h (2 * i + 1) (omega arith)) ∙ ap inputPair z)
     ∙ inputs-from 0 m
 
 -- number i stored at place i
@@ -61,59 +65,59 @@ stored-more rails₀ rails i l t = (length-set rails i i ∙ t .0, λ j h. go j 
     go j h (no d) = getD-set-other rails i j i 0 d ∙ t .1 j (omega arith)
 
 -- those of one signal more
-pub rails-more : (rails : List ℕ) (m : ℕ) (p : Pair) → 2 * m + 1 < length rails
-    → pairsIn (set (set rails (2 * m) (p .rail0)) (2 * m + 1) (p .rail1)) (m + 1) ≡ pairsIn rails m ++ (p ∷ [])
+rails-more : (rails : List ℕ) (m p q : ℕ) → 2 * m + 1 < length rails → pairsIn (set (set rails (2 * m) p) (2 * m + 1) q) (m + 1) ≡ pairsIn rails m ++ ((p ∷ q ∷ []) ∷ [])
 unfolding pairsIn
-rails-more rails m p l =
+rails-more rails m p q l =
     ap (tabulate (pairStored after)) (add-one m)
     ∙ one-more (pairStored after) m
-    ∙ ap₂ (λ (l : List Pair) (q : Pair). l ++ (q ∷ [])) (all-same (pairStored after) (pairStored rails) m (λ i h. ap₂ pair (other (2 * i) (omega arith)) (other (2 * i + 1) (omega arith))))
-    (ap₂ pair first second)
+    ∙ ap₂ (λ (l : List (List ℕ)) (q : List ℕ). l ++ (q ∷ []))
+    (all-same (pairStored after) (pairStored rails) m (λ i h. ap₂ (λ (a b : ℕ). a ∷ b ∷ []) (other (2 * i) (omega arith)) (other (2 * i + 1) (omega arith))))
+    (ap₂ (λ (a b : ℕ). a ∷ b ∷ []) first second)
   where
     between : List ℕ
-    between = set rails (2 * m) (p .rail0)
+    between = set rails (2 * m) p
 
     after : List ℕ
-    after = set between (2 * m + 1) (p .rail1)
+    after = set between (2 * m + 1) q
 
     other : (i : ℕ) → i < 2 * m → getD after i 0 ≡ getD rails i 0
-    other i h = getD-set-other between (2 * m + 1) i (p .rail1) 0 (λ e. omega arith) ∙ getD-set-other rails (2 * m) i (p .rail0) 0 (λ e. omega arith)
+    other i h = getD-set-other between (2 * m + 1) i q 0 (λ e. omega arith) ∙ getD-set-other rails (2 * m) i p 0 (λ e. omega arith)
 
-    first : getD after (2 * m) 0 ≡ p .rail0
-    first = getD-set-other between (2 * m + 1) (2 * m) (p .rail1) 0 (λ e. omega arith) ∙ getD-set-same rails (2 * m) (p .rail0) 0 (omega arith)
+    first : getD after (2 * m) 0 ≡ p
+    first = getD-set-other between (2 * m + 1) (2 * m) q 0 (λ e. omega arith) ∙ getD-set-same rails (2 * m) p 0 (omega arith)
 
-    second : getD after (2 * m + 1) 0 ≡ p .rail1
-    second = getD-set-same between (2 * m + 1) (p .rail1) 0 (omega (arith, length-set rails (2 * m) (p .rail0)))
+    second : getD after (2 * m + 1) 0 ≡ q
+    second = getD-set-same between (2 * m + 1) q 0 (omega (arith, length-set rails (2 * m) p))
 
--- the outputs' rails, one by one
-pub outputs-are : (c : Counts) (code rails : List ℕ) → ((j : ℕ) → j < c .outputs → getD code (3 * c .gates + j) 0 < c .inputs + c .gates)
-    → tabulate (λ j. pairStored rails (getD code (3 * c .gates + j) 0)) (c .outputs) ≡ railsAt (pairsIn rails (c .inputs + c .gates)) (signalsIn c code)
-unfolding signalsIn
-outputs-are c code rails inside =
-    all-same _ _ (c .outputs) (λ j l. sym (signal-pair rails (c .inputs + c .gates) (getD code (3 * c .gates + j) 0) (inside j l)))
-    ∙ sym (map-tabulate (λ (x : ℕ). getD (pairsIn rails (c .inputs + c .gates)) x noPair) (λ j. getD code (3 * c .gates + j) 0) (c .outputs))
+-- the rails of a signal among those that are stored
+pub signal-pair : (rails : List ℕ) (m x : ℕ) (b : Built) → pairsIn rails m ≡ b .rails → x < m → railsAt b x ≡ pairStored rails x
+unfolding pairsIn
+signal-pair rails m x b e l = ap (λ (l : List (List ℕ)). getD l x (0 ∷ 0 ∷ [])) (sym e) ∙ getD-tabulate (pairStored rails) m x (0 ∷ 0 ∷ []) l
 
 -- ---- gates
 
 module _ (c : Counts) (code : List ℕ) where
+  abbrev whole : Built
+  whole = built (contentIn c code)
+
   -- the gates before gate k are made: those after them make of these the whole
   pub record MadeTo (buffer₀ rails₀ buffer rails : List ℕ) (made k : ℕ) : Type 0 where
     pub so-far : Built
     pub within : k ≤ c .gates
-    pub left : addGates (c .inputs) so-far (drop k (operatorsIn c code)) ≡ built (referenceIn c code)
+    pub left : build (c .inputs) so-far (drop k (operatorsIn c code)) ≡ whole
     pub rails-are : pairsIn rails (c .inputs + k) ≡ so-far .rails
     pub count : made ≡ length (so-far .gates)
-    pub needed : made + 2 * operations (drop k (operatorsIn c code)) ≡ gatesNeeded (referenceIn c code)
-    pub put : Put buffer₀ 2 (bytesOf file.Stage gateItem (so-far .gates)) buffer
+    pub needed : made + 2 * operations (drop k (operatorsIn c code)) ≡ length (whole .gates)
+    pub put : Put buffer₀ 2 (bytesOf file.Stage gate (so-far .gates)) buffer
     pub long : length rails ≡ length rails₀
 
-  pub made-start : {most : Limits} → ReferenceFormed most (referenceIn c code) → (buffer rails : List ℕ) → pairsIn rails (c .inputs) ≡ inputRails 0 (c .inputs)
+  pub made-start : ReferenceFormed referenceLimits (referenceIn c code) → (buffer rails : List ℕ) → pairsIn rails (c .inputs) ≡ map inputPair (numbers 0 (c .inputs))
       → MadeTo buffer rails buffer rails 0 0
   unfolding built bytesOf
   made-start formed buffer rails e =
       let z : c .inputs + 0 ≡ c .inputs = omega arith in
       record {
-        so-far = record { gates = []; rails = inputRails 0 (c .inputs) };
+        so-far = record { gates = []; rails = map inputPair (numbers 0 (c .inputs)) };
         within = omega arith;
         left = refl;
         rails-are = ap (pairsIn rails) z ∙ e;
@@ -125,76 +129,97 @@ module _ (c : Counts) (code : List ℕ) where
 
   module _ {buffer₀ rails₀ buffer rails : List ℕ} {made k : ℕ} (t : MadeTo buffer₀ rails₀ buffer rails made k) where
     -- room for the gates of gate k
-    pub made-room : k < c .gates → made + 2 * operations (operatorIn code k ∷ []) ≤ gatesNeeded (referenceIn c code)
+    pub made-room : k < c .gates → made + 2 * operations (operatorIn code k ∷ []) ≤ length (whole .gates)
     unfolding operatorsIn
     made-room l = omega (arith, t .needed, operations-cons (operatorIn code k) (drop (suc k) (operatorsIn c code)), ap operations (from-at (operatorIn code) (c .gates) k l))
 
-    same-become : becomes c code k rails made
-        ≡ realize (operatorIn code k .code) (railsAt (t .so-far .rails) (operatorIn code k .operands)) (2 * c .inputs + length (t .so-far .gates))
-    same-become =
-        ap₂ (λ (l : List Pair) (n : ℕ). realize (operatorIn code k .code) (railsAt l (operatorIn code k .operands)) (2 * c .inputs + n)) (t .rails-are) (t .count)
-
-    module _ {most : Limits} (formed : ReferenceFormed most (referenceIn c code)) (l : k < c .gates) (rails-long : 2 * (c .inputs + c .gates) ≤ length rails₀) where
-      abbrev here : Realized
+    module _ (loaded : ReferenceLoaded c code) (l : k < c .gates) (rails-long : 2 * (c .inputs + c .gates) ≤ length rails₀) where
+      abbrev here : Built
       here = becomes c code k rails made
 
-      gate-long : length (addGate (c .inputs) (t .so-far) (operatorIn code k) .gates) ≡ length (t .so-far .gates) + 2 * operations (operatorIn code k ∷ [])
-      unfolding addGates operatorsIn
-      gate-long =
-          all-long (c .inputs) (t .so-far) (c .inputs + k) (operatorIn code k ∷ []) (
-            subst (OperationFormed (c .inputs + k)) (getD-tabulate (operatorIn code) (c .gates) k (operatorIn code 0) l)
-                (in-order-at (c .inputs) (operatorsIn c code) (formed .gates-formed) k (operatorIn code 0) (omega (arith, length-tabulate (operatorIn code) (c .gates)))),
-            tt,
-          )
+      gate-long : length (here .gates) ≡ 2 * operations (operatorIn code k ∷ [])
+      unfolding operations
+      gate-long = go (ℕ-discrete (operationIn code k) 1)
+        where
+          a : List ℕ
+          a = pairStored rails (operandIn code k 0)
+
+          b : List ℕ
+          b = pairStored rails (operandIn code k 1)
+
+          go : Dec (operationIn code k ≡ 1) → length (here .gates) ≡ 2 * operations (operatorIn code k ∷ [])
+          go (yes e) = ap length (not-gates (operationIn code k) a b _ e) ∙ rw e
+          go (no d) =
+              other-gates (operationIn code k) a b _ (omega (arith, loaded .low k l)) (loaded .high k l) ∙ omega (arith, one-operation (operatorIn code k) d)
+
+      -- what the definition makes of it
+      abbrev operand : ℕ → List ℕ
+      operand i = getD (map (railsAt (t .so-far)) (operatorIn code k .operands)) i (0 ∷ 0 ∷ [])
+
+      same-become : here ≡ realize (operationIn code k) (operand 0) (operand 1) (2 * c .inputs + length (t .so-far .gates))
+      unfolding realize
+      same-become = ap (λ (n : ℕ). becomes c code k rails n) (t .count) ∙ go (operationIn code k) (ℕ-discrete (operationIn code k) 1)
+        where
+          stored : (i : ℕ) → i < 2 → pairStored rails (operandIn code k i) ≡ railsAt (t .so-far) (operandIn code k i)
+          stored i h = sym (signal-pair rails (c .inputs + k) (operandIn code k i) (t .so-far) (t .rails-are) (loaded .operand k i l h))
+
+          taken : ℕ → List (List ℕ)
+          taken op = map (railsAt (t .so-far)) (take (cond (eqb op 1) 1 2) (operandIn code k 0 ∷ operandIn code k 1 ∷ []))
+
+          net : ℕ
+          net = 2 * c .inputs + length (t .so-far .gates)
+
+          go : (op : ℕ) → Dec (op ≡ 1) → realize op (pairStored rails (operandIn code k 0)) (pairStored rails (operandIn code k 1)) net
+              ≡ realize op (getD (taken op) 0 (0 ∷ 0 ∷ [])) (getD (taken op) 1 (0 ∷ 0 ∷ [])) net
+          go op (yes e) = rw e (ap (λ (a : List ℕ). realize 1 a (0 ∷ 0 ∷ []) net) (stored 0 (omega arith)))
+          go op (no d) = ap₂ (λ (a b : List ℕ). realize op a b net) (stored 0 (omega arith)) (stored 1 (omega arith)) ∙ rw (ne-eqb op 1 d)
 
       pub made-turn : {after rails′ : List ℕ} {made′ : ℕ} → made′ ≡ made + length (here .gates)
-          → Put buffer (2 + 10 * made) (bytesOf file.Stage gateItem (here .gates)) after
-          → rails′ ≡ set (set rails (2 * (c .inputs + k)) (here .rails .rail0)) (2 * (c .inputs + k) + 1) (here .rails .rail1)
+          → Put buffer (2 + 10 * made) (bytesOf file.Stage gate (here .gates)) after
+          → (r : Rails) × (pairOf r ∷ [] ≡ here .rails) × (rails′ ≡ set (set rails (2 * (c .inputs + k)) (r .rail0)) (2 * (c .inputs + k) + 1) (r .rail1))
           → MadeTo buffer₀ rails₀ after rails′ made′ (k + 1)
-      unfolding addGates addGate operatorsIn
-      made-turn {after} {rails′} {made′} e p q =
+      unfolding build operatorsIn
+      made-turn {after} {rails′} {made′} e p (r, is, q) =
           let b = t .so-far in
-          let m = realize (operatorIn code k .code) (railsAt (b .rails) (operatorIn code k .operands)) (2 * c .inputs + length (b .gates)) in
-          let gates-same : here .gates ≡ m .gates = ap (λ (x : Realized). x .gates) same-become in
-          let rails-same : here .rails ≡ m .rails = ap (λ (x : Realized). x .rails) same-become in
+          let m = realize (operationIn code k) (operand 0) (operand 1) (2 * c .inputs + length (b .gates)) in
           let s : c .inputs + (k + 1) ≡ c .inputs + k + 1 = omega arith in
-          let longer : length (b .gates ++ m .gates) ≡ length (b .gates) + length (m .gates) = length-append (b .gates) (m .gates) in
+          let longer = length-append (b .gates) (m .gates) in
+          let same : here .gates ≡ m .gates = ap (λ (x : Built). x .gates) same-become in
           let step = from-at (operatorIn code) (c .gates) k l in
           record {
-            so-far = addGate (c .inputs) b (operatorIn code k);
+            so-far = record { gates = b .gates ++ m .gates; rails = b .rails ++ m .rails };
             within = omega arith;
-            left = ap (λ (i : ℕ). addGates (c .inputs) (addGate (c .inputs) b (operatorIn code k)) (drop i (operatorsIn c code))) (add-one k) ∙ sym (ap (addGates (c .inputs) b) step) ∙ t .left;
+            left = ap (λ (i : ℕ). build (c .inputs) (record { gates = b .gates ++ m .gates; rails = b .rails ++ m .rails }) (drop i (operatorsIn c code))) (add-one k) ∙ sym (ap (build (c .inputs) b) step) ∙ t .left;
             rails-are =
                 ap₂ pairsIn q s
-                ∙ rails-more rails (c .inputs + k) (here .rails) (omega (arith, t .long))
-                ∙ ap₂ (λ (x : List Pair) (y : Pair). x ++ (y ∷ [])) (t .rails-are) rails-same;
-            count = e ∙ ap₂ _+_ (t .count) (ap length gates-same) ∙ sym longer;
+                ∙ rails-more rails (c .inputs + k) (r .rail0) (r .rail1) (omega (arith, t .long))
+                ∙ ap₂ (λ (x y : List (List ℕ)). x ++ y) (t .rails-are) (is ∙ ap (λ (x : Built). x .rails) same-become);
+            count = omega (arith, e, t .count, ap length same, longer);
             needed =
                 let split = operations-cons (operatorIn code k) (drop (suc k) (operatorsIn c code)) in
                 let n = ap (λ (i : ℕ). operations (drop i (operatorsIn c code))) (add-one k) in
-                omega (arith, t .needed, split, ap operations step, n, gate-long, longer, e, t .count, ap length gates-same);
+                omega (arith, t .needed, split, ap operations step, n, gate-long, e);
             put =
-                put-same (sym (bytes-++ file.Stage gateItem (b .gates) (here .gates)) ∙ ap (λ (x : List Gate). bytesOf file.Stage gateItem (b .gates ++ x)) gates-same)
-                (put-++ (t .put) p (omega (arith, t .count, bytes-length file.Stage gateItem 10 (λ g. stage-gate-width (codedGate g)) (b .gates))));
+                put-same (sym (bytes-++ file.Stage gate (b .gates) (here .gates)) ∙ ap (λ (x : List Coded). bytesOf file.Stage gate (b .gates ++ x)) same)
+                (put-++ (t .put) p (omega (arith, t .count, bytes-length file.Stage gate 10 stage-gate-width (b .gates))));
             long =
                 ap length q
-                ∙ length-set (set rails (2 * (c .inputs + k)) (here .rails .rail0)) (2 * (c .inputs + k) + 1) (here .rails .rail1)
-                ∙ length-set rails (2 * (c .inputs + k)) (here .rails .rail0)
+                ∙ length-set (set rails (2 * (c .inputs + k)) (r .rail0)) (2 * (c .inputs + k) + 1) (r .rail1)
+                ∙ length-set rails (2 * (c .inputs + k)) (r .rail0)
                 ∙ t .long;
           }
 
-    whole : c .gates ≤ k → t .so-far ≡ built (referenceIn c code)
-    unfolding addGates operatorsIn
-    whole l = sym (ap (addGates (c .inputs) (t .so-far)) (none-from (operatorIn code) (c .gates) k l)) ∙ t .left
+    made-all : c .gates ≤ k → t .so-far ≡ whole
+    unfolding build operatorsIn
+    made-all l = sym (ap (build (c .inputs) (t .so-far)) (none-from (operatorIn code) (c .gates) k l)) ∙ t .left
 
-    pub done-count : c .gates ≤ k → made ≡ gatesNeeded (referenceIn c code)
-    unfolding operations operatorsIn
-    done-count l = omega (arith, t .needed, ap operations (none-from (operatorIn code) (c .gates) k l))
+    pub done-count : c .gates ≤ k → made ≡ length (whole .gates)
+    done-count l = t .count ∙ ap (λ (b : Built). length (b .gates)) (made-all l)
 
-    pub done-put : c .gates ≤ k → Put buffer₀ 2 (bytesOf file.Stage gateItem (built (referenceIn c code) .gates)) buffer
-    done-put l = put-same (ap (λ (b : Built). bytesOf file.Stage gateItem (b .gates)) (whole l)) (t .put)
+    pub done-put : c .gates ≤ k → Put buffer₀ 2 (bytesOf file.Stage gate (whole .gates)) buffer
+    done-put l = put-same (ap (λ (b : Built). bytesOf file.Stage gate (b .gates)) (made-all l)) (t .put)
 
-    pub done-rails : c .gates ≤ k → pairsIn rails (c .inputs + c .gates) ≡ built (referenceIn c code) .rails
+    pub done-rails : c .gates ≤ k → pairsIn rails (c .inputs + c .gates) ≡ whole .rails
     done-rails l =
         let e : c .gates ≡ k = omega (arith, t .within) in
-        ap (λ (i : ℕ). pairsIn rails (c .inputs + i)) e ∙ t .rails-are ∙ ap (λ (b : Built). b .rails) (whole l)
+        ap (λ (i : ℕ). pairsIn rails (c .inputs + i)) e ∙ t .rails-are ∙ ap (λ (b : Built). b .rails) (made-all l)

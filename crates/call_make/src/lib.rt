@@ -5,27 +5,30 @@ use netlist::Outcome;
 use verdict::Answer;
 use verdict::Verdict;
 ghost use mathlib.Core.Path.{_≡_};
+ghost use mathlib.Core.List.{[], _∷_, map};
 ghost use Prim.Native.Nat.{_+_, _*_, _≤_};
 ghost use lib.ListN.{length};
 ghost use Rattle.netlist.specs.declared.File.the-variants as file;
 ghost use Rattle.netlist.specs.Reading.{stageLimits, referenceLimits};
 ghost use Rattle.netlist.specs.Formed.{ReferenceFormed};
-ghost use Rattle.make_spec.specs.Made.{railsAt, inputRails, built, gatesNeeded};
-ghost use Rattle.make_spec.specs.Making.{madeBytes};
+ghost use Rattle.netlist.specs.Writing as writing;
+ghost use Rattle.check_spec.specs.Cases.{judge};
+ghost use Rattle.check_spec.specs.Lists.{numbers};
+ghost use Rattle.check_spec.specs.Writing.{leaving};
+ghost use Rattle.make_spec.specs.Make.{built, madeBytes, makeChecks, MakeDemand};
 ghost use Rattle.write_command.specs.Put.{Put};
-ghost use Rattle.write_command.specs.Parts.{gateItem, pairItem, bytesOf};
+ghost use Rattle.write_command.specs.Parts.{bytesOf};
 ghost use Rattle.verdict.specs.Written.{written};
 ghost use Rattle.circuit.specs.Reference.{signalsIn, referenceIn, ReferenceLoaded};
-ghost use Rattle.write_made.specs.Rails.{pairsIn};
-ghost use Rattle.make_spec.specs.Call.{leaves, makeRead};
-ghost use Rattle.make_spec.specs.Make.{MakeDemand};
+ghost use Rattle.write_made.specs.Rails.{contentIn, pairStored, pairsIn};
 
 // ---- the stage
 
 // The rails of the inputs.
 fn input_rails(rails: &mut [u16], inputs: usize)
     requires { ⌜ (2 * inputs ≤ length (now rails)) × (2 * inputs ≤ 0xFFFF) ⌝ }
-    ensures { λ _. ⌜ (pairsIn (now (rails .exit)) inputs ≡ inputRails 0 inputs) × (length (now (rails .exit)) ≡ length (now (rails .entry))) ⌝ }
+    ensures { λ _. ⌜ (pairsIn (now (rails .exit)) inputs ≡ map (λ i. 2 * i ∷ (2 * i + 1) ∷ []) (numbers 0 inputs))
+        × (length (now (rails .exit)) ≡ length (now (rails .entry))) ⌝ }
 {
     let count = 2 * inputs;
     let mut i: usize = 0;
@@ -39,13 +42,14 @@ fn input_rails(rails: &mut [u16], inputs: usize)
 fn put_gates(buffer: &mut [u8], reference: &[u16], sizes: Counts, rails: &mut [u16]) -> usize
     requires { ⌜ ReferenceLoaded sizes (now reference) × ReferenceFormed referenceLimits (referenceIn sizes (now reference))
         × (2 * (sizes .inputs + sizes .gates) ≤ length (now rails))
-        × (pairsIn (now rails) (sizes .inputs) ≡ inputRails 0 (sizes .inputs)) × (gatesNeeded (referenceIn sizes (now reference)) ≤ stageLimits .gates)
-        × (2 + 10 * gatesNeeded (referenceIn sizes (now reference)) ≤ length (now buffer)) ⌝ }
-    ensures count { λ r. ⌜ r ≡ gatesNeeded (referenceIn sizes (now (reference .entry))) ⌝ }
-    ensures put { λ r. ⌜ Put (now (buffer .entry)) 2 (bytesOf file.Stage gateItem (built (referenceIn sizes (now (reference .entry))) .gates))
+        × (pairsIn (now rails) (sizes .inputs) ≡ map (λ i. 2 * i ∷ (2 * i + 1) ∷ []) (numbers 0 (sizes .inputs)))
+        × (length (built (contentIn sizes (now reference)) .gates) ≤ stageLimits .gates)
+        × (2 + 10 * length (built (contentIn sizes (now reference)) .gates) ≤ length (now buffer)) ⌝ }
+    ensures count { λ r. ⌜ r ≡ length (built (contentIn sizes (now (reference .entry))) .gates) ⌝ }
+    ensures put { λ r. ⌜ Put (now (buffer .entry)) 2 (bytesOf file.Stage writing.gate (built (contentIn sizes (now (reference .entry))) .gates))
         (now (buffer .exit)) ⌝ }
-    ensures rails { λ r. ⌜ (pairsIn (now (rails .exit)) (sizes .inputs + sizes .gates) ≡ built (referenceIn sizes (now (reference .entry))) .rails) × (length
-        (now (rails .exit)) ≡ length (now (rails .entry))) ⌝ }
+    ensures rails { λ r. ⌜ (pairsIn (now (rails .exit)) (sizes .inputs + sizes .gates) ≡ built (contentIn sizes (now (reference .entry))) .rails)
+        × (length (now (rails .exit)) ≡ length (now (rails .entry))) ⌝ }
 {
     let count = sizes.gates;
     let mut made: usize = 0;
@@ -61,9 +65,8 @@ fn put_gates(buffer: &mut [u8], reference: &[u16], sizes: Counts, rails: &mut [u
 fn put_outputs(buffer: &mut [u8], at: usize, reference: &[u16], sizes: Counts, rails: &[u16])
     requires { ⌜ ReferenceLoaded sizes (now reference) × (2 * (sizes .inputs + sizes .gates) ≤ length (now rails))
         × (at + 5 * sizes .outputs ≤ length (now buffer)) ⌝ }
-    ensures { λ _. ⌜ Put (now (buffer .entry)) at (bytesOf file.Stage pairItem
-        (railsAt (pairsIn (now (rails .entry)) (sizes .inputs + sizes .gates)) (signalsIn
-        sizes (now (reference .entry))))) (now (buffer .exit)) ⌝ }
+    ensures { λ _. ⌜ Put (now (buffer .entry)) at (bytesOf file.Stage writing.output
+        (map (pairStored (now (rails .entry))) (signalsIn sizes (now (reference .entry))))) (now (buffer .exit)) ⌝ }
 {
     let from = 3 * sizes.gates;
     let count = sizes.outputs;
@@ -78,9 +81,9 @@ fn put_outputs(buffer: &mut [u8], at: usize, reference: &[u16], sizes: Counts, r
 // The whole stage: inputs, gates, outputs, end.
 fn put_stage(buffer: &mut [u8], reference: &[u16], sizes: Counts)
     requires { ⌜ ReferenceLoaded sizes (now reference) × ReferenceFormed referenceLimits (referenceIn sizes (now reference))
-        × (gatesNeeded (referenceIn sizes (now reference)) ≤ stageLimits .gates)
-        × (length (madeBytes (referenceIn sizes (now reference))) ≤ length (now buffer)) ⌝ }
-    ensures { λ _. ⌜ Put (now (buffer .entry)) 0 (madeBytes (referenceIn sizes (now (reference .entry)))) (now (buffer .exit)) ⌝ }
+        × (length (built (contentIn sizes (now reference)) .gates) ≤ stageLimits .gates)
+        × (length (madeBytes (contentIn sizes (now reference))) ≤ length (now buffer)) ⌝ }
+    ensures { λ _. ⌜ Put (now (buffer .entry)) 0 (madeBytes (contentIn sizes (now (reference .entry)))) (now (buffer .exit)) ⌝ }
 {
     let mut rails = [0u16; 2 * circuit::SIGNALS];
     input_rails(&mut rails, sizes.inputs);
@@ -96,8 +99,8 @@ fn put_stage(buffer: &mut [u8], reference: &[u16], sizes: Counts)
 // 25, 26, 27, or the stage, of a reference that was loaded. The length is known before a byte is written.
 fn make_loaded(reference: &[u16], sizes: Counts, buffer: &mut [u8]) -> Answer
     requires { ⌜ ReferenceLoaded sizes (now reference) × ReferenceFormed referenceLimits (referenceIn sizes (now reference)) ⌝ }
-    ensures { λ r. ⌜ written r (now (buffer .exit)) ≡ leaves (makeRead (referenceIn sizes (now (reference .entry))) (length (now (buffer .entry)))) (now
-        (buffer .entry)) ⌝ }
+    ensures { λ r. ⌜ written r (now (buffer .exit)) ≡ leaving (judge (makeChecks (contentIn sizes (now (reference .entry)))
+        (length (now (buffer .entry))))) (madeBytes (contentIn sizes (now (reference .entry)))) (now (buffer .entry)) ⌝ }
 {
     if let Found::At(x) = write_made::leading_nowhere(reference, sizes) {
         return write_command::refused(Verdict {

@@ -2,13 +2,11 @@
 -- Assumes nothing.
 use Prim.Native.Nat.{ℕ, _+_, _*_, _≤_, _<_}
 use native.Mathlib.Omega.{arith}
-use mathlib.Core.Path.{_≡_, refl, sym, ap, subst, _∙_}
+use mathlib.Core.Path.{_≡_, sym, ap, subst, _∙_}
 use mathlib.Core.List.{List, [], _∷_, _++_}
 use lib.ListN.{length}
-use Rattle.netlist.specs.Content.{Stage}
-use Rattle.netlist.specs.Writing.{writeStage}
-use Rattle.verdict.specs.Checks.{verdict}
-use Rattle.verdict.specs.Verdicts.{accepted}
+use Rattle.check_spec.specs.Content.{Content}
+use Rattle.verdict.specs.FourNumbers.{verdict, accepted}
 use Rattle.verdict.specs.declared.Answer.{Answer}
 use Rattle.write_command.specs.Put.{Put}
 use Rattle.verdict.specs.Written.{Written, answerOf, written}
@@ -16,7 +14,7 @@ use Rattle.write_command.proofs.Answers.{refuses, answers-short, answers-writte
 use Rattle.call_next.specs.declared.Place.{Place}
 use Rattle.call_next.specs.declared.Place.the-variants as place
 use Rattle.next_spec.specs.Numbered.{stages, stageNumbered}
-use Rattle.next_spec.specs.Family.{Member, NextIs, outside, last, next, NextDemand}
+use Rattle.next_spec.specs.Family.{fileOf, Member, NextIs, outside, last, next, NextDemand}
 use Rattle.next_spec.specs.Listing.{InShape, listing, Listed, onward}
 use Rattle.call_next.specs.Steps.{Located, First, ListedAt, writtenAt}
 use Rattle.next_spec.proofs.Listed.{numbered-shaped}
@@ -28,24 +26,24 @@ use Rattle.next_spec.proofs.Onward.{stages-most, onward-start, place-in-listing
 pub located-listed : (s : List ℕ) (p : Place) (n g z : ℕ) → p ≡ place.Stage n g z → Located s p → InShape n g × (z + 1 ≤ stages n g) × (z < 186624)
 unfolding Located
 located-listed s p n g z e l =
-    let o : Listed n g z × (s ≡ writeStage (stageNumbered n g z)) = subst (Located s) e l in
+    let o : Listed n g z × (s ≡ fileOf (stageNumbered n g z)) = subst (Located s) e l in
     let b = o .0 .below in
     let m = stages-most n g (o .0 .shaped) in
     (o .0 .shaped, omega arith, omega arith)
 
 module _ (n g z : ℕ) (l : Listed n g z) (buffer : List ℕ) where
-  long : length (writeStage (stageNumbered n g z)) ≡ 8 + 10 * g
+  long : length (fileOf (stageNumbered n g z)) ≡ 8 + 10 * g
   long = numbered-shaped n g (l .shaped) z .long
 
   pub number-short : {a : Answer} → length buffer < 8 + 10 * g → a ≡ answerOf (verdict 38 3 0 0) 0 → written a buffer ≡ writtenAt (place.Stage n g z) buffer
   unfolding writtenAt
-  number-short s e = answers-short (verdict 38 3 0 0) (writeStage (stageNumbered n g z)) buffer (omega (arith, long)) e
+  number-short s e = answers-short (verdict 38 3 0 0) (fileOf (stageNumbered n g z)) buffer (omega (arith, long)) e
 
-  pub number-fits : {a : Answer} {after : List ℕ} → 8 + 10 * g ≤ length buffer → Put buffer 0 (writeStage (stageNumbered n g z)) after
+  pub number-fits : {a : Answer} {after : List ℕ} → 8 + 10 * g ≤ length buffer → Put buffer 0 (fileOf (stageNumbered n g z)) after
       → a ≡ answerOf accepted (8 + 10 * g)
       → written a after ≡ writtenAt (place.Stage n g z) buffer
   unfolding writtenAt
-  number-fits s p e = answers-written (verdict 38 3 0 0) (writeStage (stageNumbered n g z)) buffer (omega (arith, long)) p (sym long) e
+  number-fits s p e = answers-written (verdict 38 3 0 0) (fileOf (stageNumbered n g z)) buffer (omega (arith, long)) p (sym long) e
 
 module _ (p : Place) (buffer : List ℕ) where
   pub place-listed : (n g z : ℕ) → p ≡ place.Stage n g z → ListedAt p → Listed n g z
@@ -63,7 +61,7 @@ module _ (p : Place) (buffer : List ℕ) where
   unfolding writtenAt
   place-outside e h = rw (e, h)
 
-pub first-listed : (cs : List Stage) (p : Place) → First cs p → ListedAt p
+pub first-listed : (cs : List Content) (p : Place) → First cs p → ListedAt p
 unfolding First ListedAt
 first-listed cs place.Start f = absurd f
 first-listed cs (place.Stage n g z) f = f .0
@@ -94,9 +92,9 @@ module _ (s buffer : List ℕ) where
   next-start p e l q f h =
       let o : s ≡ [] = subst (Located s) e l in
       let i : InShape 1 0 = record { inputs-in = (omega arith, omega arith); gates-in = omega arith } in
-      demanded (subst (NextIs s buffer) (sym h) (start-is o q (subst (λ (cs : List Stage). First cs q) (sym (onward-start 1 0 i)) f)))
+      demanded (subst (NextIs s buffer) (sym h) (start-is o q (subst (λ (cs : List Content). First cs q) (sym (onward-start 1 0 i)) f)))
 
-  stage-is : (c : Stage) (front later : List Stage) → listing ≡ front ++ (c ∷ later) → s ≡ writeStage c → (q : Place) → First later q
+  stage-is : (c : Content) (front later : List Content) → listing ≡ front ++ (c ∷ later) → s ≡ fileOf c → (q : Place) → First later q
       → NextIs s buffer (writtenAt q buffer)
   unfolding First writtenAt
   stage-is c front later e h place.Start f = absurd f
@@ -108,6 +106,6 @@ module _ (s buffer : List ℕ) where
       → written r after ≡ writtenAt q buffer → NextDemand s buffer r after
   unfolding Located
   next-stage p n g z e l q f h =
-      let o : Listed n g z × (s ≡ writeStage (stageNumbered n g z)) = subst (Located s) e l in
+      let o : Listed n g z × (s ≡ fileOf (stageNumbered n g z)) = subst (Located s) e l in
       let a = place-in-listing n g z (o .0) in
       demanded (subst (NextIs s buffer) (sym h) (stage-is (stageNumbered n g z) (a .0) (onward n g (z + 1)) (a .1) (o .1) q f))

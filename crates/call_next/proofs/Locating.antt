@@ -7,14 +7,13 @@ use mathlib.Core.Bool.{Bool, true, false}
 use Rattle.runs.proofs.Test.{clash}
 use mathlib.Core.List.{List, [], _∷_}
 use lib.ListN.{length, getD, take, replicate, length-replicate}
-use Rattle.netlist.specs.Writing.{writeStage}
 use Rattle.write_command.specs.Put.{Put}
 use Rattle.verdict.specs.Written.{holding}
 use Rattle.write_command.proofs.Joining.{put-holding}
 use Rattle.verdict.proofs.Written.{holding-take}
 use Rattle.call_next.specs.declared.Place.the-variants as place
 use Rattle.next_spec.specs.Numbered.{netsOf, stages, stageNumbered}
-use Rattle.next_spec.specs.Family.{Member}
+use Rattle.next_spec.specs.Family.{fileOf, Member}
 use Rattle.next_spec.specs.Listing.{InShape, free, Listed}
 use Rattle.call_next.specs.Steps.{numberIn, same, Located}
 use Rattle.next_spec.proofs.Less.{stage-bytes}
@@ -27,11 +26,11 @@ use Rattle.call_next.proofs.Shown.{number-shown}
 
 pub record Stands (s : List ℕ) (n g z : ℕ) : Type 0 where
   pub listed : Listed n g z
-  pub bytes : s ≡ writeStage (stageNumbered n g z)
+  pub bytes : s ≡ fileOf (stageNumbered n g z)
   pub long : length s ≡ 8 + 10 * g
   pub inputs : getD s 1 0 ≡ n
 
-stands : (s : List ℕ) (n g z : ℕ) → Listed n g z → s ≡ writeStage (stageNumbered n g z) → Stands s n g z
+stands : (s : List ℕ) (n g z : ℕ) → Listed n g z → s ≡ fileOf (stageNumbered n g z) → Stands s n g z
 stands s n g z l e = record {
   listed = l;
   bytes = e;
@@ -42,7 +41,7 @@ stands s n g z l e = record {
 member-stands : (s : List ℕ) → Member s → (n : ℕ) × (g : ℕ) × (z : ℕ) × Stands s n g z
 member-stands s (c, i, e) =
     let k = in-listed c i in
-    (c .inputs, length (c .gates), k .0, stands s (c .inputs) (length (c .gates)) (k .0) (k .1) (e ∙ ap writeStage (sym (k .2))))
+    (c .inputs, length (c .gates), k .0, stands s (c .inputs) (length (c .gates)) (k .0) (k .1) (e ∙ ap fileOf (sym (k .2))))
 
 -- ---- files of another form
 
@@ -85,13 +84,13 @@ module _ (s : List ℕ) (n g z : ℕ) (i : InShape n g) (long : length s ≡ 8 +
   pub outside-loop : (b : Bool) → b ≡ free n g z → b ≡ false → Located s place.Outside
   outside-loop b h f = outside s (λ k. omega arith) (λ m. clash (its-number m .listed .loop-free) (sym h ∙ f))
 
-  module _ (bytes : List ℕ) (w : Put (replicate 28 0) 0 (writeStage (stageNumbered n g z)) bytes) (b : Bool) (h : b ≡ same s (take (length s) bytes)) where
-    file-long : length (writeStage (stageNumbered n g z)) ≡ length s
+  module _ (bytes : List ℕ) (w : Put (replicate 28 0) 0 (fileOf (stageNumbered n g z)) bytes) (b : Bool) (h : b ≡ same s (take (length s) bytes)) where
+    file-long : length (fileOf (stageNumbered n g z)) ≡ length s
     file-long = numbered-shaped n g i z .long ∙ sym long
 
-    first-bytes : take (length s) bytes ≡ writeStage (stageNumbered n g z)
+    first-bytes : take (length s) bytes ≡ fileOf (stageNumbered n g z)
     first-bytes =
-        let f = writeStage (stageNumbered n g z) in
+        let f = fileOf (stageNumbered n g z) in
         ap (take (length s)) (put-holding w (omega (arith, file-long, i .gates-in, length-replicate {A = ℕ} 28 0)))
         ∙ ap (λ (k : ℕ). take k (holding f (replicate 28 0))) (sym file-long)
         ∙ holding-take f (replicate 28 0)

@@ -2,14 +2,14 @@
 -- Assumes nothing.
 use Prim.Native.Nat.{ℕ, _+_, _*_, _-_, _≤_, _<_}
 use native.Mathlib.Omega.{arith}
-use mathlib.Core.Path.{_≡_, refl, sym, ap, subst, _∙_}
+use mathlib.Core.Path.{_≡_, sym, ap, subst, _∙_}
 use mathlib.Core.Bool.{Bool, true, false}
-use mathlib.Core.List.{List, [], _∷_, _++_}
+use mathlib.Core.List.{List, _∷_, _++_}
 use lib.ListN.{drop}
 use Rattle.netlist.specs.declared.Found.the-variants.{At, Nothing}
-use Rattle.netlist.specs.Content.{Stage}
+use Rattle.check_spec.specs.Content.{Content}
 use Rattle.next_spec.specs.Numbered.{stages, stageNumbered}
-use Rattle.next_spec.specs.Listing.{InShape, free, loopFreeFrom, stagesOf, shapes, Listed, onward}
+use Rattle.next_spec.specs.Listing.{InShape, free, loopFreeFrom, stagesOf, shapes, onward}
 use Rattle.next_spec.proofs.Onward.{zero-free, stages-some, from-free, from-loop, from-none, onward-free, onward-start}
 use Rattle.call_next.specs.declared.Place.{Place}
 use Rattle.call_next.specs.declared.Place.the-variants as place
@@ -62,8 +62,8 @@ first-none k e = rw e
 module _ (n g from : ℕ) where
   pub first-number : (y : ℕ) → FoundFree n g from (At y) → First (onward n g from) (place.Stage n g y)
   unfolding First onward FoundFree
-  first-number y r = (r .0, ap (λ (cs : List Stage). cs ++ stagesOf (drop (3 * (n - 1) + g + 1) shapes)) (r .1))
+  first-number y r = (r .0, ap (λ (cs : List Content). cs ++ stagesOf (drop (3 * (n - 1) + g + 1) shapes)) (r .1))
 
   pub first-later : (p : Place) → FoundFree n g from Nothing → First (stagesOf (drop (3 * (n - 1) + g + 1) shapes)) p → First (onward n g from) p
   unfolding onward FoundFree
-  first-later p e h = subst (λ (cs : List Stage). First (cs ++ stagesOf (drop (3 * (n - 1) + g + 1) shapes)) p) (sym e) h
+  first-later p e h = subst (λ (cs : List Content). First (cs ++ stagesOf (drop (3 * (n - 1) + g + 1) shapes)) p) (sym e) h

@@ -6,7 +6,7 @@ use native.Mathlib.Nat.{mod-lt, div-add-mod'}
 use mathlib.Core.Path.{_≡_, refl, ap, _∙_}
 use mathlib.Core.List.{List, _∷_}
 use lib.ListN.{getD}
-use Rattle.netlist.specs.Writing.{writeStage}
+use Rattle.next_spec.specs.Family.{fileOf}
 use Rattle.next_spec.specs.Numbered.{netsOf, stages, lists, stageNumbered}
 use Rattle.next_spec.proofs.Bytes.{listBytes, outputBytes}
 use Rattle.next_spec.specs.Listing.{InShape}
@@ -70,7 +70,7 @@ module _ (m : ℕ) (some : 1 ≤ m) (low : m ≤ 6) where
   list-shown n (suc (suc (suc g))) x y l b h = absurd (omega arith)
 
 module _ (n g z : ℕ) (shaped : InShape n g) (below : z < stages n g) where
-  pub number-shown : numberIn (writeStage (stageNumbered n g z)) (netsOf n g) g ≡ z
+  pub number-shown : numberIn (fileOf (stageNumbered n g z)) (netsOf n g) g ≡ z
   number-shown =
       let m = netsOf n g in
       let some : 1 ≤ m = nets-some n g shaped in

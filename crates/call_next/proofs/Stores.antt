@@ -12,19 +12,21 @@ use lib.Seq.{drop-cons, getD-take, drop-length, length-take-le}
 use lib.Dec.{eqb}
 use borrow.Author.Tests.{eqb-true, eq-eqb, ne-eqb}
 use Rattle.netlist.specs.declared.File.the-variants as file
-use Rattle.netlist.specs.Content.{Gate}
-use Rattle.netlist.specs.Writing.{gate, output, care, codedGate, writeItem, writeStage}
+use Rattle.netlist.specs.Coded.{Coded}
+use Rattle.netlist.specs.Writing.{gate, output, writeItem}
 use Rattle.write_command.specs.Put.{Put, coded}
-use Rattle.write_command.specs.Parts.{gateItem, pairItem, bytesOf}
+use Rattle.write_command.specs.Parts.{bytesOf}
 use Rattle.write_command.proofs.Joining.{put-++, put-none}
 use Rattle.write_command.proofs.Putting.{put-same}
-use Rattle.write_command.proofs.Files.{gate-absent, bytes-++, bytes-length, stage-gate-width, stage-output-width, stage-parts}
+use Rattle.write_command.proofs.Files.{gate-absent, bytes-length, stage-gate-width, stage-output-width, file-parts}
+use Rattle.check_spec.proofs.Writing.{stage-bytes}
+use Rattle.next_spec.specs.Family.{fileOf}
 use Rattle.next_spec.specs.Numbered.{netsOf, lists, gateNumbered, gatesNumbered, stageNumbered}
 use Rattle.next_spec.specs.Listing.{InShape}
 use Rattle.call_next.specs.Steps.{same}
 use Rattle.next_spec.proofs.Bytes.{gateBytes, listBytes}
 use Rattle.next_spec.proofs.Digits.{quotient-low, square}
-use Rattle.next_spec.proofs.Members.{gates-long, nets-some}
+use Rattle.next_spec.proofs.Members.{gates-long}
 
 -- ---- gates by their bytes
 
@@ -49,16 +51,16 @@ gate-small m x k some low l e =
 
 pub gate-put : {buffer after : List ℕ} {at : ℕ} (m x k : ℕ) → k ≡ m * m
     → Put buffer at (writeItem file.Stage (gate (coded (1 + x / k) (x % k / m ∷ x % k % m ∷ 65535 ∷ 65535 ∷ [])))) after
-    → Put buffer at (writeItem file.Stage (gateItem (gateNumbered m x))) after
+    → Put buffer at (writeItem file.Stage (gate (gateNumbered m x))) after
 gate-put m x k e p = put-same (gate-absent file.Stage (1 + x / (m * m)) (x % (m * m) / m ∷ x % (m * m) % m ∷ []) 2) (rw e at p)
 
 -- ---- the gates of a shape
 
-one-item : (g : Gate) → bytesOf file.Stage gateItem (g ∷ []) ≡ writeItem file.Stage (gateItem g) ++ []
+one-item : (g : Coded) → bytesOf file.Stage gate (g ∷ []) ≡ writeItem file.Stage (gate g) ++ []
 unfolding bytesOf
 one-item g = refl
 
-two-items : (g h : Gate) → bytesOf file.Stage gateItem (g ∷ h ∷ []) ≡ writeItem file.Stage (gateItem g) ++ (writeItem file.Stage (gateItem h) ++ [])
+two-items : (g h : Coded) → bytesOf file.Stage gate (g ∷ h ∷ []) ≡ writeItem file.Stage (gate g) ++ (writeItem file.Stage (gate h) ++ [])
 unfolding bytesOf
 two-items g h = refl
 
@@ -71,21 +73,21 @@ unfolding gatesNumbered lists
 numbered-two m x k e = let f : 2 * (m * m) * 1 ≡ k = omega arith in rw (f, div-one (x % k))
 
 module _ {buffer : List ℕ} (m g x : ℕ) where
-  pub gates-none : g ≡ 0 → Put buffer 2 (bytesOf file.Stage gateItem (gatesNumbered m g x)) buffer
+  pub gates-none : g ≡ 0 → Put buffer 2 (bytesOf file.Stage gate (gatesNumbered m g x)) buffer
   unfolding gatesNumbered bytesOf
   gates-none e = rw e (put-none buffer 2)
 
-  pub gates-one : {after : List ℕ} → g ≡ 1 → Put buffer 2 (writeItem file.Stage (gateItem (gateNumbered m x))) after
-      → Put buffer 2 (bytesOf file.Stage gateItem (gatesNumbered m g x)) after
+  pub gates-one : {after : List ℕ} → g ≡ 1 → Put buffer 2 (writeItem file.Stage (gate (gateNumbered m x))) after
+      → Put buffer 2 (bytesOf file.Stage gate (gatesNumbered m g x)) after
   gates-one {after} e p = rw (e, numbered-one m x, one-item (gateNumbered m x))
-      (put-++ p (put-none after 12) (omega (arith, stage-gate-width (codedGate (gateNumbered m x)))))
+      (put-++ p (put-none after 12) (omega (arith, stage-gate-width (gateNumbered m x))))
 
-  pub gates-two : {between after : List ℕ} (k : ℕ) → g ≡ 2 → k ≡ 2 * (m * m) → Put buffer 2 (writeItem file.Stage (gateItem (gateNumbered m (x / k)))) between
-      → Put between 12 (writeItem file.Stage (gateItem (gateNumbered m (x % k)))) after → Put buffer 2 (bytesOf file.Stage gateItem (gatesNumbered m g x)) after
+  pub gates-two : {between after : List ℕ} (k : ℕ) → g ≡ 2 → k ≡ 2 * (m * m) → Put buffer 2 (writeItem file.Stage (gate (gateNumbered m (x / k)))) between
+      → Put between 12 (writeItem file.Stage (gate (gateNumbered m (x % k)))) after → Put buffer 2 (bytesOf file.Stage gate (gatesNumbered m g x)) after
   gates-two {after = after} k e f p q =
       rw (e, numbered-two m x k f, two-items (gateNumbered m (x / k)) (gateNumbered m (x % k)))
-      (put-++ p (put-++ q (put-none after 22) (omega (arith, stage-gate-width (codedGate (gateNumbered m (x % k))))))
-      (omega (arith, stage-gate-width (codedGate (gateNumbered m (x / k))))))
+      (put-++ p (put-++ q (put-none after 22) (omega (arith, stage-gate-width (gateNumbered m (x % k)))))
+      (omega (arith, stage-gate-width (gateNumbered m (x / k)))))
 
 -- which numbers the gates have
 pub one-below : (m g x : ℕ) → g ≡ 1 → x < lists m g → x < 2 * (m * m)
@@ -115,15 +117,15 @@ output-small m z k some low e =
     rw e (omega arith, omega arith)
 
 pub stage-put : {b0 b1 b2 b3 b4 : List ℕ} (n g z k : ℕ) → InShape n g → k ≡ netsOf n g * netsOf n g → Put b0 0 (0x01 ∷ n ∷ []) b1
-    → Put b1 2 (bytesOf file.Stage gateItem (gatesNumbered (netsOf n g) g (z / k))) b2
+    → Put b1 2 (bytesOf file.Stage gate (gatesNumbered (netsOf n g) g (z / k))) b2
     → Put b2 (2 + 10 * g) (writeItem file.Stage (output (z % k / netsOf n g ∷ z % k % netsOf n g ∷ []))) b3 → Put b3 (7 + 10 * g) (0x00 ∷ []) b4
-    → Put b0 0 (writeStage (stageNumbered n g z)) b4
+    → Put b0 0 (fileOf (stageNumbered n g z)) b4
 unfolding stageNumbered bytesOf
 stage-put {b3 = b3} n g z k i e p q o w =
     let m = netsOf n g in
     let x = z / (m * m) in
-    let long = bytes-length file.Stage gateItem 10 (λ c. stage-gate-width (codedGate c)) (gatesNumbered m g x) in
-    put-same (sym (stage-parts (stageNumbered n g z)))
+    let long = bytes-length file.Stage gate 10 stage-gate-width (gatesNumbered m g x) in
+    put-same (sym (stage-bytes (stageNumbered n g z) ∙ file-parts file.Stage gate output n [] (gatesNumbered m g x) ((z % (m * m) / m ∷ z % (m * m) % m ∷ []) ∷ [])))
     (put-++ p
     (put-++ (rw e at q)
     (put-++ (put-++ (rw e at o) (put-none b3 (7 + 10 * g)) (omega (arith, stage-output-width (z % (m * m) / m ∷ z % (m * m) % m ∷ []))))
@@ -134,7 +136,7 @@ stage-put {b3 = b3} n g z k i e p q o w =
       stage-output-width
           (z % (m * m) / m ∷ z % (m * m) % m ∷ []),
     )))
-    (omega (arith, long, gates-long m (nets-some n g i) g x)))
+    (omega (arith, long, gates-long m g x)))
     refl)
 
 -- ---- comparing

@@ -7,11 +7,10 @@ use lib.ListN.{getD}
 use lib.Dec.{eqb}
 use Rattle.netlist.specs.declared.Found.{Found}
 use Rattle.netlist.specs.declared.Found.the-variants.{At, Nothing}
-use Rattle.netlist.specs.Content.{Stage}
-use Rattle.netlist.specs.Writing.{writeStage}
-use Rattle.verdict.specs.Checks.{verdict}
+use Rattle.check_spec.specs.Content.{Content}
+use Rattle.verdict.specs.FourNumbers.{verdict}
 use Rattle.verdict.specs.Written.{Written, refuse, writeOr}
-use Rattle.next_spec.specs.Family.{Member}
+use Rattle.next_spec.specs.Family.{fileOf, Member}
 use Rattle.next_spec.specs.Numbered.{stages, stageNumbered}
 use Rattle.next_spec.specs.Listing.{loopFreeFrom, Listed, onward}
 use Rattle.call_next.specs.declared.Place.{Place}
@@ -42,7 +41,7 @@ same (x ∷ xs) (y ∷ ys) = eqb x y && same xs ys
 -- a file is the empty one, or that of a listed stage, or none of the family
 unfoldable pub Located : List ℕ → Place → Type 0
 Located s place.Start = s ≡ []
-Located s (place.Stage n g z) = Listed n g z × (s ≡ writeStage (stageNumbered n g z))
+Located s (place.Stage n g z) = Listed n g z × (s ≡ fileOf (stageNumbered n g z))
 Located s place.Outside = (s ≡ [] → ⊥) × (Member s → ⊥)
 
 -- the search for the next number of a shape
@@ -51,7 +50,7 @@ FoundFree n g from (At z) = Listed n g z × (loopFreeFrom n g from (stages n g -
 FoundFree n g from Nothing = loopFreeFrom n g from (stages n g - from) ≡ []
 
 -- the first of some stages is at a place; there is none outside
-unfoldable pub First : List Stage → Place → Type 0
+unfoldable pub First : List Content → Place → Type 0
 First cs place.Start = ⊥
 First cs (place.Stage n g z) = Listed n g z × (cs ≡ stageNumbered n g z ∷ onward n g (z + 1))
 First cs place.Outside = cs ≡ []
@@ -64,5 +63,5 @@ ListedAt place.Outside = Unit {0}
 -- the file of the stage at a place, or 38, or 36 where there is none
 unfoldable pub writtenAt : Place → List ℕ → Written
 writtenAt place.Start buffer = refuse (verdict 36 1 0 0) buffer
-writtenAt (place.Stage n g z) buffer = writeOr (verdict 38 3 0 0) (writeStage (stageNumbered n g z)) buffer
+writtenAt (place.Stage n g z) buffer = writeOr (verdict 38 3 0 0) (fileOf (stageNumbered n g z)) buffer
 writtenAt place.Outside buffer = refuse (verdict 36 1 0 0) buffer

@@ -6,11 +6,11 @@ ghost use mathlib.Core.List.{_∷_, []};
 ghost use Prim.Native.Nat.{ℕ, _+_, _*_, _-_, _/_, _%_, _≤_, _<_};
 ghost use lib.ListN.{length, getD, take, drop};
 ghost use Rattle.netlist.specs.declared.File.the-variants as file;
-ghost use Rattle.netlist.specs.Writing.{writeItem, writeStage};
+ghost use Rattle.netlist.specs.Writing.{gate, writeItem};
 ghost use Rattle.write_command.specs.Put.{Put};
-ghost use Rattle.write_command.specs.Parts.{gateItem, bytesOf};
+ghost use Rattle.write_command.specs.Parts.{bytesOf};
 ghost use Rattle.verdict.specs.Written.{written};
-ghost use Rattle.next_spec.specs.Family.{NextDemand};
+ghost use Rattle.next_spec.specs.Family.{fileOf, NextDemand};
 ghost use Rattle.next_spec.specs.Numbered as numbered;
 ghost use Rattle.next_spec.specs.Numbered.{gateNumbered, gatesNumbered, stageNumbered};
 ghost use Rattle.next_spec.specs.Listing as listing;
@@ -161,7 +161,7 @@ fn first_from(inputs: usize, gates: usize, number: usize) -> Place
 // Gate x over m nets, at a place.
 fn put_gate(m: usize, x: usize, buffer: &mut [u8], at: usize)
     requires { ⌜ (1 ≤ m) × (m ≤ 6) × (x < 2 * (m * m)) × (at + 10 ≤ length (now buffer)) ⌝ }
-    ensures { λ _. ⌜ Put (now (buffer .entry)) at (writeItem file.Stage (gateItem (gateNumbered m x))) (now (buffer .exit)) ⌝ }
+    ensures { λ _. ⌜ Put (now (buffer .entry)) at (writeItem file.Stage (gate (gateNumbered m x))) (now (buffer .exit)) ⌝ }
 {
     let k = square(m);
     let y = x % k;
@@ -179,7 +179,7 @@ fn put_gate(m: usize, x: usize, buffer: &mut [u8], at: usize)
 // List x of the gates of a shape, after the inputs command.
 fn put_gates(inputs: usize, gates: usize, x: usize, buffer: &mut [u8])
     requires { ⌜ InShape inputs gates × (x < numbered.lists (2 * inputs + gates) gates) × (8 + 10 * gates ≤ length (now buffer)) ⌝ }
-    ensures { λ _. ⌜ Put (now (buffer .entry)) 2 (bytesOf file.Stage gateItem (gatesNumbered (2 * inputs + gates) gates x)) (now (buffer .exit)) ⌝ }
+    ensures { λ _. ⌜ Put (now (buffer .entry)) 2 (bytesOf file.Stage gate (gatesNumbered (2 * inputs + gates) gates x)) (now (buffer .exit)) ⌝ }
 {
     let m = 2 * inputs + gates;
     if gates == 0 {
@@ -197,7 +197,7 @@ fn put_gates(inputs: usize, gates: usize, x: usize, buffer: &mut [u8])
 // The file of a numbered stage.
 fn write_stage(inputs: usize, gates: usize, number: usize, buffer: &mut [u8])
     requires { ⌜ InShape inputs gates × (number < numbered.stages inputs gates) × (8 + 10 * gates ≤ length (now buffer)) ⌝ }
-    ensures { λ _. ⌜ Put (now (buffer .entry)) 0 (writeStage (stageNumbered inputs gates number)) (now (buffer .exit)) ⌝ }
+    ensures { λ _. ⌜ Put (now (buffer .entry)) 0 (fileOf (stageNumbered inputs gates number)) (now (buffer .exit)) ⌝ }
 {
     let m = 2 * inputs + gates;
     let k = square(m);

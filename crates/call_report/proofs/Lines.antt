@@ -1,12 +1,12 @@
 -- The lines of a report, written one after the other, and what they come to.
 -- Assumes nothing.
-use Prim.Native.Nat.{ℕ, zero, suc, _+_, _-_, _*_, _^_, _≤_, _<_}
+use Prim.Native.Nat.{ℕ, zero, suc, _+_, _-_, _^_, _≤_, _<_}
 use native.Mathlib.Omega.{arith}
 use native.Mathlib.Decide.{ℕ-discrete, decLt}
 use lib.Pow.{pow-mono}
-use mathlib.Core.Path.{_≡_, refl, sym, ap, ap₂, _∙_, subst}
+use mathlib.Core.Path.{_≡_, refl, sym, ap, ap₂, _∙_}
 use mathlib.Core.List.{List, [], _∷_, _++_, map}
-use lib.ListN.{length, getD, take, drop, set, replicate, length-set, length-map, length-append, length-replicate, List·getD-append, List·getD-eq-default}
+use lib.ListN.{length, getD, drop, set, replicate, length-set, length-map, length-append, length-replicate, List·getD-append}
 use lib.Seq.{getD-set-same, getD-set-other, getD-append-add, ext-getD, take-all}
 use Rattle.netlist.specs.Reading.{Ascending, stageLimits}
 use Rattle.netlist.specs.Content.{Stage}
@@ -17,7 +17,7 @@ use Rattle.verdict.specs.Words.{spelled, names}
 use Rattle.verdict.proofs.Names.{spelled-below, names-rise}
 use Rattle.words.specs.Listed.{Listed}
 use Rattle.report_spec.specs.High.{gatesHigh, HighIn}
-use Rattle.call_report.proofs.ReportLines.{map-at, lines-long}
+use Rattle.call_report.proofs.ReportLines.{map-at}
 use Rattle.call_report.specs.Report.{lines, mostLines, padded}
 use Rattle.call_report.specs.Lines.{linesBy, ListedTo, LinesTo}
 use Rattle.lane_count.proofs.Summing.{sum-more}

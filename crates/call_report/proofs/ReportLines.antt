@@ -2,14 +2,14 @@
 -- Assumes nothing.
 use Prim.Native.Nat.{ℕ, zero, suc, _<_}
 use native.Mathlib.Omega.{arith}
-use mathlib.Core.Path.{_≡_, refl, sym, ap, _∙_}
+use mathlib.Core.Path.{_≡_, refl, _∙_}
 use mathlib.Core.List.{List, [], _∷_, map}
-use lib.ListN.{length, getD, length-map, List·getD-append}
+use lib.ListN.{length, getD, length-map}
 use Rattle.netlist.specs.Content.{Stage}
 use Rattle.verdict.specs.declared.WordOrder.{WordOrder}
 use Rattle.verdict.specs.Words.{spelled, names}
 use Rattle.report_spec.specs.High.{gatesHigh}
-use Rattle.call_report.specs.Report.{byName, lines, padded}
+use Rattle.call_report.specs.Report.{byName, lines}
 
 -- a member of a list to which a function was applied
 pub map-at : (f : ℕ → ℕ) (l : List ℕ) (k : ℕ) → k < length l → getD (map f l) k 0 ≡ f (getD l k 0)

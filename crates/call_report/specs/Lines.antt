@@ -1,15 +1,11 @@
--- What the code's loop over the lines is given and has done so far, and what it needs of a file.
-use Prim.Native.Nat.{ℕ, _+_, _*_, _≤_, _<_}
+-- What the code's loop over the lines is given and has done so far.
+use Prim.Native.Nat.{ℕ, _*_, _≤_, _<_}
 use mathlib.Core.Path.{_≡_}
 use mathlib.Core.List.{List, map}
 use lib.ListN.{length, getD, take}
-use Rattle.netlist.specs.declared.File.the-variants as file
-use Rattle.netlist.specs.Reading.{Places, readable, readFile, stageLimits}
-use Rattle.netlist.specs.Content.{stageOf}
 use Rattle.verdict.specs.declared.WordOrder.{WordOrder}
 use Rattle.verdict.specs.Levels.{sum}
 use Rattle.verdict.specs.Words.{spelled}
-use Rattle.verdict.specs.Loops.{NoLoop}
 use Rattle.call_report.specs.Report.{mostLines}
 
 -- the lines of words by their names, where it is known how many gates are high in each word of the files
@@ -27,9 +23,3 @@ pub record LinesTo (l : List ℕ) (m : ℕ) (written : List ℕ) (sum-so-far : �
   pub lines-to : ListedTo l m written
   pub sum-is : sum-so-far ≡ sum (take m l)
   pub small : sum-so-far ≤ 0x10000 * m
-
--- a stage file that reads, and whose stage has no loop
-pub record LoopFreeFile (stage : List ℕ) : Type 0 where
-  pub places : Places
-  pub reads : readFile file.Stage stageLimits stage ≡ readable places
-  pub free : NoLoop (stageOf stage places .inputs) (stageOf stage places .gates)

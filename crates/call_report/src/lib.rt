@@ -1,23 +1,22 @@
 // The switching report: how many gates are high at rest, word by word, and in all words together.
+use check_files::Judgement;
 use netlist::Counts;
-use netlist::Outcome;
 use report_spec::Report;
 use verdict::Verdict;
 use verdict::WordOrder;
 ghost use mathlib.Core.Path.{_≡_};
-ghost use Prim.Native.Nat.{ℕ, _^_, _≤_};
+ghost use Prim.Native.Nat.{_^_, _≤_};
 ghost use lib.ListN.{length, replicate};
-ghost use Rattle.netlist.specs.declared.File.the-variants as file;
-ghost use Rattle.netlist.specs.Reading.{Places, Ascending, readable, readFile, stageLimits};
-ghost use Rattle.netlist.specs.Content.{stageOf};
+ghost use Rattle.netlist.specs.Reading.{Ascending, stageLimits};
 ghost use Rattle.verdict.specs.Levels.{sum};
 ghost use Rattle.verdict.specs.Words.{names};
+ghost use Rattle.verdict.specs.Verdicts.{accepted};
 ghost use Rattle.circuit.specs.Stage.{stageIn, StageLoaded};
 ghost use Rattle.circuit.specs.Order.{InOrder};
 ghost use Rattle.call_report.specs.Report as spec;
 ghost use Rattle.check_spec.specs.Content.{files};
 ghost use Rattle.report_spec.specs.Report.{reportOn, ReportMeans};
-ghost use Rattle.call_report.specs.Lines.{linesBy, LoopFreeFile};
+ghost use Rattle.call_report.specs.Lines.{linesBy};
 
 // The lines of some names are written, by how many gates are high in each word of the files; and the sum of the lines.
 fn write_lines(
@@ -62,31 +61,24 @@ fn fill_lines(
     write_lines(order, counts.inputs, list, &high, lines)
 }
 
-// The report of a stage that reads and has no loop.
-fn report_stage(order: WordOrder, stage: &[u8], verdict: Verdict) -> Report
-    requires { ⌜ LoopFreeFile (now stage) ⌝ }
-    ensures { λ r. ⌜ ((p : Places) → readFile file.Stage stageLimits (now (stage .entry)) ≡ readable p
-        → r ≡ spec.stageReport order verdict (stageOf (now (stage .entry)) p)) ⌝ }
+// The report of a stage that was accepted.
+fn report_stage(order: WordOrder, code: &[u16], counts: Counts) -> Report
+    requires { ⌜ StageLoaded counts (now code) × InOrder counts (now code) ⌝ }
+    ensures { λ r. ⌜ r ≡ spec.stageReport order accepted (stageIn counts (now (code .entry))) ⌝ }
 {
     let mut lines = [0u16; report_spec::LINES];
     let mut list = [0u16; report_spec::LINES];
-    let mut code = [0u16; circuit_load::STAGE_CODE];
-    if let Outcome::Readable(counts) = circuit_load::read_stage(stage, &mut code) {
-        circuit_order::order_gates(&mut code, counts);
-        let count = words::list_names(order, &code, counts, &mut list);
-        let total = fill_lines(order, &code, counts, &list[..count], &mut lines);
-        return Report {
-            verdict,
-            words: count as u64,
-            total,
-            lines,
-            names: list,
-        };
-    }
+    let count = words::list_names(order, code, counts, &mut list);
+    let total = fill_lines(order, code, counts, &list[..count], &mut lines);
     Report {
-        verdict,
-        words: 0,
-        total: 0,
+        verdict: Verdict {
+            number: 0,
+            file: 0,
+            at: 0,
+            word: 0,
+        },
+        words: count as u64,
+        total,
         lines,
         names: list,
     }
@@ -97,15 +89,25 @@ pub fn report_on(order: WordOrder, stage: &[u8], reference: &[u8]) -> Report
     ensures report { λ r. ⌜ r ≡ reportOn order (files (now (stage .entry)) (now (reference .entry))) ⌝ }
     ensures means { λ r. ⌜ ReportMeans (files (now (stage .entry)) (now (reference .entry))) r ⌝ }
 {
-    let verdict = check_files::check(order, stage, reference);
-    if verdict.number == 0 {
-        return report_stage(order, stage, verdict);
-    }
-    Report {
-        verdict,
-        words: 0,
-        total: 0,
-        lines: [0u16; report_spec::LINES],
-        names: [0u16; report_spec::LINES],
+    let mut code = [0u16; circuit_load::STAGE_CODE];
+    let mut loaded = [0u16; circuit_load::REFERENCE_CODE];
+    let judgement = check_files::check_loading(
+        order,
+        stage,
+        reference,
+        netlist::stage_limits(),
+        netlist::reference_limits(),
+        &mut code,
+        &mut loaded,
+    );
+    match judgement {
+        Judgement::Refused(verdict) => Report {
+            verdict,
+            words: 0,
+            total: 0,
+            lines: [0u16; report_spec::LINES],
+            names: [0u16; report_spec::LINES],
+        },
+        Judgement::Accepted(counts, _) => report_stage(order, &code, counts),
     }
 }

@@ -22,7 +22,7 @@ use Rattle.verdict.specs.declared.Answer.{Answer}
 use Rattle.verdict.specs.Written.{Written, answerOf, written, refuse, write, writeOr}
 use Rattle.write_command.proofs.Joining.{put-holding}
 use Rattle.verdict.proofs.Written.{holding-take}
-use Rattle.write_decimal.specs.Decimal.{PutNext}
+use Rattle.write_decimal.specs.Put.{PutNext}
 use Rattle.circuit.specs.Stage.{tabulate, outputIn, stageOutputs, stageCare, stageIn, StageLoaded}
 use Rattle.circuit.proofs.Tabulate.{length-tabulate}
 use Rattle.circuit_load.specs.Load.{HoldsStage}

@@ -1,69 +1,173 @@
--- The two files by what reading and loading them answers.
+-- The two files by what reading and loading them answers, and by what the checks find.
 -- Assumes nothing.
-use Prim.Native.Nat.{ℕ}
-use mathlib.Core.Path.{_≡_, sym, ap, ap₂, subst, _∙_}
-use mathlib.Core.List.{List}
+use Prim.Native.Nat.{ℕ, _≤_}
+use native.Mathlib.Omega.{arith}
+use mathlib.Core.Path.{_≡_, refl, sym, ap, ap₂, subst, _∙_}
+use mathlib.Core.Bool.{Bool, true, _&&_}
+use mathlib.Core.List.{List, [], _∷_}
+use lib.Dec.{ltb}
+use Rattle.runs.proofs.Test.{and-left, and-right, ltb-true}
 use Rattle.netlist.specs.declared.File.the-variants as file
 use Rattle.netlist.specs.declared.Limits.{Limits}
 use Rattle.netlist.specs.declared.Counts.{Counts}
+use Rattle.netlist.specs.declared.Found.{Found}
+use Rattle.netlist.specs.declared.Found.the-variants.{At, Nothing}
 use Rattle.netlist.specs.declared.Outcome.the-variants as outcome
-use Rattle.netlist.specs.Reading.{Reading, refused, readable, readFile, stageLimits, referenceLimits}
+use Rattle.netlist.specs.Reading.{refused, readable, readFile, stageLimits, referenceLimits}
 use Rattle.netlist.specs.Read.{outcomeOf}
 use Rattle.netlist.specs.Content.{Stage, Reference}
 use Rattle.verdict.specs.declared.Verdict.{Verdict}
 use Rattle.verdict.specs.declared.WordOrder.{WordOrder}
 use Rattle.verdict.specs.declared.Finding.{Finding}
-use Rattle.verdict.specs.Checks.{verdict, firstFault, checks}
-use Rattle.verdict.specs.Verdicts.{verdictOf, judgeReference, judgeStage, verdictWithin}
-use Rattle.check_spec.specs.Content.{files}
-use Rattle.check_spec.specs.Verdicts.{verdictOn}
+use Rattle.verdict.specs.declared.Finding.the-variants.{Fault, Passed}
+use Rattle.verdict.specs.Checks.{verdict, Check, atFault, sweep, finding, orLater, firstFault, checks, riseSweeps, fallSweeps}
+use Rattle.verdict.specs.Verdicts as verdicts
+use Rattle.verdict.proofs.Refusals.{refused-number}
+use Rattle.check_spec.specs.Cases.{first, judge}
+use Rattle.check_spec.specs.Content.{contentAt, files}
+use Rattle.check_spec.specs.Verdicts.{refusal, verdictOn}
 use Rattle.check_spec.specs.Demands.{Demand2, Demand3}
+use Rattle.check_spec.specs.Loaded.{stageView, referenceView, filesWithin}
 use Rattle.check_spec.proofs.Demanded.{demand-2, demand-3}
-use Rattle.check_spec.proofs.Bridge.{verdict-is}
+use Rattle.check_spec.proofs.View.{stage-view, reference-view}
+use Rattle.check_spec.proofs.Bridge.{alike-judge, checks-alike}
 use Rattle.circuit.specs.Stage.{stageIn}
 use Rattle.circuit.specs.Reference.{referenceIn}
 use Rattle.circuit_load.specs.Load.{HoldsStage, HoldsReference}
 use Rattle.circuit_load.proofs.Reading.{was-refused, stage-held, reference-held}
+use Rattle.check_word.specs.Loaded.{BothLoaded}
+use Rattle.check_files.specs.declared.Judgement.{Judgement}
+use Rattle.check_files.specs.declared.Judgement.the-variants as judgement
+use Rattle.check_files.specs.Judgement.{StageFrom, ReferenceFrom, PairLoaded, JudgedAs}
 
--- ---- the reference
+-- ---- a verdict that refuses has a number, and file 0, 1 or 2
 
-module _ (order : WordOrder) (s : Stage) (t : List ℕ) (x : Reading) where
-  pub reference-refused : (number at : ℕ) → outcome.Refused number at ≡ outcomeOf x → verdict number 2 at 0 ≡ judgeReference order s t x
-  unfolding judgeReference
-  reference-refused number at e = sym (ap (judgeReference order s t) (was-refused x number at e))
+abbrev Refusal : Verdict → Type 0
+Refusal v = (1 ≤ v .number) × (v .file ≤ 2)
 
-  pub reference-judged : (sizes : Counts) (code : List ℕ) → outcome.Readable sizes ≡ outcomeOf x → HoldsReference t x code →
-      (v : Verdict) (f : Finding) → v ≡ verdictOf f →
-      f ≡ firstFault (checks order s (referenceIn sizes code)) → v ≡ judgeReference order s t x
-  unfolding judgeReference
-  reference-judged sizes code e h v f a b =
-      let r = reference-held t x sizes code e h in
-      a ∙ ap verdictOf (b ∙ ap (λ (y : Reference). firstFault (checks order s y)) (r .2)) ∙ sym (ap (judgeReference order s t) (r .1))
+named : Check → Bool
+named c = ltb 0 (c .number) && ltb (c .file) 3
 
--- ---- the stage
+each-named : List Check → Bool
+each-named [] = true
+each-named (c ∷ cs) = named c && each-named cs
+
+swept-as : (number file : ℕ) (find : ℕ → Found) (ws : List ℕ) (v : Verdict) → sweep number file find ws ≡ Fault v → (v .number ≡ number) × (v .file ≡ file)
+unfolding sweep atFault
+swept-as number file find [] v e = absurd (let z : _≡_ {A = ℕ} 0 1 = cc in omega arith)
+swept-as number file find (w ∷ ws) v e = go (find w) e (swept-as number file find ws v)
+  where
+    go : (x : Found) → atFault number file w x (sweep number file find ws) ≡ Fault v → (sweep number file find ws ≡ Fault v → (v .number ≡ number) × (v .file ≡ file))
+        → (v .number ≡ number) × (v .file ≡ file)
+    go (At i) e later = let q : v ≡ verdict number file i w = cc in (ap (λ (x : Verdict). x .number) q, ap (λ (x : Verdict). x .file) q)
+    go Nothing e later = later e
+
+fault-named : (cs : List Check) → each-named cs ≡ true → (v : Verdict) → firstFault cs ≡ Fault v → Refusal v
+unfolding firstFault orLater finding named each-named
+fault-named [] n v e = absurd (let z : _≡_ {A = ℕ} 0 1 = cc in omega arith)
+fault-named (c ∷ cs) n v e = go (finding c) refl e (fault-named cs (and-right (named c) (each-named cs) n) v)
+  where
+    go : (x : Finding) → finding c ≡ x → orLater x (firstFault cs) ≡ Fault v → (firstFault cs ≡ Fault v → Refusal v) → Refusal v
+    go (Fault u) f e later =
+        let is = swept-as (c .number) (c .file) _ (c .words) v (f ∙ e) in
+        let own = and-left (named c) (each-named cs) n in
+        (omega (arith, is .0, ltb-true 0 (c .number) (and-left _ (ltb (c .file) 3) own)), omega (arith, is .1, ltb-true (c .file) 3 (and-right (ltb 0 (c .number)) _ own)))
+    go Passed f e later = later e
+
+checks-named : (order : WordOrder) (s : Stage) (r : Reference) → each-named (checks order s r) ≡ true
+unfolding checks riseSweeps fallSweeps named each-named
+checks-named order s r = refl
+
+-- ---- two files that are read
 
 module _ (order : WordOrder) (stageMost referenceMost : Limits) (s t : List ℕ) where
-  abbrev reading : Reading
-  reading = readFile file.Stage stageMost s
+  abbrev given : Verdict
+  given = verdictOn order (filesWithin stageMost referenceMost s t)
 
-  pub stage-refused : (number at : ℕ) → outcome.Refused number at ≡ outcomeOf reading → verdict number 1 at 0 ≡ verdictWithin order stageMost referenceMost s t
-  unfolding judgeStage verdictWithin
-  stage-refused number at e = sym (ap (judgeStage order referenceMost s t) (was-refused reading number at e))
+  refused-as : {code reference : List ℕ} (v : Verdict) → v ≡ given → Refusal v → JudgedAs order stageMost referenceMost s t (judgement.Refused v) code reference
+  refused-as v e n = record {
+    verdict-is = e;
+    refuses = λ u q. let i : v ≡ u = cc in subst Refusal i n;
+    loaded = λ c d q. absurd (let z : _≡_ {A = ℕ} 0 1 = cc in omega arith);
+  }
 
-  pub stage-judged : (c : Counts) (code : List ℕ) → outcome.Readable c ≡ outcomeOf reading → HoldsStage s reading code → (v : Verdict) →
-      v ≡ judgeReference order (stageIn c code) t (readFile file.Reference referenceMost t) → v ≡ verdictWithin order stageMost referenceMost s t
-  unfolding judgeStage verdictWithin
-  stage-judged c code e h v j =
-      let r = stage-held s reading c code e h in
-      j ∙ ap (λ (y : Stage). judgeReference order y t (readFile file.Reference referenceMost t)) (r .2) ∙ sym (ap (judgeStage order referenceMost s t) (r .1))
+  refuses-stage : (number at : ℕ) → readFile file.Stage stageMost s ≡ refused number at → verdict number 1 at 0 ≡ given
+  unfolding judge first refusal
+  refuses-stage number at e = rw e
+
+  pub stage-refused : {code reference : List ℕ} (number at : ℕ) → outcome.Refused number at ≡ outcomeOf (readFile file.Stage stageMost s)
+      → JudgedAs order stageMost referenceMost s t (judgement.Refused (verdict number 1 at 0)) code reference
+  stage-refused number at e =
+      let r = was-refused (readFile file.Stage stageMost s) number at e in
+      refused-as (verdict number 1 at 0) (refuses-stage number at r) (refused-number file.Stage stageMost s number at r .0, omega arith)
+
+  module _ (c : Counts) (code : List ℕ) (is : outcome.Readable c ≡ outcomeOf (readFile file.Stage stageMost s))
+      (h : HoldsStage s (readFile file.Stage stageMost s) code) where
+    from : StageFrom stageMost s c code
+    from = let r = stage-held s (readFile file.Stage stageMost s) c code is h in record { places = r .0; reads = r .1; content = r .2 }
+
+    refuses-reference : (number at : ℕ) → readFile file.Reference referenceMost t ≡ refused number at → verdict number 2 at 0 ≡ given
+    unfolding judge first refusal
+    refuses-reference number at e = rw (from .reads, e)
+
+    pub reference-refused : {code′ reference : List ℕ} (number at : ℕ) → outcome.Refused number at ≡ outcomeOf (readFile file.Reference referenceMost t)
+        → JudgedAs order stageMost referenceMost s t (judgement.Refused (verdict number 2 at 0)) code′ reference
+    reference-refused number at e =
+        let r = was-refused (readFile file.Reference referenceMost t) number at e in
+        refused-as (verdict number 2 at 0) (refuses-reference number at r) (refused-number file.Reference referenceMost t number at r .0, omega arith)
+
+    module _ (sizes : Counts) (reference : List ℕ) (it : outcome.Readable sizes ≡ outcomeOf (readFile file.Reference referenceMost t))
+        (k : HoldsReference t (readFile file.Reference referenceMost t) reference) where
+      of-reference : ReferenceFrom referenceMost t sizes reference
+      of-reference =
+          let r = reference-held t (readFile file.Reference referenceMost t) sizes reference it k in record { places = r .0; reads = r .1; content = r .2 }
+
+      abbrev found : Finding
+      found = firstFault (checks order (stageIn c code) (referenceIn sizes reference))
+
+      judged : verdicts.verdictOf found ≡ given
+      unfolding judge first refusal
+      judged =
+          let p = contentAt file.Stage s (readable (from .places)) in
+          let q = contentAt file.Reference t (readable (of-reference .places)) in
+          let view : stageIn c code ≡ stageView p = from .content ∙ sym (stage-view s (from .places)) in
+          let same : referenceIn sizes reference ≡ referenceView q = of-reference .content ∙ sym (reference-view t (of-reference .places)) in
+          rw (from .reads, of-reference .reads)
+          (ap verdicts.verdictOf (ap₂ (λ (x : Stage) (y : Reference). firstFault (checks order x y)) view same) ∙ sym (alike-judge (checks-alike order p q)))
+
+      pub checks-refuse : {code′ : List ℕ} (v : Verdict) → Fault v ≡ found → JudgedAs order stageMost referenceMost s t (judgement.Refused v) code′ reference
+      unfolding verdicts.verdictOf
+      checks-refuse v e =
+          refused-as v (ap verdicts.verdictOf e ∙ judged)
+          (fault-named (checks order (stageIn c code) (referenceIn sizes reference)) (checks-named order (stageIn c code) (referenceIn sizes reference)) v (sym e))
+
+      pub checks-pass : {code′ : List ℕ} → Passed ≡ found → BothLoaded c code′ sizes reference × (stageIn c code′ ≡ stageIn c code)
+          → JudgedAs order stageMost referenceMost s t (judgement.Accepted c sizes) code′ reference
+      unfolding verdicts.verdictOf
+      checks-pass {code′} e b = record {
+        verdict-is = ap verdicts.verdictOf e ∙ judged;
+        refuses = λ v q. absurd (let z : _≡_ {A = ℕ} 0 1 = cc in omega arith);
+        loaded = λ d z q.
+            let i : c ≡ d = cc in
+            let j : sizes ≡ z = cc in
+            subst (λ (x : Counts). PairLoaded stageMost referenceMost s t x code′ z reference) i
+            (subst (λ (x : Counts). PairLoaded stageMost referenceMost s t c code′ x reference) j
+            (record {
+              both = b .0;
+              stage-from = record { places = from .places; reads = from .reads; content = b .1 ∙ from .content };
+              reference-from = of-reference;
+            }));
+      }
 
 -- ---- the call
 
 -- what the check answers within the limits of the two files
-pub checked : (order : WordOrder) (stageMost referenceMost : Limits) (s t : List ℕ) (v : Verdict) → stageMost ≡ stageLimits → referenceMost ≡ referenceLimits
-    → v ≡ verdictWithin order stageMost referenceMost s t
-    → (v ≡ verdictOn order (files s t)) × (Demand2 order (files s t) v × Demand3 order (files s t) v)
-checked order stageMost referenceMost s t v e e′ is =
-    let z : v ≡ verdictOn order (files s t) =
-    is ∙ ap₂ (λ (a b : Limits). verdictWithin order a b s t) e e′ ∙ sym (verdict-is order (files s t)) in
-    (z, (subst (Demand2 order (files s t)) (sym z) (demand-2 order (files s t)), subst (Demand3 order (files s t)) (sym z) (demand-3 order (files s t))))
+module _ (order : WordOrder) (stageMost referenceMost : Limits) (s t : List ℕ) (v : Verdict) (e : stageMost ≡ stageLimits) (e′ : referenceMost ≡ referenceLimits)
+    (is : v ≡ verdictOn order (filesWithin stageMost referenceMost s t)) where
+  pub answered : v ≡ verdictOn order (files s t)
+  answered = is ∙ ap₂ (λ (a b : Limits). verdictOn order (filesWithin a b s t)) e e′
+
+  pub checked : (v ≡ verdictOn order (files s t)) × (Demand2 order (files s t) v × Demand3 order (files s t) v)
+  checked =
+      let z = answered in
+      (z, (subst (Demand2 order (files s t)) (sym z) (demand-2 order (files s t)), subst (Demand3 order (files s t)) (sym z) (demand-3 order (files s t))))

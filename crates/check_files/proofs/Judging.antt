@@ -1,6 +1,6 @@
 -- The checks of two circuits in their order: 10, 11, 12, 28, and those that sweep the words.
 -- Assumes nothing.
-use Prim.Native.Nat.{ℕ, _≤_, _<_}
+use Prim.Native.Nat.{ℕ, _<_}
 use native.Mathlib.Omega.{arith}
 use mathlib.Core.Path.{_≡_, refl, sym, ap, ap₂, _∙_}
 use mathlib.Core.List.{List}
@@ -11,6 +11,7 @@ use Rattle.netlist.specs.declared.Found.{Found}
 use Rattle.netlist.specs.declared.Found.the-variants.{At, Nothing}
 use Rattle.gates.specs.Cell.{isRetired}
 use Rattle.netlist.specs.Content.{Gate, Stage, Reference}
+use Rattle.verdict.specs.declared.Verdict.{Verdict}
 use Rattle.verdict.specs.declared.WordOrder.{WordOrder}
 use Rattle.verdict.specs.declared.Finding.{Finding}
 use Rattle.verdict.specs.declared.Finding.the-variants.{Fault, Passed}
@@ -27,6 +28,9 @@ use Rattle.circuit_order.proofs.Findings.{passed-on, faulty, found-at, found-no
 use Rattle.check_word.specs.Loaded.{BothLoaded}
 
 -- ---- one check
+
+pub not-passed : {v : Verdict} {A : Type 0} → Fault v ≡ Passed → A
+not-passed e = absurd (let z : _≡_ {A = ℕ} 0 1 = cc in omega arith)
 
 differ : (number a b : ℕ) → (a ≡ b → ⊥) → finding (unequal number a b) ≡ Fault (verdict number 0 a b)
 unfolding finding sweep first atFault
@@ -84,7 +88,7 @@ module _ (order : WordOrder) (c : Counts) (code : List ℕ) (sizes : Counts) (re
 
       module _ (e : found ≡ Nothing) where
         pub comparable : ReferenceLoaded sizes reference → BothLoaded c after sizes reference
-        comparable a = record { stage = l .loaded; ordered = l .in-order e; answers = a; enough = omega arith }
+        comparable a = record { stage = l .loaded; ordered = l .in-order e; answers = a; inputs = inputs; outputs = outputs }
 
         after-12 : firstFault (checks order s r) ≡ orLater (finding (retired s)) (firstFault (sweeps order s r))
         after-12 = after-11 ∙ passed-on _ _ (no-loop c code after found l e)

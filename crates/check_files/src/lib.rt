@@ -7,17 +7,25 @@ use verdict::Finding;
 use verdict::Verdict;
 use verdict::WordOrder;
 ghost use mathlib.Core.Path.{_≡_};
-ghost use Rattle.netlist.specs.declared.File.the-variants as file;
-ghost use Rattle.netlist.specs.Reading.{readFile, stageLimits, referenceLimits, NoMore};
+ghost use Prim.Native.Nat.{_+_, _*_, _^_, _≤_};
+ghost use lib.ListN.{length};
+ghost use Rattle.netlist.specs.Reading.{stageLimits, referenceLimits, NoMore};
 ghost use Rattle.verdict.specs.Retired.{retiredAt};
 ghost use Rattle.verdict.specs.Search.{least};
 ghost use Rattle.verdict.specs.Checks as checks;
-ghost use Rattle.verdict.specs.Verdicts as verdicts;
 ghost use Rattle.check_spec.specs.Content.{files};
 ghost use Rattle.check_spec.specs.Verdicts.{verdictOn};
 ghost use Rattle.check_spec.specs.Demands.{Demand2, Demand3};
 ghost use Rattle.circuit.specs.Stage.{stageGates, stageIn, StageLoaded};
 ghost use Rattle.circuit.specs.Reference.{referenceIn, ReferenceLoaded};
+ghost use Rattle.check_word.specs.Loaded.{BothLoaded};
+ghost use Rattle.check_files.specs.Judgement.{verdictOf, JudgedAs};
+
+// What the check leaves of two files: the verdict on a pair that is refused, or the counts of the stage and of the reference.
+pub enum Judgement {
+    Refused(Verdict),
+    Accepted(Counts, Counts),
+}
 
 // The least gate of a retired kind.
 fn least_retired(code: &[u16], counts: Counts) -> Found
@@ -44,6 +52,8 @@ fn judge(
 ) -> Finding
     requires { ⌜ StageLoaded counts (now code) × ReferenceLoaded sizes (now reference) ⌝ }
     ensures { λ r. ⌜ r ≡ checks.firstFault (checks.checks order (stageIn counts (now (code .entry))) (referenceIn sizes (now (reference .entry)))) ⌝ }
+    ensures passed { λ r. ⌜ (r ≡ Finding.Passed → BothLoaded counts (now (code .exit)) sizes (now (reference .entry))
+        × (stageIn counts (now (code .exit)) ≡ stageIn counts (now (code .entry)))) ⌝ }
 {
     if counts.inputs != sizes.inputs {
         return Finding::Fault(Verdict {
@@ -80,13 +90,13 @@ fn judge(
     check_words::sweep_all(order, code, counts, reference, sizes)
 }
 
-// The verdict of what the checks find.
-fn verdict_of(finding: Finding) -> Verdict
-    ensures { λ r. ⌜ r ≡ verdicts.verdictOf finding ⌝ }
+// The verdict of a judgement.
+fn verdict_of(judgement: Judgement) -> Verdict
+    ensures { λ r. ⌜ r ≡ verdictOf judgement ⌝ }
 {
-    match finding {
-        Finding::Fault(v) => v,
-        Finding::Passed => Verdict {
+    match judgement {
+        Judgement::Refused(v) => v,
+        Judgement::Accepted(_, _) => Verdict {
             number: 0,
             file: 0,
             at: 0,
@@ -95,66 +105,61 @@ fn verdict_of(finding: Finding) -> Verdict
     }
 }
 
-// A stage that was loaded, and a reference file, which is read within some limits: its refusal is of file 2.
-fn check_reference(
-    order: WordOrder,
-    code: &mut [u16],
-    counts: Counts,
-    reference: &[u8],
-    most: Limits,
-) -> Verdict
-    requires { ⌜ StageLoaded counts (now code) × NoMore most referenceLimits ⌝ }
-    ensures { λ r. ⌜ r ≡ verdicts.judgeReference order (stageIn counts (now (code .entry))) (now (reference .entry))
-        (readFile file.Reference most (now (reference .entry))) ⌝ }
-{
-    let mut loaded = [0u16; circuit_load::REFERENCE_CODE];
-    match circuit_load::read_reference_within(reference, most, &mut loaded) {
-        Outcome::Refused { number, at } => Verdict {
-            number: number as u64,
-            file: 2,
-            at: at as u64,
-            word: 0,
-        },
-        Outcome::Readable(sizes) => { verdict_of(judge(order, code, counts, &loaded, sizes)) },
-    }
-}
-
-// The verdict on a stage file and a reference file, which are read within some limits, with words named in an order.
-pub fn check_within(
+// The check of a stage file and a reference file, which are read within some limits, with words named in an order. The circuits of an accepted pair are
+// left in the two slices.
+pub fn check_loading(
     order: WordOrder,
     stage: &[u8],
     reference: &[u8],
     stage_most: Limits,
     reference_most: Limits,
-) -> Verdict
-    requires { ⌜ NoMore «stage_most» stageLimits × NoMore «reference_most» referenceLimits ⌝ }
-    ensures { λ r. ⌜ r ≡ verdicts.verdictWithin order «stage_most» «reference_most» (now (stage .entry)) (now (reference .entry)) ⌝ }
+    code: &mut [u16],
+    loaded: &mut [u16],
+) -> Judgement
+    requires { ⌜ NoMore «stage_most» stageLimits × NoMore «reference_most» referenceLimits
+        × (8 * stageLimits .gates + 2 * stageLimits .outputs + 2 ^ stageLimits .inputs ≤ length (now code))
+        × (3 * referenceLimits .gates + referenceLimits .outputs ≤ length (now loaded)) ⌝ }
+    ensures { λ r. ⌜ JudgedAs order «stage_most» «reference_most» (now (stage .entry)) (now (reference .entry)) r (now (code .exit)) (now (loaded .exit)) ⌝ }
 {
-    let mut code = [0u16; circuit_load::STAGE_CODE];
-    match circuit_load::read_stage_within(stage, stage_most, &mut code) {
-        Outcome::Refused { number, at } => Verdict {
+    match circuit_load::read_stage_within(stage, stage_most, code) {
+        Outcome::Refused { number, at } => Judgement::Refused(Verdict {
             number: number as u64,
             file: 1,
             at: at as u64,
             word: 0,
-        },
+        }),
         Outcome::Readable(counts) => {
-            check_reference(order, &mut code, counts, reference, reference_most)
+            match circuit_load::read_reference_within(reference, reference_most, loaded) {
+                Outcome::Refused { number, at } => Judgement::Refused(Verdict {
+                    number: number as u64,
+                    file: 2,
+                    at: at as u64,
+                    word: 0,
+                }),
+                Outcome::Readable(sizes) => match judge(order, code, counts, loaded, sizes) {
+                    Finding::Fault(v) => Judgement::Refused(v),
+                    Finding::Passed => Judgement::Accepted(counts, sizes),
+                },
+            }
         }
     }
 }
 
-// The same within the limits of the two files.
+// The verdict on a stage file and a reference file, with words named in an order.
 pub fn check(order: WordOrder, stage: &[u8], reference: &[u8]) -> Verdict
     ensures verdict { λ r. ⌜ r ≡ verdictOn order (files (now (stage .entry)) (now (reference .entry))) ⌝ }
     ensures demand2 { λ r. ⌜ Demand2 order (files (now (stage .entry)) (now (reference .entry))) r ⌝ }
     ensures runs { λ r. ⌜ Demand3 order (files (now (stage .entry)) (now (reference .entry))) r ⌝ }
 {
-    check_within(
+    let mut code = [0u16; circuit_load::STAGE_CODE];
+    let mut loaded = [0u16; circuit_load::REFERENCE_CODE];
+    verdict_of(check_loading(
         order,
         stage,
         reference,
         netlist::stage_limits(),
         netlist::reference_limits(),
-    )
+        &mut code,
+        &mut loaded,
+    ))
 }

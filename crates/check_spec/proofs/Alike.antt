@@ -4,18 +4,15 @@ use Prim.Native.Nat.{ℕ, zero, suc, _+_, _-_, _*_, _/_, _%_, _^_, _≤_, _<_, m
 use native.Mathlib.Omega.{arith}
 use native.Mathlib.Nat.{pow-succ', div-div-eq-div-mul}
 use mathlib.Core.Path.{_≡_, refl, sym, ap, ap₂, _∙_, subst, fun-ext}
-use mathlib.Core.Logic.{_⊎_, inl, inr}
 use mathlib.Core.Bool.{Bool, true, false, cond, not, _&&_, _||_, and-true}
-use mathlib.Core.List.{List, [], _∷_, _++_, map, map-map, reverse}
+use mathlib.Core.List.{List, [], _∷_, _++_, map, reverse}
 use lib.ListN.{length, getD, length-map, length-reverse, List·getD-map}
 use lib.Seq.{getD-append-add}
 use lib.Dec.{eqb, ltb}
 use Rattle.gates.specs.Cell.{bit}
 use Rattle.runs.specs.Row.{Row, low, only, _∖_}
-use Rattle.runs.specs.Net.{Net, rails, nets, mayRise, riseUp, railsOfInputs}
-use Rattle.runs.specs.Settled.{Settled, SettledHeld, SettledKept}
-use Rattle.runs.specs.Theory.{wordRails}
-use Rattle.runs.specs.Pair.{AllData, AllNull}
+use Rattle.runs.specs.Net.{Net, rails, mayRise, riseUp, railsOfInputs}
+use Rattle.runs.specs.Settled.{SettledHeld, SettledKept}
 use Rattle.runs.proofs.Test.{and-in, and-left, and-right, or-left, lt-ltb, ltb-true, eqb-eq, eqb-same, eqb-other}
 use Rattle.runs.proofs.Moves.{missing-held}
 use Rattle.runs.proofs.Net.{Place, rail, gate, none, place, byNet-rail, byNet-gate, byNet-none}
@@ -33,23 +30,23 @@ use Rattle.verdict.specs.Words as words
 use Rattle.verdict.specs.Answers as answers
 use Rattle.verdict.specs.Nets as code
 use Rattle.verdict.specs.Falls as falls
-use Rattle.verdict.specs.Checks as found
 use Rattle.verdict.proofs.Levels.{bits-length, bits-get}
 use Rattle.verdict.proofs.Settling.{settled-bits}
 use Rattle.verdict.proofs.Words.{bits-of-length, bits-of-bit, rails-word, index-in, in-index, word-below}
 use Rattle.verdict.proofs.Names.{aux-bit, aux-at, spelled-below, select-alike, in-isIn}
 use Rattle.verdict.proofs.Bridge.{settled-row, held-row, missing-row}
 use Rattle.verdict.proofs.OneWord.{wires-length, but-settled, keeping-settled}
-use Rattle.check_spec.specs.Lists.{xor, numbers, select, some, bitOf, ofBits}
+use Rattle.check_spec.specs.Lists.{xor, numbers, some, bitOf, ofBits}
 use Rattle.check_spec.specs.Content.{Content, contentAt, contentOf}
-use Rattle.check_spec.specs.Rows.{netOf, risen, fallen, dataOf, allData, allNull}
+use Rattle.check_spec.specs.Rows.{netOf, risen, fallen}
 use Rattle.check_spec.specs.Words.{IsWord, railsFor, caresFor, spelled, names, operate, values, answer}
-use Rattle.check_spec.specs.Checks.{rest, wrong, incomplete, highAnd, unobservable, fallIncomplete, fallUnobservable}
+use Rattle.check_spec.specs.Checks.{rest}
 use Rattle.check_spec.specs.Demands.{LoopFree}
+use Rattle.check_spec.specs.Loaded.{stageView, referenceView}
 use Rattle.check_spec.proofs.Loops.{some-in, some-out, risen-is, fallen-is}
-use Rattle.check_spec.proofs.Names.{bit-suc, same-bits, of-bits-below}
+use Rattle.check_spec.proofs.Names.{same-bits}
 use Rattle.check_spec.proofs.OneWord.{inside}
-use Rattle.check_spec.proofs.View.{stageView, referenceView, net-view, rail-view}
+use Rattle.check_spec.proofs.View.{net-view}
 
 -- ---- bits
 

@@ -1,25 +1,25 @@
 -- The verdict as the first failing case is the one that the code finds, check by check: the law that joins the definitions with those of the code.
 -- Assumes nothing.
-use Prim.Native.Nat.{ℕ, zero, suc, _+_, _-_, _*_, _/_, _%_, _^_, _≤_, _<_}
+use Prim.Native.Nat.{ℕ, zero, suc, _+_, _-_, _*_, _≤_, _<_}
 use native.Mathlib.Omega.{arith}
-use native.Mathlib.Decide.{ℕ-discrete}
 use mathlib.Core.Path.{_≡_, refl, sym, ap, ap₂, _∙_, subst, fun-ext}
-use mathlib.Core.Logic.{_⊎_, inl, inr}
+use mathlib.Core.Logic.{inl, inr}
 use mathlib.Core.Bool.{Bool, true, false, cond, not, _&&_, _||_}
-use mathlib.Core.List.{List, [], _∷_, _++_, map, flatMap}
-use lib.ListN.{length, getD, length-map, List·getD-map}
+use mathlib.Core.List.{List, [], _∷_, map, flatMap, _++_}
+use lib.ListN.{length, getD, length-map}
 use lib.Dec.{eqb, ltb}
 use Rattle.gates.specs.Cell.{bit, isRetired}
-use Rattle.runs.specs.Row.{Row, only}
-use Rattle.runs.specs.Net.{Net, nets, rails}
+use Rattle.runs.specs.Row.{Row}
+use Rattle.runs.specs.Theory.{AllHold}
+use Rattle.runs.specs.Net.{Net, nets}
 use Rattle.runs.specs.Pair.{AllData, AllNull}
-use Rattle.runs.proofs.Test.{clash, not-true, not-false, eqb-eq}
+use Rattle.runs.proofs.Test.{clash, not-true}
 use Rattle.netlist.specs.declared.Found.{Found}
 use Rattle.netlist.specs.declared.Found.the-variants.{At, Nothing}
 use Rattle.netlist.specs.declared.File.the-variants as file
 use Rattle.netlist.specs.Reading.{Reading, refused, readable, readFile}
 use Rattle.netlist.specs.Content as parsed
-use Rattle.netlist.specs.Content.{Coded, gateOf, stageOf, referenceOf}
+use Rattle.netlist.specs.Content.{Coded, gateOf}
 use Rattle.verdict.specs.declared.Verdict.{Verdict}
 use Rattle.verdict.specs.declared.WordOrder.{WordOrder}
 use Rattle.verdict.specs.declared.Finding.{Finding}
@@ -28,28 +28,27 @@ use Rattle.verdict.specs.Graph.{In, OnLoop}
 use Rattle.verdict.specs.Rows as levels
 use Rattle.verdict.specs.Loops as loops
 use Rattle.verdict.specs.Words as words
-use Rattle.verdict.specs.Answers as answers
 use Rattle.verdict.specs.Nets as code
-use Rattle.verdict.specs.Falls as falls
 use Rattle.verdict.specs.Retired as retire
 use Rattle.verdict.specs.Checks as found
 use Rattle.verdict.specs.Verdicts as given
-use Rattle.verdict.proofs.Words.{index-in, in-index}
+use Rattle.verdict.proofs.Words.{in-index}
 use Rattle.verdict.proofs.Reaching.{reaches-sound, reaches-complete}
-use Rattle.verdict.proofs.Because.{data-true, true-data, null-true, true-null}
-use Rattle.check_spec.specs.Cases.{verdict, accepted, Case, case, Check, first, judge, sweep, unequal}
-use Rattle.check_spec.specs.Lists.{xor, numbers, bitOf, reaches}
-use Rattle.check_spec.specs.Content.{Content, Files, contentAt, stageIn, referenceIn}
-use Rattle.check_spec.specs.Rows.{noGate, driver, cellIn, netOf, risen, fallen, dataOf, allData, allNull, feeding, reachesItself}
-use Rattle.check_spec.specs.Words.{railsFor, spelled, names, answer}
-use Rattle.check_spec.specs.Checks.{rest, wrong, incomplete, highAnd, unobservable, fallIncomplete, fallUnobservable, looped, retired, swept, checks}
-use Rattle.check_spec.specs.Verdicts.{refusal, reading, checksOn, verdictOn}
+use Rattle.check_spec.specs.Cases.{verdict, accepted, case, Check, first, judge, sweep, unequal}
+use Rattle.check_spec.specs.Lists.{xor, numbers, every, bitOf, reaches}
+use Rattle.check_spec.specs.Content.{Content, Files, contentAt}
+use Rattle.check_spec.specs.Rows.{noGate, driver, cellIn, netOf, dataOf, allData, allNull, feeding, reachesItself}
+use Rattle.check_spec.specs.Words.{spelled, names, IsWord, answer}
+use Rattle.check_spec.specs.Checks.{rest, wrong, incomplete, highAnd, unobservable, fallIncomplete, fallUnobservable, looped, retiredGate, retired, swept, checks}
+use Rattle.check_spec.specs.Verdicts.{refusal, verdictOn}
 use Rattle.check_spec.specs.Demands.{Pass, LoopFree}
-use Rattle.check_spec.proofs.First.{first-pass}
+use Rattle.check_spec.specs.Loaded.{pairOf, stageView, referenceView}
+use Rattle.check_spec.proofs.First.{first-pass, first-++}
+use Rattle.check_spec.proofs.OneWord.{CleanFall, hold-clean}
+use Rattle.check_spec.proofs.Laws.{Law, Laws, none, _&_, equal-passes, gates-passes, swept-passes}
 use Rattle.check_spec.proofs.Loops.{loop-found, found-loop, feeding-gate}
 use Rattle.check_spec.proofs.Pairs.{all-data, all-null}
-use Rattle.check_spec.proofs.Exactly.{EachCheck}
-use Rattle.check_spec.proofs.View.{pairOf, stageView, referenceView, stage-view, reference-view, net-view, rail-view, driver-view}
+use Rattle.check_spec.proofs.View.{stage-view, reference-view, net-view, rail-view}
 use Rattle.check_spec.proofs.Alike.{spelled-alike, names-alike, answer-alike, rest-alike, missing-alike, held-alike, but-alike, keeping-alike}
 
 -- ---- a sweep finds what its cases say
@@ -63,11 +62,6 @@ faultOr (Fault v) later = v
 faultOr Passed later = later
 
 module _ (number file : ℕ) (places : List ℕ) where
-  first-++ : (a b : List Case) (later : Verdict) → first (a ++ b) later ≡ first a (first b later)
-  unfolding first
-  first-++ [] b later = refl
-  first-++ (c ∷ a) b later = ap (λ (v : Verdict). cond (c .fails) (c .names) v) (first-++ a b later)
-
   places-is : (w : ℕ) (test test′ : ℕ → Bool) (is : List ℕ) → ((i : ℕ) → In i is → test i ≡ test′ i) → (later : Verdict)
       → first (map (λ i. case number file i w (test i)) is) later ≡ foundOr number file w (found.first test′ is) later
   unfolding first found.first
@@ -96,45 +90,103 @@ module _ (number file : ℕ) (places : List ℕ) where
       ∙ ap (foundOr number file w (found.first (fails′ w) places)) (sweep-is fails fails′ ws (λ u x. same u (inr x)) later)
       ∙ found-fault w (found.first (fails′ w) places) (found.sweep number file (λ w. found.first (fails′ w) places) ws) later
 
--- some checks, and as many of the code's: each finds what the first failing case of the other says, as long as those before it find nothing
-abbrev pub Alike : List Check → List found.Check → Type 0
-Alike [] [] = Unit {0}
-Alike [] (d ∷ ds) = ⊥
-Alike (c ∷ cs) [] = ⊥
-Alike (c ∷ cs) (d ∷ ds) = ((later : Verdict) → first c later ≡ faultOr (found.finding d) later) × (found.finding d ≡ Passed → Alike cs ds)
+-- a fault that the code finds has the number of its check
+pub sweep-number : (number file : ℕ) (find : ℕ → Found) (ws : List ℕ) (v : Verdict) → found.sweep number file find ws ≡ Fault v → v .number ≡ number
+unfolding found.sweep found.atFault
+sweep-number number file find [] v e = let z : _≡_ {A = ℕ} 0 1 = cc in absurd (omega arith)
+sweep-number number file find (w ∷ ws) v e = go (find w) e (sweep-number number file find ws v)
+  where
+    go : (x : Found) → found.atFault number file w x (found.sweep number file find ws) ≡ Fault v → (found.sweep number file find ws ≡ Fault v → v .number ≡ number) → v .number ≡ number
+    go (At i) e later = let q : verdict number file i w ≡ v = cc in sym (ap (λ (x : Verdict). x .number) q)
+    go Nothing e later = later e
 
-pub alike-judge : (cs : List Check) (ds : List found.Check) → Alike cs ds → judge cs ≡ given.verdictOf (found.firstFault ds)
+-- a check, and what the code finds for it
+abbrev pub Same : Check → found.Check → Type 0
+Same c d = (later : Verdict) → first c later ≡ faultOr (found.finding d) later
+
+-- where the code finds nothing the check passes
+same-pass : (c : Check) → ((later : Verdict) → first c later ≡ later) → Pass c
+unfolding first
+same-pass [] e = tt
+same-pass (k ∷ c) e = go (k .fails) refl (same-pass c)
+  where
+    go : (b : Bool) → k .fails ≡ b → (((later : Verdict) → first c later ≡ later) → Pass c) → Pass (k ∷ c)
+    go true q later =
+        let a : k .names ≡ accepted = rw q at (e accepted) in
+        let b : k .names ≡ verdict 1 0 0 0 = rw q at (e (verdict 1 0 0 0)) in
+        absurd (omega (arith, ap (λ (v : Verdict). v .number) (sym a ∙ b)))
+    go false q later = (q, later (λ x. rw q at (e x)))
+
+-- some checks, and as many of the code's: each finds what the first failing case of the other says, where those before it pass
+pub data Alike : List Check → List found.Check → Type 1 where
+  alike : Alike [] []
+  also : {c : Check} {d : found.Check} {cs : List Check} {ds : List found.Check} → Same c d → (Pass c → Alike cs ds) → Alike (c ∷ cs) (d ∷ ds)
+
+pub alike-judge : {cs : List Check} {ds : List found.Check} → Alike cs ds → judge cs ≡ given.verdictOf (found.firstFault ds)
 unfolding judge found.firstFault found.orLater given.verdictOf
-alike-judge [] [] a = refl
-alike-judge [] (d ∷ ds) a = absurd a
-alike-judge (c ∷ cs) [] a = absurd a
-alike-judge (c ∷ cs) (d ∷ ds) a = a .0 (judge cs) ∙ go (found.finding d) refl (λ e. alike-judge cs ds (a .1 e))
+alike-judge alike = refl
+alike-judge (also {c = c} {d = d} {cs = cs} {ds = ds} e a) = e (judge cs) ∙ go (found.finding d) refl (λ p. alike-judge (a p))
   where
-    go : (x : Finding) → found.finding d ≡ x → (found.finding d ≡ Passed → judge cs ≡ given.verdictOf (found.firstFault ds))
-        → faultOr x (judge cs) ≡ given.verdictOf (found.orLater x (found.firstFault ds))
-    go (Fault v) e later = refl
-    go Passed e later = later e
+    go : (x : Finding) → found.finding d ≡ x → (Pass c → judge cs ≡ given.verdictOf (found.firstFault ds))
+        → faultOr (found.finding d) (judge cs) ≡ given.verdictOf (found.orLater (found.finding d) (found.firstFault ds))
+    go (Fault v) q later = rw q
+    go Passed q later = rw q (later (same-pass c (λ y. e y ∙ ap (λ (x : Finding). faultOr x y) q)))
 
-pub fault-passed : {v : Verdict} → Fault v ≡ Passed → ⊥
-fault-passed e = let z : _≡_ {A = ℕ} 0 1 = cc in omega arith
+abbrev pub AllPass : List Check → Type 0
+AllPass [] = Unit {0}
+AllPass (c ∷ cs) = Pass c × AllPass cs
 
--- where all cases pass the code finds nothing
-pub alike-passed : (cs : List Check) (ds : List found.Check) → Alike cs ds → EachCheck Pass cs → found.firstFault ds ≡ Passed
+-- the code finds nothing exactly if all checks pass
+pub alike-passed : {cs : List Check} {ds : List found.Check} → Alike cs ds → AllPass cs → found.firstFault ds ≡ Passed
 unfolding found.firstFault found.orLater
-alike-passed [] [] a p = refl
-alike-passed [] (d ∷ ds) a p = absurd a
-alike-passed (c ∷ cs) [] a p = absurd a
-alike-passed (c ∷ cs) (d ∷ ds) a p = go (found.finding d) refl (λ later. sym (a .0 later) ∙ first-pass c later (p .0)) (λ e. alike-passed cs ds (a .1 e) (p .1))
+alike-passed alike p = refl
+alike-passed (also {c = c} {d = d} {ds = ds} e a) p = go (found.finding d) (λ y. sym (e y) ∙ first-pass c y (p .0)) (alike-passed (a (p .0)) (p .1))
   where
-    go : (x : Finding) → found.finding d ≡ x → ((later : Verdict) → faultOr (found.finding d) later ≡ later) → (found.finding d ≡ Passed → found.firstFault ds ≡ Passed)
-        → found.orLater x (found.firstFault ds) ≡ Passed
-    go (Fault v) e same later =
-        let a : v ≡ accepted = rw e at (same accepted) in
-        let b : v ≡ verdict 1 0 0 0 = rw e at (same (verdict 1 0 0 0)) in
-        absurd (omega (arith, ap (λ (x : Verdict). x .number) (sym a ∙ b)))
-    go Passed e same later = later e
+    go : (x : Finding) → ((later : Verdict) → faultOr x later ≡ later) → found.firstFault ds ≡ Passed → found.orLater x (found.firstFault ds) ≡ Passed
+    go (Fault v) same later = absurd (omega (arith, ap (λ (x : Verdict). x .number) (sym (same accepted) ∙ same (verdict 1 0 0 0))))
+    go Passed same later = later
+
+pub passed-alike : {cs : List Check} {ds : List found.Check} → Alike cs ds → found.firstFault ds ≡ Passed → AllPass cs
+unfolding found.firstFault found.orLater
+passed-alike alike e = tt
+passed-alike (also {c = c} {d = d} {cs = cs} {ds = ds} e a) q = go (found.finding d) refl q (λ p. passed-alike (a p))
+  where
+    go : (x : Finding) → found.finding d ≡ x → found.orLater x (found.firstFault ds) ≡ Passed → (Pass c → found.firstFault ds ≡ Passed → AllPass cs) → Pass c × AllPass cs
+    go (Fault v) z q later = let y : _≡_ {A = ℕ} 0 1 = cc in absurd (omega arith)
+    go Passed z q later = let p = same-pass c (λ y. e y ∙ ap (λ (x : Finding). faultOr x y) z) in (p, later p q)
+
+-- all pass in a whole
+pub whole-passes : {Whole : Type 0} {Claim : Verdict → Type 0} → Whole → {cs : List Check} → Laws Whole Claim cs → AllPass cs
+whole-passes w none = tt
+whole-passes w (l & ls) = (l .passes .1 (l .in-whole w), whole-passes w ls)
 
 -- ---- the tests
+
+every-shift : (test : ℕ → Bool) (j m : ℕ) → every test (numbers (suc j) m) ≡ every (λ i. test (suc i)) (numbers j m)
+unfolding every numbers
+every-shift test j zero = refl
+every-shift test j (suc m) = ap (λ (b : Bool). cond (test (suc j)) b false) (every-shift test (suc j) m)
+
+-- every pair of outputs passes a test of its two levels
+every-pair : (T : Bool → Bool → Bool) (test : levels.DualRail → Bool) → ((a b : Bool) → T a b ≡ test (levels.dualRail a b)) → (row : List ℕ) (outputs : List (List ℕ))
+    → every (λ j. T (code.rowOf row (getD (getD outputs j []) 0 0)) (code.rowOf row (getD (getD outputs j []) 1 0))) (numbers 0 (length outputs)) ≡ levels.everyPair test row (map pairOf outputs)
+unfolding every numbers levels.everyPair
+every-pair T test same row [] = refl
+every-pair T test same row (o ∷ outputs) = rw (same (code.rowOf row (getD o 0 0)) (code.rowOf row (getD o 1 0)))
+    (ap (λ (b : Bool). cond (test (levels.pairIn row (pairOf o))) b false)
+    (every-shift (λ j. T (code.rowOf row (getD (getD (o ∷ outputs) j []) 0 0)) (code.rowOf row (getD (getD (o ∷ outputs) j []) 1 0))) 0 (length outputs) ∙ every-pair T test same row outputs))
+
+is-data : (a b : Bool) → xor a b ≡ levels.isData (levels.dualRail a b)
+is-data true true = refl
+is-data true false = refl
+is-data false true = refl
+is-data false false = refl
+
+is-null : (a b : Bool) → not (a || b) ≡ levels.isNull (levels.dualRail a b)
+is-null true true = refl
+is-null true false = refl
+is-null false true = refl
+is-null false false = refl
 
 -- two tests that pass together
 pub together : (a b : Bool) → (a ≡ true → b ≡ true) → (b ≡ true → a ≡ true) → a ≡ b
@@ -182,14 +234,10 @@ module _ (c : Content) where
       at (g ∷ gates) (suc k) h = at gates k (omega arith)
 
   data-alike : (row : List ℕ) (R : Row) → code.rowOf row ≡ R → allData (netOf c) R ≡ levels.allData row (v .outputs)
-  data-alike row R e = together _ _
-      (λ p. true-data v row (subst (λ (N : Net). AllData N (code.rowOf row)) (sym (net-view c)) (subst (AllData (netOf c)) (sym e) (all-data (netOf c) R .0 p))))
-      (λ p. all-data (netOf c) R .1 (subst (AllData (netOf c)) e (subst (λ (N : Net). AllData N (code.rowOf row)) (net-view c) (data-true v row p))))
+  data-alike row R e = ap (allData (netOf c)) (sym e) ∙ every-pair xor levels.isData is-data row (c .outputs)
 
   null-alike : (row : List ℕ) (R : Row) → code.rowOf row ≡ R → allNull (netOf c) R ≡ levels.allNull row (v .outputs)
-  null-alike row R e = together _ _
-      (λ p. true-null v row (subst (λ (N : Net). AllNull N (code.rowOf row)) (sym (net-view c)) (subst (AllNull (netOf c)) (sym e) (all-null (netOf c) R .0 p))))
-      (λ p. all-null (netOf c) R .1 (subst (AllNull (netOf c)) e (subst (λ (N : Net). AllNull N (code.rowOf row)) (net-view c) (null-true v row p))))
+  null-alike row R e = ap (allNull (netOf c)) (sym e) ∙ every-pair (λ a b. not (a || b)) levels.isNull is-null row (c .outputs)
 
   module _ (r : Content) (free : LoopFree (netOf c)) (w : ℕ) where
     wrong-alike : (j : ℕ) → j < length (r .outputs) → wrong c r w j ≡ found.wrong v (referenceView r) w j
@@ -251,28 +299,6 @@ module _ (c : Content) where
 
 -- ---- the checks
 
--- a check that finds nothing in its one word finds nothing there
-pub found-none : (number file w : ℕ) (places : List ℕ) (fails : ℕ → ℕ → Bool) → found.sweep number file (λ w. found.first (fails w) places) (w ∷ []) ≡ Passed
-    → (i : ℕ) → In i places → fails w i ≡ false
-unfolding found.sweep found.atFault found.first
-found-none number file w places fails e = none places (nothing (found.first (fails w) places) e)
-  where
-    nothing : (x : Found) → found.atFault number file w x Passed ≡ Passed → x ≡ Nothing
-    nothing (At i) e = absurd (fault e)
-      where
-        fault : found.atFault number file w (At i) Passed ≡ Passed → ⊥
-        fault q = let z : _≡_ {A = ℕ} 0 1 = cc in omega arith
-    nothing Nothing e = refl
-
-    none : (is : List ℕ) → found.first (fails w) is ≡ Nothing → (i : ℕ) → In i is → fails w i ≡ false
-    none (k ∷ is) e i x = go (fails w k) refl e x (none is)
-      where
-        go : (b : Bool) → fails w k ≡ b → cond b (At k) (found.first (fails w) is) ≡ Nothing → In i (k ∷ is)
-            → (found.first (fails w) is ≡ Nothing → (i : ℕ) → In i is → fails w i ≡ false) → fails w i ≡ false
-        go true q e x later = let z : _≡_ {A = ℕ} 0 1 = cc in absurd (omega arith)
-        go false q e (inl p) later = ap (fails w) p ∙ q
-        go false q e (inr x) later = later e i x
-
 -- of a check that compares counts, of one that looks at places, and of one that sweeps words
 pub unequal-is : (number mine theirs mine′ theirs′ : ℕ) → mine ≡ mine′ → theirs ≡ theirs′ → (later : Verdict)
     → first (unequal number mine theirs) later ≡ faultOr (found.finding (found.unequal number mine′ theirs′)) later
@@ -280,12 +306,6 @@ unfolding found.finding sweep flatMap
 unequal-is number mine theirs mine′ theirs′ e e′ later =
     sweep-is number 0 (mine ∷ []) (λ w i. not (eqb mine theirs)) (λ w i. not (eqb mine theirs)) (theirs ∷ []) (λ w x i y. refl) later
     ∙ ap₂ (λ (a b : ℕ). faultOr (found.sweep number 0 (λ w. found.first (λ i. not (eqb a b)) (a ∷ [])) (b ∷ [])) later) e e′
-
-pub found-equal : (number mine theirs : ℕ) → found.finding (found.unequal number mine theirs) ≡ Passed → mine ≡ theirs
-unfolding found.finding
-found-equal number mine theirs e =
-    let n : not (eqb mine theirs) ≡ false = found-none number 0 theirs (mine ∷ []) (λ w i. not (eqb mine theirs)) e mine (inl refl) in
-    eqb-eq mine theirs (not-false (eqb mine theirs) (λ q. clash (ap not q) n))
 
 pub placed-is : (number file m m′ : ℕ) (fails fails′ : ℕ → Bool) → m ≡ m′ → ((i : ℕ) → i < m → fails i ≡ fails′ i) → (later : Verdict)
     → first (sweep number file (0 ∷ []) (numbers 0 m) (λ w. fails)) later
@@ -321,71 +341,42 @@ module _ (order : WordOrder) (c : Content) where
     signals-long : length (r .outputs) ≡ length (q .outputs)
     signals-long = sym (length-map (r .outputs) (λ (vs : List ℕ). getD vs 0 0))
 
-    -- a loop that the code does not find is none
-    pub found-free : found.finding (found.looped s) ≡ Passed → LoopFree (netOf c)
-    unfolding found.finding
-    found-free e net h =
-        let g = net - 2 * c .inputs in
-        let z : 2 * c .inputs + g ≡ net = omega (arith, h .0) in
-        let l : g < length (c .gates) = omega (arith, h .0, h .1) in
-        ap (reachesItself (netOf c)) (sym z) ∙ loop-alike c g l
-        ∙ found-none 12 1 0 (numbers 0 (length (s .gates))) (λ w. loops.reachesItself (c .inputs) (s .gates)) e g
-        (index-in (length (s .gates)) g (omega (arith, gates-long)))
+    -- the checks of the rise, with others after them, and those of the fall
+    module _ (free : LoopFree (netOf c)) where
+      rises-alike : length (c .outputs) ≤ length (r .outputs) → {cs : List Check} {ds : List found.Check} → Alike cs ds
+          → Alike (swept order c 13 1 (length (c .outputs)) (wrong c r) ∷ swept order c 14 1 (c .inputs) (incomplete c) ∷ swept order c 15 1 (length (c .gates)) (unobservable c) ∷ cs) (found.riseSweeps order s q ++ ds)
+      unfolding found.riseSweeps found.finding
+      rises-alike few later =
+          also (swept-is 13 1 (length (c .outputs)) (length (s .outputs)) (wrong c r) (found.wrong s q) outputs-long (λ w j h. wrong-alike c r free w j (omega arith))) λ n13.
+          also (swept-is 14 1 (c .inputs) (c .inputs) (incomplete c) (found.incomplete s) refl (λ w i h. incomplete-alike c r free w i)) λ n14.
+          also (swept-is 15 1 (length (c .gates)) (length (s .gates)) (unobservable c) (found.unobservable s) gates-long (λ w g h. unobservable-alike c r free w g h)) λ n15. later
 
-    sweeps-alike : LoopFree (netOf c) → length (c .outputs) ≡ length (r .outputs)
-        → Alike (swept order c 13 1 (length (c .outputs)) (wrong c r) ∷ swept order c 14 1 (c .inputs) (incomplete c) ∷
-        swept order c 15 1 (length (c .gates)) (unobservable c) ∷ swept order c 20 1 (c .inputs) (fallIncomplete c) ∷
-        swept order c 21 1 (length (c .gates)) (fallUnobservable c) ∷ []) (found.sweeps order s q)
-    unfolding found.riseSweeps found.fallSweeps found.finding
-    sweeps-alike free o =
-        let n13 = swept-is 13 1 (length (c .outputs)) (length (s .outputs)) (wrong c r) (found.wrong s q) outputs-long
-        (λ w j h. wrong-alike c r free w j (omega (arith, o))) in
-        let n14 = swept-is 14 1 (c .inputs) (c .inputs) (incomplete c) (found.incomplete s) refl (λ w i h. incomplete-alike c r free w i) in
-        let n15 = swept-is 15 1 (length (c .gates)) (length (s .gates)) (unobservable c) (found.unobservable s) gates-long
-        (λ w g h. unobservable-alike c r free w g h) in
-        let n20 = swept-is 20 1 (c .inputs) (c .inputs) (fallIncomplete c) (found.fallIncomplete s) refl (λ w i h. fall-incomplete-alike c r free w i) in
-        let n21 = swept-is 21 1 (length (c .gates)) (length (s .gates)) (fallUnobservable c) (found.fallUnobservable s) gates-long
-        (λ w g h. fall-unobservable-alike c r free w g) in
-        (n13, λ x. (n14, λ x. (n15, λ x. (n20, λ x. (n21, λ x. tt)))))
+      falls-alike : Alike (swept order c 20 1 (c .inputs) (fallIncomplete c) ∷ swept order c 21 1 (length (c .gates)) (fallUnobservable c) ∷ []) (found.fallSweeps order s q)
+      unfolding found.fallSweeps found.finding
+      falls-alike =
+          also (swept-is 20 1 (c .inputs) (c .inputs) (fallIncomplete c) (found.fallIncomplete s) refl (λ w i h. fall-incomplete-alike c r free w i)) λ n20.
+          also (swept-is 21 1 (length (c .gates)) (length (s .gates)) (fallUnobservable c) (found.fallUnobservable s) gates-long (λ w g h. fall-unobservable-alike c r free w g)) λ n21. alike
 
-    checks-alike : Alike (checks order c r) (found.checks order s q)
+      -- with hold everywhere the code passes the fall where it passes the rise
+      pub hold-passes : length (c .outputs) ≤ length (r .outputs) → AllHold (netOf c) → found.firstFault (found.riseSweeps order s q) ≡ Passed → found.firstFault (found.fallSweeps order s q) ≡ Passed
+      unfolding found.riseSweeps
+      hold-passes few hold e =
+          let p = passed-alike (rises-alike few alike) e in
+          let clean : (w : ℕ) → IsWord c w → CleanFall c w = λ w i. hold-clean c r free w hold (record {
+            right = swept-passes c order 13 1 (length (c .outputs)) (wrong c r) .0 (p .0) w i;
+            complete = swept-passes c order 14 1 (c .inputs) (incomplete c) .0 (p .1 .0) w i;
+            observable = swept-passes c order 15 1 (length (c .gates)) (unobservable c) .0 (p .1 .1 .0) w i;
+          }) in
+          alike-passed falls-alike (swept-passes c order 20 1 (c .inputs) (fallIncomplete c) .1 (λ w i. clean w i .complete), (swept-passes c order 21 1 (length (c .gates)) (fallUnobservable c) .1 (λ w i. clean w i .observable), tt))
+
+    pub checks-alike : Alike (checks order c r) (found.checks order s q)
     unfolding checks looped retired found.checks found.finding
     checks-alike =
-        let n10 = unequal-is 10 (c .inputs) (r .inputs) (c .inputs) (r .inputs) refl refl in
-        let n11 = unequal-is 11 (length (c .outputs)) (length (r .outputs)) (length (s .outputs)) (length (q .outputs)) outputs-long signals-long in
-        let n12 = placed-is 12 1 (length (c .gates)) (length (s .gates)) (λ g. reachesItself (netOf c) (2 * c .inputs + g))
-        (loops.reachesItself (c .inputs) (s .gates)) gates-long (loop-alike c) in
-        let n28 = placed-is 28 1 (length (c .gates)) (length (s .gates)) (λ g. isRetired (cellIn (driver c (2 * c .inputs + g))))
-        (retire.retiredAt (s .gates)) gates-long (retired-alike c) in (
-          n10,
-          λ x. (
-            n11,
-            λ o. (
-              n12,
-              λ l. (
-                n28,
-                λ x.
-                    sweeps-alike (found-free l) (outputs-long ∙ found-equal 11 (length (s .outputs)) (length (q .outputs)) o ∙ sym signals-long),
-              ),
-            ),
-          ),
-        )
-
-    pub checks-is : judge (checks order c r) ≡ given.verdictOf (found.firstFault (found.checks order s q))
-    checks-is = alike-judge (checks order c r) (found.checks order s q) checks-alike
-
--- ---- the verdict
-
--- the law that joins the two
-pub verdict-is : (order : WordOrder) (f : Files) → verdictOn order f ≡ given.verdictWithin order (f .stageMost) (f .referenceMost) (f .stage) (f .reference)
-unfolding judge first refusal given.verdictWithin given.judgeStage given.judgeReference
-verdict-is order f = go (readFile file.Stage (f .stageMost) (f .stage)) (readFile file.Reference (f .referenceMost) (f .reference)) refl
-  where
-    go : (x y : Reading) → readFile file.Reference (f .referenceMost) (f .reference) ≡ y
-        → first (refusal file.Stage x) (first (refusal file.Reference y) (judge (checks order (contentAt file.Stage (f .stage) x) (contentAt file.Reference (f .reference) y))))
-        ≡ given.judgeStage order (f .referenceMost) (f .stage) (f .reference) x
-    go (refused number at) y e = refl
-    go (readable p) (refused number at) e = rw e
-    go (readable p) (readable p′) e =
-        rw e (checks-is order (contentAt file.Stage (f .stage) (readable p)) (contentAt file.Reference (f .reference) (readable p′))
-        ∙ ap₂ (λ (s : parsed.Stage) (r : parsed.Reference). given.verdictOf (found.firstFault (found.checks order s r))) (stage-view (f .stage) p) (reference-view (f .reference) p′))
+        also (unequal-is 10 (c .inputs) (r .inputs) (c .inputs) (r .inputs) refl refl) λ n10.
+        also (unequal-is 11 (length (c .outputs)) (length (r .outputs)) (length (s .outputs)) (length (q .outputs)) outputs-long signals-long) λ n11.
+        also (placed-is 12 1 (length (c .gates)) (length (s .gates)) (λ g. reachesItself (netOf c) (2 * c .inputs + g))
+        (loops.reachesItself (c .inputs) (s .gates)) gates-long (loop-alike c)) λ n12.
+        also (placed-is 28 1 (length (c .gates)) (length (s .gates)) (retiredGate c) (retire.retiredAt (s .gates)) gates-long (retired-alike c)) λ n28.
+        let o = equal-passes 11 0 (length (c .outputs)) (length (r .outputs)) (length (c .outputs)) (length (r .outputs)) .0 n11 in
+        let free = gates-passes c 12 (reachesItself (netOf c)) .0 n12 in
+        rises-alike free (omega arith) (falls-alike free)

@@ -1,72 +1,35 @@
 -- Demands 2 and 3 as theorems about the verdict on two files.
 -- Assumes nothing.
-use Prim.Native.Nat.{ℕ, zero, suc, _+_, _-_, _*_, _≤_, _<_}
+use Prim.Native.Nat.{ℕ, _≤_, _<_}
 use native.Mathlib.Omega.{arith}
 use mathlib.Core.Path.{_≡_, refl, sym, ap, _∙_, subst}
-use mathlib.Core.Logic.{_⊎_, inl, inr, ⊎-elim}
-use mathlib.Core.Bool.{Bool, true, false}
-use mathlib.Core.List.{List, [], _∷_}
+use mathlib.Core.Logic.{_⊎_, inl, inr, _↔_, ⊎-elim}
+use mathlib.Core.Bool.{true, false}
+use mathlib.Core.List.{[], _∷_, flatMap}
 use lib.ListN.{length}
-use lib.Dec.{eqb}
-use Rattle.gates.specs.Cell.{isRetired}
-use Rattle.runs.specs.Row.{Row}
-use Rattle.runs.specs.Net.{IsGate}
 use Rattle.runs.specs.Theory.{AllHold}
-use Rattle.runs.proofs.Test.{eqb-eq}
 use Rattle.netlist.specs.declared.File.the-variants.{Stage, Reference}
+use Rattle.netlist.specs.Reading.{Reading, refused, readable, readFile}
 use Rattle.verdict.specs.declared.Verdict.{Verdict}
 use Rattle.verdict.specs.declared.WordOrder.{WordOrder}
-use Rattle.verdict.specs.Graph.{In}
-use Rattle.verdict.proofs.Words.{in-index}
 use Rattle.verdict.proofs.Refusals.{InTable}
-use Rattle.check_spec.specs.Cases.{accepted, verdict, Case, case, Check, first, judge}
-use Rattle.check_spec.specs.Lists.{numbers, some}
+use Rattle.check_spec.specs.Cases.{verdict, accepted, first, judge, sweep}
 use Rattle.check_spec.specs.Content.{Content, Files, stageIn, referenceIn}
-use Rattle.check_spec.specs.Rows.{driver, cellIn, netOf, reachesItself}
-use Rattle.check_spec.specs.Words.{railsFor, spelled, names, IsWord}
-use Rattle.check_spec.specs.Checks.{wrong, incomplete, unobservable, fallIncomplete, fallUnobservable, looped, retired, swept, checks}
-use Rattle.check_spec.specs.Verdicts.{reading, checksOn, verdictOn}
-use Rattle.check_spec.specs.Demands.{Pass, Named, BothRead, LoopFree, Demand2, Broken, Demand3}
-use Rattle.check_spec.proofs.First.{Each, first-says, named-says, judged, sweep-each}
-use Rattle.check_spec.proofs.Loops.{some-out, loops, settled-is, risen-is, fallen-is}
+use Rattle.check_spec.specs.Rows.{netOf}
+use Rattle.check_spec.specs.Words.{spelled}
+use Rattle.check_spec.specs.Checks.{retiredGate, checks}
+use Rattle.check_spec.specs.Verdicts.{refusal, checksOn, verdictOn}
+use Rattle.check_spec.specs.Demands.{BothRead, LoopFree, Comparable, Acceptable, Demand2, Broken, Demand3}
+use Rattle.check_spec.proofs.First.{judged, places-first}
+use Rattle.check_spec.proofs.Loops.{some-all, loops, settled-is, risen-is, fallen-is}
 use Rattle.check_spec.proofs.Pairs.{data-of, all-data, all-null}
-use Rattle.check_spec.proofs.Names.{named-below, named-word}
 use Rattle.check_spec.proofs.OneWord.{inside, hold-clean}
-use Rattle.check_spec.proofs.Exactly.{EachCheck, looped-out, swept-in, judge-later, passes-judge, other-number, swept-other, reading-number, rise-out, accepted-passes, exactly, either-order}
-use Rattle.check_spec.proofs.Shown.{word-kept, wrong-shown, incomplete-shown, unobservable-shown, fall-incomplete-shown, fall-unobservable-shown}
+use Rattle.check_spec.proofs.Laws.{numbersOf, before, claimed, not-named, judge-from}
+use Rattle.check_spec.proofs.Sound.{Ran, laws, past-reading, reads-past, accepted-sound, sound-accepted, sound-kept}
 
--- some checks name a case that says something, or all pass
-pub judge-says : (P : Case → Type 0) (cs : List Check) → EachCheck (Each P) cs
-    → ((c : Case) × P c × (c .fails ≡ true) × (judge cs ≡ c .names)) ⊎ (judge cs ≡ accepted)
-unfolding judge
-judge-says P [] p = inr refl
-judge-says P (c ∷ cs) p = go (first-says c (judge cs)) (judge-says P cs (p .1))
-  where
-    go : Named c (first c (judge cs)) ⊎ (Pass c × (first c (judge cs) ≡ judge cs)) → ((d : Case) × P d × (d .fails ≡ true) × (judge cs ≡ d .names)) ⊎ (judge cs ≡ accepted)
-        → ((d : Case) × P d × (d .fails ≡ true) × (first c (judge cs) ≡ d .names)) ⊎ (first c (judge cs) ≡ accepted)
-    go (inl n) later = inl (named-says P c (first c (judge cs)) (p .0) n)
-    go (inr q) (inl (d, x, y, z)) = inl (d, x, y, q .1 ∙ z)
-    go (inr q) (inr z) = inr (q .1 ∙ z)
-
--- the numbers that demand 3 speaks of: no file is refused in reading by one of them
-pub record OfRuns (n : ℕ) : Type 0 where
-  pub after-12 : 12 < n
-  pub not-28 : n < 28
-  pub not-read : ¬ (InTable n)
-
-pub of-runs : (n : ℕ) → some (eqb n) (13 ∷ 14 ∷ 15 ∷ 20 ∷ 21 ∷ []) ≡ true → OfRuns n
-of-runs n e = let r = some-out (eqb n) (13 ∷ 14 ∷ 15 ∷ 20 ∷ 21 ∷ []) e in go (r .0) (r .1) (eqb-eq n (r .0) (r .2))
-  where
-    is : (m : ℕ) → (12 < m) × (m < 28) → ¬ (InTable m) → n ≡ m → OfRuns n
-    is m h t e = record { after-12 = omega (arith, h .0); not-28 = omega (arith, h .1); not-read = λ x. t (subst InTable e x) }
-
-    go : (m : ℕ) → In m (13 ∷ 14 ∷ 15 ∷ 20 ∷ 21 ∷ []) → n ≡ m → OfRuns n
-    go m (inl p) e = is 13 (omega arith, omega arith) (λ t. omega (arith, t .2 (omega arith))) (e ∙ p)
-    go m (inr (inl p)) e = is 14 (omega arith, omega arith) (λ t. omega (arith, t .2 (omega arith))) (e ∙ p)
-    go m (inr (inr (inl p))) e = is 15 (omega arith, omega arith) (λ t. omega (arith, t .2 (omega arith))) (e ∙ p)
-    go m (inr (inr (inr (inl p)))) e = is 20 (omega arith, omega arith) (λ t. omega (arith, t .1)) (e ∙ p)
-    go m (inr (inr (inr (inr (inl p))))) e = is 21 (omega arith, omega arith) (λ t. omega (arith, t .1)) (e ∙ p)
-    go m (inr (inr (inr (inr (inr h))))) e = absurd h
+-- demand 3 speaks of numbers above 12, and of none by which a file is refused in reading
+of-runs : (n : ℕ) → Ran n → (12 < n) × (¬ (InTable n))
+of-runs n e = let r = some-all (λ k. (12 < k) × (17 < k → 19 < k)) (13 ∷ 14 ∷ 15 ∷ 20 ∷ 21 ∷ []) (omega arith) n e in (r .0, λ t. omega (arith, t .2 (omega arith), r .1 (omega (arith, t .2 (omega arith)))))
 
 module _ (order : WordOrder) (f : Files) where
   abbrev s : Content
@@ -78,56 +41,55 @@ module _ (order : WordOrder) (f : Files) where
   abbrev number : Verdict → ℕ
   number v = v .number
 
-  -- the checks that sweep the words: those of the fall, and all
-  abbrev pub falls : List Check
-  falls = swept order s 20 1 (s .inputs) (fallIncomplete s) ∷ swept order s 21 1 (length (s .gates)) (fallUnobservable s) ∷ []
-
-  abbrev pub sweeps : List Check
-  sweeps =
-      swept order s 13 1 (length (s .outputs)) (wrong s r) ∷ swept order s 14 1 (s .inputs) (incomplete s) ∷
-      swept order s 15 1 (length (s .gates)) (unobservable s) ∷ falls
-
-  -- a verdict of such a number is one of the sweeps, of a loop-free stage
-  pub swept-verdict : (n : ℕ) → OfRuns n → number (verdictOn order f) ≡ n → BothRead f × LoopFree (netOf s) × (verdictOn order f ≡ judge sweeps)
-  unfolding checks looped retired
-  swept-verdict n h e =
-      let gates = numbers 0 (length (s .gates)) in
-      let a = judge-later n (reading Stage (f .stageMost) (f .stage)) _ (reading-number n (h .not-read) Stage (f .stageMost) (f .stage)) e in
-      let b = judge-later n (reading Reference (f .referenceMost) (f .reference)) (checks order s r)
-      (reading-number n (h .not-read) Reference (f .referenceMost) (f .reference)) (ap number (sym (a .1)) ∙ e) in
-      let c = judge-later n _ _ ((λ q. omega (arith, h .after-12)), tt) (ap number (sym (a .1 ∙ b .1)) ∙ e) in
-      let d = judge-later n _ _ ((λ q. omega (arith, h .after-12)), tt) (ap number (sym (a .1 ∙ b .1 ∙ c .1)) ∙ e) in
-      let l = judge-later n (looped s) (retired s ∷ sweeps) (other-number n 12 1 gates (λ w g. reachesItself (netOf s) (2 * s .inputs + g)) (0 ∷ []) (λ q. omega (arith, h .after-12)))
-      (ap number (sym (a .1 ∙ b .1 ∙ c .1 ∙ d .1)) ∙ e) in
-      let t = judge-later n (retired s) sweeps (other-number n 28 1 gates (λ w g. isRetired (cellIn (driver s (2 * s .inputs + g)))) (0 ∷ []) (λ q. omega (arith, h .not-28)))
-      (ap number (sym (a .1 ∙ b .1 ∙ c .1 ∙ d .1 ∙ l .1)) ∙ e) in
-      ((a .0, b .0), looped-out s (l .0), a .1 ∙ b .1 ∙ c .1 ∙ d .1 ∙ l .1 ∙ t .1)
+  -- the checks stand in the order of the papers: 28 "between 12 and 13", 20 and 21 "after 15"
+  pub check-order : numbersOf (laws f order) ≡ 10 ∷ 11 ∷ 12 ∷ 28 ∷ 13 ∷ 14 ∷ 15 ∷ 20 ∷ 21 ∷ []
+  unfolding laws
+  check-order = refl
 
   -- ---- demand 2
 
-  -- with hold everywhere the sweeps of the fall find nothing where those of the rise do
+  exactly : Comparable f → (verdictOn order f ≡ accepted) ↔ Acceptable f
+  exactly k = (
+    (λ v. let h = accepted-sound order f (ap number v) .1 in record { cast = h .cast; conforms = h .conforms }),
+    (λ a. sound-accepted (record {
+      read = k .read;
+      inputs = k .inputs;
+      outputs = k .outputs;
+      free = k .loop-free;
+      cast = a .cast;
+      conforms = a .conforms;
+    }) order),
+  )
+
+  -- with hold everywhere the checks of the fall find nothing where those of the rise do
   hold-only : AllHold (netOf s) → ¬ ((number (verdictOn order f) ≡ 20) ⊎ (number (verdictOn order f) ≡ 21))
-  unfolding some
-  hold-only hold e = ⊎-elim (λ p. none 20 (of-runs 20 refl) (λ q. omega arith) (λ q. omega arith) (λ q. omega arith) p)
-      (λ p. none 21 (of-runs 21 refl) (λ q. omega arith) (λ q. omega arith) (λ q. omega arith) p) e
-    where
-      none : (n : ℕ) → OfRuns n → ¬ (13 ≡ n) → ¬ (14 ≡ n) → ¬ (15 ≡ n) → number (verdictOn order f) ≡ n → ⊥
-      none n h no13 no14 no15 e =
-          let x = swept-verdict n h e in
-          let a = judge-later n (swept order s 13 1 (length (s .outputs)) (wrong s r)) _ (swept-other order s n 13 (length (s .outputs)) (wrong s r) no13) (ap number (sym (x .2)) ∙ e) in
-          let b = judge-later n (swept order s 14 1 (s .inputs) (incomplete s)) _ (swept-other order s n 14 (s .inputs) (incomplete s) no14) (ap number (sym (x .2 ∙ a .1)) ∙ e) in
-          let c = judge-later n (swept order s 15 1 (length (s .gates)) (unobservable s)) falls (swept-other order s n 15 (length (s .gates)) (unobservable s) no15) (ap number (sym (x .2 ∙ a .1 ∙ b .1)) ∙ e) in
-          let z : judge falls ≡ accepted =
-          passes-judge falls (
-            swept-in s order 20 (s .inputs) (fallIncomplete s) (λ w i. hold-clean s r (x .1) w hold (rise-out order s r (a .0) (b .0) (c .0) w i) .complete),
-            (swept-in s order 21 (length (s .gates)) (fallUnobservable s) (λ w i. hold-clean s r (x .1) w hold (rise-out order s r (a .0) (b .0) (c .0) w i) .observable), tt),
-          ) in
-          omega (arith, h .after-12, sym e ∙ ap number (x .2 ∙ a .1 ∙ b .1 ∙ c .1 ∙ z))
+  unfolding laws
+  hold-only hold (inl e) =
+      let z = ap number (sym (past-reading f order 20 (λ t. omega (arith, t .1)) e .1)) ∙ e in
+      let ls = laws f order in
+      not-named 20 (λ q. omega arith) ls (
+        (λ w i. hold-clean s r (before 20 12 ls z) w hold (record { right = before 20 13 ls z w i; complete = before 20 14 ls z w i; observable = before 20 15 ls z w i }) .complete),
+        tt,
+      ) z
+  hold-only hold (inr e) =
+      let z = ap number (sym (past-reading f order 21 (λ t. omega (arith, t .1)) e .1)) ∙ e in
+      let ls = laws f order in
+      not-named 21 (λ q. omega arith) ls (
+        (λ w i. hold-clean s r (before 21 12 ls z) w hold (record { right = before 21 13 ls z w i; complete = before 21 14 ls z w i; observable = before 21 15 ls z w i }) .observable),
+        tt,
+      ) z
+
+  -- "The check refuses them": 28 at the least gate of a retired kind
+  retired : Comparable f → (g : ℕ) → g < length (s .gates) → retiredGate s g ≡ true → ((k : ℕ) → k < g → retiredGate s k ≡ false) → verdictOn order f ≡ verdict 28 1 g 0
+  unfolding laws judge sweep flatMap
+  retired k g l e none =
+      reads-past f order (k .read) ∙ judge-from 28 (laws f order) (k .inputs, (k .outputs, (k .loop-free, tt)))
+      ∙ places-first 28 1 0 (retiredGate s) 0 (length (s .gates)) g (omega arith) (omega arith) (λ k a b. none k b) e [] _
 
   -- Demand 2 holds of the verdict, whatever the two files hold.
   pub demand-2 : Demand2 order f (verdictOn order f)
   demand-2 = record {
-    exactly = exactly order f;
+    exactly = exactly;
     least = judged (checksOn order f);
     loops = loops s;
     data-is = data-of;
@@ -137,97 +99,40 @@ module _ (order : WordOrder) (f : Files) where
     risen-is = λ free. risen-is s free;
     fallen-is = λ free w X. fallen-is s free _ X (inside s r free w);
     hold-only = hold-only;
-    either-order = λ other. (either-order order other f, either-order other order f);
+    retired = retired;
+    either-order = λ other. ((λ e. sound-accepted (accepted-sound order f (ap number e) .1) other), (λ e. sound-accepted (accepted-sound other f (ap number e) .1) order));
   }
 
   -- ---- demand 3
 
-  -- what a sweep says of a case that fails
-  abbrev Claim : Case → Type 0
-  Claim c = c .fails ≡ true → Broken f (spelled order (s .inputs) (c .names .word)) (c .names)
+  broken : Ran (number (verdictOn order f)) → BothRead f × Broken f (spelled order (s .inputs) (verdictOn order f .word)) (verdictOn order f)
+  unfolding laws
+  broken e =
+      let n = number (verdictOn order f) in
+      let h = of-runs n e in
+      let p = past-reading f order n (h .1) refl in
+      let z : number (judge (checks order s r)) ≡ n = ap number (sym (p .1)) in
+      let ls = laws f order in
+      let free = some-all (λ k. number (judge (checks order s r)) ≡ k → LoopFree (netOf s)) (13 ∷ 14 ∷ 15 ∷ 20 ∷ 21 ∷ [])
+      (before 13 12 ls, (before 14 12 ls, (before 15 12 ls, (before 20 12 ls, (before 21 12 ls, tt))))) n e z in (
+        p .0,
+        subst (λ (v : Verdict). Broken f (spelled order (s .inputs) (v .word)) v) (sym (p .1))
+            (⊎-elim (λ c. c .1 free (rw (p .1) at e)) (λ q. absurd (omega (arith, h .0, ap number (p .1 ∙ q)))) (claimed ls)),
+      )
 
-  module _ (free : LoopFree (netOf s)) where
-    all-claim : EachCheck (Each Claim) sweeps
-    all-claim =
-        let sp = spelled order (s .inputs) in
-        let a = sweep-each 13 1 (numbers 0 (length (s .outputs))) (λ name. wrong s r (sp name)) Claim (names order s) (λ name x j y e.
-        let l = in-index (length (s .outputs)) j y in
-        let b = wrong-shown s r free (sp name) j l e in
-        record {
-          name = named-below order s name x;
-          word = named-word order s name x;
-          broken = b .1;
-          wrong = λ q. (l, b .0);
-          incomplete = λ q. absurd (omega (arith, q));
-          unobservable = λ q. absurd (omega (arith, q));
-          fall-incomplete = λ q. absurd (omega (arith, q));
-          fall-unobservable = λ q. absurd (omega (arith, q));
-        }) in
-        let b = sweep-each 14 1 (numbers 0 (s .inputs)) (λ name. incomplete s (sp name)) Claim (names order s) (λ name x i y e.
-        let l = in-index (s .inputs) i y in
-        let b = incomplete-shown s r free (sp name) i l e in
-        record {
-          name = named-below order s name x;
-          word = named-word order s name x;
-          broken = b .1;
-          wrong = λ q. absurd (omega (arith, q));
-          incomplete = λ q. (l, b .0);
-          unobservable = λ q. absurd (omega (arith, q));
-          fall-incomplete = λ q. absurd (omega (arith, q));
-          fall-unobservable = λ q. absurd (omega (arith, q));
-        }) in
-        let c = sweep-each 15 1 (numbers 0 (length (s .gates))) (λ name. unobservable s (sp name)) Claim (names order s) (λ name x g y e.
-        let l = in-index (length (s .gates)) g y in
-        let b = unobservable-shown s r free (sp name) g l e in
-        record {
-          name = named-below order s name x;
-          word = named-word order s name x;
-          broken = b .1;
-          wrong = λ q. absurd (omega (arith, q));
-          incomplete = λ q. absurd (omega (arith, q));
-          unobservable = λ q. (l, b .0);
-          fall-incomplete = λ q. absurd (omega (arith, q));
-          fall-unobservable = λ q. absurd (omega (arith, q));
-        }) in
-        let d = sweep-each 20 1 (numbers 0 (s .inputs)) (λ name. fallIncomplete s (sp name)) Claim (names order s) (λ name x i y e.
-        let l = in-index (s .inputs) i y in
-        let b = fall-incomplete-shown s r free (sp name) i l e in
-        record {
-          name = named-below order s name x;
-          word = named-word order s name x;
-          broken = b .1;
-          wrong = λ q. absurd (omega (arith, q));
-          incomplete = λ q. absurd (omega (arith, q));
-          unobservable = λ q. absurd (omega (arith, q));
-          fall-incomplete = λ q. (l, b .0);
-          fall-unobservable = λ q. absurd (omega (arith, q));
-        }) in
-        let e = sweep-each 21 1 (numbers 0 (length (s .gates))) (λ name. fallUnobservable s (sp name)) Claim (names order s) (λ name x g y e.
-        let l = in-index (length (s .gates)) g y in
-        let b = fall-unobservable-shown s r free (sp name) g l e in
-        record {
-          name = named-below order s name x;
-          word = named-word order s name x;
-          broken = b .1;
-          wrong = λ q. absurd (omega (arith, q));
-          incomplete = λ q. absurd (omega (arith, q));
-          unobservable = λ q. absurd (omega (arith, q));
-          fall-incomplete = λ q. absurd (omega (arith, q));
-          fall-unobservable = λ q. (l, b .0);
-        }) in
-        (a, (b, (c, (d, (e, tt)))))
-
-  broken : OfRuns (number (verdictOn order f)) → BothRead f × Broken f (spelled order (s .inputs) (verdictOn order f .word)) (verdictOn order f)
-  broken h = let x = swept-verdict (number (verdictOn order f)) h refl in (x .0, go (x .2) (judge-says Claim sweeps (all-claim (x .1))))
+  -- a verdict names one of the two files, or none
+  pub verdict-file : verdictOn order f .file ≤ 2
+  unfolding judge first refusal
+  verdict-file = go (readFile Stage (f .stageMost) (f .stage)) (readFile Reference (f .referenceMost) (f .reference))
     where
-      go : verdictOn order f ≡ judge sweeps → ((c : Case) × Claim c × (c .fails ≡ true) × (judge sweeps ≡ c .names)) ⊎ (judge sweeps ≡ accepted)
-          → Broken f (spelled order (s .inputs) (verdictOn order f .word)) (verdictOn order f)
-      go e (inl (c, claim, fails, is)) = subst (λ (v : Verdict). Broken f (spelled order (s .inputs) (v .word)) v) (sym (e ∙ is)) (claim fails)
-      go e (inr is) = absurd (omega (arith, h .after-12, ap number (e ∙ is)))
+      go : (x y : Reading) → first (refusal Stage x) (first (refusal Reference y) (judge (checks order s r))) .file ≤ 2
+      go (refused number at) y = omega arith
+      go (readable p) (refused number at) = omega arith
+      go (readable p) (readable q) = ⊎-elim (λ c. c .0) (λ e. omega (arith, ap (λ (v : Verdict). v .file) e)) (claimed (laws f order))
 
   -- Demand 3 holds of the verdict, whatever the two files hold.
   pub demand-3 : Demand3 order f (verdictOn order f)
   demand-3 = record {
-    kept = λ e. let p = accepted-passes order f e in (p .0, p .1, λ w h. let k = p .2 .clean w h in word-kept f (p .2 .free) w (k .0) (k .1));
-    broken = λ h. broken (of-runs (number (verdictOn order f)) h);
+    kept = λ e. let p = accepted-sound order f e in (p .0, p .1 .read, sound-kept (p .1));
+    broken = broken;
   }

@@ -1,14 +1,16 @@
 -- Cases: the first that fails is named, and those before it pass; what follows for the cases of some checks, and of a sweep.
 -- Assumes nothing.
-use Prim.Native.Nat.{ℕ, _<_}
+use Prim.Native.Nat.{ℕ, zero, suc, _+_, _≤_, _<_}
 use native.Mathlib.Omega.{arith}
 use mathlib.Core.Path.{_≡_, refl, sym, ap, _∙_, subst}
-use mathlib.Core.Logic.{_⊎_, inl, inr, ⊎-elim}
+use mathlib.Core.Logic.{_⊎_, inl, inr, ⊎-elim, _≢_}
 use mathlib.Core.Bool.{Bool, true, false, cond}
 use mathlib.Core.List.{List, [], _∷_, _++_, map, flatMap}
+use Rattle.runs.proofs.Test.{same?}
 use Rattle.verdict.specs.declared.Verdict.{Verdict}
 use Rattle.verdict.specs.Graph.{In}
-use Rattle.check_spec.specs.Cases.{accepted, Case, case, Check, first, judge, sweep}
+use Rattle.check_spec.specs.Cases.{accepted, verdict, Case, case, Check, first, judge, sweep}
+use Rattle.check_spec.specs.Lists.{numbers}
 use Rattle.check_spec.specs.Demands.{Pass, Named, Judged}
 
 -- the earliest failing case is named, or all pass and what comes later is the answer
@@ -36,7 +38,7 @@ unfolding first
 first-pass [] later p = refl
 first-pass (c ∷ cs) later p = rw (p .0) (first-pass cs later (p .1))
 
-first-++ : (a b : List Case) (later : Verdict) → first (a ++ b) later ≡ first a (first b later)
+pub first-++ : (a b : List Case) (later : Verdict) → first (a ++ b) later ≡ first a (first b later)
 unfolding first
 first-++ [] b later = refl
 first-++ (c ∷ a) b later = ap (λ (v : Verdict). cond (c .fails) (c .names) v) (first-++ a b later)
@@ -59,6 +61,10 @@ judged checks = subst (Judged checks) (sym (judge-first checks)) (first-says (ca
 abbrev pub Each : (Case → Type 0) → List Case → Type 0
 Each P [] = Unit {0}
 Each P (c ∷ cs) = P c × Each P cs
+
+pub each-map : (P Q : Case → Type 0) → ((c : Case) → P c → Q c) → (cs : List Case) → Each P cs → Each Q cs
+each-map P Q h [] p = tt
+each-map P Q h (c ∷ cs) p = (h c (p .0), each-map P Q h cs (p .1))
 
 pub each-++ : (P : Case → Type 0) (a b : List Case) → Each P a → Each P b → Each P (a ++ b)
 each-++ P [] b p q = q
@@ -119,3 +125,19 @@ module _ (number file : ℕ) (places : List ℕ) (fails : ℕ → ℕ → Bool) 
       right : (a : List Case) → Pass (a ++ sweep number file ws places fails) → Pass (sweep number file ws places fails)
       right [] p = p
       right (c ∷ a) p = right a (p .1)
+
+-- the first place of several that fails is named
+pub places-first : (number file w : ℕ) (fails : ℕ → Bool) (j m g : ℕ) → j ≤ g → g < j + m → ((k : ℕ) → j ≤ k → k < g → fails k ≡ false) → fails g ≡ true
+    → (others : List Case) (later : Verdict) → first (map (λ i. case number file i w (fails i)) (numbers j m) ++ others) later ≡ verdict number file g w
+unfolding numbers first
+places-first number file w fails j zero g l h none e others later = absurd (omega arith)
+places-first number file w fails j (suc m) g l h none e others later = go (same? j g) (places-first number file w fails (suc j) m g)
+  where
+    rest : Verdict
+    rest = first (map (λ i. case number file i w (fails i)) (numbers (suc j) m) ++ others) later
+
+    go : (j ≡ g) ⊎ (j ≢ g) → (suc j ≤ g → g < suc j + m → ((k : ℕ) → suc j ≤ k → k < g → fails k ≡ false) → fails g ≡ true
+        → (others : List Case) (later : Verdict) → first (map (λ i. case number file i w (fails i)) (numbers (suc j) m) ++ others) later ≡ verdict number file g w)
+        → cond (fails j) (verdict number file j w) rest ≡ verdict number file g w
+    go (inl q) ih = rw (q, e)
+    go (inr q) ih = rw (none j (omega arith) (omega (arith, q))) (ih (omega (arith, q)) (omega arith) (λ k a b. none k (omega arith) b) e others later)

@@ -1,24 +1,24 @@
 -- The test of 12 means "reaches itself through pins", and a stage in which no gate does is one of the theory of runs.
 -- Assumes nothing.
-use Prim.Native.Nat.{ℕ, zero, suc, _+_, _-_, _*_, _≤_, _<_}
+use Prim.Native.Nat.{ℕ, zero, suc, _-_, _≤_, _<_}
 use native.Mathlib.Omega.{arith}
 use native.Mathlib.Decide.{decLt}
 use mathlib.Core.Path.{_≡_, refl, sym, ap, _∙_, subst}
 use mathlib.Core.Logic.{_⊎_, inl, inr, ⊎-elim}
-use mathlib.Core.Bool.{Bool, true, false, cond, not, _&&_, _||_, and-true}
+use mathlib.Core.Bool.{Bool, true, false, cond, _||_, and-true}
 use mathlib.Core.List.{List, [], _∷_, map}
-use lib.ListN.{length, getD, replicate, List·getD-eq-default}
+use lib.ListN.{getD, replicate, List·getD-eq-default}
 use lib.Dec.{eqb, ltb}
 use Rattle.gates.specs.Expression.{holds}
 use Rattle.gates.specs.Cell.{setExpression, bit}
 use Rattle.gates.proofs.Expressions.{holds-mono, holds-low}
 use Rattle.runs.specs.Row.{Row, low}
-use Rattle.runs.specs.Net.{Net, rails, nets, IsGate, riseUp}
+use Rattle.runs.specs.Net.{rails, nets, IsGate, riseUp}
 use Rattle.runs.specs.Acyclic.{Acyclic, AllPins}
 use Rattle.runs.specs.Settled.{Settled, SettledHeld, SettledKept}
-use Rattle.runs.proofs.Test.{clash, true?, or-cases, eqb-same, eqb-eq, lt-ltb, le-ltb, ltb-true}
+use Rattle.runs.proofs.Test.{clash, not-true, or-cases, eqb-eq, lt-ltb, le-ltb, ltb-true}
 use Rattle.verdict.specs.Rows.{high, rounds}
-use Rattle.verdict.specs.Graph.{In, Leads, here, onward, OnLoop, anyHigh, tabulate, leading, onLoop}
+use Rattle.verdict.specs.Graph.{In, Leads, here, onward, OnLoop, anyHigh, tabulate, leading}
 use Rattle.verdict.proofs.Graph as graph
 use Rattle.verdict.proofs.Graph.{high-in, anyHigh-out, length-tabulate, getD-tabulate, onLoop-complete, rank-falls}
 use Rattle.verdict.proofs.Bridge.{pins-mono, pins-local, pins-low, high-bit}
@@ -49,6 +49,16 @@ some-out test (x ∷ xs) e = go (test x) refl (some-out test xs) e
         → (p : ℕ) × In p (x ∷ xs) × (test p ≡ true)
     go true q later e = (x, inl refl, q)
     go false q later e = let r = later (rw q at e) in (r .0, inr (r .1), r .2)
+
+-- what is so of each number of a list is so of one that is in it
+pub some-all : (P : ℕ → Type 0) (l : List ℕ) → AllPins P l → (n : ℕ) → some (eqb n) l ≡ true → P n
+unfolding some
+some-all P [] p n e = absurd (clash e refl)
+some-all P (x ∷ xs) p n e = go (eqb n x) refl (some-all P xs (p .1) n) e
+  where
+    go : (b : Bool) → eqb n x ≡ b → (some (eqb n) xs ≡ true → P n) → cond (eqb n x) true (some (eqb n) xs) ≡ true → P n
+    go true q later e = rw (eqb-eq n x q) (p .0)
+    go false q later e = later (rw q at e)
 
 -- ---- the test of reaching
 
@@ -142,6 +152,16 @@ feeding-gate s u v i = go (decLt u (rails (netOf s))) (decLt u (nets (netOf s)))
     go (no h) (no b) =
         let j : In v (driver s u .operands) = rw (le-ltb u (rails (netOf s)) (omega arith)) at i in
         absurd (subst (λ (g : Coded). In v (g .operands)) (List·getD-eq-default (s .gates) noGate (omega arith)) j)
+
+-- a stage whose nets have a rank that falls with each step has no loop
+pub ranked-free : (s : Content) (rank : ℕ → ℕ) → ((u v : ℕ) → In v (feeding (netOf s) u) → rank v < rank u) → LoopFree (netOf s)
+unfolding reachesItself
+ranked-free s rank falls net g =
+    not-true _ (λ e. let l = found-loop (feeding (netOf s)) (nets (netOf s)) net e in omega (arith, falls net (l .0) (l .1), down (l .2)))
+  where
+    down : {x y : ℕ} → Leads (feeding (netOf s)) y x → rank y ≤ rank x
+    down here = omega arith
+    down {x} {y} (onward {z = z} i l) = omega (arith, falls x z i, down l)
 
 -- the field `loops` of demand 2
 pub loops : (s : Content) (g k : ℕ) → reaches (feeding (netOf s)) (eqb g) k g ≡ true → reachesItself (netOf s) g ≡ true

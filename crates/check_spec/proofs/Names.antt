@@ -4,9 +4,7 @@ use Prim.Native.Nat.{ℕ, zero, suc, _+_, _-_, _*_, _/_, _%_, _^_, _≤_, _<_}
 use native.Mathlib.Omega.{arith}
 use native.Mathlib.Nat.{pow-succ', div-div-eq-div-mul}
 use mathlib.Core.Path.{_≡_, refl, sym, ap, ap₂, _∙_}
-use mathlib.Core.Logic.{_⊎_, inl, inr}
-use mathlib.Core.Bool.{Bool, true, false, cond, _&&_}
-use mathlib.Core.List.{List, [], _∷_}
+use mathlib.Core.Bool.{Bool, true, false}
 use lib.Dec.{eqb, ltb}
 use Rattle.gates.specs.Cell.{bit}
 use Rattle.runs.proofs.Test.{and-in, and-left, and-right, lt-ltb, ltb-true}
@@ -15,7 +13,7 @@ use Rattle.verdict.specs.declared.WordOrder.the-variants.{FirstHighest, FirstLo
 use Rattle.verdict.specs.Graph.{In}
 use Rattle.verdict.proofs.Words.{index-in, in-index}
 use Rattle.verdict.proofs.Names.{select-in, in-select}
-use Rattle.check_spec.specs.Lists.{numbers, select, bitOf, ofBits}
+use Rattle.check_spec.specs.Lists.{numbers, bitOf, ofBits}
 use Rattle.check_spec.specs.Content.{Content}
 use Rattle.check_spec.specs.Words.{caresFor, spelled, names, IsWord}
 

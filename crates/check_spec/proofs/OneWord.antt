@@ -3,15 +3,14 @@
 use Prim.Native.Nat.{ℕ, zero, suc, _+_, _-_, _*_, _/_, _%_, _^_, _≤_, _<_}
 use native.Mathlib.Omega.{arith}
 use mathlib.Core.Path.{_≡_, refl, sym, ap, _∙_, subst}
-use mathlib.Core.Logic.{_⊎_, inl, inr, _↔_, ⊎-elim}
-use mathlib.Core.Bool.{Bool, true, false, cond, not, _&&_, _||_, and-true}
+use mathlib.Core.Logic.{_↔_}
+use mathlib.Core.Bool.{Bool, true, false, cond, not}
 use lib.ListN.{length}
 use lib.Dec.{eqb}
-use Rattle.runs.specs.Row.{Row, low, only, _∖_}
-use Rattle.runs.specs.Net.{Net, rails, nets, IsGate, inputRail, riseUp, railsOfInputs}
-use Rattle.runs.specs.Settled.{Settled, SettledHeld, SettledKept}
-use Rattle.runs.specs.Pair.{DataOf, AllData, AllNull, InputsData}
-use Rattle.runs.specs.Acyclic.{Acyclic}
+use Rattle.runs.specs.Row.{Row, only, _∖_}
+use Rattle.runs.specs.Net.{Net, nets, IsGate, inputRail, railsOfInputs}
+use Rattle.runs.specs.Settled.{Settled, SettledKept}
+use Rattle.runs.specs.Pair.{DataOf, InputsData}
 use Rattle.runs.specs.Checks.{Passes, Fall-passes}
 use Rattle.runs.specs.Complete.{Conforms}
 use Rattle.runs.proofs.Test.{clash, not-true, not-false, of-not, and-in, and-left, and-right}
@@ -45,14 +44,21 @@ bit-rails zero h = refl
 bit-rails (suc zero) h = refl
 bit-rails (suc (suc b)) h = absurd (omega arith)
 
--- a word's rails hold DATA at every input
-pub word-data : (N : Net) (w : ℕ) → InputsData N (railsFor w)
-word-data N w i h =
+-- the rails of an input by its bit in a word: they spell it, and so hold DATA
+input-rails : (w i : ℕ) → (railsFor w (2 * i) ≡ not (bitOf w i)) × (railsFor w (2 * i + 1) ≡ bitOf w i)
+input-rails w i =
     let a : 2 * i / 2 ≡ i = omega arith in
     let b : 2 * i % 2 ≡ 0 = omega arith in
     let c : (2 * i + 1) / 2 ≡ i = omega arith in
     let d : (2 * i + 1) % 2 ≡ 1 = omega arith in
-    rw (a, b, c, d) (bit-rails (w / 2 ^ i % 2) (omega arith))
+    (rw (a, b) (bit-rails (w / 2 ^ i % 2) (omega arith)), rw (c, d))
+
+pub spells-bit : (w i : ℕ) (b : Bool) → bitOf w i ≡ b → DataOf (railsFor w) (inputRail i) b
+spells-bit w i true e = (input-rails w i .1 ∙ e, input-rails w i .0 ∙ ap not e)
+spells-bit w i false e = (input-rails w i .0 ∙ ap not e, input-rails w i .1 ∙ e)
+
+pub word-data : (N : Net) (w : ℕ) → InputsData N (railsFor w)
+word-data N w i h = input-rails w i .0 ∙ ap not (sym (input-rails w i .1))
 
 module _ (s : Content) (w : ℕ) (test : Row → ℕ → Bool) (g : ℕ) where
   pub high-out : highAnd s w test g ≡ true → (rest s w (2 * s .inputs + g) ≡ true) × (test (rest s w) (2 * s .inputs + g) ≡ true)

@@ -3,14 +3,13 @@
 use Prim.Native.Nat.{ℕ, zero, suc, _+_, _<_}
 use native.Mathlib.Omega.{arith}
 use mathlib.Core.Path.{_≡_, refl, sym, ap, _∙_}
-use mathlib.Core.Logic.{_⊎_, inl, inr, _↔_}
-use mathlib.Core.Bool.{Bool, true, false, cond, not, _&&_, _||_}
-use mathlib.Core.List.{List, [], _∷_}
+use mathlib.Core.Logic.{_↔_}
+use mathlib.Core.Bool.{Bool, true, false, cond, not, _||_}
 use Rattle.runs.specs.Row.{Row, only, _∖_}
 use Rattle.runs.specs.Net.{Net, railsOfInputs}
 use Rattle.runs.specs.Settled.{Settled}
-use Rattle.runs.specs.Pair.{Data, DataOf, Null, AllData, AllNull}
-use Rattle.runs.proofs.Test.{clash, and-left, and-right, and-in, of-not}
+use Rattle.runs.specs.Pair.{DataOf, AllData, AllNull}
+use Rattle.runs.proofs.Test.{clash, and-left, and-right, of-not}
 use Rattle.runs.proofs.Moves.{missing-held}
 use Rattle.check_spec.specs.Lists.{xor, numbers, every}
 use Rattle.check_spec.specs.Rows.{netOf, risen, dataOf, allData, allNull}

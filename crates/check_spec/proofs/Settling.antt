@@ -1,24 +1,20 @@
 -- The computed rows are settled, and a stage without loops has no others.
 -- Assumes nothing.
-use Prim.Native.Nat.{ℕ, zero, suc, _+_, _-_, _*_, _≤_, _<_}
+use Prim.Native.Nat.{ℕ, zero, suc, _+_, _-_, _≤_, _<_}
 use native.Mathlib.Omega.{arith}
 use mathlib.Core.Path.{_≡_, refl, sym, ap, _∙_, fun-ext}
 use mathlib.Core.Logic.{_⊎_, inl, inr, ⊎-elim}
-use mathlib.Core.Bool.{Bool, true, false, cond, not, _&&_, _||_}
-use mathlib.Core.List.{List, [], _∷_, map}
-use lib.ListN.{length, getD}
-use lib.Dec.{ltb}
+use mathlib.Core.Bool.{Bool, true, false, not, _&&_, _||_}
 use Rattle.runs.specs.Row.{Row, _∖_, tally, count}
 use Rattle.runs.specs.Net.{Net, rails, nets, mayFall, riseUp, fallDown}
 use Rattle.runs.specs.Theory.{_⊑_}
 use Rattle.runs.specs.Settled.{SettledHeld, SettledKept}
 use Rattle.runs.specs.Acyclic.{Acyclic}
-use Rattle.runs.proofs.Test.{clash, true?, and-in, and-left, and-right, or-mono, lt-ltb, le-ltb}
+use Rattle.runs.proofs.Test.{clash, true?, and-in, and-left, and-right, or-mono}
 use Rattle.runs.proofs.Row.{count-≤}
 use Rattle.runs.proofs.Net.{Place, rail, gate, none, place, byNet-rail, byNet-none, byNet-mono, mayFall-anti}
 use Rattle.runs.proofs.Rise.{held-one}
 use Rattle.runs.proofs.Fall.{kept-one}
-use Rattle.check_spec.specs.Lists.{numbers}
 use Rattle.check_spec.specs.Rows.{rounds, risen, fallen}
 
 -- ---- counts

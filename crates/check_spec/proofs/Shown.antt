@@ -1,14 +1,12 @@
 -- Demand 3 in one word: what is kept where the tests find nothing, and what a run shows where one finds something.
 -- Assumes nothing.
 use Prim.Native.Nat.{ℕ, _+_, _*_, _<_}
-use native.Mathlib.Omega.{arith}
-use mathlib.Core.Path.{_≡_, refl, sym, ap, _∙_}
-use mathlib.Core.Logic.{_⊎_, inr, _↔_}
-use mathlib.Core.Bool.{Bool, true, false, not, _&&_}
+use mathlib.Core.Path.{_≡_, ap}
+use mathlib.Core.Logic.{inr}
+use mathlib.Core.Bool.{true, not}
 use lib.ListN.{length}
-use Rattle.runs.specs.Row.{Row, only, _∖_}
-use Rattle.runs.specs.Net.{Net, IsGate, railsOfInputs}
-use Rattle.runs.specs.Settled.{Settled, SettledHeld}
+use Rattle.runs.specs.Row.{Row, only}
+use Rattle.runs.specs.Net.{Net, railsOfInputs}
 use Rattle.runs.specs.Pair.{DataOf}
 use Rattle.runs.specs.Promise.{Promise}
 use Rattle.runs.specs.Witness.{Wrong, Incomplete, Unobservable}
@@ -56,7 +54,7 @@ module _ (s r : Content) (free : LoopFree (netOf s)) (w : ℕ) where
   abbrev of : ℕ → Row
   of i = railsOfInputs N (only i)
 
-  pub wrong-shown : (j : ℕ) → j < length (s .outputs) → wrong s r w j ≡ true → Breaks (Wrong N c (answer r (bitOf w)) j)
+  pub wrong-shown : (j : ℕ) → j < length (s .outputs) → wrong s r w j ≡ true → Breaks ((j < length (s .outputs)) × Wrong N c (answer r (bitOf w)) j)
   unfolding wrong
   wrong-shown j h e =
       let a = answer r (bitOf w) j in
@@ -64,16 +62,16 @@ module _ (s r : Content) (free : LoopFree (netOf s)) (w : ℕ) where
       let no : ¬ (DataOf R (N .rail j) a) =
       λ d. clash (and-in (R (N .rail j a)) (not (R (N .rail j (not a)))) (d .0) (ap not (d .1))) (of-not (dataOf R (N .rail j) a) e) in
       let run = show.wrong (acyclic s free) c (answer r (bitOf w)) R (rest-settled s r free w) j no in
-      (run, λ p. promise-not-wrong N _ _ p j h run)
+      ((h, run), λ p. promise-not-wrong N _ _ p j h run)
 
-  pub incomplete-shown : (i : ℕ) → i < s .inputs → incomplete s w i ≡ true → Breaks (Incomplete N c i)
+  pub incomplete-shown : (i : ℕ) → i < s .inputs → incomplete s w i ≡ true → Breaks ((i < s .inputs) × Incomplete N c i)
   unfolding incomplete
   incomplete-shown i h e =
       let row = risen N c (of i) in
       let run = show.incomplete (acyclic s free) c i h row (missing-settled s r free w i) (all-data N row .0 e) in
-      (run, λ p. promise-not-incomplete N _ _ p i h run)
+      ((h, run), λ p. promise-not-incomplete N _ _ p i h run)
 
-  pub unobservable-shown : (g : ℕ) → g < length (s .gates) → unobservable s w g ≡ true → Breaks (Unobservable N c (2 * s .inputs + g))
+  pub unobservable-shown : (g : ℕ) → g < length (s .gates) → unobservable s w g ≡ true → Breaks ((g < length (s .gates)) × Unobservable N c (2 * s .inputs + g))
   unfolding unobservable
   unobservable-shown g h e =
       let net = 2 * s .inputs + g in
@@ -82,17 +80,17 @@ module _ (s r : Content) (free : LoopFree (netOf s)) (w : ℕ) where
       let is = gate s r free w g h in
       let run = show.unobservable (acyclic s free) c (rest s w) (rest-settled s r free w) net is (u .0) row (risen-is s free c (only net) .0)
       (all-data N row .0 (u .1)) in
-      (run, λ p. promise-not-unobservable N _ _ p net is run)
+      ((h, run), λ p. promise-not-unobservable N _ _ p net is run)
 
-  pub fall-incomplete-shown : (i : ℕ) → i < s .inputs → fallIncomplete s w i ≡ true → Breaks (Fall-incomplete N c i)
+  pub fall-incomplete-shown : (i : ℕ) → i < s .inputs → fallIncomplete s w i ≡ true → Breaks ((i < s .inputs) × Fall-incomplete N c i)
   unfolding fallIncomplete
   fall-incomplete-shown i h e =
       let row = fallen N (rest s w) (of i) in
       let run = show.fall-incomplete (acyclic s free) c (word-data N w) (rest s w) (rest-settled s r free w) i h row
       (fallen-is s free (rest s w) (of i) (inside s r free w) .0) (all-null N row .0 e) in
-      (run, λ p. promise-not-fall-incomplete N _ _ p i h run)
+      ((h, run), λ p. promise-not-fall-incomplete N _ _ p i h run)
 
-  pub fall-unobservable-shown : (g : ℕ) → g < length (s .gates) → fallUnobservable s w g ≡ true → Breaks (Fall-unobservable N c (2 * s .inputs + g))
+  pub fall-unobservable-shown : (g : ℕ) → g < length (s .gates) → fallUnobservable s w g ≡ true → Breaks ((g < length (s .gates)) × Fall-unobservable N c (2 * s .inputs + g))
   unfolding fallUnobservable
   fall-unobservable-shown g h e =
       let net = 2 * s .inputs + g in
@@ -101,4 +99,4 @@ module _ (s r : Content) (free : LoopFree (netOf s)) (w : ℕ) where
       let is = gate s r free w g h in
       let run = show.fall-unobservable (acyclic s free) c (rest s w) (rest-settled s r free w) net is (u .0) row
       (fallen-is s free (rest s w) (only net) (inside s r free w) .0) (all-null N row .0 (u .1)) in
-      (run, λ p. promise-not-fall-unobservable N _ _ p net is run)
+      ((h, run), λ p. promise-not-fall-unobservable N _ _ p net is run)

@@ -1,24 +1,27 @@
--- Files as contents are written: their bytes are those of the code's items, and what was written reads as the content.
+-- Files as contents are written: their bytes are those of the code's items, and what was written reads as the content; and what a call leaves.
 -- Assumes nothing.
 use Prim.Native.Nat.{ℕ, _+_}
 use mathlib.Core.Path.{_≡_, refl, sym, ap, ap₂, _∙_}
+use mathlib.Core.Logic.{⊎-elim}
 use mathlib.Core.List.{List, [], _∷_, _++_, append-assoc, map, map-id, flatMap}
-use lib.ListN.{length, take}
+use Rattle.runs.proofs.Test.{same?, eqb-other}
 use Rattle.netlist.specs.declared.File.{File}
 use Rattle.netlist.specs.declared.File.the-variants as file
 use Rattle.netlist.specs.declared.Sort.the-variants as sort
 use Rattle.netlist.specs.declared.Limits.{Limits}
 use Rattle.netlist.specs.Commands as k
 use Rattle.netlist.specs.Bytes.{operands}
-use Rattle.netlist.specs.Reading.{Places, readable, readFile}
-use Rattle.netlist.specs.Content.{Coded, codedAt}
+use Rattle.netlist.specs.Content.{Coded}
 use Rattle.netlist.specs.Writing as items
-use Rattle.netlist.specs.Writing.{Item, gate, output, care, gatesIn, outputsIn, careIn, gatePlaces, outputPlaces, placesOf, writeItem, writeItems, FileFits}
+use Rattle.netlist.specs.Writing.{Item, gate, output, care, gatesIn, outputsIn, careIn, outputPlaces, writeItem, writeItems, FileFits}
 use Rattle.netlist.proofs.Laid.{wiredAt}
 use Rattle.netlist.proofs.GatesFirst.{gatesIn-items, outputsIn-items, careIn-items}
 use Rattle.netlist.proofs.ReadBack.{read-write, gates-write, outputs-write}
+use Rattle.verdict.specs.declared.Verdict.{Verdict}
+use Rattle.verdict.specs.Written.{Written, refuse, write}
+use Rattle.check_spec.specs.Cases.{accepted}
 use Rattle.check_spec.specs.Content.{Content, contentAt, contentOf, railsOfOutput}
-use Rattle.check_spec.specs.Writing.{rowFor, command, writeFile}
+use Rattle.check_spec.specs.Writing.{rowFor, command, writeFile, leaving}
 
 abbrev pub itemsOf : Content → List Item
 itemsOf c = map care (c .care) ++ (map gate (c .gates) ++ map output (c .outputs))
@@ -64,13 +67,13 @@ reference-bytes c none = rw none (
 
 -- what stands among the items of a content
 module _ (c : Content) where
-  gates-of : gatesIn (itemsOf c) ≡ c .gates
+  pub gates-of : gatesIn (itemsOf c) ≡ c .gates
   gates-of = gatesIn-items (λ g. g) (λ g. g) (λ vs. vs) (λ vs. vs) (c .care) (c .gates) (c .outputs) ∙ map-id (c .gates)
 
-  outputs-of : outputsIn (itemsOf c) ≡ c .outputs
+  pub outputs-of : outputsIn (itemsOf c) ≡ c .outputs
   outputs-of = outputsIn-items (λ g. g) (λ g. g) (λ vs. vs) (λ vs. vs) (c .care) (c .gates) (c .outputs) ∙ map-id (c .outputs)
 
-  cares-of : careIn (itemsOf c) ≡ c .care
+  pub cares-of : careIn (itemsOf c) ≡ c .care
   cares-of = careIn-items (λ g. g) (λ g. g) (λ vs. vs) (λ vs. vs) (c .care) (c .gates) (c .outputs)
 
 pub wired : (f : File) (s : List ℕ) (at : ℕ) → operands s (at + 1) (railsOfOutput f) ≡ wiredAt f s at
@@ -78,16 +81,37 @@ unfolding k.commandTable k.ownCommands k.formIn
 wired file.Stage s at = refl
 wired file.Reference s at = refl
 
-pub content-write : (f : File) (most : Limits) (c : Content) → FileFits f most (c .inputs) (itemsOf c)
-    → contentOf f most (items.writeFile f (c .inputs) (itemsOf c)) ≡ c
+-- the items of a file that fits, as a content
+pub items-content : (f : File) (most : Limits) (n : ℕ) (is : List Item) → FileFits f most n is
+    → contentOf f most (items.writeFile f n is) ≡ record { inputs = n; gates = gatesIn is; outputs = outputsIn is; care = careIn is }
 unfolding contentAt
-content-write f most c fits = rw (read-write f most (c .inputs) (itemsOf c) fits) (λ i. record {
-  inputs = c .inputs;
-  gates = (gates-write f most (c .inputs) (itemsOf c) fits ∙ gates-of c) i;
-  outputs = (outs (outputPlaces f 2 (itemsOf c)) ∙ outputs-write f most (c .inputs) (itemsOf c) fits ∙ outputs-of c) i;
-  care = cares-of c i;
+items-content f most n is fits = rw (read-write f most n is fits) (λ i. record {
+  inputs = n;
+  gates = gates-write f most n is fits i;
+  outputs = (outs (outputPlaces f 2 is) ∙ outputs-write f most n is fits) i;
+  care = careIn is;
 })
   where
-    outs : (l : List ℕ) → map (λ at. operands (items.writeFile f (c .inputs) (itemsOf c)) (at + 1) (railsOfOutput f)) l ≡ map (wiredAt f (items.writeFile f (c .inputs) (itemsOf c))) l
+    outs : (l : List ℕ) → map (λ at. operands (items.writeFile f n is) (at + 1) (railsOfOutput f)) l ≡ map (wiredAt f (items.writeFile f n is)) l
     outs [] = refl
-    outs (at ∷ l) = ap₂ (λ (x : List ℕ) (m : List (List ℕ)). x ∷ m) (wired f (items.writeFile f (c .inputs) (itemsOf c)) at) (outs l)
+    outs (at ∷ l) = ap₂ (λ (x : List ℕ) (m : List (List ℕ)). x ∷ m) (wired f (items.writeFile f n is) at) (outs l)
+
+pub content-write : (f : File) (most : Limits) (c : Content) → FileFits f most (c .inputs) (itemsOf c)
+    → contentOf f most (items.writeFile f (c .inputs) (itemsOf c)) ≡ c
+content-write f most c fits =
+    items-content f most (c .inputs) (itemsOf c) fits ∙ (λ i. record { inputs = c .inputs; gates = gates-of c i; outputs = outputs-of c i; care = cares-of c i })
+
+-- ---- what a call leaves
+
+pub leaves-none : (v : Verdict) → ¬ (v .number ≡ 0) → (bytes buffer : List ℕ) → leaving v bytes buffer ≡ refuse v buffer
+unfolding leaving
+leaves-none v n bytes buffer = rw (eqb-other (v .number) 0 n)
+
+pub leaves-bytes : (v : Verdict) → v .number ≡ 0 → (bytes buffer : List ℕ) → leaving v bytes buffer ≡ write bytes buffer
+unfolding leaving
+leaves-bytes v z bytes buffer = rw z
+
+-- the verdict, where 0 is the number of acceptance alone
+pub leaves-verdict : (v : Verdict) → (v .number ≡ 0 → v ≡ accepted) → (bytes buffer : List ℕ) → leaving v bytes buffer .verdict ≡ v
+leaves-verdict v a bytes buffer =
+    ⊎-elim (λ z. ap (λ (x : Written). x .verdict) (leaves-bytes v z bytes buffer) ∙ sym (a z)) (λ n. ap (λ (x : Written). x .verdict) (leaves-none v n bytes buffer)) (same? (v .number) 0)

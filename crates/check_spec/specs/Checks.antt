@@ -1,12 +1,12 @@
 -- The checks that follow reading, in their order, each as the cases that it tries: least word, then least place.
 use Prim.Native.Nat.{ℕ, _+_, _*_}
-use mathlib.Core.Bool.{Bool, true, false, cond, not, _&&_, _||_}
-use mathlib.Core.List.{List, [], _∷_, _++_}
+use mathlib.Core.Bool.{Bool, false, cond, not, _&&_, _||_}
+use mathlib.Core.List.{List, [], _∷_}
 use lib.ListN.{length, getD}
 use lib.Dec.{eqb, ltb}
 use Rattle.gates.specs.Cell.{isRetired}
 use Rattle.runs.specs.Row.{Row, low, only}
-use Rattle.runs.specs.Net.{Net, nets, rails, railsOfInputs}
+use Rattle.runs.specs.Net.{nets, railsOfInputs}
 use Rattle.verdict.specs.declared.WordOrder.{WordOrder}
 use Rattle.check_spec.specs.Cases.{Check, case, sweep, sweepPlaces, unequal}
 use Rattle.check_spec.specs.Lists.{numbers, bitOf}
@@ -56,8 +56,11 @@ abbrev pub swept : WordOrder → Content → ℕ → ℕ → ℕ → (ℕ → �
 swept order s number file m fails = sweep number file (names order s) (numbers 0 m) (λ name. fails (spelled order (s .inputs) name))
 
 -- 28: a gate of a retired kind
+abbrev pub retiredGate : Content → ℕ → Bool
+retiredGate s g = isRetired (cellIn (driver s (2 * s .inputs + g)))
+
 unfoldable pub retired : Content → Check
-retired s = sweepPlaces 28 1 (numbers 0 (length (s .gates))) (λ g. isRetired (cellIn (driver s (2 * s .inputs + g))))
+retired s = sweepPlaces 28 1 (numbers 0 (length (s .gates))) (retiredGate s)
 
 -- of a stage against a reference, in their order
 unfoldable pub checks : WordOrder → Content → Content → List Check

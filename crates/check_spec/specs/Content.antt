@@ -5,7 +5,7 @@ use Rattle.netlist.specs.declared.File.{File}
 use Rattle.netlist.specs.declared.Limits.{Limits}
 use Rattle.netlist.specs.declared.File.the-variants.{Stage, Reference}
 use Rattle.netlist.specs.Bytes.{operands}
-use Rattle.netlist.specs.Reading.{Places, Reading, refused, readable, readFile, stageLimits, referenceLimits, partStageLimits, partReferenceLimits}
+use Rattle.netlist.specs.Reading.{Reading, refused, readable, readFile, stageLimits, referenceLimits, partStageLimits, partReferenceLimits}
 use Rattle.netlist.specs.Coded.{Coded, codedAt}
 
 -- A stage or a reference. An output of a stage is two nets, rail 0 and rail 1; one of a reference is a signal. The care words of a stage are those

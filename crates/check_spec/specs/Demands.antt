@@ -20,12 +20,12 @@ use Rattle.verdict.specs.declared.Verdict.{Verdict}
 use Rattle.verdict.specs.declared.WordOrder.{WordOrder}
 use Rattle.netlist.specs.declared.File.the-variants.{Stage, Reference}
 use Rattle.netlist.specs.Reading.{stageLimits}
-use Rattle.check_spec.specs.Cases.{accepted, Case, Check}
+use Rattle.check_spec.specs.Cases.{verdict, accepted, Case, Check}
 use Rattle.check_spec.specs.Lists.{bitOf, some, reaches}
 use Rattle.check_spec.specs.Content.{Content, Files, stageIn, referenceIn}
 use Rattle.check_spec.specs.Rows.{driver, cellIn, netOf, risen, fallen, dataOf, allData, allNull, feeding, reachesItself}
 use Rattle.check_spec.specs.Words.{railsFor, spelled, IsWord, answer}
-use Rattle.check_spec.specs.Checks.{rest}
+use Rattle.check_spec.specs.Checks.{rest, retiredGate, illegal}
 use Rattle.check_spec.specs.Verdicts.{reading, checksOn, verdictOn, railsIn, rowStage, rowChecksOn}
 
 -- ---- cases
@@ -82,7 +82,8 @@ TheOnly P R = P R × ((r : Row) → P r → r ≡ R)
 -- the earliest failing check and its least case". What the cases ask is the paper's: a gate that reaches itself in however many steps is found by
 -- 12, DATA and NULL are those of the theory of runs, and the rows of 13 to 15, 20 and 21 are the settled ones of a loop-free stage: settled for given
 -- rails, with nets held low (the rails of an input, or a gate), and by the fall rule. Of M-102: "a stage without relaxed kinds" is "never to meet the
--- two fall refusals". Of M-106: "acceptance is the same under either order".
+-- two fall refusals". Of M-106: "acceptance is the same under either order". Of M-108: the check "refuses" retired kinds, at the least such gate,
+-- whatever the stage does in its words.
 pub record Demand2 (order : WordOrder) (f : Files) (v : Verdict) : Type 0 where
   pub exactly : Comparable f → (v ≡ accepted) ↔ Acceptable f
   pub least : Judged (checksOn order f) v
@@ -96,6 +97,8 @@ pub record Demand2 (order : WordOrder) (f : Files) (v : Verdict) : Type 0 where
       → TheOnly (SettledKept (netOf (stageIn f)) X (rest (stageIn f) w)) (fallen (netOf (stageIn f)) (rest (stageIn f) w) X)
   pub hold-only : ((net : ℕ) → IsGate (netOf (stageIn f)) net → netOf (stageIn f) .hold net ≡ true) → ¬ ((v .number ≡ 20) ⊎ (v .number ≡ 21))
   pub either-order : (other : WordOrder) → (v ≡ accepted) ↔ (verdictOn other f ≡ accepted)
+  pub retired : Comparable f → (g : ℕ) → g < length (stageIn f .gates) → retiredGate (stageIn f) g ≡ true
+      → ((k : ℕ) → k < g → retiredGate (stageIn f) k ≡ false) → v ≡ verdict 28 1 g 0
 
 -- ---- demand 3
 
@@ -142,8 +145,16 @@ pub record RowGiven (s : Content) (before after′ : List ℕ) : Type 0 where
   pub settled : TheOnly (Settled (netOf s) (railsIn before)) (railsIn after′)
   pub given : RisesTo (netOf s) (railsIn before) (railsIn after′)
 
--- "a lent row is then unchanged", or it is what the gate rule gives
+-- a row fits a stage, of whatever kinds its gates are: no gate reaches itself, the row has a byte for each net, and its rails are legal
+pub record Fits (s : Content) (row : List ℕ) : Type 0 where
+  pub loop-free : LoopFree (netOf s)
+  pub long : length row ≡ nets (netOf s)
+  pub legal : (i : ℕ) → i < s .inputs → illegal row i ≡ false
+
+-- "a lent row is then unchanged", or it is what the gate rule gives. Of M-108: the call "still serves" retired kinds, of which it does not ask
 pub record DemandRow (stage before : List ℕ) (v : Verdict) (after′ : List ℕ) : Type 0 where
   pub least : Judged (rowChecksOn stage before) v
   pub unchanged : ¬ (v ≡ accepted) → after′ ≡ before
   pub given : v ≡ accepted → Pass (reading Stage stageLimits stage) × RowGiven (rowStage stage) before after′
+  pub served : Pass (reading Stage stageLimits stage) → Fits (rowStage stage) before → v ≡ accepted
+  pub never-28 : ¬ (v .number ≡ 28)

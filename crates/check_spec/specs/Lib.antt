@@ -7,3 +7,4 @@ pub mod Words
 pub mod Checks
 pub mod Verdicts
 pub mod Demands
+pub mod Loaded

@@ -1,8 +1,7 @@
 -- Numbers in order, tests of lists.
 use Prim.Native.Nat.{ℕ, zero, suc, _/_, _%_, _^_, _+_, _*_}
 use mathlib.Core.Bool.{Bool, true, false, cond, not}
-use mathlib.Core.List.{List, [], _∷_, map}
-use lib.ListN.{getD}
+use mathlib.Core.List.{List, [], _∷_}
 use lib.Dec.{eqb}
 use Rattle.gates.specs.Cell.{bit}
 unfoldable pub use Rattle.verdict.specs.Lists.{numbers, select}

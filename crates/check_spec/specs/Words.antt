@@ -1,5 +1,5 @@
 -- The words of a stage, how they are named, and the reference's answer.
-use Prim.Native.Nat.{ℕ, _+_, _-_, _^_, _*_, _/_, _%_}
+use Prim.Native.Nat.{ℕ, _+_, _-_, _^_, _/_, _%_}
 use mathlib.Core.Bool.{Bool, true, false, cond, not, _&&_, _||_}
 use mathlib.Core.Path.{_≡_}
 use mathlib.Core.List.{List, [], _∷_, _++_, map}

@@ -1,11 +1,12 @@
 -- All words, name by name, and check by check.
 -- Assumes nothing.
-use Prim.Native.Nat.{ℕ, _+_, _^_, _≤_, _<_}
+use Prim.Native.Nat.{ℕ, zero, suc, _+_, _-_, _*_, _≤_, _<_}
+use native.Mathlib.Omega.{arith}
 use native.Mathlib.Numerals.{add-one}
-use mathlib.Core.Path.{_≡_, refl, sym, ap, _∙_}
-use mathlib.Core.Logic.{inl, inr}
-use mathlib.Core.List.{List, [], _∷_}
-use lib.ListN.{length, getD, drop, drop-of-length-le}
+use mathlib.Core.Path.{_≡_, refl, sym, ap, subst, _∙_}
+use mathlib.Core.Logic.{inl, inr, ⊎-elim}
+use mathlib.Core.List.{List, [], _∷_, _++_}
+use lib.ListN.{length, getD, take, drop, drop-of-length-le}
 use lib.Seq.{drop-cons}
 use Rattle.netlist.specs.Content.{Stage, Reference}
 use Rattle.netlist.specs.declared.Counts.{Counts}
@@ -16,22 +17,24 @@ use Rattle.verdict.specs.declared.Finding.the-variants.{Fault, Passed}
 use Rattle.verdict.specs.declared.Verdict.{Verdict}
 use Rattle.verdict.specs.declared.WordOrder.{WordOrder}
 use Rattle.verdict.specs.Words.{IsWord, spelled, names}
-use Rattle.verdict.specs.Checks.{verdict, atFault, sweep, finding, orLater, firstFault, riseSweeps, fallSweeps, sweeps}
-use Rattle.verdict.specs.Demands.{WithHold}
-use Rattle.verdict.proofs.Reaching.{loopFree-noLoop}
+use Rattle.verdict.specs.Checks.{verdict, Check, atFault, sweep, finding, orLater, firstFault, riseSweeps, fallSweeps, sweeps}
+use Rattle.verdict.specs.Nets.{noGate}
 use Rattle.verdict.specs.Loops.{In}
 use Rattle.verdict.proofs.Names.{name-spells}
-use Rattle.verdict.proofs.Sweeps.{fault-++}
-use Rattle.verdict.proofs.Demands.{hold-passes}
-use Rattle.circuit.specs.Stage.{stageGates, stageIn}
+use Rattle.check_spec.proofs.Hold.{fall-passes}
+use Rattle.circuit.specs.Stage.{gateIn, stageGates, outputIn, stageOutputs, stageIn, StageLoaded}
+use Rattle.circuit.specs.Reference.{signalIn, signalsIn, referenceIn}
 use Rattle.circuit.specs.Order.{orderIn, InOrder}
 use Rattle.circuit.proofs.Order.{order-no-loop}
+use Rattle.circuit.proofs.Tabulate.{length-tabulate, getD-tabulate}
 use Rattle.check_word.specs.declared.Sweep.{Sweep}
 use Rattle.check_word.specs.declared.Sweep.the-variants.{Wrong, Missing, Unobserved, Remaining, StillHigh}
 use Rattle.check_word.specs.Finds.{finds}
+use Rattle.check_word.specs.Loaded.{BothLoaded}
+use Rattle.lane_screen.specs.Hold.{WithHold}
 use Rattle.lane_screen.specs.declared.Masks.{Masks}
 use Rattle.lane_screen.specs.Suspects.{Unnamed, Clean, AllClean}
-use Rattle.check_words.specs.Sweeps.{numberOf, swept}
+use Rattle.check_words.specs.Sweeps.{numberOf, swept, allSweeps, sweepAt, maskOf, Enough}
 
 -- ---- name by name
 
@@ -86,68 +89,126 @@ none-worth which order s r mask clean none =
 
 -- ---- check by check
 
-later-none : (f : Finding) → orLater f Passed ≡ f
-unfolding orLater
-later-none (Fault v) = refl
-later-none Passed = refl
+-- a place past the first four is that of the last check
+pub last-at : (i : ℕ) → (i ≡ 0 → ⊥) → (i ≡ 1 → ⊥) → (i ≡ 2 → ⊥) → (i ≡ 3 → ⊥) → StillHigh ≡ sweepAt i
+last-at zero a b c d = absurd (a refl)
+last-at (suc zero) a b c d = absurd (b refl)
+last-at (suc (suc zero)) a b c d = absurd (c refl)
+last-at (suc (suc (suc zero))) a b c d = absurd (d refl)
+last-at (suc (suc (suc (suc zero)))) a b c d = refl
+last-at (suc (suc (suc (suc (suc i))))) a b c d = refl
 
-later-fault : (later : Finding) {v : Verdict} {f : Finding} → Fault v ≡ f → orLater f later ≡ Fault v
+later-passed : (later : Finding) {f : Finding} → Passed ≡ f → later ≡ orLater f later
 unfolding orLater
-later-fault later e = ap (λ (x : Finding). orLater x later) (sym e)
+later-passed later e = ap (λ (x : Finding). orLater x later) e
 
-later-passed : (later : Finding) {f : Finding} → Passed ≡ f → orLater f later ≡ later
+later-both : (f later : Finding) → Passed ≡ orLater f later → (Passed ≡ f) × (Passed ≡ later)
 unfolding orLater
-later-passed later e = ap (λ (x : Finding). orLater x later) (sym e)
+later-both (Fault v) later e = let z : _≡_ {A = ℕ} 0 1 = cc in absurd (omega arith)
+later-both Passed later e = (refl, e)
+
+-- of two lists: the first list's, or else the second's
+fault-++ : (cs ds : List Check) → firstFault (cs ++ ds) ≡ orLater (firstFault cs) (firstFault ds)
+unfolding firstFault orLater
+fault-++ [] ds = refl
+fault-++ (c ∷ cs) ds = go (finding c) (fault-++ cs ds)
+  where
+    go : (x : Finding) → firstFault (cs ++ ds) ≡ orLater (firstFault cs) (firstFault ds) → orLater x (firstFault (cs ++ ds)) ≡ orLater (orLater x (firstFault cs)) (firstFault ds)
+    go (Fault v) e = refl
+    go Passed e = e
 
 module _ (order : WordOrder) (s : Stage) (r : Reference) where
-  rises : firstFault (riseSweeps order s r) ≡ orLater (swept Wrong order s r) (orLater (swept Missing order s r) (swept Unobserved order s r))
+  -- the first fault that some of the checks find
+  abbrev pub sweptBy : List Sweep → Finding
+  sweptBy [] = Passed
+  sweptBy (w ∷ ws) = orLater (swept w order s r) (sweptBy ws)
+
+  rises-are : sweptBy (take 3 allSweeps) ≡ firstFault (riseSweeps order s r)
   unfolding firstFault riseSweeps finding
-  rises = ap (λ (f : Finding). orLater (swept Wrong order s r) (orLater (swept Missing order s r) f)) (later-none (swept Unobserved order s r))
+  rises-are = refl
 
-  falls : firstFault (fallSweeps order s r) ≡ orLater (swept Remaining order s r) (swept StillHigh order s r)
+  falls-are : sweptBy (drop 3 allSweeps) ≡ firstFault (fallSweeps order s r)
   unfolding firstFault fallSweeps finding
-  falls = ap (orLater (swept Remaining order s r)) (later-none (swept StillHigh order s r))
+  falls-are = refl
 
-  pub first-wrong : (v : Verdict) → Fault v ≡ swept Wrong order s r → Fault v ≡ firstFault (riseSweeps order s r)
-  first-wrong v e = sym (rises ∙ later-fault _ e)
+  sweeps-are : sweptBy allSweeps ≡ firstFault (sweeps order s r)
+  unfolding firstFault riseSweeps fallSweeps finding
+  sweeps-are = refl
 
-  pub first-missing : Passed ≡ swept Wrong order s r → (v : Verdict) → Fault v ≡ swept Missing order s r → Fault v ≡ firstFault (riseSweeps order s r)
-  first-missing e v q = sym (rises ∙ later-passed _ e ∙ later-fault _ q)
+  fault-by : (l : List Sweep) (i : ℕ) (v : Verdict) → i < length l → Passed ≡ sweptBy (take i l) → Fault v ≡ swept (getD l i StillHigh) order s r → Fault v ≡ sweptBy l
+  unfolding orLater
+  fault-by [] i v h p e = absurd (omega arith)
+  fault-by (w ∷ l) zero v h p e = ap (λ (f : Finding). orLater f (sweptBy l)) e
+  fault-by (w ∷ l) (suc i) v h p e =
+      let both = later-both (swept w order s r) (sweptBy (take i l)) p in
+      fault-by l i v (omega arith) (both .1) e ∙ later-passed (sweptBy l) (both .0)
 
-  pub first-unobserved : Passed ≡ swept Wrong order s r → Passed ≡ swept Missing order s r → (f : Finding) → f ≡ swept Unobserved order s r → f ≡ firstFault (riseSweeps order s r)
-  first-unobserved e q f u = sym (rises ∙ later-passed _ e ∙ later-passed _ q ∙ sym u)
+  passed-by : (l : List Sweep) (i : ℕ) → i < length l → Passed ≡ sweptBy (take i l) → Passed ≡ swept (getD l i StillHigh) order s r → Passed ≡ sweptBy (take (suc i) l)
+  passed-by [] i h p e = absurd (omega arith)
+  passed-by (w ∷ l) zero h p e = later-passed Passed e
+  passed-by (w ∷ l) (suc i) h p e =
+      let both = later-both (swept w order s r) (sweptBy (take i l)) p in
+      passed-by l i (omega arith) (both .1) e ∙ later-passed (sweptBy (take (suc i) l)) (both .0)
 
-  pub first-remaining : (v : Verdict) → Fault v ≡ swept Remaining order s r → Fault v ≡ firstFault (fallSweeps order s r)
-  first-remaining v e = sym (falls ∙ later-fault _ e)
+  -- the first i of them pass
+  abbrev pub PassedTo : ℕ → Type 0
+  PassedTo i = Passed ≡ sweptBy (take i allSweeps)
 
-  pub first-still-high : Passed ≡ swept Remaining order s r → (f : Finding) → f ≡ swept StillHigh order s r → f ≡ firstFault (fallSweeps order s r)
-  first-still-high e f u = sym (falls ∙ later-passed _ e ∙ sym u)
+  -- and the one at place i does, or finds something
+  pub passed-on : (i : ℕ) → i < 5 → PassedTo i → Passed ≡ swept (sweepAt i) order s r → PassedTo (i + 1)
+  passed-on i h p e = rw (add-one i) (passed-by allSweeps i h p e)
+
+  pub found-at : (i : ℕ) (v : Verdict) → i < 5 → PassedTo i → Fault v ≡ swept (sweepAt i) order s r → Fault v ≡ firstFault (sweeps order s r)
+  found-at i v h p e = fault-by allSweeps i v h p e ∙ sweeps-are
 
   -- the rise, then the fall
-  pub rise-fault : (v : Verdict) → Fault v ≡ firstFault (riseSweeps order s r) → Fault v ≡ firstFault (sweeps order s r)
-  rise-fault v e = sym (fault-++ (riseSweeps order s r) (fallSweeps order s r) ∙ later-fault _ e)
+  pub then-fall : Passed ≡ firstFault (riseSweeps order s r) → Passed ≡ firstFault (fallSweeps order s r) → Passed ≡ firstFault (sweeps order s r)
+  then-fall e f = f ∙ later-passed _ e ∙ sym (fault-++ (riseSweeps order s r) (fallSweeps order s r))
 
-  pub then-fall : Passed ≡ firstFault (riseSweeps order s r) → (f : Finding) → f ≡ firstFault (fallSweeps order s r) → f ≡ firstFault (sweeps order s r)
-  then-fall e f q = sym (fault-++ (riseSweeps order s r) (fallSweeps order s r) ∙ later-passed _ e ∙ sym q)
+  -- the masks name none of the words
+  module _ (m : Masks) (clean : AllClean s r m) where
+    pub mask-clean : (which : Sweep) → Clean which s r (maskOf which m)
+    mask-clean Wrong = clean .wrong
+    mask-clean Missing = clean .missing
+    mask-clean Unobserved = clean .unobserved
+    mask-clean Remaining = clean .remaining
+    mask-clean StillHigh = clean .still-high
+
+    passes : (which : Sweep) → ((w : ℕ) → IsWord s w → Unnamed (maskOf which m) w) → Passed ≡ swept which order s r
+    passes which none = none-worth which order s r (maskOf which m) (mask-clean which) none
+
+    pub rises-pass : ((w : ℕ) → IsWord s w → Unnamed (m .wrong) w) → ((w : ℕ) → IsWord s w → Unnamed (m .rise) w) → Passed ≡ firstFault (riseSweeps order s r)
+    rises-pass wrong rise =
+        later-passed _ (passes Unobserved rise) ∙ later-passed _ (passes Missing rise) ∙ later-passed _ (passes Wrong wrong) ∙ rises-are
+
+    pub falls-pass : ((w : ℕ) → IsWord s w → Unnamed (m .fall) w) → Passed ≡ firstFault (fallSweeps order s r)
+    falls-pass fall = later-passed _ (passes StillHigh fall) ∙ later-passed _ (passes Remaining fall) ∙ falls-are
+
+-- a loaded reference has the outputs that it counts
+pub enough-signals : (sizes : Counts) (reference : List ℕ) {m : ℕ} → m ≤ sizes .outputs → m ≤ length (signalsIn sizes reference)
+unfolding signalsIn
+enough-signals sizes reference h = omega (arith, length-tabulate (signalIn sizes reference) (sizes .outputs))
 
 -- a stage with hold everywhere passes the fall where it passes the rise
-pub no-fall : (order : WordOrder) (c : Counts) (code : List ℕ) → InOrder c code → WithHold (stageIn c code) → (r : Reference)
+pub no-fall : (order : WordOrder) (c : Counts) (code : List ℕ) → StageLoaded c code → InOrder c code → WithHold (stageIn c code) → (r : Reference) → c .outputs ≤ length (r .outputs)
     → Passed ≡ firstFault (riseSweeps order (stageIn c code) r) → Passed ≡ firstFault (sweeps order (stageIn c code) r)
-no-fall order c code o hold r e =
+unfolding stageGates stageOutputs
+no-fall order c code loaded o hold r few e =
     let s = stageIn c code in
-    let l = loopFree-noLoop (c .inputs) (stageGates c code) (order-no-loop (c .inputs) (stageGates c code) (orderIn c code) (o .ordered)) in
-    then-fall order s r e Passed (sym (hold-passes order s r l hold (sym e)))
+    let cells : (k : ℕ) → k < length (s .gates) → (1 ≤ getD (s .gates) k noGate .cell) × (getD (s .gates) k noGate .cell ≤ 27) =
+    λ k h. let l : k < c .gates = omega (arith, length-tabulate (gateIn code) (c .gates)) in rw (getD-tabulate (gateIn code) (c .gates) k noGate l) (loaded .gate k l .low, loaded .gate k l .high) in
+    then-fall order s r e (sym (fall-passes s cells order r (order-no-loop (c .inputs) (stageGates c code) (orderIn c code) (o .ordered))
+    (omega (arith, few, length-tabulate (outputIn c code) (c .outputs))) (λ k g. hold (k - 2 * c .inputs) (omega (arith, g .0, g .1))) (sym e)))
 
--- ---- no word is named
-
--- the masks of the rise name nothing, and then those of the fall
-pub rises-pass : (order : WordOrder) (s : Stage) (r : Reference) (m : Masks) → AllClean s r m → ((w : ℕ) → IsWord s w → Unnamed (m .wrong) w)
-    → ((w : ℕ) → IsWord s w → Unnamed (m .rise) w) → Passed ≡ firstFault (riseSweeps order s r)
-rises-pass order s r m clean wrong rise =
-    first-unobserved order s r (none-worth Wrong order s r (m .wrong) (clean .wrong) wrong) (none-worth Missing order s r (m .rise) (clean .missing) rise) Passed
-    (none-worth Unobserved order s r (m .rise) (clean .unobserved) rise)
-
-pub falls-pass : (order : WordOrder) (s : Stage) (r : Reference) (m : Masks) → AllClean s r m → ((w : ℕ) → IsWord s w → Unnamed (m .fall) w)
-    → Passed ≡ firstFault (fallSweeps order s r)
-falls-pass order s r m clean fall =
-    first-still-high order s r (none-worth Remaining order s r (m .fall) (clean .remaining) fall) Passed (none-worth StillHigh order s r (m .fall) (clean .still-high) fall)
+-- so many have passed that all do
+pub enough-passed : (order : WordOrder) {c : Counts} {code : List ℕ} {sizes : Counts} {reference : List ℕ} → BothLoaded c code sizes reference
+    → (m i : ℕ) → Enough (stageIn c code) m → i ≡ m
+    → PassedTo order (stageIn c code) (referenceIn sizes reference) i → Passed ≡ firstFault (sweeps order (stageIn c code) (referenceIn sizes reference))
+enough-passed order {c} {code} {sizes} {reference} both m i enough e p =
+    let s = stageIn c code in
+    let r = referenceIn sizes reference in
+    let passed : (k : ℕ) → m ≡ k → PassedTo order s r k = λ k q. subst (PassedTo order s r) (e ∙ q) p in
+    let few = enough-signals sizes reference {m = c .outputs} (omega (arith, both .outputs)) in
+    ⊎-elim (λ all. passed 5 all ∙ sweeps-are order s r)
+    (λ rise. no-fall order c code (both .stage) (both .ordered) (rise .1) r few (passed 3 (rise .0) ∙ rises-are order s r))
+    (enough .decides)

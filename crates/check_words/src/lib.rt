@@ -8,6 +8,8 @@ use verdict::Verdict;
 use verdict::WordOrder;
 ghost use mathlib.Core.Path.{_≡_};
 ghost use mathlib.Core.Bool.{true};
+ghost use Prim.Native.Nat.{_≤_, _<_};
+ghost use lib.ListN.{length};
 ghost use Rattle.netlist.specs.Content.{Reference};
 ghost use Rattle.verdict.specs.Words.{names};
 ghost use Rattle.verdict.specs.Checks as checks;
@@ -17,7 +19,7 @@ ghost use Rattle.circuit.specs.Reference.{referenceIn};
 ghost use Rattle.check_word.specs.Loaded.{BothLoaded};
 ghost use Rattle.check_word.specs.Finds.{finds};
 ghost use Rattle.lane_screen.specs.Suspects.{Clean, AllClean};
-ghost use Rattle.check_words.specs.Sweeps.{numberOf, swept};
+ghost use Rattle.check_words.specs.Sweeps.{numberOf, swept, sweepAt, maskOf, Enough};
 
 // The number of a check.
 fn number_of(which: Sweep) -> u64
@@ -106,98 +108,49 @@ fn sweep_check(
     sweep_words(which, order, list, mask, code, counts, reference, sizes)
 }
 
-// The rise: 13, then 14, then 15.
-fn sweep_rises(
-    order: WordOrder,
-    list: &[u16],
-    masks: Masks,
-    code: &[u16],
-    counts: Counts,
-    reference: &[u16],
-    sizes: Counts,
-) -> Finding
-    requires { ⌜ BothLoaded counts (now code) sizes (now reference) × (now list ≡ names order (stageIn counts (now code)))
-        × AllClean (stageIn counts (now code)) (referenceIn sizes (now reference)) masks ⌝ }
-    ensures { λ r. ⌜ r ≡ checks.firstFault (checks.riseSweeps order (stageIn counts (now (code .entry))) (referenceIn sizes (now (reference .entry)))) ⌝ }
+// The checks in the order in which they sweep the words, those of the rise first.
+fn sweep_at(i: usize) -> Sweep
+    requires { ⌜ i < 5 ⌝ }
+    ensures { λ r. ⌜ r ≡ sweepAt i ⌝ }
+{
+    match i {
+        0 => Sweep::Wrong,
+        1 => Sweep::Missing,
+        2 => Sweep::Unobserved,
+        3 => Sweep::Remaining,
+        _ => Sweep::StillHigh,
+    }
+}
+
+// The mask of a check.
+fn mask_of(which: Sweep, masks: Masks) -> [u64; lane_settle::BLOCKS]
+    ensures { λ r. ⌜ r ≡ maskOf which masks ⌝ }
+    ensures long { λ r. ⌜ length r ≡ 16 ⌝ }
 {
     let wrong = masks.wrong;
-    if let Finding::Fault(v) = sweep_check(
-        Sweep::Wrong,
-        order,
-        list,
-        &wrong,
-        code,
-        counts,
-        reference,
-        sizes,
-    ) {
-        return Finding::Fault(v);
-    }
     let rise = masks.rise;
-    if let Finding::Fault(v) = sweep_check(
-        Sweep::Missing,
-        order,
-        list,
-        &rise,
-        code,
-        counts,
-        reference,
-        sizes,
-    ) {
-        return Finding::Fault(v);
-    }
-    sweep_check(
-        Sweep::Unobserved,
-        order,
-        list,
-        &rise,
-        code,
-        counts,
-        reference,
-        sizes,
-    )
-}
-
-// The fall: 20, then 21.
-fn sweep_falls(
-    order: WordOrder,
-    list: &[u16],
-    masks: Masks,
-    code: &[u16],
-    counts: Counts,
-    reference: &[u16],
-    sizes: Counts,
-) -> Finding
-    requires { ⌜ BothLoaded counts (now code) sizes (now reference) × (now list ≡ names order (stageIn counts (now code)))
-        × AllClean (stageIn counts (now code)) (referenceIn sizes (now reference)) masks ⌝ }
-    ensures { λ r. ⌜ r ≡ checks.firstFault (checks.fallSweeps order (stageIn counts (now (code .entry))) (referenceIn sizes (now (reference .entry)))) ⌝ }
-{
     let fall = masks.fall;
-    if let Finding::Fault(v) = sweep_check(
-        Sweep::Remaining,
-        order,
-        list,
-        &fall,
-        code,
-        counts,
-        reference,
-        sizes,
-    ) {
-        return Finding::Fault(v);
+    match which {
+        Sweep::Wrong => wrong,
+        Sweep::Missing => rise,
+        Sweep::Unobserved => rise,
+        Sweep::Remaining => fall,
+        Sweep::StillHigh => fall,
     }
-    sweep_check(
-        Sweep::StillHigh,
-        order,
-        list,
-        &fall,
-        code,
-        counts,
-        reference,
-        sizes,
-    )
 }
 
-// The rise, then the fall. Where every gate has hold, a stage whose rise passes is not refused for its fall.
+// How many of the checks are made: where every gate has hold, a stage whose rise passes is not refused for its fall.
+fn sweep_count(code: &[u16], counts: Counts) -> usize
+    requires { ⌜ StageLoaded counts (now code) ⌝ }
+    ensures { λ r. ⌜ Enough (stageIn counts (now (code .entry))) r ⌝ }
+{
+    if lane_screen::all_hold(code, counts) {
+        return 3;
+    }
+    5
+}
+
+// The checks one after the other, up to the first that finds something.
 fn sweep_named(
     order: WordOrder,
     list: &[u16],
@@ -211,19 +164,33 @@ fn sweep_named(
         × AllClean (stageIn counts (now code)) (referenceIn sizes (now reference)) masks ⌝ }
     ensures { λ r. ⌜ r ≡ checks.firstFault (checks.sweeps order (stageIn counts (now (code .entry))) (referenceIn sizes (now (reference .entry)))) ⌝ }
 {
-    if let Finding::Fault(v) = sweep_rises(order, list, masks, code, counts, reference, sizes) {
-        return Finding::Fault(v);
+    let count = sweep_count(code, counts);
+    let mut i: usize = 0;
+    while i < count {
+        let which = sweep_at(i);
+        let mask = mask_of(which, masks);
+        if let Finding::Fault(v) = sweep_check(
+            which,
+            order,
+            list,
+            &mask,
+            code,
+            counts,
+            reference,
+            sizes,
+        ) {
+            return Finding::Fault(v);
+        }
+        i += 1;
     }
-    if lane_screen::all_hold(code, counts) {
-        return Finding::Passed;
-    }
-    sweep_falls(order, list, masks, code, counts, reference, sizes)
+    Finding::Passed
 }
 
 // Whether the masks name no word in which a check may find something: where every gate has hold those of the fall are not asked for.
 fn nothing_named(masks: Masks, code: &[u16], counts: Counts) -> bool
     requires { ⌜ StageLoaded counts (now code) × InOrder counts (now code) ⌝ }
-    ensures { λ r. ⌜ (r ≡ true → (order : WordOrder) (reference : Reference) → AllClean (stageIn counts (now (code .entry))) reference masks
+    ensures { λ r. ⌜ (r ≡ true → (order : WordOrder) (reference : Reference) → counts .outputs ≤ length (reference .outputs)
+        → AllClean (stageIn counts (now (code .entry))) reference masks
         → Finding.Passed ≡ checks.firstFault (checks.sweeps order (stageIn counts (now (code .entry))) reference)) ⌝ }
 {
     let wrong = masks.wrong;

@@ -3,6 +3,7 @@ pub mod Feeding
 pub mod Reordering
 pub mod Placing
 pub mod Ordering
-pub mod Marking
+pub mod After
+pub mod Visiting
 pub mod Searching
 pub mod Findings

@@ -18,7 +18,7 @@ use Rattle.circuit.specs.Stage.{gateAtPlace, placeOf, stageGates}
 use Rattle.circuit.specs.Order.{orderIn, InOrder}
 use Rattle.circuit.proofs.Tabulate.{length-tabulate}
 use Rattle.circuit.proofs.Settling.{length-stageGates, order-at}
-use Rattle.circuit_order.specs.Placing.{Waits, Gone, Placing, PassTo, Ordered}
+use Rattle.circuit_order.specs.Placing.{Gone, Placing, Ordered}
 use Rattle.circuit_order.specs.Marks.{fedBy}
 use Rattle.circuit_order.proofs.Sums.{get-≤-sum, sum-some}
 
@@ -72,39 +72,7 @@ module _ (c : Counts) (code waiting : List ℕ) (placed : ℕ) (p : Placing c co
     pub all-ordered : InOrder c code × LoopFree (c .inputs) (stageGates c code)
     all-ordered = (in-order, placed-free (c .inputs) (stageGates c code) (placeOf code) before)
 
-  -- ---- stuck: each gate that waits has one that waits, of lower rank, at a pin
-
-  module _
-      (stuck : (k : ℕ) → k < c .gates → Waits c waiting k → fedBy (stageGates c code) waiting k ≡ true)
-      (free : LoopFree (c .inputs) (stageGates c code))
-    where
-      descent : (r q : ℕ) → high waiting q ≡ true → rankOf (c .inputs) (stageGates c code) q < r → ⊥
-      descent zero q w l = omega arith
-      descent (suc r) q w l =
-          let o = p .only q w in
-          let s = anyHigh-out waiting (pinsAt (stageGates c code) (o .0)) (stuck (o .0) (o .1) (subst (λ (x : ℕ). high waiting x ≡ true) (o .2) w)) in
-          let e = ap (rankOf (c .inputs) (stageGates c code)) (o .2) in
-          descent r (s .0) (s .2) (omega (arith, rank-pin (c .inputs) (stageGates c code) free (s .0) (o .0) (s .1)))
-
-      -- so there is none
-      stuck-full : placed ≡ c .gates
-      stuck-full = go (decLt 0 (sum waiting))
-        where
-          go : Dec (0 < sum waiting) → placed ≡ c .gates
-          go (yes h) = let s = sum-some waiting h in absurd (descent (suc (rankOf (c .inputs) (stageGates c code) (s .0))) (s .0) (s .1) (omega arith))
-          go (no h) = omega (arith, p .total)
-
   pub ordered-full : c .gates ≤ placed → Ordered c code placed
   ordered-full h =
       let e : placed ≡ c .gates = omega (arith, p .total) in
       record { loaded = p .loaded; all = all-ordered; some = λ d. absurd (d e) }
-
--- the last pass placed no gate
-module _ (c : Counts) (code waiting : List ℕ) (before placed : ℕ) (w : PassTo c code waiting before placed (c .gates)) where
-  pub ordered-stuck : placed ≡ before → Ordered c code before
-  ordered-stuck e = subst (Ordered c code) e (
-      record {
-        loaded = w .placing .loaded;
-        all = all-ordered c code waiting placed (w .placing);
-        some = λ d free. d (stuck-full c code waiting placed (w .placing) (w .none e) free);
-      })

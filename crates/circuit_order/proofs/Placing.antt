@@ -1,23 +1,25 @@
 -- Placing the gates: all of them wait; one that no waiting gate feeds takes the next place; and a pass over all of them.
 -- Assumes nothing.
-use Prim.Native.Nat.{ℕ, _+_, _*_, _≤_, _<_}
+use Prim.Native.Nat.{ℕ, zero, suc, _+_, _*_, _≤_, _<_}
 use native.Mathlib.Omega.{arith}
 use native.Mathlib.Decide.{ℕ-discrete, decLt}
 use mathlib.Core.Path.{_≡_, refl, sym, ap, _∙_, subst}
 use mathlib.Core.Bool.{Bool, true, false, _&&_, not}
 use mathlib.Core.List.{List}
-use lib.ListN.{length, getD, set, length-set}
+use lib.ListN.{length, getD, set, length-set, replicate, length-replicate}
 use lib.Seq.{getD-set-same, getD-set-other}
 use lib.Dec.{ltb}
 use borrow.Author.Tests.{ltb-true, lt-ltb}
 use Rattle.netlist.specs.declared.Counts.{Counts}
+use Rattle.netlist.specs.Reading.{stageLimits, Within}
 use Rattle.verdict.specs.Rows.{high}
 use Rattle.verdict.specs.Loops.{pinsAt, Feeds}
 use Rattle.verdict.proofs.Graph.{anyHigh-in}
-use Rattle.circuit.specs.Stage.{gateAtPlace, placeOf, stageGates, StageLoaded}
+use Rattle.circuit.specs.Stage.{netCount, gateAtPlace, placeOf, stageGates, StageLoaded}
+use Rattle.circuit.specs.Rows.{rowSize}
 use Rattle.circuit_order.proofs.Feeding.{marks-set}
 use Rattle.circuit_order.specs.Marks.{Unmarked, fedBy}
-use Rattle.circuit_order.specs.Placing.{Reordered, WaitTo, Waits, Gone, Placing, isReady, PassTo}
+use Rattle.circuit_order.specs.Placing.{Reordered, WaitTo, Waits, Gone, Placing, isReady}
 use Rattle.circuit_order.proofs.Sums.{sum-none, sum-set}
 use Rattle.circuit_order.proofs.Reordering.{reordered-refl, reordered-set, gates-kept, loaded-kept}
 
@@ -41,6 +43,23 @@ low v p h = go (decLt 0 (getD v p 0))
     go (no l) = omega arith
 
 -- ---- all wait
+
+-- the marks of a stage within the limits, in an array of zeros
+pub fresh : (c : Counts) → Within stageLimits c → Unmarked c (replicate rowSize 0)
+fresh c w = record {
+  marks-for = record {
+    long = length-replicate {A = ℕ} rowSize 0;
+    room = omega (arith, w .inputs-in, w .gates-in);
+    bit = λ p. omega (arith, zeros rowSize p);
+    ground = zeros rowSize (netCount c);
+  };
+  none = zeros rowSize;
+}
+  where
+    zeros : (m p : ℕ) → _≡_ {A = ℕ} (getD (replicate m 0) p 0) 0
+    zeros zero p = refl
+    zeros (suc m) zero = refl
+    zeros (suc m) (suc p) = zeros m p
 
 module _ (c : Counts) where
   pub wait-none : (marks : List ℕ) → Unmarked c marks → WaitTo c marks 0
@@ -206,25 +225,3 @@ module _ (c : Counts) (code waiting : List ℕ) (placed : ℕ) (p : Placing c co
     stands = λ m h g. stands′ m h g (ℕ-discrete m k);
     earlier = λ j m hj hm g f. earlier′ j m hj hm g (rw (gates-kept c code code′ placed-reordered) at f) (ℕ-discrete m k);
   }
-
--- ---- a pass
-
-not-ready : (a b : Bool) → (a && not b) ≡ false → a ≡ true → b ≡ true
-not-ready true true e h = refl
-not-ready true false e h = absurd (never refl e)
-not-ready false b e h = absurd (never h refl)
-
-pub pass-start : (c : Counts) (code waiting : List ℕ) (before : ℕ) → Placing c code waiting before → PassTo c code waiting before before 0
-pass-start c code waiting before p = record { placing = p; more = omega arith; none = λ e j h. absurd (omega arith) }
-
-module _ (c : Counts) (code waiting : List ℕ) (before placed k : ℕ) where
-  pub pass-place : (code′ waiting′ : List ℕ) → PassTo c code waiting before placed k → Placing c code′ waiting′ (placed + 1) →
-      PassTo c code′ waiting′ before (placed + 1) (k + 1)
-  pass-place code′ waiting′ w p = record { placing = p; more = omega (arith, w .more); none = λ e. absurd (omega (arith, w .more)) }
-
-  pub pass-skip : PassTo c code waiting before placed k → isReady c code waiting k ≡ false → PassTo c code waiting before placed (k + 1)
-  pass-skip w r = record { placing = w .placing; more = w .more; none = λ e j h v. at e j h v (ℕ-discrete j k) }
-    where
-      at : placed ≡ before → (j : ℕ) → j < k + 1 → Waits c waiting j → Dec (j ≡ k) → fedBy (stageGates c code) waiting j ≡ true
-      at e j h v (yes q) = rw q (not-ready (high waiting (2 * c .inputs + k)) (fedBy (stageGates c code) waiting k) r (rw q at v))
-      at e j h v (no d) = w .none e j (omega arith) v

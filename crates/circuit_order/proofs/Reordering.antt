@@ -32,7 +32,7 @@ module _ (c : Counts) (before code : List ℕ) (r : Reordered c before code) whe
   hold-kept : (k : ℕ) → slot code k 7 ≡ slot before k 7
   hold-kept k = r .kept (8 * k + 7) (λ m h. (λ e. omega arith, λ e. omega arith))
 
-  pin-kept : (k i : ℕ) → i < 4 → pinIn code k i ≡ pinIn before k i
+  pub pin-kept : (k i : ℕ) → i < 4 → pinIn code k i ≡ pinIn before k i
   pin-kept k i l = r .kept (8 * k + (1 + i)) (λ m h. (λ e. omega arith, λ e. omega arith))
 
   gate-kept : (k : ℕ) → gateIn code k ≡ gateIn before k

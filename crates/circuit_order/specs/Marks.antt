@@ -1,4 +1,4 @@
--- Marks on the nets of a loaded stage, and the search for the least gate that reaches itself: the nets that lead to a gate are marked.
+-- Marks on the nets of a loaded stage, and the search for the least gate that reaches itself, which visits what a gate comes from.
 use Prim.Native.Nat.{ℕ, _+_, _*_, _≤_, _<_}
 use mathlib.Core.Path.{_≡_}
 use mathlib.Core.Bool.{Bool, true, false}
@@ -10,10 +10,10 @@ use Rattle.netlist.specs.declared.Found.the-variants.{Nothing}
 use Rattle.netlist.specs.Content.{Gate}
 use Rattle.verdict.specs.Rows.{high}
 use Rattle.verdict.specs.Graph.{Leads, anyHigh}
-use Rattle.verdict.specs.Loops.{pinsAt, gateSteps, reachesItself}
+use Rattle.verdict.specs.Loops.{In, pinsAt, gateSteps, reachesItself}
 use Rattle.verdict.specs.Search.{least}
 use Rattle.verdict.specs.Levels.{sum}
-use Rattle.circuit.specs.Stage.{netCount, stageGates, stageIn, StageLoaded}
+use Rattle.circuit.specs.Stage.{netCount, pinIn, stageGates, stageIn, StageLoaded}
 use Rattle.circuit.specs.Order.{InOrder}
 use Rattle.circuit.specs.Rows.{rowSize}
 
@@ -33,25 +33,35 @@ pub record Unmarked (c : Counts) (marks : List ℕ) : Type 0 where
 abbrev pub fedBy : List Gate → List ℕ → ℕ → Bool
 fedBy gates marks k = anyHigh marks (pinsAt gates k)
 
--- through the pins of a loaded stage net p leads to net q
-abbrev pub LeadsIn : Counts → List ℕ → ℕ → ℕ → Type 0
-LeadsIn c code q p = Leads (gateSteps (c .inputs) (stageGates c code)) q p
+-- marks on some of the gates: those that a search has not visited yet
+pub record Left (c : Counts) (left : List ℕ) : Type 0 where
+  pub marks-for : MarksFor c left
+  pub only : (p : ℕ) → high left p ≡ true → (k : ℕ) × (k < c .gates) × (p ≡ 2 * c .inputs + k)
 
--- In a pass the gates before k have had their turn: marks stay, new ones are on nets that lead to marked ones, and there are more of
--- them, or each of these gates that has a marked net at a pin is marked.
-pub record Grown (c : Counts) (code before marks : List ℕ) (more : Bool) (k : ℕ) : Type 0 where
-  pub marks-for : MarksFor c marks
-  pub kept : (p : ℕ) → high before p ≡ true → high marks p ≡ true
-  pub back : (p : ℕ) → high marks p ≡ true → (q : ℕ) × (high before q ≡ true) × LeadsIn c code q p
-  pub no-less : sum before ≤ sum marks
-  pub rose : more ≡ true → sum before < sum marks
-  pub done : more ≡ false → (j : ℕ) → j < k → fedBy (stageGates c code) marks j ≡ true → high marks (2 * c .inputs + j) ≡ true
+-- A search has visited what the nets of `from` come from, as far as it was left before: what is visited is left no more; of a gate that was visited
+-- the pins were, and one that was visited is what one of the nets comes from.
+pub record Visited (c : Counts) (code before left : List ℕ) (from : ℕ → Type 0) : Type 0 where
+  pub stays : Left c left
+  pub fewer : (p : ℕ) → high left p ≡ true → high before p ≡ true
+  pub less : sum left ≤ sum before
+  pub pins : (p : ℕ) → from p → high left p ≡ false
+  pub closed : (x : ℕ) → high before (2 * c .inputs + x) ≡ true → high left (2 * c .inputs + x) ≡ false
+      → (p : ℕ) → In p (pinsAt (stageGates c code) x) → high left p ≡ false
+  pub reached : (p : ℕ) → high before p ≡ true → high left p ≡ false → (z : ℕ) × from z × Leads (gateSteps (c .inputs) (stageGates c code)) p z
 
--- The net of gate g is marked, and marked nets lead to it.
-pub record Marking (c : Counts) (code : List ℕ) (g : ℕ) (marks : List ℕ) : Type 0 where
-  pub marks-for : MarksFor c marks
-  pub self : high marks (2 * c .inputs + g) ≡ true
-  pub back : (p : ℕ) → high marks p ≡ true → LeadsIn c code (2 * c .inputs + g) p
+-- the nets at the pins of gate k; and at the first i of its four
+abbrev pub Pins : Counts → List ℕ → ℕ → ℕ → Type 0
+Pins c code k p = In p (pinsAt (stageGates c code) k)
+
+abbrev pub FirstPins : Counts → List ℕ → ℕ → ℕ → ℕ → Type 0
+FirstPins c code k i p = (m : ℕ) × (m < i) × (p ≡ pinIn code k m) × (p < netCount c)
+
+-- the gates from g on are left, and no gate before g reaches itself
+pub record From (c : Counts) (code left : List ℕ) (g : ℕ) : Type 0 where
+  pub stays : Left c left
+  pub later : (k : ℕ) → high left (2 * c .inputs + k) ≡ true → g ≤ k
+  pub all : (k : ℕ) → g ≤ k → k < c .gates → high left (2 * c .inputs + k) ≡ true
+  pub none : (k : ℕ) → k < g → reachesItself (c .inputs) (stageGates c code) k ≡ false
 
 -- 12: the least gate that reaches itself. The stage is the same; where no gate was found its gates are in order.
 pub record LoopFound (c : Counts) (before code : List ℕ) (found : Found) : Type 0 where

@@ -6,9 +6,9 @@ use mathlib.Core.List.{List}
 use lib.ListN.{length, getD}
 use Rattle.netlist.specs.declared.Counts.{Counts}
 use Rattle.verdict.specs.Rows.{high}
-use Rattle.verdict.specs.Loops.{Feeds, LoopFree}
+use Rattle.verdict.specs.Loops.{In, pinsAt, Feeds, LoopFree}
 use Rattle.verdict.specs.Levels.{sum}
-use Rattle.circuit.specs.Stage.{gateAtPlace, placeOf, stageGates, StageLoaded}
+use Rattle.circuit.specs.Stage.{pinIn, gateAtPlace, placeOf, stageGates, StageLoaded}
 use Rattle.circuit.specs.Order.{InOrder}
 use Rattle.circuit_order.specs.Marks.{MarksFor, fedBy}
 
@@ -51,11 +51,24 @@ pub record Placing (c : Counts) (code waiting : List ℕ) (placed : ℕ) : Type 
 abbrev pub isReady : Counts → List ℕ → List ℕ → ℕ → Bool
 isReady c code waiting k = high waiting (2 * c .inputs + k) && not (fedBy (stageGates c code) waiting k)
 
--- In a pass the gates before k have had their turn: more gates are placed, or each of these that waits is fed by one that waits.
-pub record PassTo (c : Counts) (code waiting : List ℕ) (before placed k : ℕ) : Type 0 where
+-- a rank of the nets: the nets at the pins of a gate rank below its own
+abbrev pub Ranks : Counts → List ℕ → (ℕ → ℕ) → Type 0
+Ranks c code rank = (p k : ℕ) → In p (pinsAt (stageGates c code) k) → rank p < rank (2 * c .inputs + k)
+
+-- Gate k was to be placed after those that feed it, `depth` gates deep at most. What had a place keeps it; and k has one, if the nets have ranks and
+-- that of k is below the depth.
+pub record PlacedAfter (c : Counts) (before code waited waiting : List ℕ) (placed k depth : ℕ) : Type 0 where
   pub placing : Placing c code waiting placed
-  pub more : before ≤ placed
-  pub none : placed ≡ before → (j : ℕ) → j < k → Waits c waiting j → fedBy (stageGates c code) waiting j ≡ true
+  pub reordered : Reordered c before code
+  pub kept : (j : ℕ) → Gone c waited j → Gone c waiting j
+  pub enough : (rank : ℕ → ℕ) → Ranks c before rank → rank (2 * c .inputs + k) < depth → Gone c waiting k
+
+-- the same on the way: the nets at the first i pins of gate k wait no more
+pub record AfterPins (c : Counts) (before code waited waiting : List ℕ) (placed k i : ℕ) : Type 0 where
+  pub placing : Placing c code waiting placed
+  pub reordered : Reordered c before code
+  pub kept : (j : ℕ) → Gone c waited j → Gone c waiting j
+  pub done : (m : ℕ) → m < i → getD waiting (pinIn code k m) 0 ≡ 0
 
 -- All gates are placed, and the code holds a topological order; or some are not, and there is a loop.
 pub record Ordered (c : Counts) (code : List ℕ) (placed : ℕ) : Type 0 where

@@ -4,21 +4,13 @@ use netlist::Counts;
 use netlist::Found;
 ghost use mathlib.Core.Path.{_≡_};
 ghost use mathlib.Core.Bool.{Bool, true, false};
-ghost use Prim.Native.Nat.{ℕ, _+_, _<_};
-ghost use lib.ListN.{length};
+ghost use Prim.Native.Nat.{ℕ, _+_, _*_, _<_};
+ghost use lib.ListN.{length, set};
 ghost use Rattle.verdict.specs.Loops.{reachesItself};
 ghost use Rattle.verdict.specs.Search.{least};
 ghost use Rattle.circuit.specs.Stage.{stageGates, StageLoaded};
-ghost use Rattle.circuit_order.specs.Placing.{Placing, isReady, WaitTo, PassTo, Ordered, Reordered};
-ghost use Rattle.circuit_order.specs.Marks.{MarksFor, Unmarked, fedBy, Marking, Grown, LoopFound};
-
-// Whether a marked net is at a pin of gate k.
-fn fed(code: &[u16], counts: Counts, k: usize, marks: &[u8]) -> bool
-    requires { ⌜ StageLoaded counts (now code) × (k < counts .gates) × MarksFor counts (now marks) ⌝ }
-    ensures { λ r. ⌜ r ≡ fedBy (stageGates counts (now (code .entry))) (now (marks .entry)) k ⌝ }
-{
-    0 < circuit::pattern(code, counts, k, marks)
-}
+ghost use Rattle.circuit_order.specs.Placing.{Placing, isReady, WaitTo, PlacedAfter, Ordered, Reordered};
+ghost use Rattle.circuit_order.specs.Marks.{Unmarked, Left, Visited, Pins, From, LoopFound};
 
 // ---- a topological order
 
@@ -34,91 +26,103 @@ fn wait_all(counts: Counts, marks: &mut [u8])
     }
 }
 
-// Whether gate k is to be placed: it waits, and no waiting gate feeds it.
-fn is_ready(code: &[u16], counts: Counts, k: usize, waiting: &[u8]) -> bool
-    requires { ⌜ StageLoaded counts (now code) × (k < counts .gates) × MarksFor counts (now waiting) ⌝ }
-    ensures { λ r. ⌜ r ≡ isReady counts (now (code .entry)) (now (waiting .entry)) k ⌝ }
-{
-    if waiting[2 * counts.inputs + k] == 0 {
-        return false;
-    }
-    !fed(code, counts, k, waiting)
-}
-
 // Gate k, which is ready, takes the next place of the order.
 fn place(code: &mut [u16], counts: Counts, k: usize, waiting: &mut [u8], placed: usize)
     requires { ⌜ Placing counts (now code) (now waiting) placed × (k < counts .gates) × (isReady counts (now code) (now waiting) k ≡ true) ⌝ }
-    ensures { λ r. ⌜ Placing counts (now (code .exit)) (now (waiting .exit)) (placed + 1) × Reordered counts (now (code .entry)) (now (code .exit)) ⌝ }
+    ensures { λ r. ⌜ Placing counts (now (code .exit)) (now (waiting .exit)) (placed + 1) × Reordered counts (now (code .entry)) (now (code .exit))
+        × (now (waiting .exit) ≡ set (now (waiting .entry)) (2 * counts .inputs + k) 0) ⌝ }
 {
     code[8 * placed + 5] = k as u16;
     code[8 * k + 6] = placed as u16;
     waiting[2 * counts.inputs + k] = 0;
 }
 
-// A pass over the gates: each that is ready takes the next place of the order. How many places are taken then.
-fn place_ready(code: &mut [u16], counts: Counts, waiting: &mut [u8], taken: usize) -> usize
-    requires { ⌜ Placing counts (now code) (now waiting) taken ⌝ }
-    ensures { λ r. ⌜ PassTo counts (now (code .exit)) (now (waiting .exit)) taken r (counts .gates)
-        × Reordered counts (now (code .entry)) (now (code .exit)) ⌝ }
+// Gate k is placed, after the gates that feed it and wait: these are placed in the same way first, `depth` gates deep at most. It is left where one of
+// them is: then there is a loop, or the order is deeper than that. How many gates are placed then.
+fn place_after(
+    code: &mut [u16],
+    counts: Counts,
+    k: usize,
+    waiting: &mut [u8],
+    taken: usize,
+    depth: usize,
+) -> usize
+    requires { ⌜ Placing counts (now code) (now waiting) taken × (k < counts .gates) ⌝ }
+    ensures { λ r. ⌜ PlacedAfter counts (now (code .entry)) (now (code .exit)) (now (waiting .entry)) (now (waiting .exit)) r k depth ⌝ }
 {
-    let mut placed = taken;
-    let mut k: usize = 0;
-    while k < counts.gates {
-        if is_ready(code, counts, k, waiting) {
-            place(code, counts, k, waiting, placed);
-            placed += 1;
-        }
-        k += 1;
+    if depth == 0 {
+        return taken;
     }
-    placed
+    let mut placed = taken;
+    let mut pin: usize = 0;
+    while pin < 4 {
+        let feeder = code[8 * k + (1 + pin)] as usize;
+        if 0 < waiting[feeder] {
+            placed = place_after(
+                code,
+                counts,
+                feeder - 2 * counts.inputs,
+                waiting,
+                placed,
+                depth - 1,
+            );
+            if 0 < waiting[feeder] {
+                return placed;
+            }
+        }
+        pin += 1;
+    }
+    if waiting[2 * counts.inputs + k] == 0 {
+        return placed;
+    }
+    place(code, counts, k, waiting, placed);
+    placed + 1
 }
 
-// All gates wait; passes follow until all are placed or one places none. How many are placed.
+// All gates wait, and each is placed in its turn, if it is not placed by then, until all are or one is left. How many are placed.
 fn place_all(code: &mut [u16], counts: Counts, waiting: &mut [u8]) -> usize
     requires { ⌜ StageLoaded counts (now code) × Unmarked counts (now waiting) ⌝ }
     ensures { λ r. ⌜ Ordered counts (now (code .exit)) r × Reordered counts (now (code .entry)) (now (code .exit)) ⌝ }
 {
     wait_all(counts, waiting);
+    let depth = 2 * counts.inputs + counts.gates + 1;
     let mut placed: usize = 0;
-    while placed < counts.gates {
-        let more = place_ready(code, counts, waiting, placed);
-        if more == placed {
+    let mut k: usize = 0;
+    while k < counts.gates {
+        placed = place_after(code, counts, k, waiting, placed, depth);
+        if 0 < waiting[2 * counts.inputs + k] {
             return placed;
         }
-        placed = more;
+        k += 1;
     }
     placed
 }
 
 // ---- loops
 
-// A pass over the gates: each with a marked net at a pin is marked. Whether one was not marked before.
-fn mark_fed(code: &[u16], counts: Counts, marks: &mut [u8]) -> bool
-    requires { ⌜ StageLoaded counts (now code) × MarksFor counts (now marks) ⌝ }
-    ensures { λ r. ⌜ Grown counts (now (code .entry)) (now (marks .entry)) (now (marks .exit)) r (counts .gates) ⌝ }
+// Visits the gates that gate k comes from and that are left: each is left no more, and what it comes from is visited in turn.
+fn visit(code: &[u16], counts: Counts, k: usize, left: &mut [u8])
+    requires { ⌜ StageLoaded counts (now code) × (k < counts .gates) × Left counts (now left) ⌝ }
+    ensures { λ r. ⌜ Visited counts (now (code .entry)) (now (left .entry)) (now (left .exit)) (Pins counts (now (code .entry)) k) ⌝ }
 {
-    let mut more = false;
-    let mut k: usize = 0;
-    while k < counts.gates {
-        if marks[2 * counts.inputs + k] == 0 {
-            if fed(code, counts, k, marks) {
-                marks[2 * counts.inputs + k] = 1;
-                more = true;
-            }
+    let mut i: usize = 0;
+    while i < 4 {
+        let net = code[8 * k + (1 + i)] as usize;
+        if 0 < left[net] {
+            left[net] = 0;
+            visit(code, counts, net - 2 * counts.inputs, left);
         }
-        k += 1;
+        i += 1;
     }
-    more
 }
 
-// Whether gate g reaches itself: it is marked, then what has a marked net at a pin, until there is none left to mark.
-fn reaches_itself(code: &[u16], counts: Counts, g: usize, marks: &mut [u8]) -> bool
-    requires { ⌜ StageLoaded counts (now code) × (g < counts .gates) × Unmarked counts (now marks) ⌝ }
+// Whether gate g reaches itself: it does if it is visited among what it comes from. The gates before it, which do not reach themselves, need no visit.
+fn reaches_itself(code: &[u16], counts: Counts, g: usize, left: &mut [u8]) -> bool
+    requires { ⌜ StageLoaded counts (now code) × (g < counts .gates) × From counts (now code) (now left) g ⌝ }
     ensures { λ r. ⌜ r ≡ reachesItself (counts .inputs) (stageGates counts (now (code .entry))) g ⌝ }
 {
-    marks[2 * counts.inputs + g] = 1;
-    while mark_fed(code, counts, marks) {}
-    fed(code, counts, g, marks)
+    visit(code, counts, g, left);
+    left[2 * counts.inputs + g] == 0
 }
 
 // The least gate that reaches itself, gate by gate.
@@ -126,12 +130,15 @@ fn least_loop(code: &[u16], counts: Counts) -> Found
     requires { ⌜ StageLoaded counts (now code) ⌝ }
     ensures { λ r. ⌜ r ≡ least (reachesItself (counts .inputs) (stageGates counts (now (code .entry)))) 0 (counts .gates) ⌝ }
 {
+    let mut later = [0u8; circuit::ROW];
+    wait_all(counts, &mut later);
     let mut g: usize = 0;
     while g < counts.gates {
-        let mut marks = [0u8; circuit::ROW];
-        if reaches_itself(code, counts, g, &mut marks) {
+        let mut left = later;
+        if reaches_itself(code, counts, g, &mut left) {
             return Found::At(g);
         }
+        later[2 * counts.inputs + g] = 0;
         g += 1;
     }
     Found::Nothing

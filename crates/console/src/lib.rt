@@ -9,6 +9,7 @@ ghost use Rattle.io.specs.Counts.{Counts};
 ghost use mathlib.Core.Path.{_≡_};
 ghost use lib.IntN.{pos};
 ghost use lib.Signed.{_<ℤ_};
+ghost use Rattle.print_spec.specs.Lines as lines;
 
 // Puts the start of a file at the start of buf, as many bytes as there is room for, and answers how many. A file that is missing or
 // cannot be read counts as empty, and so does a folder.
@@ -73,59 +74,32 @@ pub fn word_order() -> WordOrder {
     WordOrder::FirstHighest
 }
 
-// A number after a space.
-pub fn print_next(n: u64) {
-    io::write_all(STDOUT_FILENO, b" ");
-    io::print_decimal(STDOUT_FILENO, n);
+// ---- what is printed
+
+// Writes the text of a verdict, which is what it is handed, to standard output.
+fn write_verdict_line(text: &[u8], v: Verdict)
+    requires { ⌜ now text ≡ lines.verdictLine v ⌝ }
+{
+    io::write_all(STDOUT_FILENO, text);
 }
 
-fn print_byte(byte: u8) {
-    print_next(byte as u64);
-}
-
-// Each byte as a number, with a space before it.
-pub fn print_bytes(bytes: &[u8]) {
-    let mut i: usize = 0;
-    while i < bytes.len() {
-        print_byte(bytes[i]);
-        i += 1;
-    }
-}
-
-// The four numbers, with single spaces between them.
+// The four numbers, with single spaces between them and a newline.
 pub fn print_verdict(v: Verdict) {
-    io::print_decimal(STDOUT_FILENO, v.number);
-    print_next(v.file);
-    print_next(v.at);
-    print_next(v.word);
+    let mut line = [0u8; write_lines::VERDICT_LINE];
+    let n = write_lines::put_verdict_line(&mut line, v);
+    write_verdict_line(&line[..n], v);
 }
 
-// A number, some bytes, another number and some bytes: the line of a word in a report.
-fn print_line(word: u64, high: u64, between: &[u8], after: &[u8]) {
-    io::print_decimal(STDOUT_FILENO, word);
-    io::write_all(STDOUT_FILENO, between);
-    io::print_decimal(STDOUT_FILENO, high);
-    io::write_all(STDOUT_FILENO, after);
+// The same of a report.
+fn write_report_lines(text: &[u8], report: Report)
+    requires { ⌜ now text ≡ lines.reportLines report ⌝ }
+{
+    io::write_all(STDOUT_FILENO, text);
 }
 
-// The first so many lines of a report, each with its word.
-fn print_lines(lines: &[u16], names: &[u16], words: u64, between: &[u8], after: &[u8]) {
-    let mut k: usize = 0;
-    while k < lines.len() && k < names.len() && (k as u64) < words {
-        print_line(names[k] as u64, lines[k] as u64, between, after);
-        k += 1;
-    }
-}
-
-// The lines of a report, each as the word, `between`, the number of gates high at its rest and `after`; then the total. Of a refused pair
-// the verdict alone.
-pub fn print_report(report: Report, between: &[u8], after: &[u8]) {
-    if report.verdict.number == 0 {
-        let names = report.names;
-        print_lines(&report.lines, &names, report.words, between, after);
-        io::write_all(STDOUT_FILENO, b"total");
-        print_next(report.total);
-    } else {
-        print_verdict(report.verdict);
-    }
+// The lines of a report, each with the word and the number of gates high at its rest; then the total. Of a refused pair the verdict alone.
+pub fn print_report(report: Report) {
+    let mut text = [0u8; write_lines::REPORT_LINES];
+    let n = write_lines::put_report_lines(&mut text, report);
+    write_report_lines(&text[..n], report);
 }

@@ -3,14 +3,14 @@
 use Prim.Native.Nat.{ℕ, _≤_}
 use native.Mathlib.Omega.{arith}
 use mathlib.Core.Path.{_≡_, refl, sym, ap, _∙_, subst}
-use mathlib.Core.Bool.{Bool, true, false, not, _&&_}
+use mathlib.Core.Bool.{Bool, true, false, _&&_}
 use mathlib.Core.List.{List}
 use lib.ListN.{length, take}
 use lib.Dec.{leb, ltb}
 use borrow.Author.Tests.{leb-true, ltb-false}
 use Rattle.runs.proofs.Test.{and-left, and-right}
 use Rattle.verdict.specs.declared.Verdict.{Verdict}
-use Rattle.verdict.specs.Checks.{verdict}
+use Rattle.verdict.specs.FourNumbers.{verdict}
 use Rattle.verdict.specs.declared.Answer.{Answer}
 use Rattle.verdict.specs.Written.{Written, written, refuse, write, writeOr}
 use Rattle.verdict.proofs.Written.{holding-take}

@@ -2,15 +2,14 @@
 -- Assumes nothing.
 use Prim.Native.Nat.{ℕ}
 use mathlib.Core.Path.{_≡_, refl}
-use mathlib.Core.List.{List, [], _∷_, map}
+use mathlib.Core.List.{List, [], _∷_, map, flatMap}
 use lib.ListN.{replicate}
-use Rattle.gates.specs.Cell as c
 use Rattle.netlist.specs.Commands as k
-use Rattle.netlist.specs.Writing as n
-use Rattle.verdict.specs.Words as w
-use Rattle.verdict.specs.Checks.{verdict}
+use Rattle.verdict.specs.FourNumbers.{verdict}
 use Rattle.verdict.specs.Written as o
 use Rattle.verdict.specs.Written.{Written, refuse, write}
+use Rattle.check_spec.specs.Lists as l
+use Rattle.check_spec.specs.Writing as w
 use Rattle.draw_spec.specs.Draws as d
 use Rattle.draw_spec.specs.Drawn as a
 use Rattle.draw_spec.specs.Drawn.{drawnBytes, drawn}
@@ -42,7 +41,7 @@ fourGates =
     0 ∷ []
 
 pub seed-1 : drawnBytes 1 1 4 ≡ fourGates
-unfolding c.among k.ownCommands k.commandTable k.formIn k.needed n.writeFile n.writeReference w.numbers w.select
+unfolding k.ownCommands k.commandTable k.formIn k.needed l.numbers l.select l.some w.rowFor w.command w.writeFile flatMap
     d.advance d.yield d.after d.operandsFrom d.gateFrom d.afterGate d.gatesFrom a.usedBy a.drawnReference
 seed-1 = refl
 
@@ -71,6 +70,6 @@ cases =
     []
 
 pub computed : map (λ (x : Case). drawn (x .seed) (x .inputs) (x .gates) (lent (x .room))) cases ≡ map (λ (x : Case). x .leaves (lent (x .room))) cases
-unfolding cases c.among k.ownCommands k.commandTable k.formIn k.needed n.writeFile n.writeReference w.numbers w.select o.writeOr
+unfolding cases k.ownCommands k.commandTable k.formIn k.needed l.numbers l.select l.some w.rowFor w.command w.writeFile flatMap o.writeOr
     d.advance d.yield d.after d.operandsFrom d.gateFrom d.afterGate d.gatesFrom a.usedBy a.drawnReference a.drawn
 computed = refl

@@ -3,25 +3,27 @@
 use Prim.Native.Nat.{ℕ, zero, suc, _+_, _-_, _≤_, _<_}
 use native.Mathlib.Omega.{arith}
 use native.Mathlib.Nat.{mod-lt}
-use mathlib.Core.Path.{_≡_, refl, ap}
+use mathlib.Core.Path.{_≡_, refl, sym, ap, _∙_}
 use mathlib.Core.Bool.{not}
-use mathlib.Core.List.{List, [], _∷_, _++_}
-use lib.ListN.{length}
-use Rattle.gates.specs.Cell.{among}
+use mathlib.Core.List.{List, [], _∷_}
+use lib.ListN.{length, length-map}
+use lib.Dec.{eqb}
 use Rattle.runs.proofs.Test.{not-true}
 use Rattle.netlist.specs.declared.File.the-variants as file
-use Rattle.netlist.specs.Reading.{referenceLimits}
-use Rattle.netlist.specs.Content.{Coded}
-use Rattle.netlist.specs.Writing.{All, referenceItems, FileFits}
+use Rattle.netlist.specs.Reading.{readable, readFile, referenceLimits}
+use Rattle.netlist.specs.Content.{Coded, Reference, referenceOf}
+use Rattle.netlist.specs.Writing.{All, placesOf, referenceItems, writeReference, FileFits}
 use Rattle.netlist.specs.Formed.{OperationFormed, FormedFrom, ReferenceFormed}
 use Rattle.netlist.proofs.Lists.{All-map, All-++}
 use Rattle.netlist.proofs.References.{reference-fits, read-writeReference, referenceOf-writeReference}
-use Rattle.verdict.specs.Demands.{ReferenceIs}
-use Rattle.verdict.specs.Words.{numbers, select}
 use Rattle.verdict.proofs.Names.{in-select}
-use Rattle.verdict.proofs.Retired.{among-in}
 use Rattle.verdict.proofs.Words.{index-in}
-use Rattle.make_spec.proofs.Lists.{all-in}
+use Rattle.check_spec.specs.Lists.{numbers, select, some}
+use Rattle.check_spec.specs.Writing.{writeFile}
+use Rattle.check_spec.proofs.Back.{reference-content, reference-write}
+use Rattle.make_spec.specs.Make.{referenceRead}
+use Rattle.check_spec.specs.Loaded.{fromReference}
+use Rattle.make_spec.proofs.Lists.{all-in, among-in}
 use Rattle.draw_spec.specs.Draws.{yield, advance, operandsFrom, gateFrom, afterGate, gatesFrom}
 use Rattle.draw_spec.specs.Drawn.{usedBy, unused, drawnReference, drawnBytes}
 use Rattle.draw_spec.proofs.Selected.{in-some, selected-below}
@@ -63,42 +65,55 @@ used-in below (c ∷ cs) h =
     (All-map (λ v. v < below) (λ v. suc v < below + suc (length cs)) (λ v l. omega arith) (c .operands) (h .0 .operands-in))
     (All-map (λ v. suc v < suc below + length cs) (λ v. suc v < below + suc (length cs)) (λ v l. omega arith) (usedBy cs) (used-in (suc below) cs (h .1)))
 
-module _ (seed n g : ℕ) (some : 1 ≤ n) where
+-- the outputs, and the reference with its signals as the code has them
+abbrev pub free : ℕ → ℕ → ℕ → List ℕ
+free seed n g = select (unused (gatesFrom n g seed)) (numbers 0 (n + g))
+
+abbrev pub parsed : ℕ → ℕ → ℕ → Reference
+parsed seed n g = record { inputs = n; gates = gatesFrom n g seed; outputs = free seed n g }
+
+drawn-is : (seed n g : ℕ) → drawnReference seed n g ≡ fromReference (parsed seed n g)
+unfolding drawnReference
+drawn-is seed n g = refl
+
+pub bytes-are : (seed n g : ℕ) → drawnBytes seed n g ≡ writeReference (parsed seed n g)
+bytes-are seed n g = ap (writeFile file.Reference) (drawn-is seed n g) ∙ reference-write (parsed seed n g)
+
+module _ (seed n g : ℕ) (some-input : 1 ≤ n) where
   -- so that the last one is an output
-  pub some-output : 1 ≤ length (drawnReference seed n g .outputs)
-  unfolding drawnReference
+  some-output : 1 ≤ length (free seed n g)
   some-output =
       let gates = gatesFrom n g seed in
       let last = n + g - 1 in
-      let below = used-in n gates (gates-formed n g seed some) in
       let long : length gates ≡ g = gates-long n g seed in
-      let free = not-true (among last (usedBy gates)) (λ e.
-      let l = all-in (λ v. suc v < n + length gates) (usedBy gates) below last (among-in last (usedBy gates) e) in
+      let none = not-true (some (eqb last) (usedBy gates)) (λ e.
+      let l = all-in (λ v. suc v < n + length gates) (usedBy gates) (used-in n gates (gates-formed n g seed some-input)) last (among-in last (usedBy gates) e) in
       omega arith) in
-      in-some last (select (unused gates) (numbers 0 (n + g)))
-      (in-select (unused gates) (numbers 0 (n + g)) last (index-in (n + g) last (omega arith)) (ap not free))
+      in-some last (free seed n g) (in-select (unused gates) (numbers 0 (n + g)) last (index-in (n + g) last (omega arith)) (ap not none))
 
   module _ (low : n ≤ 10) (few : g ≤ 40) (outputs : length (drawnReference seed n g .outputs) ≤ 16) where
-    pub formed : ReferenceFormed referenceLimits (drawnReference seed n g)
+    pub formed : ReferenceFormed referenceLimits (parsed seed n g)
     unfolding drawnReference
     formed =
-        let gates = gatesFrom n g seed in
-        let long : length gates ≡ g = gates-long n g seed in
+        let long : length (gatesFrom n g seed) ≡ g = gates-long n g seed in
         record {
-          inputs-in = (some, low);
+          inputs-in = (some-input, low);
           gates-in = omega arith;
-          outputs-in = (some-output, outputs);
-          gates-formed = gates-formed n g seed some;
-          outputs-formed = rw long (selected-below (unused gates) (n + g));
+          outputs-in = (some-output, omega (arith, outputs, length-map (free seed n g) (λ (v : ℕ). v ∷ [])));
+          gates-formed = gates-formed n g seed some-input;
+          outputs-formed = rw long (selected-below (unused (gatesFrom n g seed)) (n + g));
         }
 
-    fits : FileFits file.Reference referenceLimits (drawnReference seed n g .inputs) (referenceItems (drawnReference seed n g))
-    fits = reference-fits referenceLimits (drawnReference seed n g) (omega arith) (omega arith) formed
+    fits : FileFits file.Reference referenceLimits n (referenceItems (parsed seed n g))
+    fits = reference-fits referenceLimits (parsed seed n g) (omega arith) (omega arith) formed
 
     -- "Every such file is readable"
-    pub reads : ReferenceIs referenceLimits (drawnBytes seed n g) (drawnReference seed n g)
-    reads = record {
-      places = _;
-      reads = read-writeReference referenceLimits (drawnReference seed n g) fits;
-      content = referenceOf-writeReference referenceLimits (drawnReference seed n g) fits;
-    }
+    pub reads : readFile file.Reference referenceLimits (drawnBytes seed n g) ≡ readable (placesOf file.Reference n (referenceItems (parsed seed n g)))
+    reads = ap (readFile file.Reference referenceLimits) (bytes-are seed n g) ∙ read-writeReference referenceLimits (parsed seed n g) fits
+
+    -- as the reference that was drawn
+    pub reads-as : referenceRead (drawnBytes seed n g) ≡ drawnReference seed n g
+    reads-as =
+        let places = placesOf file.Reference n (referenceItems (parsed seed n g)) in
+        let back = ap (λ (b : List ℕ). referenceOf b places) (bytes-are seed n g) ∙ referenceOf-writeReference referenceLimits (parsed seed n g) fits in
+        reference-content referenceLimits (drawnBytes seed n g) places reads ∙ ap fromReference back ∙ sym (drawn-is seed n g)

@@ -1,15 +1,16 @@
 -- The reference that is drawn from a seed, and the answer of the call that writes it.
 use Prim.Native.Nat.{ℕ, _+_}
 use mathlib.Core.Bool.{Bool, cond, not, _&&_}
-use mathlib.Core.List.{List, [], _∷_, _++_}
+use mathlib.Core.List.{List, [], _∷_, _++_, map}
 use lib.ListN.{length}
-use lib.Dec.{leb, ltb}
-use Rattle.gates.specs.Cell.{among}
-use Rattle.netlist.specs.Content.{Coded, Reference}
-use Rattle.netlist.specs.Writing.{writeReference}
-use Rattle.verdict.specs.Lists.{numbers, select}
+use lib.Dec.{eqb, leb, ltb}
+use Rattle.netlist.specs.declared.File.the-variants.{Reference}
+use Rattle.netlist.specs.Coded.{Coded}
 use Rattle.verdict.specs.FourNumbers.{verdict}
 use Rattle.verdict.specs.Written.{Written, refuse, writeOr}
+use Rattle.check_spec.specs.Lists.{numbers, select, some}
+use Rattle.check_spec.specs.Content.{Content}
+use Rattle.check_spec.specs.Writing.{writeFile}
 use Rattle.draw_spec.specs.Draws.{gatesFrom}
 
 -- ---- the reference
@@ -21,17 +22,17 @@ usedBy (c ∷ cs) = c .operands ++ usedBy cs
 
 -- no gate uses signal x
 abbrev pub unused : List Coded → ℕ → Bool
-unused gates x = not (among x (usedBy gates))
+unused gates x = not (some (eqb x) (usedBy gates))
 
 -- n inputs and g gates. "Signals that no gate uses become outputs, in order": inputs are signals too
-unfoldable pub drawnReference : ℕ → ℕ → ℕ → Reference
+unfoldable pub drawnReference : ℕ → ℕ → ℕ → Content
 drawnReference seed n g =
     let gates = gatesFrom n g seed in
-    record { inputs = n; gates = gates; outputs = select (unused gates) (numbers 0 (n + g)) }
+    record { inputs = n; gates = gates; outputs = map (λ x. x ∷ []) (select (unused gates) (numbers 0 (n + g))); care = [] }
 
 -- its file, with the outputs "after the gates"
 abbrev pub drawnBytes : ℕ → ℕ → ℕ → List ℕ
-drawnBytes seed n g = writeReference (drawnReference seed n g)
+drawnBytes seed n g = writeFile Reference (drawnReference seed n g)
 
 -- ---- the call
 

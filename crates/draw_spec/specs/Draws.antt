@@ -4,7 +4,7 @@ use mathlib.Core.List.{List, [], _∷_}
 use lib.Bits.{bitXor}
 use Rattle.netlist.specs.declared.File.the-variants as file
 use Rattle.netlist.specs.Commands.{needed}
-use Rattle.netlist.specs.Content.{Coded}
+use Rattle.netlist.specs.Coded.{Coded}
 
 -- ---- a draw
 

@@ -1,90 +1,86 @@
 -- Joins of small stages, computed from the definitions alone.
 use Prim.Native.Nat.{ℕ}
 use mathlib.Core.Path.{_≡_, refl}
-use mathlib.Core.Bool.{true}
-use mathlib.Core.List.{List, [], _∷_, _++_, map}
+use mathlib.Core.Bool.{cond}
+use mathlib.Core.List.{List, [], _∷_, _++_, map, flatMap}
+use lib.Dec.{eqb}
 use Rattle.gates.specs.Cell as c
 use Rattle.netlist.specs.declared.Limits.{Limits}
+use Rattle.netlist.specs.declared.File.the-variants as file
 use Rattle.netlist.specs.Bytes as b
 use Rattle.netlist.specs.Commands as k
 use Rattle.netlist.specs.Reading as r
-use Rattle.netlist.specs.Content as t
-use Rattle.netlist.specs.Content.{Coded, Gate, Pair, Stage, Reference}
-use Rattle.netlist.specs.Writing as n
-use Rattle.verdict.specs.Rows as o
-use Rattle.verdict.specs.Graph as g
-use Rattle.verdict.specs.Loops as l
+use Rattle.netlist.specs.Coded.{Coded}
+use Rattle.verdict.specs.declared.Verdict.{Verdict}
 use Rattle.verdict.specs.declared.WordOrder.{WordOrder}
 use Rattle.verdict.specs.declared.WordOrder.the-variants.{FirstHighest, FirstLowest}
-use Rattle.verdict.specs.Words as w
-use Rattle.verdict.specs.Answers as a
-use Rattle.verdict.specs.Falls as f
-use Rattle.verdict.specs.Checks as h
-use Rattle.verdict.specs.Checks.{verdict}
-use Rattle.verdict.specs.Retired as q
-use Rattle.verdict.specs.Verdicts as v
-use Rattle.verdict.specs.Verdicts.{accepted}
-use Rattle.join_spec.specs.Whole as x
-use Rattle.join_spec.specs.Whole.{joinedStage, joinedReference}
-use Rattle.join_spec.specs.Join as j
-use Rattle.join_spec.specs.Join.{Files, files, JoinResult, joinWithin}
+use Rattle.check_spec.specs.Cases as e
+use Rattle.check_spec.specs.Cases.{verdict, accepted}
+use Rattle.check_spec.specs.Lists as l
+use Rattle.check_spec.specs.Content as t
+use Rattle.check_spec.specs.Content.{Content, Files}
+use Rattle.check_spec.specs.Rows as o
+use Rattle.check_spec.specs.Words as w
+use Rattle.check_spec.specs.Checks as h
+use Rattle.check_spec.specs.Verdicts as v
+use Rattle.check_spec.specs.Writing as n
+use Rattle.join_spec.specs.Joining as j
+use Rattle.join_spec.specs.Joining.{joinedBy, netInWhole, signalInWhole, whole, joinChecks}
 
 -- ---- the content: (a AND b) XOR c, where the first part hands c on
 
-abbrev hold : ℕ → List ℕ → Gate
-hold cell pins = record { cell = cell; hold = true; pins = pins }
+abbrev code : ℕ → List ℕ → Coded
+code kind operands = record { code = kind; operands = operands }
 
-abbrev pair : ℕ → ℕ → Pair
-pair rail0 rail1 = record { rail0 = rail0; rail1 = rail1 }
-
-abbrev operation : ℕ → List ℕ → Coded
-operation code operands = record { code = code; operands = operands }
-
-pub andWire : Stage
+pub andWire : Content
 andWire = record {
   inputs = 3;
-  gates = hold 2 (1 ∷ 3 ∷ []) ∷ hold 26 (0 ∷ 2 ∷ 1 ∷ 3 ∷ []) ∷ [];
-  outputs = pair 7 6 ∷ pair 4 5 ∷ [];
+  gates = code 2 (1 ∷ 3 ∷ []) ∷ code 26 (0 ∷ 2 ∷ 1 ∷ 3 ∷ []) ∷ [];
+  outputs = (7 ∷ 6 ∷ []) ∷ (4 ∷ 5 ∷ []) ∷ [];
   care = 1 ∷ 6 ∷ [];
 }
 
-pub xor : Stage
+pub xor : Content
 xor = record {
   inputs = 2;
-  gates = hold 25 (0 ∷ 2 ∷ 1 ∷ 3 ∷ []) ∷ hold 27 (0 ∷ 2 ∷ 1 ∷ 4 ∷ []) ∷ [];
-  outputs = pair 4 5 ∷ pair 0 1 ∷ [];
+  gates = code 25 (0 ∷ 2 ∷ 1 ∷ 3 ∷ []) ∷ code 27 (0 ∷ 2 ∷ 1 ∷ 4 ∷ []) ∷ [];
+  outputs = (4 ∷ 5 ∷ []) ∷ (0 ∷ 1 ∷ []) ∷ [];
   care = 2 ∷ [];
 }
 
-pub andWireFunction : Reference
-andWireFunction = record { inputs = 3; gates = operation 2 (0 ∷ 1 ∷ []) ∷ []; outputs = 3 ∷ 2 ∷ [] }
+pub andWireFunction : Content
+andWireFunction = record { inputs = 3; gates = code 2 (0 ∷ 1 ∷ []) ∷ []; outputs = (3 ∷ []) ∷ (2 ∷ []) ∷ []; care = [] }
 
-pub xorFunction : Reference
-xorFunction = record { inputs = 2; gates = operation 4 (0 ∷ 1 ∷ []) ∷ operation 1 (2 ∷ []) ∷ []; outputs = 3 ∷ 0 ∷ [] }
+pub xorFunction : Content
+xorFunction = record { inputs = 2; gates = code 4 (0 ∷ 1 ∷ []) ∷ code 1 (2 ∷ []) ∷ []; outputs = (3 ∷ []) ∷ (0 ∷ []) ∷ []; care = [] }
 
 -- rails of the second part are the first's outputs; its gates, here one on the other, and its outputs are moved
-pub joined-stage : joinedStage andWire xor ≡ record {
+pub joined-stage : joinedBy (netInWhole andWire xor) andWire xor ≡ record {
   inputs = 3;
-  gates = hold 2 (1 ∷ 3 ∷ []) ∷ hold 26 (0 ∷ 2 ∷ 1 ∷ 3 ∷ []) ∷ hold 25 (7 ∷ 4 ∷ 6 ∷ 5 ∷ []) ∷ hold 27 (7 ∷ 4 ∷ 6 ∷ 8 ∷ []) ∷ [];
-  outputs = pair 8 9 ∷ pair 7 6 ∷ [];
+  gates = code 2 (1 ∷ 3 ∷ []) ∷ code 26 (0 ∷ 2 ∷ 1 ∷ 3 ∷ []) ∷ code 25 (7 ∷ 4 ∷ 6 ∷ 5 ∷ []) ∷ code 27 (7 ∷ 4 ∷ 6 ∷ 8 ∷ []) ∷ [];
+  outputs = (8 ∷ 9 ∷ []) ∷ (7 ∷ 6 ∷ []) ∷ [];
   care = 1 ∷ 6 ∷ [];
 }
-unfolding andWire xor x.netInWhole x.joinedStage
+unfolding andWire xor netInWhole joinedBy
 joined-stage = refl
 
-pub joined-reference : joinedReference andWireFunction xorFunction ≡ record {
+pub joined-reference : joinedBy (signalInWhole andWireFunction xorFunction) andWireFunction xorFunction ≡ record {
   inputs = 3;
-  gates = operation 2 (0 ∷ 1 ∷ []) ∷ operation 4 (3 ∷ 2 ∷ []) ∷ operation 1 (4 ∷ []) ∷ [];
-  outputs = 5 ∷ 3 ∷ [];
+  gates = code 2 (0 ∷ 1 ∷ []) ∷ code 4 (3 ∷ 2 ∷ []) ∷ code 1 (4 ∷ []) ∷ [];
+  outputs = (5 ∷ []) ∷ (3 ∷ []) ∷ [];
+  care = [];
 }
-unfolding andWireFunction xorFunction x.signalInWhole x.joinedReference
+unfolding andWireFunction xorFunction signalInWhole joinedBy
 joined-reference = refl
 
 -- ---- the call
 
--- limits of parts
+-- limits of parts, and files that are read within them
 abbrev few : Limits
 few = record { inputs = 4; gates = 4; outputs = 4 }
+
+abbrev files : List ℕ → List ℕ → Files
+files stage reference = record { stage = stage; reference = reference; stageMost = few; referenceMost = few }
 
 -- one wire and two, with their references
 wire : List ℕ
@@ -154,6 +150,12 @@ fiveGates = inputs 1 ++ gate 1 0 1 ++ gate 1 0 1 ++ gate 1 0 1 ++ gate 1 0 1 ++ 
 fiveOperations : List ℕ
 fiveOperations = inputs 1 ++ operate 2 0 0 ++ operate 2 0 0 ++ operate 2 0 0 ++ operate 2 0 0 ++ operate 2 0 0 ++ signal 0 ++ end
 
+-- what a join answers, and the bytes that it writes: "refusals write nothing"
+pub record JoinResult : Type 0 where
+  pub verdict : Verdict
+  pub stage : List ℕ
+  pub reference : List ℕ
+
 pub record Case : Type 0 where
   pub first : Files
   pub second : Files
@@ -220,20 +222,25 @@ joins =
     case (files wire wireReference) (files wire fiveOperations) 100 100 (refusal 6 5 26 0) ∷
     []
 
+unfoldable result : Case → JoinResult
+result i =
+    let v = e.judge (joinChecks (i .order) (i .first) (i .second) (i .stageRoom) (i .referenceRoom)) in
+    let wrote = written (whole (i .first) (i .second) .stage) (whole (i .first) (i .second) .reference) in
+    let refused : JoinResult = record { verdict = v; stage = []; reference = [] } in
+    cond (eqb (v .number) 0) wrote refused
+
 pub answers : List Case → List JoinResult
-answers cases = map (λ (i : Case). joinWithin (i .order) few few (i .first) (i .second) (i .stageRoom) (i .referenceRoom)) cases
+answers cases = map result cases
 
 pub expected : List Case → List JoinResult
 expected cases = map (λ (i : Case). i .expected) cases
 
 pub computed : answers joins ≡ expected joins
-unfolding joins answers expected wire wireReference twoWires twoWiresReference andOf and not cared either neither fiveGates fiveOperations
+unfolding joins answers result expected wire wireReference twoWires twoWiresReference andOf and not cared either neither fiveGates fiveOperations
     c.cells c.cellAt c.pinCount c.setExpression c.retiredCells c.among c.isRetired c.kindOf b.operand b.operands
     k.whenFound k.ownCommands k.commandTable k.formIn k.pinsNeeded k.needed k.stray k.misfit k.misfitFrom k.takeGate k.takeCare k.takeSort k.takeCommand k.nextAt
-    r.nameable r.nameless r.usedOperands r.namelessAt r.namelessFrom r.floorAfter r.noted r.finish r.onNext r.readFrom r.readFile t.stageOf t.referenceOf
-    n.writeFile n.writeStage n.writeReference o.withNull o.isSet o.rounds o.settledLevels o.levelsHolding o.everyPair
-    g.tabulate g.leading l.gateSteps l.reachesItself w.numbers w.caredFor w.words w.bitsOf w.railsOf w.wordOf w.spelled w.isIn w.select w.names a.operate a.signalValues a.answer h.first h.atFault h.sweep
-    h.finding h.orLater h.firstFault h.wrong h.incomplete h.unobservable h.fallIncomplete h.fallUnobservable h.riseSweeps h.fallSweeps f.stays f.fallenLevels f.fallen h.checks v.verdictOf
-    q.retiredAt v.judgeReference v.judgeStage v.verdictWithin x.netInWhole x.joinedStage x.signalInWhole x.joinedReference j.stageRead j.referenceRead j.partIn j.refusalOf j.ofSecond
-    j.joinChecks j.joinUnless j.joinFault j.joinWithin
+    r.nameable r.nameless r.usedOperands r.namelessAt r.namelessFrom r.floorAfter r.noted r.finish r.onNext r.readFrom r.readFile t.contentAt v.refusal e.first e.judge
+    l.numbers l.select l.some l.every l.ofBits l.reaches e.sweep o.rounds o.risen o.fallen o.reachesItself w.caresFor w.spelled w.names w.operate w.values w.answer
+    h.wrong h.incomplete h.highAnd h.unobservable h.fallIncomplete h.fallUnobservable h.looped h.retired h.checks n.rowFor n.command n.writeFile
+    netInWhole signalInWhole joinedBy j.seamChecks flatMap
 computed = refl

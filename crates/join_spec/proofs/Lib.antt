@@ -1,11 +1,8 @@
 pub mod Cases
 pub mod Lists
-pub mod Stages
-pub mod References
-pub mod Words
-pub mod Joining
-pub mod Because
-pub mod Cut
-pub mod Alike
-pub mod Judging
+pub mod Whole
+pub mod Series
+pub mod Answers
+pub mod Joined
 pub mod Call
+pub mod Cut

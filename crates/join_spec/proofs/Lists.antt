@@ -15,10 +15,10 @@ All-get P [] h k d l = absurd (omega arith)
 All-get P (x ∷ xs) h zero d l = h .0
 All-get P (x ∷ xs) h (suc k) d l = All-get P xs (h .1) k d (omega arith)
 
-pub All-in : (P : ℕ → Type 0) (xs : List ℕ) → All P xs → (x : ℕ) → In x xs → P x
-All-in P [] h x i = absurd i
-All-in P (y ∷ xs) h x (inl e) = rw e (h .0)
-All-in P (y ∷ xs) h x (inr i) = All-in P xs (h .1) x i
+pub pins-in : (P : ℕ → Type 0) (xs : List ℕ) → AllPins P xs → (x : ℕ) → In x xs → P x
+pins-in P [] h x i = absurd i
+pins-in P (y ∷ xs) h x (inl e) = rw e (h .0)
+pins-in P (y ∷ xs) h x (inr i) = pins-in P xs (h .1) x i
 
 pub All-pins : (P : ℕ → Type 0) (xs : List ℕ) → All P xs → AllPins P xs
 All-pins P [] h = tt

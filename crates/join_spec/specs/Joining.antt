@@ -1,9 +1,9 @@
 -- Two stages in a row as one: output j of the first is tied to input j of the second; and the call that joins them.
-use Prim.Native.Nat.{ℕ, _+_, _-_, _*_, _/_, _%_, _<_}
+use Prim.Native.Nat.{ℕ, _+_, _-_, _*_, _/_, _%_, _≤_, _<_}
 use mathlib.Core.Path.{_≡_}
 use mathlib.Core.Bool.{Bool, cond, not, _||_}
 use mathlib.Core.List.{List, [], _∷_, _++_, map}
-use lib.ListN.{length, getD}
+use lib.ListN.{length, getD, take}
 use lib.Dec.{eqb, ltb}
 use Rattle.runs.specs.Net.{nets}
 use Rattle.netlist.specs.declared.File.the-variants.{Stage, Reference}
@@ -61,34 +61,47 @@ passedOn v added = case (v .number) (v .file + added) (v .at) (v .word) (not (eq
 abbrev pub answerWord : Content → ℕ → ℕ
 answerWord r w = ofBits (length (r .outputs)) (answer r (bitOf w))
 
--- the parts' refusals, 22 counts at the seam unequal, 23 the least care word whose answer the second does not care for, 24 a buffer too short
-unfoldable pub joinChecks : WordOrder → Files → Files → ℕ → ℕ → List Check
-joinChecks order one two stageRoom referenceRoom =
-    passedOn (verdictOn order one) 0 ∷
-    passedOn (verdictOn order two) 3 ∷
+-- 22 counts at the seam unequal, 23 the least care word whose answer the second does not care for, 24 a buffer too short
+unfoldable pub seamChecks : WordOrder → Files → Files → ℕ → ℕ → List Check
+seamChecks order one two stageRoom referenceRoom =
     unequal 22 (length (stageIn one .outputs)) (stageIn two .inputs) ∷
     swept order (stageIn one) 23 0 1 (λ w i. not (caresFor (stageIn two) (answerWord (referenceIn one) w))) ∷
     (case 24 3 0 0 (ltb stageRoom (length (whole one two .stage)) || ltb referenceRoom (length (whole one two .reference))) ∷ []) ∷
     []
 
--- What is said of the whole: it reads as defined, its reference answers what the second part answers to the answer of the first, "the whole is
--- accepted", in either order, "and its runs obey everything said of a stage".
-pub record Joined (one two : Files) : Type 0 where
-  pub reads : BothRead (whole one two)
-  pub stage-is : stageIn (whole one two) ≡ joinedStage one two
-  pub reference-is : referenceIn (whole one two) ≡ joinedReference one two
+abbrev pub joinChecks : WordOrder → Files → Files → ℕ → ℕ → List Check
+joinChecks order one two stageRoom referenceRoom =
+    passedOn (verdictOn order one) 0 ∷ passedOn (verdictOn order two) 3 ∷ seamChecks order one two stageRoom referenceRoom
+
+-- What is said of two files that are to be the whole: they read as defined, the reference answers what the second part answers to the answer of the
+-- first, "the whole is accepted", in either order, "and its runs obey everything said of a stage".
+pub record Joined (one two f : Files) : Type 0 where
+  pub reads : BothRead f
+  pub stage-is : stageIn f ≡ joinedStage one two
+  pub reference-is : referenceIn f ≡ joinedReference one two
   pub answers : (bits : ℕ → Bool) (j : ℕ) → j < length (referenceIn two .outputs)
-      → answer (joinedReference one two) bits j ≡ answer (referenceIn two) (answer (referenceIn one) bits) j
-  pub whole-accepted : (order : WordOrder) → verdictOn order (whole one two) ≡ accepted
-  pub kept : (w : ℕ) → IsWord (stageIn (whole one two)) w → Kept (whole one two) w
+      → answer (referenceIn f) bits j ≡ answer (referenceIn two) (answer (referenceIn one) bits) j
+  pub whole-accepted : (order : WordOrder) → verdictOn order f ≡ accepted
+  pub kept : (w : ℕ) → IsWord (stageIn f) w → Kept f w
+
+-- "both parts are accepted and every answer the first gives on its care words is a care word of the second", with equal counts at the seam
+pub record Joinable (order : WordOrder) (one two : Files) : Type 0 where
+  pub first-accepted : verdictOn order one ≡ accepted
+  pub second-accepted : verdictOn order two ≡ accepted
+  pub counts : length (stageIn one .outputs) ≡ stageIn two .inputs
+  pub cared : (w : ℕ) → IsWord (stageIn one) w → IsWord (stageIn two) (answerWord (referenceIn one) w)
 
 -- What is said of the join, by the order of words, the files of its parts, the two buffers, its answer and the buffers after it: these are as defined,
--- the earliest failing case is named, and where it accepts, the whole is as said, and in the other order it accepts too, and so writes the same.
+-- the earliest failing case is named, and where it accepts, the bytes at the start of the buffers, as many as it says, are the whole, and in the other
+-- order it accepts too, and so writes the same. Parts that can be joined are accepted where the buffers have room.
 pub record JoinDemand (order : WordOrder) (one two : Files) (stage reference : List ℕ) (r : JoinAnswer) (stageLeft referenceLeft : List ℕ) : Type 0 where
   pub stage-left : written (record { verdict = r .verdict; count = r .«stage_count» }) stageLeft
       ≡ leaving (judge (joinChecks order one two (length stage) (length reference))) (whole one two .stage) stage
   pub reference-left : written (record { verdict = r .verdict; count = r .«reference_count» }) referenceLeft
       ≡ leaving (judge (joinChecks order one two (length stage) (length reference))) (whole one two .reference) reference
   pub least : Judged (joinChecks order one two (length stage) (length reference)) (r .verdict)
-  pub joined : r .verdict .number ≡ 0 → (r .verdict ≡ accepted) × Joined one two
+  pub joined : r .verdict .number ≡ 0
+      → (r .verdict ≡ accepted) × Joined one two (files (take (r .«stage_count») stageLeft) (take (r .«reference_count») referenceLeft))
+  pub accepts : Joinable order one two → length (whole one two .stage) ≤ length stage → length (whole one two .reference) ≤ length reference
+      → r .verdict ≡ accepted
   pub either-order : (other : WordOrder) → r .verdict ≡ accepted → judge (joinChecks other one two (length stage) (length reference)) ≡ accepted

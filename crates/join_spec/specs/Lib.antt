@@ -1,5 +1,1 @@
-pub mod Whole
-pub mod Join
-pub mod Demand
-pub mod Call
 pub mod Joining

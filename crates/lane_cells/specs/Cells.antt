@@ -1,12 +1,14 @@
 -- What a cell gives in 64 words: where its set expression holds, and where it would not hold any more with one of its pins low.
 use Prim.Native.Nat.{ℕ, _+_, _*_}
+use mathlib.Core.Path.{_≡_}
 use mathlib.Core.Bool.{Bool, true, false, cond}
-use mathlib.Core.List.{_∷_, []}
+use mathlib.Core.List.{List, _∷_, []}
 use lib.ListN.{getD}
 use lib.Dec.{eqb, ltb}
 use lib.Bits.{bitAnd, bitOr, bitXor}
 use Rattle.gates.specs.Expression.{Expression, A, B, C, D, _·_, _∔_}
 use Rattle.gates.specs.Cell.{pinCount, setExpression}
+use Rattle.gates.specs.Table.{entryOf, GateTable}
 use Rattle.lane_cells.specs.declared.CellLanes.{CellLanes}
 use Rattle.lane_cells.specs.Lane.{levelIn, lane}
 
@@ -75,3 +77,8 @@ needsPin cell i a b c d =
 unfoldable pub cellLanes : ℕ → ℕ → ℕ → ℕ → ℕ → CellLanes
 cellLanes cell a b c d =
     needing (lanesOf (setExpression cell) a b c d) (needsPin cell 0 a b c d) (needsPin cell 1 a b c d) (needsPin cell 2 a b c d) (needsPin cell 3 a b c d)
+
+-- what a cell gives for the lanes of its pins; and in each word it is set where the table of cells has 1 for the pattern of its pins in that word
+pub record CellGives (cell a b c d : ℕ) (r : CellLanes) : Type 0 where
+  pub lanes : r ≡ cellLanes cell a b c d
+  pub entry : (table : List (List ℕ)) → GateTable table → (j : ℕ) → levelIn j (r .set) ≡ entryOf table cell (patternIn j a b c d)

@@ -15,7 +15,7 @@ ghost use Rattle.verdict.specs.Words.{bitsOf};
 ghost use Rattle.verdict.specs.Answers as answers;
 ghost use Rattle.circuit.specs.Reference.{operatorIn, operatorsIn, ReferenceLoaded};
 ghost use Rattle.lane_cells.specs.Lane.{levelIn, lane, laneOf};
-ghost use Rattle.lane_cells.specs.Cells.{needing, needOf, pinsIn, cellLanes};
+ghost use Rattle.lane_cells.specs.Cells.{needing, needOf, pinsIn, CellGives};
 
 // Words of a block for a gate and for each of its four pins; which words they are is said where they are made. Those of a cell (`cell_lanes`) are
 // where its set expression holds, and for each pin where it holds and would not with that pin low.
@@ -71,10 +71,10 @@ fn at_pins(a: u64, b: u64, c: u64, d: u64) -> CellLanes
     CellLanes { set: 0, a, b, c, d }
 }
 
-// A cell by its number, from the levels at its pins.
+// A cell by its number, from the levels at its pins: in each word it is set where the table of cells says so.
 pub fn cell_lanes(cell: u16, a: u64, b: u64, c: u64, d: u64) -> CellLanes
     requires { ⌜ (1 ≤ cell) × (cell ≤ 27) ⌝ }
-    ensures { λ r. ⌜ r ≡ cellLanes cell a b c d ⌝ }
+    ensures { λ r. ⌜ CellGives cell a b c d r ⌝ }
 {
     match cell {
         // 1 TH12

@@ -61,7 +61,7 @@ module _ (c : Counts) (code : List ℕ) (sizes : Counts) (reference : List ℕ) 
         let h : o < c .outputs = omega (arith, length-outputs c code) in
         let x = same-data (rowIn j row) (restIn c code b j) (outputIn c code o) (rowIn j values (signalIn sizes reference o)) (rest j _ d (both .stage .rail0-net o h))
         (rest j _ d (both .stage .rail1-net o h)) (right j d e o h) in
-        rw (output-at c code o h, ← answer-in sizes reference (both .answers) values j (64 * b + j) (answers j d) o (omega (arith, both .enough))) x
+        rw (output-at c code o h, ← answer-in sizes reference (both .answers) values j (64 * b + j) (answers j d) o (omega (arith, both .outputs))) x
 
     pub rise-clean : RiseClean (stageIn c code) (referenceIn sizes reference) b (record { wrong = wrong; all = bitOr wrong unacknowledged })
     rise-clean = record {

@@ -8,7 +8,7 @@ use borrow.Author.Tests.{eq-eqb}
 use Rattle.runs.proofs.Test.{eqb-eq}
 use Rattle.netlist.specs.declared.Counts.{Counts}
 use Rattle.netlist.specs.Content.{Gate}
-use Rattle.verdict.specs.Demands.{WithHold}
+use Rattle.lane_screen.specs.Hold.{WithHold}
 use Rattle.circuit.specs.Stage.{slot, stageIn}
 use Rattle.circuit.proofs.Settling.{length-stageGates}
 use Rattle.lane_settle.proofs.Pins.{gate-at}

@@ -11,7 +11,7 @@ ghost use Rattle.runs.specs.Pair.{DataOf};
 ghost use Rattle.netlist.specs.Reading.{stageLimits};
 ghost use Rattle.verdict.specs.Words.{IsWord};
 ghost use Rattle.verdict.specs.Nets.{railOf};
-ghost use Rattle.verdict.specs.Demands.{WithHold};
+ghost use Rattle.lane_screen.specs.Hold.{WithHold};
 ghost use Rattle.circuit.specs.Stage.{netCount, outputIn, stageIn, StageLoaded};
 ghost use Rattle.circuit.specs.Order.{InOrder};
 ghost use Rattle.circuit.specs.Reference.{signalIn, referenceIn};

@@ -22,7 +22,7 @@ use Rattle.netlist.specs.declared.Counts.{Counts}
 use Rattle.netlist.specs.Content.{Stage}
 use Rattle.verdict.specs.Loops.{In, pinsAt, LoopFree}
 use Rattle.verdict.specs.Nets.{setIn, railsFor, restRow}
-use Rattle.verdict.proofs.OneWord.{rows-are}
+use Rattle.verdict.proofs.OneWord as word
 use Rattle.circuit.specs.Stage.{netCount, cellIn, pinIn, gateAtPlace, gateIn, stageGates, stageIn, StageLoaded}
 use Rattle.circuit.specs.Order.{StandsIn, InOrder, orderIn}
 use Rattle.circuit.proofs.Order.{order-no-loop}
@@ -44,7 +44,7 @@ module _ (c : Counts) (code : List ℕ) (ordered : InOrder c code) where
 
   -- the rest of a word is its settled row
   pub rest-settled : (w : ℕ) → Settled (netIn c code) (railsFor stage w) (restRow stage w)
-  rest-settled w = rows-are stage w free .rest .0
+  rest-settled w = word.rest-settled stage w
 
   -- nothing is high past the nets
   pub rest-past : (w p : ℕ) → netCount c ≤ p → restRow stage w p ≡ false

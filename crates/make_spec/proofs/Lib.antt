@@ -1,13 +1,10 @@
 pub mod Cases
-pub mod Gates
-pub mod Signals
 pub mod Lists
+pub mod Signals
+pub mod Gates
 pub mod Building
 pub mod Values
 pub mod Leading
 pub mod Marks
 pub mod Stage
-pub mod Alike
 pub mod Making
-pub mod Cut
-pub mod Call

@@ -3,11 +3,16 @@
 use Prim.Native.Nat.{ℕ, zero, suc, _<_}
 use native.Mathlib.Omega.{arith}
 use mathlib.Core.Path.{_≡_, refl, sym, subst}
+use mathlib.Core.Bool.{true}
 use mathlib.Core.Logic.{inl, inr}
 use mathlib.Core.List.{List, [], _∷_, map}
 use lib.ListN.{length, getD}
+use lib.Dec.{eqb}
+use Rattle.runs.proofs.Test.{eqb-same, eqb-eq}
 use Rattle.netlist.specs.Writing.{All}
 use Rattle.verdict.specs.Graph.{In}
+use Rattle.check_spec.specs.Lists.{some}
+use Rattle.check_spec.proofs.Loops.{some-in, some-out}
 
 pub all-at : {X : Type 0} (P : X → Type 0) (xs : List X) → All P xs → (i : ℕ) (d : X) → i < length xs → P (getD xs i d)
 all-at P [] h i d l = absurd (omega arith)
@@ -34,3 +39,10 @@ pub map-at : {X : Type 0} (f : ℕ → X) (l : List ℕ) (j : ℕ) (d : X) → j
 map-at f [] j d h = absurd (omega arith)
 map-at f (x ∷ xs) zero d h = refl
 map-at f (x ∷ xs) (suc j) d h = map-at f xs j d (omega arith)
+
+-- the test of membership
+pub among-in : (x : ℕ) (l : List ℕ) → some (eqb x) l ≡ true → In x l
+among-in x l e = let r = some-out (eqb x) l e in subst (λ (y : ℕ). In y l) (sym (eqb-eq x (r .0) (r .2))) (r .1)
+
+pub in-among : (x : ℕ) (l : List ℕ) → In x l → some (eqb x) l ≡ true
+in-among x l i = some-in (eqb x) l x i (eqb-same x)

@@ -1,230 +1,208 @@
--- The call's answer: its reasons, and that the stage it writes is accepted against its reference.
+-- The call: its checks by their tests, that the stage it writes reads back, and that this stage is accepted against its reference.
 -- Assumes nothing.
-use Prim.Native.Nat.{ℕ, _+_, _*_, _≤_, _<_}
+use Prim.Native.Nat.{ℕ, suc, _+_, _*_, _≤_, _<_}
 use native.Mathlib.Omega.{arith}
-use native.Mathlib.Decide.{decLt}
-use mathlib.Core.Path.{_≡_, refl, ap, _∙_}
-use mathlib.Core.Bool.{Bool, cond, true, false, not}
-use mathlib.Core.Logic.{_⊎_, inl, inr}
-use mathlib.Core.List.{List, [], _∷_}
-use lib.ListN.{length, getD}
+use mathlib.Core.Path.{_≡_, refl, sym, ap, ap₂, _∙_, subst}
+use mathlib.Core.Bool.{Bool, true, false, cond, not}
+use mathlib.Core.Logic.{inl}
+use mathlib.Core.List.{List, [], _∷_, map, flatMap}
+use lib.ListN.{length, take, length-map}
 use lib.Dec.{ltb}
-use borrow.Author.Tests.{ltb-true, lt-ltb}
-use Rattle.runs.proofs.Test.{clash, true?, not-true, of-not}
-use Rattle.netlist.specs.declared.File.the-variants as file
-use Rattle.netlist.specs.declared.Limits.{Limits}
-use Rattle.netlist.specs.declared.Found.{Found}
-use Rattle.netlist.specs.declared.Found.the-variants.{At, Nothing}
-use Rattle.netlist.specs.Commands.{whenFound}
-use Rattle.netlist.specs.Reading.{Reading, refused, readable, readFile, stageLimits, referenceLimits}
-use Rattle.netlist.specs.Content.{Stage, Reference, referenceOf}
-use Rattle.netlist.specs.Writing.{All, FileFits, placesOf, stageItems}
-use Rattle.netlist.specs.Formed.{CellFormed, RailsFormed, StageFormed, ReferenceFormed}
-use Rattle.netlist.proofs.Lists.{All-map}
-use Rattle.netlist.proofs.Stages.{CellsIn, read-writeStage, stageOf-writeStage, stage-fits}
+use Rattle.runs.proofs.Test.{clash, not-false, ltb-false}
+use Rattle.netlist.specs.declared.File.the-variants.{Stage, Reference}
+use Rattle.netlist.specs.declared.Found.the-variants.{At}
+use Rattle.netlist.specs.Commands.{whenFound, commandTable, ownCommands, formIn}
+use Rattle.netlist.specs.Reading.{nameable, Reading, refused, readable, readFile, stageLimits, referenceLimits}
+use Rattle.netlist.specs.Read.{farthest, mostBytes}
+use Rattle.netlist.specs.Coded.{Coded}
+use Rattle.netlist.specs.Content as parsed
+use Rattle.netlist.specs.Content.{referenceOf}
+use Rattle.netlist.specs.Writing.{All}
+use Rattle.netlist.specs.Formed.{ReferenceFormed}
+use Rattle.netlist.proofs.Formed.{GatesFormed, OutputFormed}
 use Rattle.netlist.proofs.References.{reference-formed}
+use Rattle.netlist.proofs.Cut.{readFile-take}
 use Rattle.verdict.specs.declared.Verdict.{Verdict}
-use Rattle.verdict.specs.declared.WordOrder.{WordOrder}
-use Rattle.verdict.specs.declared.WordOrder.the-variants as order
-use Rattle.verdict.specs.declared.Finding.{Finding}
-use Rattle.verdict.specs.declared.Finding.the-variants.{Fault, Passed}
-use Rattle.verdict.specs.Words.{numbers}
-use Rattle.verdict.specs.Checks.{verdict, first, atFault, sweep, finding, orLater, firstFault}
+use Rattle.verdict.specs.declared.Answer.{Answer}
+use Rattle.verdict.specs.Checks as found
 use Rattle.verdict.specs.Search.{least}
-use Rattle.verdict.specs.Verdicts.{accepted, verdictWithin}
-use Rattle.verdict.specs.Nets.{noGate}
-use Rattle.verdict.specs.Demands.{StageIs, ReferenceIs, Contents, Comparable, Acceptable, Nowhere, Named, EachOf}
-use Rattle.verdict.proofs.Reaching.{loopFree-noLoop}
-use Rattle.verdict.proofs.Words.{index-in}
-use Rattle.verdict.proofs.Sweeps.{Means, FirstFault, first-fault, named-one}
-use Rattle.verdict.proofs.Because.{holds}
-use Rattle.verdict.proofs.Refusals.{refused-number}
-use Rattle.verdict.proofs.Demands.{demand-2, demand-3}
-use Rattle.make_spec.specs.Made.{railsAt, inputRails, built, madeStage, gatesNeeded}
+use Rattle.verdict.specs.Written.{Written, written}
+use Rattle.verdict.proofs.Written.{holding-take}
+use Rattle.check_spec.proofs.Cut.{read-short}
+use Rattle.check_spec.specs.Cases.{verdict, accepted, first, judge, sweep, sweepPlaces}
+use Rattle.check_spec.specs.Lists.{numbers}
+use Rattle.check_spec.specs.Content.{Content, contentAt, files}
+use Rattle.check_spec.specs.Loaded.{fromReference}
+use Rattle.check_spec.specs.Rows.{noGate}
+use Rattle.check_spec.specs.Verdicts.{refusal, reading}
+use Rattle.check_spec.specs.Demands.{Pass, Judged}
+use Rattle.check_spec.specs.Writing.{leaving}
+use Rattle.check_spec.proofs.First.{judged}
+use Rattle.check_spec.proofs.Laws.{Laws, none, _&_, judge-later, before, whole-accepted, places-law, test-law}
+use Rattle.check_spec.proofs.Sound.{Sound, Agrees, reading-number, sound-from, sound-accepted, sound-kept}
+use Rattle.check_spec.proofs.Formed.{Formed, read-of, written-reads}
+use Rattle.check_spec.proofs.Back.{reference-content}
+use Rattle.check_spec.proofs.Writing.{leaves-bytes, leaves-verdict}
+use Rattle.make_spec.specs.Make.{railsAt, built, madeStage, leadsOut, referenceRead, madeBytes, makeChecks, makeChecksOn, MadeFrom, MakeDemand}
 use Rattle.make_spec.specs.Count.{operations}
-use Rattle.make_spec.specs.Leading.{signals, LeadsOut, leadsOut}
-use Rattle.make_spec.specs.Making.{madeBytes, makeChecks, MakeAnswer, makeUnless, makeReading, makeWithin}
-use Rattle.make_spec.specs.Promises.{Fitting, MadeFrom, MakeBecause, reference-refused, make-refused, stage-made, MakeMeans}
 use Rattle.make_spec.proofs.Lists.{at-all}
-use Rattle.make_spec.proofs.Building.{sound-more, all-long}
-use Rattle.make_spec.proofs.Leading.{leadsOut-sound, leadsOut-complete}
-use Rattle.make_spec.proofs.Stage.{stage, sane, free, none-retired, outputs-long, word-conforms, word-waits}
-
--- ---- the stage fits a file
-
-module _ {referenceMost : Limits} (r : Reference) (formed : ReferenceFormed referenceMost r) where
-  pub needed-counted : gatesNeeded r ≡ 2 * operations (r .gates)
-  unfolding built
-  needed-counted = all-long (r .inputs) (record { gates = []; rails = inputRails 0 (r .inputs) }) (r .inputs) (r .gates) (formed .gates-formed) ∙ omega arith
-
-  rails-formed : (vs : List ℕ) → All (λ v. v < signals r) vs → All (RailsFormed (2 * r .inputs + length (built r .gates))) (railsAt (built r .rails) vs)
-  rails-formed [] h = tt
-  rails-formed (v ∷ vs) h =
-      let below = sane r formed .below v (h .0) in
-      (record { rail0-in = below false; rail1-in = below true }, rails-formed vs (h .1))
-
-  module _ (stageMost : Limits) (fitting : Fitting stageMost referenceMost) (few : gatesNeeded r ≤ stageMost .gates) where
-    stage-formed : StageFormed stageMost (stage r formed)
-    stage-formed =
-        let i = formed .inputs-in in
-        let o = formed .outputs-in in
-        record {
-          inputs-in = omega (arith, fitting .inputs);
-          gates-in = few;
-          outputs-in = omega (arith, fitting .outputs, outputs-long r formed 0);
-          gates-formed = at-all (CellFormed (2 * r .inputs + length (built r .gates))) (built r .gates) noGate (λ k l.
-              sound-more (2 * r .inputs + k) (2 * r .inputs + length (built r .gates)) (omega arith) (getD (built r .gates) k noGate) (sane r formed .sound k l) .formed);
-          outputs-formed = rails-formed (r .outputs) (formed .outputs-formed);
-          care-in = tt;
-        }
-
-    stage-file : FileFits file.Stage stageMost (r .inputs) (stageItems (stage r formed))
-    stage-file = stage-fits stageMost (stage r formed) (fitting .words) (fitting .nets) stage-formed
-
-    cells : CellsIn (built r .gates)
-    cells = All-map (CellFormed (2 * r .inputs + length (built r .gates))) (λ g. (1 ≤ g .cell) × (g .cell ≤ 27)) (λ g h. h .cell-in) (built r .gates) (stage-formed .gates-formed)
-
-    -- the bytes read as the stage
-    pub reads-back : StageIs stageMost (madeBytes r) (madeStage r)
-    unfolding madeStage
-    reads-back = record {
-      places = placesOf file.Stage (r .inputs) (stageItems (stage r formed));
-      reads = read-writeStage stageMost (stage r formed) stage-file;
-      content = stageOf-writeStage stageMost (stage r formed) stage-file cells;
-    }
-
-    -- ---- it is accepted
-
-    pub comparable : Comparable (madeStage r) r
-    unfolding madeStage
-    comparable = record { inputs = refl; outputs = outputs-long r formed 0; loop-free = loopFree-noLoop (r .inputs) (built r .gates) (free r formed) }
-
-    module _ (lead : (s : ℕ) → s < signals r → LeadsOut r s) (reference : List ℕ) (is : ReferenceIs referenceMost reference r) where
-      pub acceptable : Acceptable (madeStage r) r
-      unfolding madeStage
-      acceptable = record { cast = none-retired r formed; conforms = λ w h. word-conforms r formed w lead }
-
-      pub made-accepted : (order : WordOrder) → verdictWithin order stageMost referenceMost (madeBytes r) reference ≡ accepted
-      made-accepted order =
-          let c : Contents stageMost referenceMost (madeBytes r) reference = record { circuit = madeStage r; function = r; circuit-is = reads-back; function-is = is } in
-          demand-2 order stageMost referenceMost (madeBytes r) reference .exactly c comparable .1 acceptable
-
-      pub made-from : MadeFrom stageMost referenceMost reference (madeBytes r)
-      made-from = record {
-        function = r;
-        function-is = is;
-        bytes-are = refl;
-        stage-is = reads-back;
-        stage-accepted = made-accepted;
-        kept = demand-3 order.FirstHighest stageMost referenceMost (madeBytes r) reference .kept (ap (λ (v : Verdict). v .number) (made-accepted order.FirstHighest)) .1;
-        waits = λ w h. word-waits r formed w;
-      }
+use Rattle.make_spec.proofs.Gates.{Fit, BothBelow}
+use Rattle.make_spec.proofs.Stage.{stage, size, all, whole, two-rails, fit, fit-at, free, outputs-are, outputs-long, word-conforms, word-waits}
 
 -- ---- the checks
 
-module _ (stageMost referenceMost : Limits) (r : Reference) (formed : ReferenceFormed referenceMost r) (room : ℕ) where
-  pub checks-mean : EachOf Means (makeChecks stageMost r room)
-  unfolding makeChecks
-  checks-mean = (
-    record {
-      passes = λ w x h e l. clash (leadsOut-complete r formed x l) (of-not (leadsOut r x) e);
-      occurs = λ w x h d. ap not (not-true (leadsOut r x) (λ e. d (leadsOut-sound r x e)));
-    },
-    (
-      record { passes = λ w i h. ltb-true (stageMost .gates) (gatesNeeded r); occurs = λ w i h. lt-ltb (stageMost .gates) (gatesNeeded r) },
-      (record { passes = λ w i h. ltb-true room (length (madeBytes r)); occurs = λ w i h. lt-ltb room (length (madeBytes r)) }, tt),
-    ),
-  )
-
-  not-below : (m k : ℕ) → ¬ (m < k) → k ≤ m
-  not-below m k d = go (decLt m k)
-    where
-      go : Dec (m < k) → k ≤ m
-      go (yes h) = absurd (d h)
-      go (no h) = omega arith
-
-  -- what it means that they find nothing
-  found-nothing : EachOf Nowhere (makeChecks stageMost r room)
-      → ((s : ℕ) → s < signals r → LeadsOut r s) × (gatesNeeded r ≤ stageMost .gates) × (length (madeBytes r) ≤ room)
-  unfolding makeChecks
-  found-nothing (a, (b, (c, e))) = (
-    λ s l. lead s l (true? (leadsOut r s)),
-    not-below (stageMost .gates) (gatesNeeded r) (λ h. b 0 (inl refl) (gatesNeeded r, inl refl, h)),
-    not-below room (length (madeBytes r)) (λ h. c 0 (inl refl) (0, inl refl, h)),
-  )
-    where
-      lead : (s : ℕ) → s < signals r → (leadsOut r s ≡ true) ⊎ (leadsOut r s ≡ false) → LeadsOut r s
-      lead s l (inl h) = leadsOut-sound r s h
-      lead s l (inr h) = absurd (a 0 (inl refl) (s, index-in (signals r) s l, λ x. clash (leadsOut-complete r formed s x) h))
-
--- 26 and 27 as tests
-abbrev pub laterTests : Limits → Reference → ℕ → Finding
-laterTests stageMost r room =
-    cond (ltb (stageMost .gates) (gatesNeeded r)) (Fault (verdict 26 2 (gatesNeeded r) 0))
-    (cond (ltb room (length (madeBytes r))) (Fault (verdict 27 3 0 0)) Passed)
-
--- what the checks find: a search for 25, then these
-pub checks-by-tests : (stageMost : Limits) (r : Reference) (room : ℕ)
-    → firstFault (makeChecks stageMost r room) ≡ whenFound (least (λ x. not (leadsOut r x)) 0 (signals r)) (λ x. Fault (verdict 25 2 x 0)) (laterTests stageMost r room)
-unfolding makeChecks firstFault finding sweep atFault orLater first whenFound
-checks-by-tests stageMost r room =
-    go (first (λ x. not (leadsOut r x)) (numbers 0 (signals r))) (ltb (stageMost .gates) (gatesNeeded r)) (ltb room (length (madeBytes r)))
+first-swept : (number file : ℕ) (f : ℕ → Bool) (l : List ℕ) (v : Verdict) → first (sweepPlaces number file l f) v ≡ whenFound (found.first f l) (λ x. verdict number file x 0) v
+unfolding first sweep flatMap found.first whenFound
+first-swept number file f [] v = refl
+first-swept number file f (x ∷ l) v = go (f x) (first-swept number file f l v)
   where
-    go : (x : Found) (a b : Bool)
-        → orLater (atFault 25 2 0 x Passed) (orLater (atFault 26 2 0 (cond a (At (gatesNeeded r)) Nothing) Passed) (orLater (atFault 27 3 0 (cond b (At 0) Nothing) Passed) Passed))
-        ≡ whenFound x (λ x. Fault (verdict 25 2 x 0)) (cond a (Fault (verdict 26 2 (gatesNeeded r) 0)) (cond b (Fault (verdict 27 3 0 0)) Passed))
-    go (At x) a b = refl
-    go Nothing true b = refl
-    go Nothing false true = refl
-    go Nothing false false = refl
+    go : (b : Bool) {u : Verdict} → u ≡ whenFound (found.first f l) (λ x. verdict number file x 0) v
+        → cond b (verdict number file x 0) u ≡ whenFound (cond b (At x) (found.first f l)) (λ x. verdict number file x 0) v
+    go true e = refl
+    go false e = e
 
-made-number : (stageMost : Limits) (r : Reference) (room : ℕ) (v : Verdict) → Named (makeChecks stageMost r room) v → 25 ≤ v .number
+-- 26, 27 or none, as tests
+abbrev pub laterVerdict : Content → ℕ → Verdict
+laterVerdict r room =
+    cond (ltb (stageLimits .gates) (length (built r .gates))) (verdict 26 2 (length (built r .gates)) 0) (cond (ltb room (length (madeBytes r))) (verdict 27 3 0 0) accepted)
+
+-- what the call finds: a search for 25, then these
+pub judged-by : (r : Content) (room : ℕ)
+    → judge (makeChecks r room) ≡ whenFound (least (λ x. not (leadsOut r x)) 0 (r .inputs + length (r .gates))) (λ x. verdict 25 2 x 0) (laterVerdict r room)
+unfolding makeChecks judge first
+judged-by r room = first-swept 25 2 (λ x. not (leadsOut r x)) (numbers 0 (r .inputs + length (r .gates))) _
+
+-- ---- the stage
+
+module _ (n g : ℕ) where
+  gates-formed : (k : ℕ) (xs : List Coded) → All (Fit (2 * n + g)) xs → GatesFormed Stage n g k xs
+  unfolding nameable commandTable ownCommands formIn
+  gates-formed k [] h = tt
+  gates-formed k (x ∷ xs) h = (record { known = h .0 .known; whole = h .0 .whole; named = h .0 .pins-in }, gates-formed (suc k) xs (h .1))
+
+  output-formed : (vs : List ℕ) → length vs ≡ 2 → BothBelow (2 * n + g) vs → OutputFormed Stage n g vs
+  unfolding nameable commandTable ownCommands formIn
+  output-formed [] e b = absurd (omega arith)
+  output-formed (x ∷ []) e b = absurd (omega arith)
+  output-formed (x ∷ y ∷ []) e b = record { whole = refl; named = (b false, (b true, tt)) }
+  output-formed (x ∷ y ∷ z ∷ vs) e b = absurd (omega arith)
+
+module _ (r : parsed.Reference) (formed : ReferenceFormed referenceLimits r) where
+  -- two gates for each operation that is not NOT
+  pub needed-counted : length (built (fromReference r) .gates) ≡ 2 * operations (r .gates)
+  needed-counted = whole r formed .count ∙ omega arith
+
+  abbrev c : Content
+  c = stage r formed
+
+  stage-formed : length (c .gates) ≤ stageLimits .gates → Formed Stage stageLimits c
+  stage-formed few = record {
+    inputs-in = formed .inputs-in;
+    gates-in = few;
+    outputs-in = rw (outputs-long r formed) (formed .outputs-in);
+    gates = gates-formed (r .inputs) (length (c .gates)) 0 (c .gates) (at-all (Fit (2 * r .inputs + length (c .gates))) (c .gates) noGate (λ j l. fit r formed j l _ (omega arith)));
+    outputs = rw (outputs-are r formed) (outputs (r .outputs) (formed .outputs-formed));
+    care-in = tt;
+    care-stage = inl refl;
+  }
+    where
+      outputs : (l : List ℕ) → All (λ v. v < size r formed) l → All (OutputFormed Stage (r .inputs) (length (c .gates))) (map (railsAt (all r formed)) l)
+      outputs [] h = tt
+      outputs (v ∷ l) h = let t = two-rails r formed v (h .0) in (output-formed (r .inputs) (length (c .gates)) (railsAt (all r formed) v) (t .0) (t .1), outputs l (h .1))
+
+  module _ (lead : (s : ℕ) → s < size r formed → leadsOut (fromReference r) s ≡ true) where
+    agrees : Agrees c (fromReference r)
+    agrees = record {
+      inputs = refl;
+      outputs = outputs-long r formed ∙ sym (length-map (r .outputs) (λ (v : ℕ). v ∷ []));
+      free = free r formed;
+      cast = λ net g. fit-at r formed net g .cast;
+      conforms = λ w h. word-conforms r formed w lead;
+    }
+
+    -- the bytes read as the stage, in which checks 10 to 21 find nothing
+    pub made-from : length (c .gates) ≤ stageLimits .gates → (reference : List ℕ) → Pass (reading Reference referenceLimits reference) → referenceRead reference ≡ fromReference r
+        → MadeFrom (files (madeBytes (fromReference r)) reference)
+    unfolding madeStage
+    made-from few reference read is =
+        let s = written-reads Stage stageLimits c (record { words = omega arith; nets = omega arith }) (stage-formed few) in
+        let h : Sound (files (madeBytes (fromReference r)) reference) = sound-from (s .0, read) (s .1) is agrees in
+        record {
+          reads = h .read;
+          stage-is = s .1 ∙ ap madeStage (sym is);
+          stage-accepted = sound-accepted h;
+          kept = sound-kept h;
+          waits = rw (s .1, is) (λ w h. word-waits r formed w);
+        }
+
+-- ---- the call
+
+-- what is so where it makes a stage
+pub record Makes (r : Content) (room : ℕ) : Type 0 where
+  pub leads : (x : ℕ) → x < r .inputs + length (r .gates) → leadsOut r x ≡ true
+  pub few : ltb 256 (length (built r .gates)) ≡ false
+  pub fits : ltb room (length (madeBytes r)) ≡ false
+
+unfoldable make-laws : (r : Content) (room : ℕ) → Laws (Makes r room) (λ v. Unit {0}) (makeChecks r room)
 unfolding makeChecks
-made-number stageMost r room v n = named-one (λ k. 25 ≤ k) (makeChecks stageMost r room) v (omega arith, (omega arith, (omega arith, tt))) n
+make-laws r room =
+    places-law 25 2 (r .inputs + length (r .gates)) (λ x. not (leadsOut r x)) (λ h x l. ap not (h .leads x l)) (λ x. tt)
+    & test-law 26 2 (length (built r .gates)) 0 (ltb 256 (length (built r .gates))) (λ h. h .few) tt
+    & test-law 27 3 0 0 (ltb room (length (madeBytes r))) (λ h. h .fits) tt
+    & none
 
--- ---- the answer
+module _ (reference : List ℕ) where
+  abbrev R : Content
+  R = referenceRead reference
 
--- Whatever the reference's file holds, and whatever the buffer's length.
-pub make-means : (stageMost referenceMost : Limits) → Fitting stageMost referenceMost → (reference : List ℕ) (room : ℕ)
-    → MakeMeans stageMost referenceMost reference room (makeWithin stageMost referenceMost reference room)
-unfolding makeWithin makeReading makeUnless
-make-means stageMost referenceMost fitting reference room = go (readFile file.Reference referenceMost reference) refl
-  where
-    answered : (r : Reference) → ReferenceFormed referenceMost r → ReferenceIs referenceMost reference r → (x : Finding) → FirstFault (makeChecks stageMost r room) x
-        → MakeMeans stageMost referenceMost reference room (makeUnless x r)
-    answered r formed is (Fault v) n = record {
-      because = make-refused r is n;
-      fits = omega arith;
-      made = λ e. absurd (omega (arith, made-number stageMost r room v n));
-    }
-    answered r formed is Passed a =
-        let f = found-nothing stageMost referenceMost r formed room a in
-        record { because = stage-made r is a; fits = f .2; made = λ e. (refl, made-from r formed stageMost fitting (f .1) (f .0) reference is) }
+  -- where the verdict has the number 0, the reference is read, and a stage is made
+  accepts : (room : ℕ) → judge (makeChecksOn reference room) .number ≡ 0 → Pass (reading Reference referenceLimits reference) × Makes R room × (judge (makeChecksOn reference room) ≡ accepted)
+  unfolding make-laws
+  accepts room e =
+      let p = judge-later 0 _ (makeChecks R room) (reading-number 0 (λ t. omega (arith, t .0)) Reference referenceLimits reference) e in
+      let z : judge (makeChecks R room) .number ≡ 0 = ap (λ (v : Verdict). v .number) (sym (p .1)) ∙ e in
+      let ls = make-laws R room in
+      let h : Makes R room = record { leads = λ x l. not-false _ (λ q. clash (ap not q) (before 0 25 ls z x l)); few = before 0 26 ls z; fits = before 0 27 ls z } in
+      (p .0, h, p .1 ∙ whole-accepted h ls)
 
-    go : (x : Reading) → readFile file.Reference referenceMost reference ≡ x → MakeMeans stageMost referenceMost reference room (makeReading stageMost reference room x)
-    go (refused number at) p = record {
-      because = reference-refused p;
-      fits = omega arith;
-      made = λ e. absurd (omega (arith, refused-number file.Reference referenceMost reference number at p .0));
-    }
-    go (readable places) p =
-        let r = referenceOf reference places in
-        let formed = reference-formed referenceMost reference places p in
-        answered r formed (holds p) (firstFault (makeChecks stageMost r room)) (first-fault (makeChecks stageMost r room) (checks-mean stageMost referenceMost r formed room))
+  made : (room : ℕ) → Pass (reading Reference referenceLimits reference) → Makes R room → MadeFrom (files (madeBytes R) reference)
+  made room read h =
+      let p = read-of Reference referenceLimits reference read in
+      let r = referenceOf reference (p .0) in
+      let is : R ≡ fromReference r = reference-content referenceLimits reference (p .0) (p .1) in
+      let m : Makes (fromReference r) room = subst (λ (c : Content). Makes c room) is h in
+      rw is (made-from r (reference-formed referenceLimits reference (p .0) (p .1)) (m .leads) (ltb-false 256 _ (m .few)) reference read is)
 
--- a refusal writes nothing
-pub refusal-writes-nothing : {stageMost referenceMost : Limits} {reference : List ℕ} {room : ℕ} {a : MakeAnswer} → MakeBecause stageMost referenceMost reference room a
-    → ¬ (a .verdict ≡ accepted) → a .bytes ≡ []
-refusal-writes-nothing (reference-refused e) d = refl
-refusal-writes-nothing (make-refused r is n) d = refl
-refusal-writes-nothing (stage-made r is n) d = absurd (d refl)
+  -- what is said of the call, of an answer that is the one defined
+  pub make-demand : (buffer : List ℕ) (r : Answer) (left : List ℕ)
+      → written r left ≡ leaving (judge (makeChecksOn reference (length buffer))) (madeBytes R) buffer → MakeDemand reference buffer r left
+  make-demand buffer r left e =
+      let checks = makeChecksOn reference (length buffer) in
+      let is : r .verdict ≡ judge checks = ap (λ (x : Written). x .verdict) e ∙ leaves-verdict (judge checks) (λ z. accepts (length buffer) z .2) (madeBytes R) buffer in
+      record {
+        answer = e;
+        least = subst (Judged checks) (sym is) (judged checks);
+        made = λ n.
+            let z : judge checks .number ≡ 0 = ap (λ (v : Verdict). v .number) (sym is) ∙ n in
+            let a = accepts (length buffer) z in
+            let t : take (r .count) left ≡ madeBytes R = ap (λ (x : Written). take (x .count) (x .buffer)) (e ∙ leaves-bytes (judge checks) z (madeBytes R) buffer) ∙ holding-take (madeBytes R) buffer in
+            (is ∙ a .2, subst (λ (b : List ℕ). MadeFrom (files b reference)) (sym t) (made (length buffer) (a .0) (a .1)));
+      }
 
--- what the limits of the two files are fits
-pub limits-fit : Fitting stageLimits referenceLimits
-limits-fit = record { inputs = omega arith; outputs = omega arith; words = omega arith; nets = omega arith }
+  -- cutting a longer reference at what the program reads of it changes neither the verdict nor the stage
+  pub make-cut : (room : ℕ) → (judge (makeChecksOn (take mostBytes reference) room) ≡ judge (makeChecksOn reference room)) × (referenceRead (take mostBytes reference) ≡ referenceRead reference)
+  unfolding commandTable ownCommands formIn contentAt
+  make-cut room = (ap₂ (λ (x : Reading) (c : Content). judge (refusal Reference x ∷ makeChecks c room)) same is, is)
+    where
+      far : farthest Reference referenceLimits ≤ mostBytes
+      far = omega arith
 
--- Each stage so written is accepted against its reference.
-pub written-accepted : (stageMost referenceMost : Limits) → Fitting stageMost referenceMost → (reference : List ℕ) (room : ℕ)
-    → makeWithin stageMost referenceMost reference room .verdict .number ≡ 0 → (order : WordOrder)
-    → verdictWithin order stageMost referenceMost (makeWithin stageMost referenceMost reference room .bytes) reference ≡ accepted
-written-accepted stageMost referenceMost fitting reference room e order = make-means stageMost referenceMost fitting reference room .made e .1 .stage-accepted order
+      same : readFile Reference referenceLimits (take mostBytes reference) ≡ readFile Reference referenceLimits reference
+      same = readFile-take Reference referenceLimits reference mostBytes far
+
+      go : (x : Reading) → readFile Reference referenceLimits reference ≡ x → contentAt Reference (take mostBytes reference) x ≡ contentAt Reference reference x
+      go (refused number at) e = refl
+      go (readable p) e = ap (λ (b : List ℕ). contentAt Reference b (readable p)) (read-short Reference referenceLimits far reference p e)
+
+      is : referenceRead (take mostBytes reference) ≡ referenceRead reference
+      is = ap (contentAt Reference (take mostBytes reference)) same ∙ go (readFile Reference referenceLimits reference) refl

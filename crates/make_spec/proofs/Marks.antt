@@ -1,29 +1,29 @@
 -- Going through the gates once, the last first, marks the signals that are outputs or lead to one: an operand is an earlier signal than its gate.
 -- Assumes nothing.
-use Prim.Native.Nat.{ℕ, zero, suc, _+_, _<_}
+use Prim.Native.Nat.{ℕ, zero, suc, _+_, _≤_, _<_}
 use native.Mathlib.Omega.{arith}
 use mathlib.Core.Path.{_≡_, refl, sym, ap, _∙_, subst}
-use mathlib.Core.Bool.{Bool, true, false, cond, _&&_, _||_}
-use mathlib.Core.Logic.{_⊎_, inl, inr, _≢_}
+use mathlib.Core.Bool.{Bool, true, false, cond, _&&_, _||_, or-false}
+use mathlib.Core.Logic.{_⊎_, inl, inr, _≢_, _↔_, ⊎-elim}
 use mathlib.Core.List.{List, [], _∷_}
 use lib.ListN.{length, getD, set, replicate, length-set, length-replicate}
 use lib.Seq.{getD-set-same, getD-set-other}
 use lib.Dec.{eqb, ltb}
-use Rattle.gates.specs.Cell.{among}
-use Rattle.runs.proofs.Test.{clash, true?, not-true, and-left, and-right, or-left, or-right, or-cases, eqb-same, eqb-other, same?}
+use Rattle.runs.proofs.Test.{clash, true?, not-true, and-in, and-left, and-right, or-left, or-right, or-cases, eqb-same, eqb-other, same?}
 use Rattle.netlist.specs.declared.Limits.{Limits}
 use Rattle.netlist.specs.Content.{Coded, Reference}
 use Rattle.netlist.specs.Writing.{All}
 use Rattle.netlist.specs.Formed.{FormedFrom, ReferenceFormed}
 use Rattle.netlist.proofs.Lists.{All-map}
-use Rattle.verdict.specs.Graph.{In, Leads, here, onward}
+use Rattle.verdict.specs.Graph.{In}
 use Rattle.verdict.specs.Rows.{high}
-use Rattle.verdict.proofs.Retired.{among-in, in-among}
-use Rattle.make_spec.specs.Leading.{signals, readers, LeadsOut, leadsOut}
-use Rattle.make_spec.specs.Marks.{marked, markedFrom, outputMarks, leadingMarks}
-use Rattle.make_spec.specs.Promises.{noOperation}
-use Rattle.make_spec.proofs.Lists.{all-in}
-use Rattle.make_spec.proofs.Leading.{reader-gate, gate-reader, leadsOut-sound, leadsOut-complete}
+use Rattle.check_spec.specs.Lists.{some}
+use Rattle.check_spec.specs.Rows.{noGate}
+use Rattle.make_spec.specs.Make.{leadsOut}
+use Rattle.check_spec.specs.Loaded.{fromReference}
+use Rattle.make_spec.specs.Marks.{marked, markedFrom}
+use Rattle.make_spec.proofs.Lists.{all-in, among-in, in-among}
+use Rattle.make_spec.proofs.Leading.{output-leads, operand-leads, leads-cases, output-is}
 
 -- ---- one list of signals marked
 
@@ -41,155 +41,129 @@ unfolding marked
 marked-long marks [] = refl
 marked-long marks (x ∷ xs) = marked-long (set marks x 1) xs ∙ simp length-set
 
-or-move : (a b c : Bool) → (b || (a || c)) ≡ ((a || b) || c)
+or-move : (a b c : Bool) → (b || (a || c)) ≡ (cond a true b || c)
 or-move true true c = refl
 or-move true false c = refl
 or-move false b c = refl
 
-pub marked-high : (marks xs : List ℕ) → All (λ x. x < length marks) xs → (y : ℕ) → high (marked marks xs) y ≡ (among y xs || high marks y)
-unfolding marked among
+pub marked-high : (marks xs : List ℕ) → All (λ x. x < length marks) xs → (y : ℕ) → high (marked marks xs) y ≡ (some (eqb y) xs || high marks y)
+unfolding marked some
 marked-high marks [] h y = refl
 marked-high marks (x ∷ xs) h y =
     let long : length (set marks x 1) ≡ length marks = simp length-set in
     marked-high (set marks x 1) xs (rw long (h .1)) y
-    ∙ ap (λ (b : Bool). among y xs || b) (high-set marks x y (h .0))
-    ∙ or-move (eqb y x) (among y xs) (high marks y)
+    ∙ ap (λ (b : Bool). some (eqb y) xs || b) (high-set marks x y (h .0))
+    ∙ or-move (eqb y x) (some (eqb y) xs) (high marks y)
 
--- ---- the gates from signal s on, in a row of so many signals
+-- in a row without marks
+pub marked-alone : (m : ℕ) (xs : List ℕ) → All (λ x. x < m) xs → (y : ℕ) → high (marked (replicate m 0) xs) y ≡ some (eqb y) xs
+marked-alone m xs h y =
+    marked-high (replicate m 0) xs (rw (length-replicate {A = ℕ} m 0) h) y ∙ ap (λ (b : Bool). some (eqb y) xs || b) (none m y) ∙ or-false (some (eqb y) xs)
+  where
+    none : (m y : ℕ) → high (replicate m 0) y ≡ false
+    none zero y = refl
+    none (suc m) zero = refl
+    none (suc m) (suc y) = none m y
 
-module _ (size : ℕ) (marks : List ℕ) (long : length marks ≡ size) where
-  pub from-long : (s : ℕ) (cs : List Coded) → length (markedFrom s cs marks) ≡ size
+-- ---- the gates from signal s on, with some signals marked before
+
+module _ (marks : List ℕ) where
+  pub from-long : (s : ℕ) (cs : List Coded) → length (markedFrom s cs marks) ≡ length marks
   unfolding markedFrom
-  from-long s [] = long
+  from-long s [] = refl
   from-long s (c ∷ cs) = go (high (markedFrom (suc s) cs marks) s) (from-long (suc s) cs)
     where
-      go : (b : Bool) → length (markedFrom (suc s) cs marks) ≡ size → length (cond b (marked (markedFrom (suc s) cs marks) (c .operands)) (markedFrom (suc s) cs marks)) ≡ size
+      go : (b : Bool) → length (markedFrom (suc s) cs marks) ≡ length marks → length (cond b (marked (markedFrom (suc s) cs marks) (c .operands)) (markedFrom (suc s) cs marks)) ≡ length marks
       go true e = marked-long (markedFrom (suc s) cs marks) (c .operands) ∙ e
       go false e = e
 
   -- one gate more
-  from-high : (s : ℕ) (c : Coded) (cs : List Coded) → All (λ x. x < s) (c .operands) → s < size → (y : ℕ)
-      → high (markedFrom s (c ∷ cs) marks) y ≡ (high (markedFrom (suc s) cs marks) s && among y (c .operands) || high (markedFrom (suc s) cs marks) y)
+  from-high : (s : ℕ) (c : Coded) (cs : List Coded) → All (λ x. x < s) (c .operands) → s < length marks → (y : ℕ)
+      → high (markedFrom s (c ∷ cs) marks) y ≡ (high (markedFrom (suc s) cs marks) s && some (eqb y) (c .operands) || high (markedFrom (suc s) cs marks) y)
   unfolding markedFrom
   from-high s c cs h l y = go (high (markedFrom (suc s) cs marks) s)
     where
       later : List ℕ
       later = markedFrom (suc s) cs marks
 
-      go : (b : Bool) → high (cond b (marked later (c .operands)) later) y ≡ (b && among y (c .operands) || high later y)
+      go : (b : Bool) → high (cond b (marked later (c .operands)) later) y ≡ (b && some (eqb y) (c .operands) || high later y)
       go true = marked-high later (c .operands) (All-map (λ x. x < s) (λ x. x < length later) (λ x k. omega (arith, from-long (suc s) cs)) (c .operands) h) y
       go false = refl
 
-  -- what is marked stays so
-  pub from-more : (s : ℕ) (cs : List Coded) → FormedFrom s cs → s + length cs ≡ size → (y : ℕ) → high marks y ≡ true → high (markedFrom s cs marks) y ≡ true
-  unfolding markedFrom
-  from-more s [] f e y h = h
-  from-more s (c ∷ cs) f e y h =
-      from-high s c cs (f .0 .operands-in) (omega arith) y
-      ∙ or-right (high (markedFrom (suc s) cs marks) s && among y (c .operands)) (high (markedFrom (suc s) cs marks) y) (from-more (suc s) cs (f .1) (omega arith) y h)
+  -- y is marked before, or an operand of one of these gates, of whose signal L holds
+  abbrev Says : (ℕ → Type 0) → ℕ → List Coded → ℕ → Type 0
+  Says L s cs y = (high marks y ≡ true) ⊎ ((k : ℕ) × (k < length cs) × In y (getD cs k noGate .operands) × L (s + k))
 
-  -- an operand of a marked gate is marked
-  pub from-closed : (s : ℕ) (cs : List Coded) → FormedFrom s cs → s + length cs ≡ size → (k : ℕ) → k < length cs → (y : ℕ) → In y (getD cs k noOperation .operands)
-      → high (markedFrom s cs marks) (s + k) ≡ true → high (markedFrom s cs marks) y ≡ true
-  from-closed s [] f e k l y i h = absurd (omega arith)
-  from-closed s (c ∷ cs) f e k l y i h = go k l i h (from-closed (suc s) cs (f .1) (omega arith))
+  -- if that is what L says of these signals, it is what is marked
+  pub from-says : (L : ℕ → Type 0) (s : ℕ) (cs : List Coded) → FormedFrom s cs → s + length cs ≤ length marks → ((y : ℕ) → s ≤ y → L y ↔ Says L s cs y)
+      → (y : ℕ) → (high (markedFrom s cs marks) y ≡ true) ↔ Says L s cs y
+  unfolding markedFrom
+  from-says L s [] f l is y = (λ e. inl e, ⊎-elim (λ e. e) (λ h. absurd (omega (arith, h .1))))
+  from-says L s (c ∷ cs) f l is y =
+      let ih = from-says L (suc s) cs (f .1) (omega arith) (λ z h. ((λ e. pick z (omega arith) (out z (is z (omega arith) .0 e))), λ e. is z (omega arith) .1 (on z e))) in
+      let at-s : (high later s ≡ true) ↔ L s = ((λ e. is s (omega arith) .1 (on s (ih s .0 e))), λ e. ih s .1 (pick s (omega arith) (out s (is s (omega arith) .0 e)))) in
+      let high-is = from-high s c cs (f .0 .operands-in) (omega arith) y in (
+        (λ e. ⊎-elim
+            (λ h. inr (0, omega arith, among-in y (c .operands) (and-right (high later s) _ h), rw zero-more (at-s .0 (and-left (high later s) _ h))))
+            (λ h. on y (ih y .0 h)) (or-cases (high later s && some (eqb y) (c .operands)) _ (sym high-is ∙ e))),
+        (λ e. high-is ∙ ⊎-elim
+            (λ h. or-left (high later s && some (eqb y) (c .operands)) _ (and-in (high later s) _ (at-s .1 (h .1)) (in-among y (c .operands) (h .0))))
+            (λ h. or-right (high later s && some (eqb y) (c .operands)) _ (ih y .1 h)) (out y e)),
+      )
     where
       later : List ℕ
       later = markedFrom (suc s) cs marks
+
+      zero-more : s + 0 ≡ s
+      zero-more = omega arith
+
+      one-more : (k : ℕ) → s + suc k ≡ suc s + k
+      one-more k = omega arith
+
+      on : (z : ℕ) → Says L (suc s) cs z → Says L s (c ∷ cs) z
+      on z (inl e) = inl e
+      on z (inr (k, h, i, e)) = inr (suc k, omega arith, i, rw (one-more k) e)
+
+      out : (z : ℕ) → Says L s (c ∷ cs) z → (In z (c .operands) × L s) ⊎ Says L (suc s) cs z
+      out z (inl e) = inr (inl e)
+      out z (inr (zero, h, i, e)) = inl (i, rw zero-more at e)
+      out z (inr (suc k, h, i, e)) = inr (inr (k, omega arith, i, rw (one-more k) at e))
 
       -- the operands of the first gate are earlier signals
-      old : (z : ℕ) → s < suc z → high (markedFrom s (c ∷ cs) marks) z ≡ true → high later z ≡ true
-      old z z-in u = pick (or-cases (high later s && among z (c .operands)) (high later z) (sym (from-high s c cs (f .0 .operands-in) (omega arith) z) ∙ u))
-        where
-          pick : ((high later s && among z (c .operands)) ≡ true) ⊎ (high later z ≡ true) → high later z ≡ true
-          pick (inl x) = absurd (omega (arith, all-in (λ x. x < s) (c .operands) (f .0 .operands-in) z (among-in z (c .operands) (and-right (high later s) (among z (c .operands)) x))))
-          pick (inr x) = x
-
-      go : (k : ℕ) → k < length (c ∷ cs) → In y (getD (c ∷ cs) k noOperation .operands) → high (markedFrom s (c ∷ cs) marks) (s + k) ≡ true
-          → ((k : ℕ) → k < length cs → (y : ℕ) → In y (getD cs k noOperation .operands) → high later (suc s + k) ≡ true → high later y ≡ true)
-          → high (markedFrom s (c ∷ cs) marks) y ≡ true
-      go zero l i h f′ =
-          let q : s + 0 ≡ s = omega arith in
-          from-high s c cs (f .0 .operands-in) (omega arith) y
-          ∙ or-left (high later s && among y (c .operands)) (high later y) (rw (old s (omega arith) (rw q at h), in-among y (c .operands) i))
-      go (suc k) l i h f′ =
-          let q : s + suc k ≡ suc s + k = omega arith in
-          from-high s c cs (f .0 .operands-in) (omega arith) y
-          ∙ or-right (high later s && among y (c .operands)) (high later y) (f′ k (omega arith) y i (old (suc s + k) (omega arith) (rw q at h)))
-
-  -- only what a property that passes from a gate to its operands allows is marked
-  pub from-only : (P : ℕ → Type 0) → ((y : ℕ) → high marks y ≡ true → P y) → (s : ℕ) (cs : List Coded) → FormedFrom s cs → s + length cs ≡ size
-      → ((k : ℕ) → k < length cs → (y : ℕ) → In y (getD cs k noOperation .operands) → P (s + k) → P y)
-      → (y : ℕ) → high (markedFrom s cs marks) y ≡ true → P y
-  unfolding markedFrom
-  from-only P first s [] f e pass y h = first y h
-  from-only P first s (c ∷ cs) f e pass y h = go (or-cases (high later s && among y (c .operands)) (high later y) (sym (from-high s c cs (f .0 .operands-in) (omega arith) y) ∙ h))
-      (from-only P first (suc s) cs (f .1) (omega arith) (λ k l z i p. pass (suc k) (omega arith) z i (let q : suc s + k ≡ s + suc k = omega arith in subst P q p)))
-    where
-      later : List ℕ
-      later = markedFrom (suc s) cs marks
-
-      go : ((high later s && among y (c .operands)) ≡ true) ⊎ (high later y ≡ true) → ((z : ℕ) → high later z ≡ true → P z) → P y
-      go (inl x) only =
-          let q : s ≡ s + 0 = omega arith in
-          pass 0 (omega arith) y (among-in y (c .operands) (and-right (high later s) (among y (c .operands)) x)) (subst P q (only s (and-left (high later s) (among y (c .operands)) x)))
-      go (inr x) only = only y x
+      pick : (z : ℕ) → s ≤ z → (In z (c .operands) × L s) ⊎ Says L (suc s) cs z → Says L (suc s) cs z
+      pick z h (inl x) = absurd (omega (arith, all-in (λ v. v < s) (c .operands) (f .0 .operands-in) z (x .0)))
+      pick z h (inr x) = x
 
 -- ---- the whole reference
 
-module _ {most : Limits} (r : Reference) (formed : ReferenceFormed most r) where
-  -- no mark
-  abbrev none : List ℕ
-  none = replicate (signals r) 0
+-- the marks, in a row of at least as many signals, are the test of 25
+pub marks-are : {most : Limits} (r : Reference) → ReferenceFormed most r → (m : ℕ) → r .inputs + length (r .gates) ≤ m
+    → (x : ℕ) → high (markedFrom (r .inputs) (r .gates) (marked (replicate m 0) (r .outputs))) x ≡ leadsOut (fromReference r) x
+marks-are r formed m l x = go (true? (leadsOut (fromReference r) x))
+  where
+    gates : FormedFrom (r .inputs) (r .gates)
+    gates = formed .gates-formed
 
-  none-long : length none ≡ signals r
-  none-long = length-replicate {A = ℕ} (signals r) 0
+    marks : List ℕ
+    marks = marked (replicate m 0) (r .outputs)
 
-  outputs-inside : All (λ x. x < length none) (r .outputs)
-  outputs-inside = rw none-long (formed .outputs-formed)
+    outputs : (y : ℕ) → high marks y ≡ some (eqb y) (r .outputs)
+    outputs = marked-alone m (r .outputs) (All-map (λ v. v < r .inputs + length (r .gates)) (λ v. v < m) (λ v h. omega arith) (r .outputs) (formed .outputs-formed))
 
-  none-high : (m y : ℕ) → high (replicate m 0) y ≡ false
-  none-high zero y = refl
-  none-high (suc m) zero = refl
-  none-high (suc m) (suc y) = none-high m y
+    L : ℕ → Type 0
+    L y = leadsOut (fromReference r) y ≡ true
 
-  pub outputs-long : length (outputMarks r) ≡ signals r
-  unfolding outputMarks
-  outputs-long = marked-long none (r .outputs) ∙ none-long
+    is : (y : ℕ) → L y ↔ Says marks L (r .inputs) (r .gates) y
+    is y = (
+      (λ e. ⊎-elim (λ o. inl (outputs y ∙ sym (output-is y (r .outputs)) ∙ o)) (λ h. inr (h .0, h .1 .0, h .1 .1, h .2)) (leads-cases (fromReference r) gates y e)),
+      ⊎-elim
+          (λ h. output-leads (fromReference r) gates y (output-is y (r .outputs) ∙ sym (outputs y) ∙ h))
+          (λ h. operand-leads (fromReference r) gates y (h .0) (h .1, h .2) (h .3)),
+    )
 
-  outputs-high : (y : ℕ) → high (outputMarks r) y ≡ (among y (r .outputs) || high none y)
-  unfolding outputMarks
-  outputs-high y = marked-high none (r .outputs) outputs-inside y
+    says : (high (markedFrom (r .inputs) (r .gates) marks) x ≡ true) ↔ Says marks L (r .inputs) (r .gates) x
+    says = from-says marks L (r .inputs) (r .gates) gates (omega (arith, length-replicate {A = ℕ} m 0, marked-long (replicate m 0) (r .outputs))) (λ y h. is y) x
 
-  output-in : (y : ℕ) → high (outputMarks r) y ≡ true → LeadsOut r y
-  output-in y h = go (or-cases (among y (r .outputs)) (high none y) (sym (outputs-high y) ∙ h))
-    where
-      go : (among y (r .outputs) ≡ true) ⊎ (high none y ≡ true) → LeadsOut r y
-      go (inl x) = (y, among-in y (r .outputs) x, here)
-      go (inr x) = absurd (clash x (none-high (signals r) y))
-
-  pub marks-only : (y : ℕ) → high (leadingMarks r) y ≡ true → LeadsOut r y
-  unfolding leadingMarks
-  marks-only = from-only (signals r) (outputMarks r) outputs-long (LeadsOut r) output-in (r .inputs) (r .gates) (formed .gates-formed) refl
-      (λ k l y i p. (p .0, p .1, onward (gate-reader r y k l i) (p .2)))
-
-  marks-led : (y : ℕ) → In y (r .outputs) → {x : ℕ} → Leads (readers r) y x → high (leadingMarks r) x ≡ true
-  unfolding leadingMarks
-  marks-led y i here =
-      from-more (signals r) (outputMarks r) outputs-long (r .inputs) (r .gates) (formed .gates-formed) refl y
-      (outputs-high y ∙ or-left (among y (r .outputs)) (high none y) (in-among y (r .outputs) i))
-  marks-led y i (onward {x = x} {z = z} j l) =
-      let g = reader-gate r x z j in
-      from-closed (signals r) (outputMarks r) outputs-long (r .inputs) (r .gates) (formed .gates-formed) refl (g .0) (g .1) x (g .3)
-      (subst (λ (s : ℕ). high (markedFrom (r .inputs) (r .gates) (outputMarks r)) s ≡ true) (g .2) (marks-led y i l))
-
-  pub marks-all : (x : ℕ) → LeadsOut r x → high (leadingMarks r) x ≡ true
-  marks-all x l = marks-led (l .0) (l .1) (l .2)
-
-  -- the marks are the test of 25
-  pub marks-are : (x : ℕ) → high (leadingMarks r) x ≡ leadsOut r x
-  marks-are x = go (true? (leadsOut r x))
-    where
-      go : (leadsOut r x ≡ true) ⊎ (leadsOut r x ≡ false) → high (leadingMarks r) x ≡ leadsOut r x
-      go (inl e) = marks-all x (leadsOut-sound r x e) ∙ sym e
-      go (inr e) = not-true (high (leadingMarks r) x) (λ h. clash (leadsOut-complete r formed x (marks-only x h)) e) ∙ sym e
+    go : (leadsOut (fromReference r) x ≡ true) ⊎ (leadsOut (fromReference r) x ≡ false) → high (markedFrom (r .inputs) (r .gates) marks) x ≡ leadsOut (fromReference r) x
+    go (inl e) = says .1 (is x .0 e) ∙ sym e
+    go (inr e) = not-true _ (λ h. clash (is x .1 (says .0 h)) e) ∙ sym e

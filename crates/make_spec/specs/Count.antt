@@ -3,7 +3,7 @@ use Prim.Native.Nat.{ℕ, suc}
 use mathlib.Core.Bool.{cond}
 use mathlib.Core.List.{List, [], _∷_}
 use lib.Dec.{eqb}
-use Rattle.netlist.specs.Content.{Coded}
+use Rattle.netlist.specs.Coded.{Coded}
 
 -- the gates that are not NOT
 unfoldable pub operations : List Coded → ℕ

@@ -95,19 +95,21 @@ leadsOut r x = isOutput r x || reaches (readers r) (isOutput r) (r .inputs + len
 abbrev pub referenceRead : List ℕ → Content
 referenceRead bytes = contentOf Reference referenceLimits bytes
 
-abbrev pub madeBytes : List ℕ → List ℕ
-madeBytes reference = writeFile Stage (madeStage (referenceRead reference))
+abbrev pub madeBytes : Content → List ℕ
+madeBytes r = writeFile Stage (madeStage r)
 
--- the reader's, 25 "least signal that is no output and leads to none", 26 more gates needed than a stage may have, at the count, 27 "buffer too short"
-unfoldable pub makeChecks : List ℕ → ℕ → List Check
-makeChecks reference room =
-    let r = referenceRead reference in
+-- 25 "least signal that is no output and leads to none", 26 more gates needed than a stage may have, at the count, 27 "buffer too short"
+unfoldable pub makeChecks : Content → ℕ → List Check
+makeChecks r room =
     let needed = length (built r .gates) in
-    reading Reference referenceLimits reference ∷
     sweepPlaces 25 2 (numbers 0 (r .inputs + length (r .gates))) (λ x. not (leadsOut r x)) ∷
     (case 26 2 needed 0 (ltb 256 needed) ∷ []) ∷
-    (case 27 3 0 0 (ltb room (length (madeBytes reference))) ∷ []) ∷
+    (case 27 3 0 0 (ltb room (length (madeBytes r))) ∷ []) ∷
     []
+
+-- "in this order after reading"
+abbrev pub makeChecksOn : List ℕ → ℕ → List Check
+makeChecksOn reference room = reading Reference referenceLimits reference ∷ makeChecks (referenceRead reference) room
 
 -- ---- what is promised
 
@@ -143,6 +145,6 @@ pub record MadeFrom (f : Files) : Type 0 where
 -- What is said of the call, by the reference's bytes, the buffer, its answer and the buffer after it: these are as defined, the earliest failing case
 -- is named, and where it accepts, the bytes at the start of the buffer, as many as it says, are a stage made from the reference.
 pub record MakeDemand (reference buffer : List ℕ) (r : Answer) (left : List ℕ) : Type 0 where
-  pub answer : written r left ≡ leaving (judge (makeChecks reference (length buffer))) (madeBytes reference) buffer
-  pub least : Judged (makeChecks reference (length buffer)) (r .verdict)
+  pub answer : written r left ≡ leaving (judge (makeChecksOn reference (length buffer))) (madeBytes (referenceRead reference)) buffer
+  pub least : Judged (makeChecksOn reference (length buffer)) (r .verdict)
   pub made : r .verdict .number ≡ 0 → (r .verdict ≡ accepted) × MadeFrom (files (take (r .count) left) reference)

@@ -2,10 +2,9 @@
 use Prim.Native.Nat.{ℕ, suc}
 use mathlib.Core.Bool.{cond}
 use mathlib.Core.List.{List, [], _∷_}
-use lib.ListN.{set, replicate}
-use Rattle.netlist.specs.Content.{Coded, Reference}
+use lib.ListN.{set}
+use Rattle.netlist.specs.Content.{Coded}
 use Rattle.verdict.specs.Rows.{high}
-use Rattle.make_spec.specs.Leading.{signals}
 
 -- some signals marked by 1
 unfoldable pub marked : List ℕ → List ℕ → List ℕ
@@ -16,11 +15,3 @@ marked marks (x ∷ xs) = marked (set marks x 1) xs
 unfoldable pub markedFrom : ℕ → List Coded → List ℕ → List ℕ
 markedFrom s [] marks = marks
 markedFrom s (c ∷ cs) marks = let later = markedFrom (suc s) cs marks in cond (high later s) (marked later (c .operands)) later
-
--- at first the outputs
-unfoldable pub outputMarks : Reference → List ℕ
-outputMarks r = marked (replicate (signals r) 0) (r .outputs)
-
--- then what leads to them
-unfoldable pub leadingMarks : Reference → List ℕ
-leadingMarks r = markedFrom (r .inputs) (r .gates) (outputMarks r)

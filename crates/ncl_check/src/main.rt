@@ -1,6 +1,5 @@
 // Reads stage.ncl and reference.ncl, at most 8,192 bytes of each, and prints the verdict: four numbers with single spaces and a newline.
 // A word is named with input 0 as its highest bit; with the argument `lowest`, as its lowest.
-use libc::STDOUT_FILENO;
 
 fn main() {
     let mut stage = [0u8; 8192];
@@ -12,5 +11,4 @@ fn main() {
         &stage[..stage_len],
         &reference[..reference_len],
     ));
-    io::write_all(STDOUT_FILENO, b"\n");
 }

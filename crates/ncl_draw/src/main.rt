@@ -1,7 +1,6 @@
 // ncl_draw SEED INPUTS GATES: draws a reference from a seed, with so many inputs and gates, and prints the verdict. Where it accepts, the reference is
 // written as reference.ncl; otherwise no file is touched. Where it could not be written, or an argument is no number, no verdict is printed.
 use libc::STDERR_FILENO;
-use libc::STDOUT_FILENO;
 
 // A number that was given as decimal digits, or none.
 enum Given {
@@ -62,7 +61,6 @@ fn draw(seed: u32, inputs: usize, gates: usize) {
         }
     }
     console::print_verdict(answer.verdict);
-    io::write_all(STDOUT_FILENO, b"\n");
 }
 
 fn main() {

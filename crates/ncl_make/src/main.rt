@@ -1,6 +1,5 @@
 // Reads reference.ncl, at most 8,192 bytes of it, and prints the verdict on making a stage of it. Where it accepts, the stage is written as stage.ncl;
 // otherwise no file is touched. Where the stage could not be written, no verdict is printed.
-use libc::STDOUT_FILENO;
 
 fn main() {
     let mut reference = [0u8; 8192];
@@ -13,5 +12,4 @@ fn main() {
         }
     }
     console::print_verdict(answer.verdict);
-    io::write_all(STDOUT_FILENO, b"\n");
 }

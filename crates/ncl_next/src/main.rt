@@ -1,6 +1,5 @@
 // Reads stage.ncl, at most 8,192 bytes of it, and prints the verdict on the file of the family of small stages that comes after it. Where there is one, it
 // is written as next.ncl; otherwise no file is touched. Where it could not be written, no verdict is printed.
-use libc::STDOUT_FILENO;
 
 fn main() {
     let mut stage = [0u8; 8192];
@@ -13,5 +12,4 @@ fn main() {
         }
     }
     console::print_verdict(answer.verdict);
-    io::write_all(STDOUT_FILENO, b"\n");
 }

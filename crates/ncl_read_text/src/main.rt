@@ -2,7 +2,6 @@
 // no file is touched. Where the stage file could not be written, no verdict is printed; nor is one on a text of more than 32,768 bytes, since what is
 // cut off could decide it. The longest text that reads has 27,322.
 use libc::STDERR_FILENO;
-use libc::STDOUT_FILENO;
 
 fn main() {
     // One byte more than is taken, to see whether there are more.
@@ -20,5 +19,4 @@ fn main() {
         }
     }
     console::print_verdict(answer.verdict);
-    io::write_all(STDOUT_FILENO, b"\n");
 }

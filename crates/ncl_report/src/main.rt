@@ -1,7 +1,6 @@
 // Reads stage.ncl and reference.ncl, at most 8,192 bytes of each, and prints the switching report: for each word of an accepted stage a
 // line with the word and the number of gates high at its rest, then a line with the total. Of a refused pair it prints the verdict.
 // A word is named with input 0 as its highest bit; with the argument `lowest`, as its lowest.
-use libc::STDOUT_FILENO;
 
 fn main() {
     let mut stage = [0u8; 8192];
@@ -13,6 +12,5 @@ fn main() {
         &stage[..stage_len],
         &reference[..reference_len],
     );
-    console::print_report(report, b" ", b"\n");
-    io::write_all(STDOUT_FILENO, b"\n");
+    console::print_report(report);
 }

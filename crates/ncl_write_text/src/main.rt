@@ -1,6 +1,5 @@
 // Reads stage.ncl, at most 8,192 bytes of it, and prints the verdict on writing it in the line form. Where it accepts, the text is written as stage.txt;
 // otherwise no file is touched. Where the text could not be written, no verdict is printed. The longest text has 10,012 bytes.
-use libc::STDOUT_FILENO;
 
 fn main() {
     let mut stage = [0u8; 8192];
@@ -13,5 +12,4 @@ fn main() {
         }
     }
     console::print_verdict(answer.verdict);
-    io::write_all(STDOUT_FILENO, b"\n");
 }

@@ -9,7 +9,7 @@ use lib.ListN.{length, drop, getD, length-append, drop-of-length-le}
 use Rattle.netlist.specs.Types.{File, Sort, Form, Limits}
 use Rattle.netlist.specs.Types.file
 use Rattle.netlist.specs.Types.sort
-use Rattle.netlist.specs.Bytes.{byte, operand, operands, absent}
+use Rattle.netlist.specs.Bytes.{byte, operands, absent}
 use Rattle.netlist.specs.Commands.{formOf, needed}
 use Rattle.netlist.specs.Reading.{nameable, Places, readFile, readable}
 use Rattle.netlist.specs.Content.{Coded, codedAt}

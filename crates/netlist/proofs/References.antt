@@ -1,7 +1,7 @@
 -- References: one that is written is read back, readable bytes with the gates first are what writing their reference gives, and the reference of a
 -- readable file is well-formed.
 -- Assumes nothing.
-use Prim.Native.Nat.{ℕ, zero, suc, _+_, _*_, _≤_, _<_}
+use Prim.Native.Nat.{ℕ, zero, suc, _+_, _≤_, _<_}
 use native.Mathlib.Omega.{arith}
 use mathlib.Core.Path.{_≡_, refl, ap, ap₂, subst, _∙_}
 use mathlib.Core.List.{List, [], _∷_, _++_, map, map-map}
@@ -131,7 +131,7 @@ module _ (most : Limits) (s : List ℕ) (p : Places) (e : readFile file.Referenc
         outputs-formed = rw (g, signals-view s os) (rw (map-map signalOf (wiredAt file.Reference s) os) at (wires-signals (p .inputs) (length gs) (map (wiredAt file.Reference s) os) (formed .1)));
       }
 
--- ---- a well-formed reference, and no other, fits a file
+-- ---- a well-formed reference fits a file
 
 module _ (n g : ℕ) (small : n + g ≤ absent) where
   operations-fit : (k : ℕ) (cs : List Coded) (rest : List Item) → k + length cs ≤ g → FormedFrom (n + k) cs →
@@ -175,8 +175,3 @@ module _ (most : Limits) (r : Reference) where
         items-fit = rw g (operations-fit (r .inputs) (length (r .gates)) in-reach 0 (r .gates) (map (λ v. output (v ∷ [])) (r .outputs)) (omega arith) ordered
             (signals-fit (r .inputs) (length (r .gates)) in-reach (r .outputs) (h .outputs-formed)));
       }
-
-  pub fits-reference : FileFits file.Reference most (r .inputs) (referenceItems r) → ReferenceFormed most r
-  fits-reference fits =
-      subst (ReferenceFormed most) (referenceOf-writeReference most r fits)
-      (reference-formed most (writeReference r) (placesOf file.Reference (r .inputs) (referenceItems r)) (read-writeReference most r fits))

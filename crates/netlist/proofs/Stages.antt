@@ -1,31 +1,30 @@
 -- Stages: one that is written is read back, readable bytes with the care words and the gates first are what writing their stage gives, and
 -- the stage of a readable file is well-formed.
 -- Assumes nothing.
-use Prim.Native.Nat.{ℕ, suc, _+_, _*_, _^_, _≤_, _<_}
+use Prim.Native.Nat.{ℕ, suc, _+_, _*_, _≤_, _<_}
 use native.Mathlib.Omega.{arith}
 use mathlib.Core.Path.{_≡_, refl, sym, ap, ap₂, subst, _∙_, fun-ext}
 use mathlib.Core.Bool.{Bool, true, false}
-use mathlib.Core.List.{List, [], _∷_, _++_, map, map-map}
+use mathlib.Core.List.{List, [], _∷_, map, map-map}
 use lib.ListN.{length, getD, length-map}
-use lib.Pow.{pow-mono}
 use Rattle.gates.specs.Cell.{pinCount, kindByte}
 use Rattle.gates.proofs.Ranges.{kind-known}
 use Rattle.netlist.specs.Types.{Limits}
 use Rattle.netlist.specs.Types.file
 use Rattle.netlist.specs.Types.sort
-use Rattle.netlist.specs.Bytes.{operands, absent}
+use Rattle.netlist.specs.Bytes.{operands}
 use Rattle.netlist.specs.Commands.{commandTable, ownCommands, formIn, needed}
-use Rattle.netlist.specs.Reading.{nameable, Places, Ascending, readFile, readable}
+use Rattle.netlist.specs.Reading.{nameable, Places, readFile, readable}
 use Rattle.netlist.specs.Content.{Coded, codedAt, Gate, Pair, Stage, gateOf, pairAt, stageOf}
-use Rattle.netlist.specs.Writing.{roleFor, Item, gate, output, care, outputsIn, ItemsFit, gatesIn, careIn, placesOf, All, FileFits, codedGate, pairOperands, stageItems, writeStage}
-use Rattle.netlist.specs.Formed.{CellFormed, RailsFormed, nets, StageFormed}
+use Rattle.netlist.specs.Writing.{roleFor, care, careIn, placesOf, All, FileFits, codedGate, pairOperands, stageItems, writeStage}
+use Rattle.netlist.specs.Formed.{CellFormed, RailsFormed, StageFormed}
 use Rattle.netlist.proofs.Lists.{Bytes, All-every, All-map}
-use Rattle.netlist.proofs.Encoding.{KindOfCell, kind-in, kind-needs, kind-some}
+use Rattle.netlist.proofs.Encoding.{KindOfCell, kind-in, kind-needs}
 use Rattle.netlist.proofs.Laid.{wiredAt}
 use Rattle.netlist.proofs.ReadBack.{read-write}
 use Rattle.netlist.proofs.Readable.{readable-read, named-pin, named-rail}
-use Rattle.netlist.proofs.Formed.{GatesFormed, OutputFormed, fits-formed, readable-formed}
-use Rattle.netlist.proofs.GatesFirst.{AllBefore, CareFirst, none-first, gatesIn-items, outputsIn-items, careIn-items, gates-back, outputs-back, write-back}
+use Rattle.netlist.proofs.Formed.{GatesFormed, OutputFormed, readable-formed}
+use Rattle.netlist.proofs.GatesFirst.{AllBefore, CareFirst, none-first, careIn-items, gates-back, outputs-back, write-back}
 
 -- ---- gates and outputs, coded and as a stage has them
 
@@ -34,7 +33,7 @@ abbrev pairOf : List ℕ → Pair
 pairOf vs = record { rail0 = getD vs 0 0; rail1 = getD vs 1 0 }
 
 -- a gate of a known kind is that cell
-cell-of : (hold : Bool) (c : ℕ) (pins : List ℕ) → 1 ≤ c → c ≤ 27 → gateOf (record { code = kindByte c hold; operands = pins }) ≡ record { cell = c; hold = hold; pins = pins }
+pub cell-of : (hold : Bool) (c : ℕ) (pins : List ℕ) → 1 ≤ c → c ≤ 27 → gateOf (record { code = kindByte c hold; operands = pins }) ≡ record { cell = c; hold = hold; pins = pins }
 cell-of true c pins lo hi = rw (kind-known true c (pinCount c) lo hi refl)
 cell-of false c pins lo hi = rw (kind-known false c (pinCount c) lo hi refl)
 
@@ -62,7 +61,7 @@ pairOperands-pairOf (a ∷ b ∷ c ∷ vs) e = absurd (omega arith)
 
 -- the gates and outputs of a stage file, coded and as a stage has them
 module _ (n g : ℕ) where
-  known-again : (k : ℕ) (cs : List Coded) → GatesFormed file.Stage n g k cs → All (λ c. codedGate (gateOf c) ≡ c) cs
+  pub known-again : (k : ℕ) (cs : List Coded) → GatesFormed file.Stage n g k cs → All (λ c. codedGate (gateOf c) ≡ c) cs
   known-again k [] h = tt
   known-again k (c ∷ cs) h = (codedGate-gateOf c (h .0 .known), known-again (suc k) cs (h .1))
 
@@ -151,71 +150,3 @@ module _ (most : Limits) (s : List ℕ) (p : Places) (e : readFile file.Stage mo
         care-in = r .care-in;
         outputs-formed = rw (g, pairs-view s os) (rw (map-map pairOf (wiredAt file.Stage s) os) at (wires-pairs (p .inputs) (length gs) (map (wiredAt file.Stage s) os) (formed .1)));
       }
-
--- ---- a well-formed stage, and no other, fits a file
-
-kind-small : (hold : Bool) (c : ℕ) → c ≤ 27 → kindByte c hold < 256
-kind-small true c h = omega arith
-kind-small false c h = omega arith
-
-module _ (n g : ℕ) (small : 2 * n + g ≤ absent) where
-  cells-fit : (k : ℕ) (xs : List Gate) (rest : List Item) → All (CellFormed (2 * n + g)) xs →
-      ((k : ℕ) → ItemsFit file.Stage n g k rest) → ItemsFit file.Stage n g k (map (λ x. gate (codedGate x)) xs ++ rest)
-  unfolding nameable commandTable ownCommands formIn
-  cells-fit k [] rest h r = r k
-  cells-fit k (x ∷ xs) rest h r =
-      let inside = h .0 .cell-in in (
-        record {
-          code-byte = kind-small (x .hold) (x .cell) (inside .1);
-          known = kind-some (x .hold) (x .cell) (inside .0) (inside .1);
-          whole = h .0 .whole ∙ sym (kind-needs (x .hold) (x .cell) (inside .0) (inside .1));
-          used = All-map (λ v. v < 2 * n + g) (λ v. v < absent) (λ v l. omega arith) (x .pins) (h .0 .pins-in);
-          named = h .0 .pins-in;
-        },
-        cells-fit (suc k) xs rest (h .1) r,
-      )
-
-  rails-fit : (ps : List Pair) → All (RailsFormed (2 * n + g)) ps → (k : ℕ) → ItemsFit file.Stage n g k (map (λ p. output (pairOperands p)) ps)
-  unfolding nameable commandTable ownCommands formIn
-  rails-fit [] h k = tt
-  rails-fit (p ∷ ps) h k =
-      let a = h .0 .rail0-in in
-      let b = h .0 .rail1-in in (
-        record {
-          whole = refl;
-          u16s = (omega arith, (omega arith, tt));
-          named = (a, (b, tt));
-        },
-        rails-fit ps (h .1) k,
-      )
-
--- care words of at most 16 inputs are u16
-words-fit : (n g m floor : ℕ) (ws : List ℕ) (rest : List Item) → m ≤ 16 → Ascending (2 ^ m) floor ws → ItemsFit file.Stage n g 0 rest → ItemsFit file.Stage n g 0 (map care ws ++ rest)
-words-fit n g m floor [] rest l h r = r
-words-fit n g m floor (w ∷ ws) rest l h r =
-    let u16 : w < 65536 = omega (arith, h .1, pow-mono {i = m} {j = 16} l) in
-    (record { stage = refl; u16 = u16 }, words-fit n g m (w + 1) ws rest l (h .2) r)
-
-module _ (most : Limits) (c : Stage) where
-  pub stage-fits : most .inputs ≤ 16 → 2 * most .inputs + most .gates ≤ absent → StageFormed most c → FileFits file.Stage most (c .inputs) (stageItems c)
-  stage-fits low small h =
-      let g : length (gatesIn (stageItems c)) ≡ length (c .gates) = ap length (gatesIn-items gateOf codedGate pairOf pairOperands (c .care) (c .gates) (c .outputs)) ∙ length-map (c .gates) codedGate in
-      let o : length (outputsIn (stageItems c)) ≡ length (c .outputs) =
-      ap length (outputsIn-items gateOf codedGate pairOf pairOperands (c .care) (c .gates) (c .outputs)) ∙ length-map (c .outputs) pairOperands in
-      let in-reach : nets c ≤ absent = omega (arith, h .inputs-in, h .gates-in) in
-      let wired = map (λ g. gate (codedGate g)) (c .gates) ++ map (λ p. output (pairOperands p)) (c .outputs) in
-      record {
-        inputs-in = h .inputs-in;
-        inputs-byte = omega (arith, h .inputs-in);
-        gates-in = rw g (h .gates-in);
-        outputs-in = rw o (h .outputs-in);
-        care-in = rw (careIn-items gateOf codedGate pairOf pairOperands (c .care) (c .gates) (c .outputs)) (h .care-in);
-        items-fit = rw g (words-fit (c .inputs) (length (c .gates)) (c .inputs) 0 (c .care) wired (omega (arith, h .inputs-in)) (h .care-in)
-            (cells-fit (c .inputs) (length (c .gates)) in-reach 0 (c .gates) (map (λ p. output (pairOperands p)) (c .outputs)) (h .gates-formed)
-            (rails-fit (c .inputs) (length (c .gates)) in-reach (c .outputs) (h .outputs-formed))));
-      }
-
-  pub fits-stage : FileFits file.Stage most (c .inputs) (stageItems c) → CellsIn (c .gates) → StageFormed most c
-  fits-stage fits cells =
-      subst (StageFormed most) (stageOf-writeStage most c fits cells)
-      (stage-formed most (writeStage c) (placesOf file.Stage (c .inputs) (stageItems c)) (read-writeStage most c fits))

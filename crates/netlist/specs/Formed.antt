@@ -1,7 +1,6 @@
 -- Well-formed stages and references: what those of readable files are, and what a file can hold.
 use Prim.Native.Nat.{ℕ, suc, _+_, _*_, _^_, _≤_, _<_}
 use mathlib.Core.Path.{_≡_}
-use mathlib.Core.Bool.{true}
 use mathlib.Core.List.{List, [], _∷_}
 use lib.ListN.{length}
 use Rattle.gates.specs.Cell.{pinCount}

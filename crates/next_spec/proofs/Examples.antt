@@ -1,28 +1,27 @@
 -- The definitions tried on files: the first of the family, the first with two inputs, the last of all, and files that are none of it.
 -- Assumes nothing.
-use Prim.Native.Nat.{ℕ, _+_, _*_, _-_, _≤_}
+use Prim.Native.Nat.{ℕ, _≤_}
 use native.Mathlib.Omega.{arith}
 use mathlib.Core.Path.{_≡_, refl, sym, ap, subst, _∙_}
-use mathlib.Core.Bool.{Bool, true, false}
-use mathlib.Core.List.{List, [], _∷_, _++_}
-use lib.ListN.{length, drop}
+use mathlib.Core.Bool.{true, false}
+use mathlib.Core.List.{List, [], _∷_}
+use lib.ListN.{length}
 use Rattle.gates.specs.Cell.{cells, cellAt, pinCount, kindOf}
-use Rattle.netlist.specs.declared.File.the-variants as file
+use Rattle.netlist.specs.declared.File.the-variants.{Stage}
 use Rattle.netlist.specs.Bytes.{operand, operands}
 use Rattle.netlist.specs.Commands as k
 use Rattle.netlist.specs.Reading as r
-use Rattle.netlist.specs.Reading.{Places, Reading, readable, refused, readFile, stageLimits}
-use Rattle.netlist.specs.Content.{Stage, stageOf}
-use Rattle.netlist.specs.Writing.{writeStage}
-use Rattle.verdict.specs.Rows.{rounds}
-use Rattle.verdict.specs.Graph.{tabulate, leading}
-use Rattle.verdict.specs.Loops.{gateSteps, reachesItself}
-use Rattle.verdict.specs.Checks.{verdict}
-use Rattle.verdict.proofs.Reaching.{noLoop-loopFree}
+use Rattle.netlist.specs.Reading.{stageLimits}
+use Rattle.verdict.specs.FourNumbers.{verdict}
 use Rattle.verdict.specs.Written.{refuse, writeOr}
-use Rattle.next_spec.specs.Numbered.{stages, lists, stageNumbered}
-use Rattle.next_spec.specs.Listing.{InShape, free, loopFreeFrom, stagesOf, shapes, listing, Listed, onward}
-use Rattle.next_spec.specs.Family.{Small, Member, NextIs, outside, last, next}
+use Rattle.check_spec.specs.Lists.{some, reaches}
+use Rattle.check_spec.specs.Content.{contentAt, contentOf}
+use Rattle.check_spec.specs.Rows.{reachesItself}
+use Rattle.check_spec.specs.Verdicts.{refusal, reading}
+use Rattle.check_spec.specs.Demands.{Pass}
+use Rattle.next_spec.specs.Numbered.{lists, stageNumbered}
+use Rattle.next_spec.specs.Listing.{InShape, free, loopFreeFrom, shapes, listing, Listed, onward}
+use Rattle.next_spec.specs.Family.{Small, fileOf, Member, NextIs, outside, last, next}
 use Rattle.next_spec.proofs.Bytes.{listBytes}
 use Rattle.next_spec.proofs.Less.{stage-bytes}
 use Rattle.next_spec.proofs.Onward.{zero-free, stages-some, onward-free, onward-start, place-in-listing}
@@ -52,19 +51,19 @@ lastFile =
 
 -- ---- their numbers
 
-first-bytes : writeStage (stageNumbered 1 0 0) ≡ firstFile
+first-bytes : fileOf (stageNumbered 1 0 0) ≡ firstFile
 unfolding listBytes
 first-bytes = stage-bytes 1 0 0
 
-last-of-one-bytes : writeStage (stageNumbered 1 2 16223) ≡ lastOfOne
+last-of-one-bytes : fileOf (stageNumbered 1 2 16223) ≡ lastOfOne
 unfolding listBytes lists
 last-of-one-bytes = stage-bytes 1 2 16223
 
-first-of-two-bytes : writeStage (stageNumbered 2 0 0) ≡ firstOfTwo
+first-of-two-bytes : fileOf (stageNumbered 2 0 0) ≡ firstOfTwo
 unfolding listBytes
 first-of-two-bytes = stage-bytes 2 0 0
 
-last-bytes : writeStage (stageNumbered 2 2 186119) ≡ lastFile
+last-bytes : fileOf (stageNumbered 2 2 186119) ≡ lastFile
 unfolding listBytes lists
 last-bytes = stage-bytes 2 2 186119
 
@@ -135,62 +134,38 @@ ownPin =
 abbrev cut : List ℕ
 cut = 0x01 ∷ []
 
-readable-same : (p q : Places) → readable p ≡ readable q → p ≡ q
-readable-same p q e = cc
-
 -- a file of the family reads, and its stage is small
-member-reads : (s : List ℕ) → Member s → (p : Places) × (readFile file.Stage stageLimits s ≡ readable p) × Small (stageOf s p)
-member-reads s (c, i, e) = rw e (i .reads .places, i .reads .reads, subst Small (sym (i .reads .content)) (i .small))
+member-reads : (s : List ℕ) → Member s → Pass (reading Stage stageLimits s) × Small (contentOf Stage stageLimits s)
+member-reads s (c, i, e) = rw e (i .reads, subst Small (sym (i .reads-as)) (i .small))
 
-not-small : (s : List ℕ) (p : Places) → readFile file.Stage stageLimits s ≡ readable p → (Small (stageOf s p) → ⊥) → Member s → ⊥
-not-small s p e h m =
-    let q = member-reads s m in
-    let f : q .0 ≡ p = readable-same (q .0) p (sym (q .1) ∙ e) in
-    h (subst (λ (x : Places). Small (stageOf s x)) f (q .2))
-
-places : ℕ → List ℕ → List ℕ → Places
-places n gates outputs = record { inputs = n; gates = gates; outputs = outputs; care = [] }
-
-whole-reads : readFile file.Stage stageLimits wholeCase ≡ readable (places 2 (2 ∷ 12 ∷ []) (22 ∷ []))
-unfolding places cells cellAt pinCount kindOf operand operands k.whenFound k.ownCommands k.commandTable k.formIn k.pinsNeeded k.needed k.stray k.misfit
+whole-not-small : Small (contentOf Stage stageLimits wholeCase) → ⊥
+unfolding contentAt cells cellAt pinCount kindOf operand operands k.whenFound k.ownCommands k.commandTable k.formIn k.pinsNeeded k.needed k.stray k.misfit
     k.misfitFrom k.takeGate k.takeCare k.takeSort k.takeCommand k.nextAt r.nameable r.nameless r.usedOperands r.namelessAt r.namelessFrom r.floorAfter
     r.noted r.finish r.onNext r.readFrom r.readFile
-whole-reads = refl
+whole-not-small h = let l : 26 ≤ 2 = h .kinds-in .1 .0 .1 in omega arith
 
-own-pin-reads : readFile file.Stage stageLimits ownPin ≡ readable (places 1 (2 ∷ []) (12 ∷ []))
-unfolding places cells cellAt pinCount kindOf operand operands k.whenFound k.ownCommands k.commandTable k.formIn k.pinsNeeded k.needed k.stray k.misfit
+own-pin-not-small : Small (contentOf Stage stageLimits ownPin) → ⊥
+unfolding contentAt cells cellAt pinCount kindOf operand operands k.whenFound k.ownCommands k.commandTable k.formIn k.pinsNeeded k.needed k.stray k.misfit
     k.misfitFrom k.takeGate k.takeCare k.takeSort k.takeCommand k.nextAt r.nameable r.nameless r.usedOperands r.namelessAt r.namelessFrom r.floorAfter
-    r.noted r.finish r.onNext r.readFrom r.readFile
-own-pin-reads = refl
-
-whole-not-small : Small (stageOf wholeCase (places 2 (2 ∷ 12 ∷ []) (22 ∷ []))) → ⊥
-unfolding places stageOf kindOf pinCount cellAt cells operand operands
-whole-not-small h = let l : 26 ≤ 2 = h .kinds-in .1 .0 .2 in omega arith
-
-own-pin-not-small : Small (stageOf ownPin (places 1 (2 ∷ []) (12 ∷ []))) → ⊥
-unfolding places stageOf kindOf pinCount cellAt cells operand operands reachesItself leading gateSteps tabulate rounds
-    k.needed k.pinsNeeded
+    r.noted r.finish r.onNext r.readFrom r.readFile reachesItself reaches some
 own-pin-not-small h =
-    let e : true ≡ false = noLoop-loopFree 1 (stageOf ownPin (places 1 (2 ∷ []) (12 ∷ [])) .gates) (h .no-loop) 0 (omega arith) in
+    let e : true ≡ false = h .no-loop 2 (omega arith, omega arith) in
     let z : _≡_ {A = ℕ} 0 1 = cc in
     omega arith
 
-cut-refused : readFile file.Stage stageLimits cut ≡ refused 1 1
+cut-not-read : Pass (reading Stage stageLimits cut) → ⊥
 unfolding cells cellAt pinCount kindOf operand operands k.whenFound k.ownCommands k.commandTable k.formIn k.pinsNeeded k.needed k.stray k.misfit
     k.misfitFrom k.takeGate k.takeCare k.takeSort k.takeCommand k.nextAt r.nameable r.nameless r.usedOperands r.namelessAt r.namelessFrom r.floorAfter
-    r.noted r.finish r.onNext r.readFrom r.readFile
-cut-refused = refl
-
-cut-not-read : (p : Places) → readFile file.Stage stageLimits cut ≡ readable p → ⊥
-cut-not-read p e = let f : refused 1 1 ≡ readable p = sym cut-refused ∙ e in let z : _≡_ {A = ℕ} 0 1 = cc in omega arith
+    r.noted r.finish r.onNext r.readFrom r.readFile refusal
+cut-not-read p = let e : true ≡ false = p .0 in let z : _≡_ {A = ℕ} 0 1 = cc in omega arith
 
 module _ (buffer : List ℕ) where
   -- another kind, a loop, and a file that does not read: 37, whatever the buffer
   another-kind : NextIs wholeCase buffer (refuse (verdict 37 1 0 0) buffer)
-  another-kind = outside (λ e. omega (arith, ap (length {A = ℕ}) e)) (not-small wholeCase (places 2 (2 ∷ 12 ∷ []) (22 ∷ [])) whole-reads whole-not-small)
+  another-kind = outside (λ e. omega (arith, ap (length {A = ℕ}) e)) (λ m. whole-not-small (member-reads wholeCase m .1))
 
   a-loop : NextIs ownPin buffer (refuse (verdict 37 1 0 0) buffer)
-  a-loop = outside (λ e. omega (arith, ap (length {A = ℕ}) e)) (not-small ownPin (places 1 (2 ∷ []) (12 ∷ [])) own-pin-reads own-pin-not-small)
+  a-loop = outside (λ e. omega (arith, ap (length {A = ℕ}) e)) (λ m. own-pin-not-small (member-reads ownPin m .1))
 
   not-readable : NextIs cut buffer (refuse (verdict 37 1 0 0) buffer)
-  not-readable = outside (λ e. omega (arith, ap (length {A = ℕ}) e)) (λ m. let q = member-reads cut m in cut-not-read (q .0) (q .1))
+  not-readable = outside (λ e. omega (arith, ap (length {A = ℕ}) e)) (λ m. cut-not-read (member-reads cut m .0))

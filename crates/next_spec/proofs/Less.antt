@@ -3,16 +3,17 @@
 use Prim.Native.Nat.{ℕ, zero, suc, _*_, _/_, _%_, _≤_, _<_}
 use native.Mathlib.Omega.{arith}
 use native.Mathlib.Nat.{mod-lt, mul-le-mul}
-use mathlib.Core.Path.{_≡_, refl, ap, _∙_}
+use mathlib.Core.Path.{_≡_, refl, ap}
 use mathlib.Core.Logic.{inl, inr, ⊎-elim}
-use mathlib.Core.List.{List, [], _∷_, _++_, map}
-use Rattle.netlist.specs.declared.File.the-variants as file
+use mathlib.Core.List.{List, [], _∷_, _++_, flatMap}
+use Rattle.netlist.specs.declared.File.the-variants.{Stage}
+use Rattle.netlist.specs.declared.Sort.the-variants as sort
 use Rattle.netlist.specs.Commands.{commandTable, ownCommands, formIn}
-use Rattle.netlist.specs.Content.{Pair, Stage}
-use Rattle.netlist.specs.Writing.{gate, output, codedGate, pairOperands, writeItems, writeFile, writeStage}
-use Rattle.next_spec.specs.Numbered.{netsOf, stages, lists, gatesNumbered, pairNumbered, stageNumbered}
+use Rattle.netlist.specs.Coded.{Coded}
+use Rattle.check_spec.specs.Writing.{rowFor, command, writeFile}
+use Rattle.next_spec.specs.Numbered.{netsOf, stages, lists, gatesNumbered, stageNumbered}
 use Rattle.next_spec.proofs.Bytes.{twoBytes, gateBytes, listBytes, outputBytes}
-use Rattle.next_spec.specs.Family.{Less}
+use Rattle.next_spec.specs.Family.{fileOf, Less}
 use Rattle.next_spec.proofs.Digits.{quotient-low, digits-less, square, lists-some}
 
 pub less-refl : (xs : List ℕ) → Less xs xs → ⊥
@@ -80,32 +81,19 @@ module _ (m : ℕ) (some : 1 ≤ m) (low : m ≤ 256) where
 -- ---- stages
 
 -- the bytes of a numbered stage
-items-list : (m g x : ℕ) (ps : List Pair)
-    → writeItems file.Stage (map (λ g. gate (codedGate g)) (gatesNumbered m g x) ++ map (λ p. output (pairOperands p)) ps)
-    ≡ listBytes m g x (writeItems file.Stage (map (λ p. output (pairOperands p)) ps))
-unfolding gatesNumbered listBytes commandTable ownCommands formIn
-items-list m zero x ps = refl
-items-list m (suc g) x ps = ap (gateBytes m (x / lists m g)) (items-list m g (x % lists m g) ps)
-
-pub list-++ : (m g x : ℕ) (r t : List ℕ) → listBytes m g x r ++ t ≡ listBytes m g x (r ++ t)
-unfolding listBytes
-list-++ m zero x r t = refl
-list-++ m (suc g) x r t = ap (gateBytes m (x / lists m g)) (list-++ m g (x % lists m g) r t)
+gates-bytes : (m g x : ℕ) (rest : List ℕ) → flatMap (λ (g : Coded). command Stage sort.Gate (g .code) (g .operands)) (gatesNumbered m g x) ++ rest ≡ listBytes m g x rest
+unfolding gatesNumbered listBytes flatMap command rowFor commandTable ownCommands formIn
+gates-bytes m zero x rest = refl
+gates-bytes m (suc g) x rest = ap (gateBytes m (x / lists m g)) (gates-bytes m g (x % lists m g) rest)
 
 pub stage-bytes : (n g z : ℕ)
-    → writeStage (stageNumbered n g z) ≡ 0x01 ∷ n ∷ listBytes (netsOf n g) g (z / (netsOf n g * netsOf n g))
+    → fileOf (stageNumbered n g z) ≡ 0x01 ∷ n ∷ listBytes (netsOf n g) g (z / (netsOf n g * netsOf n g))
     (outputBytes (netsOf n g) (z % (netsOf n g * netsOf n g)))
-unfolding writeStage writeFile stageNumbered commandTable ownCommands formIn
-stage-bytes n g z =
-    let m = netsOf n g in
-    let x = z / (m * m) in
-    let p = pairNumbered m (z % (m * m)) in
-    ap (λ (l : List ℕ). 0x01 ∷ n ∷ l)
-    (ap (λ (l : List ℕ). l ++ (0x00 ∷ [])) (items-list m g x (p ∷ []))
-    ∙ list-++ m g x (writeItems file.Stage (map (λ p. output (pairOperands p)) (p ∷ []))) (0x00 ∷ []))
+unfolding writeFile stageNumbered flatMap command rowFor commandTable ownCommands formIn
+stage-bytes n g z = ap (λ (l : List ℕ). 0x01 ∷ n ∷ l) (gates-bytes (netsOf n g) g (z / (netsOf n g * netsOf n g)) (outputBytes (netsOf n g) (z % (netsOf n g * netsOf n g))))
 
 module _ (n g : ℕ) (some : 1 ≤ netsOf n g) (low : netsOf n g ≤ 256) where
-  pub stage-less : (y z : ℕ) → y < z → z < stages n g → Less (writeStage (stageNumbered n g y)) (writeStage (stageNumbered n g z))
+  pub stage-less : (y z : ℕ) → y < z → z < stages n g → Less (fileOf (stageNumbered n g y)) (fileOf (stageNumbered n g z))
   stage-less y z l b =
       let m = netsOf n g in
       let k : 1 ≤ m * m = mul-le-mul some some in

@@ -7,20 +7,20 @@ use mathlib.Core.Bool.{Bool, true, false, cond}
 use mathlib.Core.Logic.{_⊎_, inl, inr, ⊎-elim}
 use mathlib.Core.List.{List, [], _∷_, _++_}
 use lib.ListN.{length}
-use Rattle.netlist.specs.Content.{Stage}
-use Rattle.netlist.specs.Writing.{All, writeStage}
+use Rattle.check_spec.specs.Content.{Content}
+use Rattle.netlist.specs.Writing.{All}
 use Rattle.netlist.proofs.Lists.{All-map, All-++}
 use Rattle.next_spec.specs.Numbered.{netsOf, stages, lists, stageNumbered}
 use Rattle.next_spec.proofs.Bytes.{listBytes, outputBytes}
-use Rattle.next_spec.specs.Listing.{InShape, Listed, free, loopFreeFrom, group, Shape, shape, stagesOf, shapes, listing}
-use Rattle.next_spec.specs.Family.{InFamily, Less, key, Before, Ascending, Among, Shaped, Lists}
+use Rattle.next_spec.specs.Listing.{InShape, free, loopFreeFrom, group, Shape, shape, stagesOf, shapes, listing}
+use Rattle.next_spec.specs.Family.{fileOf, InFamily, Less, key, Ascending, Among, Shaped, Lists}
 use Rattle.next_spec.proofs.Digits.{apart}
 use Rattle.next_spec.proofs.Less.{stage-less, stage-bytes}
 use Rattle.next_spec.proofs.Members.{nets-some, nets-low, gates-long, listed-in, in-listed}
 
 -- ---- one group
 
-module _ (n g : ℕ) (P : Stage → Type 0) where
+module _ (n g : ℕ) (P : Content → Type 0) where
   -- what holds of each numbered stage without a loop holds of all that are listed
   pub listed-all : (z m : ℕ) → ((y : ℕ) → z ≤ y → y < z + m → free n g y ≡ true → P (stageNumbered n g y)) → All P (loopFreeFrom n g z m)
   unfolding loopFreeFrom
@@ -49,10 +49,10 @@ module _ (n g : ℕ) where
 -- ---- the shape of a listed stage
 
 -- so many inputs and gates, in a file as long as they make it
-pub record InFile (n g : ℕ) (c : Stage) : Type 0 where
+pub record InFile (n g : ℕ) (c : Content) : Type 0 where
   pub inputs : c .inputs ≡ n
   pub gates : length (c .gates) ≡ g
-  pub long : length (writeStage c) ≡ 8 + 10 * g
+  pub long : length (fileOf c) ≡ 8 + 10 * g
 
 pub list-long : (m g x : ℕ) (rest : List ℕ) → length (listBytes m g x rest) ≡ 10 * g + length rest
 unfolding listBytes
@@ -66,7 +66,7 @@ module _ (n g : ℕ) (fits : InShape n g) where
       let k = netsOf n g in
       record {
         inputs = refl;
-        gates = gates-long k (nets-some n g fits) g (z / (k * k));
+        gates = gates-long k g (z / (k * k));
         long = ap (length {A = ℕ}) (stage-bytes n g z) ∙ (let h = list-long k g (z / (k * k)) (outputBytes k (z % (k * k))) in omega arith);
       }
 
@@ -76,7 +76,7 @@ module _ (n g : ℕ) (fits : InShape n g) where
 abbrev Sooner : Shape → Shape → Type 0
 Sooner h k = (h .inputs < k .inputs) ⊎ ((h .inputs ≡ k .inputs) × (h .gates < k .gates))
 
-sooner-less : (h k : Shape) → Sooner h k → (c d : Stage) → InFile (h .inputs) (h .gates) c → InFile (k .inputs) (k .gates) d → Less (key c) (key d)
+sooner-less : (h k : Shape) → Sooner h k → (c d : Content) → InFile (h .inputs) (h .gates) c → InFile (k .inputs) (k .gates) d → Less (key c) (key d)
 sooner-less h k s c d a b =
     let p = a .inputs in
     let q = b .inputs in
@@ -84,7 +84,7 @@ sooner-less h k s c d a b =
     let t = b .gates in
     ⊎-elim (λ l. inl (omega arith)) (λ e. let f = e .0 in let l = e .1 in inr (omega arith, inl (omega arith))) s
 
-Ascending-++ : (cs ds : List Stage) → Ascending cs → Ascending ds → All (λ c. All (λ d. Less (key c) (key d)) ds) cs → Ascending (cs ++ ds)
+Ascending-++ : (cs ds : List Content) → Ascending cs → Ascending ds → All (λ c. All (λ d. Less (key c) (key d)) ds) cs → Ascending (cs ++ ds)
 Ascending-++ [] ds a b h = b
 Ascending-++ (c ∷ cs) ds a b h = (All-++ (λ d. Less (key c) (key d)) cs ds (a .0) (h .0), Ascending-++ cs ds (a .1) b (h .1))
 
@@ -115,7 +115,7 @@ Rising [] = Unit {0}
 Rising (h ∷ hs) = InShape (h .inputs) (h .gates) × All (Sooner h) hs × Rising hs
 
 -- what holds of each numbered stage of the shapes without a loop holds of all that are listed
-stagesOf-all : (P : Stage → Type 0) (hs : List Shape)
+stagesOf-all : (P : Content → Type 0) (hs : List Shape)
     → All (λ h. (y : ℕ) → y < stages (h .inputs) (h .gates) → free (h .inputs) (h .gates) y ≡ true → P (stageNumbered (h .inputs) (h .gates) y)) hs
     → All P (stagesOf hs)
 unfolding group
@@ -190,7 +190,7 @@ listing-in = stagesOf-all InFamily shapes
     (λ h i y l f. listed-in (h .inputs) (h .gates) y (record { shaped = i; below = l; loop-free = f }))
     shapes (in-shapes shapes shapes-rising))
 
-stagesOf-among : (n g : ℕ) (c : Stage) (hs : List Shape) → Among (shape n g) hs → Among c (group n g) → Among c (stagesOf hs)
+stagesOf-among : (n g : ℕ) (c : Content) (hs : List Shape) → Among (shape n g) hs → Among c (group n g) → Among c (stagesOf hs)
 stagesOf-among n g c [] i a = absurd i
 stagesOf-among n g c (h ∷ hs) i a =
     ⊎-elim
@@ -211,23 +211,23 @@ in-shape (suc (suc zero)) (suc (suc zero)) i = inr (inr (inr (inr (inr (inl refl
 in-shape (suc (suc zero)) (suc (suc (suc g))) i = absurd (omega (arith, i .gates-in))
 in-shape (suc (suc (suc n))) g i = absurd (omega (arith, i .inputs-in))
 
-in-group : (c : Stage) → InFamily c → Among c (group (c .inputs) (length (c .gates)))
+in-group : (c : Content) → InFamily c → Among c (group (c .inputs) (length (c .gates)))
 unfolding group
 in-group c i =
     let k = in-listed c i in
     let n = c .inputs in
     let g = length (c .gates) in
-    subst (λ (d : Stage). Among d (group n g)) (k .2) (listed n g 0 (stages n g) (k .0) (omega arith) (omega (arith, k .1 .below)) (k .1 .loop-free))
+    subst (λ (d : Content). Among d (group n g)) (k .2) (listed n g 0 (stages n g) (k .0) (omega arith) (omega (arith, k .1 .below)) (k .1 .loop-free))
 
 -- every stage of the family is listed
-pub in-listing : (c : Stage) → InFamily c → Among c listing
+pub in-listing : (c : Content) → InFamily c → Among c listing
 unfolding listing
 in-listing c i =
     stagesOf-among (c .inputs) (length (c .gates)) c shapes (in-shape (c .inputs) (length (c .gates)) (in-listed c i .1 .shaped)) (in-group c i)
 
 -- ---- the lists
 
-All-with : (cs : List Stage) → All InFamily cs → All (λ c. InFamily c × Unit {0}) cs
+All-with : (cs : List Content) → All InFamily cs → All (λ c. InFamily c × Unit {0}) cs
 All-with = All-map InFamily (λ c. InFamily c × Unit {0}) (λ c i. (i, tt))
 
 pub listing-lists : Lists (λ c. Unit {0}) listing
@@ -243,5 +243,5 @@ group-lists n g i = record {
   every = λ c j s. go c (in-group c j) (s .0) (s .1);
 }
   where
-    go : (c : Stage) → Among c (group (c .inputs) (length (c .gates))) → c .inputs ≡ n → length (c .gates) ≡ g → Among c (group n g)
+    go : (c : Content) → Among c (group (c .inputs) (length (c .gates))) → c .inputs ≡ n → length (c .gates) ≡ g → Among c (group n g)
     go c a p q = subst (λ (h : ℕ). Among c (group n h)) q (subst (λ (k : ℕ). Among c (group k (length (c .gates)))) p a)

@@ -1,18 +1,18 @@
 -- The loop test by pins is that of check 12, computed for each list of gates; and the counts 4 and 72.
 -- Assumes nothing.
-use Prim.Native.Nat.{ℕ, zero, suc, _*_, _/_, _<_}
+use Prim.Native.Nat.{ℕ, zero, suc, _+_, _-_, _*_, _/_, _<_}
 use native.Mathlib.Omega.{arith}
-use mathlib.Core.Path.{_≡_, refl, sym, subst, _∙_}
+use mathlib.Core.Path.{_≡_, refl, sym, ap, subst, _∙_}
 use mathlib.Core.Bool.{Bool, true, false, cond, not}
 use mathlib.Core.Logic.{⊎-elim}
-use mathlib.Core.List.{List}
+use mathlib.Core.List.{List, []}
 use lib.ListN.{length}
-use Rattle.runs.proofs.Test.{clash, of-not, true?}
-use Rattle.netlist.specs.Content.{Gate}
-use Rattle.verdict.specs.Rows.{rounds}
-use Rattle.verdict.specs.Graph.{tabulate, leading}
-use Rattle.verdict.specs.Loops.{gateSteps, reachesItself, NoLoop, LoopFree}
-use Rattle.verdict.proofs.Reaching.{loopFree-noLoop, noLoop-loopFree}
+use Rattle.runs.proofs.Test.{clash, of-not}
+use Rattle.netlist.specs.Coded.{Coded}
+use Rattle.check_spec.specs.Lists.{some, reaches}
+use Rattle.check_spec.specs.Content.{Content}
+use Rattle.check_spec.specs.Rows.{netOf, reachesItself}
+use Rattle.check_spec.specs.Demands.{LoopFree}
 use Rattle.next_spec.specs.Numbered.{netsOf, stages, lists, gatesNumbered, stageNumbered}
 use Rattle.next_spec.specs.Listing.{InShape, noLoop, free, loopFreeFrom, group}
 use Rattle.next_spec.proofs.Digits.{apart, square, quotient-low}
@@ -46,16 +46,23 @@ at-below test (suc m) h = rw (h m (omega arith)) (at-below test m (λ x l. h x (
 
 -- ---- the test of check 12 on some gates
 
-unfoldable loopless : ℕ → List Gate → Bool
-loopless n gates = allBelow (λ g. not (reachesItself n gates g)) (length gates)
+-- a stage of some gates, whatever its output
+abbrev bare : ℕ → List Coded → Content
+bare n gates = record { inputs = n; gates = gates; outputs = []; care = [] }
 
-of-loopless : (n : ℕ) (gates : List Gate) → loopless n gates ≡ true → NoLoop n gates
-unfolding loopless
-of-loopless n gates e = loopFree-noLoop n gates (λ g l. of-not (reachesItself n gates g) (below-at (λ g. not (reachesItself n gates g)) (length gates) g e l))
+unfoldable loopless : ℕ → List Coded → Bool
+loopless n gates = allBelow (λ g. not (reachesItself (netOf (bare n gates)) (2 * n + g))) (length gates)
 
-to-loopless : (n : ℕ) (gates : List Gate) → NoLoop n gates → loopless n gates ≡ true
-unfolding loopless
-to-loopless n gates h = at-below (λ g. not (reachesItself n gates g)) (length gates) (λ g l. rw (noLoop-loopFree n gates h g l))
+of-loopless : (c : Content) → loopless (c .inputs) (c .gates) ≡ true → LoopFree (netOf c)
+unfolding loopless reachesItself
+of-loopless c e net i =
+    let z : 2 * c .inputs + (net - 2 * c .inputs) ≡ net = omega (arith, i .0) in
+    rw z at (of-not (reachesItself (netOf c) (2 * c .inputs + (net - 2 * c .inputs))) (below-at (λ g. not (reachesItself (netOf (bare (c .inputs) (c .gates))) (2 * c .inputs + g))) (length (c .gates)) (net - 2 * c .inputs) e (omega (arith, i .0, i .1))))
+
+to-loopless : (c : Content) → LoopFree (netOf c) → loopless (c .inputs) (c .gates) ≡ true
+unfolding loopless reachesItself
+to-loopless c h =
+    at-below (λ g. not (reachesItself (netOf (bare (c .inputs) (c .gates))) (2 * c .inputs + g))) (length (c .gates)) (λ g l. ap not (h (2 * c .inputs + g) (omega arith, omega arith)))
 
 -- ---- computed
 
@@ -73,27 +80,27 @@ unfoldable tested : ℕ → ℕ → Bool
 tested n g = allBelow (λ x. agree (loopless n (gatesNumbered (netsOf n g) g x)) (noLoop n g x)) (lists (netsOf n g) g)
 
 tested-10 : tested 1 0 ≡ true
-unfolding tested agree loopless gatesNumbered lists reachesItself leading gateSteps tabulate rounds
+unfolding tested agree loopless gatesNumbered lists reachesItself reaches some
 tested-10 = refl
 
 tested-11 : tested 1 1 ≡ true
-unfolding tested agree loopless gatesNumbered lists reachesItself leading gateSteps tabulate rounds
+unfolding tested agree loopless gatesNumbered lists reachesItself reaches some
 tested-11 = refl
 
 tested-12 : tested 1 2 ≡ true
-unfolding tested agree loopless gatesNumbered lists reachesItself leading gateSteps tabulate rounds
+unfolding tested agree loopless gatesNumbered lists reachesItself reaches some
 tested-12 = refl
 
 tested-20 : tested 2 0 ≡ true
-unfolding tested agree loopless gatesNumbered lists reachesItself leading gateSteps tabulate rounds
+unfolding tested agree loopless gatesNumbered lists reachesItself reaches some
 tested-20 = refl
 
 tested-21 : tested 2 1 ≡ true
-unfolding tested agree loopless gatesNumbered lists reachesItself leading gateSteps tabulate rounds
+unfolding tested agree loopless gatesNumbered lists reachesItself reaches some
 tested-21 = refl
 
 tested-22 : tested 2 2 ≡ true
-unfolding tested agree loopless gatesNumbered lists reachesItself leading gateSteps tabulate rounds
+unfolding tested agree loopless gatesNumbered lists reachesItself reaches some
 tested-22 = refl
 
 -- what holds of each shape
@@ -120,8 +127,10 @@ module _ (n g : ℕ) (shaped : InShape n g) (z : ℕ) (l : z < stages n g) where
       (below-at (λ x. agree (loopless n (gatesNumbered (netsOf n g) g x)) (noLoop n g x)) (lists m g) x
       (each-shape (λ n g. tested n g ≡ true) tested-10 tested-11 tested-12 tested-20 tested-21 tested-22 n g shaped) inside)
 
-  pub free-noLoop : free n g z ≡ true → NoLoop n (stageNumbered n g z .gates)
-  free-noLoop e = of-loopless n (stageNumbered n g z .gates) (sym free-loopless ∙ e)
+  pub free-noLoop : free n g z ≡ true → LoopFree (netOf (stageNumbered n g z))
+  unfolding stageNumbered
+  free-noLoop e = of-loopless (stageNumbered n g z) (sym free-loopless ∙ e)
 
-  pub noLoop-free : NoLoop n (stageNumbered n g z .gates) → free n g z ≡ true
-  noLoop-free h = free-loopless ∙ to-loopless n (stageNumbered n g z .gates) h
+  pub noLoop-free : LoopFree (netOf (stageNumbered n g z)) → free n g z ≡ true
+  unfolding stageNumbered
+  noLoop-free h = free-loopless ∙ to-loopless (stageNumbered n g z) h

@@ -6,7 +6,7 @@ use mathlib.Core.Bool.{Bool, true, cond, _&&_, _||_, not}
 use mathlib.Core.List.{List, [], _∷_, _++_}
 use lib.ListN.{drop}
 use lib.Dec.{eqb}
-use Rattle.netlist.specs.Content.{Stage}
+use Rattle.check_spec.specs.Content.{Content}
 use Rattle.next_spec.specs.Numbered.{netsOf, stages, stageNumbered}
 
 -- ---- loops
@@ -40,11 +40,11 @@ free n g z = noLoop n g (z / (netsOf n g * netsOf n g))
 -- ---- the family as a list
 
 -- of m stages from number z on, those without a loop
-unfoldable pub loopFreeFrom : ℕ → ℕ → ℕ → ℕ → List Stage
+unfoldable pub loopFreeFrom : ℕ → ℕ → ℕ → ℕ → List Content
 loopFreeFrom n g z zero = []
 loopFreeFrom n g z (suc m) = let later = loopFreeFrom n g (suc z) m in cond (free n g z) (stageNumbered n g z ∷ later) later
 
-unfoldable pub group : ℕ → ℕ → List Stage
+unfoldable pub group : ℕ → ℕ → List Content
 group n g = loopFreeFrom n g 0 (stages n g)
 
 -- so many inputs and gates
@@ -56,14 +56,14 @@ abbrev pub shape : ℕ → ℕ → Shape
 shape n g = record { inputs = n; gates = g }
 
 -- the groups of some shapes, one after another
-abbrev pub stagesOf : List Shape → List Stage
+abbrev pub stagesOf : List Shape → List Content
 stagesOf [] = []
 stagesOf (h ∷ hs) = group (h .inputs) (h .gates) ++ stagesOf hs
 
 unfoldable pub shapes : List Shape
 shapes = shape 1 0 ∷ shape 1 1 ∷ shape 1 2 ∷ shape 2 0 ∷ shape 2 1 ∷ shape 2 2 ∷ []
 
-unfoldable pub listing : List Stage
+unfoldable pub listing : List Content
 listing = stagesOf shapes
 
 -- ---- places in the list
@@ -75,5 +75,5 @@ pub record Listed (n g z : ℕ) : Type 0 where
   pub loop-free : free n g z ≡ true
 
 -- the stages of the family from number z of its shape on
-unfoldable pub onward : ℕ → ℕ → ℕ → List Stage
+unfoldable pub onward : ℕ → ℕ → ℕ → List Content
 onward n g z = loopFreeFrom n g z (stages n g - z) ++ stagesOf (drop (3 * (n - 1) + g + 1) shapes)

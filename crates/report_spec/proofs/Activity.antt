@@ -1,6 +1,6 @@
 -- The total of the report is half of all gate switchings when each word rises and falls once.
 -- Assumes nothing.
-use Prim.Native.Nat.{ℕ, zero, suc, _+_, _*_, _^_, _≤_, _<_}
+use Prim.Native.Nat.{ℕ, zero, suc, _+_, _*_, _^_, _≤_}
 use native.Mathlib.Omega.{arith}
 use mathlib.Core.Path.{_≡_, refl, sym, ap, ap₂, subst, _∙_, fun-ext}
 use mathlib.Core.Bool.{Bool, true, false, cond, not}
@@ -11,16 +11,16 @@ use lib.Seq.{getD-append-add}
 use lib.Dec.{eqb, ltb}
 use borrow.Author.Tests.{lt-ltb, le-ltb, eq-eqb}
 use Rattle.runs.specs.Row.{Row, low, after, tally, times}
-use Rattle.runs.specs.Net.{Net, rails, RiseList, RiseEnd}
-use Rattle.runs.specs.Promise.{Rest, Promise}
+use Rattle.runs.specs.Net.{Net, RiseList, RiseEnd}
+use Rattle.runs.specs.Promise.{Rest}
 use Rattle.runs.proofs.Test.{clash, eqb-eq}
 use Rattle.netlist.specs.declared.File.the-variants as file
 use Rattle.netlist.specs.Reading.{Places, Ascending, Reading, refused, readable, readFile}
 use Rattle.netlist.specs.Content.{Stage}
 use Rattle.verdict.specs.declared.Verdict.{Verdict}
 use Rattle.verdict.specs.declared.WordOrder.{WordOrder}
-use Rattle.verdict.specs.Levels.{Bits, sum}
-use Rattle.verdict.specs.Rows.{high, settled, settledLevels}
+use Rattle.verdict.specs.Levels.{sum}
+use Rattle.verdict.specs.Rows.{settled, settledLevels}
 use Rattle.verdict.specs.Words as words
 use Rattle.verdict.specs.Words.{railsIn}
 use Rattle.verdict.specs.Nets as nets
@@ -36,12 +36,12 @@ use Rattle.check_spec.specs.Words.{railsFor, spelled, names, IsWord}
 use Rattle.check_spec.specs.Checks.{rest}
 use Rattle.check_spec.specs.Verdicts.{refusal, reading, verdictOn}
 use Rattle.check_spec.specs.Demands.{Pass, LoopFree, answerTo, Kept}
-use Rattle.check_spec.proofs.View.{stageView}
+use Rattle.check_spec.specs.Loaded.{stageView}
 use Rattle.check_spec.proofs.Alike.{spelled-alike, names-alike, rest-alike, levels-alike, word-in, in-word, care-rises}
-use Rattle.check_spec.proofs.Exactly.{accepted-passes}
-use Rattle.check_spec.proofs.Demanded.{demand-3}
+use Rattle.check_spec.proofs.Sound.{accepted-sound, sound-kept}
 use Rattle.report_spec.specs.High as code
 use Rattle.report_spec.specs.Report.{gatesHigh, reportOf, lines, reportOn, gateSwitchings, Cycle, switchings, EachWordOnce, Cycled, ReportMeans}
+use Rattle.report_spec.proofs.Cycles.{low-again}
 use Rattle.report_spec.proofs.Counting.{upTo, upTo-same, upTo-zero, upTo-split, upTo-levels, weigh, weigh-zero, sum-times, sum-same}
 
 -- ---- one list
@@ -145,7 +145,8 @@ module _ (f : Files) (free : LoopFree (netOf (stageIn f))) (w : ℕ) (kept : Kep
         );
     rises = rise-gates;
     falls = fall-gates;
-    back = λ p e. at-rest p e .falls (p .fall) (p .fall-legal) .end-low (p .fall-ended);
+    back = λ p e.
+        low-again N (railsFor (p .word)) (p .rise) (p .fall) (p .rise-legal) (p .fall-legal) (at-rest p e .falls (p .fall) (p .fall-legal) .end-low (p .fall-ended));
   }
 
 -- ---- all words
@@ -220,14 +221,13 @@ report-means order f = go (eqb (verdictOn order f .number) 0) refl
     go false e = let no : verdictOn order f ≡ accepted → ⊥ = λ a. clash (ap (λ (v : Verdict). eqb (v .number) 0) a) e in
         record { cycled = λ a. absurd (no a); half = λ a. absurd (no a) }
     go true e =
-        let k = demand-3 order f .kept (eqb-eq (verdictOn order f .number) 0 e) in
-        let p = accepted-passes order f (eqb-eq (verdictOn order f .number) 0 e) in
-        let free = p .2 .free in
-        let read = stage-read f (k .1 .0) in
+        let p = accepted-sound order f (eqb-eq (verdictOn order f .number) 0 e) .1 in
+        let free = p .free in
+        let read = stage-read f (p .read .0) in
         let care = care-rises (f .stageMost) (f .stage) (read .0) (read .1) in
         record {
-          cycled = λ a w h. cycled f free w (k .2 w h);
+          cycled = λ a w h. cycled f free w (sound-kept p w h);
           half = λ a cycles each.
-              half order (stageIn f) care (λ p h. let c = cycled f free (p .word) (k .2 (p .word) h) in omega (arith, c .rises p refl, c .falls p refl)) cycles each
+              half order (stageIn f) care (λ q h. let c = cycled f free (q .word) (sound-kept p (q .word) h) in omega (arith, c .rises q refl, c .falls q refl)) cycles each
               ∙ ap (λ (l : List ℕ). 2 * sum l) (map-map (gatesHigh (stageIn f)) (spelled order (stageIn f .inputs)) (names order (stageIn f)));
         }

@@ -1,2 +1,4 @@
 pub mod Counting
+pub mod Cycles
 pub mod Activity
+pub mod Cut

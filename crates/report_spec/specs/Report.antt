@@ -8,7 +8,6 @@ use lib.Dec.{eqb, ltb}
 use Rattle.gates.specs.Cell.{bit}
 use Rattle.runs.specs.Row.{low, after, tally, times}
 use Rattle.runs.specs.Net.{Net, rails, RiseList, RiseEnd, FallList, FallEnd}
-use Rattle.runs.specs.Pair.{AllLow}
 use Rattle.verdict.specs.declared.Verdict.{Verdict}
 use Rattle.verdict.specs.declared.WordOrder.{WordOrder}
 use Rattle.verdict.specs.Lists.{sum}
@@ -67,13 +66,13 @@ pub record EachWordOnce (s : Content) (list : List ℕ) : Type 0 where
   pub once : (w : ℕ) → IsWord s w → times w list ≡ 1
   pub none : (w : ℕ) → ¬ (IsWord s w) → times w list ≡ 0
 
--- Of a word: it has a cycle; the rise and the fall of each of its cycles switch as many gates as its line says; and at the end every input
--- and gate is low, so that another word can follow.
+-- Of a word: it has a cycle; the rise and the fall of each of its cycles switch as many gates as its line says; and it ends in the row in which
+-- every cycle starts, so that another can follow.
 pub record Cycled (s : Content) (w : ℕ) : Type 0 where
   pub some : (p : Cycle (netOf s)) × (p .word ≡ w)
   pub rises : (p : Cycle (netOf s)) → p .word ≡ w → gateSwitchings (netOf s) (p .rise) ≡ gatesHigh s w
   pub falls : (p : Cycle (netOf s)) → p .word ≡ w → gateSwitchings (netOf s) (p .fall) ≡ gatesHigh s w
-  pub back : (p : Cycle (netOf s)) → p .word ≡ w → AllLow (netOf s) (after (after low (p .rise)) (p .fall))
+  pub back : (p : Cycle (netOf s)) → p .word ≡ w → after (after low (p .rise)) (p .fall) ≡ low
 
 -- What the report of two files means, beside that it is as defined; of an accepted pair: "it is also half of all gate switchings when each word
 -- rises and falls once, in any order", of the words and of the switchings in each.

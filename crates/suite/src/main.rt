@@ -3,49 +3,92 @@
 // file has its end. The cases, and the lines that an independent judge gives them, are written by tests/src/bin/suite.rs.
 mod packed;
 
+use join_spec::JoinAnswer;
 use libc::STDOUT_FILENO;
+use verdict::Answer;
 use verdict::Verdict;
 use verdict::WordOrder;
+ghost use Prim.Native.Nat.{_≤_};
+ghost use lib.ListN.{length};
 
-// The operands of each call are its arguments, in their order: files and the buffers that are lent.
-fn check(order: WordOrder, file: i32) {
+// Writes a line that stands at the start of a buffer.
+fn print_line(line: &[u8], n: usize)
+    requires { ⌜ n ≤ length (now line) ⌝ }
+{
+    io::write_all(STDOUT_FILENO, &line[..n]);
+}
+
+// What follows reads the operands of a call, makes it and prints the line of case i. The operands are its arguments, in their order: files and
+// the buffers that are lent, each of at most 8,192 bytes; the line has room for so many.
+
+fn check(i: usize, order: WordOrder, file: i32) {
     let mut stage = [0u8; 8192];
     let s = packed::next_operand(file, &mut stage);
     let mut reference = [0u8; 8192];
     let r = packed::next_operand(file, &mut reference);
-    console::print_verdict(fovaheju::check(order, &stage[..s], &reference[..r]));
+    let verdict = fovaheju::check(order, &stage[..s], &reference[..r]);
+    let mut line = [0u8; 88];
+    let n = write_cases::put_verdict(&mut line, i, verdict);
+    print_line(&line, n);
 }
 
-// Each word w with n gates high at its rest is w:n.
-fn report(order: WordOrder, file: i32) {
+fn report(i: usize, order: WordOrder, file: i32) {
     let mut stage = [0u8; 8192];
     let s = packed::next_operand(file, &mut stage);
     let mut reference = [0u8; 8192];
     let r = packed::next_operand(file, &mut reference);
     let report = fovaheju::report(order, &stage[..s], &reference[..r]);
-    console::print_report(report, b":", b" ");
+    let mut line = [0u8; 12376];
+    let n = write_cases::put_report(&mut line, i, report);
+    print_line(&line, n);
 }
 
-// A colon and the bytes of a buffer after a call.
-fn print_buffer(bytes: &[u8]) {
-    io::write_all(STDOUT_FILENO, b":");
-    console::print_bytes(bytes);
+// A row after the call. One that is longer than an operand has no line.
+fn print_row(i: usize, verdict: Verdict, row: &[u8]) {
+    if 8192 < row.len() {
+        return;
+    }
+    let mut line = [0u8; 32857];
+    let n = write_cases::put_row(&mut line, i, verdict, row);
+    print_line(&line, n);
 }
 
-fn settle(stage: &[u8], row: &mut [u8]) {
-    console::print_verdict(fovaheju::settled_row(stage, row));
-    print_buffer(row);
+fn settle(i: usize, stage: &[u8], row: &mut [u8]) {
+    let verdict = fovaheju::settled_row(stage, row);
+    print_row(i, verdict, row);
 }
 
-fn settled_row(file: i32) {
+fn settled_row(i: usize, file: i32) {
     let mut stage = [0u8; 8192];
     let s = packed::next_operand(file, &mut stage);
     let mut row = [0u8; 8192];
     let n = packed::next_operand(file, &mut row);
-    settle(&stage[..s], &mut row[..n]);
+    settle(i, &stage[..s], &mut row[..n]);
+}
+
+// The answer of a join, and the two buffers after it.
+fn print_joined(i: usize, answer: JoinAnswer, stage: &[u8], reference: &[u8]) {
+    if 8192 < stage.len() {
+        return;
+    }
+    if 8192 < reference.len() {
+        return;
+    }
+    let mut line = [0u8; 65668];
+    let n = write_cases::put_joined(
+        &mut line,
+        i,
+        answer.verdict,
+        answer.stage_count,
+        answer.reference_count,
+        stage,
+        reference,
+    );
+    print_line(&line, n);
 }
 
 fn join_parts(
+    i: usize,
     order: WordOrder,
     stage1: &[u8],
     reference1: &[u8],
@@ -63,14 +106,10 @@ fn join_parts(
         stage,
         reference,
     );
-    console::print_verdict(answer.verdict);
-    console::print_next(answer.stage_count);
-    console::print_next(answer.reference_count);
-    print_buffer(stage);
-    print_buffer(reference);
+    print_joined(i, answer, stage, reference);
 }
 
-fn join(order: WordOrder, file: i32) {
+fn join(i: usize, order: WordOrder, file: i32) {
     let mut stage1 = [0u8; 8192];
     let a = packed::next_operand(file, &mut stage1);
     let mut reference1 = [0u8; 8192];
@@ -84,6 +123,7 @@ fn join(order: WordOrder, file: i32) {
     let mut reference = [0u8; 8192];
     let f = packed::next_operand(file, &mut reference);
     join_parts(
+        i,
         order,
         &stage1[..a],
         &reference1[..b],
@@ -95,72 +135,67 @@ fn join(order: WordOrder, file: i32) {
 }
 
 // The answer of a call that writes one file or text, and the buffer after it.
-fn print_written(verdict: Verdict, count: u64, buffer: &[u8]) {
-    console::print_verdict(verdict);
-    console::print_next(count);
-    print_buffer(buffer);
+fn print_written(i: usize, answer: Answer, buffer: &[u8]) {
+    if 8192 < buffer.len() {
+        return;
+    }
+    let mut line = [0u8; 32878];
+    let n = write_cases::put_written(&mut line, i, answer.verdict, answer.count, buffer);
+    print_line(&line, n);
 }
 
-fn make(reference: &[u8], stage: &mut [u8]) {
+fn make(i: usize, reference: &[u8], stage: &mut [u8]) {
     let answer = fovaheju::make_stage(reference, stage);
-    print_written(answer.verdict, answer.count, stage);
+    print_written(i, answer, stage);
 }
 
-fn make_stage(file: i32) {
+fn make_stage(i: usize, file: i32) {
     let mut reference = [0u8; 8192];
     let r = packed::next_operand(file, &mut reference);
     let mut stage = [0u8; 8192];
     let s = packed::next_operand(file, &mut stage);
-    make(&reference[..r], &mut stage[..s]);
+    make(i, &reference[..r], &mut stage[..s]);
 }
 
-fn read_into(text: &[u8], stage: &mut [u8]) {
+fn read_into(i: usize, text: &[u8], stage: &mut [u8]) {
     let answer = fovaheju::read_text(text, stage);
-    print_written(answer.verdict, answer.count, stage);
+    print_written(i, answer, stage);
 }
 
-fn read_text(file: i32) {
+fn read_text(i: usize, file: i32) {
     let mut text = [0u8; 8192];
     let t = packed::next_operand(file, &mut text);
     let mut stage = [0u8; 8192];
     let s = packed::next_operand(file, &mut stage);
-    read_into(&text[..t], &mut stage[..s]);
+    read_into(i, &text[..t], &mut stage[..s]);
 }
 
-fn write_into(stage: &[u8], text: &mut [u8]) {
+fn write_into(i: usize, stage: &[u8], text: &mut [u8]) {
     let answer = fovaheju::write_text(stage, text);
-    print_written(answer.verdict, answer.count, text);
+    print_written(i, answer, text);
 }
 
-fn write_text(file: i32) {
+fn write_text(i: usize, file: i32) {
     let mut stage = [0u8; 8192];
     let s = packed::next_operand(file, &mut stage);
     let mut text = [0u8; 8192];
     let t = packed::next_operand(file, &mut text);
-    write_into(&stage[..s], &mut text[..t]);
+    write_into(i, &stage[..s], &mut text[..t]);
 }
 
-// Makes a call on the operands that come next in a file, and prints its answer. Answers whether there is such a call.
-fn run_call(call: u8, order: WordOrder, file: i32) -> bool {
+// Makes call `call` on the operands that come next in a file, and prints the line of case i. Answers whether there is such a call.
+fn run_call(call: u8, i: usize, order: WordOrder, file: i32) -> bool {
     match call {
-        1 => check(order, file),
-        2 => report(order, file),
-        3 => settled_row(file),
-        4 => join(order, file),
-        5 => make_stage(file),
-        6 => read_text(file),
-        7 => write_text(file),
+        1 => check(i, order, file),
+        2 => report(i, order, file),
+        3 => settled_row(i, file),
+        4 => join(i, order, file),
+        5 => make_stage(i, file),
+        6 => read_text(i, file),
+        7 => write_text(i, file),
         _ => return false,
     }
     true
-}
-
-// The number of a case in three digits, and a space.
-fn print_number(i: usize) {
-    let hundreds = b'0' + (i / 100 % 10) as u8;
-    let tens = b'0' + (i / 10 % 10) as u8;
-    let ones = b'0' + (i % 10) as u8;
-    io::write_all(STDOUT_FILENO, &[hundreds, tens, ones, b' ']);
 }
 
 // The line of the next case of a file, whose number is i, or that of the end. Answers whether another case may follow.
@@ -170,10 +205,7 @@ fn run_case(i: usize, order: WordOrder, file: i32) -> bool {
         io::write_all(STDOUT_FILENO, b"end\n");
         return false;
     }
-    print_number(i);
-    let known = run_call(call, order, file);
-    io::write_all(STDOUT_FILENO, b"\n");
-    known
+    run_call(call, i, order, file)
 }
 
 // A file has at most 1,000 cases, so that three digits number them.

@@ -7,7 +7,7 @@ use mathlib.Core.Path.{_≡_, refl, sym, ap, _∙_}
 use mathlib.Core.List.{List, [], _∷_, _++_, append-assoc, append-nil}
 use lib.ListN.{length, drop, length-append}
 use Rattle.write_command.proofs.Joining.{Left, left-all, left-put, left-room, left-none}
-use Rattle.write_decimal.specs.Decimal.{PutNext}
+use Rattle.write_decimal.specs.Put.{PutNext}
 use Rattle.circuit.specs.Stage.{tabulate}
 use Rattle.text_spec.specs.Characters.{comma}
 use Rattle.circuit.proofs.Tabulate.{from-at, none-from}

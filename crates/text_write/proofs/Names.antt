@@ -23,8 +23,8 @@ use Rattle.text_spec.specs.ToText.{numbered, x, y, g, gateName, netName, straig
 use Rattle.text_spec.proofs.Facts.{both}
 use Rattle.text_spec.proofs.KindNames.{every-range}
 use Rattle.text_lines.specs.Names.{NameTable}
-use Rattle.write_decimal.specs.Decimal.{decimal}
-use Rattle.write_decimal.proofs.Decimal.{decimal-three}
+use Rattle.print_spec.specs.Decimal.{decimal}
+use Rattle.write_decimal.proofs.Decimal.{decimal-small}
 use Rattle.text_write.specs.Parts.{railIn, FirstOn, inputNames, outputNamesIn, pinNames, gateLine, gateLines}
 use Rattle.text_write.proofs.Loops.{partsFrom}
 use Rattle.text_write.proofs.Lists.{range-are, outputs-are, gates-are, pins-are, join-parts, ended-parts}
@@ -195,7 +195,7 @@ module _ (cell : ℕ) (low : 1 ≤ cell) (high : cell ≤ 27) where
 
 pub numbered-parts : (letter i : ℕ) → i < 1000 → numbered letter i ≡ (letter ∷ []) ++ decimal i
 unfolding numbered
-numbered-parts letter i l = ap (λ (d : List ℕ). letter ∷ d) (sym (decimal-three i l))
+numbered-parts letter i l = ap (λ (d : List ℕ). letter ∷ d) (sym (decimal-small 2 i l (omega arith)))
 
 -- ---- the table of names
 

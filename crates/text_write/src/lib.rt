@@ -12,7 +12,7 @@ ghost use Rattle.circuit.specs.Stage.{netCount, outputIn, stageOutputs, stageIn
 ghost use Rattle.text_spec.specs.Characters as characters;
 ghost use Rattle.text_spec.specs.ToText as text;
 ghost use Rattle.text_lines.specs.Names.{NameTable};
-ghost use Rattle.write_decimal.specs.Decimal.{PutNext};
+ghost use Rattle.write_decimal.specs.Put.{PutNext};
 ghost use Rattle.text_write.specs.Parts.{FirstOn, railIn, kindIn, inputNames, outputNamesIn, pinNames, gateLine, gateLines};
 ghost use Rattle.text_write.specs.Second.{namesNet, given, second};
 

@@ -6,26 +6,25 @@ use native.Mathlib.Omega.{arith}
 use native.Mathlib.Decide.{ℕ-discrete}
 use mathlib.Core.Path.{_≡_, refl, sym, ap, ap₂, _∙_, subst}
 use mathlib.Core.Bool.{Bool, true, false, not, _&&_}
-use mathlib.Core.Logic.{_⊎_, inl, inr}
+use mathlib.Core.Logic.{inl, inr}
 use mathlib.Core.List.{List, [], _∷_, _++_, map}
-use lib.ListN.{length, getD, set, length-append, length-map, length-set, List·getD-append, List·getD-eq-default}
+use lib.ListN.{length, getD, set, length-append, length-map, List·getD-append, List·getD-eq-default}
 use lib.Seq.{getD-append-add, getD-set-same, getD-set-other}
 use lib.Dec.{eqb, ltb}
-use borrow.Author.Tests.{lt-ltb, eq-eqb, ne-eqb, eqb-true, eqb-false}
+use borrow.Author.Tests.{lt-ltb, eq-eqb, ne-eqb, eqb-false}
 use Rattle.gates.specs.Expression.{holds}
 use Rattle.gates.specs.Cell.{setExpression, bit}
 use Rattle.gates.proofs.Expressions.{holds-mono, holds-low}
 use Rattle.runs.specs.Row as run
 use Rattle.runs.specs.Row.{Row, _∖_}
 use Rattle.runs.specs.Theory.{_⊑_}
-use Rattle.runs.specs.Net.{Net, rails, nets, IsGate, allLow, railsOfInputs, inputRail}
+use Rattle.runs.specs.Net.{IsGate, allLow, railsOfInputs}
 use Rattle.runs.specs.Settled as runs
 use Rattle.runs.specs.Pair as pair
 use Rattle.runs.specs.Acyclic.{Acyclic, AllPins}
 use Rattle.runs.proofs.Rise.{settled-by, held-by, settled-cong}
-use Rattle.netlist.specs.Content.{Gate, Pair, Stage, Reference}
-use Rattle.verdict.specs.Rows.{high, withNull, isSet, settledLevels, levelsHolding, settled, settledHolding, DualRail, null, data0, data1, both, dualRail, pairIn, isData, isNull, spells}
-use Rattle.verdict.specs.Levels.{LevelsSettled, LevelsHeld}
+use Rattle.netlist.specs.Content.{Gate, Pair, Stage}
+use Rattle.verdict.specs.Rows.{high, withNull, isSet, settledLevels, levelsHolding, settled, settledHolding, dualRail, pairIn, isData, isNull, spells}
 use Rattle.verdict.specs.Loops.{In, pinsAt, LoopFree}
 use Rattle.verdict.specs.Nets.{noGate, driver, setIn, railOf, netOf, rowOf}
 use Rattle.verdict.proofs.Levels.{bits-length}
@@ -179,15 +178,6 @@ module _ (row : List ℕ) (p : Pair) where
       go false true e = refl
       go false false e = absurd (clash e refl)
 
-  pub data-out : pair.Data (rowOf row) (railOf p) → isData (pairIn row p) ≡ true
-  data-out e = go (high row (p .rail0)) (high row (p .rail1)) e
-    where
-      go : (a b : Bool) → a ≡ not b → isData (dualRail a b) ≡ true
-      go true true e = absurd (clash refl e)
-      go true false e = refl
-      go false true e = refl
-      go false false e = absurd (clash e refl)
-
   pub null-in : isNull (pairIn row p) ≡ true → pair.Null (rowOf row) (railOf p)
   null-in e = go (high row (p .rail0)) (high row (p .rail1)) e
     where
@@ -197,19 +187,7 @@ module _ (row : List ℕ) (p : Pair) where
       go false true e = absurd (clash e refl)
       go false false e = (refl, refl)
 
-  pub null-out : pair.Null (rowOf row) (railOf p) → isNull (pairIn row p) ≡ true
-  null-out h = rw (h .0, h .1)
-
-  -- the pair spells a bit exactly if it is that bit's DATA
-  pub spells-in : (value : ℕ) → spells (pairIn row p) value ≡ true → pair.DataOf (rowOf row) (railOf p) (eqb value 1)
-  spells-in value e = go (high row (p .rail0)) refl (high row (p .rail1)) refl e
-    where
-      go : (a : Bool) → high row (p .rail0) ≡ a → (b : Bool) → high row (p .rail1) ≡ b → spells (dualRail a b) value ≡ true → pair.DataOf (rowOf row) (railOf p) (eqb value 1)
-      go true x true y e = absurd (clash e refl)
-      go true x false y e = rw (ne-eqb value 1 (λ f. omega (arith, eqb-true value 0 e))) (x, y)
-      go false x true y e = rw (e) (y, x)
-      go false x false y e = absurd (clash e refl)
-
+  -- the pair of a bit's DATA spells it
   pub spells-out : (value : ℕ) → value ≤ 1 → pair.DataOf (rowOf row) (railOf p) (eqb value 1) → spells (pairIn row p) value ≡ true
   spells-out value h d = go (eqb value 1) refl d
     where

@@ -1,30 +1,29 @@
 -- The computed rows of the way back to NULL are settled by the fall rule as the paper words it.
 -- Assumes nothing.
-use Prim.Native.Nat.{ℕ, zero, suc, _+_, _-_, _*_, _/_, _≤_, _<_}
+use Prim.Native.Nat.{ℕ, _+_, _-_, _*_, _/_, _<_}
 use native.Mathlib.Omega.{arith}
-use mathlib.Core.Path.{_≡_, refl, sym, ap, ap₂, _∙_, subst}
+use mathlib.Core.Path.{_≡_, refl, sym, ap, ap₂, _∙_}
 use mathlib.Core.Bool.{Bool, true, false, cond, not, _&&_, _||_}
 use mathlib.Core.Logic.{inl, inr}
-use mathlib.Core.List.{List, [], _∷_, _++_, map}
+use mathlib.Core.List.{List, [], _∷_, _++_}
 use lib.ListN.{length, getD}
-use lib.Dec.{eqb, ltb}
-use borrow.Author.Tests.{ltb-true, lt-ltb, eq-eqb, ne-eqb}
+use lib.Dec.{ltb}
 use Rattle.gates.specs.Expression.{holds}
 use Rattle.gates.specs.Cell.{setExpression, bit}
 use Rattle.gates.proofs.Expressions.{holds-mono}
-use Rattle.runs.specs.Row.{Row, only}
-use Rattle.runs.specs.Net.{IsGate, allLow, mayFall, railsOfInputs}
+use Rattle.runs.specs.Row.{Row}
+use Rattle.runs.specs.Net.{IsGate, allLow, mayFall}
 use Rattle.runs.specs.Settled.{SettledKept}
-use Rattle.runs.proofs.Test.{clash, or-mono, and-in, and-left, and-right}
+use Rattle.runs.proofs.Test.{or-mono, and-in, and-left, and-right}
 use Rattle.runs.proofs.Fall.{kept-by}
 use Rattle.netlist.specs.Content.{Gate, Stage}
-use Rattle.verdict.specs.Rows.{high, withNull, pinHigh, rounds, settledLevels, settled}
+use Rattle.verdict.specs.Rows.{high, withNull, pinHigh, settledLevels}
 use Rattle.verdict.specs.Levels.{Bits, Below}
 use Rattle.verdict.specs.Graph.{anyHigh, tabulate}
 use Rattle.verdict.specs.Loops.{In, LoopFree}
 use Rattle.verdict.specs.Words.{railsIn}
 use Rattle.verdict.specs.Nets.{noGate, driver, setIn, netOf, rowOf, restRow}
-use Rattle.verdict.specs.Falls.{stays, levelFalling, fallenLevels, fallen, fallenBut, fallenKeeping}
+use Rattle.verdict.specs.Falls.{stays, levelFalling, fallenLevels, fallen}
 use Rattle.verdict.proofs.Levels.{below-refl, below-++, below-get, high-mono, bits-length}
 use Rattle.verdict.proofs.Rounds.{rounds-bits, rounds-fixed}
 use Rattle.verdict.proofs.Graph.{anyHigh-in, anyHigh-out, getD-tabulate, bits-tabulate, below-tabulate}

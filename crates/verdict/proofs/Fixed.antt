@@ -10,7 +10,7 @@ use lib.Seq.{getD-append-add, ext-getD}
 use lib.Dec.{ltb}
 use Rattle.netlist.specs.Content.{Gate}
 use Rattle.verdict.specs.Rows.{high}
-use Rattle.verdict.specs.Loops.{In, pinsAt, Feeds, LoopFree}
+use Rattle.verdict.specs.Loops.{In, pinsAt, LoopFree}
 use Rattle.verdict.proofs.Reaching.{rankOf, rank-pin}
 
 -- the level that gate k is to have in a row depends on its pins alone

@@ -82,11 +82,6 @@ module _ (next : ℕ → List ℕ) where
   leads-trans y z here q = q
   leads-trans y z (onward i p) q = onward i (leads-trans y z p q)
 
--- steps of one sort are steps of another
-pub leads-more : (next next′ : ℕ → List ℕ) → ((u v : ℕ) → In v (next u) → In v (next′ u)) → {x : ℕ} (y : ℕ) → Leads next y x → Leads next′ y x
-leads-more next next′ h y here = here
-leads-more next next′ h y (onward {x = x} {z = z} i p) = onward (h x z i) (leads-more next next′ h y p)
-
 -- ---- the test
 
 module _ (next : ℕ → List ℕ) (goal : ℕ → Bool) (size : ℕ) where

@@ -4,7 +4,7 @@ use Prim.Native.Nat.{ℕ, zero, suc, _+_, _-_, _*_, _/_, _%_, _^_, _≤_, _<_}
 use native.Mathlib.Omega.{arith}
 use native.Mathlib.Decide.{ℕ-discrete, decLt}
 use mathlib.Core.Path.{_≡_, refl, sym, ap, ap₂, _∙_, subst}
-use mathlib.Core.Bool.{Bool, true, false, cond, _||_}
+use mathlib.Core.Bool.{Bool, true, false, cond}
 use mathlib.Core.Logic.{_⊎_, inl, inr, ⊎-elim, _≢_}
 use mathlib.Core.List.{List, [], _∷_, _++_, map, reverse, reverseAux, reverseAux-eq, reverse-reverse}
 use lib.ListN.{length, getD, length-reverse}
@@ -18,9 +18,8 @@ use Rattle.netlist.specs.Reading.{Ascending}
 use Rattle.verdict.specs.declared.WordOrder.{WordOrder}
 use Rattle.verdict.specs.declared.WordOrder.the-variants.{FirstHighest, FirstLowest}
 use Rattle.verdict.specs.Loops.{In}
-use Rattle.verdict.specs.Demands.{FirstOf}
 use Rattle.verdict.specs.Words.{numbers, words, IsWord, bitsOf, wordOf, spelled, isIn, select, names}
-use Rattle.verdict.proofs.Words.{bits-of-length, bits-of-bit, in-index, index-in, numbers-in, rising-in, first-rising, numbers-rise, words-rise, word-below}
+use Rattle.verdict.proofs.Words.{bits-of-length, bits-of-bit, index-in, numbers-in, rising-in, less-before, numbers-rise, words-rise, word-below}
 
 -- ---- the word that some bits spell
 
@@ -88,11 +87,6 @@ unfolding spelled
 bit-highest n name i h =
     let long = bits-of-length n name in
     rw (turned-bits n name) (aux-at (bitsOf n name) [] i (omega (arith, long)) ∙ ap (λ (m : ℕ). getD (bitsOf n name) (m - 1 - i) 0) long)
-
--- In the old order it is bit i.
-pub bit-lowest : (n name i : ℕ) → getD (bitsOf n (spelled FirstLowest n name)) i 0 ≡ getD (bitsOf n name) i 0
-unfolding spelled
-bit-lowest n name i = refl
 
 -- ---- membership
 
@@ -194,9 +188,8 @@ module _ (order : WordOrder) (s : Stage) where
   unfolding names
   names-rise = select-rises cared (2 ^ s .inputs) 0 (numbers 0 (2 ^ s .inputs)) (let e : 0 + 2 ^ s .inputs ≡ 2 ^ s .inputs = omega arith in rw e at (numbers-rise 0 (2 ^ s .inputs)))
 
-  -- so the first that is named is the least: no word with a lesser name is so
-  pub first-name-least : (P : ℕ → Type 0) (name : ℕ) → FirstOf P (names order s) name → (other : ℕ) → In other (names order s) → other < name → ¬ (P other)
-  first-name-least P name = first-rising (2 ^ s .inputs) P 0 (names order s) name names-rise
+  pub less-named-before : (before later : List ℕ) (name : ℕ) → names order s ≡ before ++ (name ∷ later) → (other : ℕ) → In other (names order s) → other < name → In other before
+  less-named-before before later name = less-before (2 ^ s .inputs) 0 (names order s) before later name names-rise
 
   -- each word of a stage whose care words rise has a name
   pub word-name : Ascending (2 ^ s .inputs) 0 (s .care) → (w : ℕ) → IsWord s w
@@ -209,17 +202,6 @@ module _ (order : WordOrder) (s : Stage) where
             (in-isIn (spelled order (s .inputs) (spelled order (s .inputs) w)) (words s) (subst (λ (x : ℕ). In x (words s)) (sym e) i)),
         e,
       )
-
-  -- what stands in a word under its name
-  abbrev pub Under : (ℕ → Type 0) → Type 0
-  Under P = (name : ℕ) → In name (names order s) → P (spelled order (s .inputs) name)
-
-  -- what holds under every name holds in every word, and the other way round
-  pub in-words : (P : ℕ → Type 0) → Ascending (2 ^ s .inputs) 0 (s .care) → Under P → (w : ℕ) → IsWord s w → P w
-  in-words P care u w h = let n = word-name care w h in subst P (n .1) (u (spelled order (s .inputs) w) (n .0))
-
-  pub by-names : (P : ℕ → Type 0) → ((w : ℕ) → IsWord s w → P w) → Under P
-  by-names P h name i = h (spelled order (s .inputs) name) (name-spells name i)
 
 -- ---- each word once
 

@@ -1,13 +1,12 @@
 -- The rails of an input word: how many there are, that each input is DATA, and what taking inputs away leaves; that answers are bits; and which numbers are words.
 -- Assumes nothing.
-use Prim.Native.Nat.{ℕ, zero, suc, _+_, _-_, _*_, _/_, _%_, _^_, _≤_, _<_, min, max}
+use Prim.Native.Nat.{ℕ, zero, suc, _+_, _-_, _*_, _/_, _%_, _^_, _≤_, _<_}
 use native.Mathlib.Omega.{arith}
 use mathlib.Core.Path.{_≡_, refl, sym, ap, subst, _∙_}
 use mathlib.Core.Bool.{Bool, true, false, cond, not, _&&_}
-use mathlib.Core.Logic.{_⊎_, inl, inr}
-use mathlib.Core.List.{List, [], _∷_, _++_, map}
-use lib.ListN.{length, getD, length-append, List·getD-append}
-use lib.Seq.{getD-append-add}
+use mathlib.Core.Logic.{inl, inr}
+use mathlib.Core.List.{List, [], _∷_, _++_}
+use lib.ListN.{length, getD}
 use lib.Dec.{ltb}
 use native.Mathlib.Decide.{decLt, ℕ-discrete}
 use borrow.Author.Tests.{lt-ltb, le-ltb}
@@ -18,7 +17,6 @@ use Rattle.verdict.specs.Loops.{In}
 use Rattle.netlist.specs.Reading.{Ascending}
 use Rattle.verdict.specs.Words.{numbers, caredFor, words, IsWord, bitsOf, railsOf}
 use Rattle.verdict.specs.Answers.{operate, valuesAt, signalValues, answer}
-use Rattle.verdict.specs.Demands.{FirstOf}
 
 -- ---- rails
 
@@ -147,10 +145,6 @@ index-in m k h = in-numbers 0 m k (omega arith) (omega arith)
 pub in-index : (m k : ℕ) → In k (numbers 0 m) → k < m
 in-index m k h = omega (arith, numbers-in 0 m k h .1)
 
-pub in-middle : (before later : List ℕ) (x : ℕ) → In x (before ++ (x ∷ later))
-in-middle [] later x = inl refl
-in-middle (b ∷ before) later x = inr (in-middle before later x)
-
 -- ---- rising lists: in them each stands once, and what is less stands before
 
 module _ (below : ℕ) where
@@ -159,17 +153,13 @@ module _ (below : ℕ) where
   rising-in floor (w ∷ ws) h v (inl e) = omega (arith, h .0, h .1)
   rising-in floor (w ∷ ws) h v (inr i) = omega (arith, h .0, rising-in (w + 1) ws (h .2) v i)
 
-  -- the first of which something holds is the least
-  less-before : (floor : ℕ) (ws before later : List ℕ) (x : ℕ) → Ascending below floor ws → ws ≡ before ++ (x ∷ later) → (y : ℕ) → In y ws → y < x → In y before
+  pub less-before : (floor : ℕ) (ws before later : List ℕ) (x : ℕ) → Ascending below floor ws → ws ≡ before ++ (x ∷ later) → (y : ℕ) → In y ws → y < x → In y before
   less-before floor [] [] later x h e y i l = absurd i
   less-before floor [] (b ∷ before) later x h e y i l = absurd i
   less-before floor (w ∷ ws) [] later x h e y (inl q) l = absurd (let z : w ≡ x = cc in omega arith)
   less-before floor (w ∷ ws) [] later x h e y (inr i) l = absurd (let z : w ≡ x = cc in omega (arith, rising-in (w + 1) ws (h .2) y i))
   less-before floor (w ∷ ws) (b ∷ before) later x h e y (inl q) l = inl (q ∙ (let z : w ≡ b = cc in z))
   less-before floor (w ∷ ws) (b ∷ before) later x h e y (inr i) l = inr (less-before (w + 1) ws before later x (h .2) (let z : ws ≡ before ++ (x ∷ later) = cc in z) y i l)
-
-  pub first-rising : (P : ℕ → Type 0) (floor : ℕ) (ws : List ℕ) (x : ℕ) → Ascending below floor ws → FirstOf P ws x → (y : ℕ) → In y ws → y < x → ¬ (P y)
-  first-rising P floor ws x h f y i l = f .none y (less-before floor ws (f .before) (f .later) x h (f .stands) y i l)
 
 pub numbers-rise : (j m : ℕ) → Ascending (j + m) j (numbers j m)
 unfolding numbers
@@ -178,11 +168,6 @@ numbers-rise j (suc m) =
     let e : suc j + m ≡ j + suc m = omega arith in
     let one : suc j ≡ j + 1 = omega arith in
     (omega arith, omega arith, subst (λ (i : ℕ). Ascending (j + suc m) i (numbers (suc j) m)) one (rw e at (numbers-rise (suc j) m)))
-
-pub first-least : (P : ℕ → Type 0) (m x : ℕ) → FirstOf P (numbers 0 m) x → (y : ℕ) → y < x → ¬ (P y)
-first-least P m x f y h =
-    let x-in = in-index m x (subst (In x) (sym (f .stands)) (in-middle (f .before) (f .later) x)) in
-    first-rising (0 + m) P 0 (numbers 0 m) x (numbers-rise 0 m) f y (index-in m y (omega arith)) h
 
 -- ---- the words of a stage whose care words rise, as those of a readable file do
 

@@ -1,5 +1,5 @@
 -- The reference's answer to an input word.
-use Prim.Native.Nat.{ℕ, _+_, _-_, _*_, _%_, min, max}
+use Prim.Native.Nat.{ℕ, _+_, _-_, _%_, min, max}
 use mathlib.Core.List.{List, [], _∷_, _++_, map}
 use lib.ListN.{getD}
 use Rattle.netlist.specs.Content.{Coded, Reference}

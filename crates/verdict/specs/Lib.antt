@@ -12,5 +12,4 @@ pub mod Falls
 pub mod Checks
 pub mod Search
 pub mod Verdicts
-pub mod Demands
 pub mod Written

@@ -1,41 +1,21 @@
--- The verdict on two files, and the settled-row call.
+-- The verdict of what the checks find, and the settled-row call.
 use Prim.Native.Nat.{ℕ, _*_}
 use mathlib.Core.List.{List}
 use lib.ListN.{take}
 use Rattle.netlist.specs.declared.File.the-variants as file
 use Rattle.netlist.specs.declared.Limits.{Limits}
-use Rattle.netlist.specs.Reading.{Reading, refused, readable, readFile, stageLimits, referenceLimits}
-use Rattle.netlist.specs.Content.{Stage, Reference, stageOf, referenceOf}
+use Rattle.netlist.specs.Reading.{Reading, refused, readable, readFile, stageLimits}
+use Rattle.netlist.specs.Content.{Stage, stageOf}
 use Rattle.verdict.specs.declared.Verdict.{Verdict}
 pub use Rattle.verdict.specs.FourNumbers.{accepted}
-use Rattle.verdict.specs.declared.WordOrder.{WordOrder}
 use Rattle.verdict.specs.declared.Finding.{Finding}
 use Rattle.verdict.specs.declared.Finding.the-variants.{Fault, Passed}
 use Rattle.verdict.specs.Rows.{settled}
-use Rattle.verdict.specs.Checks.{verdict, firstFault, checks, rowChecks}
+use Rattle.verdict.specs.Checks.{verdict, firstFault, rowChecks}
 
 unfoldable pub verdictOf : Finding → Verdict
 verdictOf (Fault v) = v
 verdictOf Passed = accepted
-
--- ---- the check of two files, with words named in an order
-
--- the reference is read after the stage, then the checks follow
-unfoldable pub judgeReference : WordOrder → Stage → List ℕ → Reading → Verdict
-judgeReference order s bytes (refused number at) = verdict number 2 at 0
-judgeReference order s bytes (readable places) = verdictOf (firstFault (checks order s (referenceOf bytes places)))
-
-unfoldable pub judgeStage : WordOrder → Limits → List ℕ → List ℕ → Reading → Verdict
-judgeStage order referenceMost bytes reference (refused number at) = verdict number 1 at 0
-judgeStage order referenceMost bytes reference (readable places) =
-    judgeReference order (stageOf bytes places) reference (readFile file.Reference referenceMost reference)
-
-unfoldable pub verdictWithin : WordOrder → Limits → Limits → List ℕ → List ℕ → Verdict
-verdictWithin order stageMost referenceMost stage reference = judgeStage order referenceMost stage reference (readFile file.Stage stageMost stage)
-
--- the verdict on a stage file and a reference file
-abbrev pub verdictOn : WordOrder → List ℕ → List ℕ → Verdict
-verdictOn order = verdictWithin order stageLimits referenceLimits
 
 -- ---- the settled-row call
 

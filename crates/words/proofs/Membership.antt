@@ -23,9 +23,9 @@ use Rattle.verdict.proofs.Names.{isIn-in, in-isIn}
 use Rattle.circuit.specs.Stage.{stageCare, stageIn}
 use Rattle.circuit.proofs.Tabulate.{length-tabulate, getD-tabulate}
 
--- within the limits all words can be counted
-pub few-words : (i : ℕ) → i ≤ stageLimits .inputs → 2 ^ i ≤ 2 ^ stageLimits .inputs
-few-words i h = pow-mono {i = i} {j = stageLimits .inputs} h
+-- there is a word, and within the limits all words can be counted
+pub few-words : (i : ℕ) → i ≤ stageLimits .inputs → (1 ≤ 2 ^ i) × (2 ^ i ≤ 2 ^ stageLimits .inputs)
+few-words i h = (pow-mono {i = 0} {j = i} (omega arith), pow-mono {i = i} {j = stageLimits .inputs} h)
 
 -- ---- without a care list
 

@@ -4,16 +4,16 @@ use netlist::Counts;
 use verdict::WordOrder;
 ghost use mathlib.Core.Path.{_≡_};
 ghost use mathlib.Core.List.{_++_};
-ghost use Prim.Native.Nat.{_^_, _≤_};
+ghost use Prim.Native.Nat.{_^_, _≤_, _<_};
 ghost use lib.ListN.{length, drop};
 ghost use Rattle.netlist.specs.Reading.{stageLimits};
 ghost use Rattle.verdict.specs.declared.WordOrder.the-variants.{FirstHighest};
 ghost use Rattle.verdict.specs.Words.{words, spelled, isIn, names, bitsOf, railsOf, railsIn};
 ghost use Rattle.verdict.specs.Rows.{settled};
-ghost use Rattle.circuit.specs.Stage.{stageIn, StageLoaded, stageGates};
+ghost use Rattle.circuit.specs.Stage.{stageCare, stageIn, StageLoaded, stageGates};
 ghost use Rattle.circuit.specs.Order.{InOrder};
 ghost use Rattle.circuit.specs.Rows.{RowFor, netsIn, railPart};
-ghost use Rattle.words.specs.Listed.{Listed};
+ghost use Rattle.words.specs.Listed.{Listed, NoneMarked, Marked};
 
 // ---- by name
 
@@ -67,17 +67,48 @@ pub fn is_word(code: &[u16], counts: Counts, w: usize) -> bool
     false
 }
 
+// Marks the care words of a stage, a byte for each word. A list that is empty marks none.
+fn mark_care(code: &[u16], counts: Counts, marks: &mut [u8])
+    requires { ⌜ StageLoaded counts (now code) × NoneMarked (now marks) ⌝ }
+    ensures { λ r. ⌜ Marked (stageCare counts (now (code .entry))) (now (marks .exit)) × (length (now (marks .exit)) ≡ length (now (marks .entry))) ⌝ }
+{
+    let count = counts.care;
+    let from = 8 * counts.gates + 2 * counts.outputs;
+    let mut k: usize = 0;
+    while k < count {
+        let w = code[from + k] as usize;
+        if w < marks.len() {
+            marks[w] = 1;
+        }
+        k += 1;
+    }
+}
+
+// Whether w is a word of a stage whose care words are marked.
+fn is_marked(code: &[u16], counts: Counts, marks: &[u8], w: usize) -> bool
+    requires { ⌜ StageLoaded counts (now code) × Marked (stageCare counts (now code)) (now marks) × (w < length (now marks)) ⌝ }
+    ensures { λ r. ⌜ r ≡ isIn w (words (stageIn counts (now (code .entry)))) ⌝ }
+{
+    if counts.care == 0 {
+        return w < 1 << counts.inputs;
+    }
+    0 < marks[w]
+}
+
 // Lists the names of a stage's words from the start of `list`, the least first, and answers how many they are.
 pub fn list_names(order: WordOrder, code: &[u16], counts: Counts, list: &mut [u16]) -> usize
     requires { ⌜ StageLoaded counts (now code) × (2 ^ stageLimits .inputs ≤ length (now list)) ⌝ }
     ensures { λ r. ⌜ Listed (names order (stageIn counts (now (code .entry)))) (now (list .entry)) r (now (list .exit)) ⌝ }
 {
     let inputs = counts.inputs;
+    let mut marks = [0u8; NAMES];
+    mark_care(code, counts, &mut marks);
     let all: usize = 1 << inputs;
     let mut count: usize = 0;
     let mut name: usize = 0;
     while name < all {
-        if is_word(code, counts, word_of(order, inputs, name)) {
+        let w = word_of(order, inputs, name);
+        if is_marked(code, counts, &marks, w) {
             list[count] = name as u16;
             count += 1;
         }

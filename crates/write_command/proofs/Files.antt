@@ -2,11 +2,9 @@
 -- Assumes nothing.
 use Prim.Native.Nat.{ℕ, zero, suc, _+_, _*_, _/_, _%_, _≤_, _<_}
 use native.Mathlib.Omega.{arith}
-use native.Mathlib.Numerals.{add-one}
 use mathlib.Core.Path.{_≡_, refl, sym, ap, _∙_}
 use mathlib.Core.List.{List, [], _∷_, _++_, map, append-assoc}
-use lib.ListN.{length, getD, drop, replicate, length-append}
-use lib.Seq.{drop-cons}
+use lib.ListN.{length, replicate, length-append}
 use Rattle.netlist.specs.declared.File.{File}
 use Rattle.netlist.specs.declared.File.the-variants as file
 use Rattle.netlist.specs.declared.Sort.the-variants as sort
@@ -38,21 +36,6 @@ items-++ f [] ys = refl
 items-++ f (x ∷ xs) ys = ap (λ (l : List ℕ). writeItem f x ++ l) (items-++ f xs ys) ∙ sym (append-assoc (writeItem f x) (writeItems f xs) (writeItems f ys))
 
 module _ {X : Type 0} (f : File) (item : X → Item) where
-  -- from the k-th on: the k-th, then those after it
-  pub bytes-next : (xs : List X) (k : ℕ) (d : X) → k < length xs → bytesOf f item (drop k xs) ≡ writeItem f (item (getD xs k d)) ++ bytesOf f item (drop (k + 1) xs)
-  unfolding bytesOf
-  bytes-next xs k d l = rw (add-one k, drop-cons xs k d l)
-
-  pub bytes-none : (xs : List X) (k : ℕ) → length xs ≤ k → bytesOf f item (drop k xs) ≡ []
-  unfolding bytesOf
-  bytes-none [] k l = go k
-    where
-      go : (k : ℕ) → bytesOf f item (drop k []) ≡ []
-      go zero = refl
-      go (suc k) = refl
-  bytes-none (x ∷ xs) zero l = absurd (omega arith)
-  bytes-none (x ∷ xs) (suc k) l = bytes-none xs k (omega arith)
-
   pub bytes-++ : (xs ys : List X) → bytesOf f item (xs ++ ys) ≡ bytesOf f item xs ++ bytesOf f item ys
   unfolding bytesOf
   bytes-++ [] ys = refl
@@ -94,57 +77,55 @@ reference-output-width vs = ap (λ (n : ℕ). suc n) (length-written 1 vs)
 -- ---- whole files
 
 -- inputs, care words, gates, outputs, end
-module _ (c : Stage) where
-  pub stage-parts : writeStage c ≡
-      (0x01 ∷ c .inputs ∷ []) ++ (bytesOf file.Stage care (c .care) ++ (bytesOf file.Stage gateItem (c .gates) ++ (bytesOf file.Stage pairItem (c .outputs) ++ (0x00 ∷ []))))
-  unfolding writeStage writeFile bytesOf
-  stage-parts =
-      let cares = map care (c .care) in
-      let gates = map gateItem (c .gates) in
-      let outputs = map pairItem (c .outputs) in
-      let w = writeItems file.Stage in
-      ap (λ (l : List ℕ). 0x01 ∷ c .inputs ∷ l)
-      (ap (λ (l : List ℕ). l ++ (0x00 ∷ [])) (items-++ file.Stage cares (gates ++ outputs) ∙ ap (λ (l : List ℕ). w cares ++ l) (items-++ file.Stage gates outputs))
+module _ {G O : Type 0} (f : File) (gateOf : G → Item) (outputOf : O → Item) (n : ℕ) (ws : List ℕ) (gs : List G) (os : List O) where
+  pub file-parts : writeFile f n (map care ws ++ (map gateOf gs ++ map outputOf os)) ≡
+      (0x01 ∷ n ∷ []) ++ (bytesOf f care ws ++ (bytesOf f gateOf gs ++ (bytesOf f outputOf os ++ (0x00 ∷ []))))
+  unfolding writeFile bytesOf
+  file-parts =
+      let w = writeItems f in
+      let cares = map care ws in
+      let gates = map gateOf gs in
+      let outputs = map outputOf os in
+      ap (λ (l : List ℕ). 0x01 ∷ n ∷ l)
+      (ap (λ (l : List ℕ). l ++ (0x00 ∷ [])) (items-++ f cares (gates ++ outputs) ∙ ap (λ (l : List ℕ). w cares ++ l) (items-++ f gates outputs))
       ∙ append-assoc (w cares) (w gates ++ w outputs) (0x00 ∷ [])
       ∙ ap (λ (l : List ℕ). w cares ++ l) (append-assoc (w gates) (w outputs) (0x00 ∷ [])))
 
-  pub stage-length : length (writeStage c) ≡ 3 + 3 * length (c .care) + 10 * length (c .gates) + 5 * length (c .outputs)
-  stage-length =
-      let cares = bytesOf file.Stage care (c .care) in
-      let gates = bytesOf file.Stage gateItem (c .gates) in
-      let outputs = bytesOf file.Stage pairItem (c .outputs) in
+  pub file-length : (gateWidth outputWidth : ℕ) → length (bytesOf f care ws) ≡ 3 * length ws → ((g : G) → length (writeItem f (gateOf g)) ≡ gateWidth)
+      → ((o : O) → length (writeItem f (outputOf o)) ≡ outputWidth)
+      → length (writeFile f n (map care ws ++ (map gateOf gs ++ map outputOf os))) ≡ 3 + 3 * length ws + gateWidth * length gs + outputWidth * length os
+  file-length gateWidth outputWidth c g o =
+      let cares = bytesOf f care ws in
+      let gates = bytesOf f gateOf gs in
+      let outputs = bytesOf f outputOf os in
       omega (
         arith,
-        ap length stage-parts,
+        ap length file-parts,
         length-append cares (gates ++ (outputs ++ (0x00 ∷ []))),
         length-append gates (outputs ++ (0x00 ∷ [])),
         length-append outputs (0x00 ∷ []),
-        bytes-length file.Stage care 3 care-width (c .care),
-        bytes-length file.Stage gateItem 10 (λ g. stage-gate-width (codedGate g)) (c .gates),
-        bytes-length file.Stage pairItem 5 (λ p. stage-output-width (pairOperands p)) (c .outputs),
+        c,
+        bytes-length f gateOf gateWidth g gs,
+        bytes-length f outputOf outputWidth o os,
       )
 
--- inputs, gates, outputs, end
+module _ (c : Stage) where
+  pub stage-parts : writeStage c ≡
+      (0x01 ∷ c .inputs ∷ []) ++ (bytesOf file.Stage care (c .care) ++ (bytesOf file.Stage gateItem (c .gates) ++ (bytesOf file.Stage pairItem (c .outputs) ++ (0x00 ∷ []))))
+  unfolding writeStage
+  stage-parts = file-parts file.Stage gateItem pairItem (c .inputs) (c .care) (c .gates) (c .outputs)
+
+  pub stage-length : length (writeStage c) ≡ 3 + 3 * length (c .care) + 10 * length (c .gates) + 5 * length (c .outputs)
+  unfolding writeStage
+  stage-length =
+      file-length file.Stage gateItem pairItem (c .inputs) (c .care) (c .gates) (c .outputs) 10 5 (bytes-length file.Stage care 3 care-width (c .care)) (λ g. stage-gate-width (codedGate g)) (λ p. stage-output-width (pairOperands p))
+
 module _ (r : Reference) where
   pub reference-parts : writeReference r ≡
       (0x01 ∷ r .inputs ∷ []) ++ (bytesOf file.Reference gate (r .gates) ++ (bytesOf file.Reference signalItem (r .outputs) ++ (0x00 ∷ [])))
-  unfolding writeReference writeFile bytesOf
-  reference-parts =
-      let gates = map gate (r .gates) in
-      let outputs = map signalItem (r .outputs) in
-      let w = writeItems file.Reference in
-      ap (λ (l : List ℕ). 0x01 ∷ r .inputs ∷ l)
-      (ap (λ (l : List ℕ). l ++ (0x00 ∷ [])) (items-++ file.Reference gates outputs) ∙ append-assoc (w gates) (w outputs) (0x00 ∷ []))
+  unfolding writeReference bytesOf
+  reference-parts = file-parts file.Reference gate signalItem (r .inputs) [] (r .gates) (r .outputs)
 
   pub reference-length : length (writeReference r) ≡ 3 + 6 * length (r .gates) + 3 * length (r .outputs)
-  reference-length =
-      let gates = bytesOf file.Reference gate (r .gates) in
-      let outputs = bytesOf file.Reference signalItem (r .outputs) in
-      omega (
-        arith,
-        ap length reference-parts,
-        length-append gates (outputs ++ (0x00 ∷ [])),
-        length-append outputs (0x00 ∷ []),
-        bytes-length file.Reference gate 6 reference-gate-width (r .gates),
-        bytes-length file.Reference signalItem 3 (λ v. reference-output-width (v ∷ [])) (r .outputs),
-      )
+  unfolding writeReference bytesOf
+  reference-length = file-length file.Reference gate signalItem (r .inputs) [] (r .gates) (r .outputs) 6 3 refl reference-gate-width (λ v. reference-output-width (v ∷ []))

@@ -3,14 +3,15 @@
 use Prim.Native.Nat.{ℕ, zero, suc, _+_, _/_, _%_, _^_, _≤_, _<_}
 use native.Mathlib.Omega.{arith}
 use mathlib.Core.Path.{_≡_, sym, ap, _∙_, subst}
-use mathlib.Core.Bool.{cond}
+use mathlib.Core.Bool.{Bool, true, false, cond}
 use mathlib.Core.List.{List, [], _∷_, _++_}
 use lib.ListN.{length, length-append}
 use lib.Dec.{ltb}
 use borrow.Author.Tests.{lt-ltb, le-ltb}
 use Rattle.text_spec.specs.ToText.{digits}
 use Rattle.write_command.proofs.Joining.{put-++}
-use Rattle.write_decimal.specs.Decimal.{PutNext, decimal}
+use Rattle.print_spec.specs.Decimal.{decimal}
+use Rattle.write_decimal.specs.Put.{PutNext}
 
 -- a number that has at most k digits
 abbrev Short : ℕ → ℕ → Type 0
@@ -41,9 +42,25 @@ decimal-more n l h =
     (digits-same 18 19 (n / 10) (short-below 19 (n / 10) (omega arith)) (short-below 20 (n / 10) (omega arith))))
 
 -- a number that is small has few digits
-pub decimal-three : (n : ℕ) → n < 1000 → decimal n ≡ digits 3 n
+pub decimal-small : (k n : ℕ) → n < 10 ^ suc k → n < 2 ^ 64 → decimal n ≡ digits (suc k) n
 unfolding decimal
-decimal-three n l = digits-same 19 2 n (short-below 20 n (omega arith)) (omega arith)
+decimal-small k n l h = digits-same 19 k n (short-below 20 n (omega arith)) (short-below (suc k) n l)
+
+digits-long : (k n : ℕ) → length (digits k n) ≤ k
+digits-long zero n = omega arith
+digits-long (suc k) n = go (ltb n 10) (digits-long k (n / 10))
+  where
+    go : (one : Bool) → length (digits k (n / 10)) ≤ k → length (cond one ((48 + n) ∷ []) (digits k (n / 10) ++ ((48 + n % 10) ∷ []))) ≤ suc k
+    go true l = omega arith
+    go false l = omega (arith, length-append (digits k (n / 10)) ((48 + n % 10) ∷ []))
+
+-- how long it is: any number, and a small one
+pub decimal-long : (n : ℕ) → length (decimal n) ≤ 20
+unfolding decimal
+decimal-long n = digits-long 20 n
+
+pub decimal-short : (k n : ℕ) → n < 10 ^ suc k → n < 2 ^ 64 → length (decimal n) ≤ suc k
+decimal-short k n l h = rw (decimal-small k n l h) (digits-long (suc k) n)
 
 -- ---- two parts
 

@@ -2,7 +2,8 @@
 ghost use mathlib.Core.List.{_∷_, []};
 ghost use Prim.Native.Nat.{_+_, _≤_};
 ghost use lib.ListN.{length};
-ghost use Rattle.write_decimal.specs.Decimal.{PutNext, decimal};
+ghost use Rattle.print_spec.specs.Decimal.{decimal};
+ghost use Rattle.write_decimal.specs.Put.{PutNext};
 
 // A character.
 pub fn put_char(buffer: &mut [u8], at: usize, b: u8) -> usize

@@ -13,7 +13,7 @@ use Rattle.netlist.specs.declared.Counts.{Counts}
 use Rattle.netlist.specs.Content.{Coded, Gate, Pair, Stage, Reference}
 use Rattle.netlist.specs.Formed.{nets}
 use Rattle.netlist.specs.Writing.{gate, care, codedGate, pairOperands, writeStage, writeReference}
-use Rattle.join_spec.specs.Whole.{netInWhole, gateInWhole, pairInWhole, joinedStage, signalInWhole, operationInWhole, joinedReference}
+use Rattle.write_joined.specs.Whole.{netInWhole, gateInWhole, pairInWhole, joinedStage, signalInWhole, operationInWhole, joinedReference}
 use Rattle.write_command.specs.Put.{Put}
 use Rattle.write_command.specs.Parts.{gateItem, pairItem, signalItem, bytesOf}
 use Rattle.write_command.proofs.Joining.{put-++}

@@ -3,27 +3,25 @@
 use Prim.Native.Nat.{ℕ, zero, suc, _+_, _-_, _≤_, _<_}
 use native.Mathlib.Omega.{arith}
 use native.Mathlib.Numerals.{add-one}
-use native.Mathlib.Decide.{ℕ-discrete}
 use mathlib.Core.Path.{_≡_, refl, sym, ap, ap₂, _∙_}
 use mathlib.Core.Bool.{Bool, true, false, cond, not}
 use mathlib.Core.List.{List, [], _∷_}
-use lib.ListN.{length, getD, set, take, drop, replicate, length-set, length-replicate}
-use lib.Seq.{getD-set-same, getD-set-other}
-use lib.Dec.{eqb, ltb}
+use lib.ListN.{length, set, take, drop, replicate, length-set}
+use lib.Dec.{eqb}
 use borrow.Author.Tests.{eq-eqb, ne-eqb}
 use Rattle.netlist.specs.declared.Counts.{Counts}
-use Rattle.netlist.specs.declared.Limits.{Limits}
 use Rattle.netlist.specs.declared.Found.{Found}
 use Rattle.netlist.specs.declared.Found.the-variants.{At}
-use Rattle.netlist.specs.Content.{Coded, Reference}
+use Rattle.netlist.specs.Content.{Coded}
 use Rattle.netlist.specs.Formed.{ReferenceFormed}
 use Rattle.verdict.specs.Rows.{high}
 use Rattle.verdict.specs.Words.{numbers}
 use Rattle.verdict.specs.Checks.{first}
 use Rattle.verdict.specs.Search.{least}
+use Rattle.make_spec.specs.Make.{leadsOut}
+use Rattle.check_spec.specs.Loaded.{fromReference}
 use Rattle.make_spec.specs.Count.{operations}
-use Rattle.make_spec.specs.Leading.{signals, leadsOut}
-use Rattle.make_spec.specs.Marks.{marked, markedFrom, outputMarks, leadingMarks}
+use Rattle.make_spec.specs.Marks.{marked, markedFrom}
 use Rattle.make_spec.proofs.Marks.{from-long, marks-are}
 use Rattle.circuit.specs.Stage.{tabulate}
 use Rattle.netlist.specs.Reading.{referenceLimits}
@@ -70,7 +68,7 @@ module _ (c : Counts) (code : List ℕ) where
 
   module _ (marks₀ : List ℕ) where
     pub leading-long : {marks : List ℕ} {k : ℕ} → LeadingTo marks₀ marks k → length marks ≡ length marks₀
-    leading-long {k = k} t = ap length (t .is) ∙ from-long (length marks₀) marks₀ refl (c .inputs + k) (drop k (operatorsIn c code))
+    leading-long {k = k} t = ap length (t .is) ∙ from-long marks₀ (c .inputs + k) (drop k (operatorsIn c code))
 
     pub leading-start : LeadingTo marks₀ marks₀ (c .gates)
     unfolding markedFrom operatorsIn
@@ -154,53 +152,7 @@ module _ (code : List ℕ) (m : ℕ) where
         ∙ sym (count-gate (k - 1) (omega (arith, t .most)) ∙ rw (ne-eqb (operatorIn code (k - 1) .code) 1 d));
   }
 
--- ---- a row that is longer than the signals
-
-pub record Agree (n : ℕ) (xs ys : List ℕ) : Type 0 where
-  pub left : n ≤ length xs
-  pub right : n ≤ length ys
-  pub same : (i : ℕ) → i < n → getD xs i 0 ≡ getD ys i 0
-
-agree-set : (n : ℕ) (xs ys : List ℕ) (x : ℕ) → Agree n xs ys → Agree n (set xs x 1) (set ys x 1)
-agree-set n xs ys x a = record {
-  left = omega (arith, a .left, length-set xs x 1);
-  right = omega (arith, a .right, length-set ys x 1);
-  same = λ i l. go i l (ℕ-discrete i x);
-}
-  where
-    go : (i : ℕ) → i < n → Dec (i ≡ x) → getD (set xs x 1) i 0 ≡ getD (set ys x 1) i 0
-    go i l (yes e) = rw e (getD-set-same xs x 1 0 (omega (arith, a .left)) ∙ sym (getD-set-same ys x 1 0 (omega (arith, a .right))))
-    go i l (no d) = getD-set-other xs x i 1 0 d ∙ a .same i l ∙ sym (getD-set-other ys x i 1 0 d)
-
-agree-marked : (n : ℕ) (vs xs ys : List ℕ) → Agree n xs ys → Agree n (marked xs vs) (marked ys vs)
-unfolding marked
-agree-marked n [] xs ys a = a
-agree-marked n (v ∷ vs) xs ys a = agree-marked n vs (set xs v 1) (set ys v 1) (agree-set n xs ys v a)
-
-agree-from : (n s : ℕ) (cs : List Coded) (xs ys : List ℕ) → s + length cs ≤ n → Agree n xs ys → Agree n (markedFrom s cs xs) (markedFrom s cs ys)
-unfolding markedFrom
-agree-from n s [] xs ys l a = a
-agree-from n s (c ∷ cs) xs ys l a =
-    let u = markedFrom (suc s) cs xs in
-    let v = markedFrom (suc s) cs ys in
-    let later = agree-from n (suc s) cs xs ys (omega arith) a in
-    go u v later (high v s) (ap (λ (i : ℕ). ltb 0 i) (later .same s (omega arith)))
-  where
-    go : (u v : List ℕ) → Agree n u v → (b : Bool) → high u s ≡ b → Agree n (cond (high u s) (marked u (c .operands)) u) (cond b (marked v (c .operands)) v)
-    go u v later true e = rw e (agree-marked n (c .operands) u v later)
-    go u v later false e = rw e later
-
-agree-none : (n m : ℕ) → n ≤ m → Agree n (replicate m 0) (replicate n 0)
-agree-none n m l = record {
-  left = omega (arith, length-replicate {A = ℕ} m 0);
-  right = omega (arith, length-replicate {A = ℕ} n 0);
-  same = λ i h. nothing m i ∙ sym (nothing n i);
-}
-  where
-    nothing : (m i : ℕ) → getD {A = ℕ} (replicate m 0) i 0 ≡ 0
-    nothing zero i = refl
-    nothing (suc m) zero = refl
-    nothing (suc m) (suc i) = nothing m i
+-- ---- the search for 25
 
 least-same : (f g : ℕ → Bool) (j m : ℕ) → ((i : ℕ) → j ≤ i → i < j + m → f i ≡ g i) → least f j m ≡ least g j m
 unfolding first numbers
@@ -208,22 +160,11 @@ least-same f g j zero h = refl
 least-same f g j (suc m) h =
     ap₂ (λ (b : Bool) (x : Found). cond b (At j) x) (h j (omega arith) (omega arith)) (least-same f g (suc j) m (λ i l u. h i (omega arith) (omega arith)))
 
--- the search among the marks is that of 25
-pub nowhere-is : {most : Limits} (r : Reference) → ReferenceFormed most r → (size : ℕ) → signals r ≤ size
-    → least (λ x. not (high (markedFrom (r .inputs) (r .gates) (marked (replicate size 0) (r .outputs))) x)) 0 (signals r) ≡ least (λ x. not (leadsOut r x)) 0 (signals r)
-unfolding leadingMarks outputMarks
-nowhere-is r formed size l =
-    let a = agree-from (signals r) (r .inputs) (r .gates) _ _ (omega arith) (agree-marked (signals r) (r .outputs) _ _ (agree-none (signals r) size l)) in
-    least-same _ _ 0 (signals r) (λ i h u. ap not (ap (λ (v : ℕ). ltb 0 v) (a .same i (omega arith)) ∙ marks-are r formed i))
-
+-- among the marks, in a row of at least as many signals
 pub nowhere-in : (c : Counts) (code : List ℕ) → ReferenceFormed referenceLimits (referenceIn c code) → (size : ℕ) → c .inputs + c .gates ≤ size → (between marks : List ℕ)
     → between ≡ marked (replicate size 0) (signalsIn c code) → marks ≡ markedFrom (c .inputs) (operatorsIn c code) between
-    → least (λ x. not (high marks x)) 0 (c .inputs + c .gates) ≡ least (λ x. not (leadsOut (referenceIn c code) x)) 0 (c .inputs + c .gates)
+    → least (λ x. not (high marks x)) 0 (c .inputs + c .gates) ≡ least (λ x. not (leadsOut (fromReference (referenceIn c code)) x)) 0 (c .inputs + c .gates)
 unfolding operatorsIn
 nowhere-in c code formed size l between marks e f =
-    let g : length (operatorsIn c code) ≡ c .gates = length-tabulate (operatorIn code) (c .gates) in
-    let n : c .inputs + c .gates ≡ signals (referenceIn c code) = omega (arith, g) in
     ap (λ (m : List ℕ). least (λ x. not (high m x)) 0 (c .inputs + c .gates)) (f ∙ ap (markedFrom (c .inputs) (operatorsIn c code)) e)
-    ∙ ap (least _ 0) n
-    ∙ nowhere-is (referenceIn c code) formed size (omega (arith, g))
-    ∙ ap (least _ 0) (sym n)
+    ∙ least-same _ _ 0 (c .inputs + c .gates) (λ i h u. ap not (marks-are (referenceIn c code) formed size (omega (arith, length-tabulate (operatorIn code) (c .gates))) i))

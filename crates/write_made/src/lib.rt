@@ -12,14 +12,14 @@ ghost use Rattle.netlist.specs.Formed.{ReferenceFormed};
 ghost use Rattle.netlist.specs.declared.File.the-variants as file;
 ghost use Rattle.verdict.specs.Rows.{high};
 ghost use Rattle.verdict.specs.Search.{least};
+ghost use Rattle.netlist.specs.Writing as writing;
+ghost use Rattle.make_spec.specs.Make.{gate, realize, leadsOut};
 ghost use Rattle.make_spec.specs.Count.{operations};
-ghost use Rattle.make_spec.specs.Leading.{leadsOut};
 ghost use Rattle.make_spec.specs.Marks.{marked, markedFrom};
-ghost use Rattle.make_spec.specs.Made.{TH22, THxor0, THand0, TH24comp, realize};
 ghost use Rattle.circuit.specs.Reference.{operatorIn, operatorsIn, signalsIn, referenceIn, ReferenceLoaded};
 ghost use Rattle.write_command.specs.Put.{Put};
-ghost use Rattle.write_command.specs.Parts.{gateItem, bytesOf};
-ghost use Rattle.write_made.specs.Rails.{pairOf, pairStored, becomes};
+ghost use Rattle.write_command.specs.Parts.{bytesOf};
+ghost use Rattle.write_made.specs.Rails.{contentIn, pairOf, pairStored, becomes};
 
 // ---- 25: signals that are no output and lead to none
 
@@ -85,7 +85,7 @@ fn unmarked(marks: &[u8], count: usize) -> Found
 // The least signal that is no output and leads to none.
 pub fn leading_nowhere(reference: &[u16], sizes: Counts) -> Found
     requires { ⌜ ReferenceLoaded sizes (now reference) × ReferenceFormed referenceLimits (referenceIn sizes (now reference)) ⌝ }
-    ensures { λ r. ⌜ r ≡ least (λ x. not (leadsOut (referenceIn sizes (now (reference .entry))) x)) 0 (sizes .inputs + sizes .gates) ⌝ }
+    ensures { λ r. ⌜ r ≡ least (λ x. not (leadsOut (contentIn sizes (now (reference .entry))) x)) 0 (sizes .inputs + sizes .gates) ⌝ }
 {
     let mut marks = [0u8; circuit::SIGNALS];
     mark_outputs(reference, sizes, &mut marks);
@@ -135,7 +135,7 @@ pub fn rails_of(rails: &[u16], signal: u16) -> Rails
 // the others rail 0.
 fn result_rails(operation: u16, a: Rails, next: u16) -> Rails
     requires { ⌜ (1 ≤ operation) × (operation ≤ 6) × (next < 0xFFFF) ⌝ }
-    ensures { λ r. ⌜ ((b : Rails) → pairOf r ≡ realize operation (pairOf a ∷ pairOf b ∷ []) next .rails) ⌝ }
+    ensures { λ r. ⌜ ((b : Rails) → pairOf r ∷ [] ≡ realize operation (pairOf a) (pairOf b) next .rails) ⌝ }
 {
     match operation {
         1 => Rails {
@@ -160,7 +160,8 @@ fn result_rails(operation: u16, a: Rails, next: u16) -> Rails
 // The two gates of AND: TH22 of the rails 1, then THand0. OR has the same two with rails 0 and 1 of its operands exchanged.
 fn put_and(buffer: &mut [u8], at: usize, a0: u16, b0: u16, a1: u16, b1: u16)
     requires { ⌜ at + 20 ≤ length (now buffer) ⌝ }
-    ensures { λ _. ⌜ Put (now (buffer .entry)) at (bytesOf file.Stage gateItem (TH22 a1 b1 ∷ THand0 a0 b0 a1 b1 ∷ [])) (now (buffer .exit)) ⌝ }
+    ensures { λ _. ⌜ Put (now (buffer .entry)) at (bytesOf file.Stage writing.gate (gate 2 (a1 ∷ b1 ∷ []) ∷ gate 26 (a0 ∷ b0 ∷ a1 ∷ b1 ∷ []) ∷ []))
+        (now (buffer .exit)) ⌝ }
 {
     write_command::put_stage_gate(buffer, at, 2, a1, b1, 0xFFFF, 0xFFFF);
     write_command::put_stage_gate(buffer, at + 10, 26, a0, b0, a1, b1);
@@ -169,7 +170,8 @@ fn put_and(buffer: &mut [u8], at: usize, a0: u16, b0: u16, a1: u16, b1: u16)
 // THxor0, then TH24comp of the same pins.
 fn put_xor(buffer: &mut [u8], at: usize, a0: u16, b0: u16, a1: u16, b1: u16)
     requires { ⌜ at + 20 ≤ length (now buffer) ⌝ }
-    ensures { λ _. ⌜ Put (now (buffer .entry)) at (bytesOf file.Stage gateItem (THxor0 a0 b0 a1 b1 ∷ TH24comp a0 b0 a1 b1 ∷ [])) (now (buffer .exit)) ⌝ }
+    ensures { λ _. ⌜ Put (now (buffer .entry)) at (bytesOf file.Stage writing.gate
+        (gate 25 (a0 ∷ b0 ∷ a1 ∷ b1 ∷ []) ∷ gate 27 (a0 ∷ b0 ∷ a1 ∷ b1 ∷ []) ∷ [])) (now (buffer .exit)) ⌝ }
 {
     write_command::put_stage_gate(buffer, at, 25, a0, b0, a1, b1);
     write_command::put_stage_gate(buffer, at + 10, 27, a0, b0, a1, b1);
@@ -178,7 +180,7 @@ fn put_xor(buffer: &mut [u8], at: usize, a0: u16, b0: u16, a1: u16, b1: u16)
 // The two gates of an operation that is not NOT. NAND and NOR have the gates of AND and OR.
 fn put_operation(buffer: &mut [u8], at: usize, operation: u16, a: Rails, b: Rails)
     requires { ⌜ (2 ≤ operation) × (operation ≤ 6) × (at + 20 ≤ length (now buffer)) ⌝ }
-    ensures { λ _. ⌜ ((next : ℕ) → Put (now (buffer .entry)) at (bytesOf file.Stage gateItem (realize operation (pairOf a ∷ pairOf b ∷ []) next .gates))
+    ensures { λ _. ⌜ ((next : ℕ) → Put (now (buffer .entry)) at (bytesOf file.Stage writing.gate (realize operation (pairOf a) (pairOf b) next .gates))
         (now (buffer .exit))) ⌝ }
 {
     match operation {
@@ -204,11 +206,10 @@ pub fn put_gate(
         × (2 + 10 * (made + 2 * operations (operatorIn (now reference) k ∷ [])) ≤ length (now buffer)) ⌝ }
     ensures count { λ r. ⌜ r ≡ made + length (becomes sizes (now (reference .entry)) k (now (rails .entry)) made .gates) ⌝ }
     ensures put { λ r. ⌜ Put (now (buffer .entry)) (2 + 10 * made)
-        (bytesOf file.Stage gateItem (becomes sizes (now (reference .entry)) k (now (rails .entry)) made
+        (bytesOf file.Stage writing.gate (becomes sizes (now (reference .entry)) k (now (rails .entry)) made
         .gates)) (now (buffer .exit)) ⌝ }
-    ensures rails { λ r. ⌜ now (rails .exit) ≡ set (set (now (rails .entry)) (2 * (sizes .inputs + k)) (becomes sizes (now (reference .entry)) k (now
-        (rails .entry)) made .rails .rail0)) (2 * (sizes .inputs + k) + 1)
-        (becomes sizes (now (reference .entry)) k (now (rails .entry)) made .rails .rail1) ⌝ }
+    ensures rails { λ r. ⌜ ((p : Rails) × (pairOf p ∷ [] ≡ becomes sizes (now (reference .entry)) k (now (rails .entry)) made .rails)
+        × (now (rails .exit) ≡ set (set (now (rails .entry)) (2 * (sizes .inputs + k)) (p .rail0)) (2 * (sizes .inputs + k) + 1) (p .rail1))) ⌝ }
 {
     let operation = reference[3 * k];
     let a = rails_of(rails, reference[3 * k + 1]);

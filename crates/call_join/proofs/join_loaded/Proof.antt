@@ -1,14 +1,10 @@
 -- `call_join::join_loaded` meets its contract: each way out is a step of the checks 22, 23 and 24. Assumes nothing.
 use native.Mathlib.Omega.{arith}
-use Prim.Native.Nat.{ℕ}
-use mathlib.Core.Path.{_≡_, refl, sym, ap, _∙_}
+use mathlib.Core.Path.{_≡_, refl, sym, _∙_}
+use mathlib.Core.Logic.{inl, inr}
+use lib.ListN.{length}
 use denote.Ref.{now}
-use Rattle.verdict.specs.Checks.{verdict}
-use Rattle.call_join.specs.Steps.{partLoaded}
-use Rattle.join_spec.specs.Call.{answerWith}
-use Rattle.write_joined.proofs.Whole.{outputs-count}
-use Rattle.join_spec.proofs.Call.{leaves-refused}
-use Rattle.call_join.proofs.Joining.{leaves-written, at-seam, at-word, at-stage-room, at-reference-room, at-none}
+use Rattle.call_join.proofs.Joining.{leaves-refused, seam-22, leaves-uncared, leaves-short, leaves-written}
 use borrow.Author.Needs.{needs}
 use Rattle.call_join.proofs.join_loaded.Statement.{statement}
 use Rattle.call_join.proofs.join_loaded.Tie as tie
@@ -55,68 +51,49 @@ returns : tie.Need-returns
 returns c =
     let z = c .before .before .before .before .before .before .before .before .before .before .before .before .before .before in
     let a = z .args in
-    let n = outputs-count (a .counts .stage1) (now (a .code1)) in
-    leaves-refused _ _ _
-    (at-seam (a .order) (partLoaded (a .counts .stage1) (now (a .code1)) (a .counts .reference1) (now (a .reference1))) (partLoaded (a .counts .stage2) (now (a .code2)) (a .counts .reference2) (now
-    (a .reference2))) _ _
-    (λ e. c .before .if1 .taken (sym n ∙ e)))
-    (c .refusal .ensures ∙ ap (λ (m : ℕ). answerWith (verdict 22 0 m (a .counts .stage2 .inputs)) 0 0) (sym n))
+    λ one two held. leaves-refused _ _ _ _ (seam-22 (a .order) (a .counts) (now (a .code1)) (now (a .reference1)) (now (a .code2)) (now (a .reference2)) (z .pre) one two held _ _ (c .before .if1 .taken))
+    (λ q. omega arith) (c .refusal .ensures)
 
 returns-2 : tie.Need-returns-2
 returns-2 c =
     let z = c .before .before .before .before .before .before .before .before .before .before .before .before .before .before .before .before .before .before in
     let a = z .args in
-    let n = outputs-count (a .counts .stage1) (now (a .code1)) in
-    leaves-refused _ _ _
-    (at-word (a .order) (partLoaded (a .counts .stage1) (now (a .code1)) (a .counts .reference1) (now (a .reference1))) (partLoaded (a .counts .stage2) (now (a .code2)) (a .counts .reference2) (now
-    (a .reference2))) _ _
-    (n ∙ omega (arith, c .before .before .before .before .before .if1 .left)) _ (sym (c .before .before .v .given .1) ∙ c .before .before .before .before .uncared .ensures))
-    (c .refusal2 .ensures)
+    λ one two held. leaves-uncared (a .order) (a .counts) (now (a .code1)) (now (a .reference1)) (now (a .code2)) (now (a .reference2)) (z .pre) one two held _ _
+    (omega (arith, c .before .before .before .before .before .if1 .left)) _ (sym (c .before .before .v .given .1) ∙ c .before .before .before .before .uncared .ensures) _ _ (c .refusal2 .ensures)
 
 returns-3 : tie.Need-returns-3
 returns-3 c =
     let z = c .before .before .before .before .before .before .before .before .before .before .before .before .before .before .before .before .before .before .before .before in
     let a = z .args in
-    let n = outputs-count (a .counts .stage1) (now (a .code1)) in
-    leaves-refused _ _ _
-    (at-stage-room (a .order) (partLoaded (a .counts .stage1) (now (a .code1)) (a .counts .reference1) (now (a .reference1))) (partLoaded (a .counts .stage2) (now (a .code2)) (a .counts .reference2) (now
-    (a .reference2))) _ _
-    (n ∙ omega (arith, c .before .before .before .before .before .before .before .if1 .left)) (sym
-    (c .before .before .before .before .enum-told .given .1) ∙ c .before .before .before .before .before .before .uncared .ensures)
-    (omega (arith, c .before .before .before .stage-length .ensures (now (a .code1)) (now (a .code2)), c .before .if2 .taken)))
-    (c .refusal3 .ensures)
+    λ one two held. leaves-short (a .order) (a .counts) (now (a .code1)) (now (a .reference1)) (now (a .code2)) (now (a .reference2)) (z .pre) one two held (length (now (a .stage-out))) (length (now (a .reference-out)))
+    (omega (arith, c .before .before .before .before .before .before .before .if1 .left))
+    (sym (c .before .before .before .before .enum-told .given .1) ∙ c .before .before .before .before .before .before .uncared .ensures)
+    (inl (omega (arith, c .before .before .before .stage-length .ensures (now (a .code1)) (now (a .code2)), c .before .if2 .taken))) _ _ (c .refusal3 .ensures)
 
 returns-4 : tie.Need-returns-4
 returns-4 c =
     let z = c .before .before .before .before .before .before .before .before .before .before .before .before .before .before .before .before .before .before .before .before .before in
     let a = z .args in
-    let n = outputs-count (a .counts .stage1) (now (a .code1)) in
-    leaves-refused _ _ _
-    (at-reference-room (a .order) (partLoaded (a .counts .stage1) (now (a .code1)) (a .counts .reference1) (now (a .reference1))) (partLoaded (a .counts .stage2) (now (a .code2)) (a .counts .reference2)
-    (now (a .reference2))) _ _
-    (n ∙ omega (arith, c .before .before .before .before .before .before .before .before .if1 .left)) (sym
-    (c .before .before .before .before .before .enum-told .given .1) ∙ c .before .before .before .before .before .before .before .uncared .ensures)
-    (omega (arith, c .before .before .before .before .stage-length .ensures (now (a .code1)) (now (a .code2)), c .before .before .if2 .left))
-    (omega (arith, c .before .before .before .reference-length .ensures (now (a .reference1)) (now (a .reference2)), c .before .if3 .taken)))
-    (c .refusal4 .ensures)
+    λ one two held. leaves-short (a .order) (a .counts) (now (a .code1)) (now (a .reference1)) (now (a .code2)) (now (a .reference2)) (z .pre) one two held (length (now (a .stage-out))) (length (now (a .reference-out)))
+    (omega (arith, c .before .before .before .before .before .before .before .before .if1 .left))
+    (sym (c .before .before .before .before .before .enum-told .given .1) ∙ c .before .before .before .before .before .before .before .uncared .ensures)
+    (inr (omega (arith, c .before .before .before .reference-length .ensures (now (a .reference1)) (now (a .reference2)), c .before .if3 .taken))) _ _ (c .refusal4 .ensures)
 
 returns-5 : tie.Need-returns-5
 returns-5 c =
     let z = c .before .before .before .before .before .before .before .before .before .before .before .before .before .before .before .before .before .before .before .before .before .before
     .before .before .before .before .before .before in
     let a = z .args in
-    let p = partLoaded (a .counts .stage1) (now (a .code1)) (a .counts .reference1) (now (a .reference1)) in
-    let q = partLoaded (a .counts .stage2) (now (a .code2)) (a .counts .reference2) (now (a .reference2)) in
-    let n = outputs-count (a .counts .stage1) (now (a .code1)) in
     let m = c .before .before .before .before .before .before .before .before .before .before .before .stage-length .ensures (now (a .code1)) (now (a .code2)) in
     let k = c .before .before .before .before .before .before .before .before .before .before .reference-length .ensures (now (a .reference1)) (now (a .reference2)) in
-    leaves-written p q _
-    (at-none (a .order) p q _ _ (n ∙ omega (arith, c .before .before .before .before .before .before .before .before .before .before .before .before .before .before .before .if1 .left)) (sym
-    (c .before .before .before .before .before .before .before .before .before .before .before .before .enum-told .given .1) ∙ c .before .before .before .before .before .before .before
-    .before .before .before .before .before .before .before .uncared .ensures) (omega (arith, m, c .before .before .before .before .before .before .before .before .before .if2 .left))
-    (omega (arith, k, c .before .before .before .before .before .before .before .before .if3 .left)))
-    refl m k (c .before .before .before .before .before .before .put-stage .ensures) (omega (arith, m, c .before .before .before .before .before .before .before .before .before .if2 .left))
-    (c .before .before .put-reference .ensures) (omega (arith, k, c .before .before .before .before .before .before .before .before .if3 .left))
+    let l = c .before .before .before .before .before .before .before .before .before .if2 .left in
+    let l′ = c .before .before .before .before .before .before .before .before .if3 .left in
+    λ one two held. leaves-written (a .order) (a .counts) (now (a .code1)) (now (a .reference1)) (now (a .code2)) (now (a .reference2)) (z .pre) one two held (length (now (a .stage-out))) (length (now (a .reference-out)))
+    (omega (arith, c .before .before .before .before .before .before .before .before .before .before .before .before .before .before .before .if1 .left))
+    (sym (c .before .before .before .before .before .before .before .before .before .before .before .before .enum-told .given .1)
+    ∙ c .before .before .before .before .before .before .before .before .before .before .before .before .before .before .uncared .ensures)
+    (omega (arith, m, l)) (omega (arith, k, l′)) _ refl m k
+    (c .before .before .before .before .before .before .put-stage .ensures) (omega (arith, m, l)) (c .before .before .put-reference .ensures) (omega (arith, k, l′))
 
 pub join-loaded-spec : {M : Type 1} → statement M
 join-loaded-spec =

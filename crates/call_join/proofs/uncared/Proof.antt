@@ -1,9 +1,11 @@
 -- `call_join::uncared` meets its contract: the start of the list is the names of the first part's words. Assumes nothing.
+use mathlib.Core.Path.{ap, _∙_}
 use denote.Ref.{now}
+use Rattle.verdict.specs.Checks.{sweep}
 use Rattle.circuit.specs.Stage.{stageIn}
 use Rattle.circuit.specs.Reference.{referenceIn}
 use Rattle.words.proofs.Listing.{listed-start, listed-in, listed-count}
-use Rattle.call_join.proofs.Answers.{found-uncared}
+use Rattle.call_join.specs.Steps.{uncaredUnder}
 use borrow.Author.Needs.{needs}
 use Rattle.call_join.proofs.uncared.Statement.{statement}
 use Rattle.call_join.proofs.uncared.Tie as tie
@@ -30,8 +32,9 @@ uncared-named-requires c κs = search needs
 returns : tie.Need-returns
 returns c =
     let z = c .before .before .before .before .before .before .before .before in
-    found-uncared (z .args .order) (stageIn (z .args .counts1) (now (z .args .code1))) (referenceIn (z .args .sizes1) (now (z .args .reference1))) (stageIn (z .args .counts2) (now (z .args .code2))) _
-    (listed-start (c .before .before .before .list-names .ensures)) _ (c .uncared-named .ensures)
+    c .uncared-named .ensures
+    ∙ ap (sweep 23 0 (uncaredUnder (z .args .order) (z .args .counts1 .inputs) (referenceIn (z .args .sizes1) (now (z .args .reference1))) (stageIn (z .args .counts2) (now (z .args .code2)))))
+    (listed-start (c .before .before .before .list-names .ensures))
 
 pub uncared-spec : {M : Type 1} → statement M
 uncared-spec =

@@ -9,8 +9,7 @@ use Rattle.verdict.specs.Words.{words, spelled, isIn}
 use Rattle.circuit.specs.Stage.{stageIn}
 use Rattle.circuit.specs.Reference.{referenceIn}
 use Rattle.check_words.proofs.Sweeping.{SweptTo, swept-start, swept-on, swept-here, swept-none}
-use Rattle.join_spec.specs.Join.{answerWord}
-use Rattle.call_join.specs.Steps.{uncaredUnder}
+use Rattle.call_join.specs.Steps.{answerWord, uncaredUnder}
 use Rattle.call_join.proofs.Answers.{cared-under, uncared-under}
 use Rattle.call_join.proofs.uncared_named.Statement.{statement}
 use Rattle.call_join.proofs.uncared_named.Tie as tie

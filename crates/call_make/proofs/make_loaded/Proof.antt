@@ -4,12 +4,9 @@ use mathlib.Core.Path.{sym, ap, _∙_}
 use Prim.Native.Nat.{ℕ, _≤_}
 use denote.Ref.{now}
 use lib.ListN.{length}
-use Rattle.verdict.specs.Checks.{verdict}
-use Rattle.verdict.specs.Verdicts.{accepted}
-use Rattle.make_spec.specs.Making.{madeBytes}
-use Rattle.circuit.specs.Reference.{referenceIn}
+use Rattle.verdict.specs.FourNumbers.{verdict, accepted}
 use Rattle.verdict.specs.Written.{answerOf}
-use Rattle.call_make.proofs.Answering.{made-long-in, faults-25, faults-26, faults-27, faults-none, refused-as, made-as, search-in, needed-is}
+use Rattle.call_make.proofs.Answering.{bytes, made-long, told-25, told-26, told-27, told-none, refused-as, made-as, needed-is}
 use borrow.Author.Needs.{needs}
 use Rattle.call_make.proofs.make_loaded.Statement.{statement}
 use Rattle.call_make.proofs.make_loaded.Tie as tie
@@ -17,48 +14,48 @@ use Rattle.call_make.proofs.make_loaded.Tie as tie
 returns : tie.Need-returns
 returns c =
     let z = c .before .before .before .before .before .before .before in
-    let r = referenceIn (z .args .sizes) (now (z .args .reference)) in
-    let found = sym (c .before .before .x .given .1) ∙ c .before .before .before .before .leading-nowhere .ensures ∙ search-in (z .args .sizes) (now (z .args .reference)) in
-    refused-as r (now (z .args .buffer)) _ _ (c .refused .ensures) (faults-25 r (length (now (z .args .buffer))) _ found)
+    let code = now (z .args .reference) in
+    refused-as (z .args .sizes) code (now (z .args .buffer)) _ _ (c .refused .ensures)
+    (told-25 (z .args .sizes) code (now (z .args .buffer)) _ (sym (c .before .before .x .given .1) ∙ c .before .before .before .before .leading-nowhere .ensures)) (omega arith)
 
 returns-2 : tie.Need-returns-2
 returns-2 c =
     let z = c .before .before .before .before .before .before .before .before in
-    let r = referenceIn (z .args .sizes) (now (z .args .reference)) in
-    let n = needed-is (z .args .sizes) (now (z .args .reference)) (z .pre .1) _ (c .before .before .operation-count .ensures .0) in
-    let found = sym (c .before .before .before .enum-told .given .1) ∙ c .before .before .before .before .before .leading-nowhere .ensures ∙ search-in (z .args .sizes) (now (z .args .reference)) in
-    refused-as r (now (z .args .buffer)) _ _ (c .refused2 .ensures ∙ ap (λ (g : ℕ). answerOf (verdict 26 2 g 0) 0) n)
-    (faults-26 r (length (now (z .args .buffer))) found (omega (arith, n, c .before .if1 .taken)))
+    let code = now (z .args .reference) in
+    let n = needed-is (z .args .sizes) code (z .pre .1) _ (c .before .before .operation-count .ensures .0) in
+    let found = sym (c .before .before .before .enum-told .given .1) ∙ c .before .before .before .before .before .leading-nowhere .ensures in
+    refused-as (z .args .sizes) code (now (z .args .buffer)) _ _ (c .refused2 .ensures ∙ ap (λ (g : ℕ). answerOf (verdict 26 2 g 0) 0) n)
+    (told-26 (z .args .sizes) code (now (z .args .buffer)) found (omega (arith, n, c .before .if1 .taken))) (omega arith)
 
 returns-3 : tie.Need-returns-3
 returns-3 c =
     let z = c .before .before .before .before .before .before .before .before .before .before in
-    let r = referenceIn (z .args .sizes) (now (z .args .reference)) in
-    let n = needed-is (z .args .sizes) (now (z .args .reference)) (z .pre .1) _ (c .before .before .before .before .operation-count .ensures .0) in
+    let code = now (z .args .reference) in
+    let n = needed-is (z .args .sizes) code (z .pre .1) _ (c .before .before .before .before .operation-count .ensures .0) in
     let y = c .before .before .before .before .before in
-    let found = sym (y .enum-told .given .1) ∙ y .before .before .leading-nowhere .ensures ∙ search-in (z .args .sizes) (now (z .args .reference)) in
-    let long = made-long-in (z .args .sizes) (now (z .args .reference)) in
-    refused-as r (now (z .args .buffer)) _ _ (c .refused3 .ensures)
-    (faults-27 r (length (now (z .args .buffer))) found (omega (arith, n, c .before .before .before .if1 .left)) (omega (arith, n, c .before .if2 .taken, long)))
+    let found = sym (y .enum-told .given .1) ∙ y .before .before .leading-nowhere .ensures in
+    refused-as (z .args .sizes) code (now (z .args .buffer)) _ _ (c .refused3 .ensures)
+    (told-27 (z .args .sizes) code (now (z .args .buffer)) found (omega (arith, n, c .before .before .before .if1 .left)) (omega (arith, n, c .before .if2 .taken, made-long (z .args .sizes) code)))
+    (omega arith)
 
 put-stage-requires : tie.Need-put-stage-requires
 put-stage-requires c κs =
     let z = c .before .before .before .before .before .before .before .before .before .before in
     let n = needed-is (z .args .sizes) (now (z .args .reference)) (z .pre .1) _ (c .before .before .before .before .operation-count .ensures .0) in
-    let long = made-long-in (z .args .sizes) (now (z .args .reference)) in
+    let long = made-long (z .args .sizes) (now (z .args .reference)) in
     (z .pre .0, z .pre .1, omega (arith, n, c .before .before .before .if1 .left), omega (arith, n, c .before .if2 .left, long))
 
 returns-4 : tie.Need-returns-4
 returns-4 c =
     let z = c .before .before .before .before .before .before .before .before .before .before .before .before .before .before in
-    let r = referenceIn (z .args .sizes) (now (z .args .reference)) in
-    let n = needed-is (z .args .sizes) (now (z .args .reference)) (z .pre .1) _ (c .before .before .before .before .before .before .before .before .operation-count .ensures .0) in
-    let long = made-long-in (z .args .sizes) (now (z .args .reference)) in
+    let code = now (z .args .reference) in
+    let n = needed-is (z .args .sizes) code (z .pre .1) _ (c .before .before .before .before .before .before .before .before .operation-count .ensures .0) in
+    let long = made-long (z .args .sizes) code in
     let y = c .before .before .before .before .before .before .before .before .before in
-    let found = sym (y .enum-told .given .1) ∙ y .before .before .leading-nowhere .ensures ∙ search-in (z .args .sizes) (now (z .args .reference)) in
-    let fits : length (madeBytes r) ≤ length (now (z .args .buffer)) = omega (arith, n, long, c .before .before .before .before .before .if2 .left) in
-    made-as r (now (z .args .buffer)) _ _ (c .wrote .ensures ∙ ap (answerOf accepted) (omega (arith, n, long))) (c .before .before .before .put-stage .ensures) fits
-    (faults-none r (length (now (z .args .buffer))) found (omega (arith, n, c .before .before .before .before .before .before .before .if1 .left)) fits)
+    let found = sym (y .enum-told .given .1) ∙ y .before .before .leading-nowhere .ensures in
+    let fits : length (bytes (z .args .sizes) code (now (z .args .buffer))) ≤ length (now (z .args .buffer)) = omega (arith, n, long, c .before .before .before .before .before .if2 .left) in
+    made-as (z .args .sizes) code (now (z .args .buffer)) _ _ (c .wrote .ensures ∙ ap (answerOf accepted) (omega (arith, n, long))) (c .before .before .before .put-stage .ensures) fits
+    (told-none (z .args .sizes) code (now (z .args .buffer)) found (omega (arith, n, c .before .before .before .before .before .before .before .if1 .left)) fits)
 
 pub make-loaded-spec : {M : Type 1} → statement M
 make-loaded-spec =

@@ -5,7 +5,7 @@ use denote.Ref.{now}
 use Rattle.netlist.specs.Reading.{referenceLimits}
 use Rattle.netlist.proofs.Bounds.{no-more}
 use Rattle.call_make.proofs.Answering.{file-refused, file-loaded, file-made, reference-read-by}
-use Rattle.make_spec.proofs.Call.{make-demand}
+use Rattle.make_spec.proofs.Making.{make-demand}
 use borrow.Author.Needs.{needs}
 use Rattle.call_make.proofs.make_stage.Statement.{statement}
 use Rattle.call_make.proofs.make_stage.Tie as tie

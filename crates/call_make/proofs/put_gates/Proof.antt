@@ -26,7 +26,7 @@ loop-again : tie.Need-loop-again Inv-loop μ-loop
 loop-again c =
     let z = c .before .before .before .before .before .before .before .before .before .before .before .before in
     let e = c .before .before .before .before .put-gate .ensures in
-    made-turn _ _ (c .before .before .before .before .before .before .before .before .loop .inv) (z .pre .1) (omega arith) (z .pre .2) (e .0) (e .1 .0) (e .1 .1)
+    made-turn _ _ (c .before .before .before .before .before .before .before .before .loop .inv) (z .pre .0) (omega arith) (z .pre .2) (e .0) (e .1 .0) (e .1 .1)
 
 same-length : tie.Need-same-length Inv-loop μ-loop
 same-length c = c .before .loop .inv .put .long

@@ -1,36 +1,36 @@
 -- `call_make::put_outputs` meets its contract. The loop's invariant: the outputs before output j are put. Assumes nothing.
 use Prim.Native.Nat.{ℕ, _+_, _-_, _*_, _≤_, _<_}
 use native.Mathlib.Omega.{arith}
-use mathlib.Core.Path.{ap}
+use mathlib.Core.Path.{sym, ap}
 use mathlib.Core.List.{List}
 use lib.ListN.{length, getD}
 use denote.Ref.{now}
 use Rattle.netlist.specs.declared.File.the-variants as file
-use Rattle.netlist.specs.Content.{Pair}
-use Rattle.netlist.specs.Writing.{pairOperands, writeItem}
-use Rattle.write_command.specs.Parts.{pairItem, bytesOf}
+use Rattle.netlist.specs.Writing.{output, writeItem}
+use Rattle.write_command.specs.Parts.{bytesOf}
 use Rattle.write_command.proofs.Files.{stage-output-width}
 use Rattle.write_made.specs.Rails.{pairStored}
 use Rattle.verdict.specs.Graph.{tabulate}
 use Rattle.write_command.proofs.Putting.{put-same, PutTo, put-start, put-room, put-more, put-done}
-use Rattle.call_make.proofs.Building.{outputs-are}
+use Rattle.circuit.proofs.Tabulate.{map-tabulate}
+use Rattle.circuit.specs.Reference.{signalsIn}
 use borrow.Author.Needs.{needs}
 use Rattle.call_make.proofs.put_outputs.Statement.{statement}
 use Rattle.call_make.proofs.put_outputs.Tie as tie
 
 abbrev Inv-loop : tie.InvT-loop
 Inv-loop buffer₀ at reference rails from count j₀ buffer j =
-    PutTo file.Stage pairItem 5 (tabulate (λ i. pairStored rails (getD reference (from + i) 0)) count) buffer₀ at buffer j
+    PutTo file.Stage output 5 (tabulate (λ i. pairStored rails (getD reference (from + i) 0)) count) buffer₀ at buffer j
 
 abbrev μ-loop : tie.MeasureT-loop
 μ-loop buffer₀ at reference rails from count j₀ buffer j = count - j
 
 -- room for the next output
-room-at : (g : ℕ → Pair) (m : ℕ) {at k : ℕ} {buffer₀ buffer : List ℕ} → PutTo file.Stage pairItem 5 (tabulate g m) buffer₀ at buffer k → k < m → at + 5 * k + 5 ≤ length buffer
-room-at g m p l = put-room file.Stage pairItem 5 (λ p. stage-output-width (pairOperands p)) g m p l
+room-at : (g : ℕ → List ℕ) (m : ℕ) {at k : ℕ} {buffer₀ buffer : List ℕ} → PutTo file.Stage output 5 (tabulate g m) buffer₀ at buffer k → k < m → at + 5 * k + 5 ≤ length buffer
+room-at g m p l = put-room file.Stage output 5 stage-output-width g m p l
 
 loop-holds : tie.Need-loop-holds Inv-loop μ-loop
-loop-holds c = put-start file.Stage pairItem 5 (λ p. stage-output-width (pairOperands p)) _ _ _ _ (c .before .before .before .before .pre .2)
+loop-holds c = put-start file.Stage output 5 stage-output-width _ _ _ _ (c .before .before .before .before .pre .2)
 
 shared-slice-read-rails-of : tie.Need-shared-slice-read-rails-of Inv-loop μ-loop
 shared-slice-read-rails-of c = omega (arith, c .before .before .before .before .before .before .before .pre .0 .room)
@@ -49,18 +49,19 @@ put-stage-output-requires c κs = room-at _ _ (c .before .before .before .before
 
 loop-again : tie.Need-loop-again Inv-loop μ-loop
 loop-again c =
-    put-more file.Stage pairItem 5 (λ p. stage-output-width (pairOperands p)) _ _ (c .before .before .before .before .before .before .before .loop .inv)
+    put-more file.Stage output 5 stage-output-width _ _ (c .before .before .before .before .before .before .before .loop .inv)
     (c .before .before .before .before .before .before .loop-test .taken)
-    (put-same (ap (λ (p : Pair). writeItem file.Stage (pairItem p)) (c .before .before .before .before .rails-of .ensures)) (c .before .before .put-stage-output .ensures))
+    (put-same (ap (λ (p : List ℕ). writeItem file.Stage (output p)) (c .before .before .before .before .rails-of .ensures)) (c .before .before .put-stage-output .ensures))
 
 same-length : tie.Need-same-length Inv-loop μ-loop
-same-length c = c .before .loop .inv .left .long
+same-length c = c .before .loop .inv .items .left .long
 
 returns : tie.Need-returns Inv-loop μ-loop
+unfolding signalsIn
 returns c =
     let z = c .before .before .before .before .before .before in
-    put-same (ap (bytesOf file.Stage pairItem) (outputs-are (z .args .sizes) (now (z .args .reference)) (now (z .args .rails)) (λ j l. z .pre .0 .signal j l)))
-    (put-done file.Stage pairItem 5 (λ p. stage-output-width (pairOperands p)) _ _ (c .before .loop .inv) (omega arith))
+    put-same (ap (bytesOf file.Stage output) (sym (map-tabulate (pairStored (now (z .args .rails))) _ (z .args .sizes .outputs))))
+    (put-done file.Stage output 5 stage-output-width _ _ (c .before .loop .inv) (omega arith))
 
 pub put-outputs-spec : {M : Type 1} → statement M
 put-outputs-spec =

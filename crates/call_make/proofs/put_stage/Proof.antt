@@ -4,7 +4,7 @@ use native.Mathlib.Omega.{arith}
 use mathlib.Core.Path.{refl}
 use lib.ListN.{length-replicate}
 use denote.Ref.{now}
-use Rattle.call_make.proofs.Answering.{made-long-in, made-put-in}
+use Rattle.call_make.proofs.Answering.{made-long, made-put}
 use borrow.Author.Needs.{needs}
 use Rattle.call_make.proofs.put_stage.Statement.{statement}
 use Rattle.call_make.proofs.put_stage.Tie as tie
@@ -17,7 +17,7 @@ input-rails-requires c κs =
 put-inputs-requires : tie.Need-put-inputs-requires
 put-inputs-requires c κs =
     let z = c .before .before .before .before .before .before in
-    (omega (arith, z .pre .3, made-long-in (z .args .sizes) (now (z .args .reference))), omega (arith, z .pre .0 .within .inputs-in))
+    (omega (arith, z .pre .3, made-long (z .args .sizes) (now (z .args .reference))), omega (arith, z .pre .0 .within .inputs-in))
 
 put-gates-requires : tie.Need-put-gates-requires
 put-gates-requires c κs =
@@ -29,7 +29,7 @@ put-gates-requires c κs =
       omega (arith, p .inputs-in, p .gates-in, i .1, length-replicate {A = ℕ} 1044 0),
       i .0,
       z .pre .2,
-      omega (arith, z .pre .3, made-long-in (z .args .sizes) (now (z .args .reference)), c .before .before .before .before .put-inputs .ensures .long),
+      omega (arith, z .pre .3, made-long (z .args .sizes) (now (z .args .reference)), c .before .before .before .before .put-inputs .ensures .long),
     )
 
 put-outputs-requires : tie.Need-put-outputs-requires
@@ -37,7 +37,7 @@ put-outputs-requires c κs =
     let z = c .before .before .before .before .before .before .before .before .before .before .before .before .before .before .before .before .before in
     let p = z .pre .0 .within in
     let i = c .before .before .before .before .before .before .before .before .before .before .before .before .before .input-rails .ensures in
-    let long = made-long-in (z .args .sizes) (now (z .args .reference)) in
+    let long = made-long (z .args .sizes) (now (z .args .reference)) in
     let g = c .before .before .before .before .before .put-gates .ensures in (
       z .pre .0,
       omega (arith, p .inputs-in, p .gates-in, i .1, g .1 .1 .1, length-replicate {A = ℕ} 1044 0),
@@ -55,7 +55,7 @@ put-end-requires c κs =
     let y = c .before .before .before .before .before .before .before .before .before .before in
     let z = y .before .before .before .before .before .before .before .before .before .before .before .before in
     let g = y .put-gates .ensures in
-    let long = made-long-in (z .args .sizes) (now (z .args .reference)) in
+    let long = made-long (z .args .sizes) (now (z .args .reference)) in
     omega (arith, z .pre .3, long, y .before .before .before .before .before .put-inputs .ensures .long, g .0, g .1 .0 .long, c .before .before .before .before .put-outputs .ensures .long)
 
 returns : tie.Need-returns
@@ -63,7 +63,7 @@ returns c =
     let y = c .before .before .before .before .before .before .before .before .before .before .before .before .before in
     let z = y .before .before .before .before .before .before .before .before .before .before .before .before in
     let g = y .put-gates .ensures in
-    made-put-in (z .args .sizes) (now (z .args .reference)) _ (y .before .before .before .before .before .put-inputs .ensures) (g .1 .0)
+    made-put (z .args .sizes) (now (z .args .reference)) _ (z .pre .1) (y .before .before .before .before .before .put-inputs .ensures) (g .1 .0)
     (c .before .before .before .before .before .before .before .put-outputs .ensures) (c .before .before .put-end .ensures)
     (g .1 .1 .0) (omega (arith, g .0)) refl
 

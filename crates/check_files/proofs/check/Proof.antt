@@ -1,4 +1,6 @@
 -- `check_files::check` meets its contract. Assumes nothing.
+use native.Mathlib.Omega.{arith}
+use mathlib.Core.Path.{_∙_}
 use denote.Ref.{now}
 use Rattle.netlist.specs.Reading.{stageLimits, referenceLimits}
 use Rattle.netlist.proofs.Bounds.{no-more}
@@ -7,14 +9,24 @@ use borrow.Author.Needs.{needs}
 use Rattle.check_files.proofs.check.Statement.{statement}
 use Rattle.check_files.proofs.check.Tie as tie
 
-check-within-requires : tie.Need-check-within-requires
-check-within-requires c κs = (no-more _ stageLimits (c .before .stage-limits .ensures), no-more _ referenceLimits (c .reference-limits .ensures))
+check-loading-requires : tie.Need-check-loading-requires
+check-loading-requires c κs =
+    (no-more _ stageLimits (c .before .before .before .stage-limits .ensures), no-more _ referenceLimits (c .before .before .reference-limits .ensures), omega arith, omega arith)
 
 returns : tie.Need-returns
 returns c =
-    let z = c .before .before .before .before .before in
-    checked (z .args .order) _ _ (now (z .args .stage)) (now (z .args .reference)) _ (c .before .before .stage-limits .ensures)
-    (c .before .reference-limits .ensures) (c .check-within .ensures)
+    let z = c .before .before .before .before .before .before .before .before .before .before in
+    checked (z .args .order) _ _ (now (z .args .stage)) (now (z .args .reference)) _ (c .before .before .before .before .before .before .before .stage-limits .ensures) (c .before .before .before .before .before .before .reference-limits .ensures)
+    (c .verdict-of .ensures ∙ c .before .before .before .check-loading .ensures .verdict-is)
 
 pub check-spec : {M : Type 1} → statement M
-check-spec = tie.close (tie.spec (λ c κs. search needs) (λ c κs. search needs) check-within-requires returns)
+check-spec =
+    tie.close
+    (tie.spec
+    (λ c κs. search needs)
+    (λ c κs. search needs)
+    (λ c. search needs)
+    (λ c. search needs)
+    check-loading-requires
+    (λ c κs. search needs)
+    returns)

@@ -1,17 +1,12 @@
 -- `check_files::verdict_of` meets its contract. Assumes nothing.
 use mathlib.Core.Path.{sym, ap}
-use Rattle.verdict.specs.Verdicts.{verdictOf}
+use Rattle.check_files.specs.Judgement.{verdictOf}
 use borrow.Author.Needs.{needs}
 use Rattle.check_files.proofs.verdict_of.Statement.{statement}
 use Rattle.check_files.proofs.verdict_of.Tie as tie
 
-returns : tie.Need-returns
-unfolding verdictOf
-returns c = sym (ap verdictOf (c .before .finding .given .1))
-
 returns-2 : tie.Need-returns-2
-unfolding verdictOf
 returns-2 c = sym (ap verdictOf (c .enum-told .given .1))
 
 pub verdict-of-spec : {M : Type 1} → statement M
-verdict-of-spec = tie.close (tie.spec (λ c. search needs) (λ c. search needs) returns returns-2)
+verdict-of-spec = tie.close (tie.spec (λ c. search needs) (λ c. search needs) (λ c. search needs) returns-2)

@@ -30,7 +30,7 @@ returns c =
     let z = c .before .before .before .before .before .before .before .before .before .before .before .before .before .before in
     let w = z .pre .answers .within in
     wrong-word (z .args .counts) (now (z .args .code)) (z .args .sizes) (now (z .args .reference)) (z .args .w) (z .pre .answers)
-    (z .pre .enough) _ _ _ _
+    (omega (arith, z .pre .outputs)) _ _ _ _
     (c .before .before .before .before .before .before .before .before .before .before .settle-word .ensures .0) _
     (c .before .before .before .before .before .before .before .word-bits .ensures) (omega (arith, w .inputs-in))
     (c .before .before .before .before .signal-values .ensures .0) (c .first-misread .ensures)

@@ -1,12 +1,17 @@
 -- `check_words::sweep_all` meets its contract: where the masks name no word all checks pass; else the start of the list is the names of the stage's words.
 -- Assumes nothing.
+use native.Mathlib.Omega.{arith}
+use denote.Ref.{now}
+use Rattle.check_words.proofs.Sweeping.{enough-signals}
 use Rattle.words.proofs.Listing.{listed-start, listed-in, listed-count}
 use borrow.Author.Needs.{needs}
 use Rattle.check_words.proofs.sweep_all.Statement.{statement}
 use Rattle.check_words.proofs.sweep_all.Tie as tie
 
 returns : tie.Need-returns
-returns c = c .before .nothing-named .ensures (c .if1 .taken) _ _ (c .before .before .screen .ensures)
+returns c =
+    let z = c .before .before .before .before .before .before .before in
+    c .before .nothing-named .ensures (c .if1 .taken) _ _ (enough-signals (z .args .sizes) (now (z .args .reference)) (omega (arith, z .pre .outputs))) (c .before .before .screen .ensures)
 
 array-share-prefix-list : tie.Need-array-share-prefix-list
 array-share-prefix-list c = listed-in (c .before .list-names .ensures)

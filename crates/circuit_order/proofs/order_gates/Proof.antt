@@ -1,6 +1,6 @@
 -- `circuit_order::order_gates` meets its contract: where all gates are placed no gate reaches itself. Assumes nothing.
 use borrow.Author.Needs.{needs}
-use Rattle.circuit_order.proofs.Marking.{fresh}
+use Rattle.circuit_order.proofs.Placing.{fresh}
 use Rattle.circuit_order.proofs.Searching.{found-none, found-some}
 use Rattle.circuit_order.proofs.order_gates.Statement.{statement}
 use Rattle.circuit_order.proofs.order_gates.Tie as tie

@@ -1,6 +1,7 @@
 -- `circuit_order::place` meets its contract. Assumes nothing.
 use Prim.Native.Nat.{_<_}
 use native.Mathlib.Omega.{arith}
+use mathlib.Core.Path.{refl}
 use borrow.Author.Needs.{needs}
 use lib.ListN.{length-set}
 use denote.Ref.{now}
@@ -25,6 +26,7 @@ returns c =
     let z = c .before in (
       placing-more (z .args .counts) (now (z .args .code)) (now (z .args .waiting)) _ (z .pre .0) _ (z .pre .1) (z .pre .2),
       placed-reordered (z .args .counts) (now (z .args .code)) (now (z .args .waiting)) _ (z .pre .0) _ (z .pre .1) (z .pre .2),
+      refl,
     )
 
 pub place-spec : {M : Type 1} → statement M

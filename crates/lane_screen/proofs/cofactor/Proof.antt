@@ -34,7 +34,7 @@ returns c =
     ap (λ (r : CellLanes). r .set)
     (lanes-alike _ _ _ _ _ _ _ _ _ _ (c .before .before .before .before .before .before .before .before .cofactor-pin .ensures)
     (c .before .before .before .before .before .before .cofactor-pin2 .ensures) (c .before .before .before .before .cofactor-pin3 .ensures)
-    (c .before .before .cofactor-pin4 .ensures) (c .cell-lanes .ensures))
+    (c .before .before .cofactor-pin4 .ensures) (c .cell-lanes .ensures .lanes))
 
 pub cofactor-spec : {M : Type 1} → statement M
 cofactor-spec =

@@ -46,12 +46,12 @@ mul-lanes-at c =
 shared-slice-read-lanes-at : tie.Need-shared-slice-read-lanes-at Inv-loop μ-loop
 shared-slice-read-lanes-at c =
     omega
-    (arith, c .before .before .before .before .before .before .before .before .before .pre .0 .answers .room, c .before .before .before .before .before .before .before .before .before .pre .0 .enough)
+    (arith, c .before .before .before .before .before .before .before .before .before .pre .0 .answers .room, c .before .before .before .before .before .before .before .before .before .pre .0 .outputs)
 
 lanes-at-requires : tie.Need-lanes-at-requires Inv-loop μ-loop
 lanes-at-requires c κs =
     let z = c .before .before .before .before .before .before .before .before .before in
-    omega (arith, z .pre .2, z .pre .0 .answers .signal (c .before .before .before .loop .j) (omega (arith, z .pre .0 .enough)))
+    omega (arith, z .pre .2, z .pre .0 .answers .signal (c .before .before .before .loop .j) (omega (arith, z .pre .0 .outputs)))
 
 misread-requires : tie.Need-misread-requires Inv-loop μ-loop
 misread-requires c κs = let z = c .before .before .before .before .before .before .before .before .before .before in (z .pre .0 .stage, omega arith, z .pre .1)

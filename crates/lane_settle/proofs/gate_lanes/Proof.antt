@@ -31,7 +31,7 @@ returns : tie.Need-returns
 returns c =
     lanes-alike _ _ _ _ _ _ _ _ _ _ (c .before .before .before .before .before .before .before .before .lanes-at .ensures)
     (c .before .before .before .before .before .before .lanes-at2 .ensures) (c .before .before .before .before .lanes-at3 .ensures)
-    (c .before .before .lanes-at4 .ensures) (c .cell-lanes .ensures)
+    (c .before .before .lanes-at4 .ensures) (c .cell-lanes .ensures .lanes)
 
 pub gate-lanes-spec : {M : Type 1} → statement M
 gate-lanes-spec =

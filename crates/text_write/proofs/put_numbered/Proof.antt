@@ -1,6 +1,6 @@
 -- `text_write::put_numbered` meets its contract. Assumes nothing.
 use mathlib.Core.List.{[], _∷_}
-use Rattle.write_decimal.specs.Decimal.{decimal}
+use Rattle.print_spec.specs.Decimal.{decimal}
 use Rattle.text_spec.specs.ToText.{numbered}
 use Rattle.text_write.proofs.Loops.{text-all, text-room, text-put, text-last}
 use Rattle.text_write.proofs.Names.{numbered-parts}

@@ -3,6 +3,7 @@
 use Prim.Native.Nat.{_-_}
 use native.Mathlib.Omega.{arith}
 use borrow.Author.Needs.{needs}
+use Rattle.netlist.specs.Reading.{stageLimits}
 use Rattle.words.proofs.Turning.{TurnedTo, turned-start, turned-few, turned-more, turned-done}
 use Rattle.words.proofs.turned.Statement.{statement}
 use Rattle.words.proofs.turned.Tie as tie
@@ -13,7 +14,7 @@ abbrev Inv-loop : tie.InvT-loop
 Inv-loop inputs name left₀ word₀ i₀ left word i = TurnedTo inputs name i left word
 
 abbrev μ-loop : tie.MeasureT-loop
-μ-loop inputs name left₀ word₀ i₀ left word i = inputs - i
+μ-loop inputs name left₀ word₀ i₀ left word i = stageLimits .inputs - i
 
 loop-holds : tie.Need-loop-holds Inv-loop μ-loop
 loop-holds c = turned-start _ _

@@ -36,7 +36,7 @@ loop-again c = put-more file.Stage care 3 care-width _ _ (c .before .before .bef
     (c .before .before .put-care .ensures)
 
 same-length : tie.Need-same-length Inv-loop μ-loop
-same-length c = c .before .loop .inv .left .long
+same-length c = c .before .loop .inv .items .left .long
 
 returns : tie.Need-returns Inv-loop μ-loop
 unfolding stageCare

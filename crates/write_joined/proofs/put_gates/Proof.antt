@@ -41,7 +41,7 @@ loop-again c = put-more file.Stage gateItem 10 (λ g. stage-gate-width (codedGat
     (c .before .before .before .before .loop-test .taken) (c .before .before .put-gate .ensures)
 
 same-length : tie.Need-same-length Inv-loop μ-loop
-same-length c = c .before .loop .inv .left .long
+same-length c = c .before .loop .inv .items .left .long
 
 returns : tie.Need-returns Inv-loop μ-loop
 unfolding stageGates

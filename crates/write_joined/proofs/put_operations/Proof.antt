@@ -40,7 +40,7 @@ loop-again c = put-more file.Reference gate 6 reference-gate-width _ _ (c .befor
     (c .before .before .put-operation .ensures)
 
 same-length : tie.Need-same-length Inv-loop μ-loop
-same-length c = c .before .loop .inv .left .long
+same-length c = c .before .loop .inv .items .left .long
 
 returns : tie.Need-returns Inv-loop μ-loop
 unfolding operatorsIn

@@ -59,7 +59,7 @@ loop-again c =
     (put-same (ap (λ (v : ℕ). writeItem file.Reference (signalItem v)) (c .before .before .before .before .signal-in-whole .ensures)) (c .before .before .put-reference-output .ensures))
 
 same-length : tie.Need-same-length Inv-loop μ-loop
-same-length c = c .before .loop .inv .left .long
+same-length c = c .before .loop .inv .items .left .long
 
 returns : tie.Need-returns Inv-loop μ-loop
 unfolding signalsIn

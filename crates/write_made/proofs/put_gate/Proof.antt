@@ -1,15 +1,18 @@
 -- `write_made::put_gate` meets its contract. Assumes nothing.
 use native.Mathlib.Omega.{arith}
-use Prim.Native.Nat.{_+_, _*_, _≤_}
-use mathlib.Core.Path.{sym, ap, _∙_}
+use Prim.Native.Nat.{ℕ, _+_, _*_, _≤_}
+use mathlib.Core.Path.{refl, ap, ap₂, _∙_}
+use mathlib.Core.List.{List}
 use lib.ListN.{length, length-set}
 use denote.Ref.{now}
 use Rattle.netlist.specs.declared.File.the-variants as file
-use Rattle.make_spec.specs.Made.{Realized}
-use Rattle.write_command.specs.Parts.{gateItem, bytesOf}
-use Rattle.circuit.specs.Reference.{operationIn, operatorIn}
+use Rattle.netlist.specs.Writing.{gate}
+use Rattle.make_spec.specs.Make.{Built, realize}
+use Rattle.write_command.specs.Parts.{bytesOf}
+use Rattle.circuit.specs.Reference.{operationIn, operandIn, operatorIn}
+use Rattle.write_made.specs.Rails.{pairStored}
 use Rattle.write_command.proofs.Putting.{put-same}
-use Rattle.write_made.proofs.Operations.{becomes-is, not-gates, other-gates, one-operation, put-no-gate, rails-stored}
+use Rattle.write_made.proofs.Operations.{not-gates, other-gates, one-operation, put-no-gate}
 use borrow.Author.Needs.{needs}
 use Rattle.write_made.proofs.put_gate.Statement.{statement}
 use Rattle.write_made.proofs.put_gate.Tie as tie
@@ -37,16 +40,14 @@ slice-write-rails-2 c =
 returns : tie.Need-returns
 returns c =
     let z = c .before .before .before .before .before .before .before .before .before .before .before .before .before .before in
-    let reference = now (z .args .reference) in
+    let code = now (z .args .reference) in
+    let rails = now (z .args .rails) in
     let k = z .args .k in
-    let first = z .pre .0 .operand k 0 (z .pre .1) (omega arith) in
-    let second = z .pre .0 .operand k 1 (z .pre .1) (omega arith) in
-    let a-is = c .before .before .before .before .before .before .before .rails-of .ensures in
-    let b-is = c .before .before .before .before .rails-of2 .ensures in
-    let is = becomes-is (z .args .sizes) reference k (now (z .args .rails)) (z .args .made) _ _ first second a-is b-is in
-    let none = not-gates (z .args .sizes) reference k (now (z .args .rails)) (z .args .made) _ _ first second a-is b-is (c .if1 .taken) in
-    let rails = c .before .before .result-rails .ensures _ ∙ ap (λ (x : Realized). x .rails) (sym is) in
-    (omega (arith, ap length none), (put-no-gate none, rails-stored (now (z .args .rails)) (2 * (z .args .sizes .inputs + k)) rails))
+    let op = operationIn code k in
+    let net = 2 * z .args .sizes .inputs + z .args .made in
+    let is = ap₂ (λ (a b : List ℕ). realize op a b net) (c .before .before .before .before .before .before .before .rails-of .ensures) (c .before .before .before .before .rails-of2 .ensures) in
+    let none = not-gates op (pairStored rails (operandIn code k 0)) (pairStored rails (operandIn code k 1)) net (c .if1 .taken) in
+    (omega (arith, ap length none), (put-no-gate none, (_, c .before .before .result-rails .ensures _ ∙ ap (λ (x : Built). x .rails) is, refl)))
 
 put-operation-requires : tie.Need-put-operation-requires
 put-operation-requires c κs =
@@ -60,20 +61,18 @@ put-operation-requires c κs =
 returns-2 : tie.Need-returns-2
 returns-2 c =
     let z = c .before .before .before .before .before .before .before .before .before .before .before .before .before .before .before .before .before .before in
-    let reference = now (z .args .reference) in
+    let code = now (z .args .reference) in
+    let rails = now (z .args .rails) in
     let k = z .args .k in
-    let first = z .pre .0 .operand k 0 (z .pre .1) (omega arith) in
-    let second = z .pre .0 .operand k 1 (z .pre .1) (omega arith) in
-    let a-is = c .before .before .before .before .before .before .before .before .before .before .before .rails-of .ensures in
-    let b-is = c .before .before .before .before .before .before .before .before .rails-of2 .ensures in
-    let is = becomes-is (z .args .sizes) reference k (now (z .args .rails)) (z .args .made) _ _ first second a-is b-is in
-    let rails = c .before .before .before .before .before .before .result-rails .ensures _ ∙ ap (λ (x : Realized). x .rails) (sym is) in
-    let low : 2 ≤ operationIn reference k = omega (arith, z .pre .0 .low k (z .pre .1), c .before .before .before .before .if1 .left) in
-    let two = other-gates (z .args .sizes) reference k (now (z .args .rails)) (z .args .made) _ _ first second a-is b-is low (z .pre .0 .high k (z .pre .1)) in (
-      omega (arith, two),
+    let op = operationIn code k in
+    let net = 2 * z .args .sizes .inputs + z .args .made in
+    let is = ap₂ (λ (a b : List ℕ). realize op a b net) (c .before .before .before .before .before .before .before .before .before .before .before .rails-of .ensures)
+    (c .before .before .before .before .before .before .before .before .rails-of2 .ensures) in
+    let low : 2 ≤ op = omega (arith, z .pre .0 .low k (z .pre .1), c .before .before .before .before .if1 .left) in (
+      omega (arith, other-gates op (pairStored rails (operandIn code k 0)) (pairStored rails (operandIn code k 1)) net low (z .pre .0 .high k (z .pre .1))),
       (
-        put-same (ap (λ (x : Realized). bytesOf file.Stage gateItem (x .gates)) (sym is)) (c .before .before .put-operation .ensures _),
-        rails-stored (now (z .args .rails)) (2 * (z .args .sizes .inputs + k)) rails,
+        put-same (ap (λ (x : Built). bytesOf file.Stage gate (x .gates)) is) (c .before .before .put-operation .ensures _),
+        (_, c .before .before .before .before .before .before .result-rails .ensures _ ∙ ap (λ (x : Built). x .rails) is, refl),
       ),
     )
 

@@ -1,25 +1,23 @@
 -- `write_made::result_rails` meets its contract. Assumes nothing.
 use native.Mathlib.Omega.{arith}
-use mathlib.Core.Path.{refl}
-use mathlib.Core.List.{[], _∷_}
 use Rattle.write_made.specs.Rails.{pairOf}
-use Rattle.make_spec.specs.Made.{realize}
-use Rattle.write_made.proofs.Operations.{rails-at, rails-other}
+use Rattle.make_spec.specs.Make.{realize}
+use Rattle.write_made.proofs.Operations.{part-at, rails-other}
 use borrow.Author.Needs.{needs}
 use Rattle.write_made.proofs.result_rails.Statement.{statement}
 use Rattle.write_made.proofs.result_rails.Tie as tie
 
 returns : tie.Need-returns
 unfolding realize
-returns c b = let z = c .before in rails-at 1 (z .args .operation) (pairOf (z .args .a) ∷ pairOf b ∷ []) (z .args .next) (c .match .keys1) refl
+returns c b = let z = c .before in part-at (λ x. x .rails) 1 (z .args .operation) (pairOf (z .args .a)) (pairOf b) (z .args .next) (c .match .keys1)
 
 returns-2 : tie.Need-returns-2
 unfolding realize
-returns-2 c b = let z = c .before in rails-at 2 (z .args .operation) (pairOf (z .args .a) ∷ pairOf b ∷ []) (z .args .next) (c .match .keys2) refl
+returns-2 c b = let z = c .before in part-at (λ x. x .rails) 2 (z .args .operation) (pairOf (z .args .a)) (pairOf b) (z .args .next) (c .match .keys2)
 
 returns-3 : tie.Need-returns-3
 unfolding realize
-returns-3 c b = let z = c .before in rails-at 6 (z .args .operation) (pairOf (z .args .a) ∷ pairOf b ∷ []) (z .args .next) (c .match .keys3) refl
+returns-3 c b = let z = c .before in part-at (λ x. x .rails) 6 (z .args .operation) (pairOf (z .args .a)) (pairOf b) (z .args .next) (c .match .keys3)
 
 returns-4 : tie.Need-returns-4
 returns-4 c b = let z = c .before in rails-other (z .args .operation) (pairOf (z .args .a)) (pairOf b) (z .args .next) (omega arith) (omega arith)

@@ -1,0 +1,575 @@
+//! Changes of a stage that the check accepts. Each is judged by the library; nothing here says of itself that a stage is right. `explain` tries the
+//! likeliest and shows some, `mend` tries every single one: both take them from here. Single changes are another kind, another hold, a pin or a rail of
+//! an output on another net; where more has to change at once, only some ways are tried.
+
+use crate::explain::{Order, DEPTH};
+use crate::netlist::{commands, gate_command, kind_name, pin_count, relaxed, two, Form, Reference, Side, Stage, ABSENT};
+use crate::situation::{once, Situation};
+use fovaheju::Verdict;
+
+/// How many of the gates that are named are changed first.
+const GATES: usize = 8;
+/// The kind that is no longer cast.
+const RETIRED: u8 = 24;
+const THAND0: u8 = 26;
+const TH12: u8 = 1;
+
+/// The file after a change, and what was changed.
+#[derive(Clone)]
+pub struct Change {
+    pub file: Vec<u8>,
+    pub says: String,
+    /// Of changes that have this alike, one is shown: the orders of pins on one kind.
+    sort: Option<(usize, u8)>,
+    /// Whether it is of one kind, hold, pin or rail alone.
+    pub single: bool,
+}
+
+impl Change {
+    /// A change of one kind, hold, pin or rail.
+    fn single(file: Vec<u8>, says: String) -> Change {
+        Change { file, says, sort: None, single: true }
+    }
+
+    /// A change of more than that.
+    fn several(file: Vec<u8>, says: String) -> Change {
+        Change { file, says, sort: None, single: false }
+    }
+
+    /// Whether it is another change than one that was found: two ways to one stage are one.
+    pub fn differs(&self, other: &Change) -> bool {
+        other.file != self.file && (self.sort.is_none() || other.sort != self.sort)
+    }
+}
+
+/// Changes that are made one by one, as they are tried.
+pub type Changes<'a> = Box<dyn Iterator<Item = Change> + 'a>;
+
+/// A stage to be changed.
+#[derive(Clone, Copy)]
+struct Base<'a> {
+    file: &'a [u8],
+    stage: &'a Stage,
+}
+
+/// What a verdict names: where changes are likely to help.
+struct Named {
+    /// The gates to look at.
+    gates: Vec<usize>,
+    /// An output that is wrong.
+    output: Option<usize>,
+    /// A net that no output waits for.
+    net: Option<usize>,
+    /// Whether that is on the way to DATA.
+    rises: bool,
+    /// The gates of a kind that is no longer cast.
+    retired: Vec<usize>,
+}
+
+impl Named {
+    /// What a verdict on the gates of a stage names; of other verdicts nothing.
+    fn of(verdict: Verdict, base: Base, reference: &[u8], order: Order) -> Option<Named> {
+        let (stage, at) = (base.stage, verdict.at as usize);
+        let mut named = Named { gates: Vec::new(), output: None, net: None, rises: true, retired: Vec::new() };
+        match verdict.number {
+            12 => named.gates = stage.shortest_loop(at),
+            28 => named.retired = stage.alike(at),
+            32 => named.gates = vec![at],
+            13 => {
+                let case = Situation::of(verdict, base.file, stage, order)?;
+                let value = Reference::of(reference).answer(&case.values).get(at).copied().unwrap_or(false);
+                for (_, net) in case.wrong_rails(at, value) {
+                    case.behind(net, DEPTH, &mut named.gates);
+                }
+                named.output = Some(at);
+            }
+            _ => {
+                let case = Situation::of(verdict, base.file, stage, order)?;
+                (named.gates, named.net, named.rises) = (case.places(), case.odd_net(), !case.falls);
+            }
+        }
+        Some(named)
+    }
+}
+
+/// A refused stage that some change may mend.
+pub struct Mending<'a> {
+    base: Base<'a>,
+    reference: &'a [u8],
+    order: Order,
+    named: Named,
+    /// A gate that feeds nothing. Of it every change that keeps it low is accepted, and says nothing: it is only taken out.
+    spare: Option<usize>,
+    number: u64,
+}
+
+impl<'a> Mending<'a> {
+    /// None where the verdict speaks of bytes, lines or counts, or accepts.
+    pub fn of(verdict: Verdict, file: &'a [u8], reference: &'a [u8], stage: &'a Stage, order: Order) -> Option<Mending<'a>> {
+        let base = Base { file, stage };
+        let named = Named::of(verdict, base, reference, order)?;
+        let late = named.net.and_then(|net| stage.driver(net));
+        let spare = late.or(named.gates.first().copied()).filter(|&gate| base.feeds_nothing(gate));
+        Some(Mending { base, reference, order, named, spare, number: verdict.number })
+    }
+
+    /// The library's answer to a change.
+    pub fn accepts(&self, change: &Change) -> bool {
+        fovaheju::check(self.order.mark(), &change.file, self.reference).accepts()
+    }
+
+    /// The first changes that are accepted: of those that are likely, and where none is, of others. At most so many of each are tried; how many
+    /// were is answered too.
+    pub fn some(&self, shown: usize, tries: usize) -> (Vec<Change>, usize) {
+        let (found, tried) = self.first(self.likely(), shown, tries);
+        if !found.is_empty() {
+            return (found, tried);
+        }
+        let (found, more) = self.first(Box::new(self.others().chain(std::iter::once_with(|| self.waiting()).flatten())), shown, tries);
+        (found, tried + more)
+    }
+
+    fn first(&self, changes: Changes<'_>, shown: usize, tries: usize) -> (Vec<Change>, usize) {
+        let (mut found, mut tried) = (Vec::<Change>::new(), 0);
+        for change in changes.take(tries) {
+            tried += 1;
+            if found.iter().all(|other| change.differs(other)) && self.accepts(&change) {
+                found.push(change);
+            }
+            if found.len() == shown {
+                break;
+            }
+        }
+        (found, tried)
+    }
+
+    /// Changes of what is named, single ones and others, the likeliest first.
+    fn likely(&self) -> Changes<'a> {
+        match self.spare {
+            Some(gate) => Box::new(self.base.without(gate).into_iter()),
+            None if !self.named.retired.is_empty() => self.base.of_retired(self.named.retired.clone()),
+            None => {
+                let (base, reference, order) = (self.base, self.reference, self.order);
+                let holds = (!self.named.rises).then(|| std::iter::once_with(move || base.needed_hold(reference, order)).flatten());
+                self.base.of_named(&self.named, Box::new(holds.into_iter().flatten()))
+            }
+        }
+    }
+
+    /// Two changes of a gate that is named, then single ones of all others.
+    fn others(&self) -> Changes<'a> {
+        match self.spare {
+            None if self.named.retired.is_empty() => self.base.of_all(&self.named),
+            _ => Box::new(std::iter::empty()),
+        }
+    }
+
+    /// Changes of what is named that are no single ones.
+    pub fn several(&self) -> Changes<'a> {
+        Box::new(self.likely().chain(self.others()).filter(|change| !change.single))
+    }
+
+    /// An output that waits for the input that it does not wait for, by gates that are added.
+    pub fn waiting(&self) -> Option<Change> {
+        let net = self.named.net.filter(|&net| net < 2 * self.base.stage.inputs && self.named.rises)?;
+        self.base.waiting(net / 2, self.reference, self.order)
+    }
+
+    /// The parts whose single changes are tried: each output, then each gate; none where a gate is only to be taken out.
+    pub fn parts(&self) -> Vec<Part> {
+        if self.spare.is_some() {
+            return Vec::new();
+        }
+        let stage = self.base.stage;
+        (0..stage.outputs.len()).map(Part::Output).chain((0..stage.gates.len()).map(Part::Gate)).collect()
+    }
+
+    /// Every single change of a part.
+    pub fn singles(&self, part: Part) -> Vec<Change> {
+        match part {
+            Part::Output(output) => self.base.rails_exchanged(output).into_iter().chain(self.base.other_rails(output)).collect(),
+            Part::Gate(gate) => [self.base.other_kinds(gate), self.base.other_pins(gate)].concat(),
+        }
+    }
+
+    /// The single changes of pins of the gates on the way, under 14 and 15: those that put a pin on a late net first. Two of them at once are tried
+    /// where nothing else helps.
+    pub fn pins(&self) -> Vec<Pin> {
+        let stage = self.base.stage;
+        if !matches!(self.number, 14 | 15) || self.spare.is_some() {
+            return Vec::new();
+        }
+        let gates = self.named.gates.iter().take(GATES);
+        let places = gates.flat_map(|&gate| (0..stage.gates[gate].pins.len()).map(move |pin| (gate, pin)));
+        let mut pins: Vec<Pin> = places.flat_map(|(gate, pin)| (0..stage.nets()).map(move |net| Pin { gate, pin, net })).collect();
+        pins.retain(|pin| stage.gates[pin.gate].pins[pin.pin] != pin.net);
+        let late = self.named.net;
+        pins.sort_by_key(|pin| Some(pin.net) != late);
+        pins
+    }
+
+    /// Two changes of pins at once; none where both are of one pin.
+    pub fn both(&self, first: Pin, second: Pin) -> Option<Change> {
+        if (first.gate, first.pin) == (second.gate, second.pin) {
+            return None;
+        }
+        let one = self.base.other_pin(first);
+        let two = Base { file: &one.file, ..self.base }.other_pin(second);
+        Some(Change::several(two.file, format!("{}, and {}", one.says, two.says)))
+    }
+}
+
+/// An output or a gate.
+#[derive(Clone, Copy, PartialEq, Eq, Debug)]
+pub enum Part {
+    Output(usize),
+    Gate(usize),
+}
+
+/// A pin of a gate that is put on another net.
+#[derive(Clone, Copy, PartialEq, Eq, Debug)]
+pub struct Pin {
+    pub gate: usize,
+    pub pin: usize,
+    pub net: usize,
+}
+
+impl<'a> Base<'a> {
+    /// Changes of what is named, the likeliest first, among them those of the gates' hold.
+    fn of_named(self, named: &Named, holds: Changes<'a>) -> Changes<'a> {
+        let near: Vec<usize> = named.gates.iter().copied().take(GATES).collect();
+        let (output, net) = (named.output, named.net);
+        let late = net.and_then(|net| self.stage.driver(net)).filter(|_| named.rises);
+        let each = |gates: &Vec<usize>| gates.clone().into_iter();
+        let outputs = output.into_iter().flat_map(move |output| {
+            let others = (0..self.stage.outputs.len()).filter(move |&j| j != output);
+            self.rails_exchanged(output).into_iter().chain(others.filter_map(move |j| self.outputs_exchanged(output, j)))
+        });
+        let kinds = each(&near)
+            .flat_map(move |gate| self.completed(gate).into_iter().chain(self.completed_by_gates(gate)).chain(self.other_kinds(gate)));
+        let built_in = late.into_iter().flat_map(move |gate| self.built_in(gate));
+        let more = net
+            .into_iter()
+            .zip([near.clone()])
+            .flat_map(move |(net, near)| near.into_iter().flat_map(move |gate| self.one_pin_more(gate, net)));
+        let rails = output.into_iter().flat_map(move |output| self.other_rails(output));
+        let pins = each(&near).flat_map(move |gate| self.other_pins(gate));
+        Box::new(outputs.chain(kinds).chain(holds).chain(built_in).chain(more).chain(rails).chain(pins))
+    }
+
+    /// Two changes of a gate that is named, its kind and the order of its pins, then changes of all other gates.
+    fn of_all(self, named: &Named) -> Changes<'a> {
+        let (near, far): (Vec<usize>, Vec<usize>) =
+            (0..self.stage.gates.len()).partition(|gate| named.gates.iter().take(GATES).any(|near| near == gate));
+        let mixed = near.into_iter().flat_map(move |gate| self.pins_and_kind(gate));
+        let kinds = far.clone().into_iter().flat_map(move |gate| self.other_kinds(gate));
+        let pins = far.into_iter().flat_map(move |gate| self.other_pins(gate));
+        Box::new(mixed.chain(kinds).chain(pins))
+    }
+
+    /// Whether no gate but itself reads a gate, and no output does.
+    fn feeds_nothing(&self, gate: usize) -> bool {
+        let net = self.stage.net_of(gate);
+        self.stage.readers(net).iter().all(|&reader| reader == gate) && !self.stage.outputs.iter().flatten().any(|&rail| rail == net)
+    }
+
+    /// The file with other bytes at a place.
+    fn with(&self, at: usize, bytes: &[u8]) -> Vec<u8> {
+        let mut file = self.file.to_vec();
+        if let Some(place) = file.get_mut(at..at + bytes.len()) {
+            place.copy_from_slice(bytes);
+        }
+        file
+    }
+
+    fn with_kinds(&self, kinds: &[(usize, u8)]) -> Vec<u8> {
+        let mut file = self.file.to_vec();
+        kinds.iter().for_each(|&(gate, kind)| file[self.stage.gates[gate].at + 1] = kind);
+        file
+    }
+
+    /// Where the rails of an output stand.
+    fn rails_at(&self, output: usize) -> Option<usize> {
+        let commands = commands(self.file, Side::Stage);
+        let mut outputs = commands.iter().filter(|command| command.form == Some(Form::Output));
+        outputs.nth(output).map(|command| command.at + 1)
+    }
+
+    fn rails_exchanged(&self, output: usize) -> Option<Change> {
+        let [low, high] = *self.stage.outputs.get(output)?;
+        let file = self.with(self.rails_at(output)?, &two([high, low]));
+        Some(Change::single(file, format!("the rails of {} exchanged", self.stage.output_name(output))))
+    }
+
+    fn outputs_exchanged(&self, output: usize, other: usize) -> Option<Change> {
+        let file = self.with(self.rails_at(output)?, &two(self.stage.outputs[other]));
+        let file = Base { file: &file, ..*self }.with(self.rails_at(other)?, &two(self.stage.outputs[output]));
+        let names = [output, other].map(|output| self.stage.output_name(output));
+        Some(Change::several(file, format!("{} exchanged", names.join(" and "))))
+    }
+
+    /// An output with one rail on another net.
+    fn other_rails(&self, output: usize) -> Vec<Change> {
+        let (Some(at), Some(&rails)) = (self.rails_at(output), self.stage.outputs.get(output)) else { return Vec::new() };
+        let places = (0..2).flat_map(|rail| (0..self.stage.nets()).map(move |net| (rail, net)));
+        let others = places.filter(|&(rail, net)| rails[rail] != net);
+        let name = self.stage.output_name(output);
+        let change = |(rail, net): (usize, usize)| {
+            let [now, before] = [net, rails[rail]].map(|net| self.stage.net_name(net));
+            let file = self.with(at + 2 * rail, &(net as u16).to_le_bytes());
+            Change::single(file, format!("rail {rail} of {name} on {now} in place of {before}"))
+        };
+        others.map(change).collect()
+    }
+
+    /// A gate with this kind and these pins.
+    fn gate_as(&self, gate: usize, kind: u8, pins: &[usize]) -> Change {
+        let names: Vec<String> = pins.iter().map(|&net| self.stage.net_name(net)).collect();
+        let says = format!("{} = {}({})", self.stage.gate_name(gate), kind_name(kind).unwrap_or_default(), names.join(", "));
+        Change::several(self.with(self.stage.gates[gate].at, &gate_command(kind, pins)), says)
+    }
+
+    /// A gate on two input rails in the form that waits for both inputs.
+    fn completed(&self, gate: usize) -> Option<Change> {
+        let found = &self.stage.gates[gate];
+        let &[a, b] = found.pins.as_slice() else { return None };
+        let rails = 2 * self.stage.inputs;
+        (a < rails && b < rails && a / 2 != b / 2).then(|| self.gate_as(gate, THAND0 | found.kind & 0x80, &[a, b, a ^ 1, b ^ 1]))
+    }
+
+    /// A TH12 in the form that waits for both signals, where a TH22 reads the other rails of the two.
+    fn completed_by_gates(&self, gate: usize) -> Vec<Change> {
+        let found = &self.stage.gates[gate];
+        let &[a, b] = found.pins.as_slice() else { return Vec::new() };
+        let others = self.stage.gates.iter().filter(|other| found.kind & 0x7F == TH12 && other.kind & 0x7F == 2);
+        let pins = others.flat_map(|other| [[a, b, other.pins[0], other.pins[1]], [a, b, other.pins[1], other.pins[0]]]);
+        pins.map(|pins| self.gate_as(gate, THAND0 | found.kind & 0x80, &pins)).collect()
+    }
+
+    /// A gate of another kind with as many pins, first with its hold or without; no retired kind.
+    fn other_kinds(&self, gate: usize) -> Vec<Change> {
+        let found = &self.stage.gates[gate];
+        let cells = (1..=27).map(|cell| cell | found.kind & 0x80);
+        let kinds = [found.kind ^ 0x80].into_iter().chain(cells);
+        let others = kinds.filter(|&kind| kind != found.kind && kind & 0x7F != RETIRED && pin_count(kind) == Some(found.pins.len()));
+        let change = |kind: u8| {
+            let [name, new] = [self.stage.gate_name(gate), kind_name(kind).unwrap_or_default()];
+            Change::single(self.with_kinds(&[(gate, kind)]), format!("{name} as {new} in place of {}", found.name()))
+        };
+        others.map(change).collect()
+    }
+
+    /// The relaxed gates that need their hold, with it: those that the check names one after the other, but for those that it does without.
+    fn needed_hold(self, reference: &[u8], order: Order) -> Option<Change> {
+        let verdict = |held: &[usize]| fovaheju::check(order.mark(), &self.with_hold(held), reference);
+        let all: Vec<usize> = (0..self.stage.gates.len()).filter(|&gate| relaxed(self.stage.gates[gate].kind)).collect();
+        let mut held = Vec::new();
+        loop {
+            let found = verdict(&held);
+            if found.accepts() {
+                break;
+            }
+            let case = Situation::of(found, &self.with_hold(&held), self.stage, order).filter(|case| case.falls)?;
+            let next = case.places().into_iter().find(|gate| all.contains(gate) && !held.contains(gate));
+            match next {
+                Some(gate) => held.push(gate),
+                None if held.len() < all.len() => held = all.clone(),
+                None => return None,
+            }
+        }
+        for gate in held.clone() {
+            let fewer: Vec<usize> = held.iter().copied().filter(|&other| other != gate).collect();
+            if verdict(&fewer).accepts() {
+                held = fewer;
+            }
+        }
+        held.sort();
+        let names: Vec<String> = held.iter().map(|&gate| self.stage.gate_name(gate)).collect();
+        let says = match names.as_slice() {
+            _ if held == all => "all gates with hold, the kinds without r".into(),
+            [one] => format!("{one} with its hold, the kind without r"),
+            [some @ .., last] => format!("{} and {last} with their hold, the kinds without r", some.join(", ")),
+            [] => return None,
+        };
+        Some(Change::several(self.with_hold(&held), says))
+    }
+
+    /// The file in which these gates have their hold.
+    fn with_hold(&self, gates: &[usize]) -> Vec<u8> {
+        let kinds: Vec<(usize, u8)> = gates.iter().map(|&gate| (gate, self.stage.gates[gate].kind & 0x7F)).collect();
+        self.with_kinds(&kinds)
+    }
+
+    /// A gate that reads one net more.
+    fn one_pin_more(&self, gate: usize, net: usize) -> Vec<Change> {
+        let found = &self.stage.gates[gate];
+        let pins: Vec<usize> = found.pins.iter().copied().chain([net]).collect();
+        cells_of(pins.len()).map(|cell| self.gate_as(gate, cell | found.kind & 0x80, &pins)).collect()
+    }
+
+    /// A gate of another kind with its pins in another order.
+    fn pins_and_kind(self, gate: usize) -> Changes<'a> {
+        let found = &self.stage.gates[gate];
+        let orders = orders(&found.pins);
+        let kinds = cells_of(found.pins.len()).map(|cell| cell | found.kind & 0x80);
+        Box::new(kinds.flat_map(move |kind| {
+            let change = move |pins: Vec<usize>| Change { sort: Some((gate, kind)), ..self.gate_as(gate, kind, &pins) };
+            orders.clone().into_iter().map(change)
+        }))
+    }
+
+    /// A gate that one other gate reads, built into that one: its pins in place of its net, and the gate taken out.
+    fn built_in(self, gate: usize) -> Changes<'a> {
+        let net = self.stage.net_of(gate);
+        let rails = self.stage.outputs.iter().flatten();
+        let (&[reader], false) = (self.stage.readers(net).as_slice(), rails.into_iter().any(|&rail| rail == net)) else {
+            return Box::new(std::iter::empty());
+        };
+        let found = &self.stage.gates[reader];
+        let pins: Vec<usize> = found.pins.iter().copied().filter(|&pin| pin != net).chain(self.stage.gates[gate].pins.clone()).collect();
+        let orders = if pins.len() <= 4 { orders(&pins) } else { Vec::new() };
+        let kinds = cells_of(pins.len()).map(|cell| cell | found.kind & 0x80);
+        Box::new(kinds.flat_map(move |kind| {
+            let change = move |pins: Vec<usize>| {
+                let first = self.gate_as(reader, kind, &pins);
+                let out = Base { file: &first.file, ..self }.without(gate)?;
+                let says = format!("{}, and {}", first.says, out.says);
+                Some(Change { sort: Some((reader, kind)), ..Change::several(out.file, says) })
+            };
+            orders.clone().into_iter().filter_map(change)
+        }))
+    }
+
+    /// An output that waits for an input: each of its rails passes a gate that needs the input too. Where the check then misses other inputs, it
+    /// waits for these as well.
+    fn waiting(self, input: usize, reference: &[u8], order: Order) -> Option<Change> {
+        let mut inputs = vec![input];
+        for _ in 0..self.stage.inputs {
+            let change = self.output_waits(0, &inputs)?;
+            let verdict = fovaheju::check(order.mark(), &change.file, reference);
+            match verdict.number {
+                0 => return Some(change),
+                14 if !inputs.contains(&(verdict.at as usize)) => inputs.push(verdict.at as usize),
+                _ => return None,
+            }
+        }
+        None
+    }
+
+    /// An output whose rails wait for inputs: TH12 of the rails of an input tells that it has come, and TH22 to TH44 wait for all.
+    fn output_waits(self, output: usize, inputs: &[usize]) -> Option<Change> {
+        let rails = *self.stage.outputs.get(output)?;
+        let mut added = Vec::new();
+        let mut add = |kind: u8, pins: &[usize]| {
+            added.push((kind, pins.to_vec()));
+            self.stage.nets() + added.len() - 1
+        };
+        let mut come: Vec<usize> = inputs.iter().map(|&input| add(TH12, &[2 * input, 2 * input + 1])).collect();
+        while come.len() > 3 {
+            come = come.chunks(4).map(|some| if some.len() == 1 { some[0] } else { add(all_of(some.len()), some) }).collect();
+        }
+        let new = rails.map(|rail| add(all_of(come.len() + 1), &[&[rail][..], &come].concat()));
+        let mut file = self.with(self.rails_at(output)?, &two(new));
+        let gates: Vec<u8> = added.iter().flat_map(|(kind, pins)| gate_command(*kind, pins)).collect();
+        let end = file.len().checked_sub(1)?;
+        file.splice(end..end, gates);
+        let name = |net: usize| match net.checked_sub(self.stage.nets()) {
+            Some(k) => format!("new{k}"),
+            None => self.stage.net_name(net),
+        };
+        let said: Vec<String> = added
+            .iter()
+            .enumerate()
+            .map(|(k, (kind, pins))| {
+                let pins: Vec<String> = pins.iter().map(|&pin| name(pin)).collect();
+                format!("new{k} = {}({})", kind_name(*kind).unwrap_or_default(), pins.join(", "))
+            })
+            .collect();
+        let [low, high] = new.map(name);
+        let says = format!("new gates {}, and the rails of {} on {low} and {high}", said.join(", "), self.stage.output_name(output));
+        Some(Change::several(file, says))
+    }
+
+    /// A gate with one pin on another net.
+    fn other_pins(&self, gate: usize) -> Vec<Change> {
+        let pins = &self.stage.gates[gate].pins;
+        let places = (0..pins.len()).flat_map(|pin| (0..self.stage.nets()).map(move |net| Pin { gate, pin, net }));
+        places.filter(|place| pins[place.pin] != place.net).map(|place| self.other_pin(place)).collect()
+    }
+
+    /// A pin on another net.
+    fn other_pin(&self, Pin { gate, pin, net }: Pin) -> Change {
+        let found = &self.stage.gates[gate];
+        let [now, before] = [net, found.pins[pin]].map(|net| self.stage.net_name(net));
+        let (name, letter) = (self.stage.gate_name(gate), ["A", "B", "C", "D"][pin.min(3)]);
+        let file = self.with(found.at + 2 + 2 * pin, &(net as u16).to_le_bytes());
+        Change::single(file, format!("pin {letter} of {name} on {now} in place of {before}"))
+    }
+
+    /// All gates of a retired kind by another one. Where two pins are on one net, the net once will do.
+    fn of_retired(self, gates: Vec<usize>) -> Changes<'a> {
+        let all = |gate: usize| self.stage.gates[gate].pins.clone();
+        let pins = move |gate: usize, count: usize| if count == 4 { all(gate) } else { once(&all(gate)) };
+        let change = move |cell: u8, hold: u8| {
+            let count = pin_count(cell)?;
+            let mut changed = Change::several(self.file.to_vec(), String::new());
+            for &gate in &gates {
+                let pins = pins(gate, count);
+                let kind = cell | self.stage.gates[gate].kind & hold;
+                let next = (pins.len() == count).then(|| Base { file: &changed.file, ..self }.gate_as(gate, kind, &pins))?;
+                let and = if changed.says.is_empty() { "" } else { ", " };
+                changed = Change::several(next.file, changed.says + and + &next.says);
+            }
+            Some(changed)
+        };
+        let cells = [0x80, 0].into_iter().flat_map(|hold| (1..=27).filter(|&cell| cell != RETIRED).map(move |cell| (cell, hold)));
+        Box::new(cells.filter_map(move |(cell, hold)| change(cell, hold)))
+    }
+
+    /// A gate that nothing reads, taken out: the nets behind it are numbered one less.
+    fn without(&self, gate: usize) -> Option<Change> {
+        let (net, at) = (self.stage.net_of(gate), self.stage.gates.get(gate)?.at);
+        let mut file = Vec::new();
+        for command in commands(self.file, Side::Stage).iter().filter(|command| command.at != at) {
+            let operands = match command.form {
+                Some(Form::Gate) => 2..10,
+                Some(Form::Output) => 1..5,
+                _ => 0..0,
+            };
+            let mut bytes = command.bytes.to_vec();
+            for place in operands.step_by(2) {
+                let operand = u16::from_le_bytes([bytes[place], bytes[place + 1]]);
+                let less = usize::from(operand) > net && usize::from(operand) != ABSENT;
+                bytes[place..place + 2].copy_from_slice(&(operand - u16::from(less)).to_le_bytes());
+            }
+            file.extend(bytes);
+        }
+        // Names of a text stay; numbers do not.
+        let later = gate + 1 < self.stage.gates.len() && self.stage.names.is_none();
+        let moved = if later { " (later gates and nets move down by one)" } else { "" };
+        Some(Change::several(file, format!("{} taken out{moved}", self.stage.gate_name(gate))))
+    }
+}
+
+/// The cells with so many pins, but the retired one.
+fn cells_of(count: usize) -> impl Iterator<Item = u8> {
+    (1..=27).filter(move |&cell| cell != RETIRED && pin_count(cell) == Some(count))
+}
+
+/// TH22, TH33 or TH44: the cell that waits for all of its pins.
+fn all_of(count: usize) -> u8 {
+    [2, 5, 11][count.clamp(2, 4) - 2]
+}
+
+/// All orders of some pins.
+fn orders(pins: &[usize]) -> Vec<Vec<usize>> {
+    if pins.is_empty() {
+        return vec![Vec::new()];
+    }
+    let first = |k: usize| {
+        let mut rest = pins.to_vec();
+        let pin = rest.remove(k);
+        orders(&rest).into_iter().map(move |rest| [vec![pin], rest].concat())
+    };
+    (0..pins.len()).flat_map(first).collect()
+}

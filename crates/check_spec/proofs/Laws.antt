@@ -1,0 +1,209 @@
+-- Checks under their numbers: what one says where it finds nothing, and what is claimed of a case of it that fails; hence what the verdict of a list of checks
+-- says by its number, wherever in the list a check stands.
+-- Assumes nothing.
+use Prim.Native.Nat.{ℕ, _+_, _-_, _*_, _<_}
+use native.Mathlib.Omega.{arith}
+use mathlib.Core.Path.{_≡_, refl, sym, ap, _∙_}
+use mathlib.Core.Logic.{_⊎_, inl, inr, _↔_}
+use mathlib.Core.Bool.{Bool, true, false, not}
+use mathlib.Core.List.{List, [], _∷_}
+use lib.ListN.{length}
+use lib.Dec.{eqb}
+use Rattle.runs.specs.Net.{IsGate}
+use Rattle.runs.proofs.Test.{clash, not-false, eqb-same, eqb-eq}
+use Rattle.verdict.specs.declared.Verdict.{Verdict}
+use Rattle.verdict.specs.declared.WordOrder.{WordOrder}
+use Rattle.verdict.specs.Graph.{In}
+use Rattle.verdict.proofs.Words.{index-in, in-index}
+use Rattle.check_spec.specs.Cases.{accepted, verdict, case, Check, first, judge, sweep}
+use Rattle.check_spec.specs.Lists.{numbers}
+use Rattle.check_spec.specs.Content.{Content}
+use Rattle.check_spec.specs.Rows.{netOf}
+use Rattle.check_spec.specs.Words.{spelled, names, IsWord}
+use Rattle.check_spec.specs.Checks.{swept}
+use Rattle.check_spec.specs.Demands.{Pass, Named}
+use Rattle.check_spec.proofs.First.{Each, each-map, first-says, first-pass, named-says, none-named, sweep-each, sweep-in, sweep-out}
+use Rattle.check_spec.proofs.Names.{named-word, word-named}
+
+-- a verdict of a number that the first of some checks does not name: it passes, and the verdict is that of the others
+pub judge-later : (number : ℕ) (c : Check) (cs : List Check) → Each (λ d. ¬ (d .names .number ≡ number)) c → judge (c ∷ cs) .number ≡ number
+    → Pass c × (judge (c ∷ cs) ≡ judge cs)
+unfolding judge
+judge-later number c cs p e = none-named number c (judge cs) p e
+
+pub judge-pass : (c : Check) (cs : List Check) → Pass c → judge (c ∷ cs) ≡ judge cs
+unfolding judge
+judge-pass c cs p = first-pass c (judge cs) p
+
+-- ---- the law of a check, and those of a list
+
+-- A check of some number: it finds nothing exactly if what it says is so, which is part of what is to be so for the whole of its list; and what is claimed of
+-- a verdict that it gives.
+pub record Law (Whole : Type 0) (Claim : Verdict → Type 0) (number : ℕ) (Says : Type 0) (c : Check) : Type 0 where
+  pub passes : Pass c ↔ Says
+  pub in-whole : Whole → Says
+  pub cases : Each (λ d. (d .names .number ≡ number) × (d .fails ≡ true → Claim (d .names))) c
+
+infixr 5 _&_
+pub data Laws (Whole : Type 0) (Claim : Verdict → Type 0) : List Check → Type 1 where
+  none : Laws Whole Claim []
+  _&_ : {number : ℕ} {Says : Type 0} {c : Check} {cs : List Check} → Law Whole Claim number Says c → Laws Whole Claim cs → Laws Whole Claim (c ∷ cs)
+
+module _ {Whole : Type 0} {Claim : Verdict → Type 0} where
+  other : (n : ℕ) {number : ℕ} {Says : Type 0} {c : Check} → Law Whole Claim number Says c → eqb number n ≡ false → Each (λ d. ¬ (d .names .number ≡ n)) c
+  other n {c = c} l e = each-map _ _ (λ d h p. clash (ap (λ (k : ℕ). eqb k n) (sym (h .0) ∙ p) ∙ eqb-same n) e) c (l .cases)
+
+  -- what check m says, if it stands before check n; every check stands before 0, which is the number of none
+  abbrev pub Before : ℕ → ℕ → {cs : List Check} → Laws Whole Claim cs → Type 0
+  Before n m none = Unit {0}
+  Before n m (_&_ {number = k} {Says = Says} l ls) =
+      elim (eqb k n) as (λ b. Type 0)
+      [ true ↦ Unit {0} | false ↦ elim (eqb k m) as (λ b. Type 0) [ true ↦ Says | false ↦ Before n m ls ] ]
+
+  -- it holds where the verdict has the number n
+  pub before : (n m : ℕ) {cs : List Check} (ls : Laws Whole Claim cs) → judge cs .number ≡ n → Before n m ls
+  before n m none e = tt
+  before n m (_&_ {number = k} {Says = Says} {c = c} {cs = cs} l ls) e = go (eqb k n) refl (before n m ls)
+    where
+      says : (b : Bool) → Says → Before n m ls → elim b as (λ b. Type 0) [ true ↦ Says | false ↦ Before n m ls ]
+      says true s later = s
+      says false s later = later
+
+      go : (b : Bool) → eqb k n ≡ b → (judge cs .number ≡ n → Before n m ls)
+          → elim b as (λ b. Type 0) [ true ↦ Unit {0} | false ↦ elim (eqb k m) as (λ b. Type 0) [ true ↦ Says | false ↦ Before n m ls ] ]
+      go true q later = tt
+      go false q later =
+          let p = judge-later n c cs (other n l q) e in
+          says (eqb k m) (l .passes .0 (p .0)) (later (ap (λ (v : Verdict). v .number) (sym (p .1)) ∙ e))
+
+  -- the verdict is one of which something is claimed, or accepts
+  pub claimed : {cs : List Check} → Laws Whole Claim cs → Claim (judge cs) ⊎ (judge cs ≡ accepted)
+  unfolding judge
+  claimed none = inr refl
+  claimed (_&_ {number = k} {Says = Says} {c = c} {cs = cs} l ls) = go (first-says c (judge cs)) (claimed ls)
+    where
+      go : Named c (first c (judge cs)) ⊎ (Pass c × (first c (judge cs) ≡ judge cs)) → Claim (judge cs) ⊎ (judge cs ≡ accepted)
+          → Claim (first c (judge cs)) ⊎ (first c (judge cs) ≡ accepted)
+      go (inl n) later = let r = named-says _ c (first c (judge cs)) (l .cases) n in inl (rw (r .3) (r .1 .1 (r .2)))
+      go (inr q) (inl x) = inl (rw (q .1) x)
+      go (inr q) (inr z) = inr (q .1 ∙ z)
+
+  -- nothing is found in a whole
+  pub whole-accepted : Whole → {cs : List Check} → Laws Whole Claim cs → judge cs ≡ accepted
+  unfolding judge
+  whole-accepted w none = refl
+  whole-accepted w (_&_ {number = k} {Says = Says} {c = c} {cs = cs} l ls) = judge-pass c cs (l .passes .1 (l .in-whole w)) ∙ whole-accepted w ls
+
+  -- what the checks of number n say; no verdict has that number where it is so
+  abbrev pub Saying : ℕ → {cs : List Check} → Laws Whole Claim cs → Type 0
+  Saying n none = Unit {0}
+  Saying n (_&_ {number = k} {Says = Says} l ls) = elim (eqb k n) as (λ b. Type 0) [ true ↦ Says × Saying n ls | false ↦ Saying n ls ]
+
+  pub not-named : (n : ℕ) → ¬ (n ≡ 0) → {cs : List Check} (ls : Laws Whole Claim cs) → Saying n ls → ¬ (judge cs .number ≡ n)
+  unfolding judge
+  not-named n z none p e = z (sym e)
+  not-named n z (_&_ {number = k} {Says = Says} {c = c} {cs = cs} l ls) p e = go (eqb k n) refl p (not-named n z ls)
+    where
+      go : (b : Bool) → eqb k n ≡ b → elim b as (λ b. Type 0) [ true ↦ Says × Saying n ls | false ↦ Saying n ls ] → (Saying n ls → ¬ (judge cs .number ≡ n)) → ⊥
+      go true q p later = later (p .1) (ap (λ (v : Verdict). v .number) (sym (judge-pass c cs (l .passes .1 (p .0)))) ∙ e)
+      go false q p later = later p (ap (λ (v : Verdict). v .number) (sym (judge-later n c cs (other n l q) e .1)) ∙ e)
+
+  -- what the checks before number n say, and those from it on, whose verdict it is where that is so
+  abbrev pub AllBefore : ℕ → {cs : List Check} → Laws Whole Claim cs → Type 0
+  AllBefore n none = Unit {0}
+  AllBefore n (_&_ {number = k} {Says = Says} l ls) = elim (eqb k n) as (λ b. Type 0) [ true ↦ Unit {0} | false ↦ Says × AllBefore n ls ]
+
+  abbrev pub from : ℕ → {cs : List Check} → Laws Whole Claim cs → List Check
+  from n none = []
+  from n (_&_ {number = k} {c = c} {cs = cs} l ls) = elim (eqb k n) as (λ b. List Check) [ true ↦ c ∷ cs | false ↦ from n ls ]
+
+  pub judge-from : (n : ℕ) {cs : List Check} (ls : Laws Whole Claim cs) → AllBefore n ls → judge cs ≡ judge (from n ls)
+  judge-from n none p = refl
+  judge-from n (_&_ {number = k} {Says = Says} {c = c} {cs = cs} l ls) p = go (eqb k n) p (judge-from n ls)
+    where
+      go : (b : Bool) → elim b as (λ b. Type 0) [ true ↦ Unit {0} | false ↦ Says × AllBefore n ls ] → (AllBefore n ls → judge cs ≡ judge (from n ls))
+          → judge (c ∷ cs) ≡ judge (elim b as (λ b. List Check) [ true ↦ c ∷ cs | false ↦ from n ls ])
+      go true p later = refl
+      go false p later = judge-pass c cs (l .passes .1 (p .0)) ∙ later (p .1)
+
+  -- the numbers of a list, in its order
+  abbrev pub numbersOf : {cs : List Check} → Laws Whole Claim cs → List ℕ
+  numbersOf none = []
+  numbersOf (_&_ {number = k} l ls) = k ∷ numbersOf ls
+
+-- ---- laws of checks
+
+-- where a check passes that compares two numbers, one that looks at some places, one at the gates, and one that sweeps the words
+pub equal-passes : (number file at word mine theirs : ℕ) → Pass (case number file at word (not (eqb mine theirs)) ∷ []) ↔ (mine ≡ theirs)
+equal-passes number file at word mine theirs = (
+  (λ p. eqb-eq mine theirs (not-false (eqb mine theirs) (λ e. clash (ap not e) (p .0)))),
+  (λ e. (ap not (ap (eqb mine) (sym e) ∙ eqb-same mine), tt)),
+)
+
+pub places-passes : (number file m : ℕ) (fails : ℕ → Bool) → Pass (sweep number file (0 ∷ []) (numbers 0 m) (λ w. fails)) ↔ ((i : ℕ) → i < m → fails i ≡ false)
+places-passes number file m fails = (
+  (λ p i l. sweep-out number file (numbers 0 m) (λ w. fails) (0 ∷ []) p 0 (inl refl) i (index-in m i l)),
+  (λ h. sweep-in number file (numbers 0 m) (λ w. fails) (0 ∷ []) (λ w x i y. h i (in-index m i y))),
+)
+
+module _ (s : Content) where
+  pub gates-passes : (number : ℕ) (fails : ℕ → Bool) → Pass (sweep number 1 (0 ∷ []) (numbers 0 (length (s .gates))) (λ w g. fails (2 * s .inputs + g)))
+      ↔ ((g : ℕ) → IsGate (netOf s) g → fails g ≡ false)
+  gates-passes number fails =
+      let at = places-passes number 1 (length (s .gates)) (λ g. fails (2 * s .inputs + g)) in (
+        (λ p g i.
+            let e : 2 * s .inputs + (g - 2 * s .inputs) ≡ g = omega (arith, i .0) in
+            ap fails (sym e) ∙ at .0 p (g - 2 * s .inputs) (omega (arith, i .0, i .1))),
+        (λ h. at .1 (λ g l. h (2 * s .inputs + g) (omega arith, omega arith))),
+      )
+
+  pub swept-passes : (order : WordOrder) (number file m : ℕ) (fails : ℕ → ℕ → Bool) → Pass (swept order s number file m fails)
+      ↔ ((w : ℕ) → IsWord s w → (i : ℕ) → i < m → fails w i ≡ false)
+  swept-passes order number file m fails =
+      let sp = spelled order (s .inputs) in (
+        (λ p w x i l.
+            let n = word-named order s w x in
+            ap (λ (u : ℕ). fails u i) (sym (n .2))
+            ∙ sweep-out number file (numbers 0 m) (λ name. fails (sp name)) (names order s) p (n .0) (n .1) i (index-in m i l)),
+        (λ h. sweep-in number file (numbers 0 m) (λ name. fails (sp name)) (names order s) (λ name x i y. h (sp name) (named-word order s name x) i (in-index m i y))),
+      )
+
+-- their laws
+zero-in : (w : ℕ) → In w (0 ∷ []) → w ≡ 0
+zero-in w (inl e) = e
+zero-in w (inr h) = absurd h
+
+module _ {Whole : Type 0} {Claim : Verdict → Type 0} where
+  pub test-law : (number file at word : ℕ) (fails : Bool) → (Whole → fails ≡ false) → Claim (verdict number file at word)
+      → Law Whole Claim number (fails ≡ false) (case number file at word fails ∷ [])
+  test-law number file at word fails h claim = record { passes = (λ p. p .0, λ e. (e, tt)); in-whole = h; cases = ((refl, λ e. claim), tt) }
+
+  pub equal-law : (number file at word mine theirs : ℕ) → (Whole → mine ≡ theirs) → Claim (verdict number file at word)
+      → Law Whole Claim number (mine ≡ theirs) (case number file at word (not (eqb mine theirs)) ∷ [])
+  equal-law number file at word mine theirs h claim = record { passes = equal-passes number file at word mine theirs; in-whole = h; cases = ((refl, λ e. claim), tt) }
+
+  pub places-law : (number file m : ℕ) (fails : ℕ → Bool) → (Whole → (i : ℕ) → i < m → fails i ≡ false) → ((i : ℕ) → Claim (verdict number file i 0))
+      → Law Whole Claim number ((i : ℕ) → i < m → fails i ≡ false) (sweep number file (0 ∷ []) (numbers 0 m) (λ w. fails))
+  places-law number file m fails h claim = record {
+    passes = places-passes number file m fails;
+    in-whole = h;
+    cases = sweep-each number file (numbers 0 m) (λ w. fails) _ (0 ∷ []) (λ w x i y. (refl, λ e. rw (zero-in w x) (claim i)));
+  }
+
+  module _ (s : Content) where
+    pub gates-law : (number : ℕ) (fails : ℕ → Bool) → (Whole → (g : ℕ) → IsGate (netOf s) g → fails g ≡ false) → ((i : ℕ) → Claim (verdict number 1 i 0))
+        → Law Whole Claim number ((g : ℕ) → IsGate (netOf s) g → fails g ≡ false) (sweep number 1 (0 ∷ []) (numbers 0 (length (s .gates))) (λ w g. fails (2 * s .inputs + g)))
+    gates-law number fails h claim = record {
+      passes = gates-passes s number fails;
+      in-whole = h;
+      cases = sweep-each number 1 (numbers 0 (length (s .gates))) (λ w g. fails (2 * s .inputs + g)) _ (0 ∷ []) (λ w x i y. (refl, λ e. rw (zero-in w x) (claim i)));
+    }
+
+    pub swept-law : (order : WordOrder) (number file m : ℕ) (fails : ℕ → ℕ → Bool) → (Whole → (w : ℕ) → IsWord s w → (i : ℕ) → i < m → fails w i ≡ false)
+        → ((name : ℕ) → In name (names order s) → (i : ℕ) → i < m → fails (spelled order (s .inputs) name) i ≡ true → Claim (verdict number file i name))
+        → Law Whole Claim number ((w : ℕ) → IsWord s w → (i : ℕ) → i < m → fails w i ≡ false) (swept order s number file m fails)
+    swept-law order number file m fails h claim = record {
+      passes = swept-passes s order number file m fails;
+      in-whole = h;
+      cases = sweep-each number file (numbers 0 m) (λ name. fails (spelled order (s .inputs) name)) _ (names order s) (λ name x i y. (refl, claim name x i (in-index m i y)));
+    }

@@ -1,0 +1,184 @@
+-- Two files in which the checks 10 to 21 find nothing, whatever the order of words: what an accepted verdict rests on, and what joined and made files are
+-- built from. A check that comes after all of these changes the two laws of acceptance, and nothing that rests on `Sound`.
+-- Assumes nothing.
+use Prim.Native.Nat.{ℕ, _+_, _*_, _≤_, _<_}
+use native.Mathlib.Omega.{arith}
+use mathlib.Core.Path.{_≡_, refl, sym, ap, _∙_, subst, subst₂}
+use mathlib.Core.Bool.{Bool, true, false}
+use mathlib.Core.List.{List, [], _∷_}
+use lib.ListN.{length}
+use lib.Dec.{eqb}
+use Rattle.gates.specs.Cell.{isRetired}
+use Rattle.runs.specs.Net.{IsGate}
+use Rattle.runs.specs.Complete.{Conforms}
+use Rattle.runs.specs.Promise.{Promise}
+use Rattle.runs.specs.Witness.{Wrong, Incomplete, Unobservable}
+use Rattle.runs.specs.FallWitness.{Fall-incomplete, Fall-unobservable}
+use Rattle.runs.proofs.Test.{clash}
+use Rattle.netlist.specs.declared.File.{File}
+use Rattle.netlist.specs.declared.File.the-variants.{Stage, Reference}
+use Rattle.netlist.specs.declared.Limits.{Limits}
+use Rattle.netlist.specs.Reading.{Reading, refused, readable, readFile}
+use Rattle.verdict.specs.declared.Verdict.{Verdict}
+use Rattle.verdict.specs.declared.WordOrder.{WordOrder}
+use Rattle.verdict.proofs.Refusals.{InTable, refused-number}
+use Rattle.check_spec.specs.Cases.{verdict, accepted, judge}
+use Rattle.check_spec.specs.Lists.{some, bitOf}
+use Rattle.check_spec.specs.Content.{Content, Files, stageIn, referenceIn}
+use Rattle.check_spec.specs.Rows.{driver, cellIn, netOf, reachesItself}
+use Rattle.check_spec.specs.Words.{railsFor, spelled, IsWord, answer}
+use Rattle.check_spec.specs.Checks.{wrong, incomplete, unobservable, fallIncomplete, fallUnobservable, looped, retired, swept, checks}
+use Rattle.check_spec.specs.Verdicts.{refusal, reading, verdictOn}
+use Rattle.check_spec.specs.Demands.{BothRead, LoopFree, answerTo, Kept, Broken}
+use Rattle.check_spec.proofs.First.{Each}
+use Rattle.check_spec.proofs.Names.{named-below, named-word}
+use Rattle.check_spec.proofs.OneWord.{CleanRise, CleanFall, word-exactly}
+use Rattle.check_spec.proofs.Shown.{word-kept, wrong-shown, incomplete-shown, unobservable-shown, fall-incomplete-shown, fall-unobservable-shown}
+use Rattle.check_spec.proofs.Laws.{Law, Laws, none, _&_, judge-later, judge-pass, before, whole-accepted, equal-law, gates-law, swept-law}
+
+pub record Sound (f : Files) : Type 0 where
+  pub read : BothRead f
+  pub inputs : stageIn f .inputs ≡ referenceIn f .inputs
+  pub outputs : length (stageIn f .outputs) ≡ length (referenceIn f .outputs)
+  pub free : LoopFree (netOf (stageIn f))
+  pub cast : (net : ℕ) → IsGate (netOf (stageIn f)) net → isRetired (cellIn (driver (stageIn f) net)) ≡ false
+  pub conforms : (w : ℕ) → IsWord (stageIn f) w → Conforms (netOf (stageIn f)) (railsFor w) (answerTo f w)
+
+-- reading names numbers of its table only
+pub reading-number : (other : ℕ) → ¬ (InTable other) → (f : File) (most : Limits) (bytes : List ℕ)
+    → Each (λ c. ¬ (c .names .number ≡ other)) (reading f most bytes)
+unfolding refusal
+reading-number other h f most bytes = go (readFile f most bytes) refl
+  where
+    go : (x : Reading) → readFile f most bytes ≡ x → Each (λ c. ¬ (c .names .number ≡ other)) (refusal f x)
+    go (refused number at) e = (λ p. h (subst InTable p (refused-number f most bytes number at e)), tt)
+    go (readable p) e = tt
+
+-- the numbers of which demand 3 speaks
+abbrev pub Ran : ℕ → Type 0
+Ran n = some (eqb n) (13 ∷ 14 ∷ 15 ∷ 20 ∷ 21 ∷ []) ≡ true
+
+module _ (f : Files) where
+  abbrev s : Content
+  s = stageIn f
+
+  abbrev r : Content
+  r = referenceIn f
+
+  -- in a word nothing is found
+  pub sound-clean : Sound f → (w : ℕ) → IsWord s w → CleanRise s r w × CleanFall s w
+  sound-clean h w i = word-exactly s r (h .free) w .1 (h .conforms w i)
+
+  -- ---- the checks by their numbers
+
+  -- what a run of word w shows under such a number, at an output, an input or a gate
+  abbrev pub Shows : ℕ → ℕ → ℕ → Type 0
+  Shows w i n =
+      elim (eqb n 13) as (λ b. Type 0) [
+        | true ↦ (i < length (s .outputs)) × Wrong (netOf s) (railsFor w) (answerTo f w) i
+        | false ↦
+            elim (eqb n 14) as (λ b. Type 0) [
+              | true ↦ (i < s .inputs) × Incomplete (netOf s) (railsFor w) i
+              | false ↦
+                  elim (eqb n 15) as (λ b. Type 0) [
+                    | true ↦ (i < length (s .gates)) × Unobservable (netOf s) (railsFor w) (2 * s .inputs + i)
+                    | false ↦
+                        elim (eqb n 20) as (λ b. Type 0) [
+                          | true ↦ (i < s .inputs) × Fall-incomplete (netOf s) (railsFor w) i
+                          | false ↦
+                              (i < length (s .gates)) × Fall-unobservable (netOf s) (railsFor w) (2 * s .inputs + i)
+                        ]
+                  ]
+            ]
+      ]
+
+  module _ (order : WordOrder) where
+    -- a refusal names one of the two files or none; and what demand 3 says of it
+    abbrev pub Claim : Verdict → Type 0
+    Claim v = (v .file ≤ 2) × (LoopFree (netOf s) → Ran (v .number) → Broken f (spelled order (s .inputs) (v .word)) v)
+
+    -- it says nothing of the other numbers
+    pub silent : (n file at word : ℕ) → file ≤ 2 → some (eqb n) (13 ∷ 14 ∷ 15 ∷ 20 ∷ 21 ∷ []) ≡ false → Claim (verdict n file at word)
+    silent n file at word few h = (few, λ free ran. absurd (clash ran h))
+
+    -- a check of the words, which a run shows to be broken where it fails
+    pub run-law : (n m : ℕ) (fails : ℕ → ℕ → Bool) → ((w : ℕ) → CleanRise s r w × CleanFall s w → (i : ℕ) → i < m → fails w i ≡ false)
+        → (LoopFree (netOf s) → (w i : ℕ) → i < m → fails w i ≡ true → Shows w i n × (¬ (Promise (netOf s) (railsFor w) (answerTo f w))))
+        → Law (Sound f) Claim n ((w : ℕ) → IsWord s w → (i : ℕ) → i < m → fails w i ≡ false) (swept order s n 1 m fails)
+    run-law n m fails clean shown = swept-law s order n 1 m fails (λ h w i. clean w (sound-clean h w i)) (λ name x i l e. (omega arith, λ free ran.
+        let w = spelled order (s .inputs) name in
+        let b = shown free w i l e in
+        record {
+          name = named-below order s name x;
+          word = named-word order s name x;
+          broken = b .1;
+          wrong = λ q. subst (Shows w i) q (b .0);
+          incomplete = λ q. subst (Shows w i) q (b .0);
+          unobservable = λ q. subst (Shows w i) q (b .0);
+          fall-incomplete = λ q. subst (Shows w i) q (b .0);
+          fall-unobservable = λ q. subst (Shows w i) q (b .0);
+        }))
+
+    unfoldable pub laws : Laws (Sound f) Claim (checks order s r)
+    unfolding checks looped retired some
+    laws =
+        equal-law 10 0 (s .inputs) (r .inputs) (s .inputs) (r .inputs) (λ h. h .inputs) (silent 10 0 _ _ (omega arith) refl)
+        & equal-law 11 0 (length (s .outputs)) (length (r .outputs)) (length (s .outputs)) (length (r .outputs)) (λ h. h .outputs) (silent 11 0 _ _ (omega arith) refl)
+        & gates-law s 12 (reachesItself (netOf s)) (λ h. h .free) (λ g. silent 12 1 g 0 (omega arith) refl)
+        & gates-law s 28 (λ net. isRetired (cellIn (driver s net))) (λ h. h .cast) (λ g. silent 28 1 g 0 (omega arith) refl)
+        & run-law 13 (length (s .outputs)) (wrong s r) (λ w c. c .0 .right) (wrong-shown s r)
+        & run-law 14 (s .inputs) (incomplete s) (λ w c. c .0 .complete) (incomplete-shown s r)
+        & run-law 15 (length (s .gates)) (unobservable s) (λ w c. c .0 .observable) (unobservable-shown s r)
+        & run-law 20 (s .inputs) (fallIncomplete s) (λ w c. c .1 .complete) (fall-incomplete-shown s r)
+        & run-law 21 (length (s .gates)) (fallUnobservable s) (λ w c. c .1 .observable) (fall-unobservable-shown s r)
+        & none
+
+    -- a verdict of a number that is not one of reading: both files read, and it is that of the checks
+    pub past-reading : (n : ℕ) → ¬ (InTable n) → verdictOn order f .number ≡ n → BothRead f × (verdictOn order f ≡ judge (checks order s r))
+    past-reading n h e =
+        let a = judge-later n _ (reading Reference (f .referenceMost) (f .reference) ∷ checks order s r) (reading-number n h Stage (f .stageMost) (f .stage)) e in
+        let b = judge-later n _ (checks order s r) (reading-number n h Reference (f .referenceMost) (f .reference)) (ap (λ (v : Verdict). v .number) (sym (a .1)) ∙ e) in
+        ((a .0, b .0), a .1 ∙ b .1)
+
+    pub reads-past : BothRead f → verdictOn order f ≡ judge (checks order s r)
+    reads-past h = judge-pass (reading Stage (f .stageMost) (f .stage)) _ (h .0) ∙ judge-pass (reading Reference (f .referenceMost) (f .reference)) _ (h .1)
+
+-- what is sound is accepted in every order, and keeps the promise of demand 3
+pub sound-accepted : {f : Files} → Sound f → (order : WordOrder) → verdictOn order f ≡ accepted
+sound-accepted {f} h order = reads-past f order (h .read) ∙ whole-accepted h (laws f order)
+
+pub sound-kept : {f : Files} → Sound f → (w : ℕ) → IsWord (stageIn f) w → Kept f w
+sound-kept {f} h w i = let k = sound-clean f h w i in word-kept f (h .free) w (k .0) (k .1)
+
+pub accepted-sound : (order : WordOrder) (f : Files) → verdictOn order f .number ≡ 0 → (verdictOn order f ≡ accepted) × Sound f
+unfolding laws
+accepted-sound order f e =
+    let p = past-reading f order 0 (λ t. omega (arith, t .0)) e in
+    let z : judge (checks order (stageIn f) (referenceIn f)) .number ≡ 0 = ap (λ (v : Verdict). v .number) (sym (p .1)) ∙ e in
+    let ls = laws f order in
+    let free = before 0 12 ls z in
+    let h : Sound f = record {
+      read = p .0;
+      inputs = before 0 10 ls z;
+      outputs = before 0 11 ls z;
+      free = free;
+      cast = before 0 28 ls z;
+      conforms = λ w i. word-exactly (stageIn f) (referenceIn f) free w .0 (
+        record { right = before 0 13 ls z w i; complete = before 0 14 ls z w i; observable = before 0 15 ls z w i },
+        record { complete = before 0 20 ls z w i; observable = before 0 21 ls z w i },
+      );
+    } in
+    (sound-accepted h order, h)
+
+-- from what two files hold
+pub record Agrees (s r : Content) : Type 0 where
+  pub inputs : s .inputs ≡ r .inputs
+  pub outputs : length (s .outputs) ≡ length (r .outputs)
+  pub free : LoopFree (netOf s)
+  pub cast : (net : ℕ) → IsGate (netOf s) net → isRetired (cellIn (driver s net)) ≡ false
+  pub conforms : (w : ℕ) → IsWord s w → Conforms (netOf s) (railsFor w) (answer r (bitOf w))
+
+pub sound-from : {f : Files} {s r : Content} → BothRead f → stageIn f ≡ s → referenceIn f ≡ r → Agrees s r → Sound f
+sound-from read e e′ a =
+    let h = subst₂ Agrees (sym e) (sym e′) a in
+    record { read = read; inputs = h .inputs; outputs = h .outputs; free = h .free; cast = h .cast; conforms = h .conforms }

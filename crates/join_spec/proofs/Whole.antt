@@ -1,0 +1,106 @@
+-- The joined content: its gates by number, its stage as a net, and that a file can hold it.
+-- Assumes nothing.
+use Prim.Native.Nat.{ℕ, zero, suc, _+_, _-_, _*_, _≤_, _<_}
+use native.Mathlib.Omega.{arith}
+use mathlib.Core.Path.{_≡_, refl, sym, ap, _∙_, subst}
+use mathlib.Core.List.{List, [], _∷_, _++_, map}
+use lib.ListN.{length, getD, length-append, length-map, List·getD-append}
+use lib.Seq.{getD-append-add}
+use Rattle.netlist.specs.declared.File.{File}
+use Rattle.netlist.specs.declared.Sort.the-variants as sort
+use Rattle.netlist.specs.declared.Limits.{Limits}
+use Rattle.netlist.specs.Reading.{nameable}
+use Rattle.netlist.specs.Coded.{Coded}
+use Rattle.netlist.specs.Writing.{roleFor, All}
+use Rattle.netlist.proofs.Lists.{All-map}
+use Rattle.netlist.proofs.Formed.{GateFormed, GatesFormed, OutputFormed}
+use Rattle.check_spec.specs.Content.{Content}
+use Rattle.check_spec.specs.Rows.{noGate}
+use Rattle.check_spec.proofs.Formed.{Formed}
+use Rattle.join_spec.specs.Joining.{joinedBy}
+use Rattle.join_spec.proofs.Lists.{All-mapped, map-get}
+
+-- a gate whose operands are moved
+abbrev pub moved : (ℕ → ℕ) → Coded → Coded
+moved move g = record { code = g .code; operands = map move (g .operands) }
+
+-- limits of a whole that have room for two parts
+pub record RoomForTwo (part whole : Limits) : Type 0 where
+  pub inputs : part .inputs ≤ whole .inputs
+  pub gates : part .gates + part .gates ≤ whole .gates
+  pub outputs : part .outputs ≤ whole .outputs
+
+module _ (move : ℕ → ℕ) (one two : Content) where
+  pub gates-length : length (joinedBy move one two .gates) ≡ length (one .gates) + length (two .gates)
+  unfolding joinedBy
+  gates-length = length-append (one .gates) (map (moved move) (two .gates)) ∙ ap (λ (n : ℕ). length (one .gates) + n) (length-map (two .gates) (moved move))
+
+  pub outputs-length : length (joinedBy move one two .outputs) ≡ length (two .outputs)
+  unfolding joinedBy
+  outputs-length = length-map (two .outputs) (map move)
+
+  pub gate-first : (k : ℕ) → k < length (one .gates) → getD (joinedBy move one two .gates) k noGate ≡ getD (one .gates) k noGate
+  unfolding joinedBy
+  gate-first k h = List·getD-append (one .gates) (map (moved move) (two .gates)) noGate k h
+
+  pub gate-second : (k : ℕ) → k < length (two .gates) → getD (joinedBy move one two .gates) (length (one .gates) + k) noGate ≡ moved move (getD (two .gates) k noGate)
+  unfolding joinedBy
+  gate-second k h = getD-append-add (one .gates) (map (moved move) (two .gates)) k noGate ∙ map-get (moved move) (two .gates) k noGate noGate h
+
+-- ---- a file can hold it
+
+module _ (f : File) (n : ℕ) where
+  -- gate i of some well-formed gates
+  pub gate-formed : (g k : ℕ) (cs : List Coded) → GatesFormed f n g k cs → (i : ℕ) → i < length cs → GateFormed f n g (k + i) (getD cs i noGate)
+  gate-formed g k [] h i l = absurd (omega arith)
+  gate-formed g k (c ∷ cs) h zero l = let z : k + 0 ≡ k = omega arith in rw z (h .0)
+  gate-formed g k (c ∷ cs) h (suc i) l = let z : k + suc i ≡ suc k + i = omega arith in rw z (gate-formed g (suc k) cs (h .1) i (omega arith))
+
+  gates-++ : (g k : ℕ) (cs ds : List Coded) → GatesFormed f n g k cs → GatesFormed f n g (k + length cs) ds → GatesFormed f n g k (cs ++ ds)
+  gates-++ g k [] ds h l = let z : k + 0 ≡ k = omega arith in rw z at l
+  gates-++ g k (c ∷ cs) ds h l = let z : k + suc (length cs) ≡ suc k + length cs = omega arith in (h .0, gates-++ g (suc k) cs ds (h .1) (rw z at l))
+
+module _ (f : File) (move : ℕ → ℕ) (one two : Content) (most whole : Limits) (room : RoomForTwo most whole) (h : Formed f most one) (h′ : Formed f most two) where
+  abbrev n : ℕ
+  n = one .inputs
+
+  abbrev g : ℕ
+  g = length (one .gates)
+
+  abbrev m : ℕ
+  m = two .inputs
+
+  abbrev d : ℕ
+  d = length (two .gates)
+
+  -- what the parts may name, the whole may, where the second part is moved
+  pub record Moves : Type 0 where
+    pub first : (k v : ℕ) → v < nameable (roleFor f sort.Gate) n g k → v < nameable (roleFor f sort.Gate) n (g + d) k
+    pub second : (k v : ℕ) → v < nameable (roleFor f sort.Gate) m d k → move v < nameable (roleFor f sort.Gate) n (g + d) (g + k)
+    pub outputs : (v : ℕ) → v < nameable (roleFor f sort.Output) m d d → move v < nameable (roleFor f sort.Output) n (g + d) (g + d)
+
+  pub joined-formed : Moves → Formed f whole (joinedBy move one two)
+  unfolding joinedBy
+  joined-formed names = record {
+    inputs-in = omega (arith, h .inputs-in, room .inputs);
+    gates-in = omega (arith, gates-length move one two, h .gates-in, h′ .gates-in, room .gates);
+    outputs-in = omega (arith, outputs-length move one two, h′ .outputs-in, room .outputs);
+    gates = rw (gates-length move one two) (gates-++ f n (g + d) 0 (one .gates) (map (moved move) (two .gates)) (firsts 0 (one .gates) (h .gates))
+        (let z : g + 0 ≡ 0 + g = omega arith in rw z at (seconds 0 (two .gates) (h′ .gates))));
+    outputs = rw (gates-length move one two) (All-mapped (OutputFormed f m d) (OutputFormed f n (g + d)) (map move)
+        (λ vs o. record { whole = length-map vs move ∙ o .whole; named = All-mapped _ _ move (names .outputs) vs (o .named) }) (two .outputs) (h′ .outputs));
+    care-in = h .care-in;
+    care-stage = h .care-stage;
+  }
+    where
+      firsts : (k : ℕ) (cs : List Coded) → GatesFormed f n g k cs → GatesFormed f n (g + d) k cs
+      firsts k [] a = tt
+      firsts k (c ∷ cs) a = (record { known = a .0 .known; whole = a .0 .whole; named = All-map _ _ (names .first k) (c .operands) (a .0 .named) }, firsts (suc k) cs (a .1))
+
+      seconds : (k : ℕ) (cs : List Coded) → GatesFormed f m d k cs → GatesFormed f n (g + d) (g + k) (map (moved move) cs)
+      seconds k [] a = tt
+      seconds k (c ∷ cs) a =
+          let z : suc (g + k) ≡ g + suc k = omega arith in (
+            record { known = a .0 .known; whole = length-map (c .operands) move ∙ a .0 .whole; named = All-mapped _ _ move (names .second k) (c .operands) (a .0 .named) },
+            rw z (seconds (suc k) cs (a .1)),
+          )

@@ -1,0 +1,1 @@
+// What programs print. The definitions are in specs/, and nothing is run.
