@@ -1,29 +1,48 @@
 -- What a verdict that speaks of runs says of its two files: they read, the stage has no loop, and the test of its check holds in the word and at the place
 -- that are named.
 -- Assumes nothing.
-use Prim.Native.Nat.{ℕ, _<_}
+use Prim.Native.Nat.{ℕ, _+_, _*_, _<_}
 use native.Mathlib.Omega.{arith}
 use mathlib.Core.Path.{_≡_, refl, sym, ap, _∙_, subst}
 use mathlib.Core.Logic.{_⊎_, inl, inr}
-use mathlib.Core.Bool.{Bool, true}
+use mathlib.Core.Bool.{Bool, true, false}
 use mathlib.Core.List.{List, [], _∷_}
 use lib.ListN.{length}
 use lib.Dec.{eqb}
 use Rattle.verdict.specs.declared.Verdict.{Verdict}
 use Rattle.verdict.specs.declared.WordOrder.{WordOrder}
-use Rattle.verdict.specs.Loops.{In}
 use Rattle.verdict.proofs.Words.{in-index}
-use Rattle.check_spec.specs.Cases.{Case, Check, accepted, judge}
+use Rattle.check_spec.specs.Cases.{Case, Check, accepted, first, judge}
 use Rattle.check_spec.specs.Lists.{some, numbers}
 use Rattle.check_spec.specs.Content.{Content, Files, stageIn, referenceIn}
-use Rattle.check_spec.specs.Rows.{netOf}
+use Rattle.check_spec.specs.Rows.{netOf, reachesItself}
 use Rattle.check_spec.specs.Words.{spelled, names}
-use Rattle.check_spec.specs.Checks.{swept, wrong, incomplete, unobservable, fallIncomplete, fallUnobservable}
+use Rattle.check_spec.specs.Checks.{swept, wrong, incomplete, unobservable, fallIncomplete, fallUnobservable, looped, retired, retiredGate, checks}
 use Rattle.check_spec.specs.Verdicts.{verdictOn}
-use Rattle.check_spec.specs.Demands.{BothRead, LoopFree}
-use Rattle.check_spec.proofs.First.{Each, sweep-each}
-use Rattle.check_spec.proofs.Exactly.{EachCheck, accepted-passes}
-use Rattle.check_spec.proofs.Demanded.{OfRuns, of-runs, judge-says, sweeps, swept-verdict}
+use Rattle.check_spec.specs.Demands.{Pass, Named, BothRead, LoopFree}
+use Rattle.check_spec.proofs.First.{Each, first-says, named-says, sweep-each}
+use Rattle.check_spec.proofs.Loops.{some-all}
+use Rattle.check_spec.proofs.Laws.{before}
+use Rattle.check_spec.proofs.Sound.{Ran, laws, past-reading, accepted-sound}
+use Rattle.check_spec.proofs.Demanded.{of-runs}
+
+-- ---- what each case of some checks says, the named case says
+
+abbrev EachCheck : (Case → Type 0) → List Check → Type 0
+EachCheck P [] = Unit {0}
+EachCheck P (c ∷ cs) = Each P c × EachCheck P cs
+
+judge-says : (P : Case → Type 0) (cs : List Check) → EachCheck P cs
+    → ((c : Case) × P c × (c .fails ≡ true) × (judge cs ≡ c .names)) ⊎ (judge cs ≡ accepted)
+unfolding judge
+judge-says P [] p = inr refl
+judge-says P (c ∷ cs) p = go (first-says c (judge cs)) (judge-says P cs (p .1))
+  where
+    go : Named c (first c (judge cs)) ⊎ (Pass c × (first c (judge cs) ≡ judge cs)) → ((d : Case) × P d × (d .fails ≡ true) × (judge cs ≡ d .names)) ⊎ (judge cs ≡ accepted)
+        → ((d : Case) × P d × (d .fails ≡ true) × (first c (judge cs) ≡ d .names)) ⊎ (first c (judge cs) ≡ accepted)
+    go (inl n) later = inl (named-says P c (first c (judge cs)) (p .0) n)
+    go (inr q) (inl (d, x, y, z)) = inl (d, x, y, q .1 ∙ z)
+    go (inr q) (inr z) = inr (q .1 ∙ z)
 
 module _ (order : WordOrder) (f : Files) where
   abbrev s : Content
@@ -40,138 +59,104 @@ module _ (order : WordOrder) (f : Files) where
   named = spelled order (s .inputs) (v .word)
 
   pub accepted-free : v .number ≡ 0 → BothRead f × LoopFree (netOf s)
-  accepted-free e = let p = accepted-passes order f e in (p .1, p .2 .free)
+  accepted-free e = let h = accepted-sound order f e .1 in (h .read, h .free)
 
-  pub refused-free : some (eqb (v .number)) (13 ∷ 14 ∷ 15 ∷ 20 ∷ 21 ∷ []) ≡ true → BothRead f × LoopFree (netOf s)
-  refused-free h = let x = swept-verdict order f (v .number) (of-runs (v .number) h) refl in (x .0, x .1)
+  pub refused-free : Ran (v .number) → BothRead f × LoopFree (netOf s)
+  unfolding laws
+  refused-free h =
+      let n = v .number in
+      let p = past-reading f order n (of-runs n h .1) refl in
+      let ls = laws f order in (
+        p .0,
+        some-all (λ k. judge (checks order s r) .number ≡ k → LoopFree (netOf s)) (13 ∷ 14 ∷ 15 ∷ 20 ∷ 21 ∷ [])
+            (before 13 12 ls, (before 14 12 ls, (before 15 12 ls, (before 20 12 ls, (before 21 12 ls, tt))))) n h (ap (λ (x : Verdict). x .number) (sym (p .1))),
+      )
 
-  -- a failing case of number n is one of a test at m places
-  module _ (n m : ℕ) (fails : ℕ → ℕ → Bool) where
-    abbrev Holds : Case → Type 0
-    Holds c = c .fails ≡ true → c .names .number ≡ n → (c .names .at < m) × (fails (spelled order (s .inputs) (c .names .word)) (c .names .at) ≡ true)
+  -- ---- the test of a number, at a place and in a word
 
-    own : Each Holds (swept order s n 1 m fails)
-    own = sweep-each n 1 (numbers 0 m) (λ name. fails (spelled order (s .inputs) name)) Holds (names order s) (λ name x i y t q. (in-index m i y, t))
+  abbrev Tested : ℕ → ℕ → ℕ → Type 0
+  Tested n i w =
+      elim (eqb n 13) as (λ b. Type 0) [
+        | true ↦ (i < length (s .outputs)) × (wrong s r w i ≡ true)
+        | false ↦
+            elim (eqb n 14) as (λ b. Type 0) [
+              | true ↦ (i < s .inputs) × (incomplete s w i ≡ true)
+              | false ↦
+                  elim (eqb n 15) as (λ b. Type 0) [
+                    | true ↦ (i < length (s .gates)) × (unobservable s w i ≡ true)
+                    | false ↦
+                        elim (eqb n 20) as (λ b. Type 0) [
+                          | true ↦ (i < s .inputs) × (fallIncomplete s w i ≡ true)
+                          | false ↦
+                              elim (eqb n 21) as (λ b. Type 0) [ true ↦ (i < length (s .gates)) × (fallUnobservable s w i ≡ true) | false ↦ Unit {0} ]
+                        ]
+                  ]
+            ]
+      ]
 
-    other : (k l : ℕ) (test : ℕ → ℕ → Bool) → ¬ (k ≡ n) → Each Holds (swept order s k 1 l test)
-    other k l test d = sweep-each k 1 (numbers 0 l) (λ name. test (spelled order (s .inputs) name)) Holds (names order s) (λ name x i y t q. absurd (d q))
+  abbrev Holds : Case → Type 0
+  Holds c = c .fails ≡ true → Tested (c .names .number) (c .names .at) (spelled order (s .inputs) (c .names .word))
 
-    by-number : EachCheck (Each Holds) (sweeps order f) → some (eqb n) (13 ∷ 14 ∷ 15 ∷ 20 ∷ 21 ∷ []) ≡ true → v .number ≡ n
-        → (v .at < m) × (fails named (v .at) ≡ true)
-    by-number all h e = let x = swept-verdict order f n o e in go (x .2) (judge-says Holds (sweeps order f) all)
-      where
-        o : OfRuns n
-        o = of-runs n h
+  each-holds : EachCheck Holds (checks order s r)
+  unfolding checks looped retired
+  each-holds =
+      let sp = spelled order (s .inputs) in
+      let m = length (s .gates) in
+      let outs = length (s .outputs) in (
+        ((λ t. tt), tt),
+        (
+          ((λ t. tt), tt),
+          (
+            sweep-each 12 1 (numbers 0 m) (λ w g. reachesItself (netOf s) (2 * s .inputs + g)) Holds (0 ∷ []) (λ w x i y t. tt),
+            (
+              sweep-each 28 1 (numbers 0 m) (λ w. retiredGate s) Holds (0 ∷ []) (λ w x i y t. tt),
+              (
+                sweep-each 13 1 (numbers 0 outs) (λ name. wrong s r (sp name)) Holds (names order s) (λ w x i y t. (in-index outs i y, t)),
+                (
+                  sweep-each 14 1 (numbers 0 (s .inputs)) (λ name. incomplete s (sp name)) Holds (names order s) (λ w x i y t. (in-index (s .inputs) i y, t)),
+                  (
+                    sweep-each 15 1 (numbers 0 m) (λ name. unobservable s (sp name)) Holds (names order s) (λ w x i y t. (in-index m i y, t)),
+                    (
+                      sweep-each 20 1 (numbers 0 (s .inputs)) (λ name. fallIncomplete s (sp name)) Holds (names order s) (λ w x i y t. (in-index (s .inputs) i y, t)),
+                      (
+                        sweep-each 21 1 (numbers 0 m) (λ name. fallUnobservable s (sp name)) Holds (names order s) (λ w x i y t. (in-index m i y, t)),
+                        tt,
+                      ),
+                    ),
+                  ),
+                ),
+              ),
+            ),
+          ),
+        ),
+      )
 
-        go : v ≡ judge (sweeps order f) → ((c : Case) × Holds c × (c .fails ≡ true) × (judge (sweeps order f) ≡ c .names)) ⊎ (judge (sweeps order f) ≡ accepted)
-            → (v .at < m) × (fails named (v .at) ≡ true)
-        go is (inl (c, holds, t, q)) =
-            let z : v ≡ c .names = is ∙ q in
-            let at : (c .names .at < m) × (fails (spelled order (s .inputs) (c .names .word)) (c .names .at) ≡ true) = holds t (ap (λ (x : Verdict). x .number) (sym z) ∙ e) in
-            subst (λ (x : Verdict). (x .at < m) × (fails (spelled order (s .inputs) (x .word)) (x .at) ≡ true)) (sym z) at
-        go is (inr q) = absurd (omega (arith, o .after-12, ap (λ (x : Verdict). x .number) (is ∙ q)))
+  tested : (n : ℕ) → Ran n → v .number ≡ n → Tested n (v .at) named
+  tested n h e = subst (λ (k : ℕ). Tested k (v .at) named) e (go (judge-says Holds (checks order s r) each-holds))
+    where
+      is : v ≡ judge (checks order s r)
+      is = past-reading f order n (of-runs n h .1) e .1
+
+      go : ((c : Case) × Holds c × (c .fails ≡ true) × (judge (checks order s r) ≡ c .names)) ⊎ (judge (checks order s r) ≡ accepted) → Tested (v .number) (v .at) named
+      go (inl (c, holds, t, q)) = subst (λ (x : Verdict). Tested (x .number) (x .at) (spelled order (s .inputs) (x .word))) (sym (is ∙ q)) (holds t)
+      go (inr q) = absurd (omega (arith, of-runs n h .0, ap (λ (x : Verdict). x .number) (is ∙ q)))
 
   pub at-13 : v .number ≡ 13 → (v .at < length (s .outputs)) × (wrong s r named (v .at) ≡ true)
   unfolding some
-  at-13 =
-      by-number 13 (length (s .outputs)) (wrong s r) (
-        own 13 (length (s .outputs)) (wrong s r),
-        (
-          other 13 (length (s .outputs)) (wrong s r) 14 (s .inputs) (incomplete s) (λ q. omega arith),
-          (
-            other 13 (length (s .outputs)) (wrong s r) 15 (length (s .gates)) (unobservable s) (λ q. omega arith),
-            (
-              other 13 (length (s .outputs)) (wrong s r) 20 (s .inputs) (fallIncomplete s) (λ q. omega arith),
-              (
-                other 13 (length (s .outputs)) (wrong s r) 21 (length (s .gates)) (fallUnobservable s) (λ q. omega arith),
-                tt,
-              ),
-            ),
-          ),
-        ),
-      )
-      refl
+  at-13 e = tested 13 refl e
 
   pub at-14 : v .number ≡ 14 → (v .at < s .inputs) × (incomplete s named (v .at) ≡ true)
   unfolding some
-  at-14 =
-      by-number 14 (s .inputs) (incomplete s) (
-        other 14 (s .inputs) (incomplete s) 13 (length (s .outputs)) (wrong s r) (λ q. omega arith),
-        (
-          own 14 (s .inputs) (incomplete s),
-          (
-            other 14 (s .inputs) (incomplete s) 15 (length (s .gates)) (unobservable s) (λ q. omega arith),
-            (
-              other 14 (s .inputs) (incomplete s) 20 (s .inputs) (fallIncomplete s) (λ q. omega arith),
-              (
-                other 14 (s .inputs) (incomplete s) 21 (length (s .gates)) (fallUnobservable s) (λ q. omega arith),
-                tt,
-              ),
-            ),
-          ),
-        ),
-      )
-      refl
+  at-14 e = tested 14 refl e
 
   pub at-15 : v .number ≡ 15 → (v .at < length (s .gates)) × (unobservable s named (v .at) ≡ true)
   unfolding some
-  at-15 =
-      by-number 15 (length (s .gates)) (unobservable s) (
-        other 15 (length (s .gates)) (unobservable s) 13 (length (s .outputs)) (wrong s r) (λ q. omega arith),
-        (
-          other 15 (length (s .gates)) (unobservable s) 14 (s .inputs) (incomplete s) (λ q. omega arith),
-          (
-            own 15 (length (s .gates)) (unobservable s),
-            (
-              other 15 (length (s .gates)) (unobservable s) 20 (s .inputs) (fallIncomplete s) (λ q. omega arith),
-              (
-                other 15 (length (s .gates)) (unobservable s) 21 (length (s .gates)) (fallUnobservable s) (λ q. omega arith),
-                tt,
-              ),
-            ),
-          ),
-        ),
-      )
-      refl
+  at-15 e = tested 15 refl e
 
   pub at-20 : v .number ≡ 20 → (v .at < s .inputs) × (fallIncomplete s named (v .at) ≡ true)
   unfolding some
-  at-20 =
-      by-number 20 (s .inputs) (fallIncomplete s) (
-        other 20 (s .inputs) (fallIncomplete s) 13 (length (s .outputs)) (wrong s r) (λ q. omega arith),
-        (
-          other 20 (s .inputs) (fallIncomplete s) 14 (s .inputs) (incomplete s) (λ q. omega arith),
-          (
-            other 20 (s .inputs) (fallIncomplete s) 15 (length (s .gates)) (unobservable s) (λ q. omega arith),
-            (
-              own 20 (s .inputs) (fallIncomplete s),
-              (
-                other 20 (s .inputs) (fallIncomplete s) 21 (length (s .gates)) (fallUnobservable s) (λ q. omega arith),
-                tt,
-              ),
-            ),
-          ),
-        ),
-      )
-      refl
+  at-20 e = tested 20 refl e
 
   pub at-21 : v .number ≡ 21 → (v .at < length (s .gates)) × (fallUnobservable s named (v .at) ≡ true)
   unfolding some
-  at-21 =
-      by-number 21 (length (s .gates)) (fallUnobservable s) (
-        other 21 (length (s .gates)) (fallUnobservable s) 13 (length (s .outputs)) (wrong s r) (λ q. omega arith),
-        (
-          other 21 (length (s .gates)) (fallUnobservable s) 14 (s .inputs) (incomplete s) (λ q. omega arith),
-          (
-            other 21 (length (s .gates)) (fallUnobservable s) 15 (length (s .gates)) (unobservable s) (λ q. omega arith),
-            (
-              other 21 (length (s .gates)) (fallUnobservable s) 20 (s .inputs) (fallIncomplete s) (λ q. omega arith),
-              (
-                own 21 (length (s .gates)) (fallUnobservable s),
-                tt,
-              ),
-            ),
-          ),
-        ),
-      )
-      refl
+  at-21 e = tested 21 refl e

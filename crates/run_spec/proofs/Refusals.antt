@@ -23,7 +23,7 @@ use Rattle.check_spec.specs.Checks.{looped}
 use Rattle.check_spec.specs.Verdicts.{refusal, reading, rowStage}
 use Rattle.check_spec.specs.Demands.{Pass, Named, LoopFree}
 use Rattle.check_spec.proofs.First.{Each, each-++, first-pass, judged, named-says, sweep-each, sweep-in, sweep-out}
-use Rattle.check_spec.proofs.Exactly.{reading-number}
+use Rattle.check_spec.proofs.Sound.{reading-number}
 use Rattle.run_spec.specs.Play.{wrongLength, openingChecks}
 
 -- the first place of several that fails is named
