@@ -1,19 +1,17 @@
 // A list of switchings, judged: how many of its steps come before the first that the rules bar, and the row that they leave.
+use call_open::Opening;
 use netlist::Counts;
-use netlist::Found;
-use netlist::Outcome;
 use run_spec::PlayAnswer;
 use verdict::Verdict;
 use verdict::WordOrder;
 ghost use mathlib.Core.Path.{_≡_};
 ghost use Prim.Native.Nat.{_≤_};
 ghost use lib.ListN.{length, replicate, take, drop};
-ghost use Rattle.runs.specs.Net.{nets};
 ghost use Rattle.circuit.specs.Stage.{netCount, StageLoaded};
 ghost use Rattle.circuit.specs.Rows.{rowSize, RowFor};
 ghost use Rattle.circuit_steps.specs.Moves.{moves, loadedNet, rowIn};
 ghost use Rattle.run_spec.specs.Play.{noneLeft, PlayDemand};
-ghost use Rattle.call_play.specs.Steps.{Taken, Played};
+ghost use Rattle.call_play.specs.Steps.{Taken, Begins, Played, LeftBy};
 
 // ---- steps
 
@@ -62,7 +60,7 @@ fn has_ended(code: &[u16], counts: Counts, goal: &[u8], row: &[u8]) -> bool
 
 // The place where the fall begins in a list of so many steps: a place behind its end is its end.
 fn fall_begins(fall: usize, count: usize) -> usize
-    ensures { λ r. ⌜ (r ≤ fall) × (r ≤ count) × (r < fall → r ≡ count) ⌝ }
+    ensures { λ r. ⌜ Begins fall count r ⌝ }
 {
     if fall < count {
         return fall;
@@ -91,42 +89,23 @@ fn play_word(code: &[u16], counts: Counts, w: usize, fall: usize, list: &[u16], 
 
 // ---- the call
 
-// A stage that was loaded: 12, then 16, else the list is played and the row holds its levels.
+// A stage that was opened: the list is played by the word of a name, and the row holds the levels that are left.
 fn play_stage(
-    code: &mut [u16],
+    order: WordOrder,
+    code: &[u16],
     counts: Counts,
-    w: usize,
+    name: usize,
     fall: usize,
     list: &[u16],
     row: &mut [u8],
 ) -> PlayAnswer
-    requires { ⌜ StageLoaded counts (now code) ⌝ }
+    requires { ⌜ StageLoaded counts (now code) × (length (now row) ≡ netCount counts) ⌝ }
+    ensures { λ r. ⌜ LeftBy order counts (now (code .entry)) name fall (now (list .entry)) r (now (row .exit)) ⌝ }
 {
-    if let Found::At(g) = circuit_order::order_gates(code, counts) {
-        return PlayAnswer {
-            verdict: Verdict {
-                number: 12,
-                file: 1,
-                at: g as u64,
-                word: 0,
-            },
-            steps: 0,
-        };
-    }
-    let nets = 2 * counts.inputs + counts.gates;
-    if row.len() != nets {
-        return PlayAnswer {
-            verdict: Verdict {
-                number: 16,
-                file: 3,
-                at: row.len() as u64,
-                word: 0,
-            },
-            steps: 0,
-        };
-    }
+    let w = words::word_of(order, counts.inputs, name);
     let mut own = [0u8; circuit::ROW];
     let steps = play_word(code, counts, w, fall, list, &mut own);
+    let nets = 2 * counts.inputs + counts.gates;
     bytes::copy(&own[..nets], row);
     PlayAnswer {
         verdict: Verdict {
@@ -136,5 +115,24 @@ fn play_stage(
             word: 0,
         },
         steps: steps as u64,
+    }
+}
+
+// A list of switchings of the word that a name spells, which is a rise up to a place and from there on a fall: how many of its steps come before the
+// first that the rules bar, and the row that they leave. A refusal leaves the row as it was.
+pub fn play(
+    order: WordOrder,
+    stage: &[u8],
+    name: usize,
+    fall: usize,
+    list: &[u16],
+    row: &mut [u8],
+) -> PlayAnswer
+    ensures { λ r. ⌜ PlayDemand order (now (stage .entry)) name fall (now (list .entry)) (now (row .entry)) r (now (row .exit)) ⌝ }
+{
+    let mut code = [0u16; circuit_load::STAGE_CODE];
+    match call_open::open_stage(stage, row.len(), 1, &mut code) {
+        Opening::Refused(verdict) => PlayAnswer { verdict, steps: 0 },
+        Opening::Opened(counts) => play_stage(order, &code, counts, name, fall, list, row),
     }
 }

@@ -1,24 +1,35 @@
 -- The rails of a word in a flat row. Assumes nothing.
-use Prim.Native.Nat.{ℕ, _+_, _*_, _/_, _≤_, _<_}
+use Prim.Native.Nat.{ℕ, zero, suc, _+_, _*_, _/_, _≤_, _<_}
 use native.Mathlib.Omega.{arith}
 use native.Mathlib.Decide.{ℕ-discrete}
-use mathlib.Core.Path.{_≡_, refl, sym, ap, _∙_}
+use mathlib.Core.Path.{_≡_, refl, sym, ap, _∙_, fun-ext}
 use mathlib.Core.Logic.{_⊎_, inl, inr}
 use mathlib.Core.Bool.{Bool, true, false}
 use mathlib.Core.List.{List, []}
-use lib.ListN.{length, getD, take, set, length-set}
+use lib.ListN.{length, getD, take, set, replicate, length-set}
 use lib.Seq.{getD-take, getD-set-same, getD-set-other}
 use lib.Dec.{ltb}
+use Rattle.runs.specs.Row.{low}
 use Rattle.netlist.specs.declared.Counts.{Counts}
 use Rattle.verdict.specs.Words.{bitsOf, railsOf}
 use Rattle.check_spec.specs.Content.{Content}
 use Rattle.check_spec.specs.Words.{railsFor}
 use Rattle.check_spec.proofs.Alike.{rails-alike}
 use Rattle.circuit.specs.Stage.{netCount}
-use Rattle.circuit.specs.Rows.{RowFor, railPart}
+use Rattle.circuit.specs.Rows.{rowSize, RowFor, railPart}
 use Rattle.circuit.proofs.Pins.{nets-at}
 use Rattle.circuit.proofs.Settling.{row-set}
 use Rattle.circuit_steps.specs.Moves.{rowIn}
+
+-- a row of zeros is all low
+pub low-levels : (c : Counts) → rowIn c (replicate rowSize 0) ≡ low
+low-levels c = fun-ext (λ k. ap (λ (x : ℕ). ltb 0 x) (zeros (netCount c) rowSize k))
+  where
+    zeros : (m n k : ℕ) → getD {A = ℕ} (take m (replicate n 0)) k 0 ≡ 0
+    zeros zero n k = refl
+    zeros (suc m) zero k = refl
+    zeros (suc m) (suc n) zero = refl
+    zeros (suc m) (suc n) (suc k) = zeros m n k
 
 module _ (c : Counts) (row : List ℕ) (ro : RowFor c row) where
   pub level-in : (k : ℕ) → k < netCount c → rowIn c row k ≡ ltb 0 (getD row k 0)

@@ -11,7 +11,8 @@ use Rattle.verdict.specs.Nets as verdict
 use Rattle.check_spec.specs.Content.{Content, contentAt}
 use Rattle.check_spec.specs.Rows.{netOf}
 use Rattle.check_spec.specs.Verdicts.{rowStage}
-use Rattle.check_spec.proofs.View.{stageView, stage-view, net-view}
+use Rattle.check_spec.specs.Loaded.{stageView}
+use Rattle.check_spec.proofs.View.{stage-view, net-view}
 use Rattle.circuit.specs.Stage.{stageIn, stageGates}
 use Rattle.circuit.proofs.Settling.{length-stageGates}
 use Rattle.circuit_steps.specs.Moves.{loadedNet}

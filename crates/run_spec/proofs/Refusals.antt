@@ -22,25 +22,9 @@ use Rattle.check_spec.specs.Rows.{netOf, reachesItself}
 use Rattle.check_spec.specs.Checks.{looped}
 use Rattle.check_spec.specs.Verdicts.{refusal, reading, rowStage}
 use Rattle.check_spec.specs.Demands.{Pass, Named, LoopFree}
-use Rattle.check_spec.proofs.First.{Each, each-++, first-pass, judged, named-says, sweep-each, sweep-in, sweep-out}
+use Rattle.check_spec.proofs.First.{Each, each-++, first-pass, judged, named-says, places-first, sweep-each, sweep-in, sweep-out}
 use Rattle.check_spec.proofs.Sound.{reading-number}
 use Rattle.run_spec.specs.Play.{wrongLength, openingChecks}
-
--- the first place of several that fails is named
-places-first : (number file w : ℕ) (fails : ℕ → Bool) (j m g : ℕ) → j ≤ g → g < j + m → ((k : ℕ) → j ≤ k → k < g → fails k ≡ false) → fails g ≡ true
-    → (others : List Case) (later : Verdict) → first (map (λ i. case number file i w (fails i)) (numbers j m) ++ others) later ≡ verdict number file g w
-unfolding numbers first
-places-first number file w fails j zero g l h none e others later = absurd (omega arith)
-places-first number file w fails j (suc m) g l h none e others later = go (same? j g) (places-first number file w fails (suc j) m g)
-  where
-    rest : Verdict
-    rest = first (map (λ i. case number file i w (fails i)) (numbers (suc j) m) ++ others) later
-
-    go : (j ≡ g) ⊎ (j ≢ g) → (suc j ≤ g → g < suc j + m → ((k : ℕ) → suc j ≤ k → k < g → fails k ≡ false) → fails g ≡ true
-        → (others : List Case) (later : Verdict) → first (map (λ i. case number file i w (fails i)) (numbers (suc j) m) ++ others) later ≡ verdict number file g w)
-        → cond (fails j) (verdict number file j w) rest ≡ verdict number file g w
-    go (inl q) ih = rw (q, e)
-    go (inr q) ih = rw (none j (omega arith) (omega (arith, q))) (ih (omega (arith, q)) (omega arith) (λ k a b. none k (omega arith) b) e others later)
 
 pass-left : (a b : List Case) → Pass (a ++ b) → Pass a
 pass-left [] b p = tt
