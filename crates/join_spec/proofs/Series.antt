@@ -189,8 +189,8 @@ module _ (one two : Content) where
           let g = feeding-gate whole u v i in
           gate-cases (λ u. (v : ℕ) → In v (driver whole u .operands) → place v < place u)
           (λ k g v i.
-              let i′ : In v (driver one k .operands) = rw (driver-first k g) at i in
-              let l = pins-in _ (driver one k .operands) (stage-named most one h .pins k g) v i′ in
-              omega (arith, place-first v l .0, place-first k (g .1) .0, pins-in _ (driver one k .operands) (acyclic one free .rank-pins k g) v i′))
+          let i′ : In v (driver one k .operands) = rw (driver-first k g) at i in
+          let l = pins-in _ (driver one k .operands) (stage-named most one h .pins k g) v i′ in
+          omega (arith, place-first v l .0, place-first k (g .1) .0, pins-in _ (driver one k .operands) (acyclic one free .rank-pins k g) v i′))
           (λ k g v i. let x = in-map move (driver two k .operands) v (rw (driver-second k g) at i) in rw (x .2) (second-before k g (x .0) (x .1)))
           u g v (rw (le-ltb u (rails (netOf whole)) (g .0)) at i))

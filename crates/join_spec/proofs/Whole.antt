@@ -60,7 +60,7 @@ module _ (f : File) (n : ℕ) where
   gates-++ g k [] ds h l = let z : k + 0 ≡ k = omega arith in rw z at l
   gates-++ g k (c ∷ cs) ds h l = let z : k + suc (length cs) ≡ suc k + length cs = omega arith in (h .0, gates-++ g (suc k) cs ds (h .1) (rw z at l))
 
-module _ (f : File) (move : ℕ → ℕ) (one two : Content) (most whole : Limits) (room : RoomForTwo most whole) (h : Formed f most one) (h′ : Formed f most two) where
+module _ (f : File) (move : ℕ → ℕ) (one two : Content) where
   abbrev n : ℕ
   n = one .inputs
 
@@ -79,9 +79,9 @@ module _ (f : File) (move : ℕ → ℕ) (one two : Content) (most whole : Limit
     pub second : (k v : ℕ) → v < nameable (roleFor f sort.Gate) m d k → move v < nameable (roleFor f sort.Gate) n (g + d) (g + k)
     pub outputs : (v : ℕ) → v < nameable (roleFor f sort.Output) m d d → move v < nameable (roleFor f sort.Output) n (g + d) (g + d)
 
-  pub joined-formed : Moves → Formed f whole (joinedBy move one two)
+  pub joined-formed : (most whole : Limits) → RoomForTwo most whole → Formed f most one → Formed f most two → Moves → Formed f whole (joinedBy move one two)
   unfolding joinedBy
-  joined-formed names = record {
+  joined-formed most whole room h h′ names = record {
     inputs-in = omega (arith, h .inputs-in, room .inputs);
     gates-in = omega (arith, gates-length move one two, h .gates-in, h′ .gates-in, room .gates);
     outputs-in = omega (arith, outputs-length move one two, h′ .outputs-in, room .outputs);
