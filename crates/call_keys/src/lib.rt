@@ -1,7 +1,6 @@
 // A run in an order that the caller chooses: at each step, of the nets that may switch, that with the least key does.
+use call_open::Opening;
 use netlist::Counts;
-use netlist::Found;
-use netlist::Outcome;
 use run_spec::RunAnswer;
 use verdict::Verdict;
 use verdict::WordOrder;
@@ -15,7 +14,7 @@ ghost use Rattle.circuit.specs.Rows.{RowFor};
 ghost use Rattle.circuit_steps.specs.Moves.{moves, loadedNet, rowIn};
 ghost use Rattle.write_run.specs.Listing.{ListedRun, RunPut};
 ghost use Rattle.run_spec.specs.Keys.{keyIn, KeysDemand};
-ghost use Rattle.call_keys.specs.Lists.{BestOf, Earlier, byKeys, riseIn, fallIn};
+ghost use Rattle.call_keys.specs.Lists.{BestOf, Earlier, byKeys, riseIn, fallIn, GivenBy};
 
 // ---- steps
 
@@ -107,4 +106,57 @@ fn list_run(code: &[u16], counts: Counts, w: usize, keys: &[u32], list: &mut [u1
     let rise = list_by_keys(code, counts, &goal, keys, &mut row, list, 0);
     let count = list_by_keys(code, counts, &low, &keys[nets..], &mut row, list, rise);
     Lengths { rise, count }
+}
+
+// ---- the call
+
+// A stage that was opened: the run of the word of a name, handed out.
+fn run_stage(
+    order: WordOrder,
+    code: &[u16],
+    counts: Counts,
+    name: usize,
+    keys: &[u32],
+    list: &mut [u16],
+) -> RunAnswer
+    requires { ⌜ StageLoaded counts (now code) × (length (now keys) ≡ 2 * netCount counts) ⌝ }
+    ensures { λ r. ⌜ GivenBy order counts (now (code .entry)) name (now (keys .entry)) (now (list .entry)) r (now (list .exit)) ⌝ }
+{
+    let w = words::word_of(order, counts.inputs, name);
+    let mut run = [0u16; run_spec::RUN];
+    let lengths = list_run(code, counts, w, keys, &mut run);
+    let count = lengths.count;
+    write_run::hand_out(&run[..count], list);
+    RunAnswer {
+        verdict: Verdict {
+            number: 0,
+            file: 0,
+            at: 0,
+            word: 0,
+        },
+        rise: lengths.rise as u64,
+        count: count as u64,
+    }
+}
+
+// A full run of the word that a name spells, a rise and a fall, in an order that is chosen by a key for each net in the rise and one for each in the
+// fall: of the nets that may switch, that with the least key does.
+pub fn run_by_keys(
+    order: WordOrder,
+    stage: &[u8],
+    name: usize,
+    keys: &[u32],
+    list: &mut [u16],
+) -> RunAnswer
+    ensures { λ r. ⌜ KeysDemand order (now (stage .entry)) name (now (keys .entry)) (now (list .entry)) r (now (list .exit)) ⌝ }
+{
+    let mut code = [0u16; circuit_load::STAGE_CODE];
+    match call_open::open_stage(stage, keys.len(), 2, &mut code) {
+        Opening::Refused(verdict) => RunAnswer {
+            verdict,
+            rise: 0,
+            count: 0,
+        },
+        Opening::Opened(counts) => run_stage(order, &code, counts, name, keys, list),
+    }
 }
