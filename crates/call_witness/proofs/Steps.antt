@@ -1,5 +1,5 @@
 -- Nets switch one after the other, each time the least that may. Assumes nothing.
-use Prim.Native.Nat.{ℕ, zero, suc, _+_, _-_, _*_, _≤_, _<_}
+use Prim.Native.Nat.{ℕ, _+_, _*_, _≤_, _<_}
 use native.Mathlib.Omega.{arith}
 use native.Mathlib.Decide.{decLt, ℕ-discrete}
 use mathlib.Core.Path.{_≡_, refl, sym, ap, ap₂, _∙_, subst, fun-ext}
@@ -21,9 +21,10 @@ use Rattle.circuit_steps.specs.Fed.{FedFrom}
 use Rattle.circuit_steps.proofs.Local.{moves-other}
 use Rattle.circuit_steps.proofs.Rules.{goal-alike}
 use Rattle.write_run.specs.Listing.{ListedRun}
-use Rattle.write_run.proofs.Listing.{Listing, listing-start, listing-long, listing-room, listing-turn, listing-done}
+use Rattle.write_run.proofs.Listing.{listing-long}
+use Rattle.write_run.proofs.Playing.{Playing, playing-start, playing-full, playing-none, playing-room, playing-turn}
 use Rattle.run_spec.specs.Played.{played}
-use Rattle.run_spec.proofs.Played.{Before, NextIs, played-none, played-next, played-few}
+use Rattle.run_spec.proofs.Played.{Before, NextIs}
 use Rattle.call_witness.specs.Lists.{moving, FirstFrom, LookFrom, leastFirst, GoalIn}
 
 -- ---- looking for the next net
@@ -64,22 +65,19 @@ module _ (c : Counts) (code : List ℕ) (goal : Row) (held : ℕ) where
   abbrev self : ℕ → ℕ
   self k = k
 
-  abbrev more : ℕ → Row → List ℕ
-  more = played step self (nets N)
-
   all-nets : nets N ≡ netCount c
   all-nets = ap (λ (g : ℕ). 2 * c .inputs + g) (length-stageGates c code)
 
   -- some nets have switched, and none below a place may switch now
   pub record Walking (before : List ℕ) (start : ℕ) (r₀ : Row) (list row : List ℕ) (count from : ℕ) : Type 0 where
-    pub listing : Listing more (nets N) before start r₀ list count (rowIn c row)
+    pub listing : Playing step self (nets N) before start r₀ list count (rowIn c row)
     pub row-for : RowFor c row
     pub from-in : from ≤ netCount c
     pub none : (j : ℕ) → j < from → step (rowIn c row) j ≡ false
 
   pub walk-start : (before row : List ℕ) (start : ℕ) → RowFor c row → start + netCount c ≤ length before → Walking before start (rowIn c row) before row start 0
   walk-start before row start r room = record {
-    listing = listing-start more (nets N) before start (rowIn c row) (omega (arith, all-nets, played-few step self (nets N) (nets N) (rowIn c row)));
+    listing = playing-start step self (nets N) before start (rowIn c row) (omega (arith, all-nets));
     row-for = r;
     from-in = omega arith;
     none = λ j h. absurd (omega arith);
@@ -89,18 +87,12 @@ module _ (c : Counts) (code : List ℕ) (goal : Row) (held : ℕ) where
     abbrev r : Row
     r = rowIn c row
 
-    abbrev L : Listing more (nets N) before start r₀ list count r
-    L = w .listing
-
     pub walk-long : length list ≡ length before
-    walk-long = listing-long more (nets N) before start r₀ list count r L
+    walk-long = listing-long (played step self (nets N)) (nets N) before start r₀ list count r (w .listing)
 
     -- no step is left to take
-    pub walk-full : start + netCount c ≤ count → ListedRun (more (nets N) r₀) before start r₀ count list r
-    unfolding played
-    walk-full h =
-        let z : L .steps ≡ 0 = omega (arith, L .steps-are, all-nets) in
-        listing-done more (nets N) before start r₀ list count r L (ap (λ (m : ℕ). more m r) z)
+    pub walk-full : start + netCount c ≤ count → ListedRun (leastFirst N goal held r₀) before start r₀ count list r
+    walk-full h = playing-full step self (nets N) before start r₀ list count r (w .listing) (omega (arith, all-nets))
 
     module _ (net : ℕ) (f : FirstFrom (step r) (netCount c) from net) where
       below : (j : ℕ) → j < net → step r j ≡ false
@@ -110,10 +102,8 @@ module _ (c : Counts) (code : List ℕ) (goal : Row) (held : ℕ) where
           go (yes l) = w .none j l
           go (no l) = f .none j (omega arith) h
 
-      pub walk-none : net ≡ netCount c → ListedRun (more (nets N) r₀) before start r₀ count list r
-      walk-none e =
-          listing-done more (nets N) before start r₀ list count r L
-          (played-none step self (nets N) (L .steps) r (λ j h. below j (omega (arith, all-nets))))
+      pub walk-none : net ≡ netCount c → ListedRun (leastFirst N goal held r₀) before start r₀ count list r
+      walk-none e = playing-none step self (nets N) before start r₀ list count r (w .listing) (λ j h. below j (omega (arith, all-nets)))
 
       module _ (d : ¬ (net ≡ netCount c)) (left : count < start + netCount c) where
         pub is-net : net < netCount c
@@ -130,19 +120,13 @@ module _ (c : Counts) (code : List ℕ) (goal : Row) (held : ℕ) where
                 go (yes m) = inl m
                 go (no m) = inr (omega arith, omega arith)
 
-        steps-left : L .steps ≡ suc (L .steps - 1)
-        steps-left = omega (arith, L .steps-are, all-nets)
-
-        is-next : more (suc (L .steps - 1)) r ≡ net ∷ more (L .steps - 1) (toggle r net)
-        is-next = played-next step self (nets N) (L .steps - 1) r net next
-
         pub walk-room : count < length list
-        walk-room = listing-room more (nets N) before start r₀ list count r L net (L .steps - 1) (ap (λ (m : ℕ). more m r) steps-left ∙ is-next)
+        walk-room = playing-room step self (nets N) before start r₀ list count r (w .listing) net next (omega (arith, all-nets))
 
         pub walk-turn : (fed : List ℕ) → FedFrom c code 0 fed → (row′ : List ℕ) → RowFor c row′ → rowIn c row′ ≡ toggle r net
             → (from′ : ℕ) → LookFrom fed net from′ → Walking before start r₀ (set list count net) row′ (count + 1) from′
         walk-turn fed feeds row′ rf e from′ look = record {
-          listing = rw e (listing-turn more (nets N) before start r₀ list count r L net (L .steps - 1) steps-left is-next);
+          listing = rw e (playing-turn step self (nets N) before start r₀ list count r (w .listing) net next (omega (arith, all-nets)));
           row-for = rf;
           from-in = omega (arith, look .not-above, is-net);
           none = λ j h.
