@@ -29,15 +29,15 @@ struct fovaheju_verdict {
        that do not fit, 23 an answer that the second part does not care for, 24 a buffer that is too short, 25 a signal
        that leads to no output, 26 too many gates needed, 27 a buffer that is too short for a stage, 28 a gate of a
        retired kind, 29 a line of a text that has another form, or a care list, which has no text, 30 a name in a text that
-       nobody drives, 31 a name that is driven again, or an output that would give a net a second name, 36 to 38 no next
-       small stage, 39 to 41 no drawn reference.
+       nobody drives, 31 a name that is driven again, or an output that would give a net a second name, 32 a gate that
+       never rises, 36 to 38 no next small stage, 39 to 41 no drawn reference.
        docs/VERDICTS.md has the list. */
     uint64_t number;
     /* In which file: 1 the stage or a stage's text, 2 the reference, 3 the row or a buffer, 0 none. Of a join 1 and 2 are
        the first part's, 4 and 5 the second's; 3 is none in the second part, and for 24 a buffer. */
     uint64_t file;
-    /* At which place: a byte of the file for 1 to 9, 18 and 19, the stage's count for 10 and 11, a gate for 12, 15, 21
-       and 28, an output for 13, an input for 14, 17 and 20, the row's length for 16, the first part's outputs for 22, a
+    /* At which place: a byte of the file for 1 to 9, 18 and 19, the stage's count for 10 and 11, a gate for 12, 15, 21,
+       28 and 32, an output for 13, an input for 14, 17 and 20, the row's length for 16, the first part's outputs for 22, a
        signal for 25, how many gates are needed for 26, a line of the text for 29 to 31, counted from 0, where a text is
        written an output for 31. */
     uint64_t at;
@@ -53,7 +53,7 @@ struct fovaheju_verdict {
    Care words in files have input 0 as the lowest bit always. */
 
 /* The verdict on a stage file and a reference file, given as their bytes. The numbers are 0 to 15,
-   18 to 21 and 28. */
+   18 to 21, 28 and 32. */
 struct fovaheju_verdict fovaheju_check(uint64_t order, const uint8_t *stage, size_t stage_len,
                                        const uint8_t *reference, size_t reference_len);
 
@@ -95,7 +95,7 @@ struct fovaheju_join {
    the number is not 0. A part may have at most 128 gates in its stage and 256 in its reference; 5,715 bytes have room
    for every joined stage, and 3,123 for every joined reference. The numbers are those of fovaheju_check on the first
    part, then on the second, with 3 added to its file, then 22, 23 and 24. The bytes written are the same in either
-   order. */
+   order. fovaheju_check accepts what is written, or answers 32: a gate of the whole may never rise. */
 struct fovaheju_join fovaheju_join(uint64_t order, const uint8_t *stage1, size_t stage1_len,
                                    const uint8_t *reference1, size_t reference1_len,
                                    const uint8_t *stage2, size_t stage2_len,
@@ -111,8 +111,8 @@ struct fovaheju_written {
 
 /* Makes a stage that computes what a reference says: NOT swaps rails, every other operation becomes two gates. The stage is
    written at the start of a buffer; the bytes past it keep their values, and so do all where the number is not 0.
-   fovaheju_check accepts what is written against the reference. 2,643 bytes have room for every such stage. The numbers
-   are 0; 1 to 9 with file 2; then 25, 26 and 27, with the files 2, 2 and 3. */
+   fovaheju_check accepts what is written against the reference, or answers 32: a gate may never rise. 2,643 bytes have
+   room for every such stage. The numbers are 0; 1 to 9 with file 2; then 25, 26 and 27, with the files 2, 2 and 3. */
 struct fovaheju_written fovaheju_make_stage(const uint8_t *reference, size_t reference_len,
                                             uint8_t *stage_out, size_t stage_out_len);
 

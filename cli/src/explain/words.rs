@@ -118,19 +118,16 @@ const WORDS: usize = 8;
 fn say_words(text: &mut Text, at: usize, reference: &Reference, pair: Pair) {
     let stage = pair.stage.stage();
     let levels = Levels::new(pair.stage.bytes(), &stage);
-    // Words of files have input i as bit i.
-    let words: Vec<usize> = if stage.care.is_empty() { (0..1 << stage.inputs).collect() } else { stage.care.clone() };
-    let digits = |word: usize| (0..stage.inputs).map(|input| word >> input & 1 == 1).collect::<Vec<bool>>();
     let is_wrong = |values: &Vec<bool>| {
         let shown = levels.rest(values).map(|row| pair_state(&row, stage.outputs[at]));
         shown != reference.answer(values).get(at).map(|&value| data(value))
     };
-    let wrong: Vec<Vec<bool>> = words.iter().map(|&word| digits(word)).filter(is_wrong).collect();
+    let wrong: Vec<Vec<bool>> = stage.words().into_iter().map(|word| stage.values(word)).filter(is_wrong).collect();
     let mut named: Vec<String> = wrong.iter().map(|values| values.iter().map(|&value| if value { '1' } else { '0' }).collect()).collect();
     named.sort();
     let more = if named.len() > WORDS { " .." } else { "" };
     named.truncate(WORDS);
-    let of = if stage.care.is_empty() { many(words.len(), "word") } else { many(words.len(), "care word") };
+    let of = stage.word_count();
     text.row("words", &format!("{} is wrong in {} of {of}: {}{more}", stage.output_name(at), wrong.len(), named.join(" ")));
 }
 

@@ -30,6 +30,7 @@ use Rattle.check_spec.specs.Demands.{Demand2, Demand3}
 use Rattle.check_spec.specs.Loaded.{stageView, referenceView, filesWithin}
 use Rattle.check_spec.proofs.Demanded.{demand-2, demand-3}
 use Rattle.check_spec.proofs.View.{stage-view, reference-view}
+use Rattle.check_spec.proofs.Alike.{read-care}
 use Rattle.check_spec.proofs.Bridge.{alike-judge, checks-alike}
 use Rattle.circuit.specs.Stage.{stageIn}
 use Rattle.circuit.specs.Reference.{referenceIn}
@@ -133,7 +134,7 @@ module _ (order : WordOrder) (stageMost referenceMost : Limits) (s t : List ℕ)
           let view : stageIn c code ≡ stageView p = from .content ∙ sym (stage-view s (from .places)) in
           let same : referenceIn sizes reference ≡ referenceView q = of-reference .content ∙ sym (reference-view t (of-reference .places)) in
           rw (from .reads, of-reference .reads)
-          (ap verdicts.verdictOf (ap₂ (λ (x : Stage) (y : Reference). firstFault (checks order x y)) view same) ∙ sym (alike-judge (checks-alike order p q)))
+          (ap verdicts.verdictOf (ap₂ (λ (x : Stage) (y : Reference). firstFault (checks order x y)) view same) ∙ sym (alike-judge (checks-alike order p q (read-care stageMost s (from .places) (from .reads)))))
 
       pub checks-refuse : {code′ : List ℕ} (v : Verdict) → Fault v ≡ found → JudgedAs order stageMost referenceMost s t (judgement.Refused v) code′ reference
       unfolding verdicts.verdictOf

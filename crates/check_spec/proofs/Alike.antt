@@ -305,7 +305,12 @@ module _ (c : Content) (care : Ascending (2 ^ c .inputs) 0 (c .care)) (w : ℕ) 
       go (x ∷ ws) i = or-left (some (eqb w) (x ∷ ws)) _ (some-in (eqb w) (x ∷ ws) w i (eqb-same w))
 
 -- the care words of a file that reads rise
+pub read-care : (most : Limits) (bytes : List ℕ) (p : Places) → readFile file.Stage most bytes ≡ readable p
+    → Ascending (2 ^ contentAt file.Stage bytes (readable p) .inputs) 0 (contentAt file.Stage bytes (readable p) .care)
+unfolding contentAt stageOf
+read-care most bytes p e = stage-formed most bytes p e .care-in
+
 pub care-rises : (most : Limits) (bytes : List ℕ) (p : Places) → readFile file.Stage most bytes ≡ readable p
     → Ascending (2 ^ contentOf file.Stage most bytes .inputs) 0 (contentOf file.Stage most bytes .care)
 unfolding contentAt stageOf
-care-rises most bytes p e = rw e (stage-formed most bytes p e .care-in)
+care-rises most bytes p e = rw e (read-care most bytes p e)
