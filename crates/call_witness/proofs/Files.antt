@@ -24,7 +24,7 @@ use Rattle.check_spec.specs.Rows.{netOf}
 use Rattle.check_spec.specs.Words.{spelled}
 use Rattle.check_spec.specs.Verdicts.{refusal, reading, rowStage, verdictOn}
 use Rattle.check_spec.specs.Demands.{Pass, BothRead, LoopFree}
-use Rattle.check_spec.proofs.Alike.{spelled-alike}
+use Rattle.check_spec.proofs.Alike.{spelled-alike, names-alike}
 use Rattle.netlist.specs.Content.{stageOf}
 use Rattle.circuit.specs.Stage as flat
 use Rattle.circuit.specs.Stage.{netCount, StageLoaded}
@@ -37,11 +37,11 @@ use Rattle.write_run.specs.Listing.{RunPut}
 use Rattle.write_run.proofs.Listing.{run-taken}
 use Rattle.run_spec.specs.declared.RunAnswer.{RunAnswer}
 use Rattle.run_spec.specs.Played.{Run, switchings, answering, handedOut}
-use Rattle.run_spec.specs.Witness.{ofRuns, witnessRun, nameShown, witnessOn, WitnessDemand}
-use Rattle.run_spec.proofs.Named.{accepted-free, refused-free, at-14, at-15, at-20, at-21}
+use Rattle.run_spec.specs.Witness.{ofRuns, askedOrFirst, nameShown, witnessRun, witnessOn, WitnessDemand}
+use Rattle.run_spec.proofs.Named.{refused-free, at-14, at-15, at-20, at-21}
 use Rattle.run_spec.proofs.Numbers.{run-few}
-use Rattle.run_spec.proofs.Witness.{witness-demand, nothing-given}
-use Rattle.call_witness.specs.Lists.{NamedIn, riseIn, fallIn, Showable, GivenFor}
+use Rattle.run_spec.proofs.Witness.{both-read, witness-demand, nothing-given}
+use Rattle.call_witness.specs.Lists.{NamedIn, riseIn, fallIn, nameIn, Showable, GivenFor}
 use Rattle.call_witness.proofs.Runs.{rise-same, fall-same}
 
 -- ---- a stage that was read
@@ -68,12 +68,20 @@ module _ (stage : List ℕ) (v : Verdict) (show : Showable stage v) (c : Counts)
     gate-21 = λ e. omega (arith, show .gate-21 e, same .gates);
   }
 
-  module _ (order : WordOrder) (name w : ℕ) (spells : w ≡ words.spelled order (c .inputs) name) where
+  module _ (order : WordOrder) (asked name : ℕ) (names-it : name ≡ nameIn order (flat.stageIn c code) v asked) (w : ℕ) (spells : w ≡ words.spelled order (c .inputs) name) where
+    name-is : name ≡ nameShown order s v asked
+    unfolding nameIn nameShown
+    name-is =
+        names-it ∙ ap (λ (l : List ℕ). cond (eqb (v .number) 0) asked (cond (eqb (v .number) 32) (askedOrFirst l asked) (v .word)))
+        (ap (words.names order) (same .view) ∙ sym (names-alike order s))
+
     abbrev word : ℕ
-    word = spelled order (s .inputs) name
+    word = spelled order (s .inputs) (nameShown order s v asked)
 
     word-is : w ≡ word
-    word-is = spells ∙ sym (spelled-alike order (c .inputs) name) ∙ ap (λ (n : ℕ). spelled order n name) (same .inputs)
+    word-is =
+        spells ∙ sym (spelled-alike order (c .inputs) name) ∙ ap (λ (n : ℕ). spelled order n name) (same .inputs)
+        ∙ ap (spelled order (s .inputs)) name-is
 
     abbrev run : Run
     run = witnessRun s v word
@@ -92,7 +100,7 @@ module _ (stage : List ℕ) (v : Verdict) (show : Showable stage v) (c : Counts)
 
     pub given-for : (before list : List ℕ) (r : Lengths) → RunPut (riseIn c code v w) (fallIn c code v w) before r list → 2 * netCount c ≤ length before
         → (lent lent′ : List ℕ) → lent′ ≡ handedOut (take (r .count) list) lent → (a : RunAnswer)
-        → a ≡ record { verdict = v; rise = r .rise; count = r .count } → GivenFor order stage v name lent a lent′
+        → a ≡ record { verdict = v; rise = r .rise; count = r .count } → GivenFor order stage v asked lent a lent′
     given-for before list r put room lent lent′ h a e =
         let few : length (riseIn c code v w ++ fallIn c code v w) ≤ length before = omega (arith, put .count-is, lists-few before list r put room) in
         record {
@@ -131,17 +139,13 @@ module _ (order : WordOrder) (stage reference : List ℕ) (v : Verdict) (is : v 
   }
     where
       read : BothRead f
-      read = go (true? (eqb (v .number) 0))
-        where
-          go : (eqb (v .number) 0 ≡ true) ⊎ (eqb (v .number) 0 ≡ false) → BothRead f
-          go (inl e) = accepted-free order f (number 0 (eqb-eq (v .number) 0 e)) .0
-          go (inr e) = refused-free order f (subst (λ (n : ℕ). some (eqb n) (13 ∷ 14 ∷ 15 ∷ 20 ∷ 21 ∷ []) ≡ true) (ap (λ (x : Verdict). x .number) is) (rw e at h)) .0
+      read = both-read order f (subst (λ (x : Verdict). some (eqb (x .number)) ofRuns ≡ true) is h)
 
   module _ (asked : ℕ) (before : List ℕ) where
-    pub shown-demand : (name : ℕ) → name ≡ nameShown v asked → (r : RunAnswer) (list : List ℕ) → GivenFor order stage v name before r list → WitnessDemand order f asked before r list
-    shown-demand name e r list g =
-        let to : witnessRun (rowStage stage) v (spelled order (rowStage stage .inputs) name) ≡ witnessOn order f asked =
-        ap₂ (λ (x : Verdict) (m : ℕ). witnessRun (rowStage stage) x (spelled order (rowStage stage .inputs) m)) is (e ∙ ap (λ (x : Verdict). nameShown x asked) is) in
+    pub shown-demand : (r : RunAnswer) (list : List ℕ) → GivenFor order stage v asked before r list → WitnessDemand order f asked before r list
+    shown-demand r list g =
+        let to : witnessRun (rowStage stage) v (spelled order (rowStage stage .inputs) (nameShown order (rowStage stage) v asked)) ≡ witnessOn order f asked =
+        ap (λ (x : Verdict). witnessRun (rowStage stage) x (spelled order (rowStage stage .inputs) (nameShown order (rowStage stage) x asked))) is in
         witness-demand order f asked before r list (g .answer ∙ ap₂ answering is to) (g .list-is ∙ ap (λ (x : Run). handedOut (switchings x) before) to)
 
     pub none-demand : some (eqb (v .number)) ofRuns ≡ false → (r : RunAnswer) → r ≡ record { verdict = v; rise = 0; count = 0 } → WitnessDemand order f asked before r before

@@ -3,3 +3,5 @@ pub mod Goals
 pub mod Runs
 pub mod Files
 pub mod Numbers
+pub mod Putting
+pub mod Names

@@ -31,13 +31,17 @@ speaks-20 n lo hi = let e : n ≡ 20 + (n - 20) = omega arith in rw e (go (n - 2
     go (suc zero) h = (refl, refl)
     go (suc (suc k)) h = absurd (omega arith)
 
-pub silent-falls : (n : ℕ) → ¬ (n ≡ 0) → (20 ≤ n → n ≤ 21 → ⊥) → some (eqb n) ofFalls ≡ false
+pub speaks-32 : (n : ℕ) → n ≡ 32 → (some (eqb n) ofRuns ≡ true) × (some (eqb n) ofFalls ≡ true)
 unfolding some
-silent-falls n a c = rw (ne-eqb n 0 a, ne-eqb n 20 (λ e. c (omega arith) (omega arith)), ne-eqb n 21 (λ e. c (omega arith) (omega arith)))
+speaks-32 n e = rw e (refl, refl)
 
-pub silent-runs : (n : ℕ) → ¬ (n ≡ 0) → (13 ≤ n → n ≤ 15 → ⊥) → (20 ≤ n → n ≤ 21 → ⊥) → some (eqb n) ofRuns ≡ false
+pub silent-falls : (n : ℕ) → ¬ (n ≡ 0) → (20 ≤ n → n ≤ 21 → ⊥) → ¬ (n ≡ 32) → some (eqb n) ofFalls ≡ false
 unfolding some
-silent-runs n a b c =
+silent-falls n a c d = rw (ne-eqb n 0 a, ne-eqb n 20 (λ e. c (omega arith) (omega arith)), ne-eqb n 21 (λ e. c (omega arith) (omega arith)), ne-eqb n 32 d)
+
+pub silent-runs : (n : ℕ) → ¬ (n ≡ 0) → (13 ≤ n → n ≤ 15 → ⊥) → (20 ≤ n → n ≤ 21 → ⊥) → ¬ (n ≡ 32) → some (eqb n) ofRuns ≡ false
+unfolding some
+silent-runs n a b c d =
     rw (
       ne-eqb n 0 a,
       ne-eqb n 13 (λ e. b (omega arith) (omega arith)),
@@ -45,4 +49,5 @@ silent-runs n a b c =
       ne-eqb n 15 (λ e. b (omega arith) (omega arith)),
       ne-eqb n 20 (λ e. c (omega arith) (omega arith)),
       ne-eqb n 21 (λ e. c (omega arith) (omega arith)),
+      ne-eqb n 32 d,
     )

@@ -8,10 +8,12 @@ use lib.Dec.{eqb}
 use Rattle.runs.specs.Row.{Row, Rule, low, only, after, _∖_}
 use Rattle.runs.specs.Net.{Net, nets}
 use Rattle.netlist.specs.declared.Counts.{Counts}
-use Rattle.netlist.specs.declared.File.the-variants.{Stage}
+use Rattle.netlist.specs.declared.File.the-variants as file
 use Rattle.netlist.specs.Reading.{stageLimits}
+use Rattle.netlist.specs.Content.{Stage}
 use Rattle.verdict.specs.declared.Verdict.{Verdict}
 use Rattle.verdict.specs.declared.WordOrder.{WordOrder}
+use Rattle.verdict.specs.Words as flat
 use Rattle.check_spec.specs.Lists.{some}
 use Rattle.check_spec.specs.Rows.{netOf}
 use Rattle.check_spec.specs.Words.{railsFor, spelled}
@@ -21,7 +23,7 @@ use Rattle.circuit.specs.Stage.{netCount}
 use Rattle.circuit_steps.specs.Moves.{moves, loadedNet, rowIn}
 use Rattle.run_spec.specs.declared.RunAnswer.{RunAnswer}
 use Rattle.run_spec.specs.Played.{played, switchings, answering, handedOut}
-use Rattle.run_spec.specs.Witness.{ofRuns, ofFalls, witnessRun}
+use Rattle.run_spec.specs.Witness.{ofRuns, ofFalls, askedOrFirst, nameShown, witnessRun}
 
 -- ---- steps
 
@@ -85,16 +87,23 @@ fallIn c code v w =
 
 -- ---- a file
 
+-- the name of the word that is shown, of a stage that was loaded
+unfoldable pub nameIn : WordOrder → Stage → Verdict → ℕ → ℕ
+nameIn order s v asked =
+    let cared = askedOrFirst (flat.names order s) asked in
+    cond (eqb (v .number) 0) asked (cond (eqb (v .number) 32) cared (v .word))
+
 -- a verdict that speaks of runs of a stage that reads; it names what is there, and where it looks at the fall of an input the stage has no loop
 pub record Showable (stage : List ℕ) (v : Verdict) : Type 0 where
-  pub reads : Pass (reading Stage stageLimits stage)
+  pub reads : Pass (reading file.Stage stageLimits stage)
   pub speaks : some (eqb (v .number)) ofRuns ≡ true
   pub input-14 : v .number ≡ 14 → v .at < rowStage stage .inputs
   pub gate-15 : v .number ≡ 15 → v .at < length (rowStage stage .gates)
   pub input-20 : v .number ≡ 20 → (v .at < rowStage stage .inputs) × LoopFree (netOf (rowStage stage))
   pub gate-21 : v .number ≡ 21 → v .at < length (rowStage stage .gates)
 
--- the run of the word that a name spells is handed out
-pub record GivenFor (order : WordOrder) (stage : List ℕ) (v : Verdict) (name : ℕ) (before : List ℕ) (r : RunAnswer) (list : List ℕ) : Type 0 where
-  pub answer : r ≡ answering v (witnessRun (rowStage stage) v (spelled order (rowStage stage .inputs) name))
-  pub list-is : list ≡ handedOut (switchings (witnessRun (rowStage stage) v (spelled order (rowStage stage .inputs) name))) before
+-- the run for a name that is asked for is handed out
+pub record GivenFor (order : WordOrder) (stage : List ℕ) (v : Verdict) (asked : ℕ) (before : List ℕ) (r : RunAnswer) (list : List ℕ) : Type 0 where
+  pub answer : r ≡ answering v (witnessRun (rowStage stage) v (spelled order (rowStage stage .inputs) (nameShown order (rowStage stage) v asked)))
+  pub list-is : list
+      ≡ handedOut (switchings (witnessRun (rowStage stage) v (spelled order (rowStage stage .inputs) (nameShown order (rowStage stage) v asked)))) before

@@ -15,14 +15,15 @@ ghost use Rattle.runs.specs.Net.{nets};
 ghost use Rattle.netlist.specs.Reading.{stageLimits, Within};
 ghost use Rattle.check_spec.specs.Lists.{some};
 ghost use Rattle.check_spec.specs.Content.{files};
-ghost use Rattle.circuit.specs.Stage.{netCount, StageLoaded};
+ghost use Rattle.verdict.specs.Words.{names};
+ghost use Rattle.circuit.specs.Stage.{netCount, stageIn, StageLoaded};
 ghost use Rattle.circuit.specs.Rows.{RowFor};
 ghost use Rattle.circuit_steps.specs.Moves.{loadedNet, rowIn};
 ghost use Rattle.circuit_steps.specs.Fed.{FedFrom};
 ghost use Rattle.write_run.specs.Listing.{ListedRun, RunPut};
-ghost use Rattle.run_spec.specs.Witness.{ofRuns, ofFalls, nameShown, WitnessDemand};
+ghost use Rattle.run_spec.specs.Witness.{ofRuns, ofFalls, askedOrFirst, WitnessDemand};
 ghost use Rattle.call_witness.specs.Lists.{moving, FirstFrom, LookFrom, leastFirst, without, alone, GoalIn, inputUnder, gateUnder, NamedIn};
-ghost use Rattle.call_witness.specs.Lists.{riseIn, fallIn, Showable, GivenFor};
+ghost use Rattle.call_witness.specs.Lists.{riseIn, fallIn, nameIn, Showable, GivenFor};
 
 // ---- steps
 
@@ -163,7 +164,7 @@ fn has_run(number: u64) -> bool
     ensures { λ r. ⌜ r ≡ some (eqb number) ofRuns ⌝ }
 {
     match number {
-        0 | 13 | 14 | 15 | 20 | 21 => true,
+        0 | 13 | 14 | 15 | 20 | 21 | 32 => true,
         _ => false,
     }
 }
@@ -173,7 +174,7 @@ fn has_fall(number: u64) -> bool
     ensures { λ r. ⌜ r ≡ some (eqb number) ofFalls ⌝ }
 {
     match number {
-        0 | 20 | 21 => true,
+        0 | 20 | 21 | 32 => true,
         _ => false,
     }
 }
@@ -203,29 +204,68 @@ fn list_run(code: &[u16], counts: Counts, verdict: Verdict, w: usize, list: &mut
 
 // ---- files
 
-// The name of the word whose run is shown: the one that the verdict names, or of an accepted pair the one that is asked for.
-fn name_shown(verdict: Verdict, asked: usize) -> usize
-    ensures { λ r. ⌜ r ≡ nameShown verdict asked ⌝ }
+// The number that is asked for, if it stands in a list; else the first of the list.
+fn asked_or_first(list: &[u16], asked: usize) -> usize
+    ensures { λ r. ⌜ r ≡ askedOrFirst (now (list .entry)) asked ⌝ }
+{
+    let mut i: usize = 0;
+    while i < list.len() {
+        if list[i] as usize == asked {
+            return asked;
+        }
+        i += 1;
+    }
+    if 0 < list.len() {
+        return list[0] as usize;
+    }
+    0
+}
+
+// The name that is asked for, if it is that of a word that is cared for; else the first such name.
+fn cared_name(order: WordOrder, code: &[u16], counts: Counts, asked: usize) -> usize
+    requires { ⌜ StageLoaded counts (now code) ⌝ }
+    ensures { λ r. ⌜ r ≡ askedOrFirst (names order (stageIn counts (now (code .entry)))) asked ⌝ }
+{
+    let mut list = [0u16; words::NAMES];
+    let count = words::list_names(order, code, counts, &mut list);
+    asked_or_first(&list[..count], asked)
+}
+
+// The name of the word whose run is shown: of an accepted pair the one that is asked for, under 32 if it is cared for, else the one that the verdict
+// names.
+fn name_shown(
+    order: WordOrder,
+    code: &[u16],
+    counts: Counts,
+    verdict: Verdict,
+    asked: usize,
+) -> usize
+    requires { ⌜ StageLoaded counts (now code) ⌝ }
+    ensures { λ r. ⌜ r ≡ nameIn order (stageIn counts (now (code .entry))) verdict asked ⌝ }
 {
     if verdict.number == 0 {
         return asked;
     }
+    if verdict.number == 32 {
+        return cared_name(order, code, counts, asked);
+    }
     verdict.word as usize
 }
 
-// The run that a verdict on a stage file speaks of, of the word that a name spells.
+// The run that a verdict on a stage file speaks of, for a name that is asked for.
 fn witness_stage(
     order: WordOrder,
     stage: &[u8],
     verdict: Verdict,
-    name: usize,
+    asked: usize,
     list: &mut [u16],
 ) -> RunAnswer
     requires { ⌜ Showable (now stage) verdict ⌝ }
-    ensures { λ r. ⌜ GivenFor order (now (stage .entry)) verdict name (now (list .entry)) r (now (list .exit)) ⌝ }
+    ensures { λ r. ⌜ GivenFor order (now (stage .entry)) verdict asked (now (list .entry)) r (now (list .exit)) ⌝ }
 {
     let mut code = [0u16; circuit_load::STAGE_CODE];
     if let Outcome::Readable(counts) = circuit_load::read_stage(stage, &mut code) {
+        let name = name_shown(order, &code, counts, verdict, asked);
         let w = words::word_of(order, counts.inputs, name);
         let mut run = [0u16; run_spec::RUN];
         let lengths = list_run(&code, counts, verdict, w, &mut run);
@@ -244,8 +284,8 @@ fn witness_stage(
     }
 }
 
-// The witness of the verdict on a stage file and a reference file, with words named in an order; of an accepted pair, a run of the word whose name is
-// asked for.
+// The witness of the verdict on a stage file and a reference file, with words named in an order; of an accepted pair, and under 32, a run of the word
+// whose name is asked for.
 pub fn witness(
     order: WordOrder,
     stage: &[u8],
@@ -257,8 +297,7 @@ pub fn witness(
 {
     let verdict = check_files::check(order, stage, reference);
     if has_run(verdict.number) {
-        let name = name_shown(verdict, asked);
-        return witness_stage(order, stage, verdict, name, list);
+        return witness_stage(order, stage, verdict, asked, list);
     }
     RunAnswer {
         verdict,

@@ -4,6 +4,7 @@ pub mod Runs
 pub mod Named
 pub mod OneWord
 pub mod Numbers
+pub mod Idle
 pub mod Witness
 pub mod Play
 pub mod Refusals

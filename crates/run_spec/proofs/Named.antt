@@ -17,7 +17,7 @@ use Rattle.check_spec.specs.Lists.{some, numbers}
 use Rattle.check_spec.specs.Content.{Content, Files, stageIn, referenceIn}
 use Rattle.check_spec.specs.Rows.{netOf, reachesItself}
 use Rattle.check_spec.specs.Words.{spelled, names}
-use Rattle.check_spec.specs.Checks.{swept, wrong, incomplete, unobservable, fallIncomplete, fallUnobservable, looped, retired, retiredGate, checks}
+use Rattle.check_spec.specs.Checks.{swept, wrong, incomplete, unobservable, fallIncomplete, fallUnobservable, looped, retired, retiredGate, neverRises, idle, checks}
 use Rattle.check_spec.specs.Verdicts.{verdictOn}
 use Rattle.check_spec.specs.Demands.{Pass, Named, BothRead, LoopFree}
 use Rattle.check_spec.proofs.First.{Each, first-says, named-says, sweep-each}
@@ -98,7 +98,7 @@ module _ (order : WordOrder) (f : Files) where
   Holds c = c .fails ≡ true → Tested (c .names .number) (c .names .at) (spelled order (s .inputs) (c .names .word))
 
   each-holds : EachCheck Holds (checks order s r)
-  unfolding checks looped retired
+  unfolding checks looped retired idle
   each-holds =
       let sp = spelled order (s .inputs) in
       let m = length (s .gates) in
@@ -120,7 +120,10 @@ module _ (order : WordOrder) (f : Files) where
                       sweep-each 20 1 (numbers 0 (s .inputs)) (λ name. fallIncomplete s (sp name)) Holds (names order s) (λ w x i y t. (in-index (s .inputs) i y, t)),
                       (
                         sweep-each 21 1 (numbers 0 m) (λ name. fallUnobservable s (sp name)) Holds (names order s) (λ w x i y t. (in-index m i y, t)),
-                        tt,
+                        (
+                          sweep-each 32 1 (numbers 0 m) (λ w g. neverRises s (2 * s .inputs + g)) Holds (0 ∷ []) (λ w x i y t. tt),
+                          tt,
+                        ),
                       ),
                     ),
                   ),

@@ -2,31 +2,34 @@
 -- Assumes nothing.
 use Prim.Native.Nat.{ℕ, _+_, _*_}
 use native.Mathlib.Omega.{arith}
-use mathlib.Core.Path.{_≡_, refl, sym, ap, ap₂, _∙_}
+use mathlib.Core.Path.{_≡_, refl, sym, ap, ap₂, _∙_, subst}
 use mathlib.Core.Logic.{_⊎_, inl, inr}
 use mathlib.Core.Bool.{Bool, true, false, cond}
 use mathlib.Core.List.{List, [], _∷_, _++_}
 use lib.ListN.{length, drop}
 use lib.Dec.{eqb, ltb}
-use borrow.Author.Tests.{ne-eqb}
-use Rattle.runs.specs.Row.{Row, low, only}
-use Rattle.runs.specs.Net.{Net, railsOfInputs}
+use borrow.Author.Tests.{eq-eqb, ne-eqb}
+use Rattle.runs.specs.Row.{Row, low, only, after}
+use Rattle.runs.specs.Net.{Net, railsOfInputs, riseStep, fallStep}
 use Rattle.runs.specs.Witness.{ShowsWrong, ShowsIncomplete, ShowsUnobservable}
-use Rattle.runs.specs.FallWitness.{ShowsFallIncomplete, ShowsFallUnobservable, FullCycle}
+use Rattle.runs.specs.FallWitness.{ShowsFallIncomplete, ShowsFallUnobservable, FullCycle, ShowsNeverSwitching}
 use Rattle.runs.proofs.Test.{clash, true?, not-true, eqb-eq, le-ltb}
 use Rattle.verdict.specs.declared.Verdict.{Verdict}
 use Rattle.verdict.specs.declared.WordOrder.{WordOrder}
 use Rattle.check_spec.specs.Lists.{some}
 use Rattle.check_spec.specs.Content.{Content, Files, stageIn, referenceIn}
 use Rattle.check_spec.specs.Rows.{netOf}
-use Rattle.check_spec.specs.Words.{railsFor, spelled}
+use Rattle.check_spec.specs.Words.{railsFor, spelled, names, IsWord}
 use Rattle.check_spec.specs.Verdicts.{verdictOn}
 use Rattle.check_spec.specs.Demands.{BothRead, LoopFree, answerTo}
+use Rattle.check_spec.proofs.Sound.{idle-sound}
+use Rattle.check_spec.proofs.Demanded.{demand-3}
 use Rattle.run_spec.specs.declared.RunAnswer.{RunAnswer}
 use Rattle.run_spec.specs.Played.{Run, switchings, answering, handedOut}
-use Rattle.run_spec.specs.Witness.{ofRuns, ofFalls, heldBack, witnessRun, wordShown, witnessOn, Shows, WitnessDemand}
+use Rattle.run_spec.specs.Witness.{ofRuns, ofFalls, heldBack, witnessRun, askedOrFirst, nameShown, wordShown, witnessOn, Shows, WitnessDemand}
 use Rattle.run_spec.proofs.OneWord.{full, shows-wrong, shows-incomplete, shows-unobservable, shows-fall-incomplete, shows-fall-unobservable}
 use Rattle.run_spec.proofs.Named.{named, accepted-free, refused-free, at-13, at-14, at-15, at-20, at-21}
+use Rattle.run_spec.proofs.Idle.{never-listed, has-word, cared-word}
 use Rattle.run_spec.proofs.Numbers.{self, known, held-input, held-gate, held-none, rise-is, fall-is, rise-none, fall-none, run-few}
 
 -- ---- what it shows
@@ -102,15 +105,42 @@ module _ (order : WordOrder) (f : Files) (w : ℕ) where
         rw (rise-is s v w 21 e low (only net) x y refl, fall-is s v w 21 e low (only net) x y refl)
         (shows-fall-unobservable s (referenceIn f) (free 21 e refl) w self self (v .at) (t .0) (t .1))
 
-  pub shown : (¬ (v .number ≡ 0) → named order f ≡ w) → Shows f w v run
-  shown word = record {
+  on-32 : v .number ≡ 32 → IsWord s w → ShowsNeverSwitching N c net (run .rise) (run .fall)
+  unfolding some
+  on-32 e i =
+      let x = held-none s v 14 15 (λ q. omega arith) (λ q. omega arith) in
+      let y = held-none s v 20 21 (λ q. omega arith) (λ q. omega arith) in
+      let d = demand-3 order f .idle e .1 in
+      let cycle : FullCycle N c (run .rise) (run .fall) =
+      rw (rise-is s v w 32 e low low x y refl, fall-is s v w 32 e low low x y refl) (full s (referenceIn f) (idle-sound order f e .free) w self self) in
+      let l = cycle .lists in
+      record {
+        cycle = cycle;
+        not-in-rise = never-listed (riseStep N c) net low (run .rise) (l .rise-legal) (d .rise-low w i);
+        not-in-fall = never-listed (fallStep N) net (after low (run .rise)) (run .fall) (l .fall-legal) (d .fall-low w i (run .rise) (l .rise-legal) (l .rise-ended));
+      }
+
+  pub shown : (¬ (v .number ≡ 0) → ¬ (v .number ≡ 32) → named order f ≡ w) → (v .number ≡ 32 → IsWord s w) → Shows f w v run
+  shown word cared = record {
     accepted = on-0;
-    wrong = λ e. on-13 (word (λ q. omega arith)) e;
-    incomplete = λ e. on-14 (word (λ q. omega arith)) e;
-    unobservable = λ e. on-15 (word (λ q. omega arith)) e;
-    fall-incomplete = λ e. on-20 (word (λ q. omega arith)) e;
-    fall-unobservable = λ e. on-21 (word (λ q. omega arith)) e;
+    wrong = λ e. on-13 (word (λ q. omega arith) (λ q. omega arith)) e;
+    incomplete = λ e. on-14 (word (λ q. omega arith) (λ q. omega arith)) e;
+    unobservable = λ e. on-15 (word (λ q. omega arith) (λ q. omega arith)) e;
+    fall-incomplete = λ e. on-20 (word (λ q. omega arith) (λ q. omega arith)) e;
+    fall-unobservable = λ e. on-21 (word (λ q. omega arith) (λ q. omega arith)) e;
+    never-switching = λ e. (cared e, on-32 e (cared e));
   }
+
+-- a verdict that speaks of runs is one on two files that read
+module _ (order : WordOrder) (f : Files) where
+  pub both-read : some (eqb (verdictOn order f .number)) ofRuns ≡ true → BothRead f
+  unfolding some
+  both-read h = go (true? (eqb (verdictOn order f .number) 0)) (true? (eqb (verdictOn order f .number) 32))
+    where
+      go : (eqb (verdictOn order f .number) 0 ≡ true) ⊎ (eqb (verdictOn order f .number) 0 ≡ false) → (eqb (verdictOn order f .number) 32 ≡ true) ⊎ (eqb (verdictOn order f .number) 32 ≡ false) → BothRead f
+      go (inl e) d = accepted-free order f (eqb-eq (verdictOn order f .number) 0 e) .0
+      go (inr e) (inl d) = demand-3 order f .idle (eqb-eq (verdictOn order f .number) 32 d) .0
+      go (inr e) (inr d) = refused-free order f (rw (e, d) at h) .0
 
 -- ---- the call
 
@@ -121,29 +151,39 @@ module _ (order : WordOrder) (f : Files) (asked : ℕ) (before : List ℕ) where
   abbrev given : Run
   given = witnessOn order f asked
 
-  word-is : ¬ (verdict .number ≡ 0) → named order f ≡ wordShown order f asked
-  word-is d = ap (λ (b : Bool). spelled order (stageIn f .inputs) (cond b asked (verdict .word))) (sym (ne-eqb (verdict .number) 0 d))
+  -- the name that is shown, by the number
+  abbrev cared : ℕ
+  cared = askedOrFirst (names order (stageIn f)) asked
 
-  both-read : some (eqb (verdict .number)) ofRuns ≡ true → BothRead f
-  unfolding some
-  both-read h = go (true? (eqb (verdict .number) 0))
-    where
-      go : (eqb (verdict .number) 0 ≡ true) ⊎ (eqb (verdict .number) 0 ≡ false) → BothRead f
-      go (inl e) = accepted-free order f (eqb-eq (verdict .number) 0 e) .0
-      go (inr e) = refused-free order f (rw e at h) .0
+  word-is : ¬ (verdict .number ≡ 0) → ¬ (verdict .number ≡ 32) → named order f ≡ wordShown order f asked
+  unfolding nameShown
+  word-is d e =
+      ap (spelled order (stageIn f .inputs)) (sym (
+      ap (λ (b : Bool). cond b asked (cond (eqb (verdict .number) 32) cared (verdict .word))) (ne-eqb (verdict .number) 0 d)
+      ∙ ap (λ (b : Bool). cond b cared (verdict .word)) (ne-eqb (verdict .number) 32 e)
+      ))
+
+  word-cared : verdict .number ≡ 32 → IsWord (stageIn f) (wordShown order f asked)
+  unfolding nameShown
+  word-cared e =
+      let is : cared ≡ nameShown order (stageIn f) verdict asked =
+      sym (ap (λ (b : Bool). cond b asked (cond (eqb (verdict .number) 32) cared (verdict .word))) (ne-eqb (verdict .number) 0 (λ q. omega arith))
+      ∙ ap (λ (b : Bool). cond b cared (verdict .word)) (eq-eqb (verdict .number) 32 e)) in
+      subst (λ (name : ℕ). IsWord (stageIn f) (spelled order (stageIn f .inputs) name)) is
+      (cared-word order (stageIn f) (has-word (f .stageMost) (f .stage) (demand-3 order f .idle e .0 .0)) asked)
 
   -- a number that is not of runs is not of falls
   no-falls : (n : ℕ) → some (eqb n) ofRuns ≡ false → some (eqb n) ofFalls ≡ false
   unfolding some
-  no-falls n = go (eqb n 0) (eqb n 13) (eqb n 14) (eqb n 15) (eqb n 20) (eqb n 21)
+  no-falls n = go (eqb n 0) (eqb n 13) (eqb n 14) (eqb n 15) (eqb n 20) (eqb n 21) (eqb n 32)
     where
-      go : (a b c d e g : Bool) → cond a true (cond b true (cond c true (cond d true (cond e true (cond g true false))))) ≡ false
-          → cond a true (cond e true (cond g true false)) ≡ false
-      go true b c d e g h = h
-      go false true c d e g h = absurd (clash refl h)
-      go false false true d e g h = absurd (clash refl h)
-      go false false false true e g h = absurd (clash refl h)
-      go false false false false e g h = h
+      go : (a b c d e g i : Bool) → cond a true (cond b true (cond c true (cond d true (cond e true (cond g true (cond i true false)))))) ≡ false
+          → cond a true (cond e true (cond g true (cond i true false))) ≡ false
+      go true b c d e g i h = h
+      go false true c d e g i h = absurd (clash refl h)
+      go false false true d e g i h = absurd (clash refl h)
+      go false false false true e g i h = absurd (clash refl h)
+      go false false false false e g i h = h
 
   module _ (h : some (eqb (verdict .number)) ofRuns ≡ false) where
     rise-empty : given .rise ≡ []
@@ -168,6 +208,6 @@ module _ (order : WordOrder) (f : Files) (asked : ℕ) (before : List ℕ) where
     answer = refl;
     list = refl;
     few = run-few (stageIn f) verdict (wordShown order f asked);
-    shows = λ h. (both-read h, shown order f (wordShown order f asked) word-is);
+    shows = λ h. (both-read order f h, shown order f (wordShown order f asked) word-is word-cared);
     nothing = λ d. let h = not-true (some (eqb (verdict .number)) ofRuns) d in (ap length (none h), unchanged h);
   })

@@ -3,29 +3,29 @@ use Prim.Native.Nat.{ℕ, _+_, _*_, _≤_}
 use mathlib.Core.Path.{_≡_}
 use mathlib.Core.Bool.{true, cond}
 use mathlib.Core.List.{List, [], _∷_}
-use lib.ListN.{length}
+use lib.ListN.{length, getD}
 use lib.Dec.{eqb}
 use Rattle.runs.specs.Row.{Row, low, only, after}
 use Rattle.runs.specs.Net.{nets, railsOfInputs}
 use Rattle.runs.specs.Witness.{ShowsWrong, ShowsIncomplete, ShowsUnobservable}
-use Rattle.runs.specs.FallWitness.{ShowsFallIncomplete, ShowsFallUnobservable, FullCycle}
+use Rattle.runs.specs.FallWitness.{ShowsFallIncomplete, ShowsFallUnobservable, FullCycle, ShowsNeverSwitching}
 use Rattle.verdict.specs.declared.Verdict.{Verdict}
 use Rattle.verdict.specs.declared.WordOrder.{WordOrder}
 use Rattle.check_spec.specs.Lists.{some}
 use Rattle.check_spec.specs.Content.{Content, Files, stageIn}
 use Rattle.check_spec.specs.Rows.{netOf}
-use Rattle.check_spec.specs.Words.{railsFor, spelled}
+use Rattle.check_spec.specs.Words.{railsFor, spelled, names, IsWord}
 use Rattle.check_spec.specs.Verdicts.{verdictOn}
 use Rattle.check_spec.specs.Demands.{BothRead, answerTo}
 use Rattle.run_spec.specs.declared.RunAnswer.{RunAnswer}
 use Rattle.run_spec.specs.Played.{Run, riseBy, fallBy, switchings, answering, handedOut}
 
--- the numbers that speak of runs: accepted, wrong, incomplete, unobservable; and of these those that speak of a fall too
+-- the numbers that speak of runs: accepted, wrong, incomplete, unobservable, and a gate that never switches; of these those that speak of a fall too
 abbrev pub ofRuns : List ℕ
-ofRuns = 0 ∷ 13 ∷ 14 ∷ 15 ∷ 20 ∷ 21 ∷ []
+ofRuns = 0 ∷ 13 ∷ 14 ∷ 15 ∷ 20 ∷ 21 ∷ 32 ∷ []
 
 abbrev pub ofFalls : List ℕ
-ofFalls = 0 ∷ 20 ∷ 21 ∷ []
+ofFalls = 0 ∷ 20 ∷ 21 ∷ 32 ∷ []
 
 -- what is held back where the verdict's number is one of these two: the rails of input `at`, or the net of gate `at`
 unfoldable pub heldBack : Content → Verdict → ℕ → ℕ → Row
@@ -40,20 +40,27 @@ witnessRun s v w =
     let fall = fallBy (λ k. k) (netOf s) (after low rise) (heldBack s v 20 21) in
     record { rise = cond (some (eqb (v .number)) ofRuns) rise []; fall = cond (some (eqb (v .number)) ofFalls) fall [] }
 
--- the name of the word that is shown: the one that the verdict names, or of an accepted pair the one that the caller asks for
-abbrev pub nameShown : Verdict → ℕ → ℕ
-nameShown v asked = cond (eqb (v .number) 0) asked (v .word)
+-- a name that is asked for, if it is one of some names; else the first of them
+unfoldable pub askedOrFirst : List ℕ → ℕ → ℕ
+askedOrFirst ns asked = let first = getD ns 0 0 in cond (some (eqb asked) ns) asked first
+
+-- The name of the word that is shown. Of an accepted pair it is the one that the caller asks for; under 32, which names no word, too, if that is the name
+-- of a word that is cared for, else the first of these; else the one that the verdict names.
+unfoldable pub nameShown : WordOrder → Content → Verdict → ℕ → ℕ
+nameShown order s v asked =
+    let cared = askedOrFirst (names order s) asked in
+    cond (eqb (v .number) 0) asked (cond (eqb (v .number) 32) cared (v .word))
 
 abbrev pub wordShown : WordOrder → Files → ℕ → ℕ
-wordShown order f asked = spelled order (stageIn f .inputs) (nameShown (verdictOn order f) asked)
+wordShown order f asked = spelled order (stageIn f .inputs) (nameShown order (stageIn f) (verdictOn order f) asked)
 
 abbrev pub witnessOn : WordOrder → Files → ℕ → Run
 witnessOn order f asked = witnessRun (stageIn f) (verdictOn order f) (wordShown order f asked)
 
 -- ---- what is said of the call
 
--- What a run of word w shows, by the verdict's number and place: at the output, input or gate named the promise is broken; or, of an accepted pair, the
--- rise and the fall are full. The records are those of demand 3. (M-110 adds `ShowsNeverSwitching` for 32, here, in `ofRuns` and in `ofFalls`.)
+-- What a run of word w shows, by the verdict's number and place: at the output, input or gate named the promise is broken; of an accepted pair the rise
+-- and the fall are full, and under 32 too, in a word that is cared for, and the gate named switches in neither. The records are those of demand 3.
 pub record Shows (f : Files) (w : ℕ) (v : Verdict) (run : Run) : Type 0 where
   pub accepted : v .number ≡ 0 → FullCycle (netOf (stageIn f)) (railsFor w) (run .rise) (run .fall)
   pub wrong : v .number ≡ 13 → ShowsWrong (netOf (stageIn f)) (railsFor w) (answerTo f w) (v .at) (run .rise) × (run .fall ≡ [])
@@ -63,6 +70,8 @@ pub record Shows (f : Files) (w : ℕ) (v : Verdict) (run : Run) : Type 0 where
   pub fall-incomplete : v .number ≡ 20 → ShowsFallIncomplete (netOf (stageIn f)) (railsFor w) (v .at) (run .rise) (run .fall)
   pub fall-unobservable : v .number ≡ 21
       → ShowsFallUnobservable (netOf (stageIn f)) (railsFor w) (2 * stageIn f .inputs + v .at) (run .rise) (run .fall)
+  pub never-switching : v .number ≡ 32
+      → IsWord (stageIn f) w × ShowsNeverSwitching (netOf (stageIn f)) (railsFor w) (2 * stageIn f .inputs + v .at) (run .rise) (run .fall)
 
 -- The verdict is the check's; the run is the one defined, it has at most two switchings for each net, and it shows what the verdict says; of the other
 -- numbers nothing is written.

@@ -25,7 +25,9 @@ abbrev μ-loop : tie.MeasureT-loop
 μ-loop code counts goal held fed row₀ list₀ start entries nets end count₀ from₀ row list count from = start + netCount counts - count
 
 add-end : tie.Need-add-end Inv-loop μ-loop
-add-end c = ?
+add-end c =
+    let z = c .before .before .before .before .before .before .before .before in
+    omega (arith, z .pre .4, z .pre .0 .within .inputs-in, z .pre .0 .within .gates-in)
 
 loop-holds : tie.Need-loop-holds Inv-loop μ-loop
 loop-holds c =
@@ -42,7 +44,8 @@ same-length : tie.Need-same-length Inv-loop μ-loop
 same-length c = c .before .before .before .before .before .loop .inv .1
 
 same-length-2 : tie.Need-same-length-2 Inv-loop μ-loop
-same-length-2 c = ?
+same-length-2 c =
+    walk-long (c .before .before .before .before .before .before .before .before .before .before .before .before .before .before .args .counts) (now (c .before .before .before .before .before .before .before .before .before .before .before .before .before .before .args .code)) (rowIn (c .before .before .before .before .before .before .before .before .before .before .before .before .before .before .args .counts) (now (c .before .before .before .before .before .before .before .before .before .before .before .before .before .before .args .goal))) (c .before .before .before .before .before .before .before .before .before .before .before .before .before .before .args .held) _ _ _ _ _ _ _ (c .before .before .before .before .before .loop .inv .0)
 
 returns : tie.Need-returns Inv-loop μ-loop
 returns c =
@@ -58,28 +61,48 @@ switch-net-requires c κs =
     (w .row-for, is-net (z .args .counts) (now (z .args .code)) (rowIn (z .args .counts) (now (z .args .goal))) (z .args .held) _ _ _ _ _ _ _ w _ (c .before .before .least-from .ensures) (c .before .if1 .left) (omega arith))
 
 cast-list : tie.Need-cast-list Inv-loop μ-loop
-cast-list c = ?
+cast-list c =
+    let z = c .before .before .before .before .before .before .before .before .before .before .before .before .before .before .before .before .before .before in
+    let l = c .before .before .before .before .before .before .before .before .before .loop in
+    omega (arith, is-net (z .args .counts) (now (z .args .code)) (rowIn (z .args .counts) (now (z .args .goal))) (z .args .held) _ _ _ _ _ _ _ (l .inv .0) _ (c .before .before .before .before .before .least-from .ensures) (c .before .before .before .before .if1 .left) (omega (arith, c .before .before .before .before .before .before .before .before .loop-test .taken)), z .pre .0 .within .inputs-in, z .pre .0 .within .gates-in)
 
 mul-list : tie.Need-mul-list Inv-loop μ-loop
-mul-list c = ?
+mul-list c =
+    let z = c .before .before .before .before .before .before .before .before .before .before .before .before .before .before .before .before .before .before in
+    let l = c .before .before .before .before .before .before .before .before .before .loop in
+    omega (arith, walk-room (z .args .counts) (now (z .args .code)) (rowIn (z .args .counts) (now (z .args .goal))) (z .args .held) _ _ _ _ _ _ _ (l .inv .0) _ (c .before .before .before .before .before .least-from .ensures) (c .before .before .before .before .if1 .left) (omega (arith, c .before .before .before .before .before .before .before .before .loop-test .taken)))
 
 slice-write-list : tie.Need-slice-write-list Inv-loop μ-loop
-slice-write-list c = ?
+slice-write-list c =
+    let z = c .before .before .before .before .before .before .before .before .before .before .before .before .before .before .before .before .before .before in
+    let l = c .before .before .before .before .before .before .before .before .before .loop in
+    walk-room (z .args .counts) (now (z .args .code)) (rowIn (z .args .counts) (now (z .args .goal))) (z .args .held) _ _ _ _ _ _ _ (l .inv .0) _ (c .before .before .before .before .before .least-from .ensures) (c .before .before .before .before .if1 .left) (omega (arith, c .before .before .before .before .before .before .before .before .loop-test .taken))
 
 look-from-requires : tie.Need-look-from-requires Inv-loop μ-loop
-look-from-requires c κs = ?
+look-from-requires c κs =
+    let z = c .before .before .before .before .before .before .before .before .before .before .before .before .before .before .before .before .before .before in
+    let l = c .before .before .before .before .before .before .before .before .before .loop in
+    omega (arith, is-net (z .args .counts) (now (z .args .code)) (rowIn (z .args .counts) (now (z .args .goal))) (z .args .held) _ _ _ _ _ _ _ (l .inv .0) _ (c .before .before .before .before .before .least-from .ensures) (c .before .before .before .before .if1 .left) (omega (arith, c .before .before .before .before .before .before .before .before .loop-test .taken)), z .pre .2 .long)
 
 loop-less : tie.Need-loop-less Inv-loop μ-loop
-loop-less c = ?
+loop-less c =
+    omega (arith, c .before .before .before .before .before .before .before .before .before .loop-test .taken)
 
 loop-again : tie.Need-loop-again Inv-loop μ-loop
-loop-again c = ?
+loop-again c =
+    let z = c .before .before .before .before .before .before .before .before .before .before .before .before .before .before .before .before .before .before .before in
+    let l = c .before .before .before .before .before .before .before .before .before .before .loop in
+    (
+      walk-turn (z .args .counts) (now (z .args .code)) (rowIn (z .args .counts) (now (z .args .goal))) (z .args .held) _ _ _ _ _ _ _ (l .inv .0) _ (c .before .before .before .before .before .before .least-from .ensures) (c .before .before .before .before .before .if1 .left) (omega (arith, c .before .before .before .before .before .before .before .before .before .loop-test .taken)) _ (z .pre .2) _ (c .before .before .before .switch-net .ensures .0) (c .before .before .before .switch-net .ensures .1) _ (c .look-from .ensures),
+      omega (arith, c .before .before .row .given, l .inv .1),
+    )
 
 same-length-3 : tie.Need-same-length-3 Inv-loop μ-loop
 same-length-3 c = c .before .loop .inv .1
 
 same-length-4 : tie.Need-same-length-4 Inv-loop μ-loop
-same-length-4 c = ?
+same-length-4 c =
+    walk-long (c .before .before .before .before .before .before .before .before .before .before .args .counts) (now (c .before .before .before .before .before .before .before .before .before .before .args .code)) (rowIn (c .before .before .before .before .before .before .before .before .before .before .args .counts) (now (c .before .before .before .before .before .before .before .before .before .before .args .goal))) (c .before .before .before .before .before .before .before .before .before .before .args .held) _ _ _ _ _ _ _ (c .before .loop .inv .0)
 
 returns-2 : tie.Need-returns-2 Inv-loop μ-loop
 returns-2 c =
