@@ -162,9 +162,10 @@ struct fovaheju_run {
    outputs are DATA and input `at` is NULL; under 15 one after which all outputs are DATA and gate `at` is low with its set
    expression true; under 20 and 21 a full rise and a fall after which all outputs are NULL, but input `at` is DATA or gate
    `at` high. Where the pair is accepted it is a full rise and a full fall of the word that the name `asked` spells; of a name
-   the lowest bits count, as many as there are inputs. Other numbers have no run: `rise` and `count` are 0. At each step the
-   least net that may switch does; what is named under 14, 15, 20 and 21 is held back. Places past the run keep their
-   values. */
+   the lowest bits count, as many as there are inputs. Under 32 it is a full rise and a full fall in which gate `at` never
+   switches, of that word if its name is one of a word that is cared for, else of the first such word. Other numbers have no
+   run: `rise` and `count` are 0. At each step the least net that may switch does; what is named under 14, 15, 20 and 21 is
+   held back. Places past the run keep their values. */
 struct fovaheju_run fovaheju_witness(uint64_t order, const uint8_t *stage, size_t stage_len,
                                      const uint8_t *reference, size_t reference_len,
                                      size_t asked, uint16_t *list, size_t list_len);

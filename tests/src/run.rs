@@ -89,16 +89,34 @@ fn hand_out(verdict: Verdict, run: &Run, list: &mut [u16]) -> Handed {
     }
 }
 
+/// The numbers of which a run is shown.
+const SHOWN: [u64; 7] = [0, 13, 14, 15, 20, 21, 32];
+
+/// The word of which it is: the one that the verdict names; accepted, the one that is asked for; under 32 that too, "if it is cared for,
+/// else the first care word".
+fn word_shown(order: WordOrder, stage: &Stage, verdict: Verdict, asked: u64) -> u64 {
+    let [number, _, _, name] = verdict;
+    match number {
+        0 => order.named(stage.inputs, asked),
+        32 => {
+            let cared = stage.named_words(order);
+            let given = cared.iter().find(|(name, _)| *name == asked);
+            given.unwrap_or(&cared[0]).1
+        }
+        _ => order.named(stage.inputs, name),
+    }
+}
+
 /// The witness: under 13 a full run, under 14 and 15 one in which the input or the gate is held back, under 20 and 21 a full rise
-/// and a fall with the input or the gate held back; accepted, a full rise and a full fall of the word whose name is asked for.
+/// and a fall with the input or the gate held back; accepted, and under 32, a full rise and a full fall of the word that is asked for.
 pub fn witness(order: WordOrder, stage_file: &[u8], reference_file: &[u8], asked: u64, list: &mut [u16]) -> Handed {
     let verdict = judge::check_in_order(order, LIMITS, stage_file, reference_file);
-    let [number, _, at, name] = verdict;
-    if ![0, 13, 14, 15, 20, 21].contains(&number) {
+    let [number, _, at, _] = verdict;
+    if !SHOWN.contains(&number) {
         return hand_out(verdict, &Run::default(), list);
     }
     let stage = read_stage(stage_file).expect("a stage of which a run is shown");
-    let word = order.named(stage.inputs, if number == 0 { asked } else { name });
+    let word = word_shown(order, &stage, verdict, asked);
     let named = match number {
         14 | 20 => vec![2 * at as usize, 2 * at as usize + 1],
         15 | 21 => vec![stage.net_of_gate(at as usize)],
@@ -110,13 +128,13 @@ pub fn witness(order: WordOrder, stage_file: &[u8], reference_file: &[u8], asked
     let none: &[usize] = &[];
     let rise = play_on(&stage, Way::Rise(word), &mut row, if in_rise { &named } else { none }, &own);
     let fall = match number {
-        0 | 20 | 21 => play_on(&stage, Way::Fall, &mut row, &named, &own),
+        0 | 20 | 21 | 32 => play_on(&stage, Way::Fall, &mut row, &named, &own),
         _ => vec![],
     };
     hand_out(verdict, &Run { rise, fall }, list)
 }
 
-/// Document 01 and 02, M-102: whether a run of a word shows what a verdict says, by playing it; however it was made.
+/// Documents 01 and 02, M-102 and M-110: whether a run of a word shows what a verdict says, by playing it; however it was made.
 pub fn shows(stage: &Stage, reference: &Reference, verdict: Verdict, word: u64, run: &Run) -> Result<(), String> {
     let [number, _, at, _] = verdict;
     let at = at as usize;
@@ -141,8 +159,10 @@ pub fn shows(stage: &Stage, reference: &Reference, verdict: Verdict, word: u64, 
     let all_data = outputs.iter().all(|state| matches!(state, PairState::Data(_)));
     let all_null = outputs.iter().all(|state| *state == PairState::Null);
     let input = |i: usize| pair([2 * i, 2 * i + 1]);
+    let full_cycle = full_rise && has_ended(stage, Way::Fall, &row) && row.iter().all(|&high| !high);
+    let switches = |net: usize| [&run.rise, &run.fall].iter().any(|list| list.contains(&(net as u16)));
     let shown = match number {
-        0 => full_rise && has_ended(stage, Way::Fall, &row) && row.iter().all(|&high| !high),
+        0 => full_cycle,
         13 => full_rise && run.fall.is_empty() && outputs[at] != PairState::Data(answer(reference, word)[at]),
         14 => run.fall.is_empty() && all_data && input(at) == PairState::Null,
         15 => {
@@ -151,6 +171,7 @@ pub fn shows(stage: &Stage, reference: &Reference, verdict: Verdict, word: u64, 
         }
         20 => full_rise && all_null && matches!(input(at), PairState::Data(_)),
         21 => full_rise && all_null && row[stage.net_of_gate(at)],
+        32 => full_cycle && !switches(stage.net_of_gate(at)) && stage.words().contains(&word),
         _ => false,
     };
     if shown {
@@ -169,8 +190,7 @@ pub fn shows_of_files(
     answer: &Handed,
     list: &[u16],
 ) -> Result<(), String> {
-    let [number, _, _, name] = answer.verdict;
-    if ![0, 13, 14, 15, 20, 21].contains(&number) {
+    if !SHOWN.contains(&answer.verdict[0]) {
         return if answer.rise == 0 && answer.count == 0 {
             Ok(())
         } else {
@@ -179,7 +199,7 @@ pub fn shows_of_files(
     }
     let stage = read_stage(stage_file).map_err(|_| "a stage that does not read")?;
     let reference = read_reference(reference_file).map_err(|_| "a reference that does not read")?;
-    let word = order.named(stage.inputs, if number == 0 { asked } else { name });
+    let word = word_shown(order, &stage, answer.verdict, asked);
     let (rise, count) = (answer.rise as usize, answer.count as usize);
     if list.len() < count {
         return Ok(());

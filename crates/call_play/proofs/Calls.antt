@@ -4,7 +4,7 @@ use native.Mathlib.Omega.{arith}
 use mathlib.Core.Path.{_≡_, refl, sym, ap, ap₂, _∙_}
 use mathlib.Core.Bool.{Bool}
 use mathlib.Core.List.{List, [], _∷_, _++_, map, append-nil}
-use lib.ListN.{length, getD, take, drop}
+use lib.ListN.{drop-of-length-le, length, getD, take, drop}
 use lib.Seq.{take-all, length-take-le, getD-take}
 use lib.Dec.{ltb}
 use Rattle.gates.specs.Cell.{bit}
@@ -29,7 +29,6 @@ use Rattle.run_spec.specs.Play.{playChecksOn, stepsOf, playedSteps, levelsOf, P
 use Rattle.run_spec.proofs.Calls.{played-accepted, played-refused, play-demand}
 use Rattle.call_open.specs.Opened.{StageOpened}
 use Rattle.call_play.specs.Steps.{Played, LeftBy}
-use Rattle.call_play.proofs.Steps.{drop-all}
 
 -- ---- a row as bytes
 
@@ -59,7 +58,7 @@ module _ (c : Counts) (code row : List ℕ) (ro : RowFor c row) where
 -- it is copied to a row that has as many bytes
 pub copied-whole : (n : ℕ) (l before after′ : List ℕ) → length before ≡ n → length l ≡ n → after′ ≡ take (length l) l ++ drop (length l) before → after′ ≡ l
 copied-whole n l before after′ b e h =
-    h ∙ ap₂ (λ (x y : List ℕ). x ++ y) (take-all (length l) l (omega arith)) (drop-all (length l) before (omega (arith, b, e))) ∙ append-nil l
+    h ∙ ap₂ (λ (x y : List ℕ). x ++ y) (take-all (length l) l (omega arith)) (drop-of-length-le before (omega (arith, b, e))) ∙ append-nil l
 
 -- ---- a stage that was opened
 

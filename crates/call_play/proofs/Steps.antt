@@ -5,7 +5,7 @@ use native.Mathlib.Decide.{decLt}
 use mathlib.Core.Path.{_≡_, refl, sym, ap, ap₂, _∙_, subst, fun-ext}
 use mathlib.Core.Bool.{Bool, true, false, cond, _&&_}
 use mathlib.Core.List.{List, [], _∷_, _++_, map}
-use lib.ListN.{length, getD, take, drop, length-take, length-drop}
+use lib.ListN.{drop-of-length-le, length, getD, take, drop, length-take, length-drop}
 use lib.Seq.{drop-cons, take-suc, take-all, take-take, take-add, length-take-le}
 use lib.Dec.{eqb, ltb}
 use borrow.Author.Tests.{eq-eqb, ne-eqb}
@@ -26,12 +26,6 @@ use Rattle.run_spec.specs.Play.{allowed, noneLeft, stepsOf, levelsOf}
 use Rattle.run_spec.proofs.Play.{allowed-within, allowed-legal, allowed-alike, left-alike, kept-after}
 use Rattle.call_play.specs.Steps.{Taken, Begins, Played}
 
-pub drop-all : (n : ℕ) (l : List ℕ) → length l ≤ n → drop n l ≡ []
-drop-all zero [] h = refl
-drop-all (suc n) [] h = refl
-drop-all zero (x ∷ l) h = absurd (omega arith)
-drop-all (suc n) (x ∷ l) h = drop-all n l (omega arith)
-
 -- ---- a list that is taken from a row, step by step
 
 module _ (can : Rule) (r₀ : Row) (list : List ℕ) where
@@ -48,7 +42,7 @@ module _ (can : Rule) (r₀ : Row) (list : List ℕ) where
     pub steps-end : length list ≤ i → i ≡ allowed can r₀ list
     unfolding allowed
     steps-end h =
-        let e : drop i list ≡ [] = drop-all i list h in
+        let e : drop i list ≡ [] = drop-of-length-le list h in
         sym (s .so-far ∙ ap (λ (l : List ℕ). i + allowed can r l) e ∙ omega arith)
 
     module _ (more : i < length list) where
@@ -87,7 +81,7 @@ module _ (fall : ℕ) (list : List ℕ) (rise : ℕ) (b : Begins fall (length li
   fall-part = go (decLt rise fall)
     where
       go : Dec (rise < fall) → drop fall list ≡ drop rise list
-      go (yes l) = drop-all fall list (omega (arith, b .else-end l)) ∙ sym (drop-all rise list (omega (arith, b .else-end l)))
+      go (yes l) = drop-of-length-le list (omega (arith, b .else-end l)) ∙ sym (drop-of-length-le list (omega (arith, b .else-end l)))
       go (no l) = let e : fall ≡ rise = omega (arith, b .not-behind) in ap (λ (n : ℕ). drop n list) e
 
   module _ (c : Counts) (code : List ℕ) (w : ℕ) (goal : Row) (spells : (k : ℕ) → k < 2 * c .inputs → goal k ≡ railsFor w k) where

@@ -4,7 +4,7 @@ use native.Mathlib.Omega.{arith}
 use mathlib.Core.Path.{_≡_, refl, sym, ap, _∙_}
 use mathlib.Core.Bool.{Bool, true, false, cond}
 use mathlib.Core.List.{List, [], _∷_}
-use lib.ListN.{length, getD, drop}
+use lib.ListN.{drop-of-length-le, length, getD, drop}
 use lib.Seq.{drop-cons}
 use lib.Dec.{eqb}
 use Rattle.runs.proofs.Test.{eqb-same, eqb-other}
@@ -34,13 +34,7 @@ module _ (list : List ℕ) (asked : ℕ) where
 
     pub sought-none : length list ≤ i → getD list 0 0 ≡ askedOrFirst list asked
     unfolding askedOrFirst some
-    sought-none h = sym (ap (λ (b : Bool). cond b asked (getD list 0 0)) (s ∙ ap (some (eqb asked)) (drop-all i list h)))
-      where
-        drop-all : (n : ℕ) (l : List ℕ) → length l ≤ n → drop n l ≡ []
-        drop-all zero [] h = refl
-        drop-all (suc n) [] h = refl
-        drop-all zero (x ∷ l) h = absurd (omega arith)
-        drop-all (suc n) (x ∷ l) h = drop-all n l (omega arith)
+    sought-none h = sym (ap (λ (b : Bool). cond b asked (getD list 0 0)) (s ∙ ap (some (eqb asked)) (drop-of-length-le list h)))
 
 -- an empty list has no first
 pub first-none : (list : List ℕ) → ¬ (0 < length list) → 0 ≡ getD list 0 0
