@@ -98,6 +98,11 @@ module _ (stage : List ℕ) (v : Verdict) (show : Showable stage v) (c : Counts)
         → r .count ≤ length before
     lists-few before list r put room = omega (arith, put .count-is, ap length lists-are, run-few s v word, same .inputs, same .gates)
 
+    pub handed-count : (before list : List ℕ) (r : Lengths) → RunPut (riseIn c code v w) (fallIn c code v w) before r list → 2 * netCount c ≤ length before
+        → r .count ≡ length (take (r .count) list)
+    handed-count before list r put room =
+        put .count-is ∙ sym (ap length (run-taken put (omega (arith, put .count-is, lists-few before list r put room))))
+
     pub given-for : (before list : List ℕ) (r : Lengths) → RunPut (riseIn c code v w) (fallIn c code v w) before r list → 2 * netCount c ≤ length before
         → (lent lent′ : List ℕ) → lent′ ≡ handedOut (take (r .count) list) lent → (a : RunAnswer)
         → a ≡ record { verdict = v; rise = r .rise; count = r .count } → GivenFor order stage v asked lent a lent′

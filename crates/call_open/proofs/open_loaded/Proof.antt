@@ -1,70 +1,54 @@
+-- `call_open::open_loaded` meets its contract. Assumes nothing.
+use Prim.Native.Nat.{ℕ, _+_, _*_, _≤_}
+use native.Mathlib.Nat.{mul-le-mul}
+use native.Mathlib.Omega.{arith}
+use mathlib.Core.Path.{refl}
+use mathlib.Core.Logic.{inl, inr}
+use denote.Ref.{now}
+use Rattle.call_open.proofs.Files.{loop-found, none-found}
 use borrow.Author.Needs.{needs}
 use Rattle.call_open.proofs.open_loaded.Statement.{statement}
 use Rattle.call_open.proofs.open_loaded.Tie as tie
-use Rattle.call_open.proofs.open_loaded.Reads as reads
-use Rattle.call_open.proofs.open_loaded.Lts as lts
-use Rattle.circuit_order.proofs.order_gates.Reads as order-gates-reads
 
--- src/lib.rt:25:27
-order-gates-requires : tie.Need-order-gates-requires
-order-gates-requires c κs = search needs
-
--- src/lib.rt:25:22
-enum-known-g : tie.Need-enum-known-g
-enum-known-g c = search needs
-
--- src/lib.rt:26:9
-same-length : tie.Need-same-length
-same-length c = search needs
-
--- src/lib.rt:26:9
 returns : tie.Need-returns
-returns c = ?
+returns c =
+    let o = c .before .before .before .before .before in
+    let z = o .before .before .before in
+    inl (_, loop-found (z .args .counts) (now (z .args .code)) _ _ (o .order-gates .ensures) _ (c .before .g .given .1), refl)
 
-enum-told : tie.Need-enum-told
-enum-told c = search needs
-
--- src/lib.rt:33:25
-mul-if1 : tie.Need-mul-if1
-mul-if1 c = search needs
-
--- src/lib.rt:33:25
-add-if1 : tie.Need-add-if1
-add-if1 c = search needs
-
--- src/lib.rt:33:17
 mul-if1-2 : tie.Need-mul-if1-2
-mul-if1-2 c = ?
+mul-if1-2 c =
+    let z = c .before .before .before .before .before .before .before .before .before in
+    let h : z .args .each * (2 * z .args .counts .inputs + z .args .counts .gates) ≤ 2 * 276 =
+    mul-le-mul {n₂ = 2} {m₂ = 276} (z .pre .1) (omega (arith, z .pre .0 .within .inputs-in, z .pre .0 .within .gates-in)) in
+    omega arith
 
--- src/lib.rt:34:9
-same-length-2 : tie.Need-same-length-2
-same-length-2 c = search needs
-
--- src/lib.rt:34:9
 returns-2 : tie.Need-returns-2
-returns-2 c = ?
+returns-2 c =
+    let o = c .before .before .before .before .before .before .before in
+    let z = o .before .before .before in
+    inr (none-found (z .args .counts) (now (z .args .code)) _ _ (o .order-gates .ensures) (c .before .before .before .enum-told .given .1), c .if1 .taken, refl)
 
--- src/lib.rt:21:1
-same-length-3 : tie.Need-same-length-3
-same-length-3 c = search needs
-
--- src/lib.rt:21:1
 returns-3 : tie.Need-returns-3
-returns-3 c = ?
+returns-3 c =
+    let o = c .before .before .before .before .before .before .before in
+    let z = o .before .before .before in
+    let l = o .order-gates .ensures in
+    (refl, none-found (z .args .counts) (now (z .args .code)) _ _ l (c .before .before .before .enum-told .given .1), c .if1 .left, l .loaded, l .same)
 
 pub open-loaded-spec : {M : Type 1} → statement M
 open-loaded-spec =
     tie.close
     (tie.spec
-    order-gates-requires
-    enum-known-g
-    same-length
+    (λ c κs. search needs)
+    (λ c. search needs)
+    (λ c. search needs)
     returns
-    enum-told
-    mul-if1
-    add-if1
+    (λ c. search needs)
+    (λ c. search needs)
+    (λ c. search needs)
     mul-if1-2
-    same-length-2
+    (λ c. search needs)
     returns-2
-    same-length-3
+    (λ c. search needs)
     returns-3)
