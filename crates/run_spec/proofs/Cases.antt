@@ -108,6 +108,9 @@ cases =
     (1 ∷ 2 ∷ 4 ∷ 5 ∷ 1 ∷ 2 ∷ 5 ∷ []) ∷
     -- a gate that is named before the gates that feed it waits for them
     case (1 ∷ 1 ∷ twoPins 1 3 3 (twoPins 1 0 0 (pair 2 1 (0 ∷ [])))) wireReference 0 6 (verdict 0 0 0 0) 3 (0 ∷ 3 ∷ 2 ∷ 0 ∷ 3 ∷ 2 ∷ []) ∷
+    -- 32: the wire plus TH22(0, 1), which never rises: the word that is asked for, or if that is not cared for the first that is
+    case (1 ∷ 1 ∷ twoPins 2 0 1 (pair 0 1 (0 ∷ []))) wireReference 1 2 (verdict 32 1 0 0) 1 (1 ∷ 1 ∷ []) ∷
+    case (1 ∷ 1 ∷ 6 ∷ 0 ∷ 0 ∷ twoPins 2 0 1 (pair 0 1 (0 ∷ []))) wireReference 1 2 (verdict 32 1 0 0) 1 (0 ∷ 0 ∷ []) ∷
     []
 
 -- ---- play
@@ -207,8 +210,8 @@ unfolding wireReference andReference twoWires whole lent cases judgings keyedRun
     r.nameable r.nameless r.usedOperands r.namelessAt r.namelessFrom r.floorAfter r.noted r.finish r.onNext r.readFrom r.readFile
     t.contentAt v.refusal e.first e.judge
     l.numbers l.select l.some l.every l.ofBits l.reaches e.sweep o.rounds o.risen o.fallen o.reachesItself
-    w.caresFor w.spelled w.names w.operate w.values w.answer
-    h.wrong h.incomplete h.highAnd h.unobservable h.fallIncomplete h.fallUnobservable h.looped h.retired h.checks
+    w.caresFor w.spelled w.names w.words w.operate w.values w.answer
+    h.wrong h.incomplete h.highAnd h.unobservable h.fallIncomplete h.fallUnobservable h.looped h.retired h.neverRises h.idle h.checks
     c.cells c.cellAt c.pinCount c.setExpression c.retiredCells c.among c.isRetired c.kindOf flatMap
-    p.next p.played p.handedOut q.heldBack q.witnessRun y.allowed y.noneLeft y.stepsOf y.playOn y.playRow z.runByKeys z.keysOn
+    p.next p.played p.handedOut q.heldBack q.witnessRun q.askedOrFirst q.nameShown y.allowed y.noneLeft y.stepsOf y.playOn y.playRow z.runByKeys z.keysOn
 computed = (refl, refl, refl, refl, refl, refl)
