@@ -564,6 +564,8 @@ static void runs(void)
     } kept = {0x1122334455667788, {{0, 0, 0, 0}, 0, 0}, 0x99AABBCCDDEEFF00};
     static const uint16_t cycle[] = {1, 2, 5, 1, 2, 5}, back[] = {2, 1, 5, 1, 2, 5}, early[] = {2, 4}, barred[] = {1, 5, 2};
     static const uint8_t incomplete[] = {1, 2, 2, 1, 0, 0, 2, 0, 255, 255, 255, 255, 2, 2, 1, 0, 3, 0, 255, 255, 255, 255, 3, 4, 0, 5, 0, 0};
+    static const uint8_t never[] = {1, 1, 6, 0, 0, 2, 2, 0, 0, 1, 0, 255, 255, 255, 255, 3, 0, 0, 1, 0, 0};
+    static const uint16_t still[] = {0, 0};
     static const uint32_t keys[] = {9, 8, 7, 6, 5, 4, 0, 1, 2, 3, 4, 5};
     static const uint8_t low[6], midway[] = {0, 1, 0, 0, 0, 0}, old[] = {9, 9, 9, 9, 9, 9};
     struct fovaheju_run *run = &kept.run;
@@ -582,6 +584,10 @@ static void runs(void)
     kept.run = fovaheju_witness(0, incomplete, sizeof incomplete, and_reference, sizeof and_reference, 3, list, 600);
     same("a witness of 14", run->verdict, 14, 1, 0, 0);
     holds("the output is there before input 0", run->rise == 2 && run->count == 2 && listed(list, 600, early, 2));
+    blank(list, 600);
+    kept.run = fovaheju_witness(0, never, sizeof never, wire_reference, sizeof wire_reference, 1, list, 600);
+    same("a witness of 32", run->verdict, 32, 1, 0, 0);
+    holds("the first word that is cared for", run->rise == 1 && run->count == 2 && listed(list, 600, still, 2));
     blank(list, 600);
     kept.run = fovaheju_witness(0, NULL, 0, NULL, 0, 0, list, 600);
     same("a witness of empty files", run->verdict, 1, 1, 0, 0);
