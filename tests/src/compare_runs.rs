@@ -40,7 +40,8 @@ pub fn compare_witness(other: Witness, order: WordOrder, name: &str, case: &Witn
     let (mut mine, mut theirs) = (case.list.clone(), case.list.clone());
     let judge = run::witness(order, stage, reference, case.asked, &mut mine);
     let answer = other(order, stage, reference, case.asked, &mut theirs);
-    run::shows_of_files(order, stage, reference, case.asked, &answer, &theirs).map_err(|told| differs(name, order, stage, format!("{told}: {case:?}\n{answer:?} {theirs:?}")))?;
+    run::shows_of_files(order, stage, reference, case.asked, &answer, &theirs)
+        .map_err(|told| differs(name, order, stage, format!("{told}: {case:?}\n{answer:?} {theirs:?}")))?;
     alike(name, order, stage, case, (judge, mine), (answer, theirs))?;
     Ok(judge.verdict[0])
 }
@@ -62,7 +63,12 @@ pub fn compare_by_keys(other: ByKeys, order: WordOrder, name: &str, case: &KeysC
 }
 
 /// Compares a call on the first `count` cases of a seed, in both orders of words. The first difference is printed and given back.
-fn compare_all(what: &str, seed: u64, count: u64, compare: &dyn Fn(WordOrder, &str, u64) -> Result<u64, Box<Difference>>) -> Result<Histogram, Box<Difference>> {
+fn compare_all(
+    what: &str,
+    seed: u64,
+    count: u64,
+    compare: &dyn Fn(WordOrder, &str, u64) -> Result<u64, Box<Difference>>,
+) -> Result<Histogram, Box<Difference>> {
     let mut histogram = NO_VERDICTS;
     for index in 0..count {
         let name = format!("{what} {index} of seed {seed}");

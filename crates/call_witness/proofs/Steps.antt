@@ -21,8 +21,7 @@ use Rattle.circuit_steps.specs.Fed.{FedFrom}
 use Rattle.circuit_steps.proofs.Local.{moves-other}
 use Rattle.circuit_steps.proofs.Rules.{goal-alike}
 use Rattle.write_run.specs.Listing.{ListedRun}
-use Rattle.write_run.proofs.Listing.{listing-long}
-use Rattle.write_run.proofs.Playing.{Playing, playing-start, playing-full, playing-none, playing-room, playing-turn}
+use Rattle.write_run.proofs.Playing.{Begun, Playing, playing-start, playing-long, playing-full, playing-none, playing-room, playing-turn}
 use Rattle.run_spec.specs.Played.{played}
 use Rattle.run_spec.proofs.Played.{Before, NextIs}
 use Rattle.call_witness.specs.Lists.{moving, FirstFrom, LookFrom, leastFirst, GoalIn}
@@ -55,6 +54,16 @@ found-none test n from r h e = record { within = omega arith; found = λ x. absu
 
 -- ---- one step after the other
 
+abbrev self : ℕ → ℕ
+self k = k
+
+-- some nets have switched, and none below a place may switch now
+pub record Walking (c : Counts) (code : List ℕ) (step : Rule) (b : Begun) (list row : List ℕ) (count from : ℕ) : Type 0 where
+  pub listing : Playing step self (nets (loadedNet c code)) b list count (rowIn c row)
+  pub row-for : RowFor c row
+  pub from-in : from ≤ netCount c
+  pub none : (j : ℕ) → j < from → step (rowIn c row) j ≡ false
+
 module _ (c : Counts) (code : List ℕ) (goal : Row) (held : ℕ) where
   abbrev N : Net
   N = loadedNet c code
@@ -62,37 +71,31 @@ module _ (c : Counts) (code : List ℕ) (goal : Row) (held : ℕ) where
   abbrev step : Rule
   step = moving N goal held
 
-  abbrev self : ℕ → ℕ
-  self k = k
-
   all-nets : nets N ≡ netCount c
   all-nets = ap (λ (g : ℕ). 2 * c .inputs + g) (length-stageGates c code)
 
-  -- some nets have switched, and none below a place may switch now
-  pub record Walking (before : List ℕ) (start : ℕ) (r₀ : Row) (list row : List ℕ) (count from : ℕ) : Type 0 where
-    pub listing : Playing step self (nets N) before start r₀ list count (rowIn c row)
-    pub row-for : RowFor c row
-    pub from-in : from ≤ netCount c
-    pub none : (j : ℕ) → j < from → step (rowIn c row) j ≡ false
-
-  pub walk-start : (before row : List ℕ) (start : ℕ) → RowFor c row → start + netCount c ≤ length before → Walking before start (rowIn c row) before row start 0
+  pub walk-start : (before row : List ℕ) (start : ℕ) → RowFor c row → start + netCount c ≤ length before
+      → Walking c code step (record { list = before; start = start; row = rowIn c row }) before row start 0
   walk-start before row start r room = record {
-    listing = playing-start step self (nets N) before start (rowIn c row) (omega (arith, all-nets));
+    listing = playing-start step self (nets N) (record { list = before; start = start; row = rowIn c row }) (omega (arith, all-nets));
     row-for = r;
     from-in = omega arith;
     none = λ j h. absurd (omega arith);
   }
 
-  module _ (before : List ℕ) (start : ℕ) (r₀ : Row) (list row : List ℕ) (count from : ℕ) (w : Walking before start r₀ list row count from) where
+  module _ (b : Begun) (list row : List ℕ) (count from : ℕ) (w : Walking c code step b list row count from) where
     abbrev r : Row
     r = rowIn c row
 
-    pub walk-long : length list ≡ length before
-    walk-long = listing-long (played step self (nets N)) (nets N) before start r₀ list count r (w .listing)
+    abbrev Done : Type 0
+    Done = ListedRun (leastFirst N goal held (b .row)) (b .list) (b .start) (b .row) count list r
+
+    pub walk-long : length list ≡ length (b .list)
+    walk-long = playing-long step self (nets N) b list count r (w .listing)
 
     -- no step is left to take
-    pub walk-full : start + netCount c ≤ count → ListedRun (leastFirst N goal held r₀) before start r₀ count list r
-    walk-full h = playing-full step self (nets N) before start r₀ list count r (w .listing) (omega (arith, all-nets))
+    pub walk-full : b .start + netCount c ≤ count → Done
+    walk-full h = playing-full step self (nets N) b list count r (w .listing) (omega (arith, all-nets))
 
     module _ (net : ℕ) (f : FirstFrom (step r) (netCount c) from net) where
       below : (j : ℕ) → j < net → step r j ≡ false
@@ -102,10 +105,10 @@ module _ (c : Counts) (code : List ℕ) (goal : Row) (held : ℕ) where
           go (yes l) = w .none j l
           go (no l) = f .none j (omega arith) h
 
-      pub walk-none : net ≡ netCount c → ListedRun (leastFirst N goal held r₀) before start r₀ count list r
-      walk-none e = playing-none step self (nets N) before start r₀ list count r (w .listing) (λ j h. below j (omega (arith, all-nets)))
+      pub walk-none : net ≡ netCount c → Done
+      walk-none e = playing-none step self (nets N) b list count r (w .listing) (λ j h. below j (omega (arith, all-nets)))
 
-      module _ (d : ¬ (net ≡ netCount c)) (left : count < start + netCount c) where
+      module _ (d : ¬ (net ≡ netCount c)) (left : count < b .start + netCount c) where
         pub is-net : net < netCount c
         is-net = omega (arith, f .within, d)
 
@@ -121,12 +124,12 @@ module _ (c : Counts) (code : List ℕ) (goal : Row) (held : ℕ) where
                 go (no m) = inr (omega arith, omega arith)
 
         pub walk-room : count < length list
-        walk-room = playing-room step self (nets N) before start r₀ list count r (w .listing) net next (omega (arith, all-nets))
+        walk-room = playing-room step self (nets N) b list count r (w .listing) net next (omega (arith, all-nets))
 
         pub walk-turn : (fed : List ℕ) → FedFrom c code 0 fed → (row′ : List ℕ) → RowFor c row′ → rowIn c row′ ≡ toggle r net
-            → (from′ : ℕ) → LookFrom fed net from′ → Walking before start r₀ (set list count net) row′ (count + 1) from′
+            → (from′ : ℕ) → LookFrom fed net from′ → Walking c code step b (set list count net) row′ (count + 1) from′
         walk-turn fed feeds row′ rf e from′ look = record {
-          listing = rw e (playing-turn step self (nets N) before start r₀ list count r (w .listing) net next (omega (arith, all-nets)));
+          listing = rw e (playing-turn step self (nets N) b list count r (w .listing) net next (omega (arith, all-nets)));
           row-for = rf;
           from-in = omega (arith, look .not-above, is-net);
           none = λ j h.

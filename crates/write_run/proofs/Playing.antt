@@ -9,20 +9,38 @@ use Rattle.netlist.specs.declared.Found.the-variants.{At, Nothing}
 use Rattle.run_spec.specs.Played.{played}
 use Rattle.run_spec.proofs.Played.{NextIs, played-none, played-next, played-few}
 use Rattle.write_run.specs.Listing.{ListedRun}
-use Rattle.write_run.proofs.Listing.{Listing, listing-start, listing-room, listing-turn, listing-done}
+use Rattle.write_run.proofs.Listing.{Listing, listing-start, listing-long, listing-room, listing-turn, listing-done}
+
+-- a list as it was at the start, the place from which nets are put, and the row
+pub record Begun : Type 0 where
+  pub list : List ℕ
+  pub start : ℕ
+  pub row : Row
 
 module _ (can : Rule) (key : ℕ → ℕ) (n : ℕ) where
   abbrev more : ℕ → Row → List ℕ
   more = played can key n
 
-  -- what is listed so far of what is played from row r₀ in n steps
-  abbrev pub Playing : List ℕ → ℕ → Row → List ℕ → ℕ → Row → Type 0
-  Playing = Listing more n
+  -- what is listed so far of what is played in n steps
+  abbrev pub Playing : Begun → List ℕ → ℕ → Row → Type 0
+  Playing b = Listing more n (b .list) (b .start) (b .row)
 
-  pub playing-start : (before : List ℕ) (start : ℕ) (r : Row) → start + n ≤ length before → Playing before start r before start r
-  playing-start before start r room = listing-start more n before start r (omega (arith, played-few can key n n r))
+  pub playing-start : (b : Begun) → b .start + n ≤ length (b .list) → Playing b (b .list) (b .start) (b .row)
+  playing-start b room = listing-start more n (b .list) (b .start) (b .row) (omega (arith, played-few can key n n (b .row)))
 
-  module _ (before : List ℕ) (start : ℕ) (r₀ : Row) (list : List ℕ) (count : ℕ) (r : Row) (l : Playing before start r₀ list count r) where
+  module _ (b : Begun) (list : List ℕ) (count : ℕ) (r : Row) (l : Playing b list count r) where
+    abbrev before : List ℕ
+    before = b .list
+
+    abbrev start : ℕ
+    start = b .start
+
+    abbrev r₀ : Row
+    r₀ = b .row
+
+    pub playing-long : length list ≡ length before
+    playing-long = listing-long more n before start r₀ list count r l
+
     -- no step is left to take, or no net may switch
     pub playing-full : start + n ≤ count → ListedRun (more n r₀) before start r₀ count list r
     unfolding played
@@ -44,5 +62,5 @@ module _ (can : Rule) (key : ℕ → ℕ) (n : ℕ) where
       pub playing-room : count < length list
       playing-room = listing-room more n before start r₀ list count r l k (l .steps - 1) (ap (λ (m : ℕ). more m r) steps-left ∙ is-next)
 
-      pub playing-turn : Playing before start r₀ (set list count k) (count + 1) (toggle r k)
+      pub playing-turn : Playing b (set list count k) (count + 1) (toggle r k)
       playing-turn = listing-turn more n before start r₀ list count r l k (l .steps - 1) steps-left is-next

@@ -1,7 +1,8 @@
 //! compare_library [SEED [COUNT]]: compares all calls of the proved library with the judge, in both orders of words,
 //! on the stored examples, cases of joins, references and texts, on as many generated pairs, rows, joins, references, texts and stage
 //! files to write, on the whole family of small stages and as many files beside it, on loads at the limits and on as many generated
-//! ones, and on as many witnesses, lists to judge and runs by keys; each witness is played too. Prints how many had each number, or the first difference. Fails too if some number never came or too few were accepted.
+//! ones, and on as many witnesses, lists to judge and runs by keys; each witness is played too. Prints how many had each number, or the
+//! first difference. Fails too if some number never came or too few were accepted.
 
 use fovaheju_tests::compare::{
     compare_checks, compare_draws, compare_draws_at_limits, compare_family, compare_join,

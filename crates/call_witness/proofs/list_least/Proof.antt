@@ -5,7 +5,8 @@ use mathlib.Core.Path.{_≡_, refl, sym, _∙_}
 use lib.ListN.{length}
 use denote.Ref.{now}
 use Rattle.circuit.specs.Stage.{netCount}
-use Rattle.circuit_steps.specs.Moves.{rowIn}
+use Rattle.circuit_steps.specs.Moves.{loadedNet, rowIn}
+use Rattle.call_witness.specs.Lists.{moving}
 use Rattle.call_witness.proofs.Steps.{Walking, walk-start, walk-long, walk-full, walk-none, is-net, walk-room, walk-turn}
 use borrow.Author.Needs.{needs}
 use Rattle.call_witness.proofs.list_least.Statement.{statement}
@@ -19,7 +20,7 @@ use Rattle.gates.proofs.table.Reads as table-reads
 
 abbrev Inv-loop : tie.InvT-loop
 Inv-loop code counts goal held fed row₀ list₀ start entries nets end count₀ from₀ row list count from =
-    Walking counts code (rowIn counts goal) held list₀ start (rowIn counts row₀) list row count from × (length row ≡ length row₀)
+    Walking counts code (moving (loadedNet counts code) (rowIn counts goal) held) (record { list = list₀; start = start; row = rowIn counts row₀ }) list row count from × (length row ≡ length row₀)
 
 abbrev μ-loop : tie.MeasureT-loop
 μ-loop code counts goal held fed row₀ list₀ start entries nets end count₀ from₀ row list count from = start + netCount counts - count
@@ -45,44 +46,44 @@ same-length c = c .before .before .before .before .before .loop .inv .1
 
 same-length-2 : tie.Need-same-length-2 Inv-loop μ-loop
 same-length-2 c =
-    walk-long (c .before .before .before .before .before .before .before .before .before .before .before .before .before .before .args .counts) (now (c .before .before .before .before .before .before .before .before .before .before .before .before .before .before .args .code)) (rowIn (c .before .before .before .before .before .before .before .before .before .before .before .before .before .before .args .counts) (now (c .before .before .before .before .before .before .before .before .before .before .before .before .before .before .args .goal))) (c .before .before .before .before .before .before .before .before .before .before .before .before .before .before .args .held) _ _ _ _ _ _ _ (c .before .before .before .before .before .loop .inv .0)
+    walk-long (c .before .before .before .before .before .before .before .before .before .before .before .before .before .before .args .counts) (now (c .before .before .before .before .before .before .before .before .before .before .before .before .before .before .args .code)) (rowIn (c .before .before .before .before .before .before .before .before .before .before .before .before .before .before .args .counts) (now (c .before .before .before .before .before .before .before .before .before .before .before .before .before .before .args .goal))) (c .before .before .before .before .before .before .before .before .before .before .before .before .before .before .args .held) _ _ _ _ _ (c .before .before .before .before .before .loop .inv .0)
 
 returns : tie.Need-returns Inv-loop μ-loop
 returns c =
     let z = c .before .before .before .before .before .before .before .before .before .before .before .before .before .before in
     let l = c .before .before .before .before .before .loop in
     let w = l .inv .0 in
-    (w .row-for, walk-none (z .args .counts) (now (z .args .code)) (rowIn (z .args .counts) (now (z .args .goal))) (z .args .held) _ _ _ _ _ _ _ w _ (c .before .least-from .ensures) (c .if1 .taken))
+    (w .row-for, walk-none (z .args .counts) (now (z .args .code)) (rowIn (z .args .counts) (now (z .args .goal))) (z .args .held) _ _ _ _ _ w _ (c .before .least-from .ensures) (c .if1 .taken))
 
 switch-net-requires : tie.Need-switch-net-requires Inv-loop μ-loop
 switch-net-requires c κs =
     let z = c .before .before .before .before .before .before .before .before .before .before .before .before .before .before .before in
     let w = c .before .before .before .before .before .before .loop .inv .0 in
-    (w .row-for, is-net (z .args .counts) (now (z .args .code)) (rowIn (z .args .counts) (now (z .args .goal))) (z .args .held) _ _ _ _ _ _ _ w _ (c .before .before .least-from .ensures) (c .before .if1 .left) (omega arith))
+    (w .row-for, is-net (z .args .counts) (now (z .args .code)) (rowIn (z .args .counts) (now (z .args .goal))) (z .args .held) _ _ _ _ _ w _ (c .before .before .least-from .ensures) (c .before .if1 .left) (omega arith))
 
 cast-list : tie.Need-cast-list Inv-loop μ-loop
 cast-list c =
     let z = c .before .before .before .before .before .before .before .before .before .before .before .before .before .before .before .before .before .before in
     let l = c .before .before .before .before .before .before .before .before .before .loop in
-    omega (arith, is-net (z .args .counts) (now (z .args .code)) (rowIn (z .args .counts) (now (z .args .goal))) (z .args .held) _ _ _ _ _ _ _ (l .inv .0) _ (c .before .before .before .before .before .least-from .ensures) (c .before .before .before .before .if1 .left) (omega (arith, c .before .before .before .before .before .before .before .before .loop-test .taken)), z .pre .0 .within .inputs-in, z .pre .0 .within .gates-in)
+    omega (arith, is-net (z .args .counts) (now (z .args .code)) (rowIn (z .args .counts) (now (z .args .goal))) (z .args .held) _ _ _ _ _ (l .inv .0) _ (c .before .before .before .before .before .least-from .ensures) (c .before .before .before .before .if1 .left) (omega (arith, c .before .before .before .before .before .before .before .before .loop-test .taken)), z .pre .0 .within .inputs-in, z .pre .0 .within .gates-in)
 
 mul-list : tie.Need-mul-list Inv-loop μ-loop
 mul-list c =
     let z = c .before .before .before .before .before .before .before .before .before .before .before .before .before .before .before .before .before .before in
     let l = c .before .before .before .before .before .before .before .before .before .loop in
-    omega (arith, walk-room (z .args .counts) (now (z .args .code)) (rowIn (z .args .counts) (now (z .args .goal))) (z .args .held) _ _ _ _ _ _ _ (l .inv .0) _ (c .before .before .before .before .before .least-from .ensures) (c .before .before .before .before .if1 .left) (omega (arith, c .before .before .before .before .before .before .before .before .loop-test .taken)))
+    omega (arith, walk-room (z .args .counts) (now (z .args .code)) (rowIn (z .args .counts) (now (z .args .goal))) (z .args .held) _ _ _ _ _ (l .inv .0) _ (c .before .before .before .before .before .least-from .ensures) (c .before .before .before .before .if1 .left) (omega (arith, c .before .before .before .before .before .before .before .before .loop-test .taken)))
 
 slice-write-list : tie.Need-slice-write-list Inv-loop μ-loop
 slice-write-list c =
     let z = c .before .before .before .before .before .before .before .before .before .before .before .before .before .before .before .before .before .before in
     let l = c .before .before .before .before .before .before .before .before .before .loop in
-    walk-room (z .args .counts) (now (z .args .code)) (rowIn (z .args .counts) (now (z .args .goal))) (z .args .held) _ _ _ _ _ _ _ (l .inv .0) _ (c .before .before .before .before .before .least-from .ensures) (c .before .before .before .before .if1 .left) (omega (arith, c .before .before .before .before .before .before .before .before .loop-test .taken))
+    walk-room (z .args .counts) (now (z .args .code)) (rowIn (z .args .counts) (now (z .args .goal))) (z .args .held) _ _ _ _ _ (l .inv .0) _ (c .before .before .before .before .before .least-from .ensures) (c .before .before .before .before .if1 .left) (omega (arith, c .before .before .before .before .before .before .before .before .loop-test .taken))
 
 look-from-requires : tie.Need-look-from-requires Inv-loop μ-loop
 look-from-requires c κs =
     let z = c .before .before .before .before .before .before .before .before .before .before .before .before .before .before .before .before .before .before in
     let l = c .before .before .before .before .before .before .before .before .before .loop in
-    omega (arith, is-net (z .args .counts) (now (z .args .code)) (rowIn (z .args .counts) (now (z .args .goal))) (z .args .held) _ _ _ _ _ _ _ (l .inv .0) _ (c .before .before .before .before .before .least-from .ensures) (c .before .before .before .before .if1 .left) (omega (arith, c .before .before .before .before .before .before .before .before .loop-test .taken)), z .pre .2 .long)
+    omega (arith, is-net (z .args .counts) (now (z .args .code)) (rowIn (z .args .counts) (now (z .args .goal))) (z .args .held) _ _ _ _ _ (l .inv .0) _ (c .before .before .before .before .before .least-from .ensures) (c .before .before .before .before .if1 .left) (omega (arith, c .before .before .before .before .before .before .before .before .loop-test .taken)), z .pre .2 .long)
 
 loop-less : tie.Need-loop-less Inv-loop μ-loop
 loop-less c =
@@ -93,7 +94,7 @@ loop-again c =
     let z = c .before .before .before .before .before .before .before .before .before .before .before .before .before .before .before .before .before .before .before in
     let l = c .before .before .before .before .before .before .before .before .before .before .loop in
     (
-      walk-turn (z .args .counts) (now (z .args .code)) (rowIn (z .args .counts) (now (z .args .goal))) (z .args .held) _ _ _ _ _ _ _ (l .inv .0) _ (c .before .before .before .before .before .before .least-from .ensures) (c .before .before .before .before .before .if1 .left) (omega (arith, c .before .before .before .before .before .before .before .before .before .loop-test .taken)) _ (z .pre .2) _ (c .before .before .before .switch-net .ensures .0) (c .before .before .before .switch-net .ensures .1) _ (c .look-from .ensures),
+      walk-turn (z .args .counts) (now (z .args .code)) (rowIn (z .args .counts) (now (z .args .goal))) (z .args .held) _ _ _ _ _ (l .inv .0) _ (c .before .before .before .before .before .before .least-from .ensures) (c .before .before .before .before .before .if1 .left) (omega (arith, c .before .before .before .before .before .before .before .before .before .loop-test .taken)) _ (z .pre .2) _ (c .before .before .before .switch-net .ensures .0) (c .before .before .before .switch-net .ensures .1) _ (c .look-from .ensures),
       omega (arith, c .before .before .row .given, l .inv .1),
     )
 
@@ -102,13 +103,13 @@ same-length-3 c = c .before .loop .inv .1
 
 same-length-4 : tie.Need-same-length-4 Inv-loop μ-loop
 same-length-4 c =
-    walk-long (c .before .before .before .before .before .before .before .before .before .before .args .counts) (now (c .before .before .before .before .before .before .before .before .before .before .args .code)) (rowIn (c .before .before .before .before .before .before .before .before .before .before .args .counts) (now (c .before .before .before .before .before .before .before .before .before .before .args .goal))) (c .before .before .before .before .before .before .before .before .before .before .args .held) _ _ _ _ _ _ _ (c .before .loop .inv .0)
+    walk-long (c .before .before .before .before .before .before .before .before .before .before .args .counts) (now (c .before .before .before .before .before .before .before .before .before .before .args .code)) (rowIn (c .before .before .before .before .before .before .before .before .before .before .args .counts) (now (c .before .before .before .before .before .before .before .before .before .before .args .goal))) (c .before .before .before .before .before .before .before .before .before .before .args .held) _ _ _ _ _ (c .before .loop .inv .0)
 
 returns-2 : tie.Need-returns-2 Inv-loop μ-loop
 returns-2 c =
     let z = c .before .before .before .before .before .before .before .before .before .before in
     let w = c .before .loop .inv .0 in
-    (w .row-for, walk-full (z .args .counts) (now (z .args .code)) (rowIn (z .args .counts) (now (z .args .goal))) (z .args .held) _ _ _ _ _ _ _ w (omega arith))
+    (w .row-for, walk-full (z .args .counts) (now (z .args .code)) (rowIn (z .args .counts) (now (z .args .goal))) (z .args .held) _ _ _ _ _ w (omega arith))
 
 pub list-least-spec : {M : Type 1} → statement M
 list-least-spec =
