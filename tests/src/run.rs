@@ -294,6 +294,19 @@ mod tests {
         assert_eq!((early.steps, row), (2, [0, 1, 1, 0, 0, 0]));
     }
 
+    /// A wire with TH22(0, 1) beside it, and word 0 as the only care word: word 1, which is asked for, is not cared for.
+    #[test]
+    fn a_gate_that_never_rises() {
+        let stage = [1, 1, 6, 0, 0, 2, 2, 0, 0, 1, 0, 255, 255, 255, 255, 3, 0, 0, 1, 0, 0];
+        let reference = [1, 1, 18, 0, 0, 0];
+        let mut list = [9; 3];
+        let order = WordOrder::Input0Highest;
+        let answer = witness(order, &stage, &reference, 1, &mut list);
+        assert_eq!((answer.verdict, answer.rise, answer.count), ([32, 1, 0, 0], 1, 2));
+        assert_eq!(list, [0, 0, 9]);
+        shows_of_files(order, &stage, &reference, 1, &answer, &list).expect("a cycle without the gate");
+    }
+
     #[test]
     fn a_gate_before_its_pin_shows_nothing() {
         let stage = read_stage(&AND).expect("the stage");

@@ -61,6 +61,7 @@ module _ (most : Limits) (bytes : List ℕ) where
 module _ (order : WordOrder) (s : Content) (has : (w : ℕ) × IsWord s w) (asked : ℕ) where
   some-in : (l : List ℕ) → some (eqb asked) l ≡ true → In asked l
   unfolding some
+  some-in [] e = absurd (clash e refl)
   some-in (x ∷ l) e = go (same? asked x) (some-in l)
     where
       go : (asked ≡ x) ⊎ (asked ≢ x) → (some (eqb asked) l ≡ true → In asked l) → In asked (x ∷ l)
