@@ -36,7 +36,7 @@ module _ (can : Rule) (r₀ : Row) (list : List ℕ) where
     pub row-is : r ≡ after r₀ (take i list)
 
   pub steps-start : StepsTo 0 r₀
-  steps-start = record { within = omega arith; so-far = refl; row-is = refl }
+  steps-start = record { within = omega arith; so-far = omega arith; row-is = refl }
 
   module _ (i : ℕ) (r : Row) (s : StepsTo i r) where
     pub steps-end : length list ≤ i → i ≡ allowed can r₀ list
