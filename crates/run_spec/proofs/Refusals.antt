@@ -60,7 +60,7 @@ module _ (stage : List ℕ) (each : ℕ) (list : List ℕ) where
 
     pub by-12 : (g : ℕ) → g < length (s .gates) → ((k : ℕ) → k < g → loops k ≡ false) → loops g ≡ true → judge checks ≡ verdict 12 1 g 0
     unfolding judge looped sweep flatMap
-    by-12 g h none e = past-reading ∙ places-first 12 1 0 loops 0 (length (s .gates)) g (omega arith) (omega arith) (λ k a b. none k b) e [] (judge (wrongLength n list ∷ []))
+    by-12 g h none e = past-reading ∙ places-first 12 1 0 loops [] (judge (wrongLength n list ∷ [])) 0 (length (s .gates)) g (omega arith) (omega arith) (λ k a b. none k b) e
 
     module _ (free : (k : ℕ) → k < length (s .gates) → loops k ≡ false) where
       past-12 : judge checks ≡ judge (wrongLength n list ∷ [])
