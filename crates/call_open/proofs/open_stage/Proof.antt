@@ -8,9 +8,9 @@ use Rattle.call_open.proofs.open_stage.Tie as tie
 
 open-loaded-requires : tie.Need-open-loaded-requires
 open-loaded-requires c κs =
-    let f = c .before .before .before .before .before .before .before in
+    let f = c .before .before .before .before .before .before in
     let z = f .before .before .before .before in
-    (was-loaded (now (z .args .stage)) _ _ (sym (c .before .before .before .counts .given .1) ∙ f .read-stage .ensures .0) (f .read-stage .ensures .1), z .pre .0)
+    (was-loaded (now (z .args .stage)) _ _ (sym (c .before .before .counts .given .1) ∙ f .read-stage .ensures .0) (f .read-stage .ensures .1), z .pre .0)
 
 returns : tie.Need-returns
 returns c =
@@ -20,9 +20,9 @@ returns c =
 
 returns-2 : tie.Need-returns-2
 returns-2 c =
-    let f = c .before .before .before .before .before .before .before .before .before .before in
+    let f = c .before .before .before .before .before .before .before .before .before in
     let z = f .before .before .before .before in
-    λ list long. opened-as (now (z .args .stage)) _ _ (sym (c .before .before .before .before .before .before .counts .given .1) ∙ f .read-stage .ensures .0) (f .read-stage .ensures .1) list (z .args .each) (z .args .given) long
+    λ list long. opened-as (now (z .args .stage)) _ _ (sym (c .before .before .before .before .before .counts .given .1) ∙ f .read-stage .ensures .0) (f .read-stage .ensures .1) list (z .args .each) (z .args .given) long
     _ _ (c .before .before .open-loaded .ensures)
 
 pub open-stage-spec : {M : Type 1} → statement M
