@@ -21,7 +21,6 @@ use Rattle.verdict.specs.Loops as loops
 use Rattle.verdict.proofs.Least.{LeastAt, LeastSays, least-says}
 use Rattle.verdict.proofs.Refusals.{refused-number}
 use Rattle.verdict.specs.Nets as flat
-use Rattle.check_spec.specs.Cases.{judge}
 use Rattle.check_spec.specs.Content.{Content}
 use Rattle.check_spec.specs.Rows.{netOf, reachesItself}
 use Rattle.check_spec.specs.Verdicts.{rowStage}
@@ -32,11 +31,10 @@ use Rattle.circuit_order.specs.Marks.{LoopFound}
 use Rattle.circuit_load.specs.Load.{HoldsStage}
 use Rattle.circuit_load.proofs.Reading.{was-refused, stage-held}
 use Rattle.circuit_steps.proofs.Stages.{SameStage, same-stage}
-use Rattle.run_spec.specs.Play.{openingChecks}
 use Rattle.run_spec.proofs.Refusals.{by-reading, by-12, by-16, by-none}
 use Rattle.call_open.specs.declared.Opening.{Opening}
 use Rattle.call_open.specs.declared.Opening.the-variants.{Refused, Opened}
-use Rattle.call_open.specs.Opened.{LeastLoop, NoLoops, OpenedFrom, StageOpened, OpenedAs}
+use Rattle.call_open.specs.Opened.{LeastLoop, NoLoops, ByLoaded, OpenedFrom, StageOpened, ByFile, OpenedAs}
 
 -- ---- 12 in the flat form
 
@@ -84,26 +82,29 @@ module _ (stage : List ℕ) (c : Counts) (code : List ℕ)
     wanted : each * netCount c ≡ each * nets (netOf s)
     wanted = ap (λ (n : ℕ). each * n) all-nets
 
-    pub opened-as : (after : List ℕ) (o : Opening) → OpenedFrom c code given (each * netCount c) after o → OpenedAs stage list each after o
-    opened-as after (Refused v) (inl (g, l, e)) = (
+    by-loaded : (after : List ℕ) (o : Opening) → ByLoaded c code given (each * netCount c) after o → ByFile stage list each after o
+    by-loaded after (Refused v) (inl (g, l, e)) = (
       e ∙ sym (by-12 stage each list (held .0) (held .1) g (omega (arith, l .gate, same .gates)) (λ k h. loop-is k (omega (arith, l .gate)) ∙ l .none-before k h)
       (loop-is g (l .gate) ∙ l .loops)),
       λ q. omega (arith, ap (λ (x : Verdict). x .number) e),
     )
-    opened-as after (Refused v) (inr (none, d, e)) = (
+    by-loaded after (Refused v) (inr (none, d, e)) = (
       e ∙ ap (λ (n : ℕ). verdict 16 3 n 0) (sym long) ∙ sym (by-16 stage each list (held .0) (held .1) (free none) (λ q. d (sym long ∙ q ∙ sym wanted))),
       λ q. omega (arith, ap (λ (x : Verdict). x .number) e),
     )
-    opened-as after (Opened d) (is, none, e, loaded, again) = (
+    by-loaded after (Opened d) (is, none, e, loaded, again) = (
       subst (λ (x : Counts). StageOpened stage x after) (sym is)
           (record { loaded = loaded; net = ap flat.netOf again ∙ same .net; inputs = same .inputs; gates = same .gates }),
       by-none stage each list (held .0) (held .1) (free none) (long ∙ e ∙ wanted),
     )
 
+    pub opened-as : (after : List ℕ) (o : Opening) → OpenedFrom c code given (each * netCount c) after o → OpenedAs stage list each after o
+    opened-as after o f = record { by = by-loaded after o (f .by) }
+
 -- ---- a file that was not
 
-pub refused-as : (stage : List ℕ) (number at : ℕ) → outcome.Refused number at ≡ outcomeOf (readFile file.Stage stageLimits stage) → (list : List ℕ) (each : ℕ)
-    → (verdict number 1 at 0 ≡ judge (openingChecks stage each list)) × (¬ (number ≡ 0))
-refused-as stage number at e list each =
+pub refused-as : (stage : List ℕ) (number at : ℕ) → outcome.Refused number at ≡ outcomeOf (readFile file.Stage stageLimits stage) → (list : List ℕ) (each : ℕ) (code : List ℕ)
+    → OpenedAs stage list each code (Refused (verdict number 1 at 0))
+refused-as stage number at e list each code =
     let q = was-refused (readFile file.Stage stageLimits stage) number at e in
-    (sym (by-reading stage each list number at q), λ z. omega (arith, refused-number file.Stage stageLimits stage number at q .0))
+    record { by = (sym (by-reading stage each list number at q), λ z. omega (arith, refused-number file.Stage stageLimits stage number at q .0)) }

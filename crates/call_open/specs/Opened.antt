@@ -31,10 +31,13 @@ abbrev pub NoLoops : Counts → List ℕ → Type 0
 NoLoops c code = (k : ℕ) → k < c .gates → reachesItself (c .inputs) (stageGates c code) k ≡ false
 
 -- 12, then 16 where a length is not the wanted one, else it is opened
-abbrev pub OpenedFrom : Counts → List ℕ → ℕ → ℕ → List ℕ → Opening → Type 0
-OpenedFrom c code given wanted after (Refused v) =
+abbrev pub ByLoaded : Counts → List ℕ → ℕ → ℕ → List ℕ → Opening → Type 0
+ByLoaded c code given wanted after (Refused v) =
     ((g : ℕ) × LeastLoop c code g × (v ≡ verdict 12 1 g 0)) ⊎ (NoLoops c code × (¬ (given ≡ wanted)) × (v ≡ verdict 16 3 given 0))
-OpenedFrom c code given wanted after (Opened d) = (d ≡ c) × NoLoops c code × (given ≡ wanted) × StageLoaded c after × (stageIn c after ≡ stageIn c code)
+ByLoaded c code given wanted after (Opened d) = (d ≡ c) × NoLoops c code × (given ≡ wanted) × StageLoaded c after × (stageIn c after ≡ stageIn c code)
+
+pub record OpenedFrom (c : Counts) (code : List ℕ) (given wanted : ℕ) (after : List ℕ) (o : Opening) : Type 0 where
+  pub by : ByLoaded c code given wanted after o
 
 -- ---- a file
 
@@ -46,6 +49,9 @@ pub record StageOpened (stage : List ℕ) (c : Counts) (code : List ℕ) : Type 
   pub gates : c .gates ≡ length (rowStage stage .gates)
 
 -- the verdict on a stage and a list with so many entries for each net, or the stage where it is accepted
-abbrev pub OpenedAs : List ℕ → List ℕ → ℕ → List ℕ → Opening → Type 0
-OpenedAs stage list each code (Refused v) = (v ≡ judge (openingChecks stage each list)) × (¬ (v .number ≡ 0))
-OpenedAs stage list each code (Opened c) = StageOpened stage c code × (judge (openingChecks stage each list) ≡ accepted)
+abbrev pub ByFile : List ℕ → List ℕ → ℕ → List ℕ → Opening → Type 0
+ByFile stage list each code (Refused v) = (v ≡ judge (openingChecks stage each list)) × (¬ (v .number ≡ 0))
+ByFile stage list each code (Opened c) = StageOpened stage c code × (judge (openingChecks stage each list) ≡ accepted)
+
+pub record OpenedAs (stage list : List ℕ) (each : ℕ) (code : List ℕ) (o : Opening) : Type 0 where
+  pub by : ByFile stage list each code o

@@ -14,7 +14,7 @@ returns : tie.Need-returns
 returns c =
     let o = c .before .before .before .before .before in
     let z = o .before .before .before in
-    inl (_, loop-found (z .args .counts) (now (z .args .code)) _ _ (o .order-gates .ensures) _ (c .before .g .given .1), refl)
+    record { by = inl (_, loop-found (z .args .counts) (now (z .args .code)) _ _ (o .order-gates .ensures) _ (c .before .g .given .1), refl) }
 
 mul-if1-2 : tie.Need-mul-if1-2
 mul-if1-2 c =
@@ -27,14 +27,14 @@ returns-2 : tie.Need-returns-2
 returns-2 c =
     let o = c .before .before .before .before .before .before .before in
     let z = o .before .before .before in
-    inr (none-found (z .args .counts) (now (z .args .code)) _ _ (o .order-gates .ensures) (c .before .before .before .enum-told .given .1), c .if1 .taken, refl)
+    record { by = inr (none-found (z .args .counts) (now (z .args .code)) _ _ (o .order-gates .ensures) (c .before .before .before .enum-told .given .1), c .if1 .taken, refl) }
 
 returns-3 : tie.Need-returns-3
 returns-3 c =
     let o = c .before .before .before .before .before .before .before in
     let z = o .before .before .before in
     let l = o .order-gates .ensures in
-    (refl, none-found (z .args .counts) (now (z .args .code)) _ _ l (c .before .before .before .enum-told .given .1), c .if1 .left, l .loaded, l .same)
+    record { by = (refl, none-found (z .args .counts) (now (z .args .code)) _ _ l (c .before .before .before .enum-told .given .1), c .if1 .left, l .loaded, l .same) }
 
 pub open-loaded-spec : {M : Type 1} → statement M
 open-loaded-spec =

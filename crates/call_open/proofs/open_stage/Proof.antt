@@ -16,7 +16,7 @@ returns : tie.Need-returns
 returns c =
     let f = c .before .before .before .before .before in
     let z = f .before .before .before .before in
-    λ list long. refused-as (now (z .args .stage)) _ _ (sym (c .before .number .given .1) ∙ f .read-stage .ensures .0) list (z .args .each)
+    λ list long. refused-as (now (z .args .stage)) _ _ (sym (c .before .number .given .1) ∙ f .read-stage .ensures .0) list (z .args .each) _
 
 returns-2 : tie.Need-returns-2
 returns-2 c =
