@@ -1,10 +1,11 @@
 -- What is played by keys on the flat form is the run that is defined. Assumes nothing.
-use Prim.Native.Nat.{ℕ, _+_, _*_, _≤_, _<_}
+use Prim.Native.Nat.{ℕ, _+_, _-_, _*_, _≤_, _<_}
 use native.Mathlib.Omega.{arith}
-use mathlib.Core.Path.{_≡_, refl, sym, ap, ap₂, _∙_}
+use mathlib.Core.Path.{_≡_, refl, sym, ap, ap₂, _∙_, subst}
 use mathlib.Core.Bool.{Bool, not, _&&_, and-true}
 use mathlib.Core.List.{List, _++_}
-use lib.ListN.{length, take, drop, length-append}
+use lib.ListN.{length, take, drop, replicate, length-append, length-drop}
+use lib.Seq.{take-all}
 use Rattle.runs.specs.Row.{Row, low, toggle, after, _∖_}
 use Rattle.runs.specs.Net.{Net, nets, riseStep, fallStep}
 use Rattle.runs.proofs.Test.{clash}
@@ -20,11 +21,13 @@ use Rattle.check_spec.specs.Verdicts.{rowStage}
 use Rattle.check_spec.specs.Words.{railsFor, spelled}
 use Rattle.check_spec.proofs.Alike.{spelled-alike}
 use Rattle.circuit.specs.Stage.{netCount}
+use Rattle.circuit.specs.Rows.{rowSize}
 use Rattle.circuit.proofs.Settling.{length-stageGates}
-use Rattle.circuit_steps.specs.Moves.{moves, loadedNet}
+use Rattle.circuit_steps.specs.Moves.{moves, loadedNet, rowIn}
+use Rattle.circuit_steps.proofs.Goals.{low-levels}
 use Rattle.circuit_steps.proofs.Rules.{RailsBelow, rise-free, fall-free, free-stays}
 use Rattle.write_run.specs.declared.Lengths.{Lengths}
-use Rattle.write_run.specs.Listing.{RunPut}
+use Rattle.write_run.specs.Listing.{ListedRun, RunPut}
 use Rattle.write_run.proofs.Listing.{run-taken}
 use Rattle.run_spec.specs.declared.RunAnswer.{RunAnswer}
 use Rattle.run_spec.specs.Played.{Run, riseBy, fallBy, played, switchings, answering, handedOut}
@@ -33,6 +36,7 @@ use Rattle.run_spec.proofs.Played.{played-alike, played-few}
 use Rattle.run_spec.proofs.Calls.{noRun, none-handed, keyed-accepted, keyed-refused, keys-demand}
 use Rattle.call_open.specs.Opened.{StageOpened}
 use Rattle.call_keys.specs.Lists.{byKeys, riseIn, fallIn, runIn, GivenBy}
+use Rattle.call_keys.proofs.Steps.{goal-same}
 
 -- ---- the rules are those of a rise and of a fall, with nothing held back
 
@@ -62,6 +66,50 @@ run-same s c code keys w e =
     ∙ ap {B = Run} (λ (M : Net).
         record { rise = riseBy (keyIn keys) M (railsFor w) low; fall = fallBy (keyIn (drop (nets M) keys)) M (after low (riseBy (keyIn keys) M (railsFor w) low)) low }) e
 
+-- ---- a rise and a fall that are listed one after the other
+
+-- each net is listed at most once
+pub listed-few : (c : Counts) (code : List ℕ) (goal : Row) (key : ℕ → ℕ) (before : List ℕ) (start : ℕ) (r₀ : Row) (end : ℕ) (list : List ℕ) (r : Row)
+    → ListedRun (byKeys (loadedNet c code) goal key r₀) before start r₀ end list r → end ≤ start + netCount c
+listed-few c code goal key before start r₀ end list r l =
+    let N = loadedNet c code in
+    omega (arith, l .end-is, played-few (moves N goal) key (nets N) (nets N) r₀, length-stageGates c code)
+
+-- the keys of the fall
+module _ (c : Counts) (code keys : List ℕ) (long : length keys ≡ 2 * netCount c) where
+  abbrev part : List ℕ
+  part = take (length keys - netCount c) (drop (netCount c) keys)
+
+  part-all : part ≡ drop (netCount c) keys
+  part-all = take-all (length keys - netCount c) (drop (netCount c) keys) (omega (arith, length-drop (netCount c) keys))
+
+  pub part-keys : part ≡ drop (nets (loadedNet c code)) keys
+  part-keys = part-all ∙ ap (λ (g : ℕ). drop (2 * c .inputs + g) keys) (sym (length-stageGates c code))
+
+  pub part-room : netCount c ≤ length part
+  part-room = omega (arith, ap length part-all, length-drop (netCount c) keys)
+
+module _ (c : Counts) (code keys : List ℕ) (w : ℕ) (before : List ℕ) (end : ℕ) (list : List ℕ) (r : Row) where
+  abbrev M : Net
+  M = loadedNet c code
+
+  abbrev zeros : Row
+  zeros = rowIn c (replicate rowSize 0)
+
+  pub rise-listed : (goal : Row) → ((k : ℕ) → k < 2 * c .inputs → goal k ≡ railsFor w k) → ListedRun (byKeys M goal (keyIn keys) zeros) before 0 zeros end list r
+      → ListedRun (riseIn c code keys w) before 0 low end list r
+  unfolding riseIn
+  rise-listed goal spells l =
+      subst (λ (s : Row). ListedRun (byKeys M (railsFor w) (keyIn keys) s) before 0 s end list r) (low-levels c)
+      (subst (λ (x : List ℕ). ListedRun x before 0 zeros end list r) (goal-same c code goal (railsFor w) spells (keyIn keys) zeros) l)
+
+  pub fall-listed : (start : ℕ) (R : Row) (some-keys : List ℕ) → some-keys ≡ drop (nets M) keys → R ≡ after low (riseIn c code keys w)
+      → ListedRun (byKeys M zeros (keyIn some-keys) R) before start R end list r → ListedRun (fallIn c code keys w) before start R end list r
+  unfolding fallIn
+  fall-listed start R some-keys e f l =
+      subst (λ (x : List ℕ). ListedRun x before start R end list r)
+      (ap₂ (λ (g : Row) (ks : List ℕ). byKeys M g (keyIn ks) R) (low-levels c) e ∙ ap (byKeys M low (keyIn (drop (nets M) keys))) f) l
+
 -- it is short
 pub run-few : (c : Counts) (code keys : List ℕ) (w : ℕ) → length (riseIn c code keys w ++ fallIn c code keys w) ≤ 2 * netCount c
 unfolding riseIn fallIn
@@ -79,6 +127,10 @@ run-few c code keys w =
 pub run-room : (c : Counts) (code keys : List ℕ) (w : ℕ) (before list : List ℕ) (r : Lengths) → RunPut (riseIn c code keys w) (fallIn c code keys w) before r list
     → 2 * netCount c ≤ length before → r .count ≤ length before
 run-room c code keys w before list r put room = omega (arith, put .count-is, run-few c code keys w)
+
+pub run-count : (c : Counts) (code keys : List ℕ) (w : ℕ) (before list : List ℕ) (r : Lengths) → RunPut (riseIn c code keys w) (fallIn c code keys w) before r list
+    → 2 * netCount c ≤ length before → r .count ≡ length (take (r .count) list)
+run-count c code keys w before list r put room = put .count-is ∙ sym (ap length (run-taken put (omega (arith, run-few c code keys w))))
 
 pub given-by : (order : WordOrder) (c : Counts) (code : List ℕ) (name : ℕ) (keys : List ℕ) (w : ℕ) → w ≡ flat.spelled order (c .inputs) name
     → (before list : List ℕ) (r : Lengths) → RunPut (riseIn c code keys w) (fallIn c code keys w) before r list → 2 * netCount c ≤ length before

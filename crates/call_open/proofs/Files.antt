@@ -16,11 +16,12 @@ use Rattle.netlist.specs.Reading.{Places, readable, readFile, stageLimits}
 use Rattle.netlist.specs.Read.{outcomeOf}
 use Rattle.netlist.specs.Content.{Stage, stageOf}
 use Rattle.verdict.specs.declared.Verdict.{Verdict}
-use Rattle.verdict.specs.FourNumbers.{verdict}
+use Rattle.verdict.specs.FourNumbers.{verdict, accepted}
 use Rattle.verdict.specs.Loops as loops
 use Rattle.verdict.proofs.Least.{LeastAt, LeastSays, least-says}
 use Rattle.verdict.proofs.Refusals.{refused-number}
 use Rattle.verdict.specs.Nets as flat
+use Rattle.check_spec.specs.Cases.{judge}
 use Rattle.check_spec.specs.Content.{Content}
 use Rattle.check_spec.specs.Rows.{netOf, reachesItself}
 use Rattle.check_spec.specs.Verdicts.{rowStage}
@@ -31,7 +32,8 @@ use Rattle.circuit_order.specs.Marks.{LoopFound}
 use Rattle.circuit_load.specs.Load.{HoldsStage}
 use Rattle.circuit_load.proofs.Reading.{was-refused, stage-held}
 use Rattle.circuit_steps.proofs.Stages.{SameStage, same-stage}
-use Rattle.run_spec.proofs.Refusals.{by-reading, by-12, by-16, by-none}
+use Rattle.run_spec.specs.Play.{openingChecks}
+use Rattle.run_spec.proofs.Refusals.{by-reading, by-12, by-16, by-none, unrefused}
 use Rattle.call_open.specs.declared.Opening.{Opening}
 use Rattle.call_open.specs.declared.Opening.the-variants.{Refused, Opened}
 use Rattle.call_open.specs.Opened.{LeastLoop, NoLoops, ByLoaded, OpenedFrom, StageOpened, ByFile, OpenedAs}
@@ -108,3 +110,18 @@ pub refused-as : (stage : List ℕ) (number at : ℕ) → outcome.Refused number
 refused-as stage number at e list each code =
     let q = was-refused (readFile file.Stage stageLimits stage) number at e in
     record { by = (sym (by-reading stage each list number at q), λ z. omega (arith, refused-number file.Stage stageLimits stage number at q .0)) }
+
+-- ---- what a caller has of it
+
+module _ {stage list : List ℕ} {each : ℕ} {code : List ℕ} {o : Opening} (a : OpenedAs stage list each code o) where
+  pub refused-by : (v : Verdict) → o ≡ Refused v → (v ≡ judge (openingChecks stage each list)) × (¬ (v .number ≡ 0))
+  refused-by v e = subst (OpenedAs stage list each code) e a .by
+
+  module _ (c : Counts) (e : o ≡ Opened c) where
+    pub opened-by : StageOpened stage c code × (judge (openingChecks stage each list) ≡ accepted)
+    opened-by = subst (OpenedAs stage list each code) e a .by
+
+    pub opened-fits : length list ≡ each * netCount c
+    opened-fits =
+        let nets-are : nets (netOf (rowStage stage)) ≡ netCount c = omega (arith, opened-by .0 .inputs, opened-by .0 .gates) in
+        unrefused stage each list (ap (λ (v : Verdict). v .number) (opened-by .1)) .fits ∙ ap (λ (n : ℕ). each * n) nets-are
