@@ -46,19 +46,22 @@ by-place (x ∷ l) j f h =
     (by-place l (suc j) f (λ k b. let e : j + suc k ≡ suc j + k = omega arith in h (suc k) (omega arith) ∙ ap (λ (i : ℕ). bit (f i)) e))
 
 module _ (c : Counts) (code row : List ℕ) (ro : RowFor c row) where
-  first-long : length (take (netCount c) row) ≡ netCount c
+  pub first-long : length (take (netCount c) row) ≡ netCount c
   first-long = length-take-le (netCount c) row (omega (arith, ro .long))
 
   pub levels-are : take (netCount c) row ≡ levelsOf (loadedNet c code) (rowIn c row)
   levels-are =
       by-place (take (netCount c) row) 0 (rowIn c row)
-      (λ k h. level (getD (take (netCount c) row) k 0) (omega (arith, getD-take (netCount c) row k 0 (omega (arith, first-long)), ro .bit k (omega (arith, first-long)))))
+      (λ k h.
+      let z : k ≡ 0 + k = omega arith in
+      level (getD (take (netCount c) row) k 0) (omega (arith, getD-take (netCount c) row k 0 (omega (arith, first-long)), ro .bit k (omega (arith, first-long))))
+      ∙ ap (λ (i : ℕ). bit (rowIn c row i)) z)
       ∙ ap (λ (n : ℕ). map (λ k. bit (rowIn c row k)) (numbers 0 n)) (first-long ∙ ap (λ (g : ℕ). 2 * c .inputs + g) (sym (length-stageGates c code)))
 
 -- it is copied to a row that has as many bytes
 pub copied-whole : (n : ℕ) (l before after′ : List ℕ) → length before ≡ n → length l ≡ n → after′ ≡ take (length l) l ++ drop (length l) before → after′ ≡ l
 copied-whole n l before after′ b e h =
-    h ∙ ap₂ (λ (x y : List ℕ). x ++ y) (take-all (length l) l (omega arith)) (drop-of-length-le before (omega (arith, b, e))) ∙ append-nil l
+    h ∙ ap₂ (λ (x y : List ℕ). x ++ y) (take-all (length l) l (omega arith)) (drop-of-length-le before {i = length l} (omega (arith, b, e))) ∙ append-nil l
 
 -- ---- a stage that was opened
 

@@ -1,9 +1,9 @@
 -- The steps of a list, taken one after the other. Assumes nothing.
-use Prim.Native.Nat.{ℕ, zero, suc, _+_, _*_, _≤_, _<_}
+use Prim.Native.Nat.{ℕ, suc, _+_, _-_, _*_, _≤_, _<_}
 use native.Mathlib.Omega.{arith}
-use native.Mathlib.Decide.{decLt}
+use native.Mathlib.Decide.{decLt, ℕ-discrete}
 use mathlib.Core.Path.{_≡_, refl, sym, ap, ap₂, _∙_, subst, fun-ext}
-use mathlib.Core.Bool.{Bool, true, false, cond, _&&_}
+use mathlib.Core.Bool.{Bool, true, false, cond, not, _&&_}
 use mathlib.Core.List.{List, [], _∷_, _++_, map}
 use lib.ListN.{drop-of-length-le, length, getD, take, drop, length-take, length-drop}
 use lib.Seq.{drop-cons, take-suc, take-all, take-take, take-add, length-take-le}
@@ -81,7 +81,7 @@ module _ (fall : ℕ) (list : List ℕ) (rise : ℕ) (b : Begins fall (length li
   fall-part = go (decLt rise fall)
     where
       go : Dec (rise < fall) → drop fall list ≡ drop rise list
-      go (yes l) = drop-of-length-le list (omega (arith, b .else-end l)) ∙ sym (drop-of-length-le list (omega (arith, b .else-end l)))
+      go (yes l) = drop-of-length-le list {i = fall} (omega (arith, b .else-end l)) ∙ sym (drop-of-length-le list {i = rise} (omega (arith, b .else-end l)))
       go (no l) = let e : fall ≡ rise = omega (arith, b .not-behind) in ap (λ (n : ℕ). drop n list) e
 
   module _ (c : Counts) (code : List ℕ) (w : ℕ) (goal : Row) (spells : (k : ℕ) → k < 2 * c .inputs → goal k ≡ railsFor w k) where
@@ -187,3 +187,71 @@ module _ (fall : ℕ) (list : List ℕ) (rise : ℕ) (b : Begins fall (length li
               ap (λ (l : List ℕ). after (after low l) (take more (drop rise list))) whole-rise
               ∙ sym (after-++ low R (take more (drop rise list)))
               ∙ ap (after low) (sym (take-add rise more list) ∙ ap (λ (n : ℕ). take (n + more) list) (sym taken-all))
+
+-- ---- the code's steps
+
+pub of-no : (b : Bool) → not b ≡ false → b ≡ true
+of-no true e = refl
+of-no false e = absurd (clash refl e)
+
+pub none-more : (test : ℕ → Bool) (n : ℕ) → ((k : ℕ) → k < n → test k ≡ false) → test n ≡ false → (k : ℕ) → k < n + 1 → test k ≡ false
+none-more test n h e k l = go (ℕ-discrete k n)
+  where
+    go : Dec (k ≡ n) → test k ≡ false
+    go (yes q) = ap test q ∙ e
+    go (no d) = h k (omega (arith, d))
+
+taken-few : {can : Rule} {c : Counts} {list before : List ℕ} {steps : ℕ} {row : List ℕ} → Taken can c list before steps row → steps ≤ length list
+taken-few {can} {c} {list} {before} t = omega (arith, t .steps-are, allowed-within can (rowIn c before) list)
+
+module _ (fall : ℕ) (list : List ℕ) (rise : ℕ) (b : Begins fall (length list) rise) where
+  -- the steps behind the rise
+  abbrev part : List ℕ
+  part = take (length list - rise) (drop rise list)
+
+  part-is : part ≡ drop rise list
+  part-is = take-all (length list - rise) (drop rise list) (omega (arith, length-drop rise list))
+
+  pub steps-few : {can can′ : Rule} {c : Counts} {before row row′ : List ℕ} {taken more : ℕ} → Taken can c (take rise list) before taken row → Taken can′ c part row more row′
+      → taken + more ≤ length list
+  steps-few t u = omega (arith, taken-few t, taken-few u, length-take-le rise list (b .within), ap length part-is, length-drop rise list, b .within)
+
+  module _ (c : Counts) (code : List ℕ) (w : ℕ) (goal : Row) (spells : (k : ℕ) → k < 2 * c .inputs → goal k ≡ railsFor w k) (row₀ row : List ℕ) (start : rowIn c row₀ ≡ low)
+      (taken : ℕ) (t : Taken (moves (loadedNet c code) goal) c (take rise list) row₀ taken row) where
+    abbrev M : Net
+    M = loadedNet c code
+
+    is : taken ≡ allowed (moves M goal) low (take rise list)
+    is = t .steps-are ∙ ap (λ (s : Row). allowed (moves M goal) s (take rise list)) start
+
+    left : rowIn c row ≡ after low (take taken (take rise list))
+    left = t .row-is ∙ ap (λ (s : Row). after s (take taken (take rise list))) start
+
+    pub played-short : taken < rise → Played c code w fall list taken row
+    played-short h = record {
+      row-for = t .row-for;
+      steps-are = ends-short fall list rise b c code w goal spells taken is h;
+      row-is = left ∙ row-short fall list rise b c code w goal spells taken is;
+    }
+
+    module _ (all : ¬ (taken < rise)) where
+      pub played-unended : (x : Bool) → x ≡ noneLeft (moves M goal) (netCount c) (rowIn c row) → x ≡ false → Played c code w fall list taken row
+      played-unended x e f = record {
+        row-for = t .row-for;
+        steps-are = not-ended fall list rise b c code w goal spells taken is all (sym f ∙ e ∙ ap (noneLeft (moves M goal) (netCount c)) left);
+        row-is = left ∙ row-short fall list rise b c code w goal spells taken is;
+      }
+
+      pub played-on : (x : Bool) → x ≡ noneLeft (moves M goal) (netCount c) (rowIn c row) → x ≡ true → (none : Row) → none ≡ low → (more : ℕ) (row′ : List ℕ)
+          → Taken (moves M none) c part row more row′ → Played c code w fall list (taken + more) row′
+      played-on x e f none z more row′ u =
+          let ended = sym f ∙ e ∙ ap (noneLeft (moves M goal) (netCount c)) left in
+          let still : (k : ℕ) → k < 2 * c .inputs → none k ≡ false = λ k h. ap (λ (s : Row). s k) z in
+          let steps = u .steps-are ∙ ap₂ (λ (s : Row) (l : List ℕ). allowed (moves M none) s l) left part-is in
+          record {
+            row-for = u .row-for;
+            steps-are = with-fall fall list rise b c code w goal spells taken is all ended none still more steps;
+            row-is =
+                u .row-is ∙ ap₂ (λ (s : Row) (l : List ℕ). after s (take more l)) left part-is
+                ∙ row-long fall list rise b c code w goal spells taken is all ended none still more steps;
+          }

@@ -34,7 +34,7 @@ module _ (list : List ℕ) (asked : ℕ) where
 
     pub sought-none : length list ≤ i → getD list 0 0 ≡ askedOrFirst list asked
     unfolding askedOrFirst some
-    sought-none h = sym (ap (λ (b : Bool). cond b asked (getD list 0 0)) (s ∙ ap (some (eqb asked)) (drop-of-length-le list h)))
+    sought-none h = sym (ap (λ (b : Bool). cond b asked (getD list 0 0)) (s ∙ ap (some (eqb asked)) (drop-of-length-le list {i = i} h)))
 
 -- an empty list has no first
 pub first-none : (list : List ℕ) → ¬ (0 < length list) → 0 ≡ getD list 0 0
