@@ -72,6 +72,12 @@ slice-write-list c =
     let l = c .before .before .before .before .before .before .before .before .before .loop in
     walk-room (z .args .counts) (now (z .args .code)) (moves (loadedNet (z .args .counts) (now (z .args .code))) (rowIn (z .args .counts) (now (z .args .goal)))) (keyIn (now (z .args .keys))) _ _ _ _ (l .inv .0) _ (c .before .before .before .before .before .next-by-key .ensures) (c .before .before .before .before .if1 .left) (omega (arith, c .before .before .before .before .before .before .before .before .loop-test .taken))
 
+add-count : tie.Need-add-count Inv-loop μ-loop
+add-count c =
+    let z = c .before .before .before .before .before .before .before .before .before .before .before .before .before .before .before .before .before .before in
+    let l = c .before .before .before .before .before .before .before .before .before .loop in
+    omega (arith, walk-room (z .args .counts) (now (z .args .code)) (moves (loadedNet (z .args .counts) (now (z .args .code))) (rowIn (z .args .counts) (now (z .args .goal)))) (keyIn (now (z .args .keys))) _ _ _ _ (l .inv .0) _ (c .before .before .before .before .before .next-by-key .ensures) (c .before .before .before .before .if1 .left) (omega (arith, c .before .before .before .before .before .before .before .before .loop-test .taken)))
+
 loop-less : tie.Need-loop-less Inv-loop μ-loop
 loop-less c = omega (arith, c .before .before .before .before .before .before .before .before .loop-test .taken)
 
@@ -114,7 +120,7 @@ list-by-keys-spec =
     cast-list
     mul-list
     slice-write-list
-    (λ c. search needs)
+    add-count
     loop-less
     loop-again
     same-length-3

@@ -1,9 +1,10 @@
 -- `call_keys::run_stage` meets its contract. Assumes nothing.
-use Prim.Native.Nat.{ℕ}
+use Prim.Native.Nat.{ℕ, _*_, _≤_}
 use native.Mathlib.Omega.{arith}
 use mathlib.Core.Path.{refl}
-use lib.ListN.{length-replicate}
+use lib.ListN.{length, replicate, length-replicate}
 use denote.Ref.{now}
+use Rattle.circuit.specs.Stage.{netCount}
 use Rattle.call_keys.proofs.Runs.{run-room, run-count, given-by}
 use borrow.Author.Needs.{needs}
 use Rattle.call_keys.proofs.run_stage.Statement.{statement}
@@ -21,21 +22,21 @@ array-share-prefix-run : tie.Need-array-share-prefix-run
 array-share-prefix-run c =
     let z = c .before .before .before .before .before .before .before in
     let put = c .before .list-run .ensures in
-    let room = omega (arith, length-replicate {A = ℕ} 552 0, z .pre .0 .within .inputs-in, z .pre .0 .within .gates-in) in
+    let room : 2 * netCount (z .args .counts) ≤ length (replicate {A = ℕ} 552 0) = omega (arith, length-replicate {A = ℕ} 552 0, z .pre .0 .within .inputs-in, z .pre .0 .within .gates-in) in
     omega (arith, length-replicate {A = ℕ} 552 0, run-room (z .args .counts) (now (z .args .code)) (now (z .args .keys)) _ _ _ _ put room)
 
 slice-aggregate-hand-out : tie.Need-slice-aggregate-hand-out
 slice-aggregate-hand-out c =
     let z = c .before .before .before .before .before .before .before .before in
     let put = c .before .before .list-run .ensures in
-    let room = omega (arith, length-replicate {A = ℕ} 552 0, z .pre .0 .within .inputs-in, z .pre .0 .within .gates-in) in
+    let room : 2 * netCount (z .args .counts) ≤ length (replicate {A = ℕ} 552 0) = omega (arith, length-replicate {A = ℕ} 552 0, z .pre .0 .within .inputs-in, z .pre .0 .within .gates-in) in
     run-count (z .args .counts) (now (z .args .code)) (now (z .args .keys)) _ _ _ _ put room
 
 returns : tie.Need-returns
 returns c =
     let z = c .before .before .before .before .before .before .before .before .before .before .before .before in
     let put = c .before .before .before .before .before .before .list-run .ensures in
-    let room = omega (arith, length-replicate {A = ℕ} 552 0, z .pre .0 .within .inputs-in, z .pre .0 .within .gates-in) in
+    let room : 2 * netCount (z .args .counts) ≤ length (replicate {A = ℕ} 552 0) = omega (arith, length-replicate {A = ℕ} 552 0, z .pre .0 .within .inputs-in, z .pre .0 .within .gates-in) in
     given-by (z .args .order) (z .args .counts) (now (z .args .code)) (z .args .name) (now (z .args .keys)) _ (c .before .before .before .before .before .before .before .before .word-of .ensures) _ _ _ put room _ _ (c .before .before .hand-out .ensures) _ refl
 
 pub run-stage-spec : {M : Type 1} → statement M

@@ -79,6 +79,12 @@ slice-write-list c =
     let l = c .before .before .before .before .before .before .before .before .before .loop in
     walk-room (z .args .counts) (now (z .args .code)) (rowIn (z .args .counts) (now (z .args .goal))) (z .args .held) _ _ _ _ _ (l .inv .0) _ (c .before .before .before .before .before .least-from .ensures) (c .before .before .before .before .if1 .left) (omega (arith, c .before .before .before .before .before .before .before .before .loop-test .taken))
 
+add-count : tie.Need-add-count Inv-loop μ-loop
+slice-write-list c =
+    let z = c .before .before .before .before .before .before .before .before .before .before .before .before .before .before .before .before .before .before in
+    let l = c .before .before .before .before .before .before .before .before .before .loop in
+    omega (arith, walk-room (z .args .counts) (now (z .args .code)) (rowIn (z .args .counts) (now (z .args .goal))) (z .args .held) _ _ _ _ _ (l .inv .0) _ (c .before .before .before .before .before .least-from .ensures) (c .before .before .before .before .if1 .left) (omega (arith, c .before .before .before .before .before .before .before .before .loop-test .taken)))
+
 look-from-requires : tie.Need-look-from-requires Inv-loop μ-loop
 look-from-requires c κs =
     let z = c .before .before .before .before .before .before .before .before .before .before .before .before .before .before .before .before .before .before in
@@ -130,7 +136,7 @@ list-least-spec =
     cast-list
     mul-list
     slice-write-list
-    (λ c. search needs)
+    add-count
     look-from-requires
     loop-less
     loop-again

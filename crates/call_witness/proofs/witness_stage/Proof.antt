@@ -1,9 +1,10 @@
 -- `call_witness::witness_stage` meets its contract. Assumes nothing.
-use Prim.Native.Nat.{ℕ}
+use Prim.Native.Nat.{ℕ, _*_, _≤_}
 use native.Mathlib.Omega.{arith}
 use mathlib.Core.Path.{refl, sym, _∙_}
-use lib.ListN.{length-replicate}
+use lib.ListN.{length, replicate, length-replicate}
 use denote.Ref.{now}
+use Rattle.circuit.specs.Stage.{netCount}
 use Rattle.call_witness.proofs.Files.{opened, named-in, lists-few, handed-count, given-for, not-refused}
 use borrow.Author.Needs.{needs}
 use Rattle.call_witness.proofs.witness_stage.Statement.{statement}
@@ -43,8 +44,9 @@ array-share-prefix-run c =
     let n = c .before .before .before .before .before .name-shown .ensures in
     let w = c .before .before .before .before .word-of .ensures in
     let put = c .before .list-run .ensures in
+    let n′ = c .before .before .before .before .before .before .before .before .counts .given .0 .0 in
     let loaded = opened stage (z .args .verdict) (z .pre) _ _ read (f .1) in
-    let room = omega (arith, length-replicate {A = ℕ} 552 0, loaded .within .inputs-in, loaded .within .gates-in) in
+    let room : 2 * netCount n′ ≤ length (replicate {A = ℕ} 552 0) = omega (arith, length-replicate {A = ℕ} 552 0, loaded .within .inputs-in, loaded .within .gates-in) in
     omega (arith, length-replicate {A = ℕ} 552 0, lists-few stage (z .args .verdict) (z .pre) _ _ read (f .1) (z .args .order) (z .args .asked) _ n _ w _ _ _ put room)
 
 slice-aggregate-hand-out : tie.Need-slice-aggregate-hand-out
@@ -56,8 +58,9 @@ slice-aggregate-hand-out c =
     let n = c .before .before .before .before .before .before .name-shown .ensures in
     let w = c .before .before .before .before .before .word-of .ensures in
     let put = c .before .before .list-run .ensures in
+    let n′ = c .before .before .before .before .before .before .before .before .before .counts .given .0 .0 in
     let loaded = opened stage (z .args .verdict) (z .pre) _ _ read (f .1) in
-    let room = omega (arith, length-replicate {A = ℕ} 552 0, loaded .within .inputs-in, loaded .within .gates-in) in
+    let room : 2 * netCount n′ ≤ length (replicate {A = ℕ} 552 0) = omega (arith, length-replicate {A = ℕ} 552 0, loaded .within .inputs-in, loaded .within .gates-in) in
     handed-count stage (z .args .verdict) (z .pre) _ _ read (f .1) (z .args .order) (z .args .asked) _ n _ w _ _ _ put room
 
 returns : tie.Need-returns
@@ -69,8 +72,9 @@ returns c =
     let n = c .before .before .before .before .before .before .before .before .before .before .name-shown .ensures in
     let w = c .before .before .before .before .before .before .before .before .before .word-of .ensures in
     let put = c .before .before .before .before .before .before .list-run .ensures in
+    let n′ = c .before .before .before .before .before .before .before .before .before .before .before .before .before .counts .given .0 .0 in
     let loaded = opened stage (z .args .verdict) (z .pre) _ _ read (f .1) in
-    let room = omega (arith, length-replicate {A = ℕ} 552 0, loaded .within .inputs-in, loaded .within .gates-in) in
+    let room : 2 * netCount n′ ≤ length (replicate {A = ℕ} 552 0) = omega (arith, length-replicate {A = ℕ} 552 0, loaded .within .inputs-in, loaded .within .gates-in) in
     given-for stage (z .args .verdict) (z .pre) _ _ read (f .1) (z .args .order) (z .args .asked) _ n _ w _ _ _ put room _ _ (c .before .before .hand-out .ensures) _ refl
 
 returns-2 : tie.Need-returns-2
