@@ -37,7 +37,7 @@ returns c =
     record {
       row-for = l .inv .1;
       steps-are = steps-barred (moves (loadedNet (z .args .counts) (now (z .args .code))) (rowIn (z .args .counts) (now (z .args .goal)))) (rowIn (z .args .counts) (now (z .args .row))) (now (z .args .list)) (l .i) _ (l .inv .0) (omega (arith, c .before .before .loop-test .taken))
-          (moves-none (loadedNet (z .args .counts) (now (z .args .code))) _ (getD (now (z .args .list)) (l .i) 0) _ (omega (arith, c .if1 .taken, length-stageGates (z .args .counts) (now (z .args .code)))));
+          (moves-none (loadedNet (z .args .counts) (now (z .args .code))) (rowIn (z .args .counts) (l .row)) (getD (now (z .args .list)) (l .i) 0) (rowIn (z .args .counts) (now (z .args .goal))) (omega (arith, c .if1 .taken, length-stageGates (z .args .counts) (now (z .args .code)))));
       row-is = l .inv .0 .row-is;
     }
 

@@ -80,7 +80,7 @@ slice-write-list c =
     walk-room (z .args .counts) (now (z .args .code)) (rowIn (z .args .counts) (now (z .args .goal))) (z .args .held) _ _ _ _ _ (l .inv .0) _ (c .before .before .before .before .before .least-from .ensures) (c .before .before .before .before .if1 .left) (omega (arith, c .before .before .before .before .before .before .before .before .loop-test .taken))
 
 add-count : tie.Need-add-count Inv-loop μ-loop
-slice-write-list c =
+add-count c =
     let z = c .before .before .before .before .before .before .before .before .before .before .before .before .before .before .before .before .before .before in
     let l = c .before .before .before .before .before .before .before .before .before .loop in
     omega (arith, walk-room (z .args .counts) (now (z .args .code)) (rowIn (z .args .counts) (now (z .args .goal))) (z .args .held) _ _ _ _ _ (l .inv .0) _ (c .before .before .before .before .before .least-from .ensures) (c .before .before .before .before .if1 .left) (omega (arith, c .before .before .before .before .before .before .before .before .loop-test .taken)))
