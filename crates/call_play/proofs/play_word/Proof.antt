@@ -1,6 +1,7 @@
 -- `call_play::play_word` meets its contract. Assumes nothing.
 use native.Mathlib.Omega.{arith}
 use mathlib.Core.Path.{sym, ap, _∙_, subst}
+use lib.Seq.{length-take-le}
 use denote.Ref.{now}
 use Rattle.circuit.specs.Rows.{RowFor}
 use Rattle.circuit.proofs.Settling.{low-row}
@@ -13,6 +14,9 @@ use Rattle.call_play.proofs.play_word.Tie as tie
 
 spell-word-requires : tie.Need-spell-word-requires
 spell-word-requires c κs = low-row (c .before .before .before .before .args .counts) (c .before .before .before .before .pre .0 .within)
+
+slice-aggregate-take-steps-2 : tie.Need-slice-aggregate-take-steps-2
+slice-aggregate-take-steps-2 c = sym (length-take-le _ (now (c .before .before .before .before .before .before .before .before .before .before .args .list)) (c .before .before .before .fall-begins .ensures .within))
 
 take-steps-requires : tie.Need-take-steps-requires
 take-steps-requires c κs = let z = c .before .before .before .before .before .before .before .before .before .before in (z .pre .0, c .before .before .before .before .before .spell-word .ensures .1, subst (RowFor (z .args .counts)) (sym (z .pre .1)) (low-row (z .args .counts) (z .pre .0 .within)))
@@ -66,7 +70,7 @@ play-word-spec =
     spell-word-requires
     (λ c κs. search needs)
     (λ c. search needs)
-    (λ c. search needs)
+    slice-aggregate-take-steps-2
     take-steps-requires
     (λ c. search needs)
     returns
