@@ -64,7 +64,7 @@ run-same s c code keys w e =
     ap₂ {C = Run} (λ (a b : List ℕ). record { rise = a; fall = b }) (rise-alike N (keyIn keys) (railsFor w))
     (fall-alike N key′ (after low (byKeys N (railsFor w) (keyIn keys) low)) ∙ ap (λ (l : List ℕ). fallBy key′ N (after low l) low) (rise-alike N (keyIn keys) (railsFor w)))
     ∙ ap {B = Run} (λ (M : Net).
-        record { rise = riseBy (keyIn keys) M (railsFor w) low; fall = fallBy (keyIn (drop (nets M) keys)) M (after low (riseBy (keyIn keys) M (railsFor w) low)) low }) e
+    record { rise = riseBy (keyIn keys) M (railsFor w) low; fall = fallBy (keyIn (drop (nets M) keys)) M (after low (riseBy (keyIn keys) M (railsFor w) low)) low }) e
 
 -- ---- a rise and a fall that are listed one after the other
 

@@ -87,7 +87,7 @@ module _ (stage : List ℕ) (c : Counts) (code : List ℕ)
     by-loaded : (after : List ℕ) (o : Opening) → ByLoaded c code given (each * netCount c) after o → ByFile stage list each after o
     by-loaded after (Refused v) (inl (g, l, e)) = (
       e ∙ sym (by-12 stage each list (held .0) (held .1) g (omega (arith, l .gate, same .gates)) (λ k h. loop-is k (omega (arith, l .gate)) ∙ l .none-before k h)
-      (loop-is g (l .gate) ∙ l .loops)),
+          (loop-is g (l .gate) ∙ l .loops)),
       λ q. omega (arith, ap (λ (x : Verdict). x .number) e),
     )
     by-loaded after (Refused v) (inr (none, d, e)) = (

@@ -69,7 +69,14 @@ fn fall_begins(fall: usize, count: usize) -> usize
 }
 
 // The steps of a list of word w that is a rise up to a place, and from there on a fall: this begins only where the rise has ended.
-fn play_word(code: &[u16], counts: Counts, w: usize, fall: usize, list: &[u16], row: &mut [u8]) -> usize
+fn play_word(
+    code: &[u16],
+    counts: Counts,
+    w: usize,
+    fall: usize,
+    list: &[u16],
+    row: &mut [u8],
+) -> usize
     requires { ⌜ StageLoaded counts (now code) × (now row ≡ replicate rowSize 0) ⌝ }
     ensures { λ r. ⌜ Played counts (now (code .entry)) w fall (now (list .entry)) r (now (row .exit)) ⌝ }
 {

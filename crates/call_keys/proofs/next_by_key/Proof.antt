@@ -43,8 +43,8 @@ loop-again c =
     let more = c .before .before .loop-test .taken in
     let may = c .before .may-switch .ensures in (
       ⊎-elim
-      (λ w. rw (w .2) (best-of-both (moves (loadedNet (z .args .counts) (now (z .args .code))) (rowIn (z .args .counts) (now (z .args .goal))) (rowIn (z .args .counts) (now (z .args .row)))) (keyIn (now (z .args .keys))) (netCount (z .args .counts)) (l .net) (l .best) (l .inv .0) (sym may ∙ w .0 .taken) (omega (arith, more)) _ (w .1 .ensures)))
-      (λ w. rw (w .1) (best-past (moves (loadedNet (z .args .counts) (now (z .args .code))) (rowIn (z .args .counts) (now (z .args .goal))) (rowIn (z .args .counts) (now (z .args .row)))) (keyIn (now (z .args .keys))) (netCount (z .args .counts)) (l .net) (l .best) (l .inv .0) (sym may ∙ w .0 .left))) (c .if1 .came),
+          (λ w. rw (w .2) (best-of-both (moves (loadedNet (z .args .counts) (now (z .args .code))) (rowIn (z .args .counts) (now (z .args .goal))) (rowIn (z .args .counts) (now (z .args .row)))) (keyIn (now (z .args .keys))) (netCount (z .args .counts)) (l .net) (l .best) (l .inv .0) (sym may ∙ w .0 .taken) (omega (arith, more)) _ (w .1 .ensures)))
+          (λ w. rw (w .1) (best-past (moves (loadedNet (z .args .counts) (now (z .args .code))) (rowIn (z .args .counts) (now (z .args .goal))) (rowIn (z .args .counts) (now (z .args .row)))) (keyIn (now (z .args .keys))) (netCount (z .args .counts)) (l .net) (l .best) (l .inv .0) (sym may ∙ w .0 .left))) (c .if1 .came),
       omega (arith, more),
     )
 

@@ -98,8 +98,7 @@ loop-less c =
 loop-again : tie.Need-loop-again Inv-loop μ-loop
 loop-again c =
     let z = c .before .before .before .before .before .before .before .before .before .before .before .before .before .before .before .before .before .before .before in
-    let l = c .before .before .before .before .before .before .before .before .before .before .loop in
-    (
+    let l = c .before .before .before .before .before .before .before .before .before .before .loop in (
       walk-turn (z .args .counts) (now (z .args .code)) (rowIn (z .args .counts) (now (z .args .goal))) (z .args .held) _ _ _ _ _ (l .inv .0) _ (c .before .before .before .before .before .before .least-from .ensures) (c .before .before .before .before .before .if1 .left) (omega (arith, c .before .before .before .before .before .before .before .before .before .loop-test .taken)) _ (z .pre .2) _ (c .before .before .before .switch-net .ensures .0) (c .before .before .before .switch-net .ensures .1) _ (c .look-from .ensures),
       omega (arith, c .before .before .row .given, l .inv .1),
     )
