@@ -1,5 +1,5 @@
--- A number that is looked for in a list. Assumes nothing.
-use Prim.Native.Nat.{ℕ, zero, suc, _+_, _≤_, _<_}
+-- A number that is looked for in a list, and the name of the word that is shown. Assumes nothing.
+use Prim.Native.Nat.{ℕ, suc, _+_, _≤_, _<_}
 use native.Mathlib.Omega.{arith}
 use mathlib.Core.Path.{_≡_, refl, sym, ap, _∙_}
 use mathlib.Core.Bool.{Bool, true, false, cond}
@@ -7,9 +7,15 @@ use mathlib.Core.List.{List, [], _∷_}
 use lib.ListN.{drop-of-length-le, length, getD, drop}
 use lib.Seq.{drop-cons}
 use lib.Dec.{eqb}
+use borrow.Author.Tests.{eq-eqb, ne-eqb}
 use Rattle.runs.proofs.Test.{eqb-same, eqb-other}
+use Rattle.netlist.specs.Content.{Stage}
+use Rattle.verdict.specs.declared.Verdict.{Verdict}
+use Rattle.verdict.specs.declared.WordOrder.{WordOrder}
+use Rattle.verdict.specs.Words as flat
 use Rattle.check_spec.specs.Lists.{some}
 use Rattle.run_spec.specs.Witness.{askedOrFirst}
+use Rattle.call_witness.specs.Lists.{nameIn}
 
 module _ (list : List ℕ) (asked : ℕ) where
   -- it is none of the first i
@@ -40,3 +46,24 @@ module _ (list : List ℕ) (asked : ℕ) where
 pub first-none : (list : List ℕ) → ¬ (0 < length list) → 0 ≡ getD list 0 0
 first-none [] h = refl
 first-none (x ∷ l) h = absurd (h (omega arith))
+
+-- ---- the name that is shown, by the number
+
+module _ (order : WordOrder) (s : Stage) (v : Verdict) (asked : ℕ) where
+  abbrev cared : ℕ
+  cared = askedOrFirst (flat.names order s) asked
+
+  pub name-accepted : v .number ≡ 0 → asked ≡ nameIn order s v asked
+  unfolding nameIn
+  name-accepted e = sym (ap (λ (b : Bool). cond b asked (cond (eqb (v .number) 32) cared (v .word))) (eq-eqb (v .number) 0 e))
+
+  module _ (d : ¬ (v .number ≡ 0)) where
+    pub name-idle : v .number ≡ 32 → (x : ℕ) → x ≡ cared → x ≡ nameIn order s v asked
+    unfolding nameIn
+    name-idle e x q =
+        q ∙ sym (ap (λ (b : Bool). cond b asked (cond (eqb (v .number) 32) cared (v .word))) (ne-eqb (v .number) 0 d) ∙ ap (λ (b : Bool). cond b cared (v .word)) (eq-eqb (v .number) 32 e))
+
+    pub name-refused : ¬ (v .number ≡ 32) → v .word ≡ nameIn order s v asked
+    unfolding nameIn
+    name-refused e =
+        sym (ap (λ (b : Bool). cond b asked (cond (eqb (v .number) 32) cared (v .word))) (ne-eqb (v .number) 0 d) ∙ ap (λ (b : Bool). cond b cared (v .word)) (ne-eqb (v .number) 32 e))

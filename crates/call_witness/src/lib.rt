@@ -163,8 +163,11 @@ fn gate_under(counts: Counts, verdict: Verdict, number: u64) -> usize
 fn has_run(number: u64) -> bool
     ensures { λ r. ⌜ r ≡ some (eqb number) ofRuns ⌝ }
 {
+    if number == 32 {
+        return true;
+    }
     match number {
-        0 | 13 | 14 | 15 | 20 | 21 | 32 => true,
+        0 | 13 | 14 | 15 | 20 | 21 => true,
         _ => false,
     }
 }
@@ -173,8 +176,11 @@ fn has_run(number: u64) -> bool
 fn has_fall(number: u64) -> bool
     ensures { λ r. ⌜ r ≡ some (eqb number) ofFalls ⌝ }
 {
+    if number == 32 {
+        return true;
+    }
     match number {
-        0 | 20 | 21 | 32 => true,
+        0 | 20 | 21 => true,
         _ => false,
     }
 }

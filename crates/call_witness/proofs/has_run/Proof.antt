@@ -6,7 +6,7 @@ use Rattle.call_witness.proofs.has_run.Statement.{statement}
 use Rattle.call_witness.proofs.has_run.Tie as tie
 
 returns : tie.Need-returns
-returns c = sym (silent-runs _ (λ e. omega arith) (λ a b. omega arith) (λ a b. omega arith) (λ e. omega arith))
+returns c = sym (speaks-32 _ (omega arith) .0)
 
 returns-2 : tie.Need-returns-2
 returns-2 c = sym (silent-runs _ (λ e. omega arith) (λ a b. omega arith) (λ a b. omega arith) (λ e. omega arith))
@@ -26,8 +26,5 @@ returns-6 c = sym (speaks-13 _ (omega arith) (omega arith))
 returns-7 : tie.Need-returns-7
 returns-7 c = sym (speaks-20 _ (omega arith) (omega arith) .0)
 
-returns-8 : tie.Need-returns-8
-returns-8 c = sym (speaks-32 _ (omega arith) .0)
-
 pub has-run-spec : {M : Type 1} → statement M
-has-run-spec = tie.close (tie.spec returns returns-2 returns-3 returns-4 returns-5 returns-6 returns-7 returns-8)
+has-run-spec = tie.close (tie.spec returns returns-2 returns-3 returns-4 returns-5 returns-6 returns-7)
