@@ -12,7 +12,7 @@ use lib.Pow.{pow-pos}
 use Rattle.runs.specs.Row.{Row, Rule, toggle, after, times, Legal}
 use Rattle.runs.proofs.Test.{clash, true?, same?, eqb-same, eqb-other, lt-ltb, and-in}
 use Rattle.runs.proofs.Row.{toggle-same}
-use Rattle.netlist.specs.declared.File.the-variants.{Stage}
+use Rattle.netlist.specs.declared.File.{File}
 use Rattle.netlist.specs.declared.Limits.{Limits}
 use Rattle.netlist.specs.Reading.{Places, Ascending, Reading, refused, readable, readFile}
 use Rattle.netlist.proofs.Readable.{readable-read}
@@ -40,7 +40,7 @@ never-listed can g r (k ∷ l) p low = go (same? g k) (never-listed can g (toggl
 
 -- ---- a word of the stage
 
-module _ (most : Limits) (bytes : List ℕ) where
+module _ (f : File) (most : Limits) (bytes : List ℕ) where
   abbrev HasWord : Content → Type 0
   HasWord s = (w : ℕ) × IsWord s w
 
@@ -49,13 +49,13 @@ module _ (most : Limits) (bytes : List ℕ) where
   first-in n [] h = (0, rw (lt-ltb 0 (2 ^ n) (pow-pos n)))
   first-in n (w ∷ care) h = (w, rw (lt-ltb w (2 ^ n) (h .1), eqb-same w))
 
-  pub has-word : Pass (reading Stage most bytes) → HasWord (contentOf Stage most bytes)
+  pub has-word : Pass (reading f most bytes) → HasWord (contentOf f most bytes)
   unfolding refusal contentAt caresFor
-  has-word = go (readFile Stage most bytes) refl
+  has-word = go (readFile f most bytes) refl
     where
-      go : (x : Reading) → readFile Stage most bytes ≡ x → Pass (refusal Stage x) → HasWord (contentAt Stage bytes x)
+      go : (x : Reading) → readFile f most bytes ≡ x → Pass (refusal f x) → HasWord (contentAt f bytes x)
       go (refused number at) e p = absurd (clash refl (p .0))
-      go (readable p) e t = first-in (p .inputs) (p .care) (readable-read Stage most bytes p e .care-in)
+      go (readable p) e t = first-in (p .inputs) (p .care) (readable-read f most bytes p e .care-in)
 
 -- the name of a word, or the first name, is one
 module _ (order : WordOrder) (s : Content) (has : (w : ℕ) × IsWord s w) (asked : ℕ) where

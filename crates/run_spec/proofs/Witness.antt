@@ -9,6 +9,7 @@ use mathlib.Core.List.{List, [], _∷_, _++_}
 use lib.ListN.{length, drop}
 use lib.Dec.{eqb, ltb}
 use borrow.Author.Tests.{eq-eqb, ne-eqb}
+use Rattle.netlist.specs.Commands.{stageFile}
 use Rattle.runs.specs.Row.{Row, low, only, after}
 use Rattle.runs.specs.Net.{Net, railsOfInputs, riseStep, fallStep}
 use Rattle.runs.specs.Witness.{ShowsWrong, ShowsIncomplete, ShowsUnobservable}
@@ -170,7 +171,7 @@ module _ (order : WordOrder) (f : Files) (asked : ℕ) (before : List ℕ) where
       sym (ap (λ (b : Bool). cond b asked (cond (eqb (verdict .number) 32) cared (verdict .word))) (ne-eqb (verdict .number) 0 (λ q. omega arith))
       ∙ ap (λ (b : Bool). cond b cared (verdict .word)) (eq-eqb (verdict .number) 32 e)) in
       subst (λ (name : ℕ). IsWord (stageIn f) (spelled order (stageIn f .inputs) name)) is
-      (cared-word order (stageIn f) (has-word (f .stageMost) (f .stage) (demand-3 order f .idle e .0 .0)) asked)
+      (cared-word order (stageIn f) (has-word (stageFile (f .registers)) (f .stageMost) (f .stage) (demand-3 order f .idle e .0 .0)) asked)
 
   -- a number that is not of runs is not of falls
   no-falls : (n : ℕ) → some (eqb n) ofRuns ≡ false → some (eqb n) ofFalls ≡ false
