@@ -1,67 +1,96 @@
--- A stage file reads alike for every call: for now a pipeline has the commands of a stage.
+-- A stage file that is readable reads alike as a pipeline: with the same places of its commands, none of which is a register or a C-element.
 -- Assumes nothing.
-use Prim.Native.Nat.{ℕ, zero, suc, _+_}
-use mathlib.Core.Path.{_≡_, refl, ap, fun-ext}
-use mathlib.Core.Bool.{Bool, true, false, cond}
-use mathlib.Core.List.{List}
-use lib.ListN.{length}
-use Rattle.netlist.specs.Types.{Sort, Role, Form, Limits, Counts, Next, Command, Refused}
+use Prim.Native.Nat.{ℕ, suc, _+_, _*_}
+use mathlib.Core.Path.{_≡_, refl, sym, ap, _∙_}
+use mathlib.Core.Bool.{true}
+use mathlib.Core.List.{List, [], _∷_}
+use Rattle.netlist.specs.Types.{Limits, Sort}
 use Rattle.netlist.specs.Types.file
 use Rattle.netlist.specs.Types.sort
 use Rattle.netlist.specs.Bytes.{byte}
-use Rattle.netlist.specs.Commands.{stageFile, isSort, commandTable, ownCommands, formOf, roleOf, width, needed, used, takeGate, takeSort, takeCommand, nextAt}
-use Rattle.netlist.specs.Reading.{Nets, names, asked, namelessAt, namelessFrom, Places, noPlaces, countsOf, netsOf, noted, finish, onNext, readFrom, readFile}
+use Rattle.netlist.specs.Commands.{commandTable, ownCommands, formIn, formOf, roleOf, needed}
+use Rattle.netlist.specs.Reading.{Nets, firstPart, carriesData, names, asked, Places, readFile, readable}
+use Rattle.netlist.specs.Writing.{widthFor, Item, gate, output, care, register, element, gatePlaces, outputPlaces, partPlaces, careIn, placesOf}
+use Rattle.netlist.proofs.Operands.{asked-more}
+use Rattle.netlist.proofs.Encoding.{byte-for, has-gate, has-output, has-end, has-inputs, pipeline-care, stage-registerless, stage-elementless}
+use Rattle.netlist.proofs.Laid.{ItemLaid, Laid, Named, FileLaid}
+use Rattle.netlist.proofs.Walk.{readable-laid, laid-readable}
 
-taken-alike : (most : Limits) (s : List ℕ) (at : ℕ) (before : Counts) (form : Form) (taken : Next) (c : Sort) →
-    takeSort file.Pipeline most s at before form taken c ≡ takeSort file.Stage most s at before form taken c
-unfolding takeSort takeGate needed
-taken-alike most s at before form taken sort.Inputs = refl
-taken-alike most s at before form taken sort.Gate = refl
-taken-alike most s at before form taken sort.Output = refl
-taken-alike most s at before form taken sort.Care = refl
-taken-alike most s at before form taken sort.End = refl
-taken-alike most s at before form taken sort.Unknown = refl
+module _ (s : List ℕ) where
+  item-alike : (at : ℕ) (i : Item) → ItemLaid file.Stage s at i → ItemLaid file.Pipeline s at i
+  unfolding commandTable ownCommands formIn needed
+  item-alike at (gate c) h = record {
+    has = has-gate file.Pipeline;
+    command = ap (formOf file.Pipeline) (byte-for file.Stage (byte s at) sort.Gate (h .command) (h .has) refl);
+    room = h .room;
+    shown = record { content = h .shown .content; known = h .shown .known; fits = h .shown .fits };
+  }
+  item-alike at (output vs) h = record {
+    has = has-output file.Pipeline;
+    command = ap (formOf file.Pipeline) (byte-for file.Stage (byte s at) sort.Output (h .command) (h .has) refl);
+    room = h .room;
+    shown = h .shown;
+  }
+  item-alike at (care w) h = record {
+    has = pipeline-care;
+    command = ap (formOf file.Pipeline) (byte-for file.Stage (byte s at) sort.Care (h .command) (h .has) refl);
+    room = h .room;
+    shown = h .shown;
+  }
+  item-alike at (register vs) h = absurd (stage-registerless (h .has))
+  item-alike at (element vs) h = absurd (stage-elementless (h .has))
 
-next-alike : (most : Limits) (s : List ℕ) (at : ℕ) (before : Counts) → nextAt file.Pipeline most s at before ≡ nextAt file.Stage most s at before
-unfolding nextAt takeCommand commandTable ownCommands
-next-alike most s at before =
-    let form = formOf file.Stage (byte s at) in
-    rw (taken-alike most s at before form (Command (form .sort) (record { at = at + width form })) (form .sort))
+  laid-alike : (at : ℕ) (items : List Item) → Laid file.Stage s at items → Laid file.Pipeline s at items
+  unfolding commandTable ownCommands formIn
+  laid-alike at [] h = record { command = ap (formOf file.Pipeline) (byte-for file.Stage (byte s at) sort.End (h .command) (has-end file.Stage) refl); last = h .last }
+  laid-alike at (gate c ∷ items) h = (item-alike at (gate c) (h .0), laid-alike (at + 10) items (h .1))
+  laid-alike at (output vs ∷ items) h = (item-alike at (output vs) (h .0), laid-alike (at + 5) items (h .1))
+  laid-alike at (care w ∷ items) h = (item-alike at (care w) (h .0), laid-alike (at + 3) items (h .1))
+  laid-alike at (register vs ∷ items) h = absurd (stage-registerless (h .0 .has))
+  laid-alike at (element vs ∷ items) h = absurd (stage-elementless (h .0 .has))
 
-role-alike : (c : Sort) (i : ℕ) → roleOf file.Pipeline c i ≡ roleOf file.Stage c i
-unfolding roleOf
-role-alike sort.Inputs i = refl
-role-alike sort.Gate i = refl
-role-alike sort.Output i = refl
-role-alike sort.Care i = refl
-role-alike sort.End i = refl
-role-alike sort.Unknown i = refl
+  -- a net of the stage carries data
+  named-data : (N : Nets) (k : ℕ) (at : ℕ) (items : List Item) → Laid file.Stage s at items → Named file.Stage N k items → Named file.Pipeline N k items
+  unfolding commandTable ownCommands formIn names roleOf carriesData
+  named-data N k at [] h m = tt
+  named-data N k at (gate c ∷ items) h m = (
+    asked-more (asked file.Stage sort.Gate N k) (asked file.Pipeline sort.Gate N k) (λ i v e. rw e) 0 (c .operands) (m .0),
+    named-data N (suc k) (at + 10) items (h .1) (m .1),
+  )
+  named-data N k at (output vs ∷ items) h m = (
+    asked-more (asked file.Stage sort.Output N k) (asked file.Pipeline sort.Output N k) (λ i v e. rw e) 0 vs (m .0),
+    named-data N k (at + 5) items (h .1) (m .1),
+  )
+  named-data N k at (care w ∷ items) h m = (m .0, named-data N k (at + 3) items (h .1) (m .1))
+  named-data N k at (register vs ∷ items) h m = absurd (stage-registerless (h .0 .has))
+  named-data N k at (element vs ∷ items) h m = absurd (stage-elementless (h .0 .has))
 
-asked-alike : (N : Nets) (k : ℕ) (c : Sort) → asked file.Pipeline c N k ≡ asked file.Stage c N k
-asked-alike N k c = fun-ext (λ i. ap (λ (r : Role). names r N k) (role-alike c i))
+  places-alike : (at : ℕ) (items : List Item) → Laid file.Stage s at items →
+      (gatePlaces file.Stage at items ≡ gatePlaces file.Pipeline at items) × (outputPlaces file.Stage at items ≡ outputPlaces file.Pipeline at items)
+      × (partPlaces file.Stage at items ≡ partPlaces file.Pipeline at items)
+  unfolding commandTable ownCommands formIn
+  places-alike at [] h = (refl, refl, refl)
+  places-alike at (gate c ∷ items) h = let r = places-alike (at + 10) items (h .1) in (ap {B = List ℕ} (λ l. at ∷ l) (r .0), r .1, r .2)
+  places-alike at (output vs ∷ items) h = let r = places-alike (at + 5) items (h .1) in (r .0, ap {B = List ℕ} (λ l. at ∷ l) (r .1), r .2)
+  places-alike at (care w ∷ items) h = places-alike (at + 3) items (h .1)
+  places-alike at (register vs ∷ items) h = absurd (stage-registerless (h .0 .has))
+  places-alike at (element vs ∷ items) h = absurd (stage-elementless (h .0 .has))
 
-nameless-alike : (fuel : ℕ) (N : Nets) (s : List ℕ) (at k : ℕ) → namelessFrom fuel file.Pipeline N s at k ≡ namelessFrom fuel file.Stage N s at k
-unfolding namelessFrom namelessAt used commandTable ownCommands needed
-nameless-alike zero N s at k = refl
-nameless-alike (suc fuel) N s at k =
-    let form = formOf file.Stage (byte s at) in
-    rw (asked-alike N k (form .sort), nameless-alike fuel N s (at + width form) (cond (isSort sort.Gate (form .sort)) (suc k) k))
-
-finish-alike : (s : List ℕ) (at : ℕ) (p : Places) → finish file.Pipeline s at p ≡ finish file.Stage s at p
-unfolding finish
-finish-alike s at p = rw (nameless-alike (length s) (netsOf p) s 0 0)
-
-read-alike : (fuel : ℕ) (most : Limits) (s : List ℕ) (at : ℕ) (p : Places) → readFrom fuel file.Pipeline most s at p ≡ readFrom fuel file.Stage most s at p
-unfolding readFrom onNext
-read-alike zero most s at p = refl
-read-alike (suc fuel) most s at p = rw (next-alike most s at (countsOf p)) (go (read-alike fuel most s) (nextAt file.Stage most s at (countsOf p)))
-  where
-    go : ((at : ℕ) (p : Places) → readFrom fuel file.Pipeline most s at p ≡ readFrom fuel file.Stage most s at p) → (x : Next)
-        → onNext (readFrom fuel file.Pipeline most s) file.Pipeline s at p x ≡ onNext (readFrom fuel file.Stage most s) file.Stage s at p x
-    go later (Refused number place) = refl
-    go later (Command c next) = rw (later (next .at) (noted c s at p), finish-alike s at p)
-
-pub stage-alike : (registers : Bool) (most : Limits) (s : List ℕ) → readFile (stageFile registers) most s ≡ readFile file.Stage most s
-unfolding readFile
-stage-alike true most s = read-alike (suc (length s)) most s 0 noPlaces
-stage-alike false most s = refl
+pub stage-as-pipeline : (most : Limits) (s : List ℕ) (p : Places) → readFile file.Stage most s ≡ readable p → readFile file.Pipeline most s ≡ readable p
+stage-as-pipeline most s p e =
+    let r = readable-laid file.Stage most s p e in
+    let h = r .file-laid in
+    let z = places-alike s 2 (r .items) (h .laid) in
+    laid-readable file.Pipeline most s (p .inputs) (r .items) (record {
+      command = ap (formOf file.Pipeline) (byte-for file.Stage (byte s 0) sort.Inputs (h .command) (has-inputs file.Stage) refl);
+      count = h .count;
+      inputs-in = h .inputs-in;
+      gates-in = h .gates-in;
+      outputs-in = h .outputs-in;
+      care-in = h .care-in;
+      registers-in = h .registers-in;
+      elements-in = h .elements-in;
+      laid = laid-alike s 2 (r .items) (h .laid);
+      named = named-data s _ 0 2 (r .items) (h .laid) (h .named);
+    })
+    ∙ sym (ap readable (r .item-places ∙ (λ i. record { inputs = p .inputs; gates = z .0 i; outputs = z .1 i; care = careIn (r .items); parts = z .2 i })))

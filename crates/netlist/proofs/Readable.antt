@@ -9,13 +9,13 @@ use mathlib.Core.Bool.{Bool, true}
 use mathlib.Core.List.{List, [], _∷_}
 use lib.ListN.{length, getD}
 use borrow.Author.Tests.{ltb-true, lt-ltb}
-use Rattle.netlist.specs.Types.{File, Limits}
+use Rattle.netlist.specs.Types.{File, Sort, Limits}
 use Rattle.netlist.specs.Types.file
 use Rattle.netlist.specs.Types.sort
 use Rattle.netlist.specs.Bytes.{byte, operand}
-use Rattle.netlist.specs.Commands.{roleOf, needed}
-use Rattle.netlist.specs.Reading.{Nets, names, asked, Places, Ascending, netsOf, readFile, readable}
-use Rattle.netlist.specs.Writing.{widthFor, operandCount, Item, gate, output, care, gatesIn, outputsIn, careIn, gatePlaces, outputPlaces, All, EachFrom, netsIn}
+use Rattle.netlist.specs.Commands.{mostParts, roleOf, needed}
+use Rattle.netlist.specs.Reading.{Nets, names, asked, Places, Ascending, countOf, sortsOf, netsOf, readFile, readable}
+use Rattle.netlist.specs.Writing.{widthFor, operandCount, Item, gate, output, care, register, element, gatesIn, outputsIn, careIn, gatePlaces, outputPlaces, All, EachFrom, partsIn, netsIn}
 use Rattle.netlist.specs.Read.{GateRead, OutputRead, Read}
 use Rattle.netlist.proofs.Operands.{each-named, same-asked, asked-same}
 use Rattle.netlist.proofs.Encoding.{each-file, KindOfCell, kind-in, operation-needs}
@@ -108,11 +108,15 @@ module _ (f : File) (s : List ℕ) (N : Nets) where
       rw z (gate-read (at + widthFor f sort.Gate) (suc k) items (omega arith) (h .1) (m .1) i (omega arith))
   gate-read at k (output vs ∷ items) two h m i l = gate-read (at + widthFor f sort.Output) k items (omega arith) (h .1) (m .1) i l
   gate-read at k (care w ∷ items) two h m i l = gate-read (at + widthFor f sort.Care) k items (omega arith) (h .1) (m .1) i l
+  gate-read at k (register vs ∷ items) two h m i l = gate-read (at + widthFor f sort.Register) k items (omega arith) (h .1) (m .1) i l
+  gate-read at k (element vs ∷ items) two h m i l = gate-read (at + widthFor f sort.Element) k items (omega arith) (h .1) (m .1) i l
 
   output-read : (at k : ℕ) (items : List Item) → 2 ≤ at → Laid f s at items → Named f N k items → (i : ℕ) → i < length (outputsIn items) → OutputRead f s N (getD (outputPlaces f at items) i 0)
   output-read at k [] two h m i l = absurd (omega arith)
   output-read at k (gate c ∷ items) two h m i l = output-read (at + widthFor f sort.Gate) (suc k) items (omega arith) (h .1) (m .1) i l
   output-read at k (care w ∷ items) two h m i l = output-read (at + widthFor f sort.Care) k items (omega arith) (h .1) (m .1) i l
+  output-read at k (register vs ∷ items) two h m i l = output-read (at + widthFor f sort.Register) k items (omega arith) (h .1) (m .1) i l
+  output-read at k (element vs ∷ items) two h m i l = output-read (at + widthFor f sort.Element) k items (omega arith) (h .1) (m .1) i l
   output-read at k (output vs ∷ items) two h m zero l =
       record {
         first = two;
@@ -139,6 +143,9 @@ module _ (f : File) (most : Limits) (s : List ℕ) (p : Places) (e : readFile f 
   nets-found : netsOf p ≡ netsIn (p .inputs) (found .items)
   nets-found = ap netsOf (found .item-places) ∙ nets-places f (p .inputs) (found .items)
 
+  count-parts : (c : Sort) → countOf c (sortsOf (p .parts)) ≡ countOf c (partsIn (found .items))
+  count-parts c = ap (λ (N : Nets). countOf c (N .parts)) nets-found
+
   named-found : Named f (netsOf p) 0 (found .items)
   named-found = rw nets-found (found .file-laid .named)
 
@@ -151,7 +158,9 @@ module _ (f : File) (most : Limits) (s : List ℕ) (p : Places) (e : readFile f 
         gates-in = omega (arith, count-gates, h .gates-in);
         outputs-in = omega (arith, count-outputs, h .outputs-in);
         care-in = subst (λ (ws : List ℕ). Ascending (2 ^ p .inputs) 0 ws) (sym (ap (λ (x : Places). x .care) (found .item-places))) (h .care-in);
-        size = rw (count-gates, count-outputs, count-care) (laid-length f s 2 (found .items) (h .laid));
+        registers-in = rw (count-parts sort.Register) (h .registers-in);
+        elements-in = rw (count-parts sort.Element) (h .elements-in);
+        size = rw (count-gates, count-outputs, count-care, count-parts sort.Register, count-parts sort.Element) (laid-length f s 2 (found .items) (h .laid));
         gate-at = λ k l.
             let z : 0 + k ≡ k = omega arith in
             let r = gate-read f s (netsOf p) 2 0 (found .items) (omega arith) (h .laid) named-found k (omega (arith, count-gates)) in
@@ -161,8 +170,9 @@ module _ (f : File) (most : Limits) (s : List ℕ) (p : Places) (e : readFile f 
             subst (λ (os : List ℕ). OutputRead f s (netsOf p) (getD os j 0)) (sym (ap (λ (x : Places). x .outputs) (found .item-places))) r;
       }
 
-  -- no readable file is longer than its most gates, outputs and care words make it
+  -- no readable file is longer than its most gates, outputs, care words, registers and C-elements make it
   pub readable-length : length s ≤ 3 + widthFor f sort.Gate * most .gates + widthFor f sort.Output * most .outputs + widthFor f sort.Care * 2 ^ most .inputs
+      + (widthFor f sort.Register * mostParts + widthFor f sort.Element * mostParts)
   readable-length =
       let r = readable-read in
       let words : length (p .care) ≤ 2 ^ p .inputs = omega (arith, rising-length (2 ^ p .inputs) 0 (p .care) (r .care-in)) in
@@ -173,4 +183,6 @@ module _ (f : File) (most : Limits) (s : List ℕ) (p : Places) (e : readFile f 
         mul-le-mul-left (widthFor f sort.Gate) (r .gates-in),
         mul-le-mul-left (widthFor f sort.Output) (r .outputs-in .1),
         mul-le-mul-left (widthFor f sort.Care) few,
+        mul-le-mul-left (widthFor f sort.Register) (r .registers-in),
+        mul-le-mul-left (widthFor f sort.Element) (r .elements-in),
       )

@@ -8,7 +8,7 @@ use Rattle.netlist.specs.Types.{File, Limits, Outcome}
 use Rattle.netlist.specs.Types.sort
 use Rattle.netlist.specs.Types.outcome
 use Rattle.netlist.specs.Bytes.{byte, operand, absent}
-use Rattle.netlist.specs.Commands.{needed}
+use Rattle.netlist.specs.Commands.{mostParts, needed}
 use Rattle.netlist.specs.Reading.{Nets, asked, Places, Ascending, countsOf, netsOf, Reading, refused, readable}
 use Rattle.netlist.specs.Writing.{widthFor, operandCount}
 
@@ -32,8 +32,11 @@ pub record Read (f : File) (most : Limits) (s : List ℕ) (p : Places) : Type 0 
   pub gates-in : length (p .gates) ≤ most .gates
   pub outputs-in : (1 ≤ length (p .outputs)) × (length (p .outputs) ≤ most .outputs)
   pub care-in : Ascending (2 ^ p .inputs) 0 (p .care)
+  pub registers-in : countsOf p .registers ≤ mostParts
+  pub elements-in : countsOf p .elements ≤ mostParts
   pub size : length s ≡
       3 + widthFor f sort.Gate * length (p .gates) + widthFor f sort.Output * length (p .outputs) + widthFor f sort.Care * length (p .care)
+      + (widthFor f sort.Register * countsOf p .registers + widthFor f sort.Element * countsOf p .elements)
   pub gate-at : (k : ℕ) → k < length (p .gates) → GateRead f s (netsOf p) k (getD (p .gates) k 0)
   pub output-at : (j : ℕ) → j < length (p .outputs) → OutputRead f s (netsOf p) (getD (p .outputs) j 0)
 
@@ -42,10 +45,11 @@ unfoldable pub outcomeOf : Reading → Outcome
 outcomeOf (refused number at) = outcome.Refused number at
 outcomeOf (readable p) = outcome.Readable (countsOf p)
 
--- where a command can end that is read, or refused, after as many gates, outputs and care words as there may be
+-- where a command can end that is read, or refused, after as many gates, outputs, care words, registers and C-elements as there may be
 abbrev pub farthest : File → Limits → ℕ
 farthest f most =
     2 + widthFor f sort.Gate * (most .gates + 1) + widthFor f sort.Output * most .outputs + widthFor f sort.Care * 2 ^ most .inputs
+    + (widthFor f sort.Register * mostParts + widthFor f sort.Element * mostParts)
 
 -- the program reads at most so many bytes of each file
 abbrev pub mostBytes : ℕ
