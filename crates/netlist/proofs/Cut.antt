@@ -70,7 +70,7 @@ module _ (f : File) (most : Limits) (s : List ℕ) (m : ℕ) (far : farthest f m
         let row = is ∙ ap (formFor f) e in
         let own : Has f sort.Element = sym (ap (λ (x : Form). x .sort) row) ∙ e in
         let same = row ∙ element-form f own in
-        rw same (rw same at l)
+        rw same (omega (arith, rw same at l))
 
     next-cut : (before : Counts) → nextAt f most cut at before ≡ nextAt f most s at before
     unfolding takeCommand

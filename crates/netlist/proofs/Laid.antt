@@ -182,12 +182,12 @@ module _ (f : File) (s : List ℕ) where
 
   -- a file that has neither registers nor C-elements
   pub laid-partless : (Has f sort.Register → ⊥) → (Has f sort.Element → ⊥) → (at : ℕ) (items : List Item) → Laid f s at items → partPlaces f at items ≡ []
-  laid-partless no none at [] h = refl
-  laid-partless no none at (gate c ∷ items) h = laid-partless no none (at + widthFor f sort.Gate) items (h .1)
-  laid-partless no none at (output vs ∷ items) h = laid-partless no none (at + widthFor f sort.Output) items (h .1)
-  laid-partless no none at (care w ∷ items) h = laid-partless no none (at + widthFor f sort.Care) items (h .1)
-  laid-partless no none at (register vs ∷ items) h = absurd (no (h .0 .has))
-  laid-partless no none at (element vs ∷ items) h = absurd (none (h .0 .has))
+  laid-partless plain bare at [] h = refl
+  laid-partless plain bare at (gate c ∷ items) h = laid-partless plain bare (at + widthFor f sort.Gate) items (h .1)
+  laid-partless plain bare at (output vs ∷ items) h = laid-partless plain bare (at + widthFor f sort.Output) items (h .1)
+  laid-partless plain bare at (care w ∷ items) h = laid-partless plain bare (at + widthFor f sort.Care) items (h .1)
+  laid-partless plain bare at (register vs ∷ items) h = absurd (plain (h .0 .has))
+  laid-partless plain bare at (element vs ∷ items) h = absurd (bare (h .0 .has))
 
   -- nothing but the items and the end command stands there
   pub laid-length : (at : ℕ) (items : List Item) → Laid f s at items →

@@ -12,7 +12,7 @@ use Rattle.netlist.specs.Types.file
 use Rattle.netlist.specs.Types.sort
 use Rattle.netlist.specs.Bytes.{operand, operands, absent}
 use Rattle.netlist.specs.Commands.{commandTable, ownCommands, formIn, roleOf}
-use Rattle.netlist.specs.Reading.{Nets, names, asked, Places, netsOf, readFile, readable}
+use Rattle.netlist.specs.Reading.{Nets, names, asked, Places, netsOf, countOf, readFile, readable}
 use Rattle.netlist.specs.Content.{Coded, codedAt, Reference, referenceOf}
 use Rattle.netlist.specs.Writing.{widthFor, Item, gate, output, care, register, element, gatesIn, outputsIn, careIn, partsIn, ItemsFit, placesOf, writeFile, All, EachFrom, FileFits}
 use Rattle.netlist.specs.Writing.{referenceItems, writeReference}
@@ -175,6 +175,7 @@ module _ (N : Nets) (small : N .inputs + N .gates ≤ absent) where
 
 module _ (most : Limits) (r : Reference) where
   pub reference-fits : most .inputs < 256 → most .inputs + most .gates ≤ absent → ReferenceFormed most r → FileFits file.Reference most (r .inputs) (referenceItems r)
+  unfolding countOf
   reference-fits low small h =
       let g : length (gatesIn (referenceItems r)) ≡ length (r .gates) = ap length (gatesIn-items same same signalOf lone [] (r .gates) (r .outputs)) ∙ length-map (r .gates) same in
       let o : length (outputsIn (referenceItems r)) ≡ length (r .outputs) = ap length (outputsIn-items same same signalOf lone [] (r .gates) (r .outputs)) ∙ length-map (r .outputs) lone in

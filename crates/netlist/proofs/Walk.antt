@@ -203,9 +203,10 @@ module _ (f : File) (most : Limits) where
         elements-in = h .elements-in;
       })
   near-noted s at p sort.Register more h t =
-      let one = count-snoc sort.Register (p .parts) sort.Register at in
-      let none = count-snoc sort.Element (p .parts) sort.Register at in
-      record {
+      let one : countOf sort.Register (sortsOf (p .parts ++ ((sort.Register, at) ∷ []))) ≡ countOf sort.Register (sortsOf (p .parts)) + 1 = count-snoc sort.Register (p .parts) sort.Register at in
+      let none : countOf sort.Element (sortsOf (p .parts ++ ((sort.Register, at) ∷ []))) ≡ countOf sort.Element (sortsOf (p .parts)) + 0 = count-snoc sort.Element (p .parts) sort.Register at in
+      rw (one, none)
+      (record {
         place = omega (arith, h .place);
         inputs-in = h .inputs-in;
         gates-in = h .gates-in;
@@ -213,11 +214,12 @@ module _ (f : File) (most : Limits) where
         care-in = h .care-in;
         registers-in = omega (arith, t .taken);
         elements-in = omega (arith, h .elements-in);
-      }
+      })
   near-noted s at p sort.Element more h t =
-      let one = count-snoc sort.Element (p .parts) sort.Element at in
-      let none = count-snoc sort.Register (p .parts) sort.Element at in
-      record {
+      let one : countOf sort.Element (sortsOf (p .parts ++ ((sort.Element, at) ∷ []))) ≡ countOf sort.Element (sortsOf (p .parts)) + 1 = count-snoc sort.Element (p .parts) sort.Element at in
+      let none : countOf sort.Register (sortsOf (p .parts ++ ((sort.Element, at) ∷ []))) ≡ countOf sort.Register (sortsOf (p .parts)) + 0 = count-snoc sort.Register (p .parts) sort.Element at in
+      rw (one, none)
+      (record {
         place = omega (arith, h .place);
         inputs-in = h .inputs-in;
         gates-in = h .gates-in;
@@ -225,7 +227,7 @@ module _ (f : File) (most : Limits) where
         care-in = h .care-in;
         registers-in = omega (arith, h .registers-in);
         elements-in = omega (arith, t .taken .0);
-      }
+      })
   near-noted s at p sort.End more h t = absurd (clash (cc))
   near-noted s at p sort.Unknown more h t = absurd (clash (let o = t .ordered in cc))
 
@@ -422,27 +424,27 @@ few-taken {f} {s = s} {at = at} {p = p} (care w) items h few = (
   },
 )
 few-taken {at = at} {p = p} (register vs) items h few =
-    let one = count-snoc sort.Register (p .parts) sort.Register at in
-    let none = count-snoc sort.Element (p .parts) sort.Register at in (
+    let one : countOf sort.Register (sortsOf (p .parts ++ ((sort.Register, at) ∷ []))) ≡ countOf sort.Register (sortsOf (p .parts)) + 1 = count-snoc sort.Register (p .parts) sort.Register at in
+    let none : countOf sort.Element (sortsOf (p .parts ++ ((sort.Register, at) ∷ []))) ≡ countOf sort.Element (sortsOf (p .parts)) + 0 = count-snoc sort.Element (p .parts) sort.Register at in (
       omega (arith, few .registers-in),
       record {
         gates-in = few .gates-in;
         outputs-in = few .outputs-in;
         care-in = few .care-in;
-        registers-in = omega (arith, few .registers-in);
-        elements-in = omega (arith, few .elements-in);
+        registers-in = rw one (omega (arith, few .registers-in));
+        elements-in = rw none (omega (arith, few .elements-in));
       },
     )
 few-taken {f} {at = at} {p = p} (element vs) items h few =
-    let one = count-snoc sort.Element (p .parts) sort.Element at in
-    let none = count-snoc sort.Register (p .parts) sort.Element at in (
+    let one : countOf sort.Element (sortsOf (p .parts ++ ((sort.Element, at) ∷ []))) ≡ countOf sort.Element (sortsOf (p .parts)) + 1 = count-snoc sort.Element (p .parts) sort.Element at in
+    let none : countOf sort.Register (sortsOf (p .parts ++ ((sort.Element, at) ∷ []))) ≡ countOf sort.Register (sortsOf (p .parts)) + 0 = count-snoc sort.Register (p .parts) sort.Element at in (
       (omega (arith, few .elements-in), rw (item-form f (element []) (h .has)) (h .shown .fits)),
       record {
         gates-in = few .gates-in;
         outputs-in = few .outputs-in;
         care-in = few .care-in;
-        registers-in = omega (arith, few .registers-in);
-        elements-in = omega (arith, few .elements-in);
+        registers-in = rw none (omega (arith, few .registers-in));
+        elements-in = rw one (omega (arith, few .elements-in));
       },
     )
 
