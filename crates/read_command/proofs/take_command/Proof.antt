@@ -72,13 +72,13 @@ returns-7 c =
 returns-8 : tie.Need-returns-8
 unfolding takeSort
 returns-8 c =
-    let arm = c .before .before .before in
+    let arm = c .before .before in
     sym (by-sort _ _ _ _ _ _ _ (arm .before .before .width .ensures) _ (arm .enum-told5 .given .1) ∙ simp (le-leb _ _ (c .if4 .taken)))
 
 returns-9 : tie.Need-returns-9
 unfolding takeSort
 returns-9 c =
-    let arm = c .before .before .before in
+    let arm = c .before .before in
     sym (by-sort _ _ _ _ _ _ _ (arm .before .before .width .ensures) _ (arm .enum-told5 .given .1) ∙ simp (lt-leb _ _ (c .if4 .left)))
 
 returns-10 : tie.Need-returns-10
