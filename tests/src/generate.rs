@@ -9,6 +9,7 @@ pub mod draws;
 pub mod joins;
 pub mod made;
 pub mod nexts;
+pub mod pipelines;
 pub mod texts;
 
 use crate::circuits::{
@@ -685,6 +686,8 @@ fn starts_of(file: &[u8]) -> Vec<usize> {
         0x01 => 1,
         0x02 => 9,
         0x03 => 4,
+        0x04 => 6,
+        0x05 => 8,
         0x06 => 2,
         0x11 => 5,
         0x12 => 2,

@@ -17,6 +17,7 @@ pub mod make;
 pub mod next;
 pub mod suite;
 pub mod text;
+pub mod wiring;
 
 use std::path::PathBuf;
 
