@@ -112,5 +112,5 @@ answer-word r w =
     let view : referenceView c ≡ r = ap (λ (o : List ℕ). record { inputs = r .inputs; gates = r .gates; outputs = o }) (map-map (λ (vs : List ℕ). getD vs 0 0) (λ (v : ℕ). v ∷ []) (r .outputs) ∙ map-id (r .outputs)) in
     let long : length l ≡ length (c .outputs) = length-map (r .outputs) (λ (v : ℕ). getD (signalValues (bitsOf (r .inputs) w) (r .gates)) v 0) ∙ sym (length-map (r .outputs) (λ (v : ℕ). v ∷ [])) in
     same-bits (length (c .outputs)) (content.answer c (bitOf w)) (λ i. eqb (getD l i 0) 1) (λ i h.
-        sym (unbit (content.answer c (bitOf w) i)) ∙ ap (λ (x : ℕ). eqb x 1) (answer-alike c w i h ∙ ap (λ (q : Reference). getD (answer q (bitsOf (r .inputs) w)) i 0) view))
+    sym (unbit (content.answer c (bitOf w) i)) ∙ ap (λ (x : ℕ). eqb x 1) (answer-alike c w i h ∙ ap (λ (q : Reference). getD (answer q (bitsOf (r .inputs) w)) i 0) view))
     ∙ ap (λ (m : ℕ). ofBits m (λ i. eqb (getD l i 0) 1)) (sym long) ∙ sym (word-of l (answer-bit r (bitsOf (r .inputs) w) (bits-of-bit (r .inputs) w)))

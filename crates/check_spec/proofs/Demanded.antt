@@ -22,7 +22,7 @@ use Rattle.check_spec.specs.Checks.{retiredGate, checks}
 use Rattle.check_spec.specs.Verdicts.{refusal, checksOn, verdictOn}
 use Rattle.check_spec.specs.Demands.{BothRead, LoopFree, Comparable, Acceptable, Demand2, Broken, Demand3}
 use Rattle.check_spec.proofs.First.{judged, places-first}
-use Rattle.check_spec.proofs.Loops.{some-all, loops, settled-is, risen-is, fallen-is}
+use Rattle.check_spec.proofs.Loops.{some-all, loops-found, settled-is, risen-is, fallen-is}
 use Rattle.check_spec.proofs.Pairs.{data-of, all-data, all-null}
 use Rattle.check_spec.proofs.OneWord.{inside, hold-clean}
 use Rattle.check_spec.proofs.Laws.{numbersOf, before, claimed, not-named, judge-from}
@@ -52,7 +52,7 @@ module _ (order : WordOrder) (f : Files) where
   exactly : Comparable f → (verdictOn order f ≡ accepted) ↔ Acceptable f
   exactly k = (
     (λ v. let h = accepted-sound order f (ap number v) .1 in record { cast = h .cast; conforms = h .conforms }),
-    (λ a. sound-accepted {f} (record {
+    (λ a. sound-accepted {f = f} (record {
       read = k .read;
       inputs = k .inputs;
       outputs = k .outputs;
@@ -92,7 +92,7 @@ module _ (order : WordOrder) (f : Files) where
   demand-2 = record {
     exactly = exactly;
     least = judged (checksOn order f);
-    loops = loops s;
+    loops = loops-found s;
     data-is = data-of;
     all-data-is = all-data (netOf s);
     all-null-is = all-null (netOf s);

@@ -26,7 +26,7 @@ use Rattle.check_spec.specs.Lists.{some, reaches}
 use Rattle.netlist.specs.Content.{Coded}
 use Rattle.check_spec.specs.Content.{Content}
 use Rattle.check_spec.specs.Rows.{noGate, driver, cellIn, netOf, risen, fallen, feeding, reachesItself}
-use Rattle.check_spec.specs.Demands.{LoopFree, TheOnly}
+use Rattle.check_spec.specs.Demands.{LoopFree, LoopsFound, TheOnly}
 use Rattle.check_spec.proofs.Settling.{risen-settled, risen-only, fallen-settled, fallen-only}
 
 -- ---- some of a list
@@ -163,10 +163,10 @@ ranked-free s rank falls net g =
     down here = omega arith
     down {x} {y} (onward {z = z} i l) = omega (arith, falls x z i, down l)
 
--- the field `loops` of demand 2
-pub loops : (s : Content) (g k : ℕ) → reaches (feeding (netOf s)) (eqb g) k g ≡ true → reachesItself (netOf s) g ≡ true
+-- every loop is found
+pub loops-found : (s : Content) → LoopsFound (netOf s)
 unfolding reachesItself
-loops s g k e =
+loops-found s g k e =
     let l = found-loop (feeding (netOf s)) k g e in
     let z : suc (nets (netOf s) - 1) ≡ nets (netOf s) = omega (arith, feeding-gate s g (l .0) (l .1) .1) in
     subst (λ (m : ℕ). reaches (feeding (netOf s)) (eqb g) m g ≡ true) z

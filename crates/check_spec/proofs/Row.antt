@@ -43,7 +43,7 @@ use Rattle.check_spec.specs.Loaded.{stageView}
 use Rattle.check_spec.proofs.First.{judged}
 use Rattle.check_spec.proofs.Laws.{Laws, none, _&_, numbersOf, judge-later, before, claimed, equal-law, places-law, gates-law}
 use Rattle.check_spec.proofs.Sound.{reading-number}
-use Rattle.check_spec.proofs.Loops.{acyclic, settled-is}
+use Rattle.check_spec.proofs.Loops.{acyclic, loops-found, settled-is}
 use Rattle.check_spec.proofs.View.{stage-view, net-view}
 use Rattle.check_spec.proofs.Alike.{rise-alike, list-is, level}
 use Rattle.check_spec.proofs.Bridge.{Alike, alike, also, alike-judge, alike-passed, whole-passes, sweep-is, placed-is, loop-alike}
@@ -169,7 +169,7 @@ row-is stage row = go (readFile file.Stage (stageLimits) stage) refl
       verdict-is = e;
       row-is = ap (λ (x : Verdict). cond (eqb (x .number) 0) (settledBytes (rowStage stage) row) row) e
           ∙ ap (λ (b : Bool). cond b (settledBytes (rowStage stage) row) row) (eqb-other (v .number) 0 n);
-      demand = record { least = least v e; unchanged = λ d. refl; given = λ z. absurd (n (number-of z)); served = served; never-28 = not-28 };
+      demand = record { least = least v e; loops = loops-found (rowStage stage); unchanged = λ d. refl; given = λ z. absurd (n (number-of z)); served = served; never-28 = not-28 };
     }
 
     settle : (c : Content) → rowStage stage ≡ c → rowVerdict stage row ≡ judge (rowChecks c row)
@@ -188,6 +188,7 @@ row-is stage row = go (readFile file.Stage (stageLimits) stage) refl
               ∙ ap (λ (x : Content). settledBytes x row) is ∙ bytes-alike c (fit .loop-free) row (fit .long);
           demand = record {
             least = least accepted z;
+            loops = loops-found (rowStage stage);
             unchanged = λ d. absurd (d refl);
             given = λ q. (
               row-reads stage row (number-of z),

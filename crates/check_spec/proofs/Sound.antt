@@ -106,19 +106,22 @@ module _ (f : Files) where
     pub run-law : (n m : ℕ) (fails : ℕ → ℕ → Bool) → ((w : ℕ) → CleanRise s r w × CleanFall s w → (i : ℕ) → i < m → fails w i ≡ false)
         → (LoopFree (netOf s) → (w i : ℕ) → i < m → fails w i ≡ true → Shows w i n × (¬ (Promise (netOf s) (railsFor w) (answerTo f w))))
         → Law (Sound f) Claim n ((w : ℕ) → IsWord s w → (i : ℕ) → i < m → fails w i ≡ false) (swept order s n 1 m fails)
-    run-law n m fails clean shown = swept-law s order n 1 m fails (λ h w i. clean w (sound-clean h w i)) (λ name x i l e. (omega arith, λ free ran.
-        let w = spelled order (s .inputs) name in
-        let b = shown free w i l e in
-        record {
-          name = named-below order s name x;
-          word = named-word order s name x;
-          broken = b .1;
-          wrong = λ q. subst (Shows w i) q (b .0);
-          incomplete = λ q. subst (Shows w i) q (b .0);
-          unobservable = λ q. subst (Shows w i) q (b .0);
-          fall-incomplete = λ q. subst (Shows w i) q (b .0);
-          fall-unobservable = λ q. subst (Shows w i) q (b .0);
-        }))
+    run-law n m fails clean shown = swept-law s order n 1 m fails (λ h w i. clean w (sound-clean h w i)) (λ name x i l e. (
+      omega arith,
+      λ free ran.
+          let w = spelled order (s .inputs) name in
+          let b = shown free w i l e in
+          record {
+            name = named-below order s name x;
+            word = named-word order s name x;
+            broken = b .1;
+            wrong = λ q. subst (Shows w i) q (b .0);
+            incomplete = λ q. subst (Shows w i) q (b .0);
+            unobservable = λ q. subst (Shows w i) q (b .0);
+            fall-incomplete = λ q. subst (Shows w i) q (b .0);
+            fall-unobservable = λ q. subst (Shows w i) q (b .0);
+          },
+    ))
 
     unfoldable pub laws : Laws (Sound f) Claim (checks order s r)
     unfolding checks looped retired some

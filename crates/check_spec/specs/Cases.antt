@@ -36,6 +36,6 @@ sweep number file words places fails = flatMap (λ w. let test = fails w in map 
 abbrev pub sweepPlaces : ℕ → ℕ → List ℕ → (ℕ → Bool) → Check
 sweepPlaces number file places fails = sweep number file (0 ∷ []) places (λ w. fails)
 
--- two counts that have to be equal: the stage's is `at`, the reference's stands in place of a word
+-- two counts that have to be equal: the first, of 10 and 11 the stage's, is `at`, and the other stands in place of a word
 abbrev pub unequal : ℕ → ℕ → ℕ → Check
 unequal number mine theirs = case number 0 mine theirs (not (eqb mine theirs)) ∷ []

@@ -29,7 +29,7 @@ wrong s r w =
 unfoldable pub incomplete : Content → ℕ → ℕ → Bool
 incomplete s w i = allData (netOf s) (risen (netOf s) (railsFor w) (railsOfInputs (netOf s) (only i)))
 
--- gate g is high in w, and a row made for its net passes a test
+-- gate g is high in w, and a test of the rest of w and its net passes
 unfoldable pub highAnd : Content → ℕ → (Row → ℕ → Bool) → ℕ → Bool
 highAnd s w test =
     let row = rest s w in

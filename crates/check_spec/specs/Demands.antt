@@ -58,6 +58,10 @@ BothRead f = Pass (reading (stageFile (f .registers)) (f .stageMost) (f .stage))
 abbrev pub LoopFree : Net → Type 0
 LoopFree N = (net : ℕ) → IsGate N net → reachesItself N net ≡ false
 
+-- the search of 12 finds every loop: a gate that reaches itself in however many steps
+abbrev pub LoopsFound : Net → Type 0
+LoopsFound N = (net k : ℕ) → reaches (feeding N) (eqb net) k net ≡ true → reachesItself N net ≡ true
+
 -- "a readable, loop-free stage whose counts match"
 pub record Comparable (f : Files) : Type 0 where
   pub read : BothRead f
@@ -88,7 +92,7 @@ TheOnly P R = P R × ((r : Row) → P r → r ≡ R)
 pub record Demand2 (order : WordOrder) (f : Files) (v : Verdict) : Type 0 where
   pub exactly : Comparable f → (v ≡ accepted) ↔ Acceptable f
   pub least : Judged (checksOn order f) v
-  pub loops : (net k : ℕ) → reaches (feeding (netOf (rawIn f))) (eqb net) k net ≡ true → reachesItself (netOf (rawIn f)) net ≡ true
+  pub loops : LoopsFound (netOf (rawIn f))
   pub data-is : (r : Row) (p : Bool → ℕ) (b : Bool) → (dataOf r p b ≡ true) ↔ DataOf r p b
   pub all-data-is : (r : Row) → (allData (netOf (stageIn f)) r ≡ true) ↔ AllData (netOf (stageIn f)) r
   pub all-null-is : (r : Row) → (allNull (netOf (stageIn f)) r ≡ true) ↔ AllNull (netOf (stageIn f)) r
@@ -155,6 +159,7 @@ pub record Fits (s : Content) (row : List ℕ) : Type 0 where
 -- "a lent row is then unchanged", or it is what the gate rule gives. Of M-108: the call "still serves" retired kinds, of which it does not ask
 pub record DemandRow (stage before : List ℕ) (v : Verdict) (after′ : List ℕ) : Type 0 where
   pub least : Judged (rowChecksOn stage before) v
+  pub loops : LoopsFound (netOf (rowStage stage))
   pub unchanged : ¬ (v ≡ accepted) → after′ ≡ before
   pub given : v ≡ accepted → Pass (reading Stage stageLimits stage) × RowGiven (rowStage stage) before after′
   pub served : Pass (reading Stage stageLimits stage) → Fits (rowStage stage) before → v ≡ accepted

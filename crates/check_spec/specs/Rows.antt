@@ -12,6 +12,7 @@ use Rattle.netlist.specs.Coded.{Coded, cellOf, holdOf}
 use Rattle.check_spec.specs.Content.{Content}
 use Rattle.check_spec.specs.Lists.{xor, numbers, every, reaches}
 
+-- what stands where there is no gate; no check asks for it
 abbrev pub noGate : Coded
 noGate = record { code = 1; operands = [] }
 
@@ -49,7 +50,8 @@ rounds step (suc k) = step (rounds step k)
 unfoldable pub risen : Net → Row → Row → Row
 risen N c X = rounds (λ r. riseUp N c r ∖ X) (suc (N .gates))
 
--- settled by the fall rule from row R with the nets of X kept
+-- settled by the fall rule from row R with the nets of X kept: a net of R stays high where it is kept or its gate may not fall. That a stage without loops
+-- has this row and no other is a theorem too
 unfoldable pub fallen : Net → Row → Row → Row
 fallen N R X = rounds (λ r k. R k && (X k || not (fallDown N r k))) (suc (N .gates))
 

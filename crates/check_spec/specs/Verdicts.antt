@@ -44,7 +44,7 @@ verdictOn order f = judge (checksOn order f)
 
 -- ---- the settled-row call
 
--- the rails that some bytes call for
+-- the levels that some bytes stand for, a byte for each net: high but for 0. Of a row before the call they are the rails that it calls for
 abbrev pub railsIn : List ℕ → Row
 railsIn bytes k = ltb 0 (getD bytes k 0)
 

@@ -143,7 +143,7 @@ module _ (one two : Content) where
     reference-formed most′ room = joined-formed Reference move one two most most′ room h h′ (record {
       first = λ k i v e. e;
       second = λ k i v e. lt-ltb (move v) _ (signal-below k v (named-earlier (netsOf two) k i v e));
-      outputs = λ i v e. lt-ltb (move v) _ (signal-below (length (two .gates)) v (named-signal (netsOf two) _ i v e));
+      outputs = λ i v e. lt-ltb (move v) _ (signal-below (length (two .gates)) v (named-signal (netsOf two) (length (two .gates)) i v e));
     })
 
     pub whole-answers : (bits : ℕ → Bool) (j : ℕ) → j < length (two .outputs) → answer whole bits j ≡ answer two (answer one bits) j

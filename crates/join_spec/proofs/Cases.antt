@@ -1,7 +1,7 @@
 -- Joins of small stages, computed from the definitions alone.
 use Prim.Native.Nat.{ℕ}
 use mathlib.Core.Path.{_≡_, refl}
-use mathlib.Core.Bool.{cond}
+use mathlib.Core.Bool.{false, cond}
 use mathlib.Core.List.{List, [], _∷_, _++_, map, flatMap}
 use lib.Dec.{eqb}
 use Rattle.gates.specs.Cell as c
@@ -18,7 +18,7 @@ use Rattle.check_spec.specs.Cases as e
 use Rattle.check_spec.specs.Cases.{verdict, accepted}
 use Rattle.check_spec.specs.Lists as l
 use Rattle.check_spec.specs.Content as t
-use Rattle.check_spec.specs.Content.{Content, Files}
+use Rattle.check_spec.specs.Content.{Content, Files, filesWithin}
 use Rattle.check_spec.specs.Rows as o
 use Rattle.check_spec.specs.Words as w
 use Rattle.check_spec.specs.Checks as h
@@ -80,7 +80,7 @@ abbrev few : Limits
 few = record { inputs = 4; gates = 4; outputs = 4 }
 
 abbrev files : List ℕ → List ℕ → Files
-files stage reference = record { stage = stage; reference = reference; stageMost = few; referenceMost = few }
+files = filesWithin false few few
 
 -- one wire and two, with their references
 wire : List ℕ

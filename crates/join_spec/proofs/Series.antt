@@ -161,7 +161,7 @@ module _ (one two : Content) where
     stage-formed most′ room = joined-formed Stage move one two most most′ room h h′ (record {
       first = λ k i v e. lt-ltb v _ (omega (arith, named-pin (netsOf one) k i v e));
       second = λ k i v e. lt-ltb (move v) _ (below v (named-pin (netsOf two) k i v e));
-      outputs = λ i v e. lt-ltb (move v) _ (below v (named-rail (netsOf two) _ i v e));
+      outputs = λ i v e. lt-ltb (move v) _ (below v (named-rail (netsOf two) (length (two .gates)) i v e));
     })
 
     -- ---- no loop
@@ -195,8 +195,8 @@ module _ (one two : Content) where
           let g = feeding-gate whole u v i in
           gate-cases (λ u. (v : ℕ) → In v (driver whole u .operands) → place v < place u)
           (λ k g v i.
-              let i′ : In v (driver one k .operands) = rw (driver-first k g) at i in
-              let l = pins-in _ (driver one k .operands) (stage-named most one h .pins k g) v i′ in
-              omega (arith, place-first v l .0, place-first k (g .1) .0, pins-in _ (driver one k .operands) (acyclic one free .rank-pins k g) v i′))
+          let i′ : In v (driver one k .operands) = rw (driver-first k g) at i in
+          let l = pins-in _ (driver one k .operands) (stage-named most one h .pins k g) v i′ in
+          omega (arith, place-first v l .0, place-first k (g .1) .0, pins-in _ (driver one k .operands) (acyclic one free .rank-pins k g) v i′))
           (λ k g v i. let x = in-map move (driver two k .operands) v (rw (driver-second k g) at i) in rw (x .2) (second-before k g (x .0) (x .1)))
           u g v (rw (le-ltb u (rails (netOf whole)) (g .0)) at i))

@@ -60,7 +60,7 @@ module _ (f : File) (N : Nets) where
   gates-++ k [] ds h l = let z : k + 0 ≡ k = omega arith in rw z at l
   gates-++ k (c ∷ cs) ds h l = let z : k + suc (length cs) ≡ suc k + length cs = omega arith in (h .0, gates-++ (suc k) cs ds (h .1) (rw z at l))
 
-module _ (f : File) (move : ℕ → ℕ) (one two : Content) (most whole : Limits) (room : RoomForTwo most whole) (h : Formed f most one) (h′ : Formed f most two) where
+module _ (f : File) (move : ℕ → ℕ) (one two : Content) where
   abbrev N : Nets
   N = netsOf one
 
@@ -77,9 +77,9 @@ module _ (f : File) (move : ℕ → ℕ) (one two : Content) (most whole : Limit
     pub second : (k i v : ℕ) → asked f sort.Gate M k i v ≡ true → asked f sort.Gate W (N .gates + k) i (move v) ≡ true
     pub outputs : (i v : ℕ) → asked f sort.Output M (M .gates) i v ≡ true → asked f sort.Output W (W .gates) i (move v) ≡ true
 
-  pub joined-formed : Moves → Formed f whole (joinedBy move one two)
+  pub joined-formed : (most whole : Limits) → RoomForTwo most whole → Formed f most one → Formed f most two → Moves → Formed f whole (joinedBy move one two)
   unfolding joinedBy
-  joined-formed names = record {
+  joined-formed most whole room h h′ names = record {
     inputs-in = omega (arith, h .inputs-in, room .inputs);
     gates-in = omega (arith, gates-length move one two, h .gates-in, h′ .gates-in, room .gates);
     outputs-in = omega (arith, outputs-length move one two, h′ .outputs-in, room .outputs);

@@ -24,7 +24,8 @@ use Rattle.join_spec.specs.declared.JoinAnswer.{JoinAnswer}
 
 -- ---- the whole
 
--- "inputs, the first part's care list, gates (first part first), the second's outputs", where what the second part names is something else in the whole
+-- "inputs, the first part's care list, gates (first part first), the second's outputs". What the second part names has another number in the whole:
+-- `inWhole` gives it, for a net or for a signal
 unfoldable pub joinedBy : (ℕ → ℕ) → Content → Content → Content
 joinedBy inWhole one two = record {
   inputs = one .inputs;
@@ -94,14 +95,14 @@ pub record Joinable (order : WordOrder) (one two : Files) : Type 0 where
 -- What is said of the join, by the order of words, the files of its parts, the two buffers, its answer and the buffers after it: these are as defined,
 -- the earliest failing case is named, and where it accepts, the bytes at the start of the buffers, as many as it says, are the whole, and in the other
 -- order it accepts too, and so writes the same. Parts that can be joined are accepted where the buffers have room.
-pub record JoinDemand (order : WordOrder) (one two : Files) (stage reference : List ℕ) (r : JoinAnswer) (stageLeft referenceLeft : List ℕ) : Type 0 where
+pub record JoinDemand (order : WordOrder) (one two : Files) (stageOut referenceOut : List ℕ) (r : JoinAnswer) (stageLeft referenceLeft : List ℕ) : Type 0 where
   pub stage-left : written (record { verdict = r .verdict; count = r .«stage_count» }) stageLeft
-      ≡ leaving (judge (joinChecks order one two (length stage) (length reference))) (whole one two .stage) stage
+      ≡ leaving (judge (joinChecks order one two (length stageOut) (length referenceOut))) (whole one two .stage) stageOut
   pub reference-left : written (record { verdict = r .verdict; count = r .«reference_count» }) referenceLeft
-      ≡ leaving (judge (joinChecks order one two (length stage) (length reference))) (whole one two .reference) reference
-  pub least : Judged (joinChecks order one two (length stage) (length reference)) (r .verdict)
+      ≡ leaving (judge (joinChecks order one two (length stageOut) (length referenceOut))) (whole one two .reference) referenceOut
+  pub least : Judged (joinChecks order one two (length stageOut) (length referenceOut)) (r .verdict)
   pub joined : r .verdict .number ≡ 0
       → (r .verdict ≡ accepted) × Joined one two (files (take (r .«stage_count») stageLeft) (take (r .«reference_count») referenceLeft))
-  pub accepts : Joinable order one two → length (whole one two .stage) ≤ length stage → length (whole one two .reference) ≤ length reference
+  pub accepts : Joinable order one two → length (whole one two .stage) ≤ length stageOut → length (whole one two .reference) ≤ length referenceOut
       → r .verdict ≡ accepted
-  pub either-order : (other : WordOrder) → r .verdict ≡ accepted → judge (joinChecks other one two (length stage) (length reference)) ≡ accepted
+  pub either-order : (other : WordOrder) → r .verdict ≡ accepted → judge (joinChecks other one two (length stageOut) (length referenceOut)) ≡ accepted

@@ -8,7 +8,7 @@ use mathlib.Core.Logic.{_⊎_, inl, inr, ⊎-elim}
 use mathlib.Core.List.{List, [], _∷_, map}
 use lib.ListN.{length, getD}
 use lib.Dec.{eqb}
-use Rattle.runs.proofs.Test.{or-left, or-right, or-cases}
+use Rattle.runs.proofs.Test.{or-left, or-right, or-cases, clash}
 use Rattle.netlist.specs.Formed.{FormedFrom}
 use Rattle.netlist.proofs.References.{in-order-at}
 use Rattle.verdict.specs.Graph.{In}
@@ -18,7 +18,7 @@ use Rattle.check_spec.specs.Lists.{numbers, some, reaches}
 use Rattle.check_spec.specs.Content.{Content}
 use Rattle.check_spec.specs.Rows.{noGate}
 use Rattle.check_spec.proofs.Loops.{some-in, some-out, reaches-more}
-use Rattle.make_spec.specs.Make.{operandsOf, readers, isOutput, leadsOut}
+use Rattle.make_spec.specs.Make.{operandsOf, readers, isOutput, leadsOut, LeadsFound}
 use Rattle.make_spec.proofs.Lists.{all-in, among-in, in-among}
 
 module _ (r : Content) (formed : FormedFrom (r .inputs) (r .gates)) where
@@ -92,6 +92,16 @@ module _ (r : Content) (formed : FormedFrom (r .inputs) (r .gates)) where
           let s = some-out (test size) (readers r x) (reaches-more (readers r) (isOutput r) size x f) in
           let g = reader-gate x (s .0) (s .1) in
           inr (g .0, g .1, subst (λ (z : ℕ). leadsOut r z ≡ true) (g .2) (sym (test-is size (s .0)) ∙ s .2))
+
+  -- however many steps it takes
+  pub leads-found : LeadsFound r
+  unfolding reaches
+  leads-found x zero e = absurd (clash e refl)
+  leads-found x (suc k) e =
+      let s = some-out (test k) (readers r x) e in
+      let g = reader-gate x (s .0) (s .1) in
+      let leads : leadsOut r (s .0) ≡ true = ⊎-elim (output-leads (s .0)) (leads-found (s .0) k) (or-cases (isOutput r (s .0)) _ (sym (test-is k (s .0)) ∙ s .2)) in
+      operand-leads x (g .0) (g .1) (subst (λ (z : ℕ). leadsOut r z ≡ true) (g .2) leads)
 
 -- the outputs of a reference whose outputs are these signals
 pub output-is : (x : ℕ) (l : List ℕ) → some (λ (o : List ℕ). eqb x (getD o 0 0)) (map (λ (v : ℕ). v ∷ []) l) ≡ some (eqb x) l

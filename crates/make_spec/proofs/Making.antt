@@ -45,7 +45,8 @@ use Rattle.check_spec.proofs.View.{pipeline-reads}
 use Rattle.check_spec.proofs.Formed.{Formed, netsOf, read-of, written-reads}
 use Rattle.check_spec.proofs.Back.{reference-content}
 use Rattle.check_spec.proofs.Writing.{leaves-bytes, leaves-verdict}
-use Rattle.make_spec.specs.Make.{railsAt, built, madeStage, leadsOut, referenceRead, madeBytes, makeChecks, makeChecksOn, MadeFrom, MakeDemand}
+use Rattle.make_spec.proofs.Leading.{leads-found}
+use Rattle.make_spec.specs.Make.{railsAt, built, madeStage, leadsOut, referenceRead, madeBytes, makeChecks, makeChecksOn, LeadsFound, MadeFrom, MakeDemand}
 use Rattle.make_spec.specs.Count.{operations}
 use Rattle.make_spec.proofs.Lists.{at-all}
 use Rattle.make_spec.proofs.Gates.{Fit, BothBelow}
@@ -174,6 +175,17 @@ module _ (reference : List ℕ) where
       let m : Makes (fromReference r) room = subst (λ (c : Content). Makes c room) is h in
       rw is (made-from r (reference-formed referenceLimits reference (p .0) (p .1)) (m .leads) (ltb-false 256 _ (m .few)) reference read is)
 
+  -- a reference that is read is well formed, and one that is not has no gates
+  all-leads : LeadsFound R
+  unfolding contentAt
+  all-leads = go (readFile Reference referenceLimits reference) refl
+    where
+      go : (x : Reading) → readFile Reference referenceLimits reference ≡ x → LeadsFound (contentAt Reference reference x)
+      go (refused number at) e = leads-found _ tt
+      go (readable p) e =
+          let is : contentAt Reference reference (readable p) ≡ fromReference (referenceOf reference p) = ap (contentAt Reference reference) (sym e) ∙ reference-content referenceLimits reference p e in
+          rw is (leads-found (fromReference (referenceOf reference p)) (reference-formed referenceLimits reference p e .gates-formed))
+
   -- what is said of the call, of an answer that is the one defined
   pub make-demand : (buffer : List ℕ) (r : Answer) (left : List ℕ)
       → written r left ≡ leaving (judge (makeChecksOn reference (length buffer))) (madeBytes R) buffer → MakeDemand reference buffer r left
@@ -183,6 +195,7 @@ module _ (reference : List ℕ) where
       record {
         answer = e;
         least = subst (Judged checks) (sym is) (judged checks);
+        leads = all-leads;
         made = λ n.
             let z : judge checks .number ≡ 0 = ap (λ (v : Verdict). v .number) (sym is) ∙ n in
             let a = accepts (length buffer) z in

@@ -26,7 +26,7 @@ use Rattle.check_spec.specs.Writing.{writeFile, leaving}
 
 -- ---- the stage
 
--- what is made of the first gates of a reference: the gates of the stage, and the rails of each signal, rail 0 first
+-- what is made of one gate of a reference, or of its first gates: gates of the stage, and the rails of each signal, rail 0 first
 pub record Built : Type 0 where
   pub gates : List Coded
   pub rails : List (List ℕ)
@@ -79,16 +79,19 @@ madeStage r = record { inputs = r .inputs; gates = built r .gates; outputs = map
 
 -- ---- the call
 
--- the signals of the gates that have signal x as an operand; x is an output; it is or leads to one
+-- the operands of the gate whose signal is x
 abbrev pub operandsOf : Content → ℕ → List ℕ
 operandsOf r x = getD (r .gates) (x - r .inputs) noGate .operands
 
+-- the signals of the gates that have signal x as an operand
 unfoldable pub readers : Content → ℕ → List ℕ
 readers r x = select (λ y. some (eqb x) (operandsOf r y)) (numbers (r .inputs) (length (r .gates)))
 
+-- x is an output
 abbrev pub isOutput : Content → ℕ → Bool
 isOutput r x = some (λ (o : List ℕ). eqb x (getD o 0 0)) (r .outputs)
 
+-- it is an output or leads to one
 unfoldable pub leadsOut : Content → ℕ → Bool
 leadsOut r x = isOutput r x || reaches (readers r) (isOutput r) (r .inputs + length (r .gates)) x
 
@@ -112,6 +115,10 @@ abbrev pub makeChecksOn : List ℕ → ℕ → List Check
 makeChecksOn reference room = reading Reference referenceLimits reference ∷ makeChecks (referenceRead reference) room
 
 -- ---- what is promised
+
+-- the search of 25 finds every way out: a signal that leads to an output in however many steps
+abbrev pub LeadsFound : Content → Type 0
+LeadsFound r = (x k : ℕ) → reaches (readers r) (isOutput r) k x ≡ true → leadsOut r x ≡ true
 
 -- the net of rail b of signal x
 abbrev pub signalNet : Content → ℕ → Bool → ℕ
@@ -147,4 +154,5 @@ pub record MadeFrom (f : Files) : Type 0 where
 pub record MakeDemand (reference buffer : List ℕ) (r : Answer) (left : List ℕ) : Type 0 where
   pub answer : written r left ≡ leaving (judge (makeChecksOn reference (length buffer))) (madeBytes (referenceRead reference)) buffer
   pub least : Judged (makeChecksOn reference (length buffer)) (r .verdict)
+  pub leads : LeadsFound (referenceRead reference)
   pub made : r .verdict .number ≡ 0 → (r .verdict ≡ accepted) × MadeFrom (files (take (r .count) left) reference)

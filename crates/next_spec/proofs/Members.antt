@@ -23,7 +23,7 @@ use Rattle.check_spec.specs.Demands.{Pass}
 use Rattle.check_spec.proofs.Formed as formed
 use Rattle.check_spec.proofs.Formed.{Formed, read-formed, written-reads}
 use Rattle.check_spec.proofs.Back.{stage-content, stage-write}
-use Rattle.next_spec.specs.Numbered.{netsOf, stages, lists, gateNumbered, gatesNumbered, stageNumbered}
+use Rattle.next_spec.specs.Numbered.{netsOf, stages, lists, first, second, pairNumbered, gateNumbered, gatesNumbered, stageNumbered}
 use Rattle.next_spec.specs.Listing.{InShape, free, Listed}
 use Rattle.next_spec.specs.Family.{Small, fileOf, InFamily, EachFile}
 use Rattle.next_spec.proofs.Digits.{quotient-low, digits-back, digits-low, square, lists-some}
@@ -68,7 +68,7 @@ module _ (n g : ℕ) (shaped : InShape n g) where
           record {
             known = omega arith;
             whole = sym two;
-            named = in-pins (record { inputs = n; gates = g }) k 0 _ (quotient-low m nets-some (y % (m * m)) m (mod-lt y s), (mod-lt (y % (m * m)) nets-some, tt));
+            named = in-pins (record { inputs = n; gates = g }) k 0 (first m (y % (m * m)) ∷ second m (y % (m * m)) ∷ []) (quotient-low m nets-some (y % (m * m)) m (mod-lt y s), (mod-lt (y % (m * m)) nets-some, tt));
           },
           later .0,
         ),
@@ -92,7 +92,7 @@ module _ (n g : ℕ) (shaped : InShape n g) where
           gates-in = omega (arith, shaped .gates-in);
           outputs-in = (omega arith, omega arith);
           gates = rw long (gates-formed g x inside 0 .0);
-          outputs = rw long (record { whole = refl; named = in-rails (record { inputs = n; gates = g }) g 0 _ (quotient-low m nets-some (z % (m * m)) m y, (mod-lt (z % (m * m)) nets-some, tt)) }, tt);
+          outputs = rw long (record { whole = refl; named = in-rails (record { inputs = n; gates = g }) g 0 (pairNumbered m (z % (m * m))) (quotient-low m nets-some (z % (m * m)) m y, (mod-lt (z % (m * m)) nets-some, tt)) }, tt);
           care-in = tt;
           care-stage = inl refl;
         }

@@ -18,6 +18,7 @@ use Rattle.next_spec.specs.Family.{fileOf, InFamily, Member, key, Before
 use Rattle.next_spec.specs.Listing.{InShape, listing, group}
 use Rattle.next_spec.proofs.Members.{in-listed, readable-member}
 use Rattle.next_spec.proofs.Less.{less-refl, less-both}
+use Rattle.check_spec.proofs.Loops.{loops-found}
 use Rattle.next_spec.proofs.Loops.{count-0, count-1}
 use Rattle.next_spec.proofs.Listed.{listing-ascending, listing-in, in-listing, listing-lists, group-lists, numbered-shaped}
 
@@ -173,6 +174,7 @@ shaped-1 g = (
 pub family : Family
 family = record {
   each-file = readable-member;
+  loops = loops-found;
   room = λ c i. omega (arith, family-long c i, i .small .gates-in);
   stages = listing;
   walk = walk-all listing refl;

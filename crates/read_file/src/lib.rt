@@ -65,7 +65,16 @@ fn names(role: Role, n: usize, g: usize, k: usize, v: usize) -> bool
 }
 
 // The first of m operands of a command, from a place on, that does not name what it is asked for.
-fn first_nameless(file: File, sort: Sort, n: usize, g: usize, k: usize, s: &[u8], at: usize, m: usize) -> Found
+fn first_nameless(
+    file: File,
+    sort: Sort,
+    n: usize,
+    g: usize,
+    k: usize,
+    s: &[u8],
+    at: usize,
+    m: usize,
+) -> Found
     requires { ⌜ at + 2 * m ≤ length (now s) ⌝ }
     requires { ⌜ (2 * n + g < 2 ^ 64) × (n + k < 2 ^ 64) ⌝ }
     ensures { λ r. ⌜ r ≡ reading.nameless (reading.asked file sort (files.netsWith n g) k) 0 (now (s .entry)) at m ⌝ }

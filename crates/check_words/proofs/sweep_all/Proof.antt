@@ -10,7 +10,7 @@ use Rattle.check_words.proofs.sweep_all.Tie as tie
 
 returns : tie.Need-returns
 returns c =
-    let z = c .before .before .before .before .before .before .before in
+    let z = c .before .before .before .before .before in
     c .before .nothing-named .ensures (c .if1 .taken) _ _ (enough-signals (z .args .sizes) (now (z .args .reference)) (omega (arith, z .pre .outputs))) (c .before .before .screen .ensures)
 
 array-share-prefix-list : tie.Need-array-share-prefix-list
