@@ -5,11 +5,11 @@ use mathlib.Core.Path.{_≡_, refl, ap, fun-ext}
 use mathlib.Core.Bool.{Bool, true, false, cond}
 use mathlib.Core.List.{List}
 use lib.ListN.{length}
-use Rattle.netlist.specs.Types.{Sort, Role, Form, Limits, Counts, Next, Command, Refused}
+use Rattle.netlist.specs.Types.{Sort, Role, Form, Limits, Counts, Next, Command, Refused, At}
 use Rattle.netlist.specs.Types.file
 use Rattle.netlist.specs.Types.sort
 use Rattle.netlist.specs.Bytes.{byte}
-use Rattle.netlist.specs.Commands.{stageFile, isSort, commandTable, ownCommands, formOf, roleOf, width, needed, used, takeGate, takeSort, takeCommand, nextAt}
+use Rattle.netlist.specs.Commands.{whenFound, stageFile, isSort, commandTable, ownCommands, formOf, roleOf, width, needed, used, takeGate, takeSort, takeCommand, nextAt}
 use Rattle.netlist.specs.Reading.{Nets, names, asked, namelessAt, namelessFrom, Places, noPlaces, countsOf, netsOf, noted, finish, onNext, readFrom, readFile}
 
 taken-alike : (most : Limits) (s : List ℕ) (at : ℕ) (before : Counts) (form : Form) (taken : Next) (c : Sort) →
@@ -45,7 +45,7 @@ unfolding namelessFrom namelessAt used commandTable ownCommands needed
 nameless-alike zero N s at k = refl
 nameless-alike (suc fuel) N s at k =
     let form = formOf file.Stage (byte s at) in
-    rw (asked-alike N k (form .sort), nameless-alike fuel N s (at + width form) (cond (isSort sort.Gate (form .sort)) (suc k) k))
+    rw (asked-alike N k (form .sort)) (ap (whenFound (namelessAt file.Stage N s at k form) At) (nameless-alike fuel N s (at + width form) _))
 
 finish-alike : (s : List ℕ) (at : ℕ) (p : Places) → finish file.Pipeline s at p ≡ finish file.Stage s at p
 unfolding finish
