@@ -34,7 +34,7 @@ fn least_retired(code: &[u16], counts: Counts) -> Found
 {
     let mut k: usize = 0;
     while k < counts.gates {
-        if gates::is_retired(code[8 * k]) {
+        if gates::is_retired(circuit::form::cell_of(code, counts, k)) {
             return Found::At(k);
         }
         k += 1;
