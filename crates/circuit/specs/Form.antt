@@ -1,12 +1,13 @@
 -- The fields of the flat form, as the functions that read them answer them: each with what a loaded circuit says of it.
-use Prim.Native.Nat.{ℕ, _+_, _≤_, _<_}
+use Prim.Native.Nat.{ℕ, _+_, _*_, _≤_, _<_}
 use mathlib.Core.Path.{_≡_}
 use mathlib.Core.List.{List}
+use lib.ListN.{length, getD}
 use Rattle.netlist.specs.declared.Counts.{Counts}
 use Rattle.circuit.specs.declared.form.Pins.{Pins}
 use Rattle.circuit.specs.declared.form.Rails.{Rails}
 use Rattle.circuit.specs.declared.form.Operands.{Operands}
-use Rattle.circuit.specs.Stage.{netCount, cellIn, pinIn, gateAtPlace, outputIn}
+use Rattle.circuit.specs.Stage.{netCount, cellIn, pinIn, gateAtPlace, placeOf, outputIn, careIn}
 use Rattle.circuit.specs.Reference.{operationIn, operandIn, signalIn}
 
 -- ---- a stage
@@ -28,6 +29,11 @@ pub record PinsAt (counts : Counts) (code : List ℕ) (k : ℕ) (r : Pins) : Typ
   pub c-in : r .c ≤ netCount counts
   pub d-in : r .d ≤ netCount counts
 
+-- the net at pin i
+pub record PinAt (counts : Counts) (code : List ℕ) (k i r : ℕ) : Type 0 where
+  pub is : r ≡ pinIn code k i
+  pub there : r ≤ netCount counts
+
 -- the gate at place i of the order
 pub record GateAt (counts : Counts) (code : List ℕ) (i r : ℕ) : Type 0 where
   pub is : r ≡ gateAtPlace code i
@@ -41,6 +47,30 @@ pub record RailsAt (counts : Counts) (code : List ℕ) (j : ℕ) (r : Rails) : T
   pub is : r ≡ railsIn counts code j
   pub rail0-in : r .rail0 < netCount counts
   pub rail1-in : r .rail1 < netCount counts
+
+-- care word i
+pub record CareAt (counts : Counts) (code : List ℕ) (i r : ℕ) : Type 0 where
+  pub is : r ≡ careIn counts code i
+  pub small : r < 0x10000
+
+-- ---- the order of its gates
+
+-- number i of the code is none of the order
+abbrev pub Apart : Counts → ℕ → Type 0
+Apart c i = (k : ℕ) → k < c .gates → ¬ (i ≡ 8 * k + 5) × ¬ (i ≡ 8 * k + 6)
+
+-- the code differs from what it was in the order alone
+pub record Reordered (c : Counts) (before code : List ℕ) : Type 0 where
+  pub long : length code ≡ length before
+  pub kept : (i : ℕ) → Apart c i → getD code i 0 ≡ getD before i 0
+
+-- Gate k has taken place i of the order; other gates and other places are as they were.
+pub record GatePlaced (c : Counts) (before code : List ℕ) (k i : ℕ) : Type 0 where
+  pub reordered : Reordered c before code
+  pub gate-new : gateAtPlace code i ≡ k
+  pub gate-old : (j : ℕ) → ¬ (j ≡ i) → gateAtPlace code j ≡ gateAtPlace before j
+  pub place-new : placeOf code k ≡ i
+  pub place-old : (m : ℕ) → ¬ (m ≡ k) → placeOf code m ≡ placeOf before m
 
 -- ---- a reference
 

@@ -5,7 +5,13 @@ ghost use Prim.Native.Nat.{_<_};
 ghost use Rattle.circuit.specs.Stage.{gateIn, placeOf, StageLoaded};
 ghost use Rattle.circuit.specs.Order.{InOrder};
 ghost use Rattle.circuit.specs.Reference.{ReferenceLoaded};
-ghost use Rattle.circuit.specs.Form.{CellAt, PinsAt, GateAt, RailsAt, OperationAt, OperandsAt, SignalAt};
+ghost use Rattle.circuit.specs.Form.{CellAt, PinsAt, PinAt, GateAt, RailsAt, CareAt, GatePlaced, OperationAt, OperandsAt, SignalAt};
+
+// How many numbers the largest stage takes: eight for a gate, two for an output, one for a care word.
+pub const STAGE_CODE: usize = 8 * netlist::STAGE_GATES + 2 * netlist::OUTPUTS + netlist::WORDS;
+
+// The largest reference: three for a gate, one for an output.
+pub const REFERENCE_CODE: usize = 3 * netlist::REFERENCE_GATES + netlist::OUTPUTS;
 
 // The nets at the four pins of a gate; a pin that it lacks is at the ground.
 pub struct Pins {
@@ -59,6 +65,14 @@ pub fn pins_of(code: &[u16], counts: Counts, k: usize) -> Pins
     }
 }
 
+// The net at pin i of gate k.
+pub fn pin_of(code: &[u16], counts: Counts, k: usize, i: usize) -> u16
+    requires { ⌜ StageLoaded counts (now code) × (k < counts .gates) × (i < 4) ⌝ }
+    ensures { λ r. ⌜ PinAt counts (now (code .entry)) k i r ⌝ }
+{
+    code[8 * k + (1 + i)]
+}
+
 // The gate at place i of the order.
 pub fn gate_at(code: &[u16], counts: Counts, i: usize) -> usize
     requires { ⌜ StageLoaded counts (now code) × InOrder counts (now code) × (i < counts .gates) ⌝ }
@@ -75,6 +89,15 @@ pub fn place_of(code: &[u16], counts: Counts, k: usize) -> usize
     code[8 * k + 6] as usize
 }
 
+// Gate k takes place i of the order.
+pub fn place_gate(code: &mut [u16], counts: Counts, k: usize, i: usize)
+    requires { ⌜ StageLoaded counts (now code) × (k < counts .gates) × (i < counts .gates) ⌝ }
+    ensures { λ r. ⌜ GatePlaced counts (now (code .entry)) (now (code .exit)) k i ⌝ }
+{
+    code[8 * i + 5] = k as u16;
+    code[8 * k + 6] = i as u16;
+}
+
 // The rails of output j.
 pub fn rails_of(code: &[u16], counts: Counts, j: usize) -> Rails
     requires { ⌜ StageLoaded counts (now code) × (j < counts .outputs) ⌝ }
@@ -85,6 +108,15 @@ pub fn rails_of(code: &[u16], counts: Counts, j: usize) -> Rails
         rail0: code[at],
         rail1: code[at + 1],
     }
+}
+
+// Care word i.
+pub fn care_of(code: &[u16], counts: Counts, i: usize) -> usize
+    requires { ⌜ StageLoaded counts (now code) × (i < counts .care) ⌝ }
+    ensures { λ r. ⌜ CareAt counts (now (code .entry)) i r ⌝ }
+{
+    let from = 8 * counts.gates + 2 * counts.outputs;
+    code[from + i] as usize
 }
 
 // ---- a reference
