@@ -16,8 +16,8 @@ ghost use Rattle.verdict.specs.Checks as checks;
 ghost use Rattle.check_spec.specs.Content.{files};
 ghost use Rattle.check_spec.specs.Verdicts.{verdictOn};
 ghost use Rattle.check_spec.specs.Demands.{Demand2, Demand3};
-ghost use Rattle.circuit.specs.Stage.{stageGates, stageIn, StageLoaded};
-ghost use Rattle.circuit.specs.Reference.{referenceIn, ReferenceLoaded};
+ghost use Rattle.circuit.specs.Stage.{stageGates, stageIn, largestStage, StageLoaded};
+ghost use Rattle.circuit.specs.Reference.{referenceIn, largestReference, ReferenceLoaded};
 ghost use Rattle.check_word.specs.Loaded.{BothLoaded};
 ghost use Rattle.check_files.specs.Judgement.{verdictOf, JudgedAs};
 
@@ -117,8 +117,7 @@ pub fn check_loading(
     loaded: &mut [u16],
 ) -> Judgement
     requires { ⌜ NoMore «stage_most» stageLimits × NoMore «reference_most» referenceLimits
-        × (8 * stageLimits .gates + 2 * stageLimits .outputs + 2 ^ stageLimits .inputs ≤ length (now code))
-        × (3 * referenceLimits .gates + referenceLimits .outputs ≤ length (now loaded)) ⌝ }
+        × (largestStage ≤ length (now code)) × (largestReference ≤ length (now loaded)) ⌝ }
     ensures { λ r. ⌜ JudgedAs order «stage_most» «reference_most» (now (stage .entry)) (now (reference .entry)) r (now (code .exit)) (now (loaded .exit)) ⌝ }
 {
     match circuit_load::read_stage_within(stage, stage_most, code) {
@@ -151,8 +150,8 @@ pub fn check(order: WordOrder, stage: &[u8], reference: &[u8]) -> Verdict
     ensures demand2 { λ r. ⌜ Demand2 order (files (now (stage .entry)) (now (reference .entry))) r ⌝ }
     ensures runs { λ r. ⌜ Demand3 order (files (now (stage .entry)) (now (reference .entry))) r ⌝ }
 {
-    let mut code = [0u16; circuit_load::STAGE_CODE];
-    let mut loaded = [0u16; circuit_load::REFERENCE_CODE];
+    let mut code = [0u16; circuit::form::STAGE_CODE];
+    let mut loaded = [0u16; circuit::form::REFERENCE_CODE];
     verdict_of(check_loading(
         order,
         stage,

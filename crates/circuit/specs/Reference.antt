@@ -41,8 +41,8 @@ referenceIn c code = record { inputs = c .inputs; gates = operatorsIn c code; ou
 abbrev pub referenceSize : Counts → ℕ
 referenceSize c = 3 * c .gates + c .outputs
 
-abbrev pub referenceMost : ℕ
-referenceMost = referenceSize referenceLimits
+abbrev pub largestReference : ℕ
+largestReference = referenceSize referenceLimits
 
 -- The numbers are a reference within the limits: its operations are known, its operands are inputs and earlier gates.
 pub record ReferenceLoaded (c : Counts) (code : List ℕ) : Type 0 where

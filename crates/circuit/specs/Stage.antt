@@ -72,8 +72,8 @@ stageIn c code = record { inputs = c .inputs; gates = stageGates c code; outputs
 abbrev pub stageSize : Counts → ℕ
 stageSize c = 8 * c .gates + 2 * c .outputs + c .care
 
-abbrev pub stageMost : ℕ
-stageMost = 8 * stageLimits .gates + 2 * stageLimits .outputs + 2 ^ stageLimits .inputs
+abbrev pub largestStage : ℕ
+largestStage = 8 * stageLimits .gates + 2 * stageLimits .outputs + 2 ^ stageLimits .inputs
 
 -- gate k is of a known cell, and at each of its four pins stands a net or the ground
 pub record GateLoaded (c : Counts) (code : List ℕ) (k : ℕ) : Type 0 where

@@ -15,7 +15,7 @@ ghost use Rattle.verdict.specs.Nets.{railOf};
 ghost use Rattle.verdict.specs.Search.{least};
 ghost use Rattle.verdict.specs.Checks.{neverRises};
 ghost use Rattle.lane_screen.specs.Hold.{WithHold};
-ghost use Rattle.circuit.specs.Stage.{netCount, outputIn, stageIn, StageLoaded};
+ghost use Rattle.circuit.specs.Stage.{netCount, outputIn, careIn, stageIn, StageLoaded};
 ghost use Rattle.circuit.specs.Order.{InOrder};
 ghost use Rattle.circuit.specs.Reference.{signalIn, referenceIn};
 ghost use Rattle.check_word.specs.Loaded.{BothLoaded};
@@ -420,14 +420,14 @@ fn none_of_all(mask: &[u64], inputs: usize) -> bool
     true
 }
 
-// Whether a mask names none of so many words, which stand from a place of the flat form on.
-fn none_listed(mask: &[u64], code: &[u16], from: usize, count: usize) -> bool
-    requires { ⌜ from + count ≤ length (now code) ⌝ }
-    ensures { λ r. ⌜ (r ≡ true → (k : ℕ) → k < count → Unnamed (now (mask .entry)) (getD (now (code .entry)) (from + k) 0)) ⌝ }
+// Whether a mask names none of a stage's care words.
+fn none_listed(mask: &[u64], code: &[u16], counts: Counts) -> bool
+    requires { ⌜ StageLoaded counts (now code) ⌝ }
+    ensures { λ r. ⌜ (r ≡ true → (k : ℕ) → k < counts .care → Unnamed (now (mask .entry)) (careIn counts (now (code .entry)) k)) ⌝ }
 {
     let mut k: usize = 0;
-    while k < count {
-        if is_named(mask, code[from + k] as usize) {
+    while k < counts.care {
+        if is_named(mask, circuit::form::care_of(code, counts, k)) {
             return false;
         }
         k += 1;
@@ -443,10 +443,5 @@ pub fn none_named(mask: &[u64], code: &[u16], counts: Counts) -> bool
     if counts.care == 0 {
         return none_of_all(mask, counts.inputs);
     }
-    none_listed(
-        mask,
-        code,
-        8 * counts.gates + 2 * counts.outputs,
-        counts.care,
-    )
+    none_listed(mask, code, counts)
 }
