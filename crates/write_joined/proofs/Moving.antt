@@ -28,24 +28,10 @@ use Rattle.write_joined.specs.Moved.{netMoved, signalMoved}
 -- ---- nets
 
 module _ (c : Counts) (code : List ℕ) (m : Move) (net : ℕ) where
-  rail-at : (j : ℕ) (b : Bool) (r : ℕ) → j < c .outputs → net ≡ 2 * j + r → ((b ≡ true) × (r ≡ 1)) ⊎ ((b ≡ false) × (r ≡ 0)) →
-      getD code (8 * c .gates + net) 0 ≡ railOf (outputPair (stageIn c code) j) b
-  unfolding stageOutputs
-  rail-at j b r l e (inl h) =
-      let n : 8 * c .gates + net ≡ 8 * c .gates + 2 * j + 1 = omega (arith, h .1) in
-      rw (n, h .0, getD-tabulate (outputIn c code) (c .outputs) j noPair l)
-  rail-at j b r l e (inr h) =
-      let n : 8 * c .gates + net ≡ 8 * c .gates + 2 * j = omega (arith, h .1) in
-      rw (n, h .0, getD-tabulate (outputIn c code) (c .outputs) j noPair l)
-
-  odd? : (r : ℕ) → r < 2 → ((eqb r 1 ≡ true) × (r ≡ 1)) ⊎ ((eqb r 1 ≡ false) × (r ≡ 0))
-  odd? zero l = inr (refl, refl)
-  odd? (suc zero) l = inl (refl, refl)
-  odd? (suc (suc r)) l = absurd (omega arith)
-
-  pub net-tied : net < 2 * m .inputs → m .inputs ≤ c .outputs → getD code (8 * c .gates + net) 0 ≡ netMoved (stageIn c code) m net
-  unfolding netMoved
-  net-tied l h = rw (lt-ltb net (2 * m .inputs) l) (rail-at (net / 2) (eqb (net % 2) 1) (net % 2) (omega arith) (omega arith) (odd? (net % 2) (omega arith)))
+  pub net-tied : net < 2 * m .inputs → m .inputs ≤ c .outputs → (b : Bool) → eqb (net % 2) 1 ≡ b
+      → railOf (outputIn c code (net / 2)) b ≡ netMoved (stageIn c code) m net
+  unfolding netMoved stageOutputs
+  net-tied l h b e = rw (lt-ltb net (2 * m .inputs) l, e, getD-tabulate (outputIn c code) (c .outputs) (net / 2) noPair (omega arith))
 
   pub net-follows : 2 * m .inputs ≤ net → m .start + (net - 2 * m .inputs) ≡ netMoved (stageIn c code) m net
   unfolding netMoved
@@ -54,7 +40,7 @@ module _ (c : Counts) (code : List ℕ) (m : Move) (net : ℕ) where
 -- ---- signals
 
 module _ (c : Counts) (code : List ℕ) (m : Move) (signal : ℕ) where
-  pub signal-tied : signal < m .inputs → m .inputs ≤ c .outputs → getD code (3 * c .gates + signal) 0 ≡ signalMoved (referenceIn c code) m signal
+  pub signal-tied : signal < m .inputs → m .inputs ≤ c .outputs → signalIn c code signal ≡ signalMoved (referenceIn c code) m signal
   unfolding signalMoved signalsIn
   signal-tied l h = rw (lt-ltb signal (m .inputs) l) (sym (getD-tabulate (signalIn c code) (c .outputs) signal 0 (omega arith)))
 

@@ -1,29 +1,21 @@
 -- `write_joined::pins_at` meets its contract. Assumes nothing.
+use Prim.Native.Nat.{ℕ}
 use native.Mathlib.Omega.{arith}
-use mathlib.Core.Path.{sym}
-use denote.Ref.{now}
+use mathlib.Core.Path.{sym, ap, _∙_}
+use Rattle.gates.specs.Cell.{pinCount}
 use Rattle.gates.proofs.Ranges.{pins-in-range, two-pins, three-pins, four-pins}
-use Rattle.circuit.specs.Stage.{cellIn}
 use borrow.Author.Needs.{needs}
 use Rattle.write_joined.proofs.pins_at.Statement.{statement}
 use Rattle.write_joined.proofs.pins_at.Tie as tie
 
 returns : tie.Need-returns
-returns c = let z = c .before .before in sym (pins-in-range 1 2 2 two-pins (cellIn (now (z .args .code)) (z .args .k)) (omega (arith, z .pre .1)) (omega arith))
+returns c = let f = c .before .cell-of in sym (pins-in-range 1 2 2 two-pins (f .result) (f .ensures .low) (omega arith)) ∙ ap pinCount (f .ensures .is)
 
 returns-2 : tie.Need-returns-2
-returns-2 c = let z = c .before .before .before in sym (pins-in-range 3 5 3 three-pins (cellIn (now (z .args .code)) (z .args .k)) (omega arith) (omega arith))
+returns-2 c = let f = c .before .before .cell-of in sym (pins-in-range 3 5 3 three-pins (f .result) (omega arith) (omega arith)) ∙ ap pinCount (f .ensures .is)
 
 returns-3 : tie.Need-returns-3
-returns-3 c = let z = c .before .before .before in sym (pins-in-range 8 20 4 four-pins (cellIn (now (z .args .code)) (z .args .k)) (omega arith) (omega (arith, z .pre .2)))
+returns-3 c = let f = c .before .before .cell-of in sym (pins-in-range 8 20 4 four-pins (f .result) (omega arith) (f .ensures .high)) ∙ ap pinCount (f .ensures .is)
 
 pub pins-at-spec : {M : Type 1} → statement M
-pins-at-spec =
-    tie.close
-    (tie.spec
-    (λ c. search needs)
-    (λ c. search needs)
-    (λ c. search needs)
-    returns
-    returns-2
-    returns-3)
+pins-at-spec = tie.close (tie.spec (λ c κs. search needs) returns returns-2 returns-3)

@@ -16,12 +16,6 @@ use borrow.Author.Needs.{needs}
 use Rattle.write_joined.proofs.put_gate.Statement.{statement}
 use Rattle.write_joined.proofs.put_gate.Tie as tie
 
-kind-at-requires : tie.Need-kind-at-requires
-kind-at-requires c κs =
-    let z = c .before .before .before .before .before .before .before .before in
-    let g = z .pre .0 .gate (z .args .k) (z .pre .2) in
-    (omega (arith, z .pre .0 .room), g .high)
-
 returns : tie.Need-returns
 returns c =
     let z = c .before .before .before .before .before .before .before .before .before .before .before .before in
@@ -43,7 +37,7 @@ put-gate-spec =
     (λ c κs. search needs)
     (λ c κs. search needs)
     (λ c κs. search needs)
-    kind-at-requires
+    (λ c κs. search needs)
     (λ c κs. search needs)
     (λ c. search needs)
     returns)

@@ -20,15 +20,11 @@ use Rattle.write_joined.proofs.put_outputs.Statement.{statement}
 use Rattle.write_joined.proofs.put_outputs.Tie as tie
 
 abbrev Inv-loop : tie.InvT-loop
-Inv-loop buffer₀ at code code1 counts1 moved from count j₀ buffer j =
-    PutTo file.Stage pairItem 5 (tabulate (λ i. pairMoved (stageIn counts1 code1) moved (record {
-      rail0 = getD code (from + 2 * i) 0;
-      rail1 = getD code
-          (from + 2 * i + 1) 0;
-    })) count) buffer₀ at buffer j
+Inv-loop buffer₀ at code counts code1 counts1 moved count j₀ buffer j =
+    PutTo file.Stage pairItem 5 (tabulate (λ i. pairMoved (stageIn counts1 code1) moved (outputIn counts code i)) count) buffer₀ at buffer j
 
 abbrev μ-loop : tie.MeasureT-loop
-μ-loop buffer₀ at code code1 counts1 moved from count j₀ buffer j = count - j
+μ-loop buffer₀ at code counts code1 counts1 moved count j₀ buffer j = count - j
 
 loop-holds : tie.Need-loop-holds Inv-loop μ-loop
 loop-holds c = put-start file.Stage pairItem 5 (λ p. stage-output-width (pairOperands p)) _ _ _ _ (c .before .before .before .before .pre .2)
@@ -36,12 +32,12 @@ loop-holds c = put-start file.Stage pairItem 5 (λ p. stage-output-width (pairOp
 net-in-whole-requires : tie.Need-net-in-whole-requires Inv-loop μ-loop
 net-in-whole-requires c κs =
     let z = c .before .before .before .before .before .before .before in
-    (z .pre .1 .loaded, z .pre .1 .outputs, omega (arith, z .pre .0 .rail0-net (c .before .before .loop .j) (omega arith), z .pre .1 .fits))
+    (z .pre .1 .loaded, z .pre .1 .outputs, omega (arith, RAILS .ensures .rail0-in, z .pre .1 .fits))
 
 net-in-whole-requires-2 : tie.Need-net-in-whole-requires-2 Inv-loop μ-loop
 net-in-whole-requires-2 c κs =
     let z = c .before .before .before .before .before .before .before .before .before in
-    (z .pre .1 .loaded, z .pre .1 .outputs, omega (arith, z .pre .0 .rail1-net (c .before .before .before .before .loop .j) (omega arith), z .pre .1 .fits))
+    (z .pre .1 .loaded, z .pre .1 .outputs, omega (arith, RAILS .ensures .rail1-in, z .pre .1 .fits))
 
 mul-put-stage-output : tie.Need-mul-put-stage-output Inv-loop μ-loop
 mul-put-stage-output c = omega (

@@ -20,12 +20,12 @@ use Rattle.write_made.proofs.put_gate.Tie as tie
 rails-of-requires : tie.Need-rails-of-requires
 rails-of-requires c κs =
     let z = c .before .before .before .before .before .before in
-    omega (arith, z .pre .0 .operand (z .args .k) 0 (z .pre .1) (omega arith), z .pre .2, z .pre .1)
+    omega (arith, OPERANDS .ensures .a-in, z .pre .2, z .pre .1)
 
 rails-of-requires-2 : tie.Need-rails-of-requires-2
 rails-of-requires-2 c κs =
     let z = c .before .before .before .before .before .before .before .before .before in
-    omega (arith, z .pre .0 .operand (z .args .k) 1 (z .pre .1) (omega arith), z .pre .2, z .pre .1)
+    omega (arith, OPERANDS .ensures .b-in, z .pre .2, z .pre .1)
 
 result-rails-requires : tie.Need-result-rails-requires
 result-rails-requires c κs =
