@@ -27,46 +27,46 @@ loop-holds : tie.Need-loop-holds Inv-loop μ-loop
 loop-holds c = (refl, listed-start _ _, omega arith)
 
 rem-w : tie.Need-rem-w Inv-loop μ-loop
-rem-w c = let z = c .before .before .before .before in omega (arith, size-of (z .args .counts .inputs) (z .pre .within .inputs-in), pow-pos (z .args .counts .inputs))
+rem-w c = let z = c .before .before .before .before .before in omega (arith, size-of (z .args .counts .inputs) (z .pre .within .inputs-in), pow-pos (z .args .counts .inputs))
 
 mul-old : tie.Need-mul-old Inv-loop μ-loop
 mul-old c =
-    let z = ZZZ in
-    let l = LLL in
-    omega (arith, inside (z .args .counts .inputs) (CARE .result) (l .masks) (z .pre .within .inputs-in) (l .inv .0), l .inv .0)
+    let z = c .before .before .before .before .before in
+    let l = c .before .before .loop in
+    omega (arith, inside (z .args .counts .inputs) (c .care-of .result) (l .masks) (z .pre .within .inputs-in) (l .inv .0), l .inv .0)
 
 array-read-old : tie.Need-array-read-old Inv-loop μ-loop
 array-read-old c =
-    let z = ZZZ in
-    let l = LLL in
-    omega (arith, inside (z .args .counts .inputs) (CARE .result) (l .masks) (z .pre .within .inputs-in) (l .inv .0), l .inv .0)
+    let z = c .before .before .before .before .before in
+    let l = c .before .before .loop in
+    omega (arith, inside (z .args .counts .inputs) (c .care-of .result) (l .masks) (z .pre .within .inputs-in) (l .inv .0), l .inv .0)
 
 shl-masks : tie.Need-shl-masks Inv-loop μ-loop
 shl-masks c =
-    let z = ZZZ in
-    let l = LLL in
-    omega (arith, inside (z .args .counts .inputs) (CARE .result) (l .masks) (z .pre .within .inputs-in) (l .inv .0), l .inv .0)
+    let z = c .before .before .before .before .before in
+    let l = c .before .before .loop in
+    omega (arith, inside (z .args .counts .inputs) (c .care-of .result) (l .masks) (z .pre .within .inputs-in) (l .inv .0), l .inv .0)
 
 mul-masks : tie.Need-mul-masks Inv-loop μ-loop
 mul-masks c =
-    let z = ZZZ in
-    let l = LLL in
-    omega (arith, inside (z .args .counts .inputs) (CARE .result) (l .masks) (z .pre .within .inputs-in) (l .inv .0), l .inv .0)
+    let z = c .before .before .before .before .before in
+    let l = c .before .before .loop in
+    omega (arith, inside (z .args .counts .inputs) (c .care-of .result) (l .masks) (z .pre .within .inputs-in) (l .inv .0), l .inv .0)
 
 array-write-masks : tie.Need-array-write-masks Inv-loop μ-loop
 array-write-masks c =
-    let z = ZZZ in
-    let l = LLL in
-    omega (arith, inside (z .args .counts .inputs) (CARE .result) (l .masks) (z .pre .within .inputs-in) (l .inv .0), l .inv .0)
+    let z = c .before .before .before .before .before in
+    let l = c .before .before .loop in
+    omega (arith, inside (z .args .counts .inputs) (c .care-of .result) (l .masks) (z .pre .within .inputs-in) (l .inv .0), l .inv .0)
 
 loop-again : tie.Need-loop-again Inv-loop μ-loop
 loop-again c =
-    let z = ZZZ in
-    let l = LLL in
+    let z = c .before .before .before .before .before in
+    let l = c .before .before .loop in
     let n = z .args .counts .inputs in
-    let v = CARE .result in
+    let v = c .care-of .result in
     let e : v % (1 * 2 ^ n % 18446744073709551616) ≡ wordAt (z .args .counts) (now (z .args .code)) (l .k) =
-        ap (λ (m : ℕ). v % m) (size-of n (z .pre .within .inputs-in)) ∙ ap (λ (w : ℕ). w % 2 ^ n) (CARE .ensures .is) in (
+        ap (λ (m : ℕ). v % m) (size-of n (z .pre .within .inputs-in)) ∙ ap (λ (w : ℕ). w % 2 ^ n) (c .care-of .ensures .is) in (
       length-set (l .masks) (v % (1 * 2 ^ n % 18446744073709551616) / 64) _ ∙ l .inv .0,
       subst (λ (w : ℕ). ListedIn (z .args .counts) (now (z .args .code)) (l .k + 1) (withWord (l .masks) w)) (sym e)
           (listed-more (z .args .counts) (now (z .args .code)) (l .masks) (l .k) (l .inv .1) (omega (arith, block-of n (careIn (z .args .counts) (now (z .args .code)) (l .k)) (z .pre .within .inputs-in), l .inv .0))),
@@ -76,7 +76,7 @@ loop-again c =
 returns : tie.Need-returns Inv-loop μ-loop
 returns c =
     let l = c .before .loop in
-    let z = ZZZ in
+    let z = c .before .before .before .before in
     let e : l .k ≡ z .args .counts .care = omega (arith, l .inv .2) in
     subst (λ (k : ℕ). ListedIn (z .args .counts) (now (z .args .code)) k (l .masks)) e (l .inv .1)
 

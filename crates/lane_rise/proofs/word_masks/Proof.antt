@@ -15,7 +15,7 @@ returns c =
 
 returns-2 : tie.Need-returns-2
 returns-2 c =
-    let z = c .before .before .before in
+    let z = c .before .before .before .before in
     care-masks (z .args .counts) (now (z .args .code)) (λ none. omega arith) (c .listed-words .result) (c .listed-words .ensures)
 
 pub word-masks-spec : {M : Type 1} → statement M

@@ -17,7 +17,7 @@ abbrev μ-loop : tie.MeasureT-loop
 
 returns : tie.Need-returns Inv-loop μ-loop
 returns c =
-    let z = c .before .before in
+    let z = c .before .before .before in
     let n = z .args .counts .inputs in
     let e : 1 * 2 ^ n % 2 ^ 64 ≡ 2 ^ n = omega (arith, few-words n (z .pre .within .inputs-in)) in
     ap (λ (m : ℕ). ltb (z .args .w) m) e ∙ of-all (z .args .counts) (now (z .args .code)) (z .args .w) (c .before .if1 .taken)
@@ -25,8 +25,8 @@ returns c =
 returns-2 : tie.Need-returns-2 Inv-loop μ-loop
 returns-2 c =
     let loop = c .before .before .before in
-    let tested = loop .before .before in
-    let z = tested .before in
+    let tested = loop .before in
+    let z = tested .before .before in
     of-care (z .args .counts) (now (z .args .code)) (z .args .w) (tested .if1 .left) _
     (care-here (z .args .counts) (now (z .args .code)) (z .args .w) (loop .loop .k) (loop .loop .inv) (omega arith) _ (c .before .care-of .ensures .is) (c .if2 .taken))
 
@@ -39,8 +39,8 @@ loop-again c =
 returns-3 : tie.Need-returns-3 Inv-loop μ-loop
 returns-3 c =
     let loop = c .before in
-    let tested = loop .before .before in
-    let z = tested .before in
+    let tested = loop .before in
+    let z = tested .before .before in
     of-care (z .args .counts) (now (z .args .code)) (z .args .w) (tested .if1 .left) _
     (care-none (z .args .counts) (now (z .args .code)) (z .args .w) (loop .loop .k) (loop .loop .inv) (omega arith))
 

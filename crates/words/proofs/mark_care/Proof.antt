@@ -20,11 +20,11 @@ abbrev μ-loop : tie.MeasureT-loop
 μ-loop code counts marks₀ count k₀ marks k = count - k
 
 loop-holds : tie.Need-loop-holds Inv-loop μ-loop
-loop-holds c = let z = c .before in (omega arith, refl, marked-start (stageCare (z .args .counts) (now (z .args .code))) (now (z .args .marks)) (z .pre .1))
+loop-holds c = let z = c .before .before in (omega arith, refl, marked-start (stageCare (z .args .counts) (now (z .args .code))) (now (z .args .marks)) (z .pre .1))
 
 loop-again : tie.Need-loop-again Inv-loop μ-loop
 loop-again c =
-    let z = c .before .before .before .before .before in
+    let z = c .before .before .before .before .before .before in
     let l = c .before .before .before .loop in
     let h = c .before .before .loop-test .taken in
     let ws = stageCare (z .args .counts) (now (z .args .code)) in
@@ -39,7 +39,7 @@ loop-again c =
 
 returns : tie.Need-returns Inv-loop μ-loop
 returns c =
-    let z = c .before .before .before in
+    let z = c .before .before .before .before in
     let l = c .before .loop in
     (marked-done (z .args .counts) (now (z .args .code)) (l .marks) (l .k) (omega (arith, l .inv .0, c .loop-test .left)) (l .inv .2), l .inv .1)
 

@@ -7,11 +7,11 @@ use Rattle.circuit.proofs.form.care_of.Statement.{statement}
 use Rattle.circuit.proofs.form.care_of.Tie as tie
 
 cast-result : tie.Need-cast-result
-cast-result c = let a = c .before .before .args in omega (arith, c .shared-slice-known .given (8 * a .counts .gates + 2 * a .counts .outputs + a .i))
+cast-result c = let a = c .before .before .before .args in omega (arith, c .shared-slice-known .given (8 * a .counts .gates + 2 * a .counts .outputs + a .i))
 
 returns : tie.Need-returns
 returns c =
-    let a = c .before .before .args in
+    let a = c .before .before .before .args in
     record { is = refl; small = omega (arith, c .shared-slice-known .given (8 * a .counts .gates + 2 * a .counts .outputs + a .i)) }
 
 pub care-of-spec : {M : Type 1} → statement M
