@@ -30,10 +30,10 @@ room-at : (g : ℕ → List ℕ) (m : ℕ) {at k : ℕ} {buffer₀ buffer : List
 room-at g m p l = put-room file.Stage output 5 stage-output-width g m p l
 
 loop-holds : tie.Need-loop-holds Inv-loop μ-loop
-loop-holds c = put-start file.Stage output 5 stage-output-width _ _ _ _ (c .before .before .before .before .pre .2)
+loop-holds c = put-start file.Stage output 5 stage-output-width _ _ _ _ (c .before .before .before .pre .2)
 
 rails-of-requires : tie.Need-rails-of-requires Inv-loop μ-loop
-rails-of-requires c κs = omega (arith, c .signal-of .ensures .there, ZZZ .pre .1)
+rails-of-requires c κs = omega (arith, c .signal-of .ensures .there, c .before .before .before .before .before .before .pre .1)
 
 mul-put-stage-output : tie.Need-mul-put-stage-output Inv-loop μ-loop
 mul-put-stage-output c = let room = room-at _ _ (c .before .before .before .before .loop .inv) (c .before .before .before .loop-test .taken) in omega (arith, room)
@@ -48,7 +48,7 @@ loop-again : tie.Need-loop-again Inv-loop μ-loop
 loop-again c =
     put-more file.Stage output 5 stage-output-width _ _ (c .before .before .before .before .before .before .before .loop .inv)
     (c .before .before .before .before .before .before .loop-test .taken)
-    (put-same (ap (λ (p : List ℕ). writeItem file.Stage (output p)) (RAILS .ensures ∙ ap (pairStored _) (SIGNAL .ensures .is))) (c .before .before .put-stage-output .ensures))
+    (put-same (ap (λ (p : List ℕ). writeItem file.Stage (output p)) (c .before .before .before .before .rails-of .ensures ∙ ap (pairStored _) (c .before .before .before .before .before .signal-of .ensures .is))) (c .before .before .put-stage-output .ensures))
 
 same-length : tie.Need-same-length Inv-loop μ-loop
 same-length c = c .before .loop .inv .items .left .long
@@ -56,7 +56,7 @@ same-length c = c .before .loop .inv .items .left .long
 returns : tie.Need-returns Inv-loop μ-loop
 unfolding signalsIn
 returns c =
-    let z = c .before .before .before .before .before .before in
+    let z = c .before .before .before .before .before in
     put-same (ap (bytesOf file.Stage output) (sym (map-tabulate (pairStored (now (z .args .rails))) _ (z .args .sizes .outputs))))
     (put-done file.Stage output 5 stage-output-width _ _ (c .before .loop .inv) (omega arith))
 

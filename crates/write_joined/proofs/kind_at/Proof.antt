@@ -9,10 +9,10 @@ cast-cell : tie.Need-cast-cell
 cast-cell c = omega (arith, c .cell-of .ensures .high)
 
 returns : tie.Need-returns
-returns c = rw (sym (c .before .has-hold .ensures) ∙ c .if1 .taken) (CELL .ensures .is)
+returns c = rw (sym (c .before .has-hold .ensures) ∙ c .if1 .taken) (c .before .before .cell-of .ensures .is)
 
 returns-2 : tie.Need-returns-2
-returns-2 c = rw (sym (c .before .has-hold .ensures) ∙ c .if1 .left, sym (CELL .ensures .is))
+returns-2 c = rw (sym (c .before .has-hold .ensures) ∙ c .if1 .left, c .before .before .cell-of .ensures .is)
 
 pub kind-at-spec : {M : Type 1} → statement M
 kind-at-spec =
@@ -22,5 +22,5 @@ kind-at-spec =
     cast-cell
     (λ c κs. search needs)
     returns
-    (λ c. omega (arith, CELL .ensures .high))
+    (λ c. omega (arith, c .before .before .cell-of .ensures .high))
     returns-2)

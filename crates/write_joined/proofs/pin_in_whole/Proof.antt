@@ -7,10 +7,10 @@ use Rattle.write_joined.proofs.pin_in_whole.Statement.{statement}
 use Rattle.write_joined.proofs.pin_in_whole.Tie as tie
 
 net-in-whole-requires : tie.Need-net-in-whole-requires
-net-in-whole-requires c κs = let z = ZZZ in (z .pre .1 .loaded, z .pre .1 .outputs, omega (arith, c .pin-of .ensures .there, z .pre .1 .fits))
+net-in-whole-requires c κs = let z = c .before .before .before .before .before in (z .pre .1 .loaded, z .pre .1 .outputs, omega (arith, c .pin-of .ensures .there, z .pre .1 .fits))
 
 returns : tie.Need-returns
-returns c = rw (sym (PINS .ensures), lt-ltb _ _ (IFF .taken), sym (c .before .pin-of .ensures .is)) (c .net-in-whole .ensures)
+returns c = rw (sym (c .before .before .before .pins-at .ensures), lt-ltb _ _ (c .before .before .if1 .taken), sym (c .before .pin-of .ensures .is)) (c .net-in-whole .ensures)
 
 returns-2 : tie.Need-returns-2
 returns-2 c = rw (sym (c .before .pins-at .ensures), le-ltb _ _ (c .if1 .left))

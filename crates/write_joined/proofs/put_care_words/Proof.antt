@@ -1,5 +1,5 @@
 -- `write_joined::put_care_words` meets its contract. The loop's invariant: the care words before word k are put. Assumes nothing.
-use Prim.Native.Nat.{ℕ, _+_, _-_}
+use Prim.Native.Nat.{ℕ, _-_}
 use native.Mathlib.Omega.{arith}
 use mathlib.Core.Path.{ap}
 use Rattle.netlist.specs.declared.File.the-variants as file
@@ -22,20 +22,20 @@ cast-w : tie.Need-cast-w Inv-loop μ-loop
 cast-w c = omega (arith, c .care-of .ensures .small)
 
 loop-holds : tie.Need-loop-holds Inv-loop μ-loop
-loop-holds c = put-start file.Stage care 3 care-width _ _ _ _ (c .before .before .before .before .pre .1)
+loop-holds c = put-start file.Stage care 3 care-width _ _ _ _ (c .before .before .pre .1)
 
 mul-put-care : tie.Need-mul-put-care Inv-loop μ-loop
-mul-put-care c = omega (arith, put-room file.Stage care 3 care-width _ _ (c .before .before .loop .inv) (c .before .loop-test .taken))
+mul-put-care c = omega (arith, put-room file.Stage care 3 care-width _ _ (c .before .before .before .loop .inv) (c .before .before .loop-test .taken))
 
 add-put-care : tie.Need-add-put-care Inv-loop μ-loop
-add-put-care c = omega (arith, put-room file.Stage care 3 care-width _ _ (c .before .before .loop .inv) (c .before .loop-test .taken))
+add-put-care c = omega (arith, put-room file.Stage care 3 care-width _ _ (c .before .before .before .loop .inv) (c .before .before .loop-test .taken))
 
 put-care-requires : tie.Need-put-care-requires Inv-loop μ-loop
 put-care-requires c κs = put-room file.Stage care 3 care-width _ _ (c .before .before .before .loop .inv) (c .before .before .loop-test .taken)
 
 loop-again : tie.Need-loop-again Inv-loop μ-loop
 loop-again c = put-more file.Stage care 3 care-width _ _ (c .before .before .before .before .before .before .loop .inv) (c .before .before .before .before .before .loop-test .taken)
-    (put-same (ap (λ (w : ℕ). writeItem file.Stage (care w)) (CARE .ensures .is)) (c .before .before .put-care .ensures))
+    (put-same (ap (λ (w : ℕ). writeItem file.Stage (care w)) (c .before .before .before .before .care-of .ensures .is)) (c .before .before .put-care .ensures))
 
 same-length : tie.Need-same-length Inv-loop μ-loop
 same-length c = c .before .loop .inv .items .left .long

@@ -18,13 +18,13 @@ loop-holds : tie.Need-loop-holds Inv-loop μ-loop
 loop-holds c = record { long = refl; all = refl }
 
 cast-signal : tie.Need-cast-signal Inv-loop μ-loop
-cast-signal c = let p = ZZZ .pre .0 in omega (arith, c .signal-of .ensures .there, p .within .inputs-in, p .within .gates-in)
+cast-signal c = let p = c .before .before .before .before .before .pre .0 in omega (arith, c .signal-of .ensures .there, p .within .inputs-in, p .within .gates-in)
 
 slice-write-marks : tie.Need-slice-write-marks Inv-loop μ-loop
-slice-write-marks c = omega (arith, c .signal-of .ensures .there, ZZZ .pre .1, LLL .inv .long)
+slice-write-marks c = omega (arith, c .signal-of .ensures .there, c .before .before .before .before .before .pre .1, c .before .before .loop .inv .long)
 
 loop-again : tie.Need-loop-again Inv-loop μ-loop
-loop-again c = rw (c .signal-of .ensures .is) (marked-turn _ _ (omega arith) (LLL .inv))
+loop-again c = rw (c .signal-of .ensures .is) (marked-turn _ _ (omega arith) (c .before .before .loop .inv))
 
 same-length : tie.Need-same-length Inv-loop μ-loop
 same-length c = c .before .loop .inv .long

@@ -22,18 +22,18 @@ loop-holds : tie.Need-loop-holds Inv-loop μ-loop
 loop-holds c = counted-start _ _
 
 operation-of-requires : tie.Need-operation-of-requires Inv-loop μ-loop
-operation-of-requires c κs = (ZZZ .pre, omega (arith, LLL .inv .most))
+operation-of-requires c κs = (c .before .before .before .pre, omega (arith, c .before .loop .inv .most))
 
 loop-again : tie.Need-loop-again Inv-loop μ-loop
-loop-again c = counted-one _ _ (omega arith) (LLL .inv) (λ e. c .if1 .taken (OPERATION .ensures .is ∙ e))
+loop-again c = counted-one _ _ (omega arith) (c .before .before .before .loop .inv) (λ e. c .if1 .taken (c .before .operation-of .ensures .is ∙ e))
 
 loop-again-2 : tie.Need-loop-again-2 Inv-loop μ-loop
-loop-again-2 c = counted-not _ _ (omega arith) (LLL .inv) (sym (OPERATION .ensures .is) ∙ c .if1 .left)
+loop-again-2 c = counted-not _ _ (omega arith) (c .before .before .before .loop .inv) (sym (c .before .operation-of .ensures .is) ∙ c .if1 .left)
 
 returns : tie.Need-returns Inv-loop μ-loop
 unfolding operatorsIn
 returns c =
-    let z = c .before .before in
+    let z = c .before .before .before in
     let l = c .before .loop in
     let e : l .k ≡ 0 = omega arith in
     (l .inv .is ∙ ap (λ (k : ℕ). operations (drop k (tabulate (operatorIn (now (z .args .reference))) (z .args .sizes .gates)))) e, omega (arith, l .inv .few))
@@ -47,7 +47,7 @@ operation-count-spec =
     loop-holds
     (λ c. search needs)
     operation-of-requires
-    (λ c. omega (arith, LLL .inv .few))
+    (λ c. omega (arith, c .before .before .before .loop .inv .few))
     (λ c. search needs)
     loop-again
     (λ c. search needs)
