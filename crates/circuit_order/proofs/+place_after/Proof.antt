@@ -52,55 +52,14 @@ place-after-loop-holds : (t : ℕ) → place-after-lts.Need-loop-holds (
 place-after-loop-holds t c =
     let z = c .before .before .before in (omega arith, pins-start (z .args .counts) (now (z .args .code)) (now (z .args .waiting)) (z .args .taken) (z .args .k) (z .pre .1 .0))
 
--- src/lib.rt:60:24
-place-after-mul-feeder : (t : ℕ) → place-after-lts.Need-mul-feeder (
-  place-after-below t,
-  place-after.Post,
-  place-reads.Asked,
-  place-reads.Learnt,
-) (place-after-at t) place-after.Post place-after-Inv-loop place-after-μ-loop
-place-after-mul-feeder t c =
-    omega (arith, c .before .before .before .before .before .pre .1 .1, c .before .loop .inv .0, c .before .loop .inv .1 .placing .loaded .within .gates-in, c .before .loop .inv .1 .placing .loaded .within .inputs-in)
-
--- src/lib.rt:60:33
-place-after-add-feeder : (t : ℕ) → place-after-lts.Need-add-feeder (
-  place-after-below t,
-  place-after.Post,
-  place-reads.Asked,
-  place-reads.Learnt,
-) (place-after-at t) place-after.Post place-after-Inv-loop place-after-μ-loop
-place-after-add-feeder t c =
-    omega (arith, c .before .before .before .before .before .pre .1 .1, c .before .loop .inv .0, c .before .loop .inv .1 .placing .loaded .within .gates-in, c .before .loop .inv .1 .placing .loaded .within .inputs-in)
-
--- src/lib.rt:60:24
-place-after-add-feeder-2 : (t : ℕ) → place-after-lts.Need-add-feeder-2 (
-  place-after-below t,
-  place-after.Post,
-  place-reads.Asked,
-  place-reads.Learnt,
-) (place-after-at t) place-after.Post place-after-Inv-loop place-after-μ-loop
-place-after-add-feeder-2 t c =
-    omega (arith, c .before .before .before .before .before .pre .1 .1, c .before .loop .inv .0, c .before .loop .inv .1 .placing .loaded .within .gates-in, c .before .loop .inv .1 .placing .loaded .within .inputs-in)
-
 -- src/lib.rt:60:19
-place-after-mul-feeder-2 : (t : ℕ) → place-after-lts.Need-mul-feeder-2 (
+place-after-pin-of-requires : (t : ℕ) → place-after-lts.Need-pin-of-requires (
   place-after-below t,
   place-after.Post,
   place-reads.Asked,
   place-reads.Learnt,
 ) (place-after-at t) place-after.Post place-after-Inv-loop place-after-μ-loop
-place-after-mul-feeder-2 t c =
-    omega (arith, c .before .before .before .before .before .pre .1 .1, c .before .loop .inv .0, c .before .loop .inv .1 .placing .loaded .within .gates-in, c .before .loop .inv .1 .placing .loaded .within .inputs-in)
-
--- src/lib.rt:60:19
-place-after-slice-read-feeder : (t : ℕ) → place-after-lts.Need-slice-read-feeder (
-  place-after-below t,
-  place-after.Post,
-  place-reads.Asked,
-  place-reads.Learnt,
-) (place-after-at t) place-after.Post place-after-Inv-loop place-after-μ-loop
-place-after-slice-read-feeder t c =
-    omega (arith, c .before .before .before .before .before .before .pre .1 .1, c .before .loop-test .taken, c .before .before .loop .inv .1 .placing .loaded .room)
+place-after-pin-of-requires t c κs = (c .before .before .loop .inv .1 .placing .loaded, c .before .before .before .before .before .before .pre .1 .1, c .before .loop-test .taken)
 
 -- src/lib.rt:60:19
 place-after-cast-feeder : (t : ℕ) → place-after-lts.Need-cast-feeder (
@@ -110,7 +69,7 @@ place-after-cast-feeder : (t : ℕ) → place-after-lts.Need-cast-feeder (
   place-reads.Learnt,
 ) (place-after-at t) place-after.Post place-after-Inv-loop place-after-μ-loop
 place-after-cast-feeder t c =
-    omega (arith, c .slice-known3 .given (8 * c .before .before .before .before .before .before .args .k + (1 + c .before .before .loop .pin)))
+    let w = c .before .before .before .loop .inv .1 .placing .loaded .within in omega (arith, c .pin-of .ensures .there, w .gates-in, w .inputs-in)
 
 -- src/lib.rt:61:16
 place-after-slice-read-if2 : (t : ℕ) → place-after-lts.Need-slice-read-if2 (
@@ -120,7 +79,7 @@ place-after-slice-read-if2 : (t : ℕ) → place-after-lts.Need-slice-read-if2 (
   place-reads.Learnt,
 ) (place-after-at t) place-after.Post place-after-Inv-loop place-after-μ-loop
 place-after-slice-read-if2 t c =
-    let i = c .before .before .before .loop .inv .1 in omega (arith, i .placing .marks-for .long, i .placing .marks-for .room, i .placing .loaded .gate _ (c .before .before .before .before .before .before .before .pre .1 .1) .pin (c .before .before .before .loop .pin) (c .before .before .loop-test .taken))
+    let m = c .before .before .before .before .loop .inv .1 .placing .marks-for in omega (arith, m .long, m .room, c .before .pin-of .ensures .there)
 
 -- src/lib.rt:62:54
 place-after-mul-place-after : (t : ℕ) → place-after-lts.Need-mul-place-after (
@@ -130,7 +89,7 @@ place-after-mul-place-after : (t : ℕ) → place-after-lts.Need-mul-place-after
   place-reads.Learnt,
 ) (place-after-at t) place-after.Post place-after-Inv-loop place-after-μ-loop
 place-after-mul-place-after t c =
-    omega (arith, c .before .before .before .before .before .before .before .before .before .before .pre .1 .1, c .before .before .before .before .before .before .loop .inv .0, c .before .before .before .before .before .before .loop .inv .1 .placing .loaded .within .gates-in, c .before .before .before .before .before .before .loop .inv .1 .placing .loaded .within .inputs-in)
+    omega (arith, c .before .before .before .before .before .before .before .before .before .before .before .pre .1 .1, c .before .before .before .before .before .before .before .loop .inv .0, c .before .before .before .before .before .before .before .loop .inv .1 .placing .loaded .within .gates-in, c .before .before .before .before .before .before .before .loop .inv .1 .placing .loaded .within .inputs-in)
 
 -- src/lib.rt:62:48
 place-after-sub-place-after : (t : ℕ) → place-after-lts.Need-sub-place-after (
@@ -140,7 +99,8 @@ place-after-sub-place-after : (t : ℕ) → place-after-lts.Need-sub-place-after
   place-reads.Learnt,
 ) (place-after-at t) place-after.Post place-after-Inv-loop place-after-μ-loop
 place-after-sub-place-after t c =
-    pin-waits _ _ _ _ _ _ _ (c .before .before .before .before .before .before .before .before .before .before .pre .1 .1) _ (c .before .before .before .before .before .before .loop .inv .1) (c .before .before .if2 .taken) .0
+    let is = c .before .before .before .before .pin-of .ensures .is in
+    rw is (pin-waits _ _ _ _ _ _ _ (c .before .before .before .before .before .before .before .before .before .before .before .pre .1 .1) _ (c .before .before .before .before .before .before .before .loop .inv .1) (rw is at (c .before .before .if2 .taken)) .0)
 
 -- src/lib.rt:62:90
 place-after-sub-place-after-2 : (t : ℕ) → place-after-lts.Need-sub-place-after-2 (
@@ -150,7 +110,7 @@ place-after-sub-place-after-2 : (t : ℕ) → place-after-lts.Need-sub-place-aft
   place-reads.Learnt,
 ) (place-after-at t) place-after.Post place-after-Inv-loop place-after-μ-loop
 place-after-sub-place-after-2 t c =
-    omega (arith, c .before .before .before .before .before .before .before .before .if1 .left)
+    omega (arith, c .before .before .before .before .before .before .before .before .before .if1 .left)
 
 -- src/lib.rt:62:13
 place-after-place-after-requires : (t : ℕ) → place-after-lts.Need-place-after-requires (
@@ -160,7 +120,9 @@ place-after-place-after-requires : (t : ℕ) → place-after-lts.Need-place-afte
   place-reads.Learnt,
 ) (place-after-at t) place-after.Post place-after-Inv-loop place-after-μ-loop
 place-after-place-after-requires t c κs =
-    let z = c .before .before .before .before .before .before .before .before .before .before .before in (omega (arith, z .pre .0, c .before .before .before .before .before .before .before .before .if1 .left), (c .before .before .before .before .before .before .before .loop .inv .1 .placing, pin-waits _ _ _ _ _ _ _ (z .pre .1 .1) _ (c .before .before .before .before .before .before .before .loop .inv .1) (c .before .before .before .if2 .taken) .1))
+    let z = c .before .before .before .before .before .before .before .before .before .before .before .before in
+    let is = c .before .before .before .before .before .pin-of .ensures .is in
+    rw is (omega (arith, z .pre .0, c .before .before .before .before .before .before .before .before .before .if1 .left), (c .before .before .before .before .before .before .before .before .loop .inv .1 .placing, pin-waits _ _ _ _ _ _ _ (z .pre .1 .1) _ (c .before .before .before .before .before .before .before .before .loop .inv .1) (rw is at (c .before .before .before .if2 .taken)) .1))
 
 -- src/lib.rt:63:20
 place-after-slice-read-if3 : (t : ℕ) → place-after-lts.Need-slice-read-if3 (
@@ -170,7 +132,7 @@ place-after-slice-read-if3 : (t : ℕ) → place-after-lts.Need-slice-read-if3 (
   place-reads.Learnt,
 ) (place-after-at t) place-after.Post place-after-Inv-loop place-after-μ-loop
 place-after-slice-read-if3 t c =
-    let p = c .before .before .before .before .before .place-after .ensures in let i = c .before .before .before .before .before .before .before .before .before .before .before .before .before .loop .inv .1 in omega (arith, p .placing .marks-for .long, p .placing .marks-for .room, i .placing .loaded .gate _ (c .before .before .before .before .before .before .before .before .before .before .before .before .before .before .before .before .before .pre .1 .1) .pin (c .before .before .before .before .before .before .before .before .before .before .before .before .before .loop .pin) (c .before .before .before .before .before .before .before .before .before .before .before .before .loop-test .taken))
+    let m = c .before .before .before .before .before .place-after .ensures .placing .marks-for in omega (arith, m .long, m .room, c .before .before .before .before .before .before .before .before .before .before .before .pin-of .ensures .there)
 
 -- src/lib.rt:64:17
 place-after-same-length : (t : ℕ) → place-after-lts.Need-same-length (
@@ -180,7 +142,7 @@ place-after-same-length : (t : ℕ) → place-after-lts.Need-same-length (
   place-reads.Learnt,
 ) (place-after-at t) place-after.Post place-after-Inv-loop place-after-μ-loop
 place-after-same-length t c =
-    c .before .before .before .before .before .before .place-after .ensures .reordered .long ∙ c .before .before .before .before .before .before .before .before .before .before .before .before .before .before .loop .inv .1 .reordered .long
+    c .before .before .before .before .before .before .place-after .ensures .reordered .long ∙ c .before .before .before .before .before .before .before .before .before .before .before .before .before .before .before .loop .inv .1 .reordered .long
 
 -- src/lib.rt:64:17
 place-after-same-length-2 : (t : ℕ) → place-after-lts.Need-same-length-2 (
@@ -190,7 +152,7 @@ place-after-same-length-2 : (t : ℕ) → place-after-lts.Need-same-length-2 (
   place-reads.Learnt,
 ) (place-after-at t) place-after.Post place-after-Inv-loop place-after-μ-loop
 place-after-same-length-2 t c =
-    let z = c .before .before .before .before .before .before .before .before .before .before .before .before .before .before .before .before .before .before in c .before .before .before .before .before .before .place-after .ensures .placing .marks-for .long ∙ sym (z .pre .1 .0 .marks-for .long)
+    let z = c .before .before .before .before .before .before .before .before .before .before .before .before .before .before .before .before .before .before .before in c .before .before .before .before .before .before .place-after .ensures .placing .marks-for .long ∙ sym (z .pre .1 .0 .marks-for .long)
 
 -- src/lib.rt:64:17
 place-after-returns-2 : (t : ℕ) → place-after-lts.Need-returns-2 (
@@ -200,9 +162,10 @@ place-after-returns-2 : (t : ℕ) → place-after-lts.Need-returns-2 (
   place-reads.Learnt,
 ) (place-after-at t) place-after.Post place-after-Inv-loop place-after-μ-loop
 place-after-returns-2 t c =
-    let z = c .before .before .before .before .before .before .before .before .before .before .before .before .before .before .before .before .before .before in let p = c .before .before .before .before .before .before .place-after in let e : suc (z .args .depth - 1) ≡ z .args .depth = omega (arith, c .before .before .before .before .before .before .before .before .before .before .before .before .before .before .before .if1 .left) in
+    let z = c .before .before .before .before .before .before .before .before .before .before .before .before .before .before .before .before .before .before .before in let p = c .before .before .before .before .before .before .place-after in let e : suc (z .args .depth - 1) ≡ z .args .depth = omega (arith, c .before .before .before .before .before .before .before .before .before .before .before .before .before .before .before .before .if1 .left) in
+    let is = c .before .before .before .before .before .before .before .before .before .before .before .before .pin-of .ensures .is in
     subst (PlacedAfter (z .args .counts) (now (z .args .code)) (p .last .0) (now (z .args .waiting)) (p .last .1 .1 .1 .0) (p .result) (z .args .k)) e
-    (pins-stuck _ _ _ _ _ _ _ (z .pre .1 .1) _ (c .before .before .before .before .before .before .before .before .before .before .before .before .before .before .loop .inv .1) (c .before .before .before .before .before .before .before .before .before .before .before .before .before .loop-test .taken) _ _ _ _ (c .before .before .before .before .before .before .before .before .before .before .if2 .taken) (p .ensures) (c .if3 .taken))
+    (pins-stuck _ _ _ _ _ _ _ (z .pre .1 .1) _ (c .before .before .before .before .before .before .before .before .before .before .before .before .before .before .before .loop .inv .1) (c .before .before .before .before .before .before .before .before .before .before .before .before .before .before .loop-test .taken) _ _ _ _ (rw is at (c .before .before .before .before .before .before .before .before .before .before .if2 .taken)) (rw is at (p .ensures)) (rw is at (c .if3 .taken)))
 
 -- src/lib.rt:67:9
 place-after-add-pin : (t : ℕ) → place-after-lts.Need-add-pin (
@@ -232,12 +195,13 @@ place-after-loop-again : (t : ℕ) → place-after-lts.Need-loop-again (
   place-reads.Learnt,
 ) (place-after-at t) place-after.Post place-after-Inv-loop place-after-μ-loop
 place-after-loop-again t c =
-    let z = c .before .before .before .before .before .before .before .before in let l = c .before .before .before .before .loop in let h = c .before .before .before .loop-test .taken in
+    let z = c .before .before .before .before .before .before .before .before .before in let l = c .before .before .before .before .before .loop in let h = c .before .before .before .before .loop-test .taken in
+    let is = c .before .before .pin-of .ensures .is in
     let on : List ℕ → List ℕ → ℕ → Type 0 = λ u v m. AfterPins (z .args .counts) (now (z .args .code)) u (now (z .args .waiting)) v m (z .args .k) (l .pin + 1) in (
       omega arith,
       ⊎-elim
-          (λ w. subst₃ on (sym (w .11)) (sym (w .12)) (sym (w .13)) (pins-more _ _ _ _ _ _ _ (z .pre .1 .1) _ (l .inv .1) h _ _ _ _ (w .0 .taken) (w .4 .ensures) (w .10 .left)))
-          (λ w. subst₃ on (sym (w .1)) (sym (w .2)) (sym (w .3)) (pins-skip _ _ _ _ _ _ _ (z .pre .1 .1) _ (l .inv .1) (w .0 .left)))
+          (λ w. subst₃ on (sym (w .11)) (sym (w .12)) (sym (w .13)) (pins-more _ _ _ _ _ _ _ (z .pre .1 .1) _ (l .inv .1) h _ _ _ _ (rw is at (w .0 .taken)) (rw is at (w .4 .ensures)) (rw is at (w .10 .left))))
+          (λ w. subst₃ on (sym (w .1)) (sym (w .2)) (sym (w .3)) (pins-skip _ _ _ _ _ _ _ (z .pre .1 .1) _ (l .inv .1) (rw is at (w .0 .left))))
           (c .if2 .came),
     )
 
@@ -366,11 +330,7 @@ pub +place-after-spec : {M : Type 1} → statement M
     place-after-μ-loop
     (place-after-returns t)
     (place-after-loop-holds t)
-    (place-after-mul-feeder t)
-    (place-after-add-feeder t)
-    (place-after-add-feeder-2 t)
-    (place-after-mul-feeder-2 t)
-    (place-after-slice-read-feeder t)
+    (place-after-pin-of-requires t)
     (place-after-cast-feeder t)
     (place-after-slice-read-if2 t)
     (place-after-mul-place-after t)

@@ -46,61 +46,12 @@ visit-loop-holds :
 visit-loop-holds t c =
     let z = c .before .before in (omega arith, visit-start (z .args .counts) (now (z .args .code)) (z .pre .1 .0) (z .args .k) (z .pre .1 .1) (now (z .args .left)) (z .pre .1 .2))
 
--- src/lib.rt:96:24
-visit-mul-net :
-    (t : ℕ) →
-    visit-lts.Need-mul-net
-    (visit-below t, visit.Post)
-    (visit-at t)
-    visit.Post
-    visit-Inv-loop
-    visit-μ-loop
-visit-mul-net t c =
-    omega (arith, c .before .before .before .before .pre .1 .1, c .before .before .before .before .pre .1 .0 .within .gates-in, c .before .loop .inv .0)
-
--- src/lib.rt:96:33
-visit-add-net :
-    (t : ℕ) →
-    visit-lts.Need-add-net
-    (visit-below t, visit.Post)
-    (visit-at t)
-    visit.Post
-    visit-Inv-loop
-    visit-μ-loop
-visit-add-net t c =
-    omega (arith, c .before .before .before .before .pre .1 .1, c .before .before .before .before .pre .1 .0 .within .gates-in, c .before .loop .inv .0)
-
--- src/lib.rt:96:24
-visit-add-net-2 :
-    (t : ℕ) →
-    visit-lts.Need-add-net-2
-    (visit-below t, visit.Post)
-    (visit-at t)
-    visit.Post
-    visit-Inv-loop
-    visit-μ-loop
-visit-add-net-2 t c =
-    omega (arith, c .before .before .before .before .pre .1 .1, c .before .before .before .before .pre .1 .0 .within .gates-in, c .before .loop .inv .0)
-
 -- src/lib.rt:96:19
-visit-mul-net-2 :
-    (t : ℕ) →
-    visit-lts.Need-mul-net-2
-    (visit-below t, visit.Post)
-    (visit-at t)
-    visit.Post
-    visit-Inv-loop
-    visit-μ-loop
-visit-mul-net-2 t c =
-    omega (arith, c .before .before .before .before .pre .1 .1, c .before .before .before .before .pre .1 .0 .within .gates-in, c .before .loop .inv .0)
-
--- src/lib.rt:96:19
-visit-shared-slice-read-net : (t : ℕ) → visit-lts.Need-shared-slice-read-net (
+visit-pin-of-requires : (t : ℕ) → visit-lts.Need-pin-of-requires (
   visit-below t,
   visit.Post,
 ) (visit-at t) visit.Post visit-Inv-loop visit-μ-loop
-visit-shared-slice-read-net t c =
-    omega (arith, c .before .before .before .before .before .pre .1 .1, c .before .loop-test .taken, c .before .before .before .before .before .pre .1 .0 .room)
+visit-pin-of-requires t c κs = let z = c .before .before .before .before in (z .pre .1 .0, z .pre .1 .1, c .loop-test .taken)
 
 -- src/lib.rt:96:19
 visit-cast-net :
@@ -112,7 +63,7 @@ visit-cast-net :
     visit-Inv-loop
     visit-μ-loop
 visit-cast-net t c =
-    omega (arith, c .shared-slice-known2 .given (8 * c .before .before .before .before .before .args .k + (1 + c .before .before .loop .i)))
+    let w = c .before .before .before .before .before .pre .1 .0 .within in omega (arith, c .pin-of .ensures .there, w .gates-in, w .inputs-in)
 
 -- src/lib.rt:97:16
 visit-slice-read-if1 :
@@ -124,7 +75,7 @@ visit-slice-read-if1 :
     visit-Inv-loop
     visit-μ-loop
 visit-slice-read-if1 t c =
-    let m = c .before .before .before .loop .inv .1 .stays .marks-for in let z = c .before .before .before .before .before .before in omega (arith, m .long, m .room, z .pre .1 .0 .gate _ (z .pre .1 .1) .pin (c .before .before .before .loop .i) (c .before .before .loop-test .taken))
+    let m = c .before .before .before .loop .inv .1 .stays .marks-for in omega (arith, m .long, m .room, c .before .pin-of .ensures .there)
 
 -- src/lib.rt:98:13
 visit-slice-write-left :
@@ -136,7 +87,7 @@ visit-slice-write-left :
     visit-Inv-loop
     visit-μ-loop
 visit-slice-write-left t c =
-    let m = c .before .before .before .before .loop .inv .1 .stays .marks-for in let z = c .before .before .before .before .before .before .before in omega (arith, m .long, m .room, z .pre .1 .0 .gate _ (z .pre .1 .1) .pin (c .before .before .before .before .loop .i) (c .before .before .before .loop-test .taken))
+    let m = c .before .before .before .before .loop .inv .1 .stays .marks-for in omega (arith, m .long, m .room, c .before .before .pin-of .ensures .there)
 
 -- src/lib.rt:99:39
 visit-mul-visit :
@@ -160,7 +111,9 @@ visit-sub-visit :
     visit-Inv-loop
     visit-μ-loop
 visit-sub-visit t c =
-    let z = c .before .before .before .before .before .before .before .before in visit-gate (z .args .counts) (now (z .args .code)) (z .pre .1 .0) (z .args .k) (z .pre .1 .1) (now (z .args .left)) (c .before .before .before .before .before .loop .left) (c .before .before .before .before .before .loop .i) (c .before .before .before .before .loop-test .taken) (c .before .before .before .before .before .loop .inv .1) (c .before .if1 .taken) .0
+    let z = c .before .before .before .before .before .before .before .before in
+    let is = c .before .before .before .pin-of .ensures .is in
+    rw is (visit-gate (z .args .counts) (now (z .args .code)) (z .pre .1 .0) (z .args .k) (z .pre .1 .1) (now (z .args .left)) (c .before .before .before .before .before .loop .left) (c .before .before .before .before .before .loop .i) (c .before .before .before .before .loop-test .taken) (c .before .before .before .before .before .loop .inv .1) (rw is at (c .before .if1 .taken)) .0)
 
 -- src/lib.rt:99:13
 visit-visit-requires :
@@ -175,7 +128,9 @@ visit-visit-requires t c κs =
     let z = c .before .before .before .before .before .before .before .before .before in
     let l = c .before .before .before .before .before .before .loop .inv .1 in
     let h = c .before .before .before .before .before .loop-test .taken in
-    let e = c .before .before .if1 .taken in (
+    let is = c .before .before .before .before .pin-of .ensures .is in
+    let e = rw is at (c .before .before .if1 .taken) in
+    rw is (
       subst (λ (u : ℕ). sum (set (c .before .before .before .before .before .before .loop .left) (pinIn (now (z .args .code)) (z .args .k) (c .before .before .before .before .before .before .loop .i)) 0) < u) (z .pre .0) (visit-sum (z .args .counts) (now (z .args .code)) (z .pre .1 .0) (z .args .k) (z .pre .1 .1) (now (z .args .left)) (c .before .before .before .before .before .before .loop .left) (c .before .before .before .before .before .before .loop .i) h l e),
       (z .pre .1 .0, visit-gate (z .args .counts) (now (z .args .code)) (z .pre .1 .0) (z .args .k) (z .pre .1 .1) (now (z .args .left)) (c .before .before .before .before .before .before .loop .left) (c .before .before .before .before .before .before .loop .i) h l e .1, visit-left (z .args .counts) (now (z .args .code)) (z .pre .1 .0) (z .args .k) (z .pre .1 .1) (now (z .args .left)) (c .before .before .before .before .before .before .loop .left) (c .before .before .before .before .before .before .loop .i) h l e),
     )
@@ -217,11 +172,12 @@ visit-loop-again t c =
     let z = c .before .before .before .before .before .before .before in
     let l = c .before .before .before .before .loop in
     let h = c .before .before .before .loop-test .taken in
+    let is = c .before .before .pin-of .ensures .is in
     let on : List ℕ → Type 0 = λ u. Visited (z .args .counts) (now (z .args .code)) (now (z .args .left)) u (FirstPins (z .args .counts) (now (z .args .code)) (z .args .k) (l .i + 1)) in (
       omega arith,
       ⊎-elim
-          (λ w. subst on (sym (w .6)) (visit-more (z .args .counts) (now (z .args .code)) (z .pre .1 .0) (z .args .k) (z .pre .1 .1) (now (z .args .left)) (c .before .before .before .before .loop .left) (c .before .before .before .before .loop .i) h (l .inv .1) (w .0 .taken) _ (w .3 .ensures)))
-          (λ w. subst on (sym (w .1)) (visit-skip (z .args .counts) (now (z .args .code)) (z .pre .1 .0) (z .args .k) (z .pre .1 .1) (now (z .args .left)) (c .before .before .before .before .loop .left) (c .before .before .before .before .loop .i) h (l .inv .1) (w .0 .left)))
+          (λ w. subst on (sym (w .6)) (visit-more (z .args .counts) (now (z .args .code)) (z .pre .1 .0) (z .args .k) (z .pre .1 .1) (now (z .args .left)) (c .before .before .before .before .loop .left) (c .before .before .before .before .loop .i) h (l .inv .1) (rw is at (w .0 .taken)) _ (rw is at (w .3 .ensures))))
+          (λ w. subst on (sym (w .1)) (visit-skip (z .args .counts) (now (z .args .code)) (z .pre .1 .0) (z .args .k) (z .pre .1 .1) (now (z .args .left)) (c .before .before .before .before .loop .left) (c .before .before .before .before .loop .i) h (l .inv .1) (rw is at (w .0 .left))))
           (c .if1 .came),
     )
 
@@ -262,11 +218,7 @@ pub +visit-spec : {M : Type 1} → statement M
     visit-Inv-loop
     visit-μ-loop
     (visit-loop-holds t)
-    (visit-mul-net t)
-    (visit-add-net t)
-    (visit-add-net-2 t)
-    (visit-mul-net-2 t)
-    (visit-shared-slice-read-net t)
+    (visit-pin-of-requires t)
     (visit-cast-net t)
     (visit-slice-read-if1 t)
     (visit-slice-write-left t)
