@@ -27,6 +27,9 @@ reordered-set c before code at x other r = record {
 
 -- gate k is written to place i
 module _ (c : Counts) (code : List ℕ) (k i : ℕ) (hk : k < c .gates) (hi : i < c .gates) (room : 8 * c .gates ≤ length code) where
+  abbrev first : List ℕ
+  first = set code (8 * i + 5) k
+
   pub gate-placed : GatePlaced c code (set (set code (8 * i + 5) k) (8 * k + 6) i) k i
   gate-placed = record {
     reordered = reordered-set c code first (8 * k + 6) i (λ j a e. a k hk .1 e) (reordered-set c code code (8 * i + 5) k (λ j a e. a i hi .0 e) (reordered-refl c code));
@@ -35,9 +38,6 @@ module _ (c : Counts) (code : List ℕ) (k i : ℕ) (hk : k < c .gates) (hi : i 
     place-new = getD-set-same first (8 * k + 6) i 0 (omega (arith, length-set code (8 * i + 5) k));
     place-old = λ m d. getD-set-other first (8 * k + 6) (8 * m + 6) i 0 (λ e. d (omega arith)) ∙ getD-set-other code (8 * i + 5) (8 * m + 6) k 0 (λ e. omega arith);
   }
-    where
-      abbrev first : List ℕ
-      first = set code (8 * i + 5) k
 
 module _ (c : Counts) (before code : List ℕ) (r : Reordered c before code) where
   cell-kept : (k : ℕ) → cellIn code k ≡ cellIn before k
