@@ -19,7 +19,7 @@ use Rattle.verdict.specs.declared.Verdict.{Verdict}
 use Rattle.verdict.specs.declared.WordOrder.{WordOrder}
 use Rattle.verdict.specs.Words as words
 use Rattle.check_spec.specs.Lists.{some}
-use Rattle.check_spec.specs.Content.{Content, Files, files, stageIn}
+use Rattle.check_spec.specs.Content.{Content, Files, plainFiles, stageIn}
 use Rattle.check_spec.specs.Rows.{netOf}
 use Rattle.check_spec.specs.Words.{spelled}
 use Rattle.check_spec.specs.Verdicts.{refusal, reading, rowStage, verdictOn}
@@ -122,9 +122,9 @@ not-refused stage p number at e =
 
 -- ---- two files
 
-module _ (order : WordOrder) (stage reference : List ℕ) (v : Verdict) (is : v ≡ verdictOn order (files stage reference)) where
+module _ (order : WordOrder) (stage reference : List ℕ) (v : Verdict) (is : v ≡ verdictOn order (plainFiles stage reference)) where
   abbrev f : Files
-  f = files stage reference
+  f = plainFiles stage reference
 
   number : (n : ℕ) → v .number ≡ n → verdictOn order f .number ≡ n
   number n e = ap (λ (x : Verdict). x .number) (sym is) ∙ e

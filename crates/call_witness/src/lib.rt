@@ -14,7 +14,7 @@ ghost use Rattle.gates.specs.Table.{GateTable};
 ghost use Rattle.runs.specs.Net.{nets};
 ghost use Rattle.netlist.specs.Reading.{stageLimits, Within};
 ghost use Rattle.check_spec.specs.Lists.{some};
-ghost use Rattle.check_spec.specs.Content.{files};
+ghost use Rattle.check_spec.specs.Content.{plainFiles};
 ghost use Rattle.verdict.specs.Words.{names};
 ghost use Rattle.circuit.specs.Stage.{netCount, stageIn, StageLoaded};
 ghost use Rattle.circuit.specs.Rows.{RowFor};
@@ -299,9 +299,9 @@ pub fn witness(
     asked: usize,
     list: &mut [u16],
 ) -> RunAnswer
-    ensures { λ r. ⌜ WitnessDemand order (files (now (stage .entry)) (now (reference .entry))) asked (now (list .entry)) r (now (list .exit)) ⌝ }
+    ensures { λ r. ⌜ WitnessDemand order (plainFiles (now (stage .entry)) (now (reference .entry))) asked (now (list .entry)) r (now (list .exit)) ⌝ }
 {
-    let verdict = check_files::check(order, stage, reference);
+    let verdict = check_files::verdict_on(order, false, stage, reference);
     if has_run(verdict.number) {
         return witness_stage(order, stage, verdict, asked, list);
     }

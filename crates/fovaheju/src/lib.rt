@@ -127,7 +127,7 @@ pub fn witness(
     asked: usize,
     list: &mut [u16],
 ) -> RunAnswer
-    ensures { λ r. ⌜ WitnessDemand order (content.files (now (stage .entry)) (now (reference .entry))) asked (now (list .entry)) r (now (list .exit)) ⌝ }
+    ensures { λ r. ⌜ WitnessDemand order (content.plainFiles (now (stage .entry)) (now (reference .entry))) asked (now (list .entry)) r (now (list .exit)) ⌝ }
 {
     call_witness::witness(order, stage, reference, asked, list)
 }
@@ -280,7 +280,7 @@ pub extern "C" fn fovaheju_witness(
     asked: usize,
     list: &mut [u16],
 ) -> RunAnswer
-    ensures { λ r. ⌜ WitnessDemand (orderOf order) (content.files (now (stage .entry)) (now (reference .entry))) asked (now (list .entry)) r
+    ensures { λ r. ⌜ WitnessDemand (orderOf order) (content.plainFiles (now (stage .entry)) (now (reference .entry))) asked (now (list .entry)) r
         (now (list .exit)) ⌝ }
 {
     witness(order_of(order), stage, reference, asked, list)
