@@ -1,6 +1,7 @@
 -- A stage file that was loaded: its flat form is the stage that the definitions see. Assumes nothing.
 use Prim.Native.Nat.{ℕ}
 use mathlib.Core.Path.{_≡_, sym, ap, _∙_}
+use mathlib.Core.Bool.{false}
 use mathlib.Core.List.{List}
 use lib.ListN.{length, length-map}
 use Rattle.netlist.specs.declared.File.the-variants as file
@@ -26,7 +27,7 @@ pub record SameStage (s : Content) (c : Counts) (code : List ℕ) : Type 0 where
 pub same-stage : (stage : List ℕ) (c : Counts) (code : List ℕ) (p : Places) → readFile file.Stage stageLimits stage ≡ readable p → stageIn c code ≡ stageOf stage p
     → SameStage (rowStage stage) c code
 same-stage stage c code p e q =
-    let view : stageIn c code ≡ stageView (rowStage stage) = q ∙ sym (ap (λ (x : Reading). stageView (contentAt file.Stage stage x)) e ∙ stage-view stage p) in
+    let view : stageIn c code ≡ stageView (rowStage stage) = q ∙ sym (ap (λ (x : Reading). stageView (contentAt file.Stage stage x)) e ∙ stage-view false stage p) in
     record {
       view = view;
       net = ap verdict.netOf view ∙ net-view (rowStage stage);

@@ -8,7 +8,7 @@ use Rattle.check_files.proofs.check.Tie as tie
 
 returns : tie.Need-returns
 returns c =
-    let z = c .before .before in
+    let z = c .before .before .before in
     checked (z .args .order) (files (now (z .args .stage)) (now (z .args .reference))) _ (c .verdict-on .ensures)
 
 pub check-spec : {M : Type 1} → statement M
