@@ -9,6 +9,7 @@ pub mod draws;
 pub mod joins;
 pub mod made;
 pub mod nexts;
+pub mod runs;
 pub mod texts;
 
 use crate::circuits::{

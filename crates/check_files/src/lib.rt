@@ -147,17 +147,15 @@ pub fn check_loading(
     }
 }
 
-// The verdict on a stage file and a reference file, with words named in an order. This call alone reads registers.
-pub fn check(order: WordOrder, stage: &[u8], reference: &[u8]) -> Verdict
-    ensures verdict { λ r. ⌜ r ≡ verdictOn order (files (now (stage .entry)) (now (reference .entry))) ⌝ }
-    ensures demand2 { λ r. ⌜ Demand2 order (files (now (stage .entry)) (now (reference .entry))) r ⌝ }
-    ensures runs { λ r. ⌜ Demand3 order (files (now (stage .entry)) (now (reference .entry))) r ⌝ }
+// The verdict on a stage file, with registers or without, and a reference file, with words named in an order.
+pub fn verdict_on(order: WordOrder, registers: bool, stage: &[u8], reference: &[u8]) -> Verdict
+    ensures { λ r. ⌜ r ≡ verdictOn order (filesWithin registers stageLimits referenceLimits (now (stage .entry)) (now (reference .entry))) ⌝ }
 {
     let mut code = [0u16; circuit_load::STAGE_CODE];
     let mut loaded = [0u16; circuit_load::REFERENCE_CODE];
     verdict_of(check_loading(
         order,
-        true,
+        registers,
         stage,
         reference,
         netlist::stage_limits(),
@@ -165,4 +163,13 @@ pub fn check(order: WordOrder, stage: &[u8], reference: &[u8]) -> Verdict
         &mut code,
         &mut loaded,
     ))
+}
+
+// The check of a stage file and a reference file, with words named in an order. This call alone reads registers.
+pub fn check(order: WordOrder, stage: &[u8], reference: &[u8]) -> Verdict
+    ensures verdict { λ r. ⌜ r ≡ verdictOn order (files (now (stage .entry)) (now (reference .entry))) ⌝ }
+    ensures demand2 { λ r. ⌜ Demand2 order (files (now (stage .entry)) (now (reference .entry))) r ⌝ }
+    ensures runs { λ r. ⌜ Demand3 order (files (now (stage .entry)) (now (reference .entry))) r ⌝ }
+{
+    verdict_on(order, true, stage, reference)
 }

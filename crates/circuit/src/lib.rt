@@ -43,7 +43,13 @@ pub fn pattern(code: &[u16], counts: Counts, k: usize, row: &[u8]) -> u8
 }
 
 // 1 where the set expression of gate k holds, else 0.
-fn gate_level(entries: &[[u8; 16]; 27], code: &[u16], counts: Counts, k: usize, row: &[u8]) -> u8
+pub fn gate_level(
+    entries: &[[u8; 16]; 27],
+    code: &[u16],
+    counts: Counts,
+    k: usize,
+    row: &[u8],
+) -> u8
     requires { ⌜ GateTable (now entries) × StageLoaded counts (now code) × (k < counts .gates) × RowFor counts (now row) ⌝ }
     ensures { λ r. ⌜ r ≡ rows.isSet (netsIn counts (now (row .entry))) (gateIn (now (code .entry)) k) ⌝ }
 {
@@ -104,7 +110,7 @@ pub fn settle(code: &[u16], counts: Counts, row: &mut [u8])
 
 // The level that gate k is to have on the way back to NULL: a high gate stays high where it is kept, with hold while some pin is high, and
 // without hold while its set expression holds.
-fn level_falling(
+pub fn level_falling(
     entries: &[[u8; 16]; 27],
     code: &[u16],
     counts: Counts,
