@@ -3,9 +3,9 @@
 use Prim.Native.Nat.{ℕ, _+_, _*_, _^_, _≤_, _<_}
 use native.Mathlib.Omega.{arith}
 use mathlib.Core.Path.{_≡_, refl, sym, ap, ap₂, _∙_, subst}
-use mathlib.Core.Bool.{Bool, true, cond}
+use mathlib.Core.Bool.{Bool, true, false, cond}
 use mathlib.Core.List.{List, [], map}
-use lib.ListN.{length, getD, take, drop, length-map}
+use lib.ListN.{length, getD, take, drop, length-append, length-map}
 use lib.Dec.{eqb, ltb}
 use borrow.Author.Tests.{eq-eqb, ne-eqb}
 use Rattle.runs.specs.Row.{Row, low, after}
@@ -40,6 +40,7 @@ use Rattle.run_spec.specs.declared.PlayAnswer.{PlayAnswer}
 use Rattle.run_spec.specs.Played.{Run, riseBy, fallBy, switchings, answering, handedOut}
 use Rattle.run_spec.specs.Play.{playChecksOn, playedSteps, playOn, playRow, levelsOf, PlayDemand}
 use Rattle.run_spec.specs.Keys.{keyIn, runByKeys, keyChecksOn, keysOn, KeysFor, RunOfKeys, KeysDemand}
+use Rattle.run_spec.proofs.Played.{rise-few, fall-few, handed}
 use Rattle.run_spec.proofs.OneWord.{full, to-rest, to-low}
 use Rattle.run_spec.proofs.Play.{steps-barred}
 use Rattle.run_spec.proofs.Refusals.{unrefused}
@@ -197,13 +198,33 @@ module _ (order : WordOrder) (stage : List ℕ) (name : ℕ) (keys before : List
   unfolding keysOn
   keyed-refused d = ap (λ (b : Bool). cond b (runByKeys (rowStage stage) keys word) noRun) (ne-eqb (verdict .number) 0 d)
 
+  -- each net stands at most once in the rise, and in the fall
+  keys-few : length (switchings (keysOn order stage name keys)) ≤ 2 * nets (netOf (rowStage stage))
+  unfolding keysOn runByKeys
+  keys-few = go (eqb (verdict .number) 0)
+    where
+      go : (b : Bool) → length (switchings (cond b (runByKeys (rowStage stage) keys word) noRun)) ≤ 2 * nets (netOf (rowStage stage))
+      go true =
+          let N = netOf (rowStage stage) in
+          let key = keyIn keys in
+          let key′ = keyIn (drop (nets N) keys) in
+          let rise = riseBy key N (railsFor word) low in
+          omega (
+            arith,
+            length-append rise (fallBy key′ N (after low rise) low),
+            rise-few key N (railsFor word) low,
+            fall-few key′ N (after low rise) low,
+          )
+      go false = omega arith
+
   pub keys-demand : (r : RunAnswer) (after′ : List ℕ) → r ≡ answering verdict (keysOn order stage name keys) → after′ ≡ handedOut (switchings (keysOn order stage name keys)) before
       → KeysDemand order stage name keys before r after′
   keys-demand r after′ p q =
       let is : r .verdict ≡ verdict = ap (λ (x : RunAnswer). x .verdict) p in
       record {
         answer = p;
-        list = q;
+        handed = rw (p, q) (handed verdict (keysOn order stage name keys) before);
+        few = omega (arith, ap (λ (x : RunAnswer). x .count) p, keys-few);
         least = rw is (judged (keyChecksOn stage keys));
         unchanged = λ d.
             let no : keysOn order stage name keys ≡ noRun = keyed-refused (λ e. d (is ∙ unrefused stage 2 keys e .is)) in

@@ -15,7 +15,7 @@ use Rattle.check_spec.specs.Cases as e
 use Rattle.check_spec.specs.Cases.{verdict, judge}
 use Rattle.check_spec.specs.Lists as l
 use Rattle.check_spec.specs.Content as t
-use Rattle.check_spec.specs.Content.{files}
+use Rattle.check_spec.specs.Content.{plainFiles}
 use Rattle.check_spec.specs.Rows as o
 use Rattle.check_spec.specs.Words as w
 use Rattle.check_spec.specs.Checks as h
@@ -185,7 +185,8 @@ keyedRuns =
     -- equal keys: the least net; then the rise from the highest net down, and the fall in another order
     keyed 2 (0 ∷ 0 ∷ 0 ∷ 0 ∷ 0 ∷ 0 ∷ 0 ∷ 0 ∷ 0 ∷ 0 ∷ 0 ∷ 0 ∷ []) 7 (verdict 0 0 0 0) 3 6 (1 ∷ 2 ∷ 5 ∷ 1 ∷ 2 ∷ 5 ∷ 906 ∷ []) ∷
     keyed 2 (9 ∷ 8 ∷ 7 ∷ 6 ∷ 5 ∷ 4 ∷ 0 ∷ 1 ∷ 2 ∷ 3 ∷ 4 ∷ 5 ∷ []) 6 (verdict 0 0 0 0) 3 6 (2 ∷ 1 ∷ 5 ∷ 1 ∷ 2 ∷ 5 ∷ []) ∷
-    -- a list too short is left as it was, and keys that are too few are refused
+    -- a list too short, by one entry or more, is left as it was, and keys that are too few are refused
+    keyed 2 (0 ∷ 0 ∷ 0 ∷ 0 ∷ 0 ∷ 0 ∷ 0 ∷ 0 ∷ 0 ∷ 0 ∷ 0 ∷ 0 ∷ []) 5 (verdict 0 0 0 0) 3 6 (900 ∷ 901 ∷ 902 ∷ 903 ∷ 904 ∷ []) ∷
     keyed 2 (0 ∷ 0 ∷ 0 ∷ 0 ∷ 0 ∷ 0 ∷ 0 ∷ 0 ∷ 0 ∷ 0 ∷ 0 ∷ 0 ∷ []) 2 (verdict 0 0 0 0) 3 6 (900 ∷ 901 ∷ []) ∷
     keyed 2 (0 ∷ 0 ∷ 0 ∷ 0 ∷ 0 ∷ 0 ∷ []) 2 (verdict 16 3 6 0) 0 0 (900 ∷ 901 ∷ []) ∷
     []
@@ -194,9 +195,9 @@ keyedRuns =
 
 abbrev Computed : Type 0
 Computed =
-    (map (λ (x : Case). answering (verdictOn (x .order) (files (x .stage) (x .reference))) (witnessOn (x .order) (files (x .stage) (x .reference)) (x .asked))) cases
+    (map (λ (x : Case). answering (verdictOn (x .order) (plainFiles (x .stage) (x .reference))) (witnessOn (x .order) (plainFiles (x .stage) (x .reference)) (x .asked))) cases
     ≡ map (λ (x : Case). x .answer) cases)
-    × (map (λ (x : Case). handedOut (switchings (witnessOn (x .order) (files (x .stage) (x .reference)) (x .asked))) (lent (x .room))) cases ≡ map (λ (x : Case). x .list) cases)
+    × (map (λ (x : Case). handedOut (switchings (witnessOn (x .order) (plainFiles (x .stage) (x .reference)) (x .asked))) (lent (x .room))) cases ≡ map (λ (x : Case). x .list) cases)
     × (map (λ (x : Judging). playOn FirstHighest (x .stage) (x .name) (x .fall) (x .list) (lent (x .bytes))) judgings ≡ map (λ (x : Judging). x .answer) judgings)
     × (map (λ (x : Judging). playRow FirstHighest (x .stage) (x .name) (x .fall) (x .list) (lent (x .bytes))) judgings ≡ map (λ (x : Judging). x .row) judgings)
     × (map (λ (x : Keyed). answering (judge (keyChecksOn whole (x .keys))) (keysOn FirstHighest whole (x .name) (x .keys))) keyedRuns

@@ -7,14 +7,17 @@ use mathlib.Core.Path.{_≡_, refl, sym, ap, _∙_, subst}
 use mathlib.Core.Logic.{_⊎_, inl, inr, _≢_}
 use mathlib.Core.Bool.{Bool, true, false, cond}
 use mathlib.Core.List.{List, [], _∷_}
-use lib.ListN.{length}
+use lib.ListN.{length, length-append}
 use lib.Dec.{ltb}
-use Rattle.runs.specs.Row.{Row, Rule, toggle, after, Legal, Ended}
+use Rattle.runs.specs.Row.{Row, Rule, low, toggle, after, Legal, Ended, _∖_}
+use Rattle.runs.specs.Net.{Net, nets, riseStep, fallStep}
 use Rattle.runs.proofs.Test.{clash, true?, not-true, lt-ltb, le-ltb}
 use Rattle.netlist.specs.declared.Found.{Found}
 use Rattle.netlist.specs.declared.Found.the-variants.{At, Nothing}
+use Rattle.verdict.specs.declared.Verdict.{Verdict}
+use Rattle.verdict.specs.Written.{holding}
 use Rattle.check_spec.specs.Lists.{numbers}
-use Rattle.run_spec.specs.Played.{lesser, next, onward, played}
+use Rattle.run_spec.specs.Played.{lesser, next, onward, played, riseBy, fallBy, Run, switchings, answering, handedOut, Handed}
 use Rattle.run_spec.specs.Keys.{LeastFirst}
 
 -- ---- the net that switches next
@@ -207,3 +210,24 @@ module _ (a b : Rule) (key : ℕ → ℕ) (n : ℕ) (Alike : Row → Row → Typ
           → onward (λ k. played a key n steps (toggle r k)) f ≡ onward (λ k. played b key n steps (toggle s k)) (next key (b s) (numbers 0 n))
       go Nothing p e later = ap (onward (λ k. played b key n steps (toggle s k))) e
       go (At k) p e later = ap (λ (l : List ℕ). k ∷ l) (later k (p .1)) ∙ ap (onward (λ k. played b key n steps (toggle s k))) e
+
+-- ---- runs of a net
+
+pub rise-few : (key : ℕ → ℕ) (N : Net) (c X : Row) → length (riseBy key N c X) ≤ nets N
+rise-few key N c X = played-few (λ r. riseStep N c r ∖ X) key (nets N) (nets N) low
+
+pub fall-few : (key : ℕ → ℕ) (N : Net) (R X : Row) → length (fallBy key N R X) ≤ nets N
+fall-few key N R X = played-few (λ r. fallStep N r ∖ X) key (nets N) (nets N) R
+
+-- ---- what is handed out
+
+pub handed : (v : Verdict) (run : Run) (before : List ℕ) → Handed run before (answering v run) (handedOut (switchings run) before)
+unfolding handedOut
+handed v run before =
+    let held = holding (switchings run) before in
+    record {
+      rise = refl;
+      count = length-append (run .rise) (run .fall);
+      room = λ h. ap (λ (b : Bool). cond b before held) (le-ltb (length before) (length (switchings run)) h);
+      short = λ h. ap (λ (b : Bool). cond b before held) (lt-ltb (length before) (length (switchings run)) h);
+    }

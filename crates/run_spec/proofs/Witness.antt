@@ -24,10 +24,11 @@ use Rattle.check_spec.specs.Words.{railsFor, spelled, names, IsWord}
 use Rattle.check_spec.specs.Verdicts.{verdictOn}
 use Rattle.check_spec.specs.Demands.{BothRead, LoopFree, answerTo}
 use Rattle.check_spec.proofs.Sound.{idle-sound}
-use Rattle.check_spec.proofs.Demanded.{demand-3}
+use Rattle.check_spec.proofs.Demanded.{demand-2, demand-3}
 use Rattle.run_spec.specs.declared.RunAnswer.{RunAnswer}
 use Rattle.run_spec.specs.Played.{Run, switchings, answering, handedOut}
 use Rattle.run_spec.specs.Witness.{ofRuns, ofFalls, heldBack, witnessRun, askedOrFirst, nameShown, wordShown, witnessOn, Shows, WitnessDemand}
+use Rattle.run_spec.proofs.Played.{handed}
 use Rattle.run_spec.proofs.OneWord.{full, shows-wrong, shows-incomplete, shows-unobservable, shows-fall-incomplete, shows-fall-unobservable}
 use Rattle.run_spec.proofs.Named.{named, accepted-free, refused-free, at-13, at-14, at-15, at-20, at-21}
 use Rattle.run_spec.proofs.Idle.{never-listed, has-word, cared-word}
@@ -207,7 +208,9 @@ module _ (order : WordOrder) (f : Files) (asked : ℕ) (before : List ℕ) where
   pub witness-demand : (r : RunAnswer) (after′ : List ℕ) → r ≡ answering verdict given → after′ ≡ handedOut (switchings given) before → WitnessDemand order f asked before r after′
   witness-demand r after′ p q = rw (p, q) (record {
     answer = refl;
-    list = refl;
+    handed = handed verdict given before;
+    demand2 = demand-2 order f;
+    demand3 = demand-3 order f;
     few = run-few (stageIn f) verdict (wordShown order f asked);
     shows = λ h. (both-read order f h, shown order f (wordShown order f asked) word-is word-cared);
     nothing = λ d. let h = not-true (some (eqb (verdict .number)) ofRuns) d in (ap length (none h), unchanged h);

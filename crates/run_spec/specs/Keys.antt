@@ -20,7 +20,7 @@ use Rattle.check_spec.specs.Checks.{rest}
 use Rattle.check_spec.specs.Verdicts.{reading, rowStage}
 use Rattle.check_spec.specs.Demands.{Pass, Judged}
 use Rattle.run_spec.specs.declared.RunAnswer.{RunAnswer}
-use Rattle.run_spec.specs.Played.{Run, riseBy, fallBy, switchings, answering, handedOut}
+use Rattle.run_spec.specs.Played.{Run, riseBy, fallBy, answering, Handed}
 use Rattle.run_spec.specs.Play.{openingChecks}
 
 -- the key of a net, in a list of keys
@@ -80,7 +80,8 @@ pub record RunOfKeys (s : Content) (keys : List ℕ) (w : ℕ) (run : Run) : Typ
 
 pub record KeysDemand (order : WordOrder) (stage : List ℕ) (name : ℕ) (keys before : List ℕ) (r : RunAnswer) (after′ : List ℕ) : Type 0 where
   pub answer : r ≡ answering (judge (keyChecksOn stage keys)) (keysOn order stage name keys)
-  pub list : after′ ≡ handedOut (switchings (keysOn order stage name keys)) before
+  pub handed : Handed (keysOn order stage name keys) before r after′
+  pub few : r .count ≤ 2 * nets (netOf (rowStage stage))
   pub least : Judged (keyChecksOn stage keys) (r .verdict)
   pub unchanged : ¬ (r .verdict ≡ accepted) → (after′ ≡ before) × (r .count ≡ 0)
   pub run : r .verdict ≡ accepted → Pass (reading Stage stageLimits stage)

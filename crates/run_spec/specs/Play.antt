@@ -33,8 +33,8 @@ allowed can r (k ∷ l) = let more = allowed can (toggle r k) l in cond (can r k
 unfoldable pub noneLeft : Rule → ℕ → Row → Bool
 noneLeft can n r = every (λ k. not (can r k)) (numbers 0 n)
 
--- The same of a list that is a rise of the rails c up to place `fall`, and from there on a fall: this "starts at that end" of the rise at which no step is
--- left, so that where some is, the first step of the fall is barred.
+-- How many steps are allowed of a list that is a rise of the rails c up to place `fall`, and from there on a fall. This "starts at that end" of the rise at
+-- which no step is left: where some is, the first step of the fall is barred.
 unfoldable pub stepsOf : Net → Row → ℕ → List ℕ → ℕ
 stepsOf N c fall list =
     let rise = take fall list in
@@ -45,7 +45,7 @@ stepsOf N c fall list =
 
 -- ---- the call
 
--- a list that has to have so many entries
+-- 16: a list has not as many entries as it has to have
 abbrev pub wrongLength : ℕ → List ℕ → Check
 wrongLength n list = case 16 3 (length list) 0 (not (eqb (length list) n)) ∷ []
 

@@ -1,9 +1,9 @@
 -- Runs that are played: at each step, of the nets that may switch, that with the least key does.
-use Prim.Native.Nat.{ℕ, zero, suc, _≤_}
+use Prim.Native.Nat.{ℕ, zero, suc, _+_, _≤_, _<_}
 use mathlib.Core.Path.{_≡_}
 use mathlib.Core.Bool.{Bool, true, cond}
 use mathlib.Core.List.{List, [], _∷_, _++_}
-use lib.ListN.{length}
+use lib.ListN.{length, drop}
 use lib.Dec.{ltb}
 use Rattle.runs.specs.Row.{Row, Rule, low, toggle, after, Ended, _∖_}
 use Rattle.runs.specs.Net.{Net, nets, riseStep, fallStep}
@@ -24,7 +24,7 @@ unfoldable pub next : (ℕ → ℕ) → (ℕ → Bool) → List ℕ → Found
 next key may [] = Nothing
 next key may (k ∷ ks) = let later = next key may ks in cond (may k) (lesser key k later) later
 
--- the net that was found, and what follows it
+-- a list that begins with the net that was found, with what follows it; none where none was
 abbrev pub onward : (ℕ → List ℕ) → Found → List ℕ
 onward more Nothing = []
 onward more (At k) = k ∷ more k
@@ -61,3 +61,11 @@ answering v run = record { verdict = v; rise = length (run .rise); count = lengt
 -- A list that has room for some entries holds them from its start, and what stands behind keeps its value; a list too short is left as it was.
 unfoldable pub handedOut : List ℕ → List ℕ → List ℕ
 handedOut entries list = let held = holding entries list in cond (ltb (length list) (length entries)) list held
+
+-- What a call leaves of a run: the answer says where the fall begins and how long the whole is; a list with room for it holds the rise, then the fall, and
+-- behind them what it held before; a list too short is left as it was.
+pub record Handed (run : Run) (before : List ℕ) (r : RunAnswer) (after′ : List ℕ) : Type 0 where
+  pub rise : r .rise ≡ length (run .rise)
+  pub count : r .count ≡ length (run .rise) + length (run .fall)
+  pub room : r .count ≤ length before → after′ ≡ (run .rise ++ run .fall) ++ drop (r .count) before
+  pub short : length before < r .count → after′ ≡ before

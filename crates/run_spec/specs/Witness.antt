@@ -16,9 +16,9 @@ use Rattle.check_spec.specs.Content.{Content, Files, stageIn}
 use Rattle.check_spec.specs.Rows.{netOf}
 use Rattle.check_spec.specs.Words.{railsFor, spelled, names, IsWord}
 use Rattle.check_spec.specs.Verdicts.{verdictOn}
-use Rattle.check_spec.specs.Demands.{BothRead, answerTo}
+use Rattle.check_spec.specs.Demands.{BothRead, answerTo, Demand2, Demand3}
 use Rattle.run_spec.specs.declared.RunAnswer.{RunAnswer}
-use Rattle.run_spec.specs.Played.{Run, riseBy, fallBy, switchings, answering, handedOut}
+use Rattle.run_spec.specs.Played.{Run, riseBy, fallBy, answering, Handed}
 
 -- the numbers that speak of runs: accepted, wrong, incomplete, unobservable, and a gate that never switches; of these those that speak of a fall too
 abbrev pub ofRuns : List ℕ
@@ -44,8 +44,9 @@ witnessRun s v w =
 unfoldable pub askedOrFirst : List ℕ → ℕ → ℕ
 askedOrFirst ns asked = let first = getD ns 0 0 in cond (some (eqb asked) ns) asked first
 
--- The name of the word that is shown. Of an accepted pair it is the one that the caller asks for; under 32, which names no word, too, if that is the name
--- of a word that is cared for, else the first of these; else the one that the verdict names.
+-- The name of the word that is shown. Of an accepted pair it is the one that the caller asks for. 32 names no word: there it is the one that the caller
+-- asks for if it is the name of a word that is cared for, and the first of these names if it is not. Of every other refusal it is the one that the verdict
+-- names.
 unfoldable pub nameShown : WordOrder → Content → Verdict → ℕ → ℕ
 nameShown order s v asked =
     let cared = askedOrFirst (names order s) asked in
@@ -73,11 +74,14 @@ pub record Shows (f : Files) (w : ℕ) (v : Verdict) (run : Run) : Type 0 where
   pub never-switching : v .number ≡ 32
       → IsWord (stageIn f) w × ShowsNeverSwitching (netOf (stageIn f)) (railsFor w) (2 * stageIn f .inputs + v .at) (run .rise) (run .fall)
 
--- The verdict is the check's; the run is the one defined, it has at most two switchings for each net, and it shows what the verdict says; of the other
--- numbers nothing is written.
+-- The verdict is the one that the check gives for files without registers, and demands 2 and 3 hold of it; so what is named is there, in a word that is
+-- cared for, and the promise of that word is broken. The run is the one defined, it has at most two switchings for each net, and it shows what the verdict
+-- says. Of the other numbers nothing is written.
 pub record WitnessDemand (order : WordOrder) (f : Files) (asked : ℕ) (before : List ℕ) (r : RunAnswer) (after′ : List ℕ) : Type 0 where
   pub answer : r ≡ answering (verdictOn order f) (witnessOn order f asked)
-  pub list : after′ ≡ handedOut (switchings (witnessOn order f asked)) before
+  pub handed : Handed (witnessOn order f asked) before r after′
   pub few : r .count ≤ 2 * nets (netOf (stageIn f))
+  pub demand2 : Demand2 order f (r .verdict)
+  pub demand3 : Demand3 order f (r .verdict)
   pub shows : some (eqb (r .verdict .number)) ofRuns ≡ true → BothRead f × Shows f (wordShown order f asked) (r .verdict) (witnessOn order f asked)
   pub nothing : ¬ (some (eqb (r .verdict .number)) ofRuns ≡ true) → (r .count ≡ 0) × (after′ ≡ before)

@@ -1,5 +1,5 @@
--- What the refusals 20 and 21 of a word, whose rails are c, show: falls that break the promise at the place named; and a rise and a fall that are
--- full. Each record says of two lists of switchings, a rise and a fall, that they show so.
+-- What the refusals 20 and 21 of a word, whose rails are c, show: falls that break the promise at the place named; and what 32 shows, a full rise and a
+-- full fall without the gate named. Each record says so of two lists of switchings, a rise and a fall.
 -- Assumes nothing.
 use mathlib.Core.Path.{_≡_}
 use mathlib.Core.Bool.{true}
