@@ -1,7 +1,7 @@
 //! What `scripts/measure` counts the instructions of.
 //!
 //! `measure list` prints a line for each netlist: name, inputs, gates and gate evaluations.
-//! `measure run` calls the proved check, then the judge, then the witness on each of them, in that order.
+//! `measure run` calls the proved check and then the judge on each of them, in that order.
 
 use fovaheju_tests::catalogue::xor_chain_reference;
 use fovaheju_tests::circuits::dual_rail;
@@ -93,9 +93,6 @@ fn main() {
                 judge_check(&pair, &mut judged);
                 assert_eq!(proved, judged, "{name}");
                 assert!(matches!(judged[0], 0 | 32), "{name}: {judged:?}");
-                let mut list = [0; 552];
-                let shown = library::witness(0, &pair.stage, &pair.reference, 0, &mut list);
-                assert_eq!(shown.verdict, judged, "{name}");
             }
         }
         _ => {
