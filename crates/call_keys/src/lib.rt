@@ -150,7 +150,7 @@ pub fn run_by_keys(
 ) -> RunAnswer
     ensures { λ r. ⌜ KeysDemand order (now (stage .entry)) name (now (keys .entry)) (now (list .entry)) r (now (list .exit)) ⌝ }
 {
-    let mut code = [0u16; circuit_load::STAGE_CODE];
+    let mut code = [0u16; circuit::form::STAGE_CODE];
     match call_open::open_stage(stage, keys.len(), 2, &mut code) {
         Opening::Refused(verdict) => RunAnswer {
             verdict,

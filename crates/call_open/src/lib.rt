@@ -5,10 +5,9 @@ use netlist::Outcome;
 use verdict::Verdict;
 ghost use mathlib.Core.Path.{_≡_};
 ghost use mathlib.Core.List.{List};
-ghost use Prim.Native.Nat.{ℕ, _+_, _*_, _^_, _≤_};
+ghost use Prim.Native.Nat.{ℕ, _*_, _≤_};
 ghost use lib.ListN.{length};
-ghost use Rattle.netlist.specs.Reading.{stageLimits};
-ghost use Rattle.circuit.specs.Stage.{netCount, StageLoaded};
+ghost use Rattle.circuit.specs.Stage.{netCount, StageLoaded, largestStage};
 ghost use Rattle.call_open.specs.Opened.{OpenedFrom, OpenedAs};
 
 // A stage that is refused, or its counts.
@@ -43,7 +42,7 @@ fn open_loaded(code: &mut [u16], counts: Counts, given: usize, each: usize) -> O
 
 // A stage file and a list with so many entries, of which each net has some.
 pub fn open_stage(stage: &[u8], given: usize, each: usize, code: &mut [u16]) -> Opening
-    requires { ⌜ (each ≤ 2) × (8 * stageLimits .gates + 2 * stageLimits .outputs + 2 ^ stageLimits .inputs ≤ length (now code)) ⌝ }
+    requires { ⌜ (each ≤ 2) × (largestStage ≤ length (now code)) ⌝ }
     ensures { λ r. ⌜ ((list : List ℕ) → length list ≡ given → OpenedAs (now (stage .entry)) list each (now (code .exit)) r) ⌝ }
 {
     match circuit_load::read_stage(stage, code) {

@@ -137,7 +137,7 @@ pub fn play(
 ) -> PlayAnswer
     ensures { λ r. ⌜ PlayDemand order (now (stage .entry)) name fall (now (list .entry)) (now (row .entry)) r (now (row .exit)) ⌝ }
 {
-    let mut code = [0u16; circuit_load::STAGE_CODE];
+    let mut code = [0u16; circuit::form::STAGE_CODE];
     match call_open::open_stage(stage, row.len(), 1, &mut code) {
         Opening::Refused(verdict) => PlayAnswer { verdict, steps: 0 },
         Opening::Opened(counts) => play_stage(order, &code, counts, name, fall, list, row),

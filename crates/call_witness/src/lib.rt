@@ -269,7 +269,7 @@ fn witness_stage(
     requires { ⌜ Showable (now stage) verdict ⌝ }
     ensures { λ r. ⌜ GivenFor order (now (stage .entry)) verdict asked (now (list .entry)) r (now (list .exit)) ⌝ }
 {
-    let mut code = [0u16; circuit_load::STAGE_CODE];
+    let mut code = [0u16; circuit::form::STAGE_CODE];
     if let Outcome::Readable(counts) = circuit_load::read_stage(stage, &mut code) {
         let name = name_shown(order, &code, counts, verdict, asked);
         let w = words::word_of(order, counts.inputs, name);

@@ -5,22 +5,17 @@ use netlist::File;
 use netlist::Limits;
 use netlist::Outcome;
 ghost use mathlib.Core.Path.{_≡_};
-ghost use Prim.Native.Nat.{_+_, _*_, _^_, _≤_, _<_};
+ghost use Prim.Native.Nat.{_+_, _*_, _≤_, _<_};
 ghost use lib.ListN.{length};
 ghost use Rattle.netlist.specs.declared.File.the-variants as file;
 ghost use Rattle.netlist.specs.Commands.{stageFile};
 ghost use Rattle.netlist.specs.Reading.{readFile, stageLimits, referenceLimits, NoMore};
 ghost use Rattle.netlist.specs.Read.{outcomeOf};
 ghost use Rattle.netlist.specs.Content.{stageOf, referenceOf};
-ghost use Rattle.circuit.specs.Stage.{netCount, stageIn, StageLoaded};
-ghost use Rattle.circuit.specs.Reference.{referenceIn, ReferenceLoaded};
+ghost use Rattle.circuit.specs.Stage.{netCount, stageIn, stageSize, largestStage, StageLoaded};
+ghost use Rattle.circuit.specs.Reference.{referenceIn, referenceSize, largestReference, ReferenceLoaded};
 ghost use Rattle.circuit_load.specs.Load.{placesIn, FileRead, HoldsStage, HoldsReference, pinNumber, cellNumber, gateNumber, stageNumber, operatorNumber};
 ghost use Rattle.circuit_load.specs.Load.{referenceNumber};
-
-// The room that the flat forms of the largest stage and of the largest reference take.
-pub const STAGE_CODE: usize = 8 * netlist::STAGE_GATES + 2 * netlist::OUTPUTS + netlist::WORDS;
-
-pub const REFERENCE_CODE: usize = 3 * netlist::REFERENCE_GATES + netlist::OUTPUTS;
 
 // ---- a stage
 
@@ -64,7 +59,7 @@ fn gate_number(s: &[u8], at: usize, ground: u16, j: usize) -> u16
 // Number i of the stage.
 fn stage_number(s: &[u8], places: &[u16], most: Limits, counts: Counts, i: usize) -> u16
     requires { ⌜ FileRead file.Stage most (now s) (now places) counts × NoMore most stageLimits
-        × (i < 8 * counts .gates + 2 * counts .outputs + counts .care) ⌝ }
+        × (i < stageSize counts) ⌝ }
     ensures { λ r. ⌜ r ≡ stageNumber most (now (s .entry)) (now (places .entry)) counts i ⌝ }
 {
     let end = 8 * counts.gates;
@@ -85,7 +80,7 @@ fn stage_number(s: &[u8], places: &[u16], most: Limits, counts: Counts, i: usize
 // The stage that the file holds, in its flat form; its gates are in no order yet.
 pub fn load_stage(s: &[u8], places: &[u16], most: Limits, counts: Counts, code: &mut [u16])
     requires { ⌜ FileRead file.Stage most (now s) (now places) counts × NoMore most stageLimits
-        × (8 * counts .gates + 2 * counts .outputs + counts .care ≤ length (now code)) ⌝ }
+        × (stageSize counts ≤ length (now code)) ⌝ }
     ensures same { λ r. ⌜ stageIn counts (now (code .exit)) ≡ stageOf (now (s .entry)) (placesIn most counts (now (places .entry))) ⌝ }
     ensures loaded { λ r. ⌜ StageLoaded counts (now (code .exit)) ⌝ }
 {
@@ -99,7 +94,7 @@ pub fn load_stage(s: &[u8], places: &[u16], most: Limits, counts: Counts, code: 
 
 // Reads a stage file, with registers or without, within some limits, and loads the stage that it holds.
 pub fn read_stage_within(registers: bool, s: &[u8], most: Limits, code: &mut [u16]) -> Outcome
-    requires { ⌜ NoMore most stageLimits × (8 * stageLimits .gates + 2 * stageLimits .outputs + 2 ^ stageLimits .inputs ≤ length (now code)) ⌝ }
+    requires { ⌜ NoMore most stageLimits × (largestStage ≤ length (now code)) ⌝ }
     ensures answered { λ r. ⌜ r ≡ outcomeOf (readFile (stageFile registers) most (now (s .entry))) ⌝ }
     ensures loaded { λ r. ⌜ HoldsStage (now (s .entry)) (readFile (stageFile registers) most (now (s .entry))) (now (code .exit)) ⌝ }
 {
@@ -113,7 +108,7 @@ pub fn read_stage_within(registers: bool, s: &[u8], most: Limits, code: &mut [u1
 
 // The same of a stage without registers, within the limits of a stage file.
 pub fn read_stage(s: &[u8], code: &mut [u16]) -> Outcome
-    requires { ⌜ 8 * stageLimits .gates + 2 * stageLimits .outputs + 2 ^ stageLimits .inputs ≤ length (now code) ⌝ }
+    requires { ⌜ largestStage ≤ length (now code) ⌝ }
     ensures answered { λ r. ⌜ r ≡ outcomeOf (readFile file.Stage stageLimits (now (s .entry))) ⌝ }
     ensures loaded { λ r. ⌜ HoldsStage (now (s .entry)) (readFile file.Stage stageLimits (now (s .entry))) (now (code .exit)) ⌝ }
 {
@@ -142,7 +137,7 @@ fn operator_number(s: &[u8], at: usize, j: usize) -> u16
 
 // Number i of the reference.
 fn reference_number(s: &[u8], places: &[u16], most: Limits, counts: Counts, i: usize) -> u16
-    requires { ⌜ FileRead file.Reference most (now s) (now places) counts × NoMore most referenceLimits × (i < 3 * counts .gates + counts .outputs) ⌝ }
+    requires { ⌜ FileRead file.Reference most (now s) (now places) counts × NoMore most referenceLimits × (i < referenceSize counts) ⌝ }
     ensures { λ r. ⌜ r ≡ referenceNumber most (now (s .entry)) (now (places .entry)) counts i ⌝ }
 {
     let end = 3 * counts.gates;
@@ -157,7 +152,7 @@ fn reference_number(s: &[u8], places: &[u16], most: Limits, counts: Counts, i: u
 // The reference that the file holds, in its flat form.
 pub fn load_reference(s: &[u8], places: &[u16], most: Limits, sizes: Counts, reference: &mut [u16])
     requires { ⌜ FileRead file.Reference most (now s) (now places) sizes × NoMore most referenceLimits
-        × (3 * sizes .gates + sizes .outputs ≤ length (now reference)) ⌝ }
+        × (referenceSize sizes ≤ length (now reference)) ⌝ }
     ensures same { λ r. ⌜ referenceIn sizes (now (reference .exit)) ≡ referenceOf (now (s .entry)) (placesIn most sizes (now (places .entry))) ⌝ }
     ensures loaded { λ r. ⌜ ReferenceLoaded sizes (now (reference .exit)) ⌝ }
 {
@@ -171,7 +166,7 @@ pub fn load_reference(s: &[u8], places: &[u16], most: Limits, sizes: Counts, ref
 
 // Reads a reference file within some limits, and loads the reference that it holds.
 pub fn read_reference_within(s: &[u8], most: Limits, code: &mut [u16]) -> Outcome
-    requires { ⌜ NoMore most referenceLimits × (3 * referenceLimits .gates + referenceLimits .outputs ≤ length (now code)) ⌝ }
+    requires { ⌜ NoMore most referenceLimits × (largestReference ≤ length (now code)) ⌝ }
     ensures answered { λ r. ⌜ r ≡ outcomeOf (readFile file.Reference most (now (s .entry))) ⌝ }
     ensures loaded { λ r. ⌜ HoldsReference (now (s .entry)) (readFile file.Reference most (now (s .entry))) (now (code .exit)) ⌝ }
 {

@@ -70,7 +70,7 @@ fn note_gate(code: &[u16], counts: Counts, k: usize, fed: &mut [u16])
     let net = (2 * counts.inputs + k) as u16;
     let mut i: usize = 0;
     while i < 4 {
-        note_pin(fed, code[8 * k + (1 + i)], net);
+        note_pin(fed, circuit::form::pin_of(code, counts, k, i), net);
         i += 1;
     }
 }

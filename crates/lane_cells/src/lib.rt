@@ -289,11 +289,11 @@ fn operator_lanes(reference: &[u16], sizes: Counts, k: usize, values: &[u64]) ->
     ensures { λ r. ⌜ ((j : ℕ) → j < 64 → levelIn j r ≡ answers.operate (operatorIn (now (reference .entry)) k .code)
         (answers.valuesAt (take (sizes .inputs + k) (laneOf j (now (values .entry)))) (operatorIn (now (reference .entry)) k .operands))) ⌝ }
 {
-    let at = 3 * k;
+    let operands = circuit::form::operands_of(reference, sizes, k);
     operate(
-        reference[at],
-        lanes_at(values, reference[at + 1]),
-        lanes_at(values, reference[at + 2]),
+        circuit::form::operation_of(reference, sizes, k),
+        lanes_at(values, operands.a),
+        lanes_at(values, operands.b),
     )
 }
 

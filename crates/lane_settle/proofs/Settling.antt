@@ -13,7 +13,7 @@ use Rattle.gates.specs.Expression.{holds}
 use Rattle.gates.specs.Cell.{pinCount, setExpression}
 use Rattle.gates.proofs.Expressions.{holds-local, holds-mono}
 use Rattle.runs.specs.Row.{Row, _∖_, only}
-use Rattle.runs.specs.Net.{nets, IsGate}
+use Rattle.runs.specs.Net.{IsGate}
 use Rattle.runs.specs.Settled.{Settled}
 use Rattle.runs.specs.Acknowledged.{Acknowledged, next}
 use Rattle.runs.proofs.Test.{clash, not-true, and-in, and-left, and-right, of-not, eqb-same, eqb-other}
@@ -27,7 +27,8 @@ use Rattle.circuit.specs.Stage.{netCount, cellIn, pinIn, gateAtPlace, gateIn, s
 use Rattle.circuit.specs.Order.{StandsIn, InOrder, orderIn}
 use Rattle.circuit.proofs.Order.{order-no-loop}
 use Rattle.circuit.proofs.Pins.{pins-few}
-use Rattle.circuit.proofs.Settling.{length-stageGates, order-at, order-gate}
+use Rattle.circuit.specs.Form.{GateAt}
+use Rattle.circuit.proofs.Settling.{length-stageGates, order-at}
 use Rattle.lane_cells.specs.Lane.{lane, rowIn}
 use Rattle.lane_cells.specs.Cells.{needOf, pinsIn, cellLanes}
 use Rattle.lane_cells.proofs.Lane.{lane-zero}
@@ -131,13 +132,8 @@ module _ (c : Counts) (code : List ℕ) (loaded : StageLoaded c code) (ordered :
 
 -- ---- the gate at place i of the order
 
-module _ (c : Counts) (code : List ℕ) (loaded : StageLoaded c code) (ordered : InOrder c code) (b : ℕ) (row : List ℕ) (i : ℕ) (h : i < c .gates) (s : LanesSettledTo c code b row i) where
-  abbrev gate : ℕ
-  gate = gateAtPlace code i
-
-  in-stage : gate < c .gates
-  in-stage = order-gate c code ordered i h
-
+module _ (c : Counts) (code : List ℕ) (loaded : StageLoaded c code) (ordered : InOrder c code) (b : ℕ) (row : List ℕ) (i : ℕ) (h : i < c .gates) (s : LanesSettledTo c code b row i)
+    (gate : ℕ) (stands : GateAt c code i gate) where
   -- its pins have their levels: they are rails, gates at earlier places, or the ground
   pub pins-settled : (j t : ℕ) → j < 64 → t < 4 → rowIn j row (pinIn code gate t) ≡ restIn c code b j (pinIn code gate t)
   pins-settled j t d l = go (decLt p (2 * c .inputs)) (decLt p (netCount c))
@@ -148,7 +144,7 @@ module _ (c : Counts) (code : List ℕ) (loaded : StageLoaded c code) (ordered :
       go : Dec (p < 2 * c .inputs) → Dec (p < netCount c) → rowIn j row p ≡ restIn c code b j p
       go (yes a) x = s .spelled .rails j p d a
       go (no a) (no x) =
-          let e : p ≡ netCount c = omega (arith, loaded .gate gate in-stage .pin t l) in
+          let e : p ≡ netCount c = omega (arith, loaded .gate gate (stands .there) .pin t l) in
           ap (rowIn j row) e ∙ ap (lane j) (s .spelled .ground) ∙ lane-zero j ∙ sym (rest-past c code ordered (64 * b + j) p (omega arith))
       go (no a) (yes x) = earlier (ordered .ordered .earlier i g (omega (arith, length-stageGates c code)) (omega (arith, length-stageGates c code)) feeds)
         where
@@ -163,10 +159,10 @@ module _ (c : Counts) (code : List ℕ) (loaded : StageLoaded c code) (ordered :
             where
               has : Dec (t < pinCount (cellIn code gate)) → t < pinCount (cellIn code gate)
               has (yes y) = y
-              has (no y) = absurd (omega (arith, loaded .gate gate in-stage .absent t (omega arith) l))
+              has (no y) = absurd (omega (arith, loaded .gate gate (stands .there) .absent t (omega arith) l))
 
           feeds : In (2 * c .inputs + g) (pinsAt (stageGates c code) (getD (orderIn c code) i 0))
-          feeds = rw (at-net, order-at c code i h, gate-pins c code gate in-stage) (pin-in code gate t present l)
+          feeds = rw (at-net, order-at c code i h, ← stands .is, gate-pins c code gate (stands .there)) (pin-in code gate t present l)
 
           earlier : StandsIn (orderIn c code) i g → rowIn j row p ≡ restIn c code b j p
           earlier q =
@@ -177,7 +173,7 @@ module _ (c : Counts) (code : List ℕ) (loaded : StageLoaded c code) (ordered :
   pub settled-more : netCount c < length row → (v : ℕ) → ((j : ℕ) → j < 64 → lane j v ≡ restIn c code b j (2 * c .inputs + gate)) → LanesSettledTo c code b (set row (2 * c .inputs + gate) v) (i + 1)
   settled-more room v is = record {
     spelled = record {
-      ground = getD-set-other row at (netCount c) v 0 (λ e. omega (arith, in-stage)) ∙ s .spelled .ground;
+      ground = getD-set-other row at (netCount c) v 0 (λ e. omega (arith, stands .there)) ∙ s .spelled .ground;
       rails = λ j p d l. ap (lane j) (getD-set-other row at p v 0 (λ e. omega arith)) ∙ s .spelled .rails j p d l;
     };
     gates = λ j q d l. go j q d l (ℕ-discrete (gateAtPlace code q) gate);
@@ -187,8 +183,8 @@ module _ (c : Counts) (code : List ℕ) (loaded : StageLoaded c code) (ordered :
       at = 2 * c .inputs + gate
 
       go : (j q : ℕ) → j < 64 → q < i + 1 → Dec (gateAtPlace code q ≡ gate) → rowIn j (set row at v) (2 * c .inputs + gateAtPlace code q) ≡ restIn c code b j (2 * c .inputs + gateAtPlace code q)
-      go j q d l (yes e) = rw e (ap (lane j) (getD-set-same row at v 0 (omega (arith, in-stage))) ∙ is j d)
+      go j q d l (yes e) = rw e (ap (lane j) (getD-set-same row at v 0 (omega (arith, stands .there))) ∙ is j d)
       go j q d l (no n) = ap (lane j) (getD-set-other row at (2 * c .inputs + gateAtPlace code q) v 0 (λ e. n (omega arith))) ∙ s .gates j q d (omega (arith, before))
         where
           before : (q ≡ i) → ⊥
-          before e = n (ap (gateAtPlace code) e)
+          before e = n (ap (gateAtPlace code) e ∙ sym (stands .is))

@@ -14,6 +14,7 @@ use Rattle.circuit.specs.Stage.{netCount, cellIn, pinIn, gateAtPlace, stageIn}
 use Rattle.lane_cells.specs.declared.CellLanes.{CellLanes}
 use Rattle.lane_cells.specs.Lane.{lane, rowIn}
 use Rattle.lane_cells.specs.Cells.{needOf, cellLanes}
+use Rattle.lane_settle.specs.declared.PinLanes.{PinLanes}
 
 -- the rest of word 64 b + j, which is word j of block b
 abbrev pub restIn : Counts → List ℕ → ℕ → ℕ → Row
@@ -63,10 +64,14 @@ Marked = MarkedIn false
 
 -- ---- one gate
 
--- what gate k's cell gives in a row
+-- the levels at the pins of gate k in a row
+abbrev pub pinLanes : List ℕ → ℕ → List ℕ → PinLanes
+pinLanes code k row =
+    record { a = getD row (pinIn code k 0) 0; b = getD row (pinIn code k 1) 0; c = getD row (pinIn code k 2) 0; d = getD row (pinIn code k 3) 0 }
+
+-- what its cell gives for them
 abbrev pub gateLanes : List ℕ → ℕ → List ℕ → CellLanes
-gateLanes code k row =
-    cellLanes (cellIn code k) (getD row (pinIn code k 0) 0) (getD row (pinIn code k 1) 0) (getD row (pinIn code k 2) 0) (getD row (pinIn code k 3) 0)
+gateLanes code k row = let at = pinLanes code k row in cellLanes (cellIn code k) (at .a) (at .b) (at .c) (at .d)
 
 -- marks more, each at a net of one of gate k's pins, in words that are named for that pin
 abbrev pub PinsMarked : List ℕ → ℕ → CellLanes → List ℕ → List ℕ → Type 0

@@ -1,15 +1,15 @@
 -- Writing the order of the gates leaves the stage as it is.
 -- Assumes nothing.
-use Prim.Native.Nat.{ℕ, _+_, _*_, _<_}
+use Prim.Native.Nat.{ℕ, _+_, _*_, _≤_, _<_}
 use native.Mathlib.Omega.{arith}
 use mathlib.Core.Path.{_≡_, refl, sym, ap, _∙_, subst, fun-ext}
 use mathlib.Core.List.{List}
-use lib.ListN.{getD, set, length-set}
-use lib.Seq.{getD-set-other}
+use lib.ListN.{length, set, length-set}
+use lib.Seq.{getD-set-other, getD-set-same}
 use Rattle.netlist.specs.declared.Counts.{Counts}
 use Rattle.netlist.specs.Content.{Gate, Pair}
-use Rattle.circuit.specs.Stage.{tabulate, netCount, cellIn, slot, pinIn, gateIn, stageGates, outputIn, stageOutputs, stageCare, stageIn, GateLoaded, StageLoaded}
-use Rattle.circuit_order.specs.Placing.{Apart, Reordered}
+use Rattle.circuit.specs.Stage.{tabulate, netCount, cellIn, slot, pinIn, gateIn, stageGates, outputIn, stageOutputs, careIn, stageCare, stageIn, GateLoaded, StageLoaded}
+use Rattle.circuit.specs.Form.{Apart, Reordered, GatePlaced}
 
 pub reordered-refl : (c : Counts) (code : List ℕ) → Reordered c code code
 reordered-refl c code = record { long = refl; kept = λ i a. refl }
@@ -18,12 +18,26 @@ pub reordered-trans : (c : Counts) (u v w : List ℕ) → Reordered c u v → Re
 reordered-trans c u v w p q = record { long = q .long ∙ p .long; kept = λ i a. q .kept i a ∙ p .kept i a }
 
 -- a number of the order is written
-pub reordered-set : (c : Counts) (before code : List ℕ) (at x : ℕ) → ((i : ℕ) → Apart c i → ¬ (i ≡ at)) → Reordered c before code →
+reordered-set : (c : Counts) (before code : List ℕ) (at x : ℕ) → ((i : ℕ) → Apart c i → ¬ (i ≡ at)) → Reordered c before code →
     Reordered c before (set code at x)
 reordered-set c before code at x other r = record {
   long = length-set code at x ∙ r .long;
   kept = λ i a. getD-set-other code at i x 0 (other i a) ∙ r .kept i a;
 }
+
+-- gate k is written to place i
+module _ (c : Counts) (code : List ℕ) (k i : ℕ) (hk : k < c .gates) (hi : i < c .gates) (room : 8 * c .gates ≤ length code) where
+  abbrev first : List ℕ
+  first = set code (8 * i + 5) k
+
+  pub gate-placed : GatePlaced c code (set (set code (8 * i + 5) k) (8 * k + 6) i) k i
+  gate-placed = record {
+    reordered = reordered-set c code first (8 * k + 6) i (λ j a e. a k hk .1 e) (reordered-set c code code (8 * i + 5) k (λ j a e. a i hi .0 e) (reordered-refl c code));
+    gate-new = getD-set-other first (8 * k + 6) (8 * i + 5) i 0 (λ e. omega arith) ∙ getD-set-same code (8 * i + 5) k 0 (omega arith);
+    gate-old = λ j d. getD-set-other first (8 * k + 6) (8 * j + 5) i 0 (λ e. omega arith) ∙ getD-set-other code (8 * i + 5) (8 * j + 5) k 0 (λ e. d (omega arith));
+    place-new = getD-set-same first (8 * k + 6) i 0 (omega (arith, length-set code (8 * i + 5) k));
+    place-old = λ m d. getD-set-other first (8 * k + 6) (8 * m + 6) i 0 (λ e. d (omega arith)) ∙ getD-set-other code (8 * i + 5) (8 * m + 6) k 0 (λ e. omega arith);
+  }
 
 module _ (c : Counts) (before code : List ℕ) (r : Reordered c before code) where
   cell-kept : (k : ℕ) → cellIn code k ≡ cellIn before k
@@ -50,7 +64,7 @@ module _ (c : Counts) (before code : List ℕ) (r : Reordered c before code) whe
         r .kept (8 * c .gates + 2 * j + 1) (λ m h. (λ e. omega arith, λ e. omega arith)),
       )
 
-  care-kept : (i : ℕ) → getD code (8 * c .gates + 2 * c .outputs + i) 0 ≡ getD before (8 * c .gates + 2 * c .outputs + i) 0
+  care-kept : (i : ℕ) → careIn c code i ≡ careIn c before i
   care-kept i = r .kept (8 * c .gates + 2 * c .outputs + i) (λ m h. (λ e. omega arith, λ e. omega arith))
 
   pub stage-kept : stageIn c code ≡ stageIn c before
