@@ -4,8 +4,9 @@
    Each call takes byte strings as a pointer and then a length. The bytes may be any; that they are there, that nothing
    else writes them during the call, and that a row or a buffer overlaps nothing else is all that is asked. Each call
    returns, keeps nothing for later calls, and touches no other memory but its answer and the stack: at most 64
-   kilobytes of it (measured: join 55, report 51, check 34, settled row 18, make a stage 14). So calls may run at the
-   same time in several threads, each with a row or buffers of its own.
+   kilobytes of it (measured: report 47, join 45, check 32, read a text 24, write a text 21, settled row 18, make a stage
+   5, draw a reference 1, the next stage less than 1). So calls may run at the same time in several threads, each with a
+   row or buffers of its own.
 
    A pointer that goes with the length 0 is not read through. What is proved is about pointers that are not null; with
    the length 0 any other address will do. A null pointer with the length 0 was tried too: it counts as an empty file,
@@ -118,7 +119,9 @@ struct fovaheju_written fovaheju_make_stage(const uint8_t *reference, size_t ref
 
 /* Reads the text of a stage in the line form: the input names, the output names, then a line for each gate. Its stage file,
    gates before outputs, is written at the start of a buffer; the bytes past it keep their values, and so do all where the
-   number is not 0. The text may have any length and any bytes. 2,643 bytes have room for every such file. The numbers are 0;
+   number is not 0. The text may have any length and any bytes; where it names more than a stage may have, the time grows with
+   the square of its length. No text that reads has more than 27,322 bytes, and 2,643 have room for every such file: 2 for the
+   inputs, 10 for each of 256 gates, 5 for each of 16 outputs, 1 for the end; tests/tests/text.rs counts both. The numbers are 0;
    29, 30 and 31, with `at` the line, counted from 0; 3, 5 and 6, with `at` a place in the file that would be made; all these
    with file 1; then 24 with file 3. */
 struct fovaheju_written fovaheju_read_text(const uint8_t *text, size_t text_len, uint8_t *stage_out, size_t stage_out_len);
@@ -126,8 +129,9 @@ struct fovaheju_written fovaheju_read_text(const uint8_t *text, size_t text_len,
 /* Writes a stage file as text in the line form: the names of the inputs, those of the outputs, then a line for each gate, with
    its kind, its pins and its net. The text is written at the start of a buffer; the bytes past it keep their values, and so
    do all where the number is not 0. fovaheju_read_text gives the file's own bytes back, if its gates stand before its
-   outputs. 10,012 bytes have room for every text. The numbers are 0; 1 to 9, 18 and 19; 29 for a file with a care list; 31
-   with `at` the least output that would give a net a second name; all these with file 1; then 24 with file 3. */
+   outputs. 10,012 bytes have room for every text, as tests/tests/text.rs counts; that 11,908 have is proved. The numbers are 0;
+   1 to 9, 18 and 19; 29 for a file with a care list; 31 with `at` the least output that would give a net a second name; all
+   these with file 1; then 24 with file 3. */
 struct fovaheju_written fovaheju_write_text(const uint8_t *stage, size_t stage_len, uint8_t *text_out, size_t text_out_len);
 
 /* Writes the next file of the family of small stages: 1 or 2 inputs, 0 to 2 gates of kinds 1 and 2, one output, gates

@@ -53,8 +53,13 @@ fn say_why(text: &mut Text, stage: &Stage, gate: usize, rests: &[Row]) {
 
 fn say_todo(text: &mut Text, stage: &Stage, gate: usize, idle: &Idle) {
     let (net, name) = (stage.net_of(gate), stage.gate_name(gate));
-    let readers: Vec<String> =
-        stage.readers(net).iter().filter(|reader| !idle.gates.contains(reader)).take(SHOWN).map(|&reader| stage.gate_text(reader)).collect();
+    let readers: Vec<String> = stage
+        .readers(net)
+        .iter()
+        .filter(|reader| !idle.gates.contains(reader))
+        .take(SHOWN)
+        .map(|&reader| stage.gate_text(reader))
+        .collect();
     let output = stage.outputs.iter().position(|rails| rails.contains(&net));
     let mut todo = match (output, readers.is_empty()) {
         (Some(output), _) => {

@@ -27,11 +27,11 @@ use Rattle.verdict.specs.Written.{holding}
 use Rattle.check_spec.specs.Cases.{verdict, accepted, case, Check, first, judge, unequal}
 use Rattle.check_spec.specs.Lists.{numbers}
 use Rattle.check_spec.specs.Content as content
-use Rattle.check_spec.specs.Content.{Content, Files, contentAt, contentOf, partFiles}
+use Rattle.check_spec.specs.Content.{Content, Files, contentAt, contentOf, filesWithin, partFiles}
 use Rattle.check_spec.specs.Words.{caresFor}
 use Rattle.check_spec.specs.Checks.{swept}
 use Rattle.check_spec.specs.Verdicts.{verdictOn}
-use Rattle.check_spec.specs.Loaded.{fromStage, fromReference, filesWithin, stageView, referenceView}
+use Rattle.check_spec.specs.Loaded.{fromStage, fromReference, stageView, referenceView}
 use Rattle.check_spec.specs.Writing.{leaving}
 use Rattle.check_spec.proofs.Names.{of-bits-below}
 use Rattle.check_spec.proofs.Alike.{cares-alike}
@@ -160,7 +160,7 @@ module _ (order : WordOrder) (counts : FileCounts) (code1 reference1 code2 refer
 -- ---- a part that the check left
 
 pub part-held : {m n : Limits} {s t : List ℕ} {c : Counts} {code : List ℕ} {d : Counts} {reference : List ℕ} → m ≡ partStageLimits → n ≡ partReferenceLimits
-    → PairLoaded m n s t c code d reference
+    → PairLoaded (filesWithin false m n s t) c code d reference
     → (contentOf Stage partStageLimits s ≡ fromStage (stageIn c code)) × (contentOf Reference partReferenceLimits t ≡ fromReference (referenceIn d reference))
 part-held {m} {n} {s} {t} em en p = (
   ap (λ (l : Limits). contentOf Stage l s) (sym em) ∙ stage-content m s (p .stage-from .places) (p .stage-from .reads) ∙ ap fromStage (sym (p .stage-from .content)),
@@ -174,8 +174,8 @@ few-care l e h = omega (arith, l .room)
 -- ---- the parts' verdicts
 
 -- a verdict within limits that are those of a part
-pub judged-by : (order : WordOrder) (m n : Limits) (s t : List ℕ) (v : Verdict) → v ≡ verdictOn order (filesWithin m n s t) → m ≡ partStageLimits → n ≡ partReferenceLimits → v ≡ verdictOn order (partFiles s t)
-judged-by order m n s t v e em en = e ∙ ap₂ (λ (x y : Limits). verdictOn order (filesWithin x y s t)) em en
+pub judged-by : (order : WordOrder) (m n : Limits) (s t : List ℕ) (v : Verdict) → v ≡ verdictOn order (filesWithin false m n s t) → m ≡ partStageLimits → n ≡ partReferenceLimits → v ≡ verdictOn order (partFiles s t)
+judged-by order m n s t v e em en = e ∙ ap₂ (λ (x y : Limits). verdictOn order (filesWithin false x y s t)) em en
 
 pub accepts-zero : {v w : Verdict} → v ≡ w → v .number ≡ 0 → w .number ≡ 0
 accepts-zero e z = ap (λ (x : Verdict). x .number) (sym e) ∙ z

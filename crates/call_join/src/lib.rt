@@ -83,7 +83,7 @@ fn uncared_named(
     Finding::Passed
 }
 
-// The least word of the first part, by its name, whose answer the second does not care for.
+// The least word of the first part, by its name, whose answer the second does not care for. Without a care list it cares for every answer.
 fn uncared(
     order: WordOrder,
     code1: &[u16],
@@ -93,10 +93,14 @@ fn uncared(
     code2: &[u16],
     counts2: Counts,
 ) -> Finding
-    requires { ⌜ StageLoaded counts1 (now code1) × ReferenceLoaded sizes1 (now reference1) × StageLoaded counts2 (now code2) ⌝ }
+    requires { ⌜ StageLoaded counts1 (now code1) × ReferenceLoaded sizes1 (now reference1) × StageLoaded counts2 (now code2)
+        × (sizes1 .outputs ≡ counts2 .inputs) ⌝ }
     ensures { λ r. ⌜ r ≡ sweep 23 0 (uncaredUnder order (counts1 .inputs) (referenceIn sizes1 (now (reference1 .entry))) (stageIn counts2 (now
         (code2 .entry)))) (names order (stageIn counts1 (now (code1 .entry)))) ⌝ }
 {
+    if counts2.care == 0 {
+        return Finding::Passed;
+    }
     let mut list = [0u16; words::NAMES];
     let count = words::list_names(order, code1, counts1, &mut list);
     uncared_named(
@@ -216,6 +220,7 @@ pub fn join(
     let mut loaded2 = [0u16; circuit::form::REFERENCE_CODE];
     match check_files::check_loading(
         order,
+        false,
         stage1,
         reference1,
         most,
@@ -227,6 +232,7 @@ pub fn join(
         Judgement::Accepted(counts1, sizes1) => {
             match check_files::check_loading(
                 order,
+                false,
                 stage2,
                 reference2,
                 most,

@@ -3,7 +3,7 @@
 use Prim.Native.Nat.{ℕ, _≤_}
 use native.Mathlib.Omega.{arith}
 use mathlib.Core.Path.{_≡_, sym, ap, ap₂, _∙_, subst, fun-ext}
-use mathlib.Core.Bool.{Bool, cond}
+use mathlib.Core.Bool.{Bool, false, cond}
 use mathlib.Core.List.{List, [], map, map-map}
 use lib.ListN.{replicate}
 use lib.Dec.{eqb}
@@ -17,7 +17,7 @@ use Rattle.verdict.specs.declared.Verdict.{Verdict}
 use Rattle.verdict.specs.declared.WordOrder.{WordOrder}
 use Rattle.verdict.specs.Words as words
 use Rattle.verdict.specs.Verdicts.{accepted}
-use Rattle.check_spec.specs.Content.{Content, Files, contentAt, files}
+use Rattle.check_spec.specs.Content.{Content, Files, contentAt, plainFiles}
 use Rattle.check_spec.specs.Content as content
 use Rattle.check_spec.specs.Rows.{netOf}
 use Rattle.check_spec.specs.Words.{names}
@@ -61,16 +61,16 @@ report-alike order v c free =
 
 module _ (order : WordOrder) (stage reference : List ℕ) where
   abbrev f : Files
-  f = files stage reference
+  f = plainFiles stage reference
 
-  pub report-accepted : accepted ≡ verdictOn order f → {most : Limits} {c : Counts} {code : List ℕ} → most ≡ stageLimits → StageFrom most stage c code
+  pub report-accepted : accepted ≡ verdictOn order f → {most : Limits} {c : Counts} {code : List ℕ} → most ≡ stageLimits → StageFrom false most stage c code
       → (r : Report) → r ≡ stageReport order accepted (stageIn c code) → (r ≡ reportOn order f) × ReportMeans f r
   unfolding reportOn
   report-accepted e {most} {c} {code} m from r is =
       let a = accepted-sound order f (sym (ap (λ (x : Verdict). x .number) e)) .1 in
       let reads = ap (λ (x : Limits). readFile file.Stage x stage) (sym m) ∙ from .reads in
       let same : stageView (content.stageIn f) ≡ stageIn c code =
-      ap (λ (x : Reading). stageView (contentAt file.Stage stage x)) reads ∙ stage-view stage (from .places) ∙ sym (from .content) in
+      ap (λ (x : Reading). stageView (contentAt file.Stage stage x)) reads ∙ stage-view false stage (from .places) ∙ sym (from .content) in
       let z : r ≡ reportOn order f =
       is ∙ ap (stageReport order accepted) (sym same) ∙ report-alike order accepted (content.stageIn f) (a .free)
       ∙ ap (λ (x : Verdict). cond (eqb (x .number) 0) (reportOf x (names order (content.stageIn f)) (spec.lines order (content.stageIn f))) (reportOf x [] [])) e in

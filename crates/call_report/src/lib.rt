@@ -14,7 +14,7 @@ ghost use Rattle.verdict.specs.Verdicts.{accepted};
 ghost use Rattle.circuit.specs.Stage.{stageIn, StageLoaded};
 ghost use Rattle.circuit.specs.Order.{InOrder};
 ghost use Rattle.call_report.specs.Report as spec;
-ghost use Rattle.check_spec.specs.Content.{files};
+ghost use Rattle.check_spec.specs.Content.{plainFiles};
 ghost use Rattle.report_spec.specs.Report.{reportOn, ReportMeans};
 ghost use Rattle.call_report.specs.Lines.{linesBy};
 
@@ -86,13 +86,14 @@ fn report_stage(order: WordOrder, code: &[u16], counts: Counts) -> Report
 
 // The report of a stage file against a reference file, with words named in an order.
 pub fn report_on(order: WordOrder, stage: &[u8], reference: &[u8]) -> Report
-    ensures report { λ r. ⌜ r ≡ reportOn order (files (now (stage .entry)) (now (reference .entry))) ⌝ }
-    ensures means { λ r. ⌜ ReportMeans (files (now (stage .entry)) (now (reference .entry))) r ⌝ }
+    ensures report { λ r. ⌜ r ≡ reportOn order (plainFiles (now (stage .entry)) (now (reference .entry))) ⌝ }
+    ensures means { λ r. ⌜ ReportMeans (plainFiles (now (stage .entry)) (now (reference .entry))) r ⌝ }
 {
     let mut code = [0u16; circuit::form::STAGE_CODE];
     let mut loaded = [0u16; circuit::form::REFERENCE_CODE];
     let judgement = check_files::check_loading(
         order,
+        false,
         stage,
         reference,
         netlist::stage_limits(),

@@ -466,7 +466,7 @@ pub many-gates : judged manyGates ≡ expected manyGates
 unfolding manyGates gates c.cells c.cellAt c.pinCount c.kindOf b.operand b.operands
     k.whenFound k.ownCommands k.commandTable k.formIn k.pinsNeeded k.needed k.stray k.misfit k.misfitFrom k.takeGate k.takeCare k.takeSort
     k.takeCommand k.nextAt
-    r.nameable r.nameless r.usedOperands r.namelessAt r.namelessFrom r.floorAfter r.noted r.finish r.onNext r.readFrom r.readFile
+    r.names k.roleOf k.used r.nameless r.namelessAt r.namelessFrom r.floorAfter r.noted r.finish r.onNext r.readFrom r.readFile
     t.contentAt v.refusal e.first e.judge
 many-gates = refl
 
@@ -474,7 +474,7 @@ pub many-operations : judged manyOperations ≡ expected manyOperations
 unfolding manyOperations wire inverters b.operand b.operands
     k.whenFound k.ownCommands k.commandTable k.formIn k.pinsNeeded k.needed k.stray k.misfit k.misfitFrom k.takeGate k.takeCare k.takeSort
     k.takeCommand k.nextAt
-    r.nameable r.nameless r.usedOperands r.namelessAt r.namelessFrom r.floorAfter r.noted r.finish r.onNext r.readFrom r.readFile
+    r.names k.roleOf k.used r.nameless r.namelessAt r.namelessFrom r.floorAfter r.noted r.finish r.onNext r.readFrom r.readFile
     t.contentAt v.refusal e.first e.judge
 many-operations = refl
 
@@ -497,7 +497,7 @@ unfolding twelve examples ordered refused care inFilesOrder earlyGates earlyOr o
     outputs firstInput inverters b.operand b.operands
     k.whenFound k.ownCommands k.commandTable k.formIn k.pinsNeeded k.needed k.stray k.misfit k.misfitFrom k.takeGate k.takeCare k.takeSort
     k.takeCommand k.nextAt
-    r.nameable r.nameless r.usedOperands r.namelessAt r.namelessFrom r.floorAfter r.noted r.finish r.onNext r.readFrom r.readFile
+    r.names k.roleOf k.used r.nameless r.namelessAt r.namelessFrom r.floorAfter r.noted r.finish r.onNext r.readFrom r.readFile
     t.contentAt v.refusal e.first e.judge
     l.numbers l.select l.some l.every l.ofBits l.reaches e.sweep o.rounds o.risen o.fallen o.reachesItself
     w.caresFor w.spelled w.names w.words w.operate w.values w.answer

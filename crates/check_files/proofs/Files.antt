@@ -3,7 +3,7 @@
 use Prim.Native.Nat.{ℕ, _≤_}
 use native.Mathlib.Omega.{arith}
 use mathlib.Core.Path.{_≡_, refl, sym, ap, ap₂, subst, _∙_}
-use mathlib.Core.Bool.{Bool, true, _&&_}
+use mathlib.Core.Bool.{Bool, true, false, _&&_}
 use mathlib.Core.List.{List, [], _∷_}
 use lib.Dec.{ltb}
 use Rattle.runs.proofs.Test.{and-left, and-right, ltb-true}
@@ -13,7 +13,8 @@ use Rattle.netlist.specs.declared.Counts.{Counts}
 use Rattle.netlist.specs.declared.Found.{Found}
 use Rattle.netlist.specs.declared.Found.the-variants.{At, Nothing}
 use Rattle.netlist.specs.declared.Outcome.the-variants as outcome
-use Rattle.netlist.specs.Reading.{refused, readable, readFile, stageLimits, referenceLimits}
+use Rattle.netlist.specs.Commands.{stageFile}
+use Rattle.netlist.specs.Reading.{Reading, refused, readable, readFile}
 use Rattle.netlist.specs.Read.{outcomeOf}
 use Rattle.netlist.specs.Content.{Stage, Reference}
 use Rattle.verdict.specs.declared.Verdict.{Verdict}
@@ -24,10 +25,10 @@ use Rattle.verdict.specs.Checks.{verdict, Check, atFault, sweep, finding, orLat
 use Rattle.verdict.specs.Verdicts as verdicts
 use Rattle.verdict.proofs.Refusals.{refused-number}
 use Rattle.check_spec.specs.Cases.{first, judge}
-use Rattle.check_spec.specs.Content.{contentAt, files}
-use Rattle.check_spec.specs.Verdicts.{refusal, verdictOn}
+use Rattle.check_spec.specs.Content.{Files, contentAt, filesWithin}
+use Rattle.check_spec.specs.Verdicts.{fileNumber, refusal, verdictOn}
 use Rattle.check_spec.specs.Demands.{Demand2, Demand3}
-use Rattle.check_spec.specs.Loaded.{stageView, referenceView, filesWithin}
+use Rattle.check_spec.specs.Loaded.{stageView, referenceView}
 use Rattle.check_spec.proofs.Demanded.{demand-2, demand-3}
 use Rattle.check_spec.proofs.View.{stage-view, reference-view}
 use Rattle.check_spec.proofs.Alike.{read-care}
@@ -81,47 +82,63 @@ checks-named order s r = refl
 
 -- ---- two files that are read
 
-module _ (order : WordOrder) (stageMost referenceMost : Limits) (s t : List ℕ) where
-  abbrev given : Verdict
-  given = verdictOn order (filesWithin stageMost referenceMost s t)
+module _ (order : WordOrder) (f : Files) where
+  abbrev s : List ℕ
+  s = f .stage
 
-  refused-as : {code reference : List ℕ} (v : Verdict) → v ≡ given → Refusal v → JudgedAs order stageMost referenceMost s t (judgement.Refused v) code reference
+  abbrev t : List ℕ
+  t = f .reference
+
+  abbrev stageReading : Reading
+  stageReading = readFile (stageFile (f .registers)) (f .stageMost) (f .stage)
+
+  abbrev referenceReading : Reading
+  referenceReading = readFile file.Reference (f .referenceMost) (f .reference)
+
+  abbrev given : Verdict
+  given = verdictOn order f
+
+  refused-as : {code reference : List ℕ} (v : Verdict) → v ≡ given → Refusal v → JudgedAs order f (judgement.Refused v) code reference
   refused-as v e n = record {
     verdict-is = e;
     refuses = λ u q. let i : v ≡ u = cc in subst Refusal i n;
     loaded = λ c d q. absurd (let z : _≡_ {A = ℕ} 0 1 = cc in omega arith);
   }
 
-  refuses-stage : (number at : ℕ) → readFile file.Stage stageMost s ≡ refused number at → verdict number 1 at 0 ≡ given
+  refuses-stage : (number at : ℕ) → stageReading ≡ refused number at → verdict number 1 at 0 ≡ given
   unfolding judge first refusal
-  refuses-stage number at e = rw e
+  refuses-stage number at e = rw e (ap (λ (k : ℕ). verdict number k at 0) (one (f .registers)))
+    where
+      one : (registers : Bool) → 1 ≡ fileNumber (stageFile registers)
+      one true = refl
+      one false = refl
 
-  pub stage-refused : {code reference : List ℕ} (number at : ℕ) → outcome.Refused number at ≡ outcomeOf (readFile file.Stage stageMost s)
-      → JudgedAs order stageMost referenceMost s t (judgement.Refused (verdict number 1 at 0)) code reference
+  pub stage-refused : {code reference : List ℕ} (number at : ℕ) → outcome.Refused number at ≡ outcomeOf stageReading
+      → JudgedAs order f (judgement.Refused (verdict number 1 at 0)) code reference
   stage-refused number at e =
-      let r = was-refused (readFile file.Stage stageMost s) number at e in
-      refused-as (verdict number 1 at 0) (refuses-stage number at r) (refused-number file.Stage stageMost s number at r .0, omega arith)
+      let r = was-refused stageReading number at e in
+      refused-as (verdict number 1 at 0) (refuses-stage number at r) (refused-number (stageFile (f .registers)) (f .stageMost) s number at r .0, omega arith)
 
-  module _ (c : Counts) (code : List ℕ) (is : outcome.Readable c ≡ outcomeOf (readFile file.Stage stageMost s))
-      (h : HoldsStage s (readFile file.Stage stageMost s) code) where
-    from : StageFrom stageMost s c code
-    from = let r = stage-held s (readFile file.Stage stageMost s) c code is h in record { places = r .0; reads = r .1; content = r .2 }
+  module _ (c : Counts) (code : List ℕ) (is : outcome.Readable c ≡ outcomeOf stageReading)
+      (h : HoldsStage s stageReading code) where
+    from : StageFrom (f .registers) (f .stageMost) s c code
+    from = let r = stage-held s stageReading c code is h in record { places = r .0; reads = r .1; content = r .2 }
 
-    refuses-reference : (number at : ℕ) → readFile file.Reference referenceMost t ≡ refused number at → verdict number 2 at 0 ≡ given
+    refuses-reference : (number at : ℕ) → referenceReading ≡ refused number at → verdict number 2 at 0 ≡ given
     unfolding judge first refusal
     refuses-reference number at e = rw (from .reads, e)
 
-    pub reference-refused : {code′ reference : List ℕ} (number at : ℕ) → outcome.Refused number at ≡ outcomeOf (readFile file.Reference referenceMost t)
-        → JudgedAs order stageMost referenceMost s t (judgement.Refused (verdict number 2 at 0)) code′ reference
+    pub reference-refused : {code′ reference : List ℕ} (number at : ℕ) → outcome.Refused number at ≡ outcomeOf referenceReading
+        → JudgedAs order f (judgement.Refused (verdict number 2 at 0)) code′ reference
     reference-refused number at e =
-        let r = was-refused (readFile file.Reference referenceMost t) number at e in
-        refused-as (verdict number 2 at 0) (refuses-reference number at r) (refused-number file.Reference referenceMost t number at r .0, omega arith)
+        let r = was-refused referenceReading number at e in
+        refused-as (verdict number 2 at 0) (refuses-reference number at r) (refused-number file.Reference (f .referenceMost) t number at r .0, omega arith)
 
-    module _ (sizes : Counts) (reference : List ℕ) (it : outcome.Readable sizes ≡ outcomeOf (readFile file.Reference referenceMost t))
-        (k : HoldsReference t (readFile file.Reference referenceMost t) reference) where
-      of-reference : ReferenceFrom referenceMost t sizes reference
+    module _ (sizes : Counts) (reference : List ℕ) (it : outcome.Readable sizes ≡ outcomeOf referenceReading)
+        (k : HoldsReference t referenceReading reference) where
+      of-reference : ReferenceFrom (f .referenceMost) t sizes reference
       of-reference =
-          let r = reference-held t (readFile file.Reference referenceMost t) sizes reference it k in record { places = r .0; reads = r .1; content = r .2 }
+          let r = reference-held t referenceReading sizes reference it k in record { places = r .0; reads = r .1; content = r .2 }
 
       abbrev found : Finding
       found = firstFault (checks order (stageIn c code) (referenceIn sizes reference))
@@ -129,21 +146,21 @@ module _ (order : WordOrder) (stageMost referenceMost : Limits) (s t : List ℕ)
       judged : verdicts.verdictOf found ≡ given
       unfolding judge first refusal
       judged =
-          let p = contentAt file.Stage s (readable (from .places)) in
+          let p = contentAt (stageFile (f .registers)) s (readable (from .places)) in
           let q = contentAt file.Reference t (readable (of-reference .places)) in
-          let view : stageIn c code ≡ stageView p = from .content ∙ sym (stage-view s (from .places)) in
+          let view : stageIn c code ≡ stageView p = from .content ∙ sym (stage-view (f .registers) s (from .places)) in
           let same : referenceIn sizes reference ≡ referenceView q = of-reference .content ∙ sym (reference-view t (of-reference .places)) in
           rw (from .reads, of-reference .reads)
-          (ap verdicts.verdictOf (ap₂ (λ (x : Stage) (y : Reference). firstFault (checks order x y)) view same) ∙ sym (alike-judge (checks-alike order p q (read-care stageMost s (from .places) (from .reads)))))
+          (ap verdicts.verdictOf (ap₂ (λ (x : Stage) (y : Reference). firstFault (checks order x y)) view same) ∙ sym (alike-judge (checks-alike order p q (read-care (stageFile (f .registers)) (f .stageMost) s (from .places) (from .reads)))))
 
-      pub checks-refuse : {code′ : List ℕ} (v : Verdict) → Fault v ≡ found → JudgedAs order stageMost referenceMost s t (judgement.Refused v) code′ reference
+      pub checks-refuse : {code′ : List ℕ} (v : Verdict) → Fault v ≡ found → JudgedAs order f (judgement.Refused v) code′ reference
       unfolding verdicts.verdictOf
       checks-refuse v e =
           refused-as v (ap verdicts.verdictOf e ∙ judged)
           (fault-named (checks order (stageIn c code) (referenceIn sizes reference)) (checks-named order (stageIn c code) (referenceIn sizes reference)) v (sym e))
 
       pub checks-pass : {code′ : List ℕ} → Passed ≡ found → BothLoaded c code′ sizes reference × (stageIn c code′ ≡ stageIn c code)
-          → JudgedAs order stageMost referenceMost s t (judgement.Accepted c sizes) code′ reference
+          → JudgedAs order f (judgement.Accepted c sizes) code′ reference
       unfolding verdicts.verdictOf
       checks-pass {code′} e b = record {
         verdict-is = ap verdicts.verdictOf e ∙ judged;
@@ -151,8 +168,8 @@ module _ (order : WordOrder) (stageMost referenceMost : Limits) (s t : List ℕ)
         loaded = λ d z q.
             let i : c ≡ d = cc in
             let j : sizes ≡ z = cc in
-            subst (λ (x : Counts). PairLoaded stageMost referenceMost s t x code′ z reference) i
-            (subst (λ (x : Counts). PairLoaded stageMost referenceMost s t c code′ x reference) j
+            subst (λ (x : Counts). PairLoaded f x code′ z reference) i
+            (subst (λ (x : Counts). PairLoaded f c code′ x reference) j
             (record {
               both = b .0;
               stage-from = record { places = from .places; reads = from .reads; content = b .1 ∙ from .content };
@@ -162,13 +179,14 @@ module _ (order : WordOrder) (stageMost referenceMost : Limits) (s t : List ℕ)
 
 -- ---- the call
 
--- what the check answers within the limits of the two files
-module _ (order : WordOrder) (stageMost referenceMost : Limits) (s t : List ℕ) (v : Verdict) (e : stageMost ≡ stageLimits) (e′ : referenceMost ≡ referenceLimits)
-    (is : v ≡ verdictOn order (filesWithin stageMost referenceMost s t)) where
-  pub answered : v ≡ verdictOn order (files s t)
-  answered = is ∙ ap₂ (λ (a b : Limits). verdictOn order (filesWithin a b s t)) e e′
+-- within limits that were handed on
+pub within : (registers : Bool) {m n m′ n′ : Limits} (s t : List ℕ) → m ≡ m′ → n ≡ n′ → filesWithin registers m n s t ≡ filesWithin registers m′ n′ s t
+within registers s t e e′ = ap₂ (λ (a b : Limits). filesWithin registers a b s t) e e′
 
-  pub checked : (v ≡ verdictOn order (files s t)) × (Demand2 order (files s t) v × Demand3 order (files s t) v)
-  checked =
-      let z = answered in
-      (z, (subst (Demand2 order (files s t)) (sym z) (demand-2 order (files s t)), subst (Demand3 order (files s t)) (sym z) (demand-3 order (files s t))))
+-- the verdict is the one promised, and what is demanded of it holds
+module _ (order : WordOrder) {f g : Files} (same : f ≡ g) (v : Verdict) (is : v ≡ verdictOn order f) where
+  pub answered : v ≡ verdictOn order g
+  answered = is ∙ ap (verdictOn order) same
+
+  pub checked : (v ≡ verdictOn order g) × (Demand2 order g v × Demand3 order g v)
+  checked = (answered, (subst (Demand2 order g) (sym answered) (demand-2 order g), subst (Demand3 order g) (sym answered) (demand-3 order g)))

@@ -13,7 +13,7 @@ ghost use Rattle.netlist.specs.Reading.{stageLimits, referenceLimits, NoMore};
 ghost use Rattle.verdict.specs.Retired.{retiredAt};
 ghost use Rattle.verdict.specs.Search.{least};
 ghost use Rattle.verdict.specs.Checks as checks;
-ghost use Rattle.check_spec.specs.Content.{files};
+ghost use Rattle.check_spec.specs.Content.{files, filesWithin};
 ghost use Rattle.check_spec.specs.Verdicts.{verdictOn};
 ghost use Rattle.check_spec.specs.Demands.{Demand2, Demand3};
 ghost use Rattle.circuit.specs.Stage.{stageGates, stageIn, largestStage, StageLoaded};
@@ -105,10 +105,11 @@ fn verdict_of(judgement: Judgement) -> Verdict
     }
 }
 
-// The check of a stage file and a reference file, which are read within some limits, with words named in an order. The circuits of an accepted pair are
-// left in the two slices.
+// The check of a stage file, with registers or without, and a reference file, which are read within some limits, with words named in an order. The
+// circuits of an accepted pair are left in the two slices.
 pub fn check_loading(
     order: WordOrder,
+    registers: bool,
     stage: &[u8],
     reference: &[u8],
     stage_most: Limits,
@@ -118,9 +119,10 @@ pub fn check_loading(
 ) -> Judgement
     requires { ⌜ NoMore «stage_most» stageLimits × NoMore «reference_most» referenceLimits
         × (largestStage ≤ length (now code)) × (largestReference ≤ length (now loaded)) ⌝ }
-    ensures { λ r. ⌜ JudgedAs order «stage_most» «reference_most» (now (stage .entry)) (now (reference .entry)) r (now (code .exit)) (now (loaded .exit)) ⌝ }
+    ensures { λ r. ⌜ JudgedAs order (filesWithin registers «stage_most» «reference_most» (now (stage .entry)) (now (reference .entry))) r
+        (now (code .exit)) (now (loaded .exit)) ⌝ }
 {
-    match circuit_load::read_stage_within(stage, stage_most, code) {
+    match circuit_load::read_stage_within(registers, stage, stage_most, code) {
         Outcome::Refused { number, at } => Judgement::Refused(Verdict {
             number: number as u64,
             file: 1,
@@ -144,7 +146,7 @@ pub fn check_loading(
     }
 }
 
-// The verdict on a stage file and a reference file, with words named in an order.
+// The verdict on a stage file and a reference file, with words named in an order. This call alone reads registers.
 pub fn check(order: WordOrder, stage: &[u8], reference: &[u8]) -> Verdict
     ensures verdict { λ r. ⌜ r ≡ verdictOn order (files (now (stage .entry)) (now (reference .entry))) ⌝ }
     ensures demand2 { λ r. ⌜ Demand2 order (files (now (stage .entry)) (now (reference .entry))) r ⌝ }
@@ -154,6 +156,7 @@ pub fn check(order: WordOrder, stage: &[u8], reference: &[u8]) -> Verdict
     let mut loaded = [0u16; circuit::form::REFERENCE_CODE];
     verdict_of(check_loading(
         order,
+        true,
         stage,
         reference,
         netlist::stage_limits(),

@@ -16,12 +16,12 @@ use Rattle.runs.specs.Settled.{SettledHeld, SettledKept}
 use Rattle.runs.proofs.Test.{and-in, and-left, and-right, or-left, lt-ltb, ltb-true, eqb-eq, eqb-same, eqb-other}
 use Rattle.runs.proofs.Moves.{missing-held}
 use Rattle.runs.proofs.Net.{Place, rail, gate, none, place, byNet-rail, byNet-gate, byNet-none}
-use Rattle.netlist.specs.declared.File.the-variants as file
+use Rattle.netlist.specs.declared.File.{File}
 use Rattle.netlist.specs.declared.Limits.{Limits}
 use Rattle.netlist.specs.Reading.{Places, Ascending, readable, readFile}
 use Rattle.netlist.specs.Content as parsed
-use Rattle.netlist.specs.Content.{Coded, gateOf, stageOf}
-use Rattle.netlist.proofs.Stages.{stage-formed}
+use Rattle.netlist.specs.Content.{Coded, gateOf}
+use Rattle.netlist.proofs.Readable.{readable-read}
 use Rattle.verdict.specs.declared.WordOrder.{WordOrder}
 use Rattle.verdict.specs.declared.WordOrder.the-variants.{FirstHighest, FirstLowest}
 use Rattle.verdict.specs.Graph.{In}
@@ -305,12 +305,12 @@ module _ (c : Content) (care : Ascending (2 ^ c .inputs) 0 (c .care)) (w : ℕ) 
       go (x ∷ ws) i = or-left (some (eqb w) (x ∷ ws)) _ (some-in (eqb w) (x ∷ ws) w i (eqb-same w))
 
 -- the care words of a file that reads rise
-pub read-care : (most : Limits) (bytes : List ℕ) (p : Places) → readFile file.Stage most bytes ≡ readable p
-    → Ascending (2 ^ contentAt file.Stage bytes (readable p) .inputs) 0 (contentAt file.Stage bytes (readable p) .care)
-unfolding contentAt stageOf
-read-care most bytes p e = stage-formed most bytes p e .care-in
+pub read-care : (f : File) (most : Limits) (bytes : List ℕ) (p : Places) → readFile f most bytes ≡ readable p
+    → Ascending (2 ^ contentAt f bytes (readable p) .inputs) 0 (contentAt f bytes (readable p) .care)
+unfolding contentAt
+read-care f most bytes p e = readable-read f most bytes p e .care-in
 
-pub care-rises : (most : Limits) (bytes : List ℕ) (p : Places) → readFile file.Stage most bytes ≡ readable p
-    → Ascending (2 ^ contentOf file.Stage most bytes .inputs) 0 (contentOf file.Stage most bytes .care)
-unfolding contentAt stageOf
-care-rises most bytes p e = rw e (read-care most bytes p e)
+pub care-rises : (f : File) (most : Limits) (bytes : List ℕ) (p : Places) → readFile f most bytes ≡ readable p
+    → Ascending (2 ^ contentOf f most bytes .inputs) 0 (contentOf f most bytes .care)
+unfolding contentAt
+care-rises f most bytes p e = rw e (read-care f most bytes p e)

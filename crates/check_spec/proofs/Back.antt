@@ -8,7 +8,7 @@ use lib.ListN.{length, getD}
 use Rattle.netlist.specs.declared.File.the-variants as file
 use Rattle.netlist.specs.declared.Limits.{Limits}
 use Rattle.netlist.specs.Bytes.{operand, operands}
-use Rattle.netlist.specs.Reading.{Places, readable, readFile}
+use Rattle.netlist.specs.Reading.{Places, netsOf, readable, readFile}
 use Rattle.netlist.specs.Content.{Coded, Stage, Reference, codedAt, gateOf, pairAt, stageOf, referenceOf}
 use Rattle.netlist.specs.Writing as items
 use Rattle.netlist.specs.Writing.{Item, gate, output, care, codedGate, pairOperands, stageItems, referenceItems, writeStage, writeReference}
@@ -28,7 +28,7 @@ module _ (most : Limits) (bytes : List ℕ) (p : Places) where
     where
       gates : map codedGate (map (λ at. gateOf (codedAt file.Stage bytes at)) (p .gates)) ≡ map (codedAt file.Stage bytes) (p .gates)
       gates = ap (map codedGate) (sym (map-map gateOf (codedAt file.Stage bytes) (p .gates)))
-          ∙ map-back codedGate gateOf (map (codedAt file.Stage bytes) (p .gates)) (known-again (p .inputs) (length (p .gates)) 0 (map (codedAt file.Stage bytes) (p .gates)) (readable-formed file.Stage most bytes p e .0))
+          ∙ map-back codedGate gateOf (map (codedAt file.Stage bytes) (p .gates)) (known-again (netsOf p) 0 (map (codedAt file.Stage bytes) (p .gates)) (readable-formed file.Stage most bytes p e .0))
 
       outputs : (places : List ℕ) → map (λ at. operands bytes (at + 1) 2) places ≡ map pairOperands (map (pairAt bytes) places)
       outputs [] = refl

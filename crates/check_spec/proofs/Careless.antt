@@ -9,9 +9,9 @@ use lib.Dec.{eqb}
 use Rattle.netlist.specs.declared.File.{File}
 use Rattle.netlist.specs.declared.File.the-variants as file
 use Rattle.netlist.specs.declared.Limits.{Limits}
-use Rattle.netlist.specs.Reading.{Places, stageLimits}
+use Rattle.netlist.specs.Reading.{Nets, Places, stageLimits}
 use Rattle.netlist.specs.Content.{Coded}
-use Rattle.netlist.specs.Writing.{Item, gate, output, care, gatesIn, outputsIn, careIn, writeFile, ItemsFit, FileFits}
+use Rattle.netlist.specs.Writing.{Item, gate, output, care, gatesIn, outputsIn, careIn, writeFile, netsIn, ItemsFit, FileFits}
 use Rattle.netlist.proofs.Lists.{Bytes}
 use Rattle.netlist.proofs.ReadBack.{read-write, Holds}
 use Rattle.verdict.specs.declared.Verdict.{Verdict}
@@ -47,11 +47,11 @@ no-words (gate c ∷ items) = no-words items
 no-words (output vs ∷ items) = no-words items
 no-words (care w ∷ items) = no-words items
 
-fit-without : (f : File) (n g k : ℕ) (items : List Item) → ItemsFit f n g k items → ItemsFit f n g k (withoutCare items)
-fit-without f n g k [] h = tt
-fit-without f n g k (gate c ∷ items) h = (h .0, fit-without f n g (suc k) items (h .1))
-fit-without f n g k (output vs ∷ items) h = (h .0, fit-without f n g k items (h .1))
-fit-without f n g k (care w ∷ items) h = fit-without f n g k items (h .1)
+fit-without : (f : File) (N : Nets) (k : ℕ) (items : List Item) → ItemsFit f N k items → ItemsFit f N k (withoutCare items)
+fit-without f N k [] h = tt
+fit-without f N k (gate c ∷ items) h = (h .0, fit-without f N (suc k) items (h .1))
+fit-without f N k (output vs ∷ items) h = (h .0, fit-without f N k items (h .1))
+fit-without f N k (care w ∷ items) h = fit-without f N k items (h .1)
 
 fits-without : (f : File) (most : Limits) (n : ℕ) (items : List Item) → FileFits f most n items → FileFits f most n (withoutCare items)
 fits-without f most n items h = record {
@@ -60,7 +60,7 @@ fits-without f most n items h = record {
   gates-in = rw (same-gates items) (h .gates-in);
   outputs-in = rw (same-outputs items) (h .outputs-in);
   care-in = rw (no-words items) tt;
-  items-fit = rw (same-gates items) (fit-without f n (length (gatesIn items)) 0 items (h .items-fit));
+  items-fit = rw (same-gates items) (fit-without f (netsIn n items) 0 items (h .items-fit));
 }
 
 -- ---- the answer

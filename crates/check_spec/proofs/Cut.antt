@@ -9,7 +9,7 @@ use lib.Seq.{take-all}
 use Rattle.netlist.specs.declared.File.{File}
 use Rattle.netlist.specs.declared.File.the-variants.{Stage, Reference}
 use Rattle.netlist.specs.declared.Limits.{Limits}
-use Rattle.netlist.specs.Commands.{ownCommands, commandTable, formIn}
+use Rattle.netlist.specs.Commands.{stageFile, ownCommands, commandTable, formIn}
 use Rattle.netlist.specs.Reading.{Places, Reading, refused, readable, readFile, stageLimits}
 use Rattle.netlist.specs.Read.{farthest, mostBytes}
 use Rattle.netlist.proofs.Encoding.{width-gate}
@@ -39,12 +39,12 @@ module _ (f : File) (most : Limits) (far : farthest f most ≤ mostBytes) (s : L
       go (readable p) e = ap (λ (b : List ℕ). contentAt f b (readFile f most s)) (read-short p e)
 
 abbrev pub cutFiles : Files → Files
-cutFiles f = record { stage = take mostBytes (f .stage); reference = take mostBytes (f .reference); stageMost = f .stageMost; referenceMost = f .referenceMost }
+cutFiles f = record { stage = take mostBytes (f .stage); reference = take mostBytes (f .reference); registers = f .registers; stageMost = f .stageMost; referenceMost = f .referenceMost }
 
-pub verdict-cut : (order : WordOrder) (f : Files) → farthest Stage (f .stageMost) ≤ mostBytes → farthest Reference (f .referenceMost) ≤ mostBytes → verdictOn order (cutFiles f) ≡ verdictOn order f
+pub verdict-cut : (order : WordOrder) (f : Files) → farthest (stageFile (f .registers)) (f .stageMost) ≤ mostBytes → farthest Reference (f .referenceMost) ≤ mostBytes → verdictOn order (cutFiles f) ≡ verdictOn order f
 verdict-cut order f far far′ i =
-    judge (reading-cut Stage (f .stageMost) far (f .stage) i ∷ reading-cut Reference (f .referenceMost) far′ (f .reference) i ∷
-    checks order (content-cut Stage (f .stageMost) far (f .stage) i) (content-cut Reference (f .referenceMost) far′ (f .reference) i))
+    judge (reading-cut (stageFile (f .registers)) (f .stageMost) far (f .stage) i ∷ reading-cut Reference (f .referenceMost) far′ (f .reference) i ∷
+    checks order (content-cut (stageFile (f .registers)) (f .stageMost) far (f .stage) i) (content-cut Reference (f .referenceMost) far′ (f .reference) i))
 
 -- of the check itself, and of the settled-row call
 pub check-cut : (order : WordOrder) (s r : List ℕ) → verdictOn order (files (take mostBytes s) (take mostBytes r)) ≡ verdictOn order (files s r)

@@ -4,11 +4,12 @@ use Prim.Native.Nat.{ℕ, _≤_, _<_}
 use native.Mathlib.Omega.{arith}
 use mathlib.Core.Path.{_≡_, refl, sym, ap, _∙_, subst}
 use mathlib.Core.Logic.{_⊎_, inl, inr, _↔_, ⊎-elim}
-use mathlib.Core.Bool.{true, false}
+use mathlib.Core.Bool.{Bool, true, false}
 use mathlib.Core.List.{[], _∷_, flatMap}
 use lib.ListN.{length}
 use Rattle.runs.specs.Theory.{AllHold}
-use Rattle.netlist.specs.declared.File.the-variants.{Stage, Reference}
+use Rattle.netlist.specs.declared.File.the-variants.{Reference}
+use Rattle.netlist.specs.Commands.{stageFile}
 use Rattle.netlist.specs.Reading.{Reading, refused, readable, readFile}
 use Rattle.verdict.specs.declared.Verdict.{Verdict}
 use Rattle.verdict.specs.declared.WordOrder.{WordOrder}
@@ -51,7 +52,7 @@ module _ (order : WordOrder) (f : Files) where
   exactly : Comparable f → (verdictOn order f ≡ accepted) ↔ Acceptable f
   exactly k = (
     (λ v. let h = accepted-faultless order f (ap number v) .1 in record { cast = h .0 .cast; conforms = h .0 .conforms; rises = h .1 }),
-    (λ a. faultless-accepted (
+    (λ a. faultless-accepted {f = f} (
       record {
         read = k .read;
         inputs = k .inputs;
@@ -129,12 +130,13 @@ module _ (order : WordOrder) (f : Files) where
   -- a verdict names one of the two files, or none
   pub verdict-file : verdictOn order f .file ≤ 2
   unfolding judge first refusal
-  verdict-file = go (readFile Stage (f .stageMost) (f .stage)) (readFile Reference (f .referenceMost) (f .reference))
+  verdict-file = go (f .registers) (readFile (stageFile (f .registers)) (f .stageMost) (f .stage)) (readFile Reference (f .referenceMost) (f .reference))
     where
-      go : (x y : Reading) → first (refusal Stage x) (first (refusal Reference y) (judge (checks order s r))) .file ≤ 2
-      go (refused number at) y = omega arith
-      go (readable p) (refused number at) = omega arith
-      go (readable p) (readable q) = ⊎-elim (λ c. c .0) (λ e. omega (arith, ap (λ (v : Verdict). v .file) e)) (claimed (laws f order))
+      go : (b : Bool) (x y : Reading) → first (refusal (stageFile b) x) (first (refusal Reference y) (judge (checks order s r))) .file ≤ 2
+      go true (refused number at) y = omega arith
+      go false (refused number at) y = omega arith
+      go b (readable p) (refused number at) = omega arith
+      go b (readable p) (readable q) = ⊎-elim (λ c. c .0) (λ e. omega (arith, ap (λ (v : Verdict). v .file) e)) (claimed (laws f order))
 
   -- Demand 3 holds of the verdict, whatever the two files hold.
   pub demand-3 : Demand3 order f (verdictOn order f)

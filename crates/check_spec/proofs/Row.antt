@@ -4,7 +4,7 @@ use Prim.Native.Nat.{ℕ, _+_, _-_, _*_}
 use native.Mathlib.Omega.{arith}
 use mathlib.Core.Path.{_≡_, refl, sym, ap, _∙_, subst}
 use mathlib.Core.Logic.{⊎-elim}
-use mathlib.Core.Bool.{Bool, cond, not}
+use mathlib.Core.Bool.{Bool, false, cond, not}
 use mathlib.Core.List.{List, [], _∷_, _++_, map, flatMap}
 use lib.ListN.{length, getD, take, length-map, length-append}
 use lib.Seq.{length-take-le, take-append-seam, getD-append-add, getD-take}
@@ -206,5 +206,5 @@ row-is stage row = go (readFile file.Stage (stageLimits) stage) refl
         (λ read fit. absurd (clash refl ((rw e at read) .0))) (λ q. omega (arith, q, t .1))
     go (readable p) e =
         let c = contentAt file.Stage stage (readable p) in
-        subst (λ (s : parsed.Stage). RowIs stage row (given.settleUnless (found.firstFault (found.rowChecks s row)) s row)) (stage-view stage p)
+        subst (λ (s : parsed.Stage). RowIs stage row (given.settleUnless (found.firstFault (found.rowChecks s row)) s row)) (stage-view false stage p)
         (settle c (ap (contentAt file.Stage stage) e) (rw e) (found.firstFault (found.rowChecks (stageView c) row)) refl)

@@ -17,8 +17,9 @@ use Rattle.runs.specs.Witness.{Wrong, Incomplete, Unobservable}
 use Rattle.runs.specs.FallWitness.{Fall-incomplete, Fall-unobservable}
 use Rattle.runs.proofs.Test.{clash}
 use Rattle.netlist.specs.declared.File.{File}
-use Rattle.netlist.specs.declared.File.the-variants.{Stage, Reference}
+use Rattle.netlist.specs.declared.File.the-variants.{Reference}
 use Rattle.netlist.specs.declared.Limits.{Limits}
+use Rattle.netlist.specs.Commands.{stageFile}
 use Rattle.netlist.specs.Reading.{Reading, refused, readable, readFile}
 use Rattle.verdict.specs.declared.Verdict.{Verdict}
 use Rattle.verdict.specs.declared.WordOrder.{WordOrder}
@@ -150,12 +151,12 @@ module _ (f : Files) where
     -- a verdict of a number that is not one of reading: both files read, and it is that of the checks
     pub past-reading : (n : ℕ) → ¬ (InTable n) → verdictOn order f .number ≡ n → BothRead f × (verdictOn order f ≡ judge (checks order s r))
     past-reading n h e =
-        let a = judge-later n _ (reading Reference (f .referenceMost) (f .reference) ∷ checks order s r) (reading-number n h Stage (f .stageMost) (f .stage)) e in
+        let a = judge-later n _ (reading Reference (f .referenceMost) (f .reference) ∷ checks order s r) (reading-number n h (stageFile (f .registers)) (f .stageMost) (f .stage)) e in
         let b = judge-later n _ (checks order s r) (reading-number n h Reference (f .referenceMost) (f .reference)) (ap (λ (v : Verdict). v .number) (sym (a .1)) ∙ e) in
         ((a .0, b .0), a .1 ∙ b .1)
 
     pub reads-past : BothRead f → verdictOn order f ≡ judge (checks order s r)
-    reads-past h = judge-pass (reading Stage (f .stageMost) (f .stage)) _ (h .0) ∙ judge-pass (reading Reference (f .referenceMost) (f .reference)) _ (h .1)
+    reads-past h = judge-pass (reading (stageFile (f .registers)) (f .stageMost) (f .stage)) _ (h .0) ∙ judge-pass (reading Reference (f .referenceMost) (f .reference)) _ (h .1)
 
 pub sound-kept : {f : Files} → Sound f → (w : ℕ) → IsWord (stageIn f) w → Kept f w
 sound-kept {f} h w i = let k = sound-clean f h w i in word-kept f (h .free) w (k .0) (k .1)

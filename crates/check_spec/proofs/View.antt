@@ -2,27 +2,55 @@
 -- Assumes nothing.
 use Prim.Native.Nat.{ℕ, zero, suc, _+_, _-_, _*_}
 use native.Mathlib.Omega.{arith}
-use mathlib.Core.Path.{_≡_, refl, ap, ap₂}
+use mathlib.Core.Path.{_≡_, refl, ap, ap₂, _∙_}
 use mathlib.Core.Bool.{Bool, true, false}
 use mathlib.Core.List.{List, [], _∷_, map, map-map}
 use lib.ListN.{getD, length-map}
 use Rattle.gates.specs.Cell.{bit, setExpression, cells, cellAt, kindOf, pinCount}
 use Rattle.runs.specs.Row.{Row}
 use Rattle.netlist.specs.declared.File.the-variants as file
+use Rattle.netlist.specs.declared.Limits.{Limits}
 use Rattle.netlist.specs.Bytes.{operand, operands}
-use Rattle.netlist.specs.Reading.{Places, readable}
+use Rattle.netlist.specs.Commands.{stageFile, needed}
+use Rattle.netlist.specs.Reading.{Places, Reading, refused, readable, readFile}
 use Rattle.netlist.specs.Content as old
 use Rattle.netlist.specs.Content.{Coded, Pair, codedAt, gateOf, pairAt, stageOf, referenceOf, holdOf}
+use Rattle.netlist.proofs.Alike.{stage-alike}
 use Rattle.verdict.specs.Nets as nets
-use Rattle.check_spec.specs.Content.{Content, contentAt}
+use Rattle.check_spec.specs.Content.{Content, contentAt, contentOf}
+use Rattle.check_spec.specs.Verdicts.{refusal, reading}
+use Rattle.check_spec.specs.Demands.{Pass}
 use Rattle.check_spec.specs.Loaded.{pairOf, stageView, referenceView}
 use Rattle.check_spec.specs.Rows.{noGate, driver, setIn, netOf}
 
 -- ---- files
 
-pub stage-view : (bytes : List ℕ) (p : Places) → stageView (contentAt file.Stage bytes (readable p)) ≡ stageOf bytes p
+-- for now a pipeline holds what a stage does
+pub content-alike : (registers : Bool) (bytes : List ℕ) (x : Reading) → contentAt (stageFile registers) bytes x ≡ contentAt file.Stage bytes x
+unfolding contentAt needed
+content-alike false bytes x = refl
+content-alike true bytes (refused number at) = refl
+content-alike true bytes (readable p) = refl
+
+pub content-plain : (registers : Bool) (most : Limits) (bytes : List ℕ) → contentOf (stageFile registers) most bytes ≡ contentOf file.Stage most bytes
+content-plain registers most bytes =
+    content-alike registers bytes (readFile (stageFile registers) most bytes) ∙ ap (contentAt file.Stage bytes) (stage-alike registers most bytes)
+
+-- what reads as a stage reads alike with registers
+pub pipeline-reads : (registers : Bool) (most : Limits) (bytes : List ℕ) {c : Content} → Pass (reading file.Stage most bytes) × (contentOf file.Stage most bytes ≡ c)
+    → Pass (reading (stageFile registers) most bytes) × (contentOf (stageFile registers) most bytes ≡ c)
+unfolding refusal
+pipeline-reads registers most bytes h = (rw (stage-alike registers most bytes) (passes registers (readFile file.Stage most bytes) (h .0)), content-plain registers most bytes ∙ h .1)
+  where
+    passes : (registers : Bool) (x : Reading) → Pass (refusal file.Stage x) → Pass (refusal (stageFile registers) x)
+    passes false x p = p
+    passes true (refused number at) p = p
+    passes true (readable q) p = p
+
+pub stage-view : (registers : Bool) (bytes : List ℕ) (p : Places) → stageView (contentAt (stageFile registers) bytes (readable p)) ≡ stageOf bytes p
 unfolding contentAt stageOf operands
-stage-view bytes p =
+stage-view registers bytes p =
+    ap stageView (content-alike registers bytes (readable p)) ∙
     ap₂ (λ (gates : List old.Gate) (outputs : List Pair). record { inputs = p .inputs; gates = gates; outputs = outputs; care = p .care })
     (map-map gateOf (codedAt file.Stage bytes) (p .gates)) (pairs (p .outputs))
   where

@@ -45,15 +45,27 @@ last f (x ∷ l) end e =
     ∙ ap₂ (λ (a b : List ℕ). a ++ b) (e x) (last f l end e)
     ∙ sym (append-assoc (writeItem f (output x)) (writeItems f (map output l)) end)
 
-pub stage-bytes : (c : Content) → writeFile file.Stage c ≡ items.writeFile file.Stage (c .inputs) (itemsOf c)
-unfolding writeFile items.writeFile command rowFor k.commandTable k.ownCommands k.formIn
-stage-bytes c =
+-- a file that has care words
+with-care : (f : File) → ((vs : List ℕ) → command f sort.Output 0 vs ≡ writeItem f (output vs))
+    → ((g : Coded) → command f sort.Gate (g .code) (g .operands) ≡ writeItem f (gate g)) → ((w : ℕ) → command f sort.Care 0 (w ∷ []) ≡ writeItem f (care w))
+    → ((n : ℕ) → command f sort.Inputs n [] ≡ 0x01 ∷ n ∷ []) → command f sort.End 0 [] ≡ 0x00 ∷ []
+    → (c : Content) → writeFile f c ≡ items.writeFile f (c .inputs) (itemsOf c)
+unfolding writeFile items.writeFile
+with-care f outs gates cares start end c = rw (start (c .inputs), end) (
     ap (λ (l : List ℕ). 0x01 ∷ c .inputs ∷ l) (
-    ap (λ (l : List ℕ). flatMap (λ w. command file.Stage sort.Care 0 (w ∷ [])) (c .care) ++ l) (
-    ap (λ (l : List ℕ). flatMap (λ (g : Coded). command file.Stage sort.Gate (g .code) (g .operands)) (c .gates) ++ l)
-    (last file.Stage (c .outputs) (0x00 ∷ []) (λ vs. refl))
-    ∙ part file.Stage gate (λ (g : Coded). command file.Stage sort.Gate (g .code) (g .operands)) (λ g. refl) (c .gates) (map output (c .outputs)) (0x00 ∷ []))
-    ∙ part file.Stage care (λ w. command file.Stage sort.Care 0 (w ∷ [])) (λ w. refl) (c .care) (map gate (c .gates) ++ map output (c .outputs)) (0x00 ∷ []))
+    ap (λ (l : List ℕ). flatMap (λ w. command f sort.Care 0 (w ∷ [])) (c .care) ++ l) (
+    ap (λ (l : List ℕ). flatMap (λ (g : Coded). command f sort.Gate (g .code) (g .operands)) (c .gates) ++ l)
+    (last f (c .outputs) (0x00 ∷ []) outs)
+    ∙ part f gate (λ (g : Coded). command f sort.Gate (g .code) (g .operands)) gates (c .gates) (map output (c .outputs)) (0x00 ∷ []))
+    ∙ part f care (λ w. command f sort.Care 0 (w ∷ [])) cares (c .care) (map gate (c .gates) ++ map output (c .outputs)) (0x00 ∷ [])))
+
+pub stage-bytes : (c : Content) → writeFile file.Stage c ≡ items.writeFile file.Stage (c .inputs) (itemsOf c)
+unfolding command rowFor k.commandTable k.ownCommands k.formIn
+stage-bytes = with-care file.Stage (λ vs. refl) (λ g. refl) (λ w. refl) (λ n. refl) refl
+
+pub pipeline-bytes : (c : Content) → writeFile file.Pipeline c ≡ items.writeFile file.Pipeline (c .inputs) (itemsOf c)
+unfolding command rowFor k.commandTable k.ownCommands k.formIn
+pipeline-bytes = with-care file.Pipeline (λ vs. refl) (λ g. refl) (λ w. refl) (λ n. refl) refl
 
 pub reference-bytes : (c : Content) → c .care ≡ [] → writeFile file.Reference c ≡ items.writeFile file.Reference (c .inputs) (itemsOf c)
 unfolding writeFile items.writeFile command rowFor k.commandTable k.ownCommands k.formIn flatMap
@@ -79,6 +91,7 @@ module _ (c : Content) where
 pub wired : (f : File) (s : List ℕ) (at : ℕ) → operands s (at + 1) (railsOfOutput f) ≡ wiredAt f s at
 unfolding k.commandTable k.ownCommands k.formIn
 wired file.Stage s at = refl
+wired file.Pipeline s at = refl
 wired file.Reference s at = refl
 
 -- the items of a file that fits, as a content

@@ -10,7 +10,7 @@ use Rattle.runs.specs.Net.{nets, railsOfInputs}
 use Rattle.verdict.specs.declared.WordOrder.{WordOrder}
 use Rattle.check_spec.specs.Cases.{Check, case, sweep, sweepPlaces, unequal}
 use Rattle.check_spec.specs.Lists.{numbers, every, bitOf}
-use Rattle.check_spec.specs.Content.{Content}
+use Rattle.check_spec.specs.Content.{Content, wired}
 use Rattle.check_spec.specs.Rows.{driver, cellIn, netOf, risen, fallen, dataOf, allData, allNull, reachesItself}
 use Rattle.check_spec.specs.Words.{railsFor, spelled, names, words, answer}
 
@@ -69,12 +69,14 @@ neverRises s net = every (λ w. not (rest s w net)) (words s)
 unfoldable pub idle : Content → Check
 idle s = sweepPlaces 32 1 (numbers 0 (length (s .gates))) (λ g. neverRises s (2 * s .inputs + g))
 
--- of a stage against a reference, in their order
+-- of a stage, as reading gives it, against a reference, in their order: 12 looks at the gates before registers become wires, the checks from 28 on
+-- at the stage with these
 unfoldable pub checks : WordOrder → Content → Content → List Check
-checks order s r =
-    unequal 10 (s .inputs) (r .inputs) ∷
-    unequal 11 (length (s .outputs)) (length (r .outputs)) ∷
-    looped s ∷
+checks order raw r =
+    let s = wired raw in
+    unequal 10 (raw .inputs) (r .inputs) ∷
+    unequal 11 (length (raw .outputs)) (length (r .outputs)) ∷
+    looped raw ∷
     retired s ∷
     swept order s 13 1 (length (s .outputs)) (wrong s r) ∷
     swept order s 14 1 (s .inputs) (incomplete s) ∷

@@ -1,10 +1,12 @@
 -- What a file holds, and what two files do, with their limits.
 use Prim.Native.Nat.{ℕ, _+_}
+use mathlib.Core.Bool.{Bool, true, false}
 use mathlib.Core.List.{List, [], map}
 use Rattle.netlist.specs.declared.File.{File}
 use Rattle.netlist.specs.declared.Limits.{Limits}
-use Rattle.netlist.specs.declared.File.the-variants.{Stage, Reference}
+use Rattle.netlist.specs.declared.File.the-variants.{Stage, Pipeline, Reference}
 use Rattle.netlist.specs.Bytes.{operands}
+use Rattle.netlist.specs.Commands.{stageFile}
 use Rattle.netlist.specs.Reading.{Reading, refused, readable, readFile, stageLimits, referenceLimits, partStageLimits, partReferenceLimits}
 use Rattle.netlist.specs.Coded.{Coded, codedAt}
 
@@ -19,6 +21,7 @@ pub record Content : Type 0 where
 -- how many nets or signals an output names
 abbrev pub railsOfOutput : File → ℕ
 railsOfOutput Stage = 2
+railsOfOutput Pipeline = 2
 railsOfOutput Reference = 1
 
 -- what is seen through the places of its commands; a file that is refused holds nothing
@@ -34,22 +37,39 @@ contentAt f bytes (readable p) = record {
 abbrev pub contentOf : File → Limits → List ℕ → Content
 contentOf f most bytes = contentAt f bytes (readFile f most bytes)
 
--- two files, and the limits that they are read within
+-- A stage as runs and the checks from 28 on see it, in which a register is two wires. For now no file has registers, so that it is the stage as
+-- reading gives it.
+abbrev pub wired : Content → Content
+wired raw = raw
+
+-- two files, whether the stage is read as a pipeline, which may have registers, and the limits that they are read within
 pub record Files : Type 0 where
   pub stage : List ℕ
   pub reference : List ℕ
+  pub registers : Bool
   pub stageMost : Limits
   pub referenceMost : Limits
 
+-- the stage as reading gives it, and as runs and the checks from 28 on see it
+abbrev pub rawIn : Files → Content
+rawIn f = contentOf (stageFile (f .registers)) (f .stageMost) (f .stage)
+
 abbrev pub stageIn : Files → Content
-stageIn f = contentOf Stage (f .stageMost) (f .stage)
+stageIn f = wired (rawIn f)
 
 abbrev pub referenceIn : Files → Content
 referenceIn f = contentOf Reference (f .referenceMost) (f .reference)
 
--- those of the calls, and those of a part that is to be joined with another
+abbrev pub filesWithin : Bool → Limits → Limits → List ℕ → List ℕ → Files
+filesWithin registers stageMost referenceMost stage reference =
+    record { stage = stage; reference = reference; registers = registers; stageMost = stageMost; referenceMost = referenceMost }
+
+-- those of the check, which alone reads registers; those of the other calls; and those of a part that is to be joined with another
 abbrev pub files : List ℕ → List ℕ → Files
-files stage reference = record { stage = stage; reference = reference; stageMost = stageLimits; referenceMost = referenceLimits }
+files = filesWithin true stageLimits referenceLimits
+
+abbrev pub plainFiles : List ℕ → List ℕ → Files
+plainFiles = filesWithin false stageLimits referenceLimits
 
 abbrev pub partFiles : List ℕ → List ℕ → Files
-partFiles stage reference = record { stage = stage; reference = reference; stageMost = partStageLimits; referenceMost = partReferenceLimits }
+partFiles = filesWithin false partStageLimits partReferenceLimits

@@ -18,11 +18,12 @@ use Rattle.runs.specs.Witness.{Wrong, Incomplete, Unobservable}
 use Rattle.runs.specs.FallWitness.{Fall-incomplete, Fall-unobservable}
 use Rattle.verdict.specs.declared.Verdict.{Verdict}
 use Rattle.verdict.specs.declared.WordOrder.{WordOrder}
+use Rattle.netlist.specs.Commands.{stageFile}
 use Rattle.netlist.specs.declared.File.the-variants.{Stage, Reference}
 use Rattle.netlist.specs.Reading.{stageLimits}
 use Rattle.check_spec.specs.Cases.{verdict, accepted, Case, Check}
 use Rattle.check_spec.specs.Lists.{bitOf, some, reaches}
-use Rattle.check_spec.specs.Content.{Content, Files, stageIn, referenceIn}
+use Rattle.check_spec.specs.Content.{Content, Files, rawIn, stageIn, referenceIn}
 use Rattle.check_spec.specs.Rows.{driver, cellIn, netOf, risen, fallen, dataOf, allData, allNull, feeding, reachesItself}
 use Rattle.check_spec.specs.Words.{railsFor, spelled, IsWord, answer}
 use Rattle.check_spec.specs.Checks.{rest, retiredGate, illegal}
@@ -52,7 +53,7 @@ Judged checks v = Named (flatMap (λ c. c) checks) v ⊎ Pass (flatMap (λ c. c)
 -- ---- demand 2
 
 abbrev pub BothRead : Files → Type 0
-BothRead f = Pass (reading Stage (f .stageMost) (f .stage)) × Pass (reading Reference (f .referenceMost) (f .reference))
+BothRead f = Pass (reading (stageFile (f .registers)) (f .stageMost) (f .stage)) × Pass (reading Reference (f .referenceMost) (f .reference))
 
 abbrev pub LoopFree : Net → Type 0
 LoopFree N = (net : ℕ) → IsGate N net → reachesItself N net ≡ false
@@ -64,9 +65,9 @@ LoopsFound N = (net k : ℕ) → reaches (feeding N) (eqb net) k net ≡ true �
 -- "a readable, loop-free stage whose counts match"
 pub record Comparable (f : Files) : Type 0 where
   pub read : BothRead f
-  pub inputs : stageIn f .inputs ≡ referenceIn f .inputs
-  pub outputs : length (stageIn f .outputs) ≡ length (referenceIn f .outputs)
-  pub loop-free : LoopFree (netOf (stageIn f))
+  pub inputs : rawIn f .inputs ≡ referenceIn f .inputs
+  pub outputs : length (rawIn f .outputs) ≡ length (referenceIn f .outputs)
+  pub loop-free : LoopFree (netOf (rawIn f))
 
 -- the reference's answer to word w
 abbrev pub answerTo : Files → ℕ → ℕ → Bool
@@ -100,7 +101,7 @@ TheOnly P R = P R × ((r : Row) → P r → r ≡ R)
 pub record Demand2 (order : WordOrder) (f : Files) (v : Verdict) : Type 0 where
   pub exactly : Comparable f → (v ≡ accepted) ↔ Acceptable f
   pub least : Judged (checksOn order f) v
-  pub loops : LoopsFound (netOf (stageIn f))
+  pub loops : LoopsFound (netOf (rawIn f))
   pub data-is : (r : Row) (p : Bool → ℕ) (b : Bool) → (dataOf r p b ≡ true) ↔ DataOf r p b
   pub all-data-is : (r : Row) → (allData (netOf (stageIn f)) r ≡ true) ↔ AllData (netOf (stageIn f)) r
   pub all-null-is : (r : Row) → (allNull (netOf (stageIn f)) r ≡ true) ↔ AllNull (netOf (stageIn f)) r

@@ -1,11 +1,10 @@
--- A stage and a reference as code has them loaded, as contents, and contents as code sees them; and two files read within some limits.
+-- A stage and a reference as code has them loaded, as contents, and contents as code sees them.
 use Prim.Native.Nat.{ℕ}
 use mathlib.Core.List.{List, [], _∷_, map}
 use lib.ListN.{getD}
-use Rattle.netlist.specs.declared.Limits.{Limits}
 use Rattle.netlist.specs.Content.{Pair, Stage, Reference, gateOf}
 use Rattle.netlist.specs.Writing.{codedGate, pairOperands}
-use Rattle.check_spec.specs.Content.{Content, Files}
+use Rattle.check_spec.specs.Content.{Content}
 
 abbrev pub fromStage : Stage → Content
 fromStage s = record { inputs = s .inputs; gates = map codedGate (s .gates); outputs = map pairOperands (s .outputs); care = s .care }
@@ -21,6 +20,3 @@ stageView c = record { inputs = c .inputs; gates = map gateOf (c .gates); output
 
 abbrev pub referenceView : Content → Reference
 referenceView c = record { inputs = c .inputs; gates = c .gates; outputs = map (λ (vs : List ℕ). getD vs 0 0) (c .outputs) }
-
-abbrev pub filesWithin : Limits → Limits → List ℕ → List ℕ → Files
-filesWithin stageMost referenceMost stage reference = record { stage = stage; reference = reference; stageMost = stageMost; referenceMost = referenceMost }

@@ -6,20 +6,22 @@ use lib.ListN.{length, getD, take}
 use lib.Dec.{eqb, ltb}
 use Rattle.gates.specs.Cell.{bit}
 use Rattle.runs.specs.Row.{Row, low}
+use Rattle.netlist.specs.Commands.{stageFile}
 use Rattle.netlist.specs.declared.File.{File}
 use Rattle.netlist.specs.declared.Limits.{Limits}
-use Rattle.netlist.specs.declared.File.the-variants.{Stage, Reference}
+use Rattle.netlist.specs.declared.File.the-variants.{Stage, Pipeline, Reference}
 use Rattle.netlist.specs.Reading.{Reading, refused, readable, readFile, stageLimits}
 use Rattle.verdict.specs.declared.Verdict.{Verdict}
 use Rattle.verdict.specs.declared.WordOrder.{WordOrder}
 use Rattle.check_spec.specs.Cases.{Check, case, judge}
 use Rattle.check_spec.specs.Lists.{numbers}
-use Rattle.check_spec.specs.Content.{Content, Files, stageIn, referenceIn, contentOf}
+use Rattle.check_spec.specs.Content.{Content, Files, rawIn, referenceIn, contentOf}
 use Rattle.check_spec.specs.Rows.{netOf, risen}
 use Rattle.check_spec.specs.Checks.{checks, rowChecks}
 
 abbrev pub fileNumber : File → ℕ
 fileNumber Stage = 1
+fileNumber Pipeline = 1
 fileNumber Reference = 2
 
 -- the case that reading leaves: a refused file's, or none
@@ -33,9 +35,9 @@ reading f most bytes = refusal f (readFile f most bytes)
 -- "the stage is read first, then the reference", then the checks follow in order
 abbrev pub checksOn : WordOrder → Files → List Check
 checksOn order f =
-    reading Stage (f .stageMost) (f .stage) ∷
+    reading (stageFile (f .registers)) (f .stageMost) (f .stage) ∷
     reading Reference (f .referenceMost) (f .reference) ∷
-    checks order (stageIn f) (referenceIn f)
+    checks order (rawIn f) (referenceIn f)
 
 abbrev pub verdictOn : WordOrder → Files → Verdict
 verdictOn order f = judge (checksOn order f)

@@ -7,7 +7,6 @@ use lib.Dec.{eqb}
 use Rattle.netlist.specs.declared.File.{File}
 use Rattle.netlist.specs.declared.Sort.{Sort}
 use Rattle.netlist.specs.declared.Sort.the-variants as sort
-use Rattle.netlist.specs.declared.Role.the-variants.{Number}
 use Rattle.netlist.specs.declared.Form.{Form}
 use Rattle.netlist.specs.Commands.{isSort, asForm, commandTable}
 use Rattle.netlist.specs.Coded.{Coded}
@@ -18,7 +17,7 @@ use Rattle.check_spec.specs.Content.{Content}
 
 -- the row of a sort of command
 unfoldable pub rowFor : List (ℕ × Form) → Sort → ℕ × Form
-rowFor [] c = (0xFF, asForm sort.Unknown 1 0 Number)
+rowFor [] c = (0xFF, asForm sort.Unknown 1 0)
 rowFor (r ∷ rs) c = let later = rowFor rs c in cond (isSort c (r .1 .sort)) r later
 
 -- a command: its byte, what else stands before the operands, and these

@@ -67,7 +67,7 @@ pub swept-start : (number file : ℕ) (find : ℕ → Found) (names : List ℕ) 
 swept-start number file find names = refl
 
 -- nothing is found under any of some names
-swept-nothing : (number file : ℕ) (find : ℕ → Found) (names : List ℕ) → ((name : ℕ) → In name names → find name ≡ Nothing) → sweep number file find names ≡ Passed
+pub swept-nothing : (number file : ℕ) (find : ℕ → Found) (names : List ℕ) → ((name : ℕ) → In name names → find name ≡ Nothing) → sweep number file find names ≡ Passed
 unfolding sweep atFault
 swept-nothing number file find [] h = refl
 swept-nothing number file find (x ∷ names) h = rw (h x (inl refl)) (swept-nothing number file find names (λ name i. h name (inr i)))

@@ -4,6 +4,7 @@ use Prim.Native.Nat.{ℕ, _+_, _^_, _≤_, _<_}
 use native.Mathlib.Omega.{arith}
 use lib.Pow.{pow-mono}
 use mathlib.Core.Path.{_≡_, refl, sym, ap, ap₂, _∙_, subst, subst₂}
+use mathlib.Core.Bool.{Bool}
 use mathlib.Core.List.{List}
 use lib.ListN.{length, getD, take, drop, length-drop}
 use lib.Seq.{length-take-le, getD-take, getD-drop}
@@ -12,7 +13,7 @@ use Rattle.netlist.specs.declared.File.the-variants as file
 use Rattle.netlist.specs.declared.Sort.the-variants as sort
 use Rattle.netlist.specs.declared.Limits.{Limits}
 use Rattle.netlist.specs.declared.Counts.{Counts}
-use Rattle.netlist.specs.Commands.{commandTable, ownCommands, formIn}
+use Rattle.netlist.specs.Commands.{stageFile, commandTable, ownCommands, formIn}
 use Rattle.netlist.specs.declared.Outcome.{Outcome}
 use Rattle.netlist.specs.declared.Outcome.the-variants as outcome
 use Rattle.netlist.specs.Reading.{Places, countsOf, Reading, refused, readable, readFile, Within}
@@ -20,7 +21,8 @@ use Rattle.netlist.specs.Read.{GateRead, OutputRead, Read, outcomeOf}
 use Rattle.netlist.specs.Content.{stageOf, referenceOf}
 use Rattle.netlist.proofs.Readable.{readable-read, rising-length}
 use Rattle.netlist.proofs.References.{no-care}
-use Rattle.read_file.specs.Files.{mostCare, Placed}
+use Rattle.netlist.proofs.Alike.{stage-alike}
+use Rattle.read_file.specs.Files.{netsWith, mostCare, Placed}
 use Rattle.circuit.specs.Stage.{stageIn, StageLoaded}
 use Rattle.circuit.specs.Reference.{referenceIn, ReferenceLoaded}
 use Rattle.circuit_load.specs.Load.{placesIn, FileRead, HoldsStage, HoldsReference}
@@ -39,17 +41,17 @@ module _ (f : File) (most : Limits) (s places : List ℕ) (c : Counts) (r : File
   pub length-care : length (take (c .care) (drop (most .gates + most .outputs) places)) ≡ c .care
   length-care = length-take-le (c .care) (drop (most .gates + most .outputs) places) (omega (arith, length-drop (most .gates + most .outputs) places, r .room, r .few-care))
 
-  pub gate-at : (k : ℕ) → k < c .gates → GateRead f s (c .inputs) (c .gates) k (getD places k 0)
+  pub gate-at : (k : ℕ) → k < c .gates → GateRead f s (netsWith (c .inputs) (c .gates)) k (getD places k 0)
   gate-at k h =
-      subst₂ (λ (g at : ℕ). GateRead f s (c .inputs) g k at) length-gates (getD-take (c .gates) places k 0 h)
+      subst₂ (λ (g at : ℕ). GateRead f s (netsWith (c .inputs) g) k at) length-gates (getD-take (c .gates) places k 0 h)
       (r .read .gate-at k (omega (arith, length-gates)))
 
   pub output-place : (j : ℕ) → j < c .outputs → getD (take (c .outputs) (drop (most .gates) places)) j 0 ≡ getD places (most .gates + j) 0
   output-place j h = getD-take (c .outputs) (drop (most .gates) places) j 0 h ∙ getD-drop (most .gates) places j 0
 
-  pub output-at : (j : ℕ) → j < c .outputs → OutputRead f s (c .inputs) (c .gates) (getD places (most .gates + j) 0)
+  pub output-at : (j : ℕ) → j < c .outputs → OutputRead f s (netsWith (c .inputs) (c .gates)) (getD places (most .gates + j) 0)
   output-at j h =
-      subst₂ (λ (g at : ℕ). OutputRead f s (c .inputs) g at) length-gates (output-place j h)
+      subst₂ (λ (g at : ℕ). OutputRead f s (netsWith (c .inputs) g) at) length-gates (output-place j h)
       (r .read .output-at j (omega (arith, length-outputs)))
 
 -- ---- the bytes of each command are in the file
@@ -86,6 +88,9 @@ unfolding mostCare
 few-care file.Stage most s p e =
     let r = readable-read file.Stage most s p e in
     omega (arith, rising-length (2 ^ p .inputs) 0 (p .care) (r .care-in), pow-mono {i = p .inputs} {j = most .inputs} (r .inputs-in .1))
+few-care file.Pipeline most s p e =
+    let r = readable-read file.Pipeline most s p e in
+    omega (arith, rising-length (2 ^ p .inputs) 0 (p .care) (r .care-in), pow-mono {i = p .inputs} {j = most .inputs} (r .inputs-in .1))
 few-care file.Reference most s p e = omega (arith, ap length (no-care most s p e))
 
 pub was-read : (f : File) (most : Limits) (s places : List ℕ) (c : Counts) → most .gates + most .outputs + mostCare f most ≤ length places → outcome.Readable c ≡ outcomeOf (readFile f most s) →
@@ -110,15 +115,24 @@ was-read f most s places c room e placed = go (readFile f most s) refl e placed
           counts = ap countsOf same;
         })
 
-module _ (most : Limits) (s : List ℕ) where
-  pub holds-stage : (places : List ℕ) (c : Counts) (code : List ℕ) → WasRead file.Stage most s places c →
-      stageIn c code ≡ stageOf s (placesIn most c places) → StageLoaded c code →
-      HoldsStage s (readFile file.Stage most s) code
+-- a stage file that was read, with registers or without, was read as a stage
+module _ (registers : Bool) {f : File} (is : f ≡ stageFile registers) (most : Limits) (s places : List ℕ) (c : Counts) where
+  plain : readFile f most s ≡ readFile file.Stage most s
+  plain = rw is (stage-alike registers most s)
+
+  pub stage-was-read : most .gates + most .outputs + 2 ^ most .inputs ≤ length places → outcome.Readable c ≡ outcomeOf (readFile f most s) →
+      Placed most (readFile f most s) places → WasRead file.Stage most s places c
+  unfolding mostCare
+  stage-was-read room e placed = was-read file.Stage most s places c room (rw plain at e) (rw plain at placed)
+
+  pub holds-stage : (code : List ℕ) → WasRead file.Stage most s places c → stageIn c code ≡ stageOf s (placesIn most c places) → StageLoaded c code →
+      HoldsStage s (readFile (stageFile registers) most s) code
   unfolding HoldsStage
-  holds-stage places c code w e l =
-      subst (λ (x : Reading). HoldsStage s x code) (sym (w .reading))
+  holds-stage code w e l =
+      rw (stage-alike registers most s, w .reading)
       (subst (λ (d : Counts). StageLoaded d code × (stageIn d code ≡ stageOf s (placesIn most c places))) (sym (w .counts)) (l, e))
 
+module _ (most : Limits) (s : List ℕ) where
   pub holds-reference : (places : List ℕ) (c : Counts) (code : List ℕ) → WasRead file.Reference most s places c →
       referenceIn c code ≡ referenceOf s (placesIn most c places) → ReferenceLoaded c code →
       HoldsReference s (readFile file.Reference most s) code

@@ -20,6 +20,7 @@ use Rattle.netlist.specs.Reading.{stageLimits, NoMore}
 use Rattle.netlist.specs.Content.{Gate, Pair, cellOf, holdOf, gateOf, codedAt, pairAt, stageOf}
 use Rattle.netlist.proofs.Bounds.{within-more}
 use Rattle.netlist.proofs.Encoding.{KindOfCell, kind-needs}
+use Rattle.read_file.specs.Files.{netsWith}
 use Rattle.netlist.proofs.Readable.{kind-read, named-pin, named-rail}
 use Rattle.circuit.specs.Stage.{netCount, cellIn, slot, pinIn, gateIn, stageGates, outputIn, stageOutputs, stageCare, stageIn, GateLoaded, StageLoaded}
 use Rattle.circuit.proofs.Tabulate.{tabulate-map}
@@ -128,7 +129,7 @@ module _ (most : Limits) (s places : List ℕ) (c : Counts) (code : List ℕ) (r
         go : Dec (i < pinCount cell) → pinIn code k i ≤ netCount c
         go (yes d) =
             let n = gate-at file.Stage most s places c r k h .named i (omega (arith, needs-pins)) in
-            omega (arith, pin-at i l, pin-there s at (netCount c) (pinCount cell) i d, named-pin k (c .inputs) (c .gates) (operand s (at + 2 + 2 * i)) n)
+            omega (arith, pin-at i l, pin-there s at (netCount c) (pinCount cell) i d, named-pin (netsWith (c .inputs) (c .gates)) k i (operand s (at + 2 + 2 * i)) n)
         go (no d) = omega (arith, pin-at i l, pin-absent s at (netCount c) (pinCount cell) i (omega arith))
 
     gate-loaded : GateLoaded c code k
@@ -155,7 +156,7 @@ module _ (most : Limits) (s places : List ℕ) (c : Counts) (code : List ℕ) (r
     unfolding commandTable ownCommands formIn
     rail-in i b e l =
         let n = output-at file.Stage most s places c r j h .named b l in
-        omega (arith, rail-at i b e l, named-rail (c .gates) (c .inputs) (c .gates) (operand s (place + 1 + 2 * b)) n)
+        omega (arith, rail-at i b e l, named-rail (netsWith (c .inputs) (c .gates)) (c .gates) b (operand s (place + 1 + 2 * b)) n)
 
     output-same : outputIn c code j ≡ pairAt s place
     output-same =

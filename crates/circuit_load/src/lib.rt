@@ -8,6 +8,7 @@ ghost use mathlib.Core.Path.{_≡_};
 ghost use Prim.Native.Nat.{_+_, _*_, _^_, _≤_, _<_};
 ghost use lib.ListN.{length};
 ghost use Rattle.netlist.specs.declared.File.the-variants as file;
+ghost use Rattle.netlist.specs.Commands.{stageFile};
 ghost use Rattle.netlist.specs.Reading.{readFile, stageLimits, referenceLimits, NoMore};
 ghost use Rattle.netlist.specs.Read.{outcomeOf};
 ghost use Rattle.netlist.specs.Content.{stageOf, referenceOf};
@@ -91,27 +92,27 @@ pub fn load_stage(s: &[u8], places: &[u16], most: Limits, counts: Counts, code: 
     }
 }
 
-// Reads a stage file within some limits, and loads the stage that it holds.
-pub fn read_stage_within(s: &[u8], most: Limits, code: &mut [u16]) -> Outcome
+// Reads a stage file, with registers or without, within some limits, and loads the stage that it holds.
+pub fn read_stage_within(registers: bool, s: &[u8], most: Limits, code: &mut [u16]) -> Outcome
     requires { ⌜ NoMore most stageLimits × (largestStage ≤ length (now code)) ⌝ }
-    ensures answered { λ r. ⌜ r ≡ outcomeOf (readFile file.Stage most (now (s .entry))) ⌝ }
-    ensures loaded { λ r. ⌜ HoldsStage (now (s .entry)) (readFile file.Stage most (now (s .entry))) (now (code .exit)) ⌝ }
+    ensures answered { λ r. ⌜ r ≡ outcomeOf (readFile (stageFile registers) most (now (s .entry))) ⌝ }
+    ensures loaded { λ r. ⌜ HoldsStage (now (s .entry)) (readFile (stageFile registers) most (now (s .entry))) (now (code .exit)) ⌝ }
 {
     let mut places = [0u16; netlist::STAGE_GATES + netlist::OUTPUTS + netlist::WORDS];
-    let outcome = read_file::read_file(File::Stage, most, s, &mut places);
+    let outcome = read_file::read_file(netlist::stage_file(registers), most, s, &mut places);
     if let Outcome::Readable(counts) = outcome {
         load_stage(s, &places, most, counts, code);
     }
     outcome
 }
 
-// The same within the limits of a stage file.
+// The same of a stage without registers, within the limits of a stage file.
 pub fn read_stage(s: &[u8], code: &mut [u16]) -> Outcome
     requires { ⌜ largestStage ≤ length (now code) ⌝ }
     ensures answered { λ r. ⌜ r ≡ outcomeOf (readFile file.Stage stageLimits (now (s .entry))) ⌝ }
     ensures loaded { λ r. ⌜ HoldsStage (now (s .entry)) (readFile file.Stage stageLimits (now (s .entry))) (now (code .exit)) ⌝ }
 {
-    read_stage_within(s, netlist::stage_limits(), code)
+    read_stage_within(false, s, netlist::stage_limits(), code)
 }
 
 // ---- a reference

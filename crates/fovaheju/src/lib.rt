@@ -30,8 +30,8 @@ pub fn check(order: WordOrder, stage: &[u8], reference: &[u8]) -> Verdict
 // The switching report of a stage file against a reference file: the check's verdict, and of an accepted stage how many gates are high at the
 // rest of each word, in the order of their names, and in all words together, which is half of all gate switchings when each word rises and falls once.
 pub fn report(order: WordOrder, stage: &[u8], reference: &[u8]) -> Report
-    ensures report { λ r. ⌜ r ≡ reportOn order (content.files (now (stage .entry)) (now (reference .entry))) ⌝ }
-    ensures means { λ r. ⌜ ReportMeans (content.files (now (stage .entry)) (now (reference .entry))) r ⌝ }
+    ensures report { λ r. ⌜ r ≡ reportOn order (content.plainFiles (now (stage .entry)) (now (reference .entry))) ⌝ }
+    ensures means { λ r. ⌜ ReportMeans (content.plainFiles (now (stage .entry)) (now (reference .entry))) r ⌝ }
 {
     call_report::report_on(order, stage, reference)
 }
@@ -73,7 +73,7 @@ pub fn join(
 }
 
 // A stage from a reference: every operation but NOT becomes two gates, NOT swaps rails, and the stage is written at the start of a lent buffer. It is
-// accepted against its reference. A refusal leaves the buffer as it was.
+// accepted against its reference, unless a gate never rises. A refusal leaves the buffer as it was.
 pub fn make_stage(reference: &[u8], stage_out: &mut [u8]) -> Answer
     ensures { λ r. ⌜ MakeDemand (now (reference .entry)) (now («stage_out» .entry)) r (now («stage_out» .exit)) ⌝ }
 {
@@ -135,8 +135,8 @@ pub extern "C" fn fovaheju_check(order: u64, stage: &[u8], reference: &[u8]) -> 
 // The report for callers in C and in Rust, with the contract of `report`.
 #[no_mangle]
 pub extern "C" fn fovaheju_report(order: u64, stage: &[u8], reference: &[u8]) -> Report
-    ensures report { λ r. ⌜ r ≡ reportOn (orderOf order) (content.files (now (stage .entry)) (now (reference .entry))) ⌝ }
-    ensures means { λ r. ⌜ ReportMeans (content.files (now (stage .entry)) (now (reference .entry))) r ⌝ }
+    ensures report { λ r. ⌜ r ≡ reportOn (orderOf order) (content.plainFiles (now (stage .entry)) (now (reference .entry))) ⌝ }
+    ensures means { λ r. ⌜ ReportMeans (content.plainFiles (now (stage .entry)) (now (reference .entry))) r ⌝ }
 {
     report(order_of(order), stage, reference)
 }

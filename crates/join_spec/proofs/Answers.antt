@@ -11,15 +11,16 @@ use lib.Seq.{getD-append-seam}
 use Rattle.runs.proofs.Test.{lt-ltb, le-ltb}
 use Rattle.netlist.specs.declared.File.the-variants.{Reference}
 use Rattle.netlist.specs.declared.Limits.{Limits}
-use Rattle.netlist.specs.Commands.{commandTable, ownCommands, formIn}
-use Rattle.netlist.specs.Reading.{nameable}
+use Rattle.netlist.specs.Commands.{commandTable, ownCommands, formIn, roleOf}
+use Rattle.netlist.specs.Reading.{Nets, names}
 use Rattle.netlist.specs.Coded.{Coded}
 use Rattle.netlist.specs.Writing.{All}
+use Rattle.netlist.proofs.Readable.{named-earlier, named-signal, earlier-in, signals-in}
 use Rattle.netlist.proofs.Formed.{GatesFormed, OutputFormed}
 use Rattle.check_spec.specs.Lists.{numbers}
 use Rattle.check_spec.specs.Content.{Content}
 use Rattle.check_spec.specs.Words.{operate, values, answer}
-use Rattle.check_spec.proofs.Formed.{Formed}
+use Rattle.check_spec.proofs.Formed.{Formed, netsOf}
 use Rattle.join_spec.specs.Joining.{joinedBy, signalInWhole}
 use Rattle.join_spec.proofs.Lists.{All-get, map-get}
 use Rattle.join_spec.proofs.Whole.{moved, RoomForTwo, gates-length, outputs-length, Moves, joined-formed}
@@ -111,38 +112,42 @@ module _ (one two : Content) where
   move-gate p h = rw (le-ltb p (two .inputs) h)
 
   -- the gates of the second part, after k of them
-  gates-follow : (d k : ℕ) (cs : List Coded) (known part : List Bool) → length known ≡ one .inputs + length (one .gates) + k → length part ≡ two .inputs + k
-      → GatesFormed Reference (two .inputs) d k cs → Follows move known part → Follows move (values known (map (moved move) cs)) (values part cs)
-  unfolding values nameable commandTable ownCommands formIn
-  gates-follow d k [] known part lw lp h f = f
-  gates-follow d k (c ∷ cs) known part lw lp h f =
+  gates-follow : (N : Nets) → N .inputs ≡ two .inputs → (k : ℕ) (cs : List Coded) (known part : List Bool) → length known ≡ one .inputs + length (one .gates) + k → length part ≡ two .inputs + k
+      → GatesFormed Reference N k cs → Follows move known part → Follows move (values known (map (moved move) cs)) (values part cs)
+  unfolding values
+  gates-follow N n k [] known part lw lp h f = f
+  gates-follow N n k (c ∷ cs) known part lw lp h f =
       let x = valueOf part c in
       let e : valueOf known (moved move c) ≡ x =
       ap (λ (l : List Bool). operate (c .code) (getD l 0 false) (getD l 1 false))
-      (operands-follow move known part f (c .operands) (subst (λ (n : ℕ). All (λ v. v < n) (c .operands)) (sym lp) (h .0 .named))) in
+      (operands-follow move known part f (c .operands) (subst (λ (n : ℕ). All (λ v. v < n) (c .operands)) (ap (λ (i : ℕ). i + k) n ∙ sym lp) (earlier-in N k 0 (c .operands) (h .0 .named)))) in
       let next : move (length part) ≡ length known = omega (arith, move-gate (length part) (omega arith)) in
       subst (λ (y : Bool). Follows move (values (known ++ (y ∷ [])) (map (moved move) cs)) (values (part ++ (x ∷ [])) cs)) (sym e)
-      (gates-follow d (suc k) cs (known ++ (x ∷ [])) (part ++ (x ∷ [])) (omega (arith, length-append known (x ∷ []))) (omega (arith, length-append part (x ∷ []))) (h .1)
+      (gates-follow N n (suc k) cs (known ++ (x ∷ [])) (part ++ (x ∷ [])) (omega (arith, length-append known (x ∷ []))) (omega (arith, length-append part (x ∷ []))) (h .1)
       (follow-one move known part x f next))
 
   module _ (most : Limits) (h : Formed Reference most one) (h′ : Formed Reference most two) (seam : two .inputs ≡ length (one .outputs)) where
     -- an output of a reference names a signal
     signal-below : (k p : ℕ) → p < two .inputs + k → move p < one .inputs + (length (one .gates) + k)
-    unfolding nameable commandTable ownCommands formIn
+    unfolding commandTable ownCommands formIn
     signal-below k p l = go (decLt p (two .inputs))
       where
         go : Dec (p < two .inputs) → move p < one .inputs + (length (one .gates) + k)
         go (yes i) =
-            let o = All-get (OutputFormed Reference (one .inputs) (length (one .gates))) (one .outputs) (h .outputs) p [] (omega arith) in
-            omega (arith, move-input p i, All-get (λ v. v < one .inputs + length (one .gates)) (getD (one .outputs) p []) (o .named) 0 0 (omega (arith, o .whole)))
+            let o = All-get (OutputFormed Reference (netsOf one)) (one .outputs) (h .outputs) p [] (omega arith) in
+            omega (arith, move-input p i, All-get (λ v. v < one .inputs + length (one .gates)) (getD (one .outputs) p []) (signals-in (netsOf one) _ 0 (getD (one .outputs) p []) (o .named)) 0 0 (omega (arith, o .whole)))
         go (no i) = omega (arith, move-gate p (omega arith))
 
     pub reference-formed : (most′ : Limits) → RoomForTwo most most′ → Formed Reference most′ whole
-    unfolding nameable commandTable ownCommands formIn
-    reference-formed most′ room = joined-formed Reference move one two most most′ room h h′ (record { first = λ k v l. l; second = signal-below; outputs = signal-below (length (two .gates)) })
+    unfolding names roleOf
+    reference-formed most′ room = joined-formed Reference move one two most most′ room h h′ (record {
+      first = λ k i v e. e;
+      second = λ k i v e. lt-ltb (move v) _ (signal-below k v (named-earlier (netsOf two) k i v e));
+      outputs = λ i v e. lt-ltb (move v) _ (signal-below (length (two .gates)) v (named-signal (netsOf two) (length (two .gates)) i v e));
+    })
 
     pub whole-answers : (bits : ℕ → Bool) (j : ℕ) → j < length (two .outputs) → answer whole bits j ≡ answer two (answer one bits) j
-    unfolding joinedBy answer nameable commandTable ownCommands formIn
+    unfolding joinedBy answer commandTable ownCommands formIn
     whole-answers bits j l =
         let inputs = map bits (numbers 0 (one .inputs)) in
         let known = values inputs (one .gates) in
@@ -156,10 +161,10 @@ module _ (one two : Content) where
               let z : 0 + p ≡ p = omega arith in
               ap (λ (i : ℕ). getD known i false) (move-input p (omega arith)) ∙ sym (numbered (answer one bits) 0 (two .inputs) p (omega arith) ∙ ap (answer one bits) z);
         } in
-        let end = gates-follow (length (two .gates)) 0 (two .gates) known part (omega arith) (omega arith) (h′ .gates) start in
-        let o = All-get (OutputFormed Reference (two .inputs) (length (two .gates))) (two .outputs) (h′ .outputs) j [] l in
+        let end = gates-follow (netsOf two) refl 0 (two .gates) known part (omega arith) (omega arith) (h′ .gates) start in
+        let o = All-get (OutputFormed Reference (netsOf two)) (two .outputs) (h′ .outputs) j [] l in
         let out = getD (getD (two .outputs) j []) 0 0 in
-        let named = All-get (λ v. v < two .inputs + length (two .gates)) (getD (two .outputs) j []) (o .named) 0 0 (omega (arith, o .whole)) in
+        let named = All-get (λ v. v < two .inputs + length (two .gates)) (getD (two .outputs) j []) (signals-in (netsOf two) _ 0 (getD (two .outputs) j []) (o .named)) 0 0 (omega (arith, o .whole)) in
         ap₂ (λ (vs : List Bool) (i : ℕ). getD vs i false) (values-++ inputs (one .gates) (map (moved move) (two .gates)))
         (ap (λ (vs : List ℕ). getD vs 0 0) (map-get (map move) (two .outputs) j [] [] l) ∙ map-get move (getD (two .outputs) j []) 0 0 0 (omega (arith, o .whole)))
         ∙ end .same out (omega (arith, values-length part (two .gates), named))

@@ -1,7 +1,7 @@
 -- Joins of small stages, computed from the definitions alone.
 use Prim.Native.Nat.{ℕ}
 use mathlib.Core.Path.{_≡_, refl}
-use mathlib.Core.Bool.{cond}
+use mathlib.Core.Bool.{false, cond}
 use mathlib.Core.List.{List, [], _∷_, _++_, map, flatMap}
 use lib.Dec.{eqb}
 use Rattle.gates.specs.Cell as c
@@ -18,7 +18,7 @@ use Rattle.check_spec.specs.Cases as e
 use Rattle.check_spec.specs.Cases.{verdict, accepted}
 use Rattle.check_spec.specs.Lists as l
 use Rattle.check_spec.specs.Content as t
-use Rattle.check_spec.specs.Content.{Content, Files}
+use Rattle.check_spec.specs.Content.{Content, Files, filesWithin}
 use Rattle.check_spec.specs.Rows as o
 use Rattle.check_spec.specs.Words as w
 use Rattle.check_spec.specs.Checks as h
@@ -80,7 +80,7 @@ abbrev few : Limits
 few = record { inputs = 4; gates = 4; outputs = 4 }
 
 abbrev files : List ℕ → List ℕ → Files
-files stage reference = record { stage = stage; reference = reference; stageMost = few; referenceMost = few }
+files = filesWithin false few few
 
 -- one wire and two, with their references
 wire : List ℕ
@@ -246,7 +246,7 @@ pub computed : answers joins ≡ expected joins
 unfolding joins answers result expected wire wireReference twoWires twoWiresReference andOf and not cared either neither idle fiveGates fiveOperations
     c.cells c.cellAt c.pinCount c.setExpression c.retiredCells c.among c.isRetired c.kindOf b.operand b.operands
     k.whenFound k.ownCommands k.commandTable k.formIn k.pinsNeeded k.needed k.stray k.misfit k.misfitFrom k.takeGate k.takeCare k.takeSort k.takeCommand k.nextAt
-    r.nameable r.nameless r.usedOperands r.namelessAt r.namelessFrom r.floorAfter r.noted r.finish r.onNext r.readFrom r.readFile t.contentAt v.refusal e.first e.judge
+    r.names k.roleOf k.used r.nameless r.namelessAt r.namelessFrom r.floorAfter r.noted r.finish r.onNext r.readFrom r.readFile t.contentAt v.refusal e.first e.judge
     l.numbers l.select l.some l.every l.ofBits l.reaches e.sweep o.rounds o.risen o.fallen o.reachesItself w.caresFor w.spelled w.names w.words w.operate w.values w.answer
     h.wrong h.incomplete h.highAnd h.unobservable h.fallIncomplete h.fallUnobservable h.looped h.retired h.neverRises h.idle h.checks
     n.rowFor n.command n.writeFile netInWhole signalInWhole joinedBy j.seamChecks flatMap

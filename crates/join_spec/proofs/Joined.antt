@@ -27,6 +27,7 @@ use Rattle.check_spec.specs.Demands.{BothRead}
 use Rattle.check_spec.proofs.Loops.{acyclic}
 use Rattle.check_spec.proofs.Names.{bit-of}
 use Rattle.check_spec.proofs.OneWord.{word-data, spells-bit}
+use Rattle.check_spec.proofs.View.{pipeline-reads}
 use Rattle.check_spec.proofs.Formed.{Formed, Small, read-formed, written-reads}
 use Rattle.check_spec.proofs.Sound.{Sound, Agrees, sound-from, sound-answers, sound-kept}
 use Rattle.join_spec.specs.Joining.{joinedBy, netInWhole, joinedStage, joinedReference, whole, answerWord, Joined}
@@ -138,7 +139,7 @@ module _ (s1 r1 s2 r2 : List ℕ) where
       whole-joined =
           let small : Small stageLimits = record { words = omega arith; nets = omega arith } in
           let small′ : Small referenceLimits = record { words = omega arith; nets = omega arith } in
-          let s = written-reads Stage stageLimits S small (stage-formed (stageIn one) (stageIn two) partStageLimits formed1 formed2 seam stageLimits stage-room) in
+          let s = pipeline-reads true stageLimits _ (written-reads Stage stageLimits S small (stage-formed (stageIn one) (stageIn two) partStageLimits formed1 formed2 seam stageLimits stage-room)) in
           let r = written-reads Reference referenceLimits R small′ (reference-formed (referenceIn one) (referenceIn two) partReferenceLimits ordered1 ordered2 signals referenceLimits reference-room) in
           let h : Sound (whole one two) = sound-from (s .0, r .0) (s .1) (r .1) agrees in
           record {

@@ -3,11 +3,12 @@
 use Prim.Native.Nat.{ℕ, zero, suc, _<_}
 use native.Mathlib.Omega.{arith}
 use mathlib.Core.Path.{_≡_, refl}
+use mathlib.Core.Bool.{Bool, true}
 use mathlib.Core.Logic.{inl, inr}
 use mathlib.Core.List.{List, [], _∷_, map}
 use lib.ListN.{length, getD}
 use Rattle.runs.specs.Acyclic.{AllPins}
-use Rattle.netlist.specs.Writing.{All}
+use Rattle.netlist.specs.Writing.{All, EachFrom}
 use Rattle.verdict.specs.Loops.{In}
 
 pub All-get : {X : Type 0} (P : X → Type 0) (xs : List X) → All P xs → (k : ℕ) (d : X) → k < length xs → P (getD xs k d)
@@ -28,6 +29,11 @@ All-pins P (x ∷ xs) h = (h .0, All-pins P xs (h .1))
 pub All-mapped : {X Y : Type 0} (P : X → Type 0) (Q : Y → Type 0) (f : X → Y) → ((x : X) → P x → Q (f x)) → (xs : List X) → All P xs → All Q (map f xs)
 All-mapped P Q f h [] a = tt
 All-mapped P Q f h (x ∷ xs) a = (h x (a .0), All-mapped P Q f h xs (a .1))
+
+-- operands that pass a test, moved
+pub Each-mapped : (test test′ : ℕ → ℕ → Bool) (f : ℕ → ℕ) → ((i v : ℕ) → test i v ≡ true → test′ i (f v) ≡ true) → (i : ℕ) (vs : List ℕ) → EachFrom test i vs → EachFrom test′ i (map f vs)
+Each-mapped test test′ f h i [] a = tt
+Each-mapped test test′ f h i (v ∷ vs) a = (h i v (a .0), Each-mapped test test′ f h (suc i) vs (a .1))
 
 pub map-get : {X Y : Type 0} (f : X → Y) (xs : List X) (k : ℕ) (d : X) (e : Y) → k < length xs → getD (map f xs) k e ≡ f (getD xs k d)
 map-get f [] k d e l = absurd (omega arith)

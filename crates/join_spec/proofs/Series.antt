@@ -18,9 +18,11 @@ use Rattle.runs.proofs.Test.{lt-ltb, le-ltb}
 use Rattle.runs.proofs.Net.{rail-of-input}
 use Rattle.netlist.specs.declared.File.the-variants.{Stage}
 use Rattle.netlist.specs.declared.Limits.{Limits}
-use Rattle.netlist.specs.Commands.{commandTable, ownCommands, formIn}
-use Rattle.netlist.specs.Reading.{nameable}
+use Rattle.netlist.specs.Commands.{commandTable, ownCommands, formIn, roleOf}
+use Rattle.netlist.specs.Reading.{names}
 use Rattle.netlist.specs.Coded.{Coded, holdOf}
+use Rattle.netlist.proofs.Readable as readable
+use Rattle.netlist.proofs.Readable.{named-pin, named-rail, rails-in}
 use Rattle.netlist.proofs.Formed.{OutputFormed}
 use Rattle.verdict.specs.Graph.{In}
 use Rattle.verdict.proofs.Graph.{rank-≤}
@@ -28,7 +30,7 @@ use Rattle.check_spec.specs.Content.{Content}
 use Rattle.check_spec.specs.Rows.{noGate, driver, cellIn, setIn, netOf, feeding}
 use Rattle.check_spec.specs.Demands.{LoopFree}
 use Rattle.check_spec.proofs.Loops.{feeding-gate, rank, acyclic, ranked-free}
-use Rattle.check_spec.proofs.Formed.{Formed}
+use Rattle.check_spec.proofs.Formed.{Formed, netsOf}
 use Rattle.join_spec.specs.Joining.{joinedBy, netInWhole}
 use Rattle.join_spec.proofs.Lists.{All-get, All-pins, pins-in, in-map, map-get}
 use Rattle.join_spec.proofs.Whole.{moved, RoomForTwo, gates-length, outputs-length, gate-first, gate-second, gate-formed, Moves, joined-formed}
@@ -39,18 +41,18 @@ bit-≤ false = omega arith
 
 -- what a well-formed stage names
 module _ (most : Limits) (s : Content) (h : Formed Stage most s) where
-  output-formed : (j : ℕ) → j < length (s .outputs) → OutputFormed Stage (s .inputs) (length (s .gates)) (getD (s .outputs) j [])
-  output-formed j l = All-get (OutputFormed Stage (s .inputs) (length (s .gates))) (s .outputs) (h .outputs) j [] l
+  output-formed : (j : ℕ) → j < length (s .outputs) → OutputFormed Stage (netsOf s) (getD (s .outputs) j [])
+  output-formed j l = All-get (OutputFormed Stage (netsOf s)) (s .outputs) (h .outputs) j [] l
 
   two-rails : (j : ℕ) → j < length (s .outputs) → (b : Bool) → bit b < length (getD (s .outputs) j [])
   unfolding commandTable ownCommands formIn
   two-rails j l b = omega (arith, output-formed j l .whole, bit-≤ b)
 
   pub stage-named : Named (netOf s)
-  unfolding nameable commandTable ownCommands formIn
   stage-named = record {
-    pins = λ g i. All-pins (λ p. p < nets (netOf s)) (driver s g .operands) (gate-formed Stage (s .inputs) (length (s .gates)) 0 (s .gates) (h .gates) (g - 2 * s .inputs) (omega (arith, i .0, i .1)) .named);
-    outs = λ j l b. All-get (λ v. v < nets (netOf s)) (getD (s .outputs) j []) (output-formed j l .named) (bit b) 0 (two-rails j l b);
+    pins = λ g i. All-pins (λ p. p < nets (netOf s)) (driver s g .operands)
+        (readable.pins-in (netsOf s) _ 0 (driver s g .operands) (gate-formed Stage (netsOf s) 0 (s .gates) (h .gates) (g - 2 * s .inputs) (omega (arith, i .0, i .1)) .named));
+    outs = λ j l b. All-get (λ v. v < nets (netOf s)) (getD (s .outputs) j []) (rails-in (netsOf s) _ 0 (getD (s .outputs) j []) (output-formed j l .named)) (bit b) 0 (two-rails j l b);
   }
 
 -- ---- the rules of a gate whose pins are moved
@@ -155,8 +157,12 @@ module _ (one two : Content) where
         go (no k) = omega (arith, move-gate net (omega arith))
 
     pub stage-formed : (most′ : Limits) → RoomForTwo most most′ → Formed Stage most′ whole
-    unfolding nameable commandTable ownCommands formIn
-    stage-formed most′ room = joined-formed Stage move one two most most′ room h h′ (record { first = λ k v l. omega arith; second = λ k. below; outputs = below })
+    unfolding names roleOf
+    stage-formed most′ room = joined-formed Stage move one two most most′ room h h′ (record {
+      first = λ k i v e. lt-ltb v _ (omega (arith, named-pin (netsOf one) k i v e));
+      second = λ k i v e. lt-ltb (move v) _ (below v (named-pin (netsOf two) k i v e));
+      outputs = λ i v e. lt-ltb (move v) _ (below v (named-rail (netsOf two) (length (two .gates)) i v e));
+    })
 
     -- ---- no loop
 

@@ -78,7 +78,7 @@ pub computed : map (λ (x : Case). leaving (judge (makeChecksOn (x .reference) (
     ≡ map (λ (x : Case). x .leaves (lent (x .room))) cases
 unfolding cases b.operand b.operands
     k.whenFound k.ownCommands k.commandTable k.formIn k.pinsNeeded k.needed k.stray k.misfit k.misfitFrom k.takeGate k.takeCare k.takeSort k.takeCommand k.nextAt
-    r.nameable r.nameless r.usedOperands r.namelessAt r.namelessFrom r.floorAfter r.noted r.finish r.onNext r.readFrom r.readFile
+    r.names k.roleOf k.used r.nameless r.namelessAt r.namelessFrom r.floorAfter r.noted r.finish r.onNext r.readFrom r.readFile
     t.contentAt v.refusal q.first q.judge q.sweep l.numbers l.select l.some l.reaches w.rowFor w.command w.writeFile w.leaving flatMap
     m.realize m.build m.built m.madeStage m.readers m.leadsOut m.makeChecks
 computed = refl

@@ -12,13 +12,14 @@ use Rattle.runs.proofs.Test.{clash, not-false, ltb-false}
 use Rattle.netlist.specs.declared.File.the-variants.{Stage, Reference}
 use Rattle.netlist.specs.declared.Found.the-variants.{At}
 use Rattle.netlist.specs.Commands.{whenFound, commandTable, ownCommands, formIn}
-use Rattle.netlist.specs.Reading.{nameable, Reading, refused, readable, readFile, stageLimits, referenceLimits}
+use Rattle.netlist.specs.Reading.{Nets, Reading, refused, readable, readFile, stageLimits, referenceLimits}
 use Rattle.netlist.specs.Read.{farthest, mostBytes}
 use Rattle.netlist.specs.Coded.{Coded}
 use Rattle.netlist.specs.Content as parsed
 use Rattle.netlist.specs.Content.{referenceOf}
 use Rattle.netlist.specs.Writing.{All}
 use Rattle.netlist.specs.Formed.{ReferenceFormed}
+use Rattle.netlist.proofs.Readable.{in-pins, in-rails}
 use Rattle.netlist.proofs.Formed.{GatesFormed, OutputFormed}
 use Rattle.netlist.proofs.References.{reference-formed}
 use Rattle.netlist.proofs.Cut.{readFile-take}
@@ -40,7 +41,8 @@ use Rattle.check_spec.specs.Writing.{leaving}
 use Rattle.check_spec.proofs.First.{judged}
 use Rattle.check_spec.proofs.Laws.{Laws, none, _&_, judge-later, before, whole-accepted, places-law, test-law}
 use Rattle.check_spec.proofs.Sound.{Sound, Agrees, reading-number, sound-from, sound-answers, sound-kept}
-use Rattle.check_spec.proofs.Formed.{Formed, read-of, written-reads}
+use Rattle.check_spec.proofs.View.{pipeline-reads}
+use Rattle.check_spec.proofs.Formed.{Formed, netsOf, read-of, written-reads}
 use Rattle.check_spec.proofs.Back.{reference-content}
 use Rattle.check_spec.proofs.Writing.{leaves-bytes, leaves-verdict}
 use Rattle.make_spec.proofs.Leading.{leads-found}
@@ -75,17 +77,16 @@ judged-by r room = first-swept 25 2 (λ x. not (leadsOut r x)) (numbers 0 (r .in
 
 -- ---- the stage
 
-module _ (n g : ℕ) where
-  gates-formed : (k : ℕ) (xs : List Coded) → All (Fit (2 * n + g)) xs → GatesFormed Stage n g k xs
-  unfolding nameable commandTable ownCommands formIn
+module _ (N : Nets) where
+  gates-formed : (k : ℕ) (xs : List Coded) → All (Fit (2 * N .inputs + N .gates)) xs → GatesFormed Stage N k xs
   gates-formed k [] h = tt
-  gates-formed k (x ∷ xs) h = (record { known = h .0 .known; whole = h .0 .whole; named = h .0 .pins-in }, gates-formed (suc k) xs (h .1))
+  gates-formed k (x ∷ xs) h = (record { known = h .0 .known; whole = h .0 .whole; named = in-pins N k 0 (x .operands) (h .0 .pins-in) }, gates-formed (suc k) xs (h .1))
 
-  output-formed : (vs : List ℕ) → length vs ≡ 2 → BothBelow (2 * n + g) vs → OutputFormed Stage n g vs
-  unfolding nameable commandTable ownCommands formIn
+  output-formed : (vs : List ℕ) → length vs ≡ 2 → BothBelow (2 * N .inputs + N .gates) vs → OutputFormed Stage N vs
+  unfolding commandTable ownCommands formIn
   output-formed [] e b = absurd (omega arith)
   output-formed (x ∷ []) e b = absurd (omega arith)
-  output-formed (x ∷ y ∷ []) e b = record { whole = refl; named = (b false, (b true, tt)) }
+  output-formed (x ∷ y ∷ []) e b = record { whole = refl; named = in-rails N (N .gates) 0 (x ∷ y ∷ []) (b false, (b true, tt)) }
   output-formed (x ∷ y ∷ z ∷ vs) e b = absurd (omega arith)
 
 module _ (r : parsed.Reference) (formed : ReferenceFormed referenceLimits r) where
@@ -101,15 +102,15 @@ module _ (r : parsed.Reference) (formed : ReferenceFormed referenceLimits r) whe
     inputs-in = formed .inputs-in;
     gates-in = few;
     outputs-in = rw (outputs-long r formed) (formed .outputs-in);
-    gates = gates-formed (r .inputs) (length (c .gates)) 0 (c .gates) (at-all (Fit (2 * r .inputs + length (c .gates))) (c .gates) noGate (λ j l. fit r formed j l _ (omega arith)));
+    gates = gates-formed (netsOf c) 0 (c .gates) (at-all (Fit (2 * r .inputs + length (c .gates))) (c .gates) noGate (λ j l. fit r formed j l _ (omega arith)));
     outputs = rw (outputs-are r formed) (outputs (r .outputs) (formed .outputs-formed));
     care-in = tt;
     care-stage = inl refl;
   }
     where
-      outputs : (l : List ℕ) → All (λ v. v < size r formed) l → All (OutputFormed Stage (r .inputs) (length (c .gates))) (map (railsAt (all r formed)) l)
+      outputs : (l : List ℕ) → All (λ v. v < size r formed) l → All (OutputFormed Stage (netsOf c)) (map (railsAt (all r formed)) l)
       outputs [] h = tt
-      outputs (v ∷ l) h = let t = two-rails r formed v (h .0) in (output-formed (r .inputs) (length (c .gates)) (railsAt (all r formed) v) (t .0) (t .1), outputs l (h .1))
+      outputs (v ∷ l) h = let t = two-rails r formed v (h .0) in (output-formed (netsOf c) (railsAt (all r formed) v) (t .0) (t .1), outputs l (h .1))
 
   module _ (lead : (s : ℕ) → s < size r formed → leadsOut (fromReference r) s ≡ true) where
     agrees : Agrees c (fromReference r)
@@ -126,7 +127,7 @@ module _ (r : parsed.Reference) (formed : ReferenceFormed referenceLimits r) whe
         → MadeFrom (files (madeBytes (fromReference r)) reference)
     unfolding madeStage
     made-from few reference read is =
-        let s = written-reads Stage stageLimits c (record { words = omega arith; nets = omega arith }) (stage-formed few) in
+        let s = pipeline-reads true stageLimits _ (written-reads Stage stageLimits c (record { words = omega arith; nets = omega arith }) (stage-formed few)) in
         let h : Sound (files (madeBytes (fromReference r)) reference) = sound-from (s .0, read) (s .1) is agrees in
         record {
           reads = h .read;

@@ -3,19 +3,20 @@
 use Prim.Native.Nat.{ℕ, zero, suc, _+_, _-_, _*_, _≤_, _<_}
 use native.Mathlib.Omega.{arith}
 use native.Mathlib.Decide.{ℕ-discrete, decLt}
-use mathlib.Core.Path.{_≡_, refl, ap, _∙_}
+use mathlib.Core.Path.{_≡_, refl, sym, ap, _∙_}
 use mathlib.Core.Bool.{Bool, true, false}
 use mathlib.Core.List.{List, [], _∷_}
+use lib.ListN.{length}
 use lib.Dec.{T, leb, leb→le}
 use borrow.Author.Tests.{eq-eqb, ne-eqb}
 use Rattle.gates.specs.Cell.{cells, cellAt, pinCount, kindOf, kindByte, asKind}
 use Rattle.gates.proofs.Every.{every, every-at}
 use Rattle.gates.proofs.Ranges.{kind-known, KindCases, of-cell, no-kind, kind-cases}
-use Rattle.netlist.specs.Types.{File, Sort, Number, Form}
+use Rattle.netlist.specs.Types.{File, Sort, Form}
 use Rattle.netlist.specs.Types.file
 use Rattle.netlist.specs.Types.sort
 use Rattle.netlist.specs.Commands.{asForm, commandTable, ownCommands, formIn, formOf, width, isSort, pinsNeeded, needed}
-use Rattle.netlist.specs.Writing.{commandByte, formFor, widthFor, operandCount, roleFor, All}
+use Rattle.netlist.specs.Writing.{commandByte, formFor, widthFor, operandCount, Has, Item, gate, output, care, sortOf, codesOf, All}
 
 -- two constructors are never equal: `cc` makes 0 ≡ 1 of it
 pub clash : _≡_ {A = ℕ} 0 1 → ⊥
@@ -24,7 +25,7 @@ clash e = omega arith
 -- ---- the command table
 
 -- what holds of each row, and of what stands for no command, holds of the row of a byte
-pub table-all : (P : ℕ → Form → Type 0) → ((b : ℕ) → P b (asForm sort.Unknown 1 0 Number)) →
+pub table-all : (P : ℕ → Form → Type 0) → ((b : ℕ) → P b (asForm sort.Unknown 1 0)) →
     (rs : List (ℕ × Form)) → All (λ r. P (r .0) (r .1)) rs → (b : ℕ) → P b (formIn rs b)
 unfolding formIn
 table-all P u [] h b = u b
@@ -34,27 +35,50 @@ table-all P u (r ∷ rs) h b = go (ℕ-discrete b (r .0)) (table-all P u rs (h .
     go (yes e) l = rw (eq-eqb b (r .0) e, e) (h .0)
     go (no d) l = rw (ne-eqb b (r .0) d) l
 
--- a row is the only one of its sort in its file
-pub form-for : (f : File) (b : ℕ) → formOf f b ≡ formFor f (formOf f b .sort)
-unfolding commandTable ownCommands formIn
-form-for file.Stage = table-all (λ b form. form ≡ formFor file.Stage (form .sort)) (λ b. refl) (commandTable file.Stage) (refl, (refl, (refl, (refl, (refl, tt)))))
-form-for file.Reference = table-all (λ b form. form ≡ formFor file.Reference (form .sort)) (λ b. refl) (commandTable file.Reference) (refl, (refl, (refl, (refl, tt))))
+-- what holds of each file holds of every file
+pub each-file : (P : File → Type 0) → P file.Stage × P file.Pipeline × P file.Reference → (f : File) → P f
+each-file P h file.Stage = h .0
+each-file P h file.Pipeline = h .1
+each-file P h file.Reference = h .2
 
--- either file has each sort of command, but for care words, which a stage alone has
-pub sort-for : (f : File) (c : Sort) → isSort sort.Care c ≡ false → formFor f c .sort ≡ c
+-- a row is the only one of its sort in its file
+abbrev Alone : File → Form → Type 0
+Alone f form = form ≡ formFor f (form .sort)
+
+pub form-for : (f : File) (b : ℕ) → Alone f (formOf f b)
 unfolding commandTable ownCommands formIn
-sort-for file.Stage sort.End e = refl
-sort-for file.Stage sort.Inputs e = refl
-sort-for file.Stage sort.Gate e = refl
-sort-for file.Stage sort.Output e = refl
-sort-for file.Stage sort.Unknown e = refl
-sort-for file.Stage sort.Care e = absurd (clash (cc))
-sort-for file.Reference sort.End e = refl
-sort-for file.Reference sort.Inputs e = refl
-sort-for file.Reference sort.Gate e = refl
-sort-for file.Reference sort.Output e = refl
-sort-for file.Reference sort.Unknown e = refl
-sort-for file.Reference sort.Care e = absurd (clash (cc))
+form-for file.Stage = table-all (λ b. Alone file.Stage) (λ b. refl) (commandTable file.Stage) (refl, (refl, (refl, (refl, (refl, tt)))))
+form-for file.Pipeline = table-all (λ b. Alone file.Pipeline) (λ b. refl) (commandTable file.Pipeline) (refl, (refl, (refl, (refl, (refl, tt)))))
+form-for file.Reference = table-all (λ b. Alone file.Reference) (λ b. refl) (commandTable file.Reference) (refl, (refl, (refl, (refl, tt))))
+
+-- every file has these sorts of commands; care words a reference has not
+pub has-end : (f : File) → Has f sort.End
+unfolding commandTable ownCommands formIn
+has-end = each-file (λ f. Has f sort.End) (refl, refl, refl)
+
+pub has-inputs : (f : File) → Has f sort.Inputs
+unfolding commandTable ownCommands formIn
+has-inputs = each-file (λ f. Has f sort.Inputs) (refl, refl, refl)
+
+pub has-gate : (f : File) → Has f sort.Gate
+unfolding commandTable ownCommands formIn
+has-gate = each-file (λ f. Has f sort.Gate) (refl, refl, refl)
+
+pub has-output : (f : File) → Has f sort.Output
+unfolding commandTable ownCommands formIn
+has-output = each-file (λ f. Has f sort.Output) (refl, refl, refl)
+
+pub stage-care : Has file.Stage sort.Care
+unfolding commandTable ownCommands formIn
+stage-care = refl
+
+pub pipeline-care : Has file.Pipeline sort.Care
+unfolding commandTable ownCommands formIn
+pipeline-care = refl
+
+pub reference-careless : Has file.Reference sort.Care → ⊥
+unfolding commandTable ownCommands formIn
+reference-careless e = clash (cc)
 
 -- and only its byte stands for it
 abbrev Only : File → ℕ → Form → Type 0
@@ -65,46 +89,43 @@ unfolding commandTable ownCommands
 only-byte file.Stage =
     table-all (Only file.Stage) (λ b e. absurd (clash (cc))) (commandTable file.Stage)
     ((λ e. refl), ((λ e. refl), ((λ e. refl), ((λ e. refl), ((λ e. refl), tt)))))
+only-byte file.Pipeline =
+    table-all (Only file.Pipeline) (λ b e. absurd (clash (cc))) (commandTable file.Pipeline)
+    ((λ e. refl), ((λ e. refl), ((λ e. refl), ((λ e. refl), ((λ e. refl), tt)))))
 only-byte file.Reference =
     table-all (Only file.Reference) (λ b e. absurd (clash (cc))) (commandTable file.Reference) ((λ e. refl), ((λ e. refl), ((λ e. refl), ((λ e. refl), tt))))
 
-pub byte-for : (f : File) (b : ℕ) (c : Sort) → formOf f b ≡ formFor f c → formFor f c .sort ≡ c → isSort sort.Unknown c ≡ false → b ≡ commandByte f c
+pub byte-for : (f : File) (b : ℕ) (c : Sort) → formOf f b ≡ formFor f c → Has f c → isSort sort.Unknown c ≡ false → b ≡ commandByte f c
 byte-for f b c e own known =
     let s : formOf f b .sort ≡ c = ap (λ (x : Form). x .sort) e ∙ own in
     rw s at (only-byte f b (rw s known))
 
--- the commandTable of the four sorts in either file
-pub gate-form : (f : File) → formFor f sort.Gate ≡ asForm sort.Gate 2 (operandCount f sort.Gate) (roleFor f sort.Gate)
+-- the rows of the sorts that every file has, and of care words where it has them
+pub gate-form : (f : File) → formFor f sort.Gate ≡ asForm sort.Gate 2 (operandCount f sort.Gate)
 unfolding commandTable ownCommands formIn
-gate-form file.Stage = refl
-gate-form file.Reference = refl
+gate-form = each-file (λ f. formFor f sort.Gate ≡ asForm sort.Gate 2 (operandCount f sort.Gate)) (refl, refl, refl)
 
-pub output-form : (f : File) → formFor f sort.Output ≡ asForm sort.Output 1 (operandCount f sort.Output) (roleFor f sort.Output)
+pub output-form : (f : File) → formFor f sort.Output ≡ asForm sort.Output 1 (operandCount f sort.Output)
 unfolding commandTable ownCommands formIn
-output-form file.Stage = refl
-output-form file.Reference = refl
+output-form = each-file (λ f. formFor f sort.Output ≡ asForm sort.Output 1 (operandCount f sort.Output)) (refl, refl, refl)
 
-pub inputs-form : (f : File) → formFor f sort.Inputs ≡ asForm sort.Inputs 2 0 Number
+pub inputs-form : (f : File) → formFor f sort.Inputs ≡ asForm sort.Inputs 2 0
 unfolding commandTable ownCommands formIn
 inputs-form f = refl
 
-pub end-form : (f : File) → formFor f sort.End ≡ asForm sort.End 1 0 Number
+pub end-form : (f : File) → formFor f sort.End ≡ asForm sort.End 1 0
 unfolding commandTable ownCommands formIn
 end-form f = refl
 
-pub care-stage : (f : File) → formFor f sort.Care .sort ≡ sort.Care → f ≡ file.Stage
+pub care-form : (f : File) → Has f sort.Care → formFor f sort.Care ≡ asForm sort.Care 1 1
 unfolding commandTable ownCommands formIn
-care-stage file.Stage e = refl
-care-stage file.Reference e = absurd (clash (cc))
-
-pub care-form : (f : File) → f ≡ file.Stage → formFor f sort.Care ≡ asForm sort.Care 1 1 Number
-unfolding commandTable ownCommands formIn
-care-form f e = rw e
+care-form file.Stage e = refl
+care-form file.Pipeline e = refl
+care-form file.Reference e = absurd (clash (cc))
 
 pub width-care : (f : File) → widthFor f sort.Care ≡ 1 + 2 * operandCount f sort.Care
 unfolding commandTable ownCommands formIn
-width-care file.Stage = refl
-width-care file.Reference = refl
+width-care = each-file (λ f. widthFor f sort.Care ≡ 1 + 2 * operandCount f sort.Care) (refl, refl, refl)
 
 module _ (f : File) where
   pub width-gate : widthFor f sort.Gate ≡ 2 + 2 * operandCount f sort.Gate
@@ -119,6 +140,15 @@ module _ (f : File) where
   pub width-end : widthFor f sort.End ≡ 1
   width-end = ap width (end-form f)
 
+-- the row of an item
+pub item-form : (f : File) (i : Item) → Has f (sortOf i) → formFor f (sortOf i) ≡ asForm (sortOf i) (1 + length (codesOf i)) (operandCount f (sortOf i))
+item-form f (gate c) h = gate-form f
+item-form f (output vs) h = output-form f
+item-form f (care w) h = care-form f h ∙ ap (asForm sort.Care 1) (sym (ap (λ (x : Form). x .operands) (care-form f h)))
+
+pub item-width : (f : File) (i : Item) → Has f (sortOf i) → widthFor f (sortOf i) ≡ 1 + length (codesOf i) + 2 * operandCount f (sortOf i)
+item-width f i h = ap width (item-form f i h)
+
 -- every command has a byte, none is wider than a gate, and no first operand ends further on
 abbrev Sized : File → Form → Type 0
 Sized f form = (1 ≤ width form) × (width form ≤ widthFor f sort.Gate) × (form .lead + 2 ≤ widthFor f sort.Gate)
@@ -128,12 +158,14 @@ unfolding commandTable ownCommands formIn
 width-in file.Stage =
     table-all (λ b form. Sized file.Stage form) (λ b. omega arith) (commandTable file.Stage)
     (omega arith, (omega arith, (omega arith, (omega arith, (omega arith, tt)))))
+width-in file.Pipeline =
+    table-all (λ b form. Sized file.Pipeline form) (λ b. omega arith) (commandTable file.Pipeline)
+    (omega arith, (omega arith, (omega arith, (omega arith, (omega arith, tt)))))
 width-in file.Reference = table-all (λ b form. Sized file.Reference form) (λ b. omega arith) (commandTable file.Reference) (omega arith, (omega arith, (omega arith, (omega arith, tt))))
 
 pub wide-gate : (f : File) → 3 ≤ widthFor f sort.Gate
 unfolding commandTable ownCommands formIn
-wide-gate file.Stage = omega arith
-wide-gate file.Reference = omega arith
+wide-gate = each-file (λ f. 3 ≤ widthFor f sort.Gate) (omega arith)
 
 -- ---- kinds and operations
 
@@ -188,10 +220,9 @@ operation-needs (suc (suc (suc (suc (suc zero))))) = omega arith
 operation-needs (suc (suc (suc (suc (suc (suc zero)))))) = omega arith
 operation-needs (suc (suc (suc (suc (suc (suc (suc c))))))) = omega arith
 
--- what is needed has room
-pub needed-in : (f : File) (c : ℕ) → needed f c ≤ operandCount f sort.Gate
-unfolding commandTable ownCommands formIn
-needed-in file.Stage c = go (decLt 0 (needed file.Stage c))
+-- a kind needs four pins at most
+kind-room : (c : ℕ) → needed file.Stage c ≤ 4
+kind-room c = go (decLt 0 (needed file.Stage c))
   where
     go : Dec (0 < needed file.Stage c) → needed file.Stage c ≤ 4
     go (no h) = omega arith
@@ -199,4 +230,14 @@ needed-in file.Stage c = go (decLt 0 (needed file.Stage c))
         let k = kind-in c h in
         let four : pinCount (k .cell) ≤ 4 = leb→le (pinCount (k .cell)) 4 (every-at (λ x. leb (pinCount x) 4) 28 few-pins (k .cell) (omega (arith, k .cell-in .1))) in
         omega (arith, ap (needed file.Stage) (k .kind-is), kind-needs (k .hold) (k .cell) (k .cell-in .0) (k .cell-in .1))
+
+pub pipeline-needs : (c : ℕ) → needed file.Pipeline c ≡ needed file.Stage c
+unfolding needed
+pipeline-needs c = refl
+
+-- what is needed has room
+pub needed-in : (f : File) (c : ℕ) → needed f c ≤ operandCount f sort.Gate
+unfolding commandTable ownCommands formIn
+needed-in file.Stage c = kind-room c
+needed-in file.Pipeline c = omega (arith, kind-room c, pipeline-needs c)
 needed-in file.Reference c = operation-needs c .0

@@ -9,7 +9,7 @@ use lib.ListN.{length, getD}
 use Rattle.netlist.specs.Types.{File, Limits}
 use Rattle.netlist.specs.Types.file
 use Rattle.netlist.specs.Types.sort
-use Rattle.netlist.specs.Reading.{Places, readFile, readable}
+use Rattle.netlist.specs.Reading.{Places, netsOf, readFile, readable}
 use Rattle.netlist.specs.Content.{Coded, codedAt}
 use Rattle.netlist.specs.Writing.{widthFor, Item, gate, output, care, gatesIn, outputsIn, careIn, gatePlaces, outputPlaces, writeFile, All, FileFits}
 use Rattle.netlist.proofs.Lists.{Bytes, map-back, map-again}
@@ -130,8 +130,8 @@ module _ {G O : Type 0} (toG : Coded → G) (fromG : G → Coded) (toO : List �
     -- bytes that are readable, with the care words and then the gates first, are what writing their content gives
     module _ (s : List ℕ) (small : Bytes s) (p : Places) (e : readFile f most s ≡ readable p) where
       pub write-back : CareFirst f 2 (length (p .care)) (p .gates) (p .outputs) → AllBefore (p .gates) (p .outputs) →
-          ((cs : List Coded) → GatesFormed f (p .inputs) (length (p .gates)) 0 cs → All (λ c. fromG (toG c) ≡ c) cs) →
-          ((vss : List (List ℕ)) → All (OutputFormed f (p .inputs) (length (p .gates))) vss → All (λ vs. fromO (toO vs) ≡ vs) vss) →
+          ((cs : List Coded) → GatesFormed f (netsOf p) 0 cs → All (λ c. fromG (toG c) ≡ c) cs) →
+          ((vss : List (List ℕ)) → All (OutputFormed f (netsOf p)) vss → All (λ vs. fromO (toO vs) ≡ vs) vss) →
           s ≡ writeFile f (p .inputs) (itemsOf (p .care) (map (λ at. toG (codedAt f s at)) (p .gates)) (map (λ at. toO (wiredAt f s at)) (p .outputs)))
       write-back before first codes wires =
           let h = write-read f most s p e in

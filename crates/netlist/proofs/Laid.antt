@@ -2,30 +2,47 @@
 -- Assumes nothing.
 use Prim.Native.Nat.{ℕ, suc, _+_, _*_, _^_, _≤_, _<_}
 use native.Mathlib.Omega.{arith}
-use mathlib.Core.Path.{_≡_, refl, ap, ap₂}
-use mathlib.Core.Bool.{false}
+use mathlib.Core.Path.{_≡_, refl, sym, ap, ap₂, _∙_}
+use mathlib.Core.Bool.{Bool, true, false, cond}
 use mathlib.Core.List.{List, [], _∷_, map}
 use lib.ListN.{length}
-use Rattle.netlist.specs.Types.{File, Limits, Nothing}
-use Rattle.netlist.specs.Types.file
+use Rattle.netlist.specs.Types.{File, Sort, Form, Limits, Found, Nothing}
 use Rattle.netlist.specs.Types.sort
 use Rattle.netlist.specs.Bytes.{byte, operand, operands, absent}
-use Rattle.netlist.specs.Commands.{formOf, needed, misfit, misfitFrom}
-use Rattle.netlist.specs.Reading.{nameable, Ascending}
+use Rattle.netlist.specs.Commands.{isSort, asForm, formOf, needed, used, misfit, misfitFrom}
+use Rattle.netlist.specs.Reading.{Nets, asked, nameless, namelessAt, Ascending}
 use Rattle.netlist.specs.Content.{Coded, codedAt}
-use Rattle.netlist.specs.Writing.{formFor, widthFor, operandCount, roleFor, Item, gate, output, care, gatesIn, outputsIn, careIn, gatePlaces, outputPlaces, All}
-use Rattle.netlist.proofs.Operands.{misfit-none, needed-there, bare-absent}
-use Rattle.netlist.proofs.Encoding.{needed-in}
+use Rattle.netlist.specs.Writing.{formFor, widthFor, operandCount, Has, Item, gate, output, care, gatesIn, outputsIn, careIn, sortOf, codesOf, operandsOf, itemPlaces}
+use Rattle.netlist.specs.Writing.{gatePlaces, outputPlaces, EachFrom, gatesAfter, netsIn}
+use Rattle.netlist.proofs.Operands.{length-operands, misfit-none, needed-there, bare-absent, nameless-named, named-nameless}
+use Rattle.netlist.proofs.Encoding.{care-form, item-form, needed-in}
 
--- a gate command, of a known code, with FFFF exactly at the operands that it does not need
-pub record GateLaid (f : File) (s : List ℕ) (at : ℕ) (c : Coded) : Type 0 where
-  pub command : formOf f (byte s at) ≡ formFor f sort.Gate
-  pub room : at + widthFor f sort.Gate ≤ length s
+-- the operands of an output command at a place
+abbrev pub wiredAt : File → List ℕ → ℕ → List ℕ
+wiredAt f s p = operands s (p + 1) (operandCount f sort.Output)
+
+-- a gate of a known code, with FFFF exactly at the operands that it does not need
+pub record GateShown (f : File) (s : List ℕ) (at : ℕ) (c : Coded) : Type 0 where
   pub content : codedAt f s at ≡ c
   pub known : 1 ≤ needed f (byte s (at + 1))
   pub fits : misfitFrom (needed f (byte s (at + 1))) 0 s (at + 2) (operandCount f sort.Gate) ≡ Nothing
 
-module _ {f : File} {s : List ℕ} {at : ℕ} {c : Coded} (h : GateLaid f s at c) where
+-- what an item's command shows
+abbrev pub Shown : File → List ℕ → ℕ → Item → Type 0
+Shown f s at (gate c) = GateShown f s at c
+Shown f s at (output vs) = wiredAt f s at ≡ vs
+Shown f s at (care w) = operand s (at + 1) ≡ w
+
+-- a command of the file, with all of its bytes, that shows an item
+pub record ItemLaid (f : File) (s : List ℕ) (at : ℕ) (i : Item) : Type 0 where
+  pub has : Has f (sortOf i)
+  pub command : formOf f (byte s at) ≡ formFor f (sortOf i)
+  pub room : at + widthFor f (sortOf i) ≤ length s
+  pub shown : Shown f s at i
+
+-- ---- gates
+
+module _ {f : File} {s : List ℕ} {at : ℕ} {c : Coded} (h : GateShown f s at c) where
   pub laid-code : byte s (at + 1) ≡ c .code
   laid-code = ap (λ (x : Coded). x .code) (h .content)
 
@@ -42,22 +59,44 @@ module _ {f : File} {s : List ℕ} {at : ℕ} {c : Coded} (h : GateLaid f s at c
   pub laid-bare : (j : ℕ) → needed f (byte s (at + 1)) ≤ j → j < operandCount f sort.Gate → operand s (at + 2 + 2 * j) ≡ absent
   laid-bare j l m = bare-absent (needed f (byte s (at + 1))) j (operand s (at + 2 + 2 * j)) (fit-at j m) l
 
--- the operands of an output command at a place
-abbrev pub wiredAt : File → List ℕ → ℕ → List ℕ
-wiredAt f s p = operands s (p + 1) (operandCount f sort.Output)
+-- ---- the operands of any item
 
--- an output command
-pub record OutputLaid (f : File) (s : List ℕ) (at : ℕ) (vs : List ℕ) : Type 0 where
-  pub command : formOf f (byte s at) ≡ formFor f sort.Output
-  pub room : at + widthFor f sort.Output ≤ length s
-  pub content : wiredAt f s at ≡ vs
+-- where they begin
+abbrev pub operandsFrom : ℕ → Item → ℕ
+operandsFrom at i = at + (1 + length (codesOf i))
 
--- a care command, in a stage
-pub record CareLaid (f : File) (s : List ℕ) (at w : ℕ) : Type 0 where
-  pub stage : f ≡ file.Stage
-  pub command : formOf f (byte s at) ≡ formFor f sort.Care
-  pub room : at + widthFor f sort.Care ≤ length s
-  pub content : operand s (at + 1) ≡ w
+pub used-shown : (f : File) (s : List ℕ) (at : ℕ) (i : Item) → Has f (sortOf i) → Shown f s at i
+    → used f s at (asForm (sortOf i) (1 + length (codesOf i)) (operandCount f (sortOf i))) ≡ length (operandsOf i)
+unfolding used
+used-shown f s at (gate c) has h = sym (length-operands s (at + 2) (needed f (byte s (at + 1)))) ∙ ap length (laid-operands h)
+used-shown f s at (output vs) has h = sym (length-operands s (at + 1) (operandCount f sort.Output)) ∙ ap length h
+used-shown f s at (care w) has h = ap (λ (x : Form). x .operands) (care-form f has)
+
+pub operands-shown : (f : File) (s : List ℕ) (at : ℕ) (i : Item) → Has f (sortOf i) → Shown f s at i → operands s (operandsFrom at i) (length (operandsOf i)) ≡ operandsOf i
+unfolding used operands
+operands-shown f s at (gate c) has h = ap (operands s (at + 2)) (sym (used-shown f s at (gate c) has h)) ∙ laid-operands h
+operands-shown f s at (output vs) has h = ap (operands s (at + 1)) (sym (used-shown f s at (output vs) has h)) ∙ h
+operands-shown f s at (care w) has h = ap (λ (x : ℕ). x ∷ []) h
+
+-- the test for 9 looks at these
+pub nameless-item : {f : File} {s : List ℕ} {at : ℕ} {i : Item} (N : Nets) (k : ℕ) → ItemLaid f s at i
+    → namelessAt f N s at k (formFor f (sortOf i)) ≡ nameless (asked f (sortOf i) N k) 0 s (operandsFrom at i) (length (operandsOf i))
+unfolding namelessAt
+nameless-item {f} {s} {at} {i} N k h =
+    ap (namelessAt f N s at k) (item-form f i (h .has)) ∙ ap (nameless (asked f (sortOf i) N k) 0 s (operandsFrom at i)) (used-shown f s at i (h .has) (h .shown))
+
+module _ {f : File} {s : List ℕ} {at : ℕ} {i : Item} (N : Nets) (k : ℕ) (h : ItemLaid f s at i) where
+  pub item-named : namelessAt f N s at k (formFor f (sortOf i)) ≡ Nothing → EachFrom (asked f (sortOf i) N k) 0 (operandsOf i)
+  item-named e =
+      rw (operands-shown f s at i (h .has) (h .shown)) at
+      (nameless-named (asked f (sortOf i) N k) s 0 (operandsFrom at i) (length (operandsOf i)) (sym (nameless-item N k h) ∙ e))
+
+  pub named-item : EachFrom (asked f (sortOf i) N k) 0 (operandsOf i) → namelessAt f N s at k (formFor f (sortOf i)) ≡ Nothing
+  named-item e =
+      nameless-item N k h
+      ∙ named-nameless (asked f (sortOf i) N k) s 0 (operandsFrom at i) (length (operandsOf i)) (rw (operands-shown f s at i (h .has) (h .shown)) e)
+
+-- ---- the whole file
 
 -- the end command, as the last byte
 pub record EndLaid (f : File) (s : List ℕ) (at : ℕ) : Type 0 where
@@ -67,18 +106,13 @@ pub record EndLaid (f : File) (s : List ℕ) (at : ℕ) : Type 0 where
 -- the items one after the other, and the end command after them
 abbrev pub Laid : File → List ℕ → ℕ → List Item → Type 0
 Laid f s at [] = EndLaid f s at
-Laid f s at (gate c ∷ items) = GateLaid f s at c × Laid f s (at + widthFor f sort.Gate) items
-Laid f s at (output vs ∷ items) = OutputLaid f s at vs × Laid f s (at + widthFor f sort.Output) items
-Laid f s at (care w ∷ items) = CareLaid f s at w × Laid f s (at + widthFor f sort.Care) items
+Laid f s at (i ∷ items) = ItemLaid f s at i × Laid f s (at + widthFor f (sortOf i)) items
 
--- after k gates, with n inputs and g gates in all: each operand names what its role asks for; a care word is a u16
-abbrev pub Named : File → ℕ → ℕ → ℕ → List Item → Type 0
-Named f n g k [] = Unit {0}
-Named f n g k (gate c ∷ items) = All (λ v. v < nameable (roleFor f sort.Gate) n g k) (c .operands) × Named f n g (suc k) items
-Named f n g k (output vs ∷ items) = All (λ v. v < nameable (roleFor f sort.Output) n g k) vs × Named f n g k items
-Named f n g k (care w ∷ items) = (w < 65536) × Named f n g k items
+-- after k gates: each operand names what its role asks for
+abbrev pub Named : File → Nets → ℕ → List Item → Type 0
+Named f N k [] = Unit {0}
+Named f N k (i ∷ items) = EachFrom (asked f (sortOf i) N k) 0 (operandsOf i) × Named f N (gatesAfter k i) items
 
--- the whole file
 pub record FileLaid (f : File) (most : Limits) (s : List ℕ) (n : ℕ) (items : List Item) : Type 0 where
   pub command : formOf f (byte s 0) ≡ formFor f sort.Inputs
   pub count : byte s 1 ≡ n
@@ -87,7 +121,7 @@ pub record FileLaid (f : File) (most : Limits) (s : List ℕ) (n : ℕ) (items :
   pub outputs-in : (1 ≤ length (outputsIn items)) × (length (outputsIn items) ≤ most .outputs)
   pub care-in : Ascending (2 ^ n) 0 (careIn items)
   pub laid : Laid f s 2 items
-  pub named : Named f n (length (gatesIn items)) 0 items
+  pub named : Named f (netsIn n items) 0 items
 
 -- ---- places
 
@@ -107,14 +141,14 @@ module _ (f : File) (s : List ℕ) where
   -- what the places show is the content
   pub laid-gates : (at : ℕ) (items : List Item) → Laid f s at items → map (codedAt f s) (gatePlaces f at items) ≡ gatesIn items
   laid-gates at [] h = refl
-  laid-gates at (gate c ∷ items) h = ap₂ (λ (x : Coded) (xs : List Coded). x ∷ xs) (h .0 .content) (laid-gates (at + widthFor f sort.Gate) items (h .1))
+  laid-gates at (gate c ∷ items) h = ap₂ (λ (x : Coded) (xs : List Coded). x ∷ xs) (h .0 .shown .content) (laid-gates (at + widthFor f sort.Gate) items (h .1))
   laid-gates at (output vs ∷ items) h = laid-gates (at + widthFor f sort.Output) items (h .1)
   laid-gates at (care w ∷ items) h = laid-gates (at + widthFor f sort.Care) items (h .1)
 
   pub laid-outputs : (at : ℕ) (items : List Item) → Laid f s at items → map (wiredAt f s) (outputPlaces f at items) ≡ outputsIn items
   laid-outputs at [] h = refl
   laid-outputs at (gate c ∷ items) h = laid-outputs (at + widthFor f sort.Gate) items (h .1)
-  laid-outputs at (output vs ∷ items) h = ap₂ (λ (x : List ℕ) (xs : List (List ℕ)). x ∷ xs) (h .0 .content) (laid-outputs (at + widthFor f sort.Output) items (h .1))
+  laid-outputs at (output vs ∷ items) h = ap₂ (λ (x : List ℕ) (xs : List (List ℕ)). x ∷ xs) (h .0 .shown) (laid-outputs (at + widthFor f sort.Output) items (h .1))
   laid-outputs at (care w ∷ items) h = laid-outputs (at + widthFor f sort.Care) items (h .1)
 
   -- nothing but the items and the end command stands there

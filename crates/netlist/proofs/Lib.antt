@@ -11,4 +11,5 @@ pub mod GatesFirst
 pub mod Stages
 pub mod References
 pub mod Bounds
+pub mod Alike
 pub mod Cut

@@ -7,13 +7,13 @@ use mathlib.Core.Bool.{Bool, true, false, cond}
 use mathlib.Core.List.{List, [], _∷_, _++_}
 use lib.ListN.{length, drop, length-drop}
 use lib.Seq.{getD-drop, drop-drop, drop-cons, drop-at}
-use lib.Dec.{eqb, ltb}
-use borrow.Author.Tests.{lt-ltb, le-ltb, ltb-true, eq-eqb, ne-eqb, eqb-true, eqb-false, not-false}
+use lib.Dec.{eqb}
+use borrow.Author.Tests.{lt-ltb, le-ltb, eq-eqb, ne-eqb, eqb-true, eqb-false, not-false}
 use Rattle.netlist.specs.Types.{Found, At, Nothing}
 use Rattle.netlist.specs.Bytes.{byte, operand, operands, absent}
 use Rattle.netlist.specs.Commands.{misfit, misfitFrom}
 use Rattle.netlist.specs.Reading.{nameless}
-use Rattle.netlist.specs.Writing.{writeOperands, All}
+use Rattle.netlist.specs.Writing.{writeOperands, All, EachFrom}
 use Rattle.netlist.proofs.Lists.{Bytes, byte-small}
 
 -- ---- k operands
@@ -50,18 +50,43 @@ passed : (b : Bool) (p : ℕ) (later : Found) → cond b (At p) later ≡ Nothin
 passed true p later e = absurd (let z : _≡_ {A = ℕ} 0 1 = cc in omega arith)
 passed false p later e = (refl, e)
 
-module _ (names : ℕ) (s : List ℕ) where
-  pub nameless-named : (at m : ℕ) → nameless names s at m ≡ Nothing → All (λ v. v < names) (operands s at m)
+module _ (test : ℕ → ℕ → Bool) (s : List ℕ) where
+  pub nameless-named : (i at m : ℕ) → nameless test i s at m ≡ Nothing → EachFrom test i (operands s at m)
   unfolding nameless operands
-  nameless-named at zero e = tt
-  nameless-named at (suc m) e =
-      let k = kept (ltb (operand s at) names) at (nameless names s (at + 2) m) e in
-      (ltb-true (operand s at) names (k .0), nameless-named (at + 2) m (k .1))
+  nameless-named i at zero e = tt
+  nameless-named i at (suc m) e =
+      let k = kept (test i (operand s at)) at (nameless test (suc i) s (at + 2) m) e in
+      (k .0, nameless-named (suc i) (at + 2) m (k .1))
 
-  pub named-nameless : (at m : ℕ) → All (λ v. v < names) (operands s at m) → nameless names s at m ≡ Nothing
+  pub named-nameless : (i at m : ℕ) → EachFrom test i (operands s at m) → nameless test i s at m ≡ Nothing
   unfolding nameless operands
-  named-nameless at zero h = refl
-  named-nameless at (suc m) h = rw (lt-ltb (operand s at) names (h .0)) (named-nameless (at + 2) m (h .1))
+  named-nameless i at zero h = refl
+  named-nameless i at (suc m) h = rw (h .0) (named-nameless (suc i) (at + 2) m (h .1))
+
+  -- each of them by its number
+  named-each : (i at m : ℕ) → EachFrom test i (operands s at m) → (j : ℕ) → j < m → test (i + j) (operand s (at + 2 * j)) ≡ true
+  unfolding operands
+  named-each i at zero h j l = absurd (omega arith)
+  named-each i at (suc m) h zero l =
+      let e : at + 2 * 0 ≡ at = omega arith in
+      let z : i + 0 ≡ i = omega arith in
+      rw (e, z) (h .0)
+  named-each i at (suc m) h (suc j) l =
+      let e : at + 2 * suc j ≡ at + 2 + 2 * j = omega arith in
+      let z : i + suc j ≡ suc i + j = omega arith in
+      rw (e, z) (named-each (suc i) (at + 2) m (h .1) j (omega arith))
+
+  pub each-named : (at m : ℕ) → EachFrom test 0 (operands s at m) → (j : ℕ) → j < m → test j (operand s (at + 2 * j)) ≡ true
+  each-named at m h j l = let e : 0 + j ≡ j = omega arith in rw e at (named-each 0 at m h j l)
+
+-- where every operand is asked the same
+pub same-asked : (test : ℕ → ℕ → Bool) (P : ℕ → Type 0) → ((i v : ℕ) → test i v ≡ true → P v) → (i : ℕ) (vs : List ℕ) → EachFrom test i vs → All P vs
+same-asked test P says i [] h = tt
+same-asked test P says i (v ∷ vs) h = (says i v (h .0), same-asked test P says (suc i) vs (h .1))
+
+pub asked-same : (test : ℕ → ℕ → Bool) (P : ℕ → Type 0) → ((i v : ℕ) → P v → test i v ≡ true) → (i : ℕ) (vs : List ℕ) → All P vs → EachFrom test i vs
+asked-same test P holds i [] h = tt
+asked-same test P holds i (v ∷ vs) h = (holds i v (h .0), asked-same test P holds (suc i) vs (h .1))
 
 -- ---- 5
 

@@ -4,40 +4,44 @@ use Prim.Native.Nat.{ℕ, suc, _+_, _*_, _≤_, _<_}
 use native.Mathlib.Omega.{arith}
 use mathlib.Core.Path.{_≡_, refl, sym, ap, ap₂, _∙_}
 use mathlib.Core.Logic.{_↔_}
+use mathlib.Core.Bool.{true, false}
 use mathlib.Core.List.{List, [], _∷_, _++_, append-assoc, map}
 use lib.ListN.{length, drop, getD, length-append, drop-of-length-le}
-use Rattle.netlist.specs.Types.{File, Sort, Form, Limits}
-use Rattle.netlist.specs.Types.file
+use Rattle.netlist.specs.Types.{File, Form, Limits}
 use Rattle.netlist.specs.Types.sort
-use Rattle.netlist.specs.Bytes.{byte, operands, absent}
-use Rattle.netlist.specs.Commands.{formOf, needed}
-use Rattle.netlist.specs.Reading.{nameable, Places, readFile, readable}
+use Rattle.netlist.specs.Bytes.{byte, operand, operands, absent}
+use Rattle.netlist.specs.Commands.{isSort, formOf, needed}
+use Rattle.netlist.specs.Reading.{Nets, asked, Places, readFile, readable}
 use Rattle.netlist.specs.Content.{Coded, codedAt}
-use Rattle.netlist.specs.Writing.{commandByte, widthFor, operandCount, roleFor, Item, gate, output, care, gatesIn, outputsIn, careIn, gatePlaces, outputPlaces, placesOf}
-use Rattle.netlist.specs.Writing.{writeOperands, writeItem, writeItems, writeFile, All, GateFits, OutputFits, CareFits, ItemsFit, FileFits}
-use Rattle.netlist.proofs.Lists.{Bytes, All-++, All-map, byte-small}
+use Rattle.netlist.specs.Writing.{commandByte, widthFor, operandCount, Has, Item, gate, output, care, gatesIn, outputsIn, careIn, sortOf, codesOf, operandsOf}
+use Rattle.netlist.specs.Writing.{gatePlaces, outputPlaces, placesOf, writeOperands, writeItem, writeItems, writeFile, All, EachFrom, Whole, ItemFits, gatesAfter}
+use Rattle.netlist.specs.Writing.{netsIn, ItemsFit, FileFits}
+use Rattle.netlist.proofs.Lists.{Bytes, All-++, byte-small}
 use Rattle.netlist.proofs.Operands.{bytes-written, operand-small, length-operands, each-operands, byte-after, drop-after, length-after}
 use Rattle.netlist.proofs.Operands.{length-written, operands-written, fits-written, drop-one, drop-two, written-operands}
-use Rattle.netlist.proofs.Encoding.{byte-for, sort-for, care-form, width-gate, width-output, width-care, needed-in}
-use Rattle.netlist.proofs.Laid.{GateLaid, OutputLaid, CareLaid, Laid, Named, FileLaid, wiredAt, laid-code, laid-operands, laid-used, laid-bare, laid-gates, laid-outputs, laid-length}
+use Rattle.netlist.proofs.Encoding.{each-file, byte-for, has-end, has-inputs, care-form, item-width, needed-in}
+use Rattle.netlist.proofs.Laid.{GateShown, Shown, ItemLaid, Laid, Named, FileLaid, wiredAt, laid-code, laid-operands, laid-used, laid-bare}
+use Rattle.netlist.proofs.Laid.{operandsFrom, used-shown, operands-shown, laid-gates, laid-outputs, laid-length}
 use Rattle.netlist.proofs.Walk.{readable-laid, laid-readable}
 
 abbrev coded : ℕ → List ℕ → Coded
 coded c vs = record { code = c; operands = vs }
 
-abbrev itemSort : Item → Sort
-itemSort (gate c) = sort.Gate
-itemSort (output vs) = sort.Output
-itemSort (care w) = sort.Care
+abbrev operandBytes : File → Item → List ℕ
+operandBytes f i = writeOperands (operandCount f (sortOf i)) (operandsOf i)
 
-length-item : (f : File) (i : Item) → length (writeItem f i) ≡ widthFor f (itemSort i)
-length-item f (gate c) = omega (arith, width-gate f, length-written (operandCount f sort.Gate) (c .operands))
-length-item f (output vs) = omega (arith, width-output f, length-written (operandCount f sort.Output) vs)
-length-item f (care w) = omega (arith, width-care f, length-written (operandCount f sort.Care) (w ∷ []))
+length-item : (f : File) (i : Item) → Has f (sortOf i) → length (writeItem f i) ≡ widthFor f (sortOf i)
+length-item f i has = omega (arith, item-width f i has, length-append (codesOf i) (operandBytes f i), length-written (operandCount f (sortOf i)) (operandsOf i))
 
 -- the operands of a care command
-care-one : (f : File) → f ≡ file.Stage → operandCount f sort.Care ≡ 1
+care-one : (f : File) → Has f sort.Care → operandCount f sort.Care ≡ 1
 care-one f e = ap (λ (x : Form). x .operands) (care-form f e)
+
+-- an item has no more operands than its command, and where it uses all of them as many
+few-operands : (f : File) (i : Item) → Has f (sortOf i) → Whole f i → length (operandsOf i) ≤ operandCount f (sortOf i)
+few-operands f (gate c) has h = omega (arith, h .2, needed-in f (c .code))
+few-operands f (output vs) has h = omega (arith, h)
+few-operands f (care w) has h = omega (arith, care-one f has)
 
 -- ---- written items are laid
 
@@ -45,48 +49,43 @@ module _ (f : File) (s : List ℕ) where
   byte-at : (at b : ℕ) (tail : List ℕ) → drop at s ≡ b ∷ tail → byte s at ≡ b
   byte-at at b tail e = let z : at + 0 ≡ at = omega arith in rw z at (byte-after s at (b ∷ tail) e 0)
 
-  module _ (n g k at : ℕ) (rest : List ℕ) where
-    written-gate : (c : Coded) → GateFits f n g k c → drop at s ≡ writeItem f (gate c) ++ rest → GateLaid f s at c
-    written-gate c h e =
-        let m = operandCount f sort.Gate in
-        let tail = writeOperands m (c .operands) ++ rest in
-        let code : byte s (at + 1) ≡ c .code = byte-after s at (commandByte f sort.Gate ∷ c .code ∷ tail) e 1 in
-        let e′ : drop (at + 2) s ≡ tail = drop-after s at (commandByte f sort.Gate ∷ c .code ∷ []) tail 2 e refl in
-        let size : length s ≡ at + suc (suc (length tail)) = length-after s at (commandByte f sort.Gate) (c .code ∷ tail) e in
-        let few : length (c .operands) ≤ m = omega (arith, h .whole, needed-in f (c .code)) in
-        record {
-          command = ap (formOf f) (byte-at at (commandByte f sort.Gate) (c .code ∷ tail) e);
-          room = omega (arith, width-gate f, length-append (writeOperands m (c .operands)) rest, length-written m (c .operands));
-          content = ap₂ coded code (rw (code, ← h .whole) (operands-written s rest (at + 2) m (c .operands) few e′));
-          known = rw code (h .known);
-          fits = rw code (fits-written s rest (at + 2) m (needed f (c .code)) 0 (c .operands) (omega (arith, h .whole)) (h .used) e′);
-        }
+  module _ (N : Nets) (k at : ℕ) (rest : List ℕ) where
+    -- what is written after the command byte
+    tail-of : Item → List ℕ
+    tail-of i = codesOf i ++ (operandBytes f i ++ rest)
 
-    written-output : (vs : List ℕ) → OutputFits f n g k vs → drop at s ≡ writeItem f (output vs) ++ rest → OutputLaid f s at vs
-    written-output vs h e =
-        let m = operandCount f sort.Output in
-        let tail = writeOperands m vs ++ rest in
-        let e′ : drop (at + 1) s ≡ tail = drop-after s at (commandByte f sort.Output ∷ []) tail 1 e refl in
-        let size : length s ≡ at + suc (length tail) = length-after s at (commandByte f sort.Output) tail e in
-        record {
-          command = ap (formOf f) (byte-at at (commandByte f sort.Output) tail e);
-          room = omega (arith, width-output f, length-append (writeOperands m vs) rest, length-written m vs);
-          content = ap (operands s (at + 1)) (sym (h .whole)) ∙ operands-written s rest (at + 1) m vs (omega (arith, h .whole)) e′;
-        }
+    item-then : (i : Item) → drop at s ≡ writeItem f i ++ rest → drop at s ≡ commandByte f (sortOf i) ∷ codesOf i ++ (operandBytes f i ++ rest)
+    item-then i e = e ∙ ap (λ (l : List ℕ). commandByte f (sortOf i) ∷ l) (append-assoc (codesOf i) (operandBytes f i) rest)
 
-    written-care : (w : ℕ) → CareFits f w → drop at s ≡ writeItem f (care w) ++ rest → CareLaid f s at w
+    operands-then : (i : Item) → drop at s ≡ writeItem f i ++ rest → drop (operandsFrom at i) s ≡ operandBytes f i ++ rest
+    operands-then i e = drop-after s at (commandByte f (sortOf i) ∷ codesOf i) (operandBytes f i ++ rest) (1 + length (codesOf i)) (item-then i e) (omega arith)
+
+    operands-there : (i : Item) → Has f (sortOf i) → Whole f i → drop at s ≡ writeItem f i ++ rest → operands s (operandsFrom at i) (length (operandsOf i)) ≡ operandsOf i
+    operands-there i has whole e = operands-written s rest (operandsFrom at i) (operandCount f (sortOf i)) (operandsOf i) (few-operands f i has whole) (operands-then i e)
+
+    written-shown : (i : Item) → Has f (sortOf i) → Whole f i → drop at s ≡ writeItem f i ++ rest → Shown f s at i
     unfolding operands
-    written-care w h e =
-        let m = operandCount f sort.Care in
-        let one : m ≡ 1 = care-one f (h .stage) in
-        let tail = writeOperands m (w ∷ []) ++ rest in
-        let e′ : drop (at + 1) s ≡ tail = drop-after s at (commandByte f sort.Care ∷ []) tail 1 e refl in
-        let size : length s ≡ at + suc (length tail) = length-after s at (commandByte f sort.Care) tail e in
+    written-shown (gate c) has h e =
+        let m = operandCount f sort.Gate in
+        let code : byte s (at + 1) ≡ c .code = byte-after s at (commandByte f sort.Gate ∷ c .code ∷ (operandBytes f (gate c) ++ rest)) e 1 in
         record {
-          stage = h .stage;
-          command = ap (formOf f) (byte-at at (commandByte f sort.Care) tail e);
-          room = omega (arith, width-care f, length-append (writeOperands m (w ∷ [])) rest, length-written m (w ∷ []));
-          content = ap (λ (l : List ℕ). getD l 0 0) (operands-written s rest (at + 1) m (w ∷ []) (omega arith) e′);
+          content = ap₂ coded code (rw (code, ← h .2) (operands-there (gate c) has h e));
+          known = rw code (h .1);
+          fits = rw code (fits-written s rest (at + 2) m (needed f (c .code)) 0 (c .operands) (omega (arith, h .2)) (h .3) (operands-then (gate c) e));
+        }
+    written-shown (output vs) has h e = ap (operands s (at + 1)) (sym h) ∙ operands-there (output vs) has h e
+    written-shown (care w) has h e = ap (λ (l : List ℕ). getD l 0 0) (operands-there (care w) has h e)
+
+    written-item : (i : Item) → ItemFits f N k i → drop at s ≡ writeItem f i ++ rest → ItemLaid f s at i
+    written-item i h e =
+        let size = length-after s at (commandByte f (sortOf i)) (codesOf i ++ (operandBytes f i ++ rest)) (item-then i e) in
+        let codes = length-append (codesOf i) (operandBytes f i ++ rest) in
+        let more = length-append (operandBytes f i) rest in
+        record {
+          has = h .has;
+          command = ap (formOf f) (byte-at at (commandByte f (sortOf i)) (codesOf i ++ (operandBytes f i ++ rest)) (item-then i e));
+          room = omega (arith, item-width f i (h .has), size, codes, more, length-written (operandCount f (sortOf i)) (operandsOf i));
+          shown = written-shown i (h .has) (h .whole) e;
         }
 
   -- an item stands first, and the others after it
@@ -94,112 +93,95 @@ module _ (f : File) (s : List ℕ) where
     item-first : drop at s ≡ writeItem f i ++ (writeItems f items ++ (0 ∷ []))
     item-first = e ∙ append-assoc (writeItem f i) (writeItems f items) (0 ∷ [])
 
-    items-after : drop (at + widthFor f (itemSort i)) s ≡ writeItems f items ++ (0 ∷ [])
-    items-after = drop-after s at (writeItem f i) (writeItems f items ++ (0 ∷ [])) (widthFor f (itemSort i)) item-first (length-item f i)
+    items-after : Has f (sortOf i) → drop (at + widthFor f (sortOf i)) s ≡ writeItems f items ++ (0 ∷ [])
+    items-after has = drop-after s at (writeItem f i) (writeItems f items ++ (0 ∷ [])) (widthFor f (sortOf i)) item-first (length-item f i has)
 
-  written-laid : (n g k at : ℕ) (items : List Item) → ItemsFit f n g k items → drop at s ≡ writeItems f items ++ (0 ∷ []) → Laid f s at items × Named f n g k items
-  written-laid n g k at [] h e = (record { command = ap (formOf f) (byte-at at 0 [] e); last = length-after s at 0 [] e }, tt)
-  written-laid n g k at (gate c ∷ items) h e =
-      let r = written-laid n g (suc k) (at + widthFor f sort.Gate) items (h .1) (items-after at (gate c) items e) in
-      ((written-gate n g k at (writeItems f items ++ (0 ∷ [])) c (h .0) (item-first at (gate c) items e), r .0), (h .0 .named, r .1))
-  written-laid n g k at (output vs ∷ items) h e =
-      let r = written-laid n g k (at + widthFor f sort.Output) items (h .1) (items-after at (output vs) items e) in
-      ((written-output n g k at (writeItems f items ++ (0 ∷ [])) vs (h .0) (item-first at (output vs) items e), r .0), (h .0 .named, r .1))
-  written-laid n g k at (care w ∷ items) h e =
-      let r = written-laid n g k (at + widthFor f sort.Care) items (h .1) (items-after at (care w) items e) in
-      ((written-care n g k at (writeItems f items ++ (0 ∷ [])) w (h .0) (item-first at (care w) items e), r .0), (h .0 .u16, r .1))
+  written-laid : (N : Nets) (k at : ℕ) (items : List Item) → ItemsFit f N k items → drop at s ≡ writeItems f items ++ (0 ∷ []) → Laid f s at items × Named f N k items
+  written-laid N k at [] h e = (record { command = ap (formOf f) (byte-at at 0 [] e); last = length-after s at 0 [] e }, tt)
+  written-laid N k at (i ∷ items) h e =
+      let r = written-laid N (gatesAfter k i) (at + widthFor f (sortOf i)) items (h .1) (items-after at i items e (h .0 .has)) in
+      ((written-item N k at (writeItems f items ++ (0 ∷ [])) i (h .0) (item-first at i items e), r .0), (h .0 .named, r .1))
 
-command-bytes : (f : File) → (commandByte f sort.Gate < 256) × (commandByte f sort.Output < 256)
-command-bytes file.Stage = omega arith
-command-bytes file.Reference = omega arith
+-- a command byte and what follows it up to the operands are bytes
+byte-codes : (f : File) (i : Item) → Whole f i → Bytes (commandByte f (sortOf i) ∷ codesOf i)
+byte-codes f (gate c) h = (each-file (λ f. commandByte f sort.Gate < 256) (omega arith) f, (h .0, tt))
+byte-codes f (output vs) h = (each-file (λ f. commandByte f sort.Output < 256) (omega arith) f, tt)
+byte-codes f (care w) h = (omega arith, tt)
 
-bytes-items : (f : File) (n g k : ℕ) (items : List Item) → ItemsFit f n g k items → Bytes (writeItems f items)
-bytes-items f n g k [] h = tt
-bytes-items f n g k (gate c ∷ items) h =
-    let wide : All (λ v. v < 65536) (c .operands) = All-map (λ v. v < absent) (λ v. v < 65536) (λ v l. omega arith) (c .operands) (h .0 .used) in
-    let m = operandCount f sort.Gate in
-    let rest = bytes-items f n g (suc k) items (h .1) in
-    (command-bytes f .0, (h .0 .code-byte, All-++ (λ b. b < 256) (writeOperands m (c .operands)) (writeItems f items) (bytes-written m (c .operands) wide) rest))
-bytes-items f n g k (output vs ∷ items) h =
-    let m = operandCount f sort.Output in
-    (command-bytes f .1, All-++ (λ b. b < 256) (writeOperands m vs) (writeItems f items) (bytes-written m vs (h .0 .u16s)) (bytes-items f n g k items (h .1)))
-bytes-items f n g k (care w ∷ items) h =
-    let m = operandCount f sort.Care in
-    (omega arith, All-++ (λ b. b < 256) (writeOperands m (w ∷ [])) (writeItems f items) (bytes-written m (w ∷ []) (h .0 .u16, tt)) (bytes-items f n g k items (h .1)))
+bytes-items : (f : File) (N : Nets) (k : ℕ) (items : List Item) → ItemsFit f N k items → Bytes (writeItems f items)
+bytes-items f N k [] h = tt
+bytes-items f N k (i ∷ items) h =
+    let codes = byte-codes f i (h .0 .whole) in
+    let item = All-++ (λ b. b < 256) (codesOf i) (operandBytes f i) (codes .1) (bytes-written (operandCount f (sortOf i)) (operandsOf i) (h .0 .u16s)) in
+    (codes .0, All-++ (λ b. b < 256) (codesOf i ++ operandBytes f i) (writeItems f items) item (bytes-items f N (gatesAfter k i) items (h .1)))
 
 -- ---- items that are laid are what is written
 
+-- an operand past those that an item uses is FFFF
+bare-shown : (f : File) (s : List ℕ) (at : ℕ) (i : Item) → Has f (sortOf i) → Shown f s at i → (j : ℕ) → length (operandsOf i) ≤ j → j < operandCount f (sortOf i) →
+    operand s (operandsFrom at i + 2 * j) ≡ absent
+bare-shown f s at (gate c) has h j a b =
+    let k : length (c .operands) ≡ needed f (byte s (at + 1)) = ap length (sym (laid-operands h)) ∙ length-operands s (at + 2) (needed f (byte s (at + 1))) in
+    laid-bare h j (omega arith) b
+bare-shown f s at (output vs) has h j a b = absurd (omega (arith, ap length h, length-operands s (at + 1) (operandCount f sort.Output)))
+bare-shown f s at (care w) has h j a b = absurd (omega (arith, care-one f has))
+
+not-unknown : (i : Item) → isSort sort.Unknown (sortOf i) ≡ false
+not-unknown (gate c) = refl
+not-unknown (output vs) = refl
+not-unknown (care w) = refl
+
 module _ (f : File) (s : List ℕ) (small : Bytes s) where
   module _ (at : ℕ) where
-    laid-gate : (c : Coded) → GateLaid f s at c → drop at s ≡ writeItem f (gate c) ++ drop (at + widthFor f sort.Gate) s
-    laid-gate c h =
-        let m = operandCount f sort.Gate in
-        let is : byte s at ≡ commandByte f sort.Gate = byte-for f (byte s at) sort.Gate (h .command) (sort-for f sort.Gate refl) refl in
-        let w : at + widthFor f sort.Gate ≡ at + 2 + 2 * m = omega (arith, width-gate f) in
-        drop-two s at (omega (arith, h .room, width-gate f))
-        ∙ rw (is, laid-code h, w)
-        (ap (λ (l : List ℕ). commandByte f sort.Gate ∷ c .code ∷ l) (rw (laid-operands h) at (written-operands s small (at + 2) m (needed f (byte s (at + 1))) (omega (arith, h .room)) (laid-bare h))))
+    -- from the command byte on to the operands
+    codes-then : (i : Item) → Shown f s at i → at + (1 + length (codesOf i)) ≤ length s → drop (at + 1) s ≡ codesOf i ++ drop (operandsFrom at i) s
+    codes-then (gate c) h room = let e : at + 1 + 1 ≡ at + 2 = omega arith in rw (e, laid-code h) at (drop-one s (at + 1) (omega arith))
+    codes-then (output vs) h room = refl
+    codes-then (care w) h room = refl
 
-    laid-output : (vs : List ℕ) → OutputLaid f s at vs → drop at s ≡ writeItem f (output vs) ++ drop (at + widthFor f sort.Output) s
-    laid-output vs h =
-        let m = operandCount f sort.Output in
-        let is : byte s at ≡ commandByte f sort.Output = byte-for f (byte s at) sort.Output (h .command) (sort-for f sort.Output refl) refl in
-        let w : at + widthFor f sort.Output ≡ at + 1 + 2 * m = omega (arith, width-output f) in
-        drop-one s at (omega (arith, h .room, width-output f))
-        ∙ rw (is, w)
-        (ap (λ (l : List ℕ). commandByte f sort.Output ∷ l) (rw (h .content) at (written-operands s small (at + 1) m m (omega (arith, h .room)) (λ j a b. absurd (omega arith)))))
+    laid-item : (i : Item) → ItemLaid f s at i → drop at s ≡ writeItem f i ++ drop (at + widthFor f (sortOf i)) s
+    laid-item i h =
+        let m = operandCount f (sortOf i) in
+        let wide = item-width f i (h .has) in
+        let is : byte s at ≡ commandByte f (sortOf i) = byte-for f (byte s at) (sortOf i) (h .command) (h .has) (not-unknown i) in
+        let w : operandsFrom at i + 2 * m ≡ at + widthFor f (sortOf i) = omega arith in
+        let ops = rw (operands-shown f s at i (h .has) (h .shown), w) at
+        (written-operands s small (operandsFrom at i) m (length (operandsOf i)) (omega (arith, h .room)) (bare-shown f s at i (h .has) (h .shown))) in
+        drop-one s at (omega (arith, h .room))
+        ∙ ap₂ (λ (x : ℕ) (xs : List ℕ). x ∷ xs) is
+        (codes-then i (h .shown) (omega (arith, h .room)) ∙ ap (λ (l : List ℕ). codesOf i ++ l) ops ∙ sym (append-assoc (codesOf i) (operandBytes f i) (drop (at + widthFor f (sortOf i)) s)))
 
-    laid-care : (w : ℕ) → CareLaid f s at w → drop at s ≡ writeItem f (care w) ++ drop (at + widthFor f sort.Care) s
-    unfolding operands
-    laid-care w h =
-        let m = operandCount f sort.Care in
-        let one : m ≡ 1 = care-one f (h .stage) in
-        let own = ap (λ (x : Form). x .sort) (care-form f (h .stage)) in
-        let is : byte s at ≡ commandByte f sort.Care = byte-for f (byte s at) sort.Care (h .command) own refl in
-        let e : at + widthFor f sort.Care ≡ at + 1 + 2 * m = omega (arith, width-care f) in
-        drop-one s at (omega (arith, h .room, width-care f))
-        ∙ rw (is, e)
-        (ap (λ (l : List ℕ). commandByte f sort.Care ∷ l) (rw (h .content) at (written-operands s small (at + 1) m 1 (omega (arith, h .room)) (λ j a b. absurd (omega arith)))))
+    laid-whole : (i : Item) → Shown f s at i → Whole f i
+    laid-whole (gate c) h =
+        let p = needed f (byte s (at + 1)) in (
+          rw (laid-code h) at (byte-small s small (at + 1)),
+          rw (laid-code h) at (h .known),
+          ap length (sym (laid-operands h)) ∙ length-operands s (at + 2) p ∙ ap (needed f) (laid-code h),
+          rw (laid-operands h) at (each-operands (λ v. v < absent) s (at + 2) p (λ i l. let d = laid-used h i l in omega (arith, operand-small s small (at + 2 + 2 * i)))),
+        )
+    laid-whole (output vs) h = ap length (sym h) ∙ length-operands s (at + 1) (operandCount f sort.Output)
+    laid-whole (care w) h = tt
 
-    gate-fits : (n g k : ℕ) (c : Coded) → GateLaid f s at c → All (λ v. v < nameable (roleFor f sort.Gate) n g k) (c .operands) → GateFits f n g k c
-    gate-fits n g k c h named =
-        let p = needed f (byte s (at + 1)) in
-        record {
-          code-byte = rw (laid-code h) at (byte-small s small (at + 1));
-          known = rw (laid-code h) at (h .known);
-          whole = ap length (sym (laid-operands h)) ∙ length-operands s (at + 2) p ∙ ap (needed f) (laid-code h);
-          used = rw (laid-operands h) at (each-operands (λ v. v < absent) s (at + 2) p (λ i l. let d = laid-used h i l in omega (arith, operand-small s small (at + 2 + 2 * i))));
-          named = named;
-        }
+    item-fits : (N : Nets) (k : ℕ) (i : Item) → ItemLaid f s at i → EachFrom (asked f (sortOf i) N k) 0 (operandsOf i) → ItemFits f N k i
+    item-fits N k i h named = record {
+      has = h .has;
+      whole = laid-whole i (h .shown);
+      u16s = rw (operands-shown f s at i (h .has) (h .shown)) at
+          (each-operands (λ v. v < 65536) s (operandsFrom at i) (length (operandsOf i)) (λ j l. operand-small s small (operandsFrom at i + 2 * j)));
+      named = named;
+    }
 
-    output-fits : (n g k : ℕ) (vs : List ℕ) → OutputLaid f s at vs → All (λ v. v < nameable (roleFor f sort.Output) n g k) vs → OutputFits f n g k vs
-    output-fits n g k vs h named =
-        let m = operandCount f sort.Output in
-        record {
-          whole = ap length (sym (h .content)) ∙ length-operands s (at + 1) m;
-          u16s = rw (h .content) at (each-operands (λ v. v < 65536) s (at + 1) m (λ i l. operand-small s small (at + 1 + 2 * i)));
-          named = named;
-        }
-
-  laid-fits : (n g k at : ℕ) (items : List Item) → Laid f s at items → Named f n g k items → ItemsFit f n g k items
-  laid-fits n g k at [] h m = tt
-  laid-fits n g k at (gate c ∷ items) h m = (gate-fits at n g k c (h .0) (m .0), laid-fits n g (suc k) (at + widthFor f sort.Gate) items (h .1) (m .1))
-  laid-fits n g k at (output vs ∷ items) h m = (output-fits at n g k vs (h .0) (m .0), laid-fits n g k (at + widthFor f sort.Output) items (h .1) (m .1))
-  laid-fits n g k at (care w ∷ items) h m = (record { stage = h .0 .stage; u16 = m .0 }, laid-fits n g k (at + widthFor f sort.Care) items (h .1) (m .1))
+  laid-fits : (N : Nets) (k at : ℕ) (items : List Item) → Laid f s at items → Named f N k items → ItemsFit f N k items
+  laid-fits N k at [] h m = tt
+  laid-fits N k at (i ∷ items) h m = (item-fits at N k i (h .0) (m .0), laid-fits N (gatesAfter k i) (at + widthFor f (sortOf i)) items (h .1) (m .1))
 
   laid-written : (at : ℕ) (items : List Item) → Laid f s at items → drop at s ≡ writeItems f items ++ (0 ∷ [])
   laid-written at [] h =
-      let is : byte s at ≡ 0 = byte-for f (byte s at) sort.End (h .command) (sort-for f sort.End refl) refl in
+      let is : byte s at ≡ 0 = byte-for f (byte s at) sort.End (h .command) (has-end f) refl in
       drop-one s at (omega (arith, h .last)) ∙ ap₂ (λ (x : ℕ) (xs : List ℕ). x ∷ xs) is (drop-of-length-le s {i = at + 1} (omega (arith, h .last)))
-  laid-written at (gate c ∷ items) h =
-      laid-gate at c (h .0) ∙ ap (λ (l : List ℕ). writeItem f (gate c) ++ l) (laid-written (at + widthFor f sort.Gate) items (h .1))
-      ∙ sym (append-assoc (writeItem f (gate c)) (writeItems f items) (0 ∷ []))
-  laid-written at (output vs ∷ items) h =
-      laid-output at vs (h .0) ∙ ap (λ (l : List ℕ). writeItem f (output vs) ++ l) (laid-written (at + widthFor f sort.Output) items (h .1))
-      ∙ sym (append-assoc (writeItem f (output vs)) (writeItems f items) (0 ∷ []))
-  laid-written at (care w ∷ items) h =
-      laid-care at w (h .0) ∙ ap (λ (l : List ℕ). writeItem f (care w) ++ l) (laid-written (at + widthFor f sort.Care) items (h .1))
-      ∙ sym (append-assoc (writeItem f (care w)) (writeItems f items) (0 ∷ []))
+  laid-written at (i ∷ items) h =
+      laid-item at i (h .0) ∙ ap (λ (l : List ℕ). writeItem f i ++ l) (laid-written (at + widthFor f (sortOf i)) items (h .1))
+      ∙ sym (append-assoc (writeItem f i) (writeItems f items) (0 ∷ []))
 
 -- ---- the whole file
 
@@ -207,7 +189,7 @@ module _ (f : File) (most : Limits) where
   written-file : (n : ℕ) (items : List Item) → FileFits f most n items → FileLaid f most (writeFile f n items) n items
   unfolding writeFile
   written-file n items h =
-      let r = written-laid f (writeFile f n items) n (length (gatesIn items)) 0 2 items (h .items-fit) refl in
+      let r = written-laid f (writeFile f n items) (netsIn n items) 0 2 items (h .items-fit) refl in
       record {
         command = refl;
         count = refl;
@@ -222,7 +204,7 @@ module _ (f : File) (most : Limits) where
   laid-file : (s : List ℕ) → Bytes s → (n : ℕ) (items : List Item) → FileLaid f most s n items → (s ≡ writeFile f n items) × FileFits f most n items
   unfolding writeFile
   laid-file s small n items h =
-      let is : byte s 0 ≡ 1 = byte-for f (byte s 0) sort.Inputs (h .command) (sort-for f sort.Inputs refl) refl in
+      let is : byte s 0 ≡ 1 = byte-for f (byte s 0) sort.Inputs (h .command) (has-inputs f) refl in
       let size = laid-length f s 2 items (h .laid) in (
         drop-two s 0 (omega arith) ∙ rw (is, h .count) (ap (λ (l : List ℕ). 1 ∷ n ∷ l) (laid-written f s small 2 items (h .laid))),
         record {
@@ -231,7 +213,7 @@ module _ (f : File) (most : Limits) where
           gates-in = h .gates-in;
           outputs-in = h .outputs-in;
           care-in = h .care-in;
-          items-fit = laid-fits f s small n (length (gatesIn items)) 0 2 items (h .laid) (h .named);
+          items-fit = laid-fits f s small (netsIn n items) 0 2 items (h .laid) (h .named);
         },
       )
 
@@ -251,7 +233,7 @@ module _ (f : File) (most : Limits) where
     -- and its elements are bytes
     pub bytes-write : Bytes (writeFile f n items)
     unfolding writeFile
-    bytes-write = (omega arith, (fits .inputs-byte, All-++ (λ b. b < 256) (writeItems f items) (0 ∷ []) (bytes-items f n (length (gatesIn items)) 0 items (fits .items-fit)) (omega arith, tt)))
+    bytes-write = (omega arith, (fits .inputs-byte, All-++ (λ b. b < 256) (writeItems f items) (0 ∷ []) (bytes-items f (netsIn n items) 0 items (fits .items-fit)) (omega arith, tt)))
 
   -- ---- what is readable was written
 

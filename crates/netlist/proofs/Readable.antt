@@ -5,70 +5,103 @@ use native.Mathlib.Omega.{arith}
 use native.Mathlib.Nat.{mul-le-mul-left}
 use lib.Pow.{pow-mono}
 use mathlib.Core.Path.{_≡_, refl, sym, ap, subst, subst₂, _∙_}
+use mathlib.Core.Bool.{Bool, true}
 use mathlib.Core.List.{List, [], _∷_}
 use lib.ListN.{length, getD}
+use borrow.Author.Tests.{ltb-true, lt-ltb}
 use Rattle.netlist.specs.Types.{File, Limits}
 use Rattle.netlist.specs.Types.file
 use Rattle.netlist.specs.Types.sort
-use Rattle.netlist.specs.Bytes.{byte}
-use Rattle.netlist.specs.Commands.{commandTable, ownCommands, formIn, needed}
-use Rattle.netlist.specs.Reading.{nameable, Places, Ascending, readFile, readable}
-use Rattle.netlist.specs.Writing.{widthFor, operandCount, roleFor, Item, gate, output, care, gatesIn, outputsIn, careIn, gatePlaces, outputPlaces}
+use Rattle.netlist.specs.Bytes.{byte, operand}
+use Rattle.netlist.specs.Commands.{roleOf, needed}
+use Rattle.netlist.specs.Reading.{Nets, names, asked, Places, Ascending, netsOf, readFile, readable}
+use Rattle.netlist.specs.Writing.{widthFor, operandCount, Item, gate, output, care, gatesIn, outputsIn, careIn, gatePlaces, outputPlaces, All, EachFrom, netsIn}
 use Rattle.netlist.specs.Read.{GateRead, OutputRead, Read}
-use Rattle.netlist.proofs.Operands.{operands-each}
-use Rattle.netlist.proofs.Encoding.{KindOfCell, kind-in, operation-needs}
+use Rattle.netlist.proofs.Operands.{each-named, same-asked, asked-same}
+use Rattle.netlist.proofs.Encoding.{each-file, KindOfCell, kind-in, operation-needs}
 use Rattle.netlist.proofs.Laid.{Laid, Named, laid-operands, laid-used, laid-length, length-gatePlaces, length-outputPlaces}
-use Rattle.netlist.proofs.Walk.{LaidItems, readable-laid}
+use Rattle.netlist.proofs.Walk.{LaidItems, readable-laid, nets-places}
 
 -- ---- by place
 
 -- what is named is there: a net of the stage; an input or an earlier gate of the reference; any of its signals
-pub named-pin : (k n g v : ℕ) → v < nameable (roleFor file.Stage sort.Gate) n g k → v < 2 * n + g
-unfolding nameable commandTable ownCommands formIn
-named-pin k n g v h = h
+module _ (N : Nets) (k i v : ℕ) where
+  pub named-pin : asked file.Stage sort.Gate N k i v ≡ true → v < 2 * N .inputs + N .gates
+  unfolding names roleOf
+  named-pin = ltb-true v (2 * N .inputs + N .gates)
 
-pub named-rail : (k n g v : ℕ) → v < nameable (roleFor file.Stage sort.Output) n g k → v < 2 * n + g
-unfolding nameable commandTable ownCommands formIn
-named-rail k n g v h = h
+  pub named-rail : asked file.Stage sort.Output N k i v ≡ true → v < 2 * N .inputs + N .gates
+  unfolding names roleOf
+  named-rail = ltb-true v (2 * N .inputs + N .gates)
 
-pub named-earlier : (k n g v : ℕ) → v < nameable (roleFor file.Reference sort.Gate) n g k → v < n + k
-unfolding nameable commandTable ownCommands formIn
-named-earlier k n g v h = h
+  pub named-earlier : asked file.Reference sort.Gate N k i v ≡ true → v < N .inputs + k
+  unfolding names roleOf
+  named-earlier = ltb-true v (N .inputs + k)
 
-pub named-signal : (k n g v : ℕ) → v < nameable (roleFor file.Reference sort.Output) n g k → v < n + g
-unfolding nameable commandTable ownCommands formIn
-named-signal k n g v h = h
+  pub named-signal : asked file.Reference sort.Output N k i v ≡ true → v < N .inputs + N .gates
+  unfolding names roleOf
+  named-signal = ltb-true v (N .inputs + N .gates)
+
+-- of all operands of a command, as bounds
+module _ (N : Nets) (k i : ℕ) (vs : List ℕ) where
+  pub pins-in : EachFrom (asked file.Stage sort.Gate N k) i vs → All (λ v. v < 2 * N .inputs + N .gates) vs
+  pins-in = same-asked (asked file.Stage sort.Gate N k) (λ v. v < 2 * N .inputs + N .gates) (named-pin N k) i vs
+
+  pub in-pins : All (λ v. v < 2 * N .inputs + N .gates) vs → EachFrom (asked file.Stage sort.Gate N k) i vs
+  unfolding names roleOf
+  in-pins = asked-same (asked file.Stage sort.Gate N k) (λ v. v < 2 * N .inputs + N .gates) (λ j v. lt-ltb v (2 * N .inputs + N .gates)) i vs
+
+  pub rails-in : EachFrom (asked file.Stage sort.Output N k) i vs → All (λ v. v < 2 * N .inputs + N .gates) vs
+  rails-in = same-asked (asked file.Stage sort.Output N k) (λ v. v < 2 * N .inputs + N .gates) (named-rail N k) i vs
+
+  pub in-rails : All (λ v. v < 2 * N .inputs + N .gates) vs → EachFrom (asked file.Stage sort.Output N k) i vs
+  unfolding names roleOf
+  in-rails = asked-same (asked file.Stage sort.Output N k) (λ v. v < 2 * N .inputs + N .gates) (λ j v. lt-ltb v (2 * N .inputs + N .gates)) i vs
+
+  pub earlier-in : EachFrom (asked file.Reference sort.Gate N k) i vs → All (λ v. v < N .inputs + k) vs
+  earlier-in = same-asked (asked file.Reference sort.Gate N k) (λ v. v < N .inputs + k) (named-earlier N k) i vs
+
+  pub in-earlier : All (λ v. v < N .inputs + k) vs → EachFrom (asked file.Reference sort.Gate N k) i vs
+  unfolding names roleOf
+  in-earlier = asked-same (asked file.Reference sort.Gate N k) (λ v. v < N .inputs + k) (λ j v. lt-ltb v (N .inputs + k)) i vs
+
+  pub signals-in : EachFrom (asked file.Reference sort.Output N k) i vs → All (λ v. v < N .inputs + N .gates) vs
+  signals-in = same-asked (asked file.Reference sort.Output N k) (λ v. v < N .inputs + N .gates) (named-signal N k) i vs
+
+  pub in-signals : All (λ v. v < N .inputs + N .gates) vs → EachFrom (asked file.Reference sort.Output N k) i vs
+  unfolding names roleOf
+  in-signals = asked-same (asked file.Reference sort.Output N k) (λ v. v < N .inputs + N .gates) (λ j v. lt-ltb v (N .inputs + N .gates)) i vs
 
 -- a gate's kind is one of 27, its operation one of 6
-pub kind-read : {s : List ℕ} {n g k at : ℕ} → GateRead file.Stage s n g k at → KindOfCell (byte s (at + 1))
-kind-read {s} {at} r = kind-in (byte s (at + 1)) (r .known)
+pub kind-read : {s : List ℕ} {N : Nets} {k at : ℕ} → GateRead file.Stage s N k at → KindOfCell (byte s (at + 1))
+kind-read {s} {at = at} r = kind-in (byte s (at + 1)) (r .known)
 
-pub operation-read : {s : List ℕ} {n g k at : ℕ} → GateRead file.Reference s n g k at → (1 ≤ byte s (at + 1)) × (byte s (at + 1) ≤ 6)
-operation-read {s} {at} r = operation-needs (byte s (at + 1)) .1 (r .known)
+pub operation-read : {s : List ℕ} {N : Nets} {k at : ℕ} → GateRead file.Reference s N k at → (1 ≤ byte s (at + 1)) × (byte s (at + 1) ≤ 6)
+operation-read {s} {at = at} r = operation-needs (byte s (at + 1)) .1 (r .known)
 
 -- an output may name the same wherever it stands
-pub output-names : (f : File) (n g k : ℕ) → nameable (roleFor f sort.Output) n g g ≡ nameable (roleFor f sort.Output) n g k
-unfolding nameable commandTable ownCommands formIn
-output-names file.Stage n g k = refl
-output-names file.Reference n g k = refl
+pub output-names : (f : File) (N : Nets) (k : ℕ) → asked f sort.Output N (N .gates) ≡ asked f sort.Output N k
+unfolding names roleOf
+output-names f N k = each-file (λ f. asked f sort.Output N (N .gates) ≡ asked f sort.Output N k) (refl, refl, refl) f
 
 -- there are no more rising words than numbers
 pub rising-length : (below floor : ℕ) (ws : List ℕ) → Ascending below floor ws → length ws ≤ below - floor
 rising-length below floor [] h = omega arith
 rising-length below floor (w ∷ ws) h = omega (arith, h .0, h .1, rising-length below (w + 1) ws (h .2))
 
-module _ (f : File) (s : List ℕ) (n g : ℕ) where
-  gate-read : (at k : ℕ) (items : List Item) → 2 ≤ at → Laid f s at items → Named f n g k items → (i : ℕ) → i < length (gatesIn items) → GateRead f s n g (k + i) (getD (gatePlaces f at items) i 0)
+module _ (f : File) (s : List ℕ) (N : Nets) where
+  gate-read : (at k : ℕ) (items : List Item) → 2 ≤ at → Laid f s at items → Named f N k items → (i : ℕ) → i < length (gatesIn items) → GateRead f s N (k + i) (getD (gatePlaces f at items) i 0)
   gate-read at k [] two h m i l = absurd (omega arith)
   gate-read at k (gate c ∷ items) two h m zero l =
       let z : k + 0 ≡ k = omega arith in
       let p = needed f (byte s (at + 1)) in
+      let x = h .0 .shown in
       record {
         first = two;
         room = h .0 .room;
-        known = h .0 .known;
-        used = laid-used (h .0);
-        named = rw z (operands-each (λ v. v < nameable (roleFor f sort.Gate) n g k) s (at + 2) p (rw (laid-operands (h .0)) (m .0)));
+        known = x .known;
+        used = laid-used x;
+        named = rw z (each-named (asked f sort.Gate N k) s (at + 2) p (rw (laid-operands x) (m .0)));
       }
   gate-read at k (gate c ∷ items) two h m (suc i) l =
       let z : k + suc i ≡ suc k + i = omega arith in
@@ -76,7 +109,7 @@ module _ (f : File) (s : List ℕ) (n g : ℕ) where
   gate-read at k (output vs ∷ items) two h m i l = gate-read (at + widthFor f sort.Output) k items (omega arith) (h .1) (m .1) i l
   gate-read at k (care w ∷ items) two h m i l = gate-read (at + widthFor f sort.Care) k items (omega arith) (h .1) (m .1) i l
 
-  output-read : (at k : ℕ) (items : List Item) → 2 ≤ at → Laid f s at items → Named f n g k items → (i : ℕ) → i < length (outputsIn items) → OutputRead f s n g (getD (outputPlaces f at items) i 0)
+  output-read : (at k : ℕ) (items : List Item) → 2 ≤ at → Laid f s at items → Named f N k items → (i : ℕ) → i < length (outputsIn items) → OutputRead f s N (getD (outputPlaces f at items) i 0)
   output-read at k [] two h m i l = absurd (omega arith)
   output-read at k (gate c ∷ items) two h m i l = output-read (at + widthFor f sort.Gate) (suc k) items (omega arith) (h .1) (m .1) i l
   output-read at k (care w ∷ items) two h m i l = output-read (at + widthFor f sort.Care) k items (omega arith) (h .1) (m .1) i l
@@ -84,7 +117,9 @@ module _ (f : File) (s : List ℕ) (n g : ℕ) where
       record {
         first = two;
         room = h .0 .room;
-        named = rw (output-names f n g k) (operands-each (λ v. v < nameable (roleFor f sort.Output) n g k) s (at + 1) (operandCount f sort.Output) (rw (h .0 .content) (m .0)));
+        named = λ j b.
+            ap (λ (test : ℕ → ℕ → Bool). test j (operand s (at + 1 + 2 * j))) (output-names f N k)
+            ∙ each-named (asked f sort.Output N k) s (at + 1) (operandCount f sort.Output) (rw (h .0 .shown) (m .0)) j b;
       }
   output-read at k (output vs ∷ items) two h m (suc i) l = output-read (at + widthFor f sort.Output) k items (omega arith) (h .1) (m .1) i (omega arith)
 
@@ -101,8 +136,11 @@ module _ (f : File) (most : Limits) (s : List ℕ) (p : Places) (e : readFile f 
   count-care : length (p .care) ≡ length (careIn (found .items))
   count-care = ap (λ (x : Places). length (x .care)) (found .item-places)
 
-  named-found : Named f (p .inputs) (length (p .gates)) 0 (found .items)
-  named-found = rw count-gates (found .file-laid .named)
+  nets-found : netsOf p ≡ netsIn (p .inputs) (found .items)
+  nets-found = ap netsOf (found .item-places) ∙ nets-places f (p .inputs) (found .items)
+
+  named-found : Named f (netsOf p) 0 (found .items)
+  named-found = rw nets-found (found .file-laid .named)
 
   pub readable-read : Read f most s p
   readable-read =
@@ -116,11 +154,11 @@ module _ (f : File) (most : Limits) (s : List ℕ) (p : Places) (e : readFile f 
         size = rw (count-gates, count-outputs, count-care) (laid-length f s 2 (found .items) (h .laid));
         gate-at = λ k l.
             let z : 0 + k ≡ k = omega arith in
-            let r = gate-read f s (p .inputs) (length (p .gates)) 2 0 (found .items) (omega arith) (h .laid) named-found k (omega (arith, count-gates)) in
-            subst₂ (λ (j : ℕ) (gs : List ℕ). GateRead f s (p .inputs) (length (p .gates)) j (getD gs k 0)) z (sym (ap (λ (x : Places). x .gates) (found .item-places))) r;
+            let r = gate-read f s (netsOf p) 2 0 (found .items) (omega arith) (h .laid) named-found k (omega (arith, count-gates)) in
+            subst₂ (λ (j : ℕ) (gs : List ℕ). GateRead f s (netsOf p) j (getD gs k 0)) z (sym (ap (λ (x : Places). x .gates) (found .item-places))) r;
         output-at = λ j l.
-            let r = output-read f s (p .inputs) (length (p .gates)) 2 0 (found .items) (omega arith) (h .laid) named-found j (omega (arith, count-outputs)) in
-            subst (λ (os : List ℕ). OutputRead f s (p .inputs) (length (p .gates)) (getD os j 0)) (sym (ap (λ (x : Places). x .outputs) (found .item-places))) r;
+            let r = output-read f s (netsOf p) 2 0 (found .items) (omega arith) (h .laid) named-found j (omega (arith, count-outputs)) in
+            subst (λ (os : List ℕ). OutputRead f s (netsOf p) (getD os j 0)) (sym (ap (λ (x : Places). x .outputs) (found .item-places))) r;
       }
 
   -- no readable file is longer than its most gates, outputs and care words make it

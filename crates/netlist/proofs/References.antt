@@ -6,17 +6,20 @@ use native.Mathlib.Omega.{arith}
 use mathlib.Core.Path.{_≡_, refl, ap, ap₂, subst, _∙_}
 use mathlib.Core.List.{List, [], _∷_, _++_, map, map-map}
 use lib.ListN.{length, getD, length-map}
+use borrow.Author.Tests.{lt-ltb}
 use Rattle.netlist.specs.Types.{Limits}
 use Rattle.netlist.specs.Types.file
 use Rattle.netlist.specs.Types.sort
 use Rattle.netlist.specs.Bytes.{operand, operands, absent}
-use Rattle.netlist.specs.Commands.{commandTable, ownCommands, formIn}
-use Rattle.netlist.specs.Reading.{nameable, Places, readFile, readable}
+use Rattle.netlist.specs.Commands.{commandTable, ownCommands, formIn, roleOf}
+use Rattle.netlist.specs.Reading.{Nets, names, asked, Places, netsOf, readFile, readable}
 use Rattle.netlist.specs.Content.{Coded, codedAt, Reference, referenceOf}
-use Rattle.netlist.specs.Writing.{widthFor, roleFor, Item, gate, output, care, gatesIn, outputsIn, careIn, ItemsFit, placesOf, writeFile, All, FileFits, referenceItems, writeReference}
+use Rattle.netlist.specs.Writing.{widthFor, Item, gate, output, care, gatesIn, outputsIn, careIn, ItemsFit, placesOf, writeFile, All, EachFrom, FileFits}
+use Rattle.netlist.specs.Writing.{referenceItems, writeReference}
 use Rattle.netlist.specs.Formed.{OperationFormed, FormedFrom, ReferenceFormed}
 use Rattle.netlist.proofs.Lists.{Bytes, All-every, All-map}
-use Rattle.netlist.proofs.Encoding.{clash, operation-needs}
+use Rattle.netlist.proofs.Operands.{same-asked, asked-same}
+use Rattle.netlist.proofs.Encoding.{has-gate, has-output, reference-careless, operation-needs}
 use Rattle.netlist.proofs.Laid.{Laid, wiredAt}
 use Rattle.netlist.proofs.Walk.{readable-laid}
 use Rattle.netlist.proofs.ReadBack.{read-write}
@@ -42,31 +45,31 @@ signal-again (v ∷ []) e = refl
 signal-again (v ∷ w ∷ vs) e = absurd (omega arith)
 
 -- the gates and outputs of a reference file, coded and as a reference has them
-module _ (n g : ℕ) where
-  codes-order : (k : ℕ) (cs : List Coded) → GatesFormed file.Reference n g k cs → FormedFrom (n + k) cs
+module _ (N : Nets) where
+  codes-order : (k : ℕ) (cs : List Coded) → GatesFormed file.Reference N k cs → FormedFrom (N .inputs + k) cs
   codes-order k [] h = tt
   codes-order k (c ∷ cs) h =
-      let z : n + suc k ≡ suc (n + k) = omega arith in (
+      let z : N .inputs + suc k ≡ suc (N .inputs + k) = omega arith in (
         record {
           operation-in = operation-needs (c .code) .1 (h .0 .known);
           whole = h .0 .whole;
-          operands-in = All-map (λ v. v < nameable (roleFor file.Reference sort.Gate) n g k) (λ v. v < n + k) (named-earlier k n g) (c .operands) (h .0 .named);
+          operands-in = same-asked (asked file.Reference sort.Gate N k) (λ v. v < N .inputs + k) (named-earlier N k) 0 (c .operands) (h .0 .named);
         },
         rw z at (codes-order (suc k) cs (h .1)),
       )
 
-  wires-signals : (vss : List (List ℕ)) → All (OutputFormed file.Reference n g) vss → All (λ v. v < n + g) (map signalOf vss)
+  wires-signals : (vss : List (List ℕ)) → All (OutputFormed file.Reference N) vss → All (λ v. v < N .inputs + N .gates) (map signalOf vss)
   unfolding commandTable ownCommands formIn
   wires-signals [] h = tt
   wires-signals (vs ∷ vss) h = (go vs (h .0 .whole) (h .0 .named), wires-signals vss (h .1))
     where
-      go : (vs : List ℕ) → length vs ≡ 1 → All (λ v. v < nameable (roleFor file.Reference sort.Output) n g g) vs → signalOf vs < n + g
+      go : (vs : List ℕ) → length vs ≡ 1 → EachFrom (asked file.Reference sort.Output N (N .gates)) 0 vs → signalOf vs < N .inputs + N .gates
       go [] e a = absurd (omega arith)
-      go (v ∷ vs) e a = named-signal g n g v (a .0)
+      go (v ∷ vs) e a = named-signal N (N .gates) 0 v (a .0)
 
-  signals-again : (vss : List (List ℕ)) → All (OutputFormed file.Reference n g) vss → All (λ vs. signalOf vs ∷ [] ≡ vs) vss
+  signals-again : (vss : List (List ℕ)) → All (OutputFormed file.Reference N) vss → All (λ vs. signalOf vs ∷ [] ≡ vs) vss
   unfolding commandTable ownCommands formIn
-  signals-again = All-map (OutputFormed file.Reference n g) (λ vs. signalOf vs ∷ [] ≡ vs) (λ vs w. signal-again vs (w .whole))
+  signals-again = All-map (OutputFormed file.Reference N) (λ vs. signalOf vs ∷ [] ≡ vs) (λ vs w. signal-again vs (w .whole))
 
 -- ---- written and read
 
@@ -103,7 +106,7 @@ module _ (most : Limits) (s : List ℕ) (p : Places) (e : readFile file.Referenc
       go at [] h = refl
       go at (gate c ∷ items) h = go (at + widthFor file.Reference sort.Gate) items (h .1)
       go at (output vs ∷ items) h = go (at + widthFor file.Reference sort.Output) items (h .1)
-      go at (care w ∷ items) h = let stage = h .0 .stage in absurd (clash (cc))
+      go at (care w ∷ items) h = absurd (reference-careless (h .0 .has))
 
   -- readable bytes with the gates first are what writing their reference gives
   pub writeReference-referenceOf : Bytes s → AllBefore (p .gates) (p .outputs) → s ≡ writeReference (referenceOf s p)
@@ -111,7 +114,7 @@ module _ (most : Limits) (s : List ℕ) (p : Places) (e : readFile file.Referenc
   writeReference-referenceOf small first =
       subst (λ (ws : List ℕ). s ≡ writeFile file.Reference (p .inputs) (map care ws ++ referenceItems (referenceOf s p)))
       no-care
-      (write-back same same signalOf lone file.Reference most s small p e (none-first file.Reference most s p e no-care) first (λ cs h. All-every (λ c. c ≡ c) (λ c. refl) cs) (signals-again (p .inputs) (length (p .gates))))
+      (write-back same same signalOf lone file.Reference most s small p e (none-first file.Reference most s p e no-care) first (λ cs h. All-every (λ c. c ≡ c) (λ c. refl) cs) (signals-again (netsOf p)))
 
   pub reference-formed : ReferenceFormed most (referenceOf s p)
   unfolding referenceOf
@@ -127,42 +130,47 @@ module _ (most : Limits) (s : List ℕ) (p : Places) (e : readFile file.Referenc
         inputs-in = r .inputs-in;
         gates-in = rw g (r .gates-in);
         outputs-in = rw o (r .outputs-in);
-        gates-formed = rw z at (codes-order (p .inputs) (length gs) 0 (map (codedAt file.Reference s) gs) (formed .0));
-        outputs-formed = rw (g, signals-view s os) (rw (map-map signalOf (wiredAt file.Reference s) os) at (wires-signals (p .inputs) (length gs) (map (wiredAt file.Reference s) os) (formed .1)));
+        gates-formed = rw z at (codes-order (netsOf p) 0 (map (codedAt file.Reference s) gs) (formed .0));
+        outputs-formed = rw (g, signals-view s os) (rw (map-map signalOf (wiredAt file.Reference s) os) at (wires-signals (netsOf p) (map (wiredAt file.Reference s) os) (formed .1)));
       }
 
 -- ---- a well-formed reference fits a file
 
-module _ (n g : ℕ) (small : n + g ≤ absent) where
-  operations-fit : (k : ℕ) (cs : List Coded) (rest : List Item) → k + length cs ≤ g → FormedFrom (n + k) cs →
-      ((k : ℕ) → ItemsFit file.Reference n g k rest) → ItemsFit file.Reference n g k (map gate cs ++ rest)
-  unfolding nameable commandTable ownCommands formIn
+module _ (N : Nets) (small : N .inputs + N .gates ≤ absent) where
+  operations-fit : (k : ℕ) (cs : List Coded) (rest : List Item) → k + length cs ≤ N .gates → FormedFrom (N .inputs + k) cs →
+      ((k : ℕ) → ItemsFit file.Reference N k rest) → ItemsFit file.Reference N k (map gate cs ++ rest)
+  unfolding names roleOf
   operations-fit k [] rest l h r = r k
   operations-fit k (c ∷ cs) rest l h r =
       let inside = h .0 .operation-in in
-      let z : suc (n + k) ≡ n + suc k = omega arith in (
+      let z : suc (N .inputs + k) ≡ N .inputs + suc k = omega arith in (
         record {
-          code-byte = omega arith;
-          known = operation-needs (c .code) .2 (inside .0) (inside .1);
-          whole = h .0 .whole;
-          used = All-map (λ v. v < n + k) (λ v. v < absent) (λ v b. omega arith) (c .operands) (h .0 .operands-in);
-          named = h .0 .operands-in;
+          has = has-gate file.Reference;
+          whole = (
+            omega arith,
+            operation-needs (c .code) .2 (inside .0) (inside .1),
+            h .0 .whole,
+            All-map (λ v. v < N .inputs + k) (λ v. v < absent) (λ v b. omega arith) (c .operands) (h .0 .operands-in),
+          );
+          u16s = All-map (λ v. v < N .inputs + k) (λ v. v < 65536) (λ v b. omega arith) (c .operands) (h .0 .operands-in);
+          named = asked-same (asked file.Reference sort.Gate N k) (λ v. v < N .inputs + k) (λ i v. lt-ltb v (N .inputs + k)) 0 (c .operands) (h .0 .operands-in);
         },
         operations-fit (suc k) cs rest (omega arith) (rw z at (h .1)) r,
       )
 
-  signals-fit : (vs : List ℕ) → All (λ v. v < n + g) vs → (k : ℕ) → ItemsFit file.Reference n g k (map (λ v. output (v ∷ [])) vs)
-  unfolding nameable commandTable ownCommands formIn
+  signals-fit : (vs : List ℕ) → All (λ v. v < N .inputs + N .gates) vs → (k : ℕ) → ItemsFit file.Reference N k (map (λ v. output (v ∷ [])) vs)
+  unfolding names roleOf commandTable ownCommands formIn
   signals-fit [] h k = tt
   signals-fit (v ∷ vs) h k =
       let a = h .0 in
-      (record { whole = refl; u16s = (omega arith, tt); named = (a, tt) }, signals-fit vs (h .1) k)
+      (record { has = has-output file.Reference; whole = refl; u16s = (omega arith, tt); named = (lt-ltb v (N .inputs + N .gates) a, tt) }, signals-fit vs (h .1) k)
 
 module _ (most : Limits) (r : Reference) where
   pub reference-fits : most .inputs < 256 → most .inputs + most .gates ≤ absent → ReferenceFormed most r → FileFits file.Reference most (r .inputs) (referenceItems r)
   reference-fits low small h =
       let g : length (gatesIn (referenceItems r)) ≡ length (r .gates) = ap length (gatesIn-items same same signalOf lone [] (r .gates) (r .outputs)) ∙ length-map (r .gates) same in
       let o : length (outputsIn (referenceItems r)) ≡ length (r .outputs) = ap length (outputsIn-items same same signalOf lone [] (r .gates) (r .outputs)) ∙ length-map (r .outputs) lone in
+      let N : Nets = record { inputs = r .inputs; gates = length (r .gates) } in
       let in-reach : r .inputs + length (r .gates) ≤ absent = omega (arith, h .inputs-in, h .gates-in) in
       let z : r .inputs ≡ r .inputs + 0 = omega arith in
       let ordered : FormedFrom (r .inputs + 0) (r .gates) = subst (λ (b : ℕ). FormedFrom b (r .gates)) z (h .gates-formed) in
@@ -172,6 +180,6 @@ module _ (most : Limits) (r : Reference) where
         gates-in = rw g (h .gates-in);
         outputs-in = rw o (h .outputs-in);
         care-in = rw (careIn-items same same signalOf lone [] (r .gates) (r .outputs)) tt;
-        items-fit = rw g (operations-fit (r .inputs) (length (r .gates)) in-reach 0 (r .gates) (map (λ v. output (v ∷ [])) (r .outputs)) (omega arith) ordered
-            (signals-fit (r .inputs) (length (r .gates)) in-reach (r .outputs) (h .outputs-formed)));
+        items-fit = rw g (operations-fit N in-reach 0 (r .gates) (map (λ v. output (v ∷ [])) (r .outputs)) (omega arith) ordered
+            (signals-fit N in-reach (r .outputs) (h .outputs-formed)));
       }

@@ -14,11 +14,12 @@ use Rattle.netlist.specs.Types.file
 use Rattle.netlist.specs.Types.sort
 use Rattle.netlist.specs.Bytes.{operands}
 use Rattle.netlist.specs.Commands.{commandTable, ownCommands, formIn, needed}
-use Rattle.netlist.specs.Reading.{nameable, Places, readFile, readable}
+use Rattle.netlist.specs.Reading.{Nets, asked, Places, netsOf, readFile, readable}
 use Rattle.netlist.specs.Content.{Coded, codedAt, Gate, Pair, Stage, gateOf, pairAt, stageOf}
-use Rattle.netlist.specs.Writing.{roleFor, care, careIn, placesOf, All, FileFits, codedGate, pairOperands, stageItems, writeStage}
+use Rattle.netlist.specs.Writing.{care, careIn, placesOf, All, EachFrom, FileFits, codedGate, pairOperands, stageItems, writeStage}
 use Rattle.netlist.specs.Formed.{CellFormed, RailsFormed, StageFormed}
 use Rattle.netlist.proofs.Lists.{Bytes, All-every, All-map}
+use Rattle.netlist.proofs.Operands.{same-asked}
 use Rattle.netlist.proofs.Encoding.{KindOfCell, kind-in, kind-needs}
 use Rattle.netlist.proofs.Laid.{wiredAt}
 use Rattle.netlist.proofs.ReadBack.{read-write}
@@ -60,35 +61,35 @@ pairOperands-pairOf (a ∷ b ∷ []) e = refl
 pairOperands-pairOf (a ∷ b ∷ c ∷ vs) e = absurd (omega arith)
 
 -- the gates and outputs of a stage file, coded and as a stage has them
-module _ (n g : ℕ) where
-  pub known-again : (k : ℕ) (cs : List Coded) → GatesFormed file.Stage n g k cs → All (λ c. codedGate (gateOf c) ≡ c) cs
+module _ (N : Nets) where
+  pub known-again : (k : ℕ) (cs : List Coded) → GatesFormed file.Stage N k cs → All (λ c. codedGate (gateOf c) ≡ c) cs
   known-again k [] h = tt
   known-again k (c ∷ cs) h = (codedGate-gateOf c (h .0 .known), known-again (suc k) cs (h .1))
 
-  wired-again : (vss : List (List ℕ)) → All (OutputFormed file.Stage n g) vss → All (λ vs. pairOperands (pairOf vs) ≡ vs) vss
+  wired-again : (vss : List (List ℕ)) → All (OutputFormed file.Stage N) vss → All (λ vs. pairOperands (pairOf vs) ≡ vs) vss
   unfolding commandTable ownCommands formIn
-  wired-again = All-map (OutputFormed file.Stage n g) (λ vs. pairOperands (pairOf vs) ≡ vs) (λ vs w. pairOperands-pairOf vs (w .whole))
+  wired-again = All-map (OutputFormed file.Stage N) (λ vs. pairOperands (pairOf vs) ≡ vs) (λ vs w. pairOperands-pairOf vs (w .whole))
 
-  codes-gates : (k : ℕ) (cs : List Coded) → GatesFormed file.Stage n g k cs → All (CellFormed (2 * n + g)) (map gateOf cs)
+  codes-gates : (k : ℕ) (cs : List Coded) → GatesFormed file.Stage N k cs → All (CellFormed (2 * N .inputs + N .gates)) (map gateOf cs)
   codes-gates i [] h = tt
   codes-gates i (c ∷ cs) h =
       let k = kind-in (c .code) (h .0 .known) in
-      let formed : CellFormed (2 * n + g) (record { cell = k .cell; hold = k .hold; pins = c .operands }) = record {
+      let formed : CellFormed (2 * N .inputs + N .gates) (record { cell = k .cell; hold = k .hold; pins = c .operands }) = record {
         cell-in = k .cell-in;
         whole = h .0 .whole ∙ ap (needed file.Stage) (k .kind-is) ∙ kind-needs (k .hold) (k .cell) (k .cell-in .0) (k .cell-in .1);
-        pins-in = All-map (λ v. v < nameable (roleFor file.Stage sort.Gate) n g i) (λ v. v < 2 * n + g) (named-pin i n g) (c .operands) (h .0 .named);
+        pins-in = same-asked (asked file.Stage sort.Gate N i) (λ v. v < 2 * N .inputs + N .gates) (named-pin N i) 0 (c .operands) (h .0 .named);
       } in
-      (subst (CellFormed (2 * n + g)) (sym (gate-cell c (h .0 .known))) formed, codes-gates (suc i) cs (h .1))
+      (subst (CellFormed (2 * N .inputs + N .gates)) (sym (gate-cell c (h .0 .known))) formed, codes-gates (suc i) cs (h .1))
 
-  wires-pairs : (vss : List (List ℕ)) → All (OutputFormed file.Stage n g) vss → All (RailsFormed (2 * n + g)) (map pairOf vss)
+  wires-pairs : (vss : List (List ℕ)) → All (OutputFormed file.Stage N) vss → All (RailsFormed (2 * N .inputs + N .gates)) (map pairOf vss)
   unfolding commandTable ownCommands formIn
   wires-pairs [] h = tt
   wires-pairs (vs ∷ vss) h = (go vs (h .0 .whole) (h .0 .named), wires-pairs vss (h .1))
     where
-      go : (vs : List ℕ) → length vs ≡ 2 → All (λ v. v < nameable (roleFor file.Stage sort.Output) n g g) vs → RailsFormed (2 * n + g) (pairOf vs)
+      go : (vs : List ℕ) → length vs ≡ 2 → EachFrom (asked file.Stage sort.Output N (N .gates)) 0 vs → RailsFormed (2 * N .inputs + N .gates) (pairOf vs)
       go [] e a = absurd (omega arith)
       go (x ∷ []) e a = absurd (omega arith)
-      go (x ∷ y ∷ vs) e a = record { rail0-in = named-rail g n g x (a .0); rail1-in = named-rail g n g y (a .1 .0) }
+      go (x ∷ y ∷ vs) e a = record { rail0-in = named-rail N (N .gates) 0 x (a .0); rail1-in = named-rail N (N .gates) 1 y (a .1 .0) }
 
 -- ---- written and read
 
@@ -127,7 +128,7 @@ module _ (most : Limits) (s : List ℕ) (p : Places) (e : readFile file.Stage mo
   unfolding writeStage stageOf
   writeStage-stageOf small before first =
       rw (pairs-view s (p .outputs))
-      (write-back gateOf codedGate pairOf pairOperands file.Stage most s small p e before first (known-again (p .inputs) (length (p .gates)) 0) (wired-again (p .inputs) (length (p .gates))))
+      (write-back gateOf codedGate pairOf pairOperands file.Stage most s small p e before first (known-again (netsOf p) 0) (wired-again (netsOf p)))
 
   -- so are those of a stage without care words, with the gates first
   pub writeStage-no-care : Bytes s → p .care ≡ [] → AllBefore (p .gates) (p .outputs) → s ≡ writeStage (stageOf s p)
@@ -146,7 +147,7 @@ module _ (most : Limits) (s : List ℕ) (p : Places) (e : readFile file.Stage mo
         inputs-in = r .inputs-in;
         gates-in = rw g (r .gates-in);
         outputs-in = rw o (r .outputs-in);
-        gates-formed = rw g (rw (map-map gateOf (codedAt file.Stage s) gs) at (codes-gates (p .inputs) (length gs) 0 (map (codedAt file.Stage s) gs) (formed .0)));
+        gates-formed = rw g (rw (map-map gateOf (codedAt file.Stage s) gs) at (codes-gates (netsOf p) 0 (map (codedAt file.Stage s) gs) (formed .0)));
         care-in = r .care-in;
-        outputs-formed = rw (g, pairs-view s os) (rw (map-map pairOf (wiredAt file.Stage s) os) at (wires-pairs (p .inputs) (length gs) (map (wiredAt file.Stage s) os) (formed .1)));
+        outputs-formed = rw (g, pairs-view s os) (rw (map-map pairOf (wiredAt file.Stage s) os) at (wires-pairs (netsOf p) (map (wiredAt file.Stage s) os) (formed .1)));
       }

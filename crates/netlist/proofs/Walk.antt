@@ -12,18 +12,18 @@ use lib.Pow.{pow-mono}
 use lib.Dec.{eqb, ltb}
 use borrow.Author.Tests.{lt-ltb, le-ltb, ne-eqb, ltb-false, eqb-true, eqb-false, not-false}
 use Rattle.netlist.specs.Types.{File, Sort, Form, Limits, Counts, Cursor, Next, Command, Refused, Found, At, Nothing}
-use Rattle.netlist.specs.Types.file
 use Rattle.netlist.specs.Types.sort
-use Rattle.netlist.specs.Bytes.{byte, operand, operands}
-use Rattle.netlist.specs.Commands.{whenFound, isSort, formOf, width, needed, stray, nextAt}
-use Rattle.netlist.specs.Reading.{nameable, nameless, usedOperands, namelessAt, namelessFrom, Places, noPlaces, floorAfter, Ascending, countsOf, noted, Reading, refused, readable, finish, onNext, readFrom, readFile}
+use Rattle.netlist.specs.Bytes.{byte, operand}
+use Rattle.netlist.specs.Commands.{whenFound, isSort, formOf, width, used, stray, nextAt}
+use Rattle.netlist.specs.Reading.{Nets, nameless, namelessAt, namelessFrom, Places, noPlaces, floorAfter, Ascending, countsOf, netsOf, noted}
+use Rattle.netlist.specs.Reading.{Reading, refused, readable, finish, onNext, readFrom, readFile}
 use Rattle.netlist.specs.Content.{codedAt}
-use Rattle.netlist.specs.Writing.{formFor, widthFor, operandCount, roleFor, Item, gate, output, care, gatesIn, outputsIn, careIn, gatePlaces, outputPlaces, placesOf}
+use Rattle.netlist.specs.Writing.{formFor, widthFor, Item, gate, output, care, gatesIn, outputsIn, careIn, sortOf, gatePlaces, outputPlaces, placesOf}
+use Rattle.netlist.specs.Writing.{gatesAfter, netsIn}
 use Rattle.netlist.specs.Read.{farthest}
-use Rattle.netlist.proofs.Operands.{nameless-named, named-nameless}
-use Rattle.netlist.proofs.Encoding.{clash, sort-for, care-stage, care-form, gate-form, output-form, inputs-form, end-form, width-gate, width-output, width-inputs, width-end}
+use Rattle.netlist.proofs.Encoding.{clash, has-end, has-inputs, care-form, gate-form, inputs-form, end-form, item-width, width-inputs, width-end}
 use Rattle.netlist.proofs.OneCommand.{Taken, There, there-next, next-there}
-use Rattle.netlist.proofs.Laid.{Laid, Named, FileLaid, wiredAt, laid-operands, length-gatePlaces, length-outputPlaces, laid-length}
+use Rattle.netlist.proofs.Laid.{Shown, ItemLaid, Laid, Named, FileLaid, wiredAt, item-named, named-item, length-gatePlaces, length-outputPlaces, laid-length}
 
 -- ---- the end command
 
@@ -50,6 +50,18 @@ pub first-inputs : (at : ℕ) → stray at sort.Inputs ≡ false → at ≡ 0
 unfolding stray
 first-inputs at e = eqb-true at 0 (not-false (eqb at 0) e)
 
+-- an item stands after the inputs command and before the end command
+not-end : (i : Item) → isSort sort.End (sortOf i) ≡ false
+not-end (gate c) = refl
+not-end (output vs) = refl
+not-end (care w) = refl
+
+in-place : (at : ℕ) (i : Item) → 1 ≤ at → stray at (sortOf i) ≡ false
+unfolding stray
+in-place at (gate c) h = not-first at h
+in-place at (output vs) h = not-first at h
+in-place at (care w) h = not-first at h
+
 -- ---- places with those of some items after them
 
 abbrev places : ℕ → List ℕ → List ℕ → List ℕ → Places
@@ -62,18 +74,11 @@ module _ (f : File) (s : List ℕ) (at : ℕ) (p : Places) where
   added-nil : added f at [] p ≡ p
   added-nil = rw (append-nil (p .gates), append-nil (p .outputs), append-nil (p .care))
 
-  module _ (items : List Item) where
-    added-gate : added f (at + widthFor f sort.Gate) items (noted sort.Gate s at p) ≡ added f at (gate (codedAt f s at) ∷ items) p
-    unfolding noted
-    added-gate = rw (append-snoc (p .gates) at (gatePlaces f (at + widthFor f sort.Gate) items))
-
-    added-output : added f (at + widthFor f sort.Output) items (noted sort.Output s at p) ≡ added f at (output (wiredAt f s at) ∷ items) p
-    unfolding noted
-    added-output = rw (append-snoc (p .outputs) at (outputPlaces f (at + widthFor f sort.Output) items))
-
-    added-care : added f (at + widthFor f sort.Care) items (noted sort.Care s at p) ≡ added f at (care (operand s (at + 1)) ∷ items) p
-    unfolding noted
-    added-care = rw (append-snoc (p .care) (operand s (at + 1)) (careIn items))
+  added-item : (i : Item) (items : List Item) → Shown f s at i → added f (at + widthFor f (sortOf i)) items (noted (sortOf i) s at p) ≡ added f at (i ∷ items) p
+  unfolding noted
+  added-item (gate c) items h = rw (append-snoc (p .gates) at (gatePlaces f (at + widthFor f sort.Gate) items))
+  added-item (output vs) items h = rw (append-snoc (p .outputs) at (outputPlaces f (at + widthFor f sort.Output) items))
+  added-item (care w) items h = rw (append-snoc (p .care) (operand s (at + 1)) (careIn items), h)
 
 -- ---- care words
 
@@ -85,7 +90,7 @@ floor-snoc floor (v ∷ ws) w = floor-snoc (v + 1) ws w
 -- what the reader asks of a care command
 pub care-taken : (f : File) (most : Limits) (s : List ℕ) (at : ℕ) (before : Counts) → There f most s at before sort.Care →
     (operand s (at + 1) < 2 ^ before .inputs) × (before .floor ≤ operand s (at + 1))
-care-taken f most s at before t = subst (λ (form : Form). Taken f most s at before form sort.Care) (care-form f (care-stage f (t .own))) (t .taken)
+care-taken f most s at before t = subst (λ (form : Form). Taken f most s at before form sort.Care) (care-form f (t .own)) (t .taken)
 
 -- ---- where commands stand
 
@@ -149,7 +154,7 @@ module _ (f : File) (most : Limits) where
 pub record Ended (f : File) (most : Limits) (s : List ℕ) (p : Places) : Type 0 where
   pub gates-in : length (p .gates) ≤ most .gates
   pub outputs-in : (1 ≤ length (p .outputs)) × (length (p .outputs) ≤ most .outputs)
-  pub all-named : namelessFrom (length s) f (p .inputs) (length (p .gates)) s 0 0 ≡ Nothing
+  pub all-named : namelessFrom (length s) f (netsOf p) s 0 0 ≡ Nothing
 
 module _ (f : File) (most : Limits) (s : List ℕ) (P : Places) where
   -- what the walk from a position on has found, where some places stand before it
@@ -165,39 +170,38 @@ module _ (f : File) (most : Limits) (s : List ℕ) (P : Places) where
   Walks go = (at : ℕ) (p : Places) → 1 ≤ at → Near f most at (countsOf p) → go at p ≡ readable P → Walked at p
 
   module _ (go : ℕ → Places → Reading) (later : Walks go) (at : ℕ) (p : Places) (further : 1 ≤ at) (near : Near f most at (countsOf p)) where
+    -- an item was read, and what follows it
+    walked-item : (i : Item) → There f most s at (countsOf p) (sortOf i) → Shown f s at i →
+        ((ws : List ℕ) → Ascending (2 ^ noted (sortOf i) s at p .inputs) (floorAfter 0 (noted (sortOf i) s at p .care)) ws →
+        Ascending (2 ^ p .inputs) (floorAfter 0 (p .care)) (careIn (i ∷ []) ++ ws)) →
+        go (at + widthFor f (sortOf i)) (noted (sortOf i) s at p) ≡ readable P → Walked at p
+    walked-item i t shown rises e =
+        let w = later (at + widthFor f (sortOf i)) (noted (sortOf i) s at p) (omega arith) (near-noted f most s at p (sortOf i) (not-end i) near t) e in
+        record {
+          items = i ∷ w .items;
+          laid = (record { has = t .own; command = t .command; room = t .room; shown = shown }, w .laid);
+          same = w .same ∙ added-item f s at p i (w .items) shown;
+          care-in = more i (w .items) (rises (careIn (w .items)) (w .care-in));
+          at-end = w .at-end;
+        }
+      where
+        more : (i : Item) (items : List Item) → Ascending (2 ^ p .inputs) (floorAfter 0 (p .care)) (careIn (i ∷ []) ++ careIn items) →
+            Ascending (2 ^ p .inputs) (floorAfter 0 (p .care)) (careIn (i ∷ items))
+        more (gate c) items h = h
+        more (output vs) items h = h
+        more (care w) items h = h
+
     walked-command : (c : Sort) (next : Cursor) → next .at ≡ at + widthFor f c → There f most s at (countsOf p) c → onNext go f s at p (Command c next) ≡ readable P → Walked at p
     unfolding onNext finish stray noted
     walked-command sort.Inputs next a t e = absurd (omega (arith, first-inputs at (t .ordered)))
     walked-command sort.Gate next a t e =
-        let w = later (at + widthFor f sort.Gate) (noted sort.Gate s at p) (omega arith) (near-noted f most s at p sort.Gate refl near t) (rw a at e) in
-        record {
-          items = gate (codedAt f s at) ∷ w .items;
-          laid = (record { command = t .command; room = t .room; content = refl; known = t .taken .1; fits = rw (gate-form f) at (t .taken .2) }, w .laid);
-          same = w .same ∙ added-gate f s at p (w .items);
-          care-in = w .care-in;
-          at-end = w .at-end;
-        }
-    walked-command sort.Output next a t e =
-        let w = later (at + widthFor f sort.Output) (noted sort.Output s at p) (omega arith) (near-noted f most s at p sort.Output refl near t) (rw a at e) in
-        record {
-          items = output (wiredAt f s at) ∷ w .items;
-          laid = (record { command = t .command; room = t .room; content = refl }, w .laid);
-          same = w .same ∙ added-output f s at p (w .items);
-          care-in = w .care-in;
-          at-end = w .at-end;
-        }
+        walked-item (gate (codedAt f s at)) t (record { content = refl; known = t .taken .1; fits = rw (gate-form f) at (t .taken .2) }) (λ ws h. h) (rw a at e)
+    walked-command sort.Output next a t e = walked-item (output (wiredAt f s at)) t refl (λ ws h. h) (rw a at e)
     walked-command sort.Care next a t e =
-        let w = later (at + widthFor f sort.Care) (noted sort.Care s at p) (omega arith) (near-noted f most s at p sort.Care refl near t) (rw a at e) in
         let taken = care-taken f most s at (countsOf p) t in
-        record {
-          items = care (operand s (at + 1)) ∷ w .items;
-          laid = (record { stage = care-stage f (t .own); command = t .command; room = t .room; content = refl }, w .laid);
-          same = w .same ∙ added-care f s at p (w .items);
-          care-in = (taken .1, taken .0, rw (floor-snoc 0 (p .care) (operand s (at + 1))) at (w .care-in));
-          at-end = w .at-end;
-        }
+        walked-item (care (operand s (at + 1))) t refl (λ ws h. (taken .1, taken .0, rw (floor-snoc 0 (p .care) (operand s (at + 1))) at h)) (rw a at e)
     walked-command sort.End next a t e =
-        let d = ended (eqb (length (p .outputs)) 0) (ltb (at + 1) (length s)) (namelessFrom (length s) f (p .inputs) (length (p .gates)) s 0 0) at (at + 1) p P e in
+        let d = ended (eqb (length (p .outputs)) 0) (ltb (at + 1) (length s)) (namelessFrom (length s) f (netsOf p) s 0 0) at (at + 1) p P e in
         let some = eqb-false (length (p .outputs)) 0 (d .0) in
         record {
           items = [];
@@ -250,174 +254,128 @@ unfolding whenFound
 or-later (At p) later e = absurd (clash (cc))
 or-later Nothing later e = (refl, e)
 
-module _ (f : File) (n g : ℕ) (s : List ℕ) (fuel at k : ℕ) where
-  -- what is found in the operands of a gate, of an output and of a care command, and after a command of some bytes
-  abbrev inGate : Found
-  inGate = nameless (nameable (roleFor f sort.Gate) n g k) s (at + 2) (needed f (byte s (at + 1)))
-
-  abbrev inOutput : Found
-  inOutput = nameless (nameable (roleFor f sort.Output) n g k) s (at + 1) (operandCount f sort.Output)
-
-  abbrev inCare : Found
-  inCare = nameless 0x10000 s (at + 1) 1
-
-  abbrev onFrom : ℕ → ℕ → Found
-  onFrom w k′ = namelessFrom fuel f n g s (at + w) k′
-
+module _ (f : File) (N : Nets) (s : List ℕ) (fuel at k : ℕ) where
   -- the search at one command, by its row
   step : Form → Found
-  step form = whenFound (namelessAt f n g s at k form) At (onFrom (width form) (cond (isSort sort.Gate (form .sort)) (k + 1) k))
+  step form = whenFound (namelessAt f N s at k form) At (namelessFrom fuel f N s (at + width form) (cond (isSort sort.Gate (form .sort)) (suc k) k))
 
-  step-gate : formOf f (byte s at) ≡ formFor f sort.Gate → namelessFrom (suc fuel) f n g s at k ≡ whenFound inGate At (onFrom (widthFor f sort.Gate) (suc k))
-  unfolding namelessFrom namelessAt usedOperands step
-  step-gate e =
-      let one : k + 1 ≡ suc k = omega arith in
-      ap step (e ∙ gate-form f) ∙ rw one (ap (λ (w : ℕ). whenFound inGate At (onFrom w (suc k))) (sym (width-gate f)))
+  step-item : {i : Item} → ItemLaid f s at i → namelessFrom (suc fuel) f N s at k
+      ≡ whenFound (namelessAt f N s at k (formFor f (sortOf i))) At (namelessFrom fuel f N s (at + widthFor f (sortOf i)) (gatesAfter k i))
+  unfolding namelessFrom step
+  step-item {i} h =
+      ap step (h .command)
+      ∙ ap (λ (c : Sort). whenFound (namelessAt f N s at k (formFor f (sortOf i))) At (namelessFrom fuel f N s (at + widthFor f (sortOf i)) (cond (isSort sort.Gate c) (suc k) k))) (h .has)
 
-  step-output : formOf f (byte s at) ≡ formFor f sort.Output → namelessFrom (suc fuel) f n g s at k ≡ whenFound inOutput At (onFrom (widthFor f sort.Output) k)
-  unfolding namelessFrom namelessAt usedOperands step
-  step-output e = ap step (e ∙ output-form f) ∙ ap (λ (w : ℕ). whenFound inOutput At (onFrom w k)) (sym (width-output f))
-
-  step-care : f ≡ file.Stage → formOf f (byte s at) ≡ formFor f sort.Care → namelessFrom (suc fuel) f n g s at k ≡ whenFound inCare At (onFrom (widthFor f sort.Care) k)
-  unfolding namelessFrom namelessAt usedOperands step nameable
-  step-care stage e = ap step (e ∙ care-form f stage) ∙ ap (λ (w : ℕ). whenFound inCare At (onFrom w k)) (sym (ap width (care-form f stage)))
-
-  step-inputs : formOf f (byte s at) ≡ formFor f sort.Inputs → namelessFrom (suc fuel) f n g s at k ≡ onFrom 2 k
-  unfolding namelessFrom namelessAt usedOperands step nameless whenFound
+  step-inputs : formOf f (byte s at) ≡ formFor f sort.Inputs → namelessFrom (suc fuel) f N s at k ≡ namelessFrom fuel f N s (at + 2) k
+  unfolding namelessFrom namelessAt used step nameless whenFound
   step-inputs e = ap step (e ∙ inputs-form f)
 
-  step-end : formOf f (byte s at) ≡ formFor f sort.End → namelessFrom (suc fuel) f n g s at k ≡ onFrom 1 k
-  unfolding namelessFrom namelessAt usedOperands step nameless whenFound
+  step-end : formOf f (byte s at) ≡ formFor f sort.End → namelessFrom (suc fuel) f N s at k ≡ namelessFrom fuel f N s (at + 1) k
+  unfolding namelessFrom namelessAt used step nameless whenFound
   step-end e = ap step (e ∙ end-form f)
 
-  -- where nothing is found, nothing is found in the operands and after the command
-  gate-none : formOf f (byte s at) ≡ formFor f sort.Gate → namelessFrom (suc fuel) f n g s at k ≡ Nothing → (inGate ≡ Nothing) × (onFrom (widthFor f sort.Gate) (suc k) ≡ Nothing)
-  gate-none e none = or-later inGate (onFrom (widthFor f sort.Gate) (suc k)) (sym (step-gate e) ∙ none)
-
-  output-none : formOf f (byte s at) ≡ formFor f sort.Output → namelessFrom (suc fuel) f n g s at k ≡ Nothing → (inOutput ≡ Nothing) × (onFrom (widthFor f sort.Output) k ≡ Nothing)
-  output-none e none = or-later inOutput (onFrom (widthFor f sort.Output) k) (sym (step-output e) ∙ none)
-
-  care-none : f ≡ file.Stage → formOf f (byte s at) ≡ formFor f sort.Care → namelessFrom (suc fuel) f n g s at k ≡ Nothing →
-      (inCare ≡ Nothing) × (onFrom (widthFor f sort.Care) k ≡ Nothing)
-  care-none stage e none = or-later inCare (onFrom (widthFor f sort.Care) k) (sym (step-care stage e) ∙ none)
-
 -- past the last byte nothing is found
-pub nameless-past : (f : File) (n g : ℕ) (s : List ℕ) (fuel at k : ℕ) → length s ≤ at → namelessFrom fuel f n g s at k ≡ Nothing
+pub nameless-past : (f : File) (N : Nets) (s : List ℕ) (fuel at k : ℕ) → length s ≤ at → namelessFrom fuel f N s at k ≡ Nothing
 unfolding namelessFrom
-nameless-past f n g s zero at k h = refl
-nameless-past f n g s (suc fuel) at k h =
-    step-end f n g s fuel at k (ap (formOf f) (List·getD-eq-default s 0 h)) ∙ nameless-past f n g s fuel (at + 1) k (omega arith)
+nameless-past f N s zero at k h = refl
+nameless-past f N s (suc fuel) at k h =
+    step-end f N s fuel at k (ap (formOf f) (List·getD-eq-default s 0 h)) ∙ nameless-past f N s fuel (at + 1) k (omega arith)
 
-module _ (f : File) (n g : ℕ) (s : List ℕ) where
+module _ (f : File) (N : Nets) (s : List ℕ) where
   -- the test for 9 finds nothing exactly where each operand names what it has to name
-  named-walk : (fuel at k : ℕ) (items : List Item) → Laid f s at items → length s ≤ at + fuel → namelessFrom fuel f n g s at k ≡ Nothing → Named f n g k items
-  unfolding operands
+  named-walk : (fuel at k : ℕ) (items : List Item) → Laid f s at items → length s ≤ at + fuel → namelessFrom fuel f N s at k ≡ Nothing → Named f N k items
   named-walk fuel at k [] h l e = tt
-  named-walk zero at k (gate c ∷ items) h l e = absurd (omega (arith, h .0 .room, width-gate f))
-  named-walk zero at k (output vs ∷ items) h l e = absurd (omega (arith, h .0 .room, width-output f))
-  named-walk zero at k (care w ∷ items) h l e = absurd (omega (arith, h .0 .room, ap width (care-form f (h .0 .stage))))
-  named-walk (suc fuel) at k (gate c ∷ items) h l e =
-      let d = gate-none f n g s fuel at k (h .0 .command) e in (
-        rw (laid-operands (h .0)) at (nameless-named (nameable (roleFor f sort.Gate) n g k) s (at + 2) (needed f (byte s (at + 1))) (d .0)),
-        named-walk fuel (at + widthFor f sort.Gate) (suc k) items (h .1) (omega (arith, width-gate f)) (d .1),
-      )
-  named-walk (suc fuel) at k (output vs ∷ items) h l e =
-      let d = output-none f n g s fuel at k (h .0 .command) e in (
-        rw (h .0 .content) at (nameless-named (nameable (roleFor f sort.Output) n g k) s (at + 1) (operandCount f sort.Output) (d .0)),
-        named-walk fuel (at + widthFor f sort.Output) k items (h .1) (omega (arith, width-output f)) (d .1),
-      )
-  named-walk (suc fuel) at k (care w ∷ items) h l e =
-      let d = care-none f n g s fuel at k (h .0 .stage) (h .0 .command) e in (
-        rw (h .0 .content) at (nameless-named 0x10000 s (at + 1) 1 (d .0) .0),
-        named-walk fuel (at + widthFor f sort.Care) k items (h .1) (omega (arith, ap width (care-form f (h .0 .stage)))) (d .1),
-      )
+  named-walk zero at k (i ∷ items) h l e = absurd (omega (arith, h .0 .room, item-width f i (h .0 .has)))
+  named-walk (suc fuel) at k (i ∷ items) h l e =
+      let d = or-later _ _ (sym (step-item f N s fuel at k (h .0)) ∙ e) in
+      (item-named N k (h .0) (d .0), named-walk fuel (at + widthFor f (sortOf i)) (gatesAfter k i) items (h .1) (omega (arith, item-width f i (h .0 .has))) (d .1))
 
-  walk-named : (fuel at k : ℕ) (items : List Item) → Laid f s at items → Named f n g k items → namelessFrom fuel f n g s at k ≡ Nothing
-  unfolding namelessFrom whenFound operands
+  walk-named : (fuel at k : ℕ) (items : List Item) → Laid f s at items → Named f N k items → namelessFrom fuel f N s at k ≡ Nothing
+  unfolding namelessFrom whenFound
   walk-named zero at k items h m = refl
-  walk-named (suc fuel) at k [] h m = step-end f n g s fuel at k (h .command) ∙ nameless-past f n g s fuel (at + 1) k (omega (arith, h .last))
-  walk-named (suc fuel) at k (gate c ∷ items) h m =
-      step-gate f n g s fuel at k (h .0 .command)
-      ∙ rw (named-nameless (nameable (roleFor f sort.Gate) n g k) s (at + 2) (needed f (byte s (at + 1))) (rw (laid-operands (h .0)) (m .0)))
-      (walk-named fuel (at + widthFor f sort.Gate) (suc k) items (h .1) (m .1))
-  walk-named (suc fuel) at k (output vs ∷ items) h m =
-      step-output f n g s fuel at k (h .0 .command)
-      ∙ rw (named-nameless (nameable (roleFor f sort.Output) n g k) s (at + 1) (operandCount f sort.Output) (rw (h .0 .content) (m .0)))
-      (walk-named fuel (at + widthFor f sort.Output) k items (h .1) (m .1))
-  walk-named (suc fuel) at k (care w ∷ items) h m =
-      step-care f n g s fuel at k (h .0 .stage) (h .0 .command)
-      ∙ rw (named-nameless 0x10000 s (at + 1) 1 (rw (h .0 .content) (m .0), tt))
-      (walk-named fuel (at + widthFor f sort.Care) k items (h .1) (m .1))
+  walk-named (suc fuel) at k [] h m = step-end f N s fuel at k (h .command) ∙ nameless-past f N s fuel (at + 1) k (omega (arith, h .last))
+  walk-named (suc fuel) at k (i ∷ items) h m =
+      step-item f N s fuel at k (h .0) ∙ rw (named-item N k (h .0) (m .0)) (walk-named fuel (at + widthFor f (sortOf i)) (gatesAfter k i) items (h .1) (m .1))
 
 -- ---- from items to a readable file
 
+-- with some items after some places there are no more gates and outputs than there may be, and the care words rise
+pub record Few (most : Limits) (p : Places) (items : List Item) : Type 0 where
+  pub gates-in : length (p .gates) + length (gatesIn items) ≤ most .gates
+  pub outputs-in : length (p .outputs) + length (outputsIn items) ≤ most .outputs
+  pub care-in : Ascending (2 ^ p .inputs) (floorAfter 0 (p .care)) (careIn items)
+
+-- so that the reader takes the first of them
+few-taken : {f : File} {most : Limits} {s : List ℕ} {at : ℕ} {p : Places} (i : Item) (items : List Item) → ItemLaid f s at i → Few most p (i ∷ items) →
+    Taken f most s at (countsOf p) (formFor f (sortOf i)) (sortOf i) × Few most (noted (sortOf i) s at p) items
+unfolding noted
+few-taken {f} {at = at} {p = p} (gate c) items h few =
+    let more = length-append (p .gates) (at ∷ []) in (
+      (omega (arith, few .gates-in), h .shown .known, rw (gate-form f) (h .shown .fits)),
+      record { gates-in = omega (arith, few .gates-in, more); outputs-in = few .outputs-in; care-in = few .care-in },
+    )
+few-taken {at = at} {p = p} (output vs) items h few =
+    let more = length-append (p .outputs) (at ∷ []) in (
+      omega (arith, few .outputs-in),
+      record { gates-in = few .gates-in; outputs-in = omega (arith, few .outputs-in, more); care-in = few .care-in },
+    )
+few-taken {f} {s = s} {at = at} {p = p} (care w) items h few = (
+  rw (care-form f (h .has), h .shown) (few .care-in .1, few .care-in .0),
+  record {
+    gates-in = few .gates-in;
+    outputs-in = few .outputs-in;
+    care-in = rw (← h .shown, ← floor-snoc 0 (p .care) (operand s (at + 1))) at (few .care-in .2);
+  },
+)
+
 module _ (f : File) (most : Limits) (s : List ℕ) (last : ℕ) (ends : length s ≡ last + 1) where
   -- the walk over the items comes to the end command, the last byte
-  walk-laid : (fuel at : ℕ) (p : Places) (items : List Item) → Laid f s at items → 1 ≤ at → length s < at + fuel →
-      length (p .gates) + length (gatesIn items) ≤ most .gates → length (p .outputs) + length (outputsIn items) ≤ most .outputs →
-      Ascending (2 ^ p .inputs) (floorAfter 0 (p .care)) (careIn items) →
+  walk-laid : (fuel at : ℕ) (p : Places) (items : List Item) → Laid f s at items → 1 ≤ at → length s < at + fuel → Few most p items →
       readFrom fuel f most s at p ≡ finish f s last (added f at items p)
-  unfolding readFrom onNext noted stray
-  walk-laid zero at p [] h i l few thin up = absurd (omega (arith, h .last))
-  walk-laid zero at p (gate c ∷ items) h i l few thin up = absurd (omega (arith, h .0 .room, width-gate f))
-  walk-laid zero at p (output vs ∷ items) h i l few thin up = absurd (omega (arith, h .0 .room, width-output f))
-  walk-laid zero at p (care w ∷ items) h i l few thin up = absurd (omega (arith, h .0 .room, ap width (care-form f (h .0 .stage))))
-  walk-laid (suc fuel) at p [] h i l few thin up =
+  unfolding readFrom onNext stray
+  walk-laid zero at p [] h i l few = absurd (omega (arith, h .last))
+  walk-laid zero at p (x ∷ items) h i l few = absurd (omega (arith, h .0 .room, item-width f x (h .0 .has)))
+  walk-laid (suc fuel) at p [] h i l few =
       let e : at ≡ last = omega (arith, h .last) in
       let t : There f most s at (countsOf p) sort.End = record {
-        own = sort-for f sort.End refl;
+        own = has-end f;
         command = h .command;
         ordered = not-first at i;
         room = omega (arith, h .last, width-end f);
         taken = tt;
       } in
       rw (there-next f most s at (countsOf p) sort.End t) (ap₂ (finish f s) e (sym (added-nil f s at p)))
-  walk-laid (suc fuel) at p (gate c ∷ items) h i l few thin up =
-      rw (there-next f most s at (countsOf p) sort.Gate (record {
-        own = sort-for f sort.Gate refl;
-        command = h .0 .command;
-        ordered = not-first at i;
-        room = h .0 .room;
-        taken = (omega arith, h .0 .known, rw (gate-form f) (h .0 .fits));
-      }))
-      (walk-laid fuel (at + widthFor f sort.Gate) (noted sort.Gate s at p) items (h .1) (omega arith) (omega (arith, width-gate f)) (omega (arith, length-append (p .gates) (at ∷ []))) thin up
-      ∙ ap (finish f s last) (added-gate f s at p items))
-  walk-laid (suc fuel) at p (output vs ∷ items) h i l few thin up =
-      rw (there-next f most s at (countsOf p) sort.Output (record {
-        own = sort-for f sort.Output refl;
-        command = h .0 .command;
-        ordered = not-first at i;
-        room = h .0 .room;
-        taken = omega arith;
-      }))
-      (walk-laid fuel (at + widthFor f sort.Output) (noted sort.Output s at p) items (h .1) (omega arith) (omega (arith, width-output f)) few (omega (arith, length-append (p .outputs) (at ∷ []))) up
-      ∙ ap (finish f s last) (added-output f s at p items))
-  walk-laid (suc fuel) at p (care w ∷ items) h i l few thin up =
-      let v = operand s (at + 1) in
-      let form = care-form f (h .0 .stage) in
-      let rest = rw (← h .0 .content, ← floor-snoc 0 (p .care) v) at (up .2) in
-      rw (there-next f most s at (countsOf p) sort.Care (record {
-        own = ap (λ (x : Form). x .sort) form;
-        command = h .0 .command;
-        ordered = not-first at i;
-        room = h .0 .room;
-        taken = rw (form, h .0 .content) (up .1, up .0);
-      }))
-      (walk-laid fuel (at + widthFor f sort.Care) (noted sort.Care s at p) items (h .1) (omega arith) (omega (arith, ap width form)) few thin rest
-      ∙ ap (finish f s last) (added-care f s at p items ∙ ap (λ (x : ℕ). added f at (care x ∷ items) p) (h .0 .content)))
+  walk-laid (suc fuel) at p (x ∷ items) h i l few =
+      let t = few-taken x items (h .0) few in
+      rw (
+        there-next f most s at (countsOf p) (sortOf x) (record {
+          own = h .0 .has;
+          command = h .0 .command;
+          ordered = in-place at x i;
+          room = h .0 .room;
+          taken = t .0;
+        }),
+        not-end x,
+      )
+      (walk-laid fuel (at + widthFor f (sortOf x)) (noted (sortOf x) s at p) items (h .1) (omega arith) (omega (arith, item-width f x (h .0 .has))) (t .1)
+      ∙ ap (finish f s last) (added-item f s at p x items (h .0 .shown)))
 
-  finish-readable : (p : Places) → 1 ≤ length (p .outputs) → namelessFrom (length s) f (p .inputs) (length (p .gates)) s 0 0 ≡ Nothing → finish f s last p ≡ readable p
+  finish-readable : (p : Places) → 1 ≤ length (p .outputs) → namelessFrom (length s) f (netsOf p) s 0 0 ≡ Nothing → finish f s last p ≡ readable p
   unfolding finish whenFound
   finish-readable p some all = rw (ne-eqb (length (p .outputs)) 0 (omega arith), le-ltb (last + 1) (length s) (omega arith), all)
 
 -- ---- the whole file
 
+-- the nets of the places are those of the items
+pub nets-places : (f : File) (n : ℕ) (items : List Item) → netsOf (placesOf f n items) ≡ netsIn n items
+nets-places f n items = ap (λ (g : ℕ). record { inputs = n; gates = g }) (length-gatePlaces f 2 items)
+
 module _ (f : File) (most : Limits) (s : List ℕ) where
   -- the test for 9 starts after the inputs command
-  past-inputs : (n g : ℕ) → 2 ≤ length s → formOf f (byte s 0) ≡ formFor f sort.Inputs → namelessFrom (length s) f n g s 0 0 ≡ namelessFrom (length s - 1) f n g s 2 0
-  past-inputs n g l e =
+  past-inputs : (N : Nets) → 2 ≤ length s → formOf f (byte s 0) ≡ formFor f sort.Inputs → namelessFrom (length s) f N s 0 0 ≡ namelessFrom (length s - 1) f N s 2 0
+  past-inputs N l e =
       let p : length s ≡ suc (length s - 1) = omega arith in
-      ap (λ (k : ℕ). namelessFrom k f n g s 0 0) p ∙ step-inputs f n g s (length s - 1) 0 0 e
+      ap (λ (k : ℕ). namelessFrom k f N s 0 0) p ∙ step-inputs f N s (length s - 1) 0 0 e
 
   -- the items of a readable file
   pub record LaidItems (p : Places) : Type 0 where
@@ -436,7 +394,8 @@ module _ (f : File) (most : Limits) (s : List ℕ) where
       let g : length (p .gates) ≡ length (gatesIn (w .items)) = ap (λ (x : Places). length (x .gates)) (w .same) ∙ length-gatePlaces f 2 (w .items) in
       let o : length (p .outputs) ≡ length (outputsIn (w .items)) = ap (λ (x : Places). length (x .outputs)) (w .same) ∙ length-outputPlaces f 2 (w .items) in
       let room : 2 ≤ length s = omega (arith, t .room, width-inputs f) in
-      let none = rw g at (sym (past-inputs (p .inputs) (length (p .gates)) room (t .command)) ∙ w .at-end .all-named) in
+      let nets : netsOf p ≡ netsIn (p .inputs) (w .items) = ap netsOf same ∙ nets-places f (p .inputs) (w .items) in
+      let none = rw nets at (sym (past-inputs (netsOf p) room (t .command)) ∙ w .at-end .all-named) in
       record {
         items = w .items;
         file-laid = record {
@@ -447,7 +406,7 @@ module _ (f : File) (most : Limits) (s : List ℕ) where
           care-in = subst (λ (m : ℕ). Ascending (2 ^ m) 0 (careIn (w .items))) (sym n) (w .care-in);
           outputs-in = omega (arith, w .at-end .outputs-in);
           laid = w .laid;
-          named = named-walk f (p .inputs) (length (gatesIn (w .items))) s (length s - 1) 2 0 (w .items) (w .laid) (omega arith) none;
+          named = named-walk f (netsIn (p .inputs) (w .items)) s (length s - 1) 2 0 (w .items) (w .laid) (omega arith) none;
         };
         item-places = same;
       }
@@ -461,11 +420,10 @@ module _ (f : File) (most : Limits) (s : List ℕ) where
       let p = placesOf f n items in
       let last : ℕ = length s - 1 in
       let ends : length s ≡ last + 1 = omega arith in
-      let few : length (p .gates) ≡ length (gatesIn items) = length-gatePlaces f 2 items in
-      let named : Named f n (length (p .gates)) 0 items = rw few (h .named) in
-      let t : There f most s 0 (countsOf noPlaces) sort.Inputs = record { own = sort-for f sort.Inputs refl; command = h .command; ordered = refl; room = omega (arith, width-inputs f); taken = rw (h .count) (h .inputs-in) } in
+      let few : Few most (places n [] [] []) items = record { gates-in = omega (arith, h .gates-in); outputs-in = omega (arith, h .outputs-in); care-in = h .care-in } in
+      let t : There f most s 0 (countsOf noPlaces) sort.Inputs = record { own = has-inputs f; command = h .command; ordered = refl; room = omega (arith, width-inputs f); taken = rw (h .count) (h .inputs-in) } in
       rw (there-next f most s 0 (countsOf noPlaces) sort.Inputs t)
       (ap₂ (λ (at m : ℕ). readFrom (length s) f most s at (places m [] [] [])) two (h .count)
-      ∙ walk-laid f most s last ends (length s) 2 (places n [] [] []) items (h .laid) (omega arith) (omega arith) (omega (arith, h .gates-in)) (omega (arith, h .outputs-in)) (h .care-in)
+      ∙ walk-laid f most s last ends (length s) 2 (places n [] [] []) items (h .laid) (omega arith) (omega arith) few
       ∙ finish-readable f most s last ends p (omega (arith, length-outputPlaces f 2 items, h .outputs-in))
-      (past-inputs n (length (p .gates)) (omega arith) (h .command) ∙ walk-named f n (length (p .gates)) s (length s - 1) 2 0 items (h .laid) named))
+      (rw (nets-places f n items) (past-inputs (netsIn n items) (omega arith) (h .command) ∙ walk-named f (netsIn n items) s (length s - 1) 2 0 items (h .laid) (h .named))))

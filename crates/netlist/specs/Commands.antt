@@ -1,7 +1,7 @@
 -- The commands of the two files: the table that says what a command byte calls for, and the command that stands at a position or
 -- the refusal, 1 to 6, 18 or 19, with its place.
 use Prim.Native.Nat.{ℕ, zero, suc, _+_, _*_, _^_}
-use mathlib.Core.Bool.{Bool, cond, not, _&&_, _||_}
+use mathlib.Core.Bool.{Bool, true, false, cond, not, _&&_, _||_}
 use mathlib.Core.List.{List, [], _∷_}
 use lib.ListN.{length, getD}
 use lib.Dec.{eqb, leb, ltb}
@@ -10,7 +10,7 @@ use Rattle.gates.specs.declared.Kind.{Kind}
 use Rattle.gates.specs.declared.Kind.the-variants.{Hold, Relaxed, Unknown}
 use Rattle.netlist.specs.Types.{File, Sort, Role, AnyNet, EarlierSignal, AnySignal, Number, Form, Limits, Counts, Next, Command, Refused, Found, At}
 use Rattle.netlist.specs.Types.{Nothing}
-use Rattle.netlist.specs.Types.file.{Stage, Reference}
+use Rattle.netlist.specs.Types.file.{Stage, Pipeline, Reference}
 use Rattle.netlist.specs.Types.sort
 use Rattle.netlist.specs.Bytes.{byte, operand, absent}
 
@@ -33,30 +33,52 @@ sortNumber sort.Unknown = 5
 abbrev pub isSort : Sort → Sort → Bool
 isSort c d = eqb (sortNumber c) (sortNumber d)
 
--- a row: the command's sort, how many bytes stand before its operands, how many u16 operands follow, and what they name
-abbrev pub asForm : Sort → ℕ → ℕ → Role → Form
-asForm c lead operands role = record { sort = c; lead = lead; operands = operands; role = role }
+-- a row: the command's sort, how many bytes stand before its operands, and how many u16 operands follow
+abbrev pub asForm : Sort → ℕ → ℕ → Form
+asForm c lead operands = record { sort = c; lead = lead; operands = operands }
 
 -- The table: a row for each command byte of a file. The command byte counts among the bytes before the operands, and so do the count
--- of inputs and a gate's kind or operation.
-unfoldable pub ownCommands : File → List (ℕ × Form)
-ownCommands Stage =
-    (0x02, asForm sort.Gate 2 4 AnyNet) ∷
-    (0x03, asForm sort.Output 1 2 AnyNet) ∷
-    (0x06, asForm sort.Care 1 1 Number) ∷
+-- of inputs and a gate's kind or operation. A pipeline is a stage with registers: for now its commands are the stage's.
+abbrev pub stageCommands : List (ℕ × Form)
+stageCommands =
+    (0x02, asForm sort.Gate 2 4) ∷
+    (0x03, asForm sort.Output 1 2) ∷
+    (0x06, asForm sort.Care 1 1) ∷
     []
-ownCommands Reference = (0x11, asForm sort.Gate 2 2 EarlierSignal) ∷ (0x12, asForm sort.Output 1 1 AnySignal) ∷ []
+
+unfoldable pub ownCommands : File → List (ℕ × Form)
+ownCommands Stage = stageCommands
+ownCommands Pipeline = stageCommands
+ownCommands Reference = (0x11, asForm sort.Gate 2 2) ∷ (0x12, asForm sort.Output 1 1) ∷ []
+
+-- a stage file, with registers or without
+abbrev pub stageFile : Bool → File
+stageFile true = Pipeline
+stageFile false = Stage
 
 unfoldable pub commandTable : File → List (ℕ × Form)
-commandTable f = (0x00, asForm sort.End 1 0 Number) ∷ (0x01, asForm sort.Inputs 2 0 Number) ∷ ownCommands f
+commandTable f = (0x00, asForm sort.End 1 0) ∷ (0x01, asForm sort.Inputs 2 0) ∷ ownCommands f
 
 -- the row of a byte; one that is in no row stands for no command
 unfoldable pub formIn : List (ℕ × Form) → ℕ → Form
-formIn [] b = asForm sort.Unknown 1 0 Number
+formIn [] b = asForm sort.Unknown 1 0
 formIn (r ∷ rs) b = let later = formIn rs b in cond (eqb b (r .0)) (r .1) later
 
 abbrev pub formOf : File → ℕ → Form
 formOf f b = formIn (commandTable f) b
+
+-- what operand i of a command has to name
+unfoldable pub roleOf : File → Sort → ℕ → Role
+roleOf Stage sort.Gate i = AnyNet
+roleOf Stage sort.Output i = AnyNet
+roleOf Pipeline sort.Gate i = AnyNet
+roleOf Pipeline sort.Output i = AnyNet
+roleOf Reference sort.Gate i = EarlierSignal
+roleOf Reference sort.Output i = AnySignal
+roleOf f sort.Care i = Number
+roleOf f sort.Inputs i = Number
+roleOf f sort.End i = Number
+roleOf f sort.Unknown i = Number
 
 -- how many bytes a command has
 abbrev pub width : Form → ℕ
@@ -72,7 +94,12 @@ pinsNeeded Unknown = 0
 -- 1 NOT needs one, 2 AND, 3 OR, 4 XOR, 5 NAND and 6 NOR need two
 unfoldable pub needed : File → ℕ → ℕ
 needed Stage kind = pinsNeeded (kindOf kind)
+needed Pipeline kind = pinsNeeded (kindOf kind)
 needed Reference operation = getD (0 ∷ 1 ∷ 2 ∷ 2 ∷ 2 ∷ 2 ∷ 2 ∷ []) operation 0
+
+-- how many of its operands the command at a position uses, from the first on: a gate those that its kind or operation needs, others all
+unfoldable pub used : File → List ℕ → ℕ → Form → ℕ
+used f s at form = cond (isSort sort.Gate (form .sort)) (needed f (byte s (at + 1))) (form .operands)
 
 -- ---- the command at a position
 

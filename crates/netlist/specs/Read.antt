@@ -1,6 +1,7 @@
 -- What holds of a readable file by the places of its commands, whatever its elements; and a reading as the code answers it.
 use Prim.Native.Nat.{ℕ, _+_, _*_, _^_, _≤_, _<_}
 use mathlib.Core.Path.{_≡_}
+use mathlib.Core.Bool.{true}
 use mathlib.Core.List.{List}
 use lib.ListN.{length, getD}
 use Rattle.netlist.specs.Types.{File, Limits, Outcome}
@@ -8,23 +9,22 @@ use Rattle.netlist.specs.Types.sort
 use Rattle.netlist.specs.Types.outcome
 use Rattle.netlist.specs.Bytes.{byte, operand, absent}
 use Rattle.netlist.specs.Commands.{needed}
-use Rattle.netlist.specs.Reading.{nameable, Places, Ascending, countsOf, Reading, refused, readable}
-use Rattle.netlist.specs.Writing.{widthFor, operandCount, roleFor}
+use Rattle.netlist.specs.Reading.{Nets, asked, Places, Ascending, countsOf, netsOf, Reading, refused, readable}
+use Rattle.netlist.specs.Writing.{widthFor, operandCount}
 
--- with n inputs and g gates: gate k stands at a place, its code is known, and each operand that it needs is there and names what it has
--- to name
-pub record GateRead (f : File) (s : List ℕ) (n g k at : ℕ) : Type 0 where
+-- gate k stands at a place, its code is known, and each operand that it needs is there and names what it has to name
+pub record GateRead (f : File) (s : List ℕ) (N : Nets) (k at : ℕ) : Type 0 where
   pub first : 2 ≤ at
   pub room : at + widthFor f sort.Gate ≤ length s
   pub known : 1 ≤ needed f (byte s (at + 1))
   pub used : (i : ℕ) → i < needed f (byte s (at + 1)) → operand s (at + 2 + 2 * i) ≡ absent → ⊥
-  pub named : (i : ℕ) → i < needed f (byte s (at + 1)) → operand s (at + 2 + 2 * i) < nameable (roleFor f sort.Gate) n g k
+  pub named : (i : ℕ) → i < needed f (byte s (at + 1)) → asked f sort.Gate N k i (operand s (at + 2 + 2 * i)) ≡ true
 
--- an output stands at a place, and each operand names what it has to name
-pub record OutputRead (f : File) (s : List ℕ) (n g at : ℕ) : Type 0 where
+-- an output stands at a place, and each operand names what it has to name, wherever it stands among the gates
+pub record OutputRead (f : File) (s : List ℕ) (N : Nets) (at : ℕ) : Type 0 where
   pub first : 2 ≤ at
   pub room : at + widthFor f sort.Output ≤ length s
-  pub named : (i : ℕ) → i < operandCount f sort.Output → operand s (at + 1 + 2 * i) < nameable (roleFor f sort.Output) n g g
+  pub named : (i : ℕ) → i < operandCount f sort.Output → asked f sort.Output N (N .gates) i (operand s (at + 1 + 2 * i)) ≡ true
 
 pub record Read (f : File) (most : Limits) (s : List ℕ) (p : Places) : Type 0 where
   pub inputs-in : (1 ≤ p .inputs) × (p .inputs ≤ most .inputs)
@@ -34,8 +34,8 @@ pub record Read (f : File) (most : Limits) (s : List ℕ) (p : Places) : Type 0 
   pub care-in : Ascending (2 ^ p .inputs) 0 (p .care)
   pub size : length s ≡
       3 + widthFor f sort.Gate * length (p .gates) + widthFor f sort.Output * length (p .outputs) + widthFor f sort.Care * length (p .care)
-  pub gate-at : (k : ℕ) → k < length (p .gates) → GateRead f s (p .inputs) (length (p .gates)) k (getD (p .gates) k 0)
-  pub output-at : (j : ℕ) → j < length (p .outputs) → OutputRead f s (p .inputs) (length (p .gates)) (getD (p .outputs) j 0)
+  pub gate-at : (k : ℕ) → k < length (p .gates) → GateRead f s (netsOf p) k (getD (p .gates) k 0)
+  pub output-at : (j : ℕ) → j < length (p .outputs) → OutputRead f s (netsOf p) (getD (p .outputs) j 0)
 
 -- the refusal, or the counts; the places go to a slice that the caller lends
 unfoldable pub outcomeOf : Reading → Outcome

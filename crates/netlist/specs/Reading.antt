@@ -1,6 +1,6 @@
 -- Reading a whole file: its commands one after the other, the refusals 7 to 9 at the end command, and what a readable file gives.
 use Prim.Native.Nat.{ℕ, zero, suc, _+_, _*_, _≤_, _<_}
-use mathlib.Core.Bool.{cond}
+use mathlib.Core.Bool.{Bool, true, cond}
 use mathlib.Core.List.{List, [], _∷_, _++_}
 use lib.ListN.{length, getD}
 use lib.Dec.{eqb, ltb}
@@ -8,40 +8,47 @@ use Rattle.netlist.specs.Types.{File, Sort, Role, AnyNet, EarlierSignal,
 use Rattle.netlist.specs.Types.{Nothing}
 use Rattle.netlist.specs.Types.sort
 use Rattle.netlist.specs.Bytes.{byte, operand}
-use Rattle.netlist.specs.Commands.{whenFound, isSort, formOf, width, needed, nextAt}
+use Rattle.netlist.specs.Commands.{whenFound, isSort, formOf, roleOf, width, used, nextAt}
 
 -- ---- 9: an operand that names nothing
 
--- An operand names what it has to name where it is below this number, with n inputs and g gates in all and k gates before its
--- command. A stage has two nets for an input and one for a gate; a reference has one signal for each. A number may be any u16.
-unfoldable pub nameable : Role → ℕ → ℕ → ℕ → ℕ
-nameable AnyNet n g k = 2 * n + g
-nameable EarlierSignal n g k = n + k
-nameable AnySignal n g k = n + g
-nameable Number n g k = 0x10000
+-- what there is to name: a stage has two nets for an input and one for a gate, a reference has one signal for each
+pub record Nets : Type 0 where
+  pub inputs : ℕ
+  pub gates : ℕ
 
--- the first of m operands from a place on that is not below it
-unfoldable pub nameless : ℕ → List ℕ → ℕ → ℕ → Found
-nameless names s at zero = Nothing
-nameless names s at (suc m) = let later = nameless names s (at + 2) m in cond (ltb (operand s at) names) later (At at)
+-- the nets that carry data: the rails of the inputs, and the gates'
+abbrev pub carriesData : Nets → ℕ → Bool
+carriesData N v = ltb v (2 * N .inputs + N .gates)
 
--- how many of its operands a command uses, from the first on: a gate those that its kind or operation needs, others all
-unfoldable pub usedOperands : File → ℕ → ℕ → Sort → ℕ
-usedOperands f code all c = cond (isSort sort.Gate c) (needed f code) all
+-- an operand names what its role asks for, where k gates stand before its command; a number may be any
+unfoldable pub names : Role → Nets → ℕ → ℕ → Bool
+names AnyNet N k v = carriesData N v
+names EarlierSignal N k v = ltb v (N .inputs + k)
+names AnySignal N k v = ltb v (N .inputs + N .gates)
+names Number N k v = true
 
--- the first of them that names nothing, for the command at a position
-unfoldable pub namelessAt : File → ℕ → ℕ → List ℕ → ℕ → ℕ → Form → Found
-namelessAt f n g s at k form =
-    nameless (nameable (form .role) n g k) s (at + form .lead) (usedOperands f (byte s (at + 1)) (form .operands) (form .sort))
+-- what operand i of a command of a sort is asked
+abbrev pub asked : File → Sort → Nets → ℕ → ℕ → ℕ → Bool
+asked f c N k i = names (roleOf f c i) N k
+
+-- the first of m operands from a place on that fails a test; the first of them is operand i
+unfoldable pub nameless : (ℕ → ℕ → Bool) → ℕ → List ℕ → ℕ → ℕ → Found
+nameless test i s at zero = Nothing
+nameless test i s at (suc m) = let later = nameless test (suc i) s (at + 2) m in cond (test i (operand s at)) later (At at)
+
+-- the first operand that the command at a position uses and that names nothing
+unfoldable pub namelessAt : File → Nets → List ℕ → ℕ → ℕ → Form → Found
+namelessAt f N s at k form = nameless (asked f (form .sort) N k) 0 s (at + form .lead) (used f s at form)
 
 -- The search over a file from a position on, after k gates, in file order. Each command takes a byte, so that the file's length is fuel
 -- enough; past the last byte nothing is found.
-unfoldable pub namelessFrom : ℕ → File → ℕ → ℕ → List ℕ → ℕ → ℕ → Found
-namelessFrom zero f n g s at k = Nothing
-namelessFrom (suc fuel) f n g s at k =
+unfoldable pub namelessFrom : ℕ → File → Nets → List ℕ → ℕ → ℕ → Found
+namelessFrom zero f N s at k = Nothing
+namelessFrom (suc fuel) f N s at k =
     let form = formOf f (byte s at) in
-    let later = namelessFrom fuel f n g s (at + width form) (cond (isSort sort.Gate (form .sort)) (k + 1) k) in
-    whenFound (namelessAt f n g s at k form) At later
+    let later = namelessFrom fuel f N s (at + width form) (cond (isSort sort.Gate (form .sort)) (suc k) k) in
+    whenFound (namelessAt f N s at k form) At later
 
 -- ---- the whole file
 
@@ -87,6 +94,9 @@ noted sort.Care s at p = record { inputs = p .inputs; gates = p .gates; outputs 
 noted sort.End s at p = p
 noted sort.Unknown s at p = p
 
+abbrev pub netsOf : Places → Nets
+netsOf p = record { inputs = p .inputs; gates = length (p .gates) }
+
 -- a file is refused, with a number and a place; or it is readable
 pub data Reading : Type 0 where
   refused : ℕ → ℕ → Reading
@@ -97,7 +107,7 @@ unfoldable pub finish : File → List ℕ → ℕ → Places → Reading
 finish f s at p =
     cond (eqb (length (p .outputs)) 0) (refused 8 at)
     (cond (ltb (at + 1) (length s)) (refused 7 (at + 1))
-    (whenFound (namelessFrom (length s) f (p .inputs) (length (p .gates)) s 0 0) (refused 9) (readable p)))
+    (whenFound (namelessFrom (length s) f (netsOf p) s 0 0) (refused 9) (readable p)))
 
 -- the first command that cannot be read ends the reading, and so does the end command
 unfoldable pub onNext : (ℕ → Places → Reading) → File → List ℕ → ℕ → Places → Next → Reading

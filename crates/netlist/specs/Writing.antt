@@ -1,16 +1,17 @@
 -- Writing a file: the commands of a content, in any order; and which contents fit a file.
 use Prim.Native.Nat.{ℕ, suc, _+_, _^_, _≤_, _<_}
 use mathlib.Core.Path.{_≡_}
+use mathlib.Core.Bool.{Bool, true, cond}
 use mathlib.Core.List.{List, [], _∷_, _++_, map}
 use lib.ListN.{length}
 use Rattle.gates.specs.Cell.{kindByte}
-use Rattle.netlist.specs.Types.{File, Sort, Role, Form, Limits}
+use Rattle.netlist.specs.Types.{File, Sort, Form, Limits}
 use Rattle.netlist.specs.Types.file
 use Rattle.netlist.specs.Types.sort
 use Rattle.netlist.specs.Bytes.{absent}
 pub use Rattle.netlist.specs.Bytes.{writeOperands}
-use Rattle.netlist.specs.Commands.{formOf, width, needed}
-use Rattle.netlist.specs.Reading.{nameable, Places, Ascending}
+use Rattle.netlist.specs.Commands.{isSort, formOf, width, needed}
+use Rattle.netlist.specs.Reading.{Nets, asked, Places, Ascending}
 use Rattle.netlist.specs.Content.{Coded, Gate, Pair, Stage, Reference}
 
 -- ---- the row of a sort of command
@@ -21,6 +22,8 @@ commandByte f sort.End = 0x00
 commandByte f sort.Inputs = 0x01
 commandByte file.Stage sort.Gate = 0x02
 commandByte file.Stage sort.Output = 0x03
+commandByte file.Pipeline sort.Gate = 0x02
+commandByte file.Pipeline sort.Output = 0x03
 commandByte file.Reference sort.Gate = 0x11
 commandByte file.Reference sort.Output = 0x12
 commandByte f sort.Care = 0x06
@@ -35,8 +38,9 @@ widthFor f c = width (formFor f c)
 abbrev pub operandCount : File → Sort → ℕ
 operandCount f c = formFor f c .operands
 
-abbrev pub roleFor : File → Sort → Role
-roleFor f c = formFor f c .role
+-- a file has commands of a sort
+abbrev pub Has : File → Sort → Type 0
+Has f c = formFor f c .sort ≡ c
 
 -- ---- items
 
@@ -65,18 +69,34 @@ careIn (gate c ∷ items) = careIn items
 careIn (output vs ∷ items) = careIn items
 careIn (care w ∷ items) = w ∷ careIn items
 
--- the places of gates and outputs, where the first item stands at a place
+-- an item as a command: its sort, what stands between its command byte and its operands, and the operands that it uses
+abbrev pub sortOf : Item → Sort
+sortOf (gate c) = sort.Gate
+sortOf (output vs) = sort.Output
+sortOf (care w) = sort.Care
+
+abbrev pub codesOf : Item → List ℕ
+codesOf (gate c) = c .code ∷ []
+codesOf (output vs) = []
+codesOf (care w) = []
+
+abbrev pub operandsOf : Item → List ℕ
+operandsOf (gate c) = c .operands
+operandsOf (output vs) = vs
+operandsOf (care w) = w ∷ []
+
+-- the places of the commands of a sort, where the first item stands at a place
+abbrev pub itemPlaces : Sort → File → ℕ → List Item → List ℕ
+itemPlaces c f at [] = []
+itemPlaces c f at (i ∷ items) =
+    let later = itemPlaces c f (at + widthFor f (sortOf i)) items in
+    cond (isSort c (sortOf i)) (at ∷ later) later
+
 abbrev pub gatePlaces : File → ℕ → List Item → List ℕ
-gatePlaces f at [] = []
-gatePlaces f at (gate c ∷ items) = at ∷ gatePlaces f (at + widthFor f sort.Gate) items
-gatePlaces f at (output vs ∷ items) = gatePlaces f (at + widthFor f sort.Output) items
-gatePlaces f at (care w ∷ items) = gatePlaces f (at + widthFor f sort.Care) items
+gatePlaces = itemPlaces sort.Gate
 
 abbrev pub outputPlaces : File → ℕ → List Item → List ℕ
-outputPlaces f at [] = []
-outputPlaces f at (gate c ∷ items) = outputPlaces f (at + widthFor f sort.Gate) items
-outputPlaces f at (output vs ∷ items) = at ∷ outputPlaces f (at + widthFor f sort.Output) items
-outputPlaces f at (care w ∷ items) = outputPlaces f (at + widthFor f sort.Care) items
+outputPlaces = itemPlaces sort.Output
 
 -- in a file with n inputs, whose items follow the inputs command
 abbrev pub placesOf : File → ℕ → List Item → Places
@@ -85,9 +105,7 @@ placesOf f n items = record { inputs = n; gates = gatePlaces f 2 items; outputs 
 -- ---- bytes
 
 abbrev pub writeItem : File → Item → List ℕ
-writeItem f (gate c) = commandByte f sort.Gate ∷ c .code ∷ writeOperands (operandCount f sort.Gate) (c .operands)
-writeItem f (output vs) = commandByte f sort.Output ∷ writeOperands (operandCount f sort.Output) vs
-writeItem f (care w) = commandByte f sort.Care ∷ writeOperands (operandCount f sort.Care) (w ∷ [])
+writeItem f i = commandByte f (sortOf i) ∷ codesOf i ++ writeOperands (operandCount f (sortOf i)) (operandsOf i)
 
 abbrev pub writeItems : File → List Item → List ℕ
 writeItems f [] = []
@@ -103,29 +121,34 @@ abbrev pub All : {X : Type 0} → (X → Type 0) → List X → Type 0
 All P [] = Unit {0}
 All P (x ∷ xs) = P x × All P xs
 
--- with n inputs and g gates in all: a gate after k gates, and an output, that the reader takes
-pub record GateFits (f : File) (n g k : ℕ) (c : Coded) : Type 0 where
-  pub code-byte : c .code < 256
-  pub known : 1 ≤ needed f (c .code)
-  pub whole : length (c .operands) ≡ needed f (c .code)
-  pub used : All (λ v. v < absent) (c .operands)
-  pub named : All (λ v. v < nameable (roleFor f sort.Gate) n g k) (c .operands)
+-- some operands, the first of them operand i, each pass a test
+abbrev pub EachFrom : (ℕ → ℕ → Bool) → ℕ → List ℕ → Type 0
+EachFrom test i [] = Unit {0}
+EachFrom test i (v ∷ vs) = (test i v ≡ true) × EachFrom test (suc i) vs
 
-pub record OutputFits (f : File) (n g k : ℕ) (vs : List ℕ) : Type 0 where
-  pub whole : length vs ≡ operandCount f sort.Output
-  pub u16s : All (λ v. v < 65536) vs
-  pub named : All (λ v. v < nameable (roleFor f sort.Output) n g k) vs
+-- a gate that needs its operands, and no more; as many operands as an output has
+abbrev pub Whole : File → Item → Type 0
+Whole f (gate c) = (c .code < 256) × (1 ≤ needed f (c .code)) × (length (c .operands) ≡ needed f (c .code)) × All (λ v. v < absent) (c .operands)
+Whole f (output vs) = length vs ≡ operandCount f sort.Output
+Whole f (care w) = Unit {0}
 
--- a care word: only a stage has them
-pub record CareFits (f : File) (w : ℕ) : Type 0 where
-  pub stage : f ≡ file.Stage
-  pub u16 : w < 65536
+-- an item that the reader takes, where k gates stand before it
+pub record ItemFits (f : File) (N : Nets) (k : ℕ) (i : Item) : Type 0 where
+  pub has : Has f (sortOf i)
+  pub whole : Whole f i
+  pub u16s : All (λ v. v < 65536) (operandsOf i)
+  pub named : EachFrom (asked f (sortOf i) N k) 0 (operandsOf i)
 
-abbrev pub ItemsFit : File → ℕ → ℕ → ℕ → List Item → Type 0
-ItemsFit f n g k [] = Unit {0}
-ItemsFit f n g k (gate c ∷ items) = GateFits f n g k c × ItemsFit f n g (suc k) items
-ItemsFit f n g k (output vs ∷ items) = OutputFits f n g k vs × ItemsFit f n g k items
-ItemsFit f n g k (care w ∷ items) = CareFits f w × ItemsFit f n g k items
+-- the gates before the next item
+abbrev pub gatesAfter : ℕ → Item → ℕ
+gatesAfter k i = cond (isSort sort.Gate (sortOf i)) (suc k) k
+
+abbrev pub ItemsFit : File → Nets → ℕ → List Item → Type 0
+ItemsFit f N k [] = Unit {0}
+ItemsFit f N k (i ∷ items) = ItemFits f N k i × ItemsFit f N (gatesAfter k i) items
+
+abbrev pub netsIn : ℕ → List Item → Nets
+netsIn n items = record { inputs = n; gates = length (gatesIn items) }
 
 pub record FileFits (f : File) (most : Limits) (n : ℕ) (items : List Item) : Type 0 where
   pub inputs-in : (1 ≤ n) × (n ≤ most .inputs)
@@ -133,7 +156,7 @@ pub record FileFits (f : File) (most : Limits) (n : ℕ) (items : List Item) : T
   pub gates-in : length (gatesIn items) ≤ most .gates
   pub outputs-in : (1 ≤ length (outputsIn items)) × (length (outputsIn items) ≤ most .outputs)
   pub care-in : Ascending (2 ^ n) 0 (careIn items)
-  pub items-fit : ItemsFit f n (length (gatesIn items)) 0 items
+  pub items-fit : ItemsFit f (netsIn n items) 0 items
 
 -- ---- stages and references: care words, then gates, then outputs
 

@@ -3,12 +3,25 @@ ghost use mathlib.Core.Path.{_≡_};
 ghost use Prim.Native.Nat.{_+_, _<_};
 ghost use lib.ListN.{length};
 ghost use Rattle.netlist.specs.Bytes as bytes;
+ghost use Rattle.netlist.specs.Commands as commands;
 ghost use Rattle.netlist.specs.Reading as reading;
 
-// Which of the two files is read.
+// Which file is read: a stage, a stage with registers, or a reference.
 pub enum File {
     Stage,
+    Pipeline,
     Reference,
+}
+
+// A stage file, with registers or without.
+pub fn stage_file(registers: bool) -> File
+    ensures { λ r. ⌜ r ≡ commands.stageFile registers ⌝ }
+{
+    if registers {
+        File::Pipeline
+    } else {
+        File::Stage
+    }
 }
 
 // What a command byte calls for.
@@ -119,13 +132,12 @@ pub enum Role {
     Number,
 }
 
-// A row of the command table: the sort of a command, how many bytes stand before its operands, the command byte included, how many u16
-// operands follow, and what they name.
+// A row of the command table: the sort of a command, how many bytes stand before its operands, the command byte included, and how many u16
+// operands follow.
 pub struct Form {
     pub sort: Sort,
     pub lead: usize,
     pub operands: usize,
-    pub role: Role,
 }
 
 // A place or an index, if there is one.

@@ -140,13 +140,13 @@ member-reads s (c, i, e) = rw e (i .reads, subst Small (sym (i .reads-as)) (i .s
 
 whole-not-small : Small (contentOf Stage stageLimits wholeCase) → ⊥
 unfolding contentAt cells cellAt pinCount kindOf operand operands k.whenFound k.ownCommands k.commandTable k.formIn k.pinsNeeded k.needed k.stray k.misfit
-    k.misfitFrom k.takeGate k.takeCare k.takeSort k.takeCommand k.nextAt r.nameable r.nameless r.usedOperands r.namelessAt r.namelessFrom r.floorAfter
+    k.misfitFrom k.takeGate k.takeCare k.takeSort k.takeCommand k.nextAt r.names k.roleOf k.used r.nameless r.namelessAt r.namelessFrom r.floorAfter
     r.noted r.finish r.onNext r.readFrom r.readFile
 whole-not-small h = let l : 26 ≤ 2 = h .kinds-in .1 .0 .1 in omega arith
 
 own-pin-not-small : Small (contentOf Stage stageLimits ownPin) → ⊥
 unfolding contentAt cells cellAt pinCount kindOf operand operands k.whenFound k.ownCommands k.commandTable k.formIn k.pinsNeeded k.needed k.stray k.misfit
-    k.misfitFrom k.takeGate k.takeCare k.takeSort k.takeCommand k.nextAt r.nameable r.nameless r.usedOperands r.namelessAt r.namelessFrom r.floorAfter
+    k.misfitFrom k.takeGate k.takeCare k.takeSort k.takeCommand k.nextAt r.names k.roleOf k.used r.nameless r.namelessAt r.namelessFrom r.floorAfter
     r.noted r.finish r.onNext r.readFrom r.readFile reachesItself reaches some
 own-pin-not-small h =
     let e : true ≡ false = h .no-loop 2 (omega arith, omega arith) in
@@ -155,7 +155,7 @@ own-pin-not-small h =
 
 cut-not-read : Pass (reading Stage stageLimits cut) → ⊥
 unfolding cells cellAt pinCount kindOf operand operands k.whenFound k.ownCommands k.commandTable k.formIn k.pinsNeeded k.needed k.stray k.misfit
-    k.misfitFrom k.takeGate k.takeCare k.takeSort k.takeCommand k.nextAt r.nameable r.nameless r.usedOperands r.namelessAt r.namelessFrom r.floorAfter
+    k.misfitFrom k.takeGate k.takeCare k.takeSort k.takeCommand k.nextAt r.names k.roleOf k.used r.nameless r.namelessAt r.namelessFrom r.floorAfter
     r.noted r.finish r.onNext r.readFrom r.readFile refusal
 cut-not-read p = let e : true ≡ false = p .0 in let z : _≡_ {A = ℕ} 0 1 = cc in omega arith
 

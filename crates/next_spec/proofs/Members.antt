@@ -11,17 +11,19 @@ use lib.ListN.{length}
 use Rattle.gates.specs.Cell.{kindOf, pinCount, cellAt, cells}
 use Rattle.netlist.specs.declared.File.the-variants.{Stage}
 use Rattle.netlist.specs.Commands.{needed, pinsNeeded, commandTable, ownCommands, formIn}
-use Rattle.netlist.specs.Reading.{nameable, readable, stageLimits}
+use Rattle.netlist.specs.Reading.{Nets, readable, stageLimits}
 use Rattle.netlist.specs.Content.{Coded, stageOf}
 use Rattle.netlist.specs.Writing.{All}
+use Rattle.netlist.proofs.Readable.{pins-in, in-pins, rails-in, in-rails}
 use Rattle.netlist.proofs.Formed.{GatesFormed, OutputFormed}
 use Rattle.netlist.proofs.Stages.{writeStage-no-care}
 use Rattle.check_spec.specs.Content.{Content, contentAt, contentOf}
 use Rattle.check_spec.specs.Verdicts.{refusal, reading}
 use Rattle.check_spec.specs.Demands.{Pass}
+use Rattle.check_spec.proofs.Formed as formed
 use Rattle.check_spec.proofs.Formed.{Formed, read-formed, written-reads}
 use Rattle.check_spec.proofs.Back.{stage-content, stage-write}
-use Rattle.next_spec.specs.Numbered.{netsOf, stages, lists, gateNumbered, gatesNumbered, stageNumbered}
+use Rattle.next_spec.specs.Numbered.{netsOf, stages, lists, first, second, pairNumbered, gateNumbered, gatesNumbered, stageNumbered}
 use Rattle.next_spec.specs.Listing.{InShape, free, Listed}
 use Rattle.next_spec.specs.Family.{Small, fileOf, InFamily, EachFile}
 use Rattle.next_spec.proofs.Digits.{quotient-low, digits-back, digits-low, square, lists-some}
@@ -52,8 +54,8 @@ module _ (n g : ℕ) (shaped : InShape n g) where
   nets-low = omega (arith, shaped .inputs-in, shaped .gates-in)
 
   gates-formed : (j x : ℕ) → x < lists m j → (k : ℕ)
-      → GatesFormed Stage n g k (gatesNumbered m j x) × All (λ c. (1 ≤ c .code) × (c .code ≤ 2)) (gatesNumbered m j x)
-  unfolding gatesNumbered lists nameable commandTable ownCommands formIn
+      → GatesFormed Stage (record { inputs = n; gates = g }) k (gatesNumbered m j x) × All (λ c. (1 ≤ c .code) × (c .code ≤ 2)) (gatesNumbered m j x)
+  unfolding gatesNumbered lists
   gates-formed zero x l k = (tt, tt)
   gates-formed (suc j) x l k =
       let some = lists-some m nets-some j in
@@ -66,7 +68,7 @@ module _ (n g : ℕ) (shaped : InShape n g) where
           record {
             known = omega arith;
             whole = sym two;
-            named = (quotient-low m nets-some (y % (m * m)) m (mod-lt y s), (mod-lt (y % (m * m)) nets-some, tt));
+            named = in-pins (record { inputs = n; gates = g }) k 0 (first m (y % (m * m)) ∷ second m (y % (m * m)) ∷ []) (quotient-low m nets-some (y % (m * m)) m (mod-lt y s), (mod-lt (y % (m * m)) nets-some, tt));
           },
           later .0,
         ),
@@ -81,7 +83,7 @@ module _ (n g : ℕ) (shaped : InShape n g) where
     inside = quotient-low (m * m) (square m nets-some) z (lists m g) l
 
     numbered-formed : Formed Stage stageLimits (stageNumbered n g z)
-    unfolding stageNumbered nameable commandTable ownCommands formIn
+    unfolding stageNumbered commandTable ownCommands formIn
     numbered-formed =
         let y : z % (m * m) < m * m = mod-lt z (square m nets-some) in
         let long : length (gatesNumbered m g x) ≡ g = gates-long m g x in
@@ -90,7 +92,7 @@ module _ (n g : ℕ) (shaped : InShape n g) where
           gates-in = omega (arith, shaped .gates-in);
           outputs-in = (omega arith, omega arith);
           gates = rw long (gates-formed g x inside 0 .0);
-          outputs = rw long (record { whole = refl; named = (quotient-low m nets-some (z % (m * m)) m y, (mod-lt (z % (m * m)) nets-some, tt)) }, tt);
+          outputs = rw long (record { whole = refl; named = in-rails (record { inputs = n; gates = g }) g 0 (pairNumbered m (z % (m * m))) (quotient-low m nets-some (z % (m * m)) m y, (mod-lt (z % (m * m)) nets-some, tt)) }, tt);
           care-in = tt;
           care-stage = inl refl;
         }
@@ -158,14 +160,14 @@ module _ (m : ℕ) (some : 1 ≤ m) where
       let r = number-back (g .code - 1) (g .operands) (omega arith) (whole ∙ ap (needed Stage) (sym one) ∙ two-needed (g .code - 1) (omega arith)) named in
       (r .0 ∙ ap (λ (k : ℕ). record { code = k; operands = g .operands }) one, r .1)
 
-  list-back : (n t k : ℕ) (gs : List Coded) → m ≡ 2 * n + t → All (λ g. (1 ≤ g .code) × (g .code ≤ 2)) gs → GatesFormed Stage n t k gs
+  list-back : (N : Nets) (k : ℕ) (gs : List Coded) → m ≡ 2 * N .inputs + N .gates → All (λ g. (1 ≤ g .code) × (g .code ≤ 2)) gs → GatesFormed Stage N k gs
       → (gatesNumbered m (length gs) (numberList m gs) ≡ gs) × (numberList m gs < lists m (length gs))
-  unfolding gatesNumbered lists nameable commandTable ownCommands formIn
-  list-back n t k [] e h f = (refl, omega arith)
-  list-back n t k (g ∷ gs) e h f =
+  unfolding gatesNumbered lists
+  list-back N k [] e h f = (refl, omega arith)
+  list-back N k (g ∷ gs) e h f =
       let j = lists m (length gs) in
-      let later = list-back n t (suc k) gs e (h .1) (f .1) in
-      let one = gate-back g (h .0 .0) (h .0 .1) (f .0 .whole) (rw e (f .0 .named)) in
+      let later = list-back N (suc k) gs e (h .1) (f .1) in
+      let one = gate-back g (h .0 .0) (h .0 .1) (f .0 .whole) (rw e (pins-in N k 0 (g .operands) (f .0 .named))) in
       let d = digits-back j (lists-some m some (length gs)) (numberGate m g) (numberList m gs) (later .1) in (
         rw (d .0, d .1) (ap₂ (λ (a : Coded) (b : List Coded). a ∷ b) (one .0) (later .0)),
         digits-low j (lists-some m some (length gs)) (numberGate m g) (numberList m gs) (2 * (m * m)) (one .1) (later .1),
@@ -177,7 +179,7 @@ module _ (c : Content) (i : InFamily c) where
   shaped = record { inputs-in = i .small .inputs-in; gates-in = omega (arith, i .small .gates-in) }
 
   pub numbered : (z : ℕ) × (z < stages (c .inputs) (length (c .gates))) × (stageNumbered (c .inputs) (length (c .gates)) z ≡ c)
-  unfolding stageNumbered nameable commandTable ownCommands formIn
+  unfolding stageNumbered commandTable ownCommands formIn
   numbered = go (c .outputs) refl (i .small .one-output) (family-formed c i .outputs)
     where
       k : ℕ
@@ -193,7 +195,7 @@ module _ (c : Content) (i : InFamily c) where
       pair (a ∷ b ∷ []) w h e =
           let t = two-back k some a b (h .0) (h .1 .0) in
           let x = numberList k (c .gates) in
-          let gs = list-back k some (c .inputs) (length (c .gates)) 0 (c .gates) refl (i .small .kinds-in) (family-formed c i .gates) in
+          let gs = list-back k some (formed.netsOf c) 0 (c .gates) refl (i .small .kinds-in) (family-formed c i .gates) in
           let d = digits-back (k * k) (square k some) x (a * k + b) (t .2) in (
             x * (k * k) + (a * k + b),
             digits-low (k * k) (square k some) x (a * k + b) (lists k (length (c .gates))) (gs .1) (t .2),
@@ -203,10 +205,10 @@ module _ (c : Content) (i : InFamily c) where
           )
       pair (a ∷ b ∷ d ∷ p) w h e = absurd (omega arith)
 
-      go : (os : List (List ℕ)) → c .outputs ≡ os → length (c .outputs) ≡ 1 → All (OutputFormed Stage (c .inputs) (length (c .gates))) (c .outputs)
+      go : (os : List (List ℕ)) → c .outputs ≡ os → length (c .outputs) ≡ 1 → All (OutputFormed Stage (formed.netsOf c)) (c .outputs)
           → (z : ℕ) × (z < stages (c .inputs) (length (c .gates))) × (stageNumbered (c .inputs) (length (c .gates)) z ≡ c)
       go [] e l a = absurd (omega (arith, ap length e))
-      go (p ∷ []) e l a = let b = subst (All (OutputFormed Stage (c .inputs) (length (c .gates)))) e a in pair p (b .0 .whole) (b .0 .named) e
+      go (p ∷ []) e l a = let b = subst (All (OutputFormed Stage (formed.netsOf c))) e a in pair p (b .0 .whole) (rails-in (formed.netsOf c) _ 0 p (b .0 .named)) e
       go (p ∷ q ∷ os) e l a = absurd (omega (arith, ap length e))
 
 -- so it is listed

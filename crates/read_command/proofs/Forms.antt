@@ -1,10 +1,12 @@
--- A byte that is in no row of the table, how many bytes a command has at most, and which bytes are an operation.
+-- A byte that is in no row of the table, how many bytes a command has at most, which sorts of command name nothing, and which bytes are an operation.
 -- Assumes nothing.
 use Prim.Native.Nat.{ℕ, zero, suc, _+_, _^_, _≤_, _<_}
 use native.Mathlib.Omega.{arith}
 use mathlib.Core.Path.{_≡_, refl, sym, ap, _∙_}
 use mathlib.Core.List.{List, [], _∷_}
 use lib.ListN.{List·getD-eq-default}
+use types.Run.{OneOf}
+use denote.Enum.Declared.{tagOf}
 use borrow.Author.Tests.{ne-eqb}
 use Rattle.netlist.specs.declared.File.{File}
 use Rattle.netlist.specs.declared.File.the-variants as file
@@ -12,14 +14,21 @@ use Rattle.netlist.specs.declared.Sort.{Sort}
 use Rattle.netlist.specs.declared.Sort.the-variants as sort
 use Rattle.netlist.specs.declared.Role.the-variants.{Number}
 use Rattle.netlist.specs.declared.Form.{Form}
-use Rattle.netlist.specs.Commands.{asForm, commandTable, ownCommands, formIn, formOf, width, needed}
+use Rattle.netlist.specs.Commands.{asForm, commandTable, ownCommands, formIn, formOf, roleOf, width, needed}
 use Rattle.netlist.specs.Writing.{formFor, All}
-use Rattle.netlist.proofs.Encoding.{form-for, gate-form, inputs-form, care-form, care-stage, width-in}
+use Rattle.netlist.proofs.Sort.{the-type}
+use Rattle.netlist.proofs.Encoding.{each-file, form-for, gate-form, inputs-form, care-form, width-in}
+use Rattle.read_command.proofs.Arms.{arm}
 
-pub in-no-row : (rs : List (ℕ × Form)) (b : ℕ) → All (λ r. b ≡ r .0 → ⊥) rs → asForm sort.Unknown 1 0 Number ≡ formIn rs b
+pub in-no-row : (rs : List (ℕ × Form)) (b : ℕ) → All (λ r. b ≡ r .0 → ⊥) rs → asForm sort.Unknown 1 0 ≡ formIn rs b
 unfolding formIn
 in-no-row [] b h = refl
 in-no-row (r ∷ rs) b h = rw (ne-eqb b (r .0) (h .0)) (in-no-row rs b (h .1))
+
+-- a byte that stands for neither end nor inputs stands for a command of its file alone, if for any
+pub own-row : (f : File) (b : ℕ) → (b ≡ 0 → ⊥) → (b ≡ 1 → ⊥) → formIn (ownCommands f) b ≡ formOf f b
+unfolding commandTable formIn
+own-row f b no-end no-inputs = rw (ne-eqb b 0 no-end, ne-eqb b 1 no-inputs)
 
 -- the row of a byte
 module _ (f : File) (b : ℕ) {form : Form} (is : form ≡ formOf f b) where
@@ -29,6 +38,7 @@ module _ (f : File) (b : ℕ) {form : Form} (is : form ≡ formOf f b) where
     where
       go : (f : File) → (1 ≤ width (formOf f b)) × (width (formOf f b) < 2 ^ 16)
       go file.Stage = omega (arith, width-in file.Stage b)
+      go file.Pipeline = omega (arith, width-in file.Pipeline b)
       go file.Reference = omega (arith, width-in file.Reference b)
 
   pub form-sort : {c : Sort} → form .sort ≡ c → form ≡ formFor f c
@@ -40,11 +50,23 @@ module _ (f : File) (b : ℕ) {form : Form} (is : form ≡ formOf f b) where
   pub care-wide : form .sort ≡ sort.Care → form .lead + 2 ≡ width form
   care-wide e =
       let is-care = form-sort e in
-      let row = is-care ∙ care-form f (care-stage f (ap (λ (x : Form). x .sort) (sym is-care) ∙ e)) in
+      let row = is-care ∙ care-form f (ap (λ (x : Form). x .sort) (sym is-care) ∙ e) in
       rw row
 
   pub inputs-wide : form .sort ≡ sort.Inputs → width form ≡ 2
   inputs-wide e = ap width (form-sort e ∙ inputs-form f)
+
+-- the operands of a command that is neither gate nor output name nothing
+pub number-role : (f : File) (i : ℕ) (c : Sort) → OneOf (0 ∷ 1 ∷ 4 ∷ 5 ∷ []) (tagOf the-type c) → Number ≡ roleOf f c i
+unfolding roleOf
+number-role f i = arm (0 ∷ 1 ∷ 4 ∷ 5 ∷ []) (λ c. Number ≡ roleOf f c i) (
+  each-file (λ f. Number ≡ roleOf f sort.End i) (refl, refl, refl) f,
+  each-file (λ f. Number ≡ roleOf f sort.Inputs i) (refl, refl, refl) f,
+  tt,
+  tt,
+  each-file (λ f. Number ≡ roleOf f sort.Care i) (refl, refl, refl) f,
+  each-file (λ f. Number ≡ roleOf f sort.Unknown i) (refl, refl, refl) f,
+)
 
 -- operations 2 to 6 need two operands
 pub operation-two : (b : ℕ) → 2 ≤ b → b ≤ 6 → needed file.Reference b ≡ 2

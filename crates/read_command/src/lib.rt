@@ -13,20 +13,43 @@ ghost use mathlib.Core.Path.{_≡_};
 ghost use Prim.Native.Nat.{_+_, _*_, _^_, _<_, _≤_};
 ghost use lib.ListN.{length};
 ghost use lib.Dec.{ltb};
+ghost use Rattle.netlist.specs.declared.File.the-variants as file;
 ghost use Rattle.netlist.specs.Bytes as bytes;
 ghost use Rattle.netlist.specs.Commands as commands;
 
 // ---- the command table
 
-// A row: the command's sort, how many bytes stand before its operands, how many u16 operands follow, and what they name.
-fn as_form(sort: Sort, lead: usize, operands: usize, role: Role) -> Form
-    ensures { λ r. ⌜ r ≡ commands.asForm sort lead operands role ⌝ }
+// A row: the command's sort, how many bytes stand before its operands, and how many u16 operands follow.
+fn as_form(sort: Sort, lead: usize, operands: usize) -> Form
+    ensures { λ r. ⌜ r ≡ commands.asForm sort lead operands ⌝ }
 {
     Form {
         sort,
         lead,
         operands,
-        role,
+    }
+}
+
+// The row of a command byte that only a stage has.
+fn stage_form(command: u8) -> Form
+    ensures { λ r. ⌜ r ≡ commands.formIn (commands.ownCommands file.Stage) command ⌝ }
+{
+    match command {
+        0x02 => as_form(Sort::Gate, 2, 4),
+        0x03 => as_form(Sort::Output, 1, 2),
+        0x06 => as_form(Sort::Care, 1, 1),
+        _ => as_form(Sort::Unknown, 1, 0),
+    }
+}
+
+// The row of a command byte that only a reference has.
+fn reference_form(command: u8) -> Form
+    ensures { λ r. ⌜ r ≡ commands.formIn (commands.ownCommands file.Reference) command ⌝ }
+{
+    match command {
+        0x11 => as_form(Sort::Gate, 2, 2),
+        0x12 => as_form(Sort::Output, 1, 1),
+        _ => as_form(Sort::Unknown, 1, 0),
     }
 }
 
@@ -35,21 +58,32 @@ pub fn form_of(file: File, command: u8) -> Form
     ensures { λ r. ⌜ r ≡ commands.formOf file command ⌝ }
 {
     match command {
-        0x00 => as_form(Sort::End, 1, 0, Role::Number),
-        0x01 => as_form(Sort::Inputs, 2, 0, Role::Number),
+        0x00 => as_form(Sort::End, 1, 0),
+        0x01 => as_form(Sort::Inputs, 2, 0),
         _ => match file {
-            File::Stage => match command {
-                0x02 => as_form(Sort::Gate, 2, 4, Role::AnyNet),
-                0x03 => as_form(Sort::Output, 1, 2, Role::AnyNet),
-                0x06 => as_form(Sort::Care, 1, 1, Role::Number),
-                _ => as_form(Sort::Unknown, 1, 0, Role::Number),
-            },
-            File::Reference => match command {
-                0x11 => as_form(Sort::Gate, 2, 2, Role::EarlierSignal),
-                0x12 => as_form(Sort::Output, 1, 1, Role::AnySignal),
-                _ => as_form(Sort::Unknown, 1, 0, Role::Number),
-            },
+            File::Stage => stage_form(command),
+            File::Pipeline => stage_form(command),
+            File::Reference => reference_form(command),
         },
+    }
+}
+
+// What operand i of a command of a stage, or of a reference, has to name.
+pub fn role_of(file: File, sort: Sort, i: usize) -> Role
+    ensures { λ r. ⌜ r ≡ commands.roleOf file sort i ⌝ }
+{
+    match sort {
+        Sort::Gate => match file {
+            File::Stage => Role::AnyNet,
+            File::Pipeline => Role::AnyNet,
+            File::Reference => Role::EarlierSignal,
+        },
+        Sort::Output => match file {
+            File::Stage => Role::AnyNet,
+            File::Pipeline => Role::AnyNet,
+            File::Reference => Role::AnySignal,
+        },
+        _ => Role::Number,
     }
 }
 
@@ -78,6 +112,7 @@ pub fn needed(file: File, code: u8) -> usize
 {
     match file {
         File::Stage => pins_needed(gates::kind_of(code)),
+        File::Pipeline => pins_needed(gates::kind_of(code)),
         File::Reference => match code {
             1 => 1,
             2..=6 => 2,

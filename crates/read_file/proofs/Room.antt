@@ -2,17 +2,22 @@
 -- Assumes nothing.
 use Prim.Native.Nat.{ℕ, _+_, _^_, _≤_}
 use native.Mathlib.Omega.{arith}
+use mathlib.Core.Bool.{Bool, true, false}
 use lib.Pow.{pow-mono}
 use Rattle.netlist.specs.declared.File.the-variants as file
 use Rattle.netlist.specs.declared.Limits.{Limits}
-use Rattle.netlist.specs.Commands.{commandTable, ownCommands, formIn}
+use Rattle.netlist.specs.Commands.{stageFile, commandTable, ownCommands, formIn}
 use Rattle.netlist.specs.Reading.{stageLimits, referenceLimits, NoMore}
 use Rattle.read_file.specs.Files.{mostCare, RoomFor}
 
 module _ (most : Limits) (long : ℕ) where
-  pub stage-room : NoMore most stageLimits → stageLimits .gates + stageLimits .outputs + 2 ^ stageLimits .inputs ≤ long → RoomFor file.Stage most long
+  pub stage-room : (registers : Bool) → NoMore most stageLimits → stageLimits .gates + stageLimits .outputs + 2 ^ stageLimits .inputs ≤ long →
+      RoomFor (stageFile registers) most long
   unfolding commandTable ownCommands formIn mostCare
-  stage-room less h =
+  stage-room true less h =
+      let few : 2 ^ most .inputs ≤ 2 ^ stageLimits .inputs = pow-mono {i = most .inputs} {j = stageLimits .inputs} (less .inputs-in) in
+      record { u16s = omega (arith, less .gates-in, less .outputs-in); space = omega (arith, less .gates-in, less .outputs-in) }
+  stage-room false less h =
       let few : 2 ^ most .inputs ≤ 2 ^ stageLimits .inputs = pow-mono {i = most .inputs} {j = stageLimits .inputs} (less .inputs-in) in
       record { u16s = omega (arith, less .gates-in, less .outputs-in); space = omega (arith, less .gates-in, less .outputs-in) }
 

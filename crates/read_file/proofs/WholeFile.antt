@@ -26,12 +26,19 @@ use Rattle.netlist.specs.declared.Found.{Found}
 use Rattle.netlist.specs.declared.Found.the-variants.{At, Nothing}
 use Rattle.netlist.specs.Bytes.{byte, operand}
 use Rattle.netlist.specs.Commands.{whenFound, isSort, formOf, width, stray, nextAt}
-use Rattle.netlist.specs.Reading.{namelessFrom, Places, floorAfter, countsOf, noted, Reading, refused, readable, finish, onNext, readFrom, readFile}
-use Rattle.netlist.specs.Writing.{commandByte, widthFor}
-use Rattle.read_file.specs.Files.{Follow, FilledTo, Countable, mostCare, RoomFor, standing, Placed}
-use Rattle.netlist.proofs.Encoding.{clash, care-stage, care-form, width-in, width-inputs, width-end}
+use Rattle.netlist.specs.Reading.{namelessFrom, Places, floorAfter, countsOf, netsOf, noted, Reading, refused, readable, finish, onNext, readFrom, readFile}
+use Rattle.netlist.specs.Writing.{Has, commandByte, widthFor}
+use Rattle.read_file.specs.Files.{netsWith, Follow, FilledTo, Countable, mostCare, RoomFor, standing, Placed}
+use Rattle.netlist.proofs.Encoding.{reference-careless, clash, care-form, width-in, width-inputs, width-end}
 use Rattle.netlist.proofs.OneCommand.{There, next-there}
 use Rattle.netlist.proofs.Walk.{floor-snoc, care-taken, Near, near-start, near-far, near-noted}
+
+-- where a file has care words, there may be as many as words of its inputs
+words-most : (f : File) (most : Limits) → Has f sort.Care → mostCare f most ≡ 2 ^ most .inputs
+unfolding mostCare
+words-most file.Stage most e = refl
+words-most file.Pipeline most e = refl
+words-most file.Reference most e = absurd (reference-careless e)
 
 -- ---- at the end command
 
@@ -52,9 +59,9 @@ module _ (f : File) (s : List ℕ) (at : ℕ) (p : Places) (c : Counts) (e : cou
     unfolding finish
     finish-7 h = rw (tested, lt-ltb (at + 1) (length s) h)
 
-    module _ (last : length s ≤ at + 1) (found : Found) (is : found ≡ namelessFrom (length s) f (c .inputs) (c .gates) s 0 0) where
-      searched : namelessFrom (length s) f (p .inputs) (length (p .gates)) s 0 0 ≡ found
-      searched = ap (λ (x : Counts). namelessFrom (length s) f (x .inputs) (x .gates) s 0 0) e ∙ sym is
+    module _ (last : length s ≤ at + 1) (found : Found) (is : found ≡ namelessFrom (length s) f (netsWith (c .inputs) (c .gates)) s 0 0) where
+      searched : namelessFrom (length s) f (netsOf p) s 0 0 ≡ found
+      searched = ap (λ (x : Counts). namelessFrom (length s) f (netsWith (x .inputs) (x .gates)) s 0 0) e ∙ sym is
 
       pub finish-9 : (place : ℕ) → found ≡ At place → finish f s at p ≡ refused 9 place
       unfolding finish whenFound
@@ -71,7 +78,7 @@ module _ (most : Limits) (places : List ℕ) where
 
   finish-placed : (f : File) (s : List ℕ) (at : ℕ) (p : Places) → Placed most (readable p) places → Placed most (finish f s at p) places
   unfolding finish whenFound Placed
-  finish-placed f s at p h = go (eqb (length (p .outputs)) 0) (ltb (at + 1) (length s)) (namelessFrom (length s) f (p .inputs) (length (p .gates)) s 0 0)
+  finish-placed f s at p h = go (eqb (length (p .outputs)) 0) (ltb (at + 1) (length s)) (namelessFrom (length s) f (netsOf p) s 0 0)
     where
       go : (x y : Bool) (found : Found) → Placed most (cond x (refused 8 at) (cond y (refused 7 (at + 1)) (whenFound found (refused 9) (readable p)))) places
       go true y found = tt
@@ -213,10 +220,9 @@ module _ {f : File} {most : Limits} {s : List ℕ} {long : ℕ} {places : List �
       unfolding mostCare
       care-room read =
           let t = there read in
-          let stage = care-stage f (t .own) in
           let taken = care-taken f most s at c t in
-          let most-words : mostCare f most ≡ 2 ^ most .inputs = ap (λ (x : File). mostCare x most) stage in
-          omega (arith, t .room, ap width (care-form f stage), taken, w .near .care-in, most-words, pow-mono {i = c .inputs} {j = most .inputs} (w .near .inputs-in))
+          let most-words = words-most f most (t .own) in
+          omega (arith, t .room, ap width (care-form f (t .own)), taken, w .near .care-in, most-words, pow-mono {i = c .inputs} {j = most .inputs} (w .near .inputs-in))
 
       pub walk-inputs : x ≡ Command sort.Inputs next → byte s (at + 1) < 256 → Walking f most s long places (next .at) (counts (byte s (at + 1)) (c .gates) (c .outputs) (c .care) (c .floor))
       unfolding noted

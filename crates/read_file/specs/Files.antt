@@ -4,13 +4,17 @@ use mathlib.Core.Path.{_≡_}
 use mathlib.Core.List.{List}
 use lib.ListN.{length, take, drop}
 use Rattle.netlist.specs.declared.File.{File}
-use Rattle.netlist.specs.declared.File.the-variants.{Stage, Reference}
+use Rattle.netlist.specs.declared.File.the-variants.{Stage, Pipeline, Reference}
 use Rattle.netlist.specs.declared.Limits.{Limits}
 use Rattle.netlist.specs.declared.Counts.{Counts}
 use Rattle.netlist.specs.Bytes.{byte}
 use Rattle.netlist.specs.Commands.{formOf, width}
-use Rattle.netlist.specs.Reading.{Places, countsOf, Reading, refused, readable}
+use Rattle.netlist.specs.Reading.{Nets, Places, countsOf, Reading, refused, readable}
 use Rattle.netlist.specs.Read.{farthest}
+
+-- what there is to name in a file with n inputs and g gates
+abbrev pub netsWith : ℕ → ℕ → Nets
+netsWith n g = record { inputs = n; gates = g }
 
 -- k commands stand one after the other, each with all of its bytes, from one position to another
 unfoldable pub Follow : File → List ℕ → ℕ → ℕ → ℕ → Type 0
@@ -29,6 +33,7 @@ Countable n g = 2 * n + g < 2 ^ 32
 -- how many care words a file may have: as many as there are words of its inputs, and a reference none
 unfoldable pub mostCare : File → Limits → ℕ
 mostCare Stage most = 2 ^ most .inputs
+mostCare Pipeline most = 2 ^ most .inputs
 mostCare Reference most = 0
 
 -- a lent slice of u16 has room for the places of as many gates and outputs as there may be, and for as many care words

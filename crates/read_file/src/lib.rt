@@ -51,29 +51,40 @@ pub fn take_next(file: File, most: Limits, s: &[u8], here: Cursor, before: Count
 
 // ---- 9: an operand that names nothing
 
-// An operand names what it has to name where it is below this number, with n inputs and g gates in all and k gates before it.
-fn nameable(role: Role, n: usize, g: usize, k: usize) -> usize
-    requires { ⌜ reading.nameable role n g k < 2 ^ 64 ⌝ }
-    ensures { λ r. ⌜ r ≡ reading.nameable role n g k ⌝ }
+// Whether a number names what its role asks for, with n inputs and g gates in all and k gates before its command.
+fn names(role: Role, n: usize, g: usize, k: usize, v: usize) -> bool
+    requires { ⌜ (2 * n + g < 2 ^ 64) × (n + k < 2 ^ 64) ⌝ }
+    ensures { λ r. ⌜ r ≡ reading.names role (files.netsWith n g) k v ⌝ }
 {
     match role {
-        Role::AnyNet => 2 * n + g,
-        Role::EarlierSignal => n + k,
-        Role::AnySignal => n + g,
-        Role::Number => 0x10000,
+        Role::AnyNet => v < 2 * n + g,
+        Role::EarlierSignal => v < n + k,
+        Role::AnySignal => v < n + g,
+        Role::Number => true,
     }
 }
 
-// The first of m operands from a place on that is not below it.
-fn first_nameless(names: usize, s: &[u8], at: usize, m: usize) -> Found
+// The first of m operands of a command, from a place on, that does not name what it is asked for.
+fn first_nameless(
+    file: File,
+    sort: Sort,
+    n: usize,
+    g: usize,
+    k: usize,
+    s: &[u8],
+    at: usize,
+    m: usize,
+) -> Found
     requires { ⌜ at + 2 * m ≤ length (now s) ⌝ }
-    ensures { λ r. ⌜ r ≡ reading.nameless names (now (s .entry)) at m ⌝ }
+    requires { ⌜ (2 * n + g < 2 ^ 64) × (n + k < 2 ^ 64) ⌝ }
+    ensures { λ r. ⌜ r ≡ reading.nameless (reading.asked file sort (files.netsWith n g) k) 0 (now (s .entry)) at m ⌝ }
 {
     let mut j: usize = 0;
     while j < m {
         let place = at + 2 * j;
         let v = netlist::operand(s, place) as usize;
-        if v < names {
+        let role = read_command::role_of(file, sort, j);
+        if names(role, n, g, k, v) {
             j += 1;
         } else {
             return Found::At(place);
@@ -85,7 +96,7 @@ fn first_nameless(names: usize, s: &[u8], at: usize, m: usize) -> Found
 // How many of its operands the command at a position uses, from the first on.
 fn used_operands(file: File, s: &[u8], at: usize, form: Form) -> usize
     requires { ⌜ (form ≡ commands.formOf file (bytes.byte (now s) at)) × (at + commands.width form ≤ length (now s)) ⌝ }
-    ensures { λ r. ⌜ r ≡ reading.usedOperands file (bytes.byte (now (s .entry)) (at + 1)) (form .operands) (form .sort) ⌝ }
+    ensures { λ r. ⌜ r ≡ commands.used file (now (s .entry)) at form ⌝ }
 {
     let sort = form.sort;
     match sort {
@@ -98,18 +109,17 @@ fn used_operands(file: File, s: &[u8], at: usize, form: Form) -> usize
 fn nameless_at(file: File, n: usize, g: usize, s: &[u8], at: usize, k: usize, form: Form) -> Found
     requires { ⌜ (form ≡ commands.formOf file (bytes.byte (now s) at)) × (at + commands.width form ≤ length (now s)) ⌝ }
     requires { ⌜ (2 * n + g < 2 ^ 64) × (n + k < 2 ^ 64) ⌝ }
-    ensures { λ r. ⌜ r ≡ reading.namelessAt file n g (now (s .entry)) at k form ⌝ }
+    ensures { λ r. ⌜ r ≡ reading.namelessAt file (files.netsWith n g) (now (s .entry)) at k form ⌝ }
 {
-    let role = form.role;
-    let names = nameable(role, n, g, k);
+    let sort = form.sort;
     let m = used_operands(file, s, at, form);
-    first_nameless(names, s, at + form.lead, m)
+    first_nameless(file, sort, n, g, k, s, at + form.lead, m)
 }
 
 // The first operand of a file that names nothing, in the order of the file, which whole commands fill.
 fn find_nameless(file: File, n: usize, g: usize, s: &[u8]) -> Found
     requires { ⌜ files.Countable n g × files.FilledTo file (now s) (length (now s)) ⌝ }
-    ensures { λ r. ⌜ r ≡ reading.namelessFrom (length (now (s .entry))) file n g (now (s .entry)) 0 0 ⌝ }
+    ensures { λ r. ⌜ r ≡ reading.namelessFrom (length (now (s .entry))) file (files.netsWith n g) (now (s .entry)) 0 0 ⌝ }
 {
     let mut at: usize = 0;
     let mut k: usize = 0;

@@ -14,8 +14,8 @@ use Rattle.runs.specs.Row.{Row, low, after, tally, times}
 use Rattle.runs.specs.Net.{Net, RiseList, RiseEnd}
 use Rattle.runs.specs.Promise.{Rest}
 use Rattle.runs.proofs.Test.{clash, eqb-eq}
-use Rattle.netlist.specs.declared.File.the-variants as file
-use Rattle.netlist.specs.Reading.{Places, Ascending, Reading, refused, readable, readFile}
+use Rattle.netlist.specs.Commands.{stageFile}
+use Rattle.netlist.specs.Reading.{Ascending}
 use Rattle.netlist.specs.Content.{Stage}
 use Rattle.verdict.specs.declared.Verdict.{Verdict}
 use Rattle.verdict.specs.declared.WordOrder.{WordOrder}
@@ -34,9 +34,10 @@ use Rattle.check_spec.specs.Content.{Content, Files, stageIn}
 use Rattle.check_spec.specs.Rows.{netOf}
 use Rattle.check_spec.specs.Words.{railsFor, spelled, names, IsWord}
 use Rattle.check_spec.specs.Checks.{rest}
-use Rattle.check_spec.specs.Verdicts.{refusal, reading, verdictOn}
-use Rattle.check_spec.specs.Demands.{Pass, LoopFree, answerTo, Kept}
+use Rattle.check_spec.specs.Verdicts.{verdictOn}
+use Rattle.check_spec.specs.Demands.{LoopFree, answerTo, Kept}
 use Rattle.check_spec.specs.Loaded.{stageView}
+use Rattle.check_spec.proofs.Formed.{read-of}
 use Rattle.check_spec.proofs.Alike.{spelled-alike, names-alike, rest-alike, levels-alike, word-in, in-word, care-rises}
 use Rattle.check_spec.proofs.Sound.{accepted-sound, sound-kept}
 use Rattle.report_spec.specs.High as code
@@ -199,15 +200,6 @@ module _ (order : WordOrder) (c : Content) (care : Ascending (2 ^ c .inputs) 0 (
 
 -- ---- the report
 
--- an accepted pair has read its stage
-pub stage-read : (f : Files) → Pass (reading file.Stage (f .stageMost) (f .stage)) → (p : Places) × (readFile file.Stage (f .stageMost) (f .stage) ≡ readable p)
-unfolding refusal
-stage-read f = go (readFile file.Stage (f .stageMost) (f .stage))
-  where
-    go : (x : Reading) → Pass (refusal file.Stage x) → (p : Places) × (x ≡ readable p)
-    go (refused number at) h = absurd (clash refl (h .0))
-    go (readable p) h = (p, refl)
-
 -- the report of two files means what is said of it
 pub report-means : (order : WordOrder) (f : Files) → ReportMeans f (reportOn order f)
 unfolding reportOn
@@ -223,8 +215,8 @@ report-means order f = go (eqb (verdictOn order f .number) 0) refl
     go true e =
         let p = accepted-sound order f (eqb-eq (verdictOn order f .number) 0 e) .1 in
         let free = p .free in
-        let read = stage-read f (p .read .0) in
-        let care = care-rises (f .stageMost) (f .stage) (read .0) (read .1) in
+        let read = read-of (stageFile (f .registers)) (f .stageMost) (f .stage) (p .read .0) in
+        let care = care-rises (stageFile (f .registers)) (f .stageMost) (f .stage) (read .0) (read .1) in
         record {
           cycled = λ a w h. cycled f free w (sound-kept p w h);
           half = λ a cycles each.

@@ -19,7 +19,7 @@ use Rattle.netlist.specs.declared.Found.{Found}
 use Rattle.netlist.specs.declared.Found.the-variants.{At, Nothing}
 use Rattle.netlist.specs.Bytes.{byte, operand}
 use Rattle.netlist.specs.Commands.{whenFound, isSort, formOf, width, needed, stray, misfitFrom, takeGate, takeCare, takeSort, takeCommand, nextAt}
-use Rattle.netlist.specs.Reading.{Places, noPlaces, Reading, refused, readable, namelessFrom, finish, onNext, noted, countsOf, readFrom, readFile}
+use Rattle.netlist.specs.Reading.{Places, noPlaces, Reading, refused, readable, namelessFrom, finish, onNext, noted, countsOf, netsOf, readFrom, readFile}
 
 abbrev pub InTable : ℕ → Type 0
 InTable number = (1 ≤ number) × (number ≤ 19) × (9 < number → 18 ≤ number)
@@ -72,7 +72,7 @@ unfolding finish
 finish-numbered f s at p =
     either Numbered (eqb (length (p .outputs)) 0) (refused 8 at) _ (omega arith)
     (either Numbered (ltb (at + 1) (length s)) (refused 7 (at + 1)) _ (omega arith)
-    (unless-found Numbered (namelessFrom (length s) f (p .inputs) (length (p .gates)) s 0 0) (refused 9) (readable p) (λ place. omega arith) tt))
+    (unless-found Numbered (namelessFrom (length s) f (netsOf p) s 0 0) (refused 9) (readable p) (λ place. omega arith) tt))
 
 read-numbered : (fuel : ℕ) (f : File) (most : Limits) (s : List ℕ) (at : ℕ) (p : Places) → Numbered (readFrom fuel f most s at p)
 unfolding readFrom onNext

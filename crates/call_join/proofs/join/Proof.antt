@@ -52,7 +52,7 @@ returns c =
     let is = c .before .before .v .given .1 in
     let v = judged-by (a .order) _ _ _ _ _ (sym (ap verdictOf is) ∙ one .check-loading .ensures .verdict-is) (one .before .before .before .before .part-stage-limits .ensures) (one .before .before .before .part-reference-limits .ensures) in
     demanded (a .order) (now (a .stage1)) (now (a .reference1)) (now (a .stage2)) (now (a .reference2))
-    (first-refused (a .order) _ _ _ _ _ v (λ q. omega (arith, one .check-loading .ensures .refuses _ is .0)) (c .refusal .ensures))
+    (first-refused (a .order) (partFiles (now (a .stage1)) (now (a .reference1))) (partFiles (now (a .stage2)) (now (a .reference2))) _ _ _ v (λ q. omega (arith, one .check-loading .ensures .refuses _ is .0)) (c .refusal .ensures))
 
 returns-2 : tie.Need-returns-2
 returns-2 c =
@@ -65,7 +65,7 @@ returns-2 c =
     let v = judged-by (a .order) _ _ _ _ _ (sym (ap verdictOf (two .before .before .before .before .counts1 .given .1)) ∙ one .check-loading .ensures .verdict-is) m n in
     let w = judged-by (a .order) _ _ _ _ _ (sym (ap verdictOf is) ∙ two .check-loading2 .ensures .verdict-is) m n in
     demanded (a .order) (now (a .stage1)) (now (a .reference1)) (now (a .stage2)) (now (a .reference2))
-    (second-refused (a .order) _ _ _ _ (accepts-zero v refl) _ w (λ q. omega (arith, two .check-loading2 .ensures .refuses _ is .0)) (c .refusal2 .ensures))
+    (second-refused (a .order) (partFiles (now (a .stage1)) (now (a .reference1))) (partFiles (now (a .stage2)) (now (a .reference2))) _ _ (accepts-zero v refl) _ w (λ q. omega (arith, two .check-loading2 .ensures .refuses _ is .0)) (c .refusal2 .ensures))
 
 returns-3 : tie.Need-returns-3
 returns-3 c =
@@ -81,7 +81,7 @@ returns-3 c =
     let p = part-held m n (one .check-loading .ensures .loaded _ _ is) in
     let q = part-held m n (two .check-loading2 .ensures .loaded _ _ it) in
     demanded (a .order) (now (a .stage1)) (now (a .reference1)) (now (a .stage2)) (now (a .reference2))
-    (both-accepted (a .order) _ _ _ _ (accepts-zero v refl) (accepts-zero w refl)
+    (both-accepted (a .order) (partFiles (now (a .stage1)) (now (a .reference1))) (partFiles (now (a .stage2)) (now (a .reference2))) _ _ (accepts-zero v refl) (accepts-zero w refl)
     (c .before .before .before .before .join-loaded .ensures (partFiles (now (a .stage1)) (now (a .reference1))) (partFiles (now (a .stage2)) (now (a .reference2)))
     (record { stage1-is = p .0; reference1-is = p .1; stage2-is = q .0; reference2-is = q .1 })))
 

@@ -1,11 +1,12 @@
 -- `call_report::report_on` meets its contract: what the check left is the stage of the file. Assumes nothing.
+use mathlib.Core.Bool.{false}
 use denote.Ref.{now}
 use native.Mathlib.Omega.{arith}
 use mathlib.Core.Path.{sym, ap, _∙_}
 use Rattle.netlist.specs.Reading.{stageLimits, referenceLimits}
 use Rattle.netlist.proofs.Bounds.{no-more}
 use Rattle.check_files.specs.Judgement.{verdictOf}
-use Rattle.check_files.proofs.Files.{answered}
+use Rattle.check_files.proofs.Files.{within, answered}
 use Rattle.call_report.proofs.Reporting.{report-accepted, report-refused}
 use borrow.Author.Needs.{needs}
 use Rattle.call_report.proofs.report_on.Statement.{statement}
@@ -25,19 +26,20 @@ returns c =
     let z = c .before .before .before .before .before .before .before .before .before .before .before .before in
     let j = c .before .before .before .before .before .check-loading .ensures in
     let is = c .before .judgement .given .1 in
+    let same = within false (now (z .args .stage)) (now (z .args .reference)) (c .before .before .before .before .before .before .before .before .before .stage-limits .ensures)
+    (c .before .before .before .before .before .before .before .before .reference-limits .ensures) in
     report-refused (z .args .order) (now (z .args .stage)) (now (z .args .reference)) _
-    (answered (z .args .order) _ _ (now (z .args .stage)) (now (z .args .reference)) _ (c .before .before .before .before .before .before .before .before .before .stage-limits .ensures)
-    (c .before .before .before .before .before .before .before .before .reference-limits .ensures) (sym (ap verdictOf is) ∙ j .verdict-is)) (j .refuses _ is .0)
+    (answered (z .args .order) same _ (sym (ap verdictOf is) ∙ j .verdict-is)) (j .refuses _ is .0)
 
 returns-2 : tie.Need-returns-2
 returns-2 c =
     let z = c .before .before .before .before .before .before .before .before .before .before .before .before .before .before in
     let j = c .before .before .before .before .before .before .before .check-loading .ensures in
     let is = c .before .before .before .judgement2 .given .1 in
+    let most = c .before .before .before .before .before .before .before .before .before .before .before .stage-limits .ensures in
+    let same = within false (now (z .args .stage)) (now (z .args .reference)) most (c .before .before .before .before .before .before .before .before .before .before .reference-limits .ensures) in
     report-accepted (z .args .order) (now (z .args .stage)) (now (z .args .reference))
-    (answered (z .args .order) _ _ (now (z .args .stage)) (now (z .args .reference)) _ (c .before .before .before .before .before .before .before .before .before .before .before .stage-limits .ensures)
-    (c .before .before .before .before .before .before .before .before .before .before .reference-limits .ensures) (sym (ap verdictOf is) ∙ j .verdict-is)) (c .before .before .before .before .before .before .before .before .before .before .before .stage-limits .ensures)
-    (j .loaded _ _ is .stage-from) _ (c .report-stage .ensures)
+    (answered (z .args .order) same _ (sym (ap verdictOf is) ∙ j .verdict-is)) most (j .loaded _ _ is .stage-from) _ (c .report-stage .ensures)
 
 pub report-on-spec : {M : Type 1} → statement M
 report-on-spec =

@@ -1,10 +1,11 @@
 -- `check_files::check` meets its contract. Assumes nothing.
 use native.Mathlib.Omega.{arith}
 use mathlib.Core.Path.{_∙_}
+use mathlib.Core.Bool.{true}
 use denote.Ref.{now}
 use Rattle.netlist.specs.Reading.{stageLimits, referenceLimits}
 use Rattle.netlist.proofs.Bounds.{no-more}
-use Rattle.check_files.proofs.Files.{checked}
+use Rattle.check_files.proofs.Files.{within, checked}
 use borrow.Author.Needs.{needs}
 use Rattle.check_files.proofs.check.Statement.{statement}
 use Rattle.check_files.proofs.check.Tie as tie
@@ -16,8 +17,9 @@ check-loading-requires c κs =
 returns : tie.Need-returns
 returns c =
     let z = c .before .before .before .before .before .before .before .before .before .before in
-    checked (z .args .order) _ _ (now (z .args .stage)) (now (z .args .reference)) _ (c .before .before .before .before .before .before .before .stage-limits .ensures) (c .before .before .before .before .before .before .reference-limits .ensures)
-    (c .verdict-of .ensures ∙ c .before .before .before .check-loading .ensures .verdict-is)
+    let same = within true (now (z .args .stage)) (now (z .args .reference)) (c .before .before .before .before .before .before .before .stage-limits .ensures)
+    (c .before .before .before .before .before .before .reference-limits .ensures) in
+    checked (z .args .order) same _ (c .verdict-of .ensures ∙ c .before .before .before .check-loading .ensures .verdict-is)
 
 pub check-spec : {M : Type 1} → statement M
 check-spec =

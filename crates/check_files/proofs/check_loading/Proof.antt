@@ -1,6 +1,7 @@
 -- `check_files::check_loading` meets its contract. Assumes nothing.
 use mathlib.Core.Path.{sym, _∙_}
 use denote.Ref.{now}
+use Rattle.check_spec.specs.Content.{filesWithin}
 use Rattle.circuit_load.proofs.Reading.{stage-held, reference-held}
 use Rattle.check_files.proofs.Files.{stage-refused, reference-refused, checks-refuse, checks-pass}
 use borrow.Author.Needs.{needs}
@@ -18,13 +19,17 @@ judge-requires c κs =
     )
 
 returns : tie.Need-returns
-returns c = stage-refused _ _ _ _ _ _ _ (sym (c .before .number .given .1) ∙ c .before .before .before .before .before .read-stage-within .ensures .0)
+returns c =
+    let f = c .before .before .before .before .before in
+    let a = f .before .before .before .before .before .before .args in
+    stage-refused (a .order) (filesWithin (a .registers) (a .stage-most) (a .reference-most) (now (a .stage)) (now (a .reference))) _ _
+    (sym (c .before .number .given .1) ∙ f .read-stage-within .ensures .0)
 
 returns-2 : tie.Need-returns-2
 returns-2 c =
     let f = c .before .before .before .before .before .before .before .before .before .before .before .before in
     let a = f .before .before .before .before .before .before .args in
-    reference-refused (a .order) (a .stage-most) (a .reference-most) (now (a .stage)) (now (a .reference)) _ _
+    reference-refused (a .order) (filesWithin (a .registers) (a .stage-most) (a .reference-most) (now (a .stage)) (now (a .reference))) _ _
     (sym (c .before .before .before .before .before .before .before .before .counts .given .1) ∙ f .read-stage-within .ensures .0) (f .read-stage-within .ensures .1) _ _
     (sym (c .before .number2 .given .1) ∙ c .before .before .before .before .before .read-reference-within .ensures .0)
 
@@ -33,7 +38,7 @@ returns-3 c =
     let g = c .before .before .before .before .before .before .before .before .before .before .before .before .before in
     let f = g .before .before .before .before .before .before .before in
     let a = f .before .before .before .before .before .before .args in
-    checks-refuse (a .order) (a .stage-most) (a .reference-most) (now (a .stage)) (now (a .reference)) _ _
+    checks-refuse (a .order) (filesWithin (a .registers) (a .stage-most) (a .reference-most) (now (a .stage)) (now (a .reference))) _ _
     (sym (g .before .before .before .counts .given .1) ∙ f .read-stage-within .ensures .0) (f .read-stage-within .ensures .1) _ _
     (sym (c .before .before .before .before .before .before .before .before .before .sizes .given .1) ∙ g .read-reference-within .ensures .0) (g .read-reference-within .ensures .1) _
     (sym (c .before .v .given .1) ∙ c .before .before .before .before .before .judge .ensures .0)
@@ -43,7 +48,7 @@ returns-4 c =
     let g = c .before .before .before .before .before .before .before .before .before .before .before .before in
     let f = g .before .before .before .before .before .before .before in
     let a = f .before .before .before .before .before .before .args in
-    checks-pass (a .order) (a .stage-most) (a .reference-most) (now (a .stage)) (now (a .reference)) _ _
+    checks-pass (a .order) (filesWithin (a .registers) (a .stage-most) (a .reference-most) (now (a .stage)) (now (a .reference))) _ _
     (sym (g .before .before .before .counts .given .1) ∙ f .read-stage-within .ensures .0) (f .read-stage-within .ensures .1) _ _
     (sym (c .before .before .before .before .before .before .before .before .sizes .given .1) ∙ g .read-reference-within .ensures .0) (g .read-reference-within .ensures .1)
     (sym (c .enum-told .given .1) ∙ c .before .before .before .before .judge .ensures .0) (c .before .before .before .before .judge .ensures .1 (c .enum-told .given .1))

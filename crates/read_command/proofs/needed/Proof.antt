@@ -14,18 +14,22 @@ returns c = rw (c .before .before .enum-told .given .1, ← c .before .kind-of .
 
 returns-2 : tie.Need-returns-2
 unfolding needed
-returns-2 c = rw (c .before .enum-told2 .given .1, c .match2 .keys1)
+returns-2 c = rw (c .before .before .enum-told2 .given .1, ← c .before .kind-of2 .ensures) (c .pins-needed2 .ensures)
 
 returns-3 : tie.Need-returns-3
-returns-3 c =
-    rw (c .before .before .before .enum-told2 .given .1) (sym (operation-two (c .before .before .before .before .before .args .code) (omega arith)
-    (omega arith)))
+unfolding needed
+returns-3 c = rw (c .before .enum-told3 .given .1, c .match2 .keys1)
 
 returns-4 : tie.Need-returns-4
-returns-4 c = rw (c .before .before .enum-told2 .given .1) (sym (operation-zero (c .before .before .before .before .args .code) (omega arith)))
+returns-4 c =
+    rw (c .before .before .before .enum-told3 .given .1) (sym (operation-two (c .before .before .before .before .before .args .code) (omega arith)
+    (omega arith)))
 
 returns-5 : tie.Need-returns-5
-returns-5 c = rw (c .before .before .before .enum-told2 .given .1) (sym (operation-past (c .before .before .before .before .before .args .code) (omega arith)))
+returns-5 c = rw (c .before .before .enum-told3 .given .1) (sym (operation-zero (c .before .before .before .before .args .code) (omega arith)))
+
+returns-6 : tie.Need-returns-6
+returns-6 c = rw (c .before .before .before .enum-told3 .given .1) (sym (operation-past (c .before .before .before .before .before .args .code) (omega arith)))
 
 pub needed-spec : {M : Type 1} → statement M
 needed-spec =
@@ -35,8 +39,12 @@ needed-spec =
     (λ c κs. search needs)
     (λ c κs. search needs)
     (λ c. search needs)
+    (λ c κs. search needs)
+    (λ c κs. search needs)
+    (λ c. search needs)
     returns
     returns-2
     returns-3
     returns-4
-    returns-5)
+    returns-5
+    returns-6)

@@ -6,18 +6,19 @@ use mathlib.Core.Path.{sym}
 use lib.ListN.{length}
 use borrow.Author.Needs.{needs}
 use Rattle.read_command.proofs.Forms.{few-bytes}
+use Rattle.read_file.specs.Files.{netsWith}
 use Rattle.read_file.proofs.Search.{Searched, after-gate, after-other, search-starts, search-past, command-room, search-found, search-goes}
 use Rattle.read_file.proofs.find_nameless.Statement.{statement}
 use Rattle.read_file.proofs.find_nameless.Tie as tie
 
 abbrev Inv-loop : tie.InvT-loop
-Inv-loop file n g s at₀ k₀ at k = Searched file n g s at k
+Inv-loop file n g s at₀ k₀ at k = Searched file (netsWith n g) s at k
 
 abbrev μ-loop : tie.MeasureT-loop
 μ-loop file n g s at₀ k₀ at k = length s - at
 
 loop-holds : tie.Need-loop-holds Inv-loop μ-loop
-loop-holds c = search-starts _ _ _ _ (c .before .pre .1)
+loop-holds c = search-starts _ _ _ (c .before .pre .1)
 
 nameless-at-requires : tie.Need-nameless-at-requires Inv-loop μ-loop
 nameless-at-requires c κs =

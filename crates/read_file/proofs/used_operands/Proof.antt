@@ -1,7 +1,7 @@
 -- `read_file::used_operands` meets its contract: a gate's code stands before its operands. Assumes nothing.
 use native.Mathlib.Omega.{arith}
 use borrow.Author.Needs.{needs}
-use Rattle.netlist.specs.Reading.{usedOperands}
+use Rattle.netlist.specs.Commands.{used}
 use Rattle.read_command.proofs.Forms.{gate-lead}
 use Rattle.read_file.proofs.Search.{used-all}
 use Rattle.read_file.proofs.used_operands.Statement.{statement}
@@ -11,7 +11,7 @@ shared-slice-read-needed : tie.Need-shared-slice-read-needed
 shared-slice-read-needed c = omega (arith, gate-lead _ _ (c .before .before .before .before .pre .0) (c .before .enum-told .given .1), c .before .before .before .before .pre .1)
 
 returns : tie.Need-returns
-unfolding usedOperands
+unfolding used
 returns c = rw (c .before .before .enum-told .given .1) (c .needed .ensures)
 
 returns-2 : tie.Need-returns-2
