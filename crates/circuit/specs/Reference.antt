@@ -42,7 +42,7 @@ abbrev pub referenceSize : Counts → ℕ
 referenceSize c = 3 * c .gates + c .outputs
 
 abbrev pub largestReference : ℕ
-largestReference = referenceSize referenceLimits
+largestReference = 3 * referenceLimits .gates + referenceLimits .outputs
 
 -- The numbers are a reference within the limits: its operations are known, its operands are inputs and earlier gates.
 pub record ReferenceLoaded (c : Counts) (code : List ℕ) : Type 0 where

@@ -11,9 +11,7 @@ slice-write-code-2 : tie.Need-slice-write-code-2
 slice-write-code-2 c = simp length-set (omega (arith, c .pre .1, c .pre .0 .room))
 
 returns : tie.Need-returns
-returns c =
-    let z = c .before in
-    gate-placed (z .args .counts) (now (z .args .code)) (z .args .k) (z .args .i) (z .pre .1) (z .pre .2) (omega (arith, z .pre .0 .room))
+returns c = gate-placed (c .args .counts) (now (c .args .code)) (c .args .k) (c .args .i) (c .pre .1) (c .pre .2) (omega (arith, c .pre .0 .room))
 
 pub place-gate-spec : {M : Type 1} → statement M
 place-gate-spec =
