@@ -8,6 +8,7 @@ use mathlib.Core.List.{List}
 use denote.Ref.{now}
 use borrow.Fn.Kinds.{In}
 use borrow.Fn.PlainCycle.{Measures, is, falls, and}
+use Rattle.circuit.proofs.form.pin_of.Reads as pin-of
 use Rattle.circuit_order.proofs.place_after.Reads as place-after
 use Rattle.circuit_order.proofs.place_after.Kinds as place-after-kinds
 use Rattle.circuit_order.proofs.+place_after.Lts-place_after as place-after-lts
@@ -34,6 +35,8 @@ place-after-μ-loop code₀ counts k waiting₀ taken depth placed₀ pin₀ cod
 
 -- src/lib.rt:55:9
 place-after-returns : (t : ℕ) → place-after-lts.Need-returns (
+  pin-of.Asked,
+  pin-of.Learnt,
   place-after-below t,
   place-after.Post,
   place-reads.Asked,
@@ -44,6 +47,8 @@ place-after-returns t c =
 
 -- src/lib.rt:59:5
 place-after-loop-holds : (t : ℕ) → place-after-lts.Need-loop-holds (
+  pin-of.Asked,
+  pin-of.Learnt,
   place-after-below t,
   place-after.Post,
   place-reads.Asked,
@@ -54,6 +59,8 @@ place-after-loop-holds t c =
 
 -- src/lib.rt:60:19
 place-after-pin-of-requires : (t : ℕ) → place-after-lts.Need-pin-of-requires (
+  pin-of.Asked,
+  pin-of.Learnt,
   place-after-below t,
   place-after.Post,
   place-reads.Asked,
@@ -63,6 +70,8 @@ place-after-pin-of-requires t c κs = (c .before .before .loop .inv .1 .placing 
 
 -- src/lib.rt:60:19
 place-after-cast-feeder : (t : ℕ) → place-after-lts.Need-cast-feeder (
+  pin-of.Asked,
+  pin-of.Learnt,
   place-after-below t,
   place-after.Post,
   place-reads.Asked,
@@ -73,6 +82,8 @@ place-after-cast-feeder t c =
 
 -- src/lib.rt:61:16
 place-after-slice-read-if2 : (t : ℕ) → place-after-lts.Need-slice-read-if2 (
+  pin-of.Asked,
+  pin-of.Learnt,
   place-after-below t,
   place-after.Post,
   place-reads.Asked,
@@ -83,6 +94,8 @@ place-after-slice-read-if2 t c =
 
 -- src/lib.rt:62:54
 place-after-mul-place-after : (t : ℕ) → place-after-lts.Need-mul-place-after (
+  pin-of.Asked,
+  pin-of.Learnt,
   place-after-below t,
   place-after.Post,
   place-reads.Asked,
@@ -93,6 +106,8 @@ place-after-mul-place-after t c =
 
 -- src/lib.rt:62:48
 place-after-sub-place-after : (t : ℕ) → place-after-lts.Need-sub-place-after (
+  pin-of.Asked,
+  pin-of.Learnt,
   place-after-below t,
   place-after.Post,
   place-reads.Asked,
@@ -104,6 +119,8 @@ place-after-sub-place-after t c =
 
 -- src/lib.rt:62:90
 place-after-sub-place-after-2 : (t : ℕ) → place-after-lts.Need-sub-place-after-2 (
+  pin-of.Asked,
+  pin-of.Learnt,
   place-after-below t,
   place-after.Post,
   place-reads.Asked,
@@ -114,6 +131,8 @@ place-after-sub-place-after-2 t c =
 
 -- src/lib.rt:62:13
 place-after-place-after-requires : (t : ℕ) → place-after-lts.Need-place-after-requires (
+  pin-of.Asked,
+  pin-of.Learnt,
   place-after-below t,
   place-after.Post,
   place-reads.Asked,
@@ -126,6 +145,8 @@ place-after-place-after-requires t c κs =
 
 -- src/lib.rt:63:20
 place-after-slice-read-if3 : (t : ℕ) → place-after-lts.Need-slice-read-if3 (
+  pin-of.Asked,
+  pin-of.Learnt,
   place-after-below t,
   place-after.Post,
   place-reads.Asked,
@@ -136,6 +157,8 @@ place-after-slice-read-if3 t c =
 
 -- src/lib.rt:64:17
 place-after-same-length : (t : ℕ) → place-after-lts.Need-same-length (
+  pin-of.Asked,
+  pin-of.Learnt,
   place-after-below t,
   place-after.Post,
   place-reads.Asked,
@@ -146,6 +169,8 @@ place-after-same-length t c =
 
 -- src/lib.rt:64:17
 place-after-same-length-2 : (t : ℕ) → place-after-lts.Need-same-length-2 (
+  pin-of.Asked,
+  pin-of.Learnt,
   place-after-below t,
   place-after.Post,
   place-reads.Asked,
@@ -156,6 +181,8 @@ place-after-same-length-2 t c =
 
 -- src/lib.rt:64:17
 place-after-returns-2 : (t : ℕ) → place-after-lts.Need-returns-2 (
+  pin-of.Asked,
+  pin-of.Learnt,
   place-after-below t,
   place-after.Post,
   place-reads.Asked,
@@ -169,6 +196,8 @@ place-after-returns-2 t c =
 
 -- src/lib.rt:67:9
 place-after-add-pin : (t : ℕ) → place-after-lts.Need-add-pin (
+  pin-of.Asked,
+  pin-of.Learnt,
   place-after-below t,
   place-after.Post,
   place-reads.Asked,
@@ -179,6 +208,8 @@ place-after-add-pin t c =
 
 -- src/lib.rt:59:5
 place-after-loop-less : (t : ℕ) → place-after-lts.Need-loop-less (
+  pin-of.Asked,
+  pin-of.Learnt,
   place-after-below t,
   place-after.Post,
   place-reads.Asked,
@@ -189,6 +220,8 @@ place-after-loop-less t c =
 
 -- src/lib.rt:59:5
 place-after-loop-again : (t : ℕ) → place-after-lts.Need-loop-again (
+  pin-of.Asked,
+  pin-of.Learnt,
   place-after-below t,
   place-after.Post,
   place-reads.Asked,
@@ -207,6 +240,8 @@ place-after-loop-again t c =
 
 -- src/lib.rt:69:16
 place-after-mul-if4 : (t : ℕ) → place-after-lts.Need-mul-if4 (
+  pin-of.Asked,
+  pin-of.Learnt,
   place-after-below t,
   place-after.Post,
   place-reads.Asked,
@@ -217,6 +252,8 @@ place-after-mul-if4 t c =
 
 -- src/lib.rt:69:16
 place-after-add-if4 : (t : ℕ) → place-after-lts.Need-add-if4 (
+  pin-of.Asked,
+  pin-of.Learnt,
   place-after-below t,
   place-after.Post,
   place-reads.Asked,
@@ -227,6 +264,8 @@ place-after-add-if4 t c =
 
 -- src/lib.rt:69:8
 place-after-slice-read-if4 : (t : ℕ) → place-after-lts.Need-slice-read-if4 (
+  pin-of.Asked,
+  pin-of.Learnt,
   place-after-below t,
   place-after.Post,
   place-reads.Asked,
@@ -237,6 +276,8 @@ place-after-slice-read-if4 t c =
 
 -- src/lib.rt:70:9
 place-after-same-length-3 : (t : ℕ) → place-after-lts.Need-same-length-3 (
+  pin-of.Asked,
+  pin-of.Learnt,
   place-after-below t,
   place-after.Post,
   place-reads.Asked,
@@ -247,6 +288,8 @@ place-after-same-length-3 t c =
 
 -- src/lib.rt:70:9
 place-after-same-length-4 : (t : ℕ) → place-after-lts.Need-same-length-4 (
+  pin-of.Asked,
+  pin-of.Learnt,
   place-after-below t,
   place-after.Post,
   place-reads.Asked,
@@ -257,6 +300,8 @@ place-after-same-length-4 t c =
 
 -- src/lib.rt:70:9
 place-after-returns-3 : (t : ℕ) → place-after-lts.Need-returns-3 (
+  pin-of.Asked,
+  pin-of.Learnt,
   place-after-below t,
   place-after.Post,
   place-reads.Asked,
@@ -267,6 +312,8 @@ place-after-returns-3 t c =
 
 -- src/lib.rt:72:5
 place-after-place-requires : (t : ℕ) → place-after-lts.Need-place-requires (
+  pin-of.Asked,
+  pin-of.Learnt,
   place-after-below t,
   place-after.Post,
   place-reads.Asked,
@@ -277,6 +324,8 @@ place-after-place-requires t c κs =
 
 -- src/lib.rt:73:5
 place-after-add-result : (t : ℕ) → place-after-lts.Need-add-result (
+  pin-of.Asked,
+  pin-of.Learnt,
   place-after-below t,
   place-after.Post,
   place-reads.Asked,
@@ -287,6 +336,8 @@ place-after-add-result t c =
 
 -- src/lib.rt:50:1
 place-after-same-length-5 : (t : ℕ) → place-after-lts.Need-same-length-5 (
+  pin-of.Asked,
+  pin-of.Learnt,
   place-after-below t,
   place-after.Post,
   place-reads.Asked,
@@ -297,6 +348,8 @@ place-after-same-length-5 t c =
 
 -- src/lib.rt:50:1
 place-after-same-length-6 : (t : ℕ) → place-after-lts.Need-same-length-6 (
+  pin-of.Asked,
+  pin-of.Learnt,
   place-after-below t,
   place-after.Post,
   place-reads.Asked,
@@ -307,6 +360,8 @@ place-after-same-length-6 t c =
 
 -- src/lib.rt:50:1
 place-after-returns-4 : (t : ℕ) → place-after-lts.Need-returns-4 (
+  pin-of.Asked,
+  pin-of.Learnt,
   place-after-below t,
   place-after.Post,
   place-reads.Asked,
@@ -319,6 +374,8 @@ place-after-returns-4 t c =
 
 pub +place-after-spec : {M : Type 1} → statement M
 +place-after-spec = close μ-place-after λ t. place-after-lts.spec (
+  pin-of.Asked,
+  pin-of.Learnt,
   place-after-below t,
   place-after.Post,
   place-reads.Asked,

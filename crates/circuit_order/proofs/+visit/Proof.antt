@@ -13,6 +13,7 @@ use Rattle.circuit_order.specs.Marks.{Visited, FirstPins}
 use Rattle.circuit_order.proofs.Visiting.{visit-start, visit-skip, visit-gate, visit-left, visit-sum, visit-more, visit-done}
 use borrow.Fn.Kinds.{In}
 use borrow.Fn.PlainCycle.{Measures, is, falls, and}
+use Rattle.circuit.proofs.form.pin_of.Reads as pin-of
 use Rattle.circuit_order.proofs.visit.Reads as visit
 use Rattle.circuit_order.proofs.visit.Kinds as visit-kinds
 use Rattle.circuit_order.proofs.+visit.Lts-visit as visit-lts
@@ -38,7 +39,7 @@ visit-μ-loop code counts k left₀ i₀ left i = 4 - i
 visit-loop-holds :
     (t : ℕ) →
     visit-lts.Need-loop-holds
-    (visit-below t, visit.Post)
+    (pin-of.Asked, pin-of.Learnt, visit-below t, visit.Post)
     (visit-at t)
     visit.Post
     visit-Inv-loop
@@ -47,17 +48,14 @@ visit-loop-holds t c =
     let z = c .before .before in (omega arith, visit-start (z .args .counts) (now (z .args .code)) (z .pre .1 .0) (z .args .k) (z .pre .1 .1) (now (z .args .left)) (z .pre .1 .2))
 
 -- src/lib.rt:96:19
-visit-pin-of-requires : (t : ℕ) → visit-lts.Need-pin-of-requires (
-  visit-below t,
-  visit.Post,
-) (visit-at t) visit.Post visit-Inv-loop visit-μ-loop
+visit-pin-of-requires : (t : ℕ) → visit-lts.Need-pin-of-requires (pin-of.Asked, pin-of.Learnt, visit-below t, visit.Post) (visit-at t) visit.Post visit-Inv-loop visit-μ-loop
 visit-pin-of-requires t c κs = let z = c .before .before .before .before in (z .pre .1 .0, z .pre .1 .1, c .loop-test .taken)
 
 -- src/lib.rt:96:19
 visit-cast-net :
     (t : ℕ) →
     visit-lts.Need-cast-net
-    (visit-below t, visit.Post)
+    (pin-of.Asked, pin-of.Learnt, visit-below t, visit.Post)
     (visit-at t)
     visit.Post
     visit-Inv-loop
@@ -69,7 +67,7 @@ visit-cast-net t c =
 visit-slice-read-if1 :
     (t : ℕ) →
     visit-lts.Need-slice-read-if1
-    (visit-below t, visit.Post)
+    (pin-of.Asked, pin-of.Learnt, visit-below t, visit.Post)
     (visit-at t)
     visit.Post
     visit-Inv-loop
@@ -81,7 +79,7 @@ visit-slice-read-if1 t c =
 visit-slice-write-left :
     (t : ℕ) →
     visit-lts.Need-slice-write-left
-    (visit-below t, visit.Post)
+    (pin-of.Asked, pin-of.Learnt, visit-below t, visit.Post)
     (visit-at t)
     visit.Post
     visit-Inv-loop
@@ -93,7 +91,7 @@ visit-slice-write-left t c =
 visit-mul-visit :
     (t : ℕ) →
     visit-lts.Need-mul-visit
-    (visit-below t, visit.Post)
+    (pin-of.Asked, pin-of.Learnt, visit-below t, visit.Post)
     (visit-at t)
     visit.Post
     visit-Inv-loop
@@ -105,7 +103,7 @@ visit-mul-visit t c =
 visit-sub-visit :
     (t : ℕ) →
     visit-lts.Need-sub-visit
-    (visit-below t, visit.Post)
+    (pin-of.Asked, pin-of.Learnt, visit-below t, visit.Post)
     (visit-at t)
     visit.Post
     visit-Inv-loop
@@ -119,7 +117,7 @@ visit-sub-visit t c =
 visit-visit-requires :
     (t : ℕ) →
     visit-lts.Need-visit-requires
-    (visit-below t, visit.Post)
+    (pin-of.Asked, pin-of.Learnt, visit-below t, visit.Post)
     (visit-at t)
     visit.Post
     visit-Inv-loop
@@ -139,7 +137,7 @@ visit-visit-requires t c κs =
 visit-add-i :
     (t : ℕ) →
     visit-lts.Need-add-i
-    (visit-below t, visit.Post)
+    (pin-of.Asked, pin-of.Learnt, visit-below t, visit.Post)
     (visit-at t)
     visit.Post
     visit-Inv-loop
@@ -151,7 +149,7 @@ visit-add-i t c =
 visit-loop-less :
     (t : ℕ) →
     visit-lts.Need-loop-less
-    (visit-below t, visit.Post)
+    (pin-of.Asked, pin-of.Learnt, visit-below t, visit.Post)
     (visit-at t)
     visit.Post
     visit-Inv-loop
@@ -163,7 +161,7 @@ visit-loop-less t c =
 visit-loop-again :
     (t : ℕ) →
     visit-lts.Need-loop-again
-    (visit-below t, visit.Post)
+    (pin-of.Asked, pin-of.Learnt, visit-below t, visit.Post)
     (visit-at t)
     visit.Post
     visit-Inv-loop
@@ -185,7 +183,7 @@ visit-loop-again t c =
 visit-same-length :
     (t : ℕ) →
     visit-lts.Need-same-length
-    (visit-below t, visit.Post)
+    (pin-of.Asked, pin-of.Learnt, visit-below t, visit.Post)
     (visit-at t)
     visit.Post
     visit-Inv-loop
@@ -197,7 +195,7 @@ visit-same-length t c =
 visit-returns :
     (t : ℕ) →
     visit-lts.Need-returns
-    (visit-below t, visit.Post)
+    (pin-of.Asked, pin-of.Learnt, visit-below t, visit.Post)
     (visit-at t)
     visit.Post
     visit-Inv-loop
@@ -212,7 +210,7 @@ pub +visit-spec : {M : Type 1} → statement M
     close
     μ-visit
     λ t. visit-lts.spec
-    (visit-below t, visit.Post)
+    (pin-of.Asked, pin-of.Learnt, visit-below t, visit.Post)
     (visit-at t)
     visit.Post
     visit-Inv-loop
