@@ -1,12 +1,11 @@
 -- `check_word::unobserved_at` meets its contract: no gate before g in the order is g, so those have the levels that they are to have with g
 -- held low. Assumes nothing.
 use native.Mathlib.Omega.{arith}
-use Prim.Native.Nat.{ℕ, _+_}
-use mathlib.Core.Path.{_≡_, sym, _∙_, subst}
+use Prim.Native.Nat.{_+_}
+use mathlib.Core.Path.{_≡_, sym, _∙_}
 use lib.Seq.{length-take-le}
 use denote.Ref.{now}
 use Rattle.circuit.specs.Stage.{netCount}
-use Rattle.circuit.specs.Rows.{SettledTo}
 use Rattle.circuit.proofs.Settling.{copied-row, copied-nets}
 use Rattle.check_word.proofs.Holding.{unobserved-low, unobserved-high, hold-before, rails-same, settled-same}
 use borrow.Author.Needs.{needs}
@@ -45,7 +44,7 @@ settle-from-requires c κs =
       z .pre .0,
       z .pre .1,
       r,
-      subst (λ (s : ℕ). SettledTo s (z .args .g) (z .args .counts) (now (z .args .code)) _) (sym (c .before .place-of .ensures))
+      rw (c .before .place-of .ensures)
           (hold-before (z .args .counts) (now (z .args .code)) _ (z .pre .1) r
           (settled-same (z .args .counts) (now (z .args .code)) (now (z .args .row)) (z .pre .3) _ n) (z .args .g) (z .pre .4)),
     )
