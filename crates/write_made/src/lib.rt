@@ -211,12 +211,12 @@ pub fn put_gate(
     ensures rails { λ r. ⌜ ((p : Rails) × (pairOf p ∷ [] ≡ becomes sizes (now (reference .entry)) k (now (rails .entry)) made .rails)
         × (now (rails .exit) ≡ set (set (now (rails .entry)) (2 * (sizes .inputs + k)) (p .rail0)) (2 * (sizes .inputs + k) + 1) (p .rail1))) ⌝ }
 {
+    let at = 2 * (sizes.inputs + k);
     let operation = circuit::form::operation_of(reference, sizes, k);
     let operands = circuit::form::operands_of(reference, sizes, k);
     let a = rails_of(rails, operands.a);
     let b = rails_of(rails, operands.b);
     let result = result_rails(operation, a, (2 * sizes.inputs + made) as u16);
-    let at = 2 * (sizes.inputs + k);
     rails[at] = result.rail0;
     rails[at + 1] = result.rail1;
     if operation == 1 {
