@@ -34,10 +34,26 @@ fn number_of(which: Sweep) -> u64
     }
 }
 
+// The words of block b that a mask names are asked for 14 and 20, once.
+fn narrow(which: Sweep, mask: &mut [u64], asked: &mut [bool], code: &[u16], counts: Counts, b: usize)
+{
+    if b < asked.len() {
+        if asked[b] {
+            return;
+        }
+        asked[b] = true;
+        if b < mask.len() {
+            let old = mask[b];
+            mask[b] = old & lane_complete::input_words(which, code, counts, b);
+        }
+    }
+}
+
 // What one of the checks finds in word w. A word that its mask does not name is passed over.
 fn find_suspect(
     which: Sweep,
-    mask: &[u64],
+    mask: &mut [u64],
+    asked: &mut [bool],
     code: &[u16],
     counts: Counts,
     reference: &[u16],
@@ -49,7 +65,10 @@ fn find_suspect(
     ensures { λ r. ⌜ r ≡ finds which (stageIn counts (now (code .entry))) (referenceIn sizes (now (reference .entry))) w ⌝ }
 {
     if lane_screen::is_named(mask, w) {
-        return check_word::find(which, code, counts, reference, sizes, w);
+        narrow(which, mask, asked, code, counts, w / 64);
+        if lane_screen::is_named(mask, w) {
+            return check_word::find(which, code, counts, reference, sizes, w);
+        }
     }
     Found::Nothing
 }
@@ -59,7 +78,7 @@ fn sweep_words(
     which: Sweep,
     order: WordOrder,
     list: &[u16],
-    mask: &[u64],
+    mask: &mut [u64],
     code: &[u16],
     counts: Counts,
     reference: &[u16],
@@ -70,11 +89,12 @@ fn sweep_words(
     ensures { λ r. ⌜ r ≡ swept which order (stageIn counts (now (code .entry))) (referenceIn sizes (now (reference .entry))) ⌝ }
 {
     let number = number_of(which);
+    let mut asked = [false; lane_settle::BLOCKS];
     let mut k: usize = 0;
     while k < list.len() {
         let name = list[k] as usize;
         let w = words::word_of(order, counts.inputs, name);
-        if let Found::At(i) = find_suspect(which, mask, code, counts, reference, sizes, w) {
+        if let Found::At(i) = find_suspect(which, mask, &mut asked, code, counts, reference, sizes, w) {
             return Finding::Fault(Verdict {
                 number,
                 file: 1,
@@ -92,7 +112,7 @@ fn sweep_check(
     which: Sweep,
     order: WordOrder,
     list: &[u16],
-    mask: &[u64],
+    mask: &mut [u64],
     code: &[u16],
     counts: Counts,
     reference: &[u16],
@@ -168,12 +188,12 @@ fn sweep_named(
     let mut i: usize = 0;
     while i < count {
         let which = sweep_at(i);
-        let mask = mask_of(which, masks);
+        let mut mask = mask_of(which, masks);
         if let Finding::Fault(v) = sweep_check(
             which,
             order,
             list,
-            &mask,
+            &mut mask,
             code,
             counts,
             reference,
