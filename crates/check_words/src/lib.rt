@@ -35,8 +35,14 @@ fn number_of(which: Sweep) -> u64
 }
 
 // The words of block b that a mask names are asked for 14 and 20, once.
-fn narrow(which: Sweep, mask: &mut [u64], asked: &mut [bool], code: &[u16], counts: Counts, b: usize)
-{
+fn narrow(
+    which: Sweep,
+    mask: &mut [u64],
+    asked: &mut [bool],
+    code: &[u16],
+    counts: Counts,
+    b: usize,
+) {
     if b < asked.len() {
         if asked[b] {
             return;
@@ -94,7 +100,16 @@ fn sweep_words(
     while k < list.len() {
         let name = list[k] as usize;
         let w = words::word_of(order, counts.inputs, name);
-        if let Found::At(i) = find_suspect(which, mask, &mut asked, code, counts, reference, sizes, w) {
+        if let Found::At(i) = find_suspect(
+            which,
+            mask,
+            &mut asked,
+            code,
+            counts,
+            reference,
+            sizes,
+            w,
+        ) {
             return Finding::Fault(Verdict {
                 number,
                 file: 1,
