@@ -1,75 +1,53 @@
+-- `lane_complete::fall_gates` meets its contract. The loop's invariant: the gates before place i of the order have their levels. The measure is what
+-- is left of the order. Assumes nothing.
+use Prim.Native.Nat.{ℕ, _-_, _≤_}
+use native.Mathlib.Omega.{arith}
+use mathlib.Core.Path.{_≡_, refl, subst, _∙_}
+use lib.ListN.{length, length-set}
+use denote.Ref.{now}
+use borrow.Author.Needs.{needs}
+use Rattle.lane_settle.specs.Block.{LanesSettledTo, AtRest}
+use Rattle.lane_settle.proofs.Resting.{settled-rest}
+use Rattle.lane_complete.specs.Rows.{FallenRows}
+use Rattle.lane_complete.proofs.Turns.{SettlesTo, settles-start, fall-turn}
 use Rattle.lane_complete.proofs.fall_gates.Statement.{statement}
 use Rattle.lane_complete.proofs.fall_gates.Tie as tie
-use Rattle.lane_complete.proofs.fall_gates.Reads as reads
-use Rattle.lane_complete.proofs.fall_gates.Lts as lts
-use Rattle.circuit.proofs.form.gate_at.Reads as gate-at-reads
-use Rattle.lane_complete.proofs.stay_words.Reads as stay-words-reads
 
 abbrev Inv-loop : tie.InvT-loop
-Inv-loop code counts rest row₀ first count i₀ row i = ?
+Inv-loop code counts rest row₀ first count i₀ row i =
+    (i ≤ count) × (length row ≡ length row₀) × ((b n : ℕ) → AtRest counts code b rest → SettlesTo (FallenRows counts code b n) counts code row₀ row i)
 
 abbrev μ-loop : tie.MeasureT-loop
-μ-loop code counts rest row₀ first count i₀ row i = ?
+μ-loop code counts rest row₀ first count i₀ row i = count - i
 
--- src/lib.rt:65:17
-mul-first : tie.Need-mul-first Inv-loop μ-loop
-mul-first c = ?
-
--- src/lib.rt:68:5
 loop-holds : tie.Need-loop-holds Inv-loop μ-loop
-loop-holds c = ?
+loop-holds c = (omega arith, refl, λ b n r. settles-start _ _ _ _)
 
--- src/lib.rt:69:13
-gate-at-requires : tie.Need-gate-at-requires Inv-loop μ-loop
-gate-at-requires c κs = ?
-
--- src/lib.rt:70:31
-add-row : tie.Need-add-row Inv-loop μ-loop
-add-row c = ?
-
--- src/lib.rt:70:26
-mul-row : tie.Need-mul-row Inv-loop μ-loop
-mul-row c = ?
-
--- src/lib.rt:70:26
-shared-slice-read-row : tie.Need-shared-slice-read-row Inv-loop μ-loop
-shared-slice-read-row c = ?
-
--- src/lib.rt:70:44
 stay-words-requires : tie.Need-stay-words-requires Inv-loop μ-loop
-stay-words-requires c κs = ?
+stay-words-requires c κs = (c .before .before .before .before .before .before .before .before .before .pre .0, c .before .before .gate-at .ensures .there, omega (arith, c .before .before .before .before .loop .inv .1, c .before .before .before .before .before .before .before .before .before .pre .3))
 
--- src/lib.rt:70:13
-add-row-2 : tie.Need-add-row-2 Inv-loop μ-loop
-add-row-2 c = ?
-
--- src/lib.rt:70:9
-mul-row-2 : tie.Need-mul-row-2 Inv-loop μ-loop
-mul-row-2 c = ?
-
--- src/lib.rt:70:9
-slice-write-row : tie.Need-slice-write-row Inv-loop μ-loop
-slice-write-row c = ?
-
--- src/lib.rt:71:9
-add-i : tie.Need-add-i Inv-loop μ-loop
-add-i c = ?
-
--- src/lib.rt:68:5
-loop-less : tie.Need-loop-less Inv-loop μ-loop
-loop-less c = ?
-
--- src/lib.rt:68:5
 loop-again : tie.Need-loop-again Inv-loop μ-loop
-loop-again c = ?
+loop-again c =
+    let z = c .before .before .before .before .before .before .before .before .before .before in
+    let l = c .before .before .before .before .before .loop in (
+      omega arith,
+      simp length-set (l .inv .1),
+      λ b n r. fall-turn (z .args .counts) (now (z .args .code)) (z .pre .0) (z .pre .1) (now (z .args .row)) (l .row) (omega (arith, l .inv .1, z .pre .3)) (l .i) (omega arith) _
+          (c .before .before .before .gate-at .ensures) b n (now (z .args .rest)) r (l .inv .2 b n r) _ (c .stay-words .ensures),
+    )
 
--- src/lib.rt:59:1
 same-length : tie.Need-same-length Inv-loop μ-loop
-same-length c = ?
+same-length c = c .before .loop .inv .1
 
--- src/lib.rt:59:1
 returns : tie.Need-returns Inv-loop μ-loop
-returns c = ?
+returns c =
+    let z = c .before .before .before .before .before .before in
+    let l = c .before .loop in
+    let e : l .i ≡ z .args .counts .gates = omega (arith, l .inv .0) in (
+      l .inv .1,
+      λ b n rows r ok s. settled-rest (z .args .counts) (now (z .args .code)) (z .pre .1) rows (l .row)
+          (subst (LanesSettledTo (z .args .counts) (now (z .args .code)) rows (l .row)) e (l .inv .2 b n r rows ok s)),
+    )
 
 pub fall-gates-spec : {M : Type 1} → statement M
 fall-gates-spec =
@@ -77,18 +55,18 @@ fall-gates-spec =
     (tie.spec
     Inv-loop
     μ-loop
-    mul-first
+    (λ c. search needs)
     loop-holds
-    gate-at-requires
-    add-row
-    mul-row
-    shared-slice-read-row
+    (λ c κs. search needs)
+    (λ c. omega arith)
+    (λ c. omega arith)
+    (λ c. omega (arith, c .before .before .before .before .before .before .before .before .pre .2, c .before .gate-at .ensures .there))
     stay-words-requires
-    add-row-2
-    mul-row-2
-    slice-write-row
-    add-i
-    loop-less
+    (λ c. omega arith)
+    (λ c. omega arith)
+    (λ c. omega (arith, c .before .before .before .before .before .loop .inv .1, c .before .before .before .before .before .before .before .before .before .before .pre .3, c .before .before .before .gate-at .ensures .there))
+    (λ c. omega arith)
+    (λ c. omega arith)
     loop-again
     same-length
     returns)

@@ -1,28 +1,16 @@
+-- `lane_complete::set_words` meets its contract. Assumes nothing.
+use mathlib.Core.Path.{_∙_}
+use denote.Ref.{now}
 use borrow.Author.Needs.{needs}
+use Rattle.lane_complete.proofs.Gates.{may-rise}
 use Rattle.lane_complete.proofs.set_words.Statement.{statement}
 use Rattle.lane_complete.proofs.set_words.Tie as tie
-use Rattle.lane_complete.proofs.set_words.Reads as reads
-use Rattle.lane_complete.proofs.set_words.Lts as lts
-use Rattle.circuit.proofs.form.cell_of.Reads as cell-of-reads
-use Rattle.lane_cells.proofs.set_lanes.Reads as set-lanes-reads
-use Rattle.lane_settle.proofs.pin_lanes.Reads as pin-lanes-reads
 
--- src/lib.rt:24:9
-cell-of-requires : tie.Need-cell-of-requires
-cell-of-requires c κs = search needs
-
--- src/lib.rt:25:9
-pin-lanes-requires : tie.Need-pin-lanes-requires
-pin-lanes-requires c κs = search needs
-
--- src/lib.rt:26:5
-set-lanes-requires : tie.Need-set-lanes-requires
-set-lanes-requires c κs = search needs
-
--- src/lib.rt:20:1
 returns : tie.Need-returns
-returns c = ?
+returns c =
+    let z = c .before .before .before .before .before in
+    may-rise (z .args .counts) (now (z .args .code)) (z .pre .0) (z .args .k) (z .pre .1) (now (z .args .row)) _
+    (c .set-lanes .ensures ∙ rw (c .before .before .cell-of .ensures .is, c .before .pin-lanes .ensures))
 
 pub set-words-spec : {M : Type 1} → statement M
-set-words-spec =
-    tie.close (tie.spec cell-of-requires pin-lanes-requires set-lanes-requires returns)
+set-words-spec = tie.close (tie.spec (λ c κs. search needs) (λ c κs. search needs) (λ c κs. search needs) returns)

@@ -1,63 +1,52 @@
+-- `lane_complete::settle_gates` meets its contract. The loop's invariant: the gates before place i of the order have their levels. The measure is what
+-- is left of the order. Assumes nothing.
+use Prim.Native.Nat.{_-_, _≤_}
+use native.Mathlib.Omega.{arith}
+use mathlib.Core.Path.{_≡_, refl, subst, _∙_}
+use lib.ListN.{length, length-set}
+use denote.Ref.{now}
+use borrow.Author.Needs.{needs}
+use Rattle.lane_settle.specs.Block.{LanesSettledTo}
+use Rattle.lane_settle.proofs.Resting.{settled-rest}
+use Rattle.lane_complete.specs.Rows.{SettledRows}
+use Rattle.lane_complete.proofs.Turns.{SettlesTo, settles-start, rise-turn}
 use Rattle.lane_complete.proofs.settle_gates.Statement.{statement}
 use Rattle.lane_complete.proofs.settle_gates.Tie as tie
-use Rattle.lane_complete.proofs.settle_gates.Reads as reads
-use Rattle.lane_complete.proofs.settle_gates.Lts as lts
-use Rattle.circuit.proofs.form.gate_at.Reads as gate-at-reads
-use Rattle.lane_complete.proofs.set_words.Reads as set-words-reads
 
 abbrev Inv-loop : tie.InvT-loop
-Inv-loop code counts row₀ first count i₀ row i = ?
+Inv-loop code counts row₀ first count i₀ row i = (i ≤ count) × (length row ≡ length row₀) × SettlesTo (SettledRows counts code) counts code row₀ row i
 
 abbrev μ-loop : tie.MeasureT-loop
-μ-loop code counts row₀ first count i₀ row i = ?
+μ-loop code counts row₀ first count i₀ row i = count - i
 
--- src/lib.rt:36:17
-mul-first : tie.Need-mul-first Inv-loop μ-loop
-mul-first c = ?
-
--- src/lib.rt:39:5
 loop-holds : tie.Need-loop-holds Inv-loop μ-loop
-loop-holds c = ?
+loop-holds c = (omega arith, refl, settles-start _ _ _ _)
 
--- src/lib.rt:40:13
-gate-at-requires : tie.Need-gate-at-requires Inv-loop μ-loop
-gate-at-requires c κs = ?
-
--- src/lib.rt:41:26
 set-words-requires : tie.Need-set-words-requires Inv-loop μ-loop
-set-words-requires c κs = ?
+set-words-requires c κs = (c .before .before .before .before .before .before .before .pre .0, c .before .gate-at .ensures .there, omega (arith, c .before .before .before .loop .inv .1, c .before .before .before .before .before .before .before .pre .2))
 
--- src/lib.rt:41:13
-add-row : tie.Need-add-row Inv-loop μ-loop
-add-row c = ?
-
--- src/lib.rt:41:9
-mul-row : tie.Need-mul-row Inv-loop μ-loop
-mul-row c = ?
-
--- src/lib.rt:41:9
-slice-write-row : tie.Need-slice-write-row Inv-loop μ-loop
-slice-write-row c = ?
-
--- src/lib.rt:42:9
-add-i : tie.Need-add-i Inv-loop μ-loop
-add-i c = ?
-
--- src/lib.rt:39:5
-loop-less : tie.Need-loop-less Inv-loop μ-loop
-loop-less c = ?
-
--- src/lib.rt:39:5
 loop-again : tie.Need-loop-again Inv-loop μ-loop
-loop-again c = ?
+loop-again c =
+    let z = c .before .before .before .before .before .before .before .before in
+    let l = c .before .before .before .before .loop in (
+      omega arith,
+      simp length-set (l .inv .1),
+      rise-turn (z .args .counts) (now (z .args .code)) (z .pre .0) (z .pre .1) (now (z .args .row)) (l .row) (omega (arith, l .inv .1, z .pre .2)) (l .i) (omega arith) _
+          (c .before .before .gate-at .ensures) (l .inv .2) _ (c .set-words .ensures),
+    )
 
--- src/lib.rt:30:1
 same-length : tie.Need-same-length Inv-loop μ-loop
-same-length c = ?
+same-length c = c .before .loop .inv .1
 
--- src/lib.rt:30:1
 returns : tie.Need-returns Inv-loop μ-loop
-returns c = ?
+returns c =
+    let z = c .before .before .before .before .before in
+    let l = c .before .loop in
+    let e : l .i ≡ z .args .counts .gates = omega (arith, l .inv .0) in (
+      l .inv .1,
+      λ rows ok s. settled-rest (z .args .counts) (now (z .args .code)) (z .pre .1) rows (l .row)
+          (subst (LanesSettledTo (z .args .counts) (now (z .args .code)) rows (l .row)) e (l .inv .2 rows ok s)),
+    )
 
 pub settle-gates-spec : {M : Type 1} → statement M
 settle-gates-spec =
@@ -65,15 +54,15 @@ settle-gates-spec =
     (tie.spec
     Inv-loop
     μ-loop
-    mul-first
+    (λ c. search needs)
     loop-holds
-    gate-at-requires
+    (λ c κs. search needs)
     set-words-requires
-    add-row
-    mul-row
-    slice-write-row
-    add-i
-    loop-less
+    (λ c. omega arith)
+    (λ c. omega arith)
+    (λ c. omega (arith, c .before .before .before .before .loop .inv .1, c .before .before .before .before .before .before .before .before .pre .2, c .before .before .gate-at .ensures .there))
+    (λ c. omega arith)
+    (λ c. omega arith)
     loop-again
     same-length
     returns)
