@@ -1,3 +1,4 @@
 pub mod Gates
 pub mod Turns
 pub mod Outputs
+pub mod Inputs
