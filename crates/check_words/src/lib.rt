@@ -34,7 +34,7 @@ fn number_of(which: Sweep) -> u64
     }
 }
 
-// The words of block b that a mask names are asked for 14 and 20, once.
+// The first time that block b is asked for, its words in which 14 or 20 finds nothing are taken out of the mask.
 fn narrow(
     which: Sweep,
     mask: &mut [u64],
@@ -42,20 +42,26 @@ fn narrow(
     code: &[u16],
     counts: Counts,
     b: usize,
-) {
-    if b < asked.len() {
-        if asked[b] {
-            return;
-        }
-        asked[b] = true;
-        if b < mask.len() {
+)
+    requires { ⌜ StageLoaded counts (now code) × InOrder counts (now code) ⌝ }
+    ensures long { λ r. ⌜ (length (now (mask .exit)) ≡ length (now (mask .entry))) × (length (now (asked .exit)) ≡ length (now (asked .entry))) ⌝ }
+    ensures clean { λ r. ⌜ ((reference : Reference) → Clean which (stageIn counts (now (code .entry))) reference (now (mask .entry))
+        → Clean which (stageIn counts (now (code .entry))) reference (now (mask .exit))) ⌝ }
+{
+    if b < mask.len() {
+        if b < asked.len() {
+            if asked[b] {
+                return;
+            }
+            asked[b] = true;
+            let words = lane_complete::input_words(which, code, counts, b);
             let old = mask[b];
-            mask[b] = old & lane_complete::input_words(which, code, counts, b);
+            mask[b] = old & words;
         }
     }
 }
 
-// What one of the checks finds in word w. A word that its mask does not name is passed over.
+// What one of the checks finds in word w. A word that its mask does not name is passed over, or does not any more once its block is asked.
 fn find_suspect(
     which: Sweep,
     mask: &mut [u64],
@@ -68,7 +74,9 @@ fn find_suspect(
 ) -> Found
     requires { ⌜ BothLoaded counts (now code) sizes (now reference)
         × Clean which (stageIn counts (now code)) (referenceIn sizes (now reference)) (now mask) ⌝ }
-    ensures { λ r. ⌜ r ≡ finds which (stageIn counts (now (code .entry))) (referenceIn sizes (now (reference .entry))) w ⌝ }
+    ensures long { λ r. ⌜ (length (now (mask .exit)) ≡ length (now (mask .entry))) × (length (now (asked .exit)) ≡ length (now (asked .entry))) ⌝ }
+    ensures clean { λ r. ⌜ Clean which (stageIn counts (now (code .entry))) (referenceIn sizes (now (reference .entry))) (now (mask .exit)) ⌝ }
+    ensures found { λ r. ⌜ r ≡ finds which (stageIn counts (now (code .entry))) (referenceIn sizes (now (reference .entry))) w ⌝ }
 {
     if lane_screen::is_named(mask, w) {
         narrow(which, mask, asked, code, counts, w / 64);
@@ -80,21 +88,23 @@ fn find_suspect(
 }
 
 // What one of the checks finds in the words of a stage, whose names are listed: the word of the least name with a fault, and the least fault in it.
+// The mask is narrowed on the way, block by block.
 fn sweep_words(
     which: Sweep,
     order: WordOrder,
     list: &[u16],
-    mask: &mut [u64],
+    mask: [u64; lane_settle::BLOCKS],
     code: &[u16],
     counts: Counts,
     reference: &[u16],
     sizes: Counts,
 ) -> Finding
     requires { ⌜ BothLoaded counts (now code) sizes (now reference) × (now list ≡ names order (stageIn counts (now code)))
-        × Clean which (stageIn counts (now code)) (referenceIn sizes (now reference)) (now mask) ⌝ }
+        × Clean which (stageIn counts (now code)) (referenceIn sizes (now reference)) mask ⌝ }
     ensures { λ r. ⌜ r ≡ swept which order (stageIn counts (now (code .entry))) (referenceIn sizes (now (reference .entry))) ⌝ }
 {
     let number = number_of(which);
+    let mut left = mask;
     let mut asked = [false; lane_settle::BLOCKS];
     let mut k: usize = 0;
     while k < list.len() {
@@ -102,7 +112,7 @@ fn sweep_words(
         let w = words::word_of(order, counts.inputs, name);
         if let Found::At(i) = find_suspect(
             which,
-            mask,
+            &mut left,
             &mut asked,
             code,
             counts,
@@ -127,17 +137,17 @@ fn sweep_check(
     which: Sweep,
     order: WordOrder,
     list: &[u16],
-    mask: &mut [u64],
+    mask: [u64; lane_settle::BLOCKS],
     code: &[u16],
     counts: Counts,
     reference: &[u16],
     sizes: Counts,
 ) -> Finding
     requires { ⌜ BothLoaded counts (now code) sizes (now reference) × (now list ≡ names order (stageIn counts (now code)))
-        × Clean which (stageIn counts (now code)) (referenceIn sizes (now reference)) (now mask) ⌝ }
+        × Clean which (stageIn counts (now code)) (referenceIn sizes (now reference)) mask ⌝ }
     ensures { λ r. ⌜ r ≡ swept which order (stageIn counts (now (code .entry))) (referenceIn sizes (now (reference .entry))) ⌝ }
 {
-    if lane_screen::none_named(mask, code, counts) {
+    if lane_screen::none_named(&mask, code, counts) {
         return Finding::Passed;
     }
     sweep_words(which, order, list, mask, code, counts, reference, sizes)
@@ -203,12 +213,12 @@ fn sweep_named(
     let mut i: usize = 0;
     while i < count {
         let which = sweep_at(i);
-        let mut mask = mask_of(which, masks);
+        let mask = mask_of(which, masks);
         if let Finding::Fault(v) = sweep_check(
             which,
             order,
             list,
-            &mut mask,
+            mask,
             code,
             counts,
             reference,
