@@ -1,5 +1,4 @@
 -- `write_joined::pins_at` meets its contract. Assumes nothing.
-use Prim.Native.Nat.{ℕ}
 use native.Mathlib.Omega.{arith}
 use mathlib.Core.Path.{sym, ap, _∙_}
 use Rattle.gates.specs.Cell.{pinCount}
@@ -15,7 +14,7 @@ returns-2 : tie.Need-returns-2
 returns-2 c = let f = c .before .before .cell-of in sym (pins-in-range 3 5 3 three-pins (f .result) (omega arith) (omega arith)) ∙ ap pinCount (f .ensures .is)
 
 returns-3 : tie.Need-returns-3
-returns-3 c = let f = c .before .before .cell-of in sym (pins-in-range 8 20 4 four-pins (f .result) (omega arith) (f .ensures .high)) ∙ ap pinCount (f .ensures .is)
+returns-3 c = let f = c .before .before .cell-of in sym (pins-in-range 8 20 4 four-pins (f .result) (omega arith) (omega (arith, f .ensures .high))) ∙ ap pinCount (f .ensures .is)
 
 pub pins-at-spec : {M : Type 1} → statement M
 pins-at-spec = tie.close (tie.spec (λ c κs. search needs) returns returns-2 returns-3)
