@@ -130,8 +130,8 @@ pub fn care_of(code: &[u16], counts: Counts, i: usize) -> usize
     requires { ⌜ StageLoaded counts (now code) × (i < counts .care) ⌝ }
     ensures { λ r. ⌜ CareAt counts (now (code .entry)) i r ⌝ }
 {
-    let from = 8 * counts.gates + 2 * counts.outputs;
-    code[from + i] as usize
+    let outputs = 8 * counts.gates;
+    code[outputs + (2 * counts.outputs + i)] as usize
 }
 
 // ---- a reference
