@@ -1,4 +1,4 @@
-use Prim.Native.Nat.{ℕ, suc, _+_, _*_, _-_, _≤_, _<_}
+use Prim.Native.Nat.{ℕ, suc, _+_, _-_, _≤_, _<_}
 use native.Mathlib.Omega.{arith}
 use Rattle.circuit_order.specs.Placing.{Placing, AfterPins, PlacedAfter}
 use Rattle.circuit_order.proofs.After.{after-none, pins-start, pins-skip, pin-waits, pins-more, pins-stuck, after-gone, after-ready, after-placed}

@@ -1,7 +1,7 @@
 -- `text_write::put_gate_net` meets its contract. The loop's invariant: no output before output j is on the net. Assumes nothing.
 use Prim.Native.Nat.{_-_}
 use native.Mathlib.Omega.{arith}
-use mathlib.Core.Path.{_≡_, refl, sym, ap, _∙_}
+use mathlib.Core.Path.{_≡_, refl, ap, _∙_}
 use lib.ListN.{length}
 use Rattle.write_decimal.proofs.Decimal.{next-same}
 use Rattle.text_write.proofs.Names.{NotBefore, not-before, on-rail-0, on-rail-1, not-on, gate-name}
