@@ -45,7 +45,7 @@ fn put_gate_net(code: &[u16], counts: Counts, v: usize, work: &mut [u8], at: usi
     ensures { λ r. ⌜ PutNext (now (work .entry)) at (text.netName (counts .inputs) (stageOutputs counts (now (code .entry))) v) (now (work .exit)) r ⌝ }
 {
     let count = counts.outputs;
-    let mut j: usize = 0;
+    let mut j = 0;
     while j < count {
         let rails = circuit::form::rails_of(code, counts, j);
         if rails.rail0 as usize == v {
