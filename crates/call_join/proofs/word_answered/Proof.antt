@@ -49,7 +49,8 @@ add-word c =
       arith,
       z .pre .2 (c .before .signal-of .result),
       l .inv .1,
-      word-few (λ v. getD (now (z .args .values)) v 0) (signalIn (z .args .sizes) (now (z .args .reference))) (z .args .sizes .outputs) (l .j) (z .pre .2) (omega (arith, z .pre .0 .within .outputs-in)),
+      word-few (λ v. getD (now (z .args .values)) v 0) (signalIn (z .args .sizes) (now (z .args .reference))) (z .args .sizes .outputs) (l .j) (z .pre .2)
+          (omega (arith, z .pre .0 .within .outputs-in)),
     )
 
 loop-again : tie.Need-loop-again Inv-loop μ-loop

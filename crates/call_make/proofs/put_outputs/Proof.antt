@@ -48,7 +48,8 @@ loop-again : tie.Need-loop-again Inv-loop μ-loop
 loop-again c =
     put-more file.Stage output 5 stage-output-width _ _ (c .before .before .before .before .before .before .before .loop .inv)
     (c .before .before .before .before .before .before .loop-test .taken)
-    (put-same (ap (λ (p : List ℕ). writeItem file.Stage (output p)) (rw (c .before .before .before .before .before .signal-of .ensures .is) at (c .before .before .before .before .rails-of .ensures))) (c .before .before .put-stage-output .ensures))
+    (put-same (ap (λ (p : List ℕ). writeItem file.Stage (output p))
+    (rw (c .before .before .before .before .before .signal-of .ensures .is) at (c .before .before .before .before .rails-of .ensures))) (c .before .before .put-stage-output .ensures))
 
 same-length : tie.Need-same-length Inv-loop μ-loop
 same-length c = c .before .loop .inv .items .left .long

@@ -31,7 +31,8 @@ returns-3 c =
     let is = c .before .before .before .rails-of .ensures .is in
     let j = z .args .j in
     let outs : ℕ → Pair = outputIn (z .args .counts) (now (z .args .code)) in
-    second-twice (z .args .counts .inputs) (outs j) (given (z .args .counts .inputs) outs j) (sym (c .before .before .before .before .before .is-straight .ensures) ∙ c .before .before .before .before .if1 .left)
+    second-twice (z .args .counts .inputs) (outs j) (given (z .args .counts .inputs) outs j)
+    (sym (c .before .before .before .before .before .is-straight .ensures) ∙ c .before .before .before .before .if1 .left)
     (sym (rw is at (c .before .before .is-named .ensures)) ∙ c .before .if2 .left) (rw is at (c .if3 .taken))
 
 returns-4 : tie.Need-returns-4
@@ -41,7 +42,8 @@ returns-4 c =
     let j = z .args .j in
     let outs : ℕ → Pair = outputIn (z .args .counts) (now (z .args .code)) in
     rw is at (c .is-named2 .ensures) ∙ second-rail-1 (z .args .counts .inputs) (outs j) (given (z .args .counts .inputs) outs j)
-    (sym (c .before .before .before .before .before .before .is-straight .ensures) ∙ c .before .before .before .before .before .if1 .left) (sym (rw is at (c .before .before .before .is-named .ensures)) ∙ c .before .before .if2 .left) (rw is at (c .before .if3 .left))
+    (sym (c .before .before .before .before .before .before .is-straight .ensures) ∙ c .before .before .before .before .before .if1 .left)
+    (sym (rw is at (c .before .before .before .is-named .ensures)) ∙ c .before .before .if2 .left) (rw is at (c .before .if3 .left))
 
 pub is-second-spec : {M : Type 1} → statement M
 is-second-spec =

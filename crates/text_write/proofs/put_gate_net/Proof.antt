@@ -25,37 +25,56 @@ cast-if1 c = let w = c .before .before .before .before .before .before .pre .0 .
 put-rail-requires : tie.Need-put-rail-requires Inv-loop μ-loop
 put-rail-requires c κs =
     let z = c .before .before .before .before .before .before .before .before in
-    let e = on-rail-0 (z .args .counts) (now (z .args .code)) (z .args .v) (c .before .before .before .before .before .loop .inv .1) (c .before .before .before .before .loop-test .taken) (rw (c .before .before .before .rails-of .ensures .is) at (c .before .if1 .taken)) in
-    rw (c .before .before .before .before .before .loop .inv .0) (omega (arith, c .before .before .before .before .loop-test .taken, z .pre .0 .within .outputs-in), omega arith, omega (arith, ap length e, z .pre .3))
+    let e = on-rail-0 (z .args .counts) (now (z .args .code)) (z .args .v) (c .before .before .before .before .before .loop .inv .1)
+    (c .before .before .before .before .loop-test .taken) (rw (c .before .before .before .rails-of .ensures .is) at (c .before .if1 .taken)) in
+    rw (c .before .before .before .before .before .loop .inv .0)
+    (omega (arith, c .before .before .before .before .loop-test .taken, z .pre .0 .within .outputs-in), omega arith, omega (arith, ap length e, z .pre .3))
 
 returns : tie.Need-returns Inv-loop μ-loop
 returns c =
     let z = c .before .before .before .before .before .before .before .before .before .before .before in
-    next-same (on-rail-0 (z .args .counts) (now (z .args .code)) (z .args .v) (c .before .before .before .before .before .before .before .before .loop .inv .1) (c .before .before .before .before .before .before .before .loop-test .taken) (rw (c .before .before .before .before .before .before .rails-of .ensures .is) at (c .before .before .before .before .if1 .taken)))
+    next-same (on-rail-0 (z .args .counts) (now (z .args .code)) (z .args .v) (c .before .before .before .before .before .before .before .before .loop .inv .1)
+    (c .before .before .before .before .before .before .before .loop-test .taken)
+    (rw (c .before .before .before .before .before .before .rails-of .ensures .is) at (c .before .before .before .before .if1 .taken)))
     (rw (c .before .before .before .before .before .before .before .before .loop .inv .0) at (c .before .before .put-rail .ensures))
 
 cast-if2 : tie.Need-cast-if2 Inv-loop μ-loop
-cast-if2 c = let w = c .before .before .before .before .before .before .before .before .pre .0 .within in omega (arith, c .before .before .before .rails-of .ensures .rail1-in, w .inputs-in, w .gates-in)
+cast-if2 c =
+    let w = c .before .before .before .before .before .before .before .before .pre .0 .within in
+    omega (arith, c .before .before .before .rails-of .ensures .rail1-in, w .inputs-in, w .gates-in)
 
 put-rail-requires-2 : tie.Need-put-rail-requires-2 Inv-loop μ-loop
 put-rail-requires-2 c κs =
     let z = c .before .before .before .before .before .before .before .before .before .before in
     let is = c .before .before .before .before .before .rails-of .ensures .is in
-    let e = on-rail-1 (z .args .counts) (now (z .args .code)) (z .args .v) (c .before .before .before .before .before .before .before .loop .inv .1) (c .before .before .before .before .before .before .loop-test .taken) (rw is at (c .before .before .before .if1 .left)) (rw is at (c .before .if2 .taken)) in
-    rw (c .before .before .before .before .before .before .before .loop .inv .0) (omega (arith, c .before .before .before .before .before .before .loop-test .taken, z .pre .0 .within .outputs-in), omega arith, omega (arith, ap length e, z .pre .3))
+    let e = on-rail-1 (z .args .counts) (now (z .args .code)) (z .args .v) (c .before .before .before .before .before .before .before .loop .inv .1)
+    (c .before .before .before .before .before .before .loop-test .taken) (rw is at (c .before .before .before .if1 .left)) (rw is at (c .before .if2 .taken)) in
+    rw (c .before .before .before .before .before .before .before .loop .inv .0) (
+      omega (arith, c .before .before .before .before .before .before .loop-test .taken, z .pre .0 .within .outputs-in),
+      omega arith,
+      omega
+          (arith, ap length e, z .pre .3),
+    )
 
 returns-2 : tie.Need-returns-2 Inv-loop μ-loop
 returns-2 c =
     let z = c .before .before .before .before .before .before .before .before .before .before .before .before .before in
     let is = c .before .before .before .before .before .before .before .before .rails-of .ensures .is in
-    next-same (on-rail-1 (z .args .counts) (now (z .args .code)) (z .args .v) (c .before .before .before .before .before .before .before .before .before .before .loop .inv .1) (c .before .before .before .before .before .before .before .before .before .loop-test .taken) (rw is at (c .before .before .before .before .before .before .if1 .left)) (rw is at (c .before .before .before .before .if2 .taken)))
+    next-same (on-rail-1 (z .args .counts) (now (z .args .code)) (z .args .v)
+    (c .before .before .before .before .before .before .before .before .before .before .loop .inv .1)
+    (c .before .before .before .before .before .before .before .before .before .loop-test .taken)
+    (rw is at (c .before .before .before .before .before .before .if1 .left)) (rw is at (c .before .before .before .before .if2 .taken)))
     (rw (c .before .before .before .before .before .before .before .before .before .before .loop .inv .0) at (c .before .before .put-rail2 .ensures))
 
 loop-again : tie.Need-loop-again Inv-loop μ-loop
 loop-again c =
     let z = c .before .before .before .before .before .before .before .before .before in
-    let is = c .before .before .before .before .rails-of .ensures .is in
-    (c .before .before .before .before .before .before .loop .inv .0, not-on (z .args .counts) (now (z .args .code)) (z .args .v) (c .before .before .before .before .before .before .loop .inv .1) (c .before .before .before .before .before .loop-test .taken) (rw is at (c .before .before .if1 .left)) (rw is at (c .if2 .left)))
+    let is = c .before .before .before .before .rails-of .ensures .is in (
+      c .before .before .before .before .before .before .loop .inv .0,
+      not-on (z .args .counts) (now (z .args .code)) (z .args .v)
+          (c .before .before .before .before .before .before .loop .inv .1) (c .before .before .before .before .before .loop-test .taken)
+          (rw is at (c .before .before .if1 .left)) (rw is at (c .if2 .left)),
+    )
 
 put-numbered-requires : tie.Need-put-numbered-requires Inv-loop μ-loop
 put-numbered-requires c κs =
@@ -66,7 +85,9 @@ put-numbered-requires c κs =
 returns-3 : tie.Need-returns-3 Inv-loop μ-loop
 returns-3 c =
     let z = c .before .before .before .before .before .before .before .before .before in
-    next-same (gate-name (z .args .counts) (now (z .args .code)) (z .args .v) (c .before .before .before .before .before .before .loop .inv .1) (c .before .before .before .before .before .loop-test .left)) (rw (c .before .before .before .before .before .before .loop .inv .0) at (c .before .before .put-numbered .ensures))
+    next-same (gate-name (z .args .counts) (now (z .args .code)) (z .args .v) (c .before .before .before .before .before .before .loop .inv .1)
+    (c .before .before .before .before .before .loop-test .left)) (rw
+    (c .before .before .before .before .before .before .loop .inv .0) at (c .before .before .put-numbered .ensures))
 
 pub put-gate-net-spec : {M : Type 1} → statement M
 put-gate-net-spec =

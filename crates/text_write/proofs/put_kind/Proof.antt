@@ -48,7 +48,9 @@ returns-2 : tie.Need-returns-2
 returns-2 c =
     let z = c .before .before .before .before .before .before .before .before .before .before .before .before .before .before in
     let cell = cellIn (now (z .args .code)) (z .args .k) in
-    let e = relaxed-name cell (sym (c .before .before .before .before .before .before .before .before .before .has-hold .ensures) ∙ c .before .before .before .before .before .before .before .before .if1 .left) in
+    let e = relaxed-name cell
+    (sym (c .before .before .before .before .before .before .before .before .before .has-hold .ensures)
+    ∙ c .before .before .before .before .before .before .before .before .if1 .left) in
     let t0 = text-all (now (z .args .work)) (z .args .at) (114 ∷ cellName cell) (omega (arith, ap length e, z .pre .3)) in
     let t1 = text-put t0 (114 ∷ []) (cellName cell) refl (c .before .before .before .before .before .before .put-char .ensures) in
     next-same e (text-last t1 (rw (c .before .before .before .before .before .before .before .before .before .before .cell-of .ensures .is) at (c .before .before .put-cell2 .ensures)))

@@ -16,7 +16,9 @@ put-rail-requires c κs =
     (omega (arith, c .before .if1 .taken, z .pre .0 .within .inputs-in), omega arith, omega (arith, ap length e, z .pre .2))
 
 returns : tie.Need-returns
-returns c = let z = c .before .before .before .before .before .before .before .before in next-same (input-name (z .args .counts) (now (z .args .code)) (z .args .v) (c .before .before .before .before .if1 .taken)) (c .before .before .put-rail .ensures)
+returns c =
+    let z = c .before .before .before .before .before .before .before .before in
+    next-same (input-name (z .args .counts) (now (z .args .code)) (z .args .v) (c .before .before .before .before .if1 .taken)) (c .before .before .put-rail .ensures)
 
 pub put-net-spec : {M : Type 1} → statement M
 put-net-spec =

@@ -13,7 +13,8 @@ use Rattle.text_write.proofs.put_output_name.Tie as tie
 put-numbered-requires : tie.Need-put-numbered-requires
 put-numbered-requires c κs =
     let z = c .before .before .before .before .before .before .before in
-    let e = straight-name (z .args .counts .inputs) (z .args .j) (outputIn (z .args .counts) (now (z .args .code)) (z .args .j)) (sym (c .before .before .before .before .is-straight .ensures) ∙ c .before .before .before .if1 .taken) in
+    let e = straight-name (z .args .counts .inputs) (z .args .j) (outputIn (z .args .counts) (now (z .args .code)) (z .args .j))
+    (sym (c .before .before .before .before .is-straight .ensures) ∙ c .before .before .before .if1 .taken) in
     rw (c .before .before .rails-of .ensures .is) (
       omega (arith, z .pre .0 .rail0-net (z .args .j) (z .pre .1), z .pre .0 .within .inputs-in, z .pre .0 .within .gates-in),
       omega (arith, ap length e, z .pre .2),

@@ -46,7 +46,8 @@ put-pin-requires-2 c κs =
       z .pre .0,
       z .pre .1,
       omega (arith, c .before .before .before .before .before .loop-test .taken, m .ensures .most),
-      item-room item (m .result) (c .before .before .before .before .before .before .loop .i) (c .before .before .before .before .before .before .loop .inv .2) (c .before .before .before .before .before .loop-test .taken) (c .before .before .before .put-char .ensures),
+      item-room item (m .result) (c .before .before .before .before .before .before .loop .i) (c .before .before .before .before .before .before .loop .inv .2)
+          (c .before .before .before .before .before .loop-test .taken) (c .before .before .before .put-char .ensures),
     )
 
 loop-again : tie.Need-loop-again Inv-loop μ-loop
@@ -54,8 +55,13 @@ loop-again c =
     let z = c .before .before .before .before .before .before .before .before .before .before .before .before .before .before .before .before .before in
     let l = c .before .before .before .before .before .before .before .before .before .loop in
     let t = c .before .before .before .before .before .before .before .before .loop-test .taken in
-    let item : ℕ → List ℕ = pinName (z .args .counts) (now (z .args .code)) (z .args .k) in
-    (omega arith, omega (arith, t), item-put item (c .before .before .before .before .before .before .before .before .before .before .before .before .before .before .pin-count .result) (l .i) (l .inv .2) t (c .before .before .before .before .before .before .put-char .ensures) (c .before .before .put-pin2 .ensures))
+    let item : ℕ → List ℕ = pinName (z .args .counts) (now (z .args .code)) (z .args .k) in (
+      omega arith,
+      omega (arith, t),
+      item-put item
+          (c .before .before .before .before .before .before .before .before .before .before .before .before .before .before .pin-count .result) (l .i) (l .inv .2) t
+          (c .before .before .before .before .before .before .put-char .ensures) (c .before .before .put-pin2 .ensures),
+    )
 
 returns : tie.Need-returns Inv-loop μ-loop
 returns c =
@@ -63,7 +69,8 @@ returns c =
     let m = c .before .before .before .before .before .before .pin-count in
     let is = pin-parts (z .args .counts) (now (z .args .code)) (z .args .k) (m .result) (m .ensures) in
     let item : ℕ → List ℕ = pinName (z .args .counts) (now (z .args .code)) (z .args .k) in
-    list-done item (m .result) (now (z .args .work)) (z .args .start) is (z .pre .2) (c .before .before .before .before .put-pin .ensures) (c .before .loop .i) (c .before .loop .inv .2) (c .loop-test .left)
+    list-done item (m .result) (now (z .args .work)) (z .args .start) is (z .pre .2) (c .before .before .before .before .put-pin .ensures) (c .before .loop .i)
+    (c .before .loop .inv .2) (c .loop-test .left)
 
 pub put-pins-spec : {M : Type 1} → statement M
 put-pins-spec =
