@@ -23,7 +23,7 @@ loop-holds c =
 
 level-falling-requires : tie.Need-level-falling-requires Inv-loop μ-loop
 level-falling-requires c κs =
-    (c .before .before .before .before .before .before .table .ensures, c .before .before .before .before .before .before .before .before .before .pre .0, c .before .before .gate-at .ensures .there, c .before .before .before .before .loop .inv .settling .row-for)
+    let l = c .before .before .before .before in (l .before .before .table .ensures, l .before .before .before .before .before .pre .0, c .before .before .gate-at .ensures .there, l .loop .inv .settling .row-for)
 
 loop-again : tie.Need-loop-again Inv-loop μ-loop
 loop-again c =

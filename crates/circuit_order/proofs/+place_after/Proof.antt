@@ -1,3 +1,5 @@
+-- The proof of the cycle of calls {place_after}. The loop's invariant: the nets at the first pins of gate k wait no more, and what had a place keeps it. The
+-- measure is the depth. Assumes nothing.
 use Prim.Native.Nat.{ℕ, suc, _+_, _-_, _≤_, _<_}
 use native.Mathlib.Omega.{arith}
 use Rattle.circuit_order.specs.Placing.{Placing, AfterPins, PlacedAfter}
@@ -58,7 +60,9 @@ place-after-slice-read-if2 t c =
 
 place-after-mul-place-after : (t : ℕ) → place-after-lts.Need-mul-place-after (claims t) (place-after-at t) place-after.Post place-after-Inv-loop place-after-μ-loop
 place-after-mul-place-after t c =
-    omega (arith, c .before .before .before .before .before .before .before .before .before .before .before .pre .1 .1, c .before .before .before .before .before .before .before .loop .inv .0, c .before .before .before .before .before .before .before .loop .inv .1 .placing .loaded .within .gates-in, c .before .before .before .before .before .before .before .loop .inv .1 .placing .loaded .within .inputs-in)
+    let l = c .before .before .before .before .before .before .before in
+    let w = l .loop .inv .1 .placing .loaded .within in
+    omega (arith, l .before .before .before .before .pre .1 .1, l .loop .inv .0, w .gates-in, w .inputs-in)
 
 place-after-sub-place-after : (t : ℕ) → place-after-lts.Need-sub-place-after (claims t) (place-after-at t) place-after.Post place-after-Inv-loop place-after-μ-loop
 place-after-sub-place-after t c =
@@ -73,7 +77,9 @@ place-after-place-after-requires : (t : ℕ) → place-after-lts.Need-place-afte
 place-after-place-after-requires t c κs =
     let z = c .before .before .before .before .before .before .before .before .before .before .before .before in
     let is = c .before .before .before .before .before .pin-of .ensures .is in
-    rw is (omega (arith, z .pre .0, c .before .before .before .before .before .before .before .before .before .if1 .left), (c .before .before .before .before .before .before .before .before .loop .inv .1 .placing, pin-waits _ _ _ _ _ _ _ (z .pre .1 .1) _ (c .before .before .before .before .before .before .before .before .loop .inv .1) (rw is at (c .before .before .before .if2 .taken)) .1))
+    let l = c .before .before .before .before .before .before .before .before .loop .inv .1 in
+    let waits = pin-waits _ _ _ _ _ _ _ (z .pre .1 .1) _ l (rw is at (c .before .before .before .if2 .taken)) .1 in
+    rw is (omega (arith, z .pre .0, c .before .before .before .before .before .before .before .before .before .if1 .left), (l .placing, waits))
 
 place-after-slice-read-if3 : (t : ℕ) → place-after-lts.Need-slice-read-if3 (claims t) (place-after-at t) place-after.Post place-after-Inv-loop place-after-μ-loop
 place-after-slice-read-if3 t c =

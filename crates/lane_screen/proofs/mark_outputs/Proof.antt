@@ -25,7 +25,7 @@ mark-requires c κs = omega (arith, c .before .rails-of .ensures .rail0-in, c .b
 
 mark-requires-2 : tie.Need-mark-requires-2 Inv-loop μ-loop
 mark-requires-2 c κs =
-    omega (arith, c .before .before .before .before .before .rails-of .ensures .rail1-in, c .before .before .before .before .before .before .before .before .loop .inv .same-long, c .before .before .before .mark .ensures .0)
+    let r = c .before .before .before .before .before in omega (arith, r .rails-of .ensures .rail1-in, r .before .before .before .loop .inv .same-long, c .before .before .before .mark .ensures .0)
 
 loop-again : tie.Need-loop-again Inv-loop μ-loop
 loop-again c =

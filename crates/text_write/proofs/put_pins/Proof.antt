@@ -83,7 +83,7 @@ put-pins-spec =
     loop-holds
     put-char-requires
     put-pin-requires-2
-    (λ c. omega (arith, c .before .before .before .before .before .before .before .before .loop-test .taken, c .before .before .before .before .before .before .before .before .before .before .before .before .before .before .pin-count .ensures .most))
+    (λ c. let t = c .before .before .before .before .before .before .before .before in omega (arith, t .loop-test .taken, t .before .before .before .before .before .before .pin-count .ensures .most))
     (λ c. search needs)
     loop-again
     (λ c. omega (arith, c .before .loop .inv .2 .left .long, c .before .before .before .before .put-pin .ensures .put .long))
