@@ -7,7 +7,7 @@ use verdict::Finding;
 use verdict::Verdict;
 use verdict::WordOrder;
 ghost use mathlib.Core.Path.{_≡_};
-ghost use Prim.Native.Nat.{_+_, _*_, _^_, _≤_};
+ghost use Prim.Native.Nat.{_+_, _≤_};
 ghost use lib.ListN.{length};
 ghost use Rattle.netlist.specs.Reading.{stageLimits, referenceLimits, NoMore};
 ghost use Rattle.verdict.specs.Retired.{retiredAt};

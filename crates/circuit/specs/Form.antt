@@ -3,6 +3,7 @@ use Prim.Native.Nat.{ℕ, _+_, _*_, _≤_, _<_}
 use mathlib.Core.Path.{_≡_}
 use mathlib.Core.List.{List}
 use lib.ListN.{length, getD}
+use Rattle.gates.specs.Cell.{pinCount}
 use Rattle.netlist.specs.declared.Counts.{Counts}
 use Rattle.circuit.specs.declared.form.Pins.{Pins}
 use Rattle.circuit.specs.declared.form.Rails.{Rails}
@@ -17,6 +18,12 @@ pub record CellAt (code : List ℕ) (k r : ℕ) : Type 0 where
   pub is : r ≡ cellIn code k
   pub low : 1 ≤ r
   pub high : r ≤ 27
+
+-- how many pins it has
+pub record PinCountAt (code : List ℕ) (k r : ℕ) : Type 0 where
+  pub is : r ≡ pinCount (cellIn code k)
+  pub some : 1 ≤ r
+  pub most : r ≤ 4
 
 -- the nets at its pins
 abbrev pub pinsIn : List ℕ → ℕ → Pins

@@ -5,7 +5,7 @@ ghost use Prim.Native.Nat.{_<_};
 ghost use Rattle.circuit.specs.Stage.{gateIn, placeOf, StageLoaded};
 ghost use Rattle.circuit.specs.Order.{InOrder};
 ghost use Rattle.circuit.specs.Reference.{ReferenceLoaded};
-ghost use Rattle.circuit.specs.Form.{CellAt, PinsAt, PinAt, GateAt, RailsAt, CareAt, GatePlaced, OperationAt, OperandsAt, SignalAt};
+ghost use Rattle.circuit.specs.Form.{CellAt, PinCountAt, PinsAt, PinAt, GateAt, RailsAt, CareAt, GatePlaced, OperationAt, OperandsAt, SignalAt};
 
 // How many numbers the largest stage takes: eight for a gate, two for an output, one for a care word.
 pub const STAGE_CODE: usize = 8 * netlist::STAGE_GATES + 2 * netlist::OUTPUTS + netlist::WORDS;
@@ -41,6 +41,21 @@ pub fn cell_of(code: &[u16], counts: Counts, k: usize) -> u16
     ensures { λ r. ⌜ CellAt (now (code .entry)) k r ⌝ }
 {
     code[8 * k]
+}
+
+// How many pins it has.
+pub fn pin_count(code: &[u16], counts: Counts, k: usize) -> usize
+    requires { ⌜ StageLoaded counts (now code) × (k < counts .gates) ⌝ }
+    ensures { λ r. ⌜ PinCountAt (now (code .entry)) k r ⌝ }
+{
+    let cell = cell_of(code, counts, k);
+    if cell < 3 {
+        return 2;
+    }
+    if cell < 8 {
+        return 3;
+    }
+    4
 }
 
 // Whether gate k has hold.
@@ -115,8 +130,8 @@ pub fn care_of(code: &[u16], counts: Counts, i: usize) -> usize
     requires { ⌜ StageLoaded counts (now code) × (i < counts .care) ⌝ }
     ensures { λ r. ⌜ CareAt counts (now (code .entry)) i r ⌝ }
 {
-    let from = 8 * counts.gates + 2 * counts.outputs;
-    code[from + i] as usize
+    let outputs = 8 * counts.gates;
+    code[outputs + (2 * counts.outputs + i)] as usize
 }
 
 // ---- a reference

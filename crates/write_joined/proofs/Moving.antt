@@ -1,12 +1,12 @@
 -- The nets and the signals of a part in the whole: what the flat forms hold of them, and that a gate is put with FFFF at the pins that it has not.
 -- Assumes nothing.
-use Prim.Native.Nat.{ℕ, zero, suc, _+_, _-_, _*_, _/_, _%_, _≤_, _<_}
+use Prim.Native.Nat.{ℕ, _+_, _-_, _*_, _/_, _%_, _≤_, _<_}
 use native.Mathlib.Omega.{arith}
 use mathlib.Core.Path.{_≡_, refl, sym, ap, _∙_}
 use mathlib.Core.Bool.{Bool, true, false, cond}
 use mathlib.Core.Logic.{_⊎_, inl, inr}
 use mathlib.Core.List.{List, [], _∷_, map}
-use lib.ListN.{length, getD, take}
+use lib.ListN.{length, take}
 use lib.Dec.{eqb, ltb}
 use borrow.Author.Tests.{lt-ltb, le-ltb, ltb-true, ltb-false, eq-eqb, ne-eqb}
 use Rattle.gates.specs.Cell.{pinCount}
@@ -16,7 +16,7 @@ use Rattle.netlist.specs.declared.Counts.{Counts}
 use Rattle.netlist.specs.Bytes.{absent}
 use Rattle.netlist.specs.Content.{Pair}
 use Rattle.netlist.specs.Writing.{gate, writeItem}
-use Rattle.verdict.specs.Nets.{outputPair, noPair, railOf}
+use Rattle.verdict.specs.Nets.{noPair, railOf}
 use Rattle.write_command.specs.Put.{coded}
 use Rattle.write_command.proofs.Files.{gate-absent}
 use Rattle.circuit.specs.Stage.{outputIn, stageOutputs, stageIn}

@@ -55,21 +55,6 @@ fn kind_at(code: &[u16], counts: Counts, k: usize) -> u8
     cell + 128
 }
 
-// How many pins gate k has.
-fn pins_at(code: &[u16], counts: Counts, k: usize) -> usize
-    requires { ⌜ StageLoaded counts (now code) × (k < counts .gates) ⌝ }
-    ensures { λ r. ⌜ r ≡ pinCount (cellIn (now (code .entry)) k) ⌝ }
-{
-    let cell = circuit::form::cell_of(code, counts, k);
-    if cell < 3 {
-        return 2;
-    }
-    if cell < 8 {
-        return 3;
-    }
-    4
-}
-
 // The net at pin i of gate k, where it stands in the whole, or FFFF where the gate has no such pin.
 fn pin_in_whole(
     code: &[u16],
@@ -85,7 +70,7 @@ fn pin_in_whole(
         (netMoved (stageIn counts1 (now (code1 .entry))) moved (pinIn (now (code .entry)) k i))
         absent ⌝ }
 {
-    if i < pins_at(code, counts, k) {
+    if i < circuit::form::pin_count(code, counts, k) {
         return net_in_whole(
             code1,
             counts1,

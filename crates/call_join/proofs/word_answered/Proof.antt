@@ -1,5 +1,5 @@
 -- `call_join::word_answered` meets its contract. The loop's invariant: the outputs from output j on spell `word`. Assumes nothing.
-use Prim.Native.Nat.{ℕ, _+_, _-_, _*_, _≤_}
+use Prim.Native.Nat.{ℕ, _-_, _≤_}
 use native.Mathlib.Omega.{arith}
 use mathlib.Core.Path.{_≡_, ap, _∙_}
 use lib.ListN.{getD}
@@ -49,7 +49,8 @@ add-word c =
       arith,
       z .pre .2 (c .before .signal-of .result),
       l .inv .1,
-      word-few (λ v. getD (now (z .args .values)) v 0) (signalIn (z .args .sizes) (now (z .args .reference))) (z .args .sizes .outputs) (l .j) (z .pre .2) (omega (arith, z .pre .0 .within .outputs-in)),
+      word-few (λ v. getD (now (z .args .values)) v 0) (signalIn (z .args .sizes) (now (z .args .reference))) (z .args .sizes .outputs) (l .j) (z .pre .2)
+          (omega (arith, z .pre .0 .within .outputs-in)),
     )
 
 loop-again : tie.Need-loop-again Inv-loop μ-loop

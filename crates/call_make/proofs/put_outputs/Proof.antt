@@ -1,7 +1,7 @@
 -- `call_make::put_outputs` meets its contract. The loop's invariant: the outputs before output j are put. Assumes nothing.
 use Prim.Native.Nat.{ℕ, _+_, _-_, _*_, _≤_, _<_}
 use native.Mathlib.Omega.{arith}
-use mathlib.Core.Path.{sym, ap, _∙_}
+use mathlib.Core.Path.{sym, ap}
 use mathlib.Core.List.{List}
 use lib.ListN.{length}
 use denote.Ref.{now}
@@ -48,7 +48,8 @@ loop-again : tie.Need-loop-again Inv-loop μ-loop
 loop-again c =
     put-more file.Stage output 5 stage-output-width _ _ (c .before .before .before .before .before .before .before .loop .inv)
     (c .before .before .before .before .before .before .loop-test .taken)
-    (put-same (ap (λ (p : List ℕ). writeItem file.Stage (output p)) (c .before .before .before .before .rails-of .ensures ∙ ap (pairStored _) (c .before .before .before .before .before .signal-of .ensures .is))) (c .before .before .put-stage-output .ensures))
+    (put-same (ap (λ (p : List ℕ). writeItem file.Stage (output p))
+    (rw (c .before .before .before .before .before .signal-of .ensures .is) at (c .before .before .before .before .rails-of .ensures))) (c .before .before .put-stage-output .ensures))
 
 same-length : tie.Need-same-length Inv-loop μ-loop
 same-length c = c .before .loop .inv .items .left .long

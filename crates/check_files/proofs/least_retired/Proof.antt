@@ -24,12 +24,14 @@ loop-holds c = ap (least _ 0) (omega arith)
 returns : tie.Need-returns Inv-loop μ-loop
 returns c =
     let t = c .before .before .before in
-    sought-here _ _ _ (t .if1 .taken) (t .before .before .loop .inv) (retired-in _ _ _ (t .if1 .taken) ∙ sym (c .before .is-retired .ensures ∙ ap isRetired (c .before .before .cell-of .ensures .is)) ∙ c .if2 .taken)
+    sought-here _ _ _ (t .if1 .taken) (t .before .before .loop .inv)
+    (retired-in _ _ _ (t .if1 .taken) ∙ sym (c .before .is-retired .ensures ∙ ap isRetired (c .before .before .cell-of .ensures .is)) ∙ c .if2 .taken)
 
 loop-again : tie.Need-loop-again Inv-loop μ-loop
 loop-again c =
     let t = c .before .before .before in
-    sought-on _ _ _ (t .if1 .taken) (t .before .before .loop .inv) (retired-in _ _ _ (t .if1 .taken) ∙ sym (c .before .is-retired .ensures ∙ ap isRetired (c .before .before .cell-of .ensures .is)) ∙ c .if2 .left)
+    sought-on _ _ _ (t .if1 .taken) (t .before .before .loop .inv)
+    (retired-in _ _ _ (t .if1 .taken) ∙ sym (c .before .is-retired .ensures ∙ ap isRetired (c .before .before .cell-of .ensures .is)) ∙ c .if2 .left)
 
 returns-2 : tie.Need-returns-2 Inv-loop μ-loop
 returns-2 c = sought-none _ _ _ (omega (arith, c .if1 .left)) (c .before .before .loop .inv)

@@ -22,7 +22,8 @@ loop-holds c =
     record { settling = record { row-for = z .pre .2; same-long = refl; rails = refl; before = λ i h. absurd (omega arith) }; rest = λ j a b. refl }
 
 level-falling-requires : tie.Need-level-falling-requires Inv-loop μ-loop
-level-falling-requires c κs = (c .before .before .before .before .before .before .table .ensures, c .before .before .before .before .before .before .before .before .before .pre .0, c .before .before .gate-at .ensures .there, c .before .before .before .before .loop .inv .settling .row-for)
+level-falling-requires c κs =
+    let l = c .before .before .before .before in (l .before .before .table .ensures, l .before .before .before .before .before .pre .0, c .before .before .gate-at .ensures .there, l .loop .inv .settling .row-for)
 
 loop-again : tie.Need-loop-again Inv-loop μ-loop
 loop-again c =

@@ -22,7 +22,8 @@ returns-3 : tie.Need-returns-3
 returns-3 c =
     let z = c .before .before .before .before .before .before .before .before .before .before in (
       fall-hold-low (z .args .counts) (now (z .args .code)) (now (z .args .row)) (z .pre .1) (z .pre .3) (z .args .k) (z .pre .2) (z .args .kept)
-          (c .before .before .before .before .before .if1 .left) (c .before .before .before .before .if2 .left) (sym (c .before .before .before .has-hold .ensures) ∙ c .before .before .if3 .taken) _ (c .before .pattern .ensures) (c .if4 .taken),
+          (c .before .before .before .before .before .if1 .left) (c .before .before .before .before .if2 .left)
+          (sym (c .before .before .before .has-hold .ensures) ∙ c .before .before .if3 .taken) _ (c .before .pattern .ensures) (c .if4 .taken),
       omega arith,
     )
 
@@ -30,7 +31,8 @@ returns-4 : tie.Need-returns-4
 returns-4 c =
     let z = c .before .before .before .before .before .before .before .before .before .before in (
       fall-hold-high (z .args .counts) (now (z .args .code)) (now (z .args .row)) (z .pre .1) (z .pre .3) (z .args .k) (z .pre .2) (z .args .kept)
-          (c .before .before .before .before .before .if1 .left) (c .before .before .before .before .if2 .left) (sym (c .before .before .before .has-hold .ensures) ∙ c .before .before .if3 .taken) _ (c .before .pattern .ensures) (c .if4 .left),
+          (c .before .before .before .before .before .if1 .left) (c .before .before .before .before .if2 .left)
+          (sym (c .before .before .before .has-hold .ensures) ∙ c .before .before .if3 .taken) _ (c .before .pattern .ensures) (c .if4 .left),
       omega arith,
     )
 

@@ -22,7 +22,8 @@ loop-holds : tie.Need-loop-holds Inv-loop μ-loop
 loop-holds c = let z = c .before .before .before .before in record { row-for = z .pre .2; same-long = refl; rails = refl; before = z .pre .3 }
 
 level-holding-requires : tie.Need-level-holding-requires Inv-loop μ-loop
-level-holding-requires c κs = (c .before .before .before .before .before .before .table .ensures, c .before .before .before .before .before .before .before .before .before .pre .0, c .before .before .gate-at .ensures .there, c .before .before .before .before .loop .inv .row-for)
+level-holding-requires c κs =
+    let l = c .before .before .before .before in (l .before .before .table .ensures, l .before .before .before .before .before .pre .0, c .before .before .gate-at .ensures .there, l .loop .inv .row-for)
 
 loop-again : tie.Need-loop-again Inv-loop μ-loop
 loop-again c =

@@ -1,6 +1,5 @@
 -- `lane_cells::operator_lanes` meets its contract: in each lane the operation is on that lane's values. Assumes nothing.
 use Prim.Native.Nat.{ℕ, _+_}
-use native.Mathlib.Omega.{arith}
 use mathlib.Core.Path.{sym, ap, ap₂, _∙_}
 use mathlib.Core.List.{_∷_, []}
 use denote.Ref.{now}

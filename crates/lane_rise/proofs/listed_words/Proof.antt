@@ -69,7 +69,8 @@ loop-again c =
     ap (λ (m : ℕ). v % m) (size-of n (z .pre .within .inputs-in)) ∙ ap (λ (w : ℕ). w % 2 ^ n) (c .care-of .ensures .is) in (
       length-set (l .masks) (v % (1 * 2 ^ n % 18446744073709551616) / 64) _ ∙ l .inv .0,
       subst (λ (w : ℕ). ListedIn (z .args .counts) (now (z .args .code)) (l .k + 1) (withWord (l .masks) w)) (sym e)
-          (listed-more (z .args .counts) (now (z .args .code)) (l .masks) (l .k) (l .inv .1) (omega (arith, block-of n (careIn (z .args .counts) (now (z .args .code)) (l .k)) (z .pre .within .inputs-in), l .inv .0))),
+          (listed-more (z .args .counts) (now (z .args .code)) (l .masks) (l .k) (l .inv .1)
+          (omega (arith, block-of n (careIn (z .args .counts) (now (z .args .code)) (l .k)) (z .pre .within .inputs-in), l .inv .0))),
       omega arith,
     )
 

@@ -24,7 +24,8 @@ returns-2 c =
     let z = c .before .before .before .before .before .before .before .before .before in
     subst (λ (falls : Bool). PinsAcknowledged falls (z .args .counts) (now (z .args .code)) (z .args .k) (now (z .args .row)) (c .cofactors .result))
     (sym (c .before .before .before .before .if1 .taken))
-    (acknowledged-relaxed (z .args .counts) (now (z .args .code)) (z .pre .0) (z .pre .1) (z .args .k) (z .pre .2) (now (z .args .row)) (sym (c .before .before .before .has-hold .ensures) ∙ c .before .before .if2 .left)
+    (acknowledged-relaxed (z .args .counts) (now (z .args .code)) (z .pre .0) (z .pre .1) (z .args .k) (z .pre .2) (now (z .args .row))
+    (sym (c .before .before .before .has-hold .ensures) ∙ c .before .before .if2 .left)
     (c .cofactors .result) (c .cofactors .ensures))
 
 returns-3 : tie.Need-returns-3
@@ -32,7 +33,8 @@ returns-3 c =
     let z = c .before .before .before .before .before .before .before .before .before in
     subst (λ (falls : Bool). PinsAcknowledged falls (z .args .counts) (now (z .args .code)) (z .args .k) (now (z .args .row)) (c .lone-gate .result))
     (sym (c .before .before .before .before .if1 .taken))
-    (acknowledged-lone (z .args .counts) (now (z .args .code)) (z .pre .0) (z .pre .1) (z .args .k) (z .pre .2) (now (z .args .row)) (sym (c .before .before .before .has-hold .ensures) ∙ c .before .before .if2 .left)
+    (acknowledged-lone (z .args .counts) (now (z .args .code)) (z .pre .0) (z .pre .1) (z .args .k) (z .pre .2) (now (z .args .row))
+    (sym (c .before .before .before .has-hold .ensures) ∙ c .before .before .if2 .left)
     (c .lone-gate .result) (c .lone-gate .ensures))
 
 returns-4 : tie.Need-returns-4

@@ -24,7 +24,8 @@ mark-requires : tie.Need-mark-requires Inv-loop μ-loop
 mark-requires c κs = omega (arith, c .before .rails-of .ensures .rail0-in, c .before .before .before .before .loop .inv .same-long)
 
 mark-requires-2 : tie.Need-mark-requires-2 Inv-loop μ-loop
-mark-requires-2 c κs = omega (arith, c .before .before .before .before .before .rails-of .ensures .rail1-in, c .before .before .before .before .before .before .before .before .loop .inv .same-long, c .before .before .before .mark .ensures .0)
+mark-requires-2 c κs =
+    let r = c .before .before .before .before .before in omega (arith, r .rails-of .ensures .rail1-in, r .before .before .before .loop .inv .same-long, c .before .before .before .mark .ensures .0)
 
 loop-again : tie.Need-loop-again Inv-loop μ-loop
 loop-again c =

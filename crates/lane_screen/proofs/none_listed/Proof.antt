@@ -23,7 +23,8 @@ loop-holds c i h = absurd (omega arith)
 loop-again : tie.Need-loop-again Inv-loop μ-loop
 loop-again c =
     let z = c .before .before .before .before .before .before .before .before in
-    below-more _ _ (c .before .before .before .before .before .loop .inv) (subst (Unnamed (now (z .args .mask))) (c .before .before .care-of .ensures .is) (c .before .is-named .ensures .0 (c .if2 .left)))
+    below-more _ _ (c .before .before .before .before .before .loop .inv)
+    (subst (Unnamed (now (z .args .mask))) (c .before .before .care-of .ensures .is) (c .before .is-named .ensures .0 (c .if2 .left)))
 
 returns-2 : tie.Need-returns-2 Inv-loop μ-loop
 returns-2 c e i h = c .before .before .loop .inv i (omega arith)

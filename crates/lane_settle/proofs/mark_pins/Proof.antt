@@ -14,7 +14,9 @@ returns c =
     let second = c .before .before .before .before .before .before .before .before .before .before .mark2 in
     let first = c .before .before .before .before .before .before .before .before .before .before .before .before .before .before .mark in (
       fourth .ensures .0 ∙ third .ensures .0 ∙ second .ensures .0 ∙ first .ensures .0,
-      pins-marked (now (z .args .code)) (z .args .k) _ (c .before .before .before .before .before .before .before .before .before .before .before .before .before .before .before .before .pins-of .ensures .is) (z .args .words) (now (z .args .ack)) (first .last .0) (second .last .0) (third .last .0)
+      pins-marked (now (z .args .code)) (z .args .k) _
+          (c .before .before .before .before .before .before .before .before .before .before .before .before .before .before .before .before .pins-of .ensures .is)
+          (z .args .words) (now (z .args .ack)) (first .last .0) (second .last .0) (third .last .0)
           (fourth .last .0) (first .ensures .1) (second .ensures .1) (third .ensures .1) (fourth .ensures .1),
     )
 

@@ -20,10 +20,20 @@ loop-holds : tie.Need-loop-holds Inv-loop μ-loop
 loop-holds c = (omega arith, block-start _ _ _ _)
 
 gate-lanes-requires : tie.Need-gate-lanes-requires Inv-loop μ-loop
-gate-lanes-requires c κs = (c .before .before .before .before .before .before .before .before .pre .0, c .before .gate-at .ensures .there, omega (arith, c .before .before .before .loop .inv .1 .row-long))
+gate-lanes-requires c κs = (
+  c .before .before .before .before .before .before .before .before .pre .0,
+  c .before .gate-at .ensures .there,
+  omega
+      (arith, c .before .before .before .loop .inv .1 .row-long),
+)
 
 mark-pins-requires : tie.Need-mark-pins-requires Inv-loop μ-loop
-mark-pins-requires c κs = (c .before .before .before .before .before .before .before .before .before .before .pre .0, c .before .before .before .gate-at .ensures .there, omega (arith, c .before .before .before .before .before .loop .inv .1 .ack-long))
+mark-pins-requires c κs = (
+  c .before .before .before .before .before .before .before .before .before .before .pre .0,
+  c .before .before .before .gate-at .ensures .there,
+  omega
+      (arith, c .before .before .before .before .before .loop .inv .1 .ack-long),
+)
 
 loop-again : tie.Need-loop-again Inv-loop μ-loop
 loop-again c =

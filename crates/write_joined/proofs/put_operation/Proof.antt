@@ -18,7 +18,9 @@ signal-in-whole-requires : tie.Need-signal-in-whole-requires
 signal-in-whole-requires c κs = let z = c .before .before .before .before .before in (z .pre .1 .loaded, z .pre .1 .outputs, omega (arith, c .operands-of .ensures .a-in, z .pre .1 .fits, z .pre .2))
 
 signal-in-whole-requires-2 : tie.Need-signal-in-whole-requires-2
-signal-in-whole-requires-2 c κs = let z = c .before .before .before .before .before .before .before in (z .pre .1 .loaded, z .pre .1 .outputs, omega (arith, c .before .before .operands-of .ensures .b-in, z .pre .1 .fits, z .pre .2))
+signal-in-whole-requires-2 c κs =
+    let z = c .before .before .before .before .before .before .before in
+    (z .pre .1 .loaded, z .pre .1 .outputs, omega (arith, c .before .before .operands-of .ensures .b-in, z .pre .1 .fits, z .pre .2))
 
 returns : tie.Need-returns
 returns c =
@@ -39,7 +41,9 @@ returns-2 c =
     let e = c .before .before .before .before .before .before .before .before .operation-of .ensures .is in
     put-same
     (two-operands move (operandIn reference (z .args .k) 0) (operandIn reference (z .args .k) 1) e (λ o. c .before .before .before .before .before .if1 .left (e ∙ o))
-    (c .before .before .before .before .before .before .signal-in-whole .ensures ∙ ap (λ (o : Operands). move (o .a)) (c .before .before .before .before .before .before .before .operands-of .ensures .is)) (c .before .before .before .before .signal-in-whole2 .ensures ∙ ap (λ (o : Operands). move (o .b)) (c .before .before .before .before .before .before .before .operands-of .ensures .is)))
+    (c .before .before .before .before .before .before .signal-in-whole .ensures ∙ ap (λ (o : Operands). move (o .a))
+    (c .before .before .before .before .before .before .before .operands-of .ensures .is)) (c .before .before .before .before .signal-in-whole2 .ensures ∙ ap
+    (λ (o : Operands). move (o .b)) (c .before .before .before .before .before .before .before .operands-of .ensures .is)))
     (c .before .before .put-reference-gate2 .ensures)
 
 pub put-operation-spec : {M : Type 1} → statement M

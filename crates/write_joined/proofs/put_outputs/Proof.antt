@@ -1,18 +1,15 @@
 -- `write_joined::put_outputs` meets its contract. The loop's invariant: the outputs before output j are put. Assumes nothing.
 use Prim.Native.Nat.{ℕ, _-_}
 use native.Mathlib.Omega.{arith}
-use mathlib.Core.Path.{_≡_, ap, ap₂, _∙_, subst}
-use mathlib.Core.List.{List}
+use mathlib.Core.Path.{ap₂}
 use denote.Ref.{now}
 use Rattle.netlist.specs.declared.File.the-variants as file
 use Rattle.netlist.specs.Writing.{pairOperands, writeItem}
-use Rattle.circuit.specs.declared.form.Rails.{Rails}
 use Rattle.circuit.specs.Stage.{outputIn, stageOutputs, stageIn}
 use Rattle.circuit.proofs.Tabulate.{map-tabulate}
-use Rattle.write_command.specs.Put.{Put}
 use Rattle.write_command.specs.Parts.{pairItem}
 use Rattle.write_command.proofs.Files.{stage-output-width}
-use Rattle.write_joined.specs.Moved.{netMoved, pairMoved}
+use Rattle.write_joined.specs.Moved.{pairMoved}
 use Rattle.verdict.specs.Graph.{tabulate}
 use Rattle.write_command.proofs.Putting.{put-same, PutTo, put-start, put-room, put-more, put-done}
 use borrow.Author.Needs.{needs}
@@ -59,11 +56,12 @@ put-stage-output-requires c κs = put-room file.Stage pairItem 5 (λ p. stage-ou
 
 loop-again : tie.Need-loop-again Inv-loop μ-loop
 loop-again c =
+    let is = c .before .before .before .before .before .before .rails-of .ensures .is in
     put-more file.Stage pairItem 5 (λ p. stage-output-width (pairOperands p)) _ _ (c .before .before .before .before .before .before .before .before .loop .inv)
     (c .before .before .before .before .before .before .before .loop-test .taken)
     (put-same
-    (ap₂ (λ (a b : ℕ). writeItem file.Stage (pairItem (record { rail0 = a; rail1 = b }))) (c .before .before .before .before .before .net-in-whole .ensures ∙ ap (λ (r : Rails). netMoved _ _ (r .rail0)) (c .before .before .before .before .before .before .rails-of .ensures .is))
-    (c .before .before .before .before .net-in-whole2 .ensures ∙ ap (λ (r : Rails). netMoved _ _ (r .rail1)) (c .before .before .before .before .before .before .rails-of .ensures .is)))
+    (ap₂ (λ (a b : ℕ). writeItem file.Stage (pairItem (record { rail0 = a; rail1 = b }))) (rw is at (c .before .before .before .before .before .net-in-whole .ensures))
+    (rw is at (c .before .before .before .before .net-in-whole2 .ensures)))
     (c .before .before .put-stage-output .ensures))
 
 same-length : tie.Need-same-length Inv-loop μ-loop

@@ -55,7 +55,9 @@ loop-again : tie.Need-loop-again Inv-loop μ-loop
 loop-again c =
     put-more file.Reference signalItem 3 (λ v. reference-output-width (v ∷ [])) _ _ (c .before .before .before .before .before .before .before .loop .inv)
     (c .before .before .before .before .before .before .loop-test .taken)
-    (put-same (ap (λ (v : ℕ). writeItem file.Reference (signalItem v)) (c .before .before .before .before .signal-in-whole .ensures ∙ ap (signalMoved _ _) (c .before .before .before .before .before .signal-of .ensures .is))) (c .before .before .put-reference-output .ensures))
+    (put-same (ap (λ (v : ℕ). writeItem file.Reference (signalItem v))
+    (c .before .before .before .before .signal-in-whole .ensures ∙ ap (signalMoved _ _)
+    (c .before .before .before .before .before .signal-of .ensures .is))) (c .before .before .put-reference-output .ensures))
 
 same-length : tie.Need-same-length Inv-loop μ-loop
 same-length c = c .before .loop .inv .items .left .long

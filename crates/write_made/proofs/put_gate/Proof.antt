@@ -50,7 +50,9 @@ returns c =
     let k = z .args .k in
     let op = operationIn code k in
     let net = 2 * z .args .sizes .inputs + z .args .made in
-    let is = ap₂ (λ (a b : List ℕ). realize (done .result) a b net) (c .before .before .before .before .before .rails-of .ensures ∙ ap (λ (o : Operands). pairStored rails (o .a)) operands) (c .before .before .before .rails-of2 .ensures ∙ ap (λ (o : Operands). pairStored rails (o .b)) operands)
+    let is = ap₂ (λ (a b : List ℕ). realize (done .result) a b net)
+    (c .before .before .before .before .before .rails-of .ensures ∙ ap (λ (o : Operands). pairStored rails (o .a)) operands)
+    (c .before .before .before .rails-of2 .ensures ∙ ap (λ (o : Operands). pairStored rails (o .b)) operands)
     ∙ ap (λ (o : ℕ). realize o (pairStored rails (operandIn code k 0)) (pairStored rails (operandIn code k 1)) net) same in
     let none = not-gates op (pairStored rails (operandIn code k 0)) (pairStored rails (operandIn code k 1)) net (sym same ∙ c .if1 .taken) in
     (omega (arith, ap length none), (put-no-gate none, (_, c .before .result-rails .ensures _ ∙ ap (λ (x : Built). x .rails) is, refl)))
@@ -76,7 +78,8 @@ returns-2 c =
     let k = z .args .k in
     let op = operationIn code k in
     let net = 2 * z .args .sizes .inputs + z .args .made in
-    let is = ap₂ (λ (a b : List ℕ). realize (done .result) a b net) (c .before .before .before .before .before .before .before .before .before .rails-of .ensures ∙ ap (λ (o : Operands). pairStored rails (o .a)) operands)
+    let is = ap₂ (λ (a b : List ℕ). realize (done .result) a b net)
+    (c .before .before .before .before .before .before .before .before .before .rails-of .ensures ∙ ap (λ (o : Operands). pairStored rails (o .a)) operands)
     (c .before .before .before .before .before .before .before .rails-of2 .ensures ∙ ap (λ (o : Operands). pairStored rails (o .b)) operands)
     ∙ ap (λ (o : ℕ). realize o (pairStored rails (operandIn code k 0)) (pairStored rails (operandIn code k 1)) net) same in
     let low : 2 ≤ op = omega (arith, z .pre .0 .low k (z .pre .1), same, c .before .before .before .before .if1 .left) in (
