@@ -83,8 +83,9 @@ fn data_words(code: &[u16], counts: Counts, row: &[u64]) -> u64
     let mut j: usize = 0;
     while j < counts.outputs {
         let rails = circuit::form::rails_of(code, counts, j);
-        words = words
-            & (lane_cells::lanes_at(row, rails.rail0) ^ lane_cells::lanes_at(row, rails.rail1));
+        let rail0 = lane_cells::lanes_at(row, rails.rail0);
+        let rail1 = lane_cells::lanes_at(row, rails.rail1);
+        words = words & (rail0 ^ rail1);
         j += 1;
     }
     words
@@ -99,9 +100,9 @@ fn null_words(code: &[u16], counts: Counts, row: &[u64]) -> u64
     let mut j: usize = 0;
     while j < counts.outputs {
         let rails = circuit::form::rails_of(code, counts, j);
-        words = words
-            & ((lane_cells::lanes_at(row, rails.rail0) | lane_cells::lanes_at(row, rails.rail1))
-                ^ lane_cells::ALL);
+        let rail0 = lane_cells::lanes_at(row, rails.rail0);
+        let rail1 = lane_cells::lanes_at(row, rails.rail1);
+        words = words & ((rail0 | rail1) ^ lane_cells::ALL);
         j += 1;
     }
     words
