@@ -345,9 +345,9 @@ pub fn all_hold(code: &[u16], counts: Counts) -> bool
     true
 }
 
-// The words of a stage that are suspect, by the reference. A block past those that its inputs make is named whole; where there are fewer than
-// six inputs, the lanes behind the last word repeat the words. For 20 and 21 all words are named where every gate has hold. Beside them the least
-// gate that rises in no word of the stage.
+// The words of a stage that are suspect, by the reference. A block past those that its inputs make is named whole, and so is one without a word that
+// the stage cares for: it is not settled. Where there are fewer than six inputs, the lanes behind the last word repeat the words. For 20 and 21 all
+// words are named where every gate has hold. Beside them the least gate that rises in no word of the stage.
 pub fn screen(code: &[u16], counts: Counts, reference: &[u16], sizes: Counts) -> Screened
     requires { ⌜ BothLoaded counts (now code) sizes (now reference) ⌝ }
     ensures clean { λ r. ⌜ AllClean (stageIn counts (now (code .entry))) (referenceIn sizes (now (reference .entry))) (r .masks) ⌝ }
@@ -365,6 +365,11 @@ pub fn screen(code: &[u16], counts: Counts, reference: &[u16], sizes: Counts) ->
     let count = lane_settle::block_count(counts.inputs);
     let mut b: usize = 0;
     while b < count {
+        let cared = words[b];
+        if cared == 0 {
+            b += 1;
+            continue;
+        }
         let found = rise_block(
             code,
             counts,
@@ -378,7 +383,7 @@ pub fn screen(code: &[u16], counts: Counts, reference: &[u16], sizes: Counts) ->
         wrong[b] = found.wrong;
         rise[b] = found.all;
         fall[b] = fall_block(hold, code, counts, &row, &mut ack);
-        lane_rise::note(&row, 2 * counts.inputs, counts.gates, words[b], &mut rose);
+        lane_rise::note(&row, 2 * counts.inputs, counts.gates, cared, &mut rose);
         b += 1;
     }
     let low = lane_rise::never_risen(&rose, counts.gates);
