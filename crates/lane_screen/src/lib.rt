@@ -226,12 +226,12 @@ fn acknowledged_lanes(
     }
 }
 
-// Each gate marks nets that it acknowledges.
-fn mark_gates(falls: bool, by_net: bool, code: &[u16], counts: Counts, row: &[u64], ack: &mut [u64])
+// Each gate marks nets that it acknowledges on the way back, asked pin by pin.
+fn mark_gates(code: &[u16], counts: Counts, row: &[u64], ack: &mut [u64])
     requires { ⌜ StageLoaded counts (now code) × InOrder counts (now code) × Room counts (now row) × Room counts (now ack) ⌝ }
     ensures long { λ r. ⌜ length (now (ack .exit)) ≡ length (now (ack .entry)) ⌝ }
-    ensures marked { λ r. ⌜ ((b : ℕ) → Resting counts (now (code .entry)) b (now (row .entry)) → MarkedIn falls counts (now (code .entry)) b (now (ack .entry))
-        → MarkedIn falls counts (now (code .entry)) b (now (ack .exit))) ⌝ }
+    ensures marked { λ r. ⌜ ((b : ℕ) → Resting counts (now (code .entry)) b (now (row .entry)) → MarkedIn true counts (now (code .entry)) b (now (ack .entry))
+        → MarkedIn true counts (now (code .entry)) b (now (ack .exit))) ⌝ }
 {
     let count = counts.gates;
     let mut k: usize = 0;
@@ -240,7 +240,51 @@ fn mark_gates(falls: bool, by_net: bool, code: &[u16], counts: Counts, row: &[u6
             code,
             counts,
             k,
-            acknowledged_lanes(falls, by_net, code, counts, k, row),
+            acknowledged_lanes(true, false, code, counts, k, row),
+            ack,
+        );
+        k += 1;
+    }
+}
+
+// Whether no net stands at two pins of gate k: to ask it by net is then to ask it pin by pin. Pins that it lacks, C among them if it has two, are at
+// the ground.
+fn has_distinct_pins(code: &[u16], counts: Counts, k: usize) -> bool
+    requires { ⌜ StageLoaded counts (now code) × (k < counts .gates) ⌝ }
+{
+    let pins = circuit::form::pins_of(code, counts, k);
+    if pins.a == pins.b {
+        return false;
+    }
+    let ground = 2 * counts.inputs + counts.gates;
+    if pins.c as usize == ground {
+        return true;
+    }
+    if pins.a == pins.c || pins.b == pins.c {
+        return false;
+    }
+    pins.a != pins.d && pins.b != pins.d && pins.c != pins.d
+}
+
+// The gates with some net at two pins mark nets that they acknowledge, asked by net.
+fn mark_by_net(falls: bool, code: &[u16], counts: Counts, row: &[u64], ack: &mut [u64])
+    requires { ⌜ StageLoaded counts (now code) × InOrder counts (now code) × Room counts (now row) × Room counts (now ack) ⌝ }
+    ensures long { λ r. ⌜ length (now (ack .exit)) ≡ length (now (ack .entry)) ⌝ }
+    ensures marked { λ r. ⌜ ((b : ℕ) → Resting counts (now (code .entry)) b (now (row .entry)) → MarkedIn falls counts (now (code .entry)) b (now (ack .entry))
+        → MarkedIn falls counts (now (code .entry)) b (now (ack .exit))) ⌝ }
+{
+    let count = counts.gates;
+    let mut k: usize = 0;
+    while k < count {
+        if has_distinct_pins(code, counts, k) {
+            k += 1;
+            continue;
+        }
+        lane_settle::mark_pins(
+            code,
+            counts,
+            k,
+            acknowledged_lanes(falls, true, code, counts, k, row),
             ack,
         );
         k += 1;
@@ -250,7 +294,7 @@ fn mark_gates(falls: bool, by_net: bool, code: &[u16], counts: Counts, row: &[u6
 // ---- 14 and 15
 
 // Block b settles; and its words in which some high net is not acknowledged. The marks are made anew. Where they leave some words the gates are
-// asked net by net: a net at several pins may be needed where none of these is.
+// asked net by net that have one at several pins: it may be needed where none of these is.
 fn rise_words(code: &[u16], counts: Counts, b: usize, row: &mut [u64], ack: &mut [u64]) -> u64
     requires { ⌜ StageLoaded counts (now code) × InOrder counts (now code) × Room counts (now row) × Room counts (now ack)
         × (getD (now row) (netCount counts) 0 ≡ 0) ⌝ }
@@ -265,7 +309,7 @@ fn rise_words(code: &[u16], counts: Counts, b: usize, row: &mut [u64], ack: &mut
     if words == 0 {
         return 0;
     }
-    mark_gates(false, true, code, counts, row, ack);
+    mark_by_net(false, code, counts, row, ack);
     unmarked(counts, row, ack)
 }
 
@@ -280,12 +324,12 @@ fn fall_words(code: &[u16], counts: Counts, row: &[u64], ack: &mut [u64]) -> u64
 {
     clear(counts, ack);
     mark_outputs(code, counts, ack);
-    mark_gates(true, false, code, counts, row, ack);
+    mark_gates(code, counts, row, ack);
     let words = unmarked(counts, row, ack);
     if words == 0 {
         return 0;
     }
-    mark_gates(true, true, code, counts, row, ack);
+    mark_by_net(true, code, counts, row, ack);
     unmarked(counts, row, ack)
 }
 
