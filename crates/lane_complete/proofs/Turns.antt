@@ -57,7 +57,8 @@ module _ (c : Counts) (code : List ℕ) (loaded : StageLoaded c code) (ordered :
         s (bitAnd (getD rest g 0) v) (λ rows ok j d like.
         lane-and j (getD rest g 0) v
         ∙ ap₂ (λ (x y : Bool). x && y) (at-rest j g d (omega (arith, at .there))) (stays j (rows j) like)
-        ∙ sym (ok j g ∙ ap₂ (λ (x y : Bool). restIn c code b j g && (x || not y)) rail-not (byNet-gate (netIn c code) g true (mayFall (netIn c code) (rows j) g) (gate-net c code ordered k (at .there)))))
+        ∙ sym (ok j g ∙ ap₂ (λ (x y : Bool). restIn c code b j g && (x || not y)) rail-not
+        (byNet-gate (netIn c code) g true (mayFall (netIn c code) (rows j) g) (gate-net c code ordered k (at .there)))))
       where
         g : ℕ
         g = 2 * c .inputs + k

@@ -148,7 +148,8 @@ fn keeping_input(code: &[u16], counts: Counts, rest: &[u64], i: usize, row: &mut
         × RailsLow counts (now row) ⌝ }
     ensures long { λ r. ⌜ length (now (row .exit)) ≡ length (now (row .entry)) ⌝ }
     ensures low { λ r. ⌜ ((b : ℕ) → AtRest counts (now (code .entry)) b (now (rest .entry)) → RailsLow counts (now (row .exit))) ⌝ }
-    ensures words { λ r. ⌜ ((b : ℕ) → AtRest counts (now (code .entry)) b (now (rest .entry)) → OnlyIn AllNull counts (now (code .entry)) (remainingIn counts (now (code .entry)) b i) r) ⌝ }
+    ensures words { λ r. ⌜ ((b : ℕ) → AtRest counts (now (code .entry)) b (now (rest .entry))
+        → OnlyIn AllNull counts (now (code .entry)) (remainingIn counts (now (code .entry)) b i) r) ⌝ }
 {
     row[2 * i] = rest[2 * i];
     row[2 * i + 1] = rest[2 * i + 1];

@@ -107,8 +107,8 @@ fn settle_gates(code: &[u16], counts: Counts, row: &mut [u64], ack: &mut [u64])
     ensures long { λ r. ⌜ (length (now (row .exit)) ≡ length (now (row .entry))) × (length (now (ack .exit)) ≡ length (now (ack .entry))) ⌝ }
     ensures settled { λ r. ⌜ ((b : ℕ) → Spelled counts (restIn counts (now (code .entry)) b) (now (row .entry))
         → LanesSettledTo counts (now (code .entry)) (restIn counts (now (code .entry)) b) (now (row .exit)) (counts .gates)) ⌝ }
-    ensures marked { λ r. ⌜ ((b : ℕ) → Spelled counts (restIn counts (now (code .entry)) b) (now (row .entry)) → Marked counts (now (code .entry)) b (now (ack .entry))
-        → Marked counts (now (code .entry)) b (now (ack .exit))) ⌝ }
+    ensures marked { λ r. ⌜ ((b : ℕ) → Spelled counts (restIn counts (now (code .entry)) b) (now (row .entry))
+        → Marked counts (now (code .entry)) b (now (ack .entry)) → Marked counts (now (code .entry)) b (now (ack .exit))) ⌝ }
 {
     let first = 2 * counts.inputs;
     let count = counts.gates;

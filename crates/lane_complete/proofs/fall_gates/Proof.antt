@@ -24,12 +24,21 @@ loop-holds : tie.Need-loop-holds Inv-loop μ-loop
 loop-holds c = (omega arith, refl, λ b n r. settles-start _ _ _ _)
 
 stay-words-requires : tie.Need-stay-words-requires Inv-loop μ-loop
-stay-words-requires c κs = (c .before .before .before .before .before .before .before .before .before .pre .0, c .before .before .gate-at .ensures .there, omega (arith, c .before .before .before .before .loop .inv .1, c .before .before .before .before .before .before .before .before .before .pre .3))
+stay-words-requires c κs =
+    let loop = c .before .before .before .before in
+    let z = loop .before .before .before .before .before in
+    (z .pre .0, c .before .before .gate-at .ensures .there, omega (arith, loop .loop .inv .1, z .pre .3))
+
+slice-write-row : tie.Need-slice-write-row Inv-loop μ-loop
+slice-write-row c =
+    let loop = c .before .before .before .before .before in
+    omega (arith, loop .loop .inv .1, loop .before .before .before .before .before .pre .3, c .before .before .before .gate-at .ensures .there)
 
 loop-again : tie.Need-loop-again Inv-loop μ-loop
 loop-again c =
-    let z = c .before .before .before .before .before .before .before .before .before .before in
-    let l = c .before .before .before .before .before .loop in (
+    let loop = c .before .before .before .before .before in
+    let z = loop .before .before .before .before .before in
+    let l = loop .loop in (
       omega arith,
       simp length-set (l .inv .1),
       λ b n r. fall-turn (z .args .counts) (now (z .args .code)) (z .pre .0) (z .pre .1) (now (z .args .row)) (l .row) (omega (arith, l .inv .1, z .pre .3)) (l .i) (omega arith) _
@@ -64,7 +73,7 @@ fall-gates-spec =
     stay-words-requires
     (λ c. omega arith)
     (λ c. omega arith)
-    (λ c. omega (arith, c .before .before .before .before .before .loop .inv .1, c .before .before .before .before .before .before .before .before .before .before .pre .3, c .before .before .before .gate-at .ensures .there))
+    slice-write-row
     (λ c. omega arith)
     (λ c. omega arith)
     loop-again

@@ -25,10 +25,16 @@ null-words-requires c κs =
     (z .pre .0, omega (arith, z .pre .4, set-long (now (z .args .row)) (z .args .i) (λ p. getD (now (z .args .rest)) p 0), c .before .before .before .fall-gates .ensures .0))
 
 slice-write-row-3 : tie.Need-slice-write-row-3
-slice-write-row-3 c = let z = c .before .before .before .before .before .before .before .before .before .before .before in omega (arith, z .pre .2, z .pre .4, c .before .before .before .before .fall-gates .ensures .0 ∙ set-long (now (z .args .row)) (z .args .i) (λ p. getD (now (z .args .rest)) p 0))
+slice-write-row-3 c =
+    let fall = c .before .before .before .before in
+    let z = fall .before .before .before .before .before .before .before in
+    omega (arith, z .pre .2, z .pre .4, fall .fall-gates .ensures .0 ∙ set-long (now (z .args .row)) (z .args .i) (λ p. getD (now (z .args .rest)) p 0))
 
 slice-write-row-4 : tie.Need-slice-write-row-4
-slice-write-row-4 c = let z = c .before .before .before .before .before .before .before .before .before .before .before in simp length-set (omega (arith, z .pre .2, z .pre .4, c .before .before .before .before .fall-gates .ensures .0 ∙ set-long (now (z .args .row)) (z .args .i) (λ p. getD (now (z .args .rest)) p 0)))
+slice-write-row-4 c =
+    let fall = c .before .before .before .before in
+    let z = fall .before .before .before .before .before .before .before in
+    simp length-set (omega (arith, z .pre .2, z .pre .4, fall .fall-gates .ensures .0 ∙ set-long (now (z .args .row)) (z .args .i) (λ p. getD (now (z .args .rest)) p 0)))
 
 same-length : tie.Need-same-length
 same-length c =

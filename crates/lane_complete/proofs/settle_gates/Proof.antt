@@ -23,7 +23,10 @@ loop-holds : tie.Need-loop-holds Inv-loop μ-loop
 loop-holds c = (omega arith, refl, settles-start _ _ _ _)
 
 set-words-requires : tie.Need-set-words-requires Inv-loop μ-loop
-set-words-requires c κs = (c .before .before .before .before .before .before .before .pre .0, c .before .gate-at .ensures .there, omega (arith, c .before .before .before .loop .inv .1, c .before .before .before .before .before .before .before .pre .2))
+set-words-requires c κs =
+    let loop = c .before .before .before in
+    let z = loop .before .before .before .before in
+    (z .pre .0, c .before .gate-at .ensures .there, omega (arith, loop .loop .inv .1, z .pre .2))
 
 loop-again : tie.Need-loop-again Inv-loop μ-loop
 loop-again c =

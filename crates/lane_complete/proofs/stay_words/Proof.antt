@@ -8,8 +8,9 @@ use Rattle.lane_complete.proofs.stay_words.Tie as tie
 
 returns : tie.Need-returns
 returns c =
-    let z = c .before .before .before .before .before .before .before .before in
-    hold-stays (z .args .counts) (now (z .args .code)) (z .pre .0) (z .args .k) (z .pre .1) (now (z .args .row)) (sym (c .before .before .before .before .before .has-hold .ensures) ∙ c .before .before .before .before .if1 .taken) _
+    let asked = c .before .before .before .before in
+    let z = asked .before .before .before .before in
+    hold-stays (z .args .counts) (now (z .args .code)) (z .pre .0) (z .args .k) (z .pre .1) (now (z .args .row)) (sym (asked .before .has-hold .ensures) ∙ asked .if1 .taken) _
     (c .before .before .before .pin-lanes .ensures)
 
 returns-2 : tie.Need-returns-2

@@ -36,7 +36,8 @@ returns c =
     let code = now (z .args .code) in
     let spell = c .before .before .before .before .before .before .before .before .spell-rails in
     let settle = c .before .before .before .before .settle-gates in
-    let spelled = missing-spelled counts code (z .args .b) (z .args .i) (z .pre .2) (spell .last .1 .1 .0) (omega (arith, z .pre .2, z .pre .3, spell .ensures .0)) (spell .ensures .1 code (z .pre .1)) in
+    let spelled = missing-spelled counts code (z .args .b) (z .args .i) (z .pre .2) (spell .last .1 .1 .0)
+    (omega (arith, z .pre .2, z .pre .3, spell .ensures .0)) (spell .ensures .1 code (z .pre .1)) in
     let held = settle .ensures .1 _ (missing-rows counts code (z .args .b) (z .args .i) (z .pre .2)) spelled in
     (settle .ensures .0 ∙ set-long (spell .last .1 .1 .0) (z .args .i) (λ p. 0) ∙ spell .ensures .0, (held .ground, c .data-words .ensures _ (held .nets)))
 

@@ -23,7 +23,10 @@ acknowledged-lanes-requires : tie.Need-acknowledged-lanes-requires Inv-loop μ-l
 acknowledged-lanes-requires c κs = let z = c .before .before .before .before .before .before .before in (z .pre .0, z .pre .1, omega arith, z .pre .2)
 
 mark-pins-requires : tie.Need-mark-pins-requires Inv-loop μ-loop
-mark-pins-requires c κs = let z = c .before .before .before .before .before .before .before .before .before in (z .pre .0, omega arith, omega (arith, z .pre .3, c .before .before .before .before .before .loop .inv .same-long))
+mark-pins-requires c κs =
+    let loop = c .before .before .before .before .before in
+    let z = loop .before .before .before .before in
+    (z .pre .0, omega arith, omega (arith, z .pre .3, loop .loop .inv .same-long))
 
 loop-again-2 : tie.Need-loop-again-2 Inv-loop μ-loop
 loop-again-2 c =

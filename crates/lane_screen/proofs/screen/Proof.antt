@@ -94,22 +94,26 @@ slice-aggregate-note : tie.Need-slice-aggregate-note Inv-loop μ-loop
 slice-aggregate-note c = sym (c .before .before .before .before .before .before .before .before .rise-block .ensures .0 .row-long)
 
 mul-note : tie.Need-mul-note Inv-loop μ-loop
-mul-note c = omega (arith, c .before .before .before .before .before .before .before .before .before .before .before .before .before .before .before .before .before .before .before .before .before .pre .stage .within .inputs-in)
+mul-note c =
+    let loop = c .before .before .before .before .before .before .before .before .before .before .before .before .before .before .before in
+    omega (arith, loop .before .before .before .before .before .before .pre .stage .within .inputs-in)
 
 slice-aggregate-note-2 : tie.Need-slice-aggregate-note-2 Inv-loop μ-loop
 slice-aggregate-note-2 c = sym (c .before .before .before .before .before .before .before .before .before .before .before .before .before .before .before .before .loop .inv .2 .long)
 
 note-requires : tie.Need-note-requires Inv-loop μ-loop
 note-requires c κs =
-    let s = c .before .before .before .before .before .before .before .before .before .before .before .before .before .before .before .before .before .before .before .before .before .before .pre .stage .within in
+    let loop = c .before .before .before .before .before .before .before .before .before .before .before .before .before .before .before .before in
+    let s = loop .before .before .before .before .before .before .pre .stage .within in
     let space = c .before .before .before .before .before .before .before .before .before .before .rise-block .ensures .0 in
-    (omega (arith, space .row-long, s .inputs-in, s .gates-in), omega (arith, c .before .before .before .before .before .before .before .before .before .before .before .before .before .before .before .before .loop .inv .2 .long, s .gates-in))
+    (omega (arith, space .row-long, s .inputs-in, s .gates-in), omega (arith, loop .loop .inv .2 .long, s .gates-in))
 
 loop-again-2 : tie.Need-loop-again-2 Inv-loop μ-loop
 loop-again-2 c =
-    let z = c .before .before .before .before .before .before .before .before .before .before .before .before .before .before .before .before .before .before .before .before .before .before .before .before in
-    let masks = c .before .before .before .before .before .before .before .before .before .before .before .before .before .before .before .before .before .before .before .before .before .word-masks in
-    let l = c .before .before .before .before .before .before .before .before .before .before .before .before .before .before .before .before .before .before .loop in
+    let loop = c .before .before .before .before .before .before .before .before .before .before .before .before .before .before .before .before .before .before in
+    let z = loop .before .before .before .before .before .before in
+    let masks = loop .before .before .before .word-masks in
+    let l = loop .loop in
     let up = c .before .before .before .before .before .before .before .before .before .before .before .before .rise-block in
     let down = c .before .before .before .before .before .before .fall-block in
     let code = now (z .args .code) in
