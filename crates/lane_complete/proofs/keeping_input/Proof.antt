@@ -17,7 +17,7 @@ slice-write-row-2 c = let z = c .before .before .before .before .before in simp 
 fall-gates-requires : tie.Need-fall-gates-requires
 fall-gates-requires c κs =
     let z = c .before .before .before .before .before .before in
-    (z .pre .0, z .pre .1, z .pre .3, omega (arith, z .pre .4, set-long (now (z .args .row)) (z .args .i) (λ p. getD (now (z .args .rest)) p 0)))
+    (z .pre .0, z .pre .1, z .pre .3, simp length-set (z .pre .4))
 
 null-words-requires : tie.Need-null-words-requires
 null-words-requires c κs =
