@@ -4,8 +4,9 @@
    Each call takes byte strings as a pointer and then a length. The bytes may be any; that they are there, that nothing
    else writes them during the call, and that a row or a buffer overlaps nothing else is all that is asked. Each call
    returns, keeps nothing for later calls, and touches no other memory but its answer and the stack: at most 64
-   kilobytes of it (measured: join 55, report 51, check 34, settled row 18, make a stage 14). So calls may run at the
-   same time in several threads, each with a row or buffers of its own.
+   kilobytes of it (measured: report 47, join 45, check 32, read a text 24, write a text 21, settled row 18, make a stage
+   5, draw a reference 1, the next stage less than 1). So calls may run at the same time in several threads, each with a
+   row or buffers of its own.
 
    A pointer that goes with the length 0 is not read through. What is proved is about pointers that are not null; with
    the length 0 any other address will do. A null pointer with the length 0 was tried too: it counts as an empty file,
@@ -29,15 +30,15 @@ struct fovaheju_verdict {
        that do not fit, 23 an answer that the second part does not care for, 24 a buffer that is too short, 25 a signal
        that leads to no output, 26 too many gates needed, 27 a buffer that is too short for a stage, 28 a gate of a
        retired kind, 29 a line of a text that has another form, or a care list, which has no text, 30 a name in a text that
-       nobody drives, 31 a name that is driven again, or an output that would give a net a second name, 36 to 38 no next
-       small stage, 39 to 41 no drawn reference.
+       nobody drives, 31 a name that is driven again, or an output that would give a net a second name, 32 a gate that
+       never rises, 36 to 38 no next small stage, 39 to 41 no drawn reference.
        docs/VERDICTS.md has the list. */
     uint64_t number;
     /* In which file: 1 the stage or a stage's text, 2 the reference, 3 the row or a buffer, 0 none. Of a join 1 and 2 are
        the first part's, 4 and 5 the second's; 3 is none in the second part, and for 24 a buffer. */
     uint64_t file;
-    /* At which place: a byte of the file for 1 to 9, 18 and 19, the stage's count for 10 and 11, a gate for 12, 15, 21
-       and 28, an output for 13, an input for 14, 17 and 20, the row's length for 16, the first part's outputs for 22, a
+    /* At which place: a byte of the file for 1 to 9, 18 and 19, the stage's count for 10 and 11, a gate for 12, 15, 21,
+       28 and 32, an output for 13, an input for 14, 17 and 20, the row's length for 16, the first part's outputs for 22, a
        signal for 25, how many gates are needed for 26, a line of the text for 29 to 31, counted from 0, where a text is
        written an output for 31. */
     uint64_t at;
@@ -53,7 +54,7 @@ struct fovaheju_verdict {
    Care words in files have input 0 as the lowest bit always. */
 
 /* The verdict on a stage file and a reference file, given as their bytes. The numbers are 0 to 15,
-   18 to 21 and 28. */
+   18 to 21, 28 and 32. */
 struct fovaheju_verdict fovaheju_check(uint64_t order, const uint8_t *stage, size_t stage_len,
                                        const uint8_t *reference, size_t reference_len);
 
@@ -95,7 +96,7 @@ struct fovaheju_join {
    the number is not 0. A part may have at most 128 gates in its stage and 256 in its reference; 5,715 bytes have room
    for every joined stage, and 3,123 for every joined reference. The numbers are those of fovaheju_check on the first
    part, then on the second, with 3 added to its file, then 22, 23 and 24. The bytes written are the same in either
-   order. */
+   order. fovaheju_check accepts what is written, or answers 32: a gate of the whole may never rise. */
 struct fovaheju_join fovaheju_join(uint64_t order, const uint8_t *stage1, size_t stage1_len,
                                    const uint8_t *reference1, size_t reference1_len,
                                    const uint8_t *stage2, size_t stage2_len,
@@ -111,14 +112,16 @@ struct fovaheju_written {
 
 /* Makes a stage that computes what a reference says: NOT swaps rails, every other operation becomes two gates. The stage is
    written at the start of a buffer; the bytes past it keep their values, and so do all where the number is not 0.
-   fovaheju_check accepts what is written against the reference. 2,643 bytes have room for every such stage. The numbers
-   are 0; 1 to 9 with file 2; then 25, 26 and 27, with the files 2, 2 and 3. */
+   fovaheju_check accepts what is written against the reference, or answers 32: a gate may never rise. 2,643 bytes have
+   room for every such stage. The numbers are 0; 1 to 9 with file 2; then 25, 26 and 27, with the files 2, 2 and 3. */
 struct fovaheju_written fovaheju_make_stage(const uint8_t *reference, size_t reference_len,
                                             uint8_t *stage_out, size_t stage_out_len);
 
 /* Reads the text of a stage in the line form: the input names, the output names, then a line for each gate. Its stage file,
    gates before outputs, is written at the start of a buffer; the bytes past it keep their values, and so do all where the
-   number is not 0. The text may have any length and any bytes. 2,643 bytes have room for every such file. The numbers are 0;
+   number is not 0. The text may have any length and any bytes; where it names more than a stage may have, the time grows with
+   the square of its length. No text that reads has more than 27,322 bytes, and 2,643 have room for every such file: 2 for the
+   inputs, 10 for each of 256 gates, 5 for each of 16 outputs, 1 for the end; tests/tests/text.rs counts both. The numbers are 0;
    29, 30 and 31, with `at` the line, counted from 0; 3, 5 and 6, with `at` a place in the file that would be made; all these
    with file 1; then 24 with file 3. */
 struct fovaheju_written fovaheju_read_text(const uint8_t *text, size_t text_len, uint8_t *stage_out, size_t stage_out_len);
@@ -126,8 +129,9 @@ struct fovaheju_written fovaheju_read_text(const uint8_t *text, size_t text_len,
 /* Writes a stage file as text in the line form: the names of the inputs, those of the outputs, then a line for each gate, with
    its kind, its pins and its net. The text is written at the start of a buffer; the bytes past it keep their values, and so
    do all where the number is not 0. fovaheju_read_text gives the file's own bytes back, if its gates stand before its
-   outputs. 10,012 bytes have room for every text. The numbers are 0; 1 to 9, 18 and 19; 29 for a file with a care list; 31
-   with `at` the least output that would give a net a second name; all these with file 1; then 24 with file 3. */
+   outputs. 10,012 bytes have room for every text, as tests/tests/text.rs counts; that 11,908 have is proved. The numbers are 0;
+   1 to 9, 18 and 19; 29 for a file with a care list; 31 with `at` the least output that would give a net a second name; all
+   these with file 1; then 24 with file 3. */
 struct fovaheju_written fovaheju_write_text(const uint8_t *stage, size_t stage_len, uint8_t *text_out, size_t text_out_len);
 
 /* Writes the next file of the family of small stages: 1 or 2 inputs, 0 to 2 gates of kinds 1 and 2, one output, gates

@@ -3,12 +3,14 @@
 //! an output on another net; where more has to change at once, only some ways are tried.
 
 use crate::explain::{Order, DEPTH};
-use crate::netlist::{commands, gate_command, kind_name, pin_count, relaxed, two, Form, Reference, Side, Stage, ABSENT};
-use crate::situation::{once, Situation};
+use crate::netlist::{commands, gate_command, kind_name, pin_count, relaxed, set_expression, two, Form, Reference, Side, Stage, ABSENT};
+use crate::situation::{once, Idle, Situation};
 use fovaheju::Verdict;
 
 /// How many of the gates that are named are changed first.
 const GATES: usize = 8;
+/// How many gates of one change are named.
+const PARTS: usize = 8;
 /// The kind that is no longer cast.
 const RETIRED: u8 = 24;
 const THAND0: u8 = 26;
@@ -64,17 +66,25 @@ struct Named {
     rises: bool,
     /// The gates of a kind that is no longer cast.
     retired: Vec<usize>,
+    /// The gates that never rise.
+    idle: Vec<usize>,
+    /// The words that are not cared for, in which the first of these would rise.
+    words: Vec<usize>,
 }
 
 impl Named {
     /// What a verdict on the gates of a stage names; of other verdicts nothing.
     fn of(verdict: Verdict, base: Base, reference: &[u8], order: Order) -> Option<Named> {
         let (stage, at) = (base.stage, verdict.at as usize);
-        let mut named = Named { gates: Vec::new(), output: None, net: None, rises: true, retired: Vec::new() };
+        let (gates, retired, idle, words) = (Vec::new(), Vec::new(), Vec::new(), Vec::new());
+        let mut named = Named { gates, output: None, net: None, rises: true, retired, idle, words };
         match verdict.number {
             12 => named.gates = stage.shortest_loop(at),
             28 => named.retired = stage.alike(at),
-            32 => named.gates = vec![at],
+            32 => {
+                let idle = Idle::of(at, base.file, stage)?;
+                (named.gates, named.idle, named.words) = (vec![at], idle.gates, idle.words);
+            }
             13 => {
                 let case = Situation::of(verdict, base.file, stage, order)?;
                 let value = Reference::of(reference).answer(&case.values).get(at).copied().unwrap_or(false);
@@ -98,7 +108,7 @@ pub struct Mending<'a> {
     reference: &'a [u8],
     order: Order,
     named: Named,
-    /// A gate that feeds nothing. Of it every change that keeps it low is accepted, and says nothing: it is only taken out.
+    /// A gate that feeds nothing. It is only taken out: it is not observable where it rises, and where it never does it is refused for that.
     spare: Option<usize>,
     number: u64,
 }
@@ -146,6 +156,7 @@ impl<'a> Mending<'a> {
     /// Changes of what is named, single ones and others, the likeliest first.
     fn likely(&self) -> Changes<'a> {
         match self.spare {
+            _ if !self.named.idle.is_empty() => self.base.of_idle(&self.named, self.spare.is_some()),
             Some(gate) => Box::new(self.base.without(gate).into_iter()),
             None if !self.named.retired.is_empty() => self.base.of_retired(self.named.retired.clone()),
             None => {
@@ -265,6 +276,14 @@ impl<'a> Base<'a> {
         let kinds = far.clone().into_iter().flat_map(move |gate| self.other_kinds(gate));
         let pins = far.into_iter().flat_map(move |gate| self.other_pins(gate));
         Box::new(mixed.chain(kinds).chain(pins))
+    }
+
+    /// Gates that never rise: these taken out, or one more word cared for; then changes of the one that is named, if it feeds something.
+    fn of_idle(self, named: &Named, spare: bool) -> Changes<'a> {
+        let out = self.without_idle(&named.idle).into_iter();
+        let more = named.words.clone().into_iter().map(move |word| self.with_care(word));
+        let others = (!spare).then(|| self.of_named(named, Box::new(std::iter::empty())));
+        Box::new(out.chain(more).chain(others.into_iter().flatten()))
     }
 
     /// Whether no gate but itself reads a gate, and no output does.
@@ -526,6 +545,91 @@ impl<'a> Base<'a> {
         Box::new(cells.filter_map(move |(cell, hold)| change(cell, hold)))
     }
 
+    /// One more care word, where there are some: they stand in rising order.
+    fn with_care(&self, word: usize) -> Change {
+        let commands = commands(self.file, Side::Stage);
+        let mut care = commands.iter().filter(|command| command.form == Some(Form::Care)).zip(&self.stage.care);
+        let end = care.clone().last().map_or(2, |(command, _)| command.at + command.bytes.len());
+        let at = care.find(|(_, &other)| other > word).map_or(end, |(command, _)| command.at);
+        let mut file = self.file.to_vec();
+        file.splice(at..at, [&[6][..], &(word as u16).to_le_bytes()].concat());
+        Change::several(file, format!("word {word} cared for too"))
+    }
+
+    /// Gates that never rise, taken out: those that read them do without.
+    fn without_idle(&self, idle: &[usize]) -> Option<Change> {
+        let left: Vec<Left> = (0..self.stage.gates.len()).map(|gate| self.left(gate, idle)).collect::<Option<_>>()?;
+        let kept: Vec<usize> = (0..left.len()).filter(|&gate| matches!(left[gate], Left::Gate(..))).collect();
+        let number = |mut net: usize| loop {
+            match self.stage.driver(net).map(|gate| (gate, &left[gate])) {
+                None => return Some(net),
+                Some((gate, Left::Gate(..))) => return Some(self.stage.net_of(kept.binary_search(&gate).ok()?)),
+                Some((_, Left::Net(other))) => net = *other,
+                Some((_, Left::Nothing)) => return None,
+            }
+        };
+        let mut file = Vec::new();
+        let (mut gate, mut output) = (0, 0);
+        for command in commands(self.file, Side::Stage) {
+            match command.form {
+                Some(Form::Gate) => {
+                    if let Left::Gate(kind, pins) = &left[gate] {
+                        let pins: Vec<usize> = pins.iter().map(|&pin| number(pin)).collect::<Option<_>>()?;
+                        file.extend(gate_command(*kind, &pins));
+                    }
+                    gate += 1;
+                }
+                Some(Form::Output) => {
+                    let [low, high] = self.stage.outputs[output].map(number);
+                    file.push(command.bytes[0]);
+                    file.extend(two([low?, high?]));
+                    output += 1;
+                }
+                _ => file.extend(command.bytes),
+            }
+        }
+        Some(Change::several(file, self.says_without(idle, &left)))
+    }
+
+    /// What is left of a gate where those that never rise are taken out.
+    fn left(&self, gate: usize, idle: &[usize]) -> Option<Left> {
+        let found = &self.stage.gates[gate];
+        let low = |net: &usize| self.stage.driver(*net).is_some_and(|driver| idle.contains(&driver));
+        if idle.contains(&gate) {
+            return Some(Left::Nothing);
+        }
+        if !found.pins.iter().any(low) {
+            return Some(Left::Gate(found.kind, found.pins.clone()));
+        }
+        let products: Vec<Vec<usize>> = products(found.kind, &found.pins).into_iter().filter(|nets| !nets.iter().any(low)).collect();
+        let mut nets: Vec<usize> = smallest(&products).concat();
+        nets.sort();
+        nets.dedup();
+        if let [net] = nets[..] {
+            return Some(Left::Net(net));
+        }
+        let same = |&(cell, ref pins): &(u8, Vec<usize>)| smallest(&self::products(cell, pins)) == smallest(&products);
+        let all = cells_of(nets.len()).flat_map(|cell| orders(&nets).into_iter().map(move |pins| (cell, pins)));
+        all.into_iter().find(same).map(|(cell, pins)| Left::Gate(cell | found.kind & 0x80, pins))
+    }
+
+    fn says_without(&self, idle: &[usize], left: &[Left]) -> String {
+        let mut parts: Vec<String> = idle.iter().map(|&gate| self.stage.gate_name(gate)).collect();
+        parts = vec![format!("{} taken out", some_of(&parts))];
+        let mut changed = Vec::new();
+        for (gate, left) in left.iter().enumerate() {
+            match left {
+                Left::Gate(kind, pins) if pins != &self.stage.gates[gate].pins => changed.push(self.gate_as(gate, *kind, pins).says),
+                Left::Net(net) => changed.push(format!("{} in place of {}", self.stage.net_name(*net), self.stage.gate_name(gate))),
+                _ => {}
+            }
+        }
+        if !changed.is_empty() {
+            parts.push(some_of(&changed));
+        }
+        parts.join(", and ")
+    }
+
     /// A gate that nothing reads, taken out: the nets behind it are numbered one less.
     fn without(&self, gate: usize) -> Option<Change> {
         let (net, at) = (self.stage.net_of(gate), self.stage.gates.get(gate)?.at);
@@ -549,6 +653,39 @@ impl<'a> Base<'a> {
         let moved = if later { " (later gates and nets move down by one)" } else { "" };
         Some(Change::several(file, format!("{} taken out{moved}", self.stage.gate_name(gate))))
     }
+}
+
+/// What is left of a gate: nothing, the one net that it would follow, or a gate of a kind on some pins.
+enum Left {
+    Nothing,
+    Net(usize),
+    Gate(u8, Vec<usize>),
+}
+
+/// The products of a kind's set expression on these pins, each as its nets in rising order.
+fn products(kind: u8, pins: &[usize]) -> Vec<Vec<usize>> {
+    let product = |letters: &str| {
+        let mut nets: Vec<usize> = letters.bytes().filter_map(|letter| pins.get(usize::from(letter - b'A')).copied()).collect();
+        nets.sort();
+        nets.dedup();
+        nets
+    };
+    set_expression(kind).unwrap_or_default().split('+').map(product).collect()
+}
+
+/// Products that hold no other one, in order: two set expressions are the same where these are.
+fn smallest(products: &[Vec<usize>]) -> Vec<Vec<usize>> {
+    let holds = |one: &Vec<usize>, other: &Vec<usize>| one != other && other.iter().all(|net| one.contains(net));
+    let mut kept: Vec<Vec<usize>> = products.iter().filter(|one| !products.iter().any(|other| holds(one, other))).cloned().collect();
+    kept.sort();
+    kept.dedup();
+    kept
+}
+
+/// Some parts of a sentence, the first ones.
+fn some_of(parts: &[String]) -> String {
+    let more = if parts.len() > PARTS { ", .." } else { "" };
+    parts[..parts.len().min(PARTS)].join(", ") + more
 }
 
 /// The cells with so many pins, but the retired one.

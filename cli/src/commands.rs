@@ -15,6 +15,7 @@ mod report;
 mod row;
 mod text;
 mod to;
+mod wave;
 
 use crate::explain::{explain as explain_verdict, sentence, Order, Question, TRIES};
 use crate::failure::{Failure, Outcome};
@@ -32,10 +33,11 @@ use std::path::{Path, PathBuf};
 type Row = (&'static str, fn() -> Command, fn(&ArgMatches) -> Outcome<Found>);
 
 /// In the order of the help.
-const ROWS: [Row; 15] = [
+const ROWS: [Row; 16] = [
     ("check", check::command, check::run),
     ("explain", explain::command, explain::run),
     ("draw", draw::command, draw::run),
+    ("wave", wave::command, wave::run),
     ("mend", mend::command, mend::run),
     ("batch", batch::command, batch::run),
     ("report", report::command, report::run),

@@ -9,7 +9,6 @@ pub mod yosys;
 
 use crate::failure::{Failure, Outcome};
 use crate::input::read_within;
-use crate::netlist::Names;
 use std::path::Path;
 
 /// So many bytes of a netlist are taken; a stage of 256 gates needs far less, so what is longer is something else.
@@ -65,9 +64,4 @@ pub fn printable(name: &str) -> String {
         shown += "..";
     }
     shown
-}
-
-/// A names file: the names of the inputs on one line, those of the outputs on the next, with commas between them.
-pub fn names_file(names: &Names) -> String {
-    format!("{}\n{}\n", names.inputs.join(","), names.outputs.join(","))
 }

@@ -2,6 +2,7 @@
 
 mod bytes;
 mod circuit;
+mod idle;
 mod lines;
 mod mended;
 mod small;
@@ -267,7 +268,7 @@ fn of_pair(text: &mut Text, verdict: Verdict, pair: Pair, order: Order) {
                 "found",
                 &format!(
                     "{words}, and in every order in which its gates may switch, the stage answers what the reference says, waits for each \
-                     input and each gate, and goes back to NULL in the same way"
+                     input and each gate, and goes back to NULL in the same way; each gate rises in some word"
                 ),
             );
         }
@@ -291,6 +292,10 @@ fn of_pair(text: &mut Text, verdict: Verdict, pair: Pair, order: Order) {
         }
         (13 | 14 | 15 | 20 | 21, _) => {
             words::in_a_word(text, verdict, pair, order);
+            say_changes(text, verdict, pair, order);
+        }
+        (32, _) => {
+            idle::never_rises(text, verdict, pair);
             say_changes(text, verdict, pair, order);
         }
         _ => unknown(text, verdict),
@@ -355,7 +360,9 @@ fn of_row(text: &mut Text, verdict: Verdict, file: &Given, row: &[u8]) {
 /// What the join finds: the first part's own refusal, the second's with 3 added to its file, or what stands between them.
 fn of_join(text: &mut Text, verdict: Verdict, [first, second]: [Pair; 2], order: Order) {
     match (verdict.number, verdict.file) {
-        (0, _) => text.row("found", "both parts are accepted and fit, so the whole is accepted too"),
+        (0, _) => {
+            text.row("found", "both parts are accepted and fit; the check accepts the whole too, unless a gate never rises in it (32)")
+        }
         (22, _) => {
             let (outputs, inputs) = (verdict.at as usize, verdict.word as usize);
             text.row("first", &format!("{}: {}", first.stage.name(), many(outputs, "output")));
@@ -408,7 +415,7 @@ fn of_make(text: &mut Text, verdict: Verdict, file: &Input) {
     let reference = Reference::of(&file.bytes);
     let at = verdict.at as usize;
     match verdict.number {
-        0 => text.row("found", "a stage was made of the reference; the check accepts it"),
+        0 => text.row("found", "a stage was made of the reference; the check accepts it, unless a gate never rises (32)"),
         1..=9 => {
             let taken = Taken { side: Side::Reference, most: 512, texts: false, alone: Some("ncl make") };
             bytes::unreadable(text, verdict, file, taken);

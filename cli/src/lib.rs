@@ -18,9 +18,11 @@ pub mod netlist;
 pub mod numbers;
 pub mod output;
 pub mod progress;
+pub mod runs;
 pub mod situation;
 pub mod streams;
 pub mod tools;
+pub mod wave;
 
 use clap::error::ErrorKind;
 use failure::{Failure, Outcome};

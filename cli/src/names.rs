@@ -34,10 +34,7 @@ impl NamesFile {
         }
         let list = |line: &str| line.split(',').map(|name| name.trim().to_string()).collect::<Vec<String>>();
         let names = Names { inputs: list(inputs), outputs: list(outputs), gates: Vec::new() };
-        let odd = |name: &&String| {
-            let sign = |sign: char| sign.is_whitespace() || sign.is_control() || "#=\\\"".contains(sign);
-            name.is_empty() || name.chars().count() > LONG || name.chars().any(sign)
-        };
+        let odd = |name: &&String| name.is_empty() || name.chars().count() > LONG || name.chars().any(odd_sign);
         if let Some(name) = names.inputs.iter().chain(&names.outputs).find(odd) {
             return Err(wrong(format!("'{}' is no name", name.escape_debug())));
         }
@@ -55,6 +52,18 @@ impl NamesFile {
         }
         Ok(())
     }
+}
+
+/// A sign that no name has: it would end a name here or in BLIF.
+fn odd_sign(sign: char) -> bool {
+    sign.is_whitespace() || sign.is_control() || "#=\\\",".contains(sign)
+}
+
+/// The text of a names file. Odd signs, which other tools may have in names, become underscores.
+pub fn names_file(names: &Names) -> String {
+    let plain = |name: &String| name.chars().take(LONG).map(|sign| if odd_sign(sign) { '_' } else { sign }).collect::<String>();
+    let line = |names: &[String]| names.iter().map(plain).collect::<Vec<String>>().join(",");
+    format!("{}\n{}\n", line(&names.inputs), line(&names.outputs))
 }
 
 /// Signals that are shown together: a bus with its bits, the highest first, or one by itself.

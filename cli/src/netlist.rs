@@ -274,6 +274,24 @@ impl Stage {
         (0..self.gates.len()).filter(|&gate| self.gates[gate].pins.contains(&net)).collect()
     }
 
+    /// The words that it cares for; words of files have input i as bit i.
+    pub fn words(&self) -> Vec<usize> {
+        if self.care.is_empty() {
+            return (0..1 << self.inputs).collect();
+        }
+        self.care.clone()
+    }
+
+    /// How many these are: `4 words`, `2 care words`.
+    pub fn word_count(&self) -> String {
+        many(self.words().len(), if self.care.is_empty() { "word" } else { "care word" })
+    }
+
+    /// The value of each input in a word.
+    pub fn values(&self, word: usize) -> Vec<bool> {
+        (0..self.inputs).map(|input| word >> input & 1 == 1).collect()
+    }
+
     /// The gates of the same cell as one, with hold or without.
     pub fn alike(&self, gate: usize) -> Vec<usize> {
         let cell = |k: usize| self.gates.get(k).map(|gate| gate.kind & 0x7F);

@@ -44,6 +44,31 @@ pub struct Behind {
     pub again: bool,
 }
 
+/// What 32 speaks of: gates that rise in no word that the stage cares for.
+pub struct Idle {
+    /// The rest of each of these words.
+    pub rests: Vec<Row>,
+    /// The gates that are low in all of them.
+    pub gates: Vec<usize>,
+    /// The words that are not cared for and in which the gate that is named rises; words of files have input i as bit i.
+    pub words: Vec<usize>,
+}
+
+impl Idle {
+    /// None where the stage has no such gate, or its levels cannot be had.
+    pub fn of(gate: usize, file: &[u8], stage: &Stage) -> Option<Idle> {
+        let levels = Levels::new(file, stage);
+        let cared = stage.words();
+        let rests: Vec<Row> = cared.iter().map(|&word| levels.rest(&stage.values(word))).collect::<Option<_>>()?;
+        let low = |gate: &usize| rests.iter().all(|rest| !rest[stage.net_of(*gate)]);
+        let gates: Vec<usize> = (0..stage.gates.len()).filter(low).collect();
+        let others = (0..1 << stage.inputs).filter(|word| cared.binary_search(word).is_err());
+        let high = |&word: &usize| levels.rest(&stage.values(word)).is_some_and(|rest| rest[stage.net_of(gate)]);
+        let words = if gates.contains(&gate) { others.filter(high).collect() } else { return None };
+        Some(Idle { rests, gates, words })
+    }
+}
+
 impl<'a> Situation<'a> {
     /// The situation of 13, 14, 15, 20 or 21; of other numbers there is none.
     pub fn of(verdict: Verdict, file: &[u8], stage: &'a Stage, order: Order) -> Option<Situation<'a>> {

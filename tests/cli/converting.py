@@ -167,6 +167,9 @@ def try_blif():
     tried("from BLIF, a top", 2, "", "BLIF has one model", "from", "and.blif", "new.ncl", "--top", "m", cwd=here)
     tried("from BLIF on standard input", 0, "", "", "from", "-q", "-", "new.ncl", cwd=here, given=(here / "and.blif").read_bytes())
     same("its reference", bytes.fromhex("01 02 11 02 00 00 01 00 12 02 00 00"), (here / "new.ncl").read_bytes())
+    (here / "odd.blif").write_text(".model m\n.inputs a,1 b=2\n.outputs y\n.names a,1 b=2 y\n11 1\n.end\n")
+    tried("from BLIF, odd names", 0, "", "", "from", "-q", "odd.blif", "new.ncl", "names", cwd=here)
+    same("odd names in a names file", "a_1,b_2\ny\n", (here / "names").read_text())
     value = json.loads(Ran("from", "--json", "and.blif", "new.ncl", cwd=here).out)
     same("from as JSON", ["m", "reference", {"inputs": ["a", "b"], "outputs": ["y"]}, []], [value[key] for key in ["module", "what", "names", "notes"]])
 

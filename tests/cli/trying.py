@@ -16,6 +16,7 @@ top.chmod(0o755)
 os.environ.pop("NO_COLOR", None)
 os.environ["TERM"] = "xterm"
 counted = {"passed": 0, "failed": 0}
+watching = []  # functions that are told each run of the command: its words, its folder, what it was given, and the run
 
 
 def same(about, expected, got):
@@ -40,6 +41,8 @@ class Ran:
         self.status = done.returncode
         self.out = (done.stdout or b"").decode("utf-8", "replace")
         self.err = done.stderr.decode("utf-8", "replace")
+        for told in watching:
+            told(words, Path(cwd or root), given, self)
 
 
 def tried(about, status, out, says, *words, **how):

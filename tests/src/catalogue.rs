@@ -12,7 +12,8 @@ use crate::circuits::{
     ripple_adder_reference, stage_from_netlist, Products, ReferenceBuilder, Signal, StageBuilder,
 };
 use crate::files::{self, unhex, write_pair, FilePair};
-use crate::judge::{Gate, Reference, Stage, AND, NAND, NOR, OR, ORDERS, XOR};
+use crate::judge::{Gate, Reference, Stage, AND, NAND, NOR, NOT, OR, ORDERS, XOR};
+use crate::make::made_stage;
 use crate::suite::verdict_in;
 
 /// One stored pair.
@@ -421,6 +422,7 @@ pub fn examples() -> Vec<Example> {
     list.extend(pair_examples());
     list.extend(joins::parts_and_wholes());
     list.extend(retired_examples());
+    list.extend(low_examples());
     list
 }
 
@@ -564,11 +566,76 @@ pub fn pair_examples() -> Vec<Example> {
             Example {
                 name: name.to_string(),
                 about,
-                number: 0,
+                number: 32,
                 pair: write_pair(&stage, &reference),
             }
         })
         .collect()
+}
+
+/// Gates that rise in no care word, or in one alone (document 02, M-110).
+pub fn low_examples() -> Vec<Example> {
+    let mut list: Vec<Example> = Vec::new();
+    let mut add =
+        |name: &str, about: &'static str, number: u64, stage: &Stage, reference: &Reference| {
+            let pair = write_pair(stage, reference);
+            list.push(Example {
+                name: name.to_string(),
+                about,
+                number,
+                pair,
+            });
+        };
+    let and = one_operation(AND);
+    let whole_case = dual_rail(&and);
+    let both_rails = Stage {
+        gates: [
+            &whole_case.gates[..],
+            &[Gate {
+                kind: kind_named("TH22"),
+                pins: vec![0, 1],
+            }],
+        ]
+        .concat(),
+        ..whole_case.clone()
+    };
+    add(
+        "and-both-rails",
+        "AND, and a gate on both rails of input 0, which rises in no word",
+        32,
+        &both_rails,
+        &and,
+    );
+    let cares_for = |care: &[u64]| Stage {
+        care: care.to_vec(),
+        ..whole_case.clone()
+    };
+    add(
+        "and-without-word-3",
+        "AND, its rail 1 rises only in word 3, which nobody cares for",
+        32,
+        &cares_for(&[0, 1, 2]),
+        &and,
+    );
+    add(
+        "and-words-0-and-3",
+        "the same, word 3 the last that is cared for: the only one in which rail 1 rises",
+        0,
+        &cares_for(&[0, 3]),
+        &and,
+    );
+    let mut contradiction = ReferenceBuilder::new(1);
+    let not = contradiction.gate(NOT, &[0]);
+    let both = contradiction.gate(AND, &[0, not]);
+    contradiction.output(both);
+    add(
+        "and-of-own-not-made",
+        "AND of an input with its NOT, made from the reference: rail 1 rises in no word",
+        32,
+        &made_stage(&contradiction.reference),
+        &contradiction.reference,
+    );
+    list
 }
 
 /// Stages with relaxed gates (document 02, M-102).
@@ -614,7 +681,7 @@ pub fn relaxed_examples() -> Vec<Example> {
     add(
         "and-relaxed-one-word",
         "the same, only word 0 cared for, in which it stays low",
-        0,
+        32,
         &word_0,
         &and,
     );
@@ -841,7 +908,7 @@ pub fn care_examples() -> Vec<Example> {
     add(
         "decimal-increment-spare",
         "and a gate that feeds nothing and rises in no decimal digit",
-        0,
+        32,
         &spare,
         &increment,
     );
@@ -886,7 +953,7 @@ pub fn care_examples() -> Vec<Example> {
     add(
         "and-one-word",
         "Figure 6 of source document 001, complete in the one word 3",
-        0,
+        32,
         &s.stage,
         &and,
     );
@@ -1361,7 +1428,7 @@ pub fn examples_of_document_01() -> Vec<Example> {
     add(
         "constant-output",
         "an output that is 0 in every word, its rail 1 never rises",
-        0,
+        32,
         &constant_stage.stage,
         &constant,
     );
@@ -1420,14 +1487,14 @@ pub fn examples_of_document_01() -> Vec<Example> {
     add(
         "timing-chain",
         "ten inputs, a chain of 128 gates",
-        0,
+        32,
         &chain_stage,
         &chain,
     );
     add(
         "timing-chain-reversed",
         "the same, each gate before the ones that feed it",
-        0,
+        32,
         &reversed(&chain_stage),
         &chain,
     );

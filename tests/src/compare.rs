@@ -80,12 +80,12 @@ pub const NO_VERDICTS: Histogram = [0; 42];
 
 /// The numbers of the check, of the settled-row call, of the join, of the stage from a reference,
 /// of reading and writing texts, of the next small stage, and of a drawn reference.
-pub const CHECK_NUMBERS: [usize; 21] = [
-    0, 1, 2, 3, 4, 5, 6, 7, 8, 9, 18, 19, 10, 11, 12, 28, 13, 14, 15, 20, 21,
+pub const CHECK_NUMBERS: [usize; 22] = [
+    0, 1, 2, 3, 4, 5, 6, 7, 8, 9, 18, 19, 10, 11, 12, 28, 13, 14, 15, 20, 21, 32,
 ];
 pub const ROW_NUMBERS: [usize; 15] = [0, 1, 2, 3, 4, 5, 6, 7, 8, 9, 18, 19, 12, 16, 17];
-pub const JOIN_NUMBERS: [usize; 24] = [
-    0, 1, 2, 3, 4, 5, 6, 7, 8, 9, 18, 19, 10, 11, 12, 28, 13, 14, 15, 20, 21, 22, 23, 24,
+pub const JOIN_NUMBERS: [usize; 25] = [
+    0, 1, 2, 3, 4, 5, 6, 7, 8, 9, 18, 19, 10, 11, 12, 28, 13, 14, 15, 20, 21, 32, 22, 23, 24,
 ];
 pub const MAKE_NUMBERS: [usize; 13] = [0, 1, 2, 3, 4, 5, 6, 7, 8, 9, 25, 26, 27];
 pub const READ_TEXT_NUMBERS: [usize; 8] = [0, 29, 30, 31, 3, 5, 6, 24];

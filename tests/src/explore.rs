@@ -493,9 +493,17 @@ fn shows(rules: &Rules, rise: &Reach, values: &[bool], number: u64, at: usize) -
     }
 }
 
-/// The verdict 13 to 15, 20, 21 or 0 of a loop-free stage found by playing runs only,
+/// Under 32 "the named gate stays low in every run": after every list of every word that is cared
+/// for, in its rise and in its fall.
+fn stays_low<'a>(rules: &Rules, mut runs: impl Iterator<Item = &'a Reach>, gate: usize) -> bool {
+    let own = rules.cells[gate].own;
+    runs.all(|run| run.rows.iter().all(|&row| row & own == 0))
+}
+
+/// The verdict 13 to 15, 20, 21, 32 or 0 of a loop-free stage found by playing runs only,
 /// without settling anything: the earliest check that a run breaks, the least word
-/// in which one does, the least index. None if there are too many rows.
+/// in which one does, the least index; then the least gate that stays low in all of them.
+/// None if there are too many rows.
 pub fn verdict_by_runs(stage: &Stage, reference: &Reference) -> Option<Verdict> {
     let rules = Rules::new(stage)?;
     let mut rises = Vec::new();
@@ -532,7 +540,14 @@ pub fn verdict_by_runs(stage: &Stage, reference: &Reference) -> Option<Verdict> 
             }
         }
     }
-    Some(ACCEPTED)
+    let runs = || {
+        rises
+            .iter()
+            .map(|(_, rise, _)| rise)
+            .chain(falls.iter().map(|(_, fall)| fall))
+    };
+    let low = (0..stage.gates.len()).find(|&gate| stays_low(&rules, runs(), gate));
+    Some(low.map_or(ACCEPTED, |gate| [32, 1, gate as u64, 0]))
 }
 
 /// Whether every run of the given rails (input pairs may be NULL) ends in the row
@@ -561,9 +576,11 @@ pub struct Summary {
     pub unobservable_fall: u64,
     /// Accepted pairs with relaxed gates.
     pub accepted_relaxed: u64,
-    /// Exchanges of neighbours in recorded runs of accepted pairs, each list tried.
+    /// Pairs refused by 32 alone: all that is said of accepted pairs holds of them.
+    pub never_rises: u64,
+    /// Exchanges of neighbours in recorded runs of accepted pairs and those of 32, each list tried.
     pub exchanges: u64,
-    /// What was tried on accepted pairs.
+    /// What was tried on accepted pairs and those of 32.
     pub tried: Tried,
     /// Sets of rails with NULL inputs whose runs were played.
     pub partial_rails: u64,
@@ -579,12 +596,12 @@ impl std::fmt::Display for Summary {
         )?;
         writeln!(
             f,
-            "{} accepted with relaxed gates, {} refused by 20, {} by 21",
-            self.accepted_relaxed, self.incomplete_fall, self.unobservable_fall
+            "{} accepted with relaxed gates, {} refused by 20, {} by 21, {} by 32",
+            self.accepted_relaxed, self.incomplete_fall, self.unobservable_fall, self.never_rises
         )?;
         writeln!(
             f,
-            "accepted pairs: {} words, rise {} rows for {:.3e} lists ({} with all outputs DATA), \
+            "accepted pairs and those of 32: {} words, rise {} rows for {:.3e} lists ({} with all outputs DATA), \
              fall {} rows for {:.3e} lists ({} with all outputs NULL)",
             self.tried.words,
             self.tried.rise_rows,
@@ -620,7 +637,8 @@ pub fn explore_pair(
     let promised = promise(stage, reference);
     match (verdict[0], promised) {
         (_, None) => summary.too_large += 1,
-        (0, Some(Ok(tried))) => {
+        // Under 32 no promise is broken.
+        (0 | 32, Some(Ok(tried))) => {
             // M-100: the total is half of all gate switchings.
             let lines = crate::judge::report_lines(WordOrder::Input0Lowest, stage);
             let total: u64 = lines.iter().map(|&(_, high)| high).sum();
@@ -630,13 +648,17 @@ pub fn explore_pair(
                     tried.gate_switchings
                 ));
             }
-            summary.accepted += 1;
-            let relaxed = stage.gates.iter().any(|gate| is_relaxed(gate.kind));
-            summary.accepted_relaxed += u64::from(relaxed);
+            if verdict == ACCEPTED {
+                summary.accepted += 1;
+                let relaxed = stage.gates.iter().any(|gate| is_relaxed(gate.kind));
+                summary.accepted_relaxed += u64::from(relaxed);
+            } else {
+                summary.never_rises += 1;
+            }
             summary.exchanges += crate::exchange::turn_recorded_runs(stage)?;
             summary.tried.add(tried);
         }
-        (0, Some(Err(broken))) => return Err(format!("accepted, but broken: {broken:?}")),
+        (0 | 32, Some(Err(broken))) => return Err(format!("{verdict:?}, but broken: {broken:?}")),
         (number, Some(promised)) => {
             *match number {
                 13 => &mut summary.wrong,

@@ -21,9 +21,10 @@ use crate::files::{
     stage_gate, stage_output, write_reference, write_stage, FilePair,
 };
 use crate::judge::{
-    answer, cell, check_circuits, is_relaxed, is_retired, least_retired_gate, pin_count,
-    rails_of_word, read_stage, settle, Boolean, Gate, Reference, Stage, Verdict, ABSENT, ACCEPTED,
-    AND, LIMITS, NAND, NOR, NOT, OR, SET, XOR,
+    accepted_unless_a_gate_never_rises, answer, cell, check_circuits, is_relaxed, is_retired,
+    least_gate_that_never_rises, least_retired_gate, pin_count, rails_of_word, read_stage, settle,
+    Boolean, Gate, Reference, Stage, Verdict, ABSENT, ACCEPTED, AND, LIMITS, NAND, NOR, NOT, OR,
+    SET, XOR,
 };
 use std::collections::BTreeSet;
 
@@ -1827,11 +1828,12 @@ fn with_relaxed(random: &mut Random, generated: Generated) -> Generated {
     }
 }
 
-/// The gates of an accepted stage are relaxed, one after the other, where it is still accepted.
+/// The gates of a stage that is accepted, unless a gate never rises, are relaxed, one after the
+/// other, where it still is.
 fn relax(random: &mut Random, stage: &mut Stage, reference: &Reference) {
     for gate in random.order(stage.gates.len()) {
         stage.gates[gate].kind += 128;
-        if check_circuits(stage, reference) != ACCEPTED {
+        if !matches!(check_circuits(stage, reference)[0], 0 | 32) {
             stage.gates[gate].kind -= 128;
         }
     }
@@ -1887,7 +1889,97 @@ fn pair_of_all_kinds(seed: u64, index: u64) -> Generated {
         0..=19 => with_relaxed(random, generated),
         20..=29 => relaxed_where_it_may(random),
         30 => unknown_kind(random, generated),
+        31..=34 => never_rises(random),
+        35..=38 => rises_in_one_word(random),
         _ => generated,
+    }
+}
+
+// ---------------------------------------------------------------------------
+// Gates that never rise (document 02, M-110).
+
+/// What is known of a pair that passes all checks before 32.
+pub fn known_with_low_gates(generated: &Generated) -> Known {
+    match (generated.known, read_stage(&generated.pair.stage)) {
+        (Known::Verdict(ACCEPTED), Ok(stage)) => {
+            Known::Verdict(accepted_unless_a_gate_never_rises(&stage))
+        }
+        (known, _) => known,
+    }
+}
+
+/// An accepted pair with some gates more that wait for both rails of an input: they never rise, so
+/// nothing is said of them before 32. Another gate may wait for one of them beside what it has.
+fn never_rises(random: &mut Random) -> Generated {
+    let size = random.pick(&[Size::Small, Size::Small, Size::Medium]);
+    let (mut stage, reference) = accepted(random, size);
+    for _ in 0..random.from_to(1, 3) {
+        let rail = 2 * random.below(stage.inputs);
+        let any = random.below(stage.nets());
+        let (kind, pins) = random.pick(&[
+            (2, [rail, rail + 1, 0, 0]),
+            (5, [rail, any, rail + 1, 0]),
+            (11, [any, rail, rail + 1, any]),
+            (25, [rail, rail + 1, rail + 1, rail]),
+        ]);
+        let low = stage.nets();
+        stage.gates.push(Gate {
+            kind,
+            pins: pins[..pin_count(kind)].to_vec(),
+        });
+        // TH12 and TH13 with one pin more.
+        let gate = random.below(stage.gates.len());
+        let no_loop = matches!(kind, 2 | 25) && gate + 1 < stage.gates.len();
+        if no_loop && matches!(stage.gates[gate].kind, 1 | 3) && random.chance(1, 2) {
+            stage.gates[gate].kind = if stage.gates[gate].kind == 1 { 3 } else { 8 };
+            stage.gates[gate].pins.push(low);
+        }
+    }
+    if stage.gates.len() > LIMITS.stage_gates {
+        return accepted_pair(random, Size::Small);
+    }
+    let order = random.order(stage.gates.len());
+    let stage = reordered(&stage, &order);
+    Generated {
+        family: "never rises",
+        pair: files_of(random, &stage, &reference),
+        known: Known::Verdict(ACCEPTED),
+    }
+}
+
+/// A stage with a gate for each word of a list, which rises in that word alone, and perhaps some of
+/// these words taken out of the list.
+fn rises_in_one_word(random: &mut Random) -> Generated {
+    let inputs = random.from_to(2, 4);
+    let outputs = random.from_to(1, 3);
+    let values = random_values(random, inputs, outputs);
+    let mut builder = StageBuilder::new(inputs);
+    builder.stage.care = some_list(random, inputs);
+    builder.sum_of_words(&values);
+    let mut stage = builder.stage;
+    if stage.care.len() > 1 {
+        match random.below(4) {
+            // The last word, the first one, or any one.
+            0 => {
+                stage.care.pop();
+            }
+            1 => {
+                stage.care.remove(0);
+            }
+            2 => {
+                let place = random.below(stage.care.len());
+                stage.care.remove(place);
+            }
+            _ => {}
+        }
+    }
+    if random.chance(1, 2) {
+        rewrite(random, &mut stage);
+    }
+    Generated {
+        family: "rises in one word",
+        pair: files_of(random, &stage, &reference_of_values(inputs, &values)),
+        known: Known::Verdict(ACCEPTED),
     }
 }
 
@@ -1938,8 +2030,18 @@ pub(crate) fn still_cast(gate: &Gate) -> Option<Gate> {
     None
 }
 
-/// Pair number `index` of a seed. Most gates of a retired kind are of another one instead.
+/// Pair number `index` of a seed. Most of those that are known to have 32 are another one instead.
 pub fn pair(seed: u64, index: u64) -> Generated {
+    let random = &mut Random::new(seed ^ 0x1032, index);
+    let mut generated = any_pair(seed, index);
+    while matches!(generated.known, Known::Verdict([32, ..])) && random.chance(2, 3) {
+        generated = any_pair(random.number(), index);
+    }
+    generated
+}
+
+/// Pair number `index` of a seed. Most gates of a retired kind are of another one instead.
+fn any_pair(seed: u64, index: u64) -> Generated {
     let mut generated = pair_of_all_kinds(seed, index);
     let random = &mut Random::new(seed ^ 0x4E7D, index);
     if let Ok(stage) = read_stage(&generated.pair.stage) {
@@ -1967,6 +2069,10 @@ pub fn pair(seed: u64, index: u64) -> Generated {
         }
     }
     let known = known_with_retired(&generated);
+    let known = known_with_low_gates(&Generated {
+        known,
+        ..generated.clone()
+    });
     Generated { known, ..generated }
 }
 
@@ -2011,7 +2117,9 @@ pub fn pair_to_explore(seed: u64, index: u64) -> Generated {
     } else {
         Size::Small
     };
-    let generated = match random.below(18) {
+    let generated = match random.below(20) {
+        18 => never_rises(random),
+        19 => rises_in_one_word(random),
         0..=3 => accepted_pair(random, size),
         4..=6 => mutated_pair(random, size),
         7 | 8 => found_pair(random, size, no_list),

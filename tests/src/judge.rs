@@ -856,7 +856,29 @@ fn check_for(
     check_circuits_in_order(order, &stage, &reference)
 }
 
-/// The checks 13 to 15, 20 and 21 of a loop-free stage against a reference with as many
+/// 32, document 02, M-110: "least gate that rises in no care word". A gate rises in a word where it
+/// is high at the rest.
+pub fn least_gate_that_never_rises(stage: &Stage) -> Option<usize> {
+    let mut rises = vec![false; stage.gates.len()];
+    for word in stage.words() {
+        let rest = settle(stage, &rails_of_word(stage.inputs, word), None);
+        for (gate, rises) in rises.iter_mut().enumerate() {
+            *rises |= rest[stage.net_of_gate(gate)];
+        }
+    }
+    rises.iter().position(|&rises| !rises)
+}
+
+/// "Their acceptance reads 'unless a gate never rises'": what the check answers to a stage that
+/// passes all checks before 32.
+pub fn accepted_unless_a_gate_never_rises(stage: &Stage) -> Verdict {
+    match least_gate_that_never_rises(stage) {
+        Some(gate) => [32, STAGE, gate as u64, 0],
+        None => ACCEPTED,
+    }
+}
+
+/// The checks 13 to 15, 20, 21 and 32 of a loop-free stage against a reference with as many
 /// inputs and outputs: they "cover care words only".
 pub fn check_circuits(stage: &Stage, reference: &Reference) -> Verdict {
     check_circuits_in_order(WordOrder::Input0Lowest, stage, reference)
@@ -930,7 +952,8 @@ pub fn check_circuits_in_order(order: WordOrder, stage: &Stage, reference: &Refe
         }
     }
 
-    ACCEPTED
+    // 32, "after all other checks", and of no word.
+    accepted_unless_a_gate_never_rises(stage)
 }
 
 /// The switching report of document 02, M-100.

@@ -15,6 +15,7 @@ pub mod judge;
 pub mod library;
 pub mod make;
 pub mod next;
+pub mod run;
 pub mod suite;
 pub mod text;
 pub mod wiring;

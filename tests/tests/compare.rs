@@ -10,9 +10,10 @@ use fovaheju_tests::compare::{
 use fovaheju_tests::files::{as_the_program_reads, unhex, verdict_from_line, FilePair};
 use fovaheju_tests::generate::pair;
 use fovaheju_tests::judge::{
-    answer, check, check_circuits, check_in_order, is_retired, least_gate_on_a_loop,
-    least_retired_gate, rails_of_word, read_reference, read_stage, set_expression_holds, settle,
-    settled_row, Reference, Stage, WordOrder, ACCEPTED, LIMITS, ORDERS,
+    accepted_unless_a_gate_never_rises, answer, check, check_circuits, check_in_order, is_retired,
+    least_gate_on_a_loop, least_gate_that_never_rises, least_retired_gate, rails_of_word,
+    read_reference, read_stage, set_expression_holds, settle, settled_row, Gate, Reference, Stage,
+    WordOrder, ACCEPTED, LIMITS, ORDERS,
 };
 use fovaheju_tests::suite::verdict_in;
 use std::path::Path;
@@ -97,13 +98,14 @@ fn with_other_sweep(
     sweep: fn(&Stage, &Reference) -> [u64; 4],
 ) -> [u64; 4] {
     let verdict = check(stage, reference);
-    if !matches!(verdict[0], 0 | 13..=15 | 20 | 21) {
+    if !matches!(verdict[0], 0 | 13..=15 | 20 | 21 | 32) {
         return verdict;
     }
-    sweep(
-        &read_stage(stage).unwrap(),
-        &read_reference(reference).unwrap(),
-    )
+    let stage = read_stage(stage).unwrap();
+    match sweep(&stage, &read_reference(reference).unwrap()) {
+        ACCEPTED => accepted_unless_a_gate_never_rises(&stage),
+        verdict => verdict,
+    }
 }
 
 fn all_data(stage: &Stage, row: &[bool]) -> bool {
@@ -252,11 +254,29 @@ fn falls(stage: &Stage, words: impl Iterator<Item = u64> + Clone, fall: &Fall) -
 /// The check with its falls judged otherwise.
 fn with_other_falls(stage: &[u8], reference: &[u8], fall: &Fall) -> [u64; 4] {
     let verdict = check(stage, reference);
-    if !matches!(verdict[0], 0 | 20 | 21) {
+    if !matches!(verdict[0], 0 | 20 | 21 | 32) {
         return verdict;
     }
     let stage = read_stage(stage).unwrap();
-    falls(&stage, stage.words().into_iter(), fall)
+    match falls(&stage, stage.words().into_iter(), fall) {
+        ACCEPTED => accepted_unless_a_gate_never_rises(&stage),
+        verdict => verdict,
+    }
+}
+
+/// The check with 32 looked for in other words of a stage that passes all checks before it.
+fn with_other_words_for_32(
+    stage: &[u8],
+    reference: &[u8],
+    words: fn(&Stage) -> Vec<u64>,
+) -> [u64; 4] {
+    let verdict = check(stage, reference);
+    if !matches!(verdict[0], 0 | 32) {
+        return verdict;
+    }
+    let mut stage = read_stage(stage).unwrap();
+    stage.care = words(&stage);
+    accepted_unless_a_gate_never_rises(&stage)
 }
 
 #[test]
@@ -492,20 +512,66 @@ fn wrong_checks_are_told() {
                 }
             })
         }),
-        ("refuses gates that never rise", |s, r| {
-            with_other_sweep(s, r, |stage, reference| {
-                let verdict = check_circuits(stage, reference);
-                let idle = |gate: &usize| {
-                    stage.words().into_iter().all(|word| {
-                        !settle(stage, &rails_of_word(stage.inputs, word), None)
-                            [stage.net_of_gate(*gate)]
-                    })
-                };
-                match (verdict, (0..stage.gates.len()).find(idle)) {
-                    (ACCEPTED, Some(gate)) => [15, 1, gate as u64, 0],
-                    _ => verdict,
+        ("refuses gates that never rise by 15", |s, r| {
+            match check(s, r) {
+                [32, 1, gate, 0] => [15, 1, gate, 0],
+                verdict => verdict,
+            }
+        }),
+        ("leaves 32 out", |s, r| match check(s, r) {
+            [32, ..] => ACCEPTED,
+            verdict => verdict,
+        }),
+        ("looks for 32 before 20", |s, r| {
+            match (check(s, r), read_stage(s)) {
+                ([20 | 21, ..], Ok(stage)) if least_gate_that_never_rises(&stage).is_some() => {
+                    accepted_unless_a_gate_never_rises(&stage)
                 }
+                (verdict, _) => verdict,
+            }
+        }),
+        ("looks for 32 before 15", |s, r| {
+            match (check(s, r), read_stage(s)) {
+                ([15, ..], Ok(stage)) if least_gate_that_never_rises(&stage).is_some() => {
+                    accepted_unless_a_gate_never_rises(&stage)
+                }
+                (verdict, _) => verdict,
+            }
+        }),
+        ("names a gate that rises in the last word only", |s, r| {
+            with_other_words_for_32(s, r, |stage| {
+                let words = stage.words();
+                words[..(words.len() - 1).max(1)].to_vec()
             })
+        }),
+        (
+            "lets a gate pass that rises in a word nobody cares for",
+            |s, r| with_other_words_for_32(s, r, |_| vec![]),
+        ),
+        ("names the greatest gate that never rises", |s, r| {
+            match check(s, r) {
+                [32, ..] => {
+                    let mut stage = read_stage(s).unwrap();
+                    let count = stage.gates.len();
+                    let mut greatest = 0;
+                    while let Some(gate) = least_gate_that_never_rises(&stage) {
+                        greatest = greatest.max(gate);
+                        // What is set by any of its rails rises in every word.
+                        let inputs = stage.inputs;
+                        stage.gates[gate] = Gate {
+                            kind: 1,
+                            pins: vec![2 * inputs - 2, 2 * inputs - 1],
+                        };
+                    }
+                    assert_eq!(stage.gates.len(), count);
+                    [32, 1, greatest as u64, 0]
+                }
+                verdict => verdict,
+            }
+        }),
+        ("names a word under 32", |s, r| match check(s, r) {
+            [32, 1, gate, 0] => [32, 1, gate, *read_stage(s).unwrap().words().last().unwrap()],
+            verdict => verdict,
         }),
         ("refuses a stage with no gates", |s, r| {
             match (check(s, r), read_stage(s)) {

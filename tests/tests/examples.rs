@@ -65,9 +65,11 @@ fn joins_of_stored_pairs() {
         (22, 0),
         (23, 0),
         (14, 1),
+        (32, 1),
         (9, 2),
         (10, 0),
         (14, 4),
+        (32, 4),
         (9, 5),
         (10, 3),
         (11, 3),
@@ -255,7 +257,7 @@ fn one_null_pair() {
     ];
     for (name, null, pairs) in cases {
         let (pair, verdicts) = load_example(&examples_folder(), name).unwrap();
-        assert_eq!(verdicts, [ACCEPTED; 2]);
+        assert_eq!(verdicts, [[32, 1, 10, 0]; 2]);
         let stage = read_stage(&pair.stage).unwrap();
         assert_eq!((stage.inputs, stage.outputs.len()), (10, 16));
         let mut looked = [0, 0];

@@ -18,16 +18,17 @@ fn generated_pairs() {
     let summary = explore_pairs(seed, count).unwrap_or_else(|broken| panic!("{broken}"));
     println!("{summary}");
     if count >= 3_000 {
-        assert!(summary.accepted >= 1_000, "{summary}");
+        assert!(summary.accepted >= 700, "{summary}");
         assert!(
             summary.wrong >= 200 && summary.incomplete >= 200 && summary.unobservable >= 200,
             "{summary}"
         );
         assert!(
-            summary.accepted_relaxed >= 200 && summary.incomplete_fall >= 100,
+            summary.accepted_relaxed >= 150 && summary.incomplete_fall >= 100,
             "{summary}"
         );
         assert!(summary.unobservable_fall >= 10, "{summary}");
+        assert!(summary.never_rises >= 500, "{summary}");
     }
 }
 
@@ -38,7 +39,7 @@ fn small_examples() {
     let mut explored = Vec::new();
     for example in examples() {
         let verdict = check(&example.pair.stage, &example.pair.reference);
-        if !matches!(verdict[0], 0 | 13 | 14 | 15 | 20 | 21) {
+        if !matches!(verdict[0], 0 | 13 | 14 | 15 | 20 | 21 | 32) {
             continue;
         }
         let stage = read_stage(&example.pair.stage).unwrap();

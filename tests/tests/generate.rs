@@ -57,11 +57,11 @@ fn every_verdict_comes_and_known_ones_agree() {
         for number in [10, 11] {
             assert!(histogram.contains_key(&(number, 0)), "{number}");
         }
-        for number in [12, 13, 14, 15, 18, 19, 20, 21, 28] {
+        for number in [12, 13, 14, 15, 18, 19, 20, 21, 28, 32] {
             assert!(histogram.contains_key(&(number, 1)), "{number}");
         }
         assert!(2 * small >= count, "half of the pairs are small");
-        assert!(4 * histogram[&(0, 0)] >= count, "a good part is accepted");
+        assert!(5 * histogram[&(0, 0)] >= count, "a fifth is accepted");
         assert!(long > 0);
     }
 }
@@ -145,8 +145,8 @@ fn order_of_gates_does_not_matter() {
         match a[0] {
             // The least gate in the new order may be another one, of the same word.
             15 | 21 => assert_eq!(a[3], b[3], "pair {index} of seed {seed}"),
-            // So may the least gate of a retired kind.
-            28 => {}
+            // So may the least gate of a retired kind, and the least that never rises.
+            28 | 32 => {}
             12 => assert!(least_gate_on_a_loop(&other).is_some()),
             _ => assert_eq!(a, b, "pair {index} of seed {seed}"),
         }

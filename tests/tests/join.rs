@@ -13,8 +13,8 @@ use fovaheju_tests::join::{
     WHOLE_LIMITS,
 };
 use fovaheju_tests::judge::{
-    answer, check_within, is_relaxed, read_reference_within, read_stage_within, Limits, Reference,
-    Stage, ACCEPTED, ORDERS,
+    accepted_unless_a_gate_never_rises, answer, check_within, is_relaxed, read_reference_within,
+    read_stage_within, Limits, Reference, Stage, ACCEPTED, ORDERS,
 };
 use fovaheju_tests::suite::join::cases;
 use std::collections::{BTreeMap, BTreeSet};
@@ -145,10 +145,10 @@ fn generated_joins() {
     if count >= 4_000 {
         for number in [22, 23, 24] {
             let file = if number == 24 { 3 } else { 0 };
-            assert!(histogram[&(number, file)] >= 200, "{number}");
+            assert!(histogram[&(number, file)] >= 150, "{number}");
         }
         // Each number of a part in the first or in the second.
-        for number in (1..=15).chain([18, 19, 20, 21]) {
+        for number in (1..=15).chain([18, 19, 20, 21, 32]) {
             let file = match number {
                 10 | 11 => 0,
                 _ => 1,
@@ -156,14 +156,14 @@ fn generated_joins() {
             let seen = |file| histogram.contains_key(&(number, file));
             assert!(seen(file) || seen(file + 3), "{number}");
         }
-        assert!(2 * histogram[&(0, 0)] >= count, "half of them are accepted");
-        assert!(small >= 500 && relaxed >= 200 && with_list >= 400);
+        assert!(3 * histogram[&(0, 0)] >= count, "a third is accepted");
+        assert!(small >= 500 && relaxed >= 200 && with_list >= 250);
         assert_eq!(most, 256);
     }
 }
 
-/// "The whole is accepted", within the limits of the whole, and answers what the second part
-/// answers to the first part's answer.
+/// "The whole is accepted", within the limits of the whole and "unless a gate never rises", and
+/// answers what the second part answers to the first part's answer.
 fn accepted_whole(case: &JoinCase, whole: &FilePair, about: &str) -> (Stage, Reference) {
     let verdict = check_within(WHOLE_LIMITS, &whole.stage, &whole.reference);
     let files = || {
@@ -173,9 +173,10 @@ fn accepted_whole(case: &JoinCase, whole: &FilePair, about: &str) -> (Stage, Ref
             hex(&whole.reference)
         )
     };
-    assert_eq!(verdict, ACCEPTED, "{about}\n{}", files());
     let reference = |file: &[u8]| read_reference_within(WHOLE_LIMITS, file).unwrap();
     let stage = |file: &[u8]| read_stage_within(WHOLE_LIMITS, file).unwrap();
+    let expected = accepted_unless_a_gate_never_rises(&stage(&whole.stage));
+    assert_eq!(verdict, expected, "{about}\n{}", files());
     let [first, second, both] =
         [&case.first, &case.second, whole].map(|pair| reference(&pair.reference));
     let [first_stage, second_stage, both_stage] =
@@ -277,7 +278,7 @@ fn stored_cases() {
             assert!(seen.contains(&(number, file)), "{number} {file}");
         }
     }
-    for number in [12, 13, 14, 15, 18, 19, 20, 21] {
+    for number in [12, 13, 14, 15, 18, 19, 20, 21, 32] {
         assert!(
             seen.contains(&(number, 1)) && seen.contains(&(number, 4)),
             "{number}"

@@ -4,8 +4,8 @@ use fovaheju_tests::catalogue::MARKED;
 use fovaheju_tests::circuits::kind_named;
 use fovaheju_tests::files::{hex, unhex, verdict_from_line, verdict_line};
 use fovaheju_tests::judge::{
-    check, expression_holds, is_settled, pin_count, read_reference, read_stage, settle,
-    settled_row, KINDS,
+    check, check_in_order, expression_holds, is_settled, pin_count, read_reference, read_stage,
+    settle, settled_row, KINDS, LIMITS, ORDERS,
 };
 
 const WIRE: &str = "01 01 03 00 00 01 00 00";
@@ -328,14 +328,37 @@ fn least_word_then_least_index() {
         ),
         [15, 1, 1, 0]
     );
-    // A gate that rises in no word passes.
-    assert_eq!(
-        judge(
-            "01 01 02 02 00 00 01 00 FF FF FF FF 03 00 00 01 00 00",
-            WIRE_REFERENCE
-        ),
-        [0, 0, 0, 0]
-    );
+}
+
+/// Document 02, M-110: "32 least gate that rises in no care word, after all other checks".
+#[test]
+fn gates_that_never_rise() {
+    // A gate on both rails of the input.
+    let both_rails = "01 01 02 02 00 00 01 00 FF FF FF FF 03 00 00 01 00 00";
+    assert_eq!(judge(both_rails, WIRE_REFERENCE), [32, 1, 0, 0]);
+    // Behind an idle one, which 15 names; the other way round too.
+    let behind =
+        "01 01 02 01 00 00 01 00 FF FF FF FF 02 02 00 00 01 00 FF FF FF FF 03 00 00 01 00 00";
+    assert_eq!(judge(behind, WIRE_REFERENCE), [15, 1, 0, 0]);
+    let before =
+        "01 01 02 02 00 00 01 00 FF FF FF FF 02 01 00 00 01 00 FF FF FF FF 03 00 00 01 00 00";
+    assert_eq!(judge(before, WIRE_REFERENCE), [15, 1, 1, 0]);
+    // A gate on rail 1 that the output's rail 1 is: it rises in word 1 only.
+    let rail_1 = "01 01 02 01 01 00 01 00 FF FF FF FF 03 00 00 02 00";
+    let in_words = |list: &str| judge(&format!("{rail_1} {list} 00"), WIRE_REFERENCE);
+    assert_eq!(in_words(""), [0, 0, 0, 0]);
+    assert_eq!(in_words("06 00 00 06 01 00"), [0, 0, 0, 0]);
+    assert_eq!(in_words("06 01 00"), [0, 0, 0, 0]);
+    assert_eq!(in_words("06 00 00"), [32, 1, 0, 0]);
+    // Two that never rise: the least; and one word names it in either order.
+    let two = "01 02 02 02 00 00 01 00 FF FF FF FF 02 02 02 00 03 00 FF FF FF FF \
+               03 00 00 01 00 03 02 00 03 00 00";
+    let wires = "01 02 12 00 00 12 01 00 00";
+    assert_eq!(judge(two, wires), [32, 1, 0, 0]);
+    for order in ORDERS {
+        let verdict = check_in_order(order, LIMITS, &unhex(two), &unhex(wires));
+        assert_eq!(verdict, [32, 1, 0, 0]);
+    }
 }
 
 #[test]

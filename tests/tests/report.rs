@@ -7,8 +7,8 @@ use fovaheju_tests::compare::{
 use fovaheju_tests::files::{report_text, unhex};
 use fovaheju_tests::generate::pair;
 use fovaheju_tests::judge::{
-    cell, check, pin_count, read_stage, report, settled_row, Gate, Stage, WordOrder, ACCEPTED,
-    KINDS, ORDERS,
+    cell, check, pin_count, read_stage, report, report_lines, settled_row, Gate, Stage, WordOrder,
+    ACCEPTED, KINDS, ORDERS,
 };
 use fovaheju_tests::suite::report::{cases, line};
 use std::fs;
@@ -80,7 +80,19 @@ fn generated_pairs() {
 #[test]
 fn wrong_reports_are_told() {
     assert!(compare_reports(judged_counts, 7, 300).is_ok());
-    let wrong: [(&str, ReportInOrder); 8] = [
+    let wrong: [(&str, ReportInOrder); 9] = [
+        ("goes on after 32", |order, stage, reference| {
+            let mut counts = judged_counts(order, stage, reference);
+            if counts.verdict[0] == 32 {
+                let lines = report_lines(order, &read_stage(stage).unwrap());
+                for (place, &(_, high)) in lines.iter().enumerate() {
+                    counts.lines[place] = high as u16;
+                    counts.total += high;
+                }
+                counts.words = lines.len() as u64;
+            }
+            counts
+        }),
         (
             "all words where a list is given",
             |order, stage, reference| {
@@ -209,7 +221,7 @@ fn lines_of_the_cases() {
     }
     let numbers = [
         "1 ", "2 ", "3 ", "7 ", "9 ", "10 ", "11 ", "12 ", "13 ", "14 ", "15 ", "18 ", "19 ",
-        "20 ", "21 ", "28 ",
+        "20 ", "21 ", "28 ", "32 ",
     ];
     for number in numbers {
         let refused = lines.iter().any(|line| line.starts_with(number));

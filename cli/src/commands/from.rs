@@ -3,10 +3,11 @@
 use super::{file, flag, force, json_flag, path, put_json, quiet};
 use crate::convert::blif::{self, Netlist};
 use crate::convert::yosys::{self, Into};
-use crate::convert::{logic, names_file, text, threshold, Fault};
+use crate::convert::{logic, text, threshold, Fault};
 use crate::failure::{shown, Failure, Outcome};
 use crate::given::Given;
 use crate::input::Identity;
+use crate::names::names_file;
 use crate::netlist::{many, Names, Stage};
 use crate::output::{put, tell, write_files};
 use crate::Found;
@@ -22,9 +23,14 @@ pub fn command() -> Command {
         .about("A reference from BLIF or Verilog, or a stage from a netlist of threshold cells")
         .arg(file("source", "SOURCE", "BLIF, or Verilog where the name ends in .v or .sv, through yosys; '-' is BLIF on standard input"))
         .arg(file("new", "NEW-FILE", "Where the reference is written, or the stage"))
-        .arg(names.help("Where the names of its inputs and outputs are written, for --names of explain, draw and mend"))
+        .arg(names.help("Where the names of its inputs and outputs are written, for --names of explain, draw, wave and mend"))
         .arg(flag("stage", "SOURCE is made of threshold cells (TH12 to TH24comp, rTH12 ..), and a stage is made of it"))
-        .arg(Arg::new("top").long("top").value_name("MODULE").help("The module of a Verilog file that is taken [default: the one that no other uses]"))
+        .arg(
+            Arg::new("top")
+                .long("top")
+                .value_name("MODULE")
+                .help("The module of a Verilog file that is taken [default: the one that no other uses]"),
+        )
         .arg(care.help("The stage that is made has the care words of this stage file: netlists have none"))
         .args([json_flag(), force(), quiet()])
         .after_help(

@@ -25,7 +25,7 @@ pub fn command() -> Command {
         .after_help(
             "\
 Prints the verdict. Both files are written whole or neither is; a refusal writes nothing. A part has at most 128 gates, its
-reference at most 256. The check accepts the whole, by theorem.
+reference at most 256. The check accepts the whole, unless a gate never rises in it (32), by theorem.
 
 Example:
   ncl join product.ncl product-ref.ncl sum.ncl sum-ref.ncl mac.ncl mac-ref.ncl",

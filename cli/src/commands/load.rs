@@ -13,6 +13,8 @@ use std::path::PathBuf;
 
 /// The drawn reference has more than 16 outputs.
 const TOO_MANY_OUTPUTS: u64 = 40;
+/// A gate of the stage that was made never rises.
+const NEVER_RISES: u64 = 32;
 /// The counts of inputs and of gates that seeds in a row take in turn.
 const INPUTS: usize = 10;
 const GATES: usize = 41;
@@ -38,7 +40,7 @@ pub fn command() -> Command {
             "\
 Prints the verdict. The reference is written whole or not at all; a refusal writes nothing. It reads, and 'ncl make' makes a stage
 of it, by theorem. With --seeds nothing is written; of each seed a reference is drawn, a stage made, and the two checked, and
-the exit status is 0 where all are accepted but those with 40, more than 16 outputs.
+the exit status is 0 where all are accepted but those with 32, a gate that never rises, and with 40, more than 16 outputs.
 
 Examples:
   ncl load 1 4 12 reference.ncl
@@ -95,12 +97,13 @@ fn many_seeds(matches: &ArgMatches, first: u32, count: u32) -> Outcome<Found> {
     };
     let verdicts: Vec<Verdict> = (0..count).into_par_iter().map(|k| taken(load(k))).collect();
     let accepted = verdicts.iter().filter(|verdict| verdict.accepts()).count();
-    let outputs = verdicts.iter().filter(|verdict| verdict.number == TOO_MANY_OUTPUTS).count();
-    let odd = verdicts.iter().zip(0..).find(|(verdict, _)| !verdict.accepts() && verdict.number != TOO_MANY_OUTPUTS);
+    let with = |number: u64| verdicts.iter().filter(|verdict| verdict.number == number).count();
+    let (idle, outputs) = (with(NEVER_RISES), with(TOO_MANY_OUTPUTS));
+    let odd = verdicts.iter().zip(0..).find(|(verdict, _)| !matches!(verdict.number, 0 | NEVER_RISES | TOO_MANY_OUTPUTS));
     if matches.get_flag("json") {
-        put_json(&json!({ "seeds": count, "accepted": accepted, "more_than_16_outputs": outputs }))?;
+        put_json(&json!({ "seeds": count, "accepted": accepted, "a_gate_never_rises": idle, "more_than_16_outputs": outputs }))?;
     } else if !matches.get_flag("quiet") {
-        let mut text = format!("{count} seeds: {accepted} accepted, {outputs} with {TOO_MANY_OUTPUTS}\n");
+        let mut text = format!("{count} seeds: {accepted} accepted, {idle} with {NEVER_RISES}, {outputs} with {TOO_MANY_OUTPUTS}\n");
         if let Some((verdict, k)) = odd {
             let Load { seed, inputs, gates } = load(k);
             text += &format!("{verdict} from seed {seed}, {inputs} inputs, {gates} gates\n");

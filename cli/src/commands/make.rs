@@ -17,7 +17,8 @@ pub fn command() -> Command {
         .args([json_flag(), explain_flag(), force(), quiet()])
         .after_help(
             "\
-Prints the verdict. The stage is written whole or not at all; a refusal writes nothing. The check accepts it, by theorem.
+Prints the verdict. The stage is written whole or not at all; a refusal writes nothing. The check accepts it, unless a gate never
+rises in it (32), by theorem.
 
 Example:
   ncl make reference.ncl stage.ncl",

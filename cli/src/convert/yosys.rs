@@ -45,7 +45,10 @@ pub fn blif(path: &Path, top: Option<&str>, into: Into) -> Outcome<(String, Vec<
         Into::Cells => format!("read_verilog -lib -overwrite <<CELLS\n{}CELLS\n{checked}write_blif -cname\n", boxes()),
     };
     let file = plain(path);
-    let arguments = ["-q".as_ref(), "-f".as_ref(), "verilog".as_ref(), file.as_os_str(), "-s".as_ref(), "/dev/stdin".as_ref()];
+    // By its name yosys would take a file in capitals for a script.
+    let system = path.extension().is_some_and(|ending| ending.eq_ignore_ascii_case("sv"));
+    let reader = if system { "verilog -sv" } else { "verilog" };
+    let arguments = ["-q".as_ref(), "-f".as_ref(), reader.as_ref(), file.as_os_str(), "-s".as_ref(), "/dev/stdin".as_ref()];
     let ran = YOSYS.ran(&arguments, script.as_bytes())?;
     let name = shown(path);
     let said: Vec<String> = ran.said().into_iter().filter(|line| !line.contains("'check -assert'")).collect();

@@ -19,7 +19,11 @@ pub fn of_mended(text: &mut Text, verdict: Verdict, pair: Pair, order: Order, me
         return;
     };
     text.row("stage", &format!("{}: {}", pair.stage.name(), pair.stage.stage().counts()));
-    let several = if mended.singles.tried > 0 { "more than that, at one place" } else { "taking out a gate that feeds nothing" };
+    let several = match (verdict.number, mended.singles.tried) {
+        (32, _) => "taking out gates that never rise, one care word more, and the like",
+        (_, 0) => "taking out a gate that feeds nothing",
+        _ => "more than that, at one place",
+    };
     let sorts = [
         ("every change of one kind, hold, pin or output rail", Some(&mended.singles)),
         (several, mended.several.as_ref()),

@@ -103,7 +103,10 @@ const SEEDS: u32 = 1_000;
 pub fn of_draw(text: &mut Text, verdict: Verdict, load: Load) {
     let Load { seed, inputs, gates } = load;
     match verdict.number {
-        0 => text.row("found", "the reference is drawn; 'ncl make' makes a stage of it, which the check accepts"),
+        0 => text.row(
+            "found",
+            "the reference is drawn; 'ncl make' makes a stage of it, which the check accepts, unless a gate never rises (32)",
+        ),
         39 => {
             let what = if (1..=10).contains(&inputs) { many(gates, "gate") } else { many(inputs, "input") };
             text.row("found", &format!("{what}; a reference is drawn with 1 to 10 inputs and 0 to 40 gates"));

@@ -1,9 +1,10 @@
 //! What is found in a word: a wrong output, or an input or a gate that the outputs do not wait for. The levels shown are the library's.
 
-use super::{Order, Pair, Text};
+use super::{wrapped, Order, Pair, Text, INDENT, WIDTH};
 use crate::levels::{Levels, Odd};
 use crate::names::{buses, values_text};
 use crate::netlist::{many, relaxed, set_expression, Reference, Stage};
+use crate::runs::{calls, shortened, shows, Calls, Files};
 use crate::situation::{data, pair_state, Behind, End, Situation, PLACES};
 use fovaheju::Verdict;
 
@@ -23,7 +24,38 @@ pub fn in_a_word(text: &mut Text, verdict: Verdict, pair: Pair, order: Order) {
     };
     match case.odd {
         None => wrong(text, &case, verdict.at as usize, pair),
-        Some(odd) => not_awaited(text, &case, odd),
+        Some(odd) => not_awaited(text, &case, odd, |text| say_run(text, verdict, pair, order, &stage)),
+    }
+}
+
+/// With more gates than these a run has their names alone.
+const GATES: usize = 6;
+
+/// The run that breaks the promise, without what is not needed for it; none that was not seen to break it.
+fn say_run(text: &mut Text, verdict: Verdict, pair: Pair, order: Order, stage: &Stage) {
+    let files = Files { stage_file: pair.stage.bytes(), stage, reference_file: &pair.reference.bytes, order };
+    let calls = calls(files);
+    let Some(run) = calls.witness(verdict, 0).filter(|run| text.tries > 0 && shows(&calls, files, verdict, run)) else { return };
+    let short = shortened(&calls, files, verdict, &run);
+    let falls = matches!(verdict.number, 20 | 21);
+    let (steps, way, from) = if falls {
+        (short.fallen(), "fall", format!("from the rest of the word, after its {}", many(short.fall, "switching")))
+    } else {
+        (short.rise(), "rise", "from all low".into())
+    };
+    let enough = if steps.len() == 1 { "1 switching is enough".into() } else { format!("{} switchings are enough", steps.len()) };
+    text.row("run", &format!("{from}, {enough}:"));
+    let is_gate = |net: usize| stage.driver(net).is_some();
+    let few = steps.iter().filter(|&&net| is_gate(net)).count() <= GATES;
+    let mut say = |words: String| wrapped(&words, WIDTH - INDENT - 2).iter().for_each(|line| text.below(0, line));
+    // In their order: rails that switch one after the other in a line, and so gates, or each of a few gates in its own.
+    for part in steps.chunk_by(|&net, &next| is_gate(net) == is_gate(next)) {
+        if few && is_gate(part[0]) {
+            part.iter().filter_map(|&net| stage.driver(net)).for_each(|gate| say(format!("{way} {}", stage.gate_text(gate))));
+        } else {
+            let names: Vec<String> = part.iter().map(|&net| stage.net_name(net)).collect();
+            say(format!("{way} {}", names.join(" ")));
+        }
     }
 }
 
@@ -118,19 +150,16 @@ const WORDS: usize = 8;
 fn say_words(text: &mut Text, at: usize, reference: &Reference, pair: Pair) {
     let stage = pair.stage.stage();
     let levels = Levels::new(pair.stage.bytes(), &stage);
-    // Words of files have input i as bit i.
-    let words: Vec<usize> = if stage.care.is_empty() { (0..1 << stage.inputs).collect() } else { stage.care.clone() };
-    let digits = |word: usize| (0..stage.inputs).map(|input| word >> input & 1 == 1).collect::<Vec<bool>>();
     let is_wrong = |values: &Vec<bool>| {
         let shown = levels.rest(values).map(|row| pair_state(&row, stage.outputs[at]));
         shown != reference.answer(values).get(at).map(|&value| data(value))
     };
-    let wrong: Vec<Vec<bool>> = words.iter().map(|&word| digits(word)).filter(is_wrong).collect();
+    let wrong: Vec<Vec<bool>> = stage.words().into_iter().map(|word| stage.values(word)).filter(is_wrong).collect();
     let mut named: Vec<String> = wrong.iter().map(|values| values.iter().map(|&value| if value { '1' } else { '0' }).collect()).collect();
     named.sort();
     let more = if named.len() > WORDS { " .." } else { "" };
     named.truncate(WORDS);
-    let of = if stage.care.is_empty() { many(words.len(), "word") } else { many(words.len(), "care word") };
+    let of = stage.word_count();
     text.row("words", &format!("{} is wrong in {} of {of}: {}{more}", stage.output_name(at), wrong.len(), named.join(" ")));
 }
 
@@ -154,7 +183,7 @@ fn say_behind(text: &mut Text, case: &Situation, &Behind { gate, depth, again }:
 }
 
 /// 14, 15, 20 and 21: what is late, what the outputs show by then, and where the waiting ends.
-fn not_awaited(text: &mut Text, case: &Situation, odd: Odd) {
+fn not_awaited(text: &mut Text, case: &Situation, odd: Odd, say_run: impl FnOnce(&mut Text)) {
     let stage = case.stage;
     let (name, still) = match (odd, case.falls) {
         (Odd::Input(input), false) => (stage.input_name(input), "NULL"),
@@ -167,6 +196,7 @@ fn not_awaited(text: &mut Text, case: &Situation, odd: Odd) {
     if !case.falls {
         say_outputs(text, case);
     }
+    say_run(text);
     let ends = case.ends();
     for end in ends.iter().take(PLACES) {
         say_end(text, case, end, odd);

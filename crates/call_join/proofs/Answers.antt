@@ -3,19 +3,21 @@
 use Prim.Native.Nat.{ℕ, zero, suc, _+_, _-_, _*_, _^_, _≤_, _<_}
 use native.Mathlib.Omega.{arith}
 use native.Mathlib.Nat.{two-pow-succ}
-use mathlib.Core.Path.{_≡_, refl, sym, ap, ap₂, _∙_}
+use mathlib.Core.Path.{_≡_, refl, sym, ap, ap₂, subst, _∙_}
 use mathlib.Core.Bool.{Bool, true, false}
 use mathlib.Core.List.{List, [], _∷_, map, map-map, map-id}
 use lib.ListN.{length, getD, take, drop, length-drop, length-map, drop-of-length-le}
 use lib.Seq.{drop-cons, getD-take}
 use lib.Pow.{pow-mono}
 use lib.Dec.{eqb}
+use borrow.Author.Tests.{lt-ltb}
 use Rattle.gates.specs.Cell.{bit}
 use Rattle.netlist.specs.declared.Counts.{Counts}
 use Rattle.netlist.specs.declared.Found.{Found}
 use Rattle.netlist.specs.declared.Found.the-variants.{At, Nothing}
 use Rattle.netlist.specs.Content.{Stage, Reference}
 use Rattle.verdict.specs.declared.Finding.{Finding}
+use Rattle.verdict.specs.declared.Finding.the-variants.{Passed}
 use Rattle.verdict.specs.Graph.{tabulate}
 use Rattle.verdict.specs.declared.WordOrder.{WordOrder}
 use Rattle.verdict.specs.Words.{words, bitsOf, wordOf, spelled, isIn, names}
@@ -25,12 +27,16 @@ use Rattle.verdict.proofs.Words.{bits-of-bit, answer-bit}
 use Rattle.check_spec.specs.Lists.{bitOf, ofBits}
 use Rattle.check_spec.specs.Words as content
 use Rattle.check_spec.specs.Loaded.{fromReference, referenceView}
-use Rattle.check_spec.proofs.Names.{same-bits}
+use Rattle.check_spec.proofs.Names.{of-bits-below, same-bits}
 use Rattle.check_spec.proofs.Alike.{word-of, answer-alike}
 use Rattle.join_spec.specs.Joining as joins
+use Rattle.circuit.specs.Stage.{stageIn}
 use Rattle.circuit.specs.Reference.{operatorsIn, signalIn, signalsIn, referenceIn, ReferenceLoaded}
 use Rattle.circuit.proofs.Tabulate.{length-tabulate, getD-tabulate}
 use Rattle.words.proofs.Spelling.{bits-prefix}
+use Rattle.words.proofs.Membership.{of-all}
+use Rattle.check_words.proofs.Sweeping.{swept-nothing}
+use Rattle.write_joined.proofs.Whole.{signals-count}
 use Rattle.call_join.specs.Steps.{answerWord, uncaredUnder}
 
 -- ---- a word from its bits, the last first
@@ -114,3 +120,14 @@ answer-word r w =
     same-bits (length (c .outputs)) (content.answer c (bitOf w)) (λ i. eqb (getD l i 0) 1) (λ i h.
     sym (unbit (content.answer c (bitOf w) i)) ∙ ap (λ (x : ℕ). eqb x 1) (answer-alike c w i h ∙ ap (λ (q : Reference). getD (answer q (bitsOf (r .inputs) w)) i 0) view))
     ∙ ap (λ (m : ℕ). ofBits m (λ i. eqb (getD l i 0) 1)) (sym long) ∙ sym (word-of l (answer-bit r (bitsOf (r .inputs) w) (bits-of-bit (r .inputs) w)))
+
+-- a second part without a care list cares for every answer
+pub all-cared : (order : WordOrder) (inputs : ℕ) (sizes : Counts) (reference : List ℕ) (c : Counts) (code : List ℕ) → c .care ≡ 0 → sizes .outputs ≡ c .inputs
+    → (ns : List ℕ) → Passed ≡ sweep 23 0 (uncaredUnder order inputs (referenceIn sizes reference) (stageIn c code)) ns
+all-cared order inputs sizes reference c code none seam ns =
+    let r = referenceIn sizes reference in
+    let long : length (fromReference r .outputs) ≡ c .inputs = length-map (r .outputs) (λ (v : ℕ). v ∷ []) ∙ signals-count sizes reference ∙ seam in
+    let below : (w : ℕ) → answerWord r w < 2 ^ c .inputs = λ w. subst (λ (k : ℕ). answerWord r w < 2 ^ k) long
+    (subst (λ (x : ℕ). x < 2 ^ length (fromReference r .outputs)) (answer-word r w) (of-bits-below (length (fromReference r .outputs)) _)) in
+    sym (swept-nothing 23 0 _ ns (λ name i. cared-under order inputs r (stageIn c code) name
+    (sym (of-all c code _ none) ∙ lt-ltb _ _ (below (spelled order inputs name)))))

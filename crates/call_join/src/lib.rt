@@ -84,7 +84,7 @@ fn uncared_named(
     Finding::Passed
 }
 
-// The least word of the first part, by its name, whose answer the second does not care for.
+// The least word of the first part, by its name, whose answer the second does not care for. Without a care list it cares for every answer.
 fn uncared(
     order: WordOrder,
     code1: &[u16],
@@ -94,10 +94,14 @@ fn uncared(
     code2: &[u16],
     counts2: Counts,
 ) -> Finding
-    requires { ⌜ StageLoaded counts1 (now code1) × ReferenceLoaded sizes1 (now reference1) × StageLoaded counts2 (now code2) ⌝ }
+    requires { ⌜ StageLoaded counts1 (now code1) × ReferenceLoaded sizes1 (now reference1) × StageLoaded counts2 (now code2)
+        × (sizes1 .outputs ≡ counts2 .inputs) ⌝ }
     ensures { λ r. ⌜ r ≡ sweep 23 0 (uncaredUnder order (counts1 .inputs) (referenceIn sizes1 (now (reference1 .entry))) (stageIn counts2 (now
         (code2 .entry)))) (names order (stageIn counts1 (now (code1 .entry)))) ⌝ }
 {
+    if counts2.care == 0 {
+        return Finding::Passed;
+    }
     let mut list = [0u16; words::NAMES];
     let count = words::list_names(order, code1, counts1, &mut list);
     uncared_named(

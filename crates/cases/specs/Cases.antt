@@ -1,5 +1,5 @@
--- The twelve marked cases of the paper, the examples of its table, cases that show which fault is named, relaxed gates and retired kinds, computed
--- from the definitions alone.
+-- The twelve marked cases of the paper, the examples of its table, cases that show which fault is named, relaxed gates, retired kinds and gates that
+-- never rise, computed from the definitions alone.
 use Prim.Native.Nat.{ℕ, zero, suc, _+_, _*_}
 use mathlib.Core.Path.{_≡_, refl}
 use mathlib.Core.List.{List, [], _∷_, _++_, map, flatMap}
@@ -199,7 +199,7 @@ ordered =
     -- the same with TH22(1, 2), which rises in word 10 only
     case unobserved twoWires (verdict 15 1 0 2) ∷
     -- the same with TH22(0, 1), which rises in no word
-    case (1 ∷ 2 ∷ twoPins 2 0 1 (pair 0 1 (pair 2 3 (0 ∷ [])))) (1 ∷ 2 ∷ 0x12 ∷ 0 ∷ 0 ∷ 0x12 ∷ 1 ∷ 0 ∷ 0 ∷ []) (verdict 0 0 0 0) ∷
+    case (1 ∷ 2 ∷ twoPins 2 0 1 (pair 0 1 (pair 2 3 (0 ∷ [])))) twoWires (verdict 32 1 0 0) ∷
     []
 
 -- ---- one gate more than there may be
@@ -264,6 +264,13 @@ cared w rest = 6 ∷ w ∷ 0 ∷ rest
 earlyGates : List ℕ
 earlyGates = twoPins 1 0 2 (twoPins 2 1 3 (pair 4 5 (0 ∷ [])))
 
+-- of the whole case the two gates, and what follows them
+abbrev wholeOne : List ℕ → List ℕ
+wholeOne rest = twoPins 2 1 3 rest
+
+abbrev wholeZero : List ℕ → List ℕ
+wholeZero rest = 2 ∷ 0x1A ∷ 0 ∷ 0 ∷ 2 ∷ 0 ∷ 1 ∷ 0 ∷ 3 ∷ 0 ∷ rest
+
 pub care : List Case
 care =
     -- 18; 19, where the word is below the one before and where it is the same; a command that is cut is 1
@@ -276,10 +283,10 @@ care =
     case wire (1 ∷ 1 ∷ cared 0 []) (verdict 2 2 2 0) ∷
     -- the high byte counts
     case (1 ∷ 1 ∷ 6 ∷ 0 ∷ 1 ∷ []) wireReference (verdict 18 1 3 0) ∷
-    -- a list of one word that shows no fault, one whose second word shows one, and one of all words; between gates and after outputs too
-    case (1 ∷ 2 ∷ cared 3 earlyGates) andReference (verdict 0 0 0 0) ∷
-    case (1 ∷ 2 ∷ twoPins 1 0 2 (cared 3 (twoPins 2 1 3 (pair 4 5 (0 ∷ []))))) andReference (verdict 0 0 0 0) ∷
-    case (1 ∷ 2 ∷ twoPins 1 0 2 (twoPins 2 1 3 (pair 4 5 (cared 3 (0 ∷ []))))) andReference (verdict 0 0 0 0) ∷
+    -- a list of words that show no fault, between gates and after outputs too; one whose second word shows one, and one of all words
+    case (1 ∷ 2 ∷ cared 0 (cared 3 (wholeOne (wholeZero (pair 5 4 (0 ∷ [])))))) andReference (verdict 0 0 0 0) ∷
+    case (1 ∷ 2 ∷ cared 0 (wholeOne (cared 3 (wholeZero (pair 5 4 (0 ∷ [])))))) andReference (verdict 0 0 0 0) ∷
+    case (1 ∷ 2 ∷ wholeOne (wholeZero (pair 5 4 (cared 0 (cared 3 (0 ∷ [])))))) andReference (verdict 0 0 0 0) ∷
     case (1 ∷ 2 ∷ cared 1 (cared 3 earlyGates)) andReference (verdict 14 1 0 2) ∷
     case (1 ∷ 2 ∷ cared 0 (cared 1 (cared 2 (cared 3 earlyGates)))) andReference (verdict 14 1 0 0) ∷
     -- a care word is not its place in the list, and not its name: word 2 of the file is 01, the first of which something is found
@@ -312,9 +319,10 @@ inFilesOrder =
     case unobserved twoWires (verdict 15 1 0 1) ∷
     case fallsEarly andNotReference (verdict 20 1 0 1) ∷
     case staysHigh twoWires (verdict 21 1 0 1) ∷
-    -- what is no word is the same in either order: the counts under 10 and 11, and the place of a care word
+    -- what is no word is the same in either order: the counts under 10 and 11, the gate under 32, and the place of a care word
     case wire (firstInput 2 3) (verdict 10 0 1 2) ∷
     case wire (firstInput 1 2) (verdict 11 0 1 2) ∷
+    case (1 ∷ 2 ∷ cared 1 (wholeOne (wholeZero (pair 5 4 (0 ∷ []))))) andReference (verdict 32 1 0 0) ∷
     case (1 ∷ 1 ∷ cared 2 []) wireReference (verdict 18 1 3 0) ∷
     []
 
@@ -377,6 +385,29 @@ retired =
     case (1 ∷ 1 ∷ twoPins 1 0 1 (onePin 0x18 1 (pair 0 1 (0 ∷ [])))) wireReference (verdict 28 1 1 0) ∷
     -- the least of gates 1 and 2
     case (1 ∷ 1 ∷ twoPins 2 1 1 (onePin 0x98 2 (onePin 0x18 3 (pair 0 4 (0 ∷ []))))) wireReference (verdict 28 1 1 0) ∷
+    []
+
+-- ---- gates that never rise
+
+pub idle : List Case
+idle =
+    -- two wires with two such gates behind two that rise: the least is named, and no word
+    case (1 ∷ 1 ∷ buffers 1 (twoPins 2 0 1 (twoPins 2 2 3 (pair 2 3 (0 ∷ []))))) wireReference (verdict 32 1 2 0) ∷
+    -- the whole case: its TH22 rises in word 3 alone, which is cared for, or is not; of words 3 alone its THand0 does not rise
+    case wholeStage andReference (verdict 0 0 0 0) ∷
+    case (1 ∷ 2 ∷ cared 0 (cared 3 (wholeOne (wholeZero (pair 5 4 (0 ∷ [])))))) andReference (verdict 0 0 0 0) ∷
+    case (1 ∷ 2 ∷ cared 0 (cared 1 (cared 2 (wholeOne (wholeZero (pair 5 4 (0 ∷ []))))))) andReference (verdict 32 1 0 0) ∷
+    case (1 ∷ 2 ∷ cared 3 (wholeOne (wholeZero (pair 5 4 (0 ∷ []))))) andReference (verdict 32 1 1 0) ∷
+    -- case 6 in word 3 alone, in which it waits
+    case (1 ∷ 2 ∷ cared 3 earlyGates) andReference (verdict 32 1 0 0) ∷
+    -- 13, 14, 15, 20 and 21 come before it: the gate stands before the others, and rises in no word
+    case (1 ∷ 1 ∷ twoPins 2 0 1 (pair 1 0 (0 ∷ []))) wireReference (verdict 13 1 0 0) ∷
+    case (1 ∷ 2 ∷ twoPins 2 0 1 (pair 0 1 (0 ∷ []))) (firstInput 2 1) (verdict 14 1 1 0) ∷
+    case (1 ∷ 1 ∷ twoPins 2 0 1 (twoPins 1 0 1 (pair 0 1 (0 ∷ [])))) wireReference (verdict 15 1 1 0) ∷
+    case (1 ∷ 2 ∷ twoPins 2 0 1 (twoPins 0x82 1 3 (wholeZero (pair 6 5 (0 ∷ []))))) andReference (verdict 20 1 0 3) ∷
+    case (1 ∷ 1 ∷ twoPins 2 0 1 (twoPins 1 1 1 (twoPins 0x82 3 1 (pair 0 4 (0 ∷ []))))) wireReference (verdict 21 1 1 1) ∷
+    -- a gate that feeds others, and does not rise
+    case (1 ∷ 1 ∷ twoPins 2 0 1 (twoPins 1 1 2 (pair 0 3 (0 ∷ [])))) wireReference (verdict 32 1 0 0) ∷
     []
 
 abbrev judgedIn : WordOrder → List Case → List Verdict
@@ -457,21 +488,23 @@ Computed =
     × (judgedIn FirstLowest inFilesOrder ≡ expected inFilesOrder)
     × (judged relaxed ≡ expected relaxed)
     × (judged retired ≡ expected retired)
+    × (judged idle ≡ expected idle)
     × (map (λ (x : RowCase). settledRow (x .stage) (x .row)) rowExamples ≡ map (λ (x : RowCase). x .expected) rowExamples)
 
 computed : Computed
 unfolding twelve examples ordered refused care inFilesOrder earlyGates earlyOr orReference unobserved twoWires fallsEarly andNotReference staysHigh
-    relaxed retired rowExamples wire wireReference wholeStage andReference swapped notReference earlyAnd wires wireSignals
+    relaxed retired idle rowExamples wire wireReference wholeStage andReference swapped notReference earlyAnd wires wireSignals
     outputs firstInput inverters b.operand b.operands
     k.whenFound k.ownCommands k.commandTable k.formIn k.pinsNeeded k.needed k.stray k.misfit k.misfitFrom k.takeGate k.takeCare k.takeSort
     k.takeCommand k.nextAt
     r.names k.roleOf k.used r.nameless r.namelessAt r.namelessFrom r.floorAfter r.noted r.finish r.onNext r.readFrom r.readFile
     t.contentAt v.refusal e.first e.judge
     l.numbers l.select l.some l.every l.ofBits l.reaches e.sweep o.rounds o.risen o.fallen o.reachesItself
-    w.caresFor w.spelled w.names w.operate w.values w.answer
-    h.wrong h.incomplete h.highAnd h.unobservable h.fallIncomplete h.fallUnobservable h.looped h.retired h.checks h.rowChecks v.settledBytes v.rowAfter
+    w.caresFor w.spelled w.names w.words w.operate w.values w.answer
+    h.wrong h.incomplete h.highAnd h.unobservable h.fallIncomplete h.fallUnobservable h.looped h.retired h.neverRises
+    h.idle h.checks h.rowChecks v.settledBytes v.rowAfter
     c.cells c.cellAt c.pinCount c.setExpression c.retiredCells c.among c.isRetired c.kindOf flatMap
-computed = (refl, refl, refl, refl, refl, refl, refl, refl, refl)
+computed = (refl, refl, refl, refl, refl, refl, refl, refl, refl, refl)
 
 pub twelve-cases : judged twelve ≡ expected twelve
 twelve-cases = computed .0
@@ -497,5 +530,8 @@ relaxed-cases = computed .6
 pub retired-cases : judged retired ≡ expected retired
 retired-cases = computed .7
 
+pub idle-cases : judged idle ≡ expected idle
+idle-cases = computed .8
+
 pub row-cases : map (λ (x : RowCase). settledRow (x .stage) (x .row)) rowExamples ≡ map (λ (x : RowCase). x .expected) rowExamples
-row-cases = computed .8
+row-cases = computed .9

@@ -31,6 +31,7 @@ use Rattle.check_spec.specs.Demands.{Demand2, Demand3}
 use Rattle.check_spec.specs.Loaded.{stageView, referenceView}
 use Rattle.check_spec.proofs.Demanded.{demand-2, demand-3}
 use Rattle.check_spec.proofs.View.{stage-view, reference-view}
+use Rattle.check_spec.proofs.Alike.{read-care}
 use Rattle.check_spec.proofs.Bridge.{alike-judge, checks-alike}
 use Rattle.circuit.specs.Stage.{stageIn}
 use Rattle.circuit.specs.Reference.{referenceIn}
@@ -150,7 +151,7 @@ module _ (order : WordOrder) (f : Files) where
           let view : stageIn c code ≡ stageView p = from .content ∙ sym (stage-view (f .registers) s (from .places)) in
           let same : referenceIn sizes reference ≡ referenceView q = of-reference .content ∙ sym (reference-view t (of-reference .places)) in
           rw (from .reads, of-reference .reads)
-          (ap verdicts.verdictOf (ap₂ (λ (x : Stage) (y : Reference). firstFault (checks order x y)) view same) ∙ sym (alike-judge (checks-alike order p q)))
+          (ap verdicts.verdictOf (ap₂ (λ (x : Stage) (y : Reference). firstFault (checks order x y)) view same) ∙ sym (alike-judge (checks-alike order p q (read-care (stageFile (f .registers)) (f .stageMost) s (from .places) (from .reads)))))
 
       pub checks-refuse : {code′ : List ℕ} (v : Verdict) → Fault v ≡ found → JudgedAs order f (judgement.Refused v) code′ reference
       unfolding verdicts.verdictOf

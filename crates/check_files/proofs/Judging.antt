@@ -1,4 +1,4 @@
--- The checks of two circuits in their order: 10, 11, 12, 28, and those that sweep the words.
+-- The checks of two circuits in their order: 10, 11, 12, 28, and those that settle the stage in its words.
 -- Assumes nothing.
 use Prim.Native.Nat.{ℕ, _<_}
 use native.Mathlib.Omega.{arith}
@@ -18,7 +18,7 @@ use Rattle.verdict.specs.declared.Finding.the-variants.{Fault, Passed}
 use Rattle.verdict.specs.Nets.{noGate}
 use Rattle.verdict.specs.Retired.{retiredAt}
 use Rattle.verdict.specs.Search.{least}
-use Rattle.verdict.specs.Checks.{verdict, first, atFault, sweep, finding, orLater, firstFault, unequal, looped, retired, sweeps, checks}
+use Rattle.verdict.specs.Checks.{verdict, first, atFault, sweep, finding, orLater, firstFault, unequal, looped, retired, wordChecks, checks}
 use Rattle.circuit.specs.Stage.{cellIn, gateIn, stageGates, outputIn, stageOutputs, stageIn}
 use Rattle.circuit.specs.Reference.{signalIn, signalsIn, referenceIn, ReferenceLoaded}
 use Rattle.circuit.proofs.Tabulate.{length-tabulate, getD-tabulate}
@@ -61,11 +61,11 @@ module _ (order : WordOrder) (c : Counts) (code : List ℕ) (sizes : Counts) (re
   reference-outputs = length-tabulate (signalIn sizes reference) (sizes .outputs)
 
   in-order : firstFault (checks order s r) ≡ orLater (finding (unequal 10 (c .inputs) (sizes .inputs)))
-      (orLater (finding (unequal 11 (c .outputs) (sizes .outputs))) (orLater (finding (looped s)) (orLater (finding (retired s)) (firstFault (sweeps order s r)))))
+      (orLater (finding (unequal 11 (c .outputs) (sizes .outputs))) (orLater (finding (looped s)) (orLater (finding (retired s)) (firstFault (wordChecks order s r)))))
   unfolding firstFault checks
   in-order =
       ap₂ (λ (a b : ℕ). orLater (finding (unequal 10 (c .inputs) (sizes .inputs)))
-      (orLater (finding (unequal 11 a b)) (orLater (finding (looped s)) (orLater (finding (retired s)) (firstFault (sweeps order s r))))))
+      (orLater (finding (unequal 11 a b)) (orLater (finding (looped s)) (orLater (finding (retired s)) (firstFault (wordChecks order s r))))))
       stage-outputs reference-outputs
 
   pub is-10 : (c .inputs ≡ sizes .inputs → ⊥) → Fault (verdict 10 0 (c .inputs) (sizes .inputs)) ≡ firstFault (checks order s r)
@@ -73,14 +73,14 @@ module _ (order : WordOrder) (c : Counts) (code : List ℕ) (sizes : Counts) (re
 
   module _ (inputs : c .inputs ≡ sizes .inputs) where
     after-10 : firstFault (checks order s r) ≡ orLater (finding (unequal 11 (c .outputs) (sizes .outputs)))
-        (orLater (finding (looped s)) (orLater (finding (retired s)) (firstFault (sweeps order s r))))
+        (orLater (finding (looped s)) (orLater (finding (retired s)) (firstFault (wordChecks order s r))))
     after-10 = in-order ∙ passed-on _ _ (agree 10 (c .inputs) (sizes .inputs) inputs)
 
     pub is-11 : (c .outputs ≡ sizes .outputs → ⊥) → Fault (verdict 11 0 (c .outputs) (sizes .outputs)) ≡ firstFault (checks order s r)
     is-11 d = sym (after-10 ∙ faulty _ _ _ (differ 11 (c .outputs) (sizes .outputs) d))
 
     module _ (outputs : c .outputs ≡ sizes .outputs) (after : List ℕ) (found : Found) (l : LoopFound c code after found) where
-      after-11 : firstFault (checks order s r) ≡ orLater (finding (looped s)) (orLater (finding (retired s)) (firstFault (sweeps order s r)))
+      after-11 : firstFault (checks order s r) ≡ orLater (finding (looped s)) (orLater (finding (retired s)) (firstFault (wordChecks order s r)))
       after-11 = after-10 ∙ passed-on _ _ (agree 11 (c .outputs) (sizes .outputs) outputs)
 
       pub is-12 : (g : ℕ) → found ≡ At g → Fault (verdict 12 1 g 0) ≡ firstFault (checks order s r)
@@ -90,7 +90,7 @@ module _ (order : WordOrder) (c : Counts) (code : List ℕ) (sizes : Counts) (re
         pub comparable : ReferenceLoaded sizes reference → BothLoaded c after sizes reference
         comparable a = record { stage = l .loaded; ordered = l .in-order e; answers = a; inputs = inputs; outputs = outputs }
 
-        after-12 : firstFault (checks order s r) ≡ orLater (finding (retired s)) (firstFault (sweeps order s r))
+        after-12 : firstFault (checks order s r) ≡ orLater (finding (retired s)) (firstFault (wordChecks order s r))
         after-12 = after-11 ∙ passed-on _ _ (no-loop c code after found l e)
 
         module _ (old : Found) (is : old ≡ least (retiredAt (stageGates c after)) 0 (c .gates)) where
@@ -103,7 +103,7 @@ module _ (order : WordOrder) (c : Counts) (code : List ℕ) (sizes : Counts) (re
           pub is-28 : (g : ℕ) → old ≡ At g → Fault (verdict 28 1 g 0) ≡ firstFault (checks order s r)
           is-28 g q = sym (after-12 ∙ faulty _ _ _ (found-at (retired s) refl old least-old g q))
 
-          pub is-swept : old ≡ Nothing → (f : Finding) → f ≡ firstFault (sweeps order (stageIn c after) r) → f ≡ firstFault (checks order s r)
+          pub is-swept : old ≡ Nothing → (f : Finding) → f ≡ firstFault (wordChecks order (stageIn c after) r) → f ≡ firstFault (checks order s r)
           is-swept none f q =
-              q ∙ ap (λ (x : Stage). firstFault (sweeps order x r)) (l .same)
+              q ∙ ap (λ (x : Stage). firstFault (wordChecks order x r)) (l .same)
               ∙ sym (after-12 ∙ passed-on _ _ (found-nothing (retired s) refl old least-old none))

@@ -1,4 +1,4 @@
-// The check of two files: both are read and loaded, then the checks 10, 11, 12, 28 and those that sweep the words follow in this order.
+// The check of two files: both are read and loaded, then the checks 10, 11, 12, 28 and those that settle the stage in its words follow in this order.
 use netlist::Counts;
 use netlist::Found;
 use netlist::Limits;
@@ -42,7 +42,7 @@ fn least_retired(code: &[u16], counts: Counts) -> Found
     Found::Nothing
 }
 
-// 10, then 11, then 12, which puts the gates in order, then 28, then the sweeps over the words.
+// 10, then 11, then 12, which puts the gates in order, then 28, then the sweeps over the words and 32.
 fn judge(
     order: WordOrder,
     code: &mut [u16],

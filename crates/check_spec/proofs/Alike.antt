@@ -305,7 +305,12 @@ module _ (c : Content) (care : Ascending (2 ^ c .inputs) 0 (c .care)) (w : ℕ) 
       go (x ∷ ws) i = or-left (some (eqb w) (x ∷ ws)) _ (some-in (eqb w) (x ∷ ws) w i (eqb-same w))
 
 -- the care words of a file that reads rise
+pub read-care : (f : File) (most : Limits) (bytes : List ℕ) (p : Places) → readFile f most bytes ≡ readable p
+    → Ascending (2 ^ contentAt f bytes (readable p) .inputs) 0 (contentAt f bytes (readable p) .care)
+unfolding contentAt
+read-care f most bytes p e = readable-read f most bytes p e .care-in
+
 pub care-rises : (f : File) (most : Limits) (bytes : List ℕ) (p : Places) → readFile f most bytes ≡ readable p
     → Ascending (2 ^ contentOf f most bytes .inputs) 0 (contentOf f most bytes .care)
 unfolding contentAt
-care-rises f most bytes p e = rw e (readable-read f most bytes p e .care-in)
+care-rises f most bytes p e = rw e (read-care f most bytes p e)

@@ -1,6 +1,6 @@
 -- The verdict as the first failing case is the one that the code finds, check by check: the law that joins the definitions with those of the code.
 -- Assumes nothing.
-use Prim.Native.Nat.{ℕ, zero, suc, _+_, _-_, _*_, _≤_, _<_}
+use Prim.Native.Nat.{ℕ, zero, suc, _+_, _-_, _*_, _^_, _≤_, _<_}
 use native.Mathlib.Omega.{arith}
 use mathlib.Core.Path.{_≡_, refl, sym, ap, ap₂, _∙_, subst, fun-ext}
 use mathlib.Core.Logic.{inl, inr}
@@ -17,7 +17,7 @@ use Rattle.runs.proofs.Test.{clash, not-true}
 use Rattle.netlist.specs.declared.Found.{Found}
 use Rattle.netlist.specs.declared.Found.the-variants.{At, Nothing}
 use Rattle.netlist.specs.declared.File.the-variants as file
-use Rattle.netlist.specs.Reading.{Reading, refused, readable, readFile}
+use Rattle.netlist.specs.Reading.{Ascending, Reading, refused, readable, readFile}
 use Rattle.netlist.specs.Content as parsed
 use Rattle.netlist.specs.Content.{Coded, gateOf}
 use Rattle.verdict.specs.declared.Verdict.{Verdict}
@@ -34,12 +34,13 @@ use Rattle.verdict.specs.Checks as found
 use Rattle.verdict.specs.Verdicts as given
 use Rattle.verdict.proofs.Words.{in-index}
 use Rattle.verdict.proofs.Reaching.{reaches-sound, reaches-complete}
+use Rattle.verdict.proofs.Rising.{never-rises, rises-never}
 use Rattle.check_spec.specs.Cases.{verdict, accepted, case, Check, first, judge, sweep, unequal}
 use Rattle.check_spec.specs.Lists.{xor, numbers, every, bitOf, reaches}
 use Rattle.check_spec.specs.Content.{Content, Files, contentAt}
 use Rattle.check_spec.specs.Rows.{noGate, driver, cellIn, netOf, dataOf, allData, allNull, feeding, reachesItself}
 use Rattle.check_spec.specs.Words.{spelled, names, IsWord, answer}
-use Rattle.check_spec.specs.Checks.{rest, wrong, incomplete, highAnd, unobservable, fallIncomplete, fallUnobservable, looped, retiredGate, retired, swept, checks}
+use Rattle.check_spec.specs.Checks.{rest, wrong, incomplete, highAnd, unobservable, fallIncomplete, fallUnobservable, looped, retiredGate, retired, swept, neverRises, idle, checks}
 use Rattle.check_spec.specs.Verdicts.{refusal, verdictOn}
 use Rattle.check_spec.specs.Demands.{Pass, LoopFree}
 use Rattle.check_spec.specs.Loaded.{pairOf, stageView, referenceView}
@@ -49,7 +50,8 @@ use Rattle.check_spec.proofs.Laws.{Law, Laws, none, _&_, equal-passes, 
 use Rattle.check_spec.proofs.Loops.{loop-found, found-loop, feeding-gate}
 use Rattle.check_spec.proofs.Pairs.{all-data, all-null}
 use Rattle.check_spec.proofs.View.{stage-view, reference-view, net-view, rail-view}
-use Rattle.check_spec.proofs.Alike.{spelled-alike, names-alike, answer-alike, rest-alike, missing-alike, held-alike, but-alike, keeping-alike}
+use Rattle.check_spec.proofs.Alike.{spelled-alike, names-alike, answer-alike, rest-alike, missing-alike, held-alike, but-alike, keeping-alike, word-in, in-word}
+use Rattle.check_spec.proofs.Rising.{never-low, low-never}
 
 -- ---- a sweep finds what its cases say
 
@@ -297,6 +299,15 @@ module _ (c : Content) where
     unfolding fallUnobservable found.fallUnobservable
     fall-unobservable-alike g = high-alike g _ _ (null-alike _ _ (keeping-alike c free w r g))
 
+  -- 32, of a stage whose care words rise
+  never-alike : LoopFree (netOf c) → Ascending (2 ^ c .inputs) 0 (c .care) → (g : ℕ) → neverRises c (2 * c .inputs + g) ≡ found.neverRises v g
+  never-alike free care g =
+      let net = 2 * c .inputs + g in
+      let level : (w : ℕ) → found.highAt v w g ≡ rest c w net = λ w. ap (λ (R : Row). R net) (rest-alike c free w) in
+      together _ _
+      (λ e. rises-never v g (λ w i. level w ∙ never-low c net e w (in-word c care w i)))
+      (λ e. low-never c net (λ w i. sym (level w) ∙ never-rises v g e w (word-in c care w i)))
+
 -- ---- the checks
 
 -- of a check that compares counts, of one that looks at places, and of one that sweeps words
@@ -341,7 +352,7 @@ module _ (order : WordOrder) (c : Content) where
     signals-long : length (r .outputs) ≡ length (q .outputs)
     signals-long = sym (length-map (r .outputs) (λ (vs : List ℕ). getD vs 0 0))
 
-    -- the checks of the rise, with others after them, and those of the fall
+    -- the checks of the rise and those of the fall, with others after them
     module _ (free : LoopFree (netOf c)) where
       rises-alike : length (c .outputs) ≤ length (r .outputs) → {cs : List Check} {ds : List found.Check} → Alike cs ds
           → Alike (swept order c 13 1 (length (c .outputs)) (wrong c r) ∷ swept order c 14 1 (c .inputs) (incomplete c) ∷ swept order c 15 1 (length (c .gates)) (unobservable c) ∷ cs) (found.riseSweeps order s q ++ ds)
@@ -351,15 +362,16 @@ module _ (order : WordOrder) (c : Content) where
           also (swept-is 14 1 (c .inputs) (c .inputs) (incomplete c) (found.incomplete s) refl (λ w i h. incomplete-alike c r free w i)) λ n14.
           also (swept-is 15 1 (length (c .gates)) (length (s .gates)) (unobservable c) (found.unobservable s) gates-long (λ w g h. unobservable-alike c r free w g h)) λ n15. later
 
-      falls-alike : Alike (swept order c 20 1 (c .inputs) (fallIncomplete c) ∷ swept order c 21 1 (length (c .gates)) (fallUnobservable c) ∷ []) (found.fallSweeps order s q)
+      falls-alike : {cs : List Check} {ds : List found.Check} → Alike cs ds
+          → Alike (swept order c 20 1 (c .inputs) (fallIncomplete c) ∷ swept order c 21 1 (length (c .gates)) (fallUnobservable c) ∷ cs) (found.fallSweeps order s q ++ ds)
       unfolding found.fallSweeps found.finding
-      falls-alike =
+      falls-alike later =
           also (swept-is 20 1 (c .inputs) (c .inputs) (fallIncomplete c) (found.fallIncomplete s) refl (λ w i h. fall-incomplete-alike c r free w i)) λ n20.
-          also (swept-is 21 1 (length (c .gates)) (length (s .gates)) (fallUnobservable c) (found.fallUnobservable s) gates-long (λ w g h. fall-unobservable-alike c r free w g)) λ n21. alike
+          also (swept-is 21 1 (length (c .gates)) (length (s .gates)) (fallUnobservable c) (found.fallUnobservable s) gates-long (λ w g h. fall-unobservable-alike c r free w g)) λ n21. later
 
       -- with hold everywhere the code passes the fall where it passes the rise
       pub hold-passes : length (c .outputs) ≤ length (r .outputs) → AllHold (netOf c) → found.firstFault (found.riseSweeps order s q) ≡ Passed → found.firstFault (found.fallSweeps order s q) ≡ Passed
-      unfolding found.riseSweeps
+      unfolding found.riseSweeps found.fallSweeps
       hold-passes few hold e =
           let p = passed-alike (rises-alike few alike) e in
           let clean : (w : ℕ) → IsWord c w → CleanFall c w = λ w i. hold-clean c r free w hold (record {
@@ -367,11 +379,12 @@ module _ (order : WordOrder) (c : Content) where
             complete = swept-passes c order 14 1 (c .inputs) (incomplete c) .0 (p .1 .0) w i;
             observable = swept-passes c order 15 1 (length (c .gates)) (unobservable c) .0 (p .1 .1 .0) w i;
           }) in
-          alike-passed falls-alike (swept-passes c order 20 1 (c .inputs) (fallIncomplete c) .1 (λ w i. clean w i .complete), (swept-passes c order 21 1 (length (c .gates)) (fallUnobservable c) .1 (λ w i. clean w i .observable), tt))
+          alike-passed (falls-alike alike) (swept-passes c order 20 1 (c .inputs) (fallIncomplete c) .1 (λ w i. clean w i .complete), (swept-passes c order 21 1 (length (c .gates)) (fallUnobservable c) .1 (λ w i. clean w i .observable), tt))
 
-    pub checks-alike : Alike (checks order c r) (found.checks order s q)
-    unfolding checks looped retired found.checks found.finding
-    checks-alike =
+    -- all of them, of a stage whose care words rise
+    pub checks-alike : Ascending (2 ^ c .inputs) 0 (c .care) → Alike (checks order c r) (found.checks order s q)
+    unfolding checks looped retired idle found.checks found.riseSweeps found.fallSweeps found.finding
+    checks-alike care =
         also (unequal-is 10 (c .inputs) (r .inputs) (c .inputs) (r .inputs) refl refl) λ n10.
         also (unequal-is 11 (length (c .outputs)) (length (r .outputs)) (length (s .outputs)) (length (q .outputs)) outputs-long signals-long) λ n11.
         also (placed-is 12 1 (length (c .gates)) (length (s .gates)) (λ g. reachesItself (netOf c) (2 * c .inputs + g))
@@ -379,4 +392,6 @@ module _ (order : WordOrder) (c : Content) where
         also (placed-is 28 1 (length (c .gates)) (length (s .gates)) (retiredGate c) (retire.retiredAt (s .gates)) gates-long (retired-alike c)) λ n28.
         let o = equal-passes 11 0 (length (c .outputs)) (length (r .outputs)) (length (c .outputs)) (length (r .outputs)) .0 n11 in
         let free = gates-passes c 12 (reachesItself (netOf c)) .0 n12 in
-        rises-alike free (omega arith) (falls-alike free)
+        rises-alike free (omega arith) (falls-alike free
+        (also (placed-is 32 1 (length (c .gates)) (length (s .gates)) (λ g. neverRises c (2 * c .inputs + g)) (found.neverRises s) gates-long
+        (λ g h. never-alike c free care g)) λ n32. alike))

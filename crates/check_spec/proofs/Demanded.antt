@@ -26,7 +26,7 @@ use Rattle.check_spec.proofs.Loops.{some-all, loops-found, settled-is, 
 use Rattle.check_spec.proofs.Pairs.{data-of, all-data, all-null}
 use Rattle.check_spec.proofs.OneWord.{inside, hold-clean}
 use Rattle.check_spec.proofs.Laws.{numbersOf, before, claimed, not-named, judge-from}
-use Rattle.check_spec.proofs.Sound.{Ran, laws, past-reading, reads-past, accepted-sound, sound-accepted, sound-kept}
+use Rattle.check_spec.proofs.Sound.{Ran, laws, past-reading, reads-past, accepted-faultless, accepted-sound, idle-sound, faultless-accepted, sound-answers, sound-kept}
 
 -- demand 3 speaks of numbers above 12, and of none by which a file is refused in reading
 of-runs : (n : ℕ) → Ran n → (12 < n) × (¬ (InTable n))
@@ -42,8 +42,8 @@ module _ (order : WordOrder) (f : Files) where
   abbrev number : Verdict → ℕ
   number v = v .number
 
-  -- the checks stand in the order of the papers: 28 "between 12 and 13", 20 and 21 "after 15"
-  pub check-order : numbersOf (laws f order) ≡ 10 ∷ 11 ∷ 12 ∷ 28 ∷ 13 ∷ 14 ∷ 15 ∷ 20 ∷ 21 ∷ []
+  -- the checks stand in the order of the papers: 28 "between 12 and 13", 20 and 21 "after 15", 32 "after all other checks"
+  pub check-order : numbersOf (laws f order) ≡ 10 ∷ 11 ∷ 12 ∷ 28 ∷ 13 ∷ 14 ∷ 15 ∷ 20 ∷ 21 ∷ 32 ∷ []
   unfolding laws
   check-order = refl
 
@@ -51,15 +51,18 @@ module _ (order : WordOrder) (f : Files) where
 
   exactly : Comparable f → (verdictOn order f ≡ accepted) ↔ Acceptable f
   exactly k = (
-    (λ v. let h = accepted-sound order f (ap number v) .1 in record { cast = h .cast; conforms = h .conforms }),
-    (λ a. sound-accepted {f = f} (record {
-      read = k .read;
-      inputs = k .inputs;
-      outputs = k .outputs;
-      free = k .loop-free;
-      cast = a .cast;
-      conforms = a .conforms;
-    }) order),
+    (λ v. let h = accepted-faultless order f (ap number v) .1 in record { cast = h .0 .cast; conforms = h .0 .conforms; rises = h .1 }),
+    (λ a. faultless-accepted {f = f} (
+      record {
+        read = k .read;
+        inputs = k .inputs;
+        outputs = k .outputs;
+        free = k .loop-free;
+        cast = a .cast;
+        conforms = a .conforms;
+      },
+      a .rises,
+    ) order),
   )
 
   -- with hold everywhere the checks of the fall find nothing where those of the rise do
@@ -85,7 +88,7 @@ module _ (order : WordOrder) (f : Files) where
   unfolding laws judge sweep flatMap
   retired k g l e none =
       reads-past f order (k .read) ∙ judge-from 28 (laws f order) (k .inputs, (k .outputs, (k .loop-free, tt)))
-      ∙ places-first 28 1 0 (retiredGate s) 0 (length (s .gates)) g (omega arith) (omega arith) (λ k a b. none k b) e [] _
+      ∙ places-first 28 1 0 (retiredGate s) [] _ 0 (length (s .gates)) g (omega arith) (omega arith) (λ k a b. none k b) e
 
   -- Demand 2 holds of the verdict, whatever the two files hold.
   pub demand-2 : Demand2 order f (verdictOn order f)
@@ -101,7 +104,10 @@ module _ (order : WordOrder) (f : Files) where
     fallen-is = λ free w X. fallen-is s free _ X (inside s r free w);
     hold-only = hold-only;
     retired = retired;
-    either-order = λ other. ((λ e. sound-accepted (accepted-sound order f (ap number e) .1) other), (λ e. sound-accepted (accepted-sound other f (ap number e) .1) order));
+    either-order = λ other. (
+      (λ e. faultless-accepted (accepted-faultless order f (ap number e) .1) other),
+      (λ e. faultless-accepted (accepted-faultless other f (ap number e) .1) order),
+    );
   }
 
   -- ---- demand 3
@@ -137,4 +143,5 @@ module _ (order : WordOrder) (f : Files) where
   demand-3 = record {
     kept = λ e. let p = accepted-sound order f e in (p .0, p .1 .read, sound-kept (p .1));
     broken = broken;
+    idle = λ e. let h = idle-sound order f e in (h .read, ⊎-elim (λ q. absurd (omega (arith, sym e ∙ ap number q))) (λ i. i) (sound-answers h order));
   }

@@ -3,10 +3,11 @@
 use Prim.Native.Nat.{ℕ, zero, suc, _+_, _≤_, _<_}
 use native.Mathlib.Omega.{arith}
 use mathlib.Core.Path.{_≡_, refl, sym, ap, _∙_, subst}
-use mathlib.Core.Logic.{_⊎_, inl, inr, ⊎-elim, _≢_}
+use mathlib.Core.Logic.{_⊎_, inl, inr, ⊎-elim}
 use mathlib.Core.Bool.{Bool, true, false, cond}
 use mathlib.Core.List.{List, [], _∷_, _++_, map, flatMap}
-use Rattle.runs.proofs.Test.{same?}
+use native.Mathlib.Decide.{decLt}
+use Rattle.runs.proofs.Test.{clash, same?}
 use Rattle.verdict.specs.declared.Verdict.{Verdict}
 use Rattle.verdict.specs.Graph.{In}
 use Rattle.check_spec.specs.Cases.{accepted, verdict, Case, case, Check, first, judge, sweep}
@@ -126,18 +127,43 @@ module _ (number file : ℕ) (places : List ℕ) (fails : ℕ → ℕ → Bool) 
       right [] p = p
       right (c ∷ a) p = right a (p .1)
 
--- the first place of several that fails is named
-pub places-first : (number file w : ℕ) (fails : ℕ → Bool) (j m g : ℕ) → j ≤ g → g < j + m → ((k : ℕ) → j ≤ k → k < g → fails k ≡ false) → fails g ≡ true
-    → (others : List Case) (later : Verdict) → first (map (λ i. case number file i w (fails i)) (numbers j m) ++ others) later ≡ verdict number file g w
-unfolding numbers first
-places-first number file w fails j zero g l h none e others later = absurd (omega arith)
-places-first number file w fails j (suc m) g l h none e others later = go (same? j g) (places-first number file w fails (suc j) m g)
-  where
-    rest : Verdict
-    rest = first (map (λ i. case number file i w (fails i)) (numbers (suc j) m) ++ others) later
+-- what is named of several places from j on: the first that fails, or where none does what comes later
+abbrev pub Placed : (ℕ → Bool) → (ℕ → Verdict) → ℕ → ℕ → Verdict → Verdict → Type 0
+Placed fails names j m later v =
+    ((g : ℕ) × (j ≤ g) × (g < j + m) × (fails g ≡ true) × ((k : ℕ) → j ≤ k → k < g → fails k ≡ false) × (v ≡ names g))
+    ⊎ (((k : ℕ) → j ≤ k → k < j + m → fails k ≡ false) × (v ≡ later))
 
-    go : (j ≡ g) ⊎ (j ≢ g) → (suc j ≤ g → g < suc j + m → ((k : ℕ) → suc j ≤ k → k < g → fails k ≡ false) → fails g ≡ true
-        → (others : List Case) (later : Verdict) → first (map (λ i. case number file i w (fails i)) (numbers (suc j) m) ++ others) later ≡ verdict number file g w)
-        → cond (fails j) (verdict number file j w) rest ≡ verdict number file g w
-    go (inl q) ih = rw (q, e)
-    go (inr q) ih = rw (none j (omega arith) (omega (arith, q))) (ih (omega (arith, q)) (omega arith) (λ k a b. none k (omega arith) b) e others later)
+module _ (number file w : ℕ) (fails : ℕ → Bool) (others : List Case) (later : Verdict) where
+  abbrev names : ℕ → Verdict
+  names g = verdict number file g w
+
+  -- of so many places from j on, and other cases behind them
+  abbrev placed : ℕ → ℕ → Verdict
+  placed j m = first (map (λ i. case number file i w (fails i)) (numbers j m) ++ others) later
+
+  pub places-say : (j m : ℕ) → Placed fails names j m (first others later) (placed j m)
+  unfolding numbers first
+  places-say j zero = inr ((λ k a b. absurd (omega arith)), refl)
+  places-say j (suc m) = go (fails j) refl (places-say (suc j) m)
+    where
+      at : (k : ℕ) → fails j ≡ false → (suc j ≤ k → fails k ≡ false) → j ≤ k → fails k ≡ false
+      at k e f h = ⊎-elim (λ q. ap fails (sym q) ∙ e) (λ n. f (omega (arith, n))) (same? j k)
+
+      go : (b : Bool) → fails j ≡ b → Placed fails names (suc j) m (first others later) (placed (suc j) m)
+          → Placed fails names j (suc m) (first others later) (cond (fails j) (names j) (placed (suc j) m))
+      go true q p = inl (j, omega arith, omega arith, q, (λ k a b. absurd (omega arith)), rw q)
+      go false q (inl (g, l, h, e, none, is)) = inl (g, omega arith, omega arith, e, (λ k a b. at k q (λ d. none k d b) a), rw q is)
+      go false q (inr (none, is)) = inr ((λ k a b. at k q (λ d. none k d (omega arith)) a), rw q is)
+
+  -- the first place that fails is named
+  pub places-first : (j m g : ℕ) → j ≤ g → g < j + m → ((k : ℕ) → j ≤ k → k < g → fails k ≡ false) → fails g ≡ true → placed j m ≡ names g
+  places-first j m g l h none e = go (places-say j m)
+    where
+      go : Placed fails names j m (first others later) (placed j m) → placed j m ≡ names g
+      go (inr (all, is)) = absurd (clash e (all g l h))
+      go (inl (k, a, b, t, before, is)) = is ∙ ap names (same (decLt k g) (decLt g k))
+        where
+          same : Dec (k < g) → Dec (g < k) → k ≡ g
+          same (yes d) x = absurd (clash t (none k a d))
+          same (no d) (yes x) = absurd (clash e (before g l x))
+          same (no d) (no x) = omega arith

@@ -60,22 +60,6 @@ module _ {Whole : Type 0} {Claim : Verdict → Type 0} where
       elim (eqb k n) as (λ b. Type 0)
       [ true ↦ Unit {0} | false ↦ elim (eqb k m) as (λ b. Type 0) [ true ↦ Says | false ↦ Before n m ls ] ]
 
-  -- it holds where the verdict has the number n
-  pub before : (n m : ℕ) {cs : List Check} (ls : Laws Whole Claim cs) → judge cs .number ≡ n → Before n m ls
-  before n m none e = tt
-  before n m (_&_ {number = k} {Says = Says} {c = c} {cs = cs} l ls) e = go (eqb k n) refl (before n m ls)
-    where
-      says : (b : Bool) → Says → Before n m ls → elim b as (λ b. Type 0) [ true ↦ Says | false ↦ Before n m ls ]
-      says true s later = s
-      says false s later = later
-
-      go : (b : Bool) → eqb k n ≡ b → (judge cs .number ≡ n → Before n m ls)
-          → elim b as (λ b. Type 0) [ true ↦ Unit {0} | false ↦ elim (eqb k m) as (λ b. Type 0) [ true ↦ Says | false ↦ Before n m ls ] ]
-      go true q later = tt
-      go false q later =
-          let p = judge-later n c cs (other n l q) e in
-          says (eqb k m) (l .passes .0 (p .0)) (later (ap (λ (v : Verdict). v .number) (sym (p .1)) ∙ e))
-
   -- the verdict is one of which something is claimed, or accepts
   pub claimed : {cs : List Check} → Laws Whole Claim cs → Claim (judge cs) ⊎ (judge cs ≡ accepted)
   unfolding judge
@@ -108,11 +92,54 @@ module _ {Whole : Type 0} {Claim : Verdict → Type 0} where
       go true q p later = later (p .1) (ap (λ (v : Verdict). v .number) (sym (judge-pass c cs (l .passes .1 (p .0)))) ∙ e)
       go false q p later = later p (ap (λ (v : Verdict). v .number) (sym (judge-later n c cs (other n l q) e .1)) ∙ e)
 
-  -- what the checks before number n say, and those from it on, whose verdict it is where that is so
+  -- what the checks before number n say, all together
   abbrev pub AllBefore : ℕ → {cs : List Check} → Laws Whole Claim cs → Type 0
   AllBefore n none = Unit {0}
   AllBefore n (_&_ {number = k} {Says = Says} l ls) = elim (eqb k n) as (λ b. Type 0) [ true ↦ Unit {0} | false ↦ Says × AllBefore n ls ]
 
+  -- no check before number n has the number v
+  abbrev pub apart : ℕ → ℕ → {cs : List Check} → Laws Whole Claim cs → Bool
+  apart n v none = true
+  apart n v (_&_ {number = k} l ls) =
+      elim (eqb k n) as (λ b. Bool) [ true ↦ true | false ↦ elim (eqb k v) as (λ b. Bool) [ true ↦ false | false ↦ apart n v ls ] ]
+
+  -- it holds where the verdict has such a number
+  pub all-before : (n v : ℕ) {cs : List Check} (ls : Laws Whole Claim cs) → apart n v ls ≡ true → judge cs .number ≡ v → AllBefore n ls
+  all-before n v none a e = tt
+  all-before n v (_&_ {number = k} {Says = Says} {c = c} {cs = cs} l ls) a e = go (eqb k n) (eqb k v) refl a (all-before n v ls)
+    where
+      go : (b d : Bool) → eqb k v ≡ d → elim b as (λ b. Bool) [ true ↦ true | false ↦ elim d as (λ b. Bool) [ true ↦ false | false ↦ apart n v ls ] ] ≡ true
+          → (apart n v ls ≡ true → judge cs .number ≡ v → AllBefore n ls) → elim b as (λ b. Type 0) [ true ↦ Unit {0} | false ↦ Says × AllBefore n ls ]
+      go true d q a later = tt
+      go false true q a later = absurd (clash a refl)
+      go false false q a later =
+          let p = judge-later v c cs (other v l q) e in
+          (l .passes .0 (p .0), later a (ap (λ (x : Verdict). x .number) (sym (p .1)) ∙ e))
+
+  -- each by its number
+  pub said : (n m : ℕ) {cs : List Check} (ls : Laws Whole Claim cs) → AllBefore n ls → Before n m ls
+  said n m none a = tt
+  said n m (_&_ {number = k} {Says = Says} l ls) a = go (eqb k n) (eqb k m) a (said n m ls)
+    where
+      go : (b d : Bool) → elim b as (λ b. Type 0) [ true ↦ Unit {0} | false ↦ Says × AllBefore n ls ] → (AllBefore n ls → Before n m ls)
+          → elim b as (λ b. Type 0) [ true ↦ Unit {0} | false ↦ elim d as (λ b. Type 0) [ true ↦ Says | false ↦ Before n m ls ] ]
+      go true d a later = tt
+      go false true a later = a .0
+      go false false a later = later (a .1)
+
+  apart-itself : (n : ℕ) {cs : List Check} (ls : Laws Whole Claim cs) → apart n n ls ≡ true
+  apart-itself n none = refl
+  apart-itself n (_&_ {number = k} l ls) = go (eqb k n) (apart-itself n ls)
+    where
+      go : (b : Bool) → apart n n ls ≡ true → elim b as (λ b. Bool) [ true ↦ true | false ↦ elim b as (λ b. Bool) [ true ↦ false | false ↦ apart n n ls ] ] ≡ true
+      go true e = refl
+      go false e = e
+
+  -- what check m says, where the verdict has the number n
+  pub before : (n m : ℕ) {cs : List Check} (ls : Laws Whole Claim cs) → judge cs .number ≡ n → Before n m ls
+  before n m ls e = said n m ls (all-before n n ls (apart-itself n ls) e)
+
+  -- the checks from number n on, whose verdict it is where those before say what they say
   abbrev pub from : ℕ → {cs : List Check} → Laws Whole Claim cs → List Check
   from n none = []
   from n (_&_ {number = k} {c = c} {cs = cs} l ls) = elim (eqb k n) as (λ b. List Check) [ true ↦ c ∷ cs | false ↦ from n ls ]

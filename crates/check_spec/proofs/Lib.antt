@@ -6,6 +6,7 @@ pub mod Names
 pub mod OneWord
 pub mod Laws
 pub mod Shown
+pub mod Rising
 pub mod Sound
 pub mod Demanded
 pub mod View

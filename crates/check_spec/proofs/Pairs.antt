@@ -1,16 +1,18 @@
 -- The tests of a check say of a row what the theory of runs says of it.
 -- Assumes nothing.
-use Prim.Native.Nat.{ℕ, zero, suc, _+_, _<_}
-use native.Mathlib.Omega.{arith}
-use mathlib.Core.Path.{_≡_, refl, sym, ap, _∙_}
-use mathlib.Core.Logic.{_↔_}
+use Prim.Native.Nat.{ℕ}
+use mathlib.Core.Path.{_≡_, refl, ap, _∙_}
+use mathlib.Core.Logic.{_⊎_, inl, inr, _↔_}
 use mathlib.Core.Bool.{Bool, true, false, cond, not, _||_}
+use mathlib.Core.List.{List, [], _∷_}
 use Rattle.runs.specs.Row.{Row, only, _∖_}
 use Rattle.runs.specs.Net.{Net, railsOfInputs}
 use Rattle.runs.specs.Settled.{Settled}
 use Rattle.runs.specs.Pair.{DataOf, AllData, AllNull}
 use Rattle.runs.proofs.Test.{clash, and-left, and-right, of-not}
 use Rattle.runs.proofs.Moves.{missing-held}
+use Rattle.verdict.specs.Graph.{In}
+use Rattle.verdict.proofs.Words.{index-in, in-index}
 use Rattle.check_spec.specs.Lists.{xor, numbers, every}
 use Rattle.check_spec.specs.Rows.{netOf, risen, dataOf, allData, allNull}
 use Rattle.check_spec.specs.Words.{railsFor}
@@ -19,23 +21,29 @@ use Rattle.check_spec.specs.Checks.{incomplete}
 use Rattle.check_spec.specs.Demands.{LoopFree}
 use Rattle.check_spec.proofs.Loops.{risen-is}
 
-every-out : (test : ℕ → Bool) (j m : ℕ) → every test (numbers j m) ≡ true → (i : ℕ) → i < m → test (j + i) ≡ true
-unfolding every numbers
-every-out test j zero e i h = absurd (omega arith)
-every-out test j (suc m) e i h = go (test j) refl (every-out test (suc j) m) e i h
+-- every one of a list passes a test, or some one does not
+pub every-out : (test : ℕ → Bool) (l : List ℕ) → every test l ≡ true → (x : ℕ) → In x l → test x ≡ true
+unfolding every
+every-out test (y ∷ l) e x i = go (test y) refl e i (every-out test l)
   where
-    go : (b : Bool) → test j ≡ b → (every test (numbers (suc j) m) ≡ true → (i : ℕ) → i < m → test (suc j + i) ≡ true)
-        → cond (test j) (every test (numbers (suc j) m)) false ≡ true → (i : ℕ) → i < suc m → test (j + i) ≡ true
-    go false q later e i h = absurd (clash (rw q at e) refl)
-    go true q later e zero h = ap test (omega arith) ∙ q
-    go true q later e (suc i) h = ap test (omega arith) ∙ later (rw q at e) i (omega arith)
+    go : (b : Bool) → test y ≡ b → cond b (every test l) false ≡ true → (x ≡ y) ⊎ In x l → (every test l ≡ true → (x : ℕ) → In x l → test x ≡ true) → test x ≡ true
+    go true q e (inl p) later = ap test p ∙ q
+    go true q e (inr i) later = later e x i
+    go false q e i later = absurd (clash e refl)
 
-every-in : (test : ℕ → Bool) (j m : ℕ) → ((i : ℕ) → i < m → test (j + i) ≡ true) → every test (numbers j m) ≡ true
-unfolding every numbers
-every-in test j zero f = refl
-every-in test j (suc m) f =
-    let e : j ≡ j + 0 = omega arith in
-    rw (ap test e ∙ f 0 (omega arith)) (every-in test (suc j) m (λ i h. let d : suc j + i ≡ j + suc i = omega arith in ap test d ∙ f (suc i) (omega arith)))
+pub every-in : (test : ℕ → Bool) (l : List ℕ) → ((x : ℕ) → In x l → test x ≡ true) → every test l ≡ true
+unfolding every
+every-in test [] f = refl
+every-in test (y ∷ l) f = rw (f y (inl refl)) (every-in test l (λ x i. f x (inr i)))
+
+pub every-not : (test : ℕ → Bool) (l : List ℕ) → every test l ≡ false → (x : ℕ) × In x l × (test x ≡ false)
+unfolding every
+every-not test [] e = absurd (clash refl e)
+every-not test (y ∷ l) e = go (test y) refl e (every-not test l)
+  where
+    go : (b : Bool) → test y ≡ b → cond b (every test l) false ≡ false → (every test l ≡ false → (x : ℕ) × In x l × (test x ≡ false)) → (x : ℕ) × In x (y ∷ l) × (test x ≡ false)
+    go true q e later = let r = later e in (r .0, inr (r .1), r .2)
+    go false q e later = (y, inl refl, q)
 
 xor-out : (a b : Bool) → xor a b ≡ true → a ≡ not b
 xor-out true true e = absurd (clash e refl)
@@ -58,8 +66,8 @@ data-of r p b = (
 
 pub all-data : (N : Net) (r : Row) → (allData N r ≡ true) ↔ AllData N r
 all-data N r = (
-  (λ e j h. let z : 0 + j ≡ j = omega arith in xor-out (r (N .rail j false)) (r (N .rail j true)) (ap test (sym z) ∙ every-out test 0 (N .outputs) e j h)),
-  (λ d. every-in test 0 (N .outputs) (λ j h. xor-in (r (N .rail (0 + j) false)) (r (N .rail (0 + j) true)) (d (0 + j) (omega arith)))),
+  (λ e j h. xor-out (r (N .rail j false)) (r (N .rail j true)) (every-out test (numbers 0 (N .outputs)) e j (index-in (N .outputs) j h))),
+  (λ d. every-in test (numbers 0 (N .outputs)) (λ j i. xor-in (r (N .rail j false)) (r (N .rail j true)) (d j (in-index (N .outputs) j i)))),
 )
   where
     test : ℕ → Bool
@@ -75,8 +83,8 @@ nor-in a b p q = rw (p, q)
 
 pub all-null : (N : Net) (r : Row) → (allNull N r ≡ true) ↔ AllNull N r
 all-null N r = (
-  (λ e j h. let z : 0 + j ≡ j = omega arith in nor-out (r (N .rail j false)) (r (N .rail j true)) (ap test (sym z) ∙ every-out test 0 (N .outputs) e j h)),
-  (λ d. every-in test 0 (N .outputs) (λ j h. nor-in (r (N .rail (0 + j) false)) (r (N .rail (0 + j) true)) (d (0 + j) (omega arith) .0) (d (0 + j) (omega arith) .1))),
+  (λ e j h. nor-out (r (N .rail j false)) (r (N .rail j true)) (every-out test (numbers 0 (N .outputs)) e j (index-in (N .outputs) j h))),
+  (λ d. every-in test (numbers 0 (N .outputs)) (λ j i. let n = d j (in-index (N .outputs) j i) in nor-in (r (N .rail j false)) (r (N .rail j true)) (n .0) (n .1))),
 )
   where
     test : ℕ → Bool

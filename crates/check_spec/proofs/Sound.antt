@@ -1,11 +1,12 @@
 -- Two files in which the checks 10 to 21 find nothing, whatever the order of words: what an accepted verdict rests on, and what joined and made files are
--- built from. A check that comes after all of these changes the two laws of acceptance, and nothing that rests on `Sound`.
+-- built from. 32 comes after all of these: what is sound is accepted, unless a gate never rises.
 -- Assumes nothing.
 use Prim.Native.Nat.{ℕ, _+_, _*_, _≤_, _<_}
 use native.Mathlib.Omega.{arith}
 use mathlib.Core.Path.{_≡_, refl, sym, ap, _∙_, subst, subst₂}
 use mathlib.Core.Bool.{Bool, true, false}
-use mathlib.Core.List.{List, [], _∷_}
+use mathlib.Core.Logic.{_⊎_, inl, inr}
+use mathlib.Core.List.{List, [], _∷_, map, flatMap, _++_}
 use lib.ListN.{length}
 use lib.Dec.{eqb}
 use Rattle.gates.specs.Cell.{isRetired}
@@ -23,19 +24,20 @@ use Rattle.netlist.specs.Reading.{Reading, refused, readable, readFile}
 use Rattle.verdict.specs.declared.Verdict.{Verdict}
 use Rattle.verdict.specs.declared.WordOrder.{WordOrder}
 use Rattle.verdict.proofs.Refusals.{InTable, refused-number}
-use Rattle.check_spec.specs.Cases.{verdict, accepted, judge}
-use Rattle.check_spec.specs.Lists.{some, bitOf}
+use Rattle.check_spec.specs.Cases.{verdict, accepted, case, first, judge, sweep}
+use Rattle.check_spec.specs.Lists.{some, numbers, bitOf}
 use Rattle.check_spec.specs.Content.{Content, Files, stageIn, referenceIn}
 use Rattle.check_spec.specs.Rows.{driver, cellIn, netOf, reachesItself}
 use Rattle.check_spec.specs.Words.{railsFor, spelled, IsWord, answer}
-use Rattle.check_spec.specs.Checks.{wrong, incomplete, unobservable, fallIncomplete, fallUnobservable, looped, retired, swept, checks}
+use Rattle.check_spec.specs.Checks.{wrong, incomplete, unobservable, fallIncomplete, fallUnobservable, looped, retired, swept, neverRises, idle, checks}
 use Rattle.check_spec.specs.Verdicts.{refusal, reading, verdictOn}
-use Rattle.check_spec.specs.Demands.{BothRead, LoopFree, answerTo, Kept, Broken}
-use Rattle.check_spec.proofs.First.{Each}
+use Rattle.check_spec.specs.Demands.{BothRead, LoopFree, answerTo, Rises, Kept, Broken, Idle, AcceptedUnlessIdle}
+use Rattle.check_spec.proofs.First.{Each, Placed, places-say}
 use Rattle.check_spec.proofs.Names.{named-below, named-word}
 use Rattle.check_spec.proofs.OneWord.{CleanRise, CleanFall, word-exactly}
 use Rattle.check_spec.proofs.Shown.{word-kept, wrong-shown, incomplete-shown, unobservable-shown, fall-incomplete-shown, fall-unobservable-shown}
-use Rattle.check_spec.proofs.Laws.{Law, Laws, none, _&_, judge-later, judge-pass, before, whole-accepted, equal-law, gates-law, swept-law}
+use Rattle.check_spec.proofs.Rising.{never-low, low-rising, low-falling, rises, rises-not}
+use Rattle.check_spec.proofs.Laws.{Law, Laws, none, _&_, AllBefore, all-before, said, before, judge-later, judge-pass, judge-from, whole-accepted, equal-law, gates-law, swept-law}
 
 pub record Sound (f : Files) : Type 0 where
   pub read : BothRead f
@@ -44,6 +46,14 @@ pub record Sound (f : Files) : Type 0 where
   pub free : LoopFree (netOf (stageIn f))
   pub cast : (net : ℕ) → IsGate (netOf (stageIn f)) net → isRetired (cellIn (driver (stageIn f) net)) ≡ false
   pub conforms : (w : ℕ) → IsWord (stageIn f) w → Conforms (netOf (stageIn f)) (railsFor w) (answerTo f w)
+
+-- every gate rises in some word of the stage
+abbrev pub AllRise : Files → Type 0
+AllRise f = (net : ℕ) → IsGate (netOf (stageIn f)) net → Rises f net
+
+-- what no check finds anything in
+abbrev pub Faultless : Files → Type 0
+Faultless f = Sound f × AllRise f
 
 -- reading names numbers of its table only
 pub reading-number : (other : ℕ) → ¬ (InTable other) → (f : File) (most : Limits) (bytes : List ℕ)
@@ -105,8 +115,8 @@ module _ (f : Files) where
     -- a check of the words, which a run shows to be broken where it fails
     pub run-law : (n m : ℕ) (fails : ℕ → ℕ → Bool) → ((w : ℕ) → CleanRise s r w × CleanFall s w → (i : ℕ) → i < m → fails w i ≡ false)
         → (LoopFree (netOf s) → (w i : ℕ) → i < m → fails w i ≡ true → Shows w i n × (¬ (Promise (netOf s) (railsFor w) (answerTo f w))))
-        → Law (Sound f) Claim n ((w : ℕ) → IsWord s w → (i : ℕ) → i < m → fails w i ≡ false) (swept order s n 1 m fails)
-    run-law n m fails clean shown = swept-law s order n 1 m fails (λ h w i. clean w (sound-clean h w i)) (λ name x i l e. (
+        → Law (Faultless f) Claim n ((w : ℕ) → IsWord s w → (i : ℕ) → i < m → fails w i ≡ false) (swept order s n 1 m fails)
+    run-law n m fails clean shown = swept-law s order n 1 m fails (λ h w i. clean w (sound-clean (h .0) w i)) (λ name x i l e. (
       omega arith,
       λ free ran.
           let w = spelled order (s .inputs) name in
@@ -123,18 +133,19 @@ module _ (f : Files) where
           },
     ))
 
-    unfoldable pub laws : Laws (Sound f) Claim (checks order s r)
-    unfolding checks looped retired some
+    unfoldable pub laws : Laws (Faultless f) Claim (checks order s r)
+    unfolding checks looped retired idle some
     laws =
-        equal-law 10 0 (s .inputs) (r .inputs) (s .inputs) (r .inputs) (λ h. h .inputs) (silent 10 0 _ _ (omega arith) refl)
-        & equal-law 11 0 (length (s .outputs)) (length (r .outputs)) (length (s .outputs)) (length (r .outputs)) (λ h. h .outputs) (silent 11 0 _ _ (omega arith) refl)
-        & gates-law s 12 (reachesItself (netOf s)) (λ h. h .free) (λ g. silent 12 1 g 0 (omega arith) refl)
-        & gates-law s 28 (λ net. isRetired (cellIn (driver s net))) (λ h. h .cast) (λ g. silent 28 1 g 0 (omega arith) refl)
+        equal-law 10 0 (s .inputs) (r .inputs) (s .inputs) (r .inputs) (λ h. h .0 .inputs) (silent 10 0 _ _ (omega arith) refl)
+        & equal-law 11 0 (length (s .outputs)) (length (r .outputs)) (length (s .outputs)) (length (r .outputs)) (λ h. h .0 .outputs) (silent 11 0 _ _ (omega arith) refl)
+        & gates-law s 12 (reachesItself (netOf s)) (λ h. h .0 .free) (λ g. silent 12 1 g 0 (omega arith) refl)
+        & gates-law s 28 (λ net. isRetired (cellIn (driver s net))) (λ h. h .0 .cast) (λ g. silent 28 1 g 0 (omega arith) refl)
         & run-law 13 (length (s .outputs)) (wrong s r) (λ w c. c .0 .right) (wrong-shown s r)
         & run-law 14 (s .inputs) (incomplete s) (λ w c. c .0 .complete) (incomplete-shown s r)
         & run-law 15 (length (s .gates)) (unobservable s) (λ w c. c .0 .observable) (unobservable-shown s r)
         & run-law 20 (s .inputs) (fallIncomplete s) (λ w c. c .1 .complete) (fall-incomplete-shown s r)
         & run-law 21 (length (s .gates)) (fallUnobservable s) (λ w c. c .1 .observable) (fall-unobservable-shown s r)
+        & gates-law s 32 (neverRises s) (λ h net i. rises-not f (h .0 .free) net (h .1 net i)) (λ g. silent 32 1 g 0 (omega arith) refl)
         & none
 
     -- a verdict of a number that is not one of reading: both files read, and it is that of the checks
@@ -147,32 +158,90 @@ module _ (f : Files) where
     pub reads-past : BothRead f → verdictOn order f ≡ judge (checks order s r)
     reads-past h = judge-pass (reading (stageFile (f .registers)) (f .stageMost) (f .stage)) _ (h .0) ∙ judge-pass (reading Reference (f .referenceMost) (f .reference)) _ (h .1)
 
--- what is sound is accepted in every order, and keeps the promise of demand 3
-pub sound-accepted : {f : Files} → Sound f → (order : WordOrder) → verdictOn order f ≡ accepted
-sound-accepted {f} h order = reads-past f order (h .read) ∙ whole-accepted h (laws f order)
-
 pub sound-kept : {f : Files} → Sound f → (w : ℕ) → IsWord (stageIn f) w → Kept f w
 sound-kept {f} h w i = let k = sound-clean f h w i in word-kept f (h .free) w (k .0) (k .1)
 
-pub accepted-sound : (order : WordOrder) (f : Files) → verdictOn order f .number ≡ 0 → (verdictOn order f ≡ accepted) × Sound f
-unfolding laws
-accepted-sound order f e =
-    let p = past-reading f order 0 (λ t. omega (arith, t .0)) e in
-    let z : judge (checks order (stageIn f) (referenceIn f)) .number ≡ 0 = ap (λ (v : Verdict). v .number) (sym (p .1)) ∙ e in
-    let ls = laws f order in
-    let free = before 0 12 ls z in
-    let h : Sound f = record {
-      read = p .0;
-      inputs = before 0 10 ls z;
-      outputs = before 0 11 ls z;
-      free = free;
-      cast = before 0 28 ls z;
-      conforms = λ w i. word-exactly (stageIn f) (referenceIn f) free w .0 (
-        record { right = before 0 13 ls z w i; complete = before 0 14 ls z w i; observable = before 0 15 ls z w i },
-        record { complete = before 0 20 ls z w i; observable = before 0 21 ls z w i },
-      );
-    } in
-    (sound-accepted h order, h)
+-- ---- acceptance
+
+-- what is faultless is accepted in every order
+pub faultless-accepted : {f : Files} → Faultless f → (order : WordOrder) → verdictOn order f ≡ accepted
+faultless-accepted {f} h order = reads-past f order (h .0 .read) ∙ whole-accepted h (laws f order)
+
+module _ (order : WordOrder) (f : Files) where
+  abbrev v : Verdict
+  v = verdictOn order f
+
+  -- the checks before 32 find nothing exactly in sound files
+  sound-before : Sound f → AllBefore 32 (laws f order)
+  unfolding laws
+  sound-before h =
+      let c = sound-clean f h in
+      (h .inputs, (h .outputs, (h .free, (h .cast, (λ w i. c w i .0 .right, (λ w i. c w i .0 .complete, (λ w i. c w i .0 .observable, (λ w i. c w i .1 .complete, (λ w i. c w i .1 .observable, tt)))))))))
+
+  before-sound : BothRead f → AllBefore 32 (laws f order) → Sound f
+  unfolding laws
+  before-sound read a =
+      let ls = laws f order in
+      let free = said 32 12 ls a in
+      record {
+        read = read;
+        inputs = said 32 10 ls a;
+        outputs = said 32 11 ls a;
+        free = free;
+        cast = said 32 28 ls a;
+        conforms = λ w i. word-exactly (stageIn f) (referenceIn f) free w .0 (
+          record { right = said 32 13 ls a w i; complete = said 32 14 ls a w i; observable = said 32 15 ls a w i },
+          record { complete = said 32 20 ls a w i; observable = said 32 21 ls a w i },
+        );
+      }
+
+  -- where nothing is found before it, the verdict is that of 32
+  abbrev fails : ℕ → Bool
+  fails g = neverRises (stageIn f) (2 * stageIn f .inputs + g)
+
+  last-is : Sound f → v ≡ first (map (λ g. case 32 1 g 0 (fails g)) (numbers 0 (length (stageIn f .gates))) ++ []) accepted
+  unfolding laws judge idle sweep flatMap
+  last-is h = reads-past f order (h .read) ∙ judge-from 32 (laws f order) (sound-before h)
+
+  answers : Sound f → AcceptedUnlessIdle order f
+  unfolding first
+  answers h = go (last-is h) (places-say 32 1 0 fails [] accepted 0 (length (stageIn f .gates)))
+    where
+      go : {x : Verdict} → v ≡ x → Placed fails (λ g. verdict 32 1 g 0) 0 (length (stageIn f .gates)) accepted x → AcceptedUnlessIdle order f
+      go e (inr (all, is)) = inl (e ∙ is)
+      go e (inl (g, a, l, t, less, is)) =
+          let net = 2 * stageIn f .inputs + g in
+          inr (subst (Idle f) (sym (e ∙ is)) (record {
+            is = refl;
+            gate = omega (arith, l);
+            least = λ k d. rises f (h .free) (2 * stageIn f .inputs + k) (less k (omega arith) d);
+            rise-low = λ w i. low-rising (stageIn f) (h .free) w net (never-low (stageIn f) net t w i);
+            fall-low = λ w i. low-falling (stageIn f) (h .free) w net (never-low (stageIn f) net t w i);
+            kept = sound-kept h;
+          }))
+
+  -- an accepted verdict, and 32
+  pub accepted-faultless : v .number ≡ 0 → (v ≡ accepted) × Faultless f
+  unfolding laws
+  accepted-faultless e =
+      let p = past-reading f order 0 (λ t. omega (arith, t .0)) e in
+      let z : judge (checks order (stageIn f) (referenceIn f)) .number ≡ 0 = ap (λ (v : Verdict). v .number) (sym (p .1)) ∙ e in
+      let h : Sound f = before-sound (p .0) (all-before 32 0 (laws f order) refl z) in
+      let rise : AllRise f = λ net i. rises f (h .free) net (before 0 32 (laws f order) z net i) in
+      (faultless-accepted (h, rise) order, (h, rise))
+
+  pub accepted-sound : v .number ≡ 0 → (v ≡ accepted) × Sound f
+  accepted-sound e = let a = accepted-faultless e in (a .0, a .1 .0)
+
+  pub idle-sound : v .number ≡ 32 → Sound f
+  unfolding laws
+  idle-sound e =
+      let p = past-reading f order 32 (λ t. omega (arith, t .1)) e in
+      before-sound (p .0) (all-before 32 32 (laws f order) refl (ap (λ (v : Verdict). v .number) (sym (p .1)) ∙ e))
+
+-- "unless a gate never rises": what is sound is accepted, or refused by 32 at the least such gate
+pub sound-answers : {f : Files} → Sound f → (order : WordOrder) → AcceptedUnlessIdle order f
+sound-answers {f} h order = answers order f h
 
 -- from what two files hold
 pub record Agrees (s r : Content) : Type 0 where

@@ -9,10 +9,10 @@ use Rattle.runs.specs.Row.{Row, low, only}
 use Rattle.runs.specs.Net.{nets, railsOfInputs}
 use Rattle.verdict.specs.declared.WordOrder.{WordOrder}
 use Rattle.check_spec.specs.Cases.{Check, case, sweep, sweepPlaces, unequal}
-use Rattle.check_spec.specs.Lists.{numbers, bitOf}
+use Rattle.check_spec.specs.Lists.{numbers, every, bitOf}
 use Rattle.check_spec.specs.Content.{Content, wired}
 use Rattle.check_spec.specs.Rows.{driver, cellIn, netOf, risen, fallen, dataOf, allData, allNull, reachesItself}
-use Rattle.check_spec.specs.Words.{railsFor, spelled, names, answer}
+use Rattle.check_spec.specs.Words.{railsFor, spelled, names, words, answer}
 
 -- the rest of word w: settled for its rails, with no net held low
 abbrev pub rest : Content → ℕ → Row
@@ -62,6 +62,13 @@ retiredGate s g = isRetired (cellIn (driver s (2 * s .inputs + g)))
 unfoldable pub retired : Content → Check
 retired s = sweepPlaces 28 1 (numbers 0 (length (s .gates))) (retiredGate s)
 
+-- 32: the gate that drives a net rises in no care word: it is low at the rest of every word of the stage
+unfoldable pub neverRises : Content → ℕ → Bool
+neverRises s net = every (λ w. not (rest s w net)) (words s)
+
+unfoldable pub idle : Content → Check
+idle s = sweepPlaces 32 1 (numbers 0 (length (s .gates))) (λ g. neverRises s (2 * s .inputs + g))
+
 -- of a stage, as reading gives it, against a reference, in their order: 12 looks at the gates before registers become wires, the checks from 28 on
 -- at the stage with these
 unfoldable pub checks : WordOrder → Content → Content → List Check
@@ -76,6 +83,7 @@ checks order raw r =
     swept order s 15 1 (length (s .gates)) (unobservable s) ∷
     swept order s 20 1 (s .inputs) (fallIncomplete s) ∷
     swept order s 21 1 (length (s .gates)) (fallUnobservable s) ∷
+    idle s ∷
     []
 
 -- 17: a rail of input i is above 1, or both are 1

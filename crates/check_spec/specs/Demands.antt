@@ -8,7 +8,7 @@ use lib.ListN.{length, getD, take}
 use lib.Dec.{eqb}
 use Rattle.gates.specs.Cell.{isRetired}
 use Rattle.runs.specs.Row.{Row, low, after}
-use Rattle.runs.specs.Net.{Net, IsGate, nets, riseStep, fallStep, RiseList, RiseEnd}
+use Rattle.runs.specs.Net.{Net, IsGate, nets, riseStep, fallStep, RiseList, RiseEnd, FallList}
 use Rattle.runs.specs.Settled.{Settled, SettledHeld, SettledKept}
 use Rattle.runs.specs.Pair.{DataOf, AllData, AllNull}
 use Rattle.runs.specs.Complete.{Conforms}
@@ -73,11 +73,20 @@ pub record Comparable (f : Files) : Type 0 where
 abbrev pub answerTo : Files → ℕ → ℕ → Bool
 answerTo f w = answer (referenceIn f) (bitOf w)
 
--- No gate is of a retired kind (M-108), and "for every input word", of M-101 every care word, "its settled outputs spell the reference's answer
--- and it is input-complete and observable as NCL defines these".
+-- the gate that drives a net rises in some care word: some list of switchings of that word leaves it high
+pub record Rises (f : Files) (net : ℕ) : Type 0 where
+  pub in-word : ℕ
+  pub word : IsWord (stageIn f) in-word
+  pub list : List ℕ
+  pub legal : RiseList (netOf (stageIn f)) (railsFor in-word) list
+  pub high : after low list net ≡ true
+
+-- No gate is of a retired kind (M-108), "for every input word", of M-101 every care word, "its settled outputs spell the reference's answer
+-- and it is input-complete and observable as NCL defines these", and every gate rises in some care word (M-110).
 pub record Acceptable (f : Files) : Type 0 where
   pub cast : (net : ℕ) → IsGate (netOf (stageIn f)) net → isRetired (cellIn (driver (stageIn f) net)) ≡ false
   pub conforms : (w : ℕ) → IsWord (stageIn f) w → Conforms (netOf (stageIn f)) (railsFor w) (answerTo f w)
+  pub rises : (net : ℕ) → IsGate (netOf (stageIn f)) net → Rises f net
 
 -- R is a row of some sort, and the only one
 abbrev pub TheOnly : (Row → Type 0) → Row → Type 0
@@ -85,7 +94,7 @@ TheOnly P R = P R × ((r : Row) → P r → r ≡ R)
 
 -- What demand 2 says of a verdict on two files: a comparable stage "is accepted exactly if" it is acceptable; "otherwise the verdict names
 -- the earliest failing check and its least case". What the cases ask is the paper's: a gate that reaches itself in however many steps is found by
--- 12, DATA and NULL are those of the theory of runs, and the rows of 13 to 15, 20 and 21 are the settled ones of a loop-free stage: settled for given
+-- 12, DATA and NULL are those of the theory of runs, and the rows of 13 to 15, 20, 21 and 32 are the settled ones of a loop-free stage: settled for given
 -- rails, with nets held low (the rails of an input, or a gate), and by the fall rule. Of M-102: "a stage without relaxed kinds" is "never to meet the
 -- two fall refusals". Of M-106: "acceptance is the same under either order". Of M-108: the check "refuses" retired kinds, at the least such gate,
 -- whatever the stage does in its words.
@@ -134,10 +143,27 @@ pub record Broken (f : Files) (w : ℕ) (v : Verdict) : Type 0 where
   pub fall-unobservable : v .number ≡ 21
       → (v .at < length (stageIn f .gates)) × Fall-unobservable (netOf (stageIn f)) (railsFor w) (2 * stageIn f .inputs + v .at)
 
+-- refused by 32: the gate named is the least that rises in no word of the stage, and it "stays low in every run": it is low after every list of the
+-- rise of each word, and after every list of the fall from an end of that. Nothing is broken: the promise is kept as in an accepted stage
+pub record Idle (f : Files) (v : Verdict) : Type 0 where
+  pub is : v ≡ verdict 32 1 (v .at) 0
+  pub gate : v .at < length (stageIn f .gates)
+  pub least : (g : ℕ) → g < v .at → Rises f (2 * stageIn f .inputs + g)
+  pub rise-low : (w : ℕ) → IsWord (stageIn f) w → (l : List ℕ) → RiseList (netOf (stageIn f)) (railsFor w) l
+      → after low l (2 * stageIn f .inputs + v .at) ≡ false
+  pub fall-low : (w : ℕ) → IsWord (stageIn f) w → (l : List ℕ) → RiseList (netOf (stageIn f)) (railsFor w) l → RiseEnd (netOf (stageIn f)) (railsFor w) l
+      → (m : List ℕ) → FallList (netOf (stageIn f)) (after low l) m → after (after low l) m (2 * stageIn f .inputs + v .at) ≡ false
+  pub kept : (w : ℕ) → IsWord (stageIn f) w → Kept f w
+
+-- "accepted", "unless a gate never rises": as it is said of a stage that a call has written
+abbrev pub AcceptedUnlessIdle : WordOrder → Files → Type 0
+AcceptedUnlessIdle order f = (verdictOn order f ≡ accepted) ⊎ Idle f (verdictOn order f)
+
 -- What demand 3 says of a verdict on two files, by its number
 pub record Demand3 (order : WordOrder) (f : Files) (v : Verdict) : Type 0 where
   pub kept : v .number ≡ 0 → (v ≡ accepted) × BothRead f × ((w : ℕ) → IsWord (stageIn f) w → Kept f w)
   pub broken : some (eqb (v .number)) (13 ∷ 14 ∷ 15 ∷ 20 ∷ 21 ∷ []) ≡ true → BothRead f × Broken f (spelled order (stageIn f .inputs) (v .word)) v
+  pub idle : v .number ≡ 32 → BothRead f × Idle f v
 
 -- ---- the settled-row call
 

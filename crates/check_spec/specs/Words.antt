@@ -34,7 +34,11 @@ orderOf mark = cond (eqb mark 0) FirstHighest FirstLowest
 unfoldable pub names : WordOrder → Content → List ℕ
 names order s = select (λ name. caresFor s (spelled order (s .inputs) name)) (numbers 0 (2 ^ s .inputs))
 
--- w is a word of the stage: below 2 to the n, and cared for
+-- the words of a stage: those below 2 to the n that are cared for
+unfoldable pub words : Content → List ℕ
+words s = select (λ w. caresFor s w) (numbers 0 (2 ^ s .inputs))
+
+-- w is one of them
 abbrev pub IsWord : Content → ℕ → Type 0
 IsWord s w = (ltb w (2 ^ s .inputs) && caresFor s w) ≡ true
 

@@ -17,7 +17,8 @@ use Rattle.verdict.specs.declared.Finding.the-variants.{Fault, Passed}
 use Rattle.verdict.specs.declared.Verdict.{Verdict}
 use Rattle.verdict.specs.declared.WordOrder.{WordOrder}
 use Rattle.verdict.specs.Words.{IsWord, spelled, names}
-use Rattle.verdict.specs.Checks.{verdict, Check, atFault, sweep, finding, orLater, firstFault, riseSweeps, fallSweeps, sweeps}
+use Rattle.verdict.specs.Checks.{verdict, Check, atFault, sweep, finding, orLater, firstFault, neverRises, idle, riseSweeps, fallSweeps, sweeps, wordChecks}
+use Rattle.verdict.specs.Search.{least}
 use Rattle.verdict.specs.Nets.{noGate}
 use Rattle.verdict.specs.Loops.{In}
 use Rattle.verdict.proofs.Names.{name-spells}
@@ -27,6 +28,7 @@ use Rattle.circuit.specs.Reference.{signalIn, signalsIn, referenceIn}
 use Rattle.circuit.specs.Order.{orderIn, InOrder}
 use Rattle.circuit.proofs.Order.{order-no-loop}
 use Rattle.circuit.proofs.Tabulate.{length-tabulate, getD-tabulate}
+use Rattle.circuit.proofs.Settling.{length-stageGates}
 use Rattle.check_word.specs.declared.Sweep.{Sweep}
 use Rattle.check_word.specs.declared.Sweep.the-variants.{Wrong, Missing, Unobserved, Remaining, StillHigh}
 use Rattle.check_word.specs.Finds.{finds}
@@ -65,7 +67,7 @@ pub swept-start : (number file : ℕ) (find : ℕ → Found) (names : List ℕ) 
 swept-start number file find names = refl
 
 -- nothing is found under any of some names
-swept-nothing : (number file : ℕ) (find : ℕ → Found) (names : List ℕ) → ((name : ℕ) → In name names → find name ≡ Nothing) → sweep number file find names ≡ Passed
+pub swept-nothing : (number file : ℕ) (find : ℕ → Found) (names : List ℕ) → ((name : ℕ) → In name names → find name ≡ Nothing) → sweep number file find names ≡ Passed
 unfolding sweep atFault
 swept-nothing number file find [] h = refl
 swept-nothing number file find (x ∷ names) h = rw (h x (inl refl)) (swept-nothing number file find names (λ name i. h name (inr i)))
@@ -188,6 +190,30 @@ module _ (order : WordOrder) (s : Stage) (r : Reference) where
 pub enough-signals : (sizes : Counts) (reference : List ℕ) {m : ℕ} → m ≤ sizes .outputs → m ≤ length (signalsIn sizes reference)
 unfolding signalsIn
 enough-signals sizes reference h = omega (arith, length-tabulate (signalIn sizes reference) (sizes .outputs))
+
+later-none : (f : Finding) → orLater f Passed ≡ f
+unfolding orLater
+later-none (Fault v) = refl
+later-none Passed = refl
+
+-- 32 after those that sweep: what is found by the least gate that never rises
+idle-is : (s : Stage) (low : Found) → low ≡ least (neverRises s) 0 (length (s .gates)) → atFault 32 1 0 low Passed ≡ firstFault (idle s ∷ [])
+unfolding firstFault finding sweep
+idle-is s low e = ap (λ (x : Found). atFault 32 1 0 x Passed) e ∙ sym (later-none (finding (idle s)))
+
+module _ (order : WordOrder) (c : Counts) (code : List ℕ) (r : Reference) where
+  abbrev s : Stage
+  s = stageIn c code
+
+  pub swept-fault : (v : Verdict) → Fault v ≡ firstFault (sweeps order s r) → Fault v ≡ firstFault (wordChecks order s r)
+  unfolding orLater
+  swept-fault v e = ap (λ (x : Finding). orLater x (firstFault (idle s ∷ []))) e ∙ sym (fault-++ (sweeps order s r) (idle s ∷ []))
+
+  pub then-idle : Passed ≡ firstFault (sweeps order s r) → (low : Found) → low ≡ least (neverRises s) 0 (c .gates)
+      → (f : Finding) → f ≡ atFault 32 1 0 low Passed → f ≡ firstFault (wordChecks order s r)
+  then-idle e low is f q =
+      q ∙ idle-is s low (is ∙ ap (least (neverRises s) 0) (sym (length-stageGates c code)))
+      ∙ later-passed _ e ∙ sym (fault-++ (sweeps order s r) (idle s ∷ []))
 
 -- a stage with hold everywhere passes the fall where it passes the rise
 pub no-fall : (order : WordOrder) (c : Counts) (code : List ℕ) → StageLoaded c code → InOrder c code → WithHold (stageIn c code) → (r : Reference) → c .outputs ≤ length (r .outputs)

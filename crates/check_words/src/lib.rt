@@ -1,4 +1,4 @@
-// The sweeps of 13, 14 and 15, and of 20 and 21, over the words of a stage and a reference in their flat forms.
+// The sweeps of 13, 14 and 15, and of 20 and 21, over the words of a stage and a reference in their flat forms, and 32 after them.
 use check_word::Sweep;
 use lane_screen::Masks;
 use netlist::Counts;
@@ -209,8 +209,23 @@ fn nothing_named(masks: Masks, code: &[u16], counts: Counts) -> bool
     false
 }
 
-// All checks that sweep the words of a stage: the words that are suspect are found first, 64 at a time. Where there are any the names of all words
-// are listed once, and swept in that order.
+// 32 at the least gate that never rises, if there is one.
+fn find_idle(low: Found) -> Finding
+    ensures { λ r. ⌜ r ≡ checks.atFault 32 1 0 low Finding.Passed ⌝ }
+{
+    match low {
+        Found::At(g) => Finding::Fault(Verdict {
+            number: 32,
+            file: 1,
+            at: g as u64,
+            word: 0,
+        }),
+        Found::Nothing => Finding::Passed,
+    }
+}
+
+// All checks that settle a stage in its words: the words that are suspect are found first, 64 at a time, and on the way the least gate that never
+// rises. Where there are such words the names of all words are listed once, and swept in that order. 32 comes last.
 pub fn sweep_all(
     order: WordOrder,
     code: &[u16],
@@ -219,13 +234,27 @@ pub fn sweep_all(
     sizes: Counts,
 ) -> Finding
     requires { ⌜ BothLoaded counts (now code) sizes (now reference) ⌝ }
-    ensures { λ r. ⌜ r ≡ checks.firstFault (checks.sweeps order (stageIn counts (now (code .entry))) (referenceIn sizes (now (reference .entry)))) ⌝ }
+    ensures { λ r. ⌜ r ≡ checks.firstFault (checks.wordChecks order (stageIn counts (now (code .entry))) (referenceIn sizes (now (reference .entry)))) ⌝ }
 {
-    let masks = lane_screen::screen(code, counts, reference, sizes);
+    let screened = lane_screen::screen(code, counts, reference, sizes);
+    let masks = screened.masks;
+    let low = screened.low;
+    let last = find_idle(low);
     if nothing_named(masks, code, counts) {
-        return Finding::Passed;
+        return last;
     }
     let mut list = [0u16; words::NAMES];
     let count = words::list_names(order, code, counts, &mut list);
-    sweep_named(order, &list[..count], masks, code, counts, reference, sizes)
+    if let Finding::Fault(v) = sweep_named(
+        order,
+        &list[..count],
+        masks,
+        code,
+        counts,
+        reference,
+        sizes,
+    ) {
+        return Finding::Fault(v);
+    }
+    last
 }

@@ -76,11 +76,18 @@ pub fn word_order() -> WordOrder {
 
 // ---- what is printed
 
+// A program has no exit status, so what standard output does not take, as on a full disk, is said on standard error.
+fn complain_unless(written: bool) {
+    if !written {
+        io::write_all(STDERR_FILENO, b"standard output could not be written\n");
+    }
+}
+
 // Writes the text of a verdict, which is what it is handed, to standard output.
 fn write_verdict_line(text: &[u8], v: Verdict)
     requires { ⌜ now text ≡ lines.verdictLine v ⌝ }
 {
-    io::write_all(STDOUT_FILENO, text);
+    complain_unless(io::write_all(STDOUT_FILENO, text));
 }
 
 // The four numbers, with single spaces between them and a newline.
@@ -94,7 +101,7 @@ pub fn print_verdict(v: Verdict) {
 fn write_report_lines(text: &[u8], report: Report)
     requires { ⌜ now text ≡ lines.reportLines report ⌝ }
 {
-    io::write_all(STDOUT_FILENO, text);
+    complain_unless(io::write_all(STDOUT_FILENO, text));
 }
 
 // The lines of a report, each with the word and the number of gates high at its rest; then the total. Of a refused pair the verdict alone.

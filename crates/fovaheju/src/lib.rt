@@ -73,7 +73,7 @@ pub fn join(
 }
 
 // A stage from a reference: every operation but NOT becomes two gates, NOT swaps rails, and the stage is written at the start of a lent buffer. It is
-// accepted against its reference. A refusal leaves the buffer as it was.
+// accepted against its reference, unless a gate never rises. A refusal leaves the buffer as it was.
 pub fn make_stage(reference: &[u8], stage_out: &mut [u8]) -> Answer
     ensures { λ r. ⌜ MakeDemand (now (reference .entry)) (now («stage_out» .entry)) r (now («stage_out» .exit)) ⌝ }
 {

@@ -23,7 +23,7 @@ use Rattle.check_spec.specs.Writing.{leaving}
 use Rattle.check_spec.proofs.First.{judged}
 use Rattle.check_spec.proofs.Names.{of-bits-below}
 use Rattle.check_spec.proofs.Laws.{Laws, none, _&_, before, whole-accepted, equal-law, test-law, swept-law}
-use Rattle.check_spec.proofs.Sound.{Sound, accepted-sound, sound-accepted}
+use Rattle.check_spec.proofs.Sound.{Sound, Faultless, accepted-faultless, faultless-accepted}
 use Rattle.check_spec.proofs.Writing.{leaves-bytes, leaves-verdict}
 use Rattle.join_spec.specs.declared.JoinAnswer.{JoinAnswer}
 use Rattle.join_spec.specs.Joining.{whole, passedOn, answerWord, seamChecks, joinChecks, Joined, Joinable, JoinDemand}
@@ -64,8 +64,8 @@ module _ (one two : Files) (stageRoom referenceRoom : ℕ) where
         & test-law 24 3 0 0 isShort (λ h. h .room) tt
         & none
 
-    -- where the join accepts, its parts are sound, and the seam and the buffers fit
-    join-fits : judge (joinChecks order one two stageRoom referenceRoom) .number ≡ 0 → Sound one × Sound two × Fits
+    -- where the join accepts, its parts are faultless, and the seam and the buffers fit
+    join-fits : judge (joinChecks order one two stageRoom referenceRoom) .number ≡ 0 → Faultless one × Faultless two × Fits
     unfolding seam-laws
     join-fits e =
         let z1 = passed-number (verdictOn order one) 0 _ e in
@@ -73,8 +73,8 @@ module _ (one two : Files) (stageRoom referenceRoom : ℕ) where
         let z2 = passed-number (verdictOn order two) 3 _ e1 in
         let e2 : judge (seamChecks order one two stageRoom referenceRoom) .number ≡ 0 = ap (λ (v : Verdict). v .number) (sym (passed-accepts (verdictOn order two) 3 _ z2)) ∙ e1 in
         let ls = seam-laws in (
-          accepted-sound order one z1 .1,
-          accepted-sound order two z2 .1,
+          accepted-faultless order one z1 .1,
+          accepted-faultless order two z2 .1,
           record {
             counts = before 0 22 ls e2;
             cared = λ w i. not-false _ (λ q. clash (ap not q) (before 0 23 ls e2 w i 0 (omega arith)));
@@ -83,10 +83,10 @@ module _ (one two : Files) (stageRoom referenceRoom : ℕ) where
         )
 
   -- and there it does
-  pub fits-joined : Sound one → Sound two → Fits → (order : WordOrder) → judge (joinChecks order one two stageRoom referenceRoom) ≡ accepted
+  pub fits-joined : Faultless one → Faultless two → Fits → (order : WordOrder) → judge (joinChecks order one two stageRoom referenceRoom) ≡ accepted
   fits-joined a b h order =
-      passed-accepts (verdictOn order one) 0 _ (ap (λ (v : Verdict). v .number) (sound-accepted a order))
-      ∙ passed-accepts (verdictOn order two) 3 _ (ap (λ (v : Verdict). v .number) (sound-accepted b order)) ∙ whole-accepted h (seam-laws order)
+      passed-accepts (verdictOn order one) 0 _ (ap (λ (v : Verdict). v .number) (faultless-accepted a order))
+      ∙ passed-accepts (verdictOn order two) 3 _ (ap (λ (v : Verdict). v .number) (faultless-accepted b order)) ∙ whole-accepted h (seam-laws order)
 
   -- an answer of the first part is a word of the second, where the counts at the seam are equal
   cared-word : Sound one → length (stageIn one .outputs) ≡ stageIn two .inputs → (w : ℕ) → caresFor (stageIn two) (answerWord (referenceIn one) w) ≡ true → IsWord (stageIn two) (answerWord (referenceIn one) w)
@@ -128,7 +128,7 @@ module _ (order : WordOrder) (s1 r1 s2 r2 stage reference : List ℕ) (r : JoinA
             let f = fits (zero z) in (
               is ∙ all (zero z),
               subst₂ (λ (a b : List ℕ). Joined one two (files a b)) (sym (file-left _ stageLeft (whole one two .stage) stage s (zero z))) (sym (file-left _ referenceLeft (whole one two .reference) reference t (zero z)))
-                  (whole-joined s1 r1 s2 r2 (f .0) (f .1) (f .2 .counts) (λ w i. cared-word one two n m (f .0) (f .2 .counts) w (f .2 .cared w i))),
+                  (whole-joined s1 r1 s2 r2 (f .0 .0) (f .1 .0) (f .2 .counts) (λ w i. cared-word one two n m (f .0 .0) (f .2 .counts) w (f .2 .cared w i))),
             );
         accepts = λ j a b.
             let fit : Fits one two n m = record {
@@ -136,6 +136,6 @@ module _ (order : WordOrder) (s1 r1 s2 r2 stage reference : List ℕ) (r : JoinA
               cared = λ w i. and-right (ltb (answerWord (referenceIn one) w) (2 ^ stageIn two .inputs)) _ (j .cared w i);
               room = rw (le-ltb n (length (whole one two .stage)) a, le-ltb m (length (whole one two .reference)) b);
             } in
-            is ∙ fits-joined one two n m (accepted-sound order one (ap (λ (x : Verdict). x .number) (j .first-accepted)) .1) (accepted-sound order two (ap (λ (x : Verdict). x .number) (j .second-accepted)) .1) fit order;
+            is ∙ fits-joined one two n m (accepted-faultless order one (ap (λ (x : Verdict). x .number) (j .first-accepted)) .1) (accepted-faultless order two (ap (λ (x : Verdict). x .number) (j .second-accepted)) .1) fit order;
         either-order = λ other e. let f = fits (zero (ap (λ (x : Verdict). x .number) e)) in fits-joined one two n m (f .0) (f .1) (f .2) other;
       }

@@ -143,6 +143,10 @@ neither =
     files (inputs 2 ++ output 5 6 ++ output 1 0 ++ care 0 ++ care 3 ++ gate 2 0 2 ++ gate 2 1 3 ++ gate 2 4 0 ++ end)
     (inputs 2 ++ signal 2 ++ signal 2 ++ operate 6 0 1 ++ end)
 
+-- a wire, and a gate on both rails of its input, which never rises
+idle : Files
+idle = files (inputs 1 ++ gate 2 0 1 ++ output 0 1 ++ end) wireReference
+
 -- one input, and a gate more than `few` allows
 fiveGates : List ℕ
 fiveGates = inputs 1 ++ gate 1 0 1 ++ gate 1 0 1 ++ gate 1 0 1 ++ gate 1 0 1 ++ gate 1 0 1 ++ output 0 1 ++ end
@@ -216,6 +220,9 @@ joins =
     case (files wire wireReference) (files wire twoWiresReference) 0 0 (refusal 10 3 1 2) ∷
     case (files wire wireReference) (files wire (inputs 1 ++ signal 0 ++ signal 0 ++ end)) 0 0 (refusal 11 3 1 2) ∷
     case (files twoWires twoWiresReference) (files (not .stage) wireReference) 0 0 (refusal 13 4 0 0) ∷
+    -- the same of 32, before 22
+    case idle (files [] []) 0 0 (refusal 32 1 0 0) ∷
+    case (files twoWires twoWiresReference) idle 0 0 (refusal 32 4 0 0) ∷
     -- a gate more than a part may have
     case (files fiveGates wireReference) (files wire wireReference) 100 100 (refusal 6 1 42 0) ∷
     case (files wire wireReference) (files fiveGates wireReference) 100 100 (refusal 6 4 42 0) ∷
@@ -236,11 +243,11 @@ pub expected : List Case → List JoinResult
 expected cases = map (λ (i : Case). i .expected) cases
 
 pub computed : answers joins ≡ expected joins
-unfolding joins answers result expected wire wireReference twoWires twoWiresReference andOf and not cared either neither fiveGates fiveOperations
+unfolding joins answers result expected wire wireReference twoWires twoWiresReference andOf and not cared either neither idle fiveGates fiveOperations
     c.cells c.cellAt c.pinCount c.setExpression c.retiredCells c.among c.isRetired c.kindOf b.operand b.operands
     k.whenFound k.ownCommands k.commandTable k.formIn k.pinsNeeded k.needed k.stray k.misfit k.misfitFrom k.takeGate k.takeCare k.takeSort k.takeCommand k.nextAt
     r.names k.roleOf k.used r.nameless r.namelessAt r.namelessFrom r.floorAfter r.noted r.finish r.onNext r.readFrom r.readFile t.contentAt v.refusal e.first e.judge
-    l.numbers l.select l.some l.every l.ofBits l.reaches e.sweep o.rounds o.risen o.fallen o.reachesItself w.caresFor w.spelled w.names w.operate w.values w.answer
-    h.wrong h.incomplete h.highAnd h.unobservable h.fallIncomplete h.fallUnobservable h.looped h.retired h.checks n.rowFor n.command n.writeFile
-    netInWhole signalInWhole joinedBy j.seamChecks flatMap
+    l.numbers l.select l.some l.every l.ofBits l.reaches e.sweep o.rounds o.risen o.fallen o.reachesItself w.caresFor w.spelled w.names w.words w.operate w.values w.answer
+    h.wrong h.incomplete h.highAnd h.unobservable h.fallIncomplete h.fallUnobservable h.looped h.retired h.neverRises h.idle h.checks
+    n.rowFor n.command n.writeFile netInWhole signalInWhole joinedBy j.seamChecks flatMap
 computed = refl

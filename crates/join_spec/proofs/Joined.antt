@@ -29,7 +29,7 @@ use Rattle.check_spec.proofs.Names.{bit-of}
 use Rattle.check_spec.proofs.OneWord.{word-data, spells-bit}
 use Rattle.check_spec.proofs.View.{pipeline-reads}
 use Rattle.check_spec.proofs.Formed.{Formed, Small, read-formed, written-reads}
-use Rattle.check_spec.proofs.Sound.{Sound, Agrees, sound-from, sound-accepted, sound-kept}
+use Rattle.check_spec.proofs.Sound.{Sound, Agrees, sound-from, sound-answers, sound-kept}
 use Rattle.join_spec.specs.Joining.{joinedBy, netInWhole, joinedStage, joinedReference, whole, answerWord, Joined}
 use Rattle.join_spec.proofs.Whole.{RoomForTwo, outputs-length}
 use Rattle.join_spec.proofs.Series.{stage-named, whole-cast, in-series, stage-formed, whole-free}
@@ -134,7 +134,7 @@ module _ (s1 r1 s2 r2 : List ℕ) where
         conforms = λ w h. whole-conforms w h (cared w h);
       }
 
-      -- "the whole is accepted, and its runs obey everything said of a stage"
+      -- "the whole is accepted, and its runs obey everything said of a stage", "unless a gate never rises"
       pub whole-joined : Joined one two (whole one two)
       whole-joined =
           let small : Small stageLimits = record { words = omega arith; nets = omega arith } in
@@ -147,6 +147,6 @@ module _ (s1 r1 s2 r2 : List ℕ) where
             stage-is = s .1;
             reference-is = r .1;
             answers = λ bits j l. ap (λ (c : Content). answer c bits j) (r .1) ∙ answers bits j l;
-            whole-accepted = sound-accepted h;
+            whole-accepted = sound-answers h;
             kept = sound-kept h;
           }

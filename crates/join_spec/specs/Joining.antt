@@ -18,7 +18,7 @@ use Rattle.check_spec.specs.Rows.{netOf}
 use Rattle.check_spec.specs.Words.{caresFor, IsWord, answer}
 use Rattle.check_spec.specs.Checks.{swept}
 use Rattle.check_spec.specs.Verdicts.{verdictOn}
-use Rattle.check_spec.specs.Demands.{Judged, BothRead, Kept}
+use Rattle.check_spec.specs.Demands.{Judged, BothRead, Kept, AcceptedUnlessIdle}
 use Rattle.check_spec.specs.Writing.{writeFile, leaving}
 use Rattle.join_spec.specs.declared.JoinAnswer.{JoinAnswer}
 
@@ -75,14 +75,14 @@ joinChecks order one two stageRoom referenceRoom =
     passedOn (verdictOn order one) 0 ∷ passedOn (verdictOn order two) 3 ∷ seamChecks order one two stageRoom referenceRoom
 
 -- What is said of two files that are to be the whole: they read as defined, the reference answers what the second part answers to the answer of the
--- first, "the whole is accepted", in either order, "and its runs obey everything said of a stage".
+-- first, "the whole is accepted", in either order, "unless a gate never rises" (M-110), "and its runs obey everything said of a stage" in either case.
 pub record Joined (one two f : Files) : Type 0 where
   pub reads : BothRead f
   pub stage-is : stageIn f ≡ joinedStage one two
   pub reference-is : referenceIn f ≡ joinedReference one two
   pub answers : (bits : ℕ → Bool) (j : ℕ) → j < length (referenceIn two .outputs)
       → answer (referenceIn f) bits j ≡ answer (referenceIn two) (answer (referenceIn one) bits) j
-  pub whole-accepted : (order : WordOrder) → verdictOn order f ≡ accepted
+  pub whole-accepted : (order : WordOrder) → AcceptedUnlessIdle order f
   pub kept : (w : ℕ) → IsWord (stageIn f) w → Kept f w
 
 -- "both parts are accepted and every answer the first gives on its care words is a care word of the second", with equal counts at the seam

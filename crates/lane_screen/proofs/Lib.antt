@@ -7,4 +7,3 @@ pub mod Resting
 pub mod Hold
 pub mod Blocks
 pub mod Naming
-pub mod Care

@@ -1,7 +1,8 @@
 // Which words of a stage are suspect: in 64 words at a time, where an output is not the reference's DATA, and where a high net is not
-// acknowledged.
+// acknowledged. Beside it the least gate that rises in none of them.
 use lane_cells::CellLanes;
 use netlist::Counts;
+use netlist::Found;
 ghost use mathlib.Core.Path.{_≡_};
 ghost use mathlib.Core.Bool.{true, false};
 ghost use mathlib.Core.Logic.{_⊎_};
@@ -11,6 +12,8 @@ ghost use Rattle.runs.specs.Pair.{DataOf};
 ghost use Rattle.netlist.specs.Reading.{stageLimits};
 ghost use Rattle.verdict.specs.Words.{IsWord};
 ghost use Rattle.verdict.specs.Nets.{railOf};
+ghost use Rattle.verdict.specs.Search.{least};
+ghost use Rattle.verdict.specs.Checks.{neverRises};
 ghost use Rattle.lane_screen.specs.Hold.{WithHold};
 ghost use Rattle.circuit.specs.Stage.{netCount, outputIn, stageIn, StageLoaded};
 ghost use Rattle.circuit.specs.Order.{InOrder};
@@ -33,6 +36,12 @@ pub struct Masks {
     pub wrong: [u64; lane_settle::BLOCKS],
     pub rise: [u64; lane_settle::BLOCKS],
     pub fall: [u64; lane_settle::BLOCKS],
+}
+
+// What a stage shows where its words settle side by side: the words in which something may be wrong, and the least gate that never rises.
+pub struct Screened {
+    pub masks: Masks,
+    pub low: Found,
 }
 
 // ---- what is acknowledged
@@ -339,10 +348,12 @@ pub fn all_hold(code: &[u16], counts: Counts) -> bool
 }
 
 // The words of a stage that are suspect, by the reference. A block past those that its inputs make is named whole; where there are fewer than
-// six inputs, the lanes behind the last word repeat the words. For 20 and 21 all words are named where every gate has hold.
-pub fn screen(code: &[u16], counts: Counts, reference: &[u16], sizes: Counts) -> Masks
+// six inputs, the lanes behind the last word repeat the words. For 20 and 21 all words are named where every gate has hold. Beside them the least
+// gate that rises in no word of the stage.
+pub fn screen(code: &[u16], counts: Counts, reference: &[u16], sizes: Counts) -> Screened
     requires { ⌜ BothLoaded counts (now code) sizes (now reference) ⌝ }
-    ensures { λ r. ⌜ AllClean (stageIn counts (now (code .entry))) (referenceIn sizes (now (reference .entry))) r ⌝ }
+    ensures clean { λ r. ⌜ AllClean (stageIn counts (now (code .entry))) (referenceIn sizes (now (reference .entry))) (r .masks) ⌝ }
+    ensures low { λ r. ⌜ r .low ≡ least (neverRises (stageIn counts (now (code .entry)))) 0 (counts .gates) ⌝ }
 {
     let mut row = [0u64; circuit::ROW];
     let mut ack = [0u64; circuit::ROW];
@@ -350,6 +361,8 @@ pub fn screen(code: &[u16], counts: Counts, reference: &[u16], sizes: Counts) ->
     let mut wrong = [lane_cells::ALL; lane_settle::BLOCKS];
     let mut rise = [lane_cells::ALL; lane_settle::BLOCKS];
     let mut fall = [lane_cells::ALL; lane_settle::BLOCKS];
+    let mut rose = [0u64; netlist::STAGE_GATES];
+    let words = lane_rise::word_masks(code, counts);
     let hold = all_hold(code, counts);
     let count = lane_settle::block_count(counts.inputs);
     let mut b: usize = 0;
@@ -367,9 +380,14 @@ pub fn screen(code: &[u16], counts: Counts, reference: &[u16], sizes: Counts) ->
         wrong[b] = found.wrong;
         rise[b] = found.all;
         fall[b] = fall_block(hold, code, counts, &row, &mut ack);
+        lane_rise::note(&row, 2 * counts.inputs, counts.gates, words[b], &mut rose);
         b += 1;
     }
-    Masks { wrong, rise, fall }
+    let low = lane_rise::never_risen(&rose, counts.gates);
+    Screened {
+        masks: Masks { wrong, rise, fall },
+        low,
+    }
 }
 
 // Whether a mask names word w.

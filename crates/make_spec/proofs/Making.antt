@@ -40,7 +40,7 @@ use Rattle.check_spec.specs.Demands.{Pass, Judged}
 use Rattle.check_spec.specs.Writing.{leaving}
 use Rattle.check_spec.proofs.First.{judged}
 use Rattle.check_spec.proofs.Laws.{Laws, none, _&_, judge-later, before, whole-accepted, places-law, test-law}
-use Rattle.check_spec.proofs.Sound.{Sound, Agrees, reading-number, sound-from, sound-accepted, sound-kept}
+use Rattle.check_spec.proofs.Sound.{Sound, Agrees, reading-number, sound-from, sound-answers, sound-kept}
 use Rattle.check_spec.proofs.View.{pipeline-reads}
 use Rattle.check_spec.proofs.Formed.{Formed, netsOf, read-of, written-reads}
 use Rattle.check_spec.proofs.Back.{reference-content}
@@ -132,7 +132,7 @@ module _ (r : parsed.Reference) (formed : ReferenceFormed referenceLimits r) whe
         record {
           reads = h .read;
           stage-is = s .1 ∙ ap madeStage (sym is);
-          stage-accepted = sound-accepted h;
+          stage-accepted = sound-answers h;
           kept = sound-kept h;
           waits = rw (s .1, is) (λ w h. word-waits r formed w);
         }

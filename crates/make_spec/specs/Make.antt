@@ -20,8 +20,8 @@ use Rattle.check_spec.specs.Lists.{numbers, select, some, reaches}
 use Rattle.check_spec.specs.Content.{Content, Files, stageIn, referenceIn, contentOf, files}
 use Rattle.check_spec.specs.Rows.{noGate, netOf}
 use Rattle.check_spec.specs.Words.{railsFor, IsWord}
-use Rattle.check_spec.specs.Verdicts.{reading, verdictOn}
-use Rattle.check_spec.specs.Demands.{Judged, BothRead, Kept}
+use Rattle.check_spec.specs.Verdicts.{reading}
+use Rattle.check_spec.specs.Demands.{Judged, BothRead, Kept, AcceptedUnlessIdle}
 use Rattle.check_spec.specs.Writing.{writeFile, leaving}
 
 -- ---- the stage
@@ -140,12 +140,12 @@ pub record Waits (r : Content) (N : Net) (w : ℕ) : Type 0 where
   pub fall : (l : List ℕ) → RiseList N (railsFor w) l → RiseEnd N (railsFor w) l → (m : List ℕ) → FallList N (after low l) m
       → (net : ℕ) → after (after low l) m net ≡ false → fallStep N (after (after low l) m) net ≡ false
 
--- "Each stage so written is accepted against its reference", in either order of words, so that its runs obey everything said of an accepted stage; and
--- in every word its rails wait for their operands.
+-- "Each stage so written is accepted against its reference", in either order of words, "unless a gate never rises" (M-110); its runs obey everything
+-- said of an accepted stage in either case; and in every word its rails wait for their operands.
 pub record MadeFrom (f : Files) : Type 0 where
   pub reads : BothRead f
   pub stage-is : stageIn f ≡ madeStage (referenceIn f)
-  pub stage-accepted : (order : WordOrder) → verdictOn order f ≡ accepted
+  pub stage-accepted : (order : WordOrder) → AcceptedUnlessIdle order f
   pub kept : (w : ℕ) → IsWord (stageIn f) w → Kept f w
   pub waits : (w : ℕ) → IsWord (stageIn f) w → Waits (referenceIn f) (netOf (stageIn f)) w
 

@@ -100,6 +100,13 @@ readings =
     case (lines ("a" ∷ "a" ∷ "TH14 a_0,a_0,a_0,a_0,a_0 g" ∷ [])) 18 (refusal 29 1 2) ∷
     case (lines ("a" ∷ "a" ∷ "TH12  a_0,a_1 g" ∷ [])) 18 (refusal 29 1 2) ∷
     case (lines ("a" ∷ "a" ∷ "th12 a_0,a_1 g" ∷ [])) 18 (refusal 29 1 2) ∷
+    -- 29: a Register line and a C line
+    case (lines ("a" ∷ "q" ∷ "Register a,ki q,ko" ∷ [])) 18 (refusal 29 1 2) ∷
+    case (lines ("a" ∷ "a" ∷ "TH12 a_0,a_1 g" ∷ "C g,a_0 k" ∷ [])) 18 (refusal 29 1 3) ∷
+    -- a name of 16 characters, with pins and a net of 18; then a net of 19
+    case (lines ("a234567890123456" ∷ "a234567890123456" ∷ "TH12 a234567890123456_0,a234567890123456_1 n23456789012345678" ∷ [])) 18
+    (besideWire (1 ∷ 0 ∷ 0 ∷ 1 ∷ 0 ∷ 0xFF ∷ 0xFF ∷ 0xFF ∷ 0xFF ∷ [])) ∷
+    case (lines ("a" ∷ "a" ∷ "TH12 a_0,a_1 n234567890123456789" ∷ [])) 18 (refusal 29 1 2) ∷
     -- 30: an output with one rail driven only; a pin, at a later line than a name that is driven again
     case (lines ("a" ∷ "b" ∷ "TH12 a_0,a_1 b_0" ∷ [])) 18 (refusal 30 1 1) ∷
     case (lines ("a,a" ∷ "a" ∷ "TH12 a_0,b_1 g" ∷ [])) 18 (refusal 30 1 2) ∷
@@ -121,3 +128,17 @@ unfolding readings b.operand b.operands c.cells c.cellAt c.pinCount c.kindOf
     h.isName h.same h.cellName h.cellNamed h.kindNamed l.split l.isNamesLine l.gateLine l.isGateLine l.formed l.otherForm l.textOf
     f.net f.undriven f.drivenAgain f.fileOf f.unless f.unlessRefused f.ifRoom f.unlessMore f.fromText
 read-computed = refl
+
+-- so many gates, with nets g0, g1 and so on
+abbrev gateTexts : ℕ → List ℕ
+gateTexts count = ended (bytesOf "a" ∷ bytesOf "a" ∷ map (λ (i : ℕ). bytesOf "TH12 a_0,a_1 " ++ w.g i) (h.range 0 count))
+
+-- 6: a 257th gate
+pub gates-computed : fromText stageLimits 2643 (gateTexts 257) ≡ refusal 6 1 2562
+unfolding w.numbered b.operand b.operands c.cells c.cellAt c.pinCount c.kindOf
+    k.whenFound k.ownCommands k.commandTable k.formIn k.pinsNeeded k.needed k.stray k.misfit k.misfitFrom k.takeGate k.takeCare k.takeSort
+    k.takeCommand k.nextAt
+    r.names k.roleOf k.used r.nameless r.namelessAt r.namelessFrom r.floorAfter r.noted r.finish r.onNext r.readFrom r.readFile n.writeFile
+    h.isName h.same h.cellName h.cellNamed h.kindNamed l.split l.isNamesLine l.gateLine l.isGateLine l.formed l.otherForm l.textOf
+    f.net f.undriven f.drivenAgain f.fileOf f.unless f.unlessRefused f.ifRoom f.unlessMore f.fromText
+gates-computed = refl

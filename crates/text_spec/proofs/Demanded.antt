@@ -27,6 +27,7 @@ use Rattle.text_spec.specs.Call.{leaves, stageFrom, textFrom}
 use Rattle.text_spec.specs.Promises.{Stands, ReadDemand, WriteDemand}
 use Rattle.text_spec.proofs.RoundTrip.{text-read-again}
 use Rattle.text_spec.proofs.LeastLines.{least-lines}
+use Rattle.text_spec.proofs.LeastOutput.{least-output}
 use Rattle.text_spec.proofs.Stands.{text-stands}
 
 -- ---- a refusal has a number
@@ -116,4 +117,4 @@ module _ (stage buffer : List ℕ) (small : Bytes stage) (r : Answer) (after : L
           ∙ text-read-again stageLimits (omega arith) (omega arith) (omega arith) stage small p reads first u (length buffer) room is fits
 
   pub write-demanded : WriteDemand stage buffer r after
-  write-demanded = record { answer = e; back = back }
+  write-demanded = record { answer = e; least = least-output stage buffer r after e; back = back }

@@ -40,19 +40,19 @@ least-alike : (f g : ℕ → Bool) (n m : ℕ) → ((j : ℕ) → f j ≡ g j) �
 least-alike f g n m alike h = record { within = h .within; here = sym (alike m) ∙ h .here; lesser = λ j l. sym (alike j) ∙ h .lesser j l }
 
 -- a search that begins at line i finds line k
-record Finds (f : ℕ → Bool) (n i k : ℕ) : Type 0 where
-  place : ℕ
-  is : k ≡ i + place
-  found : LeastLine f n place
+pub record Finds (f : ℕ → Bool) (n i k : ℕ) : Type 0 where
+  pub place : ℕ
+  pub is : k ≡ i + place
+  pub found : LeastLine f n place
 
-finds-zero : (f : ℕ → Bool) (n i k : ℕ) → At i ≡ At k → f 0 ≡ true → Finds f (suc n) i k
+pub finds-zero : (f : ℕ → Bool) (n i k : ℕ) → At i ≡ At k → f 0 ≡ true → Finds f (suc n) i k
 finds-zero f n i k e z = let q : i ≡ k = cc in record { place = 0; is = omega (arith, q); found = least-zero f n z }
 
-finds-suc : (f g : ℕ → Bool) (n i k : ℕ) → f 0 ≡ false → ((j : ℕ) → g j ≡ f (suc j)) → Finds g n (suc i) k → Finds f (suc n) i k
+pub finds-suc : (f g : ℕ → Bool) (n i k : ℕ) → f 0 ≡ false → ((j : ℕ) → g j ≡ f (suc j)) → Finds g n (suc i) k → Finds f (suc n) i k
 finds-suc f g n i k z alike h =
     record { place = suc (h .place); is = omega (arith, h .is); found = least-suc f g n (h .place) z alike (h .found) }
 
-from-first : (f : ℕ → Bool) (n k : ℕ) → Finds f n 0 k → LeastLine f n k
+pub from-first : (f : ℕ → Bool) (n k : ℕ) → Finds f n 0 k → LeastLine f n k
 from-first f n k h = let q : h .place ≡ k = omega (arith, h .is) in subst (LeastLine f n) q (h .found)
 
 abbrev formlessAt : ℕ → List (List ℕ) → ℕ → Bool

@@ -13,4 +13,5 @@ pub mod Falls
 pub mod Refusals
 pub mod OneWord
 pub mod Rises
+pub mod Rising
 pub mod Written

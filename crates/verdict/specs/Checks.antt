@@ -14,9 +14,9 @@ use Rattle.verdict.specs.declared.Finding.{Finding}
 use Rattle.verdict.specs.declared.Finding.the-variants.{Fault, Passed}
 use Rattle.verdict.specs.Rows.{high, withNull, settled, settledHolding, pairIn, spells, allData, allNull}
 use Rattle.verdict.specs.Loops.{reachesItself}
-use Rattle.verdict.specs.Words.{numbers, bitsOf, railsIn, spelled, names}
+use Rattle.verdict.specs.Words.{numbers, words, bitsOf, railsIn, spelled, names}
 use Rattle.verdict.specs.Answers.{answer}
-use Rattle.verdict.specs.Nets.{outputPair}
+use Rattle.verdict.specs.Nets.{outputPair, restRow}
 use Rattle.verdict.specs.Falls.{fallenBut, fallenKeeping}
 use Rattle.verdict.specs.Retired.{retiredAt}
 
@@ -93,6 +93,20 @@ fallUnobservable s w =
     let row = settled (s .gates) (railsIn s w) in
     λ g. elim (high row (2 * s .inputs + g)) [ true ↦ allNull (fallenKeeping s w g) (s .outputs) | false ↦ false ]
 
+-- ---- 32, computed
+
+-- gate g is high at the rest of word w; it is low at the rest of each of some words
+abbrev pub highAt : Stage → ℕ → ℕ → Bool
+highAt s w g = restRow s w (2 * s .inputs + g)
+
+unfoldable pub lowIn : Stage → ℕ → List ℕ → Bool
+lowIn s g [] = true
+lowIn s g (w ∷ ws) = let later = lowIn s g ws in cond (highAt s w g) false later
+
+-- gate g rises in no care word
+abbrev pub neverRises : Stage → ℕ → Bool
+neverRises s g = lowIn s g (words s)
+
 -- ---- the tables
 
 abbrev pub unequal : ℕ → ℕ → ℕ → Check
@@ -103,6 +117,9 @@ looped s = check 12 1 (0 ∷ []) (numbers 0 (length (s .gates))) (λ w. reachesI
 
 abbrev pub retired : Stage → Check
 retired s = check 28 1 (0 ∷ []) (numbers 0 (length (s .gates))) (λ w. retiredAt (s .gates))
+
+abbrev pub idle : Stage → Check
+idle s = check 32 1 (0 ∷ []) (numbers 0 (length (s .gates))) (λ w. neverRises s)
 
 -- a check that sweeps the words of a stage by name: under a name it looks at the word which that spells
 abbrev pub sweeping : WordOrder → Stage → ℕ → ℕ → List ℕ → (ℕ → ℕ → Bool) → Check
@@ -125,14 +142,18 @@ fallSweeps order s r =
 abbrev pub sweeps : WordOrder → Stage → Reference → List Check
 sweeps order s r = riseSweeps order s r ++ fallSweeps order s r
 
--- all checks, in their order: those of the counts, of loops and of retired kinds, and those that sweep the words
+-- the checks that settle a stage in its words: those, and 32 after all others
+abbrev pub wordChecks : WordOrder → Stage → Reference → List Check
+wordChecks order s r = sweeps order s r ++ (idle s ∷ [])
+
+-- all checks, in their order: those of the counts, of loops and of retired kinds, and those that settle the stage in its words
 unfoldable pub checks : WordOrder → Stage → Reference → List Check
 checks order s r =
     unequal 10 (s .inputs) (r .inputs) ∷
     unequal 11 (length (s .outputs)) (length (r .outputs)) ∷
     looped s ∷
     retired s ∷
-    sweeps order s r
+    wordChecks order s r
 
 -- 17: a rail of input i is above 1, or both are 1
 unfoldable pub illegal : List ℕ → ℕ → Bool

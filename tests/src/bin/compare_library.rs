@@ -16,7 +16,9 @@ use fovaheju_tests::files::{
 };
 use fovaheju_tests::generate::made::MakeCase;
 use fovaheju_tests::generate::texts::TextCase;
-use fovaheju_tests::judge::{read_stage, WordOrder, ACCEPTED, ORDERS};
+use fovaheju_tests::judge::{
+    accepted_unless_a_gate_never_rises, read_stage, WordOrder, ACCEPTED, ORDERS,
+};
 use fovaheju_tests::library;
 use fovaheju_tests::make::Made;
 use fovaheju_tests::suite;
@@ -60,13 +62,16 @@ fn tell(what: &str, histogram: &Histogram, numbers: &[usize]) -> bool {
     lack.is_none()
 }
 
-/// The library's stage of a reference, which its check has to accept.
+/// The library's stage of a reference, which its check has to accept unless a gate never rises.
 fn made_and_checked(reference: &[u8], buffer: &mut [u8]) -> Made {
     let made = library::make_stage(reference, buffer);
     if made.verdict == ACCEPTED {
+        let file = &buffer[..made.len];
+        let stage = read_stage(file).expect("a stage that is written");
+        let expected = accepted_unless_a_gate_never_rises(&stage);
         for order in ORDERS {
-            let checked = CHECK(order, &buffer[..made.len], reference);
-            assert_eq!(checked, ACCEPTED, "a made stage is refused");
+            let checked = CHECK(order, file, reference);
+            assert_eq!(checked, expected, "a made stage is refused");
         }
     }
     made

@@ -2,10 +2,13 @@
 //! in turn. Of each seed the library draws a reference, makes a stage of it and checks the one against the other. The judge draws and makes
 //! beside it; the check, which takes it a thousand times as long, it does of some seeds only. Prints how the loads were answered. On a
 //! terminal it shows how far it has come.
-//! Fails at the first difference, and at the first answer that is neither 40 nor 0 0 0 0.
+//! Fails at the first difference, and at the first answer that is neither 40 nor 0 0 0 0, nor in the check 32 at the least gate that never rises.
 
 use fovaheju_tests::draw::{self, load_of, Load, TOO_MANY_OUTPUTS};
-use fovaheju_tests::judge::{check_in_order, Verdict, WordOrder, ACCEPTED, LIMITS};
+use fovaheju_tests::judge::{
+    accepted_unless_a_gate_never_rises, check_in_order, read_stage, Verdict, WordOrder, ACCEPTED,
+    LIMITS,
+};
 use fovaheju_tests::library;
 use fovaheju_tests::make::{self, Made};
 use std::fmt::Debug;
@@ -58,14 +61,24 @@ fn alike<T: PartialEq + Debug>(step: &str, library: T, judge: T) -> Result<T, St
     Err(format!("{step}: judge {judge:?}, library {library:?}"))
 }
 
-/// Takes one load through all three calls; answers whether it was accepted in all of them, or else is 40.
-fn take(load: &Load) -> Result<bool, String> {
+/// How a load was answered.
+#[derive(Clone, Copy, PartialEq, Eq)]
+enum Answer {
+    Accepted,
+    /// 32: drawn and made, but some gate of the stage never rises.
+    NeverRises,
+    /// 40.
+    ManyOutputs,
+}
+
+/// Takes one load through all three calls. What the check says of a stage that is made is known but for the judge's own settling.
+fn take(load: &Load) -> Result<Answer, String> {
     let mut judged = Written::default();
     let drawn = into(512, |buffer| library::draw_reference(load, buffer));
     judge_draw(load, &mut judged);
     let (verdict, reference) = alike("drawing", drawn, judged.clone())?;
     if verdict == TOO_MANY_OUTPUTS {
-        return Ok(false);
+        return Ok(Answer::ManyOutputs);
     }
     let made = into(4096, |buffer| library::make_stage(&reference, buffer));
     judge_make(&reference, &mut judged);
@@ -78,24 +91,27 @@ fn take(load: &Load) -> Result<bool, String> {
     } else {
         library::check(0, &stage, &reference)
     };
-    if [verdict, made, checked] == [ACCEPTED; 3] {
-        Ok(true)
-    } else {
-        Err(format!(
+    let known = || read_stage(&stage).map(|stage| accepted_unless_a_gate_never_rises(&stage));
+    match (verdict, made, checked) {
+        (ACCEPTED, ACCEPTED, ACCEPTED) => Ok(Answer::Accepted),
+        (ACCEPTED, ACCEPTED, [32, ..]) if known() == Ok(checked) => Ok(Answer::NeverRises),
+        _ => Err(format!(
             "drawing answers {verdict:?}, making {made:?}, the check {checked:?}"
-        ))
+        )),
     }
 }
 
-/// How many loads are accepted, and how many of these the judge checked too.
-fn run(seeds: u32) -> Result<(u32, u32), String> {
+/// How many loads are accepted, how many have 32, and how many of both the judge checked too.
+fn run(seeds: u32) -> Result<[u32; 3], String> {
     let shown = stderr().is_terminal();
-    let (mut accepted, mut by_both) = (0, 0);
+    let (mut accepted, mut never_rises, mut by_both) = (0, 0, 0);
     for seed in 0..seeds {
         let load = load_of(seed);
         let answer = take(&load).map_err(|what| format!("{load:?}: {what}"))?;
-        accepted += u32::from(answer);
-        by_both += u32::from(answer && seed.is_multiple_of(JUDGE_CHECKS));
+        accepted += u32::from(answer == Answer::Accepted);
+        never_rises += u32::from(answer == Answer::NeverRises);
+        let checked = answer != Answer::ManyOutputs;
+        by_both += u32::from(checked && seed.is_multiple_of(JUDGE_CHECKS));
         if shown && (seed % 512 == 0 || seed + 1 == seeds) {
             eprint!("\r{} of {seeds} loads", seed + 1);
             let _ = stderr().flush();
@@ -104,7 +120,7 @@ fn run(seeds: u32) -> Result<(u32, u32), String> {
     if shown {
         eprintln!();
     }
-    Ok((accepted, by_both))
+    Ok([accepted, never_rises, by_both])
 }
 
 fn main() -> ExitCode {
@@ -114,11 +130,11 @@ fn main() -> ExitCode {
         return ExitCode::from(2);
     };
     match run(seeds) {
-        Ok((accepted, by_both)) => {
-            let many_outputs = seeds - accepted;
-            println!("| Loads | Drawn, made a stage, and accepted | of these checked by the judge too | 40 | Other |");
-            println!("|---|---|---|---|---|");
-            println!("| {seeds} | {accepted} | {by_both} | {many_outputs} | 0 |");
+        Ok([accepted, never_rises, by_both]) => {
+            let many_outputs = seeds - accepted - never_rises;
+            println!("| Loads | Drawn, made a stage, and accepted | 32 in place of that | of both checked by the judge too | 40 | Other |");
+            println!("|---|---|---|---|---|---|");
+            println!("| {seeds} | {accepted} | {never_rises} | {by_both} | {many_outputs} | 0 |");
             ExitCode::SUCCESS
         }
         Err(what) => {

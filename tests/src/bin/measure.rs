@@ -6,14 +6,12 @@
 use fovaheju_tests::catalogue::xor_chain_reference;
 use fovaheju_tests::circuits::dual_rail;
 use fovaheju_tests::files::{examples_folder, load_example, write_pair, FilePair};
-use fovaheju_tests::judge::{
-    rails_of_word, read_stage, settle, Stage, Verdict, WordOrder, ACCEPTED, SET,
-};
+use fovaheju_tests::judge::{rails_of_word, read_stage, settle, Stage, Verdict, WordOrder, SET};
 use fovaheju_tests::library;
 use fovaheju_tests::suite::verdict_in;
 use std::sync::LazyLock;
 
-/// Stored examples, all accepted, from large to small.
+/// Stored examples, accepted or refused by 32 alone, which takes as long, from large to small.
 const EXAMPLES: [&str; 14] = [
     "timing-network",
     "timing-chain",
@@ -93,7 +91,8 @@ fn main() {
                 let proved = library::check(0, &pair.stage, &pair.reference);
                 let mut judged = [u64::MAX; 4];
                 judge_check(&pair, &mut judged);
-                assert_eq!((proved, judged), (ACCEPTED, ACCEPTED), "{name}");
+                assert_eq!(proved, judged, "{name}");
+                assert!(matches!(judged[0], 0 | 32), "{name}: {judged:?}");
             }
         }
         _ => {

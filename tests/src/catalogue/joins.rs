@@ -50,7 +50,7 @@ pub fn joints() -> Vec<Joint> {
             "half-adder-relaxed",
             "half-adder",
             "half-adders-joined",
-            "relaxed gates in the first part",
+            "relaxed gates in the first part; the whole has a gate that never rises, which the join does not look for",
         ),
         refused("half-adder", "full-adder", 22, "two outputs, three inputs"),
         refused(
@@ -61,9 +61,21 @@ pub fn joints() -> Vec<Joint> {
         ),
         refused(
             "half-adder",
-            "and-one-word",
+            "and-words-0-and-3",
             23,
-            "no answer is the one word cared for",
+            "the answers 1 and 2 are not among the words cared for",
+        ),
+        refused(
+            "constant-output",
+            "full-adder",
+            32,
+            "the first stage: a gate of it never rises, which comes before 22",
+        ),
+        refused(
+            "half-adder",
+            "and-one-word",
+            32,
+            "the second stage: a gate of it never rises, which comes before 23",
         ),
         refused(
             "and-incomplete",
@@ -275,8 +287,8 @@ pub fn parts_and_wholes() -> Vec<Example> {
     r.output(carry);
     add(
         "half-adders-joined",
-        "`half-adder-relaxed` and `half-adder` joined",
-        0,
+        "`half-adder-relaxed` and `half-adder` joined: both carries together never come",
+        32,
         &joined_stage(&relaxed, &s.stage),
         &joined_reference(&r.reference, &r.reference),
     );

@@ -44,7 +44,19 @@ fn accepted_part(random: &mut Random, size: Size) -> Part {
     }
 }
 
-/// An accepted first part with at most `most` outputs, some with a care list or relaxed gates.
+/// What is known of two parts that pass all checks before 32: a gate that never rises comes before
+/// all that is said of both, the first part's first.
+fn known_unless_low(first: &Part, second: Option<&Part>, known: Known) -> Known {
+    let parts = [(1, Some(first)), (4, second)];
+    let low = parts.into_iter().find_map(|(file, part)| {
+        let gate = least_gate_that_never_rises(&part?.0)?;
+        Some([32, file, gate as u64, 0])
+    });
+    low.map_or(known, Known::Verdict)
+}
+
+/// A first part with at most `most` outputs, some with a care list or relaxed gates, accepted unless
+/// a gate never rises.
 fn first_part(random: &mut Random, most: usize) -> Part {
     let (mut stage, reference) = loop {
         let size = size(random);
@@ -97,7 +109,8 @@ fn list_around(random: &mut Random, inputs: usize, wanted: &[u64]) -> Vec<u64> {
     }
 }
 
-/// An accepted second part of so many inputs that cares for the words of a list.
+/// A second part of so many inputs that cares for the words of a list, accepted unless a gate never
+/// rises.
 fn second_part(random: &mut Random, inputs: usize, care: Vec<u64>) -> Part {
     let (mut stage, reference) = match random.below(4) {
         0 if inputs <= 4 => {
@@ -160,6 +173,7 @@ fn join_of(
     [stage, reference]: [usize; 2],
     known: Known,
 ) -> GeneratedJoin {
+    let known = known_unless_low(first, Some(second), known);
     GeneratedJoin {
         family,
         case: JoinCase {
@@ -312,7 +326,7 @@ fn refused_first(random: &mut Random, seed: u64, index: u64) -> GeneratedJoin {
 fn refused_second(random: &mut Random, seed: u64, index: u64) -> GeneratedJoin {
     let first = first_part(random, 10);
     let second = pair(seed ^ 0x10F3, index);
-    let known = known_as_part(&second, true);
+    let known = known_unless_low(&first, None, known_as_part(&second, true));
     let (stage, reference) = (random.below(600), random.below(600));
     GeneratedJoin {
         family: "any second",
@@ -360,21 +374,16 @@ fn at_the_part_limits(random: &mut Random) -> GeneratedJoin {
         let gates = about(PART_LIMITS.stage_gates);
         let operations = about(PART_LIMITS.reference_gates);
         *part = filled(random, part.clone(), gates, operations);
-        let file = if part.0.gates.len() > PART_LIMITS.stage_gates {
-            1
+        // Gates before outputs: the one too many stands behind as many as there may be.
+        let refused = if part.0.gates.len() > PART_LIMITS.stage_gates {
+            Some((6, 1, 2 + 10 * PART_LIMITS.stage_gates))
         } else if part.1.gates.len() > PART_LIMITS.reference_gates {
-            2
+            Some((6, 2, 2 + 6 * PART_LIMITS.reference_gates))
         } else {
-            continue;
+            least_gate_that_never_rises(&part.0).map(|gate| (32, 1, gate))
         };
-        if known == Known::Verdict(ACCEPTED) {
-            // Gates before outputs: the one too many stands behind as many as there may be.
-            let at = if file == 1 {
-                2 + 10 * PART_LIMITS.stage_gates
-            } else {
-                2 + 6 * PART_LIMITS.reference_gates
-            };
-            known = Known::Verdict([6, file + 3 * which as u64, at as u64, 0]);
+        if let (Known::Verdict(ACCEPTED), Some((number, file, at))) = (known, refused) {
+            known = Known::Verdict([number, file + 3 * which as u64, at as u64, 0]);
         }
     }
     let room = room(random, lengths(&parts[0], &parts[1]));
@@ -395,8 +404,18 @@ fn at_the_part_limits(random: &mut Random) -> GeneratedJoin {
     }
 }
 
-/// Join number `index` of a seed.
+/// Join number `index` of a seed. Most of those that are known to have 32 are another one instead.
 pub fn join_case(seed: u64, index: u64) -> GeneratedJoin {
+    let random = &mut Random::new(seed ^ 0x1032, index);
+    let mut generated = any_join(seed, index);
+    while matches!(generated.known, Known::Verdict([32, ..])) && random.chance(7, 8) {
+        generated = any_join(random.number(), index);
+    }
+    generated
+}
+
+/// Join number `index` of a seed.
+pub fn any_join(seed: u64, index: u64) -> GeneratedJoin {
     let random = &mut Random::new(seed ^ 0x901A, index);
     match random.below(100) {
         0..=49 => fitting(random),

@@ -4,10 +4,10 @@
 //! hand from document 01.
 
 use crate::catalogue::{
-    care_examples, examples_of_document_01, pair_examples, relaxed_examples, retired_examples,
-    Example, MARKED,
+    care_examples, examples_of_document_01, low_examples, pair_examples, relaxed_examples,
+    retired_examples, Example, MARKED,
 };
-use crate::circuits::{kind_named, ReferenceBuilder, Signal, StageBuilder};
+use crate::circuits::{dual_rail, kind_named, ReferenceBuilder, Signal, StageBuilder};
 use crate::files::{
     care_word, file_of, reference_gate, reference_output, unhex, write_pair, FilePair,
 };
@@ -136,6 +136,8 @@ pub fn cases() -> Vec<Case> {
     stored_examples(&mut cases, retired_examples());
     refusals_of_the_stage(&mut cases, row::retired_cases());
     retired_kinds(&mut cases);
+    stored_examples(&mut cases, low_examples());
+    gates_that_never_rise(&mut cases);
     cases.0
 }
 
@@ -702,6 +704,7 @@ fn unobservable_stages(cases: &mut Cases) {
         let outputs: Vec<Vec<u8>> = (0..inputs).map(signal).collect();
         let verdict = match (at, word) {
             (Some(at), word) => [15, STAGE, at, word],
+            _ if about.starts_with("32") => [32, STAGE, 0, 0],
             _ => ACCEPTED,
         };
         let reference = file_of(inputs, &outputs);
@@ -780,7 +783,7 @@ fn unobservable_stages(cases: &mut Cases) {
         960,
     );
     idle(
-        "a gate that rises in no word",
+        "32: a gate that rises in no word",
         1,
         &[gate(TH22, &[0, 1])],
         [0, 1],
@@ -937,6 +940,10 @@ fn generated(cases: &mut Cases) {
     for index in 0..160 {
         let generated = generate::pair_of_document_01(2026, index);
         let known = generate::known_with_retired(&generated);
+        let known = generate::known_with_low_gates(&generate::Generated {
+            known,
+            ..generated.clone()
+        });
         if generated
             .pair
             .stage
@@ -1009,8 +1016,9 @@ fn care_words(cases: &mut Cases) {
         file_of(2, &commands)
     };
     let zero = file_of(2, &[op(XOR, &[0, 0]), signal(2), signal(1)]);
-    cases.add("0 in words 0 and 2", &constant(&[0, 2]), &zero, ACCEPTED);
-    cases.add("0 in word 2 alone", &constant(&[2]), &zero, ACCEPTED);
+    let low = [32, STAGE, 0, 0];
+    cases.add("32: 0 in words 0 and 2", &constant(&[0, 2]), &zero, low);
+    cases.add("32: 0 in word 2 alone", &constant(&[2]), &zero, low);
     cases.add(
         "13: 0 in words 1 and 3, the least cared for is 3",
         &constant(&[0, 3]),
@@ -1043,10 +1051,10 @@ fn care_words(cases: &mut Cases) {
     };
     let and_reference = file_of(2, &[op(AND, &[0, 1]), signal(2)]);
     cases.add(
-        "AND by TH12, only word 3 cared for",
+        "32: AND by TH12, only word 3 cared for",
         &and(&[3]),
         &and_reference,
-        ACCEPTED,
+        [32, STAGE, 0, 0],
     );
     cases.add(
         "14: AND by TH12, words 1 and 3: only input 1 may be missing in word 1",
@@ -1088,10 +1096,10 @@ fn care_words(cases: &mut Cases) {
         file_of(1, &commands)
     };
     cases.add(
-        "an idle gate that rises in no word cared for",
+        "32: an idle gate that rises in no word cared for",
         &one_idle(&[0]),
         &wire_reference(),
-        ACCEPTED,
+        [32, STAGE, 0, 0],
     );
     cases.add(
         "15: the same with both words",
@@ -1182,8 +1190,8 @@ fn relaxed_kinds(cases: &mut Cases) {
         (vec![], R, R, [20, STAGE, 0, 0]),
         (vec![3], R, R, [20, STAGE, 0, 3]),
         (vec![1, 3], R, R, [20, STAGE, 0, 1]),
-        (vec![0, 1, 2], R, 0, ACCEPTED),
-        (vec![3], 0, R, ACCEPTED),
+        (vec![0, 1, 2], R, 0, [32, STAGE, 0, 0]),
+        (vec![3], 0, R, [32, STAGE, 1, 0]),
         (vec![2, 3], R, 0, [20, STAGE, 0, 3]),
     ] {
         let about = format!("20: AND, rails relaxed {first} {second}, care list {list:?}");
@@ -1268,8 +1276,8 @@ fn relaxed_kinds(cases: &mut Cases) {
         (vec![], R, R, R, [21, STAGE, 0, 0]),
         (vec![], 0, R, 0, [21, STAGE, 0, 0]),
         (vec![], 0, 0, R, [21, STAGE, 0, 1]),
-        (vec![1], 0, R, 0, ACCEPTED),
-        (vec![0], 0, 0, R, ACCEPTED),
+        (vec![1], 0, R, 0, [32, STAGE, 1, 0]),
+        (vec![0], 0, 0, R, [32, STAGE, 2, 0]),
         (vec![1], 0, R, R, [21, STAGE, 0, 1]),
     ] {
         let about = format!(
@@ -1453,4 +1461,75 @@ fn retired_kinds(cases: &mut Cases) {
         &wire_reference(),
         [28, STAGE, 0, 0],
     );
+}
+
+/// 32: the least gate that rises in no care word, after all other checks.
+fn gates_that_never_rise(cases: &mut Cases) {
+    let low = || gate(TH22, &[0, 1]);
+    let mut one = |about: &str, gates: &[Vec<u8>], verdict| {
+        let commands = [gates, &[through(0)]].concat();
+        cases.add(about, &file_of(1, &commands), &wire_reference(), verdict);
+    };
+    one("32: gate 0 of two", &[low(), low()], [32, STAGE, 0, 0]);
+    let idle = || gate(TH12, &[0, 1]);
+    one("15 before 32", &[low(), idle()], [15, STAGE, 1, 0]);
+    one(
+        "15 before 32, the other way round",
+        &[idle(), low()],
+        [15, STAGE, 0, 0],
+    );
+    one(
+        "12 before 32",
+        &[low(), gate(TH12, &[3, 0])],
+        [12, STAGE, 1, 0],
+    );
+    // Rail 1 of the output is a gate that is low in word 0.
+    for (about, list, verdict) in [
+        ("a gate that rises in word 1", vec![], ACCEPTED),
+        (
+            "a gate that rises in the last word cared for",
+            vec![0, 1],
+            ACCEPTED,
+        ),
+        (
+            "a gate that rises in the one word cared for",
+            vec![1],
+            ACCEPTED,
+        ),
+        (
+            "32: a gate that rises in word 1 alone, word 0 cared for",
+            vec![0],
+            [32, STAGE, 0, 0],
+        ),
+    ] {
+        let mut commands: Vec<Vec<u8>> = list.iter().map(|&word| care_word(word)).collect();
+        commands.extend([gate(TH12, &[1, 1]), output(0, 2)]);
+        cases.add(about, &file_of(1, &commands), &wire_reference(), verdict);
+    }
+    // The conjunction of all inputs rises in the last word alone, about the blocks of 64 words.
+    for inputs in [5, 6, 7, 10] {
+        let mut r = ReferenceBuilder::new(inputs);
+        let all = (1..inputs).fold(0, |all, input| r.gate(AND, &[all, input]));
+        r.output(all);
+        let last = (1 << inputs) - 1;
+        let lists: [(&str, Vec<u64>, u64); 6] = [
+            ("every word", vec![], 0),
+            ("all but the last", (0..last).collect(), 32),
+            ("the last alone", vec![last], 32),
+            ("the first and the last", vec![0, last], 0),
+            ("the last two", vec![last - 1, last], 0),
+            ("the first alone", vec![0], 32),
+        ];
+        for (about, care, number) in lists {
+            let stage = Stage {
+                care,
+                ..dual_rail(&r.reference)
+            };
+            cases.push(
+                format!("{number}: AND of {inputs} inputs, cared for: {about}"),
+                write_pair(&stage, &r.reference),
+                Known::Number(number),
+            );
+        }
+    }
 }

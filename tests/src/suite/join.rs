@@ -10,7 +10,7 @@ use crate::files::{
     care_word, file_of, reference_output, stage_output, unhex, write_reference, write_stage,
     FilePair,
 };
-use crate::generate::joins::{join_case, JoinCase};
+use crate::generate::joins::{any_join, JoinCase};
 use crate::generate::Known;
 use crate::join::{join_in_order, PART_LIMITS};
 use crate::judge::{
@@ -420,7 +420,7 @@ fn part_limits(cases: &mut Cases) {
 /// Generated joins of few bytes, of the families that are made for joins.
 fn generated(cases: &mut Cases) {
     for index in 0..80 {
-        let generated = join_case(2026, index);
+        let generated = any_join(2026, index);
         let case = generated.case;
         let longest = case.stage.len().max(case.reference.len());
         if !generated.family.starts_with("any") && longest <= 400 {

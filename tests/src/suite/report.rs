@@ -3,7 +3,8 @@
 //! What a case prints is also written by hand where it is short.
 
 use crate::catalogue::{
-    care_examples, examples_of_document_01, relaxed_examples, retired_examples, Example, MARKED,
+    care_examples, examples_of_document_01, low_examples, relaxed_examples, retired_examples,
+    Example, MARKED,
 };
 use crate::circuits::{ReferenceBuilder, Signal, StageBuilder};
 use crate::files::{unhex, write_pair, FilePair};
@@ -68,6 +69,7 @@ pub fn cases() -> Vec<Case> {
     care_words(&mut cases);
     stored_examples(&mut cases, relaxed_examples());
     stored_examples(&mut cases, retired_examples());
+    stored_examples(&mut cases, low_examples());
     cases.0
 }
 
@@ -172,17 +174,13 @@ fn care_words(cases: &mut Cases) {
     };
     add(3, &[0, 5, 6], Some("0:0 5:4 6:5 total 9"));
     add(3, &[7], Some("7:6 total 6"));
-    add(3, &[0], Some("0:0 total 0"));
+    add(3, &[0], Some("32 1 0 0"));
     let all: Vec<u64> = (0..8).collect();
     add(3, &all, Some("0:0 1:1 2:2 3:3 4:3 5:4 6:5 7:6 total 24"));
     add(3, &[8], Some("18 1 3 0"));
     add(3, &[1, 1], Some("19 1 6 0"));
     add(10, &[1023], Some("1023:55 total 55"));
-    add(
-        10,
-        &[512, 1000, 1001],
-        Some("512:10 1000:44 1001:45 total 99"),
-    );
+    add(10, &[512, 1000, 1001], Some("32 1 1 0"));
     let all: Vec<u64> = (0..1024).collect();
     add(10, &all, None);
     let odd: Vec<u64> = (0..1024).filter(|word| word % 2 == 1).collect();

@@ -10,7 +10,9 @@ use Rattle.call_join.proofs.join_loaded.Statement.{statement}
 use Rattle.call_join.proofs.join_loaded.Tie as tie
 
 uncared-requires : tie.Need-uncared-requires
-uncared-requires c κs = let z = c .before .before .before .before .before .before .before .before .before .before .before .before .before in (z .pre .stage1-loaded, z .pre .reference1-loaded, z .pre .stage2-loaded)
+uncared-requires c κs =
+    let z = c .before .before .before .before .before .before .before .before .before .before .before .before .before in
+    (z .pre .stage1-loaded, z .pre .reference1-loaded, z .pre .stage2-loaded, omega (arith, z .pre .outputs, c .if1 .left))
 
 stage-length-requires : tie.Need-stage-length-requires
 stage-length-requires c κs = let z = c .before .before .before .before .before .before .before .before .before .before .before .before .before .before .before .before in

@@ -4,7 +4,7 @@ use native.Mathlib.Omega.{arith}
 use denote.Ref.{now}
 use borrow.Author.Needs.{needs}
 use Rattle.lane_screen.specs.Suspects.{Unnamed}
-use Rattle.lane_screen.proofs.Care.{all-words, care-words}
+use Rattle.lane_rise.proofs.Care.{all-words, care-words}
 use Rattle.lane_screen.proofs.none_named.Statement.{statement}
 use Rattle.lane_screen.proofs.none_named.Tie as tie
 

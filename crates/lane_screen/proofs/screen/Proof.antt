@@ -1,36 +1,44 @@
--- `lane_screen::screen` meets its contract. The loop's invariant: what the masks do not name has no fault; at first they name all words. Assumes nothing.
-use Prim.Native.Nat.{_-_}
+-- `lane_screen::screen` meets its contract. The loop's invariant: what the masks do not name has no fault, where at first they
+-- name all words; and the gates of the blocks before b are noted. Assumes nothing.
+use Prim.Native.Nat.{_-_, _*_, _^_, _≤_}
 use native.Mathlib.Omega.{arith}
 use mathlib.Core.Path.{refl, sym, _∙_}
 use denote.Ref.{now}
 use Rattle.circuit.specs.Stage.{stageIn}
 use Rattle.circuit.specs.Reference.{referenceIn}
+use Rattle.lane_rise.specs.Rising.{NotedTo}
+use Rattle.lane_rise.proofs.Noting.{noted-start, noted-more, noted-all}
 use Rattle.lane_screen.specs.Marks.{Workspace}
 use Rattle.lane_screen.specs.Suspects.{AllClean}
-use Rattle.circuit.proofs.Settling.{low-row}
+use Rattle.circuit.proofs.Settling.{length-stageGates, low-row}
 use Rattle.lane_screen.proofs.Blocks.{fall-complete, fall-observable}
 use Rattle.lane_screen.proofs.Naming.{masksOf, all-clean-start, all-clean-more}
 use Rattle.lane_screen.proofs.screen.Statement.{statement}
 use Rattle.lane_screen.proofs.screen.Tie as tie
 
 abbrev Inv-loop : tie.InvT-loop
-Inv-loop code counts reference sizes row₀ ack₀ values₀ wrong₀ rise₀ fall₀ hold count b₀ row ack values wrong rise fall b =
+Inv-loop code counts reference sizes row₀ ack₀ values₀ wrong₀ rise₀ fall₀ rose₀ words hold count b₀ row ack values wrong rise fall rose b =
     Workspace counts row ack values × AllClean (stageIn counts code) (referenceIn sizes reference) (masksOf wrong rise fall)
+    × NotedTo counts code words rose b
 
 abbrev μ-loop : tie.MeasureT-loop
-μ-loop code counts reference sizes row₀ ack₀ values₀ wrong₀ rise₀ fall₀ hold count b₀ row ack values wrong rise fall b = count - b
+μ-loop code counts reference sizes row₀ ack₀ values₀ wrong₀ rise₀ fall₀ rose₀ words hold count b₀ row ack values wrong rise fall rose b = count - b
+
+word-masks-requires : tie.Need-word-masks-requires Inv-loop μ-loop
+word-masks-requires c κs = c .before .before .pre .stage
 
 all-hold-requires : tie.Need-all-hold-requires Inv-loop μ-loop
-all-hold-requires c κs = c .before .before .pre .stage
+all-hold-requires c κs = c .before .before .before .pre .stage
 
 block-count-requires : tie.Need-block-count-requires Inv-loop μ-loop
-block-count-requires c κs = c .before .before .before .pre .stage .within .inputs-in
+block-count-requires c κs = c .before .before .before .before .pre .stage .within .inputs-in
 
 loop-holds : tie.Need-loop-holds Inv-loop μ-loop
 loop-holds c =
-    let z = c .before .before .before .before in (
+    let z = c .before .before .before .before .before in (
       record { row-long = refl; ack-long = refl; values-long = refl; ground = low-row (z .args .counts) (z .pre .stage .within) .ground },
       all-clean-start (stageIn (z .args .counts) (now (z .args .code))) (referenceIn (z .args .sizes) (now (z .args .reference))) 16,
+      noted-start (z .args .counts) (now (z .args .code)) (c .before .before .word-masks .result),
     )
 
 slice-aggregate-rise-block : tie.Need-slice-aggregate-rise-block Inv-loop μ-loop
@@ -43,7 +51,7 @@ slice-aggregate-rise-block-3 : tie.Need-slice-aggregate-rise-block-3 Inv-loop μ
 slice-aggregate-rise-block-3 c = sym (c .before .before .before .before .loop .inv .0 .values-long)
 
 rise-block-requires : tie.Need-rise-block-requires Inv-loop μ-loop
-rise-block-requires c κs = (c .before .before .before .before .before .before .before .before .before .pre, c .before .before .before .before .loop .inv .0)
+rise-block-requires c κs = (c .before .before .before .before .before .before .before .before .before .before .pre, c .before .before .before .before .loop .inv .0)
 
 array-write-wrong : tie.Need-array-write-wrong Inv-loop μ-loop
 array-write-wrong c = omega (arith, c .before .before .before .before .before .before .before .before .before .block-count .ensures .0)
@@ -59,10 +67,11 @@ slice-aggregate-fall-block-2 c = sym (c .before .before .before .before .before 
 
 fall-block-requires : tie.Need-fall-block-requires Inv-loop μ-loop
 fall-block-requires c κs =
-    let s = c .before .before .before .before .before .before .before .before .before .before .before .before .before .before .before .pre .stage in
+    let z = c .before .before .before .before .before .before .before .before .before .before .before .before .before .before .before .before in
+    let s = z .pre .stage in
     let space = c .before .before .before .before .before .rise-block .ensures .0 in (
       s,
-      c .before .before .before .before .before .before .before .before .before .before .before .before .before .before .before .pre .ordered,
+      z .pre .ordered,
       omega (arith, space .row-long, s .within .inputs-in, s .within .gates-in),
       omega (arith, space .ack-long, s .within .inputs-in, s .within .gates-in),
     )
@@ -70,12 +79,34 @@ fall-block-requires c κs =
 array-write-fall : tie.Need-array-write-fall Inv-loop μ-loop
 array-write-fall c = omega (arith, c .before .before .before .before .before .before .before .before .before .before .before .before .before .block-count .ensures .0)
 
+slice-aggregate-note : tie.Need-slice-aggregate-note Inv-loop μ-loop
+slice-aggregate-note c = sym (c .before .before .before .before .before .before .before .before .rise-block .ensures .0 .row-long)
+
+mul-note : tie.Need-mul-note Inv-loop μ-loop
+mul-note c = omega (arith, c .before .before .before .before .before .before .before .before .before .before .before .before .before .before .before .before .before .before .before .before .pre .stage .within .inputs-in)
+
+mul-note-2 : tie.Need-mul-note-2 Inv-loop μ-loop
+mul-note-2 c = omega (arith, c .before .before .before .before .before .before .before .before .before .before .before .before .before .before .before .block-count .ensures .0)
+
+array-read-note : tie.Need-array-read-note Inv-loop μ-loop
+array-read-note c = omega (arith, c .before .before .before .before .before .before .before .before .before .before .before .before .before .before .before .block-count .ensures .0)
+
+slice-aggregate-note-2 : tie.Need-slice-aggregate-note-2 Inv-loop μ-loop
+slice-aggregate-note-2 c = sym (c .before .before .before .before .before .before .before .before .before .before .before .before .before .before .before .loop .inv .2 .long)
+
+note-requires : tie.Need-note-requires Inv-loop μ-loop
+note-requires c κs =
+    let s = c .before .before .before .before .before .before .before .before .before .before .before .before .before .before .before .before .before .before .before .before .before .pre .stage .within in
+    let space = c .before .before .before .before .before .before .before .before .before .before .rise-block .ensures .0 in
+    (omega (arith, space .row-long, s .inputs-in, s .gates-in), omega (arith, c .before .before .before .before .before .before .before .before .before .before .before .before .before .before .before .loop .inv .2 .long, s .gates-in))
+
 loop-again : tie.Need-loop-again Inv-loop μ-loop
 loop-again c =
-    let z = c .before .before .before .before .before .before .before .before .before .before .before .before .before .before .before .before .before in
-    let l = c .before .before .before .before .before .before .before .before .before .before .before .before .loop in
-    let up = c .before .before .before .before .before .before .before .rise-block in
-    let down = c .before .fall-block in
+    let z = c .before .before .before .before .before .before .before .before .before .before .before .before .before .before .before .before .before .before .before .before .before .before .before in
+    let masks = c .before .before .before .before .before .before .before .before .before .before .before .before .before .before .before .before .before .before .before .before .word-masks in
+    let l = c .before .before .before .before .before .before .before .before .before .before .before .before .before .before .before .before .before .loop in
+    let up = c .before .before .before .before .before .before .before .before .before .before .before .before .rise-block in
+    let down = c .before .before .before .before .before .before .fall-block in
     let code = now (z .args .code) in
     let s = stageIn (z .args .counts) code in
     let r = referenceIn (z .args .sizes) (now (z .args .reference)) in
@@ -85,10 +116,26 @@ loop-again c =
       all-clean-more s r (l .wrong) (l .rise) (l .fall) (l .b) (up .result) (down .result) (l .inv .1) (up .ensures .1 .1)
           (fall-complete (z .args .counts) code (z .pre .ordered) r (l .b) (down .result) words)
           (fall-observable (z .args .counts) code (z .pre .ordered) r (l .b) (down .result) words),
+      noted-more (z .args .counts) code (masks .result) (masks .ensures) (l .rose) (l .b) (l .inv .2) _ _ (up .ensures .1 .0) (c .before .note .ensures),
     )
 
+slice-aggregate-never-risen : tie.Need-slice-aggregate-never-risen Inv-loop μ-loop
+slice-aggregate-never-risen c = sym (c .before .before .loop .inv .2 .long)
+
+never-risen-requires : tie.Need-never-risen-requires Inv-loop μ-loop
+never-risen-requires c κs = omega (arith, c .before .before .loop .inv .2 .long, c .before .before .before .before .before .before .before .before .pre .stage .within .gates-in)
+
 returns : tie.Need-returns Inv-loop μ-loop
-returns c = c .before .loop .inv .1
+returns c =
+    let z = c .before .before .before .before .before .before .before .before .before in
+    let masks = c .before .before .before .before .before .before .word-masks in
+    let l = c .before .before .before .loop in
+    let code = now (z .args .code) in
+    let all : 2 ^ z .args .counts .inputs ≤ 64 * l .b = omega (arith, c .before .before .before .before .block-count .ensures .1) in (
+      l .inv .1,
+      c .never-risen .ensures (stageIn (z .args .counts) code) (length-stageGates (z .args .counts) code)
+          (noted-all (z .args .counts) code (masks .result) (masks .ensures) (l .rose) (l .b) (l .inv .2) all),
+    )
 
 pub screen-spec : {M : Type 1} → statement M
 screen-spec =
@@ -96,6 +143,7 @@ screen-spec =
     (tie.spec
     Inv-loop
     μ-loop
+    word-masks-requires
     all-hold-requires
     block-count-requires
     loop-holds
@@ -112,7 +160,15 @@ screen-spec =
     fall-block-requires
     (λ c. omega arith)
     array-write-fall
+    slice-aggregate-note
+    mul-note
+    mul-note-2
+    array-read-note
+    slice-aggregate-note-2
+    note-requires
     (λ c. omega arith)
     (λ c. omega arith)
     loop-again
+    slice-aggregate-never-risen
+    never-risen-requires
     returns)

@@ -1,0 +1,5 @@
+pub mod Never
+pub mod Lanes
+pub mod Care
+pub mod Listing
+pub mod Noting
