@@ -1,4 +1,5 @@
 pub mod Search
+pub mod Carrying
 pub mod Noting
 pub mod WholeFile
 pub mod Room

@@ -7,9 +7,11 @@ use native.Mathlib.Nat.{mul-le-mul-right}
 use lib.Pow.{pow-mono}
 use mathlib.Core.Path.{_≡_, refl, sym, ap, ap₂, subst, _∙_}
 use mathlib.Core.Bool.{Bool, true, false, cond}
-use mathlib.Core.List.{List, map}
+use mathlib.Core.List.{List, [], _∷_, map}
 use lib.ListN.{length}
 use lib.Dec.{eqb, ltb}
+use types.Run.{OneOf}
+use denote.Enum.Declared.{tagOf}
 use borrow.Author.Tests.{lt-ltb, le-ltb, eq-eqb, ne-eqb}
 use Rattle.netlist.specs.declared.File.{File}
 use Rattle.netlist.specs.declared.File.the-variants as file
@@ -24,11 +26,14 @@ use Rattle.netlist.specs.declared.Found.{Found}
 use Rattle.netlist.specs.declared.Found.the-variants.{At, Nothing}
 use Rattle.netlist.specs.Bytes.{byte, operand}
 use Rattle.netlist.specs.Commands.{whenFound, isSort, formOf, width, stray, nextAt}
-use Rattle.netlist.specs.Reading.{namelessFrom, Places, noPlaces, floorAfter, countOf, sortsOf, countsOf, netsOf, Reading, refused, readable, finish, onNext, readFrom, readFile}
+use Rattle.netlist.specs.Reading.{namelessFrom, Places, floorAfter, countOf, sortsOf, countsOf, netsOf, Reading, refused, readable, finish, onNext, readFrom, readFile}
 use Rattle.netlist.specs.Writing.{Has, commandByte, widthFor}
-use Rattle.read_file.specs.Files.{partNoted, netsWith, Follow, FilledTo, Countable, mostCare, RoomFor, standing, Placed, RoomOf, Notable, NotedIn}
+use Rattle.read_file.specs.Files.{partNoted, netsWith, Follow, FilledTo, Countable, mostCare, firstPart, RoomFor, standing, Placed, RoomOf, Notable, NotedIn}
 use Rattle.netlist.proofs.Encoding.{reference-careless, clash, care-form, width-in, width-inputs, width-end}
+use Rattle.netlist.proofs.Sort.{the-type}
+use Rattle.read_command.proofs.Arms.{arm}
 use Rattle.netlist.proofs.OneCommand.{There, next-there}
+use Rattle.read_file.proofs.Noting.{counts}
 use Rattle.netlist.proofs.Walk.{care-taken, Near, near-start, near-far, near-noted}
 
 -- where a file has care words, there may be as many as words of its inputs
@@ -115,7 +120,7 @@ pub record Walking (f : File) (most : Limits) (s : List ℕ) (long : ℕ) (place
   pub enough : length s < at + fuel
   pub same : readFile f most s ≡ readFrom fuel f most s at (standing most places c)
 
-pub walk-starts : (f : File) (most : Limits) (s places : List ℕ) → Walking f most s (length places) places 0 (countsOf noPlaces)
+pub walk-starts : (f : File) (most : Limits) (s places : List ℕ) → Walking f most s (length places) places 0 (counts 0 0 0 0 0 0 0)
 unfolding readFile floorAfter countOf
 walk-starts f most s places = record {
   within = omega arith;
@@ -132,20 +137,17 @@ walk-starts f most s places = record {
 pub read-as : {x : Next} {c c′ : Sort} {next : Cursor} → x ≡ Command c next → c ≡ c′ → x ≡ Command c′ next
 read-as {next} e told = e ∙ ap (λ (y : Sort). Command y next) told
 
--- a command that is not the end command goes on
-more-after : (k : Sort) → (k ≡ sort.End → ⊥) → isSort sort.End k ≡ false
-more-after sort.End more = absurd (more refl)
-more-after sort.Inputs more = refl
-more-after sort.Gate more = refl
-more-after sort.Output more = refl
-more-after sort.Care more = refl
-more-after sort.Register more = refl
-more-after sort.Element more = refl
-more-after sort.Unknown more = refl
+-- the code's test for the end command
+pub goes-on : (k : Sort) → OneOf (1 ∷ 2 ∷ 3 ∷ 4 ∷ 5 ∷ 6 ∷ 7 ∷ []) (tagOf the-type k) → isSort sort.End k ≡ false
+goes-on = arm (1 ∷ 2 ∷ 3 ∷ 4 ∷ 5 ∷ 6 ∷ 7 ∷ []) (λ k. isSort sort.End k ≡ false) (tt, refl, refl, refl, refl, refl, refl, refl)
 
 module _ {f : File} {most : Limits} {s : List ℕ} {long : ℕ} {places : List ℕ} {at : ℕ} {c : Counts} (room : RoomFor f most long) (w : Walking f most s long places at c) where
   pub standing-counts : countsOf (standing most places c) ≡ c
   standing-counts = w .counted
+
+  -- the notes stand in the lent list
+  pub notes-room : firstPart most + (c .registers + c .elements) ≤ length places
+  notes-room = omega (arith, w .near .registers-in, w .near .elements-in, room .space, w .long-same)
 
   -- the sums that the search for 9 takes fit
   pub sums-fit : Countable (c .inputs) (c .gates)
@@ -222,14 +224,13 @@ module _ {f : File} {most : Limits} {s : List ℕ} {long : ℕ} {places : List �
               )
 
       -- the reading goes on with what was noted
-      pub walk-on : (k ≡ sort.End → ⊥) → {places′ : List ℕ} {c′ : Counts} → NotedIn k most s at places c places′ c′ → Walking f most s long places′ (next .at) c′
+      pub walk-on : isSort sort.End k ≡ false → {places′ : List ℕ} {c′ : Counts} → NotedIn k most s at places c places′ c′ → Walking f most s long places′ (next .at) c′
       unfolding onNext
       walk-on more {places′} {c′} noted-in =
           let stood = standing most places c in
           let made = noted-in .counted (w .counted) in
-          let go-on = more-after k more in
           let near = subst (λ (x : Counts). Near f most at x × There f most s at x k) (sym (w .counted)) (w .near, there) in
-          let nearer = subst (Near f most (at + widthFor f k)) made (near-noted f most s at stood k go-on (near .0) (near .1)) in
+          let nearer = subst (Near f most (at + widthFor f k)) made (near-noted f most s at stood k more (near .0) (near .1)) in
           record {
             within = walk-further .1;
             near = rw after nearer;
@@ -238,7 +239,7 @@ module _ {f : File} {most : Limits} {s : List ℕ} {long : ℕ} {places : List �
             filled = filled-after;
             fuel = w .fuel - 1;
             enough = omega (arith, walk-further, w .enough);
-            same = walk-step ∙ rw (read, go-on) (ap (readFrom (w .fuel - 1) f most s (next .at)) (sym (noted-in .same)));
+            same = walk-step ∙ rw (read, more) (ap (readFrom (w .fuel - 1) f most s (next .at)) (sym (noted-in .same)));
           }
 
     module _ {next : Cursor} where

@@ -13,7 +13,7 @@ use Rattle.netlist.specs.declared.Limits.{Limits}
 use Rattle.netlist.specs.declared.Counts.{Counts}
 use Rattle.netlist.specs.Bytes.{byte}
 use Rattle.netlist.specs.Commands.{mostParts, formOf, width}
-use Rattle.netlist.specs.Reading.{Nets, Places, sortsOf, countsOf, noted, Reading, refused, readable}
+use Rattle.netlist.specs.Reading.{Nets, partNets, Places, sortsOf, countsOf, noted, Reading, refused, readable}
 use Rattle.netlist.specs.Read.{farthest}
 use Rattle.read_file.specs.declared.Carried.{Carried}
 use Rattle.read_file.specs.declared.Carried.the-variants.{Data, Completion, Nothing}
@@ -26,6 +26,10 @@ sortNoted note = cond (eqb (note % 2) 1) sort.Element sort.Register
 
 abbrev pub partNoted : ℕ → Sort × ℕ
 partNoted note = (sortNoted note, note / 2)
+
+-- the nets of one, each by whether it carries data
+abbrev pub netsNoted : ℕ → List Bool
+netsNoted note = partNets (sortNoted note ∷ [])
 
 -- what there is to name in a file with n inputs, g gates and such notes
 abbrev pub netsWith : ℕ → ℕ → List ℕ → Nets

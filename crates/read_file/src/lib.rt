@@ -12,9 +12,8 @@ use netlist::Role;
 use netlist::Sort;
 ghost use mathlib.Core.Path.{_≡_};
 ghost use mathlib.Core.List.{map};
-ghost use Prim.Native.Nat.{ℕ, _+_, _*_, _%_, _^_, _<_, _≤_};
+ghost use Prim.Native.Nat.{ℕ, _+_, _*_, _^_, _<_, _≤_};
 ghost use lib.ListN.{length};
-ghost use lib.Dec.{eqb};
 ghost use Rattle.netlist.specs.Commands as commands;
 ghost use Rattle.netlist.specs.Bytes as bytes;
 ghost use Rattle.netlist.specs.Reading as reading;
@@ -60,34 +59,40 @@ pub enum Carried {
     Nothing,
 }
 
-// Whether a C-element was noted, or a register.
-fn is_element(note: u16) -> bool
-    ensures { λ r. ⌜ r ≡ eqb (note % 2) 1 ⌝ }
+// How many nets a register or a C-element has: a register two rails and Ko, a C-element one net.
+fn nets_of(note: u16) -> usize
+    ensures { λ r. ⌜ r ≡ length (files.netsNoted note) ⌝ }
 {
-    note % 2 == 1
+    if note % 2 == 1 { 1 } else { 3 }
 }
 
-// What net i after the gates carries. A register has two rails and Ko, a C-element one net.
+// What net i of them carries.
+fn own_net(note: u16, i: usize) -> Carried
+    requires { ⌜ i < length (files.netsNoted note) ⌝ }
+    ensures { λ r. ⌜ r ≡ files.carriedAt (files.netsNoted note) i ⌝ }
+{
+    if note % 2 == 1 {
+        return Carried::Completion;
+    }
+    if i < 2 {
+        return Carried::Data;
+    }
+    Carried::Completion
+}
+
+// What net i after the gates carries.
 fn part_net(notes: &[u16], i: usize) -> Carried
     ensures { λ r. ⌜ r ≡ files.carriedAt (reading.partNets (reading.sortsOf (map files.partNoted (now (notes .entry))))) i ⌝ }
 {
     let mut left = i;
     let mut j: usize = 0;
     while j < notes.len() {
-        if is_element(notes[j]) {
-            if left == 0 {
-                return Carried::Completion;
-            }
-            left -= 1;
-        } else {
-            if left < 2 {
-                return Carried::Data;
-            }
-            if left == 2 {
-                return Carried::Completion;
-            }
-            left -= 3;
+        let note = notes[j];
+        let own = nets_of(note);
+        if left < own {
+            return own_net(note, left);
         }
+        left -= own;
         j += 1;
     }
     Carried::Nothing

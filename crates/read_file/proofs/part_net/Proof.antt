@@ -1,66 +1,35 @@
+-- `read_file::part_net` meets its contract. The loop's invariant: the net that is asked for is net `left` of the parts from `j` on.
+-- Assumes nothing.
+use Prim.Native.Nat.{_-_, _≤_}
+use native.Mathlib.Omega.{arith}
+use mathlib.Core.Path.{_≡_, refl, sym, _∙_}
+use lib.ListN.{length, drop}
+use borrow.Author.Needs.{needs}
+use Rattle.read_file.specs.Files.{carriedAt}
+use Rattle.read_file.proofs.Carrying.{noted, net-here, net-later, net-past}
 use Rattle.read_file.proofs.part_net.Statement.{statement}
 use Rattle.read_file.proofs.part_net.Tie as tie
-use Rattle.read_file.proofs.part_net.Reads as reads
-use Rattle.read_file.proofs.part_net.Lts as lts
-use Rattle.read_file.proofs.is_element.Reads as is-element-reads
 
 abbrev Inv-loop : tie.InvT-loop
-Inv-loop notes i left₀ j₀ left j = ?
+Inv-loop notes i left₀ j₀ left j = carriedAt (noted notes) i ≡ carriedAt (noted (drop j notes)) left
 
 abbrev μ-loop : tie.MeasureT-loop
-μ-loop notes i left₀ j₀ left j = ?
+μ-loop notes i left₀ j₀ left j = length notes - j
 
--- src/lib.rt:76:5
-loop-holds : tie.Need-loop-holds Inv-loop μ-loop
-loop-holds c = ?
-
--- src/lib.rt:77:23
-mul-is-element : tie.Need-mul-is-element Inv-loop μ-loop
-mul-is-element c = ?
-
--- src/lib.rt:77:23
-shared-slice-read-is-element : tie.Need-shared-slice-read-is-element Inv-loop μ-loop
-shared-slice-read-is-element c = ?
-
--- src/lib.rt:77:12
-is-element-requires : tie.Need-is-element-requires Inv-loop μ-loop
-is-element-requires c κs = ?
-
--- src/lib.rt:79:17
 returns : tie.Need-returns Inv-loop μ-loop
-returns c = ?
+returns c =
+    let own = c .before .before in
+    let loop = own .before .before .before in
+    c .own-net .ensures ∙ sym (loop .loop .inv ∙ net-here _ _ _ (own .before .before .loop-test .taken) (omega (arith, own .nets-of .ensures, c .before .if1 .taken)))
 
--- src/lib.rt:81:13
-sub-left : tie.Need-sub-left Inv-loop μ-loop
-sub-left c = ?
-
--- src/lib.rt:84:17
-returns-2 : tie.Need-returns-2 Inv-loop μ-loop
-returns-2 c = ?
-
--- src/lib.rt:87:17
-returns-3 : tie.Need-returns-3 Inv-loop μ-loop
-returns-3 c = ?
-
--- src/lib.rt:89:13
-sub-left-2 : tie.Need-sub-left-2 Inv-loop μ-loop
-sub-left-2 c = ?
-
--- src/lib.rt:91:9
-add-j : tie.Need-add-j Inv-loop μ-loop
-add-j c = ?
-
--- src/lib.rt:76:5
-loop-less : tie.Need-loop-less Inv-loop μ-loop
-loop-less c = ?
-
--- src/lib.rt:76:5
 loop-again : tie.Need-loop-again Inv-loop μ-loop
-loop-again c = ?
+loop-again c =
+    let own = c .before in
+    let loop = own .before .before .before in
+    loop .loop .inv ∙ net-later _ _ _ (own .before .before .loop-test .taken) (own .nets-of .ensures) (c .if1 .left)
 
--- src/lib.rt:71:1
-returns-4 : tie.Need-returns-4 Inv-loop μ-loop
-returns-4 c = ?
+returns-2 : tie.Need-returns-2 Inv-loop μ-loop
+returns-2 c = sym (c .before .loop .inv ∙ net-past _ _ _ (c .loop-test .left))
 
 pub part-net-spec : {M : Type 1} → statement M
 part-net-spec =
@@ -68,16 +37,13 @@ part-net-spec =
     (tie.spec
     Inv-loop
     μ-loop
-    loop-holds
-    mul-is-element
-    shared-slice-read-is-element
-    is-element-requires
+    (λ c. refl)
+    (λ c. omega arith)
+    (λ c. omega arith)
+    (λ c κs. search needs)
+    (λ c κs. omega (arith, c .before .nets-of .ensures, c .if1 .taken))
     returns
-    sub-left
-    returns-2
-    returns-3
-    sub-left-2
-    add-j
-    loop-less
+    (λ c. omega arith)
+    (λ c. omega arith)
     loop-again
-    returns-4)
+    returns-2)

@@ -1,61 +1,40 @@
+-- `read_file::used_operands` meets its contract: a gate's code stands before its operands. Assumes nothing.
+use native.Mathlib.Omega.{arith}
 use borrow.Author.Needs.{needs}
+use Rattle.netlist.specs.Commands.{used}
+use Rattle.read_command.proofs.Forms.{gate-lead, element-wide}
+use Rattle.read_file.proofs.Search.{used-all}
 use Rattle.read_file.proofs.used_operands.Statement.{statement}
 use Rattle.read_file.proofs.used_operands.Tie as tie
-use Rattle.read_file.proofs.used_operands.Reads as reads
-use Rattle.read_file.proofs.used_operands.Lts as lts
-use Rattle.read_command.proofs.needed.Reads as needed-reads
-use Rattle.read_command.proofs.pins_used.Reads as pins-used-reads
 
--- src/lib.rt:156:52
-enum-told : tie.Need-enum-told
-enum-told c = search needs
-
--- src/lib.rt:156:52
-add-needed : tie.Need-add-needed
-add-needed c = search needs
-
--- src/lib.rt:156:50
 shared-slice-read-needed : tie.Need-shared-slice-read-needed
-shared-slice-read-needed c = ?
+shared-slice-read-needed c = omega (arith, gate-lead _ _ (c .before .before .before .before .pre .0) (c .before .enum-told .given .1), c .before .before .before .before .pre .1)
 
--- src/lib.rt:156:23
-needed-requires : tie.Need-needed-requires
-needed-requires c κs = search needs
-
--- src/lib.rt:157:53
-enum-told-2 : tie.Need-enum-told-2
-enum-told-2 c = search needs
-
--- src/lib.rt:157:53
-add-pins-used : tie.Need-add-pins-used
-add-pins-used c = search needs
-
--- src/lib.rt:157:26
 pins-used-requires : tie.Need-pins-used-requires
-pins-used-requires c κs = ?
+pins-used-requires c κs =
+    omega (arith, element-wide _ _ (c .before .before .before .before .pre .0) (c .before .enum-told2 .given .1), c .before .before .before .before .pre .1)
 
--- src/lib.rt:150:1
 returns : tie.Need-returns
-returns c = ?
+unfolding used
+returns c = rw (c .before .before .enum-told .given .1) (c .needed .ensures)
 
--- src/lib.rt:150:1
 returns-2 : tie.Need-returns-2
-returns-2 c = ?
+unfolding used
+returns-2 c = rw (c .before .before .enum-told2 .given .1) (c .pins-used .ensures)
 
--- src/lib.rt:150:1
 returns-3 : tie.Need-returns-3
-returns-3 c = ?
+returns-3 c = used-all _ _ _ _ (c .match .keys3)
 
 pub used-operands-spec : {M : Type 1} → statement M
 used-operands-spec =
     tie.close
     (tie.spec
-    enum-told
-    add-needed
+    (λ c. search needs)
+    (λ c. search needs)
     shared-slice-read-needed
-    needed-requires
-    enum-told-2
-    add-pins-used
+    (λ c κs. search needs)
+    (λ c. search needs)
+    (λ c. search needs)
     pins-used-requires
     returns
     returns-2
