@@ -85,15 +85,15 @@ fn part_net(notes: &[u16], i: usize) -> Carried
     ensures { λ r. ⌜ r ≡ files.carriedAt (reading.partNets (reading.sortsOf (map files.partNoted (now (notes .entry))))) i ⌝ }
 {
     let mut left = i;
-    let mut j: usize = 0;
-    while j < notes.len() {
-        let note = notes[j];
+    let mut p: usize = 0;
+    while p < notes.len() {
+        let note = notes[p];
         let own = nets_of(note);
         if left < own {
             return own_net(note, left);
         }
         left -= own;
-        j += 1;
+        p += 1;
     }
     Carried::Nothing
 }

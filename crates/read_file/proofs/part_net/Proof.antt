@@ -1,4 +1,4 @@
--- `read_file::part_net` meets its contract. The loop's invariant: the net that is asked for is net `left` of the parts from `j` on.
+-- `read_file::part_net` meets its contract. The loop's invariant: the net that is asked for is net `left` of the parts from `p` on.
 -- Assumes nothing.
 use Prim.Native.Nat.{_-_, _≤_}
 use native.Mathlib.Omega.{arith}
@@ -11,10 +11,10 @@ use Rattle.read_file.proofs.part_net.Statement.{statement}
 use Rattle.read_file.proofs.part_net.Tie as tie
 
 abbrev Inv-loop : tie.InvT-loop
-Inv-loop notes i left₀ j₀ left j = carriedAt (noted notes) i ≡ carriedAt (noted (drop j notes)) left
+Inv-loop notes i left₀ p₀ left p = carriedAt (noted notes) i ≡ carriedAt (noted (drop p notes)) left
 
 abbrev μ-loop : tie.MeasureT-loop
-μ-loop notes i left₀ j₀ left j = length notes - j
+μ-loop notes i left₀ p₀ left p = length notes - p
 
 returns : tie.Need-returns Inv-loop μ-loop
 returns c =

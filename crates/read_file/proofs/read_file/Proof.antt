@@ -93,7 +93,7 @@ loop-again c =
     let next = c .before .before .before .before .before .before in
     let loop = next .before .before .before .before in
     walk-on (loop .before .before .before .before .pre) (loop .loop .inv) (next .before .before .take-next .ensures) (next .next .given .1)
-    (goes-on _ (c .before .before .before .before .match2 .keys2)) (c .before .before .note .ensures)
+    (goes-on (next .next .given .0 .0) (c .before .before .before .before .match2 .keys2)) (c .before .before .note .ensures)
 
 returns-3 : tie.Need-returns-3 Inv-loop μ-loop
 unfolding outcomeOf
