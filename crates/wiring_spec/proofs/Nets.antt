@@ -7,11 +7,12 @@ use mathlib.Core.Path.{_≡_, refl, sym, ap, _∙_, subst}
 use mathlib.Core.Bool.{Bool, true, false}
 use mathlib.Core.Logic.{_⊎_, inl, inr, ⊎-elim}
 use mathlib.Core.List.{List, [], _∷_, _++_, map}
-use lib.ListN.{length, getD, replicate, List·getD-eq-default}
+use lib.ListN.{length, getD, replicate, length-map, List·getD-eq-default}
+use Rattle.gates.specs.Cell.{bit}
 use lib.Dec.{eqb}
 use borrow.Author.Tests.{eqb-true}
 use Rattle.verdict.specs.Paths.{In, Leads, here, onward}
-use Rattle.wiring_spec.specs.Parts.{Register, Part, register, element, Pipeline, Driver, input, gate, rail, acknowledge, completion, nothing, registersOf, partDrivers, drivers, driverOf, allNets, registerCount, registerAt, noRegister}
+use Rattle.wiring_spec.specs.Parts.{Register, Part, register, element, Pipeline, Driver, input, gate, rail, acknowledge, completion, nothing, registersOf, partDrivers, drivers, driverOf, allNets, registerCount, dataOf, kiOf}
 use Rattle.wiring_spec.specs.Wiring.{throughGate, opened, gateSteps, openings, isRailOf}
 use Rattle.wiring_spec.specs.Named.{carriesData, IsData}
 
@@ -182,11 +183,29 @@ rail-inside p k x e = go (driverOf p x) (stands p x) e
     go (completion pins) s e = absurd (never e)
     go nothing s e = absurd (never e)
 
--- a register with data is one of the file's
-pub register-inside : (p : Pipeline) (t x : ℕ) → In x (registerAt p t .rails) → t < registerCount p
-unfolding registerAt registerCount
-register-inside p t x i = go (decLt t (length (registersOf (p .parts))))
-  where
-    go : Dec (t < length (registersOf (p .parts))) → t < length (registersOf (p .parts))
-    go (yes h) = h
-    go (no h) = absurd (subst (λ (r : Register). In x (r .rails)) (List·getD-eq-default (registersOf (p .parts)) noRegister (omega arith)) i)
+-- ---- a register's data
+
+module _ (p : Pipeline) (t : ℕ) where
+  abbrev nets : List (List ℕ)
+  nets = map (λ (r : Register). r .data0 ∷ r .data1 ∷ []) (registersOf (p .parts))
+
+  -- a register with data is one of the file's ..
+  pub register-inside : (x : ℕ) → In x (dataOf p t) → t < registerCount p
+  unfolding dataOf registerCount
+  register-inside x i = go (decLt t (length (registersOf (p .parts))))
+    where
+      go : Dec (t < length (registersOf (p .parts))) → t < length (registersOf (p .parts))
+      go (yes h) = h
+      go (no h) = absurd (subst (In x) (List·getD-eq-default nets [] (omega (arith, length-map (registersOf (p .parts)) (λ (r : Register). r .data0 ∷ r .data1 ∷ [])))) i)
+
+  -- .. and each of those has data for both rails
+  pub data-in : (b : Bool) → t < registerCount p → In (getD (dataOf p t) (bit b) 0) (dataOf p t)
+  unfolding dataOf registerCount
+  data-in b h = go (registersOf (p .parts)) t h b
+    where
+      go : (rs : List Register) (k : ℕ) → k < length rs → (b : Bool)
+          → In (getD (getD (map (λ (r : Register). r .data0 ∷ r .data1 ∷ []) rs) k []) (bit b) 0) (getD (map (λ (r : Register). r .data0 ∷ r .data1 ∷ []) rs) k [])
+      go [] k h b = absurd (omega arith)
+      go (r ∷ rs) zero h false = inl refl
+      go (r ∷ rs) zero h true = inr (inl refl)
+      go (r ∷ rs) (suc k) h b = go rs k (omega arith) b

@@ -14,7 +14,7 @@ use Rattle.verdict.specs.Paths.{In, Leads, here, onward, OnLoop}
 use Rattle.verdict.proofs.Steps.{some-in, some-out, lead-sound, lead-complete}
 use Rattle.verdict.proofs.Words.{index-in, in-index}
 use Rattle.verdict.proofs.Names.{select-in, in-select}
-use Rattle.wiring_spec.specs.Parts.{Pipeline, Driver, input, gate, rail, acknowledge, completion, nothing, driverOf, allNets, registerAt, registerCount}
+use Rattle.wiring_spec.specs.Parts.{Pipeline, Driver, input, gate, rail, acknowledge, completion, nothing, driverOf, allNets, dataOf, kiOf, registerCount}
 use Rattle.wiring_spec.specs.Wiring.{gateSteps, openings, isInput, isRailOf, isKoOf, dataFrom, reaches, fromInput, registers, sources, reachesItself, level, behind, isLoop, circular, uneven, missing, foreign, bars, barred}
 use Rattle.wiring_spec.specs.Passing.{DataFrom, Reaches, FromInput, ReachesOn, straight, through, ReachesNone, Behind, KoBehind, MayStand, Circular, Uneven, Missing, Barred, Levelled, Acknowledged, Passes, FindNothing}
 use Rattle.wiring_spec.proofs.Nets.{never, net-where, register-inside, rail-inside, gate-inside, open-inside}
@@ -46,12 +46,12 @@ module _ (p : Pipeline) where
 
     data-sound : dataFrom p goal t ≡ true → DataFrom p goal t
     unfolding dataFrom
-    data-sound e = lead-sound (gateSteps p) there (allNets p) (registerAt p t .rails) e
+    data-sound e = lead-sound (gateSteps p) there (allNets p) (dataOf p t) e
 
     data-complete : ¬ (goal nothing ≡ true) → DataFrom p goal t → dataFrom p goal t ≡ true
     unfolding dataFrom
     data-complete net r =
-        lead-complete (gateSteps p) there (allNets p) (gate-inside p) (registerAt p t .rails) (r .1) (r .2) (net-where p (r .2) (λ d. goal d ≡ true) net (r .3)) (r .3) (r .4)
+        lead-complete (gateSteps p) there (allNets p) (gate-inside p) (dataOf p t) (r .1) (r .2) (net-where p (r .2) (λ d. goal d ≡ true) net (r .3)) (r .3) (r .4)
 
   pub reaches-sound : (k t : ℕ) → reaches p k t ≡ true → Reaches p k t
   unfolding reaches
@@ -101,8 +101,11 @@ module _ (p : Pipeline) where
   pub itself-loop : (k : ℕ) → ReachesOn p k k ↔ OnLoop (sources p) k
   itself-loop k = (on-leads k k, λ l. leads-on k k (l .2) (l .1))
 
-  step-inside : (u v : ℕ) → In v (sources p u) → u < m
+  pub step-inside : (u v : ℕ) → In v (sources p u) → u < m
   step-inside u v i = target-inside v u (source-out v u i)
+
+  pub on-inside : (k : ℕ) → ReachesOn p k k → k < m
+  on-inside k r = let l = on-leads k k r in step-inside k (l .0) (l .1)
 
   pub itself-sound : (k : ℕ) → reachesItself p k ≡ true → ReachesOn p k k
   unfolding reachesItself
@@ -121,16 +124,16 @@ module _ (p : Pipeline) where
   module _ (goal : ℕ → Bool) (k : ℕ) where
     pub behind-sound : behind p goal k ≡ true → (y : ℕ) × (goal y ≡ true) × Behind p k y
     unfolding behind
-    behind-sound e = let r = lead-sound (openings p) goal (allNets p) (registerAt p k .ki ∷ []) e in (r .2, r .3, at (r .0) (r .2) (r .1) (r .4))
+    behind-sound e = let r = lead-sound (openings p) goal (allNets p) (kiOf p k ∷ []) e in (r .2, r .3, at (r .0) (r .2) (r .1) (r .4))
       where
-        at : (x y : ℕ) → In x (registerAt p k .ki ∷ []) → Leads (openings p) y x → Behind p k y
+        at : (x y : ℕ) → In x (kiOf p k ∷ []) → Leads (openings p) y x → Behind p k y
         at x y (inl e) l = subst (Leads (openings p) y) e l
         at x y (inr i) l = absurd i
 
     -- nothing but itself stands behind the outside, and that is no net
     pub behind-complete : (y : ℕ) → y < allNets p → goal y ≡ true → Behind p k y → behind p goal k ≡ true
     unfolding behind
-    behind-complete y h g b = lead-complete (openings p) goal (allNets p) (open-inside p) (registerAt p k .ki ∷ []) (inl refl) y h g b
+    behind-complete y h g b = lead-complete (openings p) goal (allNets p) (open-inside p) (kiOf p k ∷ []) (inl refl) y h g b
 
   pub loop-sound : (x : ℕ) → isLoop p x ≡ true → OnLoop (openings p) x
   unfolding isLoop
@@ -264,12 +267,12 @@ module _ (p : Pipeline) where
     unfolding barred
     barred-sound = go someReached refl
       where
-        go : (c : Bool) → someReached ≡ c → cond c (behind p barsAt k) (not (eqb (registerAt p k .ki) outside)) ≡ true → Barred p k
+        go : (c : Bool) → someReached ≡ c → cond c (behind p barsAt k) (not (eqb (kiOf p k) outside)) ≡ true → Barred p k
         go true q e =
             let r = some-out (reaches p k) (registers p) q in
             let b = behind-sound barsAt k e in
             inl ((r .0, reaches-sound k (r .0) (r .2)), (b .0, b .2, bars-out (driverOf p (b .0)) (b .1)))
-        go false q e = inr (none-sound q, differ-out (registerAt p k .ki) outside e)
+        go false q e = inr (none-sound q, differ-out (kiOf p k) outside e)
 
     pub barred-complete : Barred p k → barred p k ≡ true
     unfolding barred bars
@@ -277,7 +280,7 @@ module _ (p : Pipeline) where
         let y = bars-in (driverOf p (b .0)) (b .2) in
         rw (reached-in k (r .0) (reaches p k) (r .1) (reaches-complete k (r .0) (r .1)))
         (behind-complete barsAt k (b .0) (net-where p (b .0) (λ d. bars p k d ≡ true) never y) y (b .1))
-    barred-complete (inr (f, d)) = rw (none-complete f) (differ-in (registerAt p k .ki) outside d)
+    barred-complete (inr (f, d)) = rw (none-complete f) (differ-in (kiOf p k) outside d)
 
   -- ---- exactly
 
@@ -293,14 +296,14 @@ module _ (p : Pipeline) where
 
   levelled-in : None (Circular p) → None (Uneven p) → Levelled p
   levelled-in c u = record {
-    forward = λ k r. let l = on-leads k k r in c k (step-inside k (l .0) (l .1)) (inl r);
+    forward = λ k r. c k (on-inside k r) (inl r);
     noLoop = λ k y h b o. c k h (inr (y, b, o));
     equal = λ k t r. same? (level p t) (suc (level p k)) (λ d. u t (target-inside k t r) (inl (k, r, d)));
     first = λ t r. same? (level p t) 1 (λ d. u t (register-inside p t (r .0) (r .1)) (inr (r, d)));
   }
 
   acknowledged-in : (k : ℕ) → ¬ (Missing p k) → ¬ (Barred p k) → Acknowledged p k
-  acknowledged-in k l b = record { all = all-in; only = only-in; alone = λ f. same? (registerAt p k .ki) outside (λ d. b (inr (f, d))) }
+  acknowledged-in k l b = record { all = all-in; only = only-in; alone = λ f. same? (kiOf p k) outside (λ d. b (inr (f, d))) }
     where
       all-in : (t : ℕ) → Reaches p k t → KoBehind p k t
       all-in t r = go (koBehind k t) refl

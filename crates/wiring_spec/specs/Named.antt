@@ -3,11 +3,10 @@ use Prim.Native.Nat.{ℕ, _≤_, _<_}
 use mathlib.Core.Path.{_≡_}
 use mathlib.Core.Bool.{Bool, true, false}
 use mathlib.Core.Logic.{_⊎_}
-use lib.ListN.{length}
 use Rattle.netlist.specs.Bytes.{outside}
 use Rattle.verdict.specs.Paths.{In}
 use Rattle.wiring_spec.specs.Parts.{Driver, input, gate, rail, acknowledge, completion, nothing}
-use Rattle.wiring_spec.specs.Parts.{Pipeline, registerCount, registerAt, driverOf, allNets}
+use Rattle.wiring_spec.specs.Parts.{Pipeline, registerCount, dataOf, kiOf, driverOf, allNets}
 use Rattle.wiring_spec.specs.Wiring.{gateSteps, openings}
 
 -- a rail of an input or of a register, or a gate
@@ -27,6 +26,5 @@ pub record Named (p : Pipeline) : Type 0 where
   pub few : allNets p ≤ outside
   pub gatePin : (x v : ℕ) → In v (gateSteps p x) → IsData p v
   pub elementPin : (x v : ℕ) → In v (openings p x) → v < allNets p
-  pub long : (k : ℕ) → k < registerCount p → length (registerAt p k .rails) ≡ 2
-  pub rail : (k v : ℕ) → In v (registerAt p k .rails) → IsData p v
-  pub ki : (k : ℕ) → k < registerCount p → (registerAt p k .ki ≡ outside) ⊎ (registerAt p k .ki < allNets p)
+  pub rail : (k v : ℕ) → In v (dataOf p k) → IsData p v
+  pub ki : (k : ℕ) → k < registerCount p → (kiOf p k ≡ outside) ⊎ (kiOf p k < allNets p)

@@ -8,7 +8,7 @@ use mathlib.Core.List.{map}
 use Rattle.netlist.specs.Bytes.{outside}
 use Rattle.verdict.specs.Paths.{In, Leads, OnLoop}
 use Rattle.wiring_spec.specs.Parts.{Driver, input, gate, rail, acknowledge, completion, nothing}
-use Rattle.wiring_spec.specs.Parts.{Pipeline, registerCount, registerAt, driverOf}
+use Rattle.wiring_spec.specs.Parts.{Pipeline, registerCount, dataOf, kiOf, driverOf}
 use Rattle.wiring_spec.specs.Wiring as test
 use Rattle.wiring_spec.specs.Wiring.{gateSteps, openings, isInput, isRailOf, isKoOf, sources, highest, level}
 
@@ -16,7 +16,7 @@ use Rattle.wiring_spec.specs.Wiring.{gateSteps, openings, isInput, isRai
 
 -- a net at register t's data is such a net, or leads back to one through gates
 abbrev pub DataFrom : Pipeline → (Driver → Bool) → ℕ → Type 0
-DataFrom p goal t = (x : ℕ) × In x (registerAt p t .rails) × (y : ℕ) × (goal (driverOf p y) ≡ true) × Leads (gateSteps p) y x
+DataFrom p goal t = (x : ℕ) × In x (dataOf p t) × (y : ℕ) × (goal (driverOf p y) ≡ true) × Leads (gateSteps p) y x
 
 -- register k's outputs reach register t through gates or straight
 abbrev pub Reaches : Pipeline → ℕ → ℕ → Type 0
@@ -38,7 +38,7 @@ ReachesNone p k = (t : ℕ) → ¬ (Reaches p k t)
 
 -- opening the C-elements behind register k's Ki comes to net y
 abbrev pub Behind : Pipeline → ℕ → ℕ → Type 0
-Behind p k y = Leads (openings p) y (registerAt p k .ki)
+Behind p k y = Leads (openings p) y (kiOf p k)
 
 -- the Ko of register t stands behind register k's Ki
 abbrev pub KoBehind : Pipeline → ℕ → ℕ → Type 0
@@ -72,7 +72,7 @@ Missing p k = (t : ℕ) × Reaches p k t × ¬ (KoBehind p k t)
 abbrev pub Barred : Pipeline → ℕ → Type 0
 Barred p k =
     (((t : ℕ) × Reaches p k t) × ((y : ℕ) × Behind p k y × ¬ (MayStand p k (driverOf p y))))
-    ⊎ (ReachesNone p k × ¬ (registerAt p k .ki ≡ outside))
+    ⊎ (ReachesNone p k × ¬ (kiOf p k ≡ outside))
 
 -- ---- the wiring
 
@@ -88,7 +88,7 @@ pub record Levelled (p : Pipeline) : Type 0 where
 pub record Acknowledged (p : Pipeline) (k : ℕ) : Type 0 where
   pub all : (t : ℕ) → Reaches p k t → KoBehind p k t
   pub only : (t : ℕ) → Reaches p k t → (y : ℕ) → Behind p k y → MayStand p k (driverOf p y)
-  pub alone : ReachesNone p k → registerAt p k .ki ≡ outside
+  pub alone : ReachesNone p k → kiOf p k ≡ outside
 
 -- the wiring passes
 pub record Passes (p : Pipeline) : Type 0 where

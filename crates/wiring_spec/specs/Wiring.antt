@@ -6,7 +6,7 @@ use lib.Dec.{eqb}
 use Rattle.netlist.specs.Bytes.{outside}
 use Rattle.verdict.specs.Lists.{numbers, select, some, leadTo}
 use Rattle.wiring_spec.specs.Parts.{Driver, input, gate, rail, acknowledge, completion, nothing}
-use Rattle.wiring_spec.specs.Parts.{Pipeline, registerCount, registerAt, driverOf, allNets}
+use Rattle.wiring_spec.specs.Parts.{Pipeline, registerCount, dataOf, kiOf, driverOf, allNets}
 
 -- ---- steps from net to net
 
@@ -55,7 +55,7 @@ isRailOf k nothing = false
 
 -- a net at register t's data is such a net, or comes from one through gates
 unfoldable pub dataFrom : Pipeline → (Driver → Bool) → ℕ → Bool
-dataFrom p goal t = leadTo (gateSteps p) (λ x. goal (driverOf p x)) (allNets p) (registerAt p t .rails)
+dataFrom p goal t = leadTo (gateSteps p) (λ x. goal (driverOf p x)) (allNets p) (dataOf p t)
 
 -- register k's outputs reach register t through gates or straight
 unfoldable pub reaches : Pipeline → ℕ → ℕ → Bool
@@ -103,7 +103,7 @@ isKoOf k nothing = false
 
 -- such a net stands behind register k's Ki once the C-elements there are opened, and opened again
 unfoldable pub behind : Pipeline → (ℕ → Bool) → ℕ → Bool
-behind p goal k = leadTo (openings p) goal (allNets p) (registerAt p k .ki ∷ [])
+behind p goal k = leadTo (openings p) goal (allNets p) (kiOf p k ∷ [])
 
 -- the net of a C-element that leads back to itself through C-elements
 unfoldable pub isLoop : Pipeline → ℕ → Bool
@@ -144,4 +144,4 @@ bars p k nothing = false
 unfoldable pub barred : Pipeline → ℕ → Bool
 barred p k =
     let net = behind p (λ x. bars p k (driverOf p x)) k in
-    cond (some (reaches p k) (registers p)) net (not (eqb (registerAt p k .ki) outside))
+    cond (some (reaches p k) (registers p)) net (not (eqb (kiOf p k) outside))
