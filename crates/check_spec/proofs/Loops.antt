@@ -1,29 +1,29 @@
 -- The test of 12 means "reaches itself through pins", and a stage in which no gate does is one of the theory of runs.
 -- Assumes nothing.
-use Prim.Native.Nat.{ℕ, zero, suc, _-_, _≤_, _<_}
+use Prim.Native.Nat.{ℕ, suc, _-_, _≤_, _<_}
 use native.Mathlib.Omega.{arith}
 use native.Mathlib.Decide.{decLt}
 use mathlib.Core.Path.{_≡_, refl, sym, ap, _∙_, subst}
-use mathlib.Core.Logic.{_⊎_, inl, inr, ⊎-elim}
-use mathlib.Core.Bool.{Bool, true, false, cond, _||_, and-true}
+use mathlib.Core.Logic.{inl, inr}
+use mathlib.Core.Bool.{Bool, true, false, and-true}
 use mathlib.Core.List.{List, [], _∷_, map}
-use lib.ListN.{getD, replicate, List·getD-eq-default}
-use lib.Dec.{eqb, ltb}
+use lib.ListN.{getD, List·getD-eq-default}
+use lib.Dec.{eqb}
 use Rattle.gates.specs.Expression.{holds}
-use Rattle.gates.specs.Cell.{setExpression, bit}
+use Rattle.gates.specs.Cell.{setExpression}
 use Rattle.gates.proofs.Expressions.{holds-mono, holds-low}
 use Rattle.runs.specs.Row.{Row, low}
 use Rattle.runs.specs.Net.{rails, nets, IsGate, riseUp}
 use Rattle.runs.specs.Acyclic.{Acyclic, AllPins}
 use Rattle.runs.specs.Settled.{Settled, SettledHeld, SettledKept}
-use Rattle.runs.proofs.Test.{clash, not-true, or-cases, eqb-eq, lt-ltb, le-ltb, ltb-true}
-use Rattle.verdict.specs.Rows.{high, rounds}
-use Rattle.verdict.specs.Graph.{In, Leads, here, onward, OnLoop, anyHigh, tabulate, leading}
+use Rattle.runs.proofs.Test.{clash, not-true, lt-ltb, le-ltb}
+use Rattle.verdict.specs.Graph.{In, Leads, here, onward, OnLoop}
 use Rattle.verdict.proofs.Graph as graph
-use Rattle.verdict.proofs.Graph.{high-in, anyHigh-out, length-tabulate, getD-tabulate, onLoop-complete, rank-falls}
-use Rattle.verdict.proofs.Bridge.{pins-mono, pins-local, pins-low, high-bit}
-use Rattle.check_spec.specs.Lists.{some, reaches}
+use Rattle.verdict.proofs.Graph.{rank-falls}
+use Rattle.verdict.proofs.Bridge.{pins-mono, pins-local, pins-low}
+use Rattle.verdict.proofs.Steps.{loop-found, found-loop}
 use Rattle.netlist.specs.Content.{Coded}
+use Rattle.check_spec.specs.Lists.{reaches}
 use Rattle.check_spec.specs.Content.{Content}
 use Rattle.check_spec.specs.Rows.{noGate, driver, cellIn, netOf, risen, fallen, feeding, reachesItself}
 use Rattle.check_spec.specs.Demands.{LoopFree, LoopsFound, TheOnly}

@@ -4,13 +4,13 @@ use Prim.Native.Nat.{ℕ, zero, suc, _+_, _-_, _*_, _≤_, _<_}
 use native.Mathlib.Omega.{arith}
 use native.Mathlib.Decide.{decLt}
 use mathlib.Core.Path.{_≡_, refl, sym, ap, _∙_, subst}
-use mathlib.Core.Bool.{Bool, true, false}
+use mathlib.Core.Bool.{Bool, true, false, cond}
 use mathlib.Core.Logic.{_⊎_, inl, inr, ⊎-elim}
 use mathlib.Core.List.{List, [], _∷_, _++_, map}
 use lib.ListN.{length, getD, replicate, length-map, List·getD-eq-default}
 use Rattle.gates.specs.Cell.{bit}
-use lib.Dec.{eqb}
-use borrow.Author.Tests.{eqb-true}
+use lib.Dec.{eqb, ltb}
+use borrow.Author.Tests.{eqb-true, lt-ltb, le-ltb}
 use Rattle.verdict.specs.Paths.{In, Leads, here, onward}
 use Rattle.wiring_spec.specs.Parts.{Register, Part, register, element, Pipeline, Driver, input, gate, rail, acknowledge, completion, nothing, registersOf, partDrivers, drivers, driverOf, allNets, registerCount, dataOf, kiOf}
 use Rattle.wiring_spec.specs.Wiring.{throughGate, opened, gateSteps, openings, isRailOf}
@@ -143,32 +143,28 @@ stands p = each-driver (Stands p) p (λ x h. h) (λ k h. (k, h, refl, refl)) (λ
     late (completion pins) x l = tt
     late nothing x l = tt
 
--- gate k drives net 2n + k
-pub gate-driver : (p : Pipeline) (k : ℕ) → k < length (p .gates) → driverOf p (2 * p .inputs + k) ≡ gate (getD (p .gates) k [])
-unfolding driverOf drivers
-gate-driver p k h = skip (2 * p .inputs) (map gate (p .gates) ++ partDrivers 0 (p .parts)) k ∙ take (p .gates) k h
-  where
-    skip : (m : ℕ) (rest : List Driver) (k : ℕ) → getD (replicate m input ++ rest) (m + k) nothing ≡ getD rest k nothing
-    skip zero rest k = let e : 0 + k ≡ k = omega arith in ap (λ (i : ℕ). getD rest i nothing) e
-    skip (suc m) rest k = let e : suc m + k ≡ suc (m + k) = omega arith in ap (λ (i : ℕ). getD (replicate (suc m) input ++ rest) i nothing) e ∙ skip m rest k
-
-    take : (gates : List (List ℕ)) (k : ℕ) → k < length gates → getD (map gate gates ++ partDrivers 0 (p .parts)) k nothing ≡ gate (getD gates k [])
-    take [] k l = absurd (omega arith)
-    take (g ∷ gates) zero l = refl
-    take (g ∷ gates) (suc k) l = take gates k (omega arith)
-
--- only gates are stepped through by gates
-pub gate-step : (p : Pipeline) (x v : ℕ) → In v (throughGate (driverOf p x)) → (k : ℕ) × (k < length (p .gates)) × (x ≡ 2 * p .inputs + k) × In v (getD (p .gates) k [])
+-- the steps of all nets: a gate's pins, from net 2n on
+pub steps-are : (p : Pipeline) (x : ℕ) → gateSteps p x ≡ cond (ltb x (2 * p .inputs)) [] (getD (p .gates) (x - 2 * p .inputs) [])
 unfolding throughGate
-gate-step p x v i = go (driverOf p x) (stands p x) i
+steps-are p = each-driver (λ d x. throughGate d ≡ pinsFrom x) p (λ x h. sym (rw (lt-ltb x (2 * p .inputs) h))) (λ k h. sym (past k)) (λ x.
+    let k = length (p .gates) + x in
+    let z : 2 * p .inputs + length (p .gates) + x ≡ 2 * p .inputs + k = omega arith in
+    none _ (getD (partDrivers 0 (p .parts)) x nothing) (part-late (p .parts) 0 x)
+    ∙ sym (ap pinsFrom z ∙ past k ∙ List·getD-eq-default (p .gates) [] (omega arith)))
   where
-    go : (d : Driver) → Stands p d x → In v (throughGate d) → (k : ℕ) × (k < length (p .gates)) × (x ≡ 2 * p .inputs + k) × In v (getD (p .gates) k [])
-    go input s i = absurd i
-    go (gate pins) s i = (s .0, s .1, s .2, subst (In v) (s .3) i)
-    go (rail k b) s i = absurd i
-    go (acknowledge k) s i = absurd i
-    go (completion pins) s i = absurd i
-    go nothing s i = absurd i
+    pinsFrom : ℕ → List ℕ
+    pinsFrom x = cond (ltb x (2 * p .inputs)) [] (getD (p .gates) (x - 2 * p .inputs) [])
+
+    past : (k : ℕ) → pinsFrom (2 * p .inputs + k) ≡ getD (p .gates) k []
+    past k = let e : 2 * p .inputs + k - 2 * p .inputs ≡ k = omega arith in rw (le-ltb (2 * p .inputs + k) (2 * p .inputs) (omega arith), e)
+
+    none : (m : ℕ) (d : Driver) → Late m d → throughGate d ≡ []
+    none m input l = absurd l
+    none m (gate pins) l = absurd l
+    none m (rail k b) l = refl
+    none m (acknowledge k) l = refl
+    none m (completion pins) l = refl
+    none m nothing l = refl
 
 -- a rail of register k is one of the file's
 pub rail-inside : (p : Pipeline) (k x : ℕ) → isRailOf k (driverOf p x) ≡ true → k < registerCount p

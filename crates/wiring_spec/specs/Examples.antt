@@ -27,7 +27,7 @@ abbrev example : ℕ → List (List ℕ) → List Part → ℕ → ℕ → Examp
 example n gates parts number at = record { pipeline = record { inputs = n; gates = gates; parts = parts }; expected = (number, at) }
 
 -- the least of some registers at which a test fails; where there is none, what is found later
-unfoldable least : ℕ → (ℕ → Bool) → List ℕ → Finding → Finding
+unfoldable pub least : ℕ → (ℕ → Bool) → List ℕ → Finding → Finding
 least number fails [] later = later
 least number fails (k ∷ ks) later = let rest = least number fails ks later in cond (fails k) (number, k) rest
 
