@@ -47,7 +47,8 @@ use Rattle.check_spec.specs.Loaded.{pairOf, stageView, referenceView}
 use Rattle.check_spec.proofs.First.{first-pass, first-++}
 use Rattle.check_spec.proofs.OneWord.{CleanFall, hold-clean}
 use Rattle.check_spec.proofs.Laws.{Law, Laws, none, _&_, equal-passes, gates-passes, swept-passes}
-use Rattle.check_spec.proofs.Loops.{loop-found, found-loop, feeding-gate}
+use Rattle.verdict.proofs.Steps.{loop-found, found-loop}
+use Rattle.check_spec.proofs.Loops.{feeding-gate}
 use Rattle.check_spec.proofs.Pairs.{all-data, all-null}
 use Rattle.check_spec.proofs.View.{stage-view, reference-view, net-view, rail-view}
 use Rattle.check_spec.proofs.Alike.{spelled-alike, names-alike, answer-alike, rest-alike, missing-alike, held-alike, but-alike, keeping-alike, word-in, in-word}

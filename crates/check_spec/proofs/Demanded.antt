@@ -22,7 +22,8 @@ use Rattle.check_spec.specs.Checks.{retiredGate, checks}
 use Rattle.check_spec.specs.Verdicts.{refusal, checksOn, verdictOn}
 use Rattle.check_spec.specs.Demands.{BothRead, LoopFree, Comparable, Acceptable, Demand2, Broken, Demand3}
 use Rattle.check_spec.proofs.First.{judged, places-first}
-use Rattle.check_spec.proofs.Loops.{some-all, loops-found, settled-is, risen-is, fallen-is}
+use Rattle.verdict.proofs.Steps.{some-all}
+use Rattle.check_spec.proofs.Loops.{loops-found, settled-is, risen-is, fallen-is}
 use Rattle.check_spec.proofs.Pairs.{data-of, all-data, all-null}
 use Rattle.check_spec.proofs.OneWord.{inside, hold-clean}
 use Rattle.check_spec.proofs.Laws.{numbersOf, before, claimed, not-named, judge-from}

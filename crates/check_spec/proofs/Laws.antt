@@ -127,6 +127,23 @@ module _ {Whole : Type 0} {Claim : Verdict → Type 0} where
       go false true a later = a .0
       go false false a later = later (a .1)
 
+  -- what all checks of a number say that stand before number n, where several have it
+  abbrev pub EachBefore : ℕ → ℕ → {cs : List Check} → Laws Whole Claim cs → Type 0
+  EachBefore n m none = Unit {0}
+  EachBefore n m (_&_ {number = k} {Says = Says} l ls) =
+      elim (eqb k n) as (λ b. Type 0)
+      [ true ↦ Unit {0} | false ↦ elim (eqb k m) as (λ b. Type 0) [ true ↦ Says × EachBefore n m ls | false ↦ EachBefore n m ls ] ]
+
+  pub each-said : (n m : ℕ) {cs : List Check} (ls : Laws Whole Claim cs) → AllBefore n ls → EachBefore n m ls
+  each-said n m none a = tt
+  each-said n m (_&_ {number = k} {Says = Says} l ls) a = go (eqb k n) (eqb k m) a (each-said n m ls)
+    where
+      go : (b d : Bool) → elim b as (λ b. Type 0) [ true ↦ Unit {0} | false ↦ Says × AllBefore n ls ] → (AllBefore n ls → EachBefore n m ls)
+          → elim b as (λ b. Type 0) [ true ↦ Unit {0} | false ↦ elim d as (λ b. Type 0) [ true ↦ Says × EachBefore n m ls | false ↦ EachBefore n m ls ] ]
+      go true d a later = tt
+      go false true a later = (a .0, later (a .1))
+      go false false a later = later (a .1)
+
   apart-itself : (n : ℕ) {cs : List Check} (ls : Laws Whole Claim cs) → apart n n ls ≡ true
   apart-itself n none = refl
   apart-itself n (_&_ {number = k} l ls) = go (eqb k n) (apart-itself n ls)
@@ -209,12 +226,13 @@ module _ {Whole : Type 0} {Claim : Verdict → Type 0} where
       → Law Whole Claim number (mine ≡ theirs) (case number file at word (not (eqb mine theirs)) ∷ [])
   equal-law number file at word mine theirs h claim = record { passes = equal-passes number file at word mine theirs; in-whole = h; cases = ((refl, λ e. claim), tt) }
 
-  pub places-law : (number file m : ℕ) (fails : ℕ → Bool) → (Whole → (i : ℕ) → i < m → fails i ≡ false) → ((i : ℕ) → Claim (verdict number file i 0))
+  pub places-law : (number file m : ℕ) (fails : ℕ → Bool) → (Whole → (i : ℕ) → i < m → fails i ≡ false)
+      → ((i : ℕ) → i < m → fails i ≡ true → Claim (verdict number file i 0))
       → Law Whole Claim number ((i : ℕ) → i < m → fails i ≡ false) (sweep number file (0 ∷ []) (numbers 0 m) (λ w. fails))
   places-law number file m fails h claim = record {
     passes = places-passes number file m fails;
     in-whole = h;
-    cases = sweep-each number file (numbers 0 m) (λ w. fails) _ (0 ∷ []) (λ w x i y. (refl, λ e. rw (zero-in w x) (claim i)));
+    cases = sweep-each number file (numbers 0 m) (λ w. fails) _ (0 ∷ []) (λ w x i y. (refl, λ e. rw (zero-in w x) (claim i (in-index m i y) e)));
   }
 
   module _ (s : Content) where

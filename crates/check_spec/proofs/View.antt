@@ -15,9 +15,12 @@ use Rattle.netlist.specs.Commands.{stageFile, needed}
 use Rattle.netlist.specs.Reading.{Places, Reading, refused, readable, readFile}
 use Rattle.netlist.specs.Content as old
 use Rattle.netlist.specs.Content.{Coded, Pair, codedAt, gateOf, pairAt, stageOf, referenceOf, holdOf}
-use Rattle.netlist.proofs.Alike.{stage-alike}
+use Rattle.netlist.proofs.Alike.{stage-as-pipeline}
+use Rattle.netlist.proofs.Stages as stages
+use Rattle.netlist.proofs.References as references
+use Rattle.runs.proofs.Test.{clash}
 use Rattle.verdict.specs.Nets as nets
-use Rattle.check_spec.specs.Content.{Content, contentAt, contentOf}
+use Rattle.check_spec.specs.Content.{Content, partAt, contentAt, contentOf}
 use Rattle.check_spec.specs.Verdicts.{refusal, reading}
 use Rattle.check_spec.specs.Demands.{Pass}
 use Rattle.check_spec.specs.Loaded.{pairOf, stageView, referenceView}
@@ -25,32 +28,48 @@ use Rattle.check_spec.specs.Rows.{noGate, driver, setIn, netOf}
 
 -- ---- files
 
--- for now a pipeline holds what a stage does
-pub content-alike : (registers : Bool) (bytes : List ℕ) (x : Reading) → contentAt (stageFile registers) bytes x ≡ contentAt file.Stage bytes x
-unfolding contentAt needed
-content-alike false bytes x = refl
-content-alike true bytes (refused number at) = refl
-content-alike true bytes (readable p) = refl
+-- a stage, and a reference, have no registers
+pub stage-partless : (most : Limits) (bytes : List ℕ) → contentOf file.Stage most bytes .parts ≡ []
+unfolding contentAt
+stage-partless most bytes = go (readFile file.Stage most bytes) refl
+  where
+    go : (x : Reading) → readFile file.Stage most bytes ≡ x → contentAt file.Stage bytes x .parts ≡ []
+    go (refused number at) e = refl
+    go (readable p) e = ap (map (partAt bytes)) (stages.no-parts most bytes p e)
 
-pub content-plain : (registers : Bool) (most : Limits) (bytes : List ℕ) → contentOf (stageFile registers) most bytes ≡ contentOf file.Stage most bytes
-content-plain registers most bytes =
-    content-alike registers bytes (readFile (stageFile registers) most bytes) ∙ ap (contentAt file.Stage bytes) (stage-alike registers most bytes)
+pub reference-partless : (most : Limits) (bytes : List ℕ) → contentOf file.Reference most bytes .parts ≡ []
+unfolding contentAt
+reference-partless most bytes = go (readFile file.Reference most bytes) refl
+  where
+    go : (x : Reading) → readFile file.Reference most bytes ≡ x → contentAt file.Reference bytes x .parts ≡ []
+    go (refused number at) e = refl
+    go (readable p) e = ap (map (partAt bytes)) (references.no-parts most bytes p e)
+
+-- a pipeline that reads holds what it would as a stage, and its registers and C-elements
+content-alike : (registers : Bool) (bytes : List ℕ) (p : Places) → contentAt (stageFile registers) bytes (readable p) ≡ contentAt file.Stage bytes (readable p)
+unfolding contentAt needed
+content-alike false bytes p = refl
+content-alike true bytes p = refl
 
 -- what reads as a stage reads alike with registers
 pub pipeline-reads : (registers : Bool) (most : Limits) (bytes : List ℕ) {c : Content} → Pass (reading file.Stage most bytes) × (contentOf file.Stage most bytes ≡ c)
     → Pass (reading (stageFile registers) most bytes) × (contentOf (stageFile registers) most bytes ≡ c)
 unfolding refusal
-pipeline-reads registers most bytes h = (rw (stage-alike registers most bytes) (passes registers (readFile file.Stage most bytes) (h .0)), content-plain registers most bytes ∙ h .1)
+pipeline-reads registers most bytes {c} h = go (readFile file.Stage most bytes) refl (h .0) (h .1)
   where
-    passes : (registers : Bool) (x : Reading) → Pass (refusal file.Stage x) → Pass (refusal (stageFile registers) x)
-    passes false x p = p
-    passes true (refused number at) p = p
-    passes true (readable q) p = p
+    alike : (registers : Bool) (p : Places) → readFile file.Stage most bytes ≡ readable p → readFile (stageFile registers) most bytes ≡ readable p
+    alike false p e = e
+    alike true p e = stage-as-pipeline most bytes p e
+
+    go : (x : Reading) → readFile file.Stage most bytes ≡ x → Pass (refusal file.Stage x) → contentAt file.Stage bytes x ≡ c
+        → Pass (refusal (stageFile registers) (readFile (stageFile registers) most bytes)) × (contentAt (stageFile registers) bytes (readFile (stageFile registers) most bytes) ≡ c)
+    go (refused number at) e pass is = absurd (clash refl (pass .0))
+    go (readable p) e pass is = rw (alike registers p e) (tt, content-alike registers bytes p ∙ is)
 
 pub stage-view : (registers : Bool) (bytes : List ℕ) (p : Places) → stageView (contentAt (stageFile registers) bytes (readable p)) ≡ stageOf bytes p
 unfolding contentAt stageOf operands
 stage-view registers bytes p =
-    ap stageView (content-alike registers bytes (readable p)) ∙
+    ap stageView (content-alike registers bytes p) ∙
     ap₂ (λ (gates : List old.Gate) (outputs : List Pair). record { inputs = p .inputs; gates = gates; outputs = outputs; care = p .care })
     (map-map gateOf (codedAt file.Stage bytes) (p .gates)) (pairs (p .outputs))
   where

@@ -23,7 +23,10 @@ use Rattle.netlist.specs.declared.File.the-variants.{Stage, Reference}
 use Rattle.netlist.specs.Reading.{stageLimits}
 use Rattle.check_spec.specs.Cases.{verdict, accepted, Case, Check}
 use Rattle.check_spec.specs.Lists.{bitOf, some, reaches}
-use Rattle.check_spec.specs.Content.{Content, Files, rawIn, stageIn, referenceIn}
+use Rattle.wiring_spec.specs.Parts.{Pipeline, registerCount}
+use Rattle.wiring_spec.specs.Wiring.{circular}
+use Rattle.wiring_spec.specs.Passing.{Circular, Uneven, Missing, Barred, Passes, Nowhere, WiringMeans}
+use Rattle.check_spec.specs.Content.{Content, pipelineOf, Files, rawIn, stageIn, referenceIn}
 use Rattle.check_spec.specs.Rows.{driver, cellIn, netOf, risen, fallen, dataOf, allData, allNull, feeding, reachesItself}
 use Rattle.check_spec.specs.Words.{railsFor, spelled, IsWord, answer}
 use Rattle.check_spec.specs.Checks.{rest, retiredGate, illegal}
@@ -81,9 +84,14 @@ pub record Rises (f : Files) (net : ℕ) : Type 0 where
   pub legal : RiseList (netOf (stageIn f)) (railsFor in-word) list
   pub high : after low list net ≡ true
 
+-- how the stage of two files is wired
+abbrev pub wiringIn : Files → Pipeline
+wiringIn f = pipelineOf (rawIn f)
+
 -- No gate is of a retired kind (M-108), "for every input word", of M-101 every care word, "its settled outputs spell the reference's answer
--- and it is input-complete and observable as NCL defines these", and every gate rises in some care word (M-110).
+-- and it is input-complete and observable as NCL defines these", every gate rises in some care word (M-110), and the wiring passes (M-111).
 pub record Acceptable (f : Files) : Type 0 where
+  pub wiring : Passes (wiringIn f)
   pub cast : (net : ℕ) → IsGate (netOf (stageIn f)) net → isRetired (cellIn (driver (stageIn f) net)) ≡ false
   pub conforms : (w : ℕ) → IsWord (stageIn f) w → Conforms (netOf (stageIn f)) (railsFor w) (answerTo f w)
   pub rises : (net : ℕ) → IsGate (netOf (stageIn f)) net → Rises f net
@@ -97,7 +105,7 @@ TheOnly P R = P R × ((r : Row) → P r → r ≡ R)
 -- 12, DATA and NULL are those of the theory of runs, and the rows of 13 to 15, 20, 21 and 32 are the settled ones of a loop-free stage: settled for given
 -- rails, with nets held low (the rails of an input, or a gate), and by the fall rule. Of M-102: "a stage without relaxed kinds" is "never to meet the
 -- two fall refusals". Of M-106: "acceptance is the same under either order". Of M-108: the check "refuses" retired kinds, at the least such gate,
--- whatever the stage does in its words.
+-- whatever the stage does in its words. Of M-111: 33, 34 and 35 test what the paper says, and a loop-free stage stays one when its registers become wires.
 pub record Demand2 (order : WordOrder) (f : Files) (v : Verdict) : Type 0 where
   pub exactly : Comparable f → (v ≡ accepted) ↔ Acceptable f
   pub least : Judged (checksOn order f) v
@@ -111,7 +119,9 @@ pub record Demand2 (order : WordOrder) (f : Files) (v : Verdict) : Type 0 where
       → TheOnly (SettledKept (netOf (stageIn f)) X (rest (stageIn f) w)) (fallen (netOf (stageIn f)) (rest (stageIn f) w) X)
   pub hold-only : ((net : ℕ) → IsGate (netOf (stageIn f)) net → netOf (stageIn f) .hold net ≡ true) → ¬ ((v .number ≡ 20) ⊎ (v .number ≡ 21))
   pub either-order : (other : WordOrder) → (v ≡ accepted) ↔ (verdictOn other f ≡ accepted)
-  pub retired : Comparable f → (g : ℕ) → g < length (stageIn f .gates) → retiredGate (stageIn f) g ≡ true
+  pub wiring-is : WiringMeans (wiringIn f)
+  pub wires-free : LoopFree (netOf (rawIn f)) → Nowhere (wiringIn f) (circular (wiringIn f)) → LoopFree (netOf (stageIn f))
+  pub retired : Comparable f → Passes (wiringIn f) → (g : ℕ) → g < length (stageIn f .gates) → retiredGate (stageIn f) g ≡ true
       → ((k : ℕ) → k < g → retiredGate (stageIn f) k ≡ false) → v ≡ verdict 28 1 g 0
 
 -- ---- demand 3
@@ -159,11 +169,19 @@ pub record Idle (f : Files) (v : Verdict) : Type 0 where
 abbrev pub AcceptedUnlessIdle : WordOrder → Files → Type 0
 AcceptedUnlessIdle order f = (verdictOn order f ≡ accepted) ⊎ Idle f (verdictOn order f)
 
+-- refused by 33, 34 or 35: a register of the stage, in the paper's words
+pub record Miswired (p : Pipeline) (v : Verdict) : Type 0 where
+  pub register : v .at < registerCount p
+  pub circular : v .number ≡ 33 → Circular p (v .at) ⊎ Uneven p (v .at)
+  pub missing : v .number ≡ 34 → Missing p (v .at)
+  pub barred : v .number ≡ 35 → Barred p (v .at)
+
 -- What demand 3 says of a verdict on two files, by its number
 pub record Demand3 (order : WordOrder) (f : Files) (v : Verdict) : Type 0 where
   pub kept : v .number ≡ 0 → (v ≡ accepted) × BothRead f × ((w : ℕ) → IsWord (stageIn f) w → Kept f w)
   pub broken : some (eqb (v .number)) (13 ∷ 14 ∷ 15 ∷ 20 ∷ 21 ∷ []) ≡ true → BothRead f × Broken f (spelled order (stageIn f .inputs) (v .word)) v
   pub idle : v .number ≡ 32 → BothRead f × Idle f v
+  pub miswired : some (eqb (v .number)) (33 ∷ 34 ∷ 35 ∷ []) ≡ true → BothRead f × Miswired (wiringIn f) v
 
 -- ---- the settled-row call
 

@@ -2,216 +2,156 @@
 -- Assumes nothing.
 use Prim.Native.Nat.{ℕ, zero, suc, _+_, _*_, _≤_, _<_}
 use native.Mathlib.Omega.{arith}
-use mathlib.Core.Path.{_≡_, refl, sym, ap, ap₂, _∙_, subst}
+use mathlib.Core.Path.{_≡_, refl, sym, ap, _∙_, subst}
 use mathlib.Core.Bool.{Bool, true, false}
-use mathlib.Core.Logic.{_⊎_, inl, inr, ⊎-elim}
 use mathlib.Core.List.{List, [], _∷_, map}
-use lib.ListN.{length, length-map}
-use borrow.Author.Tests.{eq-eqb}
-use Rattle.netlist.specs.Content.{Gate, Pair, Stage}
-use Rattle.verdict.specs.Graph.{In, Leads, here, onward, OnLoop, leads}
-use Rattle.verdict.specs.Loops.{pinsAt, NoLoop}
-use Rattle.verdict.specs.Loops as loops
-use Rattle.verdict.proofs.Graph.{leads-trans, leads-sound, leads-complete}
-use Rattle.verdict.proofs.Reaching.{step-gate}
-use Rattle.wiring_spec.specs.Parts.{Pipeline, Driver, input, gate, rail0, rail1, acknowledge, completion, nothing, driverOf, allNets, registersOf, registerAt, registerCount, carriesData, isNet, names}
-use Rattle.wiring_spec.specs.Wiring.{throughData, dataSteps, isRailOf}
-use Rattle.wiring_spec.specs.Passing.{ReachesItself, Named}
-use Rattle.wiring_spec.specs.Wires.{wireOf, times, resolve, wiredGate, wiredPair, renamed, wired}
-use Rattle.wiring_spec.specs.Counting.{passing}
-use Rattle.wiring_spec.proofs.Counting.{passing-bound, fewer}
-use Rattle.wiring_spec.proofs.Nets.{never, net-inside, Stands, stands, gate-driver, rail-inside, data-inside, rail-net}
-use Rattle.wiring_spec.proofs.Loops.{no-data-loop}
-
--- a net is its own wire, or it is a rail of a register and its wire is one of that register's data rails
-pub data Wired (p : Pipeline) (x : ℕ) (d : Driver) : Type 0 where
-  same : wireOf p x d ≡ x → ((k : ℕ) → isRailOf k d ≡ true → ⊥) → Wired p x d
-  other : (k : ℕ) → isRailOf k d ≡ true → (wireOf p x d ≡ registerAt p k .data0) ⊎ (wireOf p x d ≡ registerAt p k .data1) → In (wireOf p x d) (throughData p d) → Wired p x d
-
-wire-cases : (p : Pipeline) (x : ℕ) (d : Driver) → Wired p x d
-unfolding wireOf throughData isRailOf
-wire-cases p x input = same refl (λ k e. never e)
-wire-cases p x (gate pins) = same refl (λ k e. never e)
-wire-cases p x (rail0 k) = other k (eq-eqb k k refl) (inl refl) (inl refl)
-wire-cases p x (rail1 k) = other k (eq-eqb k k refl) (inr refl) (inr (inl refl))
-wire-cases p x (acknowledge k) = same refl (λ k e. never e)
-wire-cases p x (completion pins) = same refl (λ k e. never e)
-wire-cases p x nothing = same refl (λ k e. never e)
+use mathlib.Core.Logic.{inl, inr}
+use lib.ListN.{length, getD}
+use borrow.Author.Tests.{eq-eqb, eqb-true}
+use Rattle.gates.specs.Cell.{bit}
+use Rattle.verdict.specs.Paths.{In, Leads, here, onward, OnLoop}
+use Rattle.verdict.proofs.Graph.{leads-trans, rank-≤}
+use Rattle.wiring_spec.specs.Parts.{Pipeline, Driver, input, gate, rail, acknowledge, completion, nothing, driverOf, registersOf, dataOf, registerCount}
+use Rattle.wiring_spec.specs.Wiring.{gateSteps, isRailOf, sources}
+use Rattle.wiring_spec.specs.Passing.{ReachesOn}
+use Rattle.wiring_spec.specs.Wires.{wireOf, times, resolve}
+use Rattle.wiring_spec.specs.Named.{carriesData, IsData, Named}
+use Rattle.wiring_spec.proofs.Nets.{never, Stands, stands, rail-inside, data-in}
+use Rattle.wiring_spec.proofs.Passing.{source-in, step-inside}
+use Rattle.wiring_spec.proofs.Levels.{rank, source-falls, register-rank}
+use Rattle.wiring_spec.proofs.Loops.{throughData, dataSteps, gate-data, no-data-loop}
 
 module _ (p : Pipeline) where
   abbrev wire : ℕ → ℕ
   wire x = wireOf p x (driverOf p x)
 
-  abbrev next : ℕ → List ℕ
-  next x = dataSteps p x
+  -- a net is its own wire, or it is a rail of a register and its wire is at that register's data
+  data Wired (x : ℕ) (d : Driver) : Type 0 where
+    same : wireOf p x d ≡ x → ((k : ℕ) → isRailOf k d ≡ true → ⊥) → Wired x d
+    other : (k : ℕ) → k < registerCount p → isRailOf k d ≡ true → In (wireOf p x d) (dataOf p k) → In (wireOf p x d) (throughData p d) → Wired x d
 
-  wire-leads : (x : ℕ) → Leads next (wire x) x
-  wire-leads x = go (wire-cases p x (driverOf p x))
+  wired : (x : ℕ) → Wired x (driverOf p x)
+  unfolding wireOf throughData isRailOf
+  wired x = go (driverOf p x) (stands p x)
     where
-      go : Wired p x (driverOf p x) → Leads next (wire x) x
-      go (same e n) = subst (λ (y : ℕ). Leads next y x) (sym e) here
-      go (other k e w i) = onward i here
+      go : (d : Driver) → Stands p d x → Wired x d
+      go input s = same refl (λ k e. never e)
+      go (gate pins) s = same refl (λ k e. never e)
+      go (rail k b) s = other k s (eq-eqb k k refl) (data-in p k b s) (data-in p k b s)
+      go (acknowledge k) s = same refl (λ k e. never e)
+      go (completion pins) s = same refl (λ k e. never e)
+      go nothing s = same refl (λ k e. never e)
 
-  times-leads : (k x : ℕ) → Leads next (times k wire x) x
+  times-leads : (k x : ℕ) → Leads (dataSteps p) (times k wire x) x
   unfolding times
   times-leads zero x = here
-  times-leads (suc k) x = leads-trans next (wire x) (times k wire (wire x)) (wire-leads x) (times-leads k (wire x))
-
-  -- a net leads to what it is resolved to
-  pub resolve-leads : (x : ℕ) → Leads next (resolve p x) x
-  unfolding resolve
-  resolve-leads x = times-leads (registerCount p) x
+  times-leads (suc k) x = leads-trans (dataSteps p) (wire x) (times k wire (wire x)) (go (wired x)) (times-leads k (wire x))
+    where
+      go : Wired x (driverOf p x) → Leads (dataSteps p) (wire x) x
+      go (same e n) = subst (λ (y : ℕ). Leads (dataSteps p) y x) (sym e) here
+      go (other k h e i s) = onward s here
 
   -- ---- the stage without registers has no loop
+
+  -- the steps through gates whose pins are resolved
+  abbrev pub wiredSteps : ℕ → List ℕ
+  wiredSteps x = map (resolve p) (gateSteps p x)
 
   in-map : (f : ℕ → ℕ) (xs : List ℕ) (y : ℕ) → In y (map f xs) → (u : ℕ) × In u xs × (y ≡ f u)
   in-map f [] y i = absurd i
   in-map f (x ∷ xs) y (inl e) = (x, inl refl, e)
   in-map f (x ∷ xs) y (inr i) = let r = in-map f xs y i in (r .0, inr (r .1), r .2)
 
-  wired-pins : (gates : List Gate) (k : ℕ) → pinsAt (map (wiredGate (resolve p)) gates) k ≡ map (resolve p) (pinsAt gates k)
-  unfolding wiredGate
-  wired-pins [] k = refl
-  wired-pins (g ∷ gates) zero = refl
-  wired-pins (g ∷ gates) (suc k) = wired-pins gates k
-
-  abbrev wiredSteps : ℕ → List ℕ
-  wiredSteps x = loops.gateSteps (p .raw .inputs) (wired p .gates) x
-
-  -- a step in the wired stage is a step through a gate of the raw one, and on along wires
-  wired-step : (x z : ℕ) → In z (wiredSteps x) → (u : ℕ) × In u (next x) × Leads next z u
-  unfolding wired renamed throughData
+  -- such a step is one through a gate, and on along wires
+  wired-step : (x z : ℕ) → In z (wiredSteps x) → (u : ℕ) × In u (dataSteps p x) × Leads (dataSteps p) z u
+  unfolding resolve
   wired-step x z i =
-      let s = step-gate (p .raw .inputs) (wired p .gates) x z i in
-      let r = in-map (resolve p) (pinsAt (p .raw .gates) (s .0)) z (subst (In z) (wired-pins (p .raw .gates) (s .0)) (s .3)) in
-      let h : s .0 < length (p .raw .gates) = omega (arith, s .1, length-map (p .raw .gates) (wiredGate (resolve p))) in
-      let d = ap (driverOf p) (s .2) ∙ gate-driver p (s .0) h in
-      (r .0, subst (λ (d : Driver). In (r .0) (throughData p d)) (sym d) (r .1), subst (λ (y : ℕ). Leads next y (r .0)) (sym (r .2)) (resolve-leads (r .0)))
+      let r = in-map (resolve p) (gateSteps p x) z i in
+      (r .0, gate-data p (driverOf p x) (r .0) (r .1), subst (λ (y : ℕ). Leads (dataSteps p) y (r .0)) (sym (r .2)) (times-leads (registerCount p) (r .0)))
 
-  wired-leads : (y : ℕ) {x : ℕ} → Leads wiredSteps y x → Leads next y x
+  wired-leads : (y : ℕ) {x : ℕ} → Leads wiredSteps y x → Leads (dataSteps p) y x
   wired-leads y here = here
-  wired-leads y (onward {x = x} {z = z} i l) = let s = wired-step x z i in onward (s .1) (leads-trans next z y (s .2) (wired-leads y l))
+  wired-leads y (onward {x = x} {z = z} i l) = let s = wired-step x z i in onward (s .1) (leads-trans (dataSteps p) z y (s .2) (wired-leads y l))
 
-  module _ (gates : NoLoop (p .raw .inputs) (p .raw .gates)) (forward : (k : ℕ) → k < registerCount p → ¬ (ReachesItself p k)) where
-    -- no loop of gates and no register that reaches itself: the wired stage has no loop
-    pub wired-no-loop : NoLoop (wired p .inputs) (wired p .gates)
-    unfolding wired renamed
-    wired-no-loop g h l =
-        let x = 2 * p .raw .inputs + g in
-        let s = wired-step x (l .0) (l .1) in
-        no-data-loop p gates forward x (s .0, s .1, leads-trans next (l .0) x (s .2) (wired-leads x (l .2)))
+  -- no loop of gates and no register that reaches itself: the wired stage has no loop
+  pub wired-no-loop : ((x : ℕ) → ¬ (OnLoop (gateSteps p) x)) → ((k : ℕ) → ¬ (ReachesOn p k k)) → (x : ℕ) → ¬ (OnLoop wiredSteps x)
+  wired-no-loop gates forward x l =
+      let s = wired-step x (l .0) (l .1) in
+      no-data-loop p gates forward x (s .0, s .1, leads-trans (dataSteps p) (l .0) x (s .2) (wired-leads x (l .2)))
 
   -- ---- resolving ends
 
-  module _ (named : Named p) (forward : (k : ℕ) → k < registerCount p → ¬ (ReachesItself p k)) where
-    -- net x leads to a rail of register k
-    comes : ℕ → ℕ → Bool
-    comes x k = leads next (λ y. isRailOf k (driverOf p y)) (allNets p) x
+  module _ (named : Named p) (forward : (k : ℕ) → ¬ (ReachesOn p k k)) where
+    rankOf : Driver → ℕ
+    rankOf input = 0
+    rankOf (gate pins) = 0
+    rankOf (rail k b) = rank p forward k
+    rankOf (acknowledge k) = 0
+    rankOf (completion pins) = 0
+    rankOf nothing = 0
 
-    -- the registers that a net comes from are counted: fewer come to the net at a register's data
-    rank : ℕ → ℕ
-    rank x = passing (comes x) (registerCount p)
+    rank-rail : (k : ℕ) (d : Driver) → isRailOf k d ≡ true → rankOf d ≡ rank p forward k
+    unfolding rankOf isRailOf
+    rank-rail k input e = absurd (never e)
+    rank-rail k (gate pins) e = absurd (never e)
+    rank-rail k (rail j b) e = ap (rank p forward) (eqb-true j k e)
+    rank-rail k (acknowledge j) e = absurd (never e)
+    rank-rail k (completion pins) e = absurd (never e)
+    rank-rail k nothing e = absurd (never e)
 
-    module _ (x k : ℕ) (hk : k < registerCount p) (e : isRailOf k (driverOf p x) ≡ true) (i : In (wire x) (next x)) (w : (wire x ≡ registerAt p k .data0) ⊎ (wire x ≡ registerAt p k .data1)) where
-      here-inside : x < allNets p
-      here-inside = net-inside p x (rail-net k (driverOf p x) e)
+    -- a driver ranks below what its register, if it has one, ranks below
+    rank-below : (bound : ℕ) → 1 ≤ bound → (d : Driver) → ((j : ℕ) → isRailOf j d ≡ true → rank p forward j < bound) → rankOf d < bound
+    unfolding rankOf isRailOf
+    rank-below bound h input f = h
+    rank-below bound h (gate pins) f = h
+    rank-below bound h (rail j b) f = f j (eq-eqb j j refl)
+    rank-below bound h (acknowledge j) f = h
+    rank-below bound h (completion pins) f = h
+    rank-below bound h nothing f = h
 
-      more : (j : ℕ) → comes (wire x) j ≡ true → comes x j ≡ true
-      unfolding comes
-      more j c =
-          let f = leads-sound next (λ y. isRailOf j (driverOf p y)) (allNets p) (wire x) c in
-          leads-complete next (allNets p) (data-inside p) (λ y. isRailOf j (driverOf p y)) (f .0) (f .1) (f .2) (onward i (f .3))
+    wire-ranks : (fuel x : ℕ) → rankOf (driverOf p x) ≤ suc fuel → rankOf (driverOf p (wire x)) ≤ fuel
+    wire-ranks fuel x h = go (wired x)
+      where
+        go : Wired x (driverOf p x) → rankOf (driverOf p (wire x)) ≤ fuel
+        go (same e n) =
+            let r = rank-below 1 (omega arith) (driverOf p (wire x)) (λ j q. absurd (n j (sym (ap (λ (y : ℕ). isRailOf j (driverOf p y)) e) ∙ q))) in omega arith
+        go (other k l e i s) =
+            let r = rank-below (rank p forward k) (register-rank p forward k l) (driverOf p (wire x)) (λ j q. source-falls p forward j k (source-in p j k (wire x, i, wire x, q, here))) in
+            omega (arith, rank-rail k (driverOf p x) e)
 
-      itself : comes x k ≡ true
-      unfolding comes
-      itself = leads-complete next (allNets p) (data-inside p) (λ y. isRailOf k (driverOf p y)) x here-inside e here
-
-      not-back : comes (wire x) k ≡ true → ⊥
-      unfolding comes
-      not-back c =
-          let f = leads-sound next (λ y. isRailOf k (driverOf p y)) (allNets p) (wire x) c in
-          forward k hk (f .0, f .2, ⊎-elim (λ q. inl (subst (Leads next (f .0)) q (f .3))) (λ q. inr (subst (Leads next (f .0)) q (f .3))) w)
-
-      rank-falls : rank (wire x) < rank x
-      unfolding rank
-      rank-falls = fewer (comes (wire x)) (comes x) (registerCount p) k more hk itself not-back
-
-    stays : (k x : ℕ) → wire x ≡ x → times k wire x ≡ x
+    -- no rail is left after so many wires
+    ends : (fuel x : ℕ) → rankOf (driverOf p x) ≤ fuel → (k : ℕ) → isRailOf k (driverOf p (times fuel wire x)) ≡ true → ⊥
     unfolding times
-    stays zero x e = refl
-    stays (suc k) x e = ap (times k wire) e ∙ stays k x e
+    ends zero x h k e = omega (arith, rank-rail k (driverOf p x) e, register-rank p forward k (rail-inside p k x e))
+    ends (suc fuel) x h k e = ends fuel (wire x) (wire-ranks fuel x h) k e
 
-    rail-count : (k x : ℕ) → isRailOf k (driverOf p x) ≡ true → k < registerCount p
-    rail-count k x e = rail-inside p k x e
-
-    times-ends : (fuel x : ℕ) → rank x ≤ fuel → wire (times fuel wire x) ≡ times fuel wire x
-    unfolding times
-    times-ends zero x h = go (wire-cases p x (driverOf p x))
-      where
-        go : Wired p x (driverOf p x) → wire x ≡ x
-        go (same e n) = e
-        go (other k e w i) = absurd (omega (arith, rank-falls x k (rail-count k x e) e i w))
-    times-ends (suc fuel) x h = go (wire-cases p x (driverOf p x)) (times-ends fuel (wire x))
-      where
-        go : Wired p x (driverOf p x) → (rank (wire x) ≤ fuel → wire (times fuel wire (wire x)) ≡ times fuel wire (wire x)) → wire (times fuel wire (wire x)) ≡ times fuel wire (wire x)
-        go (same e n) r = let s = stays fuel (wire x) (ap wire e) in ap wire s ∙ ap wire e ∙ sym s
-        go (other k e w i) r = r (omega (arith, rank-falls x k (rail-count k x e) e i w))
-
-    -- a resolved net is its own wire
-    pub resolve-ends : (x : ℕ) → wire (resolve p x) ≡ resolve p x
-    unfolding resolve rank
-    resolve-ends x = times-ends (registerCount p) x (passing-bound (comes x) (registerCount p))
-
-    wire-data : (x : ℕ) → carriesData (driverOf p x) ≡ true → carriesData (driverOf p (wire x)) ≡ true
-    unfolding names
-    wire-data x c = go (wire-cases p x (driverOf p x))
-      where
-        go : Wired p x (driverOf p x) → carriesData (driverOf p (wire x)) ≡ true
-        go (same e n) = ap (λ (y : ℕ). carriesData (driverOf p y)) e ∙ c
-        go (other k e w i) = named .dataPin x (wire x) i
-
-    times-data : (k x : ℕ) → carriesData (driverOf p x) ≡ true → carriesData (driverOf p (times k wire x)) ≡ true
+    times-data : (k x : ℕ) → IsData p x → IsData p (times k wire x)
     unfolding times
     times-data zero x c = c
-    times-data (suc k) x c = times-data k (wire x) (wire-data x c)
+    times-data (suc k) x c = times-data k (wire x) (go (wired x))
+      where
+        go : Wired x (driverOf p x) → IsData p (wire x)
+        go (same e n) = ap (λ (y : ℕ). carriesData (driverOf p y)) e ∙ c
+        go (other j l e i s) = named .rail j (wire x) i
 
     -- a data net is resolved to a rail of an input or to a gate
-    pub resolve-inside : (x : ℕ) → carriesData (driverOf p x) ≡ true → resolve p x < 2 * p .raw .inputs + length (p .raw .gates)
-    unfolding carriesData isRailOf resolve
-    resolve-inside x c = go (driverOf p (resolve p x)) (stands p (resolve p x)) (times-data (registerCount p) x c) not-rail
+    pub resolve-inside : (x : ℕ) → IsData p x → resolve p x < 2 * p .inputs + length (p .gates)
+    unfolding resolve carriesData isRailOf
+    resolve-inside x c =
+        let m = registerCount p in
+        let few = rank-below (suc m) (omega arith) (driverOf p x) (λ j q. omega (arith, rank-≤ (sources p) m (step-inside p) j)) in
+        go (driverOf p (resolve p x)) (stands p (resolve p x)) (times-data m x c) (ends m x (omega arith))
       where
-        not-rail : (k : ℕ) → isRailOf k (driverOf p (resolve p x)) ≡ true → ⊥
-        not-rail k e = at (wire-cases p (resolve p x) (driverOf p (resolve p x)))
-          where
-            at : Wired p (resolve p x) (driverOf p (resolve p x)) → ⊥
-            at (same e′ n) = n k e
-            at (other j e′ w i) = omega (arith, rank-falls (resolve p x) j (rail-count j (resolve p x) e′) e′ i w, ap rank (resolve-ends x))
-
-        go : (d : Driver) → Stands p d (resolve p x) → carriesData d ≡ true → ((k : ℕ) → isRailOf k d ≡ true → ⊥) → resolve p x < 2 * p .raw .inputs + length (p .raw .gates)
+        go : (d : Driver) → Stands p d (resolve p x) → carriesData d ≡ true → ((k : ℕ) → isRailOf k d ≡ true → ⊥) → resolve p x < 2 * p .inputs + length (p .gates)
         go input s c n = omega arith
         go (gate pins) s c n = omega (arith, s .1, s .2)
-        go (rail0 k) s c n = absurd (n k (eq-eqb k k refl))
-        go (rail1 k) s c n = absurd (n k (eq-eqb k k refl))
+        go (rail k b) s c n = absurd (n k (eq-eqb k k refl))
         go (acknowledge k) s c n = absurd (never c)
         go (completion pins) s c n = absurd (never c)
         go nothing s c n = absurd (never c)
 
   -- ---- without registers nothing changes
 
-  module _ (none : p .parts ≡ []) where
-    resolve-none : (x : ℕ) → resolve p x ≡ x
-    unfolding resolve registerCount registersOf times
-    resolve-none x = rw none
-
-    map-same : {A : Type 0} (f : A → A) → ((x : A) → f x ≡ x) → (xs : List A) → map f xs ≡ xs
-    map-same f h [] = refl
-    map-same f h (x ∷ xs) = ap₂ _∷_ (h x) (map-same f h xs)
-
-    pub wired-none : wired p ≡ p .raw
-    unfolding wired renamed wiredGate wiredPair
-    wired-none = λ i. record {
-      inputs = p .raw .inputs;
-      gates = map-same _ (λ (g : Gate). λ j. record { cell = g .cell; hold = g .hold; pins = map-same (resolve p) resolve-none (g .pins) j }) (p .raw .gates) i;
-      outputs = map-same _ (λ (q : Pair). λ j. record { rail0 = resolve-none (q .rail0) j; rail1 = resolve-none (q .rail1) j }) (p .raw .outputs) i;
-      care = p .raw .care;
-    }
+  pub resolve-none : p .parts ≡ [] → (x : ℕ) → resolve p x ≡ x
+  unfolding resolve registerCount registersOf times
+  resolve-none none x = rw none

@@ -1,0 +1,35 @@
+-- What 33, 34 and 35 test is what the paper says, of any pipeline; and one without registers passes.
+-- Assumes nothing.
+use Prim.Native.Nat.{ℕ, _<_}
+use native.Mathlib.Omega.{arith}
+use mathlib.Core.Path.{_≡_, refl}
+use mathlib.Core.List.{[]}
+use lib.ListN.{length}
+use Rattle.runs.proofs.Test.{clash}
+use Rattle.wiring_spec.specs.Parts.{Pipeline, registersOf, registerCount}
+use Rattle.wiring_spec.specs.Wiring.{circular}
+use Rattle.wiring_spec.specs.Passing.{ReachesOn, Nowhere, Passes, WiringMeans}
+use Rattle.wiring_spec.proofs.Passing.{source-in, source-out, on-inside, circular-sound, circular-complete, uneven-sound, uneven-complete, missing-sound, missing-complete, barred-sound, barred-complete, passes-exactly}
+use Rattle.wiring_spec.proofs.Levels.{level-is}
+use mathlib.Core.Logic.{inl}
+
+-- the first pass of 33 finds no register that reaches itself
+pub forward : (p : Pipeline) → Nowhere p (circular p) → (k : ℕ) → ¬ (ReachesOn p k k)
+forward p none k r = clash (circular-complete p k (inl r)) (none k (on-inside p k r))
+
+pub wiring-means : (p : Pipeline) → WiringMeans p
+wiring-means p = record {
+  circular-is = λ k. (circular-sound p k, circular-complete p k);
+  uneven-is = λ t. (uneven-sound p t, uneven-complete p t);
+  missing-is = λ k. (missing-sound p k, missing-complete p k);
+  barred-is = λ k. (barred-sound p k, barred-complete p k);
+  passes-exactly = passes-exactly p;
+  sources-are = λ k t. (source-out p k t, source-in p k t);
+  levels = λ none t h. level-is p (forward p none) t h;
+}
+
+pub passes-none : (p : Pipeline) → p .parts ≡ [] → Passes p
+unfolding registerCount registersOf
+passes-none p none =
+    let few : registerCount p ≡ 0 = rw none in
+    passes-exactly p .1 (record { circular = λ k h. absurd (omega arith); uneven = λ k h. absurd (omega arith); missing = λ k h. absurd (omega arith); barred = λ k h. absurd (omega arith) })
