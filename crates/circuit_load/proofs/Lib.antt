@@ -1,4 +1,5 @@
 pub mod Numbers
 pub mod Reading
 pub mod Stages
+pub mod Tables
 pub mod References
