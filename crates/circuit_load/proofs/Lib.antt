@@ -2,4 +2,5 @@ pub mod Numbers
 pub mod Reading
 pub mod Stages
 pub mod Tables
+pub mod Holding
 pub mod References

@@ -31,10 +31,11 @@ pub record FileRead (f : File) (most : Limits) (s places : List ℕ) (c : Counts
   pub room : firstCare most + mostCare f most ≤ length places
   pub read : Read f most s (placesIn most c places)
 
--- a stage file, with registers or without
+-- a stage file was read, with registers or without
 pub record StageRead (most : Limits) (s places : List ℕ) (c : Counts) : Type 0 where
   pub registers : Bool
   pub file-read : FileRead (stageFile registers) most s places c
+  pub counted : countsOf (placesIn most c places) ≡ c
 
 -- what a reading leaves in a flat form: the stage, or the reference, where there is one
 unfoldable pub HoldsStage : List ℕ → Reading → List ℕ → Type 0

@@ -19,7 +19,7 @@ ghost use Rattle.circuit.specs.Stage.{stageIn};
 ghost use Rattle.circuit.specs.Reference.{referenceIn, ReferenceLoaded};
 ghost use Rattle.circuit_load.specs.Load.{placesIn, FileRead, StageRead, RawStage, groundOf, HoldsStage, HoldsReference};
 ghost use Rattle.circuit_load.specs.Load.{pinNumber, cellNumber, gateNumber, stageNumber, operatorNumber, referenceNumber};
-ghost use Rattle.circuit_load.specs.Parts.{partAt, netRows, registerRows, NotesRead, partsIn, PartPut, HoldsPipeline};
+ghost use Rattle.circuit_load.specs.Parts.{partAt, netRows, registerRows, NotesRead, partsIn, PartPut, PipelineHeld, HoldsPipeline};
 
 // The room that the flat forms of the largest stage and of the largest reference take.
 pub const STAGE_CODE: usize = 8 * netlist::STAGE_GATES + 2 * netlist::OUTPUTS + netlist::WORDS;
@@ -226,6 +226,33 @@ fn load_parts(s: &[u8], notes: &[u16], first: usize, nets: &mut [u16], regs: &mu
 
 // ---- a stage file
 
+// The stage that the file holds, and its registers and C-elements.
+fn load_pipeline(
+    s: &[u8],
+    places: &[u16],
+    most: Limits,
+    counts: Counts,
+    code: &mut [u16],
+    nets: &mut [u16],
+    regs: &mut [u16],
+)
+    requires { ⌜ StageRead most (now s) (now places) counts × NoMore most stageLimits
+        × (8 * stageLimits .gates + 2 * stageLimits .outputs + 2 ^ stageLimits .inputs ≤ length (now code))
+        × (32 * mostParts ≤ length (now nets)) × (4 * mostParts ≤ length (now regs)) ⌝ }
+    ensures { λ r. ⌜ PipelineHeld (now (s .entry)) (placesIn most counts (now (places .entry))) (now (code .exit)) (now (nets .exit)) (now (regs .exit)) ⌝ }
+{
+    load_stage(s, places, most, counts, ground_of(counts), code);
+    let from = most.gates + most.outputs;
+    let end = from + (counts.registers + counts.elements);
+    load_parts(
+        s,
+        &places[from..end],
+        2 * counts.inputs + counts.gates,
+        nets,
+        regs,
+    );
+}
+
 // Reads a stage file, with registers or without, within some limits, and loads what it holds.
 pub fn read_pipeline_within(
     registers: bool,
@@ -244,16 +271,7 @@ pub fn read_pipeline_within(
     let mut places = [0u16; STAGE_PLACES];
     let outcome = read_file::read_file(netlist::stage_file(registers), most, s, &mut places);
     if let Outcome::Readable(counts) = outcome {
-        load_stage(s, &places, most, counts, ground_of(counts), code);
-        let from = most.gates + most.outputs;
-        let end = from + (counts.registers + counts.elements);
-        load_parts(
-            s,
-            &places[from..end],
-            2 * counts.inputs + counts.gates,
-            nets,
-            regs,
-        );
+        load_pipeline(s, &places, most, counts, code, nets, regs);
     }
     outcome
 }
