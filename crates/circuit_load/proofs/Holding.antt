@@ -217,6 +217,20 @@ unfolding HoldsPipeline outcomeOf
 holds-no-pipeline s (refused k p) number at code nets regs e = tt
 holds-no-pipeline s (readable p) number at code nets regs e = absurd (let z : _≡_ {A = ℕ} 0 1 = cc in omega arith)
 
+-- what a reading and what it left say together
+pub pipeline-told : (s : List ℕ) (x : Reading) (c : Counts) (code nets regs : List ℕ) → outcome.Readable c ≡ outcomeOf x → HoldsPipeline s x code nets regs →
+    (p : Places) × (x ≡ readable p) × (c ≡ countsOf p) × PipelineHeld s p code nets regs
+unfolding outcomeOf HoldsPipeline
+pipeline-told s (refused k p) c code nets regs e h = absurd (let z : _≡_ {A = ℕ} 0 1 = cc in omega arith)
+pipeline-told s (readable p) c code nets regs e h = (p, refl, cc, h)
+
+-- without registers the stage is one that can be settled
+pub held-plain : (s : List ℕ) (p : Places) (code nets regs : List ℕ) → PipelineHeld s p code nets regs → countsOf p .registers ≡ 0 → StageLoaded (countsOf p) code
+unfolding groundOf
+held-plain s p code nets regs h none =
+    let ground : groundOf (countsOf p) ≡ netCount (countsOf p) = rw (eq-eqb (countsOf p .registers) 0 none) in
+    plain-loaded (netsOf p) (countsOf p) code (rw ground at (h .raw)) refl none
+
 -- the same where the limits are those that were handed on
 pub stage-read-by : {given most : Limits} (s : List ℕ) {r : Outcome} (code : List ℕ) → given ≡ most →
     (r ≡ outcomeOf (readFile file.Stage given s)) × HoldsStage s (readFile file.Stage given s) code →
