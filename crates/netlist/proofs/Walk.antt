@@ -12,16 +12,17 @@ use lib.Pow.{pow-mono}
 use lib.Dec.{eqb, ltb}
 use borrow.Author.Tests.{lt-ltb, le-ltb, ne-eqb, ltb-false, eqb-true, eqb-false, not-false}
 use Rattle.netlist.specs.Types.{File, Sort, Form, Limits, Counts, Cursor, Next, Command, Refused, Found, At, Nothing}
+use Rattle.netlist.specs.Types.file
 use Rattle.netlist.specs.Types.sort
 use Rattle.netlist.specs.Bytes.{byte, operand, operands}
 use Rattle.netlist.specs.Commands.{whenFound, isSort, formOf, mostParts, width, pinsUsed, used, stray, nextAt}
 use Rattle.netlist.specs.Reading.{Nets, nameless, namelessAt, namelessFrom, Places, noPlaces, floorAfter, Ascending, countOf, sortsOf, countsOf, netsOf, noted}
 use Rattle.netlist.specs.Reading.{Reading, refused, readable, finish, onNext, readFrom, readFile}
 use Rattle.netlist.specs.Content.{codedAt}
-use Rattle.netlist.specs.Writing.{formFor, widthFor, operandCount, Item, gate, output, care, register, element, gatesIn, outputsIn, careIn, sortOf, gatePlaces, outputPlaces, placesOf}
+use Rattle.netlist.specs.Writing.{formFor, widthFor, operandCount, Has, Item, gate, output, care, register, element, gatesIn, outputsIn, careIn, sortOf, gatePlaces, outputPlaces, placesOf}
 use Rattle.netlist.specs.Writing.{partPlaces, partsIn, gatesAfter, netsIn}
-use Rattle.netlist.specs.Read.{farthest}
-use Rattle.netlist.proofs.Encoding.{clash, has-end, has-inputs, care-form, gate-form, inputs-form, end-form, item-form, item-width, width-inputs, width-end}
+use Rattle.netlist.specs.Read.{mostOfEither, farthest}
+use Rattle.netlist.proofs.Encoding.{clash, has-end, has-inputs, stage-registerless, stage-elementless, reference-registerless, reference-elementless, care-form, gate-form, inputs-form, end-form, item-form, item-width, width-inputs, width-end}
 use Rattle.netlist.proofs.OneCommand.{Taken, There, there-next, next-there}
 use Rattle.netlist.proofs.Laid.{Shown, ItemLaid, Laid, Named, FileLaid, wiredAt, item-named, named-item, length-gatePlaces, length-outputPlaces, sorts-partPlaces, laid-length}
 
@@ -126,8 +127,27 @@ pub record Near (f : File) (most : Limits) (at : ℕ) (c : Counts) : Type 0 wher
   pub gates-in : c .gates ≤ most .gates
   pub outputs-in : c .outputs ≤ most .outputs
   pub care-in : (c .care ≤ c .floor) × (c .floor ≤ 2 ^ most .inputs)
-  pub registers-in : c .registers ≤ mostParts
-  pub elements-in : c .elements ≤ mostParts
+  pub registers-in : c .registers ≤ mostOfEither f
+  pub elements-in : c .elements ≤ mostOfEither f
+
+-- as many as a pipeline may have, where a file has some
+pub most-parts : (f : File) → mostOfEither f ≤ mostParts
+unfolding mostOfEither
+most-parts file.Stage = omega arith
+most-parts file.Pipeline = omega arith
+most-parts file.Reference = omega arith
+
+register-most : (f : File) → Has f sort.Register → mostOfEither f ≡ mostParts
+unfolding mostOfEither
+register-most file.Stage e = absurd (stage-registerless e)
+register-most file.Pipeline e = refl
+register-most file.Reference e = absurd (reference-registerless e)
+
+element-most : (f : File) → Has f sort.Element → mostOfEither f ≡ mostParts
+unfolding mostOfEither
+element-most file.Stage e = absurd (stage-elementless e)
+element-most file.Pipeline e = refl
+element-most file.Reference e = absurd (reference-elementless e)
 
 module _ (f : File) (most : Limits) where
   pub near-start : Near f most 0 (countsOf noPlaces)
@@ -212,7 +232,7 @@ module _ (f : File) (most : Limits) where
         gates-in = h .gates-in;
         outputs-in = h .outputs-in;
         care-in = h .care-in;
-        registers-in = omega (arith, t .taken);
+        registers-in = omega (arith, t .taken, register-most f (t .own));
         elements-in = omega (arith, h .elements-in);
       })
   near-noted s at p sort.Element more h t =
@@ -226,7 +246,7 @@ module _ (f : File) (most : Limits) where
         outputs-in = h .outputs-in;
         care-in = h .care-in;
         registers-in = omega (arith, h .registers-in);
-        elements-in = omega (arith, t .taken .0);
+        elements-in = omega (arith, t .taken .0, element-most f (t .own));
       })
   near-noted s at p sort.End more h t = absurd (clash (cc))
   near-noted s at p sort.Unknown more h t = absurd (clash (let o = t .ordered in cc))
@@ -298,7 +318,7 @@ module _ (f : File) (most : Limits) (s : List ℕ) (P : Places) where
           laid = record { command = t .command; last = omega (arith, t .room, width-end f, ltb-false (at + 1) (length s) (d .1)) };
           same = sym (added-nil f s at p ∙ d .3);
           care-in = tt;
-          at-end = rw (d .3) at (let x : Ended f most s p = record { gates-in = near .gates-in; outputs-in = (omega arith, near .outputs-in); registers-in = near .registers-in; elements-in = near .elements-in; all-named = d .2 } in x);
+          at-end = rw (d .3) at (let x : Ended f most s p = record { gates-in = near .gates-in; outputs-in = (omega arith, near .outputs-in); registers-in = omega (arith, near .registers-in, most-parts f); elements-in = omega (arith, near .elements-in, most-parts f); all-named = d .2 } in x);
         }
     walked-command sort.Unknown next a t e = absurd (clash (let o = t .ordered in cc))
 

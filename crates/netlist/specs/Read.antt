@@ -5,6 +5,7 @@ use mathlib.Core.Bool.{true}
 use mathlib.Core.List.{List}
 use lib.ListN.{length, getD}
 use Rattle.netlist.specs.Types.{File, Sort, Limits, Found, Nothing, Outcome}
+use Rattle.netlist.specs.Types.file
 use Rattle.netlist.specs.Types.sort
 use Rattle.netlist.specs.Types.outcome
 use Rattle.netlist.specs.Bytes.{byte, operand, absent}
@@ -74,11 +75,17 @@ unfoldable pub outcomeOf : Reading → Outcome
 outcomeOf (refused number at) = outcome.Refused number at
 outcomeOf (readable p) = outcome.Readable (countsOf p)
 
+-- how many registers, and how many C-elements, a file may have: only a pipeline has them
+unfoldable pub mostOfEither : File → ℕ
+mostOfEither file.Stage = 0
+mostOfEither file.Pipeline = mostParts
+mostOfEither file.Reference = 0
+
 -- where a command can end that is read, or refused, after as many gates, outputs, care words, registers and C-elements as there may be
 abbrev pub farthest : File → Limits → ℕ
 farthest f most =
     2 + widthFor f sort.Gate * (most .gates + 1) + widthFor f sort.Output * most .outputs + widthFor f sort.Care * 2 ^ most .inputs
-    + (widthFor f sort.Register * mostParts + widthFor f sort.Element * mostParts)
+    + (widthFor f sort.Register * mostOfEither f + widthFor f sort.Element * mostOfEither f)
 
 -- the program reads at most so many bytes of each file
 abbrev pub mostBytes : ℕ

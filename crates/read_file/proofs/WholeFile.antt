@@ -34,7 +34,7 @@ use Rattle.netlist.proofs.Sort.{the-type}
 use Rattle.read_command.proofs.Arms.{arm}
 use Rattle.netlist.proofs.OneCommand.{There, next-there}
 use Rattle.read_file.proofs.Noting.{counts}
-use Rattle.netlist.proofs.Walk.{care-taken, Near, near-start, near-far, near-noted}
+use Rattle.netlist.proofs.Walk.{most-parts, care-taken, Near, near-start, near-far, near-noted}
 
 -- where a file has care words, there may be as many as words of its inputs
 words-most : (f : File) (most : Limits) → Has f sort.Care → mostCare f most ≡ 2 ^ most .inputs
@@ -147,7 +147,7 @@ module _ {f : File} {most : Limits} {s : List ℕ} {long : ℕ} {places : List �
 
   -- the notes stand in the lent list
   pub notes-room : firstPart most + (c .registers + c .elements) ≤ length places
-  notes-room = omega (arith, w .near .registers-in, w .near .elements-in, room .space, w .long-same)
+  notes-room = omega (arith, w .near .registers-in, w .near .elements-in, most-parts f, room .space, w .long-same)
 
   -- the sums that the search for 9 takes fit
   pub sums-fit : Countable (c .inputs) (c .gates)
@@ -195,7 +195,7 @@ module _ {f : File} {most : Limits} {s : List ℕ} {long : ℕ} {places : List �
             space = omega (arith, room .space, w .long-same);
             gates-in = n .gates-in;
             outputs-in = n .outputs-in;
-            parts-in = omega (arith, n .registers-in, n .elements-in);
+            parts-in = omega (arith, n .registers-in, n .elements-in, most-parts f);
             more = go k there;
           }
         where
@@ -203,8 +203,8 @@ module _ {f : File} {most : Limits} {s : List ℕ} {long : ℕ} {places : List �
           go sort.Inputs t = omega (arith, t .room, width-inputs f)
           go sort.Gate t = t .taken .0
           go sort.Output t = t .taken
-          go sort.Register t = omega (arith, t .taken, w .near .elements-in)
-          go sort.Element t = omega (arith, t .taken .0, w .near .registers-in)
+          go sort.Register t = omega (arith, t .taken, w .near .elements-in, most-parts f)
+          go sort.Element t = omega (arith, t .taken .0, w .near .registers-in, most-parts f)
           go sort.End t = tt
           go sort.Unknown t = tt
           -- a care word follows those before it, and there are no more than words of the inputs

@@ -33,7 +33,10 @@ returns c =
 
 -- the part of the lent slice that holds the notes
 add-end : tie.Need-add-end Inv-loop μ-loop
-add-end c = let loop = c .before .before .before .before .before .before .before .before in omega (arith, loop .loop .inv .near .registers-in, loop .loop .inv .near .elements-in)
+add-end c =
+    let loop = c .before .before .before .before .before .before .before .before in
+    let start = loop .before .before .before .before in
+    omega (arith, notes-room (start .pre) (loop .loop .inv), loop .loop .inv .long-same, start .good)
 
 add-end-2 : tie.Need-add-end-2 Inv-loop μ-loop
 add-end-2 c =
