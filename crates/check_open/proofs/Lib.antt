@@ -1,2 +1,3 @@
 pub mod Itself
 pub mod Opening
+pub mod Standing

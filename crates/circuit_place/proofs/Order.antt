@@ -81,13 +81,13 @@ module _ (p : Pipeline) (first count : ℕ) (nets regs : List ℕ) (loaded : Par
       go nothing r = absurd r
 
   -- a C-element's pins are those four numbers that name nets
-  pin-four : (x v : ℕ) → In v (openings p x) → In v (four nets (8 * (x - first) + 1))
+  pub pin-four : (x v : ℕ) → In v (openings p x) → In v (four nets (8 * (x - first) + 1))
   pin-four x v i =
       let r = element-row x v i in
       let at = index-of (openings p x) v absent i in
       in-four nets (x - first) (at .0) v (omega (arith, at .1, r .few)) (r .pin (at .0) (omega (arith, at .1, r .few)) ∙ at .2)
 
-  four-pin : (x v : ℕ) → ElementRow x → In v (four nets (8 * (x - first) + 1)) → v < allNets p → In v (openings p x)
+  pub four-pin : (x v : ℕ) → ElementRow x → In v (four nets (8 * (x - first) + 1)) → v < allNets p → In v (openings p x)
   four-pin x v r i h =
       let at = four-in nets (x - first) v i in
       let e = sym (r .pin (at .0) (at .1)) ∙ at .2 in

@@ -144,6 +144,11 @@ stands p = each-driver (Stands p) p (λ x h. h) (λ k h. (k, h, refl, refl)) (λ
     late (completion pins) x h l = h
     late nothing x h l = tt
 
+-- before the parts' nets all carry data
+pub early-data : (p : Pipeline) (x : ℕ) → x < 2 * p .inputs + length (p .gates) → IsData p x
+unfolding carriesData
+early-data p = each-driver (λ d x. x < 2 * p .inputs + length (p .gates) → carriesData d ≡ true) p (λ x h l. refl) (λ k h l. refl) (λ x l. absurd (omega arith))
+
 -- C-elements come after the gates
 pub open-late : (p : Pipeline) (x v : ℕ) → In v (openings p x) → 2 * p .inputs + length (p .gates) ≤ x
 unfolding opened
