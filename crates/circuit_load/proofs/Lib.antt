@@ -1,4 +1,6 @@
 pub mod Numbers
 pub mod Reading
 pub mod Stages
+pub mod Tables
+pub mod Holding
 pub mod References

@@ -9,16 +9,16 @@ use mathlib.Core.Bool.{Bool, true}
 use mathlib.Core.List.{List, [], _∷_}
 use lib.ListN.{length, getD}
 use borrow.Author.Tests.{ltb-true, lt-ltb}
-use Rattle.netlist.specs.Types.{File, Sort, Limits}
+use Rattle.netlist.specs.Types.{File, Sort, Form, Limits}
 use Rattle.netlist.specs.Types.file
 use Rattle.netlist.specs.Types.sort
 use Rattle.netlist.specs.Bytes.{byte, operand}
-use Rattle.netlist.specs.Commands.{mostParts, roleOf, needed}
+use Rattle.netlist.specs.Commands.{mostParts, roleOf, width, needed, pinsUsed}
 use Rattle.netlist.specs.Reading.{Nets, names, asked, Places, Ascending, countOf, sortsOf, netsOf, readFile, readable}
-use Rattle.netlist.specs.Writing.{widthFor, operandCount, Item, gate, output, care, register, element, gatesIn, outputsIn, careIn, gatePlaces, outputPlaces, All, EachFrom, partsIn, netsIn}
-use Rattle.netlist.specs.Read.{GateRead, OutputRead, Read}
+use Rattle.netlist.specs.Writing.{widthFor, operandCount, Item, gate, output, care, register, element, gatesIn, outputsIn, careIn, gatePlaces, outputPlaces, All, EachFrom, partPlaces, partsIn, netsIn}
+use Rattle.netlist.specs.Read.{GateRead, OutputRead, PartRead, Read}
 use Rattle.netlist.proofs.Operands.{each-named, same-asked, asked-same}
-use Rattle.netlist.proofs.Encoding.{each-file, KindOfCell, kind-in, operation-needs}
+use Rattle.netlist.proofs.Encoding.{each-file, register-form, element-form, KindOfCell, kind-in, operation-needs}
 use Rattle.netlist.proofs.Laid.{Laid, Named, laid-operands, laid-used, laid-length, length-gatePlaces, length-outputPlaces}
 use Rattle.netlist.proofs.Walk.{LaidItems, readable-laid, nets-places}
 
@@ -127,6 +127,34 @@ module _ (f : File) (s : List ℕ) (N : Nets) where
       }
   output-read at k (output vs ∷ items) two h m (suc i) l = output-read (at + widthFor f sort.Output) k items (omega arith) (h .1) (m .1) i (omega arith)
 
+  parts-read : (at k : ℕ) (items : List Item) → Laid f s at items → Named f N k items → All (PartRead f s N) (partPlaces f at items)
+  parts-read at k [] h m = tt
+  parts-read at k (gate c ∷ items) h m = parts-read (at + widthFor f sort.Gate) (suc k) items (h .1) (m .1)
+  parts-read at k (output vs ∷ items) h m = parts-read (at + widthFor f sort.Output) k items (h .1) (m .1)
+  parts-read at k (care w ∷ items) h m = parts-read (at + widthFor f sort.Care) k items (h .1) (m .1)
+  parts-read at k (register vs ∷ items) h m =
+      let form = register-form f (h .0 .has) in
+      let three = ap (λ (x : Form). x .operands) form in (
+        record {
+          own = h .0 .has;
+          room = omega (arith, h .0 .room, ap width form);
+          after = k;
+          named = λ i l. each-named (asked f sort.Register N k) s (at + 1) (operandCount f sort.Register) (rw (h .0 .shown) (m .0)) i (omega arith);
+        },
+        parts-read (at + widthFor f sort.Register) k items (h .1) (m .1),
+      )
+  parts-read at k (element vs ∷ items) h m =
+      let form = element-form f (h .0 .has) in (
+        record {
+          own = h .0 .has;
+          room = omega (arith, h .0 .room, ap width form);
+          after = k;
+          named = each-named (asked f sort.Element N k) s (at + 1) (pinsUsed s (at + 1)) (rw (h .0 .shown .content) (m .0));
+          fits = rw (ap (λ (x : Form). x .operands) form) at (h .0 .shown .fits);
+        },
+        parts-read (at + widthFor f sort.Element) k items (h .1) (m .1),
+      )
+
 module _ (f : File) (most : Limits) (s : List ℕ) (p : Places) (e : readFile f most s ≡ readable p) where
   found : LaidItems f most s p
   found = readable-laid f most s p e
@@ -168,6 +196,8 @@ module _ (f : File) (most : Limits) (s : List ℕ) (p : Places) (e : readFile f 
         output-at = λ j l.
             let r = output-read f s (netsOf p) 2 0 (found .items) (omega arith) (h .laid) named-found j (omega (arith, count-outputs)) in
             subst (λ (os : List ℕ). OutputRead f s (netsOf p) (getD os j 0)) (sym (ap (λ (x : Places). x .outputs) (found .item-places))) r;
+        parts-at = subst (λ (ps : List (Sort × ℕ)). All (PartRead f s (netsOf p)) ps) (sym (ap (λ (x : Places). x .parts) (found .item-places)))
+            (parts-read f s (netsOf p) 2 0 (found .items) (h .laid) named-found);
       }
 
   -- no readable file is longer than its most gates, outputs, care words, registers and C-elements make it

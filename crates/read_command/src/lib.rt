@@ -89,13 +89,7 @@ fn pipeline_role(sort: Sort, i: usize) -> Role
     match sort {
         Sort::Gate => Role::Data,
         Sort::Output => Role::Data,
-        Sort::Register => {
-            if i < 2 {
-                Role::Data
-            } else {
-                Role::Request
-            }
-        }
+        Sort::Register => { if i < 2 { Role::Data } else { Role::Request } }
         Sort::Element => Role::Pin,
         _ => Role::Number,
     }
