@@ -18,7 +18,8 @@ use Rattle.wiring_spec.specs.Wiring.{openings, isKoOf, behind}
 use Rattle.wiring_spec.specs.Named.{carriesData}
 use Rattle.wiring_spec.specs.Tables.{slot, RowOf, PartsLoaded}
 use Rattle.wiring_spec.specs.Gathering.{Gathers}
-use Rattle.wiring_spec.proofs.Nets.{never, past-nothing, net-where, Stands, stands, early-data, open-inside, open-late}
+use Rattle.wiring_spec.proofs.Nets.{never, net-where, Stands, stands, open-inside, open-late}
+use Rattle.wiring_spec.proofs.Rows.{by-row}
 use Rattle.wiring_spec.proofs.Gathering.{gathers-lead}
 use Rattle.circuit_place.specs.Placing.{place, four, Passed, Placed}
 use Rattle.circuit_place.proofs.Order.{ElementRow, element-row, row-element, pin-four, four-pin, placed-of}
@@ -45,21 +46,9 @@ eqb-sym a b = go (eqb a b) (eqb b a) refl refl
 module _ (p : Pipeline) (first count : ℕ) (nets regs : List ℕ) (loaded : PartsLoaded p first count nets regs) (long : length nets ≡ 8 * count) where
   -- ---- a net by itself
 
-  -- what is so of a net before the parts', of one of theirs by its row, and past all
-  by-row : (P : ℕ → Driver → Type 0) → ((x : ℕ) (d : Driver) → x < first → carriesData d ≡ true → P x d) → ((x : ℕ) (d : Driver) → first ≤ x → RowOf p nets (x - first) d → P x d)
-      → ((x : ℕ) → first ≤ x → slot nets (x - first) 0 ≡ 0 → P x nothing) → (x : ℕ) → P x (driverOf p x)
-  by-row P before row past x = go (decLt x first) (decLt x (first + count))
-    where
-      go : Dec (x < first) → Dec (x < first + count) → P x (driverOf p x)
-      go (yes l) m = before x (driverOf p x) l (early-data p x (omega (arith, loaded .first-is)))
-      go (no l) (yes m) =
-          let z : first + (x - first) ≡ x = omega arith in
-          row x (driverOf p x) (omega arith) (subst (λ (y : ℕ). RowOf p nets (x - first) (driverOf p y)) z (loaded .row (x - first) (omega arith)))
-      go (no l) (no m) = subst (P x) (sym (past-nothing p x (omega (arith, loaded .all-nets)))) (past x (omega arith) (List·getD-eq-default nets 0 (omega arith)))
-
   ko-is : (t x : ℕ) → ownKo nets first t x ≡ isKoOf t (driverOf p x)
   unfolding ownKo isKoOf
-  ko-is t = by-row (λ x d. ownKo nets first t x ≡ isKoOf t d) (λ x d l e. rw (lt-ltb x first l) (sym (data-not-ko t d e))) row (λ x l e. rw (le-ltb x first l, e))
+  ko-is t = by-row p first count nets regs loaded long (λ x d. ownKo nets first t x ≡ isKoOf t d) (λ x d l st e. rw (lt-ltb x first l) (sym (data-not-ko t d e))) (λ x d l h st. row x d l) (λ x l h e. rw (le-ltb x first l, e))
     where
       row : (x : ℕ) (d : Driver) → first ≤ x → RowOf p nets (x - first) d → ownKo nets first t x ≡ isKoOf t d
       row x input l r = absurd r
@@ -71,7 +60,7 @@ module _ (p : Pipeline) (first count : ℕ) (nets regs : List ℕ) (loaded : Par
 
   data-is : (x : ℕ) → ownData nets first x ≡ carriesData (driverOf p x)
   unfolding ownData carriesData
-  data-is = by-row (λ x d. ownData nets first x ≡ carriesData d) (λ x d l e. rw (lt-ltb x first l) (sym e)) row (λ x l e. rw (le-ltb x first l, e))
+  data-is = by-row p first count nets regs loaded long (λ x d. ownData nets first x ≡ carriesData d) (λ x d l st e. rw (lt-ltb x first l) (sym e)) (λ x d l h st. row x d l) (λ x l h e. rw (le-ltb x first l, e))
     where
       row : (x : ℕ) (d : Driver) → first ≤ x → RowOf p nets (x - first) d → ownData nets first x ≡ carriesData d
       row x input l r = absurd r
