@@ -18,7 +18,8 @@ use Rattle.netlist.proofs.Stages as stages
 use Rattle.netlist.proofs.Stages.{known-again}
 use Rattle.netlist.proofs.References as references
 use Rattle.netlist.proofs.References.{no-care}
-use Rattle.check_spec.specs.Content.{Content, partAt, contentAt, contentOf}
+use Rattle.wiring_spec.specs.Parts.{partAt}
+use Rattle.check_spec.specs.Content.{Content, contentAt, contentOf}
 use Rattle.check_spec.specs.Loaded.{fromStage, fromReference}
 use Rattle.check_spec.specs.Writing.{writeFile}
 use Rattle.check_spec.proofs.Writing.{itemsOf, stage-bytes, reference-bytes}

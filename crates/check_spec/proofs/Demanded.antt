@@ -15,25 +15,35 @@ use Rattle.verdict.specs.declared.Verdict.{Verdict}
 use Rattle.verdict.specs.declared.WordOrder.{WordOrder}
 use Rattle.verdict.proofs.Refusals.{InTable}
 use Rattle.check_spec.specs.Cases.{verdict, accepted, first, judge, sweep}
-use Rattle.check_spec.specs.Content.{Content, Files, stageIn, referenceIn}
+use Rattle.wiring_spec.specs.Passing.{Passes}
+use Rattle.wiring_spec.proofs.Passing.{passes-exactly}
+use Rattle.wiring_spec.proofs.Means.{wiring-means}
+use Rattle.check_spec.specs.Content.{Content, Files, rawIn, stageIn, referenceIn}
 use Rattle.check_spec.specs.Rows.{netOf}
 use Rattle.check_spec.specs.Words.{spelled}
 use Rattle.check_spec.specs.Checks.{retiredGate, checks}
 use Rattle.check_spec.specs.Verdicts.{refusal, checksOn, verdictOn}
-use Rattle.check_spec.specs.Demands.{BothRead, LoopFree, Comparable, Acceptable, Demand2, Broken, Demand3}
+use Rattle.check_spec.specs.Demands.{BothRead, LoopFree, Comparable, wiringIn, Acceptable, Demand2, Broken, Miswired, Demand3}
 use Rattle.check_spec.proofs.First.{judged, places-first}
 use Rattle.verdict.proofs.Steps.{some-all}
 use Rattle.check_spec.proofs.Loops.{loops-found, settled-is, risen-is, fallen-is}
 use Rattle.check_spec.proofs.Pairs.{data-of, all-data, all-null}
 use Rattle.check_spec.proofs.OneWord.{inside, hold-clean}
 use Rattle.check_spec.proofs.Laws.{numbersOf, before, claimed, not-named, judge-from}
-use Rattle.check_spec.proofs.Sound.{Ran, laws, past-reading, reads-past, accepted-faultless, accepted-sound, idle-sound, faultless-accepted, sound-answers, sound-kept}
+use Rattle.check_spec.proofs.Wired.{wired-free}
+use Rattle.check_spec.proofs.Sound.{Ran, Wired, laws, past-reading, reads-past, accepted-faultless, accepted-sound, idle-sound, faultless-accepted, sound-answers, sound-kept}
 
 -- demand 3 speaks of numbers above 12, and of none by which a file is refused in reading
 of-runs : (n : ℕ) → Ran n → (12 < n) × (¬ (InTable n))
 of-runs n e = let r = some-all (λ k. (12 < k) × (17 < k → 19 < k)) (13 ∷ 14 ∷ 15 ∷ 20 ∷ 21 ∷ []) (omega arith) n e in (r .0, λ t. omega (arith, t .2 (omega arith), r .1 (omega (arith, t .2 (omega arith)))))
 
+of-wires : (n : ℕ) → Wired n → (19 < n) × (¬ (InTable n))
+of-wires n e = let r = some-all (λ k. 19 < k) (33 ∷ 34 ∷ 35 ∷ []) (omega arith) n e in (r, λ t. omega (arith, t .2 (omega arith)))
+
 module _ (order : WordOrder) (f : Files) where
+  abbrev raw : Content
+  raw = rawIn f
+
   abbrev s : Content
   s = stageIn f
 
@@ -43,8 +53,9 @@ module _ (order : WordOrder) (f : Files) where
   abbrev number : Verdict → ℕ
   number v = v .number
 
-  -- the checks stand in the order of the papers: 28 "between 12 and 13", 20 and 21 "after 15", 32 "after all other checks"
-  pub check-order : numbersOf (laws f order) ≡ 10 ∷ 11 ∷ 12 ∷ 28 ∷ 13 ∷ 14 ∷ 15 ∷ 20 ∷ 21 ∷ 32 ∷ []
+  -- the checks stand in the order of the papers: 33 to 35 "in this order between 12 and 28", 28 "between 12 and 13", 20 and 21 "after 15", 32 "after all
+  -- other checks"
+  pub check-order : numbersOf (laws f order) ≡ 10 ∷ 11 ∷ 12 ∷ 33 ∷ 33 ∷ 34 ∷ 35 ∷ 28 ∷ 13 ∷ 14 ∷ 15 ∷ 20 ∷ 21 ∷ 32 ∷ []
   unfolding laws
   check-order = refl
 
@@ -52,13 +63,14 @@ module _ (order : WordOrder) (f : Files) where
 
   exactly : Comparable f → (verdictOn order f ≡ accepted) ↔ Acceptable f
   exactly k = (
-    (λ v. let h = accepted-faultless order f (ap number v) .1 in record { cast = h .0 .cast; conforms = h .0 .conforms; rises = h .1 }),
+    (λ v. let h = accepted-faultless order f (ap number v) .1 in record { wiring = h .0 .wiring; cast = h .0 .cast; conforms = h .0 .conforms; rises = h .1 }),
     (λ a. faultless-accepted {f = f} (
       record {
         read = k .read;
         inputs = k .inputs;
         outputs = k .outputs;
-        free = k .loop-free;
+        raw-free = k .loop-free;
+        wiring = a .wiring;
         cast = a .cast;
         conforms = a .conforms;
       },
@@ -73,22 +85,24 @@ module _ (order : WordOrder) (f : Files) where
       let z = ap number (sym (past-reading f order 20 (λ t. omega (arith, t .1)) e .1)) ∙ e in
       let ls = laws f order in
       not-named 20 (λ q. omega arith) ls (
-        (λ w i. hold-clean s r (before 20 12 ls z) w hold (record { right = before 20 13 ls z w i; complete = before 20 14 ls z w i; observable = before 20 15 ls z w i }) .complete),
+        (λ w i. hold-clean s r (wired-free raw (before 20 12 ls z) (before 20 33 ls z)) w hold (record { right = before 20 13 ls z w i; complete = before 20 14 ls z w i; observable = before 20 15 ls z w i }) .complete),
         tt,
       ) z
   hold-only hold (inr e) =
       let z = ap number (sym (past-reading f order 21 (λ t. omega (arith, t .1)) e .1)) ∙ e in
       let ls = laws f order in
       not-named 21 (λ q. omega arith) ls (
-        (λ w i. hold-clean s r (before 21 12 ls z) w hold (record { right = before 21 13 ls z w i; complete = before 21 14 ls z w i; observable = before 21 15 ls z w i }) .observable),
+        (λ w i. hold-clean s r (wired-free raw (before 21 12 ls z) (before 21 33 ls z)) w hold (record { right = before 21 13 ls z w i; complete = before 21 14 ls z w i; observable = before 21 15 ls z w i }) .observable),
         tt,
       ) z
 
   -- "The check refuses them": 28 at the least gate of a retired kind
-  retired : Comparable f → (g : ℕ) → g < length (s .gates) → retiredGate s g ≡ true → ((k : ℕ) → k < g → retiredGate s k ≡ false) → verdictOn order f ≡ verdict 28 1 g 0
+  retired : Comparable f → Passes (wiringIn f) → (g : ℕ) → g < length (s .gates) → retiredGate s g ≡ true → ((k : ℕ) → k < g → retiredGate s k ≡ false)
+      → verdictOn order f ≡ verdict 28 1 g 0
   unfolding laws judge sweep flatMap
-  retired k g l e none =
-      reads-past f order (k .read) ∙ judge-from 28 (laws f order) (k .inputs, (k .outputs, (k .loop-free, tt)))
+  retired k w g l e none =
+      let n = passes-exactly (wiringIn f) .0 w in
+      reads-past f order (k .read) ∙ judge-from 28 (laws f order) (k .inputs, (k .outputs, (k .loop-free, (n .circular, (n .uneven, (n .missing, (n .barred, tt)))))))
       ∙ places-first 28 1 0 (retiredGate s) [] _ 0 (length (s .gates)) g (omega arith) (omega arith) (λ k a b. none k b) e
 
   -- Demand 2 holds of the verdict, whatever the two files hold.
@@ -96,7 +110,7 @@ module _ (order : WordOrder) (f : Files) where
   demand-2 = record {
     exactly = exactly;
     least = judged (checksOn order f);
-    loops = loops-found s;
+    loops = loops-found raw;
     data-is = data-of;
     all-data-is = all-data (netOf s);
     all-null-is = all-null (netOf s);
@@ -104,6 +118,8 @@ module _ (order : WordOrder) (f : Files) where
     risen-is = λ free. risen-is s free;
     fallen-is = λ free w X. fallen-is s free _ X (inside s r free w);
     hold-only = hold-only;
+    wiring-is = wiring-means (wiringIn f);
+    wires-free = wired-free raw;
     retired = retired;
     either-order = λ other. (
       (λ e. faultless-accepted (accepted-faultless order f (ap number e) .1) other),
@@ -119,13 +135,30 @@ module _ (order : WordOrder) (f : Files) where
       let n = number (verdictOn order f) in
       let h = of-runs n e in
       let p = past-reading f order n (h .1) refl in
-      let z : number (judge (checks order s r)) ≡ n = ap number (sym (p .1)) in
+      let z : number (judge (checks order raw r)) ≡ n = ap number (sym (p .1)) in
       let ls = laws f order in
-      let free = some-all (λ k. number (judge (checks order s r)) ≡ k → LoopFree (netOf s)) (13 ∷ 14 ∷ 15 ∷ 20 ∷ 21 ∷ [])
-      (before 13 12 ls, (before 14 12 ls, (before 15 12 ls, (before 20 12 ls, (before 21 12 ls, tt))))) n e z in (
+      let w = wired-free raw in
+      let free = some-all (λ k. number (judge (checks order raw r)) ≡ k → LoopFree (netOf s)) (13 ∷ 14 ∷ 15 ∷ 20 ∷ 21 ∷ []) (
+        (λ q. w (before 13 12 ls q) (before 13 33 ls q)),
+        ((λ q. w (before 14 12 ls q) (before 14 33 ls q)),
+        ((λ q. w (before 15 12 ls q) (before 15 33 ls q)),
+        ((λ q. w (before 20 12 ls q) (before 20 33 ls q)),
+        ((λ q. w (before 21 12 ls q) (before 21 33 ls q)), tt)))),
+      ) n e z in (
         p .0,
         subst (λ (v : Verdict). Broken f (spelled order (s .inputs) (v .word)) v) (sym (p .1))
             (⊎-elim (λ c. c .1 free (rw (p .1) at e)) (λ q. absurd (omega (arith, h .0, ap number (p .1 ∙ q)))) (claimed ls)),
+      )
+
+  miswired : Wired (number (verdictOn order f)) → BothRead f × Miswired (wiringIn f) (verdictOn order f)
+  unfolding laws
+  miswired e =
+      let n = number (verdictOn order f) in
+      let h = of-wires n e in
+      let p = past-reading f order n (h .1) refl in (
+        p .0,
+        subst (Miswired (wiringIn f)) (sym (p .1))
+            (⊎-elim (λ c. c .2 (rw (p .1) at e)) (λ q. absurd (omega (arith, h .0, ap number (p .1 ∙ q)))) (claimed (laws f order))),
       )
 
   -- a verdict names one of the two files, or none
@@ -133,7 +166,7 @@ module _ (order : WordOrder) (f : Files) where
   unfolding judge first refusal
   verdict-file = go (f .registers) (readFile (stageFile (f .registers)) (f .stageMost) (f .stage)) (readFile Reference (f .referenceMost) (f .reference))
     where
-      go : (b : Bool) (x y : Reading) → first (refusal (stageFile b) x) (first (refusal Reference y) (judge (checks order s r))) .file ≤ 2
+      go : (b : Bool) (x y : Reading) → first (refusal (stageFile b) x) (first (refusal Reference y) (judge (checks order raw r))) .file ≤ 2
       go true (refused number at) y = omega arith
       go false (refused number at) y = omega arith
       go b (readable p) (refused number at) = omega arith
@@ -145,4 +178,5 @@ module _ (order : WordOrder) (f : Files) where
     kept = λ e. let p = accepted-sound order f e in (p .0, p .1 .read, sound-kept (p .1));
     broken = broken;
     idle = λ e. let h = idle-sound order f e in (h .read, ⊎-elim (λ q. absurd (omega (arith, sym e ∙ ap number q))) (λ i. i) (sound-answers h order));
+    miswired = miswired;
   }

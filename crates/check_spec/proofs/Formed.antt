@@ -30,7 +30,8 @@ use Rattle.netlist.proofs.ReadBack.{read-write}
 use Rattle.netlist.proofs.Readable.{readable-read, output-names}
 use Rattle.netlist.proofs.Formed.{GatesFormed, OutputFormed, readable-formed}
 use Rattle.netlist.proofs.References.{no-care}
-use Rattle.check_spec.specs.Content.{Content, partAt, contentAt, contentOf, railsOfOutput}
+use Rattle.wiring_spec.specs.Parts.{partAt}
+use Rattle.check_spec.specs.Content.{Content, contentAt, contentOf, railsOfOutput}
 use Rattle.check_spec.specs.Verdicts.{refusal, reading}
 use Rattle.check_spec.specs.Demands.{Pass}
 use Rattle.check_spec.specs.Writing.{writeFile}

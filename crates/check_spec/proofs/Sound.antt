@@ -7,7 +7,7 @@ use mathlib.Core.Path.{_≡_, refl, sym, ap, _∙_, subst, subst₂}
 use mathlib.Core.Bool.{Bool, true, false}
 use mathlib.Core.Logic.{_⊎_, inl, inr}
 use mathlib.Core.List.{List, [], _∷_, map, flatMap, _++_}
-use lib.ListN.{length}
+use lib.ListN.{length, length-map}
 use lib.Dec.{eqb}
 use Rattle.gates.specs.Cell.{isRetired}
 use Rattle.runs.specs.Net.{IsGate}
@@ -28,10 +28,11 @@ use Rattle.check_spec.specs.Cases.{verdict, accepted, case, first, judge
 use Rattle.check_spec.specs.Lists.{some, numbers, bitOf}
 use Rattle.wiring_spec.specs.Parts.{Pipeline, registerCount}
 use Rattle.wiring_spec.specs.Wiring.{circular, uneven, missing, barred}
+use Rattle.wiring_spec.specs.Wires.{resolve}
 use Rattle.wiring_spec.specs.Passing.{Passes, Nowhere, FindNothing}
 use Rattle.wiring_spec.proofs.Passing.{circular-sound, uneven-sound, missing-sound, barred-sound, passes-exactly}
 use Rattle.wiring_spec.proofs.Means.{passes-none}
-use Rattle.check_spec.specs.Content.{Content, Files, rawIn, stageIn, referenceIn}
+use Rattle.check_spec.specs.Content.{Content, wired, Files, rawIn, stageIn, referenceIn}
 use Rattle.check_spec.specs.Rows.{driver, cellIn, netOf, reachesItself}
 use Rattle.check_spec.specs.Words.{railsFor, spelled, IsWord, answer}
 use Rattle.check_spec.specs.Checks.{wrong, incomplete, unobservable, fallIncomplete, fallUnobservable, looped, atRegisters, retired, swept, neverRises, idle, checks}
@@ -54,7 +55,15 @@ pub record Sound (f : Files) : Type 0 where
   pub cast : (net : ℕ) → IsGate (netOf (stageIn f)) net → isRetired (cellIn (driver (stageIn f) net)) ≡ false
   pub conforms : (w : ℕ) → IsWord (stageIn f) w → Conforms (netOf (stageIn f)) (railsFor w) (answerTo f w)
 
--- its registers as wires make no loop
+-- the stage with its registers as wires has as many inputs and outputs, and no loop
+pub sound-inputs : {f : Files} → Sound f → stageIn f .inputs ≡ referenceIn f .inputs
+unfolding wired
+sound-inputs h = h .inputs
+
+pub sound-outputs : {f : Files} → Sound f → length (stageIn f .outputs) ≡ length (referenceIn f .outputs)
+unfolding wired
+sound-outputs {f} h = length-map (rawIn f .outputs) (map (resolve (wiringIn f))) ∙ h .outputs
+
 pub sound-free : {f : Files} → Sound f → LoopFree (netOf (stageIn f))
 sound-free {f} h = wired-free (rawIn f) (h .raw-free) (passes-exactly (wiringIn f) .0 (h .wiring) .circular)
 

@@ -20,7 +20,8 @@ use Rattle.netlist.proofs.Stages as stages
 use Rattle.netlist.proofs.References as references
 use Rattle.runs.proofs.Test.{clash}
 use Rattle.verdict.specs.Nets as nets
-use Rattle.check_spec.specs.Content.{Content, partAt, contentAt, contentOf}
+use Rattle.wiring_spec.specs.Parts.{partAt}
+use Rattle.check_spec.specs.Content.{Content, contentAt, contentOf}
 use Rattle.check_spec.specs.Verdicts.{refusal, reading}
 use Rattle.check_spec.specs.Demands.{Pass}
 use Rattle.check_spec.specs.Loaded.{pairOf, stageView, referenceView}

@@ -74,3 +74,7 @@ module _ (c : Content) where
       same : {A : Type 0} (f : A → A) → ((x : A) → f x ≡ x) → (xs : List A) → map f xs ≡ xs
       same f h [] = refl
       same f h (x ∷ xs) = ap₂ _∷_ (h x) (same f h xs)
+
+-- a stage without registers is what runs see
+pub plain-stage : {raw s : Content} → raw ≡ s → s .parts ≡ [] → wired raw ≡ s
+plain-stage {s = s} e none = ap wired e ∙ wired-none s none

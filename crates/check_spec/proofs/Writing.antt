@@ -23,7 +23,8 @@ use Rattle.netlist.proofs.ReadBack.{read-write, gates-write, outputs-write}
 use Rattle.verdict.specs.declared.Verdict.{Verdict}
 use Rattle.verdict.specs.Written.{Written, refuse, write}
 use Rattle.check_spec.specs.Cases.{accepted}
-use Rattle.check_spec.specs.Content.{Content, partAt, contentAt, contentOf, railsOfOutput}
+use Rattle.wiring_spec.specs.Parts.{partAt}
+use Rattle.check_spec.specs.Content.{Content, contentAt, contentOf, railsOfOutput}
 use Rattle.check_spec.specs.Writing.{rowFor, command, writeFile, leaving}
 
 abbrev pub itemsOf : Content → List Item

@@ -1,17 +1,15 @@
 -- What a file holds, and what two files do, with their limits.
 use Prim.Native.Nat.{ℕ, _+_}
-use mathlib.Core.Bool.{Bool, true, false, cond}
+use mathlib.Core.Bool.{Bool, true, false}
 use mathlib.Core.List.{List, [], map}
 use Rattle.netlist.specs.declared.File.{File}
 use Rattle.netlist.specs.declared.Limits.{Limits}
-use Rattle.netlist.specs.declared.Sort.{Sort}
-use Rattle.netlist.specs.declared.Sort.the-variants as sort
 use Rattle.netlist.specs.declared.File.the-variants as file
-use Rattle.netlist.specs.Bytes.{operand, operands}
-use Rattle.netlist.specs.Commands.{stageFile, isSort, pinsUsed}
+use Rattle.netlist.specs.Bytes.{operands}
+use Rattle.netlist.specs.Commands.{stageFile}
 use Rattle.netlist.specs.Reading.{Reading, refused, readable, readFile, stageLimits, referenceLimits, partStageLimits, partReferenceLimits}
 use Rattle.netlist.specs.Coded.{Coded, codedAt}
-use Rattle.wiring_spec.specs.Parts.{Part, register, element, Pipeline}
+use Rattle.wiring_spec.specs.Parts.{Part, partAt, Pipeline}
 use Rattle.wiring_spec.specs.Wires.{resolve}
 
 -- A stage or a reference. An output of a stage is two nets, rail 0 and rail 1; one of a reference is a signal. The care words of a stage are those
@@ -28,13 +26,6 @@ abbrev pub railsOfOutput : File → ℕ
 railsOfOutput file.Stage = 2
 railsOfOutput file.Pipeline = 2
 railsOfOutput file.Reference = 1
-
--- the register or C-element whose command stands at a place
-abbrev pub partAt : List ℕ → Sort × ℕ → Part
-partAt bytes x =
-    cond (isSort sort.Register (x .0))
-    (register (record { data0 = operand bytes (x .1 + 1); data1 = operand bytes (x .1 + 3); ki = operand bytes (x .1 + 5) }))
-    (element (operands bytes (x .1 + 1) (pinsUsed bytes (x .1 + 1))))
 
 -- what is seen through the places of its commands; a file that is refused holds nothing
 unfoldable pub contentAt : File → List ℕ → Reading → Content

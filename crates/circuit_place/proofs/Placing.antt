@@ -11,12 +11,13 @@ use lib.ListN.{length, getD, set, length-set}
 use lib.Seq.{getD-set-same, getD-set-other}
 use lib.Dec.{eqb, leb, ltb}
 use borrow.Author.Tests.{lt-ltb, le-ltb, le-leb, lt-leb, leb-false, ltb-true, ltb-false, eq-eqb, ne-eqb, eqb-true, not-true}
-use Rattle.verdict.specs.Loops.{In}
+use Rattle.verdict.specs.Paths.{In}
+use Rattle.verdict.proofs.Steps.{some-in}
 use Rattle.wiring_spec.specs.Counting.{passing}
-use Rattle.wiring_spec.specs.Wiring.{anyOf}
+use Rattle.verdict.specs.Lists.{some}
 use Rattle.wiring_spec.proofs.Counting.{passing-bound, fewer}
-use Rattle.circuit_open.specs.Opening.{place}
-use Rattle.circuit_place.specs.Placing.{slot, waiting, four, InOrder, Placing, Stuck, Passed}
+use Rattle.wiring_spec.specs.Tables.{slot}
+use Rattle.circuit_place.specs.Placing.{place, waiting, four, InOrder, Placing, Stuck, Passed}
 
 pub never : false ≡ true → ⊥
 never e = let z : _≡_ {A = ℕ} 0 1 = cc in omega arith
@@ -75,23 +76,12 @@ module _ (code : List ℕ) (first count x : ℕ) where
 
 -- ---- pins
 
-any-in : (test : ℕ → Bool) (xs : List ℕ) → anyOf test xs ≡ false → (y : ℕ) → In y xs → test y ≡ false
-unfolding anyOf
-any-in test [] e y i = absurd i
-any-in test (x ∷ xs) e y (inl q) = ap test q ∙ left (test x) (anyOf test xs) e
+any-in : (test : ℕ → Bool) (xs : List ℕ) → some test xs ≡ false → (y : ℕ) → In y xs → test y ≡ false
+any-in test xs e y i = go (test y) refl
   where
-    left : (a b : Bool) → (a || b) ≡ false → a ≡ false
-    left true b e = e
-    left false b e = refl
-any-in test (x ∷ xs) e y (inr i) = any-in test xs (right (test x) (anyOf test xs) e) y i
-  where
-    right : (a b : Bool) → (a || b) ≡ false → b ≡ false
-    right true b e = absurd (never (sym e))
-    right false b e = e
-
-pub any-four : (test : ℕ → Bool) (a b c d : ℕ) → anyOf test (a ∷ b ∷ c ∷ d ∷ []) ≡ (test a || (test b || (test c || (test d || false))))
-unfolding anyOf
-any-four test a b c d = refl
+    go : (b : Bool) → test y ≡ b → test y ≡ false
+    go true q = absurd (never (sym e ∙ some-in test xs y i q))
+    go false q = q
 
 -- ---- a place is taken
 
@@ -100,20 +90,20 @@ module _
     (first count placed i : ℕ)
     (w : Placing code₀ code first count placed)
     (hi : i < count)
-    (ready : (waiting code first count (first + i) && not (anyOf (waiting code first count) (four code (8 * i + 1)))) ≡ true)
+    (ready : (waiting code first count (first + i) && not (some (waiting code first count) (four code (8 * i + 1)))) ≡ true)
   where
     abbrev code′ : List ℕ
     code′ = set code (8 * i + 5) (placed + 1)
 
     waits-here : waiting code first count (first + i) ≡ true
-    waits-here = left (waiting code first count (first + i)) (not (anyOf (waiting code first count) (four code (8 * i + 1)))) ready
+    waits-here = left (waiting code first count (first + i)) (not (some (waiting code first count) (four code (8 * i + 1)))) ready
       where
         left : (a b : Bool) → (a && b) ≡ true → a ≡ true
         left true b e = refl
         left false b e = e
 
-    none-at : anyOf (waiting code first count) (four code (8 * i + 1)) ≡ false
-    none-at = not-true (anyOf (waiting code first count) (four code (8 * i + 1))) (right (waiting code first count (first + i)) (not (anyOf (waiting code first count) (four code (8 * i + 1)))) ready)
+    none-at : some (waiting code first count) (four code (8 * i + 1)) ≡ false
+    none-at = not-true (some (waiting code first count) (four code (8 * i + 1))) (right (waiting code first count (first + i)) (not (some (waiting code first count) (four code (8 * i + 1)))) ready)
       where
         right : (a b : Bool) → (a && b) ≡ true → b ≡ true
         right true b e = e
@@ -231,19 +221,19 @@ module _ (code : List ℕ) (first count x : ℕ) (h : first ≤ x) (l : x - firs
   waits-other d = sym (waits-at code first count x h l ∙ ap (λ (b : Bool). b && eqb (slot code (x - first) 5) 0) (ne-eqb (slot code (x - first) 0) 3 (λ e. d (ap (λ (k : ℕ). getD code k 0) (sym plus-none) ∙ e))))
 
 module _ (test : ℕ → Bool) (x : ℕ) (xs : List ℕ) (r : Bool) (is : r ≡ test x) where
-  pub any-hit : r ≡ true → true ≡ anyOf test (x ∷ xs)
-  unfolding anyOf
+  pub any-hit : r ≡ true → true ≡ some test (x ∷ xs)
+  unfolding some
   any-hit e = rw (sym is ∙ e)
 
-  pub any-miss : r ≡ false → (s : Bool) → s ≡ anyOf test xs → s ≡ anyOf test (x ∷ xs)
-  unfolding anyOf
+  pub any-miss : r ≡ false → (s : Bool) → s ≡ some test xs → s ≡ some test (x ∷ xs)
+  unfolding some
   any-miss e s q = rw (sym is ∙ e) q
 
-pub any-last : (test : ℕ → Bool) (x : ℕ) (r : Bool) → r ≡ test x → r ≡ anyOf test (x ∷ [])
-unfolding anyOf
+pub any-last : (test : ℕ → Bool) (x : ℕ) (r : Bool) → r ≡ test x → r ≡ some test (x ∷ [])
+unfolding some
 any-last test x r e = e ∙ go (test x)
   where
-    go : (b : Bool) → b ≡ (b || false)
+    go : (b : Bool) → b ≡ cond b true false
     go true = refl
     go false = refl
 
@@ -263,10 +253,10 @@ pub record Turned (code₀ code : List ℕ) (first count taken placed i : ℕ) :
   pub none : placed ≡ taken → Stuck code first count i
 
 module _ (code₀ code : List ℕ) (first count taken placed i : ℕ) (t : Turned code₀ code first count taken placed i) (hi : i < count) where
-  pub turn-ready : (waiting code first count (first + i) && not (anyOf (waiting code first count) (four code (8 * i + 1)))) ≡ true → Turned code₀ (set code (8 * i + 5) (placed + 1)) first count taken (placed + 1) (i + 1)
+  pub turn-ready : (waiting code first count (first + i) && not (some (waiting code first count) (four code (8 * i + 1)))) ≡ true → Turned code₀ (set code (8 * i + 5) (placed + 1)) first count taken (placed + 1) (i + 1)
   turn-ready e = record { placing = place-one code₀ code first count placed i (t .placing) hi e; more = omega (arith, t .more); none = λ q. absurd (omega (arith, t .more)) }
 
-  pub turn-not : (waiting code first count (first + i) && not (anyOf (waiting code first count) (four code (8 * i + 1)))) ≡ false → Turned code₀ code first count taken placed (i + 1)
+  pub turn-not : (waiting code first count (first + i) && not (some (waiting code first count) (four code (8 * i + 1)))) ≡ false → Turned code₀ code first count taken placed (i + 1)
   turn-not e = record { placing = t .placing; more = t .more; none = λ q k h. at q k h (ℕ-discrete k i) }
     where
       stuck : (w a : Bool) → (w && not a) ≡ false → w ≡ true → a ≡ true
@@ -274,8 +264,8 @@ module _ (code₀ code : List ℕ) (first count taken placed i : ℕ) (t : Turne
       stuck true false e f = absurd (never (sym e))
       stuck false a e f = absurd (never f)
 
-      at : placed ≡ taken → (k : ℕ) → k < i + 1 → Dec (k ≡ i) → waiting code first count (first + k) ≡ true → anyOf (waiting code first count) (four code (8 * k + 1)) ≡ true
-      at q k h (yes p) = subst (λ (k : ℕ). waiting code first count (first + k) ≡ true → anyOf (waiting code first count) (four code (8 * k + 1)) ≡ true) (sym p) (stuck (waiting code first count (first + i)) (anyOf (waiting code first count) (four code (8 * i + 1))) e)
+      at : placed ≡ taken → (k : ℕ) → k < i + 1 → Dec (k ≡ i) → waiting code first count (first + k) ≡ true → some (waiting code first count) (four code (8 * k + 1)) ≡ true
+      at q k h (yes p) = subst (λ (k : ℕ). waiting code first count (first + k) ≡ true → some (waiting code first count) (four code (8 * k + 1)) ≡ true) (sym p) (stuck (waiting code first count (first + i)) (some (waiting code first count) (four code (8 * i + 1))) e)
       at q k h (no d) = t .none q k (omega arith)
 
 pub turn-first : (code : List ℕ) (first count taken : ℕ) → Placing code code first count taken → Turned code code first count taken taken 0
@@ -300,7 +290,7 @@ passed-end code₀ code code′ first count placed more w v e = record {
 }
 
 -- a turn, with the numbers and the count as the code has them after it
-module _ (code₀ code : List ℕ) (first count taken placed i : ℕ) (t : Turned code₀ code first count taken placed i) (hi : i < count) (same : length code ≡ length code₀) (code′ : List ℕ) (placed′ : ℕ) (r : Bool) (is : r ≡ (waiting code first count (first + i) && not (anyOf (waiting code first count) (four code (8 * i + 1))))) where
+module _ (code₀ code : List ℕ) (first count taken placed i : ℕ) (t : Turned code₀ code first count taken placed i) (hi : i < count) (same : length code ≡ length code₀) (code′ : List ℕ) (placed′ : ℕ) (r : Bool) (is : r ≡ (waiting code first count (first + i) && not (some (waiting code first count) (four code (8 * i + 1))))) where
   pub turn-place : r ≡ true → code′ ≡ set code (8 * i + 5) (placed + 1) → placed′ ≡ placed + 1 → (length code′ ≡ length code₀) × Turned code₀ code′ first count taken placed′ (i + 1)
   turn-place e a b = rw (a, b) (length-set code (8 * i + 5) (placed + 1) ∙ same, turn-ready code₀ code first count taken placed i t hi (sym is ∙ e))
 

@@ -7,12 +7,15 @@ use mathlib.Core.List.{List, [], _∷_}
 use lib.ListN.{length, getD}
 use lib.Dec.{eqb, leb, ltb}
 use Rattle.verdict.specs.Loops.{In}
-use Rattle.wiring_spec.specs.Wiring.{anyOf}
+use Rattle.verdict.specs.Lists.{some}
 use Rattle.wiring_spec.specs.Counting.{passing}
-use Rattle.circuit_open.specs.Opening.{place, Placed}
+use Rattle.wiring_spec.specs.Parts.{Pipeline}
+use Rattle.wiring_spec.specs.Wiring.{openings}
+use Rattle.wiring_spec.specs.Tables.{slot}
 
-abbrev pub slot : List ℕ → ℕ → ℕ → ℕ
-slot code i j = getD code (8 * i + j) 0
+-- the place of the C-element that drives net x, 0 for another net; `first` is the first net after the gates
+unfoldable pub place : List ℕ → ℕ → ℕ → ℕ
+place code first x = cond (ltb x first) 0 (slot code (x - first) 5)
 
 -- net x is a C-element without a place; `count` nets stand after the gates
 unfoldable pub waiting : List ℕ → ℕ → ℕ → ℕ → Bool
@@ -39,7 +42,7 @@ pub record Placing (code₀ code : List ℕ) (first count placed : ℕ) : Type 0
 
 -- every C-element without a place has such a one at a pin
 abbrev pub Stuck : List ℕ → ℕ → ℕ → ℕ → Type 0
-Stuck code first count m = (i : ℕ) → i < m → waiting code first count (first + i) ≡ true → anyOf (waiting code first count) (four code (8 * i + 1)) ≡ true
+Stuck code first count m = (i : ℕ) → i < m → waiting code first count (first + i) ≡ true → some (waiting code first count) (four code (8 * i + 1)) ≡ true
 
 -- a pass places more C-elements, or those without a place are stuck
 pub record Passed (code₀ code : List ℕ) (first count before placed : ℕ) : Type 0 where
@@ -47,9 +50,8 @@ pub record Passed (code₀ code : List ℕ) (first count before placed : ℕ) : 
   pub more : before ≤ placed
   pub none : placed ≡ before → Stuck code first count count
 
--- the flat form has the pins of each C-element: `next x` are the nets at the pins of the C-element that drives net x
-pub record ElementsLoaded (next : ℕ → List ℕ) (code : List ℕ) (first count : ℕ) : Type 0 where
-  pub after-gates : (x v : ℕ) → In v (next x) → first ≤ x
-  pub inside : (x v : ℕ) → In v (next x) → (x - first < count) × (slot code (x - first) 0 ≡ 3) × In v (four code (8 * (x - first) + 1))
-  pub pin : (x v : ℕ) → first ≤ x → x - first < count → slot code (x - first) 0 ≡ 3 → v < first + count → In v (four code (8 * (x - first) + 1)) → In v (next x)
-  pub some : (x : ℕ) → first ≤ x → x - first < count → slot code (x - first) 0 ≡ 3 → (u : ℕ) × In u (next x)
+-- What the places are worth in a pipeline: the C-elements at the pins of one with a place have places, before its own; one without a place has such a one
+-- at a pin.
+pub record Placed (p : Pipeline) (code : List ℕ) (first : ℕ) : Type 0 where
+  pub before : (x v w : ℕ) → In v (openings p x) → In w (openings p v) → 0 < place code first x → (0 < place code first v) × (place code first v < place code first x)
+  pub stuck : (x w : ℕ) → In w (openings p x) → place code first x ≡ 0 → (v u : ℕ) × In v (openings p x) × In u (openings p v) × (place code first v ≡ 0)

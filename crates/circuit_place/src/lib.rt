@@ -3,7 +3,7 @@ ghost use mathlib.Core.Path.{_≡_};
 ghost use mathlib.Core.Bool.{_&&_, not};
 ghost use Prim.Native.Nat.{_+_, _*_, _≤_, _<_};
 ghost use lib.ListN.{length};
-ghost use Rattle.wiring_spec.specs.Wiring.{anyOf};
+ghost use Rattle.verdict.specs.Lists.{some};
 ghost use Rattle.circuit_place.specs.Placing.{waiting, four, Placing, Stuck, Passed};
 
 // Whether a net is a C-element without a place.
@@ -27,7 +27,7 @@ fn waits(code: &[u16], first: usize, count: usize, net: usize) -> bool
 // Whether one of the four nets from `at` on is a C-element without a place.
 fn pin_waits(code: &[u16], first: usize, count: usize, at: usize) -> bool
     requires { ⌜ (length (now code) ≡ 8 * count) × (at + 4 ≤ length (now code)) ⌝ }
-    ensures { λ r. ⌜ r ≡ anyOf (waiting (now (code .entry)) first count) (four (now (code .entry)) at) ⌝ }
+    ensures { λ r. ⌜ r ≡ some (waiting (now (code .entry)) first count) (four (now (code .entry)) at) ⌝ }
 {
     let a = waits(code, first, count, code[at] as usize);
     let b = waits(code, first, count, code[at + 1] as usize);
@@ -49,7 +49,7 @@ fn pin_waits(code: &[u16], first: usize, count: usize, at: usize) -> bool
 fn is_ready(code: &[u16], first: usize, count: usize, i: usize) -> bool
     requires { ⌜ (length (now code) ≡ 8 * count) × (i < count) × (first + count < 65536) ⌝ }
     ensures { λ r. ⌜ r ≡ (waiting (now (code .entry)) first count (first + i)
-        && not (anyOf (waiting (now (code .entry)) first count) (four (now (code .entry)) (8 * i + 1)))) ⌝ }
+        && not (some (waiting (now (code .entry)) first count) (four (now (code .entry)) (8 * i + 1)))) ⌝ }
 {
     if waits(code, first, count, first + i) {
         if pin_waits(code, first, count, 8 * i + 1) {

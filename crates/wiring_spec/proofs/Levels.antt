@@ -1,21 +1,39 @@
 -- Where no register reaches itself, a register's level is one more than the highest level its data comes from.
 -- Assumes nothing.
-use Prim.Native.Nat.{ℕ, zero, suc, _≤_, _<_}
+use Prim.Native.Nat.{ℕ, zero, suc, max, _≤_, _<_}
 use native.Mathlib.Omega.{arith}
-use mathlib.Core.Path.{_≡_, refl, ap, ap₂}
-use mathlib.Core.Logic.{inl, inr}
+use native.Mathlib.Decide.{decLe}
+use mathlib.Core.Path.{_≡_, refl, ap, ap₂, _∙_}
+use mathlib.Core.Logic.{_⊎_, inl, inr}
 use mathlib.Core.List.{List, [], _∷_, map}
 use Rattle.verdict.specs.Paths.{In, OnLoop}
 use Rattle.verdict.proofs.Graph as graph
 use Rattle.verdict.proofs.Graph.{rank-≤, rank-some, rank-falls}
 use Rattle.wiring_spec.specs.Parts.{Pipeline, registerCount}
 use Rattle.wiring_spec.specs.Wiring.{sources, highest, levelWithin, level}
-use Rattle.wiring_spec.specs.Passing.{ReachesOn}
-use Rattle.wiring_spec.proofs.Passing.{source-inside, source-out, step-inside, itself-loop}
+use Rattle.wiring_spec.specs.Passing.{Reaches, ReachesOn, LevelOf}
+use Rattle.wiring_spec.proofs.Passing.{source-inside, source-in, source-out, step-inside, itself-loop}
 
 map-in : (f g : ℕ → ℕ) (xs : List ℕ) → ((x : ℕ) → In x xs → f x ≡ g x) → map f xs ≡ map g xs
 map-in f g [] h = refl
 map-in f g (x ∷ xs) h = ap₂ _∷_ (h x (inl refl)) (map-in f g xs (λ y i. h y (inr i)))
+
+-- the highest of some levels is none below any, and one of them, or 0
+highest-above : (f : ℕ → ℕ) (ks : List ℕ) (k : ℕ) → In k ks → f k ≤ highest (map f ks)
+unfolding highest
+highest-above f (x ∷ ks) k (inl e) = omega (arith, ap f e)
+highest-above f (x ∷ ks) k (inr i) = omega (arith, highest-above f ks k i)
+
+highest-some : (f : ℕ → ℕ) (ks : List ℕ) → (_≡_ {A = ℕ} (highest (map f ks)) 0) ⊎ ((k : ℕ) × In k ks × (highest (map f ks) ≡ f k))
+unfolding highest
+highest-some f [] = inl refl
+highest-some f (x ∷ ks) = go (decLe (highest (map f ks)) (f x)) (highest-some f ks)
+  where
+    go : Dec (highest (map f ks) ≤ f x) → (_≡_ {A = ℕ} (highest (map f ks)) 0) ⊎ ((k : ℕ) × In k ks × (highest (map f ks) ≡ f k))
+        → (_≡_ {A = ℕ} (max (f x) (highest (map f ks))) 0) ⊎ ((k : ℕ) × In k (x ∷ ks) × (max (f x) (highest (map f ks)) ≡ f k))
+    go (yes l) r = inr (x, inl refl, omega arith)
+    go (no l) (inl e) = absurd (omega arith)
+    go (no l) (inr r) = inr (r .0, inr (r .1), omega (arith, r .2))
 
 module _ (p : Pipeline) (forward : (k : ℕ) → ¬ (ReachesOn p k k)) where
   abbrev m : ℕ
@@ -38,6 +56,19 @@ module _ (p : Pipeline) (forward : (k : ℕ) → ¬ (ReachesOn p k k)) where
       ap (λ (ls : List ℕ). suc (highest ls)) (map-in (levelWithin f p) (levelWithin (suc f) p) (sources p t)
       (λ k i. stable f k (source-inside p k t (source-out p k t i)) (omega (arith, source-falls k t i))))
 
-  pub level-is : (t : ℕ) → t < m → level p t ≡ suc (highest (map (level p) (sources p t)))
+  level-is : (t : ℕ) → t < m → level p t ≡ suc (highest (map (level p) (sources p t)))
   unfolding level levelWithin
   level-is t h = stable m t h (rank-≤ (sources p) m (step-inside p) t)
+
+  -- ---- in the paper's words
+
+  pub level-of : (t : ℕ) → t < m → LevelOf p t
+  level-of t h = record {
+    above = λ k r. omega (arith, level-is t h, highest-above (level p) (sources p t) k (source-in p k t r));
+    next = go (highest-some (level p) (sources p t));
+  }
+    where
+      go : (_≡_ {A = ℕ} (highest (map (level p) (sources p t))) 0) ⊎ ((k : ℕ) × In k (sources p t) × (highest (map (level p) (sources p t)) ≡ level p k))
+          → (level p t ≡ 1) ⊎ ((k : ℕ) × Reaches p k t × (level p t ≡ suc (level p k)))
+      go (inl e) = inl (level-is t h ∙ ap suc e)
+      go (inr r) = inr (r .0, source-out p (r .0) t (r .1), level-is t h ∙ ap suc (r .2))

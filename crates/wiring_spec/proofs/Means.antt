@@ -9,8 +9,8 @@ use Rattle.runs.proofs.Test.{clash}
 use Rattle.wiring_spec.specs.Parts.{Pipeline, registersOf, registerCount}
 use Rattle.wiring_spec.specs.Wiring.{circular}
 use Rattle.wiring_spec.specs.Passing.{ReachesOn, Nowhere, Passes, WiringMeans}
-use Rattle.wiring_spec.proofs.Passing.{source-in, source-out, on-inside, circular-sound, circular-complete, uneven-sound, uneven-complete, missing-sound, missing-complete, barred-sound, barred-complete, passes-exactly}
-use Rattle.wiring_spec.proofs.Levels.{level-is}
+use Rattle.wiring_spec.proofs.Passing.{on-inside, circular-sound, circular-complete, uneven-sound, uneven-complete, missing-sound, missing-complete, barred-sound, barred-complete, passes-exactly}
+use Rattle.wiring_spec.proofs.Levels.{level-of}
 use mathlib.Core.Logic.{inl}
 
 -- the first pass of 33 finds no register that reaches itself
@@ -24,8 +24,7 @@ wiring-means p = record {
   missing-is = λ k. (missing-sound p k, missing-complete p k);
   barred-is = λ k. (barred-sound p k, barred-complete p k);
   passes-exactly = passes-exactly p;
-  sources-are = λ k t. (source-out p k t, source-in p k t);
-  levels = λ none t h. level-is p (forward p none) t h;
+  levels = λ none t h. level-of p (forward p none) t h;
 }
 
 pub passes-none : (p : Pipeline) → p .parts ≡ [] → Passes p

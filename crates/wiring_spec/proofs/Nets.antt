@@ -119,29 +119,58 @@ part-late (register r ∷ parts) k (suc (suc (suc x))) = late-more (suc k + leng
 part-late (element pins ∷ parts) k zero = tt
 part-late (element pins ∷ parts) k (suc x) = part-late parts k x
 
--- what the driver of net x is: an input below 2n, gate x - 2n, or one of the parts'
+-- what the driver of net x is: an input below 2n, gate x - 2n, or after these one of the parts'
 abbrev pub Stands : Pipeline → Driver → ℕ → Type 0
 Stands p input x = x < 2 * p .inputs
 Stands p (gate pins) x = (k : ℕ) × (k < length (p .gates)) × (x ≡ 2 * p .inputs + k) × (pins ≡ getD (p .gates) k [])
-Stands p (rail k b) x = k < registerCount p
-Stands p (acknowledge k) x = k < registerCount p
-Stands p (completion pins) x = Unit {0}
+Stands p (rail k b) x = (k < registerCount p) × (2 * p .inputs + length (p .gates) ≤ x)
+Stands p (acknowledge k) x = (k < registerCount p) × (2 * p .inputs + length (p .gates) ≤ x)
+Stands p (completion pins) x = 2 * p .inputs + length (p .gates) ≤ x
 Stands p nothing x = Unit {0}
 
 pub stands : (p : Pipeline) (x : ℕ) → Stands p (driverOf p x) x
 unfolding registerCount
-stands p = each-driver (Stands p) p (λ x h. h) (λ k h. (k, h, refl, refl)) (λ x. late (part x) (2 * p .inputs + length (p .gates) + x) (late-more (0 + registerCount p) (registerCount p) (omega arith) (part x) (part-late (p .parts) 0 x)))
+stands p = each-driver (Stands p) p (λ x h. h) (λ k h. (k, h, refl, refl)) (λ x.
+    late (part x) (2 * p .inputs + length (p .gates) + x) (omega arith) (late-more (0 + registerCount p) (registerCount p) (omega arith) (part x) (part-late (p .parts) 0 x)))
   where
     part : ℕ → Driver
     part x = getD (partDrivers 0 (p .parts)) x nothing
 
-    late : (d : Driver) (x : ℕ) → Late (registerCount p) d → Stands p d x
-    late input x l = absurd l
-    late (gate pins) x l = absurd l
-    late (rail k b) x l = l
-    late (acknowledge k) x l = l
-    late (completion pins) x l = tt
-    late nothing x l = tt
+    late : (d : Driver) (x : ℕ) → 2 * p .inputs + length (p .gates) ≤ x → Late (registerCount p) d → Stands p d x
+    late input x h l = absurd l
+    late (gate pins) x h l = absurd l
+    late (rail k b) x h l = (l, h)
+    late (acknowledge k) x h l = (l, h)
+    late (completion pins) x h l = h
+    late nothing x h l = tt
+
+-- before the parts' nets all carry data
+pub early-data : (p : Pipeline) (x : ℕ) → x < 2 * p .inputs + length (p .gates) → IsData p x
+unfolding carriesData
+early-data p = each-driver (λ d x. x < 2 * p .inputs + length (p .gates) → carriesData d ≡ true) p (λ x h l. refl) (λ k h l. refl) (λ x l. absurd (omega arith))
+
+-- C-elements come after the gates
+pub open-late : (p : Pipeline) (x v : ℕ) → In v (openings p x) → 2 * p .inputs + length (p .gates) ≤ x
+unfolding opened
+open-late p x v = go (driverOf p x) (stands p x)
+  where
+    go : (d : Driver) → Stands p d x → In v (opened d) → 2 * p .inputs + length (p .gates) ≤ x
+    go input s i = absurd i
+    go (gate pins) s i = absurd i
+    go (rail k b) s i = absurd i
+    go (acknowledge k) s i = absurd i
+    go (completion pins) s i = s
+    go nothing s i = absurd i
+
+-- a net that is opened is a C-element's
+pub opened-element : (d : Driver) (v : ℕ) → In v (opened d) → d ≡ completion (opened d)
+unfolding opened
+opened-element input v i = absurd i
+opened-element (gate pins) v i = absurd i
+opened-element (rail k b) v i = absurd i
+opened-element (acknowledge k) v i = absurd i
+opened-element (completion pins) v i = refl
+opened-element nothing v i = absurd i
 
 -- the steps of all nets: a gate's pins, from net 2n on
 pub steps-are : (p : Pipeline) (x : ℕ) → gateSteps p x ≡ cond (ltb x (2 * p .inputs)) [] (getD (p .gates) (x - 2 * p .inputs) [])
@@ -174,7 +203,7 @@ rail-inside p k x e = go (driverOf p x) (stands p x) e
     go : (d : Driver) → Stands p d x → isRailOf k d ≡ true → k < registerCount p
     go input s e = absurd (never e)
     go (gate pins) s e = absurd (never e)
-    go (rail j b) s e = omega (arith, eqb-true j k e)
+    go (rail j b) s e = omega (arith, s .0, eqb-true j k e)
     go (acknowledge j) s e = absurd (never e)
     go (completion pins) s e = absurd (never e)
     go nothing s e = absurd (never e)

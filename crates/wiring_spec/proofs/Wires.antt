@@ -37,7 +37,7 @@ module _ (p : Pipeline) where
       go : (d : Driver) → Stands p d x → Wired x d
       go input s = same refl (λ k e. never e)
       go (gate pins) s = same refl (λ k e. never e)
-      go (rail k b) s = other k s (eq-eqb k k refl) (data-in p k b s) (data-in p k b s)
+      go (rail k b) s = other k (s .0) (eq-eqb k k refl) (data-in p k b (s .0)) (data-in p k b (s .0))
       go (acknowledge k) s = same refl (λ k e. never e)
       go (completion pins) s = same refl (λ k e. never e)
       go nothing s = same refl (λ k e. never e)

@@ -1,5 +1,5 @@
 -- Small pipelines and what 33 to 35 find in them, by computation: the number and the register, or 0 0. Those from the fourth on are from an independent
--- program.
+-- program. And what registers come to as wires.
 use Prim.Native.Nat.{ℕ}
 use mathlib.Core.Path.{_≡_, refl}
 use mathlib.Core.Bool.{Bool, cond}
@@ -8,6 +8,7 @@ use Rattle.verdict.specs.Lists as l
 use Rattle.wiring_spec.specs.Parts as p
 use Rattle.wiring_spec.specs.Parts.{Part, register, element, Pipeline}
 use Rattle.wiring_spec.specs.Wiring as w
+use Rattle.wiring_spec.specs.Wires as x
 
 abbrev pub Finding : Type 0
 Finding = ℕ × ℕ
@@ -67,7 +68,12 @@ examples =
     example 2 ((11 ∷ 3 ∷ []) ∷ (13 ∷ 10 ∷ []) ∷ (2 ∷ 2 ∷ []) ∷ []) (r 2 3 12 ∷ r 7 8 15 ∷ r 10 11 65534 ∷ []) 0 0 ∷
     []
 
-pub examples-found : map (λ (x : Example). found (x .pipeline)) examples ≡ map (λ (x : Example). x .expected) examples
+-- two registers in a row: their rails come from those of the input, and any other net is its own
+pub row-resolved : map (x.resolve (record { inputs = 1; gates = []; parts = r 0 1 7 ∷ r 2 3 65534 ∷ [] })) (l.numbers 0 8) ≡ 0 ∷ 1 ∷ 0 ∷ 1 ∷ 4 ∷ 0 ∷ 1 ∷ 7 ∷ []
+unfolding l.numbers p.registersOf p.registerCount p.dataOf p.partDrivers p.drivers p.driverOf x.wireOf x.times x.resolve
+row-resolved = refl
+
+pub examples-found : map (λ (i : Example). found (i .pipeline)) examples ≡ map (λ (i : Example). i .expected) examples
 unfolding examples least found l.numbers l.select l.some l.reaches p.registersOf p.registerCount p.dataOf p.kiOf p.partDrivers p.drivers p.driverOf
     p.allNets w.throughGate w.opened w.isInput w.isRailOf w.dataFrom w.reaches w.fromInput w.sources w.reachesItself w.highest w.levelWithin w.level
     w.isKoOf w.behind w.isLoop w.circular w.uneven w.missing w.foreign w.bars w.barred

@@ -4,13 +4,12 @@ use Prim.Native.Nat.{ℕ, suc, _<_}
 use mathlib.Core.Path.{_≡_}
 use mathlib.Core.Bool.{Bool, true, false}
 use mathlib.Core.Logic.{_⊎_, _↔_}
-use mathlib.Core.List.{map}
 use Rattle.netlist.specs.Bytes.{outside}
 use Rattle.verdict.specs.Paths.{In, Leads, OnLoop}
 use Rattle.wiring_spec.specs.Parts.{Driver, input, gate, rail, acknowledge, completion, nothing}
 use Rattle.wiring_spec.specs.Parts.{Pipeline, registerCount, dataOf, kiOf, driverOf}
 use Rattle.wiring_spec.specs.Wiring as test
-use Rattle.wiring_spec.specs.Wiring.{gateSteps, openings, isInput, isRailOf, isKoOf, sources, highest, level}
+use Rattle.wiring_spec.specs.Wiring.{gateSteps, openings, isInput, isRailOf, isKoOf, level}
 
 -- ---- reaching
 
@@ -106,13 +105,18 @@ pub record FindNothing (p : Pipeline) : Type 0 where
   pub missing : Nowhere p (test.missing p)
   pub barred : Nowhere p (test.barred p)
 
--- What 33, 34 and 35 test is what the paper says, "the wiring passes exactly if" they find nothing, and where the first pass of 33 finds nothing "a
--- register's level is one more than the highest level its data comes from".
+-- "a register's level is one more than the highest level its data comes from": it is above the level of each register that reaches it, and one more than
+-- that of some, or 1 where its data comes from inputs alone, which "have level 0"
+pub record LevelOf (p : Pipeline) (t : ℕ) : Type 0 where
+  pub above : (k : ℕ) → Reaches p k t → level p k < level p t
+  pub next : (level p t ≡ 1) ⊎ ((k : ℕ) × Reaches p k t × (level p t ≡ suc (level p k)))
+
+-- What 33, 34 and 35 test is what the paper says, "the wiring passes exactly if" they find nothing, and levels are as it says where the first pass of 33
+-- finds nothing.
 pub record WiringMeans (p : Pipeline) : Type 0 where
   pub circular-is : (k : ℕ) → (test.circular p k ≡ true) ↔ Circular p k
   pub uneven-is : (t : ℕ) → (test.uneven p t ≡ true) ↔ Uneven p t
   pub missing-is : (k : ℕ) → (test.missing p k ≡ true) ↔ Missing p k
   pub barred-is : (k : ℕ) → (test.barred p k ≡ true) ↔ Barred p k
   pub passes-exactly : Passes p ↔ FindNothing p
-  pub sources-are : (k t : ℕ) → In k (sources p t) ↔ Reaches p k t
-  pub levels : Nowhere p (test.circular p) → (t : ℕ) → t < registerCount p → level p t ≡ suc (highest (map (level p) (sources p t)))
+  pub levels : Nowhere p (test.circular p) → (t : ℕ) → t < registerCount p → LevelOf p t

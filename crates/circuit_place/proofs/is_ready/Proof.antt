@@ -1,8 +1,8 @@
--- `placing::is_ready` meets its contract. Assumes nothing.
+-- `circuit_place::is_ready` meets its contract. Assumes nothing.
 use Prim.Native.Nat.{_+_, _*_}
 use mathlib.Core.Bool.{true, false}
 use denote.Ref.{now}
-use Rattle.wiring_spec.specs.Wiring.{anyOf}
+use Rattle.verdict.specs.Lists.{some}
 use Rattle.circuit_place.specs.Placing.{waiting, four}
 use Rattle.circuit_place.proofs.Placing.{ready-waits, ready-not}
 use borrow.Author.Needs.{needs}
@@ -35,7 +35,7 @@ returns-2 : tie.Need-returns-2
 returns-2 c = ready-waits _ _ _ _ (c .before .before .before .waits .ensures) (c .before .before .if1 .taken) (c .before .pin-waits .ensures) false (c .if2 .left)
 
 returns-3 : tie.Need-returns-3
-returns-3 c = let z = c .before .before .before in ready-not _ false _ (anyOf (waiting (now (z .args .code)) (z .args .first) (z .args .count)) (four (now (z .args .code)) (8 * z .args .i + 1))) (c .before .waits .ensures) (c .if1 .left)
+returns-3 c = let z = c .before .before .before in ready-not _ false _ (some (waiting (now (z .args .code)) (z .args .first) (z .args .count)) (four (now (z .args .code)) (8 * z .args .i + 1))) (c .before .waits .ensures) (c .if1 .left)
 
 pub is-ready-spec : {M : Type 1} → statement M
 is-ready-spec =

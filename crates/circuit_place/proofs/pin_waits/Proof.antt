@@ -1,4 +1,4 @@
--- `placing::pin_waits` meets its contract. Assumes nothing.
+-- `circuit_place::pin_waits` meets its contract. Assumes nothing.
 use native.Mathlib.Omega.{arith}
 use denote.Ref.{now}
 use Prim.Native.Nat.{_+_}

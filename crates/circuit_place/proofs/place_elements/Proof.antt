@@ -1,4 +1,4 @@
--- `placing::place_elements` meets its contract. The loop's invariant: the C-elements that have a place come after those at their pins.
+-- `circuit_place::place_elements` meets its contract. The loop's invariant: the C-elements that have a place come after those at their pins.
 -- The measure is how many can still take one. Assumes nothing.
 use Prim.Native.Nat.{_-_, _<_}
 use mathlib.Core.Path.{_≡_, refl, sym, _∙_}

@@ -1,4 +1,4 @@
--- `placing::place_ready` meets its contract. The loop's invariant: the nets before i have had their turn. Assumes nothing.
+-- `circuit_place::place_ready` meets its contract. The loop's invariant: the nets before i have had their turn. Assumes nothing.
 use native.Mathlib.Omega.{arith}
 use denote.Ref.{now}
 use Prim.Native.Nat.{_-_, _<_}

@@ -1,4 +1,4 @@
--- `placing::waits` meets its contract. Assumes nothing.
+-- `circuit_place::waits` meets its contract. Assumes nothing.
 use denote.Ref.{now}
 use Rattle.circuit_place.proofs.Placing.{waits-before, waits-past, waits-element, waits-other}
 use borrow.Author.Needs.{needs}
