@@ -29,11 +29,11 @@ use Rattle.netlist.proofs.Stages.{no-parts}
 use Rattle.read_file.specs.Files as files
 use Rattle.read_file.specs.Files.{sortNoted, partNoted, mostCare, Placed}
 use Rattle.circuit.specs.Stage.{netCount, cellIn, pinIn, stageIn, GateLoaded, StageLoaded}
-use Rattle.wiring_spec.specs.Parts.{Part}
+use Rattle.wiring_spec.specs.Parts.{partAt}
 use Rattle.write_command.specs.Put.{Put}
 use Rattle.write_command.proofs.Joining.{put-holding}
 use Rattle.circuit_load.specs.Load.{placesIn, StageRead, RawStage, groundOf, HoldsStage}
-use Rattle.circuit_load.specs.Parts.{partAt, wiringOf, netRows, registerRows, NotesRead, partsIn, Begins, PipelineHeld, HoldsPipeline}
+use Rattle.circuit_load.specs.Parts.{wiringOf, netRows, registerRows, NotesRead, partsIn, Begins, PipelineHeld, HoldsPipeline}
 use Rattle.circuit_load.proofs.Reading.{WasRead, was-read, length-gates}
 
 -- ---- without registers

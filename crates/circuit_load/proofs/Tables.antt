@@ -21,11 +21,11 @@ use Rattle.netlist.specs.Read.{RegisterRead, ElementRead, PartOf, PartRead}
 use Rattle.netlist.specs.Writing.{All}
 use Rattle.netlist.proofs.Operands.{length-operands, misfit-none, bare-absent}
 use Rattle.read_file.specs.Files.{sortNoted, partNoted}
-use Rattle.wiring_spec.specs.Parts.{Register, Part, register, element}
+use Rattle.wiring_spec.specs.Parts.{Register, Part, register, element, partAt}
 use Rattle.write_command.specs.Put.{Put}
 use Rattle.write_command.proofs.Joining.{put-++, put-none, Left, left-all, left-put, left-room, left-none}
 use Rattle.circuit_load.specs.declared.Spot.{Spot}
-use Rattle.circuit_load.specs.Parts.{partAt, railRow, koRow, elementRow, netRows, registerRows, NotesRead, partsIn, spotAfter, PartPut}
+use Rattle.circuit_load.specs.Parts.{railRow, koRow, elementRow, netRows, registerRows, NotesRead, partsIn, spotAfter, PartPut}
 
 -- ---- the command of a note
 

@@ -1,17 +1,10 @@
--- Registers and C-elements in their flat form, two tables. Eight numbers stand for each net after the gates: its sort (1 a rail of a register, 2 a Ko,
--- 3 a C-element), four pins (of a rail the net at its data first; FFFF at a pin that a C-element lacks), its place in an order of the C-elements, which
--- is not known yet, the number of its register, and one that is free. Four numbers stand for each register: the net of its rail 0, the nets at its
--- data, and the net at its Ki; its rail 1 and its Ko are the two nets after its rail 0.
+-- Registers and C-elements as loading writes them into the two tables that wiring_spec/specs/Tables.antt describes, row by row.
 use Prim.Native.Nat.{ℕ, _+_, _*_, _^_, _≤_, _<_}
 use mathlib.Core.Path.{_≡_}
-use mathlib.Core.Bool.{cond}
 use mathlib.Core.List.{List, [], _∷_, _++_, map}
 use lib.ListN.{length, getD, take}
 use Rattle.netlist.specs.declared.File.{File}
-use Rattle.netlist.specs.declared.Sort.{Sort}
-use Rattle.netlist.specs.declared.Sort.the-variants as sort
-use Rattle.netlist.specs.Bytes.{operand, operands, absent}
-use Rattle.netlist.specs.Commands.{isSort, pinsUsed}
+use Rattle.netlist.specs.Bytes.{absent}
 use Rattle.netlist.specs.Coded.{codedAt}
 use Rattle.netlist.specs.declared.File.the-variants as file
 use Rattle.netlist.specs.Reading.{Nets, Places, countsOf, netsOf, Reading, refused, readable}
@@ -20,17 +13,10 @@ use Rattle.netlist.specs.Read.{PartRead}
 use Rattle.netlist.specs.Writing.{All}
 use Rattle.read_file.specs.Files.{partNoted}
 use Rattle.circuit.specs.Stage.{netCount, stageIn}
-use Rattle.wiring_spec.specs.Parts.{Part, register, element, Pipeline}
+use Rattle.wiring_spec.specs.Parts.{Part, register, element, partAt, Pipeline}
 use Rattle.write_command.specs.Put.{Put}
 use Rattle.circuit_load.specs.declared.Spot.{Spot}
 use Rattle.circuit_load.specs.Load.{RawStage, groundOf}
-
--- the register or C-element whose command stands at a place
-abbrev pub partAt : List ℕ → Sort × ℕ → Part
-partAt s x =
-    cond (isSort sort.Register (x .0))
-    (register (record { data0 = operand s (x .1 + 1); data1 = operand s (x .1 + 3); ki = operand s (x .1 + 5) }))
-    (element (operands s (x .1 + 1) (pinsUsed s (x .1 + 1))))
 
 -- how the stage of a readable file is wired
 abbrev pub wiringOf : List ℕ → Places → Pipeline

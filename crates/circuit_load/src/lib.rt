@@ -14,12 +14,13 @@ ghost use Rattle.netlist.specs.Reading.{netsOf, readFile, stageLimits, referenc
 ghost use Rattle.netlist.specs.Read.{outcomeOf};
 ghost use Rattle.netlist.specs.Content.{stageOf, referenceOf};
 ghost use Rattle.read_file.specs.Files.{partNoted};
+ghost use Rattle.wiring_spec.specs.Parts.{partAt};
 ghost use Rattle.write_command.specs.Put.{Put};
 ghost use Rattle.circuit.specs.Stage.{stageIn};
 ghost use Rattle.circuit.specs.Reference.{referenceIn, ReferenceLoaded};
 ghost use Rattle.circuit_load.specs.Load.{placesIn, FileRead, StageRead, RawStage, groundOf, HoldsStage, HoldsReference};
 ghost use Rattle.circuit_load.specs.Load.{pinNumber, cellNumber, gateNumber, stageNumber, operatorNumber, referenceNumber};
-ghost use Rattle.circuit_load.specs.Parts.{partAt, netRows, registerRows, NotesRead, partsIn, PartPut, PipelineHeld, HoldsPipeline};
+ghost use Rattle.circuit_load.specs.Parts.{netRows, registerRows, NotesRead, partsIn, PartPut, PipelineHeld, HoldsPipeline};
 
 // The room that the flat forms of the largest stage and of the largest reference take.
 pub const STAGE_CODE: usize = 8 * netlist::STAGE_GATES + 2 * netlist::OUTPUTS + netlist::WORDS;

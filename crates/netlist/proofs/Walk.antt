@@ -132,19 +132,16 @@ pub record Near (f : File) (most : Limits) (at : ℕ) (c : Counts) : Type 0 wher
 
 -- as many as a pipeline may have, where a file has some
 pub most-parts : (f : File) → mostOfEither f ≤ mostParts
-unfolding mostOfEither
 most-parts file.Stage = omega arith
 most-parts file.Pipeline = omega arith
 most-parts file.Reference = omega arith
 
 register-most : (f : File) → Has f sort.Register → mostOfEither f ≡ mostParts
-unfolding mostOfEither
 register-most file.Stage e = absurd (stage-registerless e)
 register-most file.Pipeline e = refl
 register-most file.Reference e = absurd (reference-registerless e)
 
 element-most : (f : File) → Has f sort.Element → mostOfEither f ≡ mostParts
-unfolding mostOfEither
 element-most file.Stage e = absurd (stage-elementless e)
 element-most file.Pipeline e = refl
 element-most file.Reference e = absurd (reference-elementless e)

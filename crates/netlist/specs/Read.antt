@@ -76,7 +76,7 @@ outcomeOf (refused number at) = outcome.Refused number at
 outcomeOf (readable p) = outcome.Readable (countsOf p)
 
 -- how many registers, and how many C-elements, a file may have: only a pipeline has them
-unfoldable pub mostOfEither : File → ℕ
+abbrev pub mostOfEither : File → ℕ
 mostOfEither file.Stage = 0
 mostOfEither file.Pipeline = mostParts
 mostOfEither file.Reference = 0
