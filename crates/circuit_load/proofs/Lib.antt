@@ -3,4 +3,5 @@ pub mod Reading
 pub mod Stages
 pub mod Tables
 pub mod Holding
+pub mod Nets
 pub mod References

@@ -1,0 +1,136 @@
+-- The nets of a readable stage file, as reading counts them and as its wiring drives them: the same carry data, and there are as many. So every operand
+-- of the wiring names what its role asks for.
+-- Assumes nothing.
+use Prim.Native.Nat.{ℕ, zero, suc, _+_, _-_, _*_, _≤_, _<_}
+use native.Mathlib.Omega.{arith}
+use native.Mathlib.Decide.{decLt}
+use mathlib.Core.Path.{_≡_, refl, sym, ap, ap₂, _∙_, subst}
+use mathlib.Core.Bool.{Bool, true, false, cond, _||_}
+use mathlib.Core.Logic.{_⊎_, inl, inr, ⊎-elim}
+use mathlib.Core.List.{List, [], _∷_, _++_, map}
+use lib.ListN.{length, getD, replicate, length-append, length-map, length-replicate, List·getD-eq-default}
+use lib.Dec.{eqb, ltb}
+use borrow.Author.Tests.{lt-ltb, le-ltb, ltb-true, eqb-true}
+use Rattle.runs.proofs.Test.{or-cases}
+use Rattle.netlist.specs.declared.File.{File}
+use Rattle.netlist.specs.declared.File.the-variants as file
+use Rattle.netlist.specs.declared.Sort.{Sort}
+use Rattle.netlist.specs.declared.Sort.the-variants as sort
+use Rattle.netlist.specs.declared.Limits.{Limits}
+use Rattle.netlist.specs.Bytes.{byte, operand, operands, outside}
+use Rattle.netlist.specs.Commands.{stageFile, isSort, mostParts, roleOf, needed, pinsUsed}
+use Rattle.netlist.specs.Reading.{Nets, firstPart, partNets, isNet, carriesData, names, Places, countOf, sortsOf, countsOf, netsOf, stageLimits, NoMore}
+use Rattle.netlist.specs.Read.{RegisterRead, ElementRead, PartOf, PartRead, Read}
+use Rattle.netlist.specs.Writing.{All}
+use Rattle.netlist.proofs.Encoding.{stage-registerless, stage-elementless}
+use Rattle.netlist.proofs.Operands.{pins-used-in, length-operands}
+use Rattle.verdict.specs.Paths.{In}
+use Rattle.wiring_spec.specs.Parts.{Register, Part, register, element, partAt, Pipeline, Driver, input, gate, rail, acknowledge, completion, nothing, registersOf, registerCount, dataOf, kiOf}
+use Rattle.wiring_spec.specs.Parts.{partDrivers, drivers, driverOf, allNets}
+use Rattle.wiring_spec.specs.Wiring.{opened, gateSteps, openings}
+use Rattle.wiring_spec.specs.Named as wiring
+use Rattle.wiring_spec.specs.Named.{IsData, Named}
+use Rattle.wiring_spec.proofs.Nets.{each-driver, steps-are}
+use Rattle.circuit_load.specs.Parts.{wiringOf}
+
+-- ---- what each register and C-element names
+
+-- a register's data carries data and its Ki is the outside or a net, a C-element's pins are nets
+pub record RegisterNames (s : List ℕ) (N : Nets) (at : ℕ) : Type 0 where
+  pub data0 : carriesData N (operand s (at + 1)) ≡ true
+  pub data1 : carriesData N (operand s (at + 3)) ≡ true
+  pub ki : (eqb (operand s (at + 5)) outside || isNet N (operand s (at + 5))) ≡ true
+
+pub record ElementNames (s : List ℕ) (N : Nets) (at : ℕ) : Type 0 where
+  pub pin : (i : ℕ) → i < pinsUsed s (at + 1) → isNet N (operand s (at + 1 + 2 * i)) ≡ true
+
+abbrev NamesOf : List ℕ → Nets → ℕ → Bool → Type 0
+NamesOf s N at true = RegisterNames s N at
+NamesOf s N at false = ElementNames s N at
+
+-- the sort of a part is that of a register or of a C-element
+pub record PartNames (s : List ℕ) (N : Nets) (x : Sort × ℕ) : Type 0 where
+  pub either : (x .0 ≡ sort.Register) ⊎ (x .0 ≡ sort.Element)
+  pub names-nets : NamesOf s N (x .1) (isSort sort.Register (x .0))
+
+register-names : {s : List ℕ} {N : Nets} {at : ℕ} → RegisterRead file.Pipeline s N at → RegisterNames s N at
+unfolding names roleOf
+register-names {at = at} r =
+    let a : at + 1 + 2 * 0 ≡ at + 1 = omega arith in
+    let b : at + 1 + 2 * 1 ≡ at + 3 = omega arith in
+    let c : at + 1 + 2 * 2 ≡ at + 5 = omega arith in
+    record { data0 = rw a at (r .named 0 (omega arith)); data1 = rw b at (r .named 1 (omega arith)); ki = rw c at (r .named 2 (omega arith)) }
+
+element-names : {s : List ℕ} {N : Nets} {at : ℕ} → ElementRead file.Pipeline s N at → ElementNames s N at
+unfolding names roleOf
+element-names r = record { pin = r .named }
+
+part-names : (registers : Bool) (s : List ℕ) (N : Nets) (c : Sort) (at : ℕ) → PartOf (stageFile registers) s N at c → PartNames s N (c, at)
+part-names registers s N sort.Inputs at h = absurd h
+part-names registers s N sort.Gate at h = absurd h
+part-names registers s N sort.Output at h = absurd h
+part-names registers s N sort.Care at h = absurd h
+part-names registers s N sort.End at h = absurd h
+part-names registers s N sort.Unknown at h = absurd h
+part-names true s N sort.Register at h = record { either = inl refl; names-nets = register-names h }
+part-names true s N sort.Element at h = record { either = inr refl; names-nets = element-names h }
+part-names false s N sort.Register at h = absurd (stage-registerless (h .own))
+part-names false s N sort.Element at h = absurd (stage-elementless (h .own))
+
+parts-names : (registers : Bool) (s : List ℕ) (N : Nets) (ps : List (Sort × ℕ)) → All (PartRead (stageFile registers) s N) ps → All (PartNames s N) ps
+parts-names registers s N [] h = tt
+parts-names registers s N (x ∷ ps) h = (part-names registers s N (x .0) (x .1) (h .0), parts-names registers s N ps (h .1))
+
+-- ---- the nets of the parts
+
+module _ (s : List ℕ) where
+  abbrev parts : List (Sort × ℕ) → List Part
+  parts = map (partAt s)
+
+  -- net x after the gates carries data, or not
+  data-alike : (ps : List (Sort × ℕ)) (k x : ℕ) → getD (partNets (sortsOf ps)) x false ≡ wiring.carriesData (getD (partDrivers k (parts ps)) x nothing)
+  unfolding partNets partDrivers wiring.carriesData
+  data-alike [] k x = refl
+  data-alike (q ∷ ps) k x = go (isSort sort.Register (q .0)) x (data-alike ps)
+    where
+      go : (b : Bool) (x : ℕ) → ((k x : ℕ) → getD (partNets (sortsOf ps)) x false ≡ wiring.carriesData (getD (partDrivers k (parts ps)) x nothing)) →
+          getD (cond b (true ∷ true ∷ false ∷ partNets (sortsOf ps)) (false ∷ partNets (sortsOf ps))) x false
+          ≡ wiring.carriesData (getD (partDrivers k (cond b
+          (register (record { data0 = operand s (q .1 + 1); data1 = operand s (q .1 + 3); ki = operand s (q .1 + 5) }))
+          (element (operands s (q .1 + 1) (pinsUsed s (q .1 + 1)))) ∷ parts ps)) x nothing)
+      go true zero later = refl
+      go true (suc zero) later = refl
+      go true (suc (suc zero)) later = refl
+      go true (suc (suc (suc x))) later = later (suc k) x
+      go false zero later = refl
+      go false (suc x) later = later k x
+
+  -- there are as many
+  long-alike : (ps : List (Sort × ℕ)) (k : ℕ) → length (partNets (sortsOf ps)) ≡ length (partDrivers k (parts ps))
+  unfolding partNets partDrivers
+  long-alike [] k = refl
+  long-alike (q ∷ ps) k = go (isSort sort.Register (q .0)) (long-alike ps)
+    where
+      go : (b : Bool) → ((k : ℕ) → length (partNets (sortsOf ps)) ≡ length (partDrivers k (parts ps))) →
+          length (cond b (true ∷ true ∷ false ∷ partNets (sortsOf ps)) (false ∷ partNets (sortsOf ps)))
+          ≡ length (partDrivers k (cond b
+          (register (record { data0 = operand s (q .1 + 1); data1 = operand s (q .1 + 3); ki = operand s (q .1 + 5) }))
+          (element (operands s (q .1 + 1) (pinsUsed s (q .1 + 1)))) ∷ parts ps))
+      go true later = omega (arith, later (suc k))
+      go false later = omega (arith, later k)
+
+  -- three for a register and one for a C-element, and each register is one of the wiring's
+  pub nets-count : (N : Nets) (ps : List (Sort × ℕ)) → All (PartNames s N) ps →
+      (length (partNets (sortsOf ps)) ≡ 3 * countOf sort.Register (sortsOf ps) + countOf sort.Element (sortsOf ps))
+      × (length (registersOf (parts ps)) ≡ countOf sort.Register (sortsOf ps))
+  unfolding partNets countOf registersOf
+  nets-count N [] h = (refl, refl)
+  nets-count N (q ∷ ps) h = go (h .0 .either) (nets-count N ps (h .1))
+    where
+      go : (q .0 ≡ sort.Register) ⊎ (q .0 ≡ sort.Element) →
+          (length (partNets (sortsOf ps)) ≡ 3 * countOf sort.Register (sortsOf ps) + countOf sort.Element (sortsOf ps))
+          × (length (registersOf (parts ps)) ≡ countOf sort.Register (sortsOf ps)) →
+          (length (partNets (sortsOf (q ∷ ps))) ≡ 3 * countOf sort.Register (sortsOf (q ∷ ps)) + countOf sort.Element (sortsOf (q ∷ ps)))
+          × (length (registersOf (parts (q ∷ ps))) ≡ countOf sort.Register (sortsOf (q ∷ ps)))
+      go (inl e) later = rw e (omega (arith, later .0), omega (arith, later .1))
+      go (inr e) later = rw e (omega (arith, later .0), later .1)
