@@ -134,3 +134,116 @@ module _ (s : List ℕ) where
           × (length (registersOf (parts (q ∷ ps))) ≡ countOf sort.Register (sortsOf (q ∷ ps)))
       go (inl e) later = rw e (omega (arith, later .0), omega (arith, later .1))
       go (inr e) later = rw e (omega (arith, later .0), later .1)
+
+  -- ---- operands among the nets
+
+  operand-of : (place m v : ℕ) → In v (operands s place m) → (i : ℕ) × (i < m) × (v ≡ operand s (place + 2 * i))
+  unfolding operands
+  operand-of place zero v i = absurd i
+  operand-of place (suc m) v (inl e) = let z : place + 2 * 0 ≡ place = omega arith in (0, omega arith, rw z e)
+  operand-of place (suc m) v (inr i) =
+      let r = operand-of (place + 2) m v i in
+      let z : place + 2 * suc (r .0) ≡ place + 2 + 2 * r .0 = omega arith in
+      (suc (r .0), omega (arith, r .1), rw z (r .2))
+
+  module _ (N : Nets) where
+    -- at the data of register t, at its Ki, and at the pins of a C-element
+    data-named : (ps : List (Sort × ℕ)) → All (PartNames s N) ps → (t v : ℕ) → In v (getD (map (λ (r : Register). r .data0 ∷ r .data1 ∷ []) (registersOf (parts ps))) t []) → carriesData N v ≡ true
+    unfolding registersOf
+    data-named [] h t v i = absurd i
+    data-named (q ∷ ps) h t v i = go (isSort sort.Register (q .0)) (h .0 .names-nets) t i (data-named ps (h .1))
+      where
+        go : (b : Bool) → NamesOf s N (q .1) b → (t : ℕ) →
+            In v (getD (map (λ (r : Register). r .data0 ∷ r .data1 ∷ []) (registersOf (cond b
+            (register (record { data0 = operand s (q .1 + 1); data1 = operand s (q .1 + 3); ki = operand s (q .1 + 5) }))
+            (element (operands s (q .1 + 1) (pinsUsed s (q .1 + 1)))) ∷ parts ps))) t []) →
+            ((t v : ℕ) → In v (getD (map (λ (r : Register). r .data0 ∷ r .data1 ∷ []) (registersOf (parts ps))) t []) → carriesData N v ≡ true) → carriesData N v ≡ true
+        go true n zero (inl e) later = ap (carriesData N) e ∙ n .data0
+        go true n zero (inr (inl e)) later = ap (carriesData N) e ∙ n .data1
+        go true n zero (inr (inr i)) later = absurd i
+        go true n (suc t) i later = later t v i
+        go false n t i later = later t v i
+
+    ki-named : (ps : List (Sort × ℕ)) → All (PartNames s N) ps → (t : ℕ) → t < length (registersOf (parts ps)) →
+        (getD (map (λ (r : Register). r .ki) (registersOf (parts ps))) t outside ≡ outside) ⊎ (isNet N (getD (map (λ (r : Register). r .ki) (registersOf (parts ps))) t outside) ≡ true)
+    unfolding registersOf
+    ki-named [] h t l = absurd (omega arith)
+    ki-named (q ∷ ps) h t l = go (isSort sort.Register (q .0)) (h .0 .names-nets) t l (ki-named ps (h .1))
+      where
+        Names : ℕ → List Part → Type 0
+        Names t ps = (getD (map (λ (r : Register). r .ki) (registersOf ps)) t outside ≡ outside) ⊎ (isNet N (getD (map (λ (r : Register). r .ki) (registersOf ps)) t outside) ≡ true)
+
+        part : Bool → Part
+        part b = cond b (register (record { data0 = operand s (q .1 + 1); data1 = operand s (q .1 + 3); ki = operand s (q .1 + 5) })) (element (operands s (q .1 + 1) (pinsUsed s (q .1 + 1))))
+
+        go : (b : Bool) → NamesOf s N (q .1) b → (t : ℕ) → t < length (registersOf (part b ∷ parts ps)) → ((t : ℕ) → t < length (registersOf (parts ps)) → Names t (parts ps)) → Names t (part b ∷ parts ps)
+        go true n zero l later = ⊎-elim (λ e. inl (eqb-true (operand s (q .1 + 5)) outside e)) (λ e. inr e) (or-cases (eqb (operand s (q .1 + 5)) outside) (isNet N (operand s (q .1 + 5))) (n .ki))
+        go true n (suc t) l later = later t (omega arith)
+        go false n t l later = later t l
+
+    pin-named : (ps : List (Sort × ℕ)) → All (PartNames s N) ps → (k x v : ℕ) → In v (opened (getD (partDrivers k (parts ps)) x nothing)) → isNet N v ≡ true
+    unfolding partDrivers opened
+    pin-named [] h k x v i = absurd i
+    pin-named (q ∷ ps) h k x v i = go (isSort sort.Register (q .0)) (h .0 .names-nets) x i (pin-named ps (h .1))
+      where
+        part : Bool → Part
+        part b = cond b (register (record { data0 = operand s (q .1 + 1); data1 = operand s (q .1 + 3); ki = operand s (q .1 + 5) })) (element (operands s (q .1 + 1) (pinsUsed s (q .1 + 1))))
+
+        go : (b : Bool) → NamesOf s N (q .1) b → (x : ℕ) → In v (opened (getD (partDrivers k (part b ∷ parts ps)) x nothing)) →
+            ((k x v : ℕ) → In v (opened (getD (partDrivers k (parts ps)) x nothing)) → isNet N v ≡ true) → isNet N v ≡ true
+        go true n zero i later = absurd i
+        go true n (suc zero) i later = absurd i
+        go true n (suc (suc zero)) i later = absurd i
+        go true n (suc (suc (suc x))) i later = later (suc k) x v i
+        go false n zero i later = let r = operand-of (q .1 + 1) (pinsUsed s (q .1 + 1)) v i in rw (r .2) (n .pin (r .0) (r .1))
+        go false n (suc x) i later = later k x v i
+
+-- ---- the wiring of a file that was read
+
+module _ (registers : Bool) (most : Limits) (less : NoMore most stageLimits) (s : List ℕ) (p : Places) (r : Read (stageFile registers) most s p) where
+  abbrev P : Pipeline
+  P = wiringOf s p
+
+  abbrev N : Nets
+  N = netsOf p
+
+  abbrev gatePins : ℕ → List ℕ
+  gatePins at = operands s (at + 2) (needed file.Stage (byte s (at + 1)))
+
+  gates-long : length (P .gates) ≡ length (p .gates)
+  gates-long = length-map (p .gates) gatePins
+
+  all-named : All (PartNames s N) (p .parts)
+  all-named = parts-names registers s N (p .parts) (r .parts-at)
+
+  pub first-part : 2 * P .inputs + length (P .gates) ≡ firstPart N
+  first-part = ap (λ (g : ℕ). 2 * p .inputs + g) gates-long
+
+  pub all-long : allNets P ≡ firstPart N + length (partNets (N .parts))
+  unfolding allNets drivers
+  all-long = omega (
+    arith,
+    length-append (replicate (2 * P .inputs) input) (map gate (P .gates) ++ partDrivers 0 (P .parts)),
+    length-append (map gate (P .gates)) (partDrivers 0 (P .parts)),
+    length-replicate (2 * P .inputs) input,
+    length-map (P .gates) gate,
+    gates-long,
+    long-alike s (p .parts) 0,
+  )
+
+  pub net-inside : (v : ℕ) → isNet N v ≡ true → v < allNets P
+  net-inside v e = omega (arith, ltb-true v (firstPart N + length (partNets (N .parts))) e, all-long)
+
+  -- what carries data for the reader does so in the wiring
+  pub data-same : (v : ℕ) → carriesData N v ≡ wiring.carriesData (driverOf P v)
+  unfolding carriesData wiring.carriesData
+  data-same = each-driver (λ d x. carriesData N x ≡ wiring.carriesData d) P (λ x h. early x (omega (arith, first-part))) (λ k h. early (2 * P .inputs + k) (omega (arith, first-part))) (λ x.
+      let y : ℕ = 2 * P .inputs + length (P .gates) + x in
+      let z : y - firstPart N ≡ x = omega (arith, first-part) in
+      rw (le-ltb y (firstPart N) (omega (arith, first-part)), z) (data-alike s (p .parts) 0 x))
+    where
+      early : (x : ℕ) → x < firstPart N → carriesData N x ≡ true
+      early x h = rw (lt-ltb x (firstPart N) h)
+
+  pub data-is : (v : ℕ) → carriesData N v ≡ true → IsData P v
+  data-is v e = sym (data-same v) ∙ e
