@@ -200,6 +200,13 @@ module _ (s : List ℕ) where
 
 -- ---- the wiring of a file that was read
 
+-- a gate's pins carry data, with registers or without
+gate-carries : (registers : Bool) (most : Limits) (s : List ℕ) (p : Places) → Read (stageFile registers) most s p → (k : ℕ) → k < length (p .gates) → (i : ℕ) →
+    i < needed file.Stage (byte s (getD (p .gates) k 0 + 1)) → carriesData (netsOf p) (operand s (getD (p .gates) k 0 + 2 + 2 * i)) ≡ true
+unfolding needed names roleOf carriesData
+gate-carries true most s p r k h i l = r .gate-at k h .named i l
+gate-carries false most s p r k h i l = rw (r .gate-at k h .named i l)
+
 module _ (registers : Bool) (most : Limits) (less : NoMore most stageLimits) (s : List ℕ) (p : Places) (r : Read (stageFile registers) most s p) where
   abbrev P : Pipeline
   P = wiringOf s p
@@ -247,3 +254,39 @@ module _ (registers : Bool) (most : Limits) (less : NoMore most stageLimits) (s 
 
   pub data-is : (v : ℕ) → carriesData N v ≡ true → IsData P v
   data-is v e = sym (data-same v) ∙ e
+
+  -- the pins of gate k carry data
+  gate-named : (k v : ℕ) → In v (getD (P .gates) k []) → carriesData N v ≡ true
+  gate-named k v i = go (decLt k (length (p .gates)))
+    where
+      at : (gs : List ℕ) (k : ℕ) → k < length gs → getD (map gatePins gs) k [] ≡ gatePins (getD gs k 0)
+      at [] k h = absurd (omega arith)
+      at (g ∷ gs) zero h = refl
+      at (g ∷ gs) (suc k) h = at gs k (omega arith)
+
+      place : ℕ
+      place = getD (p .gates) k 0
+
+      go : Dec (k < length (p .gates)) → carriesData N v ≡ true
+      go (no h) = absurd (subst (In v) (List·getD-eq-default (P .gates) [] (omega (arith, gates-long))) i)
+      go (yes h) =
+          let o = operand-of s (place + 2) (needed file.Stage (byte s (place + 1))) v (subst (In v) (at (p .gates) k h) i) in
+          rw (o .2) (gate-carries registers most s p r k h (o .0) (o .1))
+
+  pub named : Named P
+  unfolding dataOf kiOf registerCount opened
+  named = record {
+    few = omega (arith, all-long, nets-count s N (p .parts) all-named .0, r .registers-in, r .elements-in, r .inputs-in .1, r .gates-in, less .inputs-in, less .gates-in);
+    gatePin = λ x v i. data-is v (gate-pin x v (subst (In v) (steps-are P x) i));
+    elementPin = each-driver (λ d x. (v : ℕ) → In v (opened d) → v < allNets P) P (λ x h v i. absurd i) (λ k h v i. absurd i)
+        (λ x v i. net-inside v (pin-named s N (p .parts) all-named 0 x v i));
+    rail = λ k v i. data-is v (data-named s N (p .parts) all-named k v i);
+    ki = λ k h. ⊎-elim inl (λ e. inr (net-inside (kiOf P k) e)) (ki-named s N (p .parts) all-named k h);
+  }
+    where
+      gate-pin : (x v : ℕ) → In v (cond (ltb x (2 * P .inputs)) [] (getD (P .gates) (x - 2 * P .inputs) [])) → carriesData N v ≡ true
+      gate-pin x v i = go (ltb x (2 * P .inputs)) i
+        where
+          go : (b : Bool) → In v (cond b [] (getD (P .gates) (x - 2 * P .inputs) [])) → carriesData N v ≡ true
+          go true i = absurd i
+          go false i = gate-named (x - 2 * P .inputs) v i
