@@ -4,4 +4,5 @@ pub mod Stages
 pub mod Tables
 pub mod Holding
 pub mod Nets
+pub mod Rows
 pub mod References

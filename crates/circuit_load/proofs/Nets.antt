@@ -220,7 +220,7 @@ module _ (registers : Bool) (most : Limits) (less : NoMore most stageLimits) (s 
   gates-long : length (P .gates) ≡ length (p .gates)
   gates-long = length-map (p .gates) gatePins
 
-  all-named : All (PartNames s N) (p .parts)
+  pub all-named : All (PartNames s N) (p .parts)
   all-named = parts-names registers s N (p .parts) (r .parts-at)
 
   pub first-part : 2 * P .inputs + length (P .gates) ≡ firstPart N
