@@ -97,11 +97,7 @@ fn recall(kos: &[u64], known: &[u8], i: usize) -> Behind
 fn mark_of(other: bool) -> u8
     ensures { λ r. ⌜ r ≡ cond other 2 1 ⌝ }
 {
-    if other {
-        2
-    } else {
-        1
-    }
+    if other { 2 } else { 1 }
 }
 
 fn remember(kos: &mut [u64], known: &mut [u8], i: usize, all: Behind)

@@ -140,10 +140,16 @@ module _ (order : WordOrder) (f : Files) where
       let w = wired-free raw in
       let free = some-all (λ k. number (judge (checks order raw r)) ≡ k → LoopFree (netOf s)) (13 ∷ 14 ∷ 15 ∷ 20 ∷ 21 ∷ []) (
         (λ q. w (before 13 12 ls q) (before 13 33 ls q)),
-        ((λ q. w (before 14 12 ls q) (before 14 33 ls q)),
-        ((λ q. w (before 15 12 ls q) (before 15 33 ls q)),
-        ((λ q. w (before 20 12 ls q) (before 20 33 ls q)),
-        ((λ q. w (before 21 12 ls q) (before 21 33 ls q)), tt)))),
+        (
+          (λ q. w (before 14 12 ls q) (before 14 33 ls q)),
+          (
+            (λ q. w (before 15 12 ls q) (before 15 33 ls q)),
+            (
+              (λ q. w (before 20 12 ls q) (before 20 33 ls q)),
+              ((λ q. w (before 21 12 ls q) (before 21 33 ls q)), tt),
+            ),
+          ),
+        ),
       ) n e z in (
         p .0,
         subst (λ (v : Verdict). Broken f (spelled order (s .inputs) (v .word)) v) (sym (p .1))

@@ -106,7 +106,7 @@ module _ (s : List ℕ) where
       go false (suc x) later = later k x
 
   -- there are as many
-  long-alike : (ps : List (Sort × ℕ)) (k : ℕ) → length (partNets (sortsOf ps)) ≡ length (partDrivers k (parts ps))
+  pub long-alike : (ps : List (Sort × ℕ)) (k : ℕ) → length (partNets (sortsOf ps)) ≡ length (partDrivers k (parts ps))
   unfolding partNets partDrivers
   long-alike [] k = refl
   long-alike (q ∷ ps) k = go (isSort sort.Register (q .0)) (long-alike ps)

@@ -22,7 +22,7 @@ use Rattle.wiring_spec.specs.Parts.{Register, Part, register, element, partAt, 
 use Rattle.wiring_spec.specs.Parts.{partDrivers, drivers, driverOf, allNets}
 use Rattle.wiring_spec.specs.Tables.{slot, RowOf, registerSlot, RegisterRow, PartsLoaded}
 use Rattle.circuit_load.specs.Parts.{wiringOf, railRow, koRow, elementRow, netRows, registerRows, Begins, PipelineHeld}
-use Rattle.circuit_load.proofs.Nets.{nets-count, all-named, first-part, all-long, named}
+use Rattle.circuit_load.proofs.Nets.{long-alike, nets-count, all-named, first-part, all-long, named}
 
 -- ---- row by row
 
@@ -179,3 +179,111 @@ module _ (P : Pipeline) (pins-in : All Pinned (P .parts)) where
       go (acknowledge k) h e = (e 0 (omega arith), e 6 (omega arith))
       go (completion pins) h e = (e 0 (omega arith), h .0, h .1, pins-at nets i pins e)
       go nothing h e = absurd h
+
+-- ---- the table of the registers
+
+-- register m of some parts, whose first net is x: its row, and its rails among the drivers, where k registers stand before them
+record RegisterAt (parts : List Part) (x k m : ℕ) : Type 0 where
+  after : ℕ
+  rail-net : getD (registerRows x parts) (4 * m) 0 ≡ x + after
+  rail0 : getD (partDrivers k parts) after nothing ≡ rail (k + m) false
+  rail1 : getD (partDrivers k parts) (after + 1) nothing ≡ rail (k + m) true
+  data0 : getD (registerRows x parts) (4 * m + 1) 0 ≡ getD (registersOf parts) m noRegister .data0
+  data1 : getD (registerRows x parts) (4 * m + 2) 0 ≡ getD (registersOf parts) m noRegister .data1
+  ki-net : getD (registerRows x parts) (4 * m + 3) 0 ≡ getD (registersOf parts) m noRegister .ki
+
+register-at : (parts : List Part) (x k m : ℕ) → m < length (registersOf parts) → RegisterAt parts x k m
+unfolding registerRows partDrivers registersOf
+register-at [] x k m h = absurd (omega arith)
+register-at (register r ∷ parts) x k zero h =
+    let z : k + 0 ≡ k = omega arith in
+    record { after = 0; rail-net = omega arith; rail0 = rw z; rail1 = rw z; data0 = refl; data1 = refl; ki-net = refl }
+register-at (register r ∷ parts) x k (suc m) h =
+    let l = register-at parts (x + 3) (suc k) m (omega arith) in
+    let row : List ℕ = x ∷ r .data0 ∷ r .data1 ∷ r .ki ∷ [] in
+    let past : (j : ℕ) → getD (row ++ registerRows (x + 3) parts) (4 * suc m + j) 0 ≡ getD (registerRows (x + 3) parts) (4 * m + j) 0 =
+    λ j. let e : 4 * suc m + j ≡ 4 + (4 * m + j) = omega arith in
+    ap (λ (n : ℕ). getD (row ++ registerRows (x + 3) parts) n 0) e ∙ getD-append-add row (registerRows (x + 3) parts) (4 * m + j) 0 in
+    let n : k + suc m ≡ suc k + m = omega arith in
+    let a : l .after + 3 ≡ suc (suc (suc (l .after))) = omega arith in
+    let b : l .after + 3 + 1 ≡ suc (suc (suc (l .after + 1))) = omega arith in
+    let c : 4 * suc m ≡ 4 * suc m + 0 = omega arith in
+    let d : 4 * m + 0 ≡ 4 * m = omega arith in
+    record {
+      after = l .after + 3;
+      rail-net = ap (λ (n : ℕ). getD (row ++ registerRows (x + 3) parts) n 0) c ∙ past 0 ∙ rw d (l .rail-net ∙ omega arith);
+      rail0 = rw (a, n) (l .rail0);
+      rail1 = rw (b, n) (l .rail1);
+      data0 = past 1 ∙ l .data0;
+      data1 = past 2 ∙ l .data1;
+      ki-net = past 3 ∙ l .ki-net;
+    }
+register-at (element pins ∷ parts) x k m h =
+    let l = register-at parts (x + 1) k m h in
+    let a : l .after + 1 ≡ suc (l .after) = omega arith in
+    let b : l .after + 1 + 1 ≡ suc (l .after + 1) = omega arith in
+    record {
+      after = l .after + 1;
+      rail-net = l .rail-net ∙ omega arith;
+      rail0 = rw a (l .rail0);
+      rail1 = rw b (l .rail1);
+      data0 = l .data0;
+      data1 = l .data1;
+      ki-net = l .ki-net;
+    }
+
+registers-long : (parts : List Part) (x : ℕ) → length (registerRows x parts) ≡ 4 * length (registersOf parts)
+unfolding registerRows registersOf
+registers-long [] x = refl
+registers-long (register r ∷ parts) x = omega (arith, registers-long parts (x + 3))
+registers-long (element pins ∷ parts) x = registers-long parts (x + 1)
+
+ki-of : (rs : List Register) (m : ℕ) → m < length rs → getD rs m noRegister .ki ≡ getD (map (λ (r : Register). r .ki) rs) m outside
+ki-of [] m h = absurd (omega arith)
+ki-of (r ∷ rs) zero h = refl
+ki-of (r ∷ rs) (suc m) h = ki-of rs m (omega arith)
+
+module _ (P : Pipeline) (pins-in : All Pinned (P .parts)) where
+  pub registers-loaded : (regs : List ℕ) → Begins (registerRows (first P pins-in) (P .parts)) regs → (k : ℕ) → k < registerCount P → RegisterRow P regs k
+  unfolding registerCount kiOf from railOf
+  registers-loaded regs begins k h =
+      let x : ℕ = first P pins-in in
+      let at = register-at (P .parts) x 0 k h in
+      let z : 0 + k ≡ k = omega arith in
+      let table : List ℕ = registerRows x (P .parts) in
+      let slot-is : (j : ℕ) → j < 4 → registerSlot regs k j ≡ getD table (4 * k + j) 0 =
+      λ j l. sym (getD-take (length table) regs (4 * k + j) 0 (omega (arith, registers-long (P .parts) x))) ∙ ap (λ (t : List ℕ). getD t (4 * k + j) 0) begins in
+      let n : 4 * k + 0 ≡ 4 * k = omega arith in
+      let net : registerSlot regs k 0 ≡ x + at .after = slot-is 0 (omega arith) ∙ rw n (at .rail-net) in
+      let next : x + at .after + 1 ≡ x + (at .after + 1) = omega arith in
+      record {
+        rail0-net = ap (driverOf P) net ∙ late-driver P pins-in (at .after) ∙ at .rail0 ∙ ap (λ (m : ℕ). rail m false) z;
+        rail1-net = ap (λ (y : ℕ). driverOf P (y + 1)) net ∙ ap (driverOf P) next ∙ late-driver P pins-in (at .after + 1) ∙ at .rail1 ∙ ap (λ (m : ℕ). rail m true) z;
+        data-net = λ b. data-at at slot-is b ∙ sym (rw z at (data-from P pins-in k b h));
+        ki-net = slot-is 3 (omega arith) ∙ at .ki-net ∙ ki-of (registersOf (P .parts)) k h;
+      }
+    where
+      data-at : RegisterAt (P .parts) (first P pins-in) 0 k → ((j : ℕ) → j < 4 → registerSlot regs k j ≡ getD (registerRows (first P pins-in) (P .parts)) (4 * k + j) 0) →
+          (b : Bool) → registerSlot regs k (1 + bit b) ≡ railOf (getD (registersOf (P .parts)) k noRegister) b
+      data-at at slot-is false = slot-is 1 (omega arith) ∙ at .data0
+      data-at at slot-is true = slot-is 2 (omega arith) ∙ at .data1
+
+-- ---- a file that was read
+
+pub parts-loaded : (registers : Bool) {most : Limits} → NoMore most stageLimits → {s : List ℕ} {p : Places} → Read (stageFile registers) most s p → {code nets regs : List ℕ} →
+    PipelineHeld s p code nets regs → PartsLoaded (wiringOf s p) (netCount (countsOf p)) (3 * countsOf p .registers + countsOf p .elements) nets regs
+unfolding registerCount
+parts-loaded registers {most} less {s} {p} r {nets = nets} {regs = regs} h =
+    let P : Pipeline = wiringOf s p in
+    let pins-in = pinned s (p .parts) in
+    let count = nets-count s (netsOf p) (p .parts) (all-named registers most less s p r) in
+    let first-is = first-part registers most less s p r in
+    let long = all-long registers most less s p r in
+    record {
+      first-is = sym first-is;
+      all-nets = omega (arith, long, count .0);
+      few = omega (arith, count .1, r .registers-in);
+      row = λ i l. subst (λ (x : ℕ). RowOf P nets i (driverOf P (x + i))) first-is (rows-loaded P pins-in nets (h .nets-begin) i (omega (arith, count .0, long-alike s (p .parts) 0)));
+      register-row = registers-loaded P pins-in regs (subst (λ (x : ℕ). Begins (registerRows x (P .parts)) regs) (sym first-is) (h .registers-begin));
+      named = named registers most less s p r;
+    }

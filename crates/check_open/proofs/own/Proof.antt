@@ -43,7 +43,7 @@ shl-t16 c = let z = c .before .before .before .before .before in ko-below (now (
 
 returns-3 : tie.Need-returns-3
 returns-3 c =
-    let z = c .before .before .before .before .before in 
+    let z = c .before .before .before .before .before in
     own-ko (now (z .args .nets)) (z .args .first) (z .args .x) (c .before .before .before .before .if1 .left) (c .before .if3 .taken) (ko-below (now (z .args .nets)) (z .args .first) (z .args .x) (z .pre .1) (c .before .if3 .taken))
 
 mul-t6 : tie.Need-mul-t6
