@@ -115,3 +115,9 @@ module _ (p : Pipeline) (first count : ℕ) (nets regs : List ℕ) (loaded : Par
   pub resolve-is : (x : ℕ) → times (registerCount p) (wireIn nets first) x ≡ resolve p x
   unfolding resolve
   resolve-is = times-same (wireIn nets first) (λ x. wireOf p x (driverOf p x)) wire-is (registerCount p)
+
+-- a net that is its own wire stays
+pub times-fixed : (f : ℕ → ℕ) (k x : ℕ) → f x ≡ x → times k f x ≡ x
+unfolding times
+times-fixed f zero x e = refl
+times-fixed f (suc k) x e = ap (times k f) e ∙ times-fixed f k x e
