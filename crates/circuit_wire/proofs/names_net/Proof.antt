@@ -1,5 +1,5 @@
--- `wires::names_net` meets its contract. Assumes nothing.
-use Rattle.circuit_wire.proofs.Stage.{names-lead, names-low, names-past}
+-- `circuit_wire::names_net` meets its contract. Assumes nothing.
+use Rattle.circuit_wire.proofs.Numbers.{names-lead, names-low, names-past}
 use Rattle.circuit_wire.proofs.names_net.Statement.{statement}
 use Rattle.circuit_wire.proofs.names_net.Tie as tie
 

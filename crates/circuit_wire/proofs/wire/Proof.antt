@@ -1,17 +1,17 @@
--- `wires::wire` meets its contract. Assumes nothing.
+-- `circuit_wire::wire` meets its contract. Assumes nothing.
 use denote.Ref.{now}
 use borrow.Author.Needs.{needs}
-use Rattle.circuit_wire.proofs.Wiring.{wire-before, wire-past, wire-rail, wire-other}
+use Rattle.circuit_wire.proofs.Wiring.{wire-before, wire-past, rail-read, other-read}
 use Rattle.circuit_wire.proofs.wire.Statement.{statement}
 use Rattle.circuit_wire.proofs.wire.Tie as tie
 use Rattle.circuit_wire.proofs.wire.Reads as reads
 use Rattle.circuit_wire.proofs.wire.Lts as lts
 
 returns : tie.Need-returns
-returns c = let z = c .before in wire-before (now (z .args .code)) (z .args .first) (z .args .net) (c .if1 .taken)
+returns c = let z = c .before in wire-before (now (z .args .nets)) (z .args .first) (z .args .net) (c .if1 .taken)
 
 returns-2 : tie.Need-returns-2
-returns-2 c = let z = c .before .before in wire-past (now (z .args .code)) (z .args .first) (z .args .net) (c .before .if1 .left) (c .if2 .taken)
+returns-2 c = let z = c .before .before in wire-past (now (z .args .nets)) (z .args .first) (z .args .net) (c .before .if1 .left) (c .if2 .taken)
 
 mul-if3 : tie.Need-mul-if3
 mul-if3 c = search needs
@@ -35,10 +35,10 @@ shared-slice-read-result : tie.Need-shared-slice-read-result
 shared-slice-read-result c = search needs
 
 returns-3 : tie.Need-returns-3
-returns-3 c = let z = c .before .before .before .before .before in wire-rail (now (z .args .code)) (z .args .first) (z .args .net) (c .before .before .before .before .if1 .left) (c .before .before .before .if2 .left) (c .before .if3 .taken)
+returns-3 c = let z = c .before .before .before .before .before in rail-read (now (z .args .nets)) (z .args .first) (z .args .net) (c .before .before .before .before .if1 .left) (c .before .before .before .if2 .left) (c .before .if3 .taken)
 
 returns-4 : tie.Need-returns-4
-returns-4 c = let z = c .before .before .before .before in wire-other (now (z .args .code)) (z .args .first) (z .args .net) (c .before .before .before .if1 .left) (c .before .before .if2 .left) (c .if3 .left)
+returns-4 c = let z = c .before .before .before .before in other-read (now (z .args .nets)) (z .args .first) (z .args .net) (c .before .before .before .if1 .left) (c .before .before .if2 .left) (c .if3 .left)
 
 pub wire-spec : {M : Type 1} → statement M
 wire-spec =
