@@ -1,12 +1,13 @@
 /* The check of clockless stages, for C. Link target/staticlib/libfovaheju.a, which `rt staticlib fovaheju` writes for
    x86-64; of the C library it uses memcpy and memset only.
 
-   Each call takes byte strings as a pointer and then a length. The bytes may be any; that they are there, that nothing
-   else writes them during the call, and that a row or a buffer overlaps nothing else is all that is asked. Each call
+   Each call takes byte strings, and lists of numbers, as a pointer and then a length, which counts bytes, or numbers of a
+   list. They may be any; that they are there (a list as its type is aligned), that nothing else writes them during the
+   call, and that a row, a buffer or a list that is written overlaps nothing else is all that is asked. Each call
    returns, keeps nothing for later calls, and touches no other memory but its answer and the stack: at most 64
    kilobytes of it (measured: report 47, join 45, check 32, read a text 24, write a text 21, settled row 18, make a stage
    5, draw a reference 1, the next stage less than 1). So calls may run at the same time in several threads, each with a
-   row or buffers of its own.
+   row, list or buffers of its own.
 
    A pointer that goes with the length 0 is not read through. What is proved is about pointers that are not null; with
    the length 0 any other address will do. A null pointer with the length 0 was tried too: it counts as an empty file,
@@ -25,7 +26,7 @@ extern "C" {
 /* The verdict: four numbers. All are 0 where the call accepts. */
 struct fovaheju_verdict {
     /* What was found: 0 accepted, 1 to 9 a file that cannot be read, 10 and 11 counts that differ, 12 a loop,
-       13 a wrong output, 14 not input-complete, 15 not observable, 16 and 17 a row that cannot be taken, 18 and 19 a
+       13 a wrong output, 14 not input-complete, 15 not observable, 16 and 17 a row or keys that cannot be taken, 18 and 19 a
        care word that cannot be taken, 20 not input-complete in its fall, 21 not observable in its fall, 22 parts
        that do not fit, 23 an answer that the second part does not care for, 24 a buffer that is too short, 25 a signal
        that leads to no output, 26 too many gates needed, 27 a buffer that is too short for a stage, 28 a gate of a
@@ -34,11 +35,11 @@ struct fovaheju_verdict {
        never rises, 36 to 38 no next small stage, 39 to 41 no drawn reference.
        docs/VERDICTS.md has the list. */
     uint64_t number;
-    /* In which file: 1 the stage or a stage's text, 2 the reference, 3 the row or a buffer, 0 none. Of a join 1 and 2 are
+    /* In which file: 1 the stage or a stage's text, 2 the reference, 3 the row, the keys or a buffer, 0 none. Of a join 1 and 2 are
        the first part's, 4 and 5 the second's; 3 is none in the second part, and for 24 a buffer. */
     uint64_t file;
     /* At which place: a byte of the file for 1 to 9, 18 and 19, the stage's count for 10 and 11, a gate for 12, 15, 21,
-       28 and 32, an output for 13, an input for 14, 17 and 20, the row's length for 16, the first part's outputs for 22, a
+       28 and 32, an output for 13, an input for 14, 17 and 20, the length of the row or of the keys for 16, the first part's outputs for 22, a
        signal for 25, how many gates are needed for 26, a line of the text for 29 to 31, counted from 0, where a text is
        written an output for 31. */
     uint64_t at;
@@ -48,7 +49,7 @@ struct fovaheju_verdict {
     uint64_t word;
 };
 
-/* How words are counted and named in an answer, the parameter `order`: 0 has input 0 as the highest bit of a word, of
+/* How words are counted and named, in an answer and by a caller, the parameter `order`: 0 has input 0 as the highest bit of a word, of
    as many bits as the stage has inputs; every other number has it as the lowest, so that input i is bit i. The word
    that a verdict names is the least in this order, and a report's words rise in it. Acceptance is the same either way.
    Care words in files have input 0 as the lowest bit always. */
@@ -149,6 +150,58 @@ struct fovaheju_written fovaheju_next_stage(const uint8_t *stage, size_t stage_l
    that is too short. */
 struct fovaheju_written fovaheju_draw_reference(uint32_t seed, size_t inputs, size_t gates,
                                                 uint8_t *reference_out, size_t reference_out_len);
+
+/* A run of a word: the nets that switch, one after the other, first in its rise from all low, then, where it has one, in its
+   fall from where the rise has ended. Net 2i is rail 0 of input i and net 2i + 1 its rail 1; gate k drives net 2n + k,
+   with n inputs. */
+struct fovaheju_run {
+    struct fovaheju_verdict verdict;
+    /* How many switchings the rise has: the fall begins at this place of the list. */
+    uint64_t rise;
+    /* How many both have together. Where the list has fewer places it is left as it was. 552 places have room for every
+       run. */
+    uint64_t count;
+};
+
+/* The witness of a verdict: what fovaheju_check answers of files without registers, and a run that shows it, at the start of the
+   list. Under 13 it is a full rise of the word that is named, at whose end output `at` is not the reference's DATA; under
+   14 a rise after which all outputs are DATA and input `at` is NULL; under 15 one after which all outputs are DATA and gate
+   `at` is low with its set expression true; these three have no fall. Under 20 and 21 it is a full rise and a fall after
+   which all outputs are NULL, but input `at` is DATA or gate `at` high. Where the pair is accepted it is a full rise and a
+   full fall of the word that the name `asked` spells; of a name the lowest bits count, as many as there are inputs. Under
+   32 it is a full rise and a full fall in which gate `at` never switches, of the word with the name `asked` if the stage
+   cares for it, else of the first word that it cares for; a name with more bits than there are inputs is none there. Other
+   numbers have no run: `rise` and `count` are 0. At each step the least net that may switch does, until none may; what is
+   named under 14, 15, 20 and 21 is held back. Places past the run keep their values. */
+struct fovaheju_run fovaheju_witness(uint64_t order, const uint8_t *stage, size_t stage_len,
+                                     const uint8_t *reference, size_t reference_len,
+                                     size_t asked, uint16_t *list, size_t list_len);
+
+/* What a list of switchings comes to. */
+struct fovaheju_played {
+    struct fovaheju_verdict verdict;
+    /* How many steps come before the first that the rules bar; all of them where they bar none. */
+    uint64_t steps;
+};
+
+/* Judges a list of switchings of the word that a name spells, any name, by its lowest bits: its steps are those of a rise up to
+   place `fall`, which of a run that was handed out is its `rise`, and from there on those of a fall. A step is barred if
+   its net may not switch then, and the first of the fall also if the rise has not ended. Where the number is 0, the row,
+   one byte for each net, is 1 for each net that is high after the steps before the first that is barred, and 0 for the
+   others; what it held before is not looked at. Where it is another, the row is left as it was. The numbers are 0 to 9, 18,
+   19, 12, and 16 for the row's length. */
+struct fovaheju_played fovaheju_play(uint64_t order, const uint8_t *stage, size_t stage_len,
+                                     size_t name, size_t fall, const uint16_t *list, size_t list_len,
+                                     uint8_t *row, size_t row_len);
+
+/* Plays a full rise and a full fall of the word that a name spells, any name, by its lowest bits, in an order that is chosen by
+   keys: one for each net in the rise, then one for each in the fall, so that n inputs and g gates take 2 (2n + g) keys. At
+   each step, of the nets that may switch, that with the least key does, the least net of equal keys. Every full rise with
+   every full fall is played by some keys. The run stands at the start of the list; places past it keep their values. The
+   numbers are 0 to 9, 18, 19, 12, and 16 for how many keys there are. */
+struct fovaheju_run fovaheju_run_by_keys(uint64_t order, const uint8_t *stage, size_t stage_len,
+                                         size_t name, const uint32_t *keys, size_t keys_len,
+                                         uint16_t *list, size_t list_len);
 
 #ifdef __cplusplus
 }

@@ -538,6 +538,83 @@ static void draws(void)
     holds("a load of 1,001 seeds", many + accepted + idle == 1001 && many > 0 && many < 200 && accepted > 200 && idle > 200);
 }
 
+/* Whether a list begins with so many nets and has 777 behind them. */
+static int listed(const uint16_t *list, size_t room, const uint16_t *nets, size_t count)
+{
+    size_t i;
+    for (i = 0; i < room; i++)
+        if (list[i] != (i < count ? nets[i] : 777))
+            return 0;
+    return 1;
+}
+
+static void blank(uint16_t *list, size_t room)
+{
+    size_t i;
+    for (i = 0; i < room; i++)
+        list[i] = 777;
+}
+
+static void runs(void)
+{
+    struct {
+        uint64_t before;
+        struct fovaheju_run run;
+        uint64_t after;
+    } kept = {0x1122334455667788, {{0, 0, 0, 0}, 0, 0}, 0x99AABBCCDDEEFF00};
+    static const uint16_t cycle[] = {1, 2, 5, 1, 2, 5}, back[] = {2, 1, 5, 1, 2, 5}, early[] = {2, 4}, barred[] = {1, 5, 2};
+    static const uint8_t incomplete[] = {1, 2, 2, 1, 0, 0, 2, 0, 255, 255, 255, 255, 2, 2, 1, 0, 3, 0, 255, 255, 255, 255, 3, 4, 0, 5, 0, 0};
+    static const uint8_t never[] = {1, 1, 6, 0, 0, 2, 2, 0, 0, 1, 0, 255, 255, 255, 255, 3, 0, 0, 1, 0, 0};
+    static const uint16_t still[] = {0, 0};
+    static const uint32_t keys[] = {9, 8, 7, 6, 5, 4, 0, 1, 2, 3, 4, 5};
+    static const uint8_t low[6], midway[] = {0, 1, 0, 0, 0, 0}, old[] = {9, 9, 9, 9, 9, 9};
+    struct fovaheju_run *run = &kept.run;
+    struct fovaheju_played played;
+    uint16_t list[600];
+    uint8_t row[6];
+    blank(list, 600);
+    kept.run = fovaheju_witness(0, and_stage, sizeof and_stage, and_reference, sizeof and_reference, 2, list, 600);
+    same("a witness of the whole case", run->verdict, 0, 0, 0, 0);
+    holds("a rise and a fall", run->rise == 3 && run->count == 6 && listed(list, 600, cycle, 6));
+    blank(list, 600);
+    kept.run = fovaheju_witness(1, and_stage, sizeof and_stage, and_reference, sizeof and_reference, 1, list, 5);
+    holds("the word of the old order, and a list too short", run->count == 6 && listed(list, 600, cycle, 0));
+    kept.run = fovaheju_witness(0, and_stage, sizeof and_stage, and_reference, sizeof and_reference, 2, NULL, 0);
+    holds("a null list", run->rise == 3 && run->count == 6);
+    kept.run = fovaheju_witness(0, incomplete, sizeof incomplete, and_reference, sizeof and_reference, 3, list, 600);
+    same("a witness of 14", run->verdict, 14, 1, 0, 0);
+    holds("the output is there before input 0", run->rise == 2 && run->count == 2 && listed(list, 600, early, 2));
+    blank(list, 600);
+    kept.run = fovaheju_witness(0, never, sizeof never, wire_reference, sizeof wire_reference, 1, list, 600);
+    same("a witness of 32", run->verdict, 32, 1, 0, 0);
+    holds("the first word that is cared for", run->rise == 1 && run->count == 2 && listed(list, 600, still, 2));
+    blank(list, 600);
+    kept.run = fovaheju_witness(0, NULL, 0, NULL, 0, 0, list, 600);
+    same("a witness of empty files", run->verdict, 1, 1, 0, 0);
+    holds("no run", run->rise == 0 && run->count == 0 && listed(list, 600, cycle, 0));
+    kept.run = fovaheju_run_by_keys(0, and_stage, sizeof and_stage, 2, keys, 12, list, 600);
+    same("a run by keys", run->verdict, 0, 0, 0, 0);
+    holds("in another order", run->rise == 3 && run->count == 6 && listed(list, 600, back, 6));
+    blank(list, 600);
+    same("keys of the rise alone", fovaheju_run_by_keys(0, and_stage, sizeof and_stage, 2, keys, 6, list, 600).verdict, 16, 3, 6, 0);
+    same("no keys", fovaheju_run_by_keys(0, and_stage, sizeof and_stage, 2, NULL, 0, list, 600).verdict, 16, 3, 0, 0);
+    holds("nothing is listed", listed(list, 600, cycle, 0));
+    holds("beside the answer", kept.before == 0x1122334455667788 && kept.after == 0x99AABBCCDDEEFF00);
+    memcpy(row, old, 6);
+    played = fovaheju_play(0, and_stage, sizeof and_stage, 2, 3, back, 6, row, 6);
+    same("a list that is played", played.verdict, 0, 0, 0, 0);
+    holds("all of it", played.steps == 6 && memcmp(row, low, 6) == 0);
+    played = fovaheju_play(0, and_stage, sizeof and_stage, 2, 3, barred, 3, row, 6);
+    holds("a gate before its pin", played.verdict.number == 0 && played.steps == 1 && memcmp(row, midway, 6) == 0);
+    played = fovaheju_play(0, and_stage, sizeof and_stage, 2, SIZE_MAX, NULL, 0, row, 6);
+    holds("no list", played.verdict.number == 0 && played.steps == 0 && memcmp(row, low, 6) == 0);
+    memcpy(row, old, 6);
+    played = fovaheju_play(0, and_stage, sizeof and_stage, 2, 3, back, 6, row, 5);
+    same("a row too short", played.verdict, 16, 3, 5, 0);
+    same("no stage", fovaheju_play(0, NULL, 0, 2, 3, back, 6, row, 6).verdict, 1, 1, 0, 0);
+    holds("the row is as before", played.steps == 0 && memcmp(row, old, 6) == 0);
+}
+
 int main(int count, char **folders)
 {
     int i;
@@ -553,6 +630,7 @@ int main(int count, char **folders)
     written_texts();
     nexts();
     draws();
+    runs();
     printf("%d passed, %d failed\n", passed, failed);
     return failed != 0;
 }

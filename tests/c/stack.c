@@ -14,6 +14,8 @@
 enum { STACK = 1 << 18, MOST = 64 * 1024, MARK = 0xA5 };
 
 static uint8_t stage[8192], reference[8192], text[32768], row[276], out[16384], other[8192];
+static uint16_t list[552];
+static uint32_t keys[552];
 static size_t stage_len, reference_len, text_len;
 
 /* The calls, and the most bytes that each took. */
@@ -30,6 +32,20 @@ static void make_stage(void) { fovaheju_make_stage(reference, reference_len, out
 static void read_text(void) { fovaheju_read_text(text, text_len, out, sizeof out); }
 static void write_text(void) { fovaheju_write_text(stage, stage_len, out, sizeof out); }
 static void next_stage(void) { fovaheju_next_stage(stage, stage_len, out, sizeof out); }
+/* How many nets the stage has is not known here, and a row or keys of another length are refused: so every length is tried. */
+static void witness(void) { fovaheju_witness(0, stage, stage_len, reference, reference_len, 0, list, 552); }
+static void play(void)
+{
+    size_t nets;
+    for (nets = 2; nets <= 276; nets++)
+        fovaheju_play(0, stage, stage_len, 0, 0, list, 552, row, nets);
+}
+static void by_keys(void)
+{
+    size_t nets;
+    for (nets = 2; nets <= 276; nets++)
+        fovaheju_run_by_keys(0, stage, stage_len, 0, keys, 2 * nets, list, 552);
+}
 static void draw_reference(void) { fovaheju_draw_reference(1, 10, 20, out, sizeof out); }
 
 static struct {
@@ -39,7 +55,8 @@ static struct {
 } calls[] = {{"nothing", nothing, 0},       {"join", join, 0},           {"report", report, 0},
              {"check", check, 0},           {"read text", read_text, 0}, {"write text", write_text, 0},
              {"settled row", settled_row, 0}, {"make a stage", make_stage, 0}, {"draw a reference", draw_reference, 0},
-             {"next stage", next_stage, 0}};
+             {"next stage", next_stage, 0}, {"witness", witness, 0},     {"play", play, 0},
+             {"run by keys", by_keys, 0}};
 enum { CALLS = sizeof calls / sizeof *calls };
 
 static void *in_thread(void *call)

@@ -163,6 +163,12 @@ pub enum Difference {
         judge: (Made, Vec<u8>),
         other: (Made, Vec<u8>),
     },
+    Runs {
+        name: String,
+        order: WordOrder,
+        stage: Vec<u8>,
+        told: String,
+    },
 }
 
 /// What a join answers, and both buffers after it.
@@ -321,6 +327,16 @@ impl fmt::Display for Difference {
                 let files = [("read", &case.source), ("buffer before", &case.buffer)];
                 show_written(f, &files, judge, other)?;
                 writeln!(f, "read, as text: {}", case.source.escape_ascii())
+            }
+            Difference::Runs {
+                name,
+                order,
+                stage,
+                told,
+            } => {
+                writeln!(f, "{name}, {order:?}")?;
+                writeln!(f, "stage, {} bytes: {}", stage.len(), hex(stage))?;
+                writeln!(f, "{told}")
             }
         }
     }

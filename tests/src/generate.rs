@@ -10,6 +10,7 @@ pub mod joins;
 pub mod made;
 pub mod nexts;
 pub mod pipelines;
+pub mod runs;
 pub mod texts;
 
 use crate::circuits::{

@@ -6,6 +6,7 @@ use crate::files::FilePair;
 use crate::join::Joined;
 use crate::judge::Verdict;
 use crate::make::Made;
+use crate::run::{Handed, Played};
 
 fn made(answer: fovaheju::Written) -> Made {
     Made {
@@ -82,4 +83,44 @@ pub fn read_text(text: &[u8], stage_out: &mut [u8]) -> Made {
 /// The text of a stage file, into a buffer.
 pub fn write_text(stage: &[u8], text_out: &mut [u8]) -> Made {
     made(fovaheju::write_text(stage, text_out))
+}
+
+fn handed(run: fovaheju::Run) -> Handed {
+    Handed {
+        verdict: run.verdict.numbers(),
+        rise: run.rise,
+        count: run.count,
+    }
+}
+
+/// The witness of two files for a name, into a list.
+pub fn witness(order: u64, stage: &[u8], reference: &[u8], asked: u64, list: &mut [u16]) -> Handed {
+    handed(fovaheju::witness(
+        order,
+        stage,
+        reference,
+        asked as usize,
+        list,
+    ))
+}
+
+/// A list of switchings of a name, judged, with a row.
+pub fn play(
+    order: u64,
+    stage: &[u8],
+    name: u64,
+    fall: usize,
+    list: &[u16],
+    row: &mut [u8],
+) -> Played {
+    let played = fovaheju::play(order, stage, name as usize, fall, list, row);
+    Played {
+        verdict: played.verdict.numbers(),
+        steps: played.steps,
+    }
+}
+
+/// A run of a name by keys, into a list.
+pub fn run_by_keys(order: u64, stage: &[u8], name: u64, keys: &[u32], list: &mut [u16]) -> Handed {
+    handed(fovaheju::run_by_keys(order, stage, name as usize, keys, list))
 }

@@ -60,6 +60,26 @@ pub struct Written {
     pub count: u64,
 }
 
+/// A run that a call hands out: the fall begins at place `rise` of the list, and both have `count` switchings.
+#[repr(C)]
+#[derive(Clone, Copy, PartialEq, Eq, Debug)]
+pub struct Run {
+    pub verdict: Verdict,
+    pub rise: u64,
+    pub count: u64,
+}
+
+/// A list of switchings that was judged: how many steps come before the first that the rules bar.
+#[repr(C)]
+#[derive(Clone, Copy, PartialEq, Eq, Debug)]
+pub struct Played {
+    pub verdict: Verdict,
+    pub steps: u64,
+}
+
+/// A list of this length has room for every run.
+pub const RUN: usize = 552;
+
 /// A buffer of this length has room for every joined stage, and one of the next for every joined reference.
 pub const JOINED_STAGE: usize = 5_715;
 pub const JOINED_REFERENCE: usize = 3_123;
@@ -100,6 +120,37 @@ extern "C" {
     fn fovaheju_write_text(stage: *const u8, stage_len: usize, text_out: *mut u8, text_out_len: usize) -> Written;
     fn fovaheju_next_stage(stage: *const u8, stage_len: usize, stage_out: *mut u8, stage_out_len: usize) -> Written;
     fn fovaheju_draw_reference(seed: u32, inputs: usize, gates: usize, reference_out: *mut u8, reference_out_len: usize) -> Written;
+    fn fovaheju_witness(
+        order: u64,
+        stage: *const u8,
+        stage_len: usize,
+        reference: *const u8,
+        reference_len: usize,
+        asked: usize,
+        list: *mut u16,
+        list_len: usize,
+    ) -> Run;
+    fn fovaheju_play(
+        order: u64,
+        stage: *const u8,
+        stage_len: usize,
+        name: usize,
+        fall: usize,
+        list: *const u16,
+        list_len: usize,
+        row: *mut u8,
+        row_len: usize,
+    ) -> Played;
+    fn fovaheju_run_by_keys(
+        order: u64,
+        stage: *const u8,
+        stage_len: usize,
+        name: usize,
+        keys: *const u32,
+        keys_len: usize,
+        list: *mut u16,
+        list_len: usize,
+    ) -> Run;
 }
 
 /// The verdict on a stage file and a reference file.
@@ -170,4 +221,56 @@ pub fn next_stage(stage: &[u8], stage_out: &mut [u8]) -> Written {
 pub fn draw_reference(seed: u32, inputs: usize, gates: usize, reference_out: &mut [u8]) -> Written {
     // Safety: the contract has no `requires`, and pointer and length are of a slice; the buffer is lent to be written.
     unsafe { fovaheju_draw_reference(seed, inputs, gates, reference_out.as_mut_ptr(), reference_out.len()) }
+}
+
+/// The witness of the verdict on two files, for the name that is asked for, into a list.
+pub fn witness(order: u64, stage: &[u8], reference: &[u8], asked: usize, list: &mut [u16]) -> Run {
+    // Safety: the contract has no `requires`, and each pointer and length are of a slice; the list is lent to be written.
+    unsafe {
+        fovaheju_witness(
+            order,
+            stage.as_ptr(),
+            stage.len(),
+            reference.as_ptr(),
+            reference.len(),
+            asked,
+            list.as_mut_ptr(),
+            list.len(),
+        )
+    }
+}
+
+/// A list of switchings of the word that a name spells, whose fall begins at a place, judged; the row holds the levels before the first step that is barred.
+pub fn play(order: u64, stage: &[u8], name: usize, fall: usize, list: &[u16], row: &mut [u8]) -> Played {
+    // Safety: the contract has no `requires`, and each pointer and length are of a slice; the row is lent to be written.
+    unsafe {
+        fovaheju_play(
+            order,
+            stage.as_ptr(),
+            stage.len(),
+            name,
+            fall,
+            list.as_ptr(),
+            list.len(),
+            row.as_mut_ptr(),
+            row.len(),
+        )
+    }
+}
+
+/// A full rise and a full fall of the word that a name spells, by keys, into a list.
+pub fn run_by_keys(order: u64, stage: &[u8], name: usize, keys: &[u32], list: &mut [u16]) -> Run {
+    // Safety: the contract has no `requires`, and each pointer and length are of a slice; the list is lent to be written.
+    unsafe {
+        fovaheju_run_by_keys(
+            order,
+            stage.as_ptr(),
+            stage.len(),
+            name,
+            keys.as_ptr(),
+            keys.len(),
+            list.as_mut_ptr(),
+            list.len(),
+        )
+    }
 }

@@ -8,7 +8,7 @@ use crate::explain::{word_text, Order, Pair, Question};
 use crate::failure::{Failure, Outcome};
 use crate::netlist::Stage;
 use crate::output::{put, tell, write_files};
-use crate::runs::{calls, shortened, shows, Calls, Files, Run};
+use crate::runs::{shortened, shows, Files, Run};
 use crate::wave::Wave;
 use crate::Found;
 use clap::{value_parser, Arg, ArgMatches, Command};
@@ -57,7 +57,7 @@ fn cares(stage: &Stage, order: Order, word: u64) -> bool {
 
 /// The run that is asked for, with the word that it is of, and whether it was seen to end in the fault.
 fn asked(matches: &ArgMatches, verdict: Verdict, files: Files<'_>) -> Outcome<Option<(Run, u64, bool)>> {
-    let (stage, calls) = (files.stage, &calls(files));
+    let stage = files.stage;
     let word = matches.get_one::<u64>("word").copied();
     if let Some(word) = word.filter(|&word| word >> stage.inputs.min(63) != 0) {
         return Err(Failure::says(format!("--word {word}: words of {} inputs are 0 to {}", stage.inputs, (1u64 << stage.inputs) - 1)));
@@ -70,10 +70,10 @@ fn asked(matches: &ArgMatches, verdict: Verdict, files: Files<'_>) -> Outcome<Op
     let least = || (0..2).flat_map(|_| 0..stage.nets() as u32).collect();
     let seed = matches.get_one::<u32>("seed").map(|&seed| keys(seed, 2 * stage.nets()));
     let run = match seed.or(word.map(|_| least())) {
-        Some(keys) => calls.by_keys(named, &keys).map(|run| (run, named, false)),
-        None => calls.witness(verdict, named).map(|run| {
-            let run = if matches.get_flag("short") { shortened(calls, files, verdict, &run) } else { run };
-            let broken = shows(calls, files, verdict, &run);
+        Some(keys) => files.by_keys(named, &keys).map(|run| (run, named, false)),
+        None => files.witness(verdict, named).map(|run| {
+            let run = if matches.get_flag("short") { shortened(files, verdict, &run) } else { run };
+            let broken = shows(files, verdict, &run);
             (run, named, broken)
         }),
     };

@@ -4,7 +4,7 @@ use super::{wrapped, Order, Pair, Text, INDENT, WIDTH};
 use crate::levels::{Levels, Odd};
 use crate::names::{buses, values_text};
 use crate::netlist::{many, relaxed, set_expression, Reference, Stage};
-use crate::runs::{calls, shortened, shows, Calls, Files};
+use crate::runs::{shortened, shows, Files};
 use crate::situation::{data, pair_state, Behind, End, Situation, PLACES};
 use fovaheju::Verdict;
 
@@ -34,9 +34,8 @@ const GATES: usize = 6;
 /// The run that breaks the promise, without what is not needed for it; none that was not seen to break it.
 fn say_run(text: &mut Text, verdict: Verdict, pair: Pair, order: Order, stage: &Stage) {
     let files = Files { stage_file: pair.stage.bytes(), stage, reference_file: &pair.reference.bytes, order };
-    let calls = calls(files);
-    let Some(run) = calls.witness(verdict, 0).filter(|run| text.tries > 0 && shows(&calls, files, verdict, run)) else { return };
-    let short = shortened(&calls, files, verdict, &run);
+    let Some(run) = files.witness(verdict, 0).filter(|run| text.tries > 0 && shows(files, verdict, run)) else { return };
+    let short = shortened(files, verdict, &run);
     let falls = matches!(verdict.number, 20 | 21);
     let (steps, way, from) = if falls {
         (short.fallen(), "fall", format!("from the rest of the word, after its {}", many(short.fall, "switching")))

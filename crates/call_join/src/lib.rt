@@ -30,12 +30,11 @@ fn word_answered(reference: &[u16], sizes: Counts, values: &[u8]) -> usize
     requires { ⌜ ReferenceLoaded sizes (now reference) × (sizes .inputs + sizes .gates ≤ length (now values)) × ((i : ℕ) → getD (now values) i 0 ≤ 1) ⌝ }
     ensures { λ r. ⌜ r ≡ wordOf (valuesAt (now (values .entry)) (signalsIn sizes (now (reference .entry)))) ⌝ }
 {
-    let from = 3 * sizes.gates;
     let mut word: usize = 0;
     let mut j = sizes.outputs;
     while 0 < j {
         j -= 1;
-        let signal = reference[from + j] as usize;
+        let signal = circuit::form::signal_of(reference, sizes, j) as usize;
         word = values[signal] as usize + 2 * word;
     }
     word
@@ -215,10 +214,10 @@ pub fn join(
 {
     let most = netlist::part_stage_limits();
     let reference_most = netlist::part_reference_limits();
-    let mut code1 = [0u16; circuit_load::STAGE_CODE];
-    let mut loaded1 = [0u16; circuit_load::REFERENCE_CODE];
-    let mut code2 = [0u16; circuit_load::STAGE_CODE];
-    let mut loaded2 = [0u16; circuit_load::REFERENCE_CODE];
+    let mut code1 = [0u16; circuit::form::STAGE_CODE];
+    let mut loaded1 = [0u16; circuit::form::REFERENCE_CODE];
+    let mut code2 = [0u16; circuit::form::STAGE_CODE];
+    let mut loaded2 = [0u16; circuit::form::REFERENCE_CODE];
     match check_files::check_loading(
         order,
         false,

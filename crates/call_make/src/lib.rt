@@ -68,11 +68,11 @@ fn put_outputs(buffer: &mut [u8], at: usize, reference: &[u16], sizes: Counts, r
     ensures { λ _. ⌜ Put (now (buffer .entry)) at (bytesOf file.Stage writing.output
         (map (pairStored (now (rails .entry))) (signalsIn sizes (now (reference .entry))))) (now (buffer .exit)) ⌝ }
 {
-    let from = 3 * sizes.gates;
     let count = sizes.outputs;
     let mut j: usize = 0;
     while j < count {
-        let pair = write_made::rails_of(rails, reference[from + j]);
+        let signal = circuit::form::signal_of(reference, sizes, j);
+        let pair = write_made::rails_of(rails, signal);
         write_command::put_stage_output(buffer, at + 5 * j, pair.rail0, pair.rail1);
         j += 1;
     }
@@ -136,7 +136,7 @@ fn make_loaded(reference: &[u16], sizes: Counts, buffer: &mut [u8]) -> Answer
 pub fn make_stage(reference: &[u8], buffer: &mut [u8]) -> Answer
     ensures { λ r. ⌜ MakeDemand (now (reference .entry)) (now (buffer .entry)) r (now (buffer .exit)) ⌝ }
 {
-    let mut loaded = [0u16; circuit_load::REFERENCE_CODE];
+    let mut loaded = [0u16; circuit::form::REFERENCE_CODE];
     match circuit_load::read_reference_within(reference, netlist::reference_limits(), &mut loaded) {
         Outcome::Refused { number, at } => write_command::refused(Verdict {
             number: number as u64,

@@ -89,8 +89,8 @@ pub fn report_on(order: WordOrder, stage: &[u8], reference: &[u8]) -> Report
     ensures report { λ r. ⌜ r ≡ reportOn order (plainFiles (now (stage .entry)) (now (reference .entry))) ⌝ }
     ensures means { λ r. ⌜ ReportMeans (plainFiles (now (stage .entry)) (now (reference .entry))) r ⌝ }
 {
-    let mut code = [0u16; circuit_load::STAGE_CODE];
-    let mut loaded = [0u16; circuit_load::REFERENCE_CODE];
+    let mut code = [0u16; circuit::form::STAGE_CODE];
+    let mut loaded = [0u16; circuit::form::REFERENCE_CODE];
     let judgement = check_files::check_loading(
         order,
         false,

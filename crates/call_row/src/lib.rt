@@ -124,7 +124,7 @@ pub fn settled_row(stage: &[u8], row: &mut [u8]) -> Verdict
     ensures row { λ r. ⌜ now (row .exit) ≡ rowAfter (now (stage .entry)) (now (row .entry)) ⌝ }
     ensures demands { λ r. ⌜ DemandRow (now (stage .entry)) (now (row .entry)) r (now (row .exit)) ⌝ }
 {
-    let mut code = [0u16; circuit_load::STAGE_CODE];
+    let mut code = [0u16; circuit::form::STAGE_CODE];
     match circuit_load::read_stage(stage, &mut code) {
         Outcome::Refused { number, at } => Verdict {
             number: number as u64,

@@ -61,7 +61,7 @@ fn write_loaded(code: &[u16], counts: Counts, buffer: &mut [u8]) -> Answer
 pub fn write_text(stage: &[u8], buffer: &mut [u8]) -> Answer
     ensures { λ r. ⌜ WriteDemand (now (stage .entry)) (now (buffer .entry)) r (now (buffer .exit)) ⌝ }
 {
-    let mut code = [0u16; circuit_load::STAGE_CODE];
+    let mut code = [0u16; circuit::form::STAGE_CODE];
     match circuit_load::read_stage(stage, &mut code) {
         Outcome::Refused { number, at } => write_command::refused(Verdict {
             number: number as u64,

@@ -183,10 +183,9 @@ module _ (order : WordOrder) (f : Files) where
 pub within : (registers : Bool) {m n m′ n′ : Limits} (s t : List ℕ) → m ≡ m′ → n ≡ n′ → filesWithin registers m n s t ≡ filesWithin registers m′ n′ s t
 within registers s t e e′ = ap₂ (λ (a b : Limits). filesWithin registers a b s t) e e′
 
--- the verdict is the one promised, and what is demanded of it holds
-module _ (order : WordOrder) {f g : Files} (same : f ≡ g) (v : Verdict) (is : v ≡ verdictOn order f) where
-  pub answered : v ≡ verdictOn order g
-  answered = is ∙ ap (verdictOn order) same
+pub answered : (order : WordOrder) {f g : Files} → f ≡ g → (v : Verdict) → v ≡ verdictOn order f → v ≡ verdictOn order g
+answered order same v is = is ∙ ap (verdictOn order) same
 
-  pub checked : (v ≡ verdictOn order g) × (Demand2 order g v × Demand3 order g v)
-  checked = (answered, (subst (Demand2 order g) (sym answered) (demand-2 order g), subst (Demand3 order g) (sym answered) (demand-3 order g)))
+-- of the verdict that is promised, what is demanded holds
+pub checked : (order : WordOrder) (f : Files) (v : Verdict) → v ≡ verdictOn order f → (v ≡ verdictOn order f) × (Demand2 order f v × Demand3 order f v)
+checked order f v is = (is, (subst (Demand2 order f) (sym is) (demand-2 order f), subst (Demand3 order f) (sym is) (demand-3 order f)))

@@ -7,7 +7,7 @@ use verdict::Finding;
 use verdict::Verdict;
 use verdict::WordOrder;
 ghost use mathlib.Core.Path.{_≡_};
-ghost use Prim.Native.Nat.{_+_, _*_, _^_, _≤_};
+ghost use Prim.Native.Nat.{_+_, _≤_};
 ghost use lib.ListN.{length};
 ghost use Rattle.netlist.specs.Reading.{stageLimits, referenceLimits, NoMore};
 ghost use Rattle.verdict.specs.Retired.{retiredAt};
@@ -16,8 +16,8 @@ ghost use Rattle.verdict.specs.Checks as checks;
 ghost use Rattle.check_spec.specs.Content.{files, filesWithin};
 ghost use Rattle.check_spec.specs.Verdicts.{verdictOn};
 ghost use Rattle.check_spec.specs.Demands.{Demand2, Demand3};
-ghost use Rattle.circuit.specs.Stage.{stageGates, stageIn, StageLoaded};
-ghost use Rattle.circuit.specs.Reference.{referenceIn, ReferenceLoaded};
+ghost use Rattle.circuit.specs.Stage.{stageGates, stageIn, largestStage, StageLoaded};
+ghost use Rattle.circuit.specs.Reference.{referenceIn, largestReference, ReferenceLoaded};
 ghost use Rattle.check_word.specs.Loaded.{BothLoaded};
 ghost use Rattle.check_files.specs.Judgement.{verdictOf, JudgedAs};
 
@@ -34,7 +34,7 @@ fn least_retired(code: &[u16], counts: Counts) -> Found
 {
     let mut k: usize = 0;
     while k < counts.gates {
-        if gates::is_retired(code[8 * k]) {
+        if gates::is_retired(circuit::form::cell_of(code, counts, k)) {
             return Found::At(k);
         }
         k += 1;
@@ -118,8 +118,7 @@ pub fn check_loading(
     loaded: &mut [u16],
 ) -> Judgement
     requires { ⌜ NoMore «stage_most» stageLimits × NoMore «reference_most» referenceLimits
-        × (8 * stageLimits .gates + 2 * stageLimits .outputs + 2 ^ stageLimits .inputs ≤ length (now code))
-        × (3 * referenceLimits .gates + referenceLimits .outputs ≤ length (now loaded)) ⌝ }
+        × (largestStage ≤ length (now code)) × (largestReference ≤ length (now loaded)) ⌝ }
     ensures { λ r. ⌜ JudgedAs order (filesWithin registers «stage_most» «reference_most» (now (stage .entry)) (now (reference .entry))) r
         (now (code .exit)) (now (loaded .exit)) ⌝ }
 {
@@ -147,17 +146,15 @@ pub fn check_loading(
     }
 }
 
-// The verdict on a stage file and a reference file, with words named in an order. This call alone reads registers.
-pub fn check(order: WordOrder, stage: &[u8], reference: &[u8]) -> Verdict
-    ensures verdict { λ r. ⌜ r ≡ verdictOn order (files (now (stage .entry)) (now (reference .entry))) ⌝ }
-    ensures demand2 { λ r. ⌜ Demand2 order (files (now (stage .entry)) (now (reference .entry))) r ⌝ }
-    ensures runs { λ r. ⌜ Demand3 order (files (now (stage .entry)) (now (reference .entry))) r ⌝ }
+// The verdict on a stage file, with registers or without, and a reference file, with words named in an order.
+pub fn verdict_on(order: WordOrder, registers: bool, stage: &[u8], reference: &[u8]) -> Verdict
+    ensures { λ r. ⌜ r ≡ verdictOn order (filesWithin registers stageLimits referenceLimits (now (stage .entry)) (now (reference .entry))) ⌝ }
 {
-    let mut code = [0u16; circuit_load::STAGE_CODE];
-    let mut loaded = [0u16; circuit_load::REFERENCE_CODE];
+    let mut code = [0u16; circuit::form::STAGE_CODE];
+    let mut loaded = [0u16; circuit::form::REFERENCE_CODE];
     verdict_of(check_loading(
         order,
-        true,
+        registers,
         stage,
         reference,
         netlist::stage_limits(),
@@ -165,4 +162,13 @@ pub fn check(order: WordOrder, stage: &[u8], reference: &[u8]) -> Verdict
         &mut code,
         &mut loaded,
     ))
+}
+
+// The check of a stage file and a reference file, with words named in an order. This call alone reads registers.
+pub fn check(order: WordOrder, stage: &[u8], reference: &[u8]) -> Verdict
+    ensures verdict { λ r. ⌜ r ≡ verdictOn order (files (now (stage .entry)) (now (reference .entry))) ⌝ }
+    ensures demand2 { λ r. ⌜ Demand2 order (files (now (stage .entry)) (now (reference .entry))) r ⌝ }
+    ensures runs { λ r. ⌜ Demand3 order (files (now (stage .entry)) (now (reference .entry))) r ⌝ }
+{
+    verdict_on(order, true, stage, reference)
 }

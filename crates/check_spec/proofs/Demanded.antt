@@ -34,7 +34,7 @@ use Rattle.check_spec.proofs.Wired.{wired-free}
 use Rattle.check_spec.proofs.Sound.{Ran, Wired, laws, past-reading, reads-past, accepted-faultless, accepted-sound, idle-sound, faultless-accepted, sound-answers, sound-kept}
 
 -- demand 3 speaks of numbers above 12, and of none by which a file is refused in reading
-of-runs : (n : ℕ) → Ran n → (12 < n) × (¬ (InTable n))
+pub of-runs : (n : ℕ) → Ran n → (12 < n) × (¬ (InTable n))
 of-runs n e = let r = some-all (λ k. (12 < k) × (17 < k → 19 < k)) (13 ∷ 14 ∷ 15 ∷ 20 ∷ 21 ∷ []) (omega arith) n e in (r .0, λ t. omega (arith, t .2 (omega arith), r .1 (omega (arith, t .2 (omega arith)))))
 
 of-wires : (n : ℕ) → Wired n → (19 < n) × (¬ (InTable n))

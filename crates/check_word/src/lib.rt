@@ -179,7 +179,7 @@ fn unobserved_at(code: &[u16], counts: Counts, row: &[u8], g: usize) -> bool
     let mut held = [0u8; circuit::ROW];
     let size = first + counts.gates + 1;
     bytes::copy(&row[..size], &mut held);
-    let start = code[8 * g + 6] as usize;
+    let start = circuit::form::place_of(code, counts, g);
     circuit::settle_from(code, counts, &mut held, start, g);
     circuit_values::all_data(code, counts, &held)
 }

@@ -2,9 +2,8 @@
 -- Assumes nothing.
 use Prim.Native.Nat.{ℕ, zero, suc, _+_, _*_, _≤_, _<_}
 use native.Mathlib.Omega.{arith}
-use native.Mathlib.Decide.{decLt}
-use mathlib.Core.Path.{_≡_, refl, sym, ap, ap₂, _∙_}
-use mathlib.Core.Bool.{Bool, true, false, cond, _&&_, _||_}
+use mathlib.Core.Path.{_≡_, refl, sym, ap, subst, _∙_}
+use mathlib.Core.Bool.{Bool, true, false, _&&_, _||_}
 use mathlib.Core.List.{List, [], _∷_}
 use lib.ListN.{length, getD, set, take, drop}
 use lib.Seq.{getD-take, getD-drop, getD-set-other}
@@ -19,12 +18,13 @@ use Rattle.verdict.specs.Graph.{anyHigh}
 use Rattle.verdict.specs.Nets.{noGate}
 use Rattle.verdict.specs.Falls.{stays, levelFalling}
 use Rattle.verdict.proofs.Falls.{falling-local}
-use Rattle.circuit.specs.Stage.{netCount, slot, cellIn, pinIn, gateIn, gateAtPlace, stageGates, StageLoaded}
+use Rattle.circuit.specs.Stage.{cellIn, pinIn, gateIn, gateAtPlace, stageGates, StageLoaded}
 use Rattle.circuit.specs.Order.{InOrder}
-use Rattle.circuit.specs.Rows.{RowFor, netsIn, levelPart, patternIn, fallenIn}
+use Rattle.circuit.specs.Rows.{RowFor, netsIn, levelPart, patternIn}
+use Rattle.circuit.specs.Form.{GateAt}
 use Rattle.circuit.proofs.Tabulate.{getD-tabulate}
 use Rattle.circuit.proofs.Pins.{nets-at}
-use Rattle.circuit.proofs.Settling.{SettlingTo, order-at, order-gate, length-stageGates, settling-turn}
+use Rattle.circuit.proofs.Settling.{SettlingTo, order-at, length-stageGates, settling-turn}
 
 -- ---- some pin is high
 
@@ -92,20 +92,20 @@ module _ (c : Counts) (code row : List ℕ) (loaded : StageLoaded c code) (r : R
       by-stays d e = sym (by-tests true false d is-high (ne-eqb k kept other) e)
 
       -- with hold: by the pattern of its pins
-      hold-stays : slot code k 7 ≡ 1 → stays nets (gateIn code k) ≡ ltb 0 (patternIn nets code k)
+      hold-stays : gateIn code k .hold ≡ true → stays nets (gateIn code k) ≡ ltb 0 (patternIn nets code k)
       unfolding stays
-      hold-stays e = rw (eq-eqb (slot code k 7) 1 e) any-pattern
+      hold-stays e = rw e any-pattern
 
-      pub fall-hold-low : slot code k 7 ≡ 1 → (x : ℕ) → x ≡ patternIn nets code k → x ≡ 0 → 0 ≡ falling
+      pub fall-hold-low : gateIn code k .hold ≡ true → (x : ℕ) → x ≡ patternIn nets code k → x ≡ 0 → 0 ≡ falling
       fall-hold-low e x p z = by-stays false (hold-stays e ∙ le-ltb 0 (patternIn nets code k) (omega arith))
 
-      pub fall-hold-high : slot code k 7 ≡ 1 → (x : ℕ) → x ≡ patternIn nets code k → (x ≡ 0 → ⊥) → 1 ≡ falling
+      pub fall-hold-high : gateIn code k .hold ≡ true → (x : ℕ) → x ≡ patternIn nets code k → (x ≡ 0 → ⊥) → 1 ≡ falling
       fall-hold-high e x p z = by-stays true (hold-stays e ∙ lt-ltb 0 (patternIn nets code k) (omega (arith, p, z)))
 
       -- without: by its set expression
-      pub fall-relaxed : (slot code k 7 ≡ 1 → ⊥) → (x : ℕ) → x ≡ isSet nets (gateIn code k) → x ≡ falling
+      pub fall-relaxed : gateIn code k .hold ≡ false → (x : ℕ) → x ≡ isSet nets (gateIn code k) → x ≡ falling
       unfolding stays isSet
-      fall-relaxed d x e = e ∙ by-stays (holds (setExpression (cellIn code k)) (pinHigh nets (gateIn code k))) (rw (ne-eqb (slot code k 7) 1 d))
+      fall-relaxed d x e = e ∙ by-stays (holds (setExpression (cellIn code k)) (pinHigh nets (gateIn code k))) (rw d)
 
 -- ---- all gates
 
@@ -114,27 +114,23 @@ pub record FallingTo (c : Counts) (code : List ℕ) (kept : ℕ) (start row : Li
   pub settling : SettlingTo c code (levelFalling (only kept) (stageGates c code) (levelPart c start)) start row i
   pub rest : (j : ℕ) → i ≤ j → j < c .gates → getD row (2 * c .inputs + gateAtPlace code j) 0 ≡ getD start (2 * c .inputs + gateAtPlace code j) 0
 
-module _ (c : Counts) (code : List ℕ) (ordered : InOrder c code) (kept : ℕ) (start row : List ℕ) (i : ℕ) (f : FallingTo c code kept start row i) (h : i < c .gates) where
-  abbrev k : ℕ
-  k = gateAtPlace code i
-
+module _ (c : Counts) (code : List ℕ) (ordered : InOrder c code) (kept : ℕ) (start row : List ℕ) (i : ℕ) (f : FallingTo c code kept start row i) (h : i < c .gates) (k : ℕ) (at : GateAt c code i k) where
   -- the level by the row's own levels is the level by the rest's
   rest-alike : (u : List ℕ) → levelFalling (only kept) (stageGates c code) (levelPart c row) u k ≡ levelFalling (only kept) (stageGates c code) (levelPart c start) u k
   rest-alike u =
-      let g = order-gate c code ordered i h in
       ap (λ (x : ℕ). bit (ltb 0 x && (only kept k || stays u (getD (stageGates c code) k noGate))))
-      (part row g ∙ f .rest i (omega arith) h ∙ sym (part start g))
+      (part row ∙ subst (λ (g : ℕ). getD row (2 * c .inputs + g) 0 ≡ getD start (2 * c .inputs + g) 0) (sym (at .is)) (f .rest i (omega arith) h) ∙ sym (part start))
     where
-      part : (l : List ℕ) → k < c .gates → getD (levelPart c l) k 0 ≡ getD l (2 * c .inputs + k) 0
-      part l g = getD-take (c .gates) (drop (2 * c .inputs) l) k 0 g ∙ getD-drop (2 * c .inputs) l k 0
+      part : (l : List ℕ) → getD (levelPart c l) k 0 ≡ getD l (2 * c .inputs + k) 0
+      part l = getD-take (c .gates) (drop (2 * c .inputs) l) k 0 (at .there) ∙ getD-drop (2 * c .inputs) l k 0
 
   pub falling-turn : (x : ℕ) → x ≡ levelFalling (only kept) (stageGates c code) (levelPart c row) (netsIn c row) k → x ≤ 1 → FallingTo c code kept start (set row (2 * c .inputs + k) x) (i + 1)
   falling-turn x e l = record {
     settling =
-        settling-turn c code ordered _ (falling-local (only kept) (stageGates c code) (levelPart c start)) start row i (f .settling) h x (e ∙ rest-alike (netsIn c row)) l;
+        settling-turn c code ordered _ (falling-local (only kept) (stageGates c code) (levelPart c start)) start row i (f .settling) h k at x (e ∙ rest-alike (netsIn c row)) l;
     rest = λ j a b. getD-set-other row (2 * c .inputs + k) (2 * c .inputs + gateAtPlace code j) x 0 (λ q. omega (arith, once j b (omega arith))) ∙ f .rest j (omega arith) b;
   }
     where
       once : (j : ℕ) → j < c .gates → gateAtPlace code j ≡ k → j ≡ i
       once j b q =
-          ordered .ordered .once j i (omega (arith, length-stageGates c code)) (omega (arith, length-stageGates c code)) (order-at c code j b ∙ q ∙ sym (order-at c code i h))
+          ordered .ordered .once j i (omega (arith, length-stageGates c code)) (omega (arith, length-stageGates c code)) (order-at c code j b ∙ q ∙ at .is ∙ sym (order-at c code i h))

@@ -16,6 +16,8 @@ use Rattle.netlist.specs.declared.Counts.{Counts}
 use Rattle.verdict.specs.Rows.{high, pinHigh, isSet}
 use Rattle.circuit.specs.Stage.{netCount, cellIn, pinIn, gateIn, StageLoaded}
 use Rattle.circuit.specs.Rows.{RowFor, netsIn, LevelOf, patternIn}
+use Rattle.circuit.specs.declared.form.Pins.{Pins}
+use Rattle.circuit.specs.Form.{pinsIn}
 
 -- ---- cells have two to four pins
 
@@ -56,13 +58,13 @@ level-high zero h = refl
 level-high (suc zero) h = refl
 level-high (suc (suc x)) h = absurd (omega arith)
 
-first-pins : (f : ℕ → Bool) (l : List ℕ) (m i : ℕ) → i < m → i < length l → getD (map f (take m l)) i false ≡ f (getD l i 0)
+pub first-pins : (f : ℕ → Bool) (l : List ℕ) (m i : ℕ) → i < m → i < length l → getD (map f (take m l)) i false ≡ f (getD l i 0)
 first-pins f [] m i h l = absurd (omega arith)
 first-pins f (p ∷ ps) zero i h l = absurd (omega arith)
 first-pins f (p ∷ ps) (suc m) zero h l = refl
 first-pins f (p ∷ ps) (suc m) (suc i) h l = first-pins f ps m i (omega arith) (omega arith)
 
-no-pins : (f : ℕ → Bool) (l : List ℕ) (m i : ℕ) → m ≤ i → getD (map f (take m l)) i false ≡ false
+pub no-pins : (f : ℕ → Bool) (l : List ℕ) (m i : ℕ) → m ≤ i → getD (map f (take m l)) i false ≡ false
 no-pins f l zero i h = refl
 no-pins f [] (suc m) i h = refl
 no-pins f (p ∷ ps) (suc m) zero h = absurd (omega arith)
@@ -103,8 +105,8 @@ module _ (c : Counts) (code row : List ℕ) (loaded : StageLoaded c code) (r : R
   low : (i : ℕ) → m ≤ i → i < 4 → getD nets (pinIn code k i) 0 ≡ 0
   low i a l = level i l ∙ ap (λ (p : ℕ). getD row p 0) (loaded .gate k h .absent i a l) ∙ r .ground
 
-  pub pattern-nets : patternIn row code k ≡ patternIn nets code k
-  pattern-nets = omega (arith, level 0 (omega arith), level 1 (omega arith), level 2 (omega arith), level 3 (omega arith))
+  pub pattern-nets : (p : Pins) → p ≡ pinsIn code k → getD row (p .a) 0 + 2 * getD row (p .b) 0 + 4 * getD row (p .c) 0 + 8 * getD row (p .d) 0 ≡ patternIn nets code k
+  pattern-nets p is = rw is (omega (arith, level 0 (omega arith), level 1 (omega arith), level 2 (omega arith), level 3 (omega arith)))
 
   pub pattern-small : patternIn nets code k < 2 ^ m
   pattern-small =

@@ -6,7 +6,7 @@ use native.Mathlib.Decide.{ℕ-discrete, decLt}
 use mathlib.Core.Path.{_≡_, sym, ap, ap₂, _∙_, subst, fun-ext}
 use mathlib.Core.List.{List, _++_, map}
 use lib.ListN.{length, getD, set, take, drop, length-map, length-set, length-drop, replicate, length-replicate, getD-replicate, List·getD-append}
-use lib.Seq.{getD-append-add, getD-set-same, getD-set-other, set-out, ext-getD, take-set-le, take-set-lt}
+use lib.Seq.{getD-append-add, getD-set-same, getD-set-other, set-out, take-set-le, take-set-lt}
 use lib.Seq.{drop-set-add, length-take-le, take-add, take-take, take-length, take-append-seam, drop-append-seam, getD-take}
 use lib.Dec.{ltb}
 use Rattle.netlist.specs.declared.Counts.{Counts}
@@ -23,6 +23,7 @@ use Rattle.verdict.proofs.Falls.{falling-local, falling-one}
 use Rattle.circuit.specs.Stage.{netCount, gateIn, gateAtPlace, stageGates}
 use Rattle.circuit.specs.Order.{TopologicalOrder, orderIn, InOrder}
 use Rattle.circuit.specs.Rows.{rowSize, RowFor, netsIn, railPart, levelPart, SettledBefore, settledHoldingIn, fallenIn}
+use Rattle.circuit.specs.Form.{GateAt}
 use Rattle.circuit.proofs.Tabulate.{length-tabulate, getD-tabulate, map-tabulate}
 use Rattle.circuit.proofs.Order.{order-no-loop}
 
@@ -193,21 +194,21 @@ module _ (c : Counts) (code : List ℕ) (ordered : InOrder c code) where
   order-gate i h = omega (arith, order-at c code i h, length-stageGates c code, ordered .ordered .gate i (omega (arith, length-stageGates c code)))
 
   module _ (rule : List ℕ → ℕ → ℕ) (local : Local (stageGates c code) rule) (start row : List ℕ) (i : ℕ) (s : SettlingTo c code rule start row i) where
-    pub settling-turn : i < c .gates → (x : ℕ) → x ≡ rule (netsIn c row) (gateAtPlace code i) → x ≤ 1 → SettlingTo c code rule start (set row (2 * c .inputs + gateAtPlace code i) x) (i + 1)
-    settling-turn h x e l =
+    pub settling-turn : i < c .gates → (k : ℕ) → GateAt c code i k → (x : ℕ) → x ≡ rule (netsIn c row) k → x ≤ 1 → SettlingTo c code rule start (set row (2 * c .inputs + k) x) (i + 1)
+    settling-turn h k at x e l =
         let n = 2 * c .inputs in
         let r = s .row-for in
-        let k = order-gate i h in
-        let rails = take-set-le n row (n + gateAtPlace code i) x (omega arith) in
-        let y = e ∙ ap (λ (l : List ℕ). rule l (gateAtPlace code i)) (take-add n (c .gates) row) in
+        let g = order-at c code i h ∙ sym (at .is) in
+        let rails = take-set-le n row (n + k) x (omega arith) in
+        let y = e ∙ ap (λ (l : List ℕ). rule l k) (take-add n (c .gates) row) in
         record {
-          row-for = row-set c row r (n + gateAtPlace code i) x (omega arith) l;
-          same-long = length-set row (n + gateAtPlace code i) x ∙ s .same-long;
+          row-for = row-set c row r (n + k) x (omega (arith, at .there)) l;
+          same-long = length-set row (n + k) x ∙ s .same-long;
           rails = rails ∙ s .rails;
           before =
-              rw (rails, drop-set-add n row (gateAtPlace code i) x, take-set-lt (c .gates) (drop n row) (gateAtPlace code i) x k, ← order-at c code i h)
+              rw (rails, drop-set-add n row k x, take-set-lt (c .gates) (drop n row) k x (at .there), ← g)
               (settle-more (c .inputs) (stageGates c code) rule local (orderIn c code) (railPart c row) (ordered .ordered) (length-rails c row r) (levelPart c row)
-              (length-levels c row r ∙ sym (length-stageGates c code)) i (omega (arith, length-stageGates c code)) x (s .before) (rw (order-at c code i h) y));
+              (length-levels c row r ∙ sym (length-stageGates c code)) i (omega (arith, length-stageGates c code)) x (s .before) (rw g y));
         }
 
     -- in the end all gates have

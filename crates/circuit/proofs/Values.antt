@@ -10,7 +10,7 @@ use mathlib.Core.List.{List, [], _∷_, _++_}
 use lib.ListN.{length, getD, take, drop, set, length-set}
 use lib.Seq.{take-suc-set, getD-set-same, getD-set-other, drop-length, getD-take}
 use lib.Dec.{eqb}
-use borrow.Author.Tests.{eq-eqb, ne-eqb}
+use borrow.Author.Tests.{ne-eqb}
 use Rattle.netlist.specs.declared.Counts.{Counts}
 use Rattle.verdict.specs.Answers.{operate, valuesAt, signalValues}
 use Rattle.circuit.specs.Reference.{operatorIn, operatorsIn}

@@ -37,10 +37,17 @@ signalsIn c code = tabulate (signalIn c code) (c .outputs)
 abbrev pub referenceIn : Counts → List ℕ → Reference
 referenceIn c code = record { inputs = c .inputs; gates = operatorsIn c code; outputs = signalsIn c code }
 
+-- how many numbers it takes, and the largest
+abbrev pub referenceSize : Counts → ℕ
+referenceSize c = 3 * c .gates + c .outputs
+
+abbrev pub largestReference : ℕ
+largestReference = 3 * referenceLimits .gates + referenceLimits .outputs
+
 -- The numbers are a reference within the limits: its operations are known, its operands are inputs and earlier gates.
 pub record ReferenceLoaded (c : Counts) (code : List ℕ) : Type 0 where
   pub within : Within referenceLimits c
-  pub room : 3 * c .gates + c .outputs ≤ length code
+  pub room : referenceSize c ≤ length code
   pub low : (k : ℕ) → k < c .gates → 1 ≤ operationIn code k
   pub high : (k : ℕ) → k < c .gates → operationIn code k ≤ 6
   pub operand : (k i : ℕ) → k < c .gates → i < 2 → operandIn code k i < c .inputs + k

@@ -1,7 +1,7 @@
 -- A stage in its flat form, one list of numbers. Gate k has eight, from 8k on: its cell, the nets at its pins A, B, C and D, the
 -- gate at place k of the order, the place of gate k in the order, and 1 where it has hold. Output j has two, after the gates: its rails.
 -- The care words follow.
-use Prim.Native.Nat.{ℕ, _+_, _*_, _≤_, _<_}
+use Prim.Native.Nat.{ℕ, _+_, _*_, _^_, _≤_, _<_}
 use mathlib.Core.Path.{_≡_}
 use mathlib.Core.List.{List, [], _∷_}
 use lib.ListN.{length, getD, take}
@@ -57,13 +57,23 @@ stageOutputs c code = tabulate (outputIn c code) (c .outputs)
 
 -- ---- care words
 
+abbrev pub careIn : Counts → List ℕ → ℕ → ℕ
+careIn c code i = getD code (8 * c .gates + 2 * c .outputs + i) 0
+
 unfoldable pub stageCare : Counts → List ℕ → List ℕ
-stageCare c code = tabulate (λ i. getD code (8 * c .gates + 2 * c .outputs + i) 0) (c .care)
+stageCare c code = tabulate (careIn c code) (c .care)
 
 -- ---- the stage
 
 abbrev pub stageIn : Counts → List ℕ → Stage
 stageIn c code = record { inputs = c .inputs; gates = stageGates c code; outputs = stageOutputs c code; care = stageCare c code }
+
+-- how many numbers it takes, and the largest
+abbrev pub stageSize : Counts → ℕ
+stageSize c = 8 * c .gates + 2 * c .outputs + c .care
+
+abbrev pub largestStage : ℕ
+largestStage = 8 * stageLimits .gates + 2 * stageLimits .outputs + 2 ^ stageLimits .inputs
 
 -- gate k is of a known cell, and at each of its four pins stands a net or the ground
 pub record GateLoaded (c : Counts) (code : List ℕ) (k : ℕ) : Type 0 where
@@ -75,7 +85,7 @@ pub record GateLoaded (c : Counts) (code : List ℕ) (k : ℕ) : Type 0 where
 -- The numbers are a stage within the limits.
 pub record StageLoaded (c : Counts) (code : List ℕ) : Type 0 where
   pub within : Within stageLimits c
-  pub room : 8 * c .gates + 2 * c .outputs + c .care ≤ length code
+  pub room : stageSize c ≤ length code
   pub gate : (k : ℕ) → k < c .gates → GateLoaded c code k
   pub rail0-net : (j : ℕ) → j < c .outputs → outputIn c code j .rail0 < netCount c
   pub rail1-net : (j : ℕ) → j < c .outputs → outputIn c code j .rail1 < netCount c

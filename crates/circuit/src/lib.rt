@@ -1,4 +1,6 @@
 // Circuits in their flat form: settling the rows of a stage.
+pub mod form;
+
 use netlist::Counts;
 ghost use mathlib.Core.Path.{_≡_};
 ghost use Prim.Native.Nat.{_≤_, _<_};
@@ -34,20 +36,26 @@ pub fn pattern(code: &[u16], counts: Counts, k: usize, row: &[u8]) -> u8
     requires { ⌜ StageLoaded counts (now code) × (k < counts .gates) × RowFor counts (now row) ⌝ }
     ensures { λ r. ⌜ r ≡ patternIn (netsIn counts (now (row .entry))) (now (code .entry)) k ⌝ }
 {
-    let at = 8 * k;
-    let a = level(row, code[at + 1]);
-    let b = level(row, code[at + 2]);
-    let c = level(row, code[at + 3]);
-    let d = level(row, code[at + 4]);
+    let pins = form::pins_of(code, counts, k);
+    let a = level(row, pins.a);
+    let b = level(row, pins.b);
+    let c = level(row, pins.c);
+    let d = level(row, pins.d);
     a + 2 * b + 4 * c + 8 * d
 }
 
 // 1 where the set expression of gate k holds, else 0.
-fn gate_level(entries: &[[u8; 16]; 27], code: &[u16], counts: Counts, k: usize, row: &[u8]) -> u8
+pub fn gate_level(
+    entries: &[[u8; 16]; 27],
+    code: &[u16],
+    counts: Counts,
+    k: usize,
+    row: &[u8],
+) -> u8
     requires { ⌜ GateTable (now entries) × StageLoaded counts (now code) × (k < counts .gates) × RowFor counts (now row) ⌝ }
     ensures { λ r. ⌜ r ≡ rows.isSet (netsIn counts (now (row .entry))) (gateIn (now (code .entry)) k) ⌝ }
 {
-    let cell = (code[8 * k] % 256) as u8;
+    let cell = form::cell_of(code, counts, k) as u8;
     gates::sets(entries, cell, pattern(code, counts, k, row))
 }
 
@@ -84,7 +92,7 @@ pub fn settle_from(code: &[u16], counts: Counts, row: &mut [u8], start: usize, h
     let count = counts.gates;
     let mut i = start;
     while i < count {
-        let k = code[8 * i + 5] as usize;
+        let k = form::gate_at(code, counts, i);
         row[first + k] = level_holding(&entries, code, counts, k, row, held);
         i += 1;
     }
@@ -104,7 +112,7 @@ pub fn settle(code: &[u16], counts: Counts, row: &mut [u8])
 
 // The level that gate k is to have on the way back to NULL: a high gate stays high where it is kept, with hold while some pin is high, and
 // without hold while its set expression holds.
-fn level_falling(
+pub fn level_falling(
     entries: &[[u8; 16]; 27],
     code: &[u16],
     counts: Counts,
@@ -123,7 +131,7 @@ fn level_falling(
     if k == kept {
         return 1u8;
     }
-    if code[8 * k + 7] == 1 {
+    if form::has_hold(code, counts, k) {
         if pattern(code, counts, k, row) == 0 {
             return 0u8;
         }
@@ -144,7 +152,7 @@ pub fn fall(code: &[u16], counts: Counts, row: &mut [u8], kept: usize)
     let count = counts.gates;
     let mut i: usize = 0;
     while i < count {
-        let k = code[8 * i + 5] as usize;
+        let k = form::gate_at(code, counts, i);
         row[first + k] = level_falling(&entries, code, counts, k, row, kept);
         i += 1;
     }

@@ -16,16 +16,11 @@ ghost use Rattle.netlist.specs.Content.{stageOf, referenceOf};
 ghost use Rattle.read_file.specs.Files.{partNoted};
 ghost use Rattle.wiring_spec.specs.Parts.{partAt};
 ghost use Rattle.write_command.specs.Put.{Put};
-ghost use Rattle.circuit.specs.Stage.{stageIn};
-ghost use Rattle.circuit.specs.Reference.{referenceIn, ReferenceLoaded};
+ghost use Rattle.circuit.specs.Stage.{stageIn, stageSize, largestStage};
+ghost use Rattle.circuit.specs.Reference.{referenceIn, referenceSize, largestReference, ReferenceLoaded};
 ghost use Rattle.circuit_load.specs.Load.{placesIn, FileRead, StageRead, RawStage, groundOf, HoldsStage, HoldsReference};
 ghost use Rattle.circuit_load.specs.Load.{pinNumber, cellNumber, gateNumber, stageNumber, operatorNumber, referenceNumber};
 ghost use Rattle.circuit_load.specs.Parts.{netRows, registerRows, NotesRead, partsIn, PartPut, PipelineHeld, HoldsPipeline};
-
-// The room that the flat forms of the largest stage and of the largest reference take.
-pub const STAGE_CODE: usize = 8 * netlist::STAGE_GATES + 2 * netlist::OUTPUTS + netlist::WORDS;
-
-pub const REFERENCE_CODE: usize = 3 * netlist::REFERENCE_GATES + netlist::OUTPUTS;
 
 // The room that the nets of the most registers and C-elements take, and the registers.
 pub const NETS_CODE: usize = 32 * netlist::PARTS;
@@ -88,7 +83,7 @@ fn stage_number(
     ground: u16,
     i: usize,
 ) -> u16
-    requires { ⌜ StageRead most (now s) (now places) counts × NoMore most stageLimits × (i < 8 * counts .gates + 2 * counts .outputs + counts .care) ⌝ }
+    requires { ⌜ StageRead most (now s) (now places) counts × NoMore most stageLimits × (i < stageSize counts) ⌝ }
     ensures { λ r. ⌜ r ≡ stageNumber most (now (s .entry)) (now (places .entry)) counts ground i ⌝ }
 {
     let end = 8 * counts.gates;
@@ -108,7 +103,7 @@ fn stage_number(
 // The stage that the file holds, in its flat form, with a ground for pins that a kind lacks; its gates are in no order yet.
 fn load_stage(s: &[u8], places: &[u16], most: Limits, counts: Counts, ground: u16, code: &mut [u16])
     requires { ⌜ StageRead most (now s) (now places) counts × NoMore most stageLimits
-        × (8 * counts .gates + 2 * counts .outputs + counts .care ≤ length (now code)) ⌝ }
+        × (stageSize counts ≤ length (now code)) ⌝ }
     ensures same { λ r. ⌜ stageIn counts (now (code .exit)) ≡ stageOf (now (s .entry)) (placesIn most counts (now (places .entry))) ⌝ }
     ensures raw { λ r. ⌜ RawStage (netsOf (placesIn most counts (now (places .entry)))) counts ground (now (code .exit)) ⌝ }
 {
@@ -238,7 +233,7 @@ fn load_pipeline(
     regs: &mut [u16],
 )
     requires { ⌜ StageRead most (now s) (now places) counts × NoMore most stageLimits
-        × (8 * stageLimits .gates + 2 * stageLimits .outputs + 2 ^ stageLimits .inputs ≤ length (now code))
+        × (largestStage ≤ length (now code))
         × (32 * mostParts ≤ length (now nets)) × (4 * mostParts ≤ length (now regs)) ⌝ }
     ensures { λ r. ⌜ PipelineHeld (now (s .entry)) (placesIn most counts (now (places .entry))) (now (code .exit)) (now (nets .exit)) (now (regs .exit)) ⌝ }
 {
@@ -263,7 +258,7 @@ pub fn read_pipeline_within(
     nets: &mut [u16],
     regs: &mut [u16],
 ) -> Outcome
-    requires { ⌜ NoMore most stageLimits × (8 * stageLimits .gates + 2 * stageLimits .outputs + 2 ^ stageLimits .inputs ≤ length (now code))
+    requires { ⌜ NoMore most stageLimits × (largestStage ≤ length (now code))
         × (32 * mostParts ≤ length (now nets)) × (4 * mostParts ≤ length (now regs)) ⌝ }
     ensures answered { λ r. ⌜ r ≡ outcomeOf (readFile (stageFile registers) most (now (s .entry))) ⌝ }
     ensures loaded { λ r. ⌜ HoldsPipeline (now (s .entry)) (readFile (stageFile registers) most (now (s .entry))) (now (code .exit)) (now (nets .exit))
@@ -279,7 +274,7 @@ pub fn read_pipeline_within(
 
 // Reads a stage file without registers, within the limits of a stage file, and loads the stage that it holds.
 pub fn read_stage(s: &[u8], code: &mut [u16]) -> Outcome
-    requires { ⌜ 8 * stageLimits .gates + 2 * stageLimits .outputs + 2 ^ stageLimits .inputs ≤ length (now code) ⌝ }
+    requires { ⌜ largestStage ≤ length (now code) ⌝ }
     ensures answered { λ r. ⌜ r ≡ outcomeOf (readFile file.Stage stageLimits (now (s .entry))) ⌝ }
     ensures loaded { λ r. ⌜ HoldsStage (now (s .entry)) (readFile file.Stage stageLimits (now (s .entry))) (now (code .exit)) ⌝ }
 {
@@ -314,7 +309,7 @@ fn operator_number(s: &[u8], at: usize, j: usize) -> u16
 
 // Number i of the reference.
 fn reference_number(s: &[u8], places: &[u16], most: Limits, counts: Counts, i: usize) -> u16
-    requires { ⌜ FileRead file.Reference most (now s) (now places) counts × NoMore most referenceLimits × (i < 3 * counts .gates + counts .outputs) ⌝ }
+    requires { ⌜ FileRead file.Reference most (now s) (now places) counts × NoMore most referenceLimits × (i < referenceSize counts) ⌝ }
     ensures { λ r. ⌜ r ≡ referenceNumber most (now (s .entry)) (now (places .entry)) counts i ⌝ }
 {
     let end = 3 * counts.gates;
@@ -329,7 +324,7 @@ fn reference_number(s: &[u8], places: &[u16], most: Limits, counts: Counts, i: u
 // The reference that the file holds, in its flat form.
 pub fn load_reference(s: &[u8], places: &[u16], most: Limits, sizes: Counts, reference: &mut [u16])
     requires { ⌜ FileRead file.Reference most (now s) (now places) sizes × NoMore most referenceLimits
-        × (3 * sizes .gates + sizes .outputs ≤ length (now reference)) ⌝ }
+        × (referenceSize sizes ≤ length (now reference)) ⌝ }
     ensures same { λ r. ⌜ referenceIn sizes (now (reference .exit)) ≡ referenceOf (now (s .entry)) (placesIn most sizes (now (places .entry))) ⌝ }
     ensures loaded { λ r. ⌜ ReferenceLoaded sizes (now (reference .exit)) ⌝ }
 {
@@ -343,7 +338,7 @@ pub fn load_reference(s: &[u8], places: &[u16], most: Limits, sizes: Counts, ref
 
 // Reads a reference file within some limits, and loads the reference that it holds.
 pub fn read_reference_within(s: &[u8], most: Limits, code: &mut [u16]) -> Outcome
-    requires { ⌜ NoMore most referenceLimits × (3 * referenceLimits .gates + referenceLimits .outputs ≤ length (now code)) ⌝ }
+    requires { ⌜ NoMore most referenceLimits × (largestReference ≤ length (now code)) ⌝ }
     ensures answered { λ r. ⌜ r ≡ outcomeOf (readFile file.Reference most (now (s .entry))) ⌝ }
     ensures loaded { λ r. ⌜ HoldsReference (now (s .entry)) (readFile file.Reference most (now (s .entry))) (now (code .exit)) ⌝ }
 {

@@ -18,10 +18,11 @@ use Rattle.verdict.proofs.Reaching.{rankOf, rankOf-≤, rank-pin}
 use Rattle.circuit.specs.Stage.{netCount, cellIn, pinIn, gateIn, stageGates, StageLoaded}
 use Rattle.circuit.proofs.Settling.{length-stageGates}
 use Rattle.circuit_order.specs.Marks.{fedBy}
-use Rattle.circuit_order.specs.Placing.{Reordered, Waits, Gone, Placing, isReady, Ranks, PlacedAfter, AfterPins, Ordered}
+use Rattle.circuit_order.specs.Placing.{Waits, Gone, Placing, isReady, Ranks, PlacedAfter, AfterPins, Ordered}
 use Rattle.circuit_order.proofs.Feeding.{pin-in, unfed}
 use Rattle.circuit_order.proofs.Sums.{sum-some}
-use Rattle.circuit_order.proofs.Reordering.{reordered-refl, reordered-trans, pin-kept, gates-kept}
+use Rattle.circuit.specs.Form.{Reordered}
+use Rattle.circuit.proofs.Reordering.{reordered-refl, reordered-trans, pin-kept, gates-kept}
 use Rattle.circuit_order.proofs.Placing.{never, low, high-same, high-other}
 use Rattle.circuit_order.proofs.Ordering.{ordered-full, all-ordered}
 

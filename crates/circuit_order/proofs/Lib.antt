@@ -1,6 +1,5 @@
 pub mod Sums
 pub mod Feeding
-pub mod Reordering
 pub mod Placing
 pub mod Ordering
 pub mod After

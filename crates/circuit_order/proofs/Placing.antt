@@ -1,12 +1,12 @@
 -- Placing the gates: all of them wait; one that no waiting gate feeds takes the next place; and a pass over all of them.
 -- Assumes nothing.
-use Prim.Native.Nat.{ℕ, zero, suc, _+_, _*_, _≤_, _<_}
+use Prim.Native.Nat.{ℕ, zero, suc, _+_, _*_, _<_}
 use native.Mathlib.Omega.{arith}
 use native.Mathlib.Decide.{ℕ-discrete, decLt}
 use mathlib.Core.Path.{_≡_, refl, sym, ap, _∙_, subst}
 use mathlib.Core.Bool.{Bool, true, false, _&&_, not}
 use mathlib.Core.List.{List}
-use lib.ListN.{length, getD, set, length-set, replicate, length-replicate}
+use lib.ListN.{length, getD, set, replicate, length-replicate}
 use lib.Seq.{getD-set-same, getD-set-other}
 use lib.Dec.{ltb}
 use borrow.Author.Tests.{ltb-true, lt-ltb}
@@ -17,11 +17,12 @@ use Rattle.verdict.specs.Loops.{pinsAt, Feeds}
 use Rattle.verdict.proofs.Graph.{anyHigh-in}
 use Rattle.circuit.specs.Stage.{netCount, gateAtPlace, placeOf, stageGates, StageLoaded}
 use Rattle.circuit.specs.Rows.{rowSize}
+use Rattle.circuit.specs.Form.{GatePlaced}
+use Rattle.circuit.proofs.Reordering.{gates-kept, loaded-kept}
 use Rattle.circuit_order.proofs.Feeding.{marks-set}
 use Rattle.circuit_order.specs.Marks.{Unmarked, fedBy}
-use Rattle.circuit_order.specs.Placing.{Reordered, WaitTo, Waits, Gone, Placing, isReady}
+use Rattle.circuit_order.specs.Placing.{WaitTo, Waits, Gone, Placing, isReady}
 use Rattle.circuit_order.proofs.Sums.{sum-none, sum-set}
-use Rattle.circuit_order.proofs.Reordering.{reordered-refl, reordered-set, gates-kept, loaded-kept}
 
 pub never : {b : Bool} → b ≡ true → b ≡ false → ⊥
 never p q = let z : _≡_ {A = ℕ} 0 1 = cc in omega arith
@@ -134,37 +135,8 @@ module _ (c : Counts) (code waiting : List ℕ) (placed : ℕ) (p : Placing c co
   pub place-left : placed < c .gates
   place-left = omega (arith, p .total, one, sum-set waiting net 0 inside)
 
-  abbrev code′ : List ℕ
-  code′ = set (set code (8 * placed + 5) k) (8 * k + 6) placed
-
   abbrev waiting′ : List ℕ
   waiting′ = set waiting net 0
-
-  pub placed-reordered : Reordered c code code′
-  placed-reordered =
-      reordered-set c code (set code (8 * placed + 5) k) (8 * k + 6) placed (λ i a e. a k hk .1 e)
-      (reordered-set c code code (8 * placed + 5) k (λ i a e. a placed place-left .0 e) (reordered-refl c code))
-
-  room : 8 * c .gates ≤ length code
-  room = omega (arith, p .loaded .room)
-
-  gate-new : gateAtPlace code′ placed ≡ k
-  gate-new =
-      getD-set-other (set code (8 * placed + 5) k) (8 * k + 6) (8 * placed + 5) placed 0 (λ e. omega arith)
-      ∙ getD-set-same code (8 * placed + 5) k 0 (omega (arith, place-left, room))
-
-  gate-old : (i : ℕ) → ¬ (i ≡ placed) → gateAtPlace code′ i ≡ gateAtPlace code i
-  gate-old i d =
-      getD-set-other (set code (8 * placed + 5) k) (8 * k + 6) (8 * i + 5) placed 0 (λ e. omega arith)
-      ∙ getD-set-other code (8 * placed + 5) (8 * i + 5) k 0 (λ e. d (omega arith))
-
-  place-new : placeOf code′ k ≡ placed
-  place-new = getD-set-same (set code (8 * placed + 5) k) (8 * k + 6) placed 0 (omega (arith, room, length-set code (8 * placed + 5) k))
-
-  place-old : (m : ℕ) → ¬ (m ≡ k) → placeOf code′ m ≡ placeOf code m
-  place-old m d =
-      getD-set-other (set code (8 * placed + 5) k) (8 * k + 6) (8 * m + 6) placed 0 (λ e. d (omega arith))
-      ∙ getD-set-other code (8 * placed + 5) (8 * m + 6) k 0 (λ e. omega arith)
 
   gone-new : Gone c waiting′ k
   gone-new = high-same waiting net 0 inside
@@ -180,48 +152,50 @@ module _ (c : Counts) (code waiting : List ℕ) (placed : ℕ) (p : Placing c co
   only′ q h (yes e) = absurd (never (rw e at h) gone-new)
   only′ q h (no d) = p .only q (sym (high-other waiting net 0 q d) ∙ h)
 
-  abbrev Taken : ℕ → ℕ → Type 0
-  Taken i m = (m < c .gates) × Gone c waiting′ m × (placeOf code′ m ≡ i)
+  -- it has taken its place
+  module _ (code′ : List ℕ) (there : GatePlaced c code code′ k placed) where
+    abbrev Taken : ℕ → ℕ → Type 0
+    Taken i m = (m < c .gates) × Gone c waiting′ m × (placeOf code′ m ≡ i)
 
-  taken′ : (i : ℕ) → i < placed + 1 → Dec (i ≡ placed) → Taken i (gateAtPlace code′ i)
-  taken′ i h (yes e) = rw e (subst (Taken placed) (sym gate-new) (hk, gone-new, place-new))
-  taken′ i h (no d) =
-      let t = p .taken i (omega arith) in
-      let o = other (gateAtPlace code i) (t .1) in
-      subst (Taken i) (sym (gate-old i d)) (t .0, gone-old (gateAtPlace code i) o ∙ t .1, place-old (gateAtPlace code i) o ∙ t .2)
+    taken′ : (i : ℕ) → i < placed + 1 → Dec (i ≡ placed) → Taken i (gateAtPlace code′ i)
+    taken′ i h (yes e) = rw e (subst (Taken placed) (sym (there .gate-new)) (hk, gone-new, there .place-new))
+    taken′ i h (no d) =
+        let t = p .taken i (omega arith) in
+        let o = other (gateAtPlace code i) (t .1) in
+        subst (Taken i) (sym (there .gate-old i d)) (t .0, gone-old (gateAtPlace code i) o ∙ t .1, there .place-old (gateAtPlace code i) o ∙ t .2)
 
-  stands′ : (m : ℕ) → m < c .gates → Gone c waiting′ m → Dec (m ≡ k) →
-      (placeOf code′ m < placed + 1) × (gateAtPlace code′ (placeOf code′ m) ≡ m)
-  stands′ m h g (yes e) = rw e (omega (arith, place-new), ap (gateAtPlace code′) place-new ∙ gate-new)
-  stands′ m h g (no d) =
-      let s = p .stands m h (sym (gone-old m d) ∙ g) in
-      (omega (arith, s .0, place-old m d), ap (gateAtPlace code′) (place-old m d) ∙ gate-old (placeOf code m) (λ e. omega (arith, s .0)) ∙ s .1)
+    stands′ : (m : ℕ) → m < c .gates → Gone c waiting′ m → Dec (m ≡ k) →
+        (placeOf code′ m < placed + 1) × (gateAtPlace code′ (placeOf code′ m) ≡ m)
+    stands′ m h g (yes e) = rw e (omega (arith, there .place-new), ap (gateAtPlace code′) (there .place-new) ∙ there .gate-new)
+    stands′ m h g (no d) =
+        let s = p .stands m h (sym (gone-old m d) ∙ g) in
+        (omega (arith, s .0, there .place-old m d), ap (gateAtPlace code′) (there .place-old m d) ∙ there .gate-old (placeOf code m) (λ e. omega (arith, s .0)) ∙ s .1)
 
-  earlier′ : (j m : ℕ) → j < c .gates → m < c .gates → Gone c waiting′ m → Feeds (c .inputs) (stageGates c code) j m → Dec (m ≡ k) →
-      Gone c waiting′ j × (placeOf code′ j < placeOf code′ m)
-  earlier′ j m hj hm g f (yes e) =
-      let gone : Gone c waiting j = low-mark j (rw e at f) in
-      let o = other j gone in
-      (gone-old j o ∙ gone, rw e (omega (arith, p .stands j hj gone .0, place-old j o, place-new)))
-    where
-      low-mark : (j : ℕ) → Feeds (c .inputs) (stageGates c code) j k → Gone c waiting j
-      low-mark j f = go (high waiting (2 * c .inputs + j)) refl
-        where
-          go : (b : Bool) → high waiting (2 * c .inputs + j) ≡ b → b ≡ false
-          go true h = absurd (never (anyHigh-in waiting (pinsAt (stageGates c code) k) (2 * c .inputs + j) f h) unfed)
-          go false h = refl
-  earlier′ j m hj hm g f (no d) =
-      let e = p .earlier j m hj hm (sym (gone-old m d) ∙ g) f in
-      let o = other j (e .0) in
-      (gone-old j o ∙ e .0, omega (arith, e .1, place-old j o, place-old m d))
+    earlier′ : (j m : ℕ) → j < c .gates → m < c .gates → Gone c waiting′ m → Feeds (c .inputs) (stageGates c code) j m → Dec (m ≡ k) →
+        Gone c waiting′ j × (placeOf code′ j < placeOf code′ m)
+    earlier′ j m hj hm g f (yes e) =
+        let gone : Gone c waiting j = low-mark j (rw e at f) in
+        let o = other j gone in
+        (gone-old j o ∙ gone, rw e (omega (arith, p .stands j hj gone .0, there .place-old j o, there .place-new)))
+      where
+        low-mark : (j : ℕ) → Feeds (c .inputs) (stageGates c code) j k → Gone c waiting j
+        low-mark j f = go (high waiting (2 * c .inputs + j)) refl
+          where
+            go : (b : Bool) → high waiting (2 * c .inputs + j) ≡ b → b ≡ false
+            go true h = absurd (never (anyHigh-in waiting (pinsAt (stageGates c code) k) (2 * c .inputs + j) f h) unfed)
+            go false h = refl
+    earlier′ j m hj hm g f (no d) =
+        let e = p .earlier j m hj hm (sym (gone-old m d) ∙ g) f in
+        let o = other j (e .0) in
+        (gone-old j o ∙ e .0, omega (arith, e .1, there .place-old j o, there .place-old m d))
 
-  pub placing-more : Placing c code′ waiting′ (placed + 1)
-  placing-more = record {
-    loaded = loaded-kept c code code′ placed-reordered (p .loaded);
-    marks-for = marks-set c waiting (p .marks-for) net 0 (omega arith) (omega arith);
-    total = omega (arith, p .total, one, sum-set waiting net 0 inside);
-    only = λ q h. only′ q h (ℕ-discrete q net);
-    taken = λ i h. taken′ i h (ℕ-discrete i placed);
-    stands = λ m h g. stands′ m h g (ℕ-discrete m k);
-    earlier = λ j m hj hm g f. earlier′ j m hj hm g (rw (gates-kept c code code′ placed-reordered) at f) (ℕ-discrete m k);
-  }
+    pub placing-more : Placing c code′ waiting′ (placed + 1)
+    placing-more = record {
+      loaded = loaded-kept c code code′ (there .reordered) (p .loaded);
+      marks-for = marks-set c waiting (p .marks-for) net 0 (omega arith) (omega arith);
+      total = omega (arith, p .total, one, sum-set waiting net 0 inside);
+      only = λ q h. only′ q h (ℕ-discrete q net);
+      taken = λ i h. taken′ i h (ℕ-discrete i placed);
+      stands = λ m h g. stands′ m h g (ℕ-discrete m k);
+      earlier = λ j m hj hm g f. earlier′ j m hj hm g (rw (gates-kept c code code′ (there .reordered)) at f) (ℕ-discrete m k);
+    }

@@ -17,9 +17,10 @@ use Rattle.verdict.specs.Search.{least}
 use Rattle.verdict.proofs.Least.{least-later, least-says}
 use Rattle.circuit.specs.Stage.{stageGates}
 use Rattle.circuit.proofs.Settling.{length-stageGates}
-use Rattle.circuit_order.specs.Placing.{Reordered, Ordered}
+use Rattle.circuit_order.specs.Placing.{Ordered}
 use Rattle.circuit_order.specs.Marks.{LoopFound}
-use Rattle.circuit_order.proofs.Reordering.{gates-kept, stage-kept}
+use Rattle.circuit.specs.Form.{Reordered}
+use Rattle.circuit.proofs.Reordering.{gates-kept, stage-kept}
 
 -- where no number passes there is no least
 none-least : (f : ℕ → Bool) (j m : ℕ) → ((k : ℕ) → j ≤ k → k < j + m → f k ≡ false) → least f j m ≡ Nothing

@@ -3,23 +3,15 @@ use Prim.Native.Nat.{ℕ, _+_, _*_, _≤_, _<_}
 use mathlib.Core.Path.{_≡_}
 use mathlib.Core.Bool.{Bool, true, false, _&&_, not}
 use mathlib.Core.List.{List}
-use lib.ListN.{length, getD}
+use lib.ListN.{getD}
 use Rattle.netlist.specs.declared.Counts.{Counts}
 use Rattle.verdict.specs.Rows.{high}
 use Rattle.verdict.specs.Loops.{In, pinsAt, Feeds, LoopFree}
 use Rattle.verdict.specs.Levels.{sum}
 use Rattle.circuit.specs.Stage.{pinIn, gateAtPlace, placeOf, stageGates, StageLoaded}
 use Rattle.circuit.specs.Order.{InOrder}
+use Rattle.circuit.specs.Form.{Reordered}
 use Rattle.circuit_order.specs.Marks.{MarksFor, fedBy}
-
--- place i of the code is no place of the order
-abbrev pub Apart : Counts → ℕ → Type 0
-Apart c i = (k : ℕ) → k < c .gates → ¬ (i ≡ 8 * k + 5) × ¬ (i ≡ 8 * k + 6)
-
--- the code differs from what it was in the order alone
-pub record Reordered (c : Counts) (before code : List ℕ) : Type 0 where
-  pub long : length code ≡ length before
-  pub kept : (i : ℕ) → Apart c i → getD code i 0 ≡ getD before i 0
 
 -- the first m gates wait, and no other net is marked
 pub record WaitTo (c : Counts) (marks : List ℕ) (m : ℕ) : Type 0 where

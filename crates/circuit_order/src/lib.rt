@@ -9,7 +9,8 @@ ghost use lib.ListN.{length, set};
 ghost use Rattle.verdict.specs.Loops.{reachesItself};
 ghost use Rattle.verdict.specs.Search.{least};
 ghost use Rattle.circuit.specs.Stage.{stageGates, StageLoaded};
-ghost use Rattle.circuit_order.specs.Placing.{Placing, isReady, WaitTo, PlacedAfter, Ordered, Reordered};
+ghost use Rattle.circuit.specs.Form.{Reordered};
+ghost use Rattle.circuit_order.specs.Placing.{Placing, isReady, WaitTo, PlacedAfter, Ordered};
 ghost use Rattle.circuit_order.specs.Marks.{Unmarked, Left, Visited, Pins, From, LoopFound};
 
 // ---- a topological order
@@ -32,8 +33,7 @@ fn place(code: &mut [u16], counts: Counts, k: usize, waiting: &mut [u8], placed:
     ensures { λ r. ⌜ Placing counts (now (code .exit)) (now (waiting .exit)) (placed + 1) × Reordered counts (now (code .entry)) (now (code .exit))
         × (now (waiting .exit) ≡ set (now (waiting .entry)) (2 * counts .inputs + k) 0) ⌝ }
 {
-    code[8 * placed + 5] = k as u16;
-    code[8 * k + 6] = placed as u16;
+    circuit::form::place_gate(code, counts, k, placed);
     waiting[2 * counts.inputs + k] = 0;
 }
 
@@ -56,7 +56,7 @@ fn place_after(
     let mut placed = taken;
     let mut pin: usize = 0;
     while pin < 4 {
-        let feeder = code[8 * k + (1 + pin)] as usize;
+        let feeder = circuit::form::pin_of(code, counts, k, pin) as usize;
         if 0 < waiting[feeder] {
             placed = place_after(
                 code,
@@ -107,7 +107,7 @@ fn visit(code: &[u16], counts: Counts, k: usize, left: &mut [u8])
 {
     let mut i: usize = 0;
     while i < 4 {
-        let net = code[8 * k + (1 + i)] as usize;
+        let net = circuit::form::pin_of(code, counts, k, i) as usize;
         if 0 < left[net] {
             left[net] = 0;
             visit(code, counts, net - 2 * counts.inputs, left);

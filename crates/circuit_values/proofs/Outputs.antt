@@ -4,8 +4,7 @@ use Prim.Native.Nat.{ℕ, zero, suc, _+_, _≤_, _<_}
 use native.Mathlib.Omega.{arith}
 use mathlib.Core.Path.{_≡_, refl, sym, ap, ap₂, _∙_}
 use mathlib.Core.Bool.{Bool, true, false, cond, not}
-use mathlib.Core.List.{List, [], _∷_}
-use lib.ListN.{length, getD}
+use mathlib.Core.List.{List}
 use lib.Dec.{eqb, ltb}
 use Rattle.gates.specs.Cell.{bit}
 use Rattle.netlist.specs.declared.Counts.{Counts}
@@ -15,10 +14,11 @@ use Rattle.netlist.specs.Content.{Pair}
 use Rattle.verdict.specs.Rows.{DualRail, high, dualRail, pairIn, isData, isNull, spells, everyPair}
 use Rattle.verdict.specs.Search.{least}
 use Rattle.verdict.proofs.Least.{least-says}
-use Rattle.circuit.specs.Stage.{tabulate, outputIn, stageOutputs, StageLoaded}
+use Rattle.circuit.specs.Stage.{tabulate, netCount, outputIn, stageOutputs}
 use Rattle.circuit.specs.Rows.{RowFor, netsIn, LevelOf}
-use Rattle.circuit.proofs.Pins.{net-there, level-in}
-use Rattle.circuit_values.specs.Failing.{outputFails}
+use Rattle.circuit.proofs.Pins.{level-in}
+use Rattle.circuit_values.specs.declared.RailLevels.{RailLevels}
+use Rattle.circuit_values.specs.Failing.{RailsHigh, outputFails}
 
 -- ---- two rails
 
@@ -53,44 +53,32 @@ spell-bits false true (suc zero) h = ((λ e. refl), λ d. absurd (d refl))
 spell-bits false false zero h = ((λ e. refl), λ d. refl)
 spell-bits false false (suc zero) h = ((λ e. absurd (omega arith)), λ d. refl)
 
-module _ (c : Counts) (code row : List ℕ) (loaded : StageLoaded c code) (r : RowFor c row) (j : ℕ) (h : j < c .outputs) where
-  abbrev p : ℕ
-  p = outputIn c code j .rail0
+-- a level that was read is that of the nets
+pub level-high : (c : Counts) (row : List ℕ) → RowFor c row → (p x : ℕ) → p < netCount c → LevelOf row p x → x ≡ bit (high (netsIn c row) p)
+level-high c row r p x h l = level-bit (netsIn c row) p x (level-in c row r p x (omega arith) l)
 
-  abbrev q : ℕ
-  q = outputIn c code j .rail1
+module _ (nets : List ℕ) (o : Pair) (l : RailLevels) (is : RailsHigh nets o l) where
+  abbrev x : Bool
+  x = high nets (o .rail0)
 
-  pub rail0-there : (p < length row) × (getD row p 0 ≤ 1)
-  rail0-there = net-there c row r p (omega (arith, loaded .rail0-net j h))
+  abbrev y : Bool
+  y = high nets (o .rail1)
 
-  pub rail1-there : (q < length row) × (getD row q 0 ≤ 1)
-  rail1-there = net-there c row r q (omega (arith, loaded .rail1-net j h))
+  -- exactly one of two rails is high
+  pub levels-data : not (eqb (l .rail0) (l .rail1)) ≡ isData (pairIn nets o)
+  levels-data = ap₂ (λ (u v : ℕ). not (eqb u v)) (is .rail0-is) (is .rail1-is) ∙ data-bits x y
 
-  module _ (x y : ℕ) (a : LevelOf row p x) (b : LevelOf row q y) where
-    abbrev nets : List ℕ
-    nets = netsIn c row
+  -- neither of them is
+  pub levels-null : eqb (l .rail0 + l .rail1) 0 ≡ isNull (pairIn nets o)
+  levels-null = ap₂ (λ (u v : ℕ). eqb (u + v) 0) (is .rail0-is) (is .rail1-is) ∙ null-bits x y
 
-    bit0 : x ≡ bit (high nets p)
-    bit0 = level-bit nets p x (level-in c row r p x (omega (arith, loaded .rail0-net j h)) a)
+  -- rail 1 is the value: the pair spells it exactly if rail 0 is the other bit
+  pub levels-spell : (v : ℕ) → v ≤ 1 → l .rail1 ≡ v → eqb (l .rail0 + v) 1 ≡ spells (pairIn nets o) v
+  levels-spell v h e = ap (λ (u : ℕ). eqb (u + v) 1) (is .rail0-is) ∙ spell-bits x y v h .0 (sym (is .rail1-is) ∙ e)
 
-    bit1 : y ≡ bit (high nets q)
-    bit1 = level-bit nets q y (level-in c row r q y (omega (arith, loaded .rail1-net j h)) b)
-
-    -- exactly one of two rails is high
-    pub levels-data : not (eqb x y) ≡ isData (pairIn nets (outputIn c code j))
-    levels-data = ap₂ (λ (u v : ℕ). not (eqb u v)) bit0 bit1 ∙ data-bits (high nets p) (high nets q)
-
-    -- neither of them is
-    pub levels-null : eqb (x + y) 0 ≡ isNull (pairIn nets (outputIn c code j))
-    levels-null = ap₂ (λ (u v : ℕ). eqb (u + v) 0) bit0 bit1 ∙ null-bits (high nets p) (high nets q)
-
-    -- rail 1 is the value: the pair spells it exactly if rail 0 is the other bit
-    pub levels-spell : (v : ℕ) → v ≤ 1 → y ≡ v → eqb (x + v) 1 ≡ spells (pairIn nets (outputIn c code j)) v
-    levels-spell v l e = ap (λ (u : ℕ). eqb (u + v) 1) bit0 ∙ spell-bits (high nets p) (high nets q) v l .0 (sym bit1 ∙ e)
-
-    -- it is not: the pair does not spell it
-    pub levels-misspell : (v : ℕ) → v ≤ 1 → (y ≡ v → ⊥) → false ≡ spells (pairIn nets (outputIn c code j)) v
-    levels-misspell v l d = spell-bits (high nets p) (high nets q) v l .1 (λ e. d (bit1 ∙ e))
+  -- it is not: the pair does not spell it
+  pub levels-misspell : (v : ℕ) → v ≤ 1 → (l .rail1 ≡ v → ⊥) → false ≡ spells (pairIn nets o) v
+  levels-misspell v h d = spell-bits x y v h .1 (λ e. d (is .rail1-is ∙ e))
 
 -- ---- all outputs
 

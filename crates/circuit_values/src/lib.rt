@@ -12,17 +12,35 @@ ghost use Rattle.verdict.specs.Answers as answers;
 ghost use Rattle.circuit.specs.Stage.{outputIn, stageOutputs, StageLoaded};
 ghost use Rattle.circuit.specs.Rows.{RowFor, netsIn};
 ghost use Rattle.circuit.specs.Reference.{signalIn, ReferenceLoaded, operatorIn, operatorsIn};
-ghost use Rattle.circuit_values.specs.Failing.{outputFails, misread};
+ghost use Rattle.circuit_values.specs.Failing.{RailsHigh, outputFails, misread};
 
 // ---- DATA
+
+// The levels of the two rails of an output.
+struct RailLevels {
+    rail0: u8,
+    rail1: u8,
+}
+
+// Those of output j in a row.
+fn rail_levels(code: &[u16], counts: Counts, row: &[u8], j: usize) -> RailLevels
+    requires { ⌜ StageLoaded counts (now code) × (j < counts .outputs) × RowFor counts (now row) ⌝ }
+    ensures { λ r. ⌜ RailsHigh (netsIn counts (now (row .entry))) (outputIn counts (now (code .entry)) j) r ⌝ }
+{
+    let rails = circuit::form::rails_of(code, counts, j);
+    RailLevels {
+        rail0: circuit::level(row, rails.rail0),
+        rail1: circuit::level(row, rails.rail1),
+    }
+}
 
 // Whether output j is DATA: exactly one of its rails is high.
 fn is_data(code: &[u16], counts: Counts, row: &[u8], j: usize) -> bool
     requires { ⌜ StageLoaded counts (now code) × (j < counts .outputs) × RowFor counts (now row) ⌝ }
     ensures { λ r. ⌜ r ≡ rows.isData (rows.pairIn (netsIn counts (now (row .entry))) (outputIn counts (now (code .entry)) j)) ⌝ }
 {
-    let at = 8 * counts.gates + 2 * j;
-    circuit::level(row, code[at]) != circuit::level(row, code[at + 1])
+    let levels = rail_levels(code, counts, row, j);
+    levels.rail0 != levels.rail1
 }
 
 // The least output that is not DATA, or that there is none: the pairs are taken in turn, and the loop ends at that one. In 14 and 15 it decides.
@@ -60,8 +78,8 @@ fn is_null(code: &[u16], counts: Counts, row: &[u8], j: usize) -> bool
     requires { ⌜ StageLoaded counts (now code) × (j < counts .outputs) × RowFor counts (now row) ⌝ }
     ensures { λ r. ⌜ r ≡ rows.isNull (rows.pairIn (netsIn counts (now (row .entry))) (outputIn counts (now (code .entry)) j)) ⌝ }
 {
-    let at = 8 * counts.gates + 2 * j;
-    circuit::level(row, code[at]) + circuit::level(row, code[at + 1]) == 0
+    let levels = rail_levels(code, counts, row, j);
+    levels.rail0 + levels.rail1 == 0
 }
 
 // The least output that is not NULL, or that there is none, found in the same way. In 20 and 21 it decides.
@@ -99,11 +117,9 @@ fn reads_as(code: &[u16], counts: Counts, row: &[u8], j: usize, value: u8) -> bo
     requires { ⌜ StageLoaded counts (now code) × (j < counts .outputs) × RowFor counts (now row) × (value ≤ 1) ⌝ }
     ensures { λ r. ⌜ r ≡ rows.spells (rows.pairIn (netsIn counts (now (row .entry))) (outputIn counts (now (code .entry)) j)) value ⌝ }
 {
-    let at = 8 * counts.gates + 2 * j;
-    let rail0 = circuit::level(row, code[at]);
-    let rail1 = circuit::level(row, code[at + 1]);
-    if rail1 == value {
-        rail0 + value == 1
+    let levels = rail_levels(code, counts, row, j);
+    if levels.rail1 == value {
+        levels.rail0 + value == 1
     } else {
         false
     }
@@ -124,7 +140,6 @@ pub fn first_misread(
         (signalIn sizes (now (reference .entry)) j) 0)) 0 (counts .outputs) ⌝ }
 {
     let count = counts.outputs;
-    let first = 3 * sizes.gates;
     let mut j: usize = 0;
     while j < count {
         if reads_as(
@@ -132,7 +147,7 @@ pub fn first_misread(
             counts,
             row,
             j,
-            circuit::level(values, reference[first + j]),
+            circuit::level(values, circuit::form::signal_of(reference, sizes, j)),
         ) {
             j += 1;
         } else {
@@ -181,11 +196,11 @@ fn operator_value(reference: &[u16], sizes: Counts, k: usize, values: &[u8]) -> 
     ensures { λ r. ⌜ (r ≡ answers.operate (operatorIn (now (reference .entry)) k .code) (answers.valuesAt (take (sizes .inputs + k) (now (values .entry)))
         (operatorIn (now (reference .entry)) k .operands))) × (r ≤ 1) ⌝ }
 {
-    let at = 3 * k;
+    let operands = circuit::form::operands_of(reference, sizes, k);
     operate(
-        reference[at],
-        circuit::level(values, reference[at + 1]),
-        circuit::level(values, reference[at + 2]),
+        circuit::form::operation_of(reference, sizes, k),
+        circuit::level(values, operands.a),
+        circuit::level(values, operands.b),
     )
 }
 

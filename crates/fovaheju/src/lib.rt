@@ -2,6 +2,8 @@
 // caller.
 use join_spec::JoinAnswer;
 use report_spec::Report;
+use run_spec::PlayAnswer;
+use run_spec::RunAnswer;
 use verdict::Answer;
 use verdict::Verdict;
 use verdict::WordOrder;
@@ -16,6 +18,9 @@ ghost use Rattle.make_spec.specs.Make.{MakeDemand};
 ghost use Rattle.text_spec.specs.Promises.{ReadDemand, WriteDemand};
 ghost use Rattle.next_spec.specs.Family.{NextDemand};
 ghost use Rattle.draw_spec.specs.Demand.{DrawnDemand};
+ghost use Rattle.run_spec.specs.Witness.{WitnessDemand};
+ghost use Rattle.run_spec.specs.Play.{PlayDemand};
+ghost use Rattle.run_spec.specs.Keys.{KeysDemand};
 
 // The check of a stage file against a reference file, with words named in an order. The verdict is the one that the definitions give, and
 // demands 2 and 3 hold of it, with one run from another for an accepted stage.
@@ -110,6 +115,50 @@ pub fn draw_reference(seed: u32, inputs: usize, gates: usize, reference_out: &mu
     ensures { λ r. ⌜ DrawnDemand seed inputs gates (now («reference_out» .entry)) r (now («reference_out» .exit)) ⌝ }
 {
     call_draw::draw_reference(seed, inputs, gates, reference_out)
+}
+
+// The witness of a verdict on two files: the check's verdict, and a run that shows what it says, the least net that may switch first, at the start of a
+// lent list. Of an accepted pair it is a full rise and a full fall of the word whose name is asked for; of a number that speaks of no run there is
+// none. A list too short is left as it was, and the answer still says how long the run is.
+pub fn witness(
+    order: WordOrder,
+    stage: &[u8],
+    reference: &[u8],
+    asked: usize,
+    list: &mut [u16],
+) -> RunAnswer
+    ensures { λ r. ⌜ WitnessDemand order (content.plainFiles (now (stage .entry)) (now (reference .entry))) asked (now (list .entry)) r (now (list .exit)) ⌝ }
+{
+    call_witness::witness(order, stage, reference, asked, list)
+}
+
+// A list of switchings of a word, a rise up to place `fall` and from there on a fall, judged: how many steps come before the first that the rules bar, and
+// in a lent row, one byte for each net, the levels after these. A refusal leaves the row as it was.
+pub fn play(
+    order: WordOrder,
+    stage: &[u8],
+    name: usize,
+    fall: usize,
+    list: &[u16],
+    row: &mut [u8],
+) -> PlayAnswer
+    ensures { λ r. ⌜ PlayDemand order (now (stage .entry)) name fall (now (list .entry)) (now (row .entry)) r (now (row .exit)) ⌝ }
+{
+    call_play::play(order, stage, name, fall, list, row)
+}
+
+// A full rise and a full fall of a word in an order that the caller chooses, by a key for each net in the rise and then one for each in the fall: at each
+// step that net with the least key of those that may switch does. The run stands at the start of a lent list; one too short is left as it was.
+pub fn run_by_keys(
+    order: WordOrder,
+    stage: &[u8],
+    name: usize,
+    keys: &[u32],
+    list: &mut [u16],
+) -> RunAnswer
+    ensures { λ r. ⌜ KeysDemand order (now (stage .entry)) name (now (keys .entry)) (now (list .entry)) r (now (list .exit)) ⌝ }
+{
+    call_keys::run_by_keys(order, stage, name, keys, list)
 }
 
 // The order of words that a number stands for: 0 has input 0 as the highest bit of a word, every other number has it as the lowest.
@@ -220,4 +269,48 @@ pub extern "C" fn fovaheju_draw_reference(
     ensures { λ r. ⌜ DrawnDemand seed inputs gates (now («reference_out» .entry)) r (now («reference_out» .exit)) ⌝ }
 {
     draw_reference(seed, inputs, gates, reference_out)
+}
+
+// The witness for callers in C and in Rust, with the contract of `witness`.
+#[no_mangle]
+pub extern "C" fn fovaheju_witness(
+    order: u64,
+    stage: &[u8],
+    reference: &[u8],
+    asked: usize,
+    list: &mut [u16],
+) -> RunAnswer
+    ensures { λ r. ⌜ WitnessDemand (orderOf order) (content.plainFiles (now (stage .entry)) (now (reference .entry))) asked (now (list .entry)) r
+        (now (list .exit)) ⌝ }
+{
+    witness(order_of(order), stage, reference, asked, list)
+}
+
+// The judging of a list for callers in C and in Rust, with the contract of `play`.
+#[no_mangle]
+pub extern "C" fn fovaheju_play(
+    order: u64,
+    stage: &[u8],
+    name: usize,
+    fall: usize,
+    list: &[u16],
+    row: &mut [u8],
+) -> PlayAnswer
+    ensures { λ r. ⌜ PlayDemand (orderOf order) (now (stage .entry)) name fall (now (list .entry)) (now (row .entry)) r (now (row .exit)) ⌝ }
+{
+    play(order_of(order), stage, name, fall, list, row)
+}
+
+// The run by keys for callers in C and in Rust, with the contract of `run_by_keys`.
+#[no_mangle]
+pub extern "C" fn fovaheju_run_by_keys(
+    order: u64,
+    stage: &[u8],
+    name: usize,
+    keys: &[u32],
+    list: &mut [u16],
+) -> RunAnswer
+    ensures { λ r. ⌜ KeysDemand (orderOf order) (now (stage .entry)) name (now (keys .entry)) (now (list .entry)) r (now (list .exit)) ⌝ }
+{
+    run_by_keys(order_of(order), stage, name, keys, list)
 }

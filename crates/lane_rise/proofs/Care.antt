@@ -1,6 +1,6 @@
 -- Which words a stage has, in its flat form.
 -- Assumes nothing.
-use Prim.Native.Nat.{ℕ, zero, suc, _+_, _*_, _^_, _<_}
+use Prim.Native.Nat.{ℕ, zero, suc, _^_, _<_}
 use native.Mathlib.Omega.{arith}
 use mathlib.Core.Path.{_≡_, refl, sym, subst, _∙_}
 use mathlib.Core.Logic.{_⊎_, inl, inr}
@@ -11,7 +11,7 @@ use Rattle.verdict.specs.Graph.{tabulate}
 use Rattle.verdict.specs.Loops.{In}
 use Rattle.verdict.specs.Words.{caredFor, words, IsWord}
 use Rattle.verdict.proofs.Words.{in-index, index-in}
-use Rattle.circuit.specs.Stage.{stageCare, stageIn}
+use Rattle.circuit.specs.Stage.{careIn, stageCare, stageIn}
 use Rattle.circuit.proofs.Tabulate.{length-tabulate, getD-tabulate}
 
 -- what stands in a list stands at some place of it, and the other way round
@@ -39,11 +39,8 @@ module _ (c : Counts) (code : List ℕ) (none : c .care ≡ 0) (w : ℕ) where
 -- ---- with one: the care words
 
 module _ (c : Counts) (code : List ℕ) (some : c .care ≡ 0 → ⊥) where
-  careAt : ℕ → ℕ
-  careAt k = getD code (8 * c .gates + 2 * c .outputs + k) 0
-
-  care-long : length (tabulate careAt (c .care)) ≡ c .care
-  care-long = length-tabulate careAt (c .care)
+  care-long : length (tabulate (careIn c code) (c .care)) ≡ c .care
+  care-long = length-tabulate (careIn c code) (c .care)
 
   of-list : (w : ℕ) (ws : List ℕ) → (length ws ≡ 0 → ⊥) → In w (caredFor (c .inputs) ws) → In w ws
   unfolding caredFor
@@ -55,15 +52,15 @@ module _ (c : Counts) (code : List ℕ) (some : c .care ≡ 0 → ⊥) where
   in-list w [] x = absurd x
   in-list w (y ∷ ws) x = x
 
-  pub care-words : (w : ℕ) → IsWord (stageIn c code) w → (k : ℕ) × (k < c .care) × (getD code (8 * c .gates + 2 * c .outputs + k) 0 ≡ w)
-  unfolding words stageCare careAt
+  pub care-words : (w : ℕ) → IsWord (stageIn c code) w → (k : ℕ) × (k < c .care) × (careIn c code k ≡ w)
+  unfolding words stageCare
   care-words w i =
-      let p = in-place w (tabulate careAt (c .care)) (of-list w (tabulate careAt (c .care)) (λ z. some (sym care-long ∙ z)) i) in
+      let p = in-place w (tabulate (careIn c code) (c .care)) (of-list w (tabulate (careIn c code) (c .care)) (λ z. some (sym care-long ∙ z)) i) in
       let h : p .0 < c .care = omega (arith, p .1, care-long) in
-      (p .0, h, sym (getD-tabulate careAt (c .care) (p .0) 0 h) ∙ p .2)
+      (p .0, h, sym (getD-tabulate (careIn c code) (c .care) (p .0) 0 h) ∙ p .2)
 
-  pub word-of-care : (k : ℕ) → k < c .care → IsWord (stageIn c code) (getD code (8 * c .gates + 2 * c .outputs + k) 0)
-  unfolding words stageCare careAt
+  pub word-of-care : (k : ℕ) → k < c .care → IsWord (stageIn c code) (careIn c code k)
+  unfolding words stageCare
   word-of-care k h =
-      let i = place-in (tabulate careAt (c .care)) k (omega (arith, care-long)) in
-      in-list (careAt k) (tabulate careAt (c .care)) (subst (λ (v : ℕ). In v (tabulate careAt (c .care))) (getD-tabulate careAt (c .care) k 0 h) i)
+      let i = place-in (tabulate (careIn c code) (c .care)) k (omega (arith, care-long)) in
+      in-list (careIn c code k) (tabulate (careIn c code) (c .care)) (subst (λ (v : ℕ). In v (tabulate (careIn c code) (c .care))) (getD-tabulate (careIn c code) (c .care) k 0 h) i)

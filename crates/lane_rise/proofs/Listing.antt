@@ -17,11 +17,11 @@ use borrow.Author.Tests.{eqb-true, eq-eqb}
 use Rattle.runs.proofs.Test.{clash, or-cases, or-left, or-right}
 use Rattle.netlist.specs.declared.Counts.{Counts}
 use Rattle.verdict.specs.Words.{bitsOf}
-use Rattle.circuit.specs.Stage.{stageIn}
+use Rattle.circuit.specs.Stage.{careIn, stageIn}
 use Rattle.lane_cells.specs.Lane.{lane}
 use Rattle.lane_cells.proofs.Lane.{lane-zero, lane-or}
 use Rattle.lane_cells.proofs.Blocks.{all-at}
-use Rattle.lane_rise.specs.Rising.{WordMasks, ListedIn}
+use Rattle.lane_rise.specs.Rising.{WordMasks, wordAt, ListedIn}
 use Rattle.lane_rise.proofs.Lanes.{zeros-at, oneAt, one-lane, bits-mod}
 use Rattle.lane_rise.proofs.Care.{word-of-all, care-words, word-of-care}
 
@@ -84,34 +84,31 @@ module _ (masks : List ℕ) (w : ℕ) (room : w / 64 < length masks) where
 
 -- ---- the loop over a list
 
-module _ (code : List ℕ) (from inputs : ℕ) where
-  pub listed-start : ListedIn code from 0 inputs (replicate 16 0)
+module _ (c : Counts) (code : List ℕ) where
+  pub listed-start : ListedIn c code 0 (replicate 16 0)
   listed-start = record {
     named = λ b j d e. absurd (clash e (ap (lane j) (zeros-at 16 b) ∙ lane-zero j));
     all = λ k h. absurd (omega arith);
   }
 
-  abbrev wordAt : ℕ → ℕ
-  wordAt k = getD code (from + k) 0 % 2 ^ inputs
-
-  pub listed-more : (masks : List ℕ) (k : ℕ) → ListedIn code from k inputs masks → wordAt k / 64 < length masks
-      → ListedIn code from (k + 1) inputs (withWord masks (wordAt k))
+  pub listed-more : (masks : List ℕ) (k : ℕ) → ListedIn c code k masks → wordAt c code k / 64 < length masks
+      → ListedIn c code (k + 1) (withWord masks (wordAt c code k))
   listed-more masks k l room = record { named = named; all = all }
     where
-      named : (b j : ℕ) → j < 64 → lane j (getD (withWord masks (wordAt k)) b 0) ≡ true → (i : ℕ) × (i < k + 1) × (wordAt i ≡ 64 * b + j)
-      named b j d e = go (word-named masks (wordAt k) room b j d e)
+      named : (b j : ℕ) → j < 64 → lane j (getD (withWord masks (wordAt c code k)) b 0) ≡ true → (i : ℕ) × (i < k + 1) × (wordAt c code i ≡ 64 * b + j)
+      named b j d e = go (word-named masks (wordAt c code k) room b j d e)
         where
-          go : (lane j (getD masks b 0) ≡ true) ⊎ (wordAt k ≡ 64 * b + j) → (i : ℕ) × (i < k + 1) × (wordAt i ≡ 64 * b + j)
+          go : (lane j (getD masks b 0) ≡ true) ⊎ (wordAt c code k ≡ 64 * b + j) → (i : ℕ) × (i < k + 1) × (wordAt c code i ≡ 64 * b + j)
           go (inl x) = let p = l .named b j d x in (p .0, omega (arith, p .1), p .2)
           go (inr x) = (k, omega arith, x)
 
-      all : (i : ℕ) → i < k + 1 → lane (wordAt i % 64) (getD (withWord masks (wordAt k)) (wordAt i / 64) 0) ≡ true
+      all : (i : ℕ) → i < k + 1 → lane (wordAt c code i % 64) (getD (withWord masks (wordAt c code k)) (wordAt c code i / 64) 0) ≡ true
       all i h = go (ℕ-discrete i k)
         where
-          go : Dec (i ≡ k) → lane (wordAt i % 64) (getD (withWord masks (wordAt k)) (wordAt i / 64) 0) ≡ true
+          go : Dec (i ≡ k) → lane (wordAt c code i % 64) (getD (withWord masks (wordAt c code k)) (wordAt c code i / 64) 0) ≡ true
           go (yes q) =
-              ap (λ (n : ℕ). lane (wordAt n % 64) (getD (withWord masks (wordAt k)) (wordAt n / 64) 0)) q ∙ now-named masks (wordAt k) room
-          go (no q) = still-named masks (wordAt k) room (wordAt i / 64) (wordAt i % 64) (l .all i (omega arith))
+              ap (λ (n : ℕ). lane (wordAt c code n % 64) (getD (withWord masks (wordAt c code k)) (wordAt c code n / 64) 0)) q ∙ now-named masks (wordAt c code k) room
+          go (no q) = still-named masks (wordAt c code k) room (wordAt c code i / 64) (wordAt c code i % 64) (l .all i (omega arith))
 
 -- ---- the words of a stage
 
@@ -127,12 +124,12 @@ module _ (c : Counts) (code : List ℕ) where
         ∙ ap (λ (x : ℕ). eqb x 1) (all-at (v % 64) (mod-lt v (lit< tt)));
   }
 
-  pub care-masks : (c .care ≡ 0 → ⊥) → (masks : List ℕ) → ListedIn code (8 * c .gates + 2 * c .outputs) (c .care) (c .inputs) masks
+  pub care-masks : (c .care ≡ 0 → ⊥) → (masks : List ℕ) → ListedIn c code (c .care) masks
       → WordMasks (stageIn c code) masks
   care-masks some masks l = record {
     named = λ b j d e.
         let p = l .named b j d e in
-        let w = getD code (8 * c .gates + 2 * c .outputs + p .0) 0 in
+        let w = careIn c code (p .0) in
         (w, word-of-care c code some (p .0) (p .1), sym (bits-mod (c .inputs) w) ∙ ap (bitsOf (c .inputs)) (p .2));
     all = λ w i.
         let p = care-words c code some w i in

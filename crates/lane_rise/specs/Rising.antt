@@ -9,7 +9,7 @@ use Rattle.netlist.specs.Reading.{stageLimits}
 use Rattle.netlist.specs.Content.{Stage}
 use Rattle.verdict.specs.Words.{IsWord, bitsOf}
 use Rattle.verdict.specs.Checks.{highAt}
-use Rattle.circuit.specs.Stage.{stageIn}
+use Rattle.circuit.specs.Stage.{careIn, stageIn}
 use Rattle.lane_cells.specs.Lane.{lane, rowIn}
 use Rattle.lane_settle.specs.Block.{restIn}
 
@@ -27,10 +27,14 @@ pub record WordMasks (s : Stage) (masks : List ℕ) : Type 0 where
   pub named : (b j : ℕ) → j < 64 → lane j (getD masks b 0) ≡ true → (w : ℕ) × IsWord s w × (bitsOf (s .inputs) w ≡ bitsOf (s .inputs) (64 * b + j))
   pub all : (w : ℕ) → IsWord s w → lane (w % 2 ^ s .inputs % 64) (getD masks (w % 2 ^ s .inputs / 64) 0) ≡ true
 
--- the masks of so many words that stand in a list from a place on, each taken below 2 to the power of the inputs
-pub record ListedIn (code : List ℕ) (from count inputs : ℕ) (masks : List ℕ) : Type 0 where
-  pub named : (b j : ℕ) → j < 64 → lane j (getD masks b 0) ≡ true → (k : ℕ) × (k < count) × (getD code (from + k) 0 % 2 ^ inputs ≡ 64 * b + j)
-  pub all : (k : ℕ) → k < count → lane (getD code (from + k) 0 % 2 ^ inputs % 64) (getD masks (getD code (from + k) 0 % 2 ^ inputs / 64) 0) ≡ true
+-- care word k of a stage, taken below 2 to the power of the inputs
+abbrev pub wordAt : Counts → List ℕ → ℕ → ℕ
+wordAt c code k = careIn c code k % 2 ^ c .inputs
+
+-- the masks of its first care words, so many
+pub record ListedIn (c : Counts) (code : List ℕ) (count : ℕ) (masks : List ℕ) : Type 0 where
+  pub named : (b j : ℕ) → j < 64 → lane j (getD masks b 0) ≡ true → (k : ℕ) × (k < count) × (wordAt c code k ≡ 64 * b + j)
+  pub all : (k : ℕ) → k < count → lane (wordAt c code k % 64) (getD masks (wordAt c code k / 64) 0) ≡ true
 
 -- ---- gates that rose
 

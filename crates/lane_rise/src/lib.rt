@@ -4,28 +4,23 @@ use netlist::Found;
 ghost use mathlib.Core.Path.{_≡_};
 ghost use Prim.Native.Nat.{_+_, _≤_};
 ghost use lib.ListN.{length};
-ghost use Rattle.netlist.specs.Reading.{stageLimits};
 ghost use Rattle.netlist.specs.Content.{Stage};
 ghost use Rattle.verdict.specs.Search.{least};
 ghost use Rattle.verdict.specs.Checks.{neverRises};
 ghost use Rattle.circuit.specs.Stage.{stageIn, StageLoaded};
 ghost use Rattle.lane_rise.specs.Rising.{WordMasks, ListedIn, NotedIn, Noted};
 
-// The words that stand from a place of the flat form on, so many, as a mask for each block. Words of so many inputs are taken.
-fn listed_words(
-    code: &[u16],
-    from: usize,
-    count: usize,
-    inputs: usize,
-) -> [u64; lane_settle::BLOCKS]
-    requires { ⌜ (from + count ≤ length (now code)) × (inputs ≤ stageLimits .inputs) ⌝ }
-    ensures { λ r. ⌜ ListedIn (now (code .entry)) from count inputs r ⌝ }
+// The care words of a stage as a mask for each block, each taken below 2 to the power of the inputs.
+fn listed_words(code: &[u16], counts: Counts) -> [u64; lane_settle::BLOCKS]
+    requires { ⌜ StageLoaded counts (now code) ⌝ }
+    ensures { λ r. ⌜ ListedIn counts (now (code .entry)) (counts .care) r ⌝ }
 {
-    let size: usize = 1 << inputs;
+    let count = counts.care;
+    let size: usize = 1 << counts.inputs;
     let mut masks = [0u64; lane_settle::BLOCKS];
     let mut k: usize = 0;
     while k < count {
-        let w = code[from + k] as usize % size;
+        let w = circuit::form::care_of(code, counts, k) % size;
         let b = w / 64;
         let j = w % 64;
         let old = masks[b];
@@ -43,12 +38,7 @@ pub fn word_masks(code: &[u16], counts: Counts) -> [u64; lane_settle::BLOCKS]
     if counts.care == 0 {
         return [lane_cells::ALL; lane_settle::BLOCKS];
     }
-    listed_words(
-        code,
-        8 * counts.gates + 2 * counts.outputs,
-        counts.care,
-        counts.inputs,
-    )
+    listed_words(code, counts)
 }
 
 // The gates that are high in the words of a mask are noted, by a row of a block that has settled.

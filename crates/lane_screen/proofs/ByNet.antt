@@ -3,14 +3,13 @@
 use Prim.Native.Nat.{ℕ, zero, suc, _+_, _*_, _≤_, _<_}
 use native.Mathlib.Omega.{arith}
 use native.Mathlib.Decide.{decLt}
-use mathlib.Core.Path.{_≡_, refl, sym, ap, ap₂, _∙_}
+use mathlib.Core.Path.{_≡_, refl, sym, ap, _∙_, subst}
 use mathlib.Core.Bool.{Bool, true, false, cond, not, _&&_}
 use mathlib.Core.Logic.{inl, inr}
 use mathlib.Core.List.{List, _∷_, map}
 use lib.ListN.{length, getD}
 use lib.Dec.{eqb}
 use lib.Bits.{bitXor}
-use borrow.Author.Tests.{eq-eqb, ne-eqb}
 use Rattle.gates.specs.Expression.{holds}
 use Rattle.gates.specs.Cell.{pinCount, setExpression}
 use Rattle.gates.proofs.Expressions.{holds-mono, holds-local}
@@ -24,21 +23,19 @@ use Rattle.netlist.specs.Content.{Gate}
 use Rattle.verdict.specs.Loops.{In}
 use Rattle.verdict.specs.Nets.{setIn}
 use Rattle.verdict.proofs.Bridge.{pins-mono}
-use Rattle.circuit.specs.Stage.{netCount, slot, cellIn, pinIn, gateIn, StageLoaded}
+use Rattle.circuit.specs.Stage.{netCount, cellIn, pinIn, gateIn, StageLoaded}
 use Rattle.circuit.specs.Order.{InOrder}
 use Rattle.lane_cells.specs.declared.CellLanes.{CellLanes}
 use Rattle.lane_cells.specs.Lane.{lane, rowIn}
 use Rattle.lane_cells.specs.Cells.{needing, needOf, pinsIn}
 use Rattle.lane_cells.proofs.Lane.{lane-zero, unlike, lane-xor}
 use Rattle.lane_cells.proofs.Cells.{set-holds}
-use Rattle.lane_settle.specs.Block.{restIn, netIn, Resting, AcknowledgedIn, MarkedIn, PinsMarked}
+use Rattle.lane_settle.specs.declared.PinLanes.{PinLanes}
+use Rattle.lane_settle.specs.Block.{restIn, netIn, Resting, AcknowledgedIn, MarkedIn, pinLanes, PinsMarked}
 use Rattle.lane_screen.specs.Marks.{PinsAcknowledged, Lone, keeps, cofactorPin, cofactorOf, cofactorsOf}
 use Rattle.lane_settle.proofs.Pins.{pin-at, pin-past, pin-in, driver-at}
 use Rattle.lane_settle.proofs.Marks.{marked-pins}
 use Rattle.lane_settle.proofs.Settling.{gate-net, rest-gate, rest-past}
-
-pub pins-alike : (a b c d a′ b′ c′ d′ : ℕ) → a ≡ a′ → b ≡ b′ → c ≡ c′ → d ≡ d′ → needing 0 a b c d ≡ needing 0 a′ b′ c′ d′
-pins-alike a b c d a′ b′ c′ d′ p q s t = ap₂ (λ (x y : ℕ). needing 0 x y c d) p q ∙ ap₂ (λ (x y : ℕ). needing 0 a′ b′ x y) s t
 
 -- some net of a list is high
 not-all-low : (r : Row) (l : List ℕ) (p : ℕ) → In p l → r p ≡ true → allLow r l ≡ false
@@ -77,7 +74,7 @@ module _ (c : Counts) (code : List ℕ) (loaded : StageLoaded c code) (ordered :
   level p l = go (decLt p (netCount c))
     where
       go : Dec (p < netCount c) → rowIn j row p ≡ R p
-      go (yes a) = rest .rest j p d a
+      go (yes a) = rest .nets j p d a
       go (no a) =
           let e : p ≡ netCount c = omega arith in
           ap (rowIn j row) e ∙ ap (lane j) (rest .ground) ∙ lane-zero j ∙ sym (rest-past c code ordered (64 * b + j) p (omega arith))
@@ -128,7 +125,7 @@ module _ (c : Counts) (code : List ℕ) (loaded : StageLoaded c code) (ordered :
     -- in the rise: it is high, and not set with that net low
     need-acknowledges : (high : ℕ) → high ≡ getD row g 0 → lane j (bitXor high (cofactorOf code k row false p)) ≡ true → Acknowledged (netIn c code) R p
     need-acknowledges high is e = go (R g) refl (setIn (R ∖ only p) (gateIn code k)) refl
-        (sym (ap (λ (x : Bool). unlike x (setIn (R ∖ only p) (gateIn code k))) (ap (lane j) is ∙ rest .rest j g d (omega arith)))
+        (sym (ap (λ (x : Bool). unlike x (setIn (R ∖ only p) (gateIn code k))) (ap (lane j) is ∙ rest .nets j g d (omega arith)))
         ∙ sym (ap (unlike (lane j high)) (cofactor false p)) ∙ sym (lane-xor j high (cofactorOf code k row false p)) ∙ e)
       where
         go : (x : Bool) → R g ≡ x → (y : Bool) → setIn (R ∖ only p) (gateIn code k) ≡ y → unlike x y ≡ true → Acknowledged (netIn c code) R p
@@ -138,29 +135,29 @@ module _ (c : Counts) (code : List ℕ) (loaded : StageLoaded c code) (ordered :
             absurd (clash (rest-gate c code ordered (64 * b + j) k h ∙ set-mono (R ∖ only p) R (λ q. and-left (R q) (not (eqb q p))) (gateIn code k) v) u)
         go false u false v z = absurd (clash z refl)
 
-    by-hold : (x : Bool) → eqb (slot code k 7) 1 ≡ x → mayFall (netIn c code) (only p) g ≡ cond x (allLow (only p) (gateIn code k .pins)) (not (setIn (only p) (gateIn code k)))
+    by-hold : (x : Bool) → gateIn code k .hold ≡ x → mayFall (netIn c code) (only p) g ≡ cond x (allLow (only p) (gateIn code k .pins)) (not (setIn (only p) (gateIn code k)))
     by-hold x e =
         ap (λ (y : Gate). cond (y .hold) (allLow (only p) (y .pins)) (not (setIn (only p) y))) (driver-at c code k h)
         ∙ ap (λ (y : Bool). cond y (allLow (only p) (gateIn code k .pins)) (not (setIn (only p) (gateIn code k)))) e
 
     -- on the way back: with hold it waits for all of its pins
-    hold-acknowledges : slot code k 7 ≡ 1 → R g ≡ true → Fall-acknowledged (netIn c code) R p
+    hold-acknowledges : gateIn code k .hold ≡ true → R g ≡ true → Fall-acknowledged (netIn c code) R p
     hold-acknowledges e u =
         fall-next g (gate-net c code ordered k h) u
-        (by-hold true (eq-eqb (slot code k 7) 1 e) ∙ not-all-low (only p) (gateIn code k .pins) p (pin-in code k t present l) (eqb-same p))
+        (by-hold true e ∙ not-all-low (only p) (gateIn code k .pins) p (pin-in code k t present l) (eqb-same p))
 
     -- relaxed it waits for a net that sets it alone
-    alone-acknowledges : (slot code k 7 ≡ 1 → ⊥) → lane j (cofactorOf code k row true p) ≡ true → Fall-acknowledged (netIn c code) R p
+    alone-acknowledges : gateIn code k .hold ≡ false → lane j (cofactorOf code k row true p) ≡ true → Fall-acknowledged (netIn c code) R p
     alone-acknowledges n e =
         let set : setIn (kept true p) (gateIn code k) ≡ true = sym (cofactor true p) ∙ e in
         fall-next g (gate-net c code ordered k h)
         (rest-gate c code ordered (64 * b + j) k h ∙ set-mono (kept true p) R (λ q. and-left (R q) (eqb q p)) (gateIn code k) set)
-        (by-hold false (ne-eqb (slot code k 7) 1 n) ∙ ap not (set-mono (kept true p) (only p) (λ q. and-right (R q) (eqb q p)) (gateIn code k) set))
+        (by-hold false n ∙ ap not (set-mono (kept true p) (only p) (λ q. and-right (R q) (eqb q p)) (gateIn code k) set))
 
     -- as it does for one that stands at a pin which does
-    lone-acknowledges : (slot code k 7 ≡ 1 → ⊥) → R p ≡ true → holds (setExpression (cellIn code k)) (only t) ≡ true → Fall-acknowledged (netIn c code) R p
+    lone-acknowledges : gateIn code k .hold ≡ false → R p ≡ true → holds (setExpression (cellIn code k)) (only t) ≡ true → Fall-acknowledged (netIn c code) R p
     lone-acknowledges n u lone =
-        fall-next g (gate-net c code ordered k h) (rest-gate c code ordered (64 * b + j) k h ∙ sets R u) (by-hold false (ne-eqb (slot code k 7) 1 n) ∙ ap not (sets (only p) (eqb-same p)))
+        fall-next g (gate-net c code ordered k h) (rest-gate c code ordered (64 * b + j) k h ∙ sets R u) (by-hold false n ∙ ap not (sets (only p) (eqb-same p)))
       where
         sets : (r : Row) → r p ≡ true → setIn r (gateIn code k) ≡ true
         sets r v =
@@ -189,15 +186,15 @@ module _ (c : Counts) (code : List ℕ) (loaded : StageLoaded c code) (ordered :
           → Acknowledged (netIn c code) (restIn c code b j) (pinIn code k t)
       at t q z l there = need-acknowledges c code loaded ordered k h row b j d rest t l there high is (sym (ap (λ (y : ℕ). lane j (bitXor high y)) q) ∙ z)
 
-  pub acknowledged-hold : slot code k 7 ≡ 1 → (high : ℕ) → high ≡ getD row (2 * c .inputs + k) 0 → PinsAcknowledged true c code k row (needing high high high high high)
+  pub acknowledged-hold : gateIn code k .hold ≡ true → (high : ℕ) → high ≡ getD row (2 * c .inputs + k) 0 → PinsAcknowledged true c code k row (needing high high high high high)
   acknowledged-hold e high is b rest j t d l there z =
       by-pins (λ t. t < 4 → pinIn code k t < netCount c → Fall-acknowledged (netIn c code) (restIn c code b j) (pinIn code k t)) (needing high high high high high) j
       (at 0) (at 1) (at 2) (at 3) t l z l there
     where
       at : (t : ℕ) → lane j high ≡ true → t < 4 → pinIn code k t < netCount c → Fall-acknowledged (netIn c code) (restIn c code b j) (pinIn code k t)
-      at t u l there = hold-acknowledges c code loaded ordered k h row b j d rest t l there e (sym (rest .rest j (2 * c .inputs + k) d (omega arith)) ∙ sym (ap (lane j) is) ∙ u)
+      at t u l there = hold-acknowledges c code loaded ordered k h row b j d rest t l there e (sym (rest .nets j (2 * c .inputs + k) d (omega arith)) ∙ sym (ap (lane j) is) ∙ u)
 
-  pub acknowledged-relaxed : (slot code k 7 ≡ 1 → ⊥) → (r : CellLanes) → r ≡ cofactorsOf code k row true → PinsAcknowledged true c code k row r
+  pub acknowledged-relaxed : gateIn code k .hold ≡ false → (r : CellLanes) → r ≡ cofactorsOf code k row true → PinsAcknowledged true c code k row r
   acknowledged-relaxed n r each b rest j t d l there z =
       by-pins (λ t. t < 4 → pinIn code k t < netCount c → Fall-acknowledged (netIn c code) (restIn c code b j) (pinIn code k t)) r j
       (at 0 (ap (λ (r : CellLanes). r .a) each)) (at 1 (ap (λ (r : CellLanes). r .b) each))
@@ -207,24 +204,24 @@ module _ (c : Counts) (code : List ℕ) (loaded : StageLoaded c code) (ordered :
           → Fall-acknowledged (netIn c code) (restIn c code b j) (pinIn code k t)
       at t q u l there = alone-acknowledges c code loaded ordered k h row b j d rest t l there n (sym (ap (lane j) q) ∙ u)
 
-  pub acknowledged-lone : (slot code k 7 ≡ 1 → ⊥) → (r : CellLanes) → Lone code k row r → PinsAcknowledged true c code k row r
+  pub acknowledged-lone : gateIn code k .hold ≡ false → (r : CellLanes) → Lone code k row r → PinsAcknowledged true c code k row r
   acknowledged-lone n r lone b rest j t d l there z =
       let both = lone j t l z in
-      lone-acknowledges c code loaded ordered k h row b j d rest t l there n (sym (rest .rest j (pinIn code k t) d there) ∙ both .0) (both .1)
+      lone-acknowledges c code loaded ordered k h row b j d rest t l there n (sym (rest .nets j (pinIn code k t) d there) ∙ both .0) (both .1)
 
--- the levels at the pins, known to be those of four nets
-pins-of : (code row : List ℕ) (k j x y z u t : ℕ) → t < 4 → x ≡ getD row (pinIn code k 0) 0 → y ≡ getD row (pinIn code k 1) 0 → z ≡ getD row (pinIn code k 2) 0
-    → u ≡ getD row (pinIn code k 3) 0 → pinsIn j x y z u t ≡ rowIn j row (pinIn code k t)
-pins-of code row k j x y z u zero h p q r s = ap (lane j) p
-pins-of code row k j x y z u (suc zero) h p q r s = ap (lane j) q
-pins-of code row k j x y z u (suc (suc zero)) h p q r s = ap (lane j) r
-pins-of code row k j x y z u (suc (suc (suc zero))) h p q r s = ap (lane j) s
-pins-of code row k j x y z u (suc (suc (suc (suc t)))) h p q r s = absurd (omega arith)
+-- the levels at the pins are those of four nets
+pins-of : (code row : List ℕ) (k j t : ℕ) → t < 4 → (at : PinLanes) → at ≡ pinLanes code k row → pinsIn j (at .a) (at .b) (at .c) (at .d) t ≡ rowIn j row (pinIn code k t)
+pins-of code row k j zero h at is = ap (λ (p : PinLanes). lane j (p .a)) is
+pins-of code row k j (suc zero) h at is = ap (λ (p : PinLanes). lane j (p .b)) is
+pins-of code row k j (suc (suc zero)) h at is = ap (λ (p : PinLanes). lane j (p .c)) is
+pins-of code row k j (suc (suc (suc zero))) h at is = ap (λ (p : PinLanes). lane j (p .d)) is
+pins-of code row k j (suc (suc (suc (suc t)))) h at is = absurd (omega arith)
 
-pub lone-at : (code row : List ℕ) (k x y z u : ℕ) → x ≡ getD row (pinIn code k 0) 0 → y ≡ getD row (pinIn code k 1) 0 → z ≡ getD row (pinIn code k 2) 0
-    → u ≡ getD row (pinIn code k 3) 0 → (words : CellLanes)
-    → ((j i : ℕ) → i < 4 → lane j (needOf words i) ≡ true → (pinsIn j x y z u i ≡ true) × (holds (setExpression (cellIn code k)) (only i) ≡ true)) → Lone code k row words
-lone-at code row k x y z u p q r s words lone j t l v = let both = lone j t l v in (sym (pins-of code row k j x y z u t l p q r s) ∙ both .0, both .1)
+pub lone-at : (code row : List ℕ) (k cell : ℕ) → cell ≡ cellIn code k → (at : PinLanes) → at ≡ pinLanes code k row → (words : CellLanes)
+    → ((j i : ℕ) → i < 4 → lane j (needOf words i) ≡ true → (pinsIn j (at .a) (at .b) (at .c) (at .d) i ≡ true) × (holds (setExpression cell) (only i) ≡ true)) → Lone code k row words
+lone-at code row k cell e at is words lone j t l v =
+    let both = lone j t l v in
+    (sym (pins-of code row k j t l at is) ∙ both .0, subst (λ (n : ℕ). holds (setExpression n) (only t) ≡ true) e (both .1))
 
 -- ---- all gates
 

@@ -15,7 +15,7 @@ ghost use Rattle.verdict.specs.Nets.{railOf};
 ghost use Rattle.verdict.specs.Search.{least};
 ghost use Rattle.verdict.specs.Checks.{neverRises};
 ghost use Rattle.lane_screen.specs.Hold.{WithHold};
-ghost use Rattle.circuit.specs.Stage.{netCount, outputIn, stageIn, StageLoaded};
+ghost use Rattle.circuit.specs.Stage.{netCount, outputIn, careIn, stageIn, StageLoaded};
 ghost use Rattle.circuit.specs.Order.{InOrder};
 ghost use Rattle.circuit.specs.Reference.{signalIn, referenceIn};
 ghost use Rattle.check_word.specs.Loaded.{BothLoaded};
@@ -68,9 +68,9 @@ fn mark_outputs(code: &[u16], counts: Counts, ack: &mut [u64])
 {
     let mut j: usize = 0;
     while j < counts.outputs {
-        let at = 8 * counts.gates + 2 * j;
-        lane_settle::mark(ack, code[at], lane_cells::ALL);
-        lane_settle::mark(ack, code[at + 1], lane_cells::ALL);
+        let rails = circuit::form::rails_of(code, counts, j);
+        lane_settle::mark(ack, rails.rail0, lane_cells::ALL);
+        lane_settle::mark(ack, rails.rail1, lane_cells::ALL);
         j += 1;
     }
 }
@@ -99,9 +99,9 @@ fn misread(code: &[u16], counts: Counts, row: &[u64], j: usize, value: u64) -> u
     ensures { λ r. ⌜ ((l : ℕ) → l < 64 → lane l r ≡ false → DataOf (rowIn l (now (row .entry))) (railOf (outputIn counts (now (code .entry)) j))
         (lane l value)) ⌝ }
 {
-    let at = 8 * counts.gates + 2 * j;
-    let rail0 = lane_cells::lanes_at(row, code[at]);
-    let rail1 = lane_cells::lanes_at(row, code[at + 1]);
+    let rails = circuit::form::rails_of(code, counts, j);
+    let rail0 = lane_cells::lanes_at(row, rails.rail0);
+    let rail1 = lane_cells::lanes_at(row, rails.rail1);
     (rail0 ^ value ^ lane_cells::ALL) | (rail1 ^ value)
 }
 
@@ -119,11 +119,11 @@ fn wrong_words(
         → DataOf (rowIn l (now (row .entry))) (railOf (outputIn counts (now (code .entry)) j))
         (rowIn l (now (values .entry)) (signalIn sizes (now (reference .entry)) j))) ⌝ }
 {
-    let first = 3 * sizes.gates;
     let mut words: u64 = 0;
     let mut j: usize = 0;
     while j < counts.outputs {
-        let value = lane_cells::lanes_at(values, reference[first + j]);
+        let signal = circuit::form::signal_of(reference, sizes, j);
+        let value = lane_cells::lanes_at(values, signal);
         words = words | misread(code, counts, row, j, value);
         j += 1;
     }
@@ -154,12 +154,13 @@ fn cofactor(code: &[u16], counts: Counts, k: usize, row: &[u64], alone: bool, ne
     requires { ⌜ StageLoaded counts (now code) × (k < counts .gates) × Room counts (now row) ⌝ }
     ensures { λ r. ⌜ r ≡ cofactorOf (now (code .entry)) k (now (row .entry)) alone net ⌝ }
 {
-    let at = 8 * k;
-    let a = cofactor_pin(row, alone, net, code[at + 1]);
-    let b = cofactor_pin(row, alone, net, code[at + 2]);
-    let c = cofactor_pin(row, alone, net, code[at + 3]);
-    let d = cofactor_pin(row, alone, net, code[at + 4]);
-    lane_cells::cell_lanes(code[at], a, b, c, d).set
+    let cell = circuit::form::cell_of(code, counts, k);
+    let pins = circuit::form::pins_of(code, counts, k);
+    let a = cofactor_pin(row, alone, net, pins.a);
+    let b = cofactor_pin(row, alone, net, pins.b);
+    let c = cofactor_pin(row, alone, net, pins.c);
+    let d = cofactor_pin(row, alone, net, pins.d);
+    lane_cells::set_lanes(cell, a, b, c, d)
 }
 
 // For each pin of gate k the words in which the gate is set by the pins that are kept for its net.
@@ -167,11 +168,11 @@ fn cofactors(code: &[u16], counts: Counts, k: usize, row: &[u64], alone: bool) -
     requires { ⌜ StageLoaded counts (now code) × (k < counts .gates) × Room counts (now row) ⌝ }
     ensures { λ r. ⌜ r ≡ cofactorsOf (now (code .entry)) k (now (row .entry)) alone ⌝ }
 {
-    let at = 8 * k;
-    let a = cofactor(code, counts, k, row, alone, code[at + 1]);
-    let b = cofactor(code, counts, k, row, alone, code[at + 2]);
-    let c = cofactor(code, counts, k, row, alone, code[at + 3]);
-    let d = cofactor(code, counts, k, row, alone, code[at + 4]);
+    let pins = circuit::form::pins_of(code, counts, k);
+    let a = cofactor(code, counts, k, row, alone, pins.a);
+    let b = cofactor(code, counts, k, row, alone, pins.b);
+    let c = cofactor(code, counts, k, row, alone, pins.c);
+    let d = cofactor(code, counts, k, row, alone, pins.d);
     CellLanes { set: 0, a, b, c, d }
 }
 
@@ -180,12 +181,9 @@ fn lone_gate(code: &[u16], counts: Counts, k: usize, row: &[u64]) -> CellLanes
     requires { ⌜ StageLoaded counts (now code) × (k < counts .gates) × Room counts (now row) ⌝ }
     ensures { λ r. ⌜ Lone (now (code .entry)) k (now (row .entry)) r ⌝ }
 {
-    let at = 8 * k;
-    let a = lane_cells::lanes_at(row, code[at + 1]);
-    let b = lane_cells::lanes_at(row, code[at + 2]);
-    let c = lane_cells::lanes_at(row, code[at + 3]);
-    let d = lane_cells::lanes_at(row, code[at + 4]);
-    lane_cells::lone_lanes(code[at], a, b, c, d)
+    let cell = circuit::form::cell_of(code, counts, k);
+    let at = lane_settle::pin_lanes(code, counts, k, row);
+    lane_cells::lone_lanes(cell, at.a, at.b, at.c, at.d)
 }
 
 // For each pin of gate k words in which its net is acknowledged by the gate. In the rise: the gate is high, and would not be set with that net low.
@@ -204,7 +202,7 @@ fn acknowledged_lanes(
 {
     let high = row[2 * counts.inputs + k];
     if falls {
-        if code[8 * k + 7] == 1 {
+        if circuit::form::has_hold(code, counts, k) {
             return CellLanes {
                 set: high,
                 a: high,
@@ -338,7 +336,7 @@ pub fn all_hold(code: &[u16], counts: Counts) -> bool
     let count = counts.gates;
     let mut i: usize = 0;
     while i < count {
-        if code[8 * i + 7] == 1 {
+        if circuit::form::has_hold(code, counts, i) {
             i += 1;
         } else {
             return false;
@@ -422,14 +420,14 @@ fn none_of_all(mask: &[u64], inputs: usize) -> bool
     true
 }
 
-// Whether a mask names none of so many words, which stand from a place of the flat form on.
-fn none_listed(mask: &[u64], code: &[u16], from: usize, count: usize) -> bool
-    requires { ⌜ from + count ≤ length (now code) ⌝ }
-    ensures { λ r. ⌜ (r ≡ true → (k : ℕ) → k < count → Unnamed (now (mask .entry)) (getD (now (code .entry)) (from + k) 0)) ⌝ }
+// Whether a mask names none of a stage's care words.
+fn none_listed(mask: &[u64], code: &[u16], counts: Counts) -> bool
+    requires { ⌜ StageLoaded counts (now code) ⌝ }
+    ensures { λ r. ⌜ (r ≡ true → (k : ℕ) → k < counts .care → Unnamed (now (mask .entry)) (careIn counts (now (code .entry)) k)) ⌝ }
 {
     let mut k: usize = 0;
-    while k < count {
-        if is_named(mask, code[from + k] as usize) {
+    while k < counts.care {
+        if is_named(mask, circuit::form::care_of(code, counts, k)) {
             return false;
         }
         k += 1;
@@ -445,10 +443,5 @@ pub fn none_named(mask: &[u64], code: &[u16], counts: Counts) -> bool
     if counts.care == 0 {
         return none_of_all(mask, counts.inputs);
     }
-    none_listed(
-        mask,
-        code,
-        8 * counts.gates + 2 * counts.outputs,
-        counts.care,
-    )
+    none_listed(mask, code, counts)
 }

@@ -13,6 +13,8 @@ use lib.Bits.{bitOr}
 use Rattle.runs.proofs.Test.{or-cases}
 use Rattle.netlist.specs.declared.Counts.{Counts}
 use Rattle.circuit.specs.Stage.{netCount, pinIn}
+use Rattle.circuit.specs.declared.form.Pins.{Pins}
+use Rattle.circuit.specs.Form.{pinsIn}
 use Rattle.lane_cells.specs.declared.CellLanes.{CellLanes}
 use Rattle.lane_cells.specs.Lane.{lane, rowIn}
 use Rattle.lane_cells.specs.Cells.{needOf}
@@ -38,29 +40,28 @@ mark-more ack net words h j p e = go (ℕ-discrete p net)
     go (no d) = inl (sym (ap (lane j) (getD-set-other ack net p (bitOr (getD ack net 0) words) 0 d)) ∙ e)
 
 -- the four pins of a gate, one after the other
-pub pins-marked : (code : List ℕ) (k : ℕ) (words : CellLanes) (ack ack₁ ack₂ ack₃ ack₄ : List ℕ) → MarkedMore ack (pinIn code k 0) (words .a) ack₁
-    → MarkedMore ack₁ (pinIn code k 1) (words .b) ack₂ → MarkedMore ack₂ (pinIn code k 2) (words .c) ack₃ → MarkedMore ack₃ (pinIn code k 3) (words .d) ack₄
-    → PinsMarked code k words ack ack₄
-pins-marked code k words ack ack₁ ack₂ ack₃ ack₄ a b c d j p e = fourth (d j p e)
+pub pins-marked : (code : List ℕ) (k : ℕ) (at : Pins) → at ≡ pinsIn code k → (words : CellLanes) (ack ack₁ ack₂ ack₃ ack₄ : List ℕ) → MarkedMore ack (at .a) (words .a) ack₁
+    → MarkedMore ack₁ (at .b) (words .b) ack₂ → MarkedMore ack₂ (at .c) (words .c) ack₃ → MarkedMore ack₃ (at .d) (words .d) ack₄ → PinsMarked code k words ack ack₄
+pins-marked code k at is words ack ack₁ ack₂ ack₃ ack₄ a b c d j p e = fourth (d j p e)
   where
     At : Type 0
     At = (t : ℕ) × (t < 4) × (p ≡ pinIn code k t) × (lane j (needOf words t) ≡ true)
 
-    first : (rowIn j ack p ≡ true) ⊎ ((p ≡ pinIn code k 0) × (lane j (words .a) ≡ true)) → (rowIn j ack p ≡ true) ⊎ At
+    first : (rowIn j ack p ≡ true) ⊎ ((p ≡ at .a) × (lane j (words .a) ≡ true)) → (rowIn j ack p ≡ true) ⊎ At
     first (inl x) = inl x
-    first (inr x) = inr (0, omega arith, x .0, x .1)
+    first (inr x) = inr (0, omega arith, x .0 ∙ ap (λ (q : Pins). q .a) is, x .1)
 
-    second : (rowIn j ack₁ p ≡ true) ⊎ ((p ≡ pinIn code k 1) × (lane j (words .b) ≡ true)) → (rowIn j ack p ≡ true) ⊎ At
+    second : (rowIn j ack₁ p ≡ true) ⊎ ((p ≡ at .b) × (lane j (words .b) ≡ true)) → (rowIn j ack p ≡ true) ⊎ At
     second (inl x) = first (a j p x)
-    second (inr x) = inr (1, omega arith, x .0, x .1)
+    second (inr x) = inr (1, omega arith, x .0 ∙ ap (λ (q : Pins). q .b) is, x .1)
 
-    third : (rowIn j ack₂ p ≡ true) ⊎ ((p ≡ pinIn code k 2) × (lane j (words .c) ≡ true)) → (rowIn j ack p ≡ true) ⊎ At
+    third : (rowIn j ack₂ p ≡ true) ⊎ ((p ≡ at .c) × (lane j (words .c) ≡ true)) → (rowIn j ack p ≡ true) ⊎ At
     third (inl x) = second (b j p x)
-    third (inr x) = inr (2, omega arith, x .0, x .1)
+    third (inr x) = inr (2, omega arith, x .0 ∙ ap (λ (q : Pins). q .c) is, x .1)
 
-    fourth : (rowIn j ack₃ p ≡ true) ⊎ ((p ≡ pinIn code k 3) × (lane j (words .d) ≡ true)) → (rowIn j ack p ≡ true) ⊎ At
+    fourth : (rowIn j ack₃ p ≡ true) ⊎ ((p ≡ at .d) × (lane j (words .d) ≡ true)) → (rowIn j ack p ≡ true) ⊎ At
     fourth (inl x) = third (c j p x)
-    fourth (inr x) = inr (3, omega arith, x .0, x .1)
+    fourth (inr x) = inr (3, omega arith, x .0 ∙ ap (λ (q : Pins). q .d) is, x .1)
 
 -- what is said of marks still holds once a gate's pins are marked, where it holds of the net at each pin in the words that are given for it
 pub marked-pins : (Holds : ℕ → ℕ → Type 0) (c : Counts) (code : List ℕ) (k : ℕ) (words : CellLanes) (ack ack′ : List ℕ) → PinsMarked code k words ack ack′

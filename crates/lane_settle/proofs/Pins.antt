@@ -15,23 +15,12 @@ use Rattle.verdict.specs.Nets.{noGate, driver}
 use Rattle.verdict.proofs.Gates.{pins-at}
 use Rattle.circuit.specs.Stage.{cellIn, pinIn, gateIn, stageGates, stageIn, StageLoaded}
 use Rattle.circuit.proofs.Tabulate.{getD-tabulate}
+use Rattle.circuit.proofs.Pins.{first-pins, no-pins}
 use Rattle.lane_cells.specs.declared.CellLanes.{CellLanes}
 use Rattle.lane_cells.specs.Cells.{cellLanes}
 use Rattle.lane_settle.specs.Block.{Room}
 
 -- ---- the first m of a list
-
-first-at : (f : ℕ → Bool) (l : List ℕ) (m i : ℕ) → i < m → i < length l → getD (map f (take m l)) i false ≡ f (getD l i 0)
-first-at f [] m i h l = absurd (omega arith)
-first-at f (p ∷ ps) zero i h l = absurd (omega arith)
-first-at f (p ∷ ps) (suc m) zero h l = refl
-first-at f (p ∷ ps) (suc m) (suc i) h l = first-at f ps m i (omega arith) (omega arith)
-
-past-first : (f : ℕ → Bool) (l : List ℕ) (m i : ℕ) → m ≤ i → getD (map f (take m l)) i false ≡ false
-past-first f l zero i h = refl
-past-first f [] (suc m) i h = refl
-past-first f (p ∷ ps) (suc m) zero h = absurd (omega arith)
-past-first f (p ∷ ps) (suc m) (suc i) h = past-first f ps m i (omega arith)
 
 first-in : (l : List ℕ) (m i : ℕ) → i < m → i < length l → In (getD l i 0) (take m l)
 first-in [] m i h l = absurd (omega arith)
@@ -55,11 +44,11 @@ four-at code k (suc (suc (suc (suc i)))) h = absurd (omega arith)
 module _ (code : List ℕ) (k i : ℕ) where
   pub pin-at : (f : ℕ → Bool) → i < pinCount (cellIn code k) → i < 4 → getD (map f (gateIn code k .pins)) i false ≡ f (pinIn code k i)
   unfolding four
-  pin-at f h l = first-at f (four code k) (pinCount (cellIn code k)) i h l ∙ ap f (four-at code k i l)
+  pin-at f h l = first-pins f (four code k) (pinCount (cellIn code k)) i h l ∙ ap f (four-at code k i l)
 
   pub pin-past : (f : ℕ → Bool) → pinCount (cellIn code k) ≤ i → getD (map f (gateIn code k .pins)) i false ≡ false
   unfolding four
-  pin-past f h = past-first f (four code k) (pinCount (cellIn code k)) i h
+  pin-past f h = no-pins f (four code k) (pinCount (cellIn code k)) i h
 
   pub pin-in : i < pinCount (cellIn code k) → i < 4 → In (pinIn code k i) (gateIn code k .pins)
   unfolding four

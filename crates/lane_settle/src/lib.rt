@@ -11,7 +11,7 @@ ghost use Rattle.netlist.specs.Reading.{stageLimits};
 ghost use Rattle.circuit.specs.Stage.{netCount, StageLoaded};
 ghost use Rattle.circuit.specs.Order.{InOrder};
 ghost use Rattle.lane_cells.specs.Lane.{lane, rowIn};
-ghost use Rattle.lane_settle.specs.Block.{Room, Spelled, LanesSettledTo, Resting, Marked, gateLanes, PinsMarked};
+ghost use Rattle.lane_settle.specs.Block.{restIn, Room, Spelled, LanesSettledTo, Resting, Marked, pinLanes, gateLanes, PinsMarked};
 
 // As many blocks as the words of the most inputs make.
 pub const BLOCKS: usize = netlist::WORDS / 64;
@@ -45,20 +45,20 @@ pub fn mark_pins(code: &[u16], counts: Counts, k: usize, words: CellLanes, ack: 
     requires { ⌜ StageLoaded counts (now code) × (k < counts .gates) × Room counts (now ack) ⌝ }
     ensures { λ r. ⌜ (length (now (ack .exit)) ≡ length (now (ack .entry))) × PinsMarked (now (code .entry)) k words (now (ack .entry)) (now (ack .exit)) ⌝ }
 {
-    let at = 8 * k;
-    mark(ack, code[at + 1], words.a);
-    mark(ack, code[at + 2], words.b);
-    mark(ack, code[at + 3], words.c);
-    mark(ack, code[at + 4], words.d);
+    let pins = circuit::form::pins_of(code, counts, k);
+    mark(ack, pins.a, words.a);
+    mark(ack, pins.b, words.b);
+    mark(ack, pins.c, words.c);
+    mark(ack, pins.d, words.d);
 }
 
 // ---- settling
 
 // The rails of block b: rail 0 of an input is high for 0, rail 1 for 1.
-fn spell_rails(counts: Counts, b: usize, row: &mut [u64])
+pub fn spell_rails(counts: Counts, b: usize, row: &mut [u64])
     requires { ⌜ (counts .inputs ≤ stageLimits .inputs) × Room counts (now row) × (getD (now row) (netCount counts) 0 ≡ 0) ⌝ }
     ensures long { λ r. ⌜ length (now (row .exit)) ≡ length (now (row .entry)) ⌝ }
-    ensures spelled { λ r. ⌜ ((code : List ℕ) → InOrder counts code → Spelled counts code b (now (row .exit))) ⌝ }
+    ensures spelled { λ r. ⌜ ((code : List ℕ) → InOrder counts code → Spelled counts (restIn counts code b) (now (row .exit))) ⌝ }
 {
     let mut i: usize = 0;
     while i < counts.inputs {
@@ -69,33 +69,52 @@ fn spell_rails(counts: Counts, b: usize, row: &mut [u64])
     }
 }
 
+// The levels at the four pins of a gate, in the words of a block.
+pub struct PinLanes {
+    pub a: u64,
+    pub b: u64,
+    pub c: u64,
+    pub d: u64,
+}
+
+// Those of gate k in a row; a pin that it lacks is at the ground.
+pub fn pin_lanes(code: &[u16], counts: Counts, k: usize, row: &[u64]) -> PinLanes
+    requires { ⌜ StageLoaded counts (now code) × (k < counts .gates) × Room counts (now row) ⌝ }
+    ensures { λ r. ⌜ r ≡ pinLanes (now (code .entry)) k (now (row .entry)) ⌝ }
+{
+    let pins = circuit::form::pins_of(code, counts, k);
+    PinLanes {
+        a: lane_cells::lanes_at(row, pins.a),
+        b: lane_cells::lanes_at(row, pins.b),
+        c: lane_cells::lanes_at(row, pins.c),
+        d: lane_cells::lanes_at(row, pins.d),
+    }
+}
+
 // What gate k's cell gives in the words of a block, by the levels at its pins.
 fn gate_lanes(code: &[u16], counts: Counts, k: usize, row: &[u64]) -> CellLanes
     requires { ⌜ StageLoaded counts (now code) × (k < counts .gates) × Room counts (now row) ⌝ }
     ensures { λ r. ⌜ r ≡ gateLanes (now (code .entry)) k (now (row .entry)) ⌝ }
 {
-    let at = 8 * k;
-    let a = lane_cells::lanes_at(row, code[at + 1]);
-    let b = lane_cells::lanes_at(row, code[at + 2]);
-    let c = lane_cells::lanes_at(row, code[at + 3]);
-    let d = lane_cells::lanes_at(row, code[at + 4]);
-    lane_cells::cell_lanes(code[at], a, b, c, d)
+    let cell = circuit::form::cell_of(code, counts, k);
+    let at = pin_lanes(code, counts, k, row);
+    lane_cells::cell_lanes(cell, at.a, at.b, at.c, at.d)
 }
 
 // The gates take their levels in the order, and mark the nets at their pins in the words in which they would not be set without them.
 fn settle_gates(code: &[u16], counts: Counts, row: &mut [u64], ack: &mut [u64])
     requires { ⌜ StageLoaded counts (now code) × InOrder counts (now code) × Room counts (now row) × Room counts (now ack) ⌝ }
     ensures long { λ r. ⌜ (length (now (row .exit)) ≡ length (now (row .entry))) × (length (now (ack .exit)) ≡ length (now (ack .entry))) ⌝ }
-    ensures settled { λ r. ⌜ ((b : ℕ) → Spelled counts (now (code .entry)) b (now (row .entry))
-        → LanesSettledTo counts (now (code .entry)) b (now (row .exit)) (counts .gates)) ⌝ }
-    ensures marked { λ r. ⌜ ((b : ℕ) → Spelled counts (now (code .entry)) b (now (row .entry)) → Marked counts (now (code .entry)) b (now (ack .entry))
-        → Marked counts (now (code .entry)) b (now (ack .exit))) ⌝ }
+    ensures settled { λ r. ⌜ ((b : ℕ) → Spelled counts (restIn counts (now (code .entry)) b) (now (row .entry))
+        → LanesSettledTo counts (now (code .entry)) (restIn counts (now (code .entry)) b) (now (row .exit)) (counts .gates)) ⌝ }
+    ensures marked { λ r. ⌜ ((b : ℕ) → Spelled counts (restIn counts (now (code .entry)) b) (now (row .entry))
+        → Marked counts (now (code .entry)) b (now (ack .entry)) → Marked counts (now (code .entry)) b (now (ack .exit))) ⌝ }
 {
     let first = 2 * counts.inputs;
     let count = counts.gates;
     let mut i: usize = 0;
     while i < count {
-        let k = code[8 * i + 5] as usize;
+        let k = circuit::form::gate_at(code, counts, i);
         let cell = gate_lanes(code, counts, k, row);
         row[first + k] = cell.set;
         mark_pins(code, counts, k, cell, ack);

@@ -11,13 +11,13 @@ use Rattle.runs.specs.Row.{Row, low, after}
 use Rattle.runs.specs.Net.{Net, IsGate, inputRail, riseStep, fallStep, RiseList, RiseEnd, FallList, FallEnd}
 use Rattle.runs.specs.Theory.{AllHold}
 use Rattle.runs.specs.Settled.{Settled}
-use Rattle.runs.specs.Pair.{AllData, Reads, InputsData, AllLow}
+use Rattle.runs.specs.Pair.{AllData, AllNull, Reads, InputsData, AllLow}
 use Rattle.runs.specs.Acyclic.{Acyclic}
 use Rattle.runs.specs.Checks.{Passes, Fall-passes}
 use Rattle.runs.specs.Tight.{Tight, Clear}
 use Rattle.runs.specs.Promise.{Goes-on, Falling, Arrived, Rest, Rising, Promise}
 use Rattle.runs.specs.Witness.{Wrong, Incomplete, Unobservable}
-use Rattle.runs.specs.FallWitness.{Null-outputs, Fall-incomplete, Fall-unobservable}
+use Rattle.runs.specs.FallWitness.{RiseAndFall, Fall-incomplete, Fall-unobservable}
 use Rattle.runs.proofs.Test.{clash}
 use Rattle.runs.proofs.Net.{byNet-gate, inputRail-inside}
 use Rattle.runs.proofs.Pair.{null-not-data, below-not-both, reads-data}
@@ -52,28 +52,29 @@ module _ (N : Net) (c : Row) (answer : ℕ → Bool) (keeps : Promise N c answer
   promise-not-wrong j h x =
       let end = x .goes-on [] tt in
       let rising : Rising N c answer (end .more) = keeps .lists (end .more) (end .legal) in
-      x .wrong (end .more) (end .legal) (end .ended) (rising .data-whole (rising .end-rest (end .ended) .all-data) .read j h)
+      x .wrong (end .more) (end .legal) (end .ended) .wrong (rising .data-whole (rising .end-rest (end .ended) .all-data) .read j h)
 
   pub promise-not-incomplete : (i : ℕ) → i < N .inputs → ¬ (Incomplete N c i)
-  promise-not-incomplete i h x = null-not-data (after low (x .list)) (inputRail i) (x .null) (keeps .lists (x .list) (x .legal) .data-whole (x .all-data) .inputs i h)
+  promise-not-incomplete i h (l, x) = null-not-data (after low l) (inputRail i) (x .null) (keeps .lists l (x .legal) .data-whole (x .all-data) .inputs i h)
 
   pub promise-not-unobservable : (g : ℕ) → IsGate N g → ¬ (Unobservable N c g)
-  promise-not-unobservable g h x = clash may (keeps .lists (x .list) (x .legal) .data-whole (x .all-data) .still g h)
+  promise-not-unobservable g h (l, x) = clash may (keeps .lists l (x .legal) .data-whole (x .all-data) .still g h)
     where
-      may : riseStep N c (after low (x .list)) g ≡ true
-      may = rw (x .gate-low) (byNet-gate N g (c g) (N .fires (after low (x .list)) g) h ∙ x .set)
+      may : riseStep N c (after low l) g ≡ true
+      may = rw (x .gate-low) (byNet-gate N g (c g) (N .fires (after low l) g) h ∙ x .set)
 
-  all-low : (x : Null-outputs N c) → AllLow N (after (after low (x .rise)) (x .list))
-  all-low x = keeps .lists (x .rise) (x .rise-legal) .end-rest (x .rise-ended) .falls (x .list) (x .legal) .null-low (x .all-null)
+  -- a fall that leaves all outputs NULL leaves all low
+  all-low : (l m : List ℕ) → RiseAndFall N c l m → AllNull N (after (after low l) m) → AllLow N (after (after low l) m)
+  all-low l m x n = keeps .lists l (x .rise-legal) .end-rest (x .rise-ended) .falls m (x .fall-legal) .null-low n
 
   pub promise-not-fall-incomplete : (i : ℕ) → i < N .inputs → ¬ (Fall-incomplete N c i)
-  promise-not-fall-incomplete i h x = null-not-data (after (after low (x .run .rise)) (x .run .list)) (inputRail i) (rail-low false, rail-low true) (x .input-data)
+  promise-not-fall-incomplete i h (l, m, x) = null-not-data (after (after low l) m) (inputRail i) (rail-low false, rail-low true) (x .input-data)
     where
-      rail-low : (b : Bool) → after (after low (x .run .rise)) (x .run .list) (inputRail i b) ≡ false
-      rail-low b = all-low (x .run) (inputRail i b) (omega (arith, inputRail-inside N i b h))
+      rail-low : (b : Bool) → after (after low l) m (inputRail i b) ≡ false
+      rail-low b = all-low l m (x .lists) (x .all-null) (inputRail i b) (omega (arith, inputRail-inside N i b h))
 
   pub promise-not-fall-unobservable : (g : ℕ) → IsGate N g → ¬ (Fall-unobservable N c g)
-  promise-not-fall-unobservable g h x = clash (x .gate-high) (all-low (x .run) g (h .1))
+  promise-not-fall-unobservable g h (l, m, x) = clash (x .gate-high) (all-low l m (x .lists) (x .all-null) g (h .1))
 
 -- ---- it is kept
 

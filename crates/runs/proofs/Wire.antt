@@ -73,7 +73,7 @@ dangling = record { inputs = 1; gates = 1; outputs = 1; rail = λ j. inputRail 0
 
 -- in word 0: rail 0 rises, the output is DATA, and the gate, net 2, has yet to rise
 dangling-unobservable : Unobservable dangling (wordRails (λ i. false)) 2
-dangling-unobservable = record { list = 0 ∷ []; legal = (refl, tt); all-data = λ j h. refl; gate-low = refl; set = refl }
+dangling-unobservable = (0 ∷ [], record { legal = (refl, tt); all-data = λ j h. refl; gate-low = refl; set = refl })
 
 pub dangling-breaks : (answer : ℕ → Bool) → ¬ (Promise dangling (wordRails (λ i. false)) answer)
 dangling-breaks answer keeps = promise-not-unobservable dangling (wordRails (λ i. false)) answer keeps 2 (omega arith) dangling-unobservable

@@ -1,27 +1,12 @@
 -- The parts that the text of a loaded stage is put in.
-use Prim.Native.Nat.{ℕ, _+_, _*_, _≤_, _<_}
-use mathlib.Core.Path.{_≡_}
+use Prim.Native.Nat.{ℕ, _+_, _*_}
 use mathlib.Core.List.{List, map}
-use lib.ListN.{getD}
-use lib.Dec.{eqb}
 use Rattle.gates.specs.Cell.{kindByte}
 use Rattle.netlist.specs.declared.Counts.{Counts}
 use Rattle.netlist.specs.Writing.{codedGate}
-use Rattle.circuit.specs.Stage.{cellIn, slot, gateIn, stageGates, stageOutputs}
+use Rattle.circuit.specs.Stage.{cellIn, gateIn, stageGates, stageOutputs}
 use Rattle.text_spec.specs.Characters.{comma, range}
 use Rattle.text_spec.specs.ToText.{x, netName, join, ended, outputNames, gateText, gateTexts}
-
--- ---- the rails of the outputs
-
--- rail b of output j is number 2j + b
-abbrev pub railIn : Counts → List ℕ → ℕ → ℕ
-railIn c code i = getD code (8 * c .gates + i) 0
-
--- r is the first of so many nets that is v; their number where none is
-pub record FirstOn (net : ℕ → ℕ) (count v r : ℕ) : Type 0 where
-  pub within : r ≤ count
-  pub before : (i : ℕ) → i < r → net i ≡ v → ⊥
-  pub found : r < count → net r ≡ v
 
 -- ---- lines of names
 
@@ -34,7 +19,7 @@ outputNamesIn c code = join comma (outputNames (c .inputs) 0 (stageOutputs c cod
 -- ---- gate lines
 
 abbrev pub kindIn : List ℕ → ℕ → ℕ
-kindIn code k = kindByte (cellIn code k) (eqb (slot code k 7) 1)
+kindIn code k = kindByte (cellIn code k) (gateIn code k .hold)
 
 abbrev pub pinNames : Counts → List ℕ → ℕ → List ℕ
 pinNames c code k = join comma (map (netName (c .inputs) (stageOutputs c code)) (gateIn code k .pins))

@@ -1,19 +1,17 @@
 // The text of a loaded stage in the line form, put into a buffer part by part; and 31, an output that would give a net a second name. Each
 // function that puts something answers the place after it. The text is said in text_spec/specs/ToText.antt.
-use gates::Kind;
 use netlist::Counts;
 use netlist::Found;
 ghost use mathlib.Core.Path.{_≡_};
 ghost use Prim.Native.Nat.{_+_, _*_, _≤_, _<_};
 ghost use mathlib.Core.List.{[]};
 ghost use lib.ListN.{length};
-ghost use Rattle.gates.specs.Cell.{pinCount};
-ghost use Rattle.circuit.specs.Stage.{netCount, outputIn, stageOutputs, stageIn, StageLoaded};
+ghost use Rattle.circuit.specs.Stage.{netCount, pinIn, outputIn, stageOutputs, stageIn, StageLoaded};
 ghost use Rattle.text_spec.specs.Characters as characters;
 ghost use Rattle.text_spec.specs.ToText as text;
 ghost use Rattle.text_lines.specs.Names.{NameTable};
 ghost use Rattle.write_decimal.specs.Put.{PutNext};
-ghost use Rattle.text_write.specs.Parts.{FirstOn, railIn, kindIn, inputNames, outputNamesIn, pinNames, gateLine, gateLines};
+ghost use Rattle.text_write.specs.Parts.{kindIn, inputNames, outputNamesIn, pinNames, gateLine, gateLines};
 ghost use Rattle.text_write.specs.Second.{namesNet, given, second};
 
 // Room for the text of the largest stage: at most 5 bytes for each name in the first two lines, with what follows it, and 46 for each gate line.
@@ -40,21 +38,25 @@ fn put_rail(work: &mut [u8], at: usize, letter: u8, i: usize, rail: usize) -> us
     write_decimal::put_char(work, last, 48 + rail as u8)
 }
 
-// The first rail of an output that is on a net: rail b of output j counts as 2j + b. Where there is none, twice the number of outputs.
-fn rail_on(code: &[u16], counts: Counts, v: usize) -> usize
-    requires { ⌜ StageLoaded counts (now code) ⌝ }
-    ensures { λ r. ⌜ FirstOn (railIn counts (now (code .entry))) (2 * counts .outputs) v r ⌝ }
+// The name of the net of a gate: that of the first rail of an output that is on it, or else its own.
+fn put_gate_net(code: &[u16], counts: Counts, v: usize, work: &mut [u8], at: usize) -> usize
+    requires { ⌜ StageLoaded counts (now code) × (2 * counts .inputs ≤ v) × (v ≤ netCount counts)
+        × (at + length (text.netName (counts .inputs) (stageOutputs counts (now code)) v) ≤ length (now work)) ⌝ }
+    ensures { λ r. ⌜ PutNext (now (work .entry)) at (text.netName (counts .inputs) (stageOutputs counts (now (code .entry))) v) (now (work .exit)) r ⌝ }
 {
-    let from = 8 * counts.gates;
-    let count = 2 * counts.outputs;
-    let mut r: usize = 0;
-    while r < count {
-        if code[from + r] as usize == v {
-            return r;
+    let count = counts.outputs;
+    let mut j = 0;
+    while j < count {
+        let rails = circuit::form::rails_of(code, counts, j);
+        if rails.rail0 as usize == v {
+            return put_rail(work, at, b'y', j, 0);
         }
-        r += 1;
+        if rails.rail1 as usize == v {
+            return put_rail(work, at, b'y', j, 1);
+        }
+        j += 1;
     }
-    r
+    put_numbered(work, at, b'g', v - 2 * counts.inputs)
 }
 
 // The name of a net.
@@ -66,11 +68,7 @@ fn put_net(code: &[u16], counts: Counts, v: usize, work: &mut [u8], at: usize) -
     if v < 2 * counts.inputs {
         return put_rail(work, at, b'x', v / 2, v % 2);
     }
-    let on = rail_on(code, counts, v);
-    if on < 2 * counts.outputs {
-        return put_rail(work, at, b'y', on / 2, on % 2);
-    }
-    put_numbered(work, at, b'g', v - 2 * counts.inputs)
+    put_gate_net(code, counts, v, work, at)
 }
 
 // ---- the lines of names
@@ -95,9 +93,9 @@ fn is_straight(code: &[u16], counts: Counts, j: usize) -> bool
     requires { ⌜ StageLoaded counts (now code) × (j < counts .outputs) ⌝ }
     ensures { λ r. ⌜ r ≡ text.straight (counts .inputs) (outputIn counts (now (code .entry)) j) ⌝ }
 {
-    let at = 8 * counts.gates + 2 * j;
-    let rail0 = code[at] as usize;
-    let rail1 = code[at + 1] as usize;
+    let rails = circuit::form::rails_of(code, counts, j);
+    let rail0 = rails.rail0 as usize;
+    let rail1 = rails.rail1 as usize;
     if 2 * counts.inputs <= rail0 {
         return false;
     }
@@ -114,7 +112,7 @@ fn put_output_name(code: &[u16], counts: Counts, j: usize, work: &mut [u8], at: 
     ensures { λ r. ⌜ PutNext (now (work .entry)) at (text.outputName (counts .inputs) j (outputIn counts (now (code .entry)) j)) (now (work .exit)) r ⌝ }
 {
     if is_straight(code, counts, j) {
-        let rail0 = code[8 * counts.gates + 2 * j] as usize;
+        let rail0 = circuit::form::rails_of(code, counts, j).rail0 as usize;
         return put_numbered(work, at, b'x', rail0 / 2);
     }
     put_numbered(work, at, b'y', j)
@@ -163,25 +161,23 @@ fn put_kind(
         × (at + length (characters.kindName (kindIn (now code) k)) ≤ length (now work)) ⌝ }
     ensures { λ r. ⌜ PutNext (now (work .entry)) at (characters.kindName (kindIn (now (code .entry)) k)) (now (work .exit)) r ⌝ }
 {
-    let cell = code[8 * k] as usize;
-    if code[8 * k + 7] == 1 {
+    let cell = circuit::form::cell_of(code, counts, k) as usize;
+    if circuit::form::has_hold(code, counts, k) {
         return put_cell(names, cell, work, at);
     }
     let next = write_decimal::put_char(work, at, b'r');
     put_cell(names, cell, work, next)
 }
 
-// How many pins a cell has.
-fn pins_of(cell: u16) -> usize
-    requires { ⌜ (1 ≤ cell) × (cell ≤ 27) ⌝ }
-    ensures { λ r. ⌜ r ≡ pinCount cell ⌝ }
+// The name of the net at pin i of gate k.
+fn put_pin(code: &[u16], counts: Counts, k: usize, i: usize, work: &mut [u8], at: usize) -> usize
+    requires { ⌜ StageLoaded counts (now code) × (k < counts .gates) × (i < 4)
+        × (at + length (text.netName (counts .inputs) (stageOutputs counts (now code)) (pinIn (now code) k i)) ≤ length (now work)) ⌝ }
+    ensures { λ r. ⌜ PutNext (now (work .entry)) at (text.netName (counts .inputs) (stageOutputs counts (now (code .entry))) (pinIn (now (code .entry)) k i))
+        (now (work .exit)) r ⌝ }
 {
-    let kind = gates::kind_of(cell as u8);
-    match kind {
-        Kind::Hold { cell: _, pins } => pins as usize,
-        Kind::Relaxed { cell: _, pins } => pins as usize,
-        Kind::Unknown => 0,
-    }
+    let net = circuit::form::pin_of(code, counts, k, i) as usize;
+    put_net(code, counts, net, work, at)
 }
 
 // The names of the nets at the pins of gate k.
@@ -189,12 +185,12 @@ fn put_pins(code: &[u16], counts: Counts, k: usize, work: &mut [u8], start: usiz
     requires { ⌜ StageLoaded counts (now code) × (k < counts .gates) × (start + length (pinNames counts (now code) k) ≤ length (now work)) ⌝ }
     ensures { λ r. ⌜ PutNext (now (work .entry)) start (pinNames counts (now (code .entry)) k) (now (work .exit)) r ⌝ }
 {
-    let count = pins_of(code[8 * k]);
-    let mut at = put_net(code, counts, code[8 * k + 1] as usize, work, start);
+    let count = circuit::form::pin_count(code, counts, k);
+    let mut at = put_pin(code, counts, k, 0, work, start);
     let mut i: usize = 1;
     while i < count {
         at = write_decimal::put_char(work, at, b',');
-        at = put_net(code, counts, code[8 * k + (1 + i)] as usize, work, at);
+        at = put_pin(code, counts, k, i, work, at);
         i += 1;
     }
     at
@@ -260,11 +256,11 @@ fn names_net(code: &[u16], counts: Counts, j: usize, v: u16) -> bool
     if is_straight(code, counts, j) {
         return false;
     }
-    let at = 8 * counts.gates + 2 * j;
-    if v == code[at + 1] {
+    let rails = circuit::form::rails_of(code, counts, j);
+    if v == rails.rail1 {
         return true;
     }
-    v == code[at]
+    v == rails.rail0
 }
 
 // A net has a name before output j: it is an input's rail, or an earlier output names it.
@@ -293,9 +289,9 @@ fn is_second(code: &[u16], counts: Counts, j: usize) -> bool
     if is_straight(code, counts, j) {
         return false;
     }
-    let at = 8 * counts.gates + 2 * j;
-    let rail0 = code[at];
-    let rail1 = code[at + 1];
+    let rails = circuit::form::rails_of(code, counts, j);
+    let rail0 = rails.rail0;
+    let rail1 = rails.rail1;
     if is_named(code, counts, j, rail0) {
         return true;
     }

@@ -47,7 +47,7 @@ any-low row (p ∷ pins) = go (high row p) (any-low row pins)
     go false e = e
 
 -- by the gate rule: it may not fall
-stays-rule : (s : Stage) (row : List ℕ) (k : ℕ) → stays row (driver s k) ≡ not (mayFall (netOf s) (rowOf row) k)
+pub stays-rule : (s : Stage) (row : List ℕ) (k : ℕ) → stays row (driver s k) ≡ not (mayFall (netOf s) (rowOf row) k)
 unfolding stays
 stays-rule s row k = go (driver s k .hold)
   where

@@ -1,6 +1,6 @@
 -- Marks on the care words of a stage, one after the other.
 -- Assumes nothing.
-use Prim.Native.Nat.{ℕ, zero, suc, _+_, _*_, _≤_, _<_}
+use Prim.Native.Nat.{ℕ, zero, suc, _+_, _≤_, _<_}
 use native.Mathlib.Omega.{arith}
 use native.Mathlib.Decide.{ℕ-discrete}
 use native.Mathlib.Numerals.{add-one}
@@ -12,12 +12,10 @@ use lib.Seq.{getD-set-same, getD-set-other, take-length}
 use lib.Dec.{eqb, ltb}
 use borrow.Author.Tests.{eq-eqb, ne-eqb}
 use Rattle.netlist.specs.declared.Counts.{Counts}
-use Rattle.verdict.specs.Graph.{tabulate}
 use Rattle.verdict.specs.Words.{isIn}
 use Rattle.circuit.specs.Stage.{stageCare}
-use Rattle.circuit.proofs.Tabulate.{length-tabulate, getD-tabulate}
 use Rattle.words.specs.Listed.{NoneMarked, Marked}
-use Rattle.words.proofs.Membership.{careFrom}
+use Rattle.words.proofs.Membership.{care-long}
 
 last-or : (a : Bool) → (a || false) ≡ (false || a)
 last-or true = refl
@@ -66,20 +64,9 @@ module _ (ws marks : List ℕ) (k : ℕ) (m : MarkedTo ws marks k) (x : ℕ) (is
   pub marked-past : length marks ≤ x → MarkedTo ws marks (k + 1)
   marked-past l w b = m w b ∙ sym (more w ∙ ap (λ (b : Bool). isIn w (take k ws) || b) (ne-eqb w x (λ e. omega arith)) ∙ or-false (isIn w (take k ws)))
 
--- the care words of a flat form
-module _ (code : List ℕ) (from count : ℕ) where
-  pub care-long : length (careFrom code from count) ≡ count
-  care-long = length-tabulate (λ i. getD code (from + i) 0) count
-
-  pub care-is : (k : ℕ) → k < count → getD code (from + k) 0 ≡ getD (careFrom code from count) k 0
-  care-is k h = sym (getD-tabulate (λ i. getD code (from + i) 0) count k 0 h)
-
-  pub marked-done : (marks : List ℕ) (k : ℕ) → k ≡ count → MarkedTo (careFrom code from count) marks k → Marked (careFrom code from count) marks
-  marked-done marks k h m w b = m w b ∙ ap (λ (i : ℕ). isIn w (take i (careFrom code from count))) (h ∙ sym care-long) ∙ ap (isIn w) (take-length (careFrom code from count))
-
-pub care-of : (c : Counts) (code : List ℕ) → careFrom code (8 * c .gates + 2 * c .outputs) (c .care) ≡ stageCare c code
-unfolding stageCare
-care-of c code = refl
+pub marked-done : (c : Counts) (code marks : List ℕ) (k : ℕ) → k ≡ c .care → MarkedTo (stageCare c code) marks k → Marked (stageCare c code) marks
+marked-done c code marks k h m w b =
+    m w b ∙ ap (λ (i : ℕ). isIn w (take i (stageCare c code))) (h ∙ sym (care-long c code)) ∙ ap (isIn w) (take-length (stageCare c code))
 
 -- an array of zeros
 pub none-marked : (m : ℕ) → NoneMarked (replicate m 0)

@@ -1,6 +1,6 @@
 -- Which words a stage in its flat form has: all that its inputs have, or those of its care list, looked at one after the other.
 -- Assumes nothing.
-use Prim.Native.Nat.{ℕ, zero, suc, _+_, _*_, _^_, _≤_, _<_}
+use Prim.Native.Nat.{ℕ, _+_, _^_, _≤_, _<_}
 use native.Mathlib.Omega.{arith}
 use native.Mathlib.Numerals.{add-one}
 use lib.Pow.{pow-mono}
@@ -20,7 +20,7 @@ use Rattle.verdict.specs.Graph.{tabulate}
 use Rattle.verdict.specs.Words.{numbers, caredFor, words, isIn}
 use Rattle.verdict.proofs.Words.{index-in, in-index}
 use Rattle.verdict.proofs.Names.{isIn-in, in-isIn}
-use Rattle.circuit.specs.Stage.{stageCare, stageIn}
+use Rattle.circuit.specs.Stage.{careIn, stageCare, stageIn}
 use Rattle.circuit.proofs.Tabulate.{length-tabulate, getD-tabulate}
 
 -- there is a word, and within the limits all words can be counted
@@ -67,35 +67,31 @@ module _ (w : ℕ) (ws : List ℕ) (k : ℕ) where
   unfolding isIn
   looked-none l h = sym (l ∙ ap (isIn w) (drop-of-length-le ws {i = k} h))
 
--- so many care words, from a place of the flat form on
-abbrev pub careFrom : List ℕ → ℕ → ℕ → List ℕ
-careFrom code from count = tabulate (λ i. getD code (from + i) 0) count
+module _ (c : Counts) (code : List ℕ) where
+  pub care-long : length (stageCare c code) ≡ c .care
+  unfolding stageCare
+  care-long = length-tabulate (careIn c code) (c .care)
 
--- the care words before word k are others
-abbrev pub CareTo : List ℕ → ℕ → ℕ → ℕ → ℕ → Type 0
-CareTo code from count w k = LookedTo w (careFrom code from count) k
+  pub care-is : (k : ℕ) → k < c .care → (x : ℕ) → x ≡ careIn c code k → x ≡ getD (stageCare c code) k 0
+  unfolding stageCare
+  care-is k h x is = is ∙ sym (getD-tabulate (careIn c code) (c .care) k 0 h)
 
-module _ (code : List ℕ) (from count w k : ℕ) (l : CareTo code from count w k) where
-  care-length : length (careFrom code from count) ≡ count
-  care-length = length-tabulate (λ i. getD code (from + i) 0) count
+  module _ (w : ℕ) where
+    -- the care words before word k are others
+    abbrev pub CareTo : ℕ → Type 0
+    CareTo k = LookedTo w (stageCare c code) k
 
-  care-at : k < count → getD code (from + k) 0 ≡ getD (careFrom code from count) k 0
-  care-at h = sym (getD-tabulate (λ i. getD code (from + i) 0) count k 0 h)
+    module _ (k : ℕ) (l : CareTo k) where
+      pub care-here : k < c .care → (x : ℕ) → x ≡ careIn c code k → x ≡ w → true ≡ isIn w (stageCare c code)
+      care-here h x is = looked-here w (stageCare c code) k l (omega (arith, care-long)) x (care-is k h x is)
 
-  pub care-here : k < count → getD code (from + k) 0 ≡ w → true ≡ isIn w (careFrom code from count)
-  care-here h e = looked-here w (careFrom code from count) k l (omega (arith, care-length)) _ (care-at h) e
+      pub care-on : k < c .care → (x : ℕ) → x ≡ careIn c code k → (x ≡ w → ⊥) → CareTo (k + 1)
+      care-on h x is = looked-on w (stageCare c code) k l (omega (arith, care-long)) x (care-is k h x is)
 
-  pub care-on : k < count → (getD code (from + k) 0 ≡ w → ⊥) → CareTo code from count w (k + 1)
-  care-on h n = looked-on w (careFrom code from count) k l (omega (arith, care-length)) _ (care-at h) n
+      pub care-none : c .care ≤ k → false ≡ isIn w (stageCare c code)
+      care-none h = looked-none w (stageCare c code) k l (omega (arith, care-long))
 
-  pub care-none : count ≤ k → false ≡ isIn w (careFrom code from count)
-  care-none h = looked-none w (careFrom code from count) k l (omega (arith, care-length))
-
--- what is in the care list of a stage is a word of it
-pub of-care : (c : Counts) (code : List ℕ) (w : ℕ) → (c .care ≡ 0 → ⊥) → (b : Bool) → b ≡ isIn w (careFrom code (8 * c .gates + 2 * c .outputs) (c .care))
-    → b ≡ isIn w (words (stageIn c code))
-unfolding words stageCare
-of-care c code w some b e =
-    let ws : List ℕ = careFrom code (8 * c .gates + 2 * c .outputs) (c .care) in
-    let long : length ws ≡ c .care = length-tabulate (λ i. getD code (8 * c .gates + 2 * c .outputs + i) 0) (c .care) in
-    e ∙ sym (ap (isIn w) (listed (c .inputs) ws (λ z. some (sym long ∙ z))))
+    -- what is in the care list of a stage is a word of it
+    pub of-care : (c .care ≡ 0 → ⊥) → (b : Bool) → b ≡ isIn w (stageCare c code) → b ≡ isIn w (words (stageIn c code))
+    unfolding words
+    of-care some b e = e ∙ sym (ap (isIn w) (listed (c .inputs) (stageCare c code) (λ z. some (sym care-long ∙ z))))

@@ -56,10 +56,9 @@ pub fn is_word(code: &[u16], counts: Counts, w: usize) -> bool
     if count == 0 {
         return w < 1 << counts.inputs;
     }
-    let from = 8 * counts.gates + 2 * counts.outputs;
     let mut k: usize = 0;
     while k < count {
-        if code[from + k] as usize == w {
+        if circuit::form::care_of(code, counts, k) == w {
             return true;
         }
         k += 1;
@@ -73,10 +72,9 @@ fn mark_care(code: &[u16], counts: Counts, marks: &mut [u8])
     ensures { λ r. ⌜ Marked (stageCare counts (now (code .entry))) (now (marks .exit)) × (length (now (marks .exit)) ≡ length (now (marks .entry))) ⌝ }
 {
     let count = counts.care;
-    let from = 8 * counts.gates + 2 * counts.outputs;
     let mut k: usize = 0;
     while k < count {
-        let w = code[from + k] as usize;
+        let w = circuit::form::care_of(code, counts, k);
         if w < marks.len() {
             marks[w] = 1;
         }

@@ -1,12 +1,12 @@
 -- The nets and the signals of a part in the whole: what the flat forms hold of them, and that a gate is put with FFFF at the pins that it has not.
 -- Assumes nothing.
-use Prim.Native.Nat.{ℕ, zero, suc, _+_, _-_, _*_, _/_, _%_, _≤_, _<_}
+use Prim.Native.Nat.{ℕ, _+_, _-_, _*_, _/_, _%_, _≤_, _<_}
 use native.Mathlib.Omega.{arith}
 use mathlib.Core.Path.{_≡_, refl, sym, ap, _∙_}
 use mathlib.Core.Bool.{Bool, true, false, cond}
 use mathlib.Core.Logic.{_⊎_, inl, inr}
 use mathlib.Core.List.{List, [], _∷_, map}
-use lib.ListN.{length, getD, take}
+use lib.ListN.{length, take}
 use lib.Dec.{eqb, ltb}
 use borrow.Author.Tests.{lt-ltb, le-ltb, ltb-true, ltb-false, eq-eqb, ne-eqb}
 use Rattle.gates.specs.Cell.{pinCount}
@@ -16,7 +16,7 @@ use Rattle.netlist.specs.declared.Counts.{Counts}
 use Rattle.netlist.specs.Bytes.{absent}
 use Rattle.netlist.specs.Content.{Pair}
 use Rattle.netlist.specs.Writing.{gate, writeItem}
-use Rattle.verdict.specs.Nets.{outputPair, noPair, railOf}
+use Rattle.verdict.specs.Nets.{noPair, railOf}
 use Rattle.write_command.specs.Put.{coded}
 use Rattle.write_command.proofs.Files.{gate-absent}
 use Rattle.circuit.specs.Stage.{outputIn, stageOutputs, stageIn}
@@ -28,24 +28,10 @@ use Rattle.write_joined.specs.Moved.{netMoved, signalMoved}
 -- ---- nets
 
 module _ (c : Counts) (code : List ℕ) (m : Move) (net : ℕ) where
-  rail-at : (j : ℕ) (b : Bool) (r : ℕ) → j < c .outputs → net ≡ 2 * j + r → ((b ≡ true) × (r ≡ 1)) ⊎ ((b ≡ false) × (r ≡ 0)) →
-      getD code (8 * c .gates + net) 0 ≡ railOf (outputPair (stageIn c code) j) b
-  unfolding stageOutputs
-  rail-at j b r l e (inl h) =
-      let n : 8 * c .gates + net ≡ 8 * c .gates + 2 * j + 1 = omega (arith, h .1) in
-      rw (n, h .0, getD-tabulate (outputIn c code) (c .outputs) j noPair l)
-  rail-at j b r l e (inr h) =
-      let n : 8 * c .gates + net ≡ 8 * c .gates + 2 * j = omega (arith, h .1) in
-      rw (n, h .0, getD-tabulate (outputIn c code) (c .outputs) j noPair l)
-
-  odd? : (r : ℕ) → r < 2 → ((eqb r 1 ≡ true) × (r ≡ 1)) ⊎ ((eqb r 1 ≡ false) × (r ≡ 0))
-  odd? zero l = inr (refl, refl)
-  odd? (suc zero) l = inl (refl, refl)
-  odd? (suc (suc r)) l = absurd (omega arith)
-
-  pub net-tied : net < 2 * m .inputs → m .inputs ≤ c .outputs → getD code (8 * c .gates + net) 0 ≡ netMoved (stageIn c code) m net
-  unfolding netMoved
-  net-tied l h = rw (lt-ltb net (2 * m .inputs) l) (rail-at (net / 2) (eqb (net % 2) 1) (net % 2) (omega arith) (omega arith) (odd? (net % 2) (omega arith)))
+  pub net-tied : net < 2 * m .inputs → m .inputs ≤ c .outputs → (b : Bool) → eqb (net % 2) 1 ≡ b
+      → railOf (outputIn c code (net / 2)) b ≡ netMoved (stageIn c code) m net
+  unfolding netMoved stageOutputs
+  net-tied l h b e = rw (lt-ltb net (2 * m .inputs) l, e, getD-tabulate (outputIn c code) (c .outputs) (net / 2) noPair (omega arith))
 
   pub net-follows : 2 * m .inputs ≤ net → m .start + (net - 2 * m .inputs) ≡ netMoved (stageIn c code) m net
   unfolding netMoved
@@ -54,7 +40,7 @@ module _ (c : Counts) (code : List ℕ) (m : Move) (net : ℕ) where
 -- ---- signals
 
 module _ (c : Counts) (code : List ℕ) (m : Move) (signal : ℕ) where
-  pub signal-tied : signal < m .inputs → m .inputs ≤ c .outputs → getD code (3 * c .gates + signal) 0 ≡ signalMoved (referenceIn c code) m signal
+  pub signal-tied : signal < m .inputs → m .inputs ≤ c .outputs → signalIn c code signal ≡ signalMoved (referenceIn c code) m signal
   unfolding signalMoved signalsIn
   signal-tied l h = rw (lt-ltb signal (m .inputs) l) (sym (getD-tabulate (signalIn c code) (c .outputs) signal 0 (omega arith)))
 

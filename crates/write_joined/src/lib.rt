@@ -5,7 +5,7 @@ ghost use mathlib.Core.Bool.{cond};
 ghost use mathlib.Core.List.{List, map};
 ghost use Prim.Native.Nat.{ℕ, _+_, _*_, _≤_, _<_};
 ghost use lib.ListN.{length};
-ghost use lib.Dec.{eqb, ltb};
+ghost use lib.Dec.{ltb};
 ghost use Rattle.gates.specs.Cell.{pinCount, kindByte};
 ghost use Rattle.netlist.specs.declared.File.the-variants as file;
 ghost use Rattle.netlist.specs.Bytes.{absent};
@@ -14,7 +14,7 @@ ghost use Rattle.netlist.specs.Writing as writing;
 ghost use Rattle.write_joined.specs.Whole.{joinedStage, joinedReference};
 ghost use Rattle.write_command.specs.Put.{Put};
 ghost use Rattle.write_command.specs.Parts.{gateItem, pairItem, signalItem, bytesOf};
-ghost use Rattle.circuit.specs.Stage.{cellIn, slot, pinIn, gateIn, stageGates, stageOutputs, stageCare, stageIn, StageLoaded};
+ghost use Rattle.circuit.specs.Stage.{cellIn, pinIn, gateIn, stageGates, stageOutputs, stageCare, stageIn, StageLoaded};
 ghost use Rattle.circuit.specs.Reference.{operatorIn, operatorsIn, signalsIn, referenceIn, ReferenceLoaded};
 ghost use Rattle.write_joined.specs.Moved.{netMoved, gateMoved, pairMoved, StageMoves, signalMoved, operationMoved, ReferenceMoves};
 
@@ -34,36 +34,25 @@ fn net_in_whole(code1: &[u16], counts1: Counts, moved: Move, net: u16) -> u16
     let n = net as usize;
     let rails = 2 * moved.inputs;
     if n < rails {
-        return code1[8 * counts1.gates + n];
+        let output = circuit::form::rails_of(code1, counts1, n / 2);
+        if n % 2 == 1 {
+            return output.rail1;
+        }
+        return output.rail0;
     }
     (moved.start + (n - rails)) as u16
 }
 
 // The kind of gate k: its cell, with hold or relaxed.
-fn kind_at(code: &[u16], k: usize) -> u8
-    requires { ⌜ (8 * k + 7 < length (now code)) × (cellIn (now code) k ≤ 27) ⌝ }
-    ensures { λ r. ⌜ r ≡ kindByte (cellIn (now (code .entry)) k) (eqb (slot (now (code .entry)) k 7) 1) ⌝ }
+fn kind_at(code: &[u16], counts: Counts, k: usize) -> u8
+    requires { ⌜ StageLoaded counts (now code) × (k < counts .gates) ⌝ }
+    ensures { λ r. ⌜ r ≡ kindByte (cellIn (now (code .entry)) k) (gateIn (now (code .entry)) k .hold) ⌝ }
 {
-    let cell = (code[8 * k] % 256) as u8;
-    if code[8 * k + 7] == 1 {
+    let cell = circuit::form::cell_of(code, counts, k) as u8;
+    if circuit::form::has_hold(code, counts, k) {
         return cell;
     }
     cell + 128
-}
-
-// How many pins gate k has.
-fn pins_at(code: &[u16], k: usize) -> usize
-    requires { ⌜ (8 * k + 7 < length (now code)) × (1 ≤ cellIn (now code) k) × (cellIn (now code) k ≤ 27) ⌝ }
-    ensures { λ r. ⌜ r ≡ pinCount (cellIn (now (code .entry)) k) ⌝ }
-{
-    let cell = code[8 * k];
-    if cell < 3 {
-        return 2;
-    }
-    if cell < 8 {
-        return 3;
-    }
-    4
 }
 
 // The net at pin i of gate k, where it stands in the whole, or FFFF where the gate has no such pin.
@@ -81,8 +70,13 @@ fn pin_in_whole(
         (netMoved (stageIn counts1 (now (code1 .entry))) moved (pinIn (now (code .entry)) k i))
         absent ⌝ }
 {
-    if i < pins_at(code, k) {
-        return net_in_whole(code1, counts1, moved, code[8 * k + (1 + i)]);
+    if i < circuit::form::pin_count(code, counts, k) {
+        return net_in_whole(
+            code1,
+            counts1,
+            moved,
+            circuit::form::pin_of(code, counts, k, i),
+        );
     }
     0xFFFF
 }
@@ -106,7 +100,7 @@ fn put_gate(
     let b = pin_in_whole(code, counts, k, 1, code1, counts1, moved);
     let c = pin_in_whole(code, counts, k, 2, code1, counts1, moved);
     let d = pin_in_whole(code, counts, k, 3, code1, counts1, moved);
-    write_command::put_stage_gate(buffer, at, kind_at(code, k), a, b, c, d);
+    write_command::put_stage_gate(buffer, at, kind_at(code, counts, k), a, b, c, d);
 }
 
 // ---- the parts of a stage file
@@ -149,12 +143,12 @@ fn put_outputs(
         (map (pairMoved (stageIn counts1 (now (code1 .entry))) moved) (stageOutputs counts (now
         (code .entry))))) (now (buffer .exit)) ⌝ }
 {
-    let from = 8 * counts.gates;
     let count = counts.outputs;
     let mut j: usize = 0;
     while j < count {
-        let rail0 = net_in_whole(code1, counts1, moved, code[from + 2 * j]);
-        let rail1 = net_in_whole(code1, counts1, moved, code[from + 2 * j + 1]);
+        let rails = circuit::form::rails_of(code, counts, j);
+        let rail0 = net_in_whole(code1, counts1, moved, rails.rail0);
+        let rail1 = net_in_whole(code1, counts1, moved, rails.rail1);
         write_command::put_stage_output(buffer, at + 5 * j, rail0, rail1);
         j += 1;
     }
@@ -165,11 +159,11 @@ fn put_care_words(buffer: &mut [u8], at: usize, code: &[u16], counts: Counts)
     requires { ⌜ StageLoaded counts (now code) × (at + 3 * counts .care ≤ length (now buffer)) ⌝ }
     ensures { λ _. ⌜ Put (now (buffer .entry)) at (bytesOf file.Stage writing.care (stageCare counts (now (code .entry)))) (now (buffer .exit)) ⌝ }
 {
-    let from = 8 * counts.gates + 2 * counts.outputs;
     let count = counts.care;
     let mut k: usize = 0;
     while k < count {
-        write_command::put_care(buffer, at + 3 * k, code[from + k]);
+        let w = circuit::form::care_of(code, counts, k) as u16;
+        write_command::put_care(buffer, at + 3 * k, w);
         k += 1;
     }
 }
@@ -184,7 +178,7 @@ fn signal_in_whole(reference1: &[u16], sizes1: Counts, moved: Move, signal: u16)
     let n = signal as usize;
     let inputs = moved.inputs;
     if n < inputs {
-        return reference1[3 * sizes1.gates + n];
+        return circuit::form::signal_of(reference1, sizes1, n);
     }
     (moved.start + (n - inputs)) as u16
 }
@@ -206,12 +200,13 @@ fn put_operation(
         (writing.gate (operationMoved (referenceIn sizes1 (now (reference1 .entry))) moved
         (operatorIn (now (reference .entry)) k)))) (now (buffer .exit)) ⌝ }
 {
-    let operation = (reference[3 * k] % 256) as u8;
-    let a = signal_in_whole(reference1, sizes1, moved, reference[3 * k + 1]);
+    let operation = circuit::form::operation_of(reference, sizes, k) as u8;
+    let operands = circuit::form::operands_of(reference, sizes, k);
+    let a = signal_in_whole(reference1, sizes1, moved, operands.a);
     if operation == 1 {
         write_command::put_reference_gate(buffer, at, operation, a, 0xFFFF);
     } else {
-        let b = signal_in_whole(reference1, sizes1, moved, reference[3 * k + 2]);
+        let b = signal_in_whole(reference1, sizes1, moved, operands.b);
         write_command::put_reference_gate(buffer, at, operation, a, b);
     }
 }
@@ -264,11 +259,11 @@ fn put_signals(
         (map (signalMoved (referenceIn sizes1 (now (reference1 .entry))) moved) (signalsIn
         sizes (now (reference .entry))))) (now (buffer .exit)) ⌝ }
 {
-    let from = 3 * sizes.gates;
     let count = sizes.outputs;
     let mut j: usize = 0;
     while j < count {
-        let signal = signal_in_whole(reference1, sizes1, moved, reference[from + j]);
+        let own = circuit::form::signal_of(reference, sizes, j);
+        let signal = signal_in_whole(reference1, sizes1, moved, own);
         write_command::put_reference_output(buffer, at + 3 * j, signal);
         j += 1;
     }

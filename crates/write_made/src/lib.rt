@@ -28,11 +28,10 @@ fn mark_outputs(reference: &[u16], sizes: Counts, marks: &mut [u8])
     requires { ⌜ ReferenceLoaded sizes (now reference) × (sizes .inputs + sizes .gates ≤ length (now marks)) ⌝ }
     ensures { λ _. ⌜ now (marks .exit) ≡ marked (now (marks .entry)) (signalsIn sizes (now (reference .entry))) ⌝ }
 {
-    let from = 3 * sizes.gates;
     let count = sizes.outputs;
     let mut j: usize = 0;
     while j < count {
-        let signal = reference[from + j] as usize;
+        let signal = circuit::form::signal_of(reference, sizes, j) as usize;
         marks[signal] = 1;
         j += 1;
     }
@@ -43,10 +42,11 @@ fn mark_operands(reference: &[u16], sizes: Counts, k: usize, marks: &mut [u8])
     requires { ⌜ ReferenceLoaded sizes (now reference) × (k < sizes .gates) × (sizes .inputs + sizes .gates ≤ length (now marks)) ⌝ }
     ensures { λ _. ⌜ now (marks .exit) ≡ marked (now (marks .entry)) (operatorIn (now (reference .entry)) k .operands) ⌝ }
 {
-    let a = reference[3 * k + 1] as usize;
+    let operands = circuit::form::operands_of(reference, sizes, k);
+    let a = operands.a as usize;
     marks[a] = 1;
-    if reference[3 * k] != 1 {
-        let b = reference[3 * k + 2] as usize;
+    if circuit::form::operation_of(reference, sizes, k) != 1 {
+        let b = operands.b as usize;
         marks[b] = 1;
     }
 }
@@ -104,7 +104,7 @@ pub fn operation_count(reference: &[u16], sizes: Counts) -> usize
     let mut k = sizes.gates;
     while 0 < k {
         k -= 1;
-        if reference[3 * k] != 1 {
+        if circuit::form::operation_of(reference, sizes, k) != 1 {
             count += 1;
         }
     }
@@ -211,11 +211,12 @@ pub fn put_gate(
     ensures rails { λ r. ⌜ ((p : Rails) × (pairOf p ∷ [] ≡ becomes sizes (now (reference .entry)) k (now (rails .entry)) made .rails)
         × (now (rails .exit) ≡ set (set (now (rails .entry)) (2 * (sizes .inputs + k)) (p .rail0)) (2 * (sizes .inputs + k) + 1) (p .rail1))) ⌝ }
 {
-    let operation = reference[3 * k];
-    let a = rails_of(rails, reference[3 * k + 1]);
-    let b = rails_of(rails, reference[3 * k + 2]);
-    let result = result_rails(operation, a, (2 * sizes.inputs + made) as u16);
     let at = 2 * (sizes.inputs + k);
+    let operation = circuit::form::operation_of(reference, sizes, k);
+    let operands = circuit::form::operands_of(reference, sizes, k);
+    let a = rails_of(rails, operands.a);
+    let b = rails_of(rails, operands.b);
+    let result = result_rails(operation, a, (2 * sizes.inputs + made) as u16);
     rails[at] = result.rail0;
     rails[at + 1] = result.rail1;
     if operation == 1 {

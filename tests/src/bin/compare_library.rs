@@ -1,7 +1,8 @@
 //! compare_library [SEED [COUNT]]: compares all calls of the proved library with the judge, in both orders of words,
 //! on the stored examples, cases of joins, references and texts, on as many generated pairs, rows, joins, references, texts and stage
 //! files to write, on the whole family of small stages and as many files beside it, on loads at the limits and on as many generated
-//! ones. Prints how many had each number, or the first difference. Fails too if some number never came or too few were accepted.
+//! ones, and on as many witnesses, lists to judge and runs by keys; each witness is played too. Prints how many had each number, or the
+//! first difference. Fails too if some number never came or too few were accepted.
 
 use fovaheju_tests::compare::{
     compare_checks, compare_draws, compare_draws_at_limits, compare_family, compare_join,
@@ -11,10 +12,15 @@ use fovaheju_tests::compare::{
     ReportInOrder, CHECK_NUMBERS, DRAW_NUMBERS, JOIN_NUMBERS, MAKE_NUMBERS, NEXT_NUMBERS,
     READ_TEXT_NUMBERS, ROW_NUMBERS, WRITE_TEXT_NUMBERS,
 };
+use fovaheju_tests::compare_runs::{
+    compare_plays, compare_runs_by_keys, compare_witness, compare_witnesses, ByKeys, Play, Witness,
+    PLAY_NUMBERS,
+};
 use fovaheju_tests::files::{
     examples_folder, load_example, load_text, stored_examples, stored_texts, write_stage,
 };
 use fovaheju_tests::generate::made::MakeCase;
+use fovaheju_tests::generate::runs::WitnessCase;
 use fovaheju_tests::generate::texts::TextCase;
 use fovaheju_tests::judge::{
     accepted_unless_a_gate_never_rises, read_stage, WordOrder, ACCEPTED, ORDERS,
@@ -43,6 +49,16 @@ const REPORT: ReportInOrder =
     |order, stage, reference| library::report(mark(order, stage), stage, reference);
 const JOIN: JoinInOrder = |order, first, second, stage, reference| {
     library::join(mark(order, &first.stage), first, second, stage, reference)
+};
+
+const WITNESS: Witness = |order, stage, reference, asked, list| {
+    library::witness(mark(order, stage), stage, reference, asked, list)
+};
+const PLAY: Play = |order, stage, name, fall, list, row| {
+    library::play(mark(order, stage), stage, name, fall, list, row)
+};
+const BY_KEYS: ByKeys = |order, stage, name, keys, list| {
+    library::run_by_keys(mark(order, stage), stage, name, keys, list)
 };
 
 /// How many files of each number were alike, or the first that was not.
@@ -144,8 +160,14 @@ fn compare(seed: u64, count: u64) -> Result<bool, Box<Difference>> {
     for name in &names {
         let (pair, _) = load_example(&examples_folder(), name).expect("an example");
         for order in ORDERS {
+            let case = WitnessCase {
+                pair: pair.clone(),
+                asked: 5,
+                list: vec![7; 552],
+            };
             compare_pair(CHECK, order, name, &pair)
                 .and_then(|_| compare_report(REPORT, order, name, &pair))
+                .and_then(|_| compare_witness(WITNESS, order, name, &case))
                 .inspect_err(|difference| println!("{difference}"))?;
         }
     }
@@ -174,7 +196,7 @@ fn compare(seed: u64, count: u64) -> Result<bool, Box<Difference>> {
     println!("stages of {} stored references alike", references.len());
     compare_stored_texts(&names).inspect_err(|difference| println!("{difference}"))?;
     // The calls beside one another, each with its own files.
-    let all: [(&str, &[usize], Comparison); 11] = [
+    let all: [(&str, &[usize], Comparison); 14] = [
         ("checks", &CHECK_NUMBERS, &|| {
             compare_checks(CHECK, seed, count)
         }),
@@ -205,6 +227,15 @@ fn compare(seed: u64, count: u64) -> Result<bool, Box<Difference>> {
         }),
         ("texts written", &WRITE_TEXT_NUMBERS, &|| {
             compare_write_texts(written_and_again, seed, count)
+        }),
+        ("witnesses", &CHECK_NUMBERS, &|| {
+            compare_witnesses(WITNESS, seed, count)
+        }),
+        ("lists judged", &PLAY_NUMBERS, &|| {
+            compare_plays(PLAY, seed, count)
+        }),
+        ("runs by keys", &PLAY_NUMBERS, &|| {
+            compare_runs_by_keys(BY_KEYS, seed, count)
         }),
     ];
     let histograms = thread::scope(|scope| {

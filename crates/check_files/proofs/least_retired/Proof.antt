@@ -3,6 +3,7 @@ use Prim.Native.Nat.{_-_}
 use native.Mathlib.Omega.{arith}
 use mathlib.Core.Path.{sym, ap, _∙_}
 use borrow.Author.Needs.{needs}
+use Rattle.gates.specs.Cell.{isRetired}
 use Rattle.verdict.specs.Retired.{retiredAt}
 use Rattle.verdict.specs.Search.{least}
 use Rattle.verdict.proofs.Least.{SoughtTo, sought-on, sought-here, sought-none}
@@ -20,24 +21,17 @@ abbrev μ-loop : tie.MeasureT-loop
 loop-holds : tie.Need-loop-holds Inv-loop μ-loop
 loop-holds c = ap (least _ 0) (omega arith)
 
-mul-is-retired : tie.Need-mul-is-retired Inv-loop μ-loop
-mul-is-retired c = omega (arith, c .before .before .before .before .pre .within .gates-in)
-
-mul-is-retired-2 : tie.Need-mul-is-retired-2 Inv-loop μ-loop
-mul-is-retired-2 c = omega (arith, c .before .before .before .before .pre .within .gates-in)
-
-shared-slice-read-is-retired : tie.Need-shared-slice-read-is-retired Inv-loop μ-loop
-shared-slice-read-is-retired c = omega (arith, c .before .before .before .before .before .pre .room)
-
 returns : tie.Need-returns Inv-loop μ-loop
 returns c =
     let t = c .before .before .before in
-    sought-here _ _ _ (t .if1 .taken) (t .before .before .loop .inv) (retired-in _ _ _ (t .if1 .taken) ∙ sym (c .before .is-retired .ensures) ∙ c .if2 .taken)
+    sought-here _ _ _ (t .if1 .taken) (t .before .before .loop .inv)
+    (retired-in _ _ _ (t .if1 .taken) ∙ sym (c .before .is-retired .ensures ∙ ap isRetired (c .before .before .cell-of .ensures .is)) ∙ c .if2 .taken)
 
 loop-again : tie.Need-loop-again Inv-loop μ-loop
 loop-again c =
     let t = c .before .before .before in
-    sought-on _ _ _ (t .if1 .taken) (t .before .before .loop .inv) (retired-in _ _ _ (t .if1 .taken) ∙ sym (c .before .is-retired .ensures) ∙ c .if2 .left)
+    sought-on _ _ _ (t .if1 .taken) (t .before .before .loop .inv)
+    (retired-in _ _ _ (t .if1 .taken) ∙ sym (c .before .is-retired .ensures ∙ ap isRetired (c .before .before .cell-of .ensures .is)) ∙ c .if2 .left)
 
 returns-2 : tie.Need-returns-2 Inv-loop μ-loop
 returns-2 c = sought-none _ _ _ (omega (arith, c .if1 .left)) (c .before .before .loop .inv)
@@ -49,9 +43,7 @@ least-retired-spec =
     Inv-loop
     μ-loop
     loop-holds
-    mul-is-retired
-    mul-is-retired-2
-    shared-slice-read-is-retired
+    (λ c κs. search needs)
     (λ c κs. search needs)
     returns
     (λ c. omega arith)

@@ -8,7 +8,6 @@ use denote.Ref.{now}
 use Rattle.circuit.specs.Stage.{netCount}
 use Rattle.circuit.proofs.Settling.{copied-row, copied-nets}
 use Rattle.check_word.proofs.Holding.{unobserved-low, unobserved-high, hold-before, rails-same, settled-same}
-use Rattle.circuit.proofs.Settling.{copied-row}
 use borrow.Author.Needs.{needs}
 use Rattle.check_word.proofs.unobserved_at.Statement.{statement}
 use Rattle.check_word.proofs.unobserved_at.Tie as tie
@@ -35,11 +34,6 @@ copy-requires c κs =
       z .pre .0 .within .gates-in,
     )
 
-cast-start : tie.Need-cast-start
-cast-start c =
-    let z = c .before .before .before .before .before .before .before .before .before .before .before in
-    omega (arith, z .pre .1 .place-in (z .args .g) (z .pre .4), z .pre .0 .within .gates-in)
-
 settle-from-requires : tie.Need-settle-from-requires
 settle-from-requires c κs =
     let z = c .before .before .before .before .before .before .before .before .before .before .before .before in
@@ -50,8 +44,9 @@ settle-from-requires c κs =
       z .pre .0,
       z .pre .1,
       r,
-      hold-before (z .args .counts) (now (z .args .code)) _ (z .pre .1) r
-          (settled-same (z .args .counts) (now (z .args .code)) (now (z .args .row)) (z .pre .3) _ n) (z .args .g) (z .pre .4),
+      rw (c .before .place-of .ensures)
+          (hold-before (z .args .counts) (now (z .args .code)) _ (z .pre .1) r
+          (settled-same (z .args .counts) (now (z .args .code)) (now (z .args .row)) (z .pre .3) _ n) (z .args .g) (z .pre .4)),
     )
 
 returns-2 : tie.Need-returns-2
@@ -78,11 +73,7 @@ unobserved-at-spec =
     slice-aggregate-copy
     (λ c. search needs)
     copy-requires
-    (λ c. search needs)
-    (λ c. search needs)
-    (λ c. search needs)
-    (λ c. search needs)
-    cast-start
+    (λ c κs. search needs)
     (λ c. search needs)
     settle-from-requires
     (λ c. search needs)

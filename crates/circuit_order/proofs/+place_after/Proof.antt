@@ -1,4 +1,6 @@
-use Prim.Native.Nat.{ℕ, suc, _+_, _*_, _-_, _≤_, _<_}
+-- The proof of the cycle of calls {place_after}. The loop's invariant: the nets at the first pins of gate k wait no more, and what had a place keeps it. The
+-- measure is the depth. Assumes nothing.
+use Prim.Native.Nat.{ℕ, suc, _+_, _-_, _≤_, _<_}
 use native.Mathlib.Omega.{arith}
 use Rattle.circuit_order.specs.Placing.{Placing, AfterPins, PlacedAfter}
 use Rattle.circuit_order.proofs.After.{after-none, pins-start, pins-skip, pin-waits, pins-more, pins-stuck, after-gone, after-ready, after-placed}
@@ -8,6 +10,7 @@ use mathlib.Core.List.{List}
 use denote.Ref.{now}
 use borrow.Fn.Kinds.{In}
 use borrow.Fn.PlainCycle.{Measures, is, falls, and}
+use Rattle.circuit.proofs.form.pin_of.Reads as pin-of
 use Rattle.circuit_order.proofs.place_after.Reads as place-after
 use Rattle.circuit_order.proofs.place_after.Kinds as place-after-kinds
 use Rattle.circuit_order.proofs.+place_after.Lts-place_after as place-after-lts
@@ -26,351 +29,161 @@ abbrev place-after-below : ℕ → In 2 place-after-kinds.ps
 place-after-below t =
     and 2 place-after-kinds.ps (falls 2 place-after-kinds.ps _<_ μ-place-after t) place-after.Pre
 
+-- what is known of the calls
+abbrev claims : ℕ → place-after-lts.Claims
+claims t = (pin-of.Asked, pin-of.Learnt, place-after-below t, place-after.Post, place-reads.Asked, place-reads.Learnt)
+
 abbrev place-after-Inv-loop : place-after-lts.InvT-loop
 place-after-Inv-loop code₀ counts k waiting₀ taken depth placed₀ pin₀ code waiting placed pin = (pin ≤ 4) × AfterPins counts code₀ code waiting₀ waiting placed k pin
 
 abbrev place-after-μ-loop : place-after-lts.MeasureT-loop
 place-after-μ-loop code₀ counts k waiting₀ taken depth placed₀ pin₀ code waiting placed pin = 4 - pin
 
--- src/lib.rt:55:9
-place-after-returns : (t : ℕ) → place-after-lts.Need-returns (
-  place-after-below t,
-  place-after.Post,
-  place-reads.Asked,
-  place-reads.Learnt,
-) (place-after-at t) place-after.Post place-after-Inv-loop place-after-μ-loop
+place-after-returns : (t : ℕ) → place-after-lts.Need-returns (claims t) (place-after-at t) place-after.Post place-after-Inv-loop place-after-μ-loop
 place-after-returns t c =
     let z = c .before .before .before in rw (c .if1 .taken) (after-none (z .args .counts) (now (z .args .code)) (now (z .args .waiting)) (z .args .taken) (z .args .k) (z .pre .1 .0))
 
--- src/lib.rt:59:5
-place-after-loop-holds : (t : ℕ) → place-after-lts.Need-loop-holds (
-  place-after-below t,
-  place-after.Post,
-  place-reads.Asked,
-  place-reads.Learnt,
-) (place-after-at t) place-after.Post place-after-Inv-loop place-after-μ-loop
+place-after-loop-holds : (t : ℕ) → place-after-lts.Need-loop-holds (claims t) (place-after-at t) place-after.Post place-after-Inv-loop place-after-μ-loop
 place-after-loop-holds t c =
     let z = c .before .before .before in (omega arith, pins-start (z .args .counts) (now (z .args .code)) (now (z .args .waiting)) (z .args .taken) (z .args .k) (z .pre .1 .0))
 
--- src/lib.rt:60:24
-place-after-mul-feeder : (t : ℕ) → place-after-lts.Need-mul-feeder (
-  place-after-below t,
-  place-after.Post,
-  place-reads.Asked,
-  place-reads.Learnt,
-) (place-after-at t) place-after.Post place-after-Inv-loop place-after-μ-loop
-place-after-mul-feeder t c =
-    omega (arith, c .before .before .before .before .before .pre .1 .1, c .before .loop .inv .0, c .before .loop .inv .1 .placing .loaded .within .gates-in, c .before .loop .inv .1 .placing .loaded .within .inputs-in)
+place-after-pin-of-requires : (t : ℕ) → place-after-lts.Need-pin-of-requires (claims t) (place-after-at t) place-after.Post place-after-Inv-loop place-after-μ-loop
+place-after-pin-of-requires t c κs = (c .before .before .loop .inv .1 .placing .loaded, c .before .before .before .before .before .before .pre .1 .1, c .before .loop-test .taken)
 
--- src/lib.rt:60:33
-place-after-add-feeder : (t : ℕ) → place-after-lts.Need-add-feeder (
-  place-after-below t,
-  place-after.Post,
-  place-reads.Asked,
-  place-reads.Learnt,
-) (place-after-at t) place-after.Post place-after-Inv-loop place-after-μ-loop
-place-after-add-feeder t c =
-    omega (arith, c .before .before .before .before .before .pre .1 .1, c .before .loop .inv .0, c .before .loop .inv .1 .placing .loaded .within .gates-in, c .before .loop .inv .1 .placing .loaded .within .inputs-in)
-
--- src/lib.rt:60:24
-place-after-add-feeder-2 : (t : ℕ) → place-after-lts.Need-add-feeder-2 (
-  place-after-below t,
-  place-after.Post,
-  place-reads.Asked,
-  place-reads.Learnt,
-) (place-after-at t) place-after.Post place-after-Inv-loop place-after-μ-loop
-place-after-add-feeder-2 t c =
-    omega (arith, c .before .before .before .before .before .pre .1 .1, c .before .loop .inv .0, c .before .loop .inv .1 .placing .loaded .within .gates-in, c .before .loop .inv .1 .placing .loaded .within .inputs-in)
-
--- src/lib.rt:60:19
-place-after-mul-feeder-2 : (t : ℕ) → place-after-lts.Need-mul-feeder-2 (
-  place-after-below t,
-  place-after.Post,
-  place-reads.Asked,
-  place-reads.Learnt,
-) (place-after-at t) place-after.Post place-after-Inv-loop place-after-μ-loop
-place-after-mul-feeder-2 t c =
-    omega (arith, c .before .before .before .before .before .pre .1 .1, c .before .loop .inv .0, c .before .loop .inv .1 .placing .loaded .within .gates-in, c .before .loop .inv .1 .placing .loaded .within .inputs-in)
-
--- src/lib.rt:60:19
-place-after-slice-read-feeder : (t : ℕ) → place-after-lts.Need-slice-read-feeder (
-  place-after-below t,
-  place-after.Post,
-  place-reads.Asked,
-  place-reads.Learnt,
-) (place-after-at t) place-after.Post place-after-Inv-loop place-after-μ-loop
-place-after-slice-read-feeder t c =
-    omega (arith, c .before .before .before .before .before .before .pre .1 .1, c .before .loop-test .taken, c .before .before .loop .inv .1 .placing .loaded .room)
-
--- src/lib.rt:60:19
-place-after-cast-feeder : (t : ℕ) → place-after-lts.Need-cast-feeder (
-  place-after-below t,
-  place-after.Post,
-  place-reads.Asked,
-  place-reads.Learnt,
-) (place-after-at t) place-after.Post place-after-Inv-loop place-after-μ-loop
+place-after-cast-feeder : (t : ℕ) → place-after-lts.Need-cast-feeder (claims t) (place-after-at t) place-after.Post place-after-Inv-loop place-after-μ-loop
 place-after-cast-feeder t c =
-    omega (arith, c .slice-known3 .given (8 * c .before .before .before .before .before .before .args .k + (1 + c .before .before .loop .pin)))
+    let w = c .before .before .before .loop .inv .1 .placing .loaded .within in omega (arith, c .pin-of .ensures .there, w .gates-in, w .inputs-in)
 
--- src/lib.rt:61:16
-place-after-slice-read-if2 : (t : ℕ) → place-after-lts.Need-slice-read-if2 (
-  place-after-below t,
-  place-after.Post,
-  place-reads.Asked,
-  place-reads.Learnt,
-) (place-after-at t) place-after.Post place-after-Inv-loop place-after-μ-loop
+place-after-slice-read-if2 : (t : ℕ) → place-after-lts.Need-slice-read-if2 (claims t) (place-after-at t) place-after.Post place-after-Inv-loop place-after-μ-loop
 place-after-slice-read-if2 t c =
-    let i = c .before .before .before .loop .inv .1 in omega (arith, i .placing .marks-for .long, i .placing .marks-for .room, i .placing .loaded .gate _ (c .before .before .before .before .before .before .before .pre .1 .1) .pin (c .before .before .before .loop .pin) (c .before .before .loop-test .taken))
+    let m = c .before .before .before .before .loop .inv .1 .placing .marks-for in omega (arith, m .long, m .room, c .before .pin-of .ensures .there)
 
--- src/lib.rt:62:54
-place-after-mul-place-after : (t : ℕ) → place-after-lts.Need-mul-place-after (
-  place-after-below t,
-  place-after.Post,
-  place-reads.Asked,
-  place-reads.Learnt,
-) (place-after-at t) place-after.Post place-after-Inv-loop place-after-μ-loop
+place-after-mul-place-after : (t : ℕ) → place-after-lts.Need-mul-place-after (claims t) (place-after-at t) place-after.Post place-after-Inv-loop place-after-μ-loop
 place-after-mul-place-after t c =
-    omega (arith, c .before .before .before .before .before .before .before .before .before .before .pre .1 .1, c .before .before .before .before .before .before .loop .inv .0, c .before .before .before .before .before .before .loop .inv .1 .placing .loaded .within .gates-in, c .before .before .before .before .before .before .loop .inv .1 .placing .loaded .within .inputs-in)
+    let l = c .before .before .before .before .before .before .before in
+    let w = l .loop .inv .1 .placing .loaded .within in
+    omega (arith, l .before .before .before .before .pre .1 .1, l .loop .inv .0, w .gates-in, w .inputs-in)
 
--- src/lib.rt:62:48
-place-after-sub-place-after : (t : ℕ) → place-after-lts.Need-sub-place-after (
-  place-after-below t,
-  place-after.Post,
-  place-reads.Asked,
-  place-reads.Learnt,
-) (place-after-at t) place-after.Post place-after-Inv-loop place-after-μ-loop
+place-after-sub-place-after : (t : ℕ) → place-after-lts.Need-sub-place-after (claims t) (place-after-at t) place-after.Post place-after-Inv-loop place-after-μ-loop
 place-after-sub-place-after t c =
-    pin-waits _ _ _ _ _ _ _ (c .before .before .before .before .before .before .before .before .before .before .pre .1 .1) _ (c .before .before .before .before .before .before .loop .inv .1) (c .before .before .if2 .taken) .0
+    let is = c .before .before .before .before .pin-of .ensures .is in
+    rw is (pin-waits _ _ _ _ _ _ _ (c .before .before .before .before .before .before .before .before .before .before .before .pre .1 .1) _
+    (c .before .before .before .before .before .before .before .loop .inv .1) (rw is at (c .before .before .if2 .taken)) .0)
 
--- src/lib.rt:62:90
-place-after-sub-place-after-2 : (t : ℕ) → place-after-lts.Need-sub-place-after-2 (
-  place-after-below t,
-  place-after.Post,
-  place-reads.Asked,
-  place-reads.Learnt,
-) (place-after-at t) place-after.Post place-after-Inv-loop place-after-μ-loop
-place-after-sub-place-after-2 t c =
-    omega (arith, c .before .before .before .before .before .before .before .before .if1 .left)
+place-after-sub-place-after-2 : (t : ℕ) → place-after-lts.Need-sub-place-after-2 (claims t) (place-after-at t) place-after.Post place-after-Inv-loop place-after-μ-loop
+place-after-sub-place-after-2 t c = omega (arith, c .before .before .before .before .before .before .before .before .before .if1 .left)
 
--- src/lib.rt:62:13
-place-after-place-after-requires : (t : ℕ) → place-after-lts.Need-place-after-requires (
-  place-after-below t,
-  place-after.Post,
-  place-reads.Asked,
-  place-reads.Learnt,
-) (place-after-at t) place-after.Post place-after-Inv-loop place-after-μ-loop
+place-after-place-after-requires : (t : ℕ) → place-after-lts.Need-place-after-requires (claims t) (place-after-at t) place-after.Post place-after-Inv-loop place-after-μ-loop
 place-after-place-after-requires t c κs =
-    let z = c .before .before .before .before .before .before .before .before .before .before .before in (omega (arith, z .pre .0, c .before .before .before .before .before .before .before .before .if1 .left), (c .before .before .before .before .before .before .before .loop .inv .1 .placing, pin-waits _ _ _ _ _ _ _ (z .pre .1 .1) _ (c .before .before .before .before .before .before .before .loop .inv .1) (c .before .before .before .if2 .taken) .1))
+    let z = c .before .before .before .before .before .before .before .before .before .before .before .before in
+    let is = c .before .before .before .before .before .pin-of .ensures .is in
+    let l = c .before .before .before .before .before .before .before .before .loop .inv .1 in
+    let waits = pin-waits _ _ _ _ _ _ _ (z .pre .1 .1) _ l (rw is at (c .before .before .before .if2 .taken)) .1 in
+    rw is (omega (arith, z .pre .0, c .before .before .before .before .before .before .before .before .before .if1 .left), (l .placing, waits))
 
--- src/lib.rt:63:20
-place-after-slice-read-if3 : (t : ℕ) → place-after-lts.Need-slice-read-if3 (
-  place-after-below t,
-  place-after.Post,
-  place-reads.Asked,
-  place-reads.Learnt,
-) (place-after-at t) place-after.Post place-after-Inv-loop place-after-μ-loop
+place-after-slice-read-if3 : (t : ℕ) → place-after-lts.Need-slice-read-if3 (claims t) (place-after-at t) place-after.Post place-after-Inv-loop place-after-μ-loop
 place-after-slice-read-if3 t c =
-    let p = c .before .before .before .before .before .place-after .ensures in let i = c .before .before .before .before .before .before .before .before .before .before .before .before .before .loop .inv .1 in omega (arith, p .placing .marks-for .long, p .placing .marks-for .room, i .placing .loaded .gate _ (c .before .before .before .before .before .before .before .before .before .before .before .before .before .before .before .before .before .pre .1 .1) .pin (c .before .before .before .before .before .before .before .before .before .before .before .before .before .loop .pin) (c .before .before .before .before .before .before .before .before .before .before .before .before .loop-test .taken))
+    let m = c .before .before .before .before .before .place-after .ensures .placing .marks-for in
+    omega (arith, m .long, m .room, c .before .before .before .before .before .before .before .before .before .before .before .pin-of .ensures .there)
 
--- src/lib.rt:64:17
-place-after-same-length : (t : ℕ) → place-after-lts.Need-same-length (
-  place-after-below t,
-  place-after.Post,
-  place-reads.Asked,
-  place-reads.Learnt,
-) (place-after-at t) place-after.Post place-after-Inv-loop place-after-μ-loop
+place-after-same-length : (t : ℕ) → place-after-lts.Need-same-length (claims t) (place-after-at t) place-after.Post place-after-Inv-loop place-after-μ-loop
 place-after-same-length t c =
-    c .before .before .before .before .before .before .place-after .ensures .reordered .long ∙ c .before .before .before .before .before .before .before .before .before .before .before .before .before .before .loop .inv .1 .reordered .long
+    c .before .before .before .before .before .before .place-after .ensures .reordered .long
+    ∙ c .before .before .before .before .before .before .before .before .before .before .before .before .before .before .before .loop .inv .1 .reordered .long
 
--- src/lib.rt:64:17
-place-after-same-length-2 : (t : ℕ) → place-after-lts.Need-same-length-2 (
-  place-after-below t,
-  place-after.Post,
-  place-reads.Asked,
-  place-reads.Learnt,
-) (place-after-at t) place-after.Post place-after-Inv-loop place-after-μ-loop
+place-after-same-length-2 : (t : ℕ) → place-after-lts.Need-same-length-2 (claims t) (place-after-at t) place-after.Post place-after-Inv-loop place-after-μ-loop
 place-after-same-length-2 t c =
-    let z = c .before .before .before .before .before .before .before .before .before .before .before .before .before .before .before .before .before .before in c .before .before .before .before .before .before .place-after .ensures .placing .marks-for .long ∙ sym (z .pre .1 .0 .marks-for .long)
+    let z = c .before .before .before .before .before .before .before .before .before .before .before .before .before .before .before .before .before .before .before in
+    c .before .before .before .before .before .before .place-after .ensures .placing .marks-for .long ∙ sym (z .pre .1 .0 .marks-for .long)
 
--- src/lib.rt:64:17
-place-after-returns-2 : (t : ℕ) → place-after-lts.Need-returns-2 (
-  place-after-below t,
-  place-after.Post,
-  place-reads.Asked,
-  place-reads.Learnt,
-) (place-after-at t) place-after.Post place-after-Inv-loop place-after-μ-loop
+place-after-returns-2 : (t : ℕ) → place-after-lts.Need-returns-2 (claims t) (place-after-at t) place-after.Post place-after-Inv-loop place-after-μ-loop
 place-after-returns-2 t c =
-    let z = c .before .before .before .before .before .before .before .before .before .before .before .before .before .before .before .before .before .before in let p = c .before .before .before .before .before .before .place-after in let e : suc (z .args .depth - 1) ≡ z .args .depth = omega (arith, c .before .before .before .before .before .before .before .before .before .before .before .before .before .before .before .if1 .left) in
+    let z = c .before .before .before .before .before .before .before .before .before .before .before .before .before .before .before .before .before .before .before in
+    let p = c .before .before .before .before .before .before .place-after in
+    let e : suc (z .args .depth - 1) ≡ z .args .depth = omega
+    (arith, c .before .before .before .before .before .before .before .before .before .before .before .before .before .before .before .before .if1 .left) in
+    let is = c .before .before .before .before .before .before .before .before .before .before .before .before .pin-of .ensures .is in
     subst (PlacedAfter (z .args .counts) (now (z .args .code)) (p .last .0) (now (z .args .waiting)) (p .last .1 .1 .1 .0) (p .result) (z .args .k)) e
-    (pins-stuck _ _ _ _ _ _ _ (z .pre .1 .1) _ (c .before .before .before .before .before .before .before .before .before .before .before .before .before .before .loop .inv .1) (c .before .before .before .before .before .before .before .before .before .before .before .before .before .loop-test .taken) _ _ _ _ (c .before .before .before .before .before .before .before .before .before .before .if2 .taken) (p .ensures) (c .if3 .taken))
+    (pins-stuck _ _ _ _ _ _ _ (z .pre .1 .1) _
+    (c .before .before .before .before .before .before .before .before .before .before .before .before .before .before .before .loop .inv .1)
+    (c .before .before .before .before .before .before .before .before .before .before .before .before .before .before .loop-test .taken) _ _ _ _
+    (rw is at (c .before .before .before .before .before .before .before .before .before .before .if2 .taken)) (rw is at (p .ensures)) (rw is at (c .if3 .taken)))
 
--- src/lib.rt:67:9
-place-after-add-pin : (t : ℕ) → place-after-lts.Need-add-pin (
-  place-after-below t,
-  place-after.Post,
-  place-reads.Asked,
-  place-reads.Learnt,
-) (place-after-at t) place-after.Post place-after-Inv-loop place-after-μ-loop
-place-after-add-pin t c =
-    omega arith
+place-after-add-pin : (t : ℕ) → place-after-lts.Need-add-pin (claims t) (place-after-at t) place-after.Post place-after-Inv-loop place-after-μ-loop
+place-after-add-pin t c = omega arith
 
--- src/lib.rt:59:5
-place-after-loop-less : (t : ℕ) → place-after-lts.Need-loop-less (
-  place-after-below t,
-  place-after.Post,
-  place-reads.Asked,
-  place-reads.Learnt,
-) (place-after-at t) place-after.Post place-after-Inv-loop place-after-μ-loop
-place-after-loop-less t c =
-    omega arith
+place-after-loop-less : (t : ℕ) → place-after-lts.Need-loop-less (claims t) (place-after-at t) place-after.Post place-after-Inv-loop place-after-μ-loop
+place-after-loop-less t c = omega arith
 
--- src/lib.rt:59:5
-place-after-loop-again : (t : ℕ) → place-after-lts.Need-loop-again (
-  place-after-below t,
-  place-after.Post,
-  place-reads.Asked,
-  place-reads.Learnt,
-) (place-after-at t) place-after.Post place-after-Inv-loop place-after-μ-loop
+place-after-loop-again : (t : ℕ) → place-after-lts.Need-loop-again (claims t) (place-after-at t) place-after.Post place-after-Inv-loop place-after-μ-loop
 place-after-loop-again t c =
-    let z = c .before .before .before .before .before .before .before .before in let l = c .before .before .before .before .loop in let h = c .before .before .before .loop-test .taken in
+    let z = c .before .before .before .before .before .before .before .before .before in
+    let l = c .before .before .before .before .before .loop in
+    let h = c .before .before .before .before .loop-test .taken in
+    let is = c .before .before .pin-of .ensures .is in
     let on : List ℕ → List ℕ → ℕ → Type 0 = λ u v m. AfterPins (z .args .counts) (now (z .args .code)) u (now (z .args .waiting)) v m (z .args .k) (l .pin + 1) in (
       omega arith,
       ⊎-elim
-          (λ w. subst₃ on (sym (w .11)) (sym (w .12)) (sym (w .13)) (pins-more _ _ _ _ _ _ _ (z .pre .1 .1) _ (l .inv .1) h _ _ _ _ (w .0 .taken) (w .4 .ensures) (w .10 .left)))
-          (λ w. subst₃ on (sym (w .1)) (sym (w .2)) (sym (w .3)) (pins-skip _ _ _ _ _ _ _ (z .pre .1 .1) _ (l .inv .1) (w .0 .left)))
+          (λ w. subst₃ on (sym (w .11)) (sym (w .12)) (sym (w .13))
+          (pins-more _ _ _ _ _ _ _ (z .pre .1 .1) _ (l .inv .1) h _ _ _ _ (rw is at (w .0 .taken)) (rw is at (w .4 .ensures)) (rw is at (w .10 .left))))
+          (λ w. subst₃ on (sym (w .1)) (sym (w .2)) (sym (w .3)) (pins-skip _ _ _ _ _ _ _ (z .pre .1 .1) _ (l .inv .1) (rw is at (w .0 .left))))
           (c .if2 .came),
     )
 
--- src/lib.rt:69:16
-place-after-mul-if4 : (t : ℕ) → place-after-lts.Need-mul-if4 (
-  place-after-below t,
-  place-after.Post,
-  place-reads.Asked,
-  place-reads.Learnt,
-) (place-after-at t) place-after.Post place-after-Inv-loop place-after-μ-loop
+place-after-mul-if4 : (t : ℕ) → place-after-lts.Need-mul-if4 (claims t) (place-after-at t) place-after.Post place-after-Inv-loop place-after-μ-loop
 place-after-mul-if4 t c =
     omega (arith, c .before .before .before .before .before .before .pre .1 .1, c .before .before .loop .inv .0, c .before .before .loop .inv .1 .placing .loaded .within .gates-in, c .before .before .loop .inv .1 .placing .loaded .within .inputs-in)
 
--- src/lib.rt:69:16
-place-after-add-if4 : (t : ℕ) → place-after-lts.Need-add-if4 (
-  place-after-below t,
-  place-after.Post,
-  place-reads.Asked,
-  place-reads.Learnt,
-) (place-after-at t) place-after.Post place-after-Inv-loop place-after-μ-loop
+place-after-add-if4 : (t : ℕ) → place-after-lts.Need-add-if4 (claims t) (place-after-at t) place-after.Post place-after-Inv-loop place-after-μ-loop
 place-after-add-if4 t c =
     omega (arith, c .before .before .before .before .before .before .pre .1 .1, c .before .before .loop .inv .0, c .before .before .loop .inv .1 .placing .loaded .within .gates-in, c .before .before .loop .inv .1 .placing .loaded .within .inputs-in)
 
--- src/lib.rt:69:8
-place-after-slice-read-if4 : (t : ℕ) → place-after-lts.Need-slice-read-if4 (
-  place-after-below t,
-  place-after.Post,
-  place-reads.Asked,
-  place-reads.Learnt,
-) (place-after-at t) place-after.Post place-after-Inv-loop place-after-μ-loop
+place-after-slice-read-if4 : (t : ℕ) → place-after-lts.Need-slice-read-if4 (claims t) (place-after-at t) place-after.Post place-after-Inv-loop place-after-μ-loop
 place-after-slice-read-if4 t c =
     let i = c .before .before .before .loop .inv .1 in omega (arith, c .before .before .before .before .before .before .before .pre .1 .1, i .placing .marks-for .long, i .placing .marks-for .room)
 
--- src/lib.rt:70:9
-place-after-same-length-3 : (t : ℕ) → place-after-lts.Need-same-length-3 (
-  place-after-below t,
-  place-after.Post,
-  place-reads.Asked,
-  place-reads.Learnt,
-) (place-after-at t) place-after.Post place-after-Inv-loop place-after-μ-loop
-place-after-same-length-3 t c =
-    c .before .before .before .before .loop .inv .1 .reordered .long
+place-after-same-length-3 : (t : ℕ) → place-after-lts.Need-same-length-3 (claims t) (place-after-at t) place-after.Post place-after-Inv-loop place-after-μ-loop
+place-after-same-length-3 t c = c .before .before .before .before .loop .inv .1 .reordered .long
 
--- src/lib.rt:70:9
-place-after-same-length-4 : (t : ℕ) → place-after-lts.Need-same-length-4 (
-  place-after-below t,
-  place-after.Post,
-  place-reads.Asked,
-  place-reads.Learnt,
-) (place-after-at t) place-after.Post place-after-Inv-loop place-after-μ-loop
+place-after-same-length-4 : (t : ℕ) → place-after-lts.Need-same-length-4 (claims t) (place-after-at t) place-after.Post place-after-Inv-loop place-after-μ-loop
 place-after-same-length-4 t c =
     let z = c .before .before .before .before .before .before .before .before in c .before .before .before .before .loop .inv .1 .placing .marks-for .long ∙ sym (z .pre .1 .0 .marks-for .long)
 
--- src/lib.rt:70:9
-place-after-returns-3 : (t : ℕ) → place-after-lts.Need-returns-3 (
-  place-after-below t,
-  place-after.Post,
-  place-reads.Asked,
-  place-reads.Learnt,
-) (place-after-at t) place-after.Post place-after-Inv-loop place-after-μ-loop
+place-after-returns-3 : (t : ℕ) → place-after-lts.Need-returns-3 (claims t) (place-after-at t) place-after.Post place-after-Inv-loop place-after-μ-loop
 place-after-returns-3 t c =
     let z = c .before .before .before .before .before .before .before .before in let four : c .before .before .before .before .loop .pin ≡ 4 = omega (arith, c .before .before .before .before .loop .inv .0, c .before .before .before .loop-test .left) in after-gone _ _ _ _ _ _ _ (z .pre .1 .1) (subst (AfterPins (z .args .counts) (now (z .args .code)) (c .before .before .before .before .loop .code) (now (z .args .waiting)) (c .before .before .before .before .loop .waiting) (c .before .before .before .before .loop .placed) (z .args .k)) four (c .before .before .before .before .loop .inv .1)) _ (c .if4 .taken)
 
--- src/lib.rt:72:5
-place-after-place-requires : (t : ℕ) → place-after-lts.Need-place-requires (
-  place-after-below t,
-  place-after.Post,
-  place-reads.Asked,
-  place-reads.Learnt,
-) (place-after-at t) place-after.Post place-after-Inv-loop place-after-μ-loop
+place-after-place-requires : (t : ℕ) → place-after-lts.Need-place-requires (claims t) (place-after-at t) place-after.Post place-after-Inv-loop place-after-μ-loop
 place-after-place-requires t c κs =
     let z = c .before .before .before .before .before .before .before .before .before .before in let four : c .before .before .before .before .before .before .loop .pin ≡ 4 = omega (arith, c .before .before .before .before .before .before .loop .inv .0, c .before .before .before .before .before .loop-test .left) in (c .before .before .before .before .before .before .loop .inv .1 .placing, z .pre .1 .1, after-ready _ _ _ _ _ _ _ (z .pre .1 .1) (subst (AfterPins (z .args .counts) (now (z .args .code)) (c .before .before .before .before .before .before .loop .code) (now (z .args .waiting)) (c .before .before .before .before .before .before .loop .waiting) (c .before .before .before .before .before .before .loop .placed) (z .args .k)) four (c .before .before .before .before .before .before .loop .inv .1)) 0 (c .before .before .if4 .left))
 
--- src/lib.rt:73:5
-place-after-add-result : (t : ℕ) → place-after-lts.Need-add-result (
-  place-after-below t,
-  place-after.Post,
-  place-reads.Asked,
-  place-reads.Learnt,
-) (place-after-at t) place-after.Post place-after-Inv-loop place-after-μ-loop
+place-after-add-result : (t : ℕ) → place-after-lts.Need-add-result (claims t) (place-after-at t) place-after.Post place-after-Inv-loop place-after-μ-loop
 place-after-add-result t c =
     let i = c .before .before .before .before .before .before .before .before .before .before .before .loop .inv .1 in omega (arith, i .placing .total, i .placing .loaded .within .gates-in)
 
--- src/lib.rt:50:1
-place-after-same-length-5 : (t : ℕ) → place-after-lts.Need-same-length-5 (
-  place-after-below t,
-  place-after.Post,
-  place-reads.Asked,
-  place-reads.Learnt,
-) (place-after-at t) place-after.Post place-after-Inv-loop place-after-μ-loop
+place-after-same-length-5 : (t : ℕ) → place-after-lts.Need-same-length-5 (claims t) (place-after-at t) place-after.Post place-after-Inv-loop place-after-μ-loop
 place-after-same-length-5 t c =
     c .before .before .before .before .place .ensures .1 .long ∙ c .before .before .before .before .before .before .before .before .before .before .before .loop .inv .1 .reordered .long
 
--- src/lib.rt:50:1
-place-after-same-length-6 : (t : ℕ) → place-after-lts.Need-same-length-6 (
-  place-after-below t,
-  place-after.Post,
-  place-reads.Asked,
-  place-reads.Learnt,
-) (place-after-at t) place-after.Post place-after-Inv-loop place-after-μ-loop
+place-after-same-length-6 : (t : ℕ) → place-after-lts.Need-same-length-6 (claims t) (place-after-at t) place-after.Post place-after-Inv-loop place-after-μ-loop
 place-after-same-length-6 t c =
     let z = c .before .before .before .before .before .before .before .before .before .before .before .before .before .before .before in c .before .before .before .before .place .ensures .0 .marks-for .long ∙ sym (z .pre .1 .0 .marks-for .long)
 
--- src/lib.rt:50:1
-place-after-returns-4 : (t : ℕ) → place-after-lts.Need-returns-4 (
-  place-after-below t,
-  place-after.Post,
-  place-reads.Asked,
-  place-reads.Learnt,
-) (place-after-at t) place-after.Post place-after-Inv-loop place-after-μ-loop
+place-after-returns-4 : (t : ℕ) → place-after-lts.Need-returns-4 (claims t) (place-after-at t) place-after.Post place-after-Inv-loop place-after-μ-loop
 place-after-returns-4 t c =
     let z = c .before .before .before .before .before .before .before .before .before .before .before .before .before .before .before in let four : c .before .before .before .before .before .before .before .before .before .before .before .loop .pin ≡ 4 = omega (arith, c .before .before .before .before .before .before .before .before .before .before .before .loop .inv .0, c .before .before .before .before .before .before .before .before .before .before .loop-test .left) in let p = c .before .before .before .before .place in
     subst (λ (v : List ℕ). PlacedAfter (z .args .counts) (now (z .args .code)) (p .last .0) (now (z .args .waiting)) v (c .before .before .before .before .before .before .before .before .before .before .before .loop .placed + 1) (z .args .k) (z .args .depth)) (sym (p .ensures .2))
     (after-placed _ _ _ _ _ _ _ (z .pre .1 .1) (subst (AfterPins (z .args .counts) (now (z .args .code)) (c .before .before .before .before .before .before .before .before .before .before .before .loop .code) (now (z .args .waiting)) (c .before .before .before .before .before .before .before .before .before .before .before .loop .waiting) (c .before .before .before .before .before .before .before .before .before .before .before .loop .placed) (z .args .k)) four (c .before .before .before .before .before .before .before .before .before .before .before .loop .inv .1)) _ _ (subst (λ (v : List ℕ). Placing (z .args .counts) (p .last .0) v (c .before .before .before .before .before .before .before .before .before .before .before .loop .placed + 1)) (p .ensures .2) (p .ensures .0)) (p .ensures .1))
 
 pub +place-after-spec : {M : Type 1} → statement M
-+place-after-spec = close μ-place-after λ t. place-after-lts.spec (
-  place-after-below t,
-  place-after.Post,
-  place-reads.Asked,
-  place-reads.Learnt,
-)
++place-after-spec = close μ-place-after λ t. place-after-lts.spec (claims t)
     (place-after-at t)
     place-after.Post
     place-after-Inv-loop
     place-after-μ-loop
     (place-after-returns t)
     (place-after-loop-holds t)
-    (place-after-mul-feeder t)
-    (place-after-add-feeder t)
-    (place-after-add-feeder-2 t)
-    (place-after-mul-feeder-2 t)
-    (place-after-slice-read-feeder t)
+    (place-after-pin-of-requires t)
     (place-after-cast-feeder t)
     (place-after-slice-read-if2 t)
     (place-after-mul-place-after t)

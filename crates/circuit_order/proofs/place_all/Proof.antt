@@ -4,7 +4,7 @@ use mathlib.Core.Path.{_≡_, sym, _∙_, subst}
 use native.Mathlib.Omega.{arith}
 use borrow.Author.Needs.{needs}
 use denote.Ref.{now}
-use Rattle.circuit_order.proofs.Reordering.{reordered-refl, reordered-trans}
+use Rattle.circuit.proofs.Reordering.{reordered-refl, reordered-trans}
 use Rattle.circuit_order.proofs.Placing.{placing-start}
 use Rattle.circuit_order.proofs.After.{PlacedTo, placed-start, placed-more, placed-stuck, placed-full}
 use Rattle.circuit_order.proofs.place_all.Statement.{statement}

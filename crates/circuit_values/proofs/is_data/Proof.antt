@@ -1,38 +1,8 @@
 -- `circuit_values::is_data` meets its contract. Assumes nothing.
-use denote.Ref.{now}
-use Rattle.circuit_values.proofs.Outputs.{rail0-there, rail1-there, levels-data}
+use Rattle.circuit_values.proofs.Outputs.{levels-data}
 use borrow.Author.Needs.{needs}
 use Rattle.circuit_values.proofs.is_data.Statement.{statement}
 use Rattle.circuit_values.proofs.is_data.Tie as tie
 
-level-requires : tie.Need-level-requires
-level-requires c κs =
-    let z = c .before .before .before .before in
-    rail0-there (z .args .counts) (now (z .args .code)) (now (z .args .row)) (z .pre .0) (z .pre .2) (z .args .j) (z .pre .1)
-
-level-requires-2 : tie.Need-level-requires-2
-level-requires-2 c κs =
-    let z = c .before .before .before .before .before .before in
-    rail1-there (z .args .counts) (now (z .args .code)) (now (z .args .row)) (z .pre .0) (z .pre .2) (z .args .j) (z .pre .1)
-
-returns : tie.Need-returns
-returns c =
-    let z = c .before .before .before .before .before .before .before in
-    levels-data (z .args .counts) (now (z .args .code)) (now (z .args .row)) (z .pre .0) (z .pre .2) (z .args .j) (z .pre .1) _ _
-    (c .before .before .level .ensures) (c .level2 .ensures)
-
 pub is-data-spec : {M : Type 1} → statement M
-is-data-spec =
-    tie.close
-    (tie.spec
-    (λ c. search needs)
-    (λ c. search needs)
-    (λ c. search needs)
-    (λ c. search needs)
-    (λ c. search needs)
-    level-requires
-    (λ c. search needs)
-    (λ c. search needs)
-    (λ c. search needs)
-    level-requires-2
-    returns)
+is-data-spec = tie.close (tie.spec (λ c κs. search needs) (λ c. levels-data _ _ _ (c .before .rail-levels .ensures)))

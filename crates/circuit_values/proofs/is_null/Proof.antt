@@ -1,37 +1,12 @@
 -- `circuit_values::is_null` meets its contract. Assumes nothing.
-use denote.Ref.{now}
-use Rattle.circuit_values.proofs.Outputs.{rail0-there, rail1-there, levels-null}
+use native.Mathlib.Omega.{arith}
+use Rattle.circuit_values.proofs.Outputs.{levels-null}
 use borrow.Author.Needs.{needs}
 use Rattle.circuit_values.proofs.is_null.Statement.{statement}
 use Rattle.circuit_values.proofs.is_null.Tie as tie
 
-level-requires : tie.Need-level-requires
-level-requires c κs = let z = c .before .before .before .before in rail0-there (z .args .counts) (now (z .args .code)) (now (z .args .row)) (z .pre .0) (z .pre .2) (z .args .j) (z .pre .1)
-
-level-requires-2 : tie.Need-level-requires-2
-level-requires-2 c κs =
-    let z = c .before .before .before .before .before .before in
-    rail1-there (z .args .counts) (now (z .args .code)) (now (z .args .row)) (z .pre .0) (z .pre .2) (z .args .j) (z .pre .1)
-
-returns : tie.Need-returns
-returns c =
-    let z = c .before .before .before .before .before .before .before in
-    levels-null (z .args .counts) (now (z .args .code)) (now (z .args .row)) (z .pre .0) (z .pre .2) (z .args .j) (z .pre .1) _ _
-    (c .before .before .level .ensures) (c .level2 .ensures)
+add-result : tie.Need-add-result
+add-result c = let l = c .before .rail-levels .ensures in omega (arith, l .rail0-small, l .rail1-small)
 
 pub is-null-spec : {M : Type 1} → statement M
-is-null-spec =
-    tie.close
-    (tie.spec
-    (λ c. search needs)
-    (λ c. search needs)
-    (λ c. search needs)
-    (λ c. search needs)
-    (λ c. search needs)
-    level-requires
-    (λ c. search needs)
-    (λ c. search needs)
-    (λ c. search needs)
-    level-requires-2
-    (λ c. search needs)
-    returns)
+is-null-spec = tie.close (tie.spec (λ c κs. search needs) add-result (λ c. levels-null _ _ _ (c .before .rail-levels .ensures)))

@@ -15,9 +15,8 @@ returns c =
 
 returns-2 : tie.Need-returns-2
 returns-2 c =
-    let z = c .before .before .before .before .before .before in
+    let z = c .before .before .before .before in
     care-masks (z .args .counts) (now (z .args .code)) (λ none. omega arith) (c .listed-words .result) (c .listed-words .ensures)
 
 pub word-masks-spec : {M : Type 1} → statement M
-word-masks-spec =
-    tie.close (tie.spec returns (λ c. search needs) (λ c. search needs) (λ c. search needs) (λ c κs. search needs) returns-2)
+word-masks-spec = tie.close (tie.spec returns (λ c κs. search needs) returns-2)

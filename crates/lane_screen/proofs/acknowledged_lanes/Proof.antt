@@ -1,6 +1,6 @@
 -- `lane_screen::acknowledged_lanes` meets its contract. Assumes nothing.
 use Prim.Native.Nat.{_+_, _*_}
-use mathlib.Core.Path.{refl, sym, subst}
+use mathlib.Core.Path.{refl, sym, subst, _∙_}
 use mathlib.Core.Bool.{Bool}
 use lib.ListN.{getD}
 use lib.Bits.{bitXor}
@@ -17,14 +17,15 @@ returns c =
     let z = c .before .before .before .before .before .before .before in
     let high = getD (now (z .args .row)) (2 * z .args .counts .inputs + z .args .k) 0 in
     subst (λ (falls : Bool). PinsAcknowledged falls (z .args .counts) (now (z .args .code)) (z .args .k) (now (z .args .row)) (needing high high high high high)) (sym (c .before .before .if1 .taken))
-    (acknowledged-hold (z .args .counts) (now (z .args .code)) (z .pre .0) (z .pre .1) (z .args .k) (z .pre .2) (now (z .args .row)) (c .if2 .taken) high refl)
+    (acknowledged-hold (z .args .counts) (now (z .args .code)) (z .pre .0) (z .pre .1) (z .args .k) (z .pre .2) (now (z .args .row)) (sym (c .before .has-hold .ensures) ∙ c .if2 .taken) high refl)
 
 returns-2 : tie.Need-returns-2
 returns-2 c =
     let z = c .before .before .before .before .before .before .before .before .before in
     subst (λ (falls : Bool). PinsAcknowledged falls (z .args .counts) (now (z .args .code)) (z .args .k) (now (z .args .row)) (c .cofactors .result))
     (sym (c .before .before .before .before .if1 .taken))
-    (acknowledged-relaxed (z .args .counts) (now (z .args .code)) (z .pre .0) (z .pre .1) (z .args .k) (z .pre .2) (now (z .args .row)) (c .before .before .if2 .left)
+    (acknowledged-relaxed (z .args .counts) (now (z .args .code)) (z .pre .0) (z .pre .1) (z .args .k) (z .pre .2) (now (z .args .row))
+    (sym (c .before .before .before .has-hold .ensures) ∙ c .before .before .if2 .left)
     (c .cofactors .result) (c .cofactors .ensures))
 
 returns-3 : tie.Need-returns-3
@@ -32,7 +33,8 @@ returns-3 c =
     let z = c .before .before .before .before .before .before .before .before .before in
     subst (λ (falls : Bool). PinsAcknowledged falls (z .args .counts) (now (z .args .code)) (z .args .k) (now (z .args .row)) (c .lone-gate .result))
     (sym (c .before .before .before .before .if1 .taken))
-    (acknowledged-lone (z .args .counts) (now (z .args .code)) (z .pre .0) (z .pre .1) (z .args .k) (z .pre .2) (now (z .args .row)) (c .before .before .if2 .left)
+    (acknowledged-lone (z .args .counts) (now (z .args .code)) (z .pre .0) (z .pre .1) (z .args .k) (z .pre .2) (now (z .args .row))
+    (sym (c .before .before .before .has-hold .ensures) ∙ c .before .before .if2 .left)
     (c .lone-gate .result) (c .lone-gate .ensures))
 
 returns-4 : tie.Need-returns-4
@@ -53,10 +55,7 @@ acknowledged-lanes-spec =
     (λ c. search needs)
     (λ c. search needs)
     (λ c. search needs)
-    (λ c. search needs)
-    (λ c. search needs)
-    (λ c. search needs)
-    (λ c. search needs)
+    (λ c κs. search needs)
     returns
     (λ c κs. search needs)
     returns-2

@@ -15,8 +15,8 @@ returns c e w i =
 
 returns-2 : tie.Need-returns-2
 returns-2 c e w i =
-    let z = c .before .before .before .before .before .before .before in
-    let p = care-words (z .args .counts) (now (z .args .code)) (c .before .before .before .if1 .left) w i in
+    let z = c .before .before .before .before .before in
+    let p = care-words (z .args .counts) (now (z .args .code)) (c .before .if1 .left) w i in
     subst (Unnamed (now (z .args .mask))) (p .2) (c .none-listed .ensures e (p .0) (p .1))
 
 pub none-named-spec : {M : Type 1} → statement M
@@ -25,8 +25,5 @@ none-named-spec =
     (tie.spec
     (λ c κs. c .before .before .before .before .pre .within .inputs-in)
     returns
-    (λ c. search needs)
-    (λ c. search needs)
-    (λ c. search needs)
-    (λ c κs. c .before .before .before .before .before .before .pre .room)
+    (λ c κs. search needs)
     returns-2)

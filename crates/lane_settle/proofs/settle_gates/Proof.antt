@@ -1,11 +1,11 @@
 -- `lane_settle::settle_gates` meets its contract. The loop's invariant: the gates before place i of the order have their levels in all words, and what
 -- they mark is marked. The measure is what is left of the order. Assumes nothing.
-use Prim.Native.Nat.{_+_, _-_, _*_, _≤_}
+use Prim.Native.Nat.{_-_, _≤_}
 use native.Mathlib.Omega.{arith}
 use mathlib.Core.Path.{_≡_, subst}
 use denote.Ref.{now}
-use Rattle.circuit.proofs.Settling.{order-gate}
-use Rattle.lane_settle.specs.Block.{LanesSettledTo}
+use borrow.Author.Needs.{needs}
+use Rattle.lane_settle.specs.Block.{restIn, LanesSettledTo}
 use Rattle.lane_settle.proofs.Turns.{BlockTo, block-start, block-turn}
 use Rattle.lane_settle.proofs.settle_gates.Statement.{statement}
 use Rattle.lane_settle.proofs.settle_gates.Tie as tie
@@ -19,39 +19,21 @@ abbrev μ-loop : tie.MeasureT-loop
 loop-holds : tie.Need-loop-holds Inv-loop μ-loop
 loop-holds c = (omega arith, block-start _ _ _ _)
 
-shared-slice-read-k : tie.Need-shared-slice-read-k Inv-loop μ-loop
-shared-slice-read-k c = let z = c .before .before .before .before .before .before .before in omega (arith, z .pre .0 .room)
-
-cast-k : tie.Need-cast-k Inv-loop μ-loop
-cast-k c = omega (arith, c .shared-slice-known2 .given (8 * c .before .before .loop .i + 5))
-
 gate-lanes-requires : tie.Need-gate-lanes-requires Inv-loop μ-loop
-gate-lanes-requires c κs =
-    let z = c .before .before .before .before .before .before .before .before in
-    let l = c .before .before .before .loop in
-    (z .pre .0, order-gate (z .args .counts) (now (z .args .code)) (z .pre .1) (l .i) (omega arith), omega (arith, z .pre .2, l .inv .1 .row-long))
-
-add-row : tie.Need-add-row Inv-loop μ-loop
-add-row c =
-    let z = c .before .before .before .before .before .before .before .before .before in
-    omega (arith, z .pre .2, order-gate (z .args .counts) (now (z .args .code)) (z .pre .1) (c .before .before .before .before .loop .i) (omega arith))
-
-mul-row : tie.Need-mul-row Inv-loop μ-loop
-mul-row c =
-    let z = c .before .before .before .before .before .before .before .before .before in
-    omega (arith, z .pre .0 .within .inputs-in, z .pre .0 .within .gates-in, order-gate (z .args .counts) (now (z .args .code)) (z .pre .1) (c .before .before .before .before .loop .i) (omega arith))
-
-slice-write-row : tie.Need-slice-write-row Inv-loop μ-loop
-slice-write-row c =
-    let z = c .before .before .before .before .before .before .before .before .before in
-    let l = c .before .before .before .before .loop in
-    omega (arith, z .pre .2, l .inv .1 .row-long, order-gate (z .args .counts) (now (z .args .code)) (z .pre .1) (l .i) (omega arith))
+gate-lanes-requires c κs = (
+  c .before .before .before .before .before .before .before .before .pre .0,
+  c .before .gate-at .ensures .there,
+  omega
+      (arith, c .before .before .before .loop .inv .1 .row-long),
+)
 
 mark-pins-requires : tie.Need-mark-pins-requires Inv-loop μ-loop
-mark-pins-requires c κs =
-    let z = c .before .before .before .before .before .before .before .before .before .before in
-    let l = c .before .before .before .before .before .loop in
-    (z .pre .0, order-gate (z .args .counts) (now (z .args .code)) (z .pre .1) (l .i) (omega arith), omega (arith, z .pre .3, l .inv .1 .ack-long))
+mark-pins-requires c κs = (
+  c .before .before .before .before .before .before .before .before .before .before .pre .0,
+  c .before .before .before .gate-at .ensures .there,
+  omega
+      (arith, c .before .before .before .before .before .loop .inv .1 .ack-long),
+)
 
 loop-again : tie.Need-loop-again Inv-loop μ-loop
 loop-again c =
@@ -60,7 +42,7 @@ loop-again c =
     let m = c .before .before .mark-pins in (
       omega arith,
       block-turn (z .args .counts) (now (z .args .code)) (now (z .args .row)) (now (z .args .ack)) (z .pre .0) (z .pre .1) (z .pre .2) (l .row) (l .ack) (l .i) (l .inv .1)
-          (omega arith) _ (c .before .before .before .before .gate-lanes .ensures) _ (m .ensures .0) (m .ensures .1),
+          (omega arith) _ (c .before .before .before .before .before .before .gate-at .ensures) _ (c .before .before .before .before .gate-lanes .ensures) _ (m .ensures .0) (m .ensures .1),
     )
 
 same-length : tie.Need-same-length Inv-loop μ-loop
@@ -75,7 +57,7 @@ returns c =
     let l = c .before .loop in
     let e : l .i ≡ z .args .counts .gates = omega (arith, l .inv .0) in (
       (l .inv .1 .row-long, l .inv .1 .ack-long),
-      (λ b s. subst (LanesSettledTo (z .args .counts) (now (z .args .code)) b (l .row)) e (l .inv .1 .settled b s), l .inv .1 .marked),
+      (λ b s. subst (LanesSettledTo (z .args .counts) (now (z .args .code)) (restIn (z .args .counts) (now (z .args .code)) b) (l .row)) e (l .inv .1 .settled b s), l .inv .1 .marked),
     )
 
 pub settle-gates-spec : {M : Type 1} → statement M
@@ -84,17 +66,13 @@ settle-gates-spec =
     (tie.spec
     Inv-loop
     μ-loop
-    (λ c. omega (arith, c .before .before .before .before .pre .0 .within .inputs-in))
+    (λ c. search needs)
     loop-holds
-    (λ c. omega arith)
-    (λ c. omega arith)
-    (λ c. omega arith)
-    shared-slice-read-k
-    cast-k
+    (λ c κs. search needs)
     gate-lanes-requires
-    add-row
-    mul-row
-    slice-write-row
+    (λ c. omega arith)
+    (λ c. omega arith)
+    (λ c. omega (arith, c .before .before .before .before .loop .inv .1 .row-long))
     mark-pins-requires
     (λ c. omega arith)
     (λ c. omega arith)

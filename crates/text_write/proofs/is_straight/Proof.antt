@@ -1,5 +1,4 @@
 -- `text_write::is_straight` meets its contract. Assumes nothing.
-use native.Mathlib.Omega.{arith}
 use Rattle.circuit.specs.Stage.{outputIn}
 use Rattle.text_write.proofs.Second.{not-input, even-rail, odd-rail}
 use borrow.Author.Needs.{needs}
@@ -7,63 +6,32 @@ use denote.Ref.{now}
 use Rattle.text_write.proofs.is_straight.Statement.{statement}
 use Rattle.text_write.proofs.is_straight.Tie as tie
 
-cast-rail0 : tie.Need-cast-rail0
-cast-rail0 c =
-    let z = c .before .before in
-    omega (arith, z .pre .0 .rail0-net (z .args .j) (z .pre .1), z .pre .0 .within .inputs-in, z .pre .0 .within .gates-in)
-
-cast-rail1 : tie.Need-cast-rail1
-cast-rail1 c =
-    let z = c .before .before .before in
-    omega (arith, z .pre .0 .rail1-net (z .args .j) (z .pre .1), z .pre .0 .within .inputs-in, z .pre .0 .within .gates-in)
-
 returns : tie.Need-returns
 returns c =
-    let z = c .before .before .before .before .before in
-    let if1 = c .if1 in
-    not-input (z .args .counts .inputs) (outputIn (z .args .counts) (now (z .args .code)) (z .args .j)) (if1 .taken)
-
-add-result : tie.Need-add-result
-add-result c =
     let z = c .before .before .before .before .before .before in
-    omega (
-      arith,
-      z .pre .0 .rail0-net (z .args .j) (z .pre .1),
-      z .pre .0 .rail1-net (z .args .j) (z .pre .1),
-      z .pre .0 .within .inputs-in,
-      z .pre .0 .within .gates-in,
-    )
+    not-input (z .args .counts .inputs) (outputIn (z .args .counts) (now (z .args .code)) (z .args .j)) (rw (c .before .before .before .before .rails-of .ensures .is) at (c .if1 .taken))
 
 returns-2 : tie.Need-returns-2
 returns-2 c =
-    let z = c .before .before .before .before .before .before in
-    let if1 = c .before .if1 in
-    let if2 = c .if2 in
-    even-rail (z .args .counts .inputs) (outputIn (z .args .counts) (now (z .args .code)) (z .args .j)) (if1 .left) (if2 .taken)
+    let z = c .before .before .before .before .before .before .before in
+    let is = c .before .before .before .before .before .rails-of .ensures .is in
+    rw is (even-rail (z .args .counts .inputs) (outputIn (z .args .counts) (now (z .args .code)) (z .args .j)) (rw is at (c .before .if1 .left)) (rw is at (c .if2 .taken)))
 
 returns-3 : tie.Need-returns-3
 returns-3 c =
-    let z = c .before .before .before .before .before .before in
-    let if1 = c .before .if1 in
-    let if2 = c .if2 in
-    odd-rail (z .args .counts .inputs) (outputIn (z .args .counts) (now (z .args .code)) (z .args .j)) (if1 .left) (if2 .left)
+    let z = c .before .before .before .before .before .before .before in
+    let is = c .before .before .before .before .before .rails-of .ensures .is in
+    odd-rail (z .args .counts .inputs) (outputIn (z .args .counts) (now (z .args .code)) (z .args .j)) (rw is at (c .before .if1 .left)) (rw is at (c .if2 .left))
 
 pub is-straight-spec : {M : Type 1} → statement M
 is-straight-spec =
     tie.close
     (tie.spec
+    (λ c κs. search needs)
     (λ c. search needs)
     (λ c. search needs)
-    (λ c. search needs)
-    (λ c. search needs)
-    (λ c. search needs)
-    cast-rail0
-    (λ c. search needs)
-    (λ c. search needs)
-    (λ c. search needs)
-    cast-rail1
     (λ c. search needs)
     returns
-    add-result
+    (λ c. search needs)
     returns-2
     returns-3)

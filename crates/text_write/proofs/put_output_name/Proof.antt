@@ -10,70 +10,43 @@ use denote.Ref.{now}
 use Rattle.text_write.proofs.put_output_name.Statement.{statement}
 use Rattle.text_write.proofs.put_output_name.Tie as tie
 
-cast-rail0 : tie.Need-cast-rail0
-cast-rail0 c =
-    let z = c .before .before .before .before .before .before in
-    omega (arith, z .pre .0 .rail0-net (z .args .j) (z .pre .1), z .pre .0 .within .inputs-in, z .pre .0 .within .gates-in)
-
 put-numbered-requires : tie.Need-put-numbered-requires
 put-numbered-requires c κs =
     let z = c .before .before .before .before .before .before .before in
-    let is-straight = c .before .before .before .before .is-straight in
-    let if1 = c .before .before .before .if1 in (
+    let e = straight-name (z .args .counts .inputs) (z .args .j) (outputIn (z .args .counts) (now (z .args .code)) (z .args .j))
+    (sym (c .before .before .before .before .is-straight .ensures) ∙ c .before .before .before .if1 .taken) in
+    rw (c .before .before .rails-of .ensures .is) (
       omega (arith, z .pre .0 .rail0-net (z .args .j) (z .pre .1), z .pre .0 .within .inputs-in, z .pre .0 .within .gates-in),
-      omega (
-        arith,
-        ap length (straight-name (z .args .counts .inputs) (z .args .j) (outputIn (z .args .counts) (now (z .args .code)) (z .args .j))
-            (sym (is-straight .ensures) ∙ if1 .taken)),
-        z .pre .2,
-      ),
+      omega (arith, ap length e, z .pre .2),
     )
 
 returns : tie.Need-returns
 returns c =
     let z = c .before .before .before .before .before .before .before .before .before .before in
-    let is-straight = c .before .before .before .before .before .before .before .is-straight in
-    let if1 = c .before .before .before .before .before .before .if1 in
-    let put-numbered = c .before .before .put-numbered in
     next-same (straight-name (z .args .counts .inputs) (z .args .j) (outputIn (z .args .counts) (now (z .args .code)) (z .args .j))
-    (sym (is-straight .ensures) ∙ if1 .taken))
-    (put-numbered .ensures)
+    (sym (c .before .before .before .before .before .before .before .is-straight .ensures) ∙ c .before .before .before .before .before .before .if1 .taken))
+    (rw (c .before .before .before .before .before .rails-of .ensures .is) at (c .before .before .put-numbered .ensures))
 
 put-numbered-requires-2 : tie.Need-put-numbered-requires-2
 put-numbered-requires-2 c κs =
     let z = c .before .before .before .before .before in
-    let is-straight = c .before .before .is-straight in
-    let if1 = c .before .if1 in (
-      omega (arith, z .pre .1, z .pre .0 .within .outputs-in),
-      omega (
-        arith,
-        ap length (own-name (z .args .counts .inputs) (z .args .j) (outputIn (z .args .counts) (now (z .args .code)) (z .args .j))
-            (sym (is-straight .ensures) ∙ if1 .left)),
-        z .pre .2,
-      ),
-    )
+    let e = own-name (z .args .counts .inputs) (z .args .j) (outputIn (z .args .counts) (now (z .args .code)) (z .args .j)) (sym (c .before .before .is-straight .ensures) ∙ c .before .if1 .left) in
+    (omega (arith, z .pre .1, z .pre .0 .within .outputs-in), omega (arith, ap length e, z .pre .2))
 
 returns-2 : tie.Need-returns-2
 returns-2 c =
     let z = c .before .before .before .before .before .before .before .before in
-    let is-straight = c .before .before .before .before .before .is-straight in
-    let if1 = c .before .before .before .before .if1 in
-    let put-numbered2 = c .before .before .put-numbered2 in
     next-same (own-name (z .args .counts .inputs) (z .args .j) (outputIn (z .args .counts) (now (z .args .code)) (z .args .j))
-    (sym (is-straight .ensures) ∙ if1 .left))
-    (put-numbered2 .ensures)
+    (sym (c .before .before .before .before .before .is-straight .ensures) ∙ c .before .before .before .before .if1 .left))
+    (c .before .before .put-numbered2 .ensures)
 
 pub put-output-name-spec : {M : Type 1} → statement M
 put-output-name-spec =
     tie.close
     (tie.spec
     (λ c κs. search needs)
+    (λ c κs. search needs)
     (λ c. search needs)
-    (λ c. search needs)
-    (λ c. search needs)
-    (λ c. search needs)
-    (λ c. search needs)
-    cast-rail0
     put-numbered-requires
     (λ c. search needs)
     returns

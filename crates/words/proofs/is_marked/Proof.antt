@@ -1,12 +1,10 @@
 -- `words::is_marked` meets its contract. Assumes nothing.
 use Prim.Native.Nat.{ℕ, _*_, _%_, _^_}
 use native.Mathlib.Omega.{arith}
-use mathlib.Core.Path.{_≡_, sym, ap, _∙_}
+use mathlib.Core.Path.{_≡_, ap, _∙_}
 use lib.Dec.{ltb}
 use denote.Ref.{now}
-use Rattle.verdict.specs.Words.{isIn}
 use Rattle.words.proofs.Membership.{few-words, of-all, of-care}
-use Rattle.words.proofs.Marking.{care-of}
 use borrow.Author.Needs.{needs}
 use Rattle.words.proofs.is_marked.Statement.{statement}
 use Rattle.words.proofs.is_marked.Tie as tie
@@ -34,7 +32,7 @@ returns-2 : tie.Need-returns-2
 returns-2 c =
     let z = c .before .before .before in
     of-care (z .args .counts) (now (z .args .code)) (z .args .w) (c .before .if1 .left) _
-    (z .pre .1 (z .args .w) (z .pre .2) ∙ ap (isIn (z .args .w)) (sym (care-of (z .args .counts) (now (z .args .code)))))
+    (z .pre .1 (z .args .w) (z .pre .2))
 
 pub is-marked-spec : {M : Type 1} → statement M
 is-marked-spec = tie.close (tie.spec shl-result returns shared-slice-read-result returns-2)

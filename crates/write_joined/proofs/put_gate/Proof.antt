@@ -1,5 +1,4 @@
 -- `write_joined::put_gate` meets its contract. Assumes nothing.
-use native.Mathlib.Omega.{arith}
 use Prim.Native.Nat.{ℕ}
 use mathlib.Core.Path.{_≡_, ap, _∙_, subst}
 use mathlib.Core.List.{List, [], _∷_}
@@ -15,12 +14,6 @@ use Rattle.write_joined.proofs.Moving.{pins-of, four-operands, five-equ
 use borrow.Author.Needs.{needs}
 use Rattle.write_joined.proofs.put_gate.Statement.{statement}
 use Rattle.write_joined.proofs.put_gate.Tie as tie
-
-kind-at-requires : tie.Need-kind-at-requires
-kind-at-requires c κs =
-    let z = c .before .before .before .before .before .before .before .before in
-    let g = z .pre .0 .gate (z .args .k) (z .pre .2) in
-    (omega (arith, z .pre .0 .room), g .high)
 
 returns : tie.Need-returns
 returns c =
@@ -43,7 +36,7 @@ put-gate-spec =
     (λ c κs. search needs)
     (λ c κs. search needs)
     (λ c κs. search needs)
-    kind-at-requires
+    (λ c κs. search needs)
     (λ c κs. search needs)
     (λ c. search needs)
     returns)

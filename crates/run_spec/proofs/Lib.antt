@@ -1,0 +1,12 @@
+pub mod Cases
+pub mod Played
+pub mod Runs
+pub mod Named
+pub mod OneWord
+pub mod Numbers
+pub mod Idle
+pub mod Witness
+pub mod Play
+pub mod Refusals
+pub mod Keys
+pub mod Calls

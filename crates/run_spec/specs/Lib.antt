@@ -1,0 +1,4 @@
+pub mod Played
+pub mod Witness
+pub mod Play
+pub mod Keys
