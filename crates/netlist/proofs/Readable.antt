@@ -228,7 +228,7 @@ module _ (f : File) (most : Limits) (s : List ℕ) (p : Places) (e : readFile f 
       + (widthFor f sort.Register * mostOfEither f + widthFor f sort.Element * mostOfEither f)
   readable-length =
       let r = readable-read in
-      let few = few-parts f r in
+      let parts = few-parts f r in
       let words : length (p .care) ≤ 2 ^ p .inputs = omega (arith, rising-length (2 ^ p .inputs) 0 (p .care) (r .care-in)) in
       let few : length (p .care) ≤ 2 ^ most .inputs = omega (arith, pow-mono {i = p .inputs} {j = most .inputs} (r .inputs-in .1)) in
       omega (
@@ -237,6 +237,6 @@ module _ (f : File) (most : Limits) (s : List ℕ) (p : Places) (e : readFile f 
         mul-le-mul-left (widthFor f sort.Gate) (r .gates-in),
         mul-le-mul-left (widthFor f sort.Output) (r .outputs-in .1),
         mul-le-mul-left (widthFor f sort.Care) few,
-        mul-le-mul-left (widthFor f sort.Register) (few .0),
-        mul-le-mul-left (widthFor f sort.Element) (few .1),
+        mul-le-mul-left (widthFor f sort.Register) (parts .0),
+        mul-le-mul-left (widthFor f sort.Element) (parts .1),
       )
