@@ -5,4 +5,5 @@ pub mod Tables
 pub mod Holding
 pub mod Nets
 pub mod Rows
+pub mod Raw
 pub mod References

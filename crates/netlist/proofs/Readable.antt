@@ -13,12 +13,12 @@ use Rattle.netlist.specs.Types.{File, Sort, Form, Limits}
 use Rattle.netlist.specs.Types.file
 use Rattle.netlist.specs.Types.sort
 use Rattle.netlist.specs.Bytes.{byte, operand}
-use Rattle.netlist.specs.Commands.{mostParts, roleOf, width, needed, pinsUsed}
-use Rattle.netlist.specs.Reading.{Nets, names, asked, Places, Ascending, countOf, sortsOf, netsOf, readFile, readable}
-use Rattle.netlist.specs.Writing.{widthFor, operandCount, Item, gate, output, care, register, element, gatesIn, outputsIn, careIn, gatePlaces, outputPlaces, All, EachFrom, partPlaces, partsIn, netsIn}
-use Rattle.netlist.specs.Read.{GateRead, OutputRead, PartRead, Read}
+use Rattle.netlist.specs.Commands.{roleOf, width, needed, pinsUsed}
+use Rattle.netlist.specs.Reading.{Nets, names, asked, Places, Ascending, countOf, sortsOf, countsOf, netsOf, readFile, readable}
+use Rattle.netlist.specs.Writing.{widthFor, operandCount, Has, Item, gate, output, care, register, element, gatesIn, outputsIn, careIn, gatePlaces, outputPlaces, All, EachFrom, partPlaces, partsIn, netsIn}
+use Rattle.netlist.specs.Read.{GateRead, OutputRead, PartOf, PartRead, Read, mostOfEither}
 use Rattle.netlist.proofs.Operands.{each-named, same-asked, asked-same}
-use Rattle.netlist.proofs.Encoding.{each-file, register-form, element-form, KindOfCell, kind-in, operation-needs}
+use Rattle.netlist.proofs.Encoding.{each-file, register-form, element-form, stage-registerless, stage-elementless, reference-registerless, reference-elementless, KindOfCell, kind-in, operation-needs}
 use Rattle.netlist.proofs.Laid.{Laid, Named, laid-operands, laid-used, laid-length, length-gatePlaces, length-outputPlaces}
 use Rattle.netlist.proofs.Walk.{LaidItems, readable-laid, nets-places}
 
@@ -155,6 +155,29 @@ module _ (f : File) (s : List ℕ) (N : Nets) where
         parts-read (at + widthFor f sort.Element) k items (h .1) (m .1),
       )
 
+-- only a pipeline has registers and C-elements
+no-part : (f : File) (s : List ℕ) (N : Nets) → (Has f sort.Register → ⊥) → (Has f sort.Element → ⊥) → (c : Sort) (at : ℕ) → PartOf f s N at c → ⊥
+no-part f s N registerless elementless sort.Register at h = registerless (h .own)
+no-part f s N registerless elementless sort.Element at h = elementless (h .own)
+no-part f s N registerless elementless sort.Inputs at h = h
+no-part f s N registerless elementless sort.Gate at h = h
+no-part f s N registerless elementless sort.Output at h = h
+no-part f s N registerless elementless sort.Care at h = h
+no-part f s N registerless elementless sort.End at h = h
+no-part f s N registerless elementless sort.Unknown at h = h
+
+none-of : (f : File) (s : List ℕ) (N : Nets) → (Has f sort.Register → ⊥) → (Has f sort.Element → ⊥) → (ps : List (Sort × ℕ)) → All (PartRead f s N) ps → (c : Sort) → countOf c (sortsOf ps) ≡ 0
+unfolding countOf
+none-of f s N registerless elementless [] h c = refl
+none-of f s N registerless elementless (x ∷ ps) h c = absurd (no-part f s N registerless elementless (x .0) (x .1) (h .0))
+
+few-parts : {most : Limits} {s : List ℕ} {p : Places} (f : File) → Read f most s p → (countsOf p .registers ≤ mostOfEither f) × (countsOf p .elements ≤ mostOfEither f)
+few-parts file.Pipeline r = (r .registers-in, r .elements-in)
+few-parts {s = s} {p = p} file.Stage r =
+    let none = none-of file.Stage s (netsOf p) stage-registerless stage-elementless (p .parts) (r .parts-at) in (omega (arith, none sort.Register), omega (arith, none sort.Element))
+few-parts {s = s} {p = p} file.Reference r =
+    let none = none-of file.Reference s (netsOf p) reference-registerless reference-elementless (p .parts) (r .parts-at) in (omega (arith, none sort.Register), omega (arith, none sort.Element))
+
 module _ (f : File) (most : Limits) (s : List ℕ) (p : Places) (e : readFile f most s ≡ readable p) where
   found : LaidItems f most s p
   found = readable-laid f most s p e
@@ -202,9 +225,10 @@ module _ (f : File) (most : Limits) (s : List ℕ) (p : Places) (e : readFile f 
 
   -- no readable file is longer than its most gates, outputs, care words, registers and C-elements make it
   pub readable-length : length s ≤ 3 + widthFor f sort.Gate * most .gates + widthFor f sort.Output * most .outputs + widthFor f sort.Care * 2 ^ most .inputs
-      + (widthFor f sort.Register * mostParts + widthFor f sort.Element * mostParts)
+      + (widthFor f sort.Register * mostOfEither f + widthFor f sort.Element * mostOfEither f)
   readable-length =
       let r = readable-read in
+      let parts = few-parts f r in
       let words : length (p .care) ≤ 2 ^ p .inputs = omega (arith, rising-length (2 ^ p .inputs) 0 (p .care) (r .care-in)) in
       let few : length (p .care) ≤ 2 ^ most .inputs = omega (arith, pow-mono {i = p .inputs} {j = most .inputs} (r .inputs-in .1)) in
       omega (
@@ -213,6 +237,6 @@ module _ (f : File) (most : Limits) (s : List ℕ) (p : Places) (e : readFile f 
         mul-le-mul-left (widthFor f sort.Gate) (r .gates-in),
         mul-le-mul-left (widthFor f sort.Output) (r .outputs-in .1),
         mul-le-mul-left (widthFor f sort.Care) few,
-        mul-le-mul-left (widthFor f sort.Register) (r .registers-in),
-        mul-le-mul-left (widthFor f sort.Element) (r .elements-in),
+        mul-le-mul-left (widthFor f sort.Register) (parts .0),
+        mul-le-mul-left (widthFor f sort.Element) (parts .1),
       )
