@@ -228,3 +228,20 @@ module _ (rails order raw : List ℕ) (c : Counts) (start : List ℕ) (g : Gathe
         two true c = refl
         two false true = refl
         two false false = refl
+
+-- register by register
+pub record FilledTo (rails : List ℕ) (first : ℕ) (sets regs before sources : List ℕ) (t : ℕ) : Type 0 where
+  pub long : length sources ≡ length before
+  pub done : (u : ℕ) → u < t → SetOf rails first sets (registerSlot regs u 1 ∷ registerSlot regs u 2 ∷ []) (getD sources u 0)
+
+pub filled-none : (rails : List ℕ) (first : ℕ) (sets regs sources : List ℕ) → FilledTo rails first sets regs sources sources 0
+filled-none rails first sets regs sources = record { long = refl; done = λ u h. absurd (omega arith) }
+
+pub filled-more : (rails : List ℕ) (first : ℕ) (sets regs before sources : List ℕ) (t v : ℕ) → t < length sources
+    → SetOf rails first sets (registerSlot regs t 1 ∷ registerSlot regs t 2 ∷ []) v → FilledTo rails first sets regs before sources t
+    → FilledTo rails first sets regs before (set sources t v) (t + 1)
+filled-more rails first sets regs before sources t v h f w = record { long = length-set sources t v ∙ w .long; done = λ u l. go u l (ℕ-discrete u t) }
+  where
+    go : (u : ℕ) → u < t + 1 → Dec (u ≡ t) → SetOf rails first sets (registerSlot regs u 1 ∷ registerSlot regs u 2 ∷ []) (getD (set sources t v) u 0)
+    go u l (yes q) = rw (q, getD-set-same sources t v 0 h) f
+    go u l (no d) = rw (getD-set-other sources t u v 0 d) (w .done u (omega arith))

@@ -1,71 +1,52 @@
+-- `check_levels::close_through` meets its contract. The loop's invariant: the registers before t have the sources of j added, where j is among theirs. Assumes nothing.
+use native.Mathlib.Omega.{arith}
+use denote.Ref.{now}
+use borrow.Author.Needs.{needs}
+use Prim.Native.Nat.{_-_, _≤_}
+use mathlib.Core.Path.{_≡_, refl, sym, ap, _∙_}
+use lib.ListN.{length, getD}
+use Rattle.check_levels.specs.Graph.{Through}
+use Rattle.check_levels.proofs.Closing.{through-none, through-more}
 use Rattle.check_levels.proofs.close_through.Statement.{statement}
 use Rattle.check_levels.proofs.close_through.Tie as tie
-use Rattle.check_levels.proofs.close_through.Reads as reads
-use Rattle.check_levels.proofs.close_through.Lts as lts
-use Rattle.check_levels.proofs.is_source.Reads as is-source-reads
-use Rattle.check_levels.proofs.joined.Reads as joined-reads
 
 abbrev Inv-loop : tie.InvT-loop
-Inv-loop sources₀ j through t₀ sources t = ?
+Inv-loop sources₀ j through t₀ sources t = (t ≤ length sources₀) × (through ≡ getD sources₀ j 0) × Through sources₀ j t sources
 
 abbrev μ-loop : tie.MeasureT-loop
-μ-loop sources₀ j through t₀ sources t = ?
+μ-loop sources₀ j through t₀ sources t = length sources₀ - t
 
--- src/lib.rt:133:19
-mul-through : tie.Need-mul-through Inv-loop μ-loop
-mul-through c = ?
-
--- src/lib.rt:133:19
-slice-read-through : tie.Need-slice-read-through Inv-loop μ-loop
-slice-read-through c = ?
-
--- src/lib.rt:135:5
 loop-holds : tie.Need-loop-holds Inv-loop μ-loop
-loop-holds c = ?
+loop-holds c = (omega arith, refl, through-none _ _)
 
--- src/lib.rt:136:13
 is-source-requires : tie.Need-is-source-requires Inv-loop μ-loop
-is-source-requires c κs = ?
+is-source-requires c κs = (c .before .before .before .before .before .pre .0, c .before .loop-test .taken)
 
--- src/lib.rt:137:29
-mul-joined : tie.Need-mul-joined Inv-loop μ-loop
-mul-joined c = ?
-
--- src/lib.rt:137:29
 slice-read-joined : tie.Need-slice-read-joined Inv-loop μ-loop
-slice-read-joined c = ?
+slice-read-joined c = c .before .before .before .loop-test .taken
 
--- src/lib.rt:137:22
-joined-requires : tie.Need-joined-requires Inv-loop μ-loop
-joined-requires c κs = ?
-
--- src/lib.rt:137:9
-mul-sources : tie.Need-mul-sources Inv-loop μ-loop
-mul-sources c = ?
-
--- src/lib.rt:137:9
 slice-write-sources : tie.Need-slice-write-sources Inv-loop μ-loop
-slice-write-sources c = ?
+slice-write-sources c = c .before .before .before .before .loop-test .taken
 
--- src/lib.rt:138:9
-add-t : tie.Need-add-t Inv-loop μ-loop
-add-t c = ?
-
--- src/lib.rt:135:5
 loop-less : tie.Need-loop-less Inv-loop μ-loop
-loop-less c = ?
+loop-less c = omega (arith, c .before .before .before .before .before .loop .inv .2 .long, c .before .before .before .before .loop-test .taken)
 
--- src/lib.rt:135:5
 loop-again : tie.Need-loop-again Inv-loop μ-loop
-loop-again c = ?
+loop-again c =
+    let l = c .before .before .before .before .before .loop in (
+      omega (arith, l .inv .2 .long, c .before .before .before .before .loop-test .taken),
+      l .inv .1,
+      through-more _ _ _ _ _ _ (omega (arith, l .inv .2 .long, c .before .before .before .before .loop-test .taken)) (l .inv .2) (c .before .before .is-source .ensures) (rw (l .inv .1) at (c .joined .ensures)),
+    )
 
--- src/lib.rt:129:1
 same-length : tie.Need-same-length Inv-loop μ-loop
-same-length c = ?
+same-length c = c .before .loop .inv .2 .long
 
--- src/lib.rt:129:1
 returns : tie.Need-returns Inv-loop μ-loop
-returns c = ?
+returns c =
+    let l = c .before .loop in
+    let e : l .t ≡ length (now (c .before .before .before .before .args .sources)) = omega (arith, l .inv .0, l .inv .2 .long, c .loop-test .left) in
+    rw e at (l .inv .2)
 
 pub close-through-spec : {M : Type 1} → statement M
 close-through-spec =
@@ -73,16 +54,16 @@ close-through-spec =
     (tie.spec
     Inv-loop
     μ-loop
-    mul-through
-    slice-read-through
+    (λ c. search needs)
+    (λ c. search needs)
     loop-holds
     is-source-requires
-    mul-joined
+    (λ c. search needs)
     slice-read-joined
-    joined-requires
-    mul-sources
+    (λ c κs. tt)
+    (λ c. search needs)
     slice-write-sources
-    add-t
+    (λ c. search needs)
     loop-less
     loop-again
     same-length

@@ -1,82 +1,77 @@
+-- `check_levels::gather` meets its contract. The loop's invariant: the gates at the places before i have their sets. Assumes nothing.
+use native.Mathlib.Omega.{arith}
+use Prim.Native.Nat.{ℕ, _+_, _*_, _-_, _≤_, _<_}
+use mathlib.Core.Path.{_≡_, refl, sym, ap, _∙_}
+use mathlib.Core.Bool.{Bool}
+use lib.ListN.{length, length-set}
+use Rattle.wiring_spec.specs.Parts.{Pipeline}
+use Rattle.circuit_wire.specs.Wire.{RawLoaded}
+use Rattle.check_levels.specs.Sources.{Seeds}
+use Rattle.check_levels.proofs.Gathering.{GatheredTo, gathered-none, gathered-more, gathered-all, gate-at}
 use Rattle.check_levels.proofs.gather.Statement.{statement}
 use Rattle.check_levels.proofs.gather.Tie as tie
-use Rattle.check_levels.proofs.gather.Reads as reads
-use Rattle.check_levels.proofs.gather.Lts as lts
-use Rattle.check_levels.proofs.pin_sets.Reads as pin-sets-reads
 
 abbrev Inv-loop : tie.InvT-loop
-Inv-loop rails order raw counts sets₀ inputs first i₀ sets i = ?
+Inv-loop rails order raw counts sets₀ inputs first i₀ sets i = (length sets ≡ length sets₀)
+    × ((p : Pipeline) (own : ℕ → Bool) (t : ℕ) → t < 64 → RawLoaded p counts raw → Seeds p own t rails counts sets₀ → GatheredTo p own t rails order counts sets i)
 
 abbrev μ-loop : tie.MeasureT-loop
-μ-loop rails order raw counts sets₀ inputs first i₀ sets i = ?
+μ-loop rails order raw counts sets₀ inputs first i₀ sets i = counts .gates - i
 
--- src/lib.rt:61:18
 mul-inputs : tie.Need-mul-inputs Inv-loop μ-loop
-mul-inputs c = ?
+mul-inputs c = omega (arith, c .before .before .before .before .before .pre .within .inputs-in)
 
--- src/lib.rt:62:17
 add-first : tie.Need-add-first Inv-loop μ-loop
-add-first c = ?
+add-first c = omega (arith, c .before .before .before .before .before .before .pre .within .inputs-in, c .before .before .before .before .before .before .pre .within .gates-in)
 
--- src/lib.rt:64:5
 loop-holds : tie.Need-loop-holds Inv-loop μ-loop
-loop-holds c = ?
+loop-holds c = (refl, λ p own t h r s. gathered-none p own t _ _ _ _ s)
 
--- src/lib.rt:65:23
 mul-k : tie.Need-mul-k Inv-loop μ-loop
-mul-k c = ?
+mul-k c = omega (arith, c .before .before .before .before .before .before .before .before .before .pre .within .gates-in, c .if1 .taken)
 
--- src/lib.rt:65:23
 add-k : tie.Need-add-k Inv-loop μ-loop
-add-k c = ?
+add-k c = omega (arith, c .before .before .before .before .before .before .before .before .before .pre .within .gates-in, c .if1 .taken)
 
--- src/lib.rt:65:17
 mul-k-2 : tie.Need-mul-k-2 Inv-loop μ-loop
-mul-k-2 c = ?
+mul-k-2 c = omega (arith, c .before .before .before .before .before .before .before .before .before .pre .within .gates-in, c .if1 .taken)
 
--- src/lib.rt:65:17
 shared-slice-read-k : tie.Need-shared-slice-read-k Inv-loop μ-loop
-shared-slice-read-k c = ?
+shared-slice-read-k c = omega (arith, c .before .before .before .before .before .before .before .before .before .before .pre .order-room, c .before .if1 .taken)
 
--- src/lib.rt:65:17
 cast-k : tie.Need-cast-k Inv-loop μ-loop
-cast-k c = ?
+cast-k c = omega (arith, c .before .before .before .before .before .before .before .before .before .before .pre .within .gates-in, gate-at _ _ _ _ _ (c .before .before .before .before .before .before .before .before .before .before .pre) _ (c .before .if1 .taken))
 
--- src/lib.rt:66:28
 pin-sets-requires : tie.Need-pin-sets-requires Inv-loop μ-loop
-pin-sets-requires c κs = ?
+pin-sets-requires c κs = (c .before .before .before .before .before .before .before .before .before .before .before .pre .rails-in, omega (arith, c .before .before .before .before .before .before .before .before .before .before .before .pre .room, c .before .before .before .before .loop .inv .0), omega (arith, c .before .before .before .before .before .before .before .before .before .before .before .pre .raw-room, gate-at _ _ _ _ _ (c .before .before .before .before .before .before .before .before .before .before .before .pre) _ (c .before .before .if1 .taken)))
 
--- src/lib.rt:66:14
 add-sets : tie.Need-add-sets Inv-loop μ-loop
-add-sets c = ?
+add-sets c = omega (arith, c .before .before .before .before .before .before .before .before .before .before .before .before .pre .within .inputs-in, c .before .before .before .before .before .before .before .before .before .before .before .before .pre .within .gates-in, gate-at _ _ _ _ _ (c .before .before .before .before .before .before .before .before .before .before .before .before .pre) _ (c .before .before .before .if1 .taken))
 
--- src/lib.rt:66:9
 mul-sets : tie.Need-mul-sets Inv-loop μ-loop
-mul-sets c = ?
+mul-sets c = omega (arith, c .before .before .before .before .before .before .before .before .before .before .before .before .pre .within .inputs-in, c .before .before .before .before .before .before .before .before .before .before .before .before .pre .within .gates-in, gate-at _ _ _ _ _ (c .before .before .before .before .before .before .before .before .before .before .before .before .pre) _ (c .before .before .before .if1 .taken))
 
--- src/lib.rt:66:9
 slice-write-sets : tie.Need-slice-write-sets Inv-loop μ-loop
-slice-write-sets c = ?
+slice-write-sets c = omega (arith, c .before .before .before .before .before .before .before .before .before .before .before .before .pre .room, c .before .before .before .before .before .loop .inv .0, gate-at _ _ _ _ _ (c .before .before .before .before .before .before .before .before .before .before .before .before .pre) _ (c .before .before .before .if1 .taken))
 
--- src/lib.rt:67:9
 add-i : tie.Need-add-i Inv-loop μ-loop
-add-i c = ?
+add-i c = omega (arith, c .before .before .before .before .before .before .before .before .before .before .before .before .pre .within .gates-in, c .before .before .before .if1 .taken)
 
--- src/lib.rt:64:5
 loop-less : tie.Need-loop-less Inv-loop μ-loop
-loop-less c = ?
+loop-less c = omega (arith, c .before .before .before .if1 .taken)
 
--- src/lib.rt:64:5
 loop-again : tie.Need-loop-again Inv-loop μ-loop
-loop-again c = ?
+loop-again c =
+    let l = c .before .before .before .before .before .loop in (
+      length-set (l .sets) _ _ ∙ l .inv .0,
+      λ p own t h r s. gathered-more _ _ _ _ _ (c .before .before .before .before .before .before .before .before .before .before .before .before .pre) p own t h r _ _ _ (c .before .before .before .if1 .taken) (omega (arith, c .before .before .before .before .before .before .before .before .before .before .before .before .pre .room, l .inv .0)) (c .pin-sets .ensures) (l .inv .1 p own t h r s),
+    )
 
--- src/lib.rt:54:1
 same-length : tie.Need-same-length Inv-loop μ-loop
-same-length c = ?
+same-length c = c .before .before .loop .inv .0
 
--- src/lib.rt:54:1
 returns : tie.Need-returns Inv-loop μ-loop
-returns c = ?
+returns c = let l = c .before .before .loop in (l .inv .0, λ p own t h r s. gathered-all _ _ _ _ _ (c .before .before .before .before .before .before .before .before .before .pre) p own t h r _ _ (omega (arith, c .if1 .left)) (l .inv .1 p own t h r s))
 
 pub gather-spec : {M : Type 1} → statement M
 gather-spec =

@@ -1,84 +1,47 @@
+-- `check_levels::set_at` meets its contract. Assumes nothing.
+use native.Mathlib.Omega.{arith}
+use denote.Ref.{now}
 use borrow.Author.Needs.{needs}
+use Rattle.check_levels.proofs.Gathering.{set-before, set-past, set-rail, set-other}
 use Rattle.check_levels.proofs.set_at.Statement.{statement}
 use Rattle.check_levels.proofs.set_at.Tie as tie
-use Rattle.check_levels.proofs.set_at.Reads as reads
-use Rattle.check_levels.proofs.set_at.Lts as lts
 
--- src/lib.rt:29:16
-mul-result : tie.Need-mul-result
-mul-result c = search needs
-
--- src/lib.rt:29:16
 shared-slice-read-result : tie.Need-shared-slice-read-result
-shared-slice-read-result c = search needs
+shared-slice-read-result c = omega (arith, c .before .before .pre .1)
 
--- src/lib.rt:29:9
 returns : tie.Need-returns
-returns c = ?
+returns c = set-before (now (c .before .before .args .rails)) (c .before .before .args .first) (now (c .before .before .args .sets)) (c .before .before .args .net) (c .before .if1 .taken)
 
--- src/lib.rt:33:9
 returns-2 : tie.Need-returns-2
-returns-2 c = ?
+returns-2 c = set-past (now (c .before .before .args .rails)) (c .before .before .args .first) (now (c .before .before .args .sets)) (c .before .before .args .net) (c .before .if1 .left) (c .before .before .pre .0 .rows) (c .if2 .taken)
 
--- src/lib.rt:35:14
-mul-if3 : tie.Need-mul-if3
-mul-if3 c = search needs
-
--- src/lib.rt:35:8
-mul-if3-2 : tie.Need-mul-if3-2
-mul-if3-2 c = search needs
-
--- src/lib.rt:35:8
-shared-slice-read-if3 : tie.Need-shared-slice-read-if3
-shared-slice-read-if3 c = search needs
-
--- src/lib.rt:36:27
-mul-result-2 : tie.Need-mul-result-2
-mul-result-2 c = search needs
-
--- src/lib.rt:36:27
-add-result : tie.Need-add-result
-add-result c = search needs
-
--- src/lib.rt:36:21
-mul-result-3 : tie.Need-mul-result-3
-mul-result-3 c = search needs
-
--- src/lib.rt:36:21
-shared-slice-read-result-2 : tie.Need-shared-slice-read-result-2
-shared-slice-read-result-2 c = search needs
-
--- src/lib.rt:36:21
 cast-result : tie.Need-cast-result
-cast-result c = ?
+cast-result c = omega (arith, c .before .before .before .before .before .pre .0 .registers _ (c .before .if3 .taken))
 
--- src/lib.rt:36:16
 shl-result : tie.Need-shl-result
-shl-result c = ?
+shl-result c = omega (arith, c .before .before .before .before .before .pre .0 .registers _ (c .before .if3 .taken))
 
--- src/lib.rt:36:9
 returns-3 : tie.Need-returns-3
-returns-3 c = ?
+returns-3 c = set-rail (now (c .before .before .before .before .before .args .rails)) (c .before .before .before .before .before .args .first) (now (c .before .before .before .before .before .args .sets)) (c .before .before .before .before .before .args .net) (c .before .before .before .before .if1 .left) (c .before .before .before .before .before .pre .0) (c .before .if3 .taken)
 
--- src/lib.rt:23:1
 returns-4 : tie.Need-returns-4
-returns-4 c = ?
+returns-4 c = set-other (now (c .before .before .before .before .args .rails)) (c .before .before .before .before .args .first) (now (c .before .before .before .before .args .sets)) (c .before .before .before .before .args .net) (c .before .before .before .if1 .left) (c .if3 .left)
 
 pub set-at-spec : {M : Type 1} → statement M
 set-at-spec =
     tie.close
     (tie.spec
-    mul-result
+    (λ c. search needs)
     shared-slice-read-result
     returns
     returns-2
-    mul-if3
-    mul-if3-2
-    shared-slice-read-if3
-    mul-result-2
-    add-result
-    mul-result-3
-    shared-slice-read-result-2
+    (λ c. search needs)
+    (λ c. search needs)
+    (λ c. search needs)
+    (λ c. search needs)
+    (λ c. search needs)
+    (λ c. search needs)
+    (λ c. search needs)
     cast-result
     shl-result
     returns-3
