@@ -1,3 +1,4 @@
+pub mod Gathering
+pub mod Sources
 pub mod Closing
 pub mod Raising
-pub mod Rounds

@@ -18,7 +18,7 @@ use Rattle.wiring_spec.specs.Wiring.{openings, isKoOf, behind}
 use Rattle.wiring_spec.specs.Named.{carriesData}
 use Rattle.wiring_spec.specs.Tables.{slot, RowOf, PartsLoaded}
 use Rattle.wiring_spec.specs.Gathering.{Gathers}
-use Rattle.wiring_spec.proofs.Nets.{never, net-where, Stands, stands, open-inside, open-late}
+use Rattle.wiring_spec.proofs.Nets.{never, eqb-sym, net-where, Stands, stands, open-inside, open-late}
 use Rattle.wiring_spec.proofs.Rows.{by-row}
 use Rattle.wiring_spec.proofs.Gathering.{gathers-lead}
 use Rattle.circuit_place.specs.Placing.{place, four, Passed, Placed}
@@ -34,14 +34,6 @@ data-not-ko t (rail k b) e = refl
 data-not-ko t (acknowledge k) e = absurd (never e)
 data-not-ko t (completion pins) e = refl
 data-not-ko t nothing e = refl
-
-eqb-sym : (a b : ℕ) → eqb a b ≡ eqb b a
-eqb-sym a b = go (eqb a b) (eqb b a) refl refl
-  where
-    go : (c d : Bool) → eqb a b ≡ c → eqb b a ≡ d → c ≡ d
-    go true d e f = sym (sym f ∙ eq-eqb b a (sym (eqb-true a b e)))
-    go false true e f = sym e ∙ eq-eqb a b (sym (eqb-true b a f))
-    go false false e f = refl
 
 module _ (p : Pipeline) (first count : ℕ) (nets regs : List ℕ) (loaded : PartsLoaded p first count nets regs) (long : length nets ≡ 8 * count) where
   -- ---- a net by itself

@@ -35,6 +35,19 @@ highest-some f (x ∷ ks) = go (decLe (highest (map f ks)) (f x)) (highest-some 
     go (no l) (inl e) = absurd (omega arith)
     go (no l) (inr r) = inr (r .0, inr (r .1), omega (arith, r .2))
 
+-- no level is more than the number of registers
+pub level-bound : (p : Pipeline) (t : ℕ) → level p t ≤ registerCount p
+unfolding level levelWithin highest
+level-bound p t = go (registerCount p) t
+  where
+    most : (k : ℕ) (ls : List ℕ) → ((l : ℕ) → In l ls → levelWithin k p l ≤ k) → highest (map (levelWithin k p) ls) ≤ k
+    most k [] h = omega arith
+    most k (l ∷ ls) h = let a = h l (inl refl) in let b = most k ls (λ x i. h x (inr i)) in omega arith
+
+    go : (k t : ℕ) → levelWithin k p t ≤ k
+    go zero t = omega arith
+    go (suc k) t = let m = most k (sources p t) (λ l i. go k l) in omega arith
+
 module _ (p : Pipeline) (forward : (k : ℕ) → ¬ (ReachesOn p k k)) where
   abbrev m : ℕ
   m = registerCount p

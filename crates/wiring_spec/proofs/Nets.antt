@@ -10,7 +10,7 @@ use mathlib.Core.List.{List, [], _∷_, _++_, map}
 use lib.ListN.{length, getD, replicate, length-map, List·getD-eq-default}
 use Rattle.gates.specs.Cell.{bit}
 use lib.Dec.{eqb, ltb}
-use borrow.Author.Tests.{eqb-true, lt-ltb, le-ltb}
+use borrow.Author.Tests.{eq-eqb, eqb-true, lt-ltb, le-ltb}
 use Rattle.verdict.specs.Paths.{In, Leads, here, onward}
 use Rattle.wiring_spec.specs.Parts.{Register, Part, register, element, Pipeline, Driver, input, gate, rail, acknowledge, completion, nothing, registersOf, partDrivers, drivers, driverOf, allNets, registerCount, dataOf, kiOf}
 use Rattle.wiring_spec.specs.Wiring.{throughGate, opened, gateSteps, openings, isRailOf}
@@ -18,6 +18,14 @@ use Rattle.wiring_spec.specs.Named.{carriesData, IsData}
 
 pub never : false ≡ true → ⊥
 never e = let z : _≡_ {A = ℕ} 0 1 = cc in omega arith
+
+pub eqb-sym : (a b : ℕ) → eqb a b ≡ eqb b a
+eqb-sym a b = go (eqb a b) (eqb b a) refl refl
+  where
+    go : (c d : Bool) → eqb a b ≡ c → eqb b a ≡ d → c ≡ d
+    go true d e f = sym (sym f ∙ eq-eqb b a (sym (eqb-true a b e)))
+    go false true e f = sym e ∙ eq-eqb a b (sym (eqb-true b a f))
+    go false false e f = refl
 
 -- steps of one sort are steps of another
 pub leads-more : (next next′ : ℕ → List ℕ) → ((u v : ℕ) → In v (next u) → In v (next′ u)) → {x : ℕ} (y : ℕ) → Leads next y x → Leads next′ y x
@@ -234,3 +242,14 @@ module _ (p : Pipeline) (t : ℕ) where
       go (r ∷ rs) zero h false = inl refl
       go (r ∷ rs) zero h true = inr (inl refl)
       go (r ∷ rs) (suc k) h b = go rs k (omega arith) b
+
+  -- the data is these two
+  pub data-two : t < registerCount p → dataOf p t ≡ getD (dataOf p t) 0 0 ∷ getD (dataOf p t) 1 0 ∷ []
+  unfolding dataOf registerCount
+  data-two h = go (registersOf (p .parts)) t h
+    where
+      go : (rs : List Register) (k : ℕ) → k < length rs → getD (map (λ (r : Register). r .data0 ∷ r .data1 ∷ []) rs) k []
+          ≡ getD (getD (map (λ (r : Register). r .data0 ∷ r .data1 ∷ []) rs) k []) 0 0 ∷ getD (getD (map (λ (r : Register). r .data0 ∷ r .data1 ∷ []) rs) k []) 1 0 ∷ []
+      go [] k h = absurd (omega arith)
+      go (r ∷ rs) zero h = refl
+      go (r ∷ rs) (suc k) h = go rs k (omega arith)

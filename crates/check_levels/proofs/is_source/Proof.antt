@@ -1,6 +1,6 @@
 -- `check_levels::is_source` meets its contract. Assumes nothing.
-use mathlib.Core.Path.{refl}
 use borrow.Author.Needs.{needs}
+use mathlib.Core.Path.{_≡_, refl, sym, ap, _∙_}
 use Rattle.lane_cells.specs.Lane.{levelIn}
 use Rattle.check_levels.proofs.is_source.Statement.{statement}
 use Rattle.check_levels.proofs.is_source.Tie as tie

@@ -1,85 +1,64 @@
 -- `check_levels::level_registers` meets its contract. The loop's invariant: the levels are those after so many rounds. Assumes nothing.
-use Prim.Native.Nat.{_-_}
 use native.Mathlib.Omega.{arith}
-use mathlib.Core.Path.{_≡_, refl, sym, ap, _∙_}
-use lib.ListN.{length, length-replicate}
-use denote.Ref.{now}
 use borrow.Author.Needs.{needs}
-use Rattle.check_levels.proofs.Rounds.{Levelling, levelling-start, row-long, row-small, levelling-more, levelling-stop, levelling-end, levels-are}
+use Prim.Native.Nat.{ℕ, _-_, _≤_, _<_}
+use mathlib.Core.Path.{_≡_, refl, sym, ap, _∙_}
+use lib.ListN.{length, getD}
+use Rattle.wiring_spec.specs.Parts.{Pipeline, registerCount}
+use Rattle.wiring_spec.specs.Passing.{ReachesOn}
+use Rattle.check_levels.specs.Graph.{SourcesOf}
+use Rattle.check_levels.proofs.Raising.{Round, round-none, round-more, round-all}
 use Rattle.check_levels.proofs.level_registers.Statement.{statement}
 use Rattle.check_levels.proofs.level_registers.Tie as tie
 
 abbrev Inv-loop : tie.InvT-loop
-Inv-loop sources levels₀ spare₀ count round₀ levels spare round = Levelling sources levels spare count round
+Inv-loop sources levels₀ count known₀ round₀ levels known round = (length levels ≡ length levels₀) × (round ≤ count)
+    × ((p : Pipeline) → SourcesOf p sources → ((k : ℕ) → ¬ (ReachesOn p k k)) → ((t : ℕ) → t < registerCount p → getD levels₀ t 0 ≡ 1) → Round p levels known round)
 
 abbrev μ-loop : tie.MeasureT-loop
-μ-loop sources levels₀ spare₀ count round₀ levels spare round = count - round
+μ-loop sources levels₀ count known₀ round₀ levels known round = count - round
 
 loop-holds : tie.Need-loop-holds Inv-loop μ-loop
-loop-holds c =
-    let z = c .before .before .before .before .before .before .before in
-    levelling-start _ _ _ _ (c .before .before .clear .ensures) (z .pre .2) (z .pre .0) (z .pre .1)
+loop-holds c = (refl, omega arith, λ p of forward ones. round-none p forward _ ones)
 
-raise-levels-requires : tie.Need-raise-levels-requires Inv-loop μ-loop
-raise-levels-requires c κs =
-    let i = c .before .before .before .loop .inv in
-    let l = row-long _ _ _ _ _ i in
-    (omega (arith, l, i .few), l ∙ i .rows, i .room ∙ sym l, row-small _ _ _ _ _ i)
+add-raise : tie.Need-add-raise Inv-loop μ-loop
+add-raise c = omega (arith, c .before .before .before .before .pre .1, c .loop-test .taken)
 
-copy-requires : tie.Need-copy-requires Inv-loop μ-loop
-copy-requires c κs =
-    let i = c .before .before .before .before .before .before .before .before .before .loop .inv in
-    let r = c .before .before .before .before .before .raise-levels .ensures in
-    row-long _ _ _ _ _ i ∙ sym (levelling-more _ _ _ _ _ i _ _ (c .before .before .before .before .before .before .before .before .loop-test .taken) (r .0) refl .room)
+cast-raise : tie.Need-cast-raise Inv-loop μ-loop
+cast-raise c = omega (arith, c .before .before .before .before .pre .1, c .loop-test .taken)
 
-loop-less : tie.Need-loop-less Inv-loop μ-loop
-loop-less c = omega (arith, c .before .before .before .before .before .before .before .before .before .before .before .loop-test .taken)
+raise-requires : tie.Need-raise-requires Inv-loop μ-loop
+raise-requires c κs = (omega (arith, c .before .before .before .before .before .pre .0, c .before .before .loop .inv .0), omega (arith, c .before .before .before .before .before .pre .1, c .before .before .loop .inv .0))
 
 loop-again : tie.Need-loop-again Inv-loop μ-loop
 loop-again c =
-    let i = c .before .before .before .before .before .before .before .before .before .before .before .before .loop .inv in
-    let t = c .before .before .before .before .before .before .before .before .before .before .before .loop-test .taken in
-    levelling-more _ _ _ _ _ i _ _ t (c .before .before .before .before .before .before .before .before .raise-levels .ensures .0) (c .before .before .copy .ensures)
+    let l = c .before .before .before .before .before .loop in
+    let r = c .before .before .raise .ensures in (
+      r .long ∙ l .inv .0,
+      omega (arith, c .before .before .before .before .loop-test .taken),
+      λ p of forward ones.
+          let e : length (l .levels) ≡ registerCount p = l .inv .0 ∙ c .before .before .before .before .before .before .before .before .pre .0 ∙ of .long in
+          round-more p forward _ (omega (arith, of .long, c .before .before .before .before .before .before .before .before .pre .0, c .before .before .before .before .before .before .before .before .pre .1)) of (λ t. c .before .before .before .before .before .before .before .shared-slice-known .given t .fits) _ _ _ _ _ (rw e at r) (l .inv .2 p of forward ones),
+    )
 
 same-length : tie.Need-same-length Inv-loop μ-loop
-same-length c =
-    let e = c .before .before .before .before .before .before .before .before .before .before .clear .ensures in
-    row-long _ _ _ _ _ (c .before .before .before .before .before .before .before .loop .inv) ∙ ap length e ∙ length-replicate _ 0
-
-same-length-2 : tie.Need-same-length-2 Inv-loop μ-loop
-same-length-2 c =
-    let i = c .before .before .before .before .before .before .before .loop .inv in
-    let z = c .before .before .before .before .before .before .before .before .before .before .before .before .before .before .before in
-    let e = c .before .before .before .before .before .before .before .before .before .before .clear .ensures in
-    let r = c .before .before .before .raise-levels .ensures in
-    levelling-more _ _ _ _ _ i _ _ (c .before .before .before .before .before .before .loop-test .taken) (r .0) refl .room ∙ ap length e ∙ length-replicate _ 0 ∙ sym (z .pre .2)
+same-length c = c .before .loop .inv .0
 
 returns : tie.Need-returns Inv-loop μ-loop
-returns c =
-    let i = c .before .before .before .before .before .before .before .loop .inv in
-    let e = c .before .before .before .before .before .before .before .before .before .before .clear .ensures in
-    let r = c .before .before .before .raise-levels .ensures in (
-      row-long _ _ _ _ _ i ∙ ap length e ∙ length-replicate _ 0,
-      λ p q o. levels-are p _ o _ _ (q ∙ sym (ap length e ∙ length-replicate _ 0)) (levelling-stop _ _ _ _ _ i (sym (r .0) ∙ r .1 (c .if1 .left))),
-    )
-
-same-length-3 : tie.Need-same-length-3 Inv-loop μ-loop
-same-length-3 c = row-long _ _ _ _ _ (c .before .loop .inv) ∙ ap length (c .before .before .before .before .clear .ensures) ∙ length-replicate _ 0
-
-same-length-4 : tie.Need-same-length-4 Inv-loop μ-loop
-same-length-4 c =
-    let z = c .before .before .before .before .before .before .before .before .before in
-    c .before .loop .inv .room ∙ ap length (c .before .before .before .before .clear .ensures) ∙ length-replicate _ 0 ∙ sym (z .pre .2)
-
-returns-2 : tie.Need-returns-2 Inv-loop μ-loop
-returns-2 c =
-    let i = c .before .loop .inv in
-    let e = c .before .before .before .before .clear .ensures in (
-      row-long _ _ _ _ _ i ∙ ap length e ∙ length-replicate _ 0,
-      λ p q o. levels-are p _ o _ _ (q ∙ sym (ap length e ∙ length-replicate _ 0)) (levelling-end _ _ _ _ _ i (omega (arith, c .loop-test .left))),
-    )
+returns c = let l = c .before .loop in (l .inv .0, λ p of forward ones t h. round-all p forward _ _ _ (omega (arith, of .long, c .before .before .before .before .pre .0, c .loop-test .left)) (l .inv .2 p of forward ones) t h)
 
 pub level-registers-spec : {M : Type 1} → statement M
 level-registers-spec =
     tie.close
-    (tie.spec Inv-loop μ-loop (λ c κs. tt) loop-holds raise-levels-requires copy-requires (λ c. search needs) loop-less loop-again same-length same-length-2 returns same-length-3 same-length-4 returns-2)
+    (tie.spec
+    Inv-loop
+    μ-loop
+    loop-holds
+    add-raise
+    cast-raise
+    raise-requires
+    (λ c. search needs)
+    (λ c. search needs)
+    loop-again
+    same-length
+    returns)
