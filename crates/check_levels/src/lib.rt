@@ -116,7 +116,7 @@ pub fn is_source(sources: &[u64], k: usize, t: usize) -> bool
 }
 
 // A register's sources, with those of another where these are to be added.
-fn joined(own: u64, other: u64, add: bool) -> u64
+pub fn joined(own: u64, other: u64, add: bool) -> u64
     ensures { λ r. ⌜ r ≡ cond add (bitOr own other) own ⌝ }
 {
     if add {

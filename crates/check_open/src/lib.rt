@@ -100,7 +100,7 @@ fn mark_of(other: bool) -> u8
     if other { 2 } else { 1 }
 }
 
-fn remember(kos: &mut [u64], known: &mut [u8], i: usize, all: Behind)
+pub fn remember(kos: &mut [u64], known: &mut [u8], i: usize, all: Behind)
     requires { ⌜ (i < length (now kos)) × (i < length (now known)) ⌝ }
     ensures kos { λ r. ⌜ now (kos .exit) ≡ set (now (kos .entry)) i (all .kos) ⌝ }
     ensures known { λ r. ⌜ now (known .exit) ≡ set (now (known .entry)) i (cond (all .other) 2 1) ⌝ }

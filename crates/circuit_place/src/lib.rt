@@ -7,7 +7,7 @@ ghost use Rattle.verdict.specs.Lists.{some};
 ghost use Rattle.circuit_place.specs.Placing.{waiting, four, Placing, Stuck, Passed};
 
 // Whether a net is a C-element without a place.
-fn waits(code: &[u16], first: usize, count: usize, net: usize) -> bool
+pub fn waits(code: &[u16], first: usize, count: usize, net: usize) -> bool
     requires { ⌜ length (now code) ≡ 8 * count ⌝ }
     ensures { λ r. ⌜ r ≡ waiting (now (code .entry)) first count net ⌝ }
 {

@@ -1,0 +1,45 @@
+-- A pipeline in its flat form: the stage as the file has it, with an order of its gates, and the tables of its registers and C-elements.
+use Prim.Native.Nat.{ℕ, _+_, _*_, _≤_, _<_}
+use mathlib.Core.Path.{_≡_}
+use mathlib.Core.List.{List}
+use lib.ListN.{length}
+use Rattle.netlist.specs.declared.Counts.{Counts}
+use Rattle.wiring_spec.specs.Parts.{Pipeline, registerCount}
+use Rattle.wiring_spec.specs.Wiring.{circular}
+use Rattle.wiring_spec.specs.Passing.{Nowhere}
+use Rattle.wiring_spec.specs.Tables.{slot, PartsLoaded}
+use Rattle.circuit.specs.Stage.{netCount, stageGates}
+use Rattle.circuit.specs.Order.{TopologicalOrder, orderIn}
+use Rattle.circuit_place.specs.Placing.{Passed}
+use Rattle.circuit_wire.specs.Wire.{RawLoaded}
+
+-- a register has three nets, a C-element one
+abbrev pub partNets : Counts → ℕ
+partNets c = 3 * c .registers + c .elements
+
+pub record Loaded (c : Counts) (raw order nets regs : List ℕ) : Type 0 where
+  pub pipeline : Pipeline
+  pub registers-are : registerCount pipeline ≡ c .registers
+  pub few-elements : c .elements ≤ 64
+  pub raw-loaded : RawLoaded pipeline c raw
+  pub parts : PartsLoaded pipeline (netCount c) (partNets c) nets regs
+  pub long : length nets ≡ 8 * partNets c
+  pub regs-room : 4 * c .registers ≤ length regs
+  pub order-room : 8 * c .gates ≤ length order
+  pub in-order : TopologicalOrder (c .inputs) (stageGates c raw) (orderIn c order)
+
+-- no C-element has a place
+abbrev pub Unplaced : List ℕ → Type 0
+Unplaced nets = (i : ℕ) → slot nets i 5 ≡ 0
+
+-- each that can have one has
+pub record Ordered (c : Counts) (raw order nets regs : List ℕ) : Type 0 where
+  pub loaded : Loaded c raw order nets regs
+  pub before : List ℕ
+  pub placed : ℕ
+  pub passed : Passed before nets (netCount c) (partNets c) placed placed
+
+-- no register reaches itself or has a loop of C-elements behind its Ki
+pub record Forward (c : Counts) (raw order nets regs : List ℕ) : Type 0 where
+  pub ordered : Ordered c raw order nets regs
+  pub none : Nowhere (ordered .loaded .pipeline) (circular (ordered .loaded .pipeline))
