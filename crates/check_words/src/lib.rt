@@ -34,10 +34,38 @@ fn number_of(which: Sweep) -> u64
     }
 }
 
-// What one of the checks finds in word w. A word that its mask does not name is passed over.
+// The first time that block b is asked for, its words in which 14 or 20 finds nothing are taken out of the mask.
+fn narrow(
+    which: Sweep,
+    mask: &mut [u64],
+    asked: &mut [bool],
+    code: &[u16],
+    counts: Counts,
+    b: usize,
+)
+    requires { ⌜ StageLoaded counts (now code) × InOrder counts (now code) ⌝ }
+    ensures long { λ r. ⌜ (length (now (mask .exit)) ≡ length (now (mask .entry))) × (length (now (asked .exit)) ≡ length (now (asked .entry))) ⌝ }
+    ensures clean { λ r. ⌜ ((reference : Reference) → Clean which (stageIn counts (now (code .entry))) reference (now (mask .entry))
+        → Clean which (stageIn counts (now (code .entry))) reference (now (mask .exit))) ⌝ }
+{
+    if b < mask.len() {
+        if b < asked.len() {
+            if asked[b] {
+                return;
+            }
+            asked[b] = true;
+            let words = lane_complete::input_words(which, code, counts, b);
+            let old = mask[b];
+            mask[b] = old & words;
+        }
+    }
+}
+
+// What one of the checks finds in word w. A word that its mask does not name is passed over, or does not any more once its block is asked.
 fn find_suspect(
     which: Sweep,
-    mask: &[u64],
+    mask: &mut [u64],
+    asked: &mut [bool],
     code: &[u16],
     counts: Counts,
     reference: &[u16],
@@ -46,35 +74,52 @@ fn find_suspect(
 ) -> Found
     requires { ⌜ BothLoaded counts (now code) sizes (now reference)
         × Clean which (stageIn counts (now code)) (referenceIn sizes (now reference)) (now mask) ⌝ }
-    ensures { λ r. ⌜ r ≡ finds which (stageIn counts (now (code .entry))) (referenceIn sizes (now (reference .entry))) w ⌝ }
+    ensures long { λ r. ⌜ (length (now (mask .exit)) ≡ length (now (mask .entry))) × (length (now (asked .exit)) ≡ length (now (asked .entry))) ⌝ }
+    ensures clean { λ r. ⌜ Clean which (stageIn counts (now (code .entry))) (referenceIn sizes (now (reference .entry))) (now (mask .exit)) ⌝ }
+    ensures found { λ r. ⌜ r ≡ finds which (stageIn counts (now (code .entry))) (referenceIn sizes (now (reference .entry))) w ⌝ }
 {
     if lane_screen::is_named(mask, w) {
-        return check_word::find(which, code, counts, reference, sizes, w);
+        narrow(which, mask, asked, code, counts, w / 64);
+        if lane_screen::is_named(mask, w) {
+            return check_word::find(which, code, counts, reference, sizes, w);
+        }
     }
     Found::Nothing
 }
 
 // What one of the checks finds in the words of a stage, whose names are listed: the word of the least name with a fault, and the least fault in it.
+// The mask is narrowed on the way, block by block.
 fn sweep_words(
     which: Sweep,
     order: WordOrder,
     list: &[u16],
-    mask: &[u64],
+    mask: [u64; lane_settle::BLOCKS],
     code: &[u16],
     counts: Counts,
     reference: &[u16],
     sizes: Counts,
 ) -> Finding
     requires { ⌜ BothLoaded counts (now code) sizes (now reference) × (now list ≡ names order (stageIn counts (now code)))
-        × Clean which (stageIn counts (now code)) (referenceIn sizes (now reference)) (now mask) ⌝ }
+        × Clean which (stageIn counts (now code)) (referenceIn sizes (now reference)) mask ⌝ }
     ensures { λ r. ⌜ r ≡ swept which order (stageIn counts (now (code .entry))) (referenceIn sizes (now (reference .entry))) ⌝ }
 {
     let number = number_of(which);
+    let mut left = mask;
+    let mut asked = [false; lane_settle::BLOCKS];
     let mut k: usize = 0;
     while k < list.len() {
         let name = list[k] as usize;
         let w = words::word_of(order, counts.inputs, name);
-        if let Found::At(i) = find_suspect(which, mask, code, counts, reference, sizes, w) {
+        if let Found::At(i) = find_suspect(
+            which,
+            &mut left,
+            &mut asked,
+            code,
+            counts,
+            reference,
+            sizes,
+            w,
+        ) {
             return Finding::Fault(Verdict {
                 number,
                 file: 1,
@@ -92,17 +137,17 @@ fn sweep_check(
     which: Sweep,
     order: WordOrder,
     list: &[u16],
-    mask: &[u64],
+    mask: [u64; lane_settle::BLOCKS],
     code: &[u16],
     counts: Counts,
     reference: &[u16],
     sizes: Counts,
 ) -> Finding
     requires { ⌜ BothLoaded counts (now code) sizes (now reference) × (now list ≡ names order (stageIn counts (now code)))
-        × Clean which (stageIn counts (now code)) (referenceIn sizes (now reference)) (now mask) ⌝ }
+        × Clean which (stageIn counts (now code)) (referenceIn sizes (now reference)) mask ⌝ }
     ensures { λ r. ⌜ r ≡ swept which order (stageIn counts (now (code .entry))) (referenceIn sizes (now (reference .entry))) ⌝ }
 {
-    if lane_screen::none_named(mask, code, counts) {
+    if lane_screen::none_named(&mask, code, counts) {
         return Finding::Passed;
     }
     sweep_words(which, order, list, mask, code, counts, reference, sizes)
@@ -173,7 +218,7 @@ fn sweep_named(
             which,
             order,
             list,
-            &mask,
+            mask,
             code,
             counts,
             reference,

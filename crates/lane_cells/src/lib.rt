@@ -15,7 +15,7 @@ ghost use Rattle.verdict.specs.Words.{bitsOf};
 ghost use Rattle.verdict.specs.Answers as answers;
 ghost use Rattle.circuit.specs.Reference.{operatorIn, operatorsIn, ReferenceLoaded};
 ghost use Rattle.lane_cells.specs.Lane.{levelIn, lane, laneOf};
-ghost use Rattle.lane_cells.specs.Cells.{needing, needOf, pinsIn, CellGives};
+ghost use Rattle.lane_cells.specs.Cells.{needing, needOf, pinsIn, cellLanes, CellGives};
 
 // Words of a block for a gate and for each of its four pins; which words they are is said where they are made. Those of a cell (`cell_lanes`) are
 // where its set expression holds, and for each pin where it holds and would not with that pin low.
@@ -209,6 +209,69 @@ pub fn cell_lanes(cell: u16, a: u64, b: u64, c: u64, d: u64) -> CellLanes
             (a & d) | (b & d),
             (a & c) | (b & c),
         ),
+    }
+}
+
+// Where the set expression of a cell holds, and nothing of its pins.
+pub fn set_lanes(cell: u16, a: u64, b: u64, c: u64, d: u64) -> u64
+    requires { ⌜ (1 ≤ cell) × (cell ≤ 27) ⌝ }
+    ensures { λ r. ⌜ r ≡ cellLanes cell a b c d .set ⌝ }
+{
+    match cell {
+        // 1 TH12
+        1 => a | b,
+        // 2 TH22
+        2 => a & b,
+        // 3 TH13
+        3 => a | b | c,
+        // 4 TH23
+        4 => (a & b) | (a & c) | (b & c),
+        // 5 TH33
+        5 => a & b & c,
+        // 6 TH23w2
+        6 => a | (b & c),
+        // 7 TH33w2
+        7 => (a & b) | (a & c),
+        // 8 TH14
+        8 => a | b | c | d,
+        // 9 TH24
+        9 => (a & b) | (a & c) | (a & d) | (b & c) | (b & d) | (c & d),
+        // 10 TH34
+        10 => (a & b & c) | (a & b & d) | (a & c & d) | (b & c & d),
+        // 11 TH44
+        11 => a & b & c & d,
+        // 12 TH24w2
+        12 => a | (b & c) | (b & d) | (c & d),
+        // 13 TH34w2
+        13 => (a & b) | (a & c) | (a & d) | (b & c & d),
+        // 14 TH44w2
+        14 => (a & b & c) | (a & b & d) | (a & c & d),
+        // 15 TH34w3
+        15 => a | (b & c & d),
+        // 16 TH44w3
+        16 => (a & b) | (a & c) | (a & d),
+        // 17 TH24w22
+        17 => a | b | (c & d),
+        // 18 TH34w22
+        18 => (a & b) | (a & c) | (a & d) | (b & c) | (b & d),
+        // 19 TH44w22
+        19 => (a & b) | (a & c & d) | (b & c & d),
+        // 20 TH54w22
+        20 => (a & b & c) | (a & b & d),
+        // 21 TH34w32
+        21 => a | (b & c) | (b & d),
+        // 22 TH54w32
+        22 => (a & b) | (a & c & d),
+        // 23 TH44w322
+        23 => (a & b) | (a & c) | (a & d) | (b & c),
+        // 24 TH54w322
+        24 => (a & b) | (a & c) | (b & c & d),
+        // 25 THxor0
+        25 => (a & b) | (c & d),
+        // 26 THand0
+        26 => (a & b) | (b & c) | (a & d),
+        // 27 TH24comp
+        _ => (a & c) | (b & c) | (a & d) | (b & d),
     }
 }
 

@@ -71,7 +71,7 @@ module _ (c : Counts) (code : List ℕ) (b : ℕ) (row : List ℕ) (room : Room 
       ∙ level-at j row (2 * c .inputs + k)
       ∙ same-level (levelIn j (getD row (2 * c .inputs + k) 0)) (getD levels k 0) (level-small j (getD row (2 * c .inputs + k) 0))
       (bits-get (length (stageGates c code)) levels (settled-bits (stageGates c code) rails) k)
-      (at-rest .rest j (2 * c .inputs + k) d (omega arith) ∙ ap (λ (x : ℕ). ltb 0 x) behind)
+      (at-rest .nets j (2 * c .inputs + k) d (omega arith) ∙ ap (λ (x : ℕ). ltb 0 x) behind)
     where
       behind : getD (rails ++ levels) (2 * c .inputs + k) 0 ≡ getD levels k 0
       behind = let e : 2 * c .inputs + k ≡ length rails + k = omega (arith, rails-long) in ap (λ (n : ℕ). getD (rails ++ levels) n 0) e ∙ getD-append-add rails levels k 0

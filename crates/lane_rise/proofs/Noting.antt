@@ -92,7 +92,7 @@ module _ (c : Counts) (code masks : List ℕ) where
               word = p .0;
               is-word = p .1;
               high = same-rest c code (p .0) (64 * b + j) (2 * c .inputs + g) (p .2)
-                  ∙ sym (at-rest .rest j (2 * c .inputs + g) d (omega arith))
+                  ∙ sym (at-rest .nets j (2 * c .inputs + g) d (omega arith))
                   ∙ and-left (rowIn j row (2 * c .inputs + g)) (lane j (getD masks b 0)) x;
             }
 
@@ -101,7 +101,7 @@ module _ (c : Counts) (code masks : List ℕ) where
         is-kept g a j h l d m r (yes q) =
             or-right (rowIn j rose g) (rowIn j row (2 * c .inputs + g) && lane j (getD masks b 0))
             (and-in (rowIn j row (2 * c .inputs + g)) (lane j (getD masks b 0))
-            (at-rest .rest j (2 * c .inputs + g) d (omega arith) ∙ sym (ap (λ (x : ℕ). restIn c code x j (2 * c .inputs + g)) q) ∙ r)
+            (at-rest .nets j (2 * c .inputs + g) d (omega arith) ∙ sym (ap (λ (x : ℕ). restIn c code x j (2 * c .inputs + g)) q) ∙ r)
             (sym (ap (λ (x : ℕ). lane j (getD masks x 0)) q) ∙ m))
         is-kept g a j h l d m r (no q) =
             or-left (rowIn j rose g) (rowIn j row (2 * c .inputs + g) && lane j (getD masks b 0)) (n .kept g a j h (omega arith) d m r)

@@ -74,7 +74,7 @@ module _ (c : Counts) (code : List ℕ) (loaded : StageLoaded c code) (ordered :
   level p l = go (decLt p (netCount c))
     where
       go : Dec (p < netCount c) → rowIn j row p ≡ R p
-      go (yes a) = rest .rest j p d a
+      go (yes a) = rest .nets j p d a
       go (no a) =
           let e : p ≡ netCount c = omega arith in
           ap (rowIn j row) e ∙ ap (lane j) (rest .ground) ∙ lane-zero j ∙ sym (rest-past c code ordered (64 * b + j) p (omega arith))
@@ -125,7 +125,7 @@ module _ (c : Counts) (code : List ℕ) (loaded : StageLoaded c code) (ordered :
     -- in the rise: it is high, and not set with that net low
     need-acknowledges : (high : ℕ) → high ≡ getD row g 0 → lane j (bitXor high (cofactorOf code k row false p)) ≡ true → Acknowledged (netIn c code) R p
     need-acknowledges high is e = go (R g) refl (setIn (R ∖ only p) (gateIn code k)) refl
-        (sym (ap (λ (x : Bool). unlike x (setIn (R ∖ only p) (gateIn code k))) (ap (lane j) is ∙ rest .rest j g d (omega arith)))
+        (sym (ap (λ (x : Bool). unlike x (setIn (R ∖ only p) (gateIn code k))) (ap (lane j) is ∙ rest .nets j g d (omega arith)))
         ∙ sym (ap (unlike (lane j high)) (cofactor false p)) ∙ sym (lane-xor j high (cofactorOf code k row false p)) ∙ e)
       where
         go : (x : Bool) → R g ≡ x → (y : Bool) → setIn (R ∖ only p) (gateIn code k) ≡ y → unlike x y ≡ true → Acknowledged (netIn c code) R p
@@ -192,7 +192,7 @@ module _ (c : Counts) (code : List ℕ) (loaded : StageLoaded c code) (ordered :
       (at 0) (at 1) (at 2) (at 3) t l z l there
     where
       at : (t : ℕ) → lane j high ≡ true → t < 4 → pinIn code k t < netCount c → Fall-acknowledged (netIn c code) (restIn c code b j) (pinIn code k t)
-      at t u l there = hold-acknowledges c code loaded ordered k h row b j d rest t l there e (sym (rest .rest j (2 * c .inputs + k) d (omega arith)) ∙ sym (ap (lane j) is) ∙ u)
+      at t u l there = hold-acknowledges c code loaded ordered k h row b j d rest t l there e (sym (rest .nets j (2 * c .inputs + k) d (omega arith)) ∙ sym (ap (lane j) is) ∙ u)
 
   pub acknowledged-relaxed : gateIn code k .hold ≡ false → (r : CellLanes) → r ≡ cofactorsOf code k row true → PinsAcknowledged true c code k row r
   acknowledged-relaxed n r each b rest j t d l there z =
@@ -207,7 +207,7 @@ module _ (c : Counts) (code : List ℕ) (loaded : StageLoaded c code) (ordered :
   pub acknowledged-lone : gateIn code k .hold ≡ false → (r : CellLanes) → Lone code k row r → PinsAcknowledged true c code k row r
   acknowledged-lone n r lone b rest j t d l there z =
       let both = lone j t l z in
-      lone-acknowledges c code loaded ordered k h row b j d rest t l there n (sym (rest .rest j (pinIn code k t) d there) ∙ both .0) (both .1)
+      lone-acknowledges c code loaded ordered k h row b j d rest t l there n (sym (rest .nets j (pinIn code k t) d there) ∙ both .0) (both .1)
 
 -- the levels at the pins are those of four nets
 pins-of : (code row : List ℕ) (k j t : ℕ) → t < 4 → (at : PinLanes) → at ≡ pinLanes code k row → pinsIn j (at .a) (at .b) (at .c) (at .d) t ≡ rowIn j row (pinIn code k t)

@@ -30,7 +30,7 @@ module _ (s : Stage) (r : Reference) (which : Sweep) where
       let e : getD full (w / 64) 0 ≡ 0xFFFF_FFFF_FFFF_FFFF = getD-replicate n (w / 64) 0xFFFF_FFFF_FFFF_FFFF 0 h in
       absurd (clash (ap (lane (w % 64)) e ∙ ap (λ (x : ℕ). eqb x 1) (all-at (w % 64) (mod-lt w (lit< tt)))) (u .clear))
 
-  clean-more : (mask : List ℕ) (b x : ℕ) → Clean which s r mask → CleanIn which s r b x
+  pub clean-more : (mask : List ℕ) (b x : ℕ) → Clean which s r mask → CleanIn which s r b x
       → Clean which s r (set mask b x)
   clean-more mask b x ok new w u = go (ℕ-discrete (w / 64) b)
     where

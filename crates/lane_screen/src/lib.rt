@@ -160,7 +160,7 @@ fn cofactor(code: &[u16], counts: Counts, k: usize, row: &[u64], alone: bool, ne
     let b = cofactor_pin(row, alone, net, pins.b);
     let c = cofactor_pin(row, alone, net, pins.c);
     let d = cofactor_pin(row, alone, net, pins.d);
-    lane_cells::cell_lanes(cell, a, b, c, d).set
+    lane_cells::set_lanes(cell, a, b, c, d)
 }
 
 // For each pin of gate k the words in which the gate is set by the pins that are kept for its net.

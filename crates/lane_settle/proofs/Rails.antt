@@ -102,7 +102,7 @@ module _ (c : Counts) (code : List ℕ) (ordered : InOrder c code) (b : ℕ) (st
       rest false = rail (2 * i) (omega arith) ∙ wordRails-0 (high (bitsOf (c .inputs) w)) i ∙ ap not (sym bit)
       rest true = rail (2 * i + 1) (omega arith) ∙ wordRails-1 (high (bitsOf (c .inputs) w)) i ∙ sym bit
 
-  pub rails-done : getD start (netCount c) 0 ≡ 0 → Spelled c code b row
+  pub rails-done : getD start (netCount c) 0 ≡ 0 → Spelled c (restIn c code b) row
   rails-done low = record {
     ground = s .behind (netCount c) (omega arith) ∙ low;
     rails = λ j p d h. let r = rail-of-input p in rw (r .1) (rail-is j (p / 2) (r .0) d (omega arith));

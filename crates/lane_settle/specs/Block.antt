@@ -27,24 +27,35 @@ netIn c code = netOf (stageIn c code)
 abbrev pub Room : Counts → List ℕ → Type 0
 Room c row = netCount c < length row
 
--- the ground is low, and in each word of block b the rails are as at its rest
-pub record Spelled (c : Counts) (code : List ℕ) (b : ℕ) (row : List ℕ) : Type 0 where
+-- ---- 64 rows in one: of each net its levels, word by word
+
+-- the ground is low, and the rails are as in the rows
+pub record Spelled (c : Counts) (rows : ℕ → Row) (row : List ℕ) : Type 0 where
   pub ground : getD row (netCount c) 0 ≡ 0
-  pub rails : (j p : ℕ) → j < 64 → p < 2 * c .inputs → rowIn j row p ≡ restIn c code b j p
+  pub rails : (j p : ℕ) → j < 64 → p < 2 * c .inputs → rowIn j row p ≡ rows j p
 
 -- and so are the gates at the first i places of the order
-pub record LanesSettledTo (c : Counts) (code : List ℕ) (b : ℕ) (row : List ℕ) (i : ℕ) : Type 0 where
-  pub spelled : Spelled c code b row
-  pub gates : (j q : ℕ) → j < 64 → q < i → rowIn j row (2 * c .inputs + gateAtPlace code q) ≡ restIn c code b j (2 * c .inputs + gateAtPlace code q)
+pub record LanesSettledTo (c : Counts) (code : List ℕ) (rows : ℕ → Row) (row : List ℕ) (i : ℕ) : Type 0 where
+  pub spelled : Spelled c rows row
+  pub gates : (j q : ℕ) → j < 64 → q < i → rowIn j row (2 * c .inputs + gateAtPlace code q) ≡ rows j (2 * c .inputs + gateAtPlace code q)
 
--- all nets are as at the rest, in each word of block b
-abbrev pub AtRest : Counts → List ℕ → ℕ → List ℕ → Type 0
-AtRest c code b row = (j p : ℕ) → j < 64 → p < netCount c → rowIn j row p ≡ restIn c code b j p
+-- all nets are
+abbrev pub NetsOf : Counts → (ℕ → Row) → List ℕ → Type 0
+NetsOf c rows row = (j p : ℕ) → j < 64 → p < netCount c → rowIn j row p ≡ rows j p
 
 -- and the ground is low
-pub record Resting (c : Counts) (code : List ℕ) (b : ℕ) (row : List ℕ) : Type 0 where
+pub record Holding (c : Counts) (rows : ℕ → Row) (row : List ℕ) : Type 0 where
   pub ground : getD row (netCount c) 0 ≡ 0
-  pub rest : AtRest c code b row
+  pub nets : NetsOf c rows row
+
+-- the rows of block b at rest
+abbrev pub AtRest : Counts → List ℕ → ℕ → List ℕ → Type 0
+AtRest c code b = NetsOf c (restIn c code b)
+
+abbrev pub Resting : Counts → List ℕ → ℕ → List ℕ → Type 0
+Resting c code b = Holding c (restIn c code b)
+
+-- ---- marks
 
 -- what is said of each net that is marked in a word of a block
 abbrev pub MarkedWith : (ℕ → ℕ → Type 0) → Counts → List ℕ → Type 0

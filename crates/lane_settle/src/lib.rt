@@ -11,7 +11,7 @@ ghost use Rattle.netlist.specs.Reading.{stageLimits};
 ghost use Rattle.circuit.specs.Stage.{netCount, StageLoaded};
 ghost use Rattle.circuit.specs.Order.{InOrder};
 ghost use Rattle.lane_cells.specs.Lane.{lane, rowIn};
-ghost use Rattle.lane_settle.specs.Block.{Room, Spelled, LanesSettledTo, Resting, Marked, pinLanes, gateLanes, PinsMarked};
+ghost use Rattle.lane_settle.specs.Block.{restIn, Room, Spelled, LanesSettledTo, Resting, Marked, pinLanes, gateLanes, PinsMarked};
 
 // As many blocks as the words of the most inputs make.
 pub const BLOCKS: usize = netlist::WORDS / 64;
@@ -55,10 +55,10 @@ pub fn mark_pins(code: &[u16], counts: Counts, k: usize, words: CellLanes, ack: 
 // ---- settling
 
 // The rails of block b: rail 0 of an input is high for 0, rail 1 for 1.
-fn spell_rails(counts: Counts, b: usize, row: &mut [u64])
+pub fn spell_rails(counts: Counts, b: usize, row: &mut [u64])
     requires { ⌜ (counts .inputs ≤ stageLimits .inputs) × Room counts (now row) × (getD (now row) (netCount counts) 0 ≡ 0) ⌝ }
     ensures long { λ r. ⌜ length (now (row .exit)) ≡ length (now (row .entry)) ⌝ }
-    ensures spelled { λ r. ⌜ ((code : List ℕ) → InOrder counts code → Spelled counts code b (now (row .exit))) ⌝ }
+    ensures spelled { λ r. ⌜ ((code : List ℕ) → InOrder counts code → Spelled counts (restIn counts code b) (now (row .exit))) ⌝ }
 {
     let mut i: usize = 0;
     while i < counts.inputs {
@@ -105,10 +105,10 @@ fn gate_lanes(code: &[u16], counts: Counts, k: usize, row: &[u64]) -> CellLanes
 fn settle_gates(code: &[u16], counts: Counts, row: &mut [u64], ack: &mut [u64])
     requires { ⌜ StageLoaded counts (now code) × InOrder counts (now code) × Room counts (now row) × Room counts (now ack) ⌝ }
     ensures long { λ r. ⌜ (length (now (row .exit)) ≡ length (now (row .entry))) × (length (now (ack .exit)) ≡ length (now (ack .entry))) ⌝ }
-    ensures settled { λ r. ⌜ ((b : ℕ) → Spelled counts (now (code .entry)) b (now (row .entry))
-        → LanesSettledTo counts (now (code .entry)) b (now (row .exit)) (counts .gates)) ⌝ }
-    ensures marked { λ r. ⌜ ((b : ℕ) → Spelled counts (now (code .entry)) b (now (row .entry)) → Marked counts (now (code .entry)) b (now (ack .entry))
-        → Marked counts (now (code .entry)) b (now (ack .exit))) ⌝ }
+    ensures settled { λ r. ⌜ ((b : ℕ) → Spelled counts (restIn counts (now (code .entry)) b) (now (row .entry))
+        → LanesSettledTo counts (now (code .entry)) (restIn counts (now (code .entry)) b) (now (row .exit)) (counts .gates)) ⌝ }
+    ensures marked { λ r. ⌜ ((b : ℕ) → Spelled counts (restIn counts (now (code .entry)) b) (now (row .entry))
+        → Marked counts (now (code .entry)) b (now (ack .entry)) → Marked counts (now (code .entry)) b (now (ack .exit))) ⌝ }
 {
     let first = 2 * counts.inputs;
     let count = counts.gates;

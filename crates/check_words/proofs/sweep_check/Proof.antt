@@ -15,4 +15,4 @@ returns c =
     none-worth (z .args .which) (z .args .order) s r _ (z .pre .2) (c .before .none-named .ensures (c .if1 .taken))
 
 pub sweep-check-spec : {M : Type 1} → statement M
-sweep-check-spec = tie.close (tie.spec (λ c κs. search needs) returns (λ c κs. search needs) (λ c. search needs))
+sweep-check-spec = tie.close (tie.spec (λ c. search needs) (λ c κs. search needs) returns (λ c κs. search needs) (λ c. search needs))

@@ -25,30 +25,30 @@ loop-holds c = (⊎-elim (λ all. omega arith) (λ rise. omega arith) (c .sweep-
 
 sweep-check-requires : tie.Need-sweep-check-requires Inv-loop μ-loop
 sweep-check-requires c κs =
-    let z = c .before .before .before .before .before .before .before .before .before in
+    let z = c .before .before .before .before .before .before .before .before in
     let s = stageIn (z .args .counts) (now (z .args .code)) in
     let r = referenceIn (z .args .sizes) (now (z .args .reference)) in
-    let clean = mask-clean (z .args .order) s r (z .args .masks) (z .pre .2) (c .before .before .sweep-at .result) in
-    (z .pre .0, z .pre .1, subst (Clean (c .before .before .sweep-at .result) s r) (sym (c .before .mask-of .ensures .0)) clean)
+    let clean = mask-clean (z .args .order) s r (z .args .masks) (z .pre .2) (c .before .sweep-at .result) in
+    (z .pre .0, z .pre .1, subst (Clean (c .before .sweep-at .result) s r) (sym (c .mask-of .ensures .0)) clean)
 
 returns : tie.Need-returns Inv-loop μ-loop
 returns c =
-    let z = c .before .before .before .before .before .before .before .before .before .before .before .before .before in
-    let s = stageIn (z .args .counts) (now (z .args .code)) in
-    let r = referenceIn (z .args .sizes) (now (z .args .reference)) in
-    let loop = c .before .before .before .before .before .before .before .before .loop in
-    let few = c .before .before .before .before .before .before .before .before .before .sweep-count .ensures .few in
-    found-at (z .args .order) s r (loop .i) _ (omega arith) (loop .inv .1)
-    (sym (c .before .v .given .1) ∙ c .before .before .before .sweep-check .ensures ∙ ap (λ (w : Sweep). swept w (z .args .order) s r) (c .before .before .before .before .before .before .sweep-at .ensures))
-
-loop-again : tie.Need-loop-again Inv-loop μ-loop
-loop-again c =
     let z = c .before .before .before .before .before .before .before .before .before .before .before .before in
     let s = stageIn (z .args .counts) (now (z .args .code)) in
     let r = referenceIn (z .args .sizes) (now (z .args .reference)) in
     let loop = c .before .before .before .before .before .before .before .loop in
     let few = c .before .before .before .before .before .before .before .before .sweep-count .ensures .few in
-    let passed = sym (c .enum-told .given .1) ∙ c .before .before .sweep-check .ensures ∙ ap (λ (w : Sweep). swept w (z .args .order) s r) (c .before .before .before .before .before .sweep-at .ensures) in
+    found-at (z .args .order) s r (loop .i) _ (omega arith) (loop .inv .1)
+    (sym (c .before .v .given .1) ∙ c .before .before .before .sweep-check .ensures ∙ ap (λ (w : Sweep). swept w (z .args .order) s r) (c .before .before .before .before .before .sweep-at .ensures))
+
+loop-again : tie.Need-loop-again Inv-loop μ-loop
+loop-again c =
+    let z = c .before .before .before .before .before .before .before .before .before .before .before in
+    let s = stageIn (z .args .counts) (now (z .args .code)) in
+    let r = referenceIn (z .args .sizes) (now (z .args .reference)) in
+    let loop = c .before .before .before .before .before .before .loop in
+    let few = c .before .before .before .before .before .before .before .sweep-count .ensures .few in
+    let passed = sym (c .enum-told .given .1) ∙ c .before .before .sweep-check .ensures ∙ ap (λ (w : Sweep). swept w (z .args .order) s r) (c .before .before .before .before .sweep-at .ensures) in
     (omega arith, passed-on (z .args .order) s r (loop .i) (omega arith) (loop .inv .1) passed)
 
 returns-2 : tie.Need-returns-2 Inv-loop μ-loop
@@ -67,7 +67,6 @@ sweep-named-spec =
     loop-holds
     (λ c κs. search needs)
     (λ c κs. search needs)
-    (λ c. search needs)
     sweep-check-requires
     (λ c. search needs)
     returns

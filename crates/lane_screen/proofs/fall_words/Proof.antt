@@ -28,7 +28,7 @@ returns c =
       first .ensures .0 ∙ marks .ensures .0 ∙ cleared .ensures .0,
       λ b rest.
           let start = outputs-marked true counts code b (cleared .last .1 .0) (marks .last .1 .1 .0) (cleared .ensures .1) (marks .ensures .1) in
-          acknowledged-but counts code (z .pre .1) b true (now (z .args .row)) (first .last .1 .1 .1 .1 .1 .0) 0 (rest .rest) (first .ensures .1 b rest start)
+          acknowledged-but counts code (z .pre .1) b true (now (z .args .row)) (first .last .1 .1 .1 .1 .1 .0) 0 (rest .nets) (first .ensures .1 b rest start)
           (λ j d e. c .before .unmarked .ensures j d (ap (lane j) (c .if1 .taken) ∙ e)),
     )
 
@@ -61,7 +61,7 @@ returns-2 c =
       more .ensures .0 ∙ first .ensures .0 ∙ marks .ensures .0 ∙ cleared .ensures .0,
       λ b rest.
           let start = outputs-marked true counts code b (cleared .last .1 .0) (marks .last .1 .1 .0) (cleared .ensures .1) (marks .ensures .1) in
-          acknowledged-but counts code (z .pre .1) b true (now (z .args .row)) (more .last .1 .1 .1 .1 .1 .0) (c .unmarked2 .result) (rest .rest)
+          acknowledged-but counts code (z .pre .1) b true (now (z .args .row)) (more .last .1 .1 .1 .1 .1 .0) (c .unmarked2 .result) (rest .nets)
           (more .ensures .1 b rest (first .ensures .1 b rest start)) (c .unmarked2 .ensures),
     )
 

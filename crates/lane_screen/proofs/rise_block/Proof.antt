@@ -46,7 +46,7 @@ returns c =
       },
       (
         rest,
-        rise-clean (z .args .counts) (now (z .args .code)) (z .args .sizes) (now (z .args .reference)) (z .pre .0) (z .args .b) (rise .last .1 .1 .1 .0) (rest .rest)
+        rise-clean (z .args .counts) (now (z .args .code)) (z .args .sizes) (now (z .args .reference)) (z .pre .0) (z .args .b) (rise .last .1 .1 .1 .0) (rest .nets)
             (signals .last .1 .1 .1 .0) (c .wrong-words .result) (rise .result) (signals .ensures .1) (c .wrong-words .ensures) (rise .ensures .1 .1),
       ),
     )

@@ -31,7 +31,7 @@ returns c =
       (settle .ensures .0 .0, settle .ensures .0 .1 ∙ marks .ensures .0 ∙ cleared .ensures .0),
       (
         rest,
-        acknowledged-but counts code (z .pre .1) b false (settle .last .1 .1 .1 .0) (settle .last .1 .1 .1 .1 .0) 0 (rest .rest) (settle .ensures .1 .1 start)
+        acknowledged-but counts code (z .pre .1) b false (settle .last .1 .1 .1 .0) (settle .last .1 .1 .1 .1 .0) 0 (rest .nets) (settle .ensures .1 .1 start)
             (λ j d e. c .before .unmarked .ensures j d (ap (lane j) (c .if1 .taken) ∙ e)),
       ),
     )
@@ -69,7 +69,7 @@ returns-2 c =
       (settle .ensures .0 .0, more .ensures .0 ∙ settle .ensures .0 .1 ∙ marks .ensures .0 ∙ cleared .ensures .0),
       (
         rest,
-        acknowledged-but counts code (z .pre .1) b false (settle .last .1 .1 .1 .0) (more .last .1 .1 .1 .1 .1 .0) (c .unmarked2 .result) (rest .rest)
+        acknowledged-but counts code (z .pre .1) b false (settle .last .1 .1 .1 .0) (more .last .1 .1 .1 .1 .1 .0) (c .unmarked2 .result) (rest .nets)
             (more .ensures .1 b rest (settle .ensures .1 .1 start)) (c .unmarked2 .ensures),
       ),
     )

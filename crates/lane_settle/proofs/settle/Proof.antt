@@ -13,7 +13,7 @@ returns c =
     let gates = c .before .before .before .before .settle-gates in
     let spelled = spell .ensures .1 (now (z .args .code)) (z .pre .1) in (
       (gates .ensures .0 .0 ∙ spell .ensures .0, gates .ensures .0 .1),
-      (settled-rest (z .args .counts) (now (z .args .code)) (z .pre .1) (z .args .b) _ (gates .ensures .1 .0 (z .args .b) spelled), gates .ensures .1 .1 (z .args .b) spelled),
+      (settled-rest (z .args .counts) (now (z .args .code)) (z .pre .1) _ _ (gates .ensures .1 .0 (z .args .b) spelled), gates .ensures .1 .1 (z .args .b) spelled),
     )
 
 pub settle-spec : {M : Type 1} → statement M

@@ -5,7 +5,7 @@ use native.Mathlib.Omega.{arith}
 use mathlib.Core.Path.{_≡_, subst}
 use denote.Ref.{now}
 use borrow.Author.Needs.{needs}
-use Rattle.lane_settle.specs.Block.{LanesSettledTo}
+use Rattle.lane_settle.specs.Block.{restIn, LanesSettledTo}
 use Rattle.lane_settle.proofs.Turns.{BlockTo, block-start, block-turn}
 use Rattle.lane_settle.proofs.settle_gates.Statement.{statement}
 use Rattle.lane_settle.proofs.settle_gates.Tie as tie
@@ -57,7 +57,7 @@ returns c =
     let l = c .before .loop in
     let e : l .i ≡ z .args .counts .gates = omega (arith, l .inv .0) in (
       (l .inv .1 .row-long, l .inv .1 .ack-long),
-      (λ b s. subst (LanesSettledTo (z .args .counts) (now (z .args .code)) b (l .row)) e (l .inv .1 .settled b s), l .inv .1 .marked),
+      (λ b s. subst (LanesSettledTo (z .args .counts) (now (z .args .code)) (restIn (z .args .counts) (now (z .args .code)) b) (l .row)) e (l .inv .1 .settled b s), l .inv .1 .marked),
     )
 
 pub settle-gates-spec : {M : Type 1} → statement M
