@@ -1,0 +1,2 @@
+-- The rules told from the tables are those of the wiring.
+-- Assumes nothing.
