@@ -145,10 +145,12 @@ module _ (p : Pipeline) (table : List ℕ) (of : SourcesOf p table) (small : len
     before : (a b : ℕ) → 1 ≤ a → eqb b (a - 1) ≡ eqb a (suc b)
     before a b l = together (eqb b (a - 1)) (eqb a (suc b)) (λ e. eq-eqb a (suc b) (omega (arith, eqb-true b (a - 1) e))) (λ e. eq-eqb b (a - 1) (omega (arith, eqb-true a (suc b) e)))
 
-    pub uneven-told : (row : ℕ) → SetTo (λ t. eqb (getD levels t 0) (own - 1)) (length levels) row
-        → (lacking row (getD table k 0) || (sourceIn inputs 0 k && not (eqb own 1))) ≡ uneven p k
+    pub uneven-told : (row : ℕ) → SetTo (λ t. eqb (getD levels t 0) (own - 1)) (length levels) row → (a b : Bool) → a ≡ lacking row (getD table k 0)
+        → b ≡ sourceIn inputs 0 k → (a || (b && not (eqb own 1))) ≡ uneven p k
     unfolding uneven sources
-    uneven-told row s = ap₂ (λ (a b : Bool). a || b) (lack ∙ some-select (λ t. reaches p t k) unlike (registers p)) (ap₂ (λ (a : Bool) (l : ℕ). a && not (eqb l 1)) (input-is k inside) (level-is k inside))
+    uneven-told row s a b f g =
+        ap₂ (λ (x y : Bool). x || y) (f ∙ lack ∙ some-select (λ t. reaches p t k) unlike (registers p))
+        (ap₂ (λ (x : Bool) (l : ℕ). x && not (eqb l 1)) (g ∙ input-is k inside) (level-is k inside))
       where
         at : (i : ℕ) → i < m → (lane i (getD table k 0) && not (lane i row)) ≡ (reaches p i k && unlike i)
         at i l =
