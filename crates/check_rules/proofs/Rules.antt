@@ -13,14 +13,13 @@ use lib.Bits.{bitOr}
 use borrow.Author.Tests.{eq-eqb, ne-eqb, eqb-true, lt-ltb, le-ltb}
 use Rattle.netlist.specs.Bytes.{outside}
 use Rattle.runs.proofs.Test.{clash, not-true, not-false, of-not, and-in, and-left, and-right, or-left, or-right, or-cases}
-use Rattle.verdict.specs.Lists.{numbers, select, some}
-use Rattle.verdict.specs.Paths.{In}
+use Rattle.verdict.specs.Lists.{select, some}
 use Rattle.verdict.proofs.Steps.{some-in, some-out}
-use Rattle.verdict.proofs.Words.{index-in, in-index}
+use Rattle.verdict.proofs.Words.{index-in}
 use Rattle.lane_cells.specs.Lane.{lane}
 use Rattle.lane_cells.proofs.Lane.{lane-or}
-use Rattle.wiring_spec.specs.Parts.{Pipeline, Driver, input, gate, rail, acknowledge, completion, nothing, driverOf, kiOf, registerCount, allNets}
-use Rattle.wiring_spec.specs.Wiring.{reaches, fromInput, registers, sources, level, behind, isKoOf, uneven, missing, foreign, bars, barred}
+use Rattle.wiring_spec.specs.Parts.{Pipeline, Driver, input, gate, rail, acknowledge, completion, nothing, driverOf, kiOf, registerCount}
+use Rattle.wiring_spec.specs.Wiring.{reaches, registers, sources, level, behind, isKoOf, uneven, missing, foreign, bars, barred}
 use Rattle.wiring_spec.specs.Passing.{Behind}
 use Rattle.wiring_spec.specs.Named.{carriesData}
 use Rattle.wiring_spec.proofs.Nets.{never, net-where, data-net, Stands, stands}
@@ -104,9 +103,9 @@ module _ (p : Pipeline) (k : ℕ) where
       complete e =
           ⊎-elim (λ q. let r = behind-sound p isData k q in barred-at (r .0) (bars-data (driverOf p (r .0)) (r .1)) (r .2))
           (λ q.
-              let t = some-out strange (registers p) q in
-              let r = ko-sound p k (t .0) (and-left (koBehind (t .0)) (foreign p k (t .0)) (t .2)) in
-              barred-at (r .0) (bars-ko (t .0) (driverOf p (r .0)) (r .1) (and-right (koBehind (t .0)) (foreign p k (t .0)) (t .2))) (r .2))
+          let t = some-out strange (registers p) q in
+          let r = ko-sound p k (t .0) (and-left (koBehind (t .0)) (foreign p k (t .0)) (t .2)) in
+          barred-at (r .0) (bars-ko (t .0) (driverOf p (r .0)) (r .1) (and-right (koBehind (t .0)) (foreign p k (t .0)) (t .2))) (r .2))
           (or-cases (behind p isData k) (some strange (registers p)) e)
 
   -- only a register of the file has a Ko
@@ -134,6 +133,12 @@ module _ (p : Pipeline) (table : List ℕ) (of : SourcesOf p table) (small : len
   few : m ≤ 64
   few = omega (arith, of .long)
 
+  -- a set of a level holds the registers of that level
+  level-in : (levels : List ℕ) → LevelsOf p levels → length levels ≡ length table → (l set : ℕ) → SetTo (λ t. eqb (getD levels t 0) l) (length levels) set
+      → (t : ℕ) → t < m → lane t set ≡ eqb (level p t) l
+  level-in levels level-is long l set s t h =
+      set-in (λ t. eqb (getD levels t 0) l) (length levels) set (omega arith) s t (omega (arith, of .long)) ∙ ap (λ (x : ℕ). eqb x l) (level-is t h)
+
   -- 33
   module _ (levels inputs : List ℕ) (level-is : LevelsOf p levels) (input-is : InputsOf p inputs) (long : length levels ≡ length table) (low : 1 ≤ getD levels k 0) where
     abbrev own : ℕ
@@ -154,8 +159,8 @@ module _ (p : Pipeline) (table : List ℕ) (of : SourcesOf p table) (small : len
       where
         at : (i : ℕ) → i < m → (lane i (getD table k 0) && not (lane i row)) ≡ (reaches p i k && unlike i)
         at i l =
-            let e : lane i row ≡ eqb (getD levels i 0) (own - 1) = set-in (λ t. eqb (getD levels t 0) (own - 1)) (length levels) row (omega arith) s i (omega (arith, of .long)) in
-            ap₂ (λ (a b : Bool). a && not b) (of .each i k (omega (arith, few)) inside) (e ∙ ap₂ (λ (a b : ℕ). eqb a (b - 1)) (level-is i l) (level-is k inside) ∙ before (level p k) (level p i) (omega (arith, level-is k inside)))
+            ap₂ (λ (a b : Bool). a && not b) (of .each i k (omega (arith, few)) inside)
+            (level-in levels level-is long (own - 1) row s i l ∙ before own (level p i) low ∙ ap (λ (x : ℕ). eqb x (suc (level p i))) (level-is k inside))
 
         past : (i : ℕ) → m ≤ i → i < 64 → lane i (getD table k 0) ≡ false
         past i l l64 = of .each i k l64 inside ∙ not-true (reaches p i k) (λ e. omega (arith, source-inside p i k (reaches-sound p i k e)))
@@ -211,11 +216,13 @@ module _ (p : Pipeline) (table : List ℕ) (of : SourcesOf p table) (small : len
             neither true b = refl
             neither false b = refl
 
-            one : (n : ℕ) → n + 1 ≡ suc n
-            one n = omega arith
+            after : (t : ℕ) → t < m → lane t next ≡ eqb (level p t) (suc (level p k))
+            after t l =
+                let e : getD levels k 0 + 1 ≡ suc (level p k) = omega (arith, level-is k inside) in
+                level-in levels level-is long (getD levels k 0 + 1) next w t l ∙ ap (eqb (level p t)) e
 
             at : (t : ℕ) → t < m → (lane t (getD kos k 0) && not (lane t (bitOr reached next))) ≡ strange p k t
             at t l =
-                let e : lane t next ≡ eqb (getD levels t 0) (getD levels k 0 + 1) = set-in (λ t. eqb (getD levels t 0) (getD levels k 0 + 1)) (length levels) next (omega arith) w t (omega (arith, of .long)) in
                 ap₂ (λ (a b : Bool). a && b) (kos-of k t inside (omega (arith, few)))
-                (ap not (lane-or t reached next) ∙ neither (lane t reached) (lane t next) ∙ ap₂ (λ (a b : Bool). not a && not b) (set-in (reaches p k) m reached few reached-set t l) (e ∙ ap₂ eqb (level-is t l) (one (getD levels k 0) ∙ ap suc (level-is k inside))))
+                (ap not (lane-or t reached next) ∙ neither (lane t reached) (lane t next)
+                ∙ ap₂ (λ (a b : Bool). not a && not b) (set-in (reaches p k) m reached few reached-set t l) (after t l))

@@ -1,7 +1,6 @@
 -- `check_rules::fails` meets its contract: each rule by its own function. Assumes nothing.
 use borrow.Author.Needs.{needs}
 use native.Mathlib.Omega.{arith}
-use mathlib.Core.Path.{_∙_, sym}
 use Rattle.check_rules.specs.Rules.{failsAt}
 use Rattle.check_rules.proofs.fails.Statement.{statement}
 use Rattle.check_rules.proofs.fails.Tie as tie

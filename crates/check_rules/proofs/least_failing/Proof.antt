@@ -1,7 +1,6 @@
 -- `check_rules::least_failing` meets its contract. The loop's invariant: no register before k breaks the rule. Assumes nothing.
 use native.Mathlib.Omega.{arith}
 use borrow.Author.Needs.{needs}
-use denote.Ref.{now}
 use Prim.Native.Nat.{_-_, _≤_}
 use mathlib.Core.Path.{sym, ap, _∙_}
 use lib.ListN.{length}
