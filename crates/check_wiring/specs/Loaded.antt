@@ -4,9 +4,8 @@ use mathlib.Core.Path.{_≡_}
 use mathlib.Core.List.{List}
 use lib.ListN.{length}
 use Rattle.netlist.specs.declared.Counts.{Counts}
+use Rattle.netlist.specs.Reading.{stageLimits, Within}
 use Rattle.wiring_spec.specs.Parts.{Pipeline, registerCount}
-use Rattle.wiring_spec.specs.Wiring.{circular}
-use Rattle.wiring_spec.specs.Passing.{Nowhere}
 use Rattle.wiring_spec.specs.Tables.{slot, PartsLoaded}
 use Rattle.circuit.specs.Stage.{netCount, stageGates}
 use Rattle.circuit.specs.Order.{TopologicalOrder, orderIn}
@@ -32,14 +31,14 @@ pub record Loaded (c : Counts) (raw order nets regs : List ℕ) : Type 0 where
 abbrev pub Unplaced : List ℕ → Type 0
 Unplaced nets = (i : ℕ) → slot nets i 5 ≡ 0
 
--- each that can have one has
-pub record Ordered (c : Counts) (raw order nets regs : List ℕ) : Type 0 where
-  pub loaded : Loaded c raw order nets regs
+-- the tables of a pipeline in which each C-element that can have a place has one
+pub record Ordered (p : Pipeline) (c : Counts) (nets regs : List ℕ) : Type 0 where
+  pub registers-are : registerCount p ≡ c .registers
+  pub few-elements : c .elements ≤ 64
+  pub within : Within stageLimits c
+  pub parts : PartsLoaded p (netCount c) (partNets c) nets regs
+  pub long : length nets ≡ 8 * partNets c
+  pub regs-room : 4 * c .registers ≤ length regs
   pub before : List ℕ
   pub placed : ℕ
   pub passed : Passed before nets (netCount c) (partNets c) placed placed
-
--- no register reaches itself or has a loop of C-elements behind its Ki
-pub record Forward (c : Counts) (raw order nets regs : List ℕ) : Type 0 where
-  pub ordered : Ordered c raw order nets regs
-  pub none : Nowhere (ordered .loaded .pipeline) (circular (ordered .loaded .pipeline))
