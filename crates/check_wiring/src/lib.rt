@@ -15,11 +15,11 @@ ghost use Rattle.wiring_spec.specs.Wiring.{circular};
 ghost use Rattle.wiring_spec.specs.Passing.{ReachesOn, Nowhere};
 ghost use Rattle.wiring_spec.specs.Table.{wiringChecks};
 ghost use Rattle.check_open.specs.Opening.{Table};
-ghost use Rattle.check_levels.specs.Graph.{SourcesOf};
+ghost use Rattle.check_levels.specs.Graph.{SourcesOf, ComesFrom};
 ghost use Rattle.check_rules.specs.Known.{InputsOf, LevelsOf, KosOf, OthersOf};
 ghost use Rattle.check_rules.specs.Rules.{laterChecks};
 ghost use Rattle.check_wiring.specs.Loaded.{Loaded, Unplaced, Ordered};
-ghost use Rattle.check_wiring.specs.Opened.{circularIn, OpenedTo};
+ghost use Rattle.check_wiring.specs.Opened.{OpenedTo};
 
 // As many registers, and as many nets of registers and C-elements, as there may be.
 const MOST: usize = netlist::PARTS;
@@ -125,36 +125,27 @@ fn open_kis(nets: &[u16], counts: Counts, regs: &[u16], kos: &mut [u64], others:
 // ---- 33, the first pass
 
 // Whether register k comes from itself, or has a C-element without a place at its Ki.
-fn is_circular(
-    closed: &[u64],
-    nets: &[u16],
-    first: usize,
-    count: usize,
-    regs: &[u16],
-    k: usize,
-) -> bool
-    requires { ⌜ (length (now nets) ≡ 8 * count) × (length (now closed) ≤ 64) × (4 * length (now closed) ≤ length (now regs)) × (k < length (now closed)) ⌝ }
-    ensures { λ r. ⌜ r ≡ circularIn (now (closed .entry)) (now (nets .entry)) first count (now (regs .entry)) k ⌝ }
+fn is_circular(closed: &[u64], counts: Counts, nets: &[u16], regs: &[u16], k: usize) -> bool
+    requires { ⌜ ((p : Pipeline) × Ordered p counts (now nets) (now regs) × ComesFrom p (now closed)) × (k < counts .registers) ⌝ }
+    ensures { λ r. ⌜ ((p : Pipeline) → Ordered p counts (now (nets .entry)) (now (regs .entry)) → ComesFrom p (now (closed .entry))
+        → r ≡ circular p k) ⌝ }
 {
     if check_levels::is_source(closed, k, k) {
         return true;
     }
+    let first = 2 * counts.inputs + counts.gates;
+    let count = 3 * counts.registers + counts.elements;
     circuit_place::waits(nets, first, count, regs[4 * k + 3] as usize)
 }
 
-fn least_circular(
-    closed: &[u64],
-    nets: &[u16],
-    first: usize,
-    count: usize,
-    regs: &[u16],
-) -> Found
-    requires { ⌜ (length (now nets) ≡ 8 * count) × (length (now closed) ≤ 64) × (4 * length (now closed) ≤ length (now regs)) ⌝ }
-    ensures { λ r. ⌜ r ≡ least (circularIn (now (closed .entry)) (now (nets .entry)) first count (now (regs .entry))) 0 (length (now (closed .entry))) ⌝ }
+fn least_circular(closed: &[u64], counts: Counts, nets: &[u16], regs: &[u16]) -> Found
+    requires { ⌜ ((p : Pipeline) × Ordered p counts (now nets) (now regs) × ComesFrom p (now closed)) ⌝ }
+    ensures { λ r. ⌜ ((p : Pipeline) → Ordered p counts (now (nets .entry)) (now (regs .entry)) → ComesFrom p (now (closed .entry))
+        → r ≡ least (circular p) 0 (registerCount p)) ⌝ }
 {
     let mut k: usize = 0;
-    while k < closed.len() {
-        if is_circular(closed, nets, first, count, regs, k) {
+    while k < counts.registers {
+        if is_circular(closed, counts, nets, regs, k) {
             return Found::At(k);
         }
         k += 1;
@@ -164,14 +155,12 @@ fn least_circular(
 
 // The least register that is circular, told from the registers that reach each.
 fn find_circular(sources: [u64; MOST], counts: Counts, nets: &[u16], regs: &[u16]) -> Found
-    requires { ⌜ ((p : Pipeline) × Ordered p counts (now nets) (now regs)) × (length sources ≡ 64) ⌝ }
+    requires { ⌜ ((p : Pipeline) × Ordered p counts (now nets) (now regs) × SourcesOf p (take (counts .registers) sources)) × (length sources ≡ 64) ⌝ }
     ensures { λ r. ⌜ ((p : Pipeline) → Ordered p counts (now (nets .entry)) (now (regs .entry)) → SourcesOf p (take (counts .registers) sources)
         → r ≡ least (circular p) 0 (registerCount p)) ⌝ }
 {
     let m = counts.registers;
     let mut closed = sources;
     check_levels::close(&mut closed[..m]);
-    let first = 2 * counts.inputs + counts.gates;
-    let count = 3 * counts.registers + counts.elements;
-    least_circular(&closed[..m], nets, first, count, regs)
+    least_circular(&closed[..m], counts, nets, regs)
 }

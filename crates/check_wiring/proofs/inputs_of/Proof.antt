@@ -1,41 +1,48 @@
+-- `check_wiring::inputs_of` meets its contract. Assumes nothing.
+use native.Mathlib.Omega.{arith}
 use borrow.Author.Needs.{needs}
+use Prim.Native.Nat.{ℕ, _*_, _≤_}
+use mathlib.Core.Path.{_≡_, refl, sym, ap, _∙_, subst}
+use mathlib.Core.List.{List}
+use lib.ListN.{length, length-replicate, getD-replicate}
+use lib.Seq.{length-take-le}
+use Rattle.check_rules.specs.Known.{InputsOf}
+use Rattle.check_wiring.proofs.Lent.{whole-long, part-back}
+use Rattle.check_wiring.proofs.Tables.{times, no-rails, few-registers, gatherable, inputs-gathered}
 use Rattle.check_wiring.proofs.inputs_of.Statement.{statement}
 use Rattle.check_wiring.proofs.inputs_of.Tie as tie
-use Rattle.check_wiring.proofs.inputs_of.Reads as reads
-use Rattle.check_wiring.proofs.inputs_of.Lts as lts
-use Rattle.check_levels.proofs.gather_sources.Reads as gather-sources-reads
 
--- src/lib.rt:62:9
-slice-aggregate-gather-sources : tie.Need-slice-aggregate-gather-sources
-slice-aggregate-gather-sources c = search needs
+-- the table as it is made
+abbrev new : List ℕ
+new = times 64 0
 
--- src/lib.rt:67:9
-slice-aggregate-gather-sources-2 : tie.Need-slice-aggregate-gather-sources-2
-slice-aggregate-gather-sources-2 c = search needs
-
--- src/lib.rt:68:9
-array-borrow-prefix-inputs : tie.Need-array-borrow-prefix-inputs
-array-borrow-prefix-inputs c = search needs
-
--- src/lib.rt:68:9
 slice-aggregate-gather-sources-3 : tie.Need-slice-aggregate-gather-sources-3
-slice-aggregate-gather-sources-3 c = ?
+slice-aggregate-gather-sources-3 c = sym (length-take-le _ new (few-registers _ _ _ _ _ (c .before .before .before .before .before .before .pre .1)))
 
--- src/lib.rt:61:5
 gather-sources-requires : tie.Need-gather-sources-requires
-gather-sources-requires c κs = ?
+gather-sources-requires c κs = let l = c .before .before .before .before .before .before .pre .1 in (
+  gatherable _ _ _ _ _ l _ (times 277 1) no-rails (omega (arith, length-replicate {A = ℕ} 277 1)),
+  omega (arith, l .regs-room, length-take-le (c .before .before .before .before .before .before .args .counts .registers) new (few-registers _ _ _ _ _ l)),
+)
 
--- src/lib.rt:52:1
 returns : tie.Need-returns
-returns c = ?
+returns c =
+    let m = c .before .before .before .before .before .before .before .before .before .args .counts .registers in
+    let few = few-registers _ _ _ _ _ (c .before .before .before .before .before .before .before .before .before .pre .1) in
+    let part = c .before .before .gather-sources .last .1 .1 .1 .1 .1 .1 .0 in
+    let same = c .inputs2 .given in (
+      whole-long m new part few same,
+      λ nets l. subst (InputsOf (l .pipeline)) (sym (part-back m new part few same))
+          (inputs-gathered _ _ _ _ _ l (times 277 1) _ part (λ x h. getD-replicate 277 x 1 0 (omega (arith, l .raw-loaded .within .inputs-in))) (length-take-le m new few) (c .before .before .gather-sources .ensures .1)),
+    )
 
 pub inputs-of-spec : {M : Type 1} → statement M
 inputs-of-spec =
     tie.close
     (tie.spec
-    slice-aggregate-gather-sources
-    slice-aggregate-gather-sources-2
-    array-borrow-prefix-inputs
+    (λ c. search needs)
+    (λ c. search needs)
+    (λ c. search needs)
     slice-aggregate-gather-sources-3
     gather-sources-requires
     returns)

@@ -1,71 +1,58 @@
+-- `check_wiring::open_kis` meets its contract. Assumes nothing.
+use native.Mathlib.Omega.{arith}
 use borrow.Author.Needs.{needs}
+use Prim.Native.Nat.{ℕ, _+_, _*_, _≤_, _<_}
+use mathlib.Core.Path.{_≡_, refl, sym, ap, _∙_, subst}
+use mathlib.Core.List.{List}
+use lib.ListN.{length}
+use lib.Seq.{length-take-le}
+use Rattle.check_wiring.specs.Opened.{OpenedTo}
+use Rattle.check_wiring.proofs.Tables.{times, none-taken}
+use Rattle.check_wiring.proofs.Circular.{few-nets, table-new, kos-opened, others-opened}
 use Rattle.check_wiring.proofs.open_kis.Statement.{statement}
 use Rattle.check_wiring.proofs.open_kis.Tie as tie
-use Rattle.check_wiring.proofs.open_kis.Reads as reads
-use Rattle.check_wiring.proofs.open_kis.Lts as lts
-use Rattle.check_wiring.proofs.open_all.Reads as open-all-reads
 
--- src/lib.rt:118:17
-mul-first : tie.Need-mul-first
-mul-first c = search needs
+-- the tables of the C-elements as they are made
+abbrev new : List ℕ
+new = times 256 0
 
--- src/lib.rt:118:17
-add-first : tie.Need-add-first
-add-first c = search needs
-
--- src/lib.rt:119:17
-mul-count : tie.Need-mul-count
-mul-count c = search needs
-
--- src/lib.rt:119:17
-add-count : tie.Need-add-count
-add-count c = search needs
-
--- src/lib.rt:122:46
-array-borrow-prefix-met : tie.Need-array-borrow-prefix-met
-array-borrow-prefix-met c = search needs
-
--- src/lib.rt:122:46
 slice-aggregate-open-all : tie.Need-slice-aggregate-open-all
-slice-aggregate-open-all c = ?
+slice-aggregate-open-all c = sym (length-take-le _ new (few-nets _ _ _ _ (c .before .before .before .before .before .before .before .before .before .before .before .pre .0 .1)))
 
--- src/lib.rt:122:65
-array-borrow-prefix-known : tie.Need-array-borrow-prefix-known
-array-borrow-prefix-known c = search needs
-
--- src/lib.rt:122:65
 slice-aggregate-open-all-2 : tie.Need-slice-aggregate-open-all-2
-slice-aggregate-open-all-2 c = ?
+slice-aggregate-open-all-2 c = sym (length-take-le _ new (few-nets _ _ _ _ (c .before .before .before .before .before .before .before .before .before .before .before .before .pre .0 .1)))
 
--- src/lib.rt:122:5
 open-all-requires : tie.Need-open-all-requires
-open-all-requires c κs = ?
+open-all-requires c κs =
+    let z = c .before .before .before .before .before .before .before .before .before .before .before .before in
+    let o = z .pre .0 .1 in
+    let count = 3 * z .args .counts .registers + z .args .counts .elements in
+    let long = length-take-le count new (few-nets _ _ _ _ o) in
+    (table-new _ _ _ _ o _ _ long long (none-taken count 256), z .pre .2 ∙ sym (z .pre .1), omega (arith, z .pre .1, o .regs-room))
 
--- src/lib.rt:111:1
-same-length : tie.Need-same-length
-same-length c = search needs
-
--- src/lib.rt:111:1
-same-length-2 : tie.Need-same-length-2
-same-length-2 c = search needs
-
--- src/lib.rt:111:1
 returns : tie.Need-returns
-returns c = ?
+returns c =
+    let z = c .before .before .before .before .before .before .before .before .before .before .before .before .before .before .before .before .before .before .before in
+    let w = c .before .before .before .before .before .before .open-all .ensures in (
+      (w .kos-long ∙ z .pre .1, w .others-long ∙ z .pre .1),
+      λ p o none.
+          let to = subst (OpenedTo _ _ _ _ _ _) (z .pre .1 ∙ sym (o .registers-are)) w in
+          (kos-opened p _ _ _ o none _ _ _ to, others-opened p _ _ _ o none _ _ _ to),
+    )
 
 pub open-kis-spec : {M : Type 1} → statement M
 open-kis-spec =
     tie.close
     (tie.spec
-    mul-first
-    add-first
-    mul-count
-    add-count
-    array-borrow-prefix-met
+    (λ c. search needs)
+    (λ c. search needs)
+    (λ c. search needs)
+    (λ c. search needs)
+    (λ c. search needs)
     slice-aggregate-open-all
-    array-borrow-prefix-known
+    (λ c. search needs)
     slice-aggregate-open-all-2
     open-all-requires
-    same-length
-    same-length-2
+    (λ c. search needs)
+    (λ c. search needs)
     returns)
