@@ -2,15 +2,18 @@
 use Prim.Native.Nat.{ℕ, _+_, _*_, _≤_, _<_}
 use mathlib.Core.Path.{_≡_}
 use mathlib.Core.List.{List}
-use lib.ListN.{length}
+use lib.ListN.{length, take}
 use Rattle.netlist.specs.declared.Counts.{Counts}
 use Rattle.netlist.specs.Reading.{stageLimits, Within}
 use Rattle.wiring_spec.specs.Parts.{Pipeline, registerCount}
+use Rattle.wiring_spec.specs.Wiring.{circular}
+use Rattle.wiring_spec.specs.Passing.{Nowhere}
 use Rattle.wiring_spec.specs.Tables.{slot, PartsLoaded}
 use Rattle.circuit.specs.Stage.{netCount, stageGates}
 use Rattle.circuit.specs.Order.{TopologicalOrder, orderIn}
 use Rattle.circuit_place.specs.Placing.{Passed}
 use Rattle.circuit_wire.specs.Wire.{RawLoaded}
+use Rattle.check_levels.specs.Graph.{SourcesOf}
 
 -- a register has three nets, a C-element one
 abbrev pub partNets : Counts → ℕ
@@ -42,3 +45,10 @@ pub record Ordered (p : Pipeline) (c : Counts) (nets regs : List ℕ) : Type 0 w
   pub before : List ℕ
   pub placed : ℕ
   pub passed : Passed before nets (netCount c) (partNets c) placed placed
+
+-- the first pass of 33 finds nothing, and the registers that reach each are known
+pub record Forward (c : Counts) (raw order nets regs sources : List ℕ) : Type 0 where
+  pub loaded : Loaded c raw order nets regs
+  pub ordered : Ordered (loaded .pipeline) c nets regs
+  pub none : Nowhere (loaded .pipeline) (circular (loaded .pipeline))
+  pub sources-are : SourcesOf (loaded .pipeline) (take (c .registers) sources)

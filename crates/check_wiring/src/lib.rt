@@ -3,7 +3,6 @@
 use netlist::Counts;
 use netlist::Found;
 use verdict::Finding;
-use verdict::Verdict;
 ghost use mathlib.Core.Path.{_≡_};
 ghost use mathlib.Core.List.{List};
 ghost use Prim.Native.Nat.{ℕ, _*_, _≤_, _<_};
@@ -18,7 +17,7 @@ ghost use Rattle.check_open.specs.Opening.{Table};
 ghost use Rattle.check_levels.specs.Graph.{SourcesOf, ComesFrom};
 ghost use Rattle.check_rules.specs.Known.{InputsOf, LevelsOf, KosOf, OthersOf};
 ghost use Rattle.check_rules.specs.Rules.{laterChecks};
-ghost use Rattle.check_wiring.specs.Loaded.{Loaded, Unplaced, Ordered};
+ghost use Rattle.check_wiring.specs.Loaded.{Loaded, Unplaced, Ordered, Forward};
 ghost use Rattle.check_wiring.specs.Opened.{OpenedTo};
 
 // As many registers, and as many nets of registers and C-elements, as there may be.
@@ -163,4 +162,59 @@ fn find_circular(sources: [u64; MOST], counts: Counts, nets: &[u16], regs: &[u16
     let mut closed = sources;
     check_levels::close(&mut closed[..m]);
     least_circular(&closed[..m], counts, nets, regs)
+}
+
+// ---- the checks
+
+// 33, the second pass, then 34, then 35, where the first pass finds nothing.
+fn find_others(
+    raw: &[u16],
+    order: &[u16],
+    counts: Counts,
+    nets: &[u16],
+    regs: &[u16],
+    sources: [u64; MOST],
+) -> Finding
+    requires { ⌜ Forward counts (now raw) (now order) (now nets) (now regs) sources × (length sources ≡ 64) ⌝ }
+    ensures { λ r. ⌜ ((w : Forward counts (now (raw .entry)) (now (order .entry)) (now (nets .entry)) (now (regs .entry)) sources)
+        → r ≡ firstFault (laterChecks (w .loaded .pipeline))) ⌝ }
+{
+    let m = counts.registers;
+    let inputs = inputs_of(raw, order, counts, regs);
+    let levels = levels_of(&sources[..m]);
+    let mut kos = [0u64; MOST];
+    let mut others = [0u8; MOST];
+    open_kis(nets, counts, regs, &mut kos[..m], &mut others[..m]);
+    check_rules::find_failing(
+        regs,
+        &sources[..m],
+        &inputs[..m],
+        &levels[..m],
+        &kos[..m],
+        &others[..m],
+    )
+}
+
+// 33, then 34, then 35, where the gates are in an order and the C-elements in none. These then have places.
+pub fn check_registers(
+    raw: &[u16],
+    order: &[u16],
+    counts: Counts,
+    nets: &mut [u16],
+    regs: &[u16],
+) -> Finding
+    requires { ⌜ Loaded counts (now raw) (now order) (now nets) (now regs) × Unplaced (now nets) ⌝ }
+    ensures found { λ r. ⌜ ((l : Loaded counts (now (raw .entry)) (now (order .entry)) (now (nets .entry)) (now (regs .entry)))
+        → r ≡ firstFault (wiringChecks (l .pipeline))) ⌝ }
+    ensures kept { λ _. ⌜ ((l : Loaded counts (now (raw .entry)) (now (order .entry)) (now (nets .entry)) (now (regs .entry)))
+        → (m : Loaded counts (now (raw .entry)) (now (order .entry)) (now (nets .exit)) (now (regs .entry))) × (m .pipeline ≡ l .pipeline)) ⌝ }
+{
+    let sources = sources_of(raw, order, counts, nets, regs);
+    let first = 2 * counts.inputs + counts.gates;
+    let count = 3 * counts.registers + counts.elements;
+    circuit_place::place_elements(nets, first, count);
+    if let Found::At(k) = find_circular(sources, counts, nets, regs) {
+        return check_rules::fault(33, k);
+    }
+    find_others(raw, order, counts, nets, regs, sources)
 }
