@@ -1,17 +1,15 @@
 -- A register is circular exactly if it comes from itself or has a C-element without a place at its Ki; where none is, what opening finds stands behind the Ki.
 -- Assumes nothing.
-use Prim.Native.Nat.{ℕ, zero, suc, _+_, _*_, _≤_, _<_}
+use Prim.Native.Nat.{ℕ, zero, suc, _≤_, _<_}
 use native.Mathlib.Omega.{arith}
-use native.Mathlib.Decide.{ℕ-discrete}
 use mathlib.Core.Path.{_≡_, refl, sym, ap, _∙_, subst}
 use mathlib.Core.Bool.{Bool, true, false, _||_}
 use mathlib.Core.List.{List}
 use lib.ListN.{length, getD}
 use Rattle.runs.proofs.Test.{clash}
 use Rattle.netlist.specs.declared.Counts.{Counts}
-use Rattle.verdict.specs.Paths.{In}
 use Rattle.wiring_spec.specs.Parts.{Pipeline, registerCount, kiOf}
-use Rattle.wiring_spec.specs.Wiring.{openings, reachesItself, behind, isLoop, circular}
+use Rattle.wiring_spec.specs.Wiring.{reachesItself, behind, isLoop, circular}
 use Rattle.wiring_spec.specs.Passing.{Nowhere}
 use Rattle.wiring_spec.specs.Tables.{registerSlot}
 use Rattle.wiring_spec.proofs.Passing.{itself-sound, itself-complete}
@@ -20,7 +18,7 @@ use Rattle.circuit_place.specs.Placing.{place, waiting}
 use Rattle.circuit_place.proofs.Order.{waits}
 use Rattle.circuit_place.proofs.Looping.{loop-behind}
 use Rattle.check_open.specs.Opening.{Told, Table, remembered}
-use Rattle.check_open.proofs.Standing.{table-of, kos-behind, other-behind}
+use Rattle.check_open.proofs.Standing.{Opens, table-of, kos-behind, other-behind}
 use Rattle.check_levels.specs.Graph.{sourceIn, ComesFrom}
 use Rattle.check_rules.specs.Known.{KosOf, OthersOf}
 use Rattle.check_wiring.specs.Loaded.{partNets, Ordered}
@@ -72,7 +70,7 @@ module _ (p : Pipeline) (c : Counts) (nets regs : List ℕ) (o : Ordered p c net
         go true b e = absurd (clash refl e)
         go false b e = e
 
-    opens : (k : ℕ) → k < registerCount p → (v : ℕ) → In v (openings p (kiOf p k)) → 0 < place nets (netCount c) (kiOf p k)
+    opens : (k : ℕ) → k < registerCount p → Opens p nets (netCount c) (kiOf p k)
     opens k h v i = go (place nets (netCount c) (kiOf p k)) refl
       where
         go : (n : ℕ) → place nets (netCount c) (kiOf p k) ≡ n → 0 < n

@@ -1,11 +1,9 @@
 -- The pipeline whose C-elements were placed, and what the first pass of 33 says of the checks.
 -- Assumes nothing.
-use Prim.Native.Nat.{ℕ, _+_, _*_, _≤_, _<_}
+use Prim.Native.Nat.{ℕ, _+_, _<_}
 use native.Mathlib.Omega.{arith}
-use mathlib.Core.Path.{_≡_, refl, sym, ap, _∙_}
+use mathlib.Core.Path.{_≡_, refl, sym, _∙_}
 use mathlib.Core.List.{List}
-use lib.ListN.{length, getD, take}
-use lib.Seq.{getD-take}
 use Rattle.netlist.specs.declared.Counts.{Counts}
 use Rattle.netlist.specs.declared.Found.{Found}
 use Rattle.netlist.specs.declared.Found.the-variants.{At, Nothing}
@@ -14,10 +12,9 @@ use Rattle.verdict.specs.Checks.{verdict, firstFault}
 use Rattle.verdict.specs.Search.{least}
 use Rattle.verdict.proofs.Least.{least-says}
 use Rattle.wiring_spec.specs.Parts.{Pipeline, registerCount}
-use Rattle.wiring_spec.specs.Wiring.{circular, level}
+use Rattle.wiring_spec.specs.Wiring.{circular}
 use Rattle.wiring_spec.specs.Passing.{Nowhere}
 use Rattle.wiring_spec.specs.Table.{ofRegisters, wiringChecks}
-use Rattle.wiring_spec.specs.Tables.{slot}
 use Rattle.circuit.specs.Stage.{netCount}
 use Rattle.circuit_order.proofs.Findings.{found-at, found-nothing, faulty, passed-on}
 use Rattle.circuit_place.specs.Placing.{Placing, Passed}
@@ -40,15 +37,15 @@ module _ (c : Counts) (raw order nets regs : List ℕ) (l : Loaded c raw order n
     order = λ i h p. absurd (omega (arith, none i));
   }
 
-  module _ (after : List ℕ) (placed : ℕ) (w : Passed nets after (netCount c) (partNets c) placed placed) where
+  module _ (after : List ℕ) (w : (placed : ℕ) × Passed nets after (netCount c) (partNets c) placed placed) where
     abbrev pub loaded-placed : Loaded c raw order after regs
     loaded-placed = record {
       pipeline = l .pipeline;
       registers-are = l .registers-are;
       few-elements = l .few-elements;
       raw-loaded = l .raw-loaded;
-      parts = parts-placed (l .pipeline) (netCount c) (partNets c) nets after regs (w .placing .kept) (l .parts);
-      long = w .placing .long;
+      parts = parts-placed (l .pipeline) (netCount c) (partNets c) nets after regs (w .1 .placing .kept) (l .parts);
+      long = w .1 .placing .long;
       regs-room = l .regs-room;
       order-room = l .order-room;
       in-order = l .in-order;
@@ -59,12 +56,12 @@ module _ (c : Counts) (raw order nets regs : List ℕ) (l : Loaded c raw order n
       registers-are = l .registers-are;
       few-elements = l .few-elements;
       within = l .raw-loaded .within;
-      parts = parts-placed (l .pipeline) (netCount c) (partNets c) nets after regs (w .placing .kept) (l .parts);
-      long = w .placing .long;
+      parts = parts-placed (l .pipeline) (netCount c) (partNets c) nets after regs (w .1 .placing .kept) (l .parts);
+      long = w .1 .placing .long;
       regs-room = l .regs-room;
       before = nets;
-      placed = placed;
-      passed = w;
+      placed = w .0;
+      passed = w .1;
     }
 
 -- ---- the first pass of 33

@@ -1,17 +1,16 @@
 -- The tables of where the registers' data comes from are filled: which registers reach each, whether an input does, and their levels.
 -- Assumes nothing.
-use Prim.Native.Nat.{ℕ, zero, suc, _+_, _*_, _≤_, _<_}
+use Prim.Native.Nat.{ℕ, zero, suc, _*_, _≤_, _<_}
 use native.Mathlib.Omega.{arith}
-use mathlib.Core.Path.{_≡_, refl, sym, ap, _∙_, subst}
+use mathlib.Core.Path.{_≡_, refl, sym, _∙_}
 use mathlib.Core.Bool.{Bool}
-use mathlib.Core.List.{List, [], _∷_}
-use lib.ListN.{length, getD, take, replicate, length-replicate, getD-replicate}
+use mathlib.Core.List.{List, []}
+use lib.ListN.{length, getD, take, replicate}
 use Rattle.netlist.specs.declared.Counts.{Counts}
 use Rattle.wiring_spec.specs.Parts.{Pipeline, registerCount, driverOf, dataOf}
 use Rattle.wiring_spec.specs.Wiring.{gateSteps, isRailOf, isInput}
 use Rattle.wiring_spec.specs.Gathering.{Gathers}
 use Rattle.wiring_spec.specs.Tables.{RegisterRow}
-use Rattle.circuit.specs.Stage.{netCount}
 use Rattle.circuit_wire.specs.Wire.{RawLoaded}
 use Rattle.check_levels.specs.Sources.{RailsIn, Gatherable, Seeds}
 use Rattle.check_levels.specs.Graph.{sourceIn, SourcesOf}

@@ -1,5 +1,5 @@
 -- A pipeline in its flat form: the stage as the file has it, with an order of its gates, and the tables of its registers and C-elements.
-use Prim.Native.Nat.{ℕ, _+_, _*_, _≤_, _<_}
+use Prim.Native.Nat.{ℕ, _+_, _*_, _≤_}
 use mathlib.Core.Path.{_≡_}
 use mathlib.Core.List.{List}
 use lib.ListN.{length, take}

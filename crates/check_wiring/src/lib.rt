@@ -28,13 +28,7 @@ const NETS: usize = 4 * netlist::PARTS;
 // ---- where the data of the registers comes from
 
 // The registers that reach each register.
-fn sources_of(
-    raw: &[u16],
-    order: &[u16],
-    counts: Counts,
-    nets: &[u16],
-    regs: &[u16],
-) -> [u64; MOST]
+fn sources_of(raw: &[u16], order: &[u16], counts: Counts, nets: &[u16], regs: &[u16]) -> [u64; MOST]
     requires { ⌜ Loaded counts (now raw) (now order) (now nets) (now regs) ⌝ }
     ensures long { λ r. ⌜ length r ≡ 64 ⌝ }
     ensures are { λ r. ⌜ ((l : Loaded counts (now (raw .entry)) (now (order .entry)) (now (nets .entry)) (now (regs .entry)))
@@ -118,7 +112,15 @@ fn open_kis(nets: &[u16], counts: Counts, regs: &[u16], kos: &mut [u64], others:
     let count = 3 * counts.registers + counts.elements;
     let mut met = [0u64; NETS];
     let mut known = [0u8; NETS];
-    open_all(nets, first, regs, kos, others, &mut met[..count], &mut known[..count]);
+    open_all(
+        nets,
+        first,
+        regs,
+        kos,
+        others,
+        &mut met[..count],
+        &mut known[..count],
+    );
 }
 
 // ---- 33, the first pass

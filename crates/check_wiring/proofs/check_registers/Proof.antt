@@ -1,7 +1,6 @@
 -- `check_wiring::check_registers` meets its contract. Assumes nothing.
-use native.Mathlib.Omega.{arith}
 use borrow.Author.Needs.{needs}
-use mathlib.Core.Path.{refl, sym, _∙_}
+use mathlib.Core.Path.{refl, _∙_}
 use Rattle.check_wiring.proofs.Placed.{few-numbers, placing-none, loaded-placed, ordered-placed, circular-at, circular-nowhere, others-follow}
 use Rattle.check_wiring.proofs.check_registers.Statement.{statement}
 use Rattle.check_wiring.proofs.check_registers.Tie as tie
@@ -13,14 +12,14 @@ find-circular-requires : tie.Need-find-circular-requires
 find-circular-requires c κs =
     let l = c .before .before .before .before .before .before .before .before .before .before .before .before .before .before .before .pre .0 in
     let s = c .before .before .before .before .before .before .before .before .before .sources-of .ensures in
-    ((l .pipeline, ordered-placed _ _ _ _ _ l _ _ (c .before .before .before .place-elements .ensures), s .1 l), s .0)
+    ((l .pipeline, ordered-placed _ _ _ _ _ l _ (_, c .before .before .before .place-elements .ensures), s .1 l), s .0)
 
 returns : tie.Need-returns
 returns c =
     let w = c .before .before .before .before .before .before .before .before .place-elements .ensures in (
       λ l.
-          c .fault .ensures ∙ circular-at (l .pipeline) _ (c .before .before .before .before .find-circular .ensures (l .pipeline) (ordered-placed _ _ _ _ _ l _ _ w) (c .before .before .before .before .before .before .before .before .before .before .before .before .before .before .sources-of .ensures .1 l)) _ (c .before .before .k .given .1),
-      λ l. (loaded-placed _ _ _ _ _ l _ _ w, refl),
+          c .fault .ensures ∙ circular-at (l .pipeline) _ (c .before .before .before .before .find-circular .ensures (l .pipeline) (ordered-placed _ _ _ _ _ l _ (_, w)) (c .before .before .before .before .before .before .before .before .before .before .before .before .before .before .sources-of .ensures .1 l)) _ (c .before .before .k .given .1),
+      λ l. (loaded-placed _ _ _ _ _ l _ (_, w), refl),
     )
 
 find-others-requires : tie.Need-find-others-requires
@@ -28,9 +27,9 @@ find-others-requires c κs =
     let l = c .before .before .before .before .before .before .before .before .before .before .before .before .before .before .before .before .before .before .before .pre .0 in
     let w = c .before .before .before .before .before .before .before .place-elements .ensures in
     let s = c .before .before .before .before .before .before .before .before .before .before .before .before .before .sources-of .ensures in
-    let o = ordered-placed _ _ _ _ _ l _ _ w in (
+    let o = ordered-placed _ _ _ _ _ l _ (_, w) in (
       record {
-        loaded = loaded-placed _ _ _ _ _ l _ _ w;
+        loaded = loaded-placed _ _ _ _ _ l _ (_, w);
         ordered = o;
         none = circular-nowhere (l .pipeline) _ (c .before .before .before .find-circular .ensures (l .pipeline) o (s .1 l)) (c .before .enum-told .given .1);
         sources-are = s .1 l;
@@ -43,12 +42,12 @@ returns-2 c =
     let w = c .before .before .before .before .before .before .before .before .place-elements .ensures in
     let s = c .before .before .before .before .before .before .before .before .before .before .before .before .before .before .sources-of .ensures in (
       λ l.
-          let o = ordered-placed _ _ _ _ _ l _ _ w in
+          let o = ordered-placed _ _ _ _ _ l _ (_, w) in
           let is = c .before .before .before .before .find-circular .ensures (l .pipeline) o (s .1 l) in
           let none = c .before .before .enum-told .given .1 in
-          c .find-others .ensures (record { loaded = loaded-placed _ _ _ _ _ l _ _ w; ordered = o; none = circular-nowhere (l .pipeline) _ is none; sources-are = s .1 l })
+          c .find-others .ensures (record { loaded = loaded-placed _ _ _ _ _ l _ (_, w); ordered = o; none = circular-nowhere (l .pipeline) _ is none; sources-are = s .1 l })
           ∙ others-follow (l .pipeline) _ is none,
-      λ l. (loaded-placed _ _ _ _ _ l _ _ w, refl),
+      λ l. (loaded-placed _ _ _ _ _ l _ (_, w), refl),
     )
 
 pub check-registers-spec : {M : Type 1} → statement M

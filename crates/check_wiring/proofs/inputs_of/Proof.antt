@@ -1,10 +1,10 @@
 -- `check_wiring::inputs_of` meets its contract. Assumes nothing.
 use native.Mathlib.Omega.{arith}
 use borrow.Author.Needs.{needs}
-use Prim.Native.Nat.{ℕ, _*_, _≤_}
-use mathlib.Core.Path.{_≡_, refl, sym, ap, _∙_, subst}
+use Prim.Native.Nat.{ℕ}
+use mathlib.Core.Path.{sym, subst}
 use mathlib.Core.List.{List}
-use lib.ListN.{length, length-replicate, getD-replicate}
+use lib.ListN.{length-replicate, getD-replicate}
 use lib.Seq.{length-take-le}
 use Rattle.check_rules.specs.Known.{InputsOf}
 use Rattle.check_wiring.proofs.Lent.{whole-long, part-back}

@@ -1,5 +1,4 @@
 -- `check_wiring::least_circular` meets its contract. The loop's invariant: no register before k is circular. Assumes nothing.
-use borrow.Author.Needs.{needs}
 use native.Mathlib.Omega.{arith}
 use Prim.Native.Nat.{_-_}
 use mathlib.Core.Path.{sym, ap, _∙_}

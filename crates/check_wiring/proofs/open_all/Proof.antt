@@ -1,8 +1,8 @@
 -- `check_wiring::open_all` meets its contract. The loop's invariant: what stands behind the Ki of each register before k is known. Assumes nothing.
 use borrow.Author.Needs.{needs}
 use native.Mathlib.Omega.{arith}
-use Prim.Native.Nat.{_+_, _*_, _-_, _≤_, _<_}
-use mathlib.Core.Path.{_≡_, refl, sym, ap, _∙_}
+use Prim.Native.Nat.{_-_, _≤_, _<_}
+use mathlib.Core.Path.{_≡_, refl, sym, _∙_}
 use lib.ListN.{length}
 use Rattle.check_open.specs.Opening.{Table}
 use Rattle.check_wiring.specs.Opened.{OpenedTo}
