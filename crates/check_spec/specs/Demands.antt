@@ -25,7 +25,7 @@ use Rattle.check_spec.specs.Cases.{verdict, accepted, Case, Check}
 use Rattle.check_spec.specs.Lists.{bitOf, some, reaches}
 use Rattle.wiring_spec.specs.Parts.{Pipeline, registerCount}
 use Rattle.wiring_spec.specs.Wiring.{circular}
-use Rattle.wiring_spec.specs.Passing.{Circular, Uneven, Missing, Barred, Passes, Nowhere, WiringMeans}
+use Rattle.wiring_spec.specs.Passing.{Circular, Uneven, Missing, Barred, Levelled, Passes, LeastAt, AtNone, Nowhere, WiringMeans}
 use Rattle.check_spec.specs.Content.{Content, pipelineOf, Files, rawIn, stageIn, referenceIn}
 use Rattle.check_spec.specs.Rows.{driver, cellIn, netOf, risen, fallen, dataOf, allData, allNull, feeding, reachesItself}
 use Rattle.check_spec.specs.Words.{railsFor, spelled, IsWord, answer}
@@ -169,12 +169,14 @@ pub record Idle (f : Files) (v : Verdict) : Type 0 where
 abbrev pub AcceptedUnlessIdle : WordOrder → Files → Type 0
 AcceptedUnlessIdle order f = (verdictOn order f ≡ accepted) ⊎ Idle f (verdictOn order f)
 
--- refused by 33, 34 or 35: a register of the stage, in the paper's words
+-- refused by 33, 34 or 35, in the paper's words and "in this order": the register that is named is the least, and what comes before in the order is so at
+-- no register. 33 has two passes, of which the second follows where the first finds none
 pub record Miswired (p : Pipeline) (v : Verdict) : Type 0 where
+  pub is : v ≡ verdict (v .number) 1 (v .at) 0
   pub register : v .at < registerCount p
-  pub circular : v .number ≡ 33 → Circular p (v .at) ⊎ Uneven p (v .at)
-  pub missing : v .number ≡ 34 → Missing p (v .at)
-  pub barred : v .number ≡ 35 → Barred p (v .at)
+  pub circular : v .number ≡ 33 → LeastAt (Circular p) (v .at) ⊎ (AtNone p (Circular p) × LeastAt (Uneven p) (v .at))
+  pub missing : v .number ≡ 34 → Levelled p × LeastAt (Missing p) (v .at)
+  pub barred : v .number ≡ 35 → Levelled p × AtNone p (Missing p) × LeastAt (Barred p) (v .at)
 
 -- What demand 3 says of a verdict on two files, by its number
 pub record Demand3 (order : WordOrder) (f : Files) (v : Verdict) : Type 0 where

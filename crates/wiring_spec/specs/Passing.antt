@@ -94,6 +94,13 @@ pub record Passes (p : Pipeline) : Type 0 where
   pub levelled : Levelled p
   pub acknowledged : (k : ℕ) → k < registerCount p → Acknowledged p k
 
+-- something is so at register k and at none before it, or at no register
+abbrev pub LeastAt : (ℕ → Type 0) → ℕ → Type 0
+LeastAt P k = P k × ((j : ℕ) → j < k → ¬ (P j))
+
+abbrev pub AtNone : Pipeline → (ℕ → Type 0) → Type 0
+AtNone p P = (k : ℕ) → k < registerCount p → ¬ (P k)
+
 -- a test fails at no register
 abbrev pub Nowhere : Pipeline → (ℕ → Bool) → Type 0
 Nowhere p fails = (k : ℕ) → k < registerCount p → fails k ≡ false
