@@ -19,7 +19,7 @@ use Rattle.wiring_spec.specs.Parts.{Pipeline, registerCount}
 use Rattle.wiring_spec.specs.Wiring.{registers, circular, uneven, missing, barred}
 use Rattle.wiring_spec.specs.Passing.{Circular, Uneven, Missing, Barred, Passes}
 use Rattle.wiring_spec.proofs.Passing.{circular-sound, circular-complete, uneven-sound, uneven-complete, missing-sound, missing-complete, barred-sound, barred-complete, none-out, least-out, levelled-found, passes-exactly}
-use Rattle.wiring_spec.proofs.Means.{wiring-means}
+use Rattle.wiring_spec.proofs.Means.{wiring-means, wires-mean}
 use Rattle.check_spec.specs.Content.{Content, Files, rawIn, stageIn, referenceIn}
 use Rattle.check_spec.specs.Rows.{netOf}
 use Rattle.check_spec.specs.Words.{spelled}
@@ -121,6 +121,7 @@ module _ (order : WordOrder) (f : Files) where
     fallen-is = λ free w X. fallen-is s free _ X (inside s r free w);
     hold-only = hold-only;
     wiring-is = wiring-means (wiringIn f);
+    wires-are = wires-mean (wiringIn f);
     wires-free = wired-free raw;
     retired = retired;
     either-order = λ other. (
