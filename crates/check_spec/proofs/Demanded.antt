@@ -32,6 +32,7 @@ use Rattle.check_spec.proofs.Loops.{loops-found, settled-is, risen-is, 
 use Rattle.check_spec.proofs.Pairs.{data-of, all-data, all-null}
 use Rattle.check_spec.proofs.OneWord.{inside, hold-clean}
 use Rattle.check_spec.proofs.Laws.{Names, numbersOf, all-before, said, each-said, before, claimed, comes-from, not-named, judge-from, places-least}
+use Rattle.check_spec.proofs.View.{wiring-named}
 use Rattle.check_spec.proofs.Wired.{wired-free}
 use Rattle.check_spec.proofs.Sound.{Ran, Wired, laws, past-reading, reads-past, accepted-faultless, accepted-sound, idle-sound, faultless-accepted, sound-answers, sound-kept}
 
@@ -122,6 +123,7 @@ module _ (order : WordOrder) (f : Files) where
     hold-only = hold-only;
     wiring-is = wiring-means (wiringIn f);
     wires-are = wires-mean (wiringIn f);
+    nets-named = λ less read. wiring-named f less (read .0);
     wires-free = wired-free raw;
     retired = retired;
     either-order = λ other. (
