@@ -5,7 +5,7 @@ use native.Mathlib.Omega.{arith}
 use mathlib.Core.Path.{_≡_, refl, sym, ap, _∙_, subst}
 use mathlib.Core.Logic.{_⊎_, inl, inr, _↔_, ⊎-elim}
 use mathlib.Core.Bool.{Bool, true, false}
-use mathlib.Core.List.{[], _∷_, flatMap}
+use mathlib.Core.List.{List, [], _∷_, flatMap}
 use lib.ListN.{length}
 use Rattle.runs.specs.Theory.{AllHold}
 use Rattle.netlist.specs.declared.File.the-variants.{Reference}
@@ -32,8 +32,8 @@ use Rattle.check_spec.proofs.Loops.{loops-found, settled-is, risen-is, 
 use Rattle.check_spec.proofs.Pairs.{data-of, all-data, all-null}
 use Rattle.check_spec.proofs.OneWord.{inside, hold-clean}
 use Rattle.check_spec.proofs.Laws.{Names, numbersOf, all-before, said, each-said, before, claimed, comes-from, not-named, judge-from, places-least}
-use Rattle.check_spec.proofs.View.{wiring-named}
-use Rattle.check_spec.proofs.Wired.{wired-free}
+use Rattle.check_spec.proofs.View.{plain-verdict, wiring-named}
+use Rattle.check_spec.proofs.Wired.{steps, wired-free}
 use Rattle.check_spec.proofs.Sound.{Ran, Wired, laws, past-reading, reads-past, accepted-faultless, accepted-sound, idle-sound, faultless-accepted, sound-answers, sound-kept}
 
 -- demand 3 speaks of numbers above 12, and of none by which a file is refused in reading
@@ -114,6 +114,7 @@ module _ (order : WordOrder) (f : Files) where
     exactly = exactly;
     least = judged (checksOn order f);
     loops = loops-found raw;
+    gates-only = λ x. ap (λ (next : ℕ → List ℕ). next x) (steps raw);
     data-is = data-of;
     all-data-is = all-data (netOf s);
     all-null-is = all-null (netOf s);
@@ -125,6 +126,7 @@ module _ (order : WordOrder) (f : Files) where
     wires-are = wires-mean (wiringIn f);
     nets-named = λ less read. wiring-named f less (read .0);
     wires-free = wired-free raw;
+    plain = plain-verdict order f;
     retired = retired;
     either-order = λ other. (
       (λ e. faultless-accepted (accepted-faultless order f (ap number e) .1) other),

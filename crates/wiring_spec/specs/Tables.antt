@@ -1,7 +1,7 @@
 -- Registers and C-elements as code has them, in two tables. Eight numbers stand for each net after the gates: its sort (1 a rail of a register, 2 a Ko,
 -- 3 a C-element), four pins (of a rail the net at its data first; FFFF at a pin that a C-element lacks), its place in an order of the C-elements, the
 -- number of its register, and one that is free. Four numbers stand for each register: the net of its rail 0, the nets at its data, and the net at its Ki;
--- its rail 1 and its Ko are the two nets after its rail 0.
+-- its rail 1 is the net after its rail 0.
 use Prim.Native.Nat.{ℕ, _+_, _*_, _≤_, _<_}
 use mathlib.Core.Path.{_≡_}
 use mathlib.Core.Bool.{Bool, true, false}
