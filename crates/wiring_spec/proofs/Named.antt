@@ -25,13 +25,13 @@ use Rattle.netlist.specs.Writing.{All}
 use Rattle.netlist.proofs.Encoding.{stage-registerless, stage-elementless}
 use Rattle.netlist.proofs.Operands.{pins-used-in, length-operands}
 use Rattle.verdict.specs.Paths.{In}
 use Rattle.wiring_spec.specs.Parts.{Register, Part, register, element, partAt, Pipeline, Driver, input, gate, rail, acknowledge, completion, nothing, registersOf, registerCount, dataOf, kiOf}
 use Rattle.wiring_spec.specs.Parts.{partDrivers, drivers, driverOf, allNets}
 use Rattle.wiring_spec.specs.Wiring.{opened, gateSteps, openings}
+use Rattle.wiring_spec.specs.Tables.{wiringOf}
 use Rattle.wiring_spec.specs.Named as wiring
 use Rattle.wiring_spec.specs.Named.{IsData, Named}
 use Rattle.wiring_spec.proofs.Nets.{each-driver, steps-are}
-use Rattle.circuit_load.specs.Parts.{wiringOf}
 
 -- ---- what each register and C-element names
 
