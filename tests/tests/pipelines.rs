@@ -54,6 +54,36 @@ fn worked_examples() {
     // A register that reaches none and has a Ko of the next level.
     let stage = registers(&[[0, 1, 7], [2, 3, OUTSIDE], [0, 1, 7]], [5, 6]);
     assert_eq!(check(&stage, &wire), [35, 1, 2, 0]);
+    for (about, stage, verdict) in [
+        (
+            "an input rail beside the Ko that is needed",
+            "01 01 04 00 00 01 00 08 00 04 02 00 03 00 FE FF 05 07 00 00 00 FF FF FF FF 03 05 00 06 00 00",
+            [35, 1, 0, 0],
+        ),
+        (
+            "a gate on a rail of the register that it feeds, which is no loop of gates",
+            "01 01 02 01 03 00 00 00 FF FF FF FF 04 02 00 01 00 FE FF 03 03 00 04 00 00",
+            [33, 1, 0, 0],
+        ),
+        (
+            "a gate on one rail of a register",
+            "01 01 02 01 03 00 03 00 FF FF FF FF 04 00 00 01 00 FE FF 03 02 00 04 00 00",
+            ACCEPTED,
+        ),
+        (
+            "the net of a C-element as data",
+            "01 01 04 00 00 05 00 FE FF 05 04 00 04 00 FF FF FF FF 03 02 00 03 00 00",
+            [9, 1, 5, 0],
+        ),
+        (
+            "two C-elements, the second on the first",
+            "01 01 04 00 00 01 00 09 00 04 02 00 03 00 FE FF 05 07 00 07 00 FF FF FF FF \
+             05 08 00 07 00 FF FF FF FF 03 05 00 06 00 00",
+            ACCEPTED,
+        ),
+    ] {
+        assert_eq!(check(&unhex(stage), &wire), verdict, "{about}");
+    }
 }
 
 #[test]
@@ -118,6 +148,18 @@ fn places_in_a_file() {
     // Nets of registers and C-elements follow all gates, also those behind them in the file.
     let stage = unhex("01 01 04 02 00 01 00 FE FF 02 01 00 00 00 00 FF FF FF FF 03 03 00 04 00 00");
     assert_eq!(check(&stage, &wire), ACCEPTED);
+    // The 65th is refused by 6, and where it is cut by 1, which comes first.
+    for (command, width) in [
+        ("04 00 00 01 00 FE FF", 7),
+        ("05 00 00 00 00 FF FF FF FF", 9),
+    ] {
+        let most = unhex(&format!("01 01 {}", [command; 65].join(" ")));
+        let at = 2 + 64 * width;
+        assert_eq!(check(&most, &wire), [6, 1, at as u64, 0]);
+        for length in at + 1..at + width {
+            assert_eq!(check(&most[..length], &wire), [1, 1, length as u64, 0]);
+        }
+    }
     // In a reference 04 and 05 are no commands.
     for command in ["04", "05"] {
         let reference = unhex(&format!("01 01 {command}"));
@@ -166,7 +208,7 @@ fn stored_pairs() {
     }
     described.sort();
     assert_eq!(stored_examples(&folder).unwrap(), described);
-    let all = [0, 1, 5, 6, 9, 12, 13, 14, 28, 33, 34, 35];
+    let all = [0, 1, 5, 6, 9, 12, 13, 14, 15, 20, 21, 28, 32, 33, 34, 35];
     assert_eq!(numbers, BTreeSet::from(all));
     let list = std::fs::read_to_string(examples_folder().join("PIPELINES.md")).unwrap();
     assert_eq!(list, listing(), "examples/PIPELINES.md");
