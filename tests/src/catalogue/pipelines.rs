@@ -8,7 +8,7 @@ use super::{multiplier_netlist, Example};
 use crate::circuits::{multiplier_reference, pipeline_from_netlist, Signal, StageBuilder};
 use crate::files::{self, unhex, write_pipeline, write_reference, FilePair};
 use crate::judge::{Gate, Part, Pipeline, Reference, Stage, ABSENT, ORDERS, OUTSIDE};
-use crate::suite::pipeline_verdict_in;
+use crate::suite::verdict_in;
 
 const TH12: usize = 1;
 const TH22: usize = 2;
@@ -216,7 +216,7 @@ pub fn listing() -> String {
     );
     for example in pipelines() {
         let [verdict, lowest] = ORDERS.map(|order| {
-            let verdict = pipeline_verdict_in(order, &example.pair);
+            let verdict = verdict_in(order, &example.pair);
             files::verdict_line(verdict).trim_end().to_string()
         });
         text += &format!(
