@@ -15,7 +15,7 @@ use crate::catalogue::examples;
 use crate::compare::expected_report;
 use crate::files::{verdict_line, FilePair};
 use crate::join::join_in_order;
-use crate::judge::{check_in_order, check_pipeline, Verdict, WordOrder, LIMITS};
+use crate::judge::{check_pipeline, Verdict, WordOrder};
 use crate::make::make_stage;
 use crate::next::{next_stage, FAMILY};
 use crate::text::{read_text, text_of_file, write_text};
@@ -109,11 +109,6 @@ fn spelt(buffer: &[u8]) -> String {
 
 /// The judge's verdict in an order of words.
 pub fn verdict_in(order: WordOrder, pair: &FilePair) -> Verdict {
-    check_in_order(order, LIMITS, &pair.stage, &pair.reference)
-}
-
-/// The same on a pair with registers.
-pub fn pipeline_verdict_in(order: WordOrder, pair: &FilePair) -> Verdict {
     check_pipeline(order, &pair.stage, &pair.reference)
 }
 
