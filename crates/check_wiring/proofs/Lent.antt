@@ -4,8 +4,12 @@ use Prim.Native.Nat.{ℕ, _+_, _-_, _≤_}
 use native.Mathlib.Omega.{arith}
 use mathlib.Core.Path.{_≡_, _∙_}
 use mathlib.Core.List.{List, _++_}
-use lib.ListN.{length, take, drop, length-append, length-drop}
+use lib.ListN.{length, take, drop, length-append, length-take, length-drop}
 use lib.Seq.{length-take-le, take-at}
+
+-- a part is no longer than it was asked for
+pub part-few : (m k : ℕ) (all : List ℕ) → m ≤ k → length (take m all) ≤ k
+part-few m k all h = omega (arith, length-take m all)
 
 module _ (m : ℕ) (all part : List ℕ) (few : m ≤ length all) (same : length part ≡ length (take m all)) where
   pub part-long : length part ≡ m

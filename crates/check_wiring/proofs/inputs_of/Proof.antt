@@ -4,7 +4,7 @@ use borrow.Author.Needs.{needs}
 use Prim.Native.Nat.{ℕ}
 use mathlib.Core.Path.{sym, subst}
 use mathlib.Core.List.{List}
-use lib.ListN.{length-replicate, getD-replicate}
+use lib.ListN.{getD-replicate}
 use lib.Seq.{length-take-le}
 use Rattle.check_rules.specs.Known.{InputsOf}
 use Rattle.check_wiring.proofs.Lent.{whole-long, part-back}
@@ -17,11 +17,11 @@ abbrev new : List ℕ
 new = times 64 0
 
 slice-aggregate-gather-sources-3 : tie.Need-slice-aggregate-gather-sources-3
-slice-aggregate-gather-sources-3 c = sym (length-take-le _ new (few-registers _ _ _ _ _ (c .before .before .before .before .before .before .pre .1)))
+slice-aggregate-gather-sources-3 c = sym (length-take-le _ _ (few-registers _ _ _ _ _ (c .before .before .before .before .before .before .pre .1)))
 
 gather-sources-requires : tie.Need-gather-sources-requires
 gather-sources-requires c κs = let l = c .before .before .before .before .before .before .pre .1 in (
-  gatherable _ _ _ _ _ l _ (times 277 1) no-rails (omega (arith, length-replicate {A = ℕ} 277 1)),
+  gatherable _ _ _ _ _ l _ _ no-rails (search needs),
   omega (arith, l .regs-room, length-take-le (c .before .before .before .before .before .before .args .counts .registers) new (few-registers _ _ _ _ _ l)),
 )
 

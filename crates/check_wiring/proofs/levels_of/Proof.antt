@@ -8,7 +8,7 @@ use mathlib.Core.List.{List}
 use lib.ListN.{length, getD-replicate}
 use lib.Seq.{length-take-le, getD-take}
 use Rattle.check_rules.specs.Known.{LevelsOf}
-use Rattle.check_wiring.proofs.Lent.{whole-long, part-back}
+use Rattle.check_wiring.proofs.Lent.{part-few, whole-long, part-back}
 use Rattle.check_wiring.proofs.Tables.{times}
 use Rattle.check_wiring.proofs.levels_of.Statement.{statement}
 use Rattle.check_wiring.proofs.levels_of.Tie as tie
@@ -18,10 +18,10 @@ abbrev new : List ℕ
 new = times 64 1
 
 slice-aggregate-level-registers : tie.Need-slice-aggregate-level-registers
-slice-aggregate-level-registers c = sym (length-take-le _ new (c .before .before .pre))
+slice-aggregate-level-registers c = sym (length-take-le _ _ (c .before .before .pre))
 
 level-registers-requires : tie.Need-level-registers-requires
-level-registers-requires c κs = let e = length-take-le (length (now (c .before .before .args .sources))) new (c .before .before .pre) in (e, omega (arith, e, c .before .before .pre))
+level-registers-requires c κs = (length-take-le _ _ (c .before .before .pre), part-few _ _ _ (c .before .before .pre))
 
 returns : tie.Need-returns
 returns c =

@@ -4,7 +4,6 @@ use borrow.Author.Needs.{needs}
 use Prim.Native.Nat.{ℕ}
 use mathlib.Core.Path.{sym, subst}
 use mathlib.Core.List.{List}
-use lib.ListN.{length-replicate}
 use lib.Seq.{length-take-le}
 use Rattle.check_levels.specs.Graph.{SourcesOf}
 use Rattle.check_wiring.proofs.Lent.{part-long, whole-long, part-back}
@@ -17,11 +16,11 @@ abbrev new : List ℕ
 new = times 64 0
 
 slice-aggregate-gather-sources-2 : tie.Need-slice-aggregate-gather-sources-2
-slice-aggregate-gather-sources-2 c = sym (length-take-le _ new (few-registers _ _ _ _ _ (c .before .before .before .before .before .before .pre)))
+slice-aggregate-gather-sources-2 c = sym (length-take-le _ _ (few-registers _ _ _ _ _ (c .before .before .before .before .before .before .pre)))
 
 gather-sources-requires : tie.Need-gather-sources-requires
 gather-sources-requires c κs = let l = c .before .before .before .before .before .before .pre in (
-  gatherable _ _ _ _ _ l _ (times 277 0) (rails _ _ _ _ _ l) (omega (arith, length-replicate {A = ℕ} 277 0)),
+  gatherable _ _ _ _ _ l _ _ (rails _ _ _ _ _ l) (search needs),
   omega (arith, l .regs-room, length-take-le (c .before .before .before .before .before .before .args .counts .registers) new (few-registers _ _ _ _ _ l)),
 )
 
