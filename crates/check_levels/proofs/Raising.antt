@@ -115,7 +115,7 @@ pub record Round (p : Pipeline) (levels : List ℕ) (known r : ℕ) : Type 0 whe
   pub known-are : (t : ℕ) → t < registerCount p → lane t known ≡ leb (level p t) r
 
 module _ (p : Pipeline) (forward : (k : ℕ) → ¬ (ReachesOn p k k)) where
-  positive : (t : ℕ) → t < registerCount p → 1 ≤ level p t
+  pub positive : (t : ℕ) → t < registerCount p → 1 ≤ level p t
   positive t h = go (level-of p forward t h .next)
     where
       go : (((k : ℕ) → ¬ (Reaches p k t)) × (level p t ≡ 1)) ⊎ ((k : ℕ) × Reaches p k t × (level p t ≡ suc (level p k))) → 1 ≤ level p t
