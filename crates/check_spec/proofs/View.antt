@@ -2,7 +2,7 @@
 -- Assumes nothing.
 use Prim.Native.Nat.{ℕ, zero, suc, _+_, _-_, _*_}
 use native.Mathlib.Omega.{arith}
-use mathlib.Core.Path.{_≡_, refl, sym, ap, ap₂, _∙_}
+use mathlib.Core.Path.{_≡_, refl, sym, ap, ap₂, _∙_, subst}
 use mathlib.Core.Bool.{Bool, true, false}
 use mathlib.Core.Logic.{_⊎_, inl, inr}
 use mathlib.Core.List.{List, [], _∷_, map, map-map}
@@ -25,15 +25,16 @@ use Rattle.runs.proofs.Test.{clash}
 use Rattle.verdict.specs.declared.Verdict.{Verdict}
 use Rattle.verdict.specs.declared.WordOrder.{WordOrder}
 use Rattle.verdict.specs.Nets as nets
-use Rattle.wiring_spec.specs.Parts.{partAt}
+use Rattle.verdict.specs.Paths.{In}
+use Rattle.wiring_spec.specs.Parts.{partAt, Pipeline}
 use Rattle.wiring_spec.specs.Tables.{wiringOf}
-use Rattle.wiring_spec.specs.Named.{Named}
-use Rattle.wiring_spec.proofs.Named.{named}
-use Rattle.check_spec.specs.Content.{Content, contentAt, contentOf, pipelineOf, Files, rawIn, referenceIn, withoutRegisters}
+use Rattle.wiring_spec.specs.Named.{IsData, Named}
+use Rattle.wiring_spec.proofs.Named.{named, output-named}
+use Rattle.check_spec.specs.Content.{Content, railsOfOutput, contentAt, contentOf, pipelineOf, Files, rawIn, referenceIn, withoutRegisters}
 use Rattle.check_spec.specs.Cases.{judge}
 use Rattle.check_spec.specs.Checks.{checks}
 use Rattle.check_spec.specs.Verdicts.{refusal, reading, verdictOn}
-use Rattle.check_spec.specs.Demands.{Pass}
+use Rattle.check_spec.specs.Demands.{Pass, StageNamed}
 use Rattle.check_spec.specs.Loaded.{pairOf, stageView, referenceView}
 use Rattle.check_spec.specs.Rows.{noGate, driver, setIn, netOf}
 
@@ -124,16 +125,26 @@ wiring-view registers bytes p =
     ap (λ (gates : List (List ℕ)). record { inputs = p .inputs; gates = gates; parts = map (partAt bytes) (p .parts) })
     (map-map (λ (g : Coded). g .operands) (codedAt file.Stage bytes) (p .gates))
 
--- where a stage is readable every operand of its wiring names what its role asks for: the nets that reading counts are those that are driven
-pub wiring-named : (f : Files) → NoMore (f .stageMost) stageLimits → Pass (reading (stageFile (f .registers)) (f .stageMost) (f .stage)) → Named (pipelineOf (rawIn f))
-unfolding refusal
+-- where a stage is readable every operand names what its role asks for: the nets that reading counts are those that are driven
+pub wiring-named : (f : Files) → NoMore (f .stageMost) stageLimits → Pass (reading (stageFile (f .registers)) (f .stageMost) (f .stage)) → StageNamed (rawIn f)
+unfolding refusal contentAt
 wiring-named f less pass = go (readFile (stageFile (f .registers)) (f .stageMost) (f .stage)) refl pass
   where
+    rails : (registers : Bool) (places : List ℕ) (j v : ℕ) → In v (getD (map (λ at. operands (f .stage) (at + 1) (railsOfOutput (stageFile registers))) places) j [])
+        → In v (getD (map (λ at. operands (f .stage) (at + 1) 2) places) j [])
+    rails true places j v i = i
+    rails false places j v i = i
+
     go : (x : Reading) → readFile (stageFile (f .registers)) (f .stageMost) (f .stage) ≡ x → Pass (refusal (stageFile (f .registers)) x) →
-        Named (pipelineOf (contentAt (stageFile (f .registers)) (f .stage) x))
+        StageNamed (contentAt (stageFile (f .registers)) (f .stage) x)
     go (refused number at) e pass = absurd (clash refl (pass .0))
     go (readable p) e pass =
-        rw (wiring-view (f .registers) (f .stage) p) (named (f .registers) (f .stageMost) less (f .stage) p (readable-read (stageFile (f .registers)) (f .stageMost) (f .stage) p e))
+        let read = readable-read (stageFile (f .registers)) (f .stageMost) (f .stage) p e in
+        let at = sym (wiring-view (f .registers) (f .stage) p) in
+        record {
+          wiring = subst Named at (named (f .registers) (f .stageMost) less (f .stage) p read);
+          outputs = λ j v i. subst (λ (q : Pipeline). IsData q v) at (output-named (f .registers) (f .stageMost) less (f .stage) p read j v (rails (f .registers) (p .outputs) j v i));
+        }
 
 -- ---- the net
 

@@ -25,7 +25,8 @@ use Rattle.check_spec.specs.Cases.{verdict, accepted, Case, Check}
 use Rattle.check_spec.specs.Lists.{bitOf, some, reaches}
 use Rattle.wiring_spec.specs.Parts.{Pipeline, registerCount}
 use Rattle.wiring_spec.specs.Wiring.{gateSteps, circular}
-use Rattle.wiring_spec.specs.Named as wiring
+use Rattle.verdict.specs.Paths.{In}
+use Rattle.wiring_spec.specs.Named as naming
 use Rattle.wiring_spec.specs.Wires.{WiresMean}
 use Rattle.wiring_spec.specs.Passing.{Circular, Uneven, Missing, Barred, Levelled, Passes, LeastAt, AtNone, Nowhere, WiringMeans}
 use Rattle.check_spec.specs.Content.{Content, pipelineOf, Files, rawIn, stageIn, referenceIn, withoutRegisters}
@@ -98,6 +99,11 @@ pub record Acceptable (f : Files) : Type 0 where
   pub conforms : (w : ℕ) → IsWord (stageIn f) w → Conforms (netOf (stageIn f)) (railsFor w) (answerTo f w)
   pub rises : (net : ℕ) → IsGate (netOf (stageIn f)) net → Rises f net
 
+-- every operand of a stage names a net of the sort that 9 asks for, by what drives the nets: pins, data, Ki and C-elements, and the outputs data
+pub record StageNamed (raw : Content) : Type 0 where
+  pub wiring : naming.Named (pipelineOf raw)
+  pub outputs : (j v : ℕ) → In v (getD (raw .outputs) j []) → naming.IsData (pipelineOf raw) v
+
 -- R is a row of some sort, and the only one
 abbrev pub TheOnly : (Row → Type 0) → Row → Type 0
 TheOnly P R = P R × ((r : Row) → P r → r ≡ R)
@@ -126,7 +132,7 @@ pub record Demand2 (order : WordOrder) (f : Files) (v : Verdict) : Type 0 where
   pub either-order : (other : WordOrder) → (v ≡ accepted) ↔ (verdictOn other f ≡ accepted)
   pub wiring-is : WiringMeans (wiringIn f)
   pub wires-are : WiresMean (wiringIn f)
-  pub nets-named : NoMore (f .stageMost) stageLimits → BothRead f → wiring.Named (wiringIn f)
+  pub nets-named : NoMore (f .stageMost) stageLimits → BothRead f → StageNamed (rawIn f)
   pub wires-free : LoopFree (netOf (rawIn f)) → Nowhere (wiringIn f) (circular (wiringIn f)) → LoopFree (netOf (stageIn f))
   pub plain : (verdictOn order (withoutRegisters f) ≡ v) ⊎ RefusedAtPart (f .stageMost) (f .stage)
   pub retired : Comparable f → Passes (wiringIn f) → (g : ℕ) → g < length (stageIn f .gates) → retiredGate (stageIn f) g ≡ true

@@ -1,25 +1,25 @@
 -- A stage file reads alike as a pipeline, also where it is refused: only one that is refused at the command of a register or of a C-element does not. The two
 -- readers are followed side by side; the test of 9 begins again at the first command, so what is known of it is carried along.
 -- Assumes nothing.
-use Prim.Native.Nat.{ℕ, zero, suc, _+_, _*_, _≤_, _<_}
+use Prim.Native.Nat.{ℕ, zero, suc, _+_, _≤_, _<_}
 use native.Mathlib.Omega.{arith}
 use native.Mathlib.Decide.{ℕ-discrete, decLt}
-use mathlib.Core.Path.{_≡_, refl, sym, ap, ap₂, _∙_, subst, fun-ext}
+use mathlib.Core.Path.{_≡_, refl, ap, ap₂, _∙_, subst, fun-ext}
 use mathlib.Core.Bool.{Bool, true, false, cond, _||_}
 use mathlib.Core.Logic.{_⊎_, inl, inr}
-use mathlib.Core.List.{List, [], _∷_}
+use mathlib.Core.List.{List, []}
 use lib.ListN.{length, List·getD-eq-default}
 use lib.Dec.{eqb, ltb}
 use borrow.Author.Tests.{ne-eqb, lt-leb, ltb-false}
-use Rattle.netlist.specs.Types.{File, Sort, Form, Limits, Counts, Cursor, Next, Command, Refused, Found, At}
+use Rattle.netlist.specs.Types.{File, Sort, Form, Limits, Counts, Next, Command, Refused, Found, At}
 use Rattle.netlist.specs.Types.file
 use Rattle.netlist.specs.Types.sort
 use Rattle.netlist.specs.Bytes.{byte}
-use Rattle.netlist.specs.Commands.{whenFound, isSort, asForm, commandTable, ownCommands, formIn, formOf, roleOf, width, needed, used, stray, takeGate, takeSort, takeCommand, nextAt}
+use Rattle.netlist.specs.Commands.{whenFound, isSort, commandTable, ownCommands, formIn, formOf, roleOf, width, needed, used, stray, takeGate, takeSort, takeCommand, nextAt}
 use Rattle.netlist.specs.Reading.{Nets, firstPart, partNets, carriesData, names, asked, nameless, namelessAt, namelessFrom, Places, noPlaces, sortsOf, countsOf, netsOf, noted}
 use Rattle.netlist.specs.Reading.{Reading, refused, readable, finish, onNext, readFrom, readFile, RefusedAtPart}
-use Rattle.netlist.specs.Writing.{formFor, widthFor}
-use Rattle.netlist.proofs.Encoding.{clash, table-all, has-end, byte-for, width-in, stage-registerless, stage-elementless}
+use Rattle.netlist.specs.Writing.{widthFor}
+use Rattle.netlist.proofs.Encoding.{clash, table-all}
 use Rattle.netlist.proofs.OneCommand.{There, next-there}
 
 -- ---- the command table

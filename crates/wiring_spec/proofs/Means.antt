@@ -1,11 +1,10 @@
 -- What 33, 34 and 35 test and what registers are as wires is what the paper says, of any pipeline; and one without registers passes.
 -- Assumes nothing.
-use Prim.Native.Nat.{ℕ, _<_}
+use Prim.Native.Nat.{ℕ}
 use native.Mathlib.Omega.{arith}
 use mathlib.Core.Path.{_≡_, refl, ap, _∙_}
 use mathlib.Core.Logic.{inl}
 use mathlib.Core.List.{[]}
-use lib.ListN.{length}
 use Rattle.runs.proofs.Test.{clash}
 use Rattle.wiring_spec.specs.Parts.{Pipeline, Driver, registersOf, registerCount}
 use Rattle.wiring_spec.specs.Wiring.{circular}

@@ -12,7 +12,7 @@ use Rattle.runs.proofs.Test.{clash, not-true, of-not, and-in, and-left, and-rig
 use Rattle.verdict.specs.Lists.{some}
 use Rattle.verdict.specs.Paths.{In, Leads, here, onward, OnLoop}
 use Rattle.verdict.proofs.Steps.{some-in, some-out, lead-sound, lead-complete}
-use Rattle.verdict.proofs.Words.{index-in, in-index}
+use Rattle.verdict.proofs.Words.{index-in}
 use Rattle.verdict.proofs.Names.{select-in, in-select}
 use Rattle.wiring_spec.specs.Parts.{Pipeline, Driver, input, gate, rail, acknowledge, completion, nothing, driverOf, allNets, dataOf, kiOf, registerCount}
 use Rattle.wiring_spec.specs.Wiring.{gateSteps, openings, isInput, isRailOf, isKoOf, dataFrom, reaches, fromInput, registers, sources, reachesItself, level, behind, isLoop, circular, uneven, missing, foreign, bars, barred}
