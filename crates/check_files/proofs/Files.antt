@@ -16,7 +16,7 @@ use Rattle.netlist.specs.declared.Outcome.the-variants as outcome
 use Rattle.netlist.specs.Commands.{stageFile}
 use Rattle.netlist.specs.Reading.{Places, countsOf, Reading, refused, readable, readFile, stageLimits, NoMore}
 use Rattle.netlist.specs.Read.{outcomeOf}
-use Rattle.netlist.specs.Content.{Stage, Reference}
+use Rattle.netlist.specs.Content.{Stage, Reference, stageOf}
 use Rattle.verdict.specs.declared.Verdict.{Verdict}
 use Rattle.verdict.specs.declared.WordOrder.{WordOrder}
 use Rattle.verdict.specs.declared.Finding.{Finding}
@@ -27,12 +27,13 @@ use Rattle.verdict.proofs.Refusals.{refused-number}
 use Rattle.wiring_spec.specs.Parts.{Pipeline}
 use Rattle.wiring_spec.specs.Table.{wiringChecks}
 use Rattle.check_spec.specs.Cases.{first, judge}
-use Rattle.check_spec.specs.Content.{Content, pipelineOf, contentAt, wired, Files, rawIn, filesWithin}
+use Rattle.check_spec.specs.Content.{Content, pipelineOf, contentAt, contentOf, wired, Files, rawIn, filesWithin}
 use Rattle.check_spec.specs.Verdicts.{fileNumber, refusal, verdictOn}
 use Rattle.check_spec.specs.Demands.{Demand2, Demand3}
 use Rattle.check_spec.specs.Loaded.{stageView, referenceView}
 use Rattle.check_spec.proofs.Demanded.{demand-2, demand-3}
-use Rattle.check_spec.proofs.View.{reference-view}
+use Rattle.check_spec.proofs.View.{stage-partless, stage-view, reference-view}
+use Rattle.check_spec.proofs.Wired.{wired-none}
 use Rattle.check_spec.proofs.Alike.{read-care}
 use Rattle.check_spec.proofs.Bridge.{alike-judge, checks-alike}
 use Rattle.circuit.specs.Stage.{stageIn}
@@ -45,7 +46,7 @@ use Rattle.check_word.specs.Loaded.{BothLoaded}
 use Rattle.check_files.specs.declared.Judgement.{Judgement}
 use Rattle.check_files.specs.declared.Judgement.the-variants as judgement
 use Rattle.check_files.specs.Held.{StageHeld, contentIn}
-use Rattle.check_files.specs.Judgement.{ReferenceFrom, PairLoaded, JudgedAs}
+use Rattle.check_files.specs.Judgement.{StageFrom, ReferenceFrom, PairLoaded, JudgedAs}
 
 -- ---- a verdict that refuses has a number, and file 0, 1 or 2
 
@@ -202,6 +203,12 @@ module _ (order : WordOrder) (f : Files) where
               reference-from = of-reference;
             }));
       }
+
+-- without registers the circuit that was loaded is the stage as the file has it
+pub plain-content : {most : Limits} {bytes : List ℕ} {c : Counts} {code : List ℕ} (from : StageFrom false most bytes c code) → stageIn c code ≡ stageOf bytes (from .places)
+plain-content {most} {bytes} from =
+    from .content ∙ ap stageView (wired-none (contentOf file.Stage most bytes) (stage-partless most bytes))
+    ∙ ap (λ (x : Reading). stageView (contentAt file.Stage bytes x)) (from .reads) ∙ stage-view false bytes (from .places)
 
 -- ---- the call
 

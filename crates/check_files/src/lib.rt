@@ -92,11 +92,11 @@ fn wire_registers(code: &mut [u16], counts: Counts, nets: &mut [u16], regs: &[u1
     let mut cut = [0u16; circuit::form::STAGE_CODE];
     let bare = circuit_wire::bare_counts(counts);
     circuit_wire::wire_stage(&nets[0..0], bare, code, &mut cut);
-    if let Finding::Fault(v) = find_loop(&mut cut, bare) {
-        return Finding::Fault(v);
+    if let Finding::Fault(looped) = find_loop(&mut cut, bare) {
+        return Finding::Fault(looped);
     }
-    if let Finding::Fault(v) = check_wiring::check_registers(code, &cut, counts, nets, regs) {
-        return Finding::Fault(v);
+    if let Finding::Fault(miswired) = check_wiring::check_registers(code, &cut, counts, nets, regs) {
+        return Finding::Fault(miswired);
     }
     connect(code, counts, nets);
     find_loop(code, counts)
@@ -150,8 +150,8 @@ fn judge(
             word: sizes.outputs as u64,
         });
     }
-    if let Finding::Fault(v) = check_wires(code, counts, nets, regs) {
-        return Finding::Fault(v);
+    if let Finding::Fault(fault) = check_wires(code, counts, nets, regs) {
+        return Finding::Fault(fault);
     }
     if let Found::At(g) = least_retired(code, counts) {
         return Finding::Fault(Verdict {

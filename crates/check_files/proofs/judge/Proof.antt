@@ -17,7 +17,7 @@ returns-3 c =
     let z = c .before .before .before .before .before .before .before in
     let inputs = z .before .before .before .before .before .before .if1 .left in
     let outputs = z .before .before .before .if2 .left in
-    (λ h. is-wiring _ h _ _ inputs outputs (sym (c .before .v .given .1) ∙ z .check-wires .ensures .0 h), λ h. not-passed)
+    (λ h. is-wiring _ h _ _ inputs outputs (sym (c .before .fault .given .1) ∙ z .check-wires .ensures .0 h), λ h. not-passed)
 
 least-retired-requires : tie.Need-least-retired-requires
 least-retired-requires c κs =

@@ -22,7 +22,7 @@ returns c =
     let loop = c .before .before .before .before in
     let cut = loop .before .before .before in
     let counts = cut .before .before .before .before .before in
-    (λ h. loop-found h (counts .bare-counts .ensures) (cut .wire-stage .ensures) (sym (c .before .v .given .1) ∙ loop .find-loop .ensures .0), λ h. not-passed)
+    (λ h. loop-found h (counts .bare-counts .ensures) (cut .wire-stage .ensures) (sym (c .before .looped .given .1) ∙ loop .find-loop .ensures .0), λ h. not-passed)
 
 check-registers-requires : tie.Need-check-registers-requires
 check-registers-requires c κs =
@@ -45,7 +45,7 @@ returns-2 c =
     let none = free .enum-told .given .1 in (
       λ h.
           let l = gates-ordered h is bare (loop .find-loop .ensures .1 none) in
-          wiring-found l (loop-none h is bare (sym none ∙ loop .find-loop .ensures .0)) (sym (c .before .v2 .given .1) ∙ wiring .check-registers .ensures .0 (l .0)),
+          wiring-found l (loop-none h is bare (sym none ∙ loop .find-loop .ensures .0)) (sym (c .before .miswired .given .1) ∙ wiring .check-registers .ensures .0 (l .0)),
       λ h. not-passed,
     )
 
