@@ -31,7 +31,7 @@ use Rattle.circuit.specs.Stage.{netCount, stageIn, StageLoaded}
 use Rattle.circuit_order.proofs.Findings.{passed-on}
 use Rattle.circuit_wire.specs.Wire.{gateBy, pairBy, stageBy}
 use Rattle.circuit_load.specs.Parts.{wiringOf, railRow, koRow, elementRow, netRows, Begins, PipelineHeld}
-use Rattle.circuit_load.proofs.Nets.{long-alike, nets-count, all-named}
+use Rattle.wiring_spec.proofs.Named.{long-alike, nets-count, all-named}
 use Rattle.circuit_load.proofs.Holding.{held-plain}
 use Rattle.circuit_load.proofs.Raw.{raw-held}
 use Rattle.circuit_load.proofs.Rows.{parts-loaded}
