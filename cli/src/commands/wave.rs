@@ -31,7 +31,8 @@ pub fn command() -> Command {
             "\
 One net switches each nanosecond. Inputs and outputs are shown as NULL, DATA0 and DATA1, and then each rail and gate as a wire. Of a refused
 stage the run ends where the promise breaks, and promise_broken rises. Under 32 nothing breaks: a full rise and fall is shown. Prints the
-verdict; where it speaks of no run, as of bytes, a loop, registers or a kind, nothing is written, and it is said so. A register is two wires.
+verdict; where it speaks of no run, as of bytes, a loop, registers or a kind, nothing is written, and it is said so. A register is two
+wires here.
 
 Examples:
   ncl wave stage.ncl reference.ncl fault.vcd --save fault.gtkw
