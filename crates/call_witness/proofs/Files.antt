@@ -24,6 +24,8 @@ use Rattle.check_spec.specs.Rows.{netOf}
 use Rattle.check_spec.specs.Words.{spelled}
 use Rattle.check_spec.specs.Verdicts.{refusal, reading, rowStage, verdictOn}
 use Rattle.check_spec.specs.Demands.{Pass, BothRead, LoopFree}
+use Rattle.check_spec.proofs.View.{stage-partless}
+use Rattle.check_spec.proofs.Wired.{wired-none}
 use Rattle.check_spec.proofs.Alike.{spelled-alike, names-alike}
 use Rattle.netlist.specs.Content.{stageOf}
 use Rattle.circuit.specs.Stage as flat

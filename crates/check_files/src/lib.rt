@@ -95,8 +95,8 @@ fn wire_registers(code: &mut [u16], counts: Counts, nets: &mut [u16], regs: &[u1
     if let Finding::Fault(looped) = find_loop(&mut cut, bare) {
         return Finding::Fault(looped);
     }
-    if let Finding::Fault(miswired) = check_wiring::check_registers(code, &cut, counts, nets, regs) {
-        return Finding::Fault(miswired);
+    if let Finding::Fault(wiring) = check_wiring::check_registers(code, &cut, counts, nets, regs) {
+        return Finding::Fault(wiring);
     }
     connect(code, counts, nets);
     find_loop(code, counts)

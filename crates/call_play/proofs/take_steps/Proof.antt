@@ -84,7 +84,9 @@ returns-3 c =
     }
 
 add-i : tie.Need-add-i Inv-loop μ-loop
-add-i c = omega (arith, c .before .before .before .before .before .before .before .before .before .before .loop-test .taken)
+add-i c =
+    let l = c .before .before .before .before .before .before .before .before .before .before in
+    omega (arith, l .loop-test .taken, l .before .before .before .before .before .before .before .before .before .good)
 
 pub take-steps-spec : {M : Type 1} → statement M
 take-steps-spec =

@@ -45,7 +45,7 @@ returns-2 c =
     let none = free .enum-told .given .1 in (
       λ h.
           let l = gates-ordered h is bare (loop .find-loop .ensures .1 none) in
-          wiring-found l (loop-none h is bare (sym none ∙ loop .find-loop .ensures .0)) (sym (c .before .miswired .given .1) ∙ wiring .check-registers .ensures .0 (l .0)),
+          wiring-found l (loop-none h is bare (sym none ∙ loop .find-loop .ensures .0)) (sym (c .before .wiring .given .1) ∙ wiring .check-registers .ensures .0 (l .0)),
       λ h. not-passed,
     )
 
