@@ -4,7 +4,9 @@
 //! order of words, or with `--report` with its report. Prints how many had each number, or the first
 //! difference.
 
-use fovaheju_tests::compare::{compare_program, expected_report, expected_verdict, Expected, Pairs};
+use fovaheju_tests::compare::{
+    compare_program, expected_report, expected_verdict, Expected, Pairs,
+};
 use fovaheju_tests::generate::pair;
 use fovaheju_tests::generate::pipelines::pipeline_pair;
 use std::path::PathBuf;
@@ -13,9 +15,7 @@ use std::process::ExitCode;
 fn main() -> std::io::Result<ExitCode> {
     let mut arguments = std::env::args().skip(1).peekable();
     let report = arguments.next_if(|word| word == "--report").is_some();
-    let pipelines = arguments
-        .next_if(|word| word == "--pipelines")
-        .is_some();
+    let pipelines = arguments.next_if(|word| word == "--pipelines").is_some();
     let pairs: Pairs = if pipelines { pipeline_pair } else { pair };
     let Some(program) = arguments.next().map(PathBuf::from) else {
         eprintln!("usage: compare [--report] [--pipelines] PROGRAM [COUNT [SEED]]");
