@@ -238,7 +238,8 @@ impl<'a> Mending<'a> {
         }
         let gates = self.named.gates.iter().take(GATES);
         let places = gates.flat_map(|&gate| (0..stage.gates[gate].pins.len()).map(move |pin| (gate, pin)));
-        let mut pins: Vec<Pin> = places.flat_map(|(gate, pin)| stage.data_nets().into_iter().map(move |net| Pin { gate, pin, net })).collect();
+        let mut pins: Vec<Pin> =
+            places.flat_map(|(gate, pin)| stage.data_nets().into_iter().map(move |net| Pin { gate, pin, net })).collect();
         pins.retain(|pin| stage.gates[pin.gate].pins[pin.pin] != pin.net);
         let late = self.named.net;
         pins.sort_by_key(|pin| Some(pin.net) != late);

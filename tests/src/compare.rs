@@ -877,6 +877,7 @@ fn arguments(order: WordOrder) -> &'static [&'static str] {
 pub fn compare_program(
     program: &Path,
     expected: Expected,
+    pairs: Pairs,
     folder: &Path,
     seed: u64,
     count: u64,
@@ -884,7 +885,7 @@ pub fn compare_program(
     let mut histogram = NO_VERDICTS;
     let cut = |file: &[u8]| file[..file.len().min(MOST_BYTES_READ as usize)].to_vec();
     for index in 0..count {
-        let generated = pair(seed, index);
+        let generated = pairs(seed, index);
         let (stage, reference) = (cut(&generated.pair.stage), cut(&generated.pair.reference));
         for order in ORDERS {
             let leave_out = index % 2 == 0;

@@ -143,7 +143,8 @@ fn out_of_step(byte: u8, at: usize, listed: &[Command], taken: Taken) -> (String
         let what = if byte == 0x04 { "a register" } else { "a C-element" };
         return (
             format!("{byte:02X} is {what}, and only the check reads registers and C-elements"),
-            "give such a stage to 'ncl check' and 'ncl explain'; every other call takes one without them, with the gates of one level".into(),
+            "give such a stage to 'ncl check' and 'ncl explain'; every other call takes one without them, with the gates of one level"
+                .into(),
         );
     }
     let known = listed.iter().any(|command| command.at == at && command.form.is_some());

@@ -74,7 +74,10 @@ fn not_levelled(text: &mut Text, wiring: &Wiring, at: usize) {
             text.row(if k == 0 { "look at" } else { "" }, &format!("r{from} feeds r{next} {how}"));
             from = next;
         }
-        text.row("to do", "put a data rail of one of these registers on a net that comes from before it: data goes from level to level, and never back");
+        text.row(
+            "to do",
+            "put a data rail of one of these registers on a net that comes from before it: data goes from level to level, and never back",
+        );
     } else if !loops.is_empty() {
         text.row("found", &format!("behind the Ki of r{at} a C-element waits for itself, so the Ki never comes"));
         text.row("look at", &some(loops.iter().map(|&element| stage.element_text(element))));
@@ -88,7 +91,10 @@ fn not_levelled(text: &mut Text, wiring: &Wiring, at: usize) {
             };
             text.row(if k == 0 { "look at" } else { "" }, &format!("{name}, of level {level}, feeds it {}", way(stage, fed)));
         }
-        text.row("to do", "send what comes from a lower level through as many registers as the rest: a register for each signal between two levels");
+        text.row(
+            "to do",
+            "send what comes from a lower level through as many registers as the rest: a register for each signal between two levels",
+        );
     }
 }
 
