@@ -4,6 +4,7 @@
 //! file, place and word come from the judge and are stored with the pair.
 
 pub mod joins;
+pub mod pipelines;
 pub mod texts;
 
 use crate::circuits::{
@@ -100,6 +101,11 @@ const MULTIPLIER_3X3: &str = include_str!("netlists/multiplier-3x3.txt");
 
 /// Figure 15(a) of source document 001, from its line 3 on.
 const MAC_4_2X2: &str = include_str!("netlists/mac-4-2x2.txt");
+
+/// The text of Figure 12(a).
+pub(crate) fn multiplier_netlist() -> &'static str {
+    MULTIPLIER_3X3
+}
 
 /// The multiplier of Figure 12(a): inputs xi0 to xi2, yi0 to yi2.
 pub fn multiplier_of_the_source() -> Stage {

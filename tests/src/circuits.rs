@@ -1,7 +1,9 @@
 //! Building of stages and references: the usual dual-rail components, the
 //! templates that turn a reference into a stage, and netlists given as text.
 
-use crate::judge::{Boolean, Gate, Reference, Stage, AND, KINDS, NAND, NOR, NOT, OR, XOR};
+use crate::judge::{
+    Boolean, Gate, Part, Pipeline, Reference, Stage, AND, KINDS, NAND, NOR, NOT, OR, OUTSIDE, XOR,
+};
 use std::collections::HashMap;
 
 /// The number of a kind, its name in capital or small letters; a leading `r` is the relaxed kind
@@ -451,6 +453,73 @@ pub fn stage_from_netlist(inputs: &[&str], outputs: &[&str], text: &str) -> Stag
         gates,
         outputs,
         care: vec![],
+    }
+}
+
+/// A stage with its registers and C-elements from the text of such a netlist. `Ki` is the outside
+/// Ki.
+pub fn pipeline_from_netlist(inputs: &[&str], outputs: &[&str], text: &str) -> Pipeline {
+    let rails = |name: &str| [format!("{name}_0"), format!("{name}_1")];
+    let mut nets: HashMap<String, usize> = HashMap::from([("Ki".to_string(), OUTSIDE)]);
+    let mut count = 0;
+    let mut drive = |name: &str| {
+        let before = nets.insert(name.to_string(), count);
+        assert!(before.is_none(), "{name} is driven twice");
+        count += 1;
+    };
+    inputs
+        .iter()
+        .flat_map(|name| rails(name))
+        .for_each(|rail| drive(&rail));
+    let words = |line: &str| -> Vec<String> {
+        let words = line.split([' ', ',']).skip(1);
+        words.map(str::to_string).collect()
+    };
+    let lines = text.lines().map(str::trim).filter(|line| !line.is_empty());
+    let (parts, gates): (Vec<_>, Vec<_>) = lines
+        .map(words)
+        .partition(|words| words[0].starts_with("Reg") || words[0].starts_with('C'));
+    for words in &gates {
+        drive(words.last().unwrap());
+    }
+    for words in &parts {
+        match &words[..] {
+            // Kind, level, data rails 0 and 1, Ki, Ko, output rails 0 and 1.
+            [_, _, _, _, _, ko, rail_0, rail_1] => [rail_0, rail_1, ko].map(|name| drive(name)),
+            [.., net] => [drive(net); 3],
+            [] => unreachable!("a line has a kind"),
+        };
+    }
+    let net = |name: &String| {
+        *nets
+            .get(name)
+            .unwrap_or_else(|| panic!("nobody drives {name}"))
+    };
+    let all = |names: &[String]| -> Vec<usize> { names.iter().map(net).collect() };
+    let part = |words: &Vec<String>| match &words[..] {
+        [_, _, data_0, data_1, ki, _, _, _] => Part::Register {
+            data: [net(data_0), net(data_1)],
+            ki: net(ki),
+        },
+        words => Part::Element {
+            pins: all(&words[1..words.len() - 1]),
+        },
+    };
+    let gate = |words: &Vec<String>| Gate {
+        kind: kind_named(&words[0]),
+        pins: all(&words[1..words.len() - 1]),
+    };
+    Pipeline {
+        raw: Stage {
+            inputs: inputs.len(),
+            gates: gates.iter().map(gate).collect(),
+            outputs: outputs
+                .iter()
+                .map(|name| rails(name).map(|rail| net(&rail)))
+                .collect(),
+            care: vec![],
+        },
+        parts: parts.iter().map(part).collect(),
     }
 }
 

@@ -1,7 +1,9 @@
 //! Writing of stage and reference files, hexadecimal text, and the folders in
 //! which example pairs are stored.
 
-use crate::judge::{Boolean, Gate, Reference, Report, Stage, Verdict, ABSENT, ACCEPTED, NOT};
+use crate::judge::{
+    Boolean, Gate, Part, Pipeline, Reference, Report, Stage, Verdict, ABSENT, ACCEPTED, NOT,
+};
 use std::fs;
 use std::io::{self, Read};
 use std::path::{Path, PathBuf};
@@ -42,6 +44,26 @@ pub fn stage_output(rails: [usize; 2]) -> Vec<u8> {
 pub fn care_word(word: u64) -> Vec<u8> {
     let mut bytes = vec![0x06];
     put_u16(&mut bytes, word as usize);
+    bytes
+}
+
+/// The command of a register or of a C-element.
+pub fn part_command(part: &Part) -> Vec<u8> {
+    let mut bytes = Vec::new();
+    match part {
+        Part::Register { data, ki } => {
+            bytes.push(0x04);
+            for net in [data[0], data[1], *ki] {
+                put_u16(&mut bytes, net);
+            }
+        }
+        Part::Element { pins } => {
+            bytes.push(0x05);
+            for pin in 0..4 {
+                put_u16(&mut bytes, pins.get(pin).copied().unwrap_or(ABSENT));
+            }
+        }
+    }
     bytes
 }
 
@@ -102,6 +124,17 @@ pub fn write_stage(stage: &Stage) -> Vec<u8> {
     let mut commands: Vec<Vec<u8>> = stage.care.iter().map(|&word| care_word(word)).collect();
     let (gates, outputs) = stage_commands(stage);
     commands.extend(gates);
+    commands.extend(outputs);
+    file_of(stage.inputs, &commands)
+}
+
+/// A stage file with registers and C-elements: the care list, gates, these, outputs.
+pub fn write_pipeline(pipeline: &Pipeline) -> Vec<u8> {
+    let stage = &pipeline.raw;
+    let mut commands: Vec<Vec<u8>> = stage.care.iter().map(|&word| care_word(word)).collect();
+    let (gates, outputs) = stage_commands(stage);
+    commands.extend(gates);
+    commands.extend(pipeline.parts.iter().map(part_command));
     commands.extend(outputs);
     file_of(stage.inputs, &commands)
 }
@@ -215,6 +248,14 @@ const TEXTS: &str = "text";
 /// Where modules in Verilog are, which the tests of the command make references of.
 const MODULES: &str = "verilog";
 
+/// Where the stored pairs with registers are, in the same folder.
+const PIPELINES: &str = "pipelines";
+
+/// The folder of the stored pairs with registers.
+pub fn pipelines_folder(folder: &Path) -> PathBuf {
+    folder.join(PIPELINES)
+}
+
 /// Stores a text as text/NAME/stage.txt, its verdict, and the stage file that it gives where it reads.
 pub fn store_text(
     folder: &Path,
@@ -259,7 +300,7 @@ pub fn stored_texts(folder: &Path) -> io::Result<Vec<String>> {
 /// The names of all stored pairs, in order.
 pub fn stored_examples(folder: &Path) -> io::Result<Vec<String>> {
     let mut names = folders_in(folder)?;
-    names.retain(|name| name != TEXTS && name != MODULES);
+    names.retain(|name| name != TEXTS && name != MODULES && name != PIPELINES);
     Ok(names)
 }
 

@@ -5,6 +5,7 @@
 //! nothing changes, every input is left out once and every high gate is held low
 //! once. Nothing is done to be fast.
 
+use crate::wiring::Wiring;
 use std::sync::LazyLock;
 
 /// "Four decimal numbers: number, file, at, word."
@@ -21,6 +22,9 @@ pub const NONE: u64 = 0;
 
 /// The operand that stands for an absent pin or operand.
 pub const ABSENT: usize = 0xFFFF;
+
+/// Document 02, M-111: "FFFE stands for the outside Ki."
+pub const OUTSIDE: usize = 0xFFFE;
 
 /// Name and set expression of the kinds 1 to 27, as the paper spells them.
 pub const KINDS: [(&str, &str); 27] = [
@@ -135,6 +139,24 @@ impl Stage {
     }
 }
 
+/// A register or a C-element (document 02, M-111).
+#[derive(Clone, PartialEq, Eq, Debug)]
+pub enum Part {
+    /// "A one-bit register, three u16: data rail 0, data rail 1, Ki."
+    Register { data: [usize; 2], ki: usize },
+    /// "A C-element with four u16 pins, A and B used, D only if C is": the pins that are used.
+    Element { pins: Vec<usize> },
+}
+
+/// A stage as it is read, with its registers and C-elements in their joint file order. "New nets
+/// are numbered after the gates in file order": a register "drives three nets, rail 0, rail 1 and
+/// Ko", a C-element one.
+#[derive(Clone, PartialEq, Eq, Debug, Default)]
+pub struct Pipeline {
+    pub raw: Stage,
+    pub parts: Vec<Part>,
+}
+
 /// A gate of a reference: its operation and its operands, one for NOT, else two.
 #[derive(Clone, PartialEq, Eq, Debug)]
 pub struct Boolean {
@@ -228,20 +250,52 @@ fn u16_at(file: &[u8], at: usize) -> usize {
     usize::from(file[at]) + 256 * usize::from(file[at + 1])
 }
 
-/// Reads a stage file, or says which refusal comes first and where.
+/// Document 02, M-111: "Only the check reads these two commands; every other call answers 2."
+#[derive(Clone, Copy, PartialEq, Eq, Debug)]
+pub enum Call {
+    Check,
+    Other,
+}
+
+/// "A 65th register or a 65th C-element" is refused by 6.
+pub const MOST_REGISTERS: usize = 64;
+pub const MOST_ELEMENTS: usize = 64;
+
+/// Reads a stage file for a call other than the check, or says which refusal comes first and where.
 pub fn read_stage(file: &[u8]) -> Result<Stage, Refusal> {
     read_stage_within(LIMITS, file)
 }
 
 /// The same within other limits.
+pub fn read_stage_within(limits: Limits, file: &[u8]) -> Result<Stage, Refusal> {
+    read_commands(Call::Other, limits, file).map(|pipeline| pipeline.raw)
+}
+
+/// Reads a stage file for the check.
+pub fn read_pipeline(file: &[u8]) -> Result<Pipeline, Refusal> {
+    read_commands(Call::Check, LIMITS, file)
+}
+
+/// What an operand that names a net stands for.
+#[derive(Clone, Copy, PartialEq, Eq, Debug)]
+enum Role {
+    /// A pin of a gate, a rail of an output, a data rail of a register.
+    Data,
+    /// A pin of a C-element.
+    Pin,
+    Ki,
+}
+
+/// Reads a stage file for a call.
 ///
 /// "Within a command the order is 2, 1, then 6, then 3 or 4, then 5 by operand.
 /// At the end command: 8, 7, then 9." Of a care word: 2, 1, 18, 19.
-pub fn read_stage_within(limits: Limits, file: &[u8]) -> Result<Stage, Refusal> {
+fn read_commands(call: Call, limits: Limits, file: &[u8]) -> Result<Pipeline, Refusal> {
     let mut stage = Stage::default();
+    let mut parts: Vec<Part> = Vec::new();
     let mut first = true;
-    // Every operand that names a net: its place and the net, in file order.
-    let mut named: Vec<(usize, usize)> = Vec::new();
+    // Every operand that names a net: its place, the net and its role, in file order.
+    let mut named: Vec<(usize, usize, Role)> = Vec::new();
     let mut place = 0;
     loop {
         // 1, the file ends before the end command.
@@ -254,6 +308,8 @@ pub fn read_stage_within(limits: Limits, file: &[u8]) -> Result<Stage, Refusal> 
             0x01 => 1,
             0x02 => 1 + 4 * 2,
             0x03 => 2 * 2,
+            0x04 if call == Call::Check => 3 * 2,
+            0x05 if call == Call::Check => 4 * 2,
             0x06 => 2,
             0x00 => 0,
             _ => return Err((2, place)),
@@ -298,7 +354,7 @@ pub fn read_stage_within(limits: Limits, file: &[u8]) -> Result<Stage, Refusal> 
                     }
                     if needed {
                         pins.push(net);
-                        named.push((at, net));
+                        named.push((at, net, Role::Data));
                     }
                 }
                 stage.gates.push(Gate { kind, pins });
@@ -309,9 +365,46 @@ pub fn read_stage_within(limits: Limits, file: &[u8]) -> Result<Stage, Refusal> 
                     return Err((6, place));
                 }
                 let rails = [u16_at(file, place + 1), u16_at(file, place + 3)];
-                named.push((place + 1, rails[0]));
-                named.push((place + 3, rails[1]));
+                named.push((place + 1, rails[0], Role::Data));
+                named.push((place + 3, rails[1], Role::Data));
                 stage.outputs.push(rails);
+            }
+            0x04 => {
+                // 6, a 65th register.
+                let is_register = |part: &&Part| matches!(part, Part::Register { .. });
+                if parts.iter().filter(is_register).count() == MOST_REGISTERS {
+                    return Err((6, place));
+                }
+                let data = [u16_at(file, place + 1), u16_at(file, place + 3)];
+                let ki = u16_at(file, place + 5);
+                named.push((place + 1, data[0], Role::Data));
+                named.push((place + 3, data[1], Role::Data));
+                named.push((place + 5, ki, Role::Ki));
+                parts.push(Part::Register { data, ki });
+            }
+            0x05 => {
+                // 6, a 65th C-element.
+                let is_element = |part: &&Part| matches!(part, Part::Element { .. });
+                if parts.iter().filter(is_element).count() == MOST_ELEMENTS {
+                    return Err((6, place));
+                }
+                let operands = [1, 3, 5, 7].map(|offset| u16_at(file, place + offset));
+                // "A and B used, D only if C is, unused ones FFFF, else 5 at the first of A, B, D
+                // that breaks this."
+                let [a, b, c, d] = operands.map(|operand| operand != ABSENT);
+                for (pin, keeps) in [(0, a), (1, b), (3, c || !d)] {
+                    if !keeps {
+                        return Err((5, place + 1 + 2 * pin));
+                    }
+                }
+                let mut pins = Vec::new();
+                for (pin, &net) in operands.iter().enumerate() {
+                    if net != ABSENT {
+                        pins.push(net);
+                        named.push((place + 1 + 2 * pin, net, Role::Pin));
+                    }
+                }
+                parts.push(Part::Element { pins });
             }
             0x06 => {
                 // 18, a care word not below 2 to the power n.
@@ -334,17 +427,63 @@ pub fn read_stage_within(limits: Limits, file: &[u8]) -> Result<Stage, Refusal> 
                 if place + 1 < file.len() {
                     return Err((7, place + 1));
                 }
-                // 9, a net that is absent, at the first such operand.
-                for (at, net) in named {
-                    if net >= stage.nets() {
+                // 9, a net that is absent, or "Ko and C-element nets anywhere but at a Ki or a
+                // C-element's pin, FFFE anywhere but at a Ki, or FFFF in a register", at the first
+                // such operand.
+                let drivers = drivers(&stage, &parts);
+                for (at, net, role) in named {
+                    let may_stand = match drivers.get(net) {
+                        Some(Driver::Ko(_) | Driver::Element(_)) => role != Role::Data,
+                        Some(_) => true,
+                        None => net == OUTSIDE && role == Role::Ki,
+                    };
+                    if !may_stand {
                         return Err((9, at));
                     }
                 }
-                return Ok(stage);
+                return Ok(Pipeline { raw: stage, parts });
             }
         }
         place += 1 + operand_bytes;
     }
+}
+
+/// What drives a net of a stage as it is read. Registers and C-elements are each counted by
+/// themselves.
+#[derive(Clone, Copy, PartialEq, Eq, Debug)]
+pub enum Driver {
+    Input(usize),
+    Gate(usize),
+    Rail(usize, usize),
+    Ko(usize),
+    Element(usize),
+}
+
+/// What drives each net, in the order of the nets.
+pub fn drivers(raw: &Stage, parts: &[Part]) -> Vec<Driver> {
+    let mut list = Vec::new();
+    for rail in 0..2 * raw.inputs {
+        list.push(Driver::Input(rail / 2));
+    }
+    for gate in 0..raw.gates.len() {
+        list.push(Driver::Gate(gate));
+    }
+    let (mut registers, mut elements) = (0, 0);
+    for part in parts {
+        match part {
+            Part::Register { .. } => {
+                list.push(Driver::Rail(registers, 0));
+                list.push(Driver::Rail(registers, 1));
+                list.push(Driver::Ko(registers));
+                registers += 1;
+            }
+            Part::Element { .. } => {
+                list.push(Driver::Element(elements));
+                elements += 1;
+            }
+        }
+    }
+    list
 }
 
 /// Reads a reference file, or says which refusal comes first and where.
@@ -470,7 +609,8 @@ pub fn set_expression_holds(gate: &Gate, row: &[bool]) -> bool {
     SET[cell(gate.kind)][pattern]
 }
 
-/// 12: the least gate that reaches itself through pins.
+/// 12: the least gate that reaches itself through pins. "12 follows gates only": a pin on a
+/// register's rail leads no further.
 pub fn least_gate_on_a_loop(stage: &Stage) -> Option<usize> {
     (0..stage.gates.len()).find(|&gate| {
         // All gates that this one reaches through one pin or more.
@@ -478,7 +618,8 @@ pub fn least_gate_on_a_loop(stage: &Stage) -> Option<usize> {
         let mut to_do = vec![gate];
         while let Some(here) = to_do.pop() {
             for &net in &stage.gates[here].pins {
-                if net >= 2 * stage.inputs && !reached[net - 2 * stage.inputs] {
+                let is_gate = (2 * stage.inputs..stage.nets()).contains(&net);
+                if is_gate && !reached[net - 2 * stage.inputs] {
                     reached[net - 2 * stage.inputs] = true;
                     to_do.push(net - 2 * stage.inputs);
                 }
@@ -645,28 +786,44 @@ pub fn answer(reference: &Reference, word: u64) -> Vec<bool> {
 
 /// The check of a stage file against a reference file, for a caller that sets the mark of M-106.
 pub fn check(stage_file: &[u8], reference_file: &[u8]) -> Verdict {
-    check_within(LIMITS, stage_file, reference_file)
+    check_pipeline(WordOrder::Input0Lowest, stage_file, reference_file)
 }
 
-/// The same within other limits.
+/// The same of files without registers, within other limits.
 pub fn check_within(limits: Limits, stage_file: &[u8], reference_file: &[u8]) -> Verdict {
     check_in_order(WordOrder::Input0Lowest, limits, stage_file, reference_file)
 }
 
-/// The check in either order of words, within any limits.
-///
-/// "The stage is read first, then the reference, then 10 to 15 follow in order. A
-/// word or index named is the least: least word, then least index."
+/// The check in either order of words, within any limits, of files without registers: of a part
+/// of a join, and for the report.
 pub fn check_in_order(
     order: WordOrder,
     limits: Limits,
     stage_file: &[u8],
     reference_file: &[u8],
 ) -> Verdict {
-    let stage = match read_stage_within(limits, stage_file) {
-        Ok(stage) => stage,
+    check_for(Call::Other, order, limits, stage_file, reference_file)
+}
+
+/// The check, which reads registers and C-elements too, in either order of words.
+pub fn check_pipeline(order: WordOrder, stage_file: &[u8], reference_file: &[u8]) -> Verdict {
+    check_for(Call::Check, order, LIMITS, stage_file, reference_file)
+}
+
+/// "The stage is read first, then the reference, then 10 to 15 follow in order. A
+/// word or index named is the least: least word, then least index."
+fn check_for(
+    call: Call,
+    order: WordOrder,
+    limits: Limits,
+    stage_file: &[u8],
+    reference_file: &[u8],
+) -> Verdict {
+    let pipeline = match read_commands(call, limits, stage_file) {
+        Ok(pipeline) => pipeline,
         Err((number, at)) => return [number, STAGE, at as u64, 0],
     };
+    let stage = &pipeline.raw;
     let reference = match read_reference_within(limits, reference_file) {
         Ok(reference) => reference,
         Err((number, at)) => return [number, REFERENCE, at as u64, 0],
@@ -682,9 +839,16 @@ pub fn check_in_order(
             reference.outputs.len() as u64,
         ];
     }
-    if let Some(gate) = least_gate_on_a_loop(&stage) {
+    if let Some(gate) = least_gate_on_a_loop(stage) {
         return [12, STAGE, gate as u64, 0];
     }
+    // 33, 34 and 35, "`at` the least register, in this order between 12 and 28".
+    let wiring = Wiring::of(&pipeline);
+    if let Some((number, register)) = wiring.refusal() {
+        return [number, STAGE, register as u64, 0];
+    }
+    // "From 13 on, and in all said of runs, a register counts as two wires."
+    let stage = wiring.wired();
     // 28, "a retired kind, between 12 and 13".
     if let Some(gate) = least_retired_gate(&stage) {
         return [28, STAGE, gate as u64, 0];

@@ -4,6 +4,7 @@
 pub mod catalogue;
 pub mod circuits;
 pub mod compare;
+pub mod compare_pipelines;
 pub mod compare_runs;
 pub mod draw;
 pub mod exchange;
@@ -19,6 +20,7 @@ pub mod next;
 pub mod run;
 pub mod suite;
 pub mod text;
+pub mod wiring;
 
 use std::path::PathBuf;
 

@@ -1,6 +1,6 @@
--- The twelve marked cases of the paper, the examples of its table, cases that show which fault is named, relaxed gates, retired kinds and gates that
--- never rise, computed from the definitions alone.
-use Prim.Native.Nat.{ℕ, zero, suc, _+_, _*_}
+-- The twelve marked cases of the paper, the examples of its table, cases that show which fault is named, relaxed gates, retired kinds, gates that
+-- never rise, and registers with their completion, computed from the definitions alone.
+use Prim.Native.Nat.{ℕ, zero, suc, _+_, _*_, _/_, _%_}
 use mathlib.Core.Path.{_≡_, refl}
 use mathlib.Core.List.{List, [], _∷_, _++_, map, flatMap}
 use Rattle.gates.specs.Cell as c
@@ -8,6 +8,9 @@ use Rattle.netlist.specs.Bytes as b
 use Rattle.netlist.specs.Commands as k
 use Rattle.netlist.specs.Reading as r
 use Rattle.verdict.specs.declared.Verdict.{Verdict}
+use Rattle.wiring_spec.specs.Parts as p
+use Rattle.wiring_spec.specs.Wiring as q
+use Rattle.wiring_spec.specs.Wires as x
 use Rattle.check_spec.specs.Cases as e
 use Rattle.check_spec.specs.Cases.{verdict}
 use Rattle.check_spec.specs.Lists as l
@@ -410,6 +413,93 @@ idle =
     case (1 ∷ 1 ∷ twoPins 2 0 1 (twoPins 1 1 2 (pair 0 3 (0 ∷ [])))) wireReference (verdict 32 1 0 0) ∷
     []
 
+-- ---- registers and completion
+
+abbrev u16 : ℕ → List ℕ → List ℕ
+u16 v rest = v % 256 ∷ v / 256 ∷ rest
+
+-- a register with its data rails and its Ki, and a C-element
+abbrev registered : ℕ → ℕ → ℕ → List ℕ → List ℕ
+registered a b ki rest = 4 ∷ u16 a (u16 b (u16 ki rest))
+
+abbrev completed : ℕ → ℕ → ℕ → ℕ → List ℕ → List ℕ
+completed a b c d rest = 5 ∷ u16 a (u16 b (u16 c (u16 d rest)))
+
+abbrev twoSignals : ℕ → List ℕ
+twoSignals i = 1 ∷ suc i ∷ 0x12 ∷ 0 ∷ 0 ∷ 0x12 ∷ i ∷ 0 ∷ 0 ∷ []
+
+-- one input with two registers in a row, another register or C-element, and the output of the second register
+abbrev inRow : (List ℕ → List ℕ) → List ℕ
+inRow more = 1 ∷ 1 ∷ registered 0 1 7 (registered 2 3 0xFFFE (more (pair 5 6 (0 ∷ []))))
+
+-- the whole case with a register behind its gates, whose Ki is given
+abbrev wholeThen : ℕ → List ℕ
+wholeThen ki = 1 ∷ 2 ∷ wholeOne (wholeZero (registered 5 4 ki (pair 6 7 (0 ∷ []))))
+
+-- two inputs, two registers each, and a C-element that is behind the Ki of the first
+abbrev twoRows : ℕ → ℕ → ℕ → ℕ → List ℕ
+twoRows a b c d =
+    1 ∷ 2 ∷ registered 0 1 16 (registered 2 3 15 (registered 4 5 0xFFFE (registered 7 8 0xFFFE (completed a b c d (pair 10 11 (pair 13 14 (0 ∷ [])))))))
+
+-- one input, a register, and three behind it
+abbrev threeBehind : List ℕ
+threeBehind =
+    1 ∷ 1 ∷ registered 0 1 15 (registered 2 3 0xFFFE (registered 2 3 0xFFFE (registered 2 3 0xFFFE
+    (completed 7 10 0xFFFF 0xFFFF (completed 14 13 0xFFFF 0xFFFF (pair 5 6 (pair 8 9 (pair 11 12 (0 ∷ [])))))))))
+
+pub pipelines : List Case
+pipelines =
+    -- a register counts as two wires, whose rails are not exchanged; one behind the whole case's gates
+    case (1 ∷ 1 ∷ registered 0 1 0xFFFE (pair 2 3 (0 ∷ []))) wireReference (verdict 0 0 0 0) ∷
+    case (inRow (λ rest. rest)) wireReference (verdict 0 0 0 0) ∷
+    case (1 ∷ 1 ∷ registered 1 0 0xFFFE (pair 2 3 (0 ∷ []))) wireReference (verdict 13 1 0 0) ∷
+    case (wholeThen 0xFFFE) andReference (verdict 0 0 0 0) ∷
+    -- a gate behind a register, and a gate command after that of the register that it feeds
+    case (1 ∷ 1 ∷ twoPins 1 3 3 (registered 0 1 0xFFFE (pair 2 4 (0 ∷ [])))) wireReference (verdict 0 0 0 0) ∷
+    case (1 ∷ 1 ∷ registered 2 1 0xFFFE (twoPins 1 0 0 (pair 3 4 (0 ∷ [])))) wireReference (verdict 0 0 0 0) ∷
+    -- 1, 5, 9: cut; pins A, B and D; FFFF and FFFE, a net that there is not, a Ko as data or as an output, a C-element as data
+    case (1 ∷ 1 ∷ 4 ∷ []) wireReference (verdict 1 1 3 0) ∷
+    case (inRow (completed 0xFFFF 4 0xFFFF 0xFFFF)) wireReference (verdict 5 1 17 0) ∷
+    case (inRow (completed 4 0xFFFF 4 0xFFFF)) wireReference (verdict 5 1 19 0) ∷
+    case (inRow (completed 4 7 0xFFFF 0xFFFE)) wireReference (verdict 5 1 23 0) ∷
+    case (inRow (completed 4 7 0xFFFE 0xFFFF)) wireReference (verdict 9 1 21 0) ∷
+    case (inRow (registered 0xFFFF 1 4)) wireReference (verdict 9 1 17 0) ∷
+    case (inRow (registered 0 1 0xFFFF)) wireReference (verdict 9 1 21 0) ∷
+    case (inRow (registered 0 1 11)) wireReference (verdict 9 1 21 0) ∷
+    case (inRow (registered 0 4 4)) wireReference (verdict 9 1 19 0) ∷
+    case (1 ∷ 1 ∷ registered 0 1 0xFFFE (pair 2 4 (0 ∷ []))) wireReference (verdict 9 1 12 0) ∷
+    case (1 ∷ 1 ∷ registered 0 5 0xFFFE (completed 4 4 0xFFFF 0xFFFF (pair 2 3 (0 ∷ [])))) wireReference (verdict 9 1 5 0) ∷
+    -- 33: a register of a ring; a C-element loop behind a Ki, and one behind none; levels, by the highest source
+    case (1 ∷ 1 ∷ registered 5 6 7 (registered 2 3 0xFFFE (pair 5 6 (0 ∷ [])))) wireReference (verdict 33 1 0 0) ∷
+    case (1 ∷ 1 ∷ registered 0 1 8 (registered 2 3 0xFFFE (completed 7 8 0xFFFF 0xFFFF (pair 5 6 (0 ∷ []))))) wireReference (verdict 33 1 0 0) ∷
+    case (inRow (completed 8 0 0xFFFF 0xFFFF)) wireReference (verdict 0 0 0 0) ∷
+    case (1 ∷ 1 ∷ registered 0 1 7 (registered 2 1 0xFFFE (pair 5 6 (0 ∷ [])))) wireReference (verdict 33 1 1 0) ∷
+    case (1 ∷ 1 ∷ registered 5 9 0xFFFE (registered 0 9 4 (registered 0 1 7 (pair 2 3 (0 ∷ []))))) wireReference (verdict 33 1 0 0) ∷
+    -- unequal levels that meet in outputs alone are allowed; 12 comes before 33, but follows gates only; and the ring comes before unequal levels
+    case (1 ∷ 1 ∷ registered 0 1 0xFFFE (pair 0 3 (0 ∷ []))) wireReference (verdict 0 0 0 0) ∷
+    case (1 ∷ 1 ∷ twoPins 1 2 0 (registered 3 4 0xFFFE (pair 3 4 (0 ∷ [])))) wireReference (verdict 12 1 0 0) ∷
+    case (1 ∷ 1 ∷ twoPins 1 3 0 (registered 2 1 0xFFFE (pair 3 4 (0 ∷ [])))) wireReference (verdict 33 1 0 0) ∷
+    case (1 ∷ 1 ∷ registered 0 1 7 (registered 2 1 10 (registered 11 12 13 (registered 8 9 0xFFFE (pair 11 12 (0 ∷ [])))))) wireReference (verdict 33 1 2 0) ∷
+    -- 34: one Ko of two, FFFE too early; it comes before 35 at an earlier register
+    case (1 ∷ 1 ∷ registered 0 1 7 (registered 2 3 0xFFFE (registered 2 3 0xFFFE (pair 5 6 (pair 8 9 (0 ∷ [])))))) (twoSignals 0) (verdict 34 1 0 0) ∷
+    case (1 ∷ 1 ∷ registered 0 1 0xFFFE (registered 2 3 0xFFFE (pair 5 6 (0 ∷ [])))) wireReference (verdict 34 1 0 0) ∷
+    case (1 ∷ 1 ∷ registered 0 1 0 (registered 0 1 0xFFFE (registered 5 6 0xFFFE (pair 8 9 (0 ∷ []))))) wireReference (verdict 34 1 1 0) ∷
+    -- 35: a register that reaches none and has a Ko of the next level, its own, or its own rail; a rail of an input behind a C-element
+    case (inRow (registered 0 1 7)) wireReference (verdict 35 1 2 0) ∷
+    case (inRow (registered 0 1 10)) wireReference (verdict 35 1 2 0) ∷
+    case (1 ∷ 1 ∷ registered 0 1 2 (pair 2 3 (0 ∷ []))) wireReference (verdict 35 1 0 0) ∷
+    case (1 ∷ 1 ∷ registered 0 1 8 (registered 2 3 0xFFFE (completed 7 0 0xFFFF 0xFFFF (pair 5 6 (0 ∷ []))))) wireReference (verdict 35 1 0 0) ∷
+    -- a tree of two C-elements over the Ko of three registers
+    case threeBehind (firstInput 1 3) (verdict 0 0 0 0) ∷
+    -- both registers of the next level may stand behind a Ki, one of them twice; one of the same level, at pin B or at D, may not
+    case (twoRows 12 15 12 0xFFFF) (twoSignals 1) (verdict 0 0 0 0) ∷
+    case (twoRows 12 9 0xFFFF 0xFFFF) (twoSignals 1) (verdict 35 1 0 0) ∷
+    case (twoRows 12 15 12 9) (twoSignals 1) (verdict 35 1 0 0) ∷
+    -- 28 comes after it
+    case (1 ∷ 1 ∷ onePin 0x18 1 (registered 0 2 0 (pair 3 4 (0 ∷ [])))) wireReference (verdict 35 1 0 0) ∷
+    case (1 ∷ 1 ∷ onePin 0x18 1 (registered 0 2 0xFFFE (pair 3 4 (0 ∷ [])))) wireReference (verdict 28 1 0 0) ∷
+    []
+
 abbrev judgedIn : WordOrder → List Case → List Verdict
 judgedIn order cases = map (λ (x : Case). verdictOn order (files (x .stage) (x .reference))) cases
 
@@ -464,17 +554,17 @@ rowExamples =
 
 pub many-gates : judged manyGates ≡ expected manyGates
 unfolding manyGates gates c.cells c.cellAt c.pinCount c.kindOf b.operand b.operands
-    k.whenFound k.ownCommands k.commandTable k.formIn k.pinsNeeded k.needed k.stray k.misfit k.misfitFrom k.takeGate k.takeCare k.takeSort
-    k.takeCommand k.nextAt
-    r.names k.roleOf k.used r.nameless r.namelessAt r.namelessFrom r.floorAfter r.noted r.finish r.onNext r.readFrom r.readFile
+    k.whenFound k.ownCommands k.commandTable k.formIn k.pinsNeeded k.needed k.pinsUsed k.stray k.misfit k.misfitFrom k.takeGate k.takeCare k.takeElement
+    k.takeSort k.takeCommand k.nextAt r.partNets r.carriesData
+    r.names k.roleOf k.used r.nameless r.namelessAt r.namelessFrom r.floorAfter r.countOf r.noted r.finish r.onNext r.readFrom r.readFile
     t.contentAt v.refusal e.first e.judge
 many-gates = refl
 
 pub many-operations : judged manyOperations ≡ expected manyOperations
 unfolding manyOperations wire inverters b.operand b.operands
-    k.whenFound k.ownCommands k.commandTable k.formIn k.pinsNeeded k.needed k.stray k.misfit k.misfitFrom k.takeGate k.takeCare k.takeSort
-    k.takeCommand k.nextAt
-    r.names k.roleOf k.used r.nameless r.namelessAt r.namelessFrom r.floorAfter r.noted r.finish r.onNext r.readFrom r.readFile
+    k.whenFound k.ownCommands k.commandTable k.formIn k.pinsNeeded k.needed k.pinsUsed k.stray k.misfit k.misfitFrom k.takeGate k.takeCare k.takeElement
+    k.takeSort k.takeCommand k.nextAt r.partNets r.carriesData
+    r.names k.roleOf k.used r.nameless r.namelessAt r.namelessFrom r.floorAfter r.countOf r.noted r.finish r.onNext r.readFrom r.readFile
     t.contentAt v.refusal e.first e.judge
 many-operations = refl
 
@@ -489,22 +579,26 @@ Computed =
     × (judged relaxed ≡ expected relaxed)
     × (judged retired ≡ expected retired)
     × (judged idle ≡ expected idle)
+    × (judged pipelines ≡ expected pipelines)
     × (map (λ (x : RowCase). settledRow (x .stage) (x .row)) rowExamples ≡ map (λ (x : RowCase). x .expected) rowExamples)
 
 computed : Computed
 unfolding twelve examples ordered refused care inFilesOrder earlyGates earlyOr orReference unobserved twoWires fallsEarly andNotReference staysHigh
-    relaxed retired idle rowExamples wire wireReference wholeStage andReference swapped notReference earlyAnd wires wireSignals
+    relaxed retired idle pipelines rowExamples wire wireReference wholeStage andReference swapped notReference earlyAnd wires wireSignals
     outputs firstInput inverters b.operand b.operands
-    k.whenFound k.ownCommands k.commandTable k.formIn k.pinsNeeded k.needed k.stray k.misfit k.misfitFrom k.takeGate k.takeCare k.takeSort
-    k.takeCommand k.nextAt
-    r.names k.roleOf k.used r.nameless r.namelessAt r.namelessFrom r.floorAfter r.noted r.finish r.onNext r.readFrom r.readFile
+    k.whenFound k.ownCommands k.commandTable k.formIn k.pinsNeeded k.needed k.pinsUsed k.stray k.misfit k.misfitFrom k.takeGate k.takeCare k.takeElement
+    k.takeSort k.takeCommand k.nextAt r.partNets r.carriesData
+    r.names k.roleOf k.used r.nameless r.namelessAt r.namelessFrom r.floorAfter r.countOf r.noted r.finish r.onNext r.readFrom r.readFile
     t.contentAt v.refusal e.first e.judge
     l.numbers l.select l.some l.every l.ofBits l.reaches e.sweep o.rounds o.risen o.fallen o.reachesItself
     w.caresFor w.spelled w.names w.words w.operate w.values w.answer
     h.wrong h.incomplete h.highAnd h.unobservable h.fallIncomplete h.fallUnobservable h.looped h.retired h.neverRises
-    h.idle h.checks h.rowChecks v.settledBytes v.rowAfter
+    h.idle h.checks h.rowChecks v.settledBytes v.rowAfter t.wired
+    p.registersOf p.registerCount p.dataOf p.kiOf p.partDrivers p.drivers p.driverOf p.allNets x.wireOf x.times x.resolve
+    q.throughGate q.opened q.isInput q.isRailOf q.dataFrom q.reaches q.fromInput q.sources q.reachesItself q.highest q.levelWithin q.level
+    q.isKoOf q.behind q.isLoop q.circular q.uneven q.missing q.foreign q.bars q.barred
     c.cells c.cellAt c.pinCount c.setExpression c.retiredCells c.among c.isRetired c.kindOf flatMap
-computed = (refl, refl, refl, refl, refl, refl, refl, refl, refl, refl)
+computed = (refl, refl, refl, refl, refl, refl, refl, refl, refl, refl, refl)
 
 pub twelve-cases : judged twelve ≡ expected twelve
 twelve-cases = computed .0
@@ -533,5 +627,8 @@ retired-cases = computed .7
 pub idle-cases : judged idle ≡ expected idle
 idle-cases = computed .8
 
+pub pipeline-cases : judged pipelines ≡ expected pipelines
+pipeline-cases = computed .9
+
 pub row-cases : map (λ (x : RowCase). settledRow (x .stage) (x .row)) rowExamples ≡ map (λ (x : RowCase). x .expected) rowExamples
-row-cases = computed .9
+row-cases = computed .10

@@ -43,7 +43,8 @@ use Rattle.check_spec.specs.Words.{IsWord, railsFor, caresFor, spelled, 
 use Rattle.check_spec.specs.Checks.{rest}
 use Rattle.check_spec.specs.Demands.{LoopFree}
 use Rattle.check_spec.specs.Loaded.{stageView, referenceView}
-use Rattle.check_spec.proofs.Loops.{some-in, some-out, risen-is, fallen-is}
+use Rattle.verdict.proofs.Steps.{some-in, some-out}
+use Rattle.check_spec.proofs.Loops.{risen-is, fallen-is}
 use Rattle.check_spec.proofs.Names.{same-bits}
 use Rattle.check_spec.proofs.OneWord.{inside}
 use Rattle.check_spec.proofs.View.{net-view}

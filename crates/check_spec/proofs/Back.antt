@@ -14,8 +14,11 @@ use Rattle.netlist.specs.Writing as items
 use Rattle.netlist.specs.Writing.{Item, gate, output, care, codedGate, pairOperands, stageItems, referenceItems, writeStage, writeReference}
 use Rattle.netlist.proofs.Lists.{map-back}
 use Rattle.netlist.proofs.Formed.{readable-formed}
+use Rattle.netlist.proofs.Stages as stages
 use Rattle.netlist.proofs.Stages.{known-again}
+use Rattle.netlist.proofs.References as references
 use Rattle.netlist.proofs.References.{no-care}
+use Rattle.wiring_spec.specs.Parts.{partAt}
 use Rattle.check_spec.specs.Content.{Content, contentAt, contentOf}
 use Rattle.check_spec.specs.Loaded.{fromStage, fromReference}
 use Rattle.check_spec.specs.Writing.{writeFile}
@@ -24,7 +27,7 @@ use Rattle.check_spec.proofs.Writing.{itemsOf, stage-bytes, reference-b
 module _ (most : Limits) (bytes : List ℕ) (p : Places) where
   pub stage-content : readFile file.Stage most bytes ≡ readable p → contentOf file.Stage most bytes ≡ fromStage (stageOf bytes p)
   unfolding contentAt stageOf operands
-  stage-content e = ap (contentAt file.Stage bytes) e ∙ (λ i. record { inputs = p .inputs; gates = sym gates i; outputs = outputs (p .outputs) i; care = p .care })
+  stage-content e = ap (contentAt file.Stage bytes) e ∙ (λ i. record { inputs = p .inputs; gates = sym gates i; outputs = outputs (p .outputs) i; care = p .care; parts = ap (map (partAt bytes)) (stages.no-parts most bytes p e) i })
     where
       gates : map codedGate (map (λ at. gateOf (codedAt file.Stage bytes at)) (p .gates)) ≡ map (codedAt file.Stage bytes) (p .gates)
       gates = ap (map codedGate) (sym (map-map gateOf (codedAt file.Stage bytes) (p .gates)))
@@ -43,6 +46,7 @@ module _ (most : Limits) (bytes : List ℕ) (p : Places) where
         gates = map (codedAt file.Reference bytes) (p .gates);
         outputs = sym (map-map (λ (v : ℕ). v ∷ []) (λ at. operand bytes (at + 1)) (p .outputs)) i;
         care = no-care most bytes p e i;
+        parts = ap (map (partAt bytes)) (references.no-parts most bytes p e) i;
       })
 
 -- ---- bytes

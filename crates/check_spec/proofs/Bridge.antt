@@ -37,7 +37,11 @@ use Rattle.verdict.proofs.Reaching.{reaches-sound, reaches-complete}
 use Rattle.verdict.proofs.Rising.{never-rises, rises-never}
 use Rattle.check_spec.specs.Cases.{verdict, accepted, case, Check, first, judge, sweep, unequal}
 use Rattle.check_spec.specs.Lists.{xor, numbers, every, bitOf, reaches}
-use Rattle.check_spec.specs.Content.{Content, Files, contentAt}
+use Rattle.wiring_spec.specs.Parts.{registerCount}
+use Rattle.wiring_spec.specs.Wiring.{circular, uneven, missing, barred}
+use Rattle.wiring_spec.specs.Wires.{resolve}
+use Rattle.wiring_spec.specs.Table.{wiringChecks}
+use Rattle.check_spec.specs.Content.{Content, pipelineOf, wired, Files, contentAt}
 use Rattle.check_spec.specs.Rows.{noGate, driver, cellIn, netOf, dataOf, allData, allNull, feeding, reachesItself}
 use Rattle.check_spec.specs.Words.{spelled, names, IsWord, answer}
 use Rattle.check_spec.specs.Checks.{rest, wrong, incomplete, highAnd, unobservable, fallIncomplete, fallUnobservable, looped, retiredGate, retired, swept, neverRises, idle, checks}
@@ -46,8 +50,10 @@ use Rattle.check_spec.specs.Demands.{Pass, LoopFree}
 use Rattle.check_spec.specs.Loaded.{pairOf, stageView, referenceView}
 use Rattle.check_spec.proofs.First.{first-pass, first-++}
 use Rattle.check_spec.proofs.OneWord.{CleanFall, hold-clean}
-use Rattle.check_spec.proofs.Laws.{Law, Laws, none, _&_, equal-passes, gates-passes, swept-passes}
-use Rattle.check_spec.proofs.Loops.{loop-found, found-loop, feeding-gate}
+use Rattle.check_spec.proofs.Laws.{Law, Laws, none, _&_, equal-passes, places-passes, gates-passes, swept-passes}
+use Rattle.verdict.proofs.Steps.{loop-found, found-loop}
+use Rattle.check_spec.proofs.Loops.{feeding-gate}
+use Rattle.check_spec.proofs.Wired.{wired-free}
 use Rattle.check_spec.proofs.Pairs.{all-data, all-null}
 use Rattle.check_spec.proofs.View.{stage-view, reference-view, net-view, rail-view}
 use Rattle.check_spec.proofs.Alike.{spelled-alike, names-alike, answer-alike, rest-alike, missing-alike, held-alike, but-alike, keeping-alike, word-in, in-word}
@@ -381,17 +387,33 @@ module _ (order : WordOrder) (c : Content) where
           }) in
           alike-passed (falls-alike alike) (swept-passes c order 20 1 (c .inputs) (fallIncomplete c) .1 (λ w i. clean w i .complete), (swept-passes c order 21 1 (length (c .gates)) (fallUnobservable c) .1 (λ w i. clean w i .observable), tt))
 
-    -- all of them, of a stage whose care words rise
-    pub checks-alike : Ascending (2 ^ c .inputs) 0 (c .care) → Alike (checks order c r) (found.checks order s q)
-    unfolding checks looped retired idle found.checks found.riseSweeps found.fallSweeps found.finding
-    checks-alike care =
-        also (unequal-is 10 (c .inputs) (r .inputs) (c .inputs) (r .inputs) refl refl) λ n10.
-        also (unequal-is 11 (length (c .outputs)) (length (r .outputs)) (length (s .outputs)) (length (q .outputs)) outputs-long signals-long) λ n11.
-        also (placed-is 12 1 (length (c .gates)) (length (s .gates)) (λ g. reachesItself (netOf c) (2 * c .inputs + g))
-        (loops.reachesItself (c .inputs) (s .gates)) gates-long (loop-alike c)) λ n12.
+    -- those that follow the wiring, of a stage whose care words rise
+    later-alike : Ascending (2 ^ c .inputs) 0 (c .care) → LoopFree (netOf c) → length (c .outputs) ≤ length (r .outputs)
+        → Alike (retired c ∷ swept order c 13 1 (length (c .outputs)) (wrong c r) ∷ swept order c 14 1 (c .inputs) (incomplete c) ∷ swept order c 15 1 (length (c .gates)) (unobservable c) ∷
+        swept order c 20 1 (c .inputs) (fallIncomplete c) ∷ swept order c 21 1 (length (c .gates)) (fallUnobservable c) ∷ idle c ∷ []) (found.retired s ∷ found.wordChecks order s q)
+    unfolding retired idle found.riseSweeps found.fallSweeps found.finding
+    later-alike care free few =
         also (placed-is 28 1 (length (c .gates)) (length (s .gates)) (retiredGate c) (retire.retiredAt (s .gates)) gates-long (retired-alike c)) λ n28.
-        let o = equal-passes 11 0 (length (c .outputs)) (length (r .outputs)) (length (c .outputs)) (length (r .outputs)) .0 n11 in
-        let free = gates-passes c 12 (reachesItself (netOf c)) .0 n12 in
-        rises-alike free (omega arith) (falls-alike free
+        rises-alike free few (falls-alike free
         (also (placed-is 32 1 (length (c .gates)) (length (s .gates)) (λ g. neverRises c (2 * c .inputs + g)) (found.neverRises s) gates-long
         (λ g h. never-alike c free care g)) λ n32. alike))
+
+-- all of them: of a stage as reading gives it, and of the same with its registers as wires
+pub checks-alike : (order : WordOrder) (c r : Content) → Ascending (2 ^ c .inputs) 0 (c .care)
+    → Alike (checks order c r) (found.checks order (stageView c) (wiringChecks (pipelineOf c)) (stageView (wired c)) (referenceView r))
+unfolding checks looped found.checks wiringChecks found.finding wired
+checks-alike order c r care =
+    let p = pipelineOf c in
+    let m = registerCount p in
+    let long = length-map (c .outputs) (map (resolve p)) in
+    also (unequal-is 10 (c .inputs) (r .inputs) (c .inputs) (r .inputs) refl refl) λ n10.
+    also (unequal-is 11 (length (c .outputs)) (length (r .outputs)) (length (stageView c .outputs)) (length (referenceView r .outputs)) (outputs-long order c r) (signals-long order c r)) λ n11.
+    also (placed-is 12 1 (length (c .gates)) (length (stageView c .gates)) (λ g. reachesItself (netOf c) (2 * c .inputs + g))
+    (loops.reachesItself (c .inputs) (stageView c .gates)) (gates-long order c r) (loop-alike c)) λ n12.
+    also (placed-is 33 1 m m (circular p) (circular p) refl (λ i h. refl)) λ n33.
+    also (placed-is 33 1 m m (uneven p) (uneven p) refl (λ i h. refl)) λ n33b.
+    also (placed-is 34 1 m m (missing p) (missing p) refl (λ i h. refl)) λ n34.
+    also (placed-is 35 1 m m (barred p) (barred p) refl (λ i h. refl)) λ n35.
+    let o = equal-passes 11 0 (length (c .outputs)) (length (r .outputs)) (length (c .outputs)) (length (r .outputs)) .0 n11 in
+    let free = wired-free c (gates-passes c 12 (reachesItself (netOf c)) .0 n12) (places-passes 33 1 m (circular p) .0 n33) in
+    later-alike order (wired c) r care free (omega arith)

@@ -1,16 +1,17 @@
--- Contents that a file can hold: what a readable file holds is one, and one that is written reads as itself.
+-- Contents without registers that a file can hold: what a readable file holds is one, and one that is written reads as itself.
 -- Assumes nothing.
-use Prim.Native.Nat.{ℕ, suc, _+_, _*_, _^_, _≤_, _<_}
+use Prim.Native.Nat.{ℕ, suc, _+_, _-_, _*_, _^_, _≤_, _<_}
 use native.Mathlib.Omega.{arith}
 use mathlib.Core.Path.{_≡_, refl, sym, ap, _∙_, subst}
-use mathlib.Core.Bool.{Bool, true, false}
-use mathlib.Core.Logic.{_⊎_, inl, inr}
+use mathlib.Core.Bool.{Bool, true, false, _||_}
+use mathlib.Core.Logic.{_⊎_, inl, inr, ⊎-elim}
 use mathlib.Core.List.{List, [], _∷_, _++_, map}
-use lib.ListN.{length, length-map}
+use lib.ListN.{length, getD, length-map}
+use lib.Dec.{ltb}
 use lib.Pow.{pow-mono}
 use borrow.Author.Tests.{ltb-true}
 use Rattle.gates.specs.Cell.{kindByte}
-use Rattle.runs.proofs.Test.{clash}
+use Rattle.runs.proofs.Test.{clash, or-cases}
 use Rattle.netlist.specs.declared.File.{File}
 use Rattle.netlist.specs.declared.File.the-variants.{Stage, Pipeline, Reference}
 use Rattle.netlist.specs.declared.Sort.the-variants as sort
@@ -29,11 +30,12 @@ use Rattle.netlist.proofs.ReadBack.{read-write}
 use Rattle.netlist.proofs.Readable.{readable-read, output-names}
 use Rattle.netlist.proofs.Formed.{GatesFormed, OutputFormed, readable-formed}
 use Rattle.netlist.proofs.References.{no-care}
+use Rattle.wiring_spec.specs.Parts.{partAt}
 use Rattle.check_spec.specs.Content.{Content, contentAt, contentOf, railsOfOutput}
 use Rattle.check_spec.specs.Verdicts.{refusal, reading}
 use Rattle.check_spec.specs.Demands.{Pass}
 use Rattle.check_spec.specs.Writing.{writeFile}
-use Rattle.check_spec.proofs.Writing.{itemsOf, gates-of, outputs-of, cares-of, wired, stage-bytes, pipeline-bytes, reference-bytes, content-write}
+use Rattle.check_spec.proofs.Writing.{itemsOf, gates-of, outputs-of, cares-of, parts-of, map-none, wired, stage-bytes, pipeline-bytes, reference-bytes, content-write}
 
 -- a file whose reading passes was read
 pub read-of : (f : File) (most : Limits) (bytes : List ℕ) → Pass (reading f most bytes) → (p : Places) × (readFile f most bytes ≡ readable p)
@@ -44,9 +46,9 @@ read-of f most bytes = go (readFile f most bytes)
     go (refused number at) h = absurd (clash refl (h .0))
     go (readable p) h = (p, refl)
 
--- what there is to name in a content
+-- what there is to name in a content without registers
 abbrev pub netsOf : Content → Nets
-netsOf c = record { inputs = c .inputs; gates = length (c .gates) }
+netsOf c = record { inputs = c .inputs; gates = length (c .gates); parts = [] }
 
 -- Counts within limits; codes that are known, whose operands are complete and name something; and rising care words, where a file has such.
 pub record Formed (f : File) (most : Limits) (c : Content) : Type 0 where
@@ -57,13 +59,16 @@ pub record Formed (f : File) (most : Limits) (c : Content) : Type 0 where
   pub outputs : All (OutputFormed f (netsOf c)) (c .outputs)
   pub care-in : Ascending (2 ^ c .inputs) 0 (c .care)
   pub care-stage : (c .care ≡ []) ⊎ Has f sort.Care
+  pub plain : c .parts ≡ []
 
-pub read-formed : (f : File) (most : Limits) (bytes : List ℕ) → Pass (reading f most bytes) → Formed f most (contentOf f most bytes)
+pub read-formed : (f : File) (most : Limits) (bytes : List ℕ) → Pass (reading f most bytes) → contentOf f most bytes .parts ≡ [] → Formed f most (contentOf f most bytes)
 unfolding contentAt
-read-formed f most bytes h =
+read-formed f most bytes h none =
     let p = read-of f most bytes h .0 in
     let e = read-of f most bytes h .1 in
     let r = readable-read f most bytes p e in
+    let bare : p .parts ≡ [] = map-none (partAt bytes) (p .parts) (sym (ap (λ (x : Reading). contentAt f bytes x .parts) e) ∙ none) in
+    let N : read.netsOf p ≡ record { inputs = p .inputs; gates = length (p .gates); parts = [] } = λ i. record { inputs = p .inputs; gates = length (p .gates); parts = read.sortsOf (bare i) } in
     let formed = readable-formed f most bytes p e in
     let g : length (map (codedAt f bytes) (p .gates)) ≡ length (p .gates) = length-map (p .gates) (codedAt f bytes) in
     let o : length (map (λ at. operands bytes (at + 1) (railsOfOutput f)) (p .outputs)) ≡ length (p .outputs) = length-map (p .outputs) (λ at. operands bytes (at + 1) (railsOfOutput f)) in
@@ -71,10 +76,11 @@ read-formed f most bytes h =
       inputs-in = r .inputs-in;
       gates-in = rw g (r .gates-in);
       outputs-in = rw o (r .outputs-in);
-      gates = rw g (formed .0);
-      outputs = rw g (outs (read.netsOf p) (p .outputs) (formed .1));
+      gates = rw g (rw N at (formed .0));
+      outputs = rw g (outs _ (p .outputs) (rw N at (formed .1)));
       care-in = r .care-in;
       care-stage = cares f p e;
+      plain = ap (map (partAt bytes)) bare;
     })
   where
     outs : (N : Nets) (l : List ℕ) → All (OutputFormed f N) (map (wiredAt f bytes) l) → All (OutputFormed f N) (map (λ at. operands bytes (at + 1) (railsOfOutput f)) l)
@@ -107,12 +113,15 @@ known-byte Pipeline code h = known-kind code h
 known-byte Reference code h = omega (arith, operation-needs code .1 h)
 
 -- what a gate or an output may name is below the number of nets
-few-names : (f : File) (N : Nets) (k i v : ℕ) → k ≤ N .gates →
+few-names : (f : File) (N : Nets) → N .parts ≡ [] → (k i v : ℕ) → k ≤ N .gates →
     (asked f sort.Gate N k i v ≡ true → v < 2 * N .inputs + N .gates) × (asked f sort.Output N k i v ≡ true → v < 2 * N .inputs + N .gates)
-unfolding names roleOf
-few-names Stage N k i v h = (ltb-true v (2 * N .inputs + N .gates), ltb-true v (2 * N .inputs + N .gates))
-few-names Pipeline N k i v h = (ltb-true v (2 * N .inputs + N .gates), ltb-true v (2 * N .inputs + N .gates))
-few-names Reference N k i v h = ((λ e. omega (arith, ltb-true v (N .inputs + k) e)), λ e. omega (arith, ltb-true v (N .inputs + N .gates) e))
+unfolding names roleOf read.carriesData read.partNets
+few-names Stage N none k i v h = (ltb-true v (2 * N .inputs + N .gates), ltb-true v (2 * N .inputs + N .gates))
+few-names Pipeline N none k i v h = (below, below)
+  where
+    below : (ltb v (2 * N .inputs + N .gates) || getD (read.partNets (N .parts)) (v - (2 * N .inputs + N .gates)) false) ≡ true → v < 2 * N .inputs + N .gates
+    below e = ⊎-elim (ltb-true v (2 * N .inputs + N .gates)) (λ q. absurd (clash (rw none at q) refl)) (or-cases (ltb v (2 * N .inputs + N .gates)) _ e)
+few-names Reference N none k i v h = ((λ e. omega (arith, ltb-true v (N .inputs + k) e)), λ e. omega (arith, ltb-true v (N .inputs + N .gates) e))
 
 care-named : (f : File) (N : Nets) (w : ℕ) → asked f sort.Care N 0 0 w ≡ true
 unfolding names roleOf
@@ -134,7 +143,7 @@ module _ (f : File) (most : Limits) (c : Content) (small : Small most) (h : Form
     record {
       has = has-output f;
       whole = a .0 .whole;
-      u16s = same-asked (asked f sort.Output N (N .gates)) (λ v. v < 65536) (λ i v b. omega (arith, inside, few-names f N (N .gates) i v (omega arith) .1 b)) 0 vs (a .0 .named);
+      u16s = same-asked (asked f sort.Output N (N .gates)) (λ v. v < 65536) (λ i v b. omega (arith, inside, few-names f N refl (N .gates) i v (omega arith) .1 b)) 0 vs (a .0 .named);
       named = rw (output-names f N k) at (a .0 .named);
     },
     outputs-fit k l vss (a .1),
@@ -143,7 +152,7 @@ module _ (f : File) (most : Limits) (c : Content) (small : Small most) (h : Form
   gates-fit : (k : ℕ) (cs : List Coded) → k + length cs ≡ N .gates → GatesFormed f N k cs → ItemsFit f N k (map gate cs ++ map output (c .outputs))
   gates-fit k [] l a = outputs-fit k (omega arith) (c .outputs) (h .outputs)
   gates-fit k (x ∷ cs) l a =
-      let below : (m : ℕ) → absent ≤ m → All (λ v. v < m) (x .operands) = λ m b. same-asked (asked f sort.Gate N k) (λ v. v < m) (λ i v d. omega (arith, inside, few-names f N k i v (omega arith) .0 d)) 0 (x .operands) (a .0 .named) in (
+      let below : (m : ℕ) → absent ≤ m → All (λ v. v < m) (x .operands) = λ m b. same-asked (asked f sort.Gate N k) (λ v. v < m) (λ i v d. omega (arith, inside, few-names f N refl k i v (omega arith) .0 d)) 0 (x .operands) (a .0 .named) in (
         record {
           has = has-gate f;
           whole = (known-byte f (x .code) (a .0 .known), a .0 .known, a .0 .whole, below absent (omega arith));
@@ -163,13 +172,16 @@ module _ (f : File) (most : Limits) (c : Content) (small : Small most) (h : Form
   )
 
   formed-fits : FileFits f most n (itemsOf c)
+  unfolding read.countOf
   formed-fits = record {
     inputs-in = h .inputs-in;
     inputs-byte = omega (arith, h .inputs-in, small .words);
     gates-in = rw (gates-of c) (h .gates-in);
     outputs-in = rw (outputs-of c) (h .outputs-in);
     care-in = rw (cares-of c) (h .care-in);
-    items-fit = rw (gates-of c) (cares-fit 0 (c .care) (map gate (c .gates) ++ map output (c .outputs)) (h .care-in) (h .care-stage) (gates-fit 0 (c .gates) (omega arith) (h .gates)));
+    registers-in = rw (parts-of c) (omega arith);
+    elements-in = rw (parts-of c) (omega arith);
+    items-fit = rw (gates-of c, parts-of c) (cares-fit 0 (c .care) (map gate (c .gates) ++ map output (c .outputs)) (h .care-in) (h .care-stage) (gates-fit 0 (c .gates) (omega arith) (h .gates)));
   }
 
   bytes-are : (f : File) (c : Content) → (c .care ≡ []) ⊎ Has f sort.Care → writeFile f c ≡ items.writeFile f (c .inputs) (itemsOf c)
@@ -181,4 +193,4 @@ module _ (f : File) (most : Limits) (c : Content) (small : Small most) (h : Form
   -- written, it is read, and read as itself
   pub written-reads : Pass (reading f most (writeFile f c)) × (contentOf f most (writeFile f c) ≡ c)
   unfolding refusal
-  written-reads = rw (bytes-are f c (h .care-stage)) (rw (read-write f most n (itemsOf c) formed-fits) tt, content-write f most c formed-fits)
+  written-reads = rw (bytes-are f c (h .care-stage)) (rw (read-write f most n (itemsOf c) formed-fits) tt, content-write f most c (h .plain) formed-fits)

@@ -1,6 +1,7 @@
 pub mod First
 pub mod Settling
 pub mod Loops
+pub mod Wired
 pub mod Pairs
 pub mod Names
 pub mod OneWord

@@ -71,7 +71,7 @@ module _ (c : Content) (row : List ℕ) where
   row-laws =
       gates-law c 12 (reachesItself (netOf c)) (λ h. h .loop-free) (λ g q. omega arith)
       & equal-law 16 3 (length row) 0 (length row) (nets (netOf c)) (λ h. h .long) (λ q. omega arith)
-      & places-law 17 3 (c .inputs) (illegal row) (λ h. h .legal) (λ i q. omega arith)
+      & places-law 17 3 (c .inputs) (illegal row) (λ h. h .legal) (λ i l e q. omega arith)
       & none
 
   pub row-order : numbersOf row-laws ≡ 12 ∷ 16 ∷ 17 ∷ []

@@ -1,13 +1,13 @@
--- Two files in which the checks 10 to 21 find nothing, whatever the order of words: what an accepted verdict rests on, and what joined and made files are
+-- Two files in which the checks 10 to 21 and 33 to 35 find nothing, whatever the order of words: what an accepted verdict rests on, and what joined and made files are
 -- built from. 32 comes after all of these: what is sound is accepted, unless a gate never rises.
 -- Assumes nothing.
 use Prim.Native.Nat.{ℕ, _+_, _*_, _≤_, _<_}
 use native.Mathlib.Omega.{arith}
 use mathlib.Core.Path.{_≡_, refl, sym, ap, _∙_, subst, subst₂}
 use mathlib.Core.Bool.{Bool, true, false}
-use mathlib.Core.Logic.{_⊎_, inl, inr}
+use mathlib.Core.Logic.{inl, inr}
 use mathlib.Core.List.{List, [], _∷_, map, flatMap, _++_}
-use lib.ListN.{length}
+use lib.ListN.{length, length-map}
 use lib.Dec.{eqb}
 use Rattle.gates.specs.Cell.{isRetired}
 use Rattle.runs.specs.Net.{IsGate}
@@ -26,26 +26,46 @@ use Rattle.verdict.specs.declared.WordOrder.{WordOrder}
 use Rattle.verdict.proofs.Refusals.{InTable, refused-number}
 use Rattle.check_spec.specs.Cases.{verdict, accepted, case, first, judge, sweep}
 use Rattle.check_spec.specs.Lists.{some, numbers, bitOf}
-use Rattle.check_spec.specs.Content.{Content, Files, stageIn, referenceIn}
+use Rattle.wiring_spec.specs.Parts.{Pipeline, registerCount}
+use Rattle.wiring_spec.specs.Wiring.{circular, uneven, missing, barred}
+use Rattle.wiring_spec.specs.Wires.{resolve}
+use Rattle.wiring_spec.specs.Passing.{Passes, Nowhere, FindNothing}
+use Rattle.wiring_spec.proofs.Passing.{passes-exactly}
+use Rattle.wiring_spec.proofs.Means.{passes-none}
+use Rattle.check_spec.specs.Content.{Content, wired, Files, rawIn, stageIn, referenceIn}
 use Rattle.check_spec.specs.Rows.{driver, cellIn, netOf, reachesItself}
 use Rattle.check_spec.specs.Words.{railsFor, spelled, IsWord, answer}
-use Rattle.check_spec.specs.Checks.{wrong, incomplete, unobservable, fallIncomplete, fallUnobservable, looped, retired, swept, neverRises, idle, checks}
+use Rattle.check_spec.specs.Checks.{wrong, incomplete, unobservable, fallIncomplete, fallUnobservable, looped, atRegisters, retired, swept, neverRises, idle, checks}
 use Rattle.check_spec.specs.Verdicts.{refusal, reading, verdictOn}
-use Rattle.check_spec.specs.Demands.{BothRead, LoopFree, answerTo, Rises, Kept, Broken, Idle, AcceptedUnlessIdle}
+use Rattle.check_spec.specs.Demands.{BothRead, LoopFree, wiringIn, answerTo, Rises, Kept, Broken, Idle, AcceptedUnlessIdle}
 use Rattle.check_spec.proofs.First.{Each, Placed, places-say}
 use Rattle.check_spec.proofs.Names.{named-below, named-word}
 use Rattle.check_spec.proofs.OneWord.{CleanRise, CleanFall, word-exactly}
 use Rattle.check_spec.proofs.Shown.{word-kept, wrong-shown, incomplete-shown, unobservable-shown, fall-incomplete-shown, fall-unobservable-shown}
 use Rattle.check_spec.proofs.Rising.{never-low, low-rising, low-falling, rises, rises-not}
-use Rattle.check_spec.proofs.Laws.{Law, Laws, none, _&_, AllBefore, all-before, said, before, judge-later, judge-pass, judge-from, whole-accepted, equal-law, gates-law, swept-law}
+use Rattle.check_spec.proofs.Wired.{wired-free, wired-none}
+use Rattle.check_spec.proofs.Laws.{Law, Laws, none, _&_, AllBefore, all-before, said, each-said, before, judge-later, judge-pass, judge-from, whole-accepted, equal-law, places-law, gates-law, swept-law}
 
 pub record Sound (f : Files) : Type 0 where
   pub read : BothRead f
-  pub inputs : stageIn f .inputs ≡ referenceIn f .inputs
-  pub outputs : length (stageIn f .outputs) ≡ length (referenceIn f .outputs)
-  pub free : LoopFree (netOf (stageIn f))
+  pub inputs : rawIn f .inputs ≡ referenceIn f .inputs
+  pub outputs : length (rawIn f .outputs) ≡ length (referenceIn f .outputs)
+  pub raw-free : LoopFree (netOf (rawIn f))
+  pub wiring : Passes (wiringIn f)
   pub cast : (net : ℕ) → IsGate (netOf (stageIn f)) net → isRetired (cellIn (driver (stageIn f) net)) ≡ false
   pub conforms : (w : ℕ) → IsWord (stageIn f) w → Conforms (netOf (stageIn f)) (railsFor w) (answerTo f w)
+
+-- the stage with its registers as wires has as many inputs and outputs, and no loop
+pub sound-inputs : {f : Files} → Sound f → stageIn f .inputs ≡ referenceIn f .inputs
+unfolding wired
+sound-inputs h = h .inputs
+
+pub sound-outputs : {f : Files} → Sound f → length (stageIn f .outputs) ≡ length (referenceIn f .outputs)
+unfolding wired
+sound-outputs {f} h = length-map (rawIn f .outputs) (map (resolve (wiringIn f))) ∙ h .outputs
+
+pub sound-free : {f : Files} → Sound f → LoopFree (netOf (stageIn f))
+sound-free {f} h = wired-free (rawIn f) (h .raw-free) (passes-exactly (wiringIn f) .0 (h .wiring) .circular)
 
 -- every gate rises in some word of the stage
 abbrev pub AllRise : Files → Type 0
@@ -69,7 +89,17 @@ reading-number other h f most bytes = go (readFile f most bytes) refl
 abbrev pub Ran : ℕ → Type 0
 Ran n = some (eqb n) (13 ∷ 14 ∷ 15 ∷ 20 ∷ 21 ∷ []) ≡ true
 
+-- and of which it speaks as wiring
+abbrev pub Wired : ℕ → Type 0
+Wired n = some (eqb n) (33 ∷ 34 ∷ 35 ∷ []) ≡ true
+
 module _ (f : Files) where
+  abbrev raw : Content
+  raw = rawIn f
+
+  abbrev p : Pipeline
+  p = wiringIn f
+
   abbrev s : Content
   s = stageIn f
 
@@ -78,7 +108,7 @@ module _ (f : Files) where
 
   -- in a word nothing is found
   pub sound-clean : Sound f → (w : ℕ) → IsWord s w → CleanRise s r w × CleanFall s w
-  sound-clean h w i = word-exactly s r (h .free) w .1 (h .conforms w i)
+  sound-clean h w i = word-exactly s r (sound-free h) w .1 (h .conforms w i)
 
   -- ---- the checks by their numbers
 
@@ -104,13 +134,18 @@ module _ (f : Files) where
       ]
 
   module _ (order : WordOrder) where
-    -- a refusal names one of the two files or none; and what demand 3 says of it
+    -- a refusal names one of the two files or none; and what demand 3 says of it as broken
     abbrev pub Claim : Verdict → Type 0
     Claim v = (v .file ≤ 2) × (LoopFree (netOf s) → Ran (v .number) → Broken f (spelled order (s .inputs) (v .word)) v)
 
     -- it says nothing of the other numbers
     pub silent : (n file at word : ℕ) → file ≤ 2 → some (eqb n) (13 ∷ 14 ∷ 15 ∷ 20 ∷ 21 ∷ []) ≡ false → Claim (verdict n file at word)
     silent n file at word few h = (few, λ free ran. absurd (clash ran h))
+
+    -- a check of the registers
+    pub wiring-law : (n : ℕ) (fails : Pipeline → ℕ → Bool) → some (eqb n) (13 ∷ 14 ∷ 15 ∷ 20 ∷ 21 ∷ []) ≡ false → (FindNothing p → Nowhere p (fails p))
+        → Law (Faultless f) Claim n (Nowhere p (fails p)) (atRegisters n fails raw)
+    wiring-law n fails h nowhere = places-law n 1 (registerCount p) (fails p) (λ w. nowhere (passes-exactly p .0 (w .0 .wiring))) (λ k l e. silent n 1 k 0 (omega arith) h)
 
     -- a check of the words, which a run shows to be broken where it fails
     pub run-law : (n m : ℕ) (fails : ℕ → ℕ → Bool) → ((w : ℕ) → CleanRise s r w × CleanFall s w → (i : ℕ) → i < m → fails w i ≡ false)
@@ -133,33 +168,37 @@ module _ (f : Files) where
           },
     ))
 
-    unfoldable pub laws : Laws (Faultless f) Claim (checks order s r)
+    unfoldable pub laws : Laws (Faultless f) Claim (checks order raw r)
     unfolding checks looped retired idle some
     laws =
-        equal-law 10 0 (s .inputs) (r .inputs) (s .inputs) (r .inputs) (λ h. h .0 .inputs) (silent 10 0 _ _ (omega arith) refl)
-        & equal-law 11 0 (length (s .outputs)) (length (r .outputs)) (length (s .outputs)) (length (r .outputs)) (λ h. h .0 .outputs) (silent 11 0 _ _ (omega arith) refl)
-        & gates-law s 12 (reachesItself (netOf s)) (λ h. h .0 .free) (λ g. silent 12 1 g 0 (omega arith) refl)
+        equal-law 10 0 (raw .inputs) (r .inputs) (raw .inputs) (r .inputs) (λ h. h .0 .inputs) (silent 10 0 _ _ (omega arith) refl)
+        & equal-law 11 0 (length (raw .outputs)) (length (r .outputs)) (length (raw .outputs)) (length (r .outputs)) (λ h. h .0 .outputs) (silent 11 0 _ _ (omega arith) refl)
+        & gates-law raw 12 (reachesItself (netOf raw)) (λ h. h .0 .raw-free) (λ g. silent 12 1 g 0 (omega arith) refl)
+        & wiring-law 33 circular refl (λ n. n .circular)
+        & wiring-law 33 uneven refl (λ n. n .uneven)
+        & wiring-law 34 missing refl (λ n. n .missing)
+        & wiring-law 35 barred refl (λ n. n .barred)
         & gates-law s 28 (λ net. isRetired (cellIn (driver s net))) (λ h. h .0 .cast) (λ g. silent 28 1 g 0 (omega arith) refl)
         & run-law 13 (length (s .outputs)) (wrong s r) (λ w c. c .0 .right) (wrong-shown s r)
         & run-law 14 (s .inputs) (incomplete s) (λ w c. c .0 .complete) (incomplete-shown s r)
         & run-law 15 (length (s .gates)) (unobservable s) (λ w c. c .0 .observable) (unobservable-shown s r)
         & run-law 20 (s .inputs) (fallIncomplete s) (λ w c. c .1 .complete) (fall-incomplete-shown s r)
         & run-law 21 (length (s .gates)) (fallUnobservable s) (λ w c. c .1 .observable) (fall-unobservable-shown s r)
-        & gates-law s 32 (neverRises s) (λ h net i. rises-not f (h .0 .free) net (h .1 net i)) (λ g. silent 32 1 g 0 (omega arith) refl)
+        & gates-law s 32 (neverRises s) (λ h net i. rises-not f (sound-free (h .0)) net (h .1 net i)) (λ g. silent 32 1 g 0 (omega arith) refl)
         & none
 
     -- a verdict of a number that is not one of reading: both files read, and it is that of the checks
-    pub past-reading : (n : ℕ) → ¬ (InTable n) → verdictOn order f .number ≡ n → BothRead f × (verdictOn order f ≡ judge (checks order s r))
+    pub past-reading : (n : ℕ) → ¬ (InTable n) → verdictOn order f .number ≡ n → BothRead f × (verdictOn order f ≡ judge (checks order raw r))
     past-reading n h e =
-        let a = judge-later n _ (reading Reference (f .referenceMost) (f .reference) ∷ checks order s r) (reading-number n h (stageFile (f .registers)) (f .stageMost) (f .stage)) e in
-        let b = judge-later n _ (checks order s r) (reading-number n h Reference (f .referenceMost) (f .reference)) (ap (λ (v : Verdict). v .number) (sym (a .1)) ∙ e) in
+        let a = judge-later n _ (reading Reference (f .referenceMost) (f .reference) ∷ checks order raw r) (reading-number n h (stageFile (f .registers)) (f .stageMost) (f .stage)) e in
+        let b = judge-later n _ (checks order raw r) (reading-number n h Reference (f .referenceMost) (f .reference)) (ap (λ (v : Verdict). v .number) (sym (a .1)) ∙ e) in
         ((a .0, b .0), a .1 ∙ b .1)
 
-    pub reads-past : BothRead f → verdictOn order f ≡ judge (checks order s r)
+    pub reads-past : BothRead f → verdictOn order f ≡ judge (checks order raw r)
     reads-past h = judge-pass (reading (stageFile (f .registers)) (f .stageMost) (f .stage)) _ (h .0) ∙ judge-pass (reading Reference (f .referenceMost) (f .reference)) _ (h .1)
 
 pub sound-kept : {f : Files} → Sound f → (w : ℕ) → IsWord (stageIn f) w → Kept f w
-sound-kept {f} h w i = let k = sound-clean f h w i in word-kept f (h .free) w (k .0) (k .1)
+sound-kept {f} h w i = let k = sound-clean f h w i in word-kept f (sound-free h) w (k .0) (k .1)
 
 -- ---- acceptance
 
@@ -176,18 +215,21 @@ module _ (order : WordOrder) (f : Files) where
   unfolding laws
   sound-before h =
       let c = sound-clean f h in
-      (h .inputs, (h .outputs, (h .free, (h .cast, (λ w i. c w i .0 .right, (λ w i. c w i .0 .complete, (λ w i. c w i .0 .observable, (λ w i. c w i .1 .complete, (λ w i. c w i .1 .observable, tt)))))))))
+      let n = passes-exactly (wiringIn f) .0 (h .wiring) in
+      (h .inputs, (h .outputs, (h .raw-free, (n .circular, (n .uneven, (n .missing, (n .barred, (h .cast, (λ w i. c w i .0 .right, (λ w i. c w i .0 .complete, (λ w i. c w i .0 .observable, (λ w i. c w i .1 .complete, (λ w i. c w i .1 .observable, tt)))))))))))))
 
   before-sound : BothRead f → AllBefore 32 (laws f order) → Sound f
   unfolding laws
   before-sound read a =
       let ls = laws f order in
-      let free = said 32 12 ls a in
+      let levels = each-said 32 33 ls a in
+      let free = wired-free (rawIn f) (said 32 12 ls a) (levels .0) in
       record {
         read = read;
         inputs = said 32 10 ls a;
         outputs = said 32 11 ls a;
-        free = free;
+        raw-free = said 32 12 ls a;
+        wiring = passes-exactly (wiringIn f) .1 (record { circular = levels .0; uneven = levels .1 .0; missing = said 32 34 ls a; barred = said 32 35 ls a });
         cast = said 32 28 ls a;
         conforms = λ w i. word-exactly (stageIn f) (referenceIn f) free w .0 (
           record { right = said 32 13 ls a w i; complete = said 32 14 ls a w i; observable = said 32 15 ls a w i },
@@ -214,9 +256,9 @@ module _ (order : WordOrder) (f : Files) where
           inr (subst (Idle f) (sym (e ∙ is)) (record {
             is = refl;
             gate = omega (arith, l);
-            least = λ k d. rises f (h .free) (2 * stageIn f .inputs + k) (less k (omega arith) d);
-            rise-low = λ w i. low-rising (stageIn f) (h .free) w net (never-low (stageIn f) net t w i);
-            fall-low = λ w i. low-falling (stageIn f) (h .free) w net (never-low (stageIn f) net t w i);
+            least = λ k d. rises f (sound-free h) (2 * stageIn f .inputs + k) (less k (omega arith) d);
+            rise-low = λ w i. low-rising (stageIn f) (sound-free h) w net (never-low (stageIn f) net t w i);
+            fall-low = λ w i. low-falling (stageIn f) (sound-free h) w net (never-low (stageIn f) net t w i);
             kept = sound-kept h;
           }))
 
@@ -225,9 +267,9 @@ module _ (order : WordOrder) (f : Files) where
   unfolding laws
   accepted-faultless e =
       let p = past-reading f order 0 (λ t. omega (arith, t .0)) e in
-      let z : judge (checks order (stageIn f) (referenceIn f)) .number ≡ 0 = ap (λ (v : Verdict). v .number) (sym (p .1)) ∙ e in
+      let z : judge (checks order (rawIn f) (referenceIn f)) .number ≡ 0 = ap (λ (v : Verdict). v .number) (sym (p .1)) ∙ e in
       let h : Sound f = before-sound (p .0) (all-before 32 0 (laws f order) refl z) in
-      let rise : AllRise f = λ net i. rises f (h .free) net (before 0 32 (laws f order) z net i) in
+      let rise : AllRise f = λ net i. rises f (sound-free h) net (before 0 32 (laws f order) z net i) in
       (faultless-accepted (h, rise) order, (h, rise))
 
   pub accepted-sound : v .number ≡ 0 → (v ≡ accepted) × Sound f
@@ -243,15 +285,25 @@ module _ (order : WordOrder) (f : Files) where
 pub sound-answers : {f : Files} → Sound f → (order : WordOrder) → AcceptedUnlessIdle order f
 sound-answers {f} h order = answers order f h
 
--- from what two files hold
+-- from what two files hold, of which the stage has no registers
 pub record Agrees (s r : Content) : Type 0 where
+  pub plain : s .parts ≡ []
   pub inputs : s .inputs ≡ r .inputs
   pub outputs : length (s .outputs) ≡ length (r .outputs)
   pub free : LoopFree (netOf s)
   pub cast : (net : ℕ) → IsGate (netOf s) net → isRetired (cellIn (driver s net)) ≡ false
   pub conforms : (w : ℕ) → IsWord s w → Conforms (netOf s) (railsFor w) (answer r (bitOf w))
 
-pub sound-from : {f : Files} {s r : Content} → BothRead f → stageIn f ≡ s → referenceIn f ≡ r → Agrees s r → Sound f
-sound-from read e e′ a =
+pub sound-from : {f : Files} {s r : Content} → BothRead f → rawIn f ≡ s → referenceIn f ≡ r → Agrees s r → Sound f
+sound-from {f} read e e′ a =
     let h = subst₂ Agrees (sym e) (sym e′) a in
-    record { read = read; inputs = h .inputs; outputs = h .outputs; free = h .free; cast = h .cast; conforms = h .conforms }
+    let same = wired-none (rawIn f) (h .plain) in
+    record {
+      read = read;
+      inputs = h .inputs;
+      outputs = h .outputs;
+      raw-free = h .free;
+      wiring = passes-none (wiringIn f) (h .plain);
+      cast = rw same (h .cast);
+      conforms = rw same (h .conforms);
+    }

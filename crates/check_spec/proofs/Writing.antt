@@ -1,25 +1,29 @@
 -- Files as contents are written: their bytes are those of the code's items, and what was written reads as the content; and what a call leaves.
 -- Assumes nothing.
 use Prim.Native.Nat.{ℕ, _+_}
+use native.Mathlib.Omega.{arith}
 use mathlib.Core.Path.{_≡_, refl, sym, ap, ap₂, _∙_}
 use mathlib.Core.Logic.{⊎-elim}
 use mathlib.Core.List.{List, [], _∷_, _++_, append-assoc, map, map-id, flatMap}
+use lib.ListN.{length}
 use Rattle.runs.proofs.Test.{same?, eqb-other}
 use Rattle.netlist.specs.declared.File.{File}
 use Rattle.netlist.specs.declared.File.the-variants as file
+use Rattle.netlist.specs.declared.Sort.{Sort}
 use Rattle.netlist.specs.declared.Sort.the-variants as sort
 use Rattle.netlist.specs.declared.Limits.{Limits}
 use Rattle.netlist.specs.Commands as k
 use Rattle.netlist.specs.Bytes.{operands}
 use Rattle.netlist.specs.Content.{Coded}
 use Rattle.netlist.specs.Writing as items
-use Rattle.netlist.specs.Writing.{Item, gate, output, care, gatesIn, outputsIn, careIn, outputPlaces, writeItem, writeItems, FileFits}
-use Rattle.netlist.proofs.Laid.{wiredAt}
-use Rattle.netlist.proofs.GatesFirst.{gatesIn-items, outputsIn-items, careIn-items}
+use Rattle.netlist.specs.Writing.{Item, gate, output, care, gatesIn, outputsIn, careIn, partsIn, outputPlaces, partPlaces, writeItem, writeItems, FileFits}
+use Rattle.netlist.proofs.Laid.{wiredAt, sorts-partPlaces}
+use Rattle.netlist.proofs.GatesFirst.{gatesIn-items, outputsIn-items, careIn-items, partsIn-items}
 use Rattle.netlist.proofs.ReadBack.{read-write, gates-write, outputs-write}
 use Rattle.verdict.specs.declared.Verdict.{Verdict}
 use Rattle.verdict.specs.Written.{Written, refuse, write}
 use Rattle.check_spec.specs.Cases.{accepted}
+use Rattle.wiring_spec.specs.Parts.{partAt}
 use Rattle.check_spec.specs.Content.{Content, contentAt, contentOf, railsOfOutput}
 use Rattle.check_spec.specs.Writing.{rowFor, command, writeFile, leaving}
 
@@ -88,31 +92,40 @@ module _ (c : Content) where
   pub cares-of : careIn (itemsOf c) ≡ c .care
   cares-of = careIn-items (λ g. g) (λ g. g) (λ vs. vs) (λ vs. vs) (c .care) (c .gates) (c .outputs)
 
+  pub parts-of : partsIn (itemsOf c) ≡ []
+  parts-of = partsIn-items (λ g. g) (λ g. g) (λ vs. vs) (λ vs. vs) (c .care) (c .gates) (c .outputs)
+
 pub wired : (f : File) (s : List ℕ) (at : ℕ) → operands s (at + 1) (railsOfOutput f) ≡ wiredAt f s at
 unfolding k.commandTable k.ownCommands k.formIn
 wired file.Stage s at = refl
 wired file.Pipeline s at = refl
 wired file.Reference s at = refl
 
--- the items of a file that fits, as a content
-pub items-content : (f : File) (most : Limits) (n : ℕ) (is : List Item) → FileFits f most n is
-    → contentOf f most (items.writeFile f n is) ≡ record { inputs = n; gates = gatesIn is; outputs = outputsIn is; care = careIn is }
+pub map-none : {A B : Type 0} (f : A → B) (xs : List A) → map f xs ≡ [] → xs ≡ []
+map-none f [] e = refl
+map-none f (x ∷ xs) e = absurd (omega (arith, ap length e))
+
+-- the items of a file that fits, none of them a register or a C-element, as a content
+pub items-content : (f : File) (most : Limits) (n : ℕ) (is : List Item) → partsIn is ≡ [] → FileFits f most n is
+    → contentOf f most (items.writeFile f n is) ≡ record { inputs = n; gates = gatesIn is; outputs = outputsIn is; care = careIn is; parts = [] }
 unfolding contentAt
-items-content f most n is fits = rw (read-write f most n is fits) (λ i. record {
+items-content f most n is none fits = rw (read-write f most n is fits) (λ i. record {
   inputs = n;
   gates = gates-write f most n is fits i;
   outputs = (outs (outputPlaces f 2 is) ∙ outputs-write f most n is fits) i;
   care = careIn is;
+  parts = ap (map (partAt (items.writeFile f n is))) (map-none (λ (x : Sort × ℕ). x .0) (partPlaces f 2 is) (sorts-partPlaces f 2 is ∙ none)) i;
 })
   where
     outs : (l : List ℕ) → map (λ at. operands (items.writeFile f n is) (at + 1) (railsOfOutput f)) l ≡ map (wiredAt f (items.writeFile f n is)) l
     outs [] = refl
     outs (at ∷ l) = ap₂ (λ (x : List ℕ) (m : List (List ℕ)). x ∷ m) (wired f (items.writeFile f n is) at) (outs l)
 
-pub content-write : (f : File) (most : Limits) (c : Content) → FileFits f most (c .inputs) (itemsOf c)
+pub content-write : (f : File) (most : Limits) (c : Content) → c .parts ≡ [] → FileFits f most (c .inputs) (itemsOf c)
     → contentOf f most (items.writeFile f (c .inputs) (itemsOf c)) ≡ c
-content-write f most c fits =
-    items-content f most (c .inputs) (itemsOf c) fits ∙ (λ i. record { inputs = c .inputs; gates = gates-of c i; outputs = outputs-of c i; care = cares-of c i })
+content-write f most c none fits =
+    items-content f most (c .inputs) (itemsOf c) (parts-of c) fits
+    ∙ (λ i. record { inputs = c .inputs; gates = gates-of c i; outputs = outputs-of c i; care = cares-of c i; parts = sym none i })
 
 -- ---- what a call leaves
 

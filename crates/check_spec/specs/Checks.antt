@@ -8,9 +8,11 @@ use Rattle.gates.specs.Cell.{isRetired}
 use Rattle.runs.specs.Row.{Row, low, only}
 use Rattle.runs.specs.Net.{nets, railsOfInputs}
 use Rattle.verdict.specs.declared.WordOrder.{WordOrder}
+use Rattle.wiring_spec.specs.Parts.{Pipeline}
+use Rattle.wiring_spec.specs.Wiring.{registers, circular, uneven, missing, barred}
 use Rattle.check_spec.specs.Cases.{Check, case, sweep, sweepPlaces, unequal}
 use Rattle.check_spec.specs.Lists.{numbers, every, bitOf}
-use Rattle.check_spec.specs.Content.{Content, wired}
+use Rattle.check_spec.specs.Content.{Content, pipelineOf, wired}
 use Rattle.check_spec.specs.Rows.{driver, cellIn, netOf, risen, fallen, dataOf, allData, allNull, reachesItself}
 use Rattle.check_spec.specs.Words.{railsFor, spelled, names, words, answer}
 
@@ -47,9 +49,13 @@ fallIncomplete s w = let row = rest s w in λ i. allNull (netOf s) (fallen (netO
 unfoldable pub fallUnobservable : Content → ℕ → ℕ → Bool
 fallUnobservable s w = highAnd s w (λ row net. allNull (netOf s) (fallen (netOf s) row (only net)))
 
--- 12: gate g reaches itself through pins
+-- 12: gate g reaches itself through pins of gates; the nets of registers are ends
 unfoldable pub looped : Content → Check
 looped s = sweepPlaces 12 1 (numbers 0 (length (s .gates))) (λ g. reachesItself (netOf s) (2 * s .inputs + g))
+
+-- 33, 34 and 35: a test of the registers
+abbrev pub atRegisters : ℕ → (Pipeline → ℕ → Bool) → Content → Check
+atRegisters number fails raw = sweepPlaces number 1 (registers (pipelineOf raw)) (fails (pipelineOf raw))
 
 -- a check of the words of a stage, by their names
 abbrev pub swept : WordOrder → Content → ℕ → ℕ → ℕ → (ℕ → ℕ → Bool) → Check
@@ -69,14 +75,18 @@ neverRises s net = every (λ w. not (rest s w net)) (words s)
 unfoldable pub idle : Content → Check
 idle s = sweepPlaces 32 1 (numbers 0 (length (s .gates))) (λ g. neverRises s (2 * s .inputs + g))
 
--- of a stage, as reading gives it, against a reference, in their order: 12 looks at the gates before registers become wires, the checks from 28 on
--- at the stage with these
+-- of a stage, as reading gives it, against a reference, in their order: 12 and 33 to 35 look at the stage before its registers become wires, the checks
+-- from 28 on at the stage with these. The second pass of 33 follows where the first finds no register
 unfoldable pub checks : WordOrder → Content → Content → List Check
 checks order raw r =
     let s = wired raw in
     unequal 10 (raw .inputs) (r .inputs) ∷
     unequal 11 (length (raw .outputs)) (length (r .outputs)) ∷
     looped raw ∷
+    atRegisters 33 circular raw ∷
+    atRegisters 33 uneven raw ∷
+    atRegisters 34 missing raw ∷
+    atRegisters 35 barred raw ∷
     retired s ∷
     swept order s 13 1 (length (s .outputs)) (wrong s r) ∷
     swept order s 14 1 (s .inputs) (incomplete s) ∷

@@ -7,10 +7,10 @@ use Rattle.netlist.specs.Writing.{codedGate, pairOperands}
 use Rattle.check_spec.specs.Content.{Content}
 
 abbrev pub fromStage : Stage → Content
-fromStage s = record { inputs = s .inputs; gates = map codedGate (s .gates); outputs = map pairOperands (s .outputs); care = s .care }
+fromStage s = record { inputs = s .inputs; gates = map codedGate (s .gates); outputs = map pairOperands (s .outputs); care = s .care; parts = [] }
 
 abbrev pub fromReference : Reference → Content
-fromReference r = record { inputs = r .inputs; gates = r .gates; outputs = map (λ (v : ℕ). v ∷ []) (r .outputs); care = [] }
+fromReference r = record { inputs = r .inputs; gates = r .gates; outputs = map (λ (v : ℕ). v ∷ []) (r .outputs); care = []; parts = [] }
 
 abbrev pub pairOf : List ℕ → Pair
 pairOf vs = record { rail0 = getD vs 0 0; rail1 = getD vs 1 0 }

@@ -14,7 +14,7 @@ use Rattle.gates.specs.declared.Kind.the-variants.{Hold, Relaxed, Unknown}
 use Rattle.netlist.specs.declared.Counts.{Counts}
 use Rattle.netlist.specs.Bytes.{byte, operand}
 use Rattle.netlist.specs.declared.Limits.{Limits}
-use Rattle.circuit.specs.Stage.{netCount}
+use Rattle.read_file.specs.Files.{firstCare}
 use Rattle.circuit_load.specs.Load.{pinNumber, cellNumber, kindNumber, gateNumber, stageNumber, operatorNumber, referenceNumber}
 
 module _ (s : List ℕ) (at ground : ℕ) where
@@ -77,21 +77,22 @@ module _ (s : List ℕ) (at j : ℕ) where
 
 -- ---- gates, then outputs
 
-module _ (most : Limits) (s places : List ℕ) (c : Counts) (i : ℕ) where
-  pub stage-gate : i < 8 * c .gates → gateNumber s (getD places (i / 8) 0) (netCount c) (i % 8) ≡ stageNumber most s places c i
+module _ (most : Limits) (s places : List ℕ) (c : Counts) (ground i : ℕ) where
+  pub stage-gate : i < 8 * c .gates → gateNumber s (getD places (i / 8) 0) ground (i % 8) ≡ stageNumber most s places c ground i
   unfolding stageNumber
   stage-gate h = rw (lt-ltb i (8 * c .gates) h)
 
   pub stage-output : 8 * c .gates ≤ i → i - 8 * c .gates < 2 * c .outputs →
-      operand s (getD places (most .gates + (i - 8 * c .gates) / 2) 0 + 1 + 2 * ((i - 8 * c .gates) % 2)) ≡ stageNumber most s places c i
+      operand s (getD places (most .gates + (i - 8 * c .gates) / 2) 0 + 1 + 2 * ((i - 8 * c .gates) % 2)) ≡ stageNumber most s places c ground i
   unfolding stageNumber
   stage-output h l = rw (le-ltb i (8 * c .gates) h, lt-ltb (i - 8 * c .gates) (2 * c .outputs) l)
 
   pub stage-care : 8 * c .gates ≤ i → 2 * c .outputs ≤ i - 8 * c .gates →
-      getD places (most .gates + most .outputs + (i - 8 * c .gates - 2 * c .outputs)) 0 ≡ stageNumber most s places c i
+      getD places (firstCare most + (i - 8 * c .gates - 2 * c .outputs)) 0 ≡ stageNumber most s places c ground i
   unfolding stageNumber
   stage-care h l = rw (le-ltb i (8 * c .gates) h, le-ltb (i - 8 * c .gates) (2 * c .outputs) l)
 
+module _ (most : Limits) (s places : List ℕ) (c : Counts) (i : ℕ) where
   pub reference-gate : i < 3 * c .gates → operatorNumber s (getD places (i / 3) 0) (i % 3) ≡ referenceNumber most s places c i
   unfolding referenceNumber
   reference-gate h = rw (lt-ltb i (3 * c .gates) h)

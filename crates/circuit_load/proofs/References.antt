@@ -19,13 +19,12 @@ use Rattle.netlist.specs.Commands.{commandTable, ownCommands, formIn, needed}
 use Rattle.netlist.specs.Reading.{referenceLimits, NoMore}
 use Rattle.netlist.specs.Content.{Coded, codedAt, referenceOf}
 use Rattle.netlist.proofs.Bounds.{within-more}
-use Rattle.read_file.specs.Files.{netsWith}
 use Rattle.netlist.proofs.Readable.{operation-read, named-earlier, named-signal}
 use Rattle.circuit.specs.Reference.{operationIn, operandIn, operatorIn, operatorsIn, signalIn, signalsIn, referenceIn, ReferenceLoaded}
 use Rattle.circuit.proofs.Tabulate.{tabulate-map}
 use Rattle.circuit_load.specs.Load.{placesIn, FileRead, operatorNumber, referenceNumber}
 use Rattle.circuit_load.proofs.Numbers.{WrittenTo, number-operation, number-first, number-again, number-second, reference-gate, reference-output}
-use Rattle.circuit_load.proofs.Reading.{length-gates, length-outputs, gate-at, output-place, output-at}
+use Rattle.circuit_load.proofs.Reading.{nets, length-gates, length-outputs, gate-at, output-place, output-at}
 
 -- NOT needs one operand, and the others two
 abbrev asCond : ℕ → Bool
@@ -86,7 +85,7 @@ module _ (most : Limits) (s places : List ℕ) (c : Counts) (code : List ℕ) (r
     -- operand i of the command names an input or an earlier gate
     named : (i : ℕ) → i < needed file.Reference op → operand s (at + 2 + 2 * i) < c .inputs + k
     named i l =
-        named-earlier (netsWith (c .inputs) (c .gates)) k i (operand s (at + 2 + 2 * i)) (gate-at file.Reference most s places c r k h .named i l)
+        named-earlier (nets file.Reference most s places c r) k i (operand s (at + 2 + 2 * i)) (gate-at file.Reference most s places c r k h .named i l)
 
     operand-in : (i : ℕ) → i < 2 → operandIn code k i < c .inputs + k
     operand-in i l = go i l (ℕ-discrete i 0) (ℕ-discrete op 1)
@@ -121,7 +120,12 @@ module _ (most : Limits) (s places : List ℕ) (c : Counts) (code : List ℕ) (r
     signal-in =
         let e : place + 1 + 2 * 0 ≡ place + 1 = omega arith in
         let n = output-at file.Reference most s places c r j h .named 0 (omega arith) in
-        omega (arith, signal-at, rw e at (named-signal (netsWith (c .inputs) (c .gates)) (c .gates) 0 (operand s (place + 1 + 2 * 0)) n))
+        omega (
+          arith,
+          signal-at,
+          length-gates file.Reference most s places c r,
+          rw e at (named-signal (nets file.Reference most s places c r) (length (take (c .gates) places)) 0 (operand s (place + 1 + 2 * 0)) n),
+        )
 
   -- ---- the reference
 

@@ -2,7 +2,6 @@
 -- Assumes nothing.
 use Prim.Native.Nat.{ℕ, zero, suc, _+_, _-_, _*_, _/_, _%_, _≤_, _<_}
 use native.Mathlib.Omega.{arith}
-use native.Mathlib.Decide.{decLt}
 use mathlib.Core.Path.{_≡_, refl, sym, ap, ap₂, _∙_, subst}
 use mathlib.Core.Bool.{Bool, true, false}
 use mathlib.Core.List.{List, [], _∷_, map, map-id}
@@ -11,23 +10,23 @@ use lib.Seq.{getD-take}
 use lib.Dec.{eqb}
 use Rattle.gates.specs.Cell.{kindOf, kindByte, asKind, pinCount, bit}
 use Rattle.gates.proofs.Ranges.{kind-at}
+use Rattle.netlist.specs.declared.File.{File}
 use Rattle.netlist.specs.declared.File.the-variants as file
 use Rattle.netlist.specs.declared.Limits.{Limits}
 use Rattle.netlist.specs.declared.Counts.{Counts}
 use Rattle.netlist.specs.Bytes.{byte, operand, operands}
-use Rattle.netlist.specs.Commands.{commandTable, ownCommands, formIn, needed, pinsNeeded}
-use Rattle.netlist.specs.Reading.{stageLimits, NoMore}
+use Rattle.netlist.specs.Commands.{stageFile, needed, pinsNeeded}
+use Rattle.netlist.specs.Reading.{Nets, carriesData, netsOf, stageLimits, NoMore}
 use Rattle.netlist.specs.Content.{Gate, Pair, cellOf, holdOf, gateOf, codedAt, pairAt, stageOf}
 use Rattle.netlist.proofs.Bounds.{within-more}
-use Rattle.netlist.proofs.Encoding.{KindOfCell, kind-needs}
-use Rattle.read_file.specs.Files.{netsWith}
-use Rattle.netlist.proofs.Readable.{kind-read, named-pin, named-rail}
-use Rattle.circuit.specs.Stage.{netCount, cellIn, slot, pinIn, gateIn, stageGates, outputIn, stageOutputs, stageCare, stageIn, GateLoaded, StageLoaded}
+use Rattle.netlist.proofs.Encoding.{KindOfCell, kind-in, kind-needs}
+use Rattle.read_file.specs.Files.{firstCare}
+use Rattle.circuit.specs.Stage.{netCount, cellIn, slot, pinIn, gateIn, stageGates, outputIn, stageOutputs, stageCare, stageIn}
 use Rattle.circuit.proofs.Tabulate.{tabulate-map}
 use Rattle.circuit.proofs.Pins.{pins-few}
-use Rattle.circuit_load.specs.Load.{placesIn, FileRead, pinNumber, cellNumber, kindNumber, gateNumber, stageNumber}
+use Rattle.circuit_load.specs.Load.{placesIn, FileRead, StageRead, RawStage, pinNumber, cellNumber, kindNumber, gateNumber, stageNumber}
 use Rattle.circuit_load.proofs.Numbers.{WrittenTo, pin-there, pin-absent, number-cell, number-pin, number-hold, stage-gate, stage-output, stage-care}
-use Rattle.circuit_load.proofs.Reading.{length-gates, length-outputs, gate-at, output-place, output-at, care-word, length-care}
+use Rattle.circuit_load.proofs.Reading.{length-gates, length-outputs, output-place, care-word, length-care, kind-known, pin-data, rail-data}
 
 -- the operands that a gate of m pins needs are the first m of four
 operands-first : (s : List ℕ) (at ground m : ℕ) → 2 ≤ m → m ≤ 4 →
@@ -53,8 +52,17 @@ operands-first s at ground (suc (suc (suc (suc zero)))) two four =
     rw (a, b, c, d)
 operands-first s at ground (suc (suc (suc (suc (suc m))))) two four = absurd (omega arith)
 
-module _ (most : Limits) (s places : List ℕ) (c : Counts) (code : List ℕ) (r : FileRead file.Stage most s places c) (room : 8 * c .gates + 2 * c .outputs + c .care ≤ length code)
-    (written : WrittenTo (stageNumber most s places c) code (8 * c .gates + 2 * c .outputs + c .care)) where
+module _ (most : Limits) (s places : List ℕ) (c : Counts) (code : List ℕ) (ground : ℕ) (r : StageRead most s places c)
+    (room : 8 * c .gates + 2 * c .outputs + c .care ≤ length code) (written : WrittenTo (stageNumber most s places c ground) code (8 * c .gates + 2 * c .outputs + c .care)) where
+  abbrev f : File
+  f = stageFile (r .registers)
+
+  abbrev read : FileRead f most s places c
+  read = r .file-read
+
+  abbrev N : Nets
+  N = netsOf (placesIn most c places)
+
   -- ---- gate k
 
   module _ (k : ℕ) (h : k < c .gates) where
@@ -65,7 +73,7 @@ module _ (most : Limits) (s places : List ℕ) (c : Counts) (code : List ℕ) (r
     kind = byte s (at + 1)
 
     of : KindOfCell kind
-    of = kind-read (gate-at file.Stage most s places c r k h)
+    of = kind-in kind (kind-known most s places c r k h)
 
     abbrev cell : ℕ
     cell = of .cell
@@ -77,29 +85,29 @@ module _ (most : Limits) (s places : List ℕ) (c : Counts) (code : List ℕ) (r
     needs-pins = ap (needed file.Stage) (of .kind-is) ∙ kind-needs (of .hold) cell (of .cell-in .0) (of .cell-in .1)
 
     -- number j of the gate stands where i says
-    number-at : (i j : ℕ) → i ≡ 8 * k + j → j < 8 → getD code i 0 ≡ cellNumber s at cell (pinCount cell) (bit (of .hold)) (netCount c) j
+    number-at : (i j : ℕ) → i ≡ 8 * k + j → j < 8 → getD code i 0 ≡ cellNumber s at cell (pinCount cell) (bit (of .hold)) ground j
     unfolding gateNumber kindNumber
     number-at i j e l =
         let a : i / 8 ≡ k = omega arith in
         let b : i % 8 ≡ j = omega arith in
-        written i (omega arith) ∙ sym (stage-gate most s places c i (omega arith)) ∙ rw (a, b, kind-of) (go (of .hold))
+        written i (omega arith) ∙ sym (stage-gate most s places c ground i (omega arith)) ∙ rw (a, b, kind-of) (go (of .hold))
       where
-        go : (hold : Bool) → kindNumber (asKind hold cell (pinCount cell)) s at (netCount c) j ≡ cellNumber s at cell (pinCount cell) (bit hold) (netCount c) j
+        go : (hold : Bool) → kindNumber (asKind hold cell (pinCount cell)) s at ground j ≡ cellNumber s at cell (pinCount cell) (bit hold) ground j
         go true = refl
         go false = refl
 
     cell-at : cellIn code k ≡ cell
-    cell-at = number-at (8 * k) 0 (omega arith) (omega arith) ∙ sym (number-cell s at (netCount c) cell (pinCount cell) (bit (of .hold)) 0 refl)
+    cell-at = number-at (8 * k) 0 (omega arith) (omega arith) ∙ sym (number-cell s at ground cell (pinCount cell) (bit (of .hold)) 0 refl)
 
-    pin-at : (i : ℕ) → i < 4 → pinIn code k i ≡ pinNumber s at (pinCount cell) (netCount c) i
+    pin-at : (i : ℕ) → i < 4 → pinIn code k i ≡ pinNumber s at (pinCount cell) ground i
     pin-at i l =
         let e : 1 + i - 1 ≡ i = omega arith in
         number-at (8 * k + (1 + i)) (1 + i) refl (omega arith)
-        ∙ sym (number-pin s at (netCount c) cell (pinCount cell) (bit (of .hold)) (1 + i) (omega arith) (omega arith))
-        ∙ ap (pinNumber s at (pinCount cell) (netCount c)) e
+        ∙ sym (number-pin s at ground cell (pinCount cell) (bit (of .hold)) (1 + i) (omega arith) (omega arith))
+        ∙ ap (pinNumber s at (pinCount cell) ground) e
 
     hold-at : slot code k 7 ≡ bit (of .hold)
-    hold-at = number-at (8 * k + 7) 7 refl (omega arith) ∙ sym (number-hold s at (netCount c) cell (pinCount cell) (bit (of .hold)) 7 refl)
+    hold-at = number-at (8 * k + 7) 7 refl (omega arith) ∙ sym (number-hold s at ground cell (pinCount cell) (bit (of .hold)) 7 refl)
 
     -- the cell and the hold of its kind
     kind-says : (hold : Bool) → (cellOf (asKind hold cell (pinCount cell)) ≡ cell) × (holdOf (asKind hold cell (pinCount cell)) ≡ eqb (bit hold) 1)
@@ -120,25 +128,17 @@ module _ (most : Limits) (s places : List ℕ) (c : Counts) (code : List ℕ) (r
           pin-at 1 (omega arith),
           pin-at 2 (omega arith),
           pin-at 3 (omega arith),
-          operands-first s at (netCount c) (pinCount cell) (few .0) (few .1),
+          operands-first s at ground (pinCount cell) (few .0) (few .1),
         )
 
-    pin-in : (i : ℕ) → i < 4 → pinIn code k i ≤ netCount c
-    pin-in i l = go (decLt i (pinCount cell))
-      where
-        go : Dec (i < pinCount cell) → pinIn code k i ≤ netCount c
-        go (yes d) =
-            let n = gate-at file.Stage most s places c r k h .named i (omega (arith, needs-pins)) in
-            omega (arith, pin-at i l, pin-there s at (netCount c) (pinCount cell) i d, named-pin (netsWith (c .inputs) (c .gates)) k i (operand s (at + 2 + 2 * i)) n)
-        go (no d) = omega (arith, pin-at i l, pin-absent s at (netCount c) (pinCount cell) i (omega arith))
+    pin-carries : (i : ℕ) → i < pinCount (cellIn code k) → carriesData N (pinIn code k i) ≡ true
+    pin-carries i l =
+        let few = pins-few cell (of .cell-in .0) (of .cell-in .1) in
+        let d : i < pinCount cell = subst (λ (x : ℕ). i < pinCount x) cell-at l in
+        ap (carriesData N) (pin-at i (omega (arith, few .1)) ∙ sym (pin-there s at ground (pinCount cell) i d)) ∙ pin-data most s places c r k h i (omega (arith, needs-pins))
 
-    gate-loaded : GateLoaded c code k
-    gate-loaded = record {
-      low = omega (arith, cell-at, of .cell-in .0);
-      high = omega (arith, cell-at, of .cell-in .1);
-      pin = pin-in;
-      absent = λ i l b. pin-at i b ∙ sym (pin-absent s at (netCount c) (pinCount cell) i (subst (λ (x : ℕ). pinCount x ≤ i) cell-at l));
-    }
+    pin-lacks : (i : ℕ) → pinCount (cellIn code k) ≤ i → i < 4 → pinIn code k i ≡ ground
+    pin-lacks i l b = pin-at i b ∙ sym (pin-absent s at ground (pinCount cell) i (subst (λ (x : ℕ). pinCount x ≤ i) cell-at l))
 
   -- ---- output j
 
@@ -150,13 +150,10 @@ module _ (most : Limits) (s places : List ℕ) (c : Counts) (code : List ℕ) (r
     rail-at i b e l =
         let p : (i - 8 * c .gates) / 2 ≡ j = omega arith in
         let q : (i - 8 * c .gates) % 2 ≡ b = omega arith in
-        written i (omega arith) ∙ sym (stage-output most s places c i (omega arith) (omega arith)) ∙ rw (p, q)
+        written i (omega arith) ∙ sym (stage-output most s places c ground i (omega arith) (omega arith)) ∙ rw (p, q)
 
-    rail-in : (i b : ℕ) → i ≡ 8 * c .gates + 2 * j + b → b < 2 → getD code i 0 < netCount c
-    unfolding commandTable ownCommands formIn
-    rail-in i b e l =
-        let n = output-at file.Stage most s places c r j h .named b l in
-        omega (arith, rail-at i b e l, named-rail (netsWith (c .inputs) (c .gates)) (c .gates) b (operand s (place + 1 + 2 * b)) n)
+    rail-carries : (i b : ℕ) → i ≡ 8 * c .gates + 2 * j + b → b < 2 → carriesData N (getD code i 0) ≡ true
+    rail-carries i b e l = ap (carriesData N) (rail-at i b e l) ∙ rail-data most s places c r j h b l
 
     output-same : outputIn c code j ≡ pairAt s place
     output-same =
@@ -168,35 +165,38 @@ module _ (most : Limits) (s places : List ℕ) (c : Counts) (code : List ℕ) (r
 
   -- ---- care words
 
-  care-at : (k : ℕ) → k < c .care → getD code (8 * c .gates + 2 * c .outputs + k) 0 ≡ getD places (most .gates + most .outputs + k) 0
+  care-at : (k : ℕ) → k < c .care → getD code (8 * c .gates + 2 * c .outputs + k) 0 ≡ getD places (firstCare most + k) 0
   care-at k h =
       let i : ℕ = 8 * c .gates + 2 * c .outputs + k in
       let e : i - 8 * c .gates - 2 * c .outputs ≡ k = omega arith in
-      written i (omega arith) ∙ sym (stage-care most s places c i (omega arith) (omega arith)) ∙ rw e
+      written i (omega arith) ∙ sym (stage-care most s places c ground i (omega arith) (omega arith)) ∙ rw e
 
   -- ---- the stage
 
   abbrev cares : List ℕ
-  cares = take (c .care) (drop (most .gates + most .outputs) places)
+  cares = take (c .care) (drop (firstCare most) places)
 
   pub stage-same : stageIn c code ≡ stageOf s (placesIn most c places)
   unfolding stageGates stageOutputs stageCare stageOf
   stage-same =
       ap (λ (ws : List ℕ). record { inputs = c .inputs; gates = stageGates c code; outputs = stageOutputs c code; care = ws })
-      (tabulate-map (λ k. getD code (8 * c .gates + 2 * c .outputs + k) 0) (λ w. w) cares (c .care) (length-care file.Stage most s places c r)
-      (λ k h. care-at k h ∙ sym (care-word file.Stage most s places c r k h)) ∙ map-id cares)
+      (tabulate-map (λ k. getD code (8 * c .gates + 2 * c .outputs + k) 0) (λ w. w) cares (c .care) (length-care f most s places c read)
+      (λ k h. care-at k h ∙ sym (care-word f most s places c read k h)) ∙ map-id cares)
       ∙ ap₂ (λ (gs : List Gate) (ps : List Pair). record { inputs = c .inputs; gates = gs; outputs = ps; care = cares })
-      (tabulate-map (gateIn code) (λ at. gateOf (codedAt file.Stage s at)) (take (c .gates) places) (c .gates) (length-gates file.Stage most s places c r)
+      (tabulate-map (gateIn code) (λ at. gateOf (codedAt file.Stage s at)) (take (c .gates) places) (c .gates) (length-gates f most s places c read)
       (λ k h. gate-same k h ∙ ap (λ (at : ℕ). gateOf (codedAt file.Stage s at)) (sym (getD-take (c .gates) places k 0 h))))
       (tabulate-map (outputIn c code) (pairAt s) (take (c .outputs) (drop (most .gates) places)) (c .outputs)
-      (length-outputs file.Stage most s places c r)
-      (λ j h. output-same j h ∙ ap (pairAt s) (sym (output-place file.Stage most s places c r j h))))
+      (length-outputs f most s places c read)
+      (λ j h. output-same j h ∙ ap (pairAt s) (sym (output-place f most s places c read j h))))
 
-  pub stage-loaded : NoMore most stageLimits → StageLoaded c code
-  stage-loaded less = record {
-    within = within-more less (r .within);
+  pub raw-loaded : NoMore most stageLimits → RawStage N c ground code
+  raw-loaded less = record {
+    within = within-more less (read .within);
     room = room;
-    gate = gate-loaded;
-    rail0-net = λ j h. rail-in j h (8 * c .gates + 2 * j) 0 (omega arith) (omega arith);
-    rail1-net = λ j h. rail-in j h (8 * c .gates + 2 * j + 1) 1 refl (omega arith);
+    low = λ k h. omega (arith, cell-at k h, of k h .cell-in .0);
+    high = λ k h. omega (arith, cell-at k h, of k h .cell-in .1);
+    pin = λ k i h. pin-carries k h i;
+    lacks = λ k i h. pin-lacks k h i;
+    rail0 = λ j h. rail-carries j h (8 * c .gates + 2 * j) 0 (omega arith) (omega arith);
+    rail1 = λ j h. rail-carries j h (8 * c .gates + 2 * j + 1) 1 refl (omega arith);
   }

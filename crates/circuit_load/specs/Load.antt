@@ -1,22 +1,23 @@
 -- What loading asks of a file that was read, what it leaves, and the flat forms number by number.
-use Prim.Native.Nat.{ℕ, _+_, _-_, _*_, _/_, _%_, _≤_}
+use Prim.Native.Nat.{ℕ, _+_, _-_, _*_, _/_, _%_, _≤_, _<_}
 use mathlib.Core.Path.{_≡_}
-use mathlib.Core.Bool.{cond}
+use mathlib.Core.Bool.{Bool, true, cond}
 use mathlib.Core.List.{List}
 use lib.ListN.{length, getD}
 use lib.Dec.{eqb, leb, ltb}
-use Rattle.gates.specs.Cell.{kindOf}
+use Rattle.gates.specs.Cell.{kindOf, pinCount}
 use Rattle.gates.specs.declared.Kind.{Kind}
 use Rattle.gates.specs.declared.Kind.the-variants.{Hold, Relaxed, Unknown}
 use Rattle.netlist.specs.declared.File.{File}
 use Rattle.netlist.specs.declared.Limits.{Limits}
 use Rattle.netlist.specs.declared.Counts.{Counts}
-use Rattle.netlist.specs.Bytes.{byte, operand}
-use Rattle.netlist.specs.Reading.{Places, countsOf, Reading, refused, readable, Within}
+use Rattle.netlist.specs.Bytes.{byte, operand, absent}
+use Rattle.netlist.specs.Commands.{stageFile}
+use Rattle.netlist.specs.Reading.{Nets, carriesData, Places, countsOf, Reading, refused, readable, stageLimits, Within}
 use Rattle.netlist.specs.Content.{stageOf, referenceOf}
 use Rattle.netlist.specs.Read.{Read}
-use Rattle.read_file.specs.Files.{mostCare, standing}
-use Rattle.circuit.specs.Stage.{netCount, stageIn, StageLoaded}
+use Rattle.read_file.specs.Files.{mostCare, firstCare, standing}
+use Rattle.circuit.specs.Stage.{netCount, cellIn, pinIn, outputIn, stageIn, StageLoaded}
 use Rattle.circuit.specs.Reference.{referenceIn, ReferenceLoaded}
 
 -- the places that reading left in a lent slice
@@ -27,13 +28,34 @@ placesIn most c places = standing most places c
 pub record FileRead (f : File) (most : Limits) (s places : List ℕ) (c : Counts) : Type 0 where
   pub within : Within most c
   pub few-care : c .care ≤ mostCare f most
-  pub room : most .gates + most .outputs + mostCare f most ≤ length places
+  pub room : firstCare most + mostCare f most ≤ length places
   pub read : Read f most s (placesIn most c places)
+
+-- a stage file was read, with registers or without
+pub record StageRead (most : Limits) (s places : List ℕ) (c : Counts) : Type 0 where
+  pub registers : Bool
+  pub file-read : FileRead (stageFile registers) most s places c
+  pub counted : countsOf (placesIn most c places) ≡ c
 
 -- what a reading leaves in a flat form: the stage, or the reference, where there is one
 unfoldable pub HoldsStage : List ℕ → Reading → List ℕ → Type 0
 HoldsStage s (refused number at) code = Unit {0}
 HoldsStage s (readable p) code = StageLoaded (countsOf p) code × (stageIn (countsOf p) code ≡ stageOf s p)
+
+-- The stage as the file has it: its gates and outputs name nets that carry data, those of registers among them. A pin that a kind lacks has the ground.
+pub record RawStage (N : Nets) (c : Counts) (ground : ℕ) (code : List ℕ) : Type 0 where
+  pub within : Within stageLimits c
+  pub room : 8 * c .gates + 2 * c .outputs + c .care ≤ length code
+  pub low : (k : ℕ) → k < c .gates → 1 ≤ cellIn code k
+  pub high : (k : ℕ) → k < c .gates → cellIn code k ≤ 27
+  pub pin : (k i : ℕ) → k < c .gates → i < pinCount (cellIn code k) → carriesData N (pinIn code k i) ≡ true
+  pub lacks : (k i : ℕ) → k < c .gates → pinCount (cellIn code k) ≤ i → i < 4 → pinIn code k i ≡ ground
+  pub rail0 : (j : ℕ) → j < c .outputs → carriesData N (outputIn c code j .rail0) ≡ true
+  pub rail1 : (j : ℕ) → j < c .outputs → carriesData N (outputIn c code j .rail1) ≡ true
+
+-- the ground of a stage without registers is the net after its gates; with registers that is a net, and FFFF is none
+unfoldable pub groundOf : Counts → ℕ
+groundOf c = cond (eqb (c .registers) 0) (netCount c) absent
 
 unfoldable pub HoldsReference : List ℕ → Reading → List ℕ → Type 0
 HoldsReference s (refused number at) code = Unit {0}
@@ -58,14 +80,14 @@ unfoldable pub gateNumber : List ℕ → ℕ → ℕ → ℕ → ℕ
 gateNumber s at ground j = kindNumber (kindOf (byte s (at + 1))) s at ground j
 
 -- number i of the stage, whose places were left within some limits: those of its gates, then the rails of its outputs, then its care words
-unfoldable pub stageNumber : Limits → List ℕ → List ℕ → Counts → ℕ → ℕ
-stageNumber most s places c i =
+unfoldable pub stageNumber : Limits → List ℕ → List ℕ → Counts → ℕ → ℕ → ℕ
+stageNumber most s places c ground i =
     let j = i - 8 * c .gates in
     cond (ltb i (8 * c .gates))
-    (gateNumber s (getD places (i / 8) 0) (netCount c) (i % 8))
+    (gateNumber s (getD places (i / 8) 0) ground (i % 8))
     (cond (ltb j (2 * c .outputs))
     (operand s (getD places (most .gates + j / 2) 0 + 1 + 2 * (j % 2)))
-    (getD places (most .gates + most .outputs + (j - 2 * c .outputs)) 0))
+    (getD places (firstCare most + (j - 2 * c .outputs)) 0))
 
 -- ---- a reference, number by number
 

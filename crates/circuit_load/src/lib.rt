@@ -5,17 +5,35 @@ use netlist::File;
 use netlist::Limits;
 use netlist::Outcome;
 ghost use mathlib.Core.Path.{_≡_};
-ghost use Prim.Native.Nat.{_+_, _*_, _≤_, _<_};
+ghost use mathlib.Core.List.{_∷_, []};
+ghost use Prim.Native.Nat.{_+_, _*_, _^_, _≤_, _<_};
 ghost use lib.ListN.{length};
 ghost use Rattle.netlist.specs.declared.File.the-variants as file;
-ghost use Rattle.netlist.specs.Commands.{stageFile};
-ghost use Rattle.netlist.specs.Reading.{readFile, stageLimits, referenceLimits, NoMore};
+ghost use Rattle.netlist.specs.Commands.{stageFile, mostParts};
+ghost use Rattle.netlist.specs.Reading.{netsOf, readFile, stageLimits, referenceLimits, NoMore, Within};
 ghost use Rattle.netlist.specs.Read.{outcomeOf};
 ghost use Rattle.netlist.specs.Content.{stageOf, referenceOf};
-ghost use Rattle.circuit.specs.Stage.{netCount, stageIn, stageSize, largestStage, StageLoaded};
+ghost use Rattle.read_file.specs.Files.{partNoted};
+ghost use Rattle.wiring_spec.specs.Parts.{partAt};
+ghost use Rattle.write_command.specs.Put.{Put};
+ghost use Rattle.circuit.specs.Stage.{stageIn, stageSize, largestStage};
 ghost use Rattle.circuit.specs.Reference.{referenceIn, referenceSize, largestReference, ReferenceLoaded};
-ghost use Rattle.circuit_load.specs.Load.{placesIn, FileRead, HoldsStage, HoldsReference, pinNumber, cellNumber, gateNumber, stageNumber, operatorNumber};
-ghost use Rattle.circuit_load.specs.Load.{referenceNumber};
+ghost use Rattle.circuit_load.specs.Load.{placesIn, FileRead, StageRead, RawStage, groundOf, HoldsStage, HoldsReference};
+ghost use Rattle.circuit_load.specs.Load.{pinNumber, cellNumber, gateNumber, stageNumber, operatorNumber, referenceNumber};
+ghost use Rattle.circuit_load.specs.Parts.{netRows, registerRows, NotesRead, partsIn, PartPut, PipelineHeld, HoldsPipeline};
+
+// The room that the nets of the most registers and C-elements take, and the registers.
+pub const NETS_CODE: usize = 32 * netlist::PARTS;
+
+pub const REGISTERS_CODE: usize = 4 * netlist::PARTS;
+
+// The room that reading takes for the places of a stage, and of a reference.
+const STAGE_PLACES: usize = netlist::STAGE_GATES
+    + netlist::OUTPUTS
+    + 2 * netlist::PARTS
+    + netlist::WORDS;
+
+const REFERENCE_PLACES: usize = netlist::REFERENCE_GATES + netlist::OUTPUTS + 2 * netlist::PARTS;
 
 // ---- a stage
 
@@ -57,14 +75,19 @@ fn gate_number(s: &[u8], at: usize, ground: u16, j: usize) -> u16
 }
 
 // Number i of the stage.
-fn stage_number(s: &[u8], places: &[u16], most: Limits, counts: Counts, i: usize) -> u16
-    requires { ⌜ FileRead file.Stage most (now s) (now places) counts × NoMore most stageLimits
-        × (i < stageSize counts) ⌝ }
-    ensures { λ r. ⌜ r ≡ stageNumber most (now (s .entry)) (now (places .entry)) counts i ⌝ }
+fn stage_number(
+    s: &[u8],
+    places: &[u16],
+    most: Limits,
+    counts: Counts,
+    ground: u16,
+    i: usize,
+) -> u16
+    requires { ⌜ StageRead most (now s) (now places) counts × NoMore most stageLimits × (i < stageSize counts) ⌝ }
+    ensures { λ r. ⌜ r ≡ stageNumber most (now (s .entry)) (now (places .entry)) counts ground i ⌝ }
 {
     let end = 8 * counts.gates;
     if i < end {
-        let ground = (2 * counts.inputs + counts.gates) as u16;
         return gate_number(s, places[i / 8] as usize, ground, i % 8);
     }
     let j = i - end;
@@ -74,45 +97,194 @@ fn stage_number(s: &[u8], places: &[u16], most: Limits, counts: Counts, i: usize
         return netlist::operand(s, at + 1 + 2 * (j % 2));
     }
     let k = j - rails;
-    places[most.gates + most.outputs + k]
+    places[most.gates + most.outputs + 2 * netlist::PARTS + k]
 }
 
-// The stage that the file holds, in its flat form; its gates are in no order yet.
-pub fn load_stage(s: &[u8], places: &[u16], most: Limits, counts: Counts, code: &mut [u16])
-    requires { ⌜ FileRead file.Stage most (now s) (now places) counts × NoMore most stageLimits
+// The stage that the file holds, in its flat form, with a ground for pins that a kind lacks; its gates are in no order yet.
+fn load_stage(s: &[u8], places: &[u16], most: Limits, counts: Counts, ground: u16, code: &mut [u16])
+    requires { ⌜ StageRead most (now s) (now places) counts × NoMore most stageLimits
         × (stageSize counts ≤ length (now code)) ⌝ }
     ensures same { λ r. ⌜ stageIn counts (now (code .exit)) ≡ stageOf (now (s .entry)) (placesIn most counts (now (places .entry))) ⌝ }
-    ensures loaded { λ r. ⌜ StageLoaded counts (now (code .exit)) ⌝ }
+    ensures raw { λ r. ⌜ RawStage (netsOf (placesIn most counts (now (places .entry)))) counts ground (now (code .exit)) ⌝ }
 {
     let end = 8 * counts.gates + 2 * counts.outputs + counts.care;
     let mut i: usize = 0;
     while i < end {
-        code[i] = stage_number(s, places, most, counts, i);
+        code[i] = stage_number(s, places, most, counts, ground, i);
         i += 1;
     }
 }
 
-// Reads a stage file, with registers or without, within some limits, and loads the stage that it holds.
-pub fn read_stage_within(registers: bool, s: &[u8], most: Limits, code: &mut [u16]) -> Outcome
-    requires { ⌜ NoMore most stageLimits × (largestStage ≤ length (now code)) ⌝ }
-    ensures answered { λ r. ⌜ r ≡ outcomeOf (readFile (stageFile registers) most (now (s .entry))) ⌝ }
-    ensures loaded { λ r. ⌜ HoldsStage (now (s .entry)) (readFile (stageFile registers) most (now (s .entry))) (now (code .exit)) ⌝ }
+// The ground of a stage.
+fn ground_of(counts: Counts) -> u16
+    requires { ⌜ Within stageLimits counts ⌝ }
+    ensures { λ r. ⌜ r ≡ groundOf counts ⌝ }
 {
-    let mut places = [0u16; netlist::STAGE_GATES + netlist::OUTPUTS + netlist::WORDS];
+    if counts.registers == 0 {
+        return (2 * counts.inputs + counts.gates) as u16;
+    }
+    0xFFFF
+}
+
+// ---- registers and C-elements
+
+// How many nets after the gates, and how many registers, stand before a register or C-element.
+pub struct Spot {
+    pub net: usize,
+    pub register: usize,
+}
+
+// The row of net x after the gates: its sort, its pins, and the number of its register.
+fn put_net(nets: &mut [u16], x: usize, sort: u16, a: u16, b: u16, c: u16, d: u16, k: u16)
+    requires { ⌜ 8 * x + 8 ≤ length (now nets) ⌝ }
+    ensures { λ _. ⌜ Put (now (nets .entry)) (8 * x) (sort ∷ a ∷ b ∷ c ∷ d ∷ 0 ∷ k ∷ 0 ∷ []) (now (nets .exit)) ⌝ }
+{
+    let at = 8 * x;
+    nets[at] = sort;
+    nets[at + 1] = a;
+    nets[at + 2] = b;
+    nets[at + 3] = c;
+    nets[at + 4] = d;
+    nets[at + 5] = 0;
+    nets[at + 6] = k;
+    nets[at + 7] = 0;
+}
+
+// The row of register k: the net of its rail 0, the nets at its data, and the net at its Ki.
+fn put_register(regs: &mut [u16], k: usize, rail: u16, a: u16, b: u16, ki: u16)
+    requires { ⌜ 4 * k + 4 ≤ length (now regs) ⌝ }
+    ensures { λ _. ⌜ Put (now (regs .entry)) (4 * k) (rail ∷ a ∷ b ∷ ki ∷ []) (now (regs .exit)) ⌝ }
+{
+    let at = 4 * k;
+    regs[at] = rail;
+    regs[at + 1] = a;
+    regs[at + 2] = b;
+    regs[at + 3] = ki;
+}
+
+// The rows of the register or C-element of a note; what stands before the next.
+fn put_part(
+    s: &[u8],
+    note: u16,
+    first: usize,
+    here: Spot,
+    nets: &mut [u16],
+    regs: &mut [u16],
+) -> Spot
+    requires { ⌜ NotesRead (now s) (note ∷ []) × (first + here .net < 2 ^ 16) × (here .register < 2 ^ 16)
+        × (8 * here .net + length (netRows (here .register) (partsIn (now s) (note ∷ []))) ≤ length (now nets))
+        × (4 * here .register + length (registerRows (first + here .net) (partsIn (now s) (note ∷ []))) ≤ length (now regs)) ⌝ }
+    ensures { λ r. ⌜ PartPut (partAt (now (s .entry)) (partNoted note)) first here (now (nets .entry)) (now (nets .exit)) (now (regs .entry))
+        (now (regs .exit)) r ⌝ }
+{
+    let at = (note / 2) as usize;
+    let x = here.net;
+    let k = here.register;
+    let a = netlist::operand(s, at + 1);
+    let b = netlist::operand(s, at + 3);
+    let c = netlist::operand(s, at + 5);
+    if note % 2 == 1 {
+        let d = netlist::operand(s, at + 7);
+        put_net(nets, x, 3, a, b, c, d, 0);
+        return Spot {
+            net: x + 1,
+            register: k,
+        };
+    }
+    put_net(nets, x, 1, a, 0, 0, 0, k as u16);
+    put_net(nets, x + 1, 1, b, 0, 0, 0, k as u16);
+    put_net(nets, x + 2, 2, 0, 0, 0, 0, k as u16);
+    put_register(regs, k, (first + x) as u16, a, b, c);
+    Spot {
+        net: x + 3,
+        register: k + 1,
+    }
+}
+
+// The registers and C-elements of which there are notes, in both tables; `first` is the first net after the gates.
+fn load_parts(s: &[u8], notes: &[u16], first: usize, nets: &mut [u16], regs: &mut [u16])
+    requires { ⌜ NotesRead (now s) (now notes) × (first + 3 * length (now notes) < 2 ^ 16)
+        × (length (netRows 0 (partsIn (now s) (now notes))) ≤ length (now nets))
+        × (length (registerRows first (partsIn (now s) (now notes))) ≤ length (now regs)) ⌝ }
+    ensures nets { λ r. ⌜ Put (now (nets .entry)) 0 (netRows 0 (partsIn (now (s .entry)) (now (notes .entry)))) (now (nets .exit)) ⌝ }
+    ensures registers { λ r. ⌜ Put (now (regs .entry)) 0 (registerRows first (partsIn (now (s .entry)) (now (notes .entry)))) (now (regs .exit)) ⌝ }
+{
+    let mut here = Spot {
+        net: 0,
+        register: 0,
+    };
+    let mut i: usize = 0;
+    while i < notes.len() {
+        here = put_part(s, notes[i], first, here, nets, regs);
+        i += 1;
+    }
+}
+
+// ---- a stage file
+
+// The stage that the file holds, and its registers and C-elements.
+fn load_pipeline(
+    s: &[u8],
+    places: &[u16],
+    most: Limits,
+    counts: Counts,
+    code: &mut [u16],
+    nets: &mut [u16],
+    regs: &mut [u16],
+)
+    requires { ⌜ StageRead most (now s) (now places) counts × NoMore most stageLimits
+        × (largestStage ≤ length (now code))
+        × (32 * mostParts ≤ length (now nets)) × (4 * mostParts ≤ length (now regs)) ⌝ }
+    ensures { λ r. ⌜ PipelineHeld (now (s .entry)) (placesIn most counts (now (places .entry))) (now (code .exit)) (now (nets .exit)) (now (regs .exit)) ⌝ }
+{
+    load_stage(s, places, most, counts, ground_of(counts), code);
+    let from = most.gates + most.outputs;
+    let end = from + (counts.registers + counts.elements);
+    load_parts(
+        s,
+        &places[from..end],
+        2 * counts.inputs + counts.gates,
+        nets,
+        regs,
+    );
+}
+
+// Reads a stage file, with registers or without, within some limits, and loads what it holds.
+pub fn read_pipeline_within(
+    registers: bool,
+    s: &[u8],
+    most: Limits,
+    code: &mut [u16],
+    nets: &mut [u16],
+    regs: &mut [u16],
+) -> Outcome
+    requires { ⌜ NoMore most stageLimits × (largestStage ≤ length (now code))
+        × (32 * mostParts ≤ length (now nets)) × (4 * mostParts ≤ length (now regs)) ⌝ }
+    ensures answered { λ r. ⌜ r ≡ outcomeOf (readFile (stageFile registers) most (now (s .entry))) ⌝ }
+    ensures loaded { λ r. ⌜ HoldsPipeline (now (s .entry)) (readFile (stageFile registers) most (now (s .entry))) (now (code .exit)) (now (nets .exit))
+        (now (regs .exit)) ⌝ }
+{
+    let mut places = [0u16; STAGE_PLACES];
     let outcome = read_file::read_file(netlist::stage_file(registers), most, s, &mut places);
     if let Outcome::Readable(counts) = outcome {
-        load_stage(s, &places, most, counts, code);
+        load_pipeline(s, &places, most, counts, code, nets, regs);
     }
     outcome
 }
 
-// The same of a stage without registers, within the limits of a stage file.
+// Reads a stage file without registers, within the limits of a stage file, and loads the stage that it holds.
 pub fn read_stage(s: &[u8], code: &mut [u16]) -> Outcome
     requires { ⌜ largestStage ≤ length (now code) ⌝ }
     ensures answered { λ r. ⌜ r ≡ outcomeOf (readFile file.Stage stageLimits (now (s .entry))) ⌝ }
     ensures loaded { λ r. ⌜ HoldsStage (now (s .entry)) (readFile file.Stage stageLimits (now (s .entry))) (now (code .exit)) ⌝ }
 {
-    read_stage_within(false, s, netlist::stage_limits(), code)
+    let mut places = [0u16; STAGE_PLACES];
+    let most = netlist::stage_limits();
+    let outcome = read_file::read_file(File::Stage, most, s, &mut places);
+    if let Outcome::Readable(counts) = outcome {
+        load_stage(s, &places, most, counts, ground_of(counts), code);
+    }
+    outcome
 }
 
 // ---- a reference
@@ -170,7 +342,7 @@ pub fn read_reference_within(s: &[u8], most: Limits, code: &mut [u16]) -> Outcom
     ensures answered { λ r. ⌜ r ≡ outcomeOf (readFile file.Reference most (now (s .entry))) ⌝ }
     ensures loaded { λ r. ⌜ HoldsReference (now (s .entry)) (readFile file.Reference most (now (s .entry))) (now (code .exit)) ⌝ }
 {
-    let mut places = [0u16; netlist::REFERENCE_GATES + netlist::OUTPUTS];
+    let mut places = [0u16; REFERENCE_PLACES];
     let outcome = read_file::read_file(File::Reference, most, s, &mut places);
     if let Outcome::Readable(counts) = outcome {
         load_reference(s, &places, most, counts, code);

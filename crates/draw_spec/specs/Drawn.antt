@@ -28,7 +28,7 @@ unused gates x = not (some (eqb x) (usedBy gates))
 unfoldable pub drawnReference : ℕ → ℕ → ℕ → Content
 drawnReference seed n g =
     let gates = gatesFrom n g seed in
-    record { inputs = n; gates = gates; outputs = map (λ x. x ∷ []) (select (unused gates) (numbers 0 (n + g))); care = [] }
+    record { inputs = n; gates = gates; outputs = map (λ x. x ∷ []) (select (unused gates) (numbers 0 (n + g))); care = []; parts = [] }
 
 -- its file, with the outputs "after the gates"
 abbrev pub drawnBytes : ℕ → ℕ → ℕ → List ℕ

@@ -23,7 +23,7 @@ use Rattle.check_spec.specs.Writing.{leaving}
 use Rattle.check_spec.proofs.First.{judged}
 use Rattle.check_spec.proofs.Names.{of-bits-below}
 use Rattle.check_spec.proofs.Laws.{Laws, none, _&_, before, whole-accepted, equal-law, test-law, swept-law}
-use Rattle.check_spec.proofs.Sound.{Sound, Faultless, accepted-faultless, faultless-accepted}
+use Rattle.check_spec.proofs.Sound.{Sound, sound-outputs, Faultless, accepted-faultless, faultless-accepted}
 use Rattle.check_spec.proofs.Writing.{leaves-bytes, leaves-verdict}
 use Rattle.join_spec.specs.declared.JoinAnswer.{JoinAnswer}
 use Rattle.join_spec.specs.Joining.{whole, passedOn, answerWord, seamChecks, joinChecks, Joined, Joinable, JoinDemand}
@@ -92,7 +92,7 @@ module _ (one two : Files) (stageRoom referenceRoom : ℕ) where
   cared-word : Sound one → length (stageIn one .outputs) ≡ stageIn two .inputs → (w : ℕ) → caresFor (stageIn two) (answerWord (referenceIn one) w) ≡ true → IsWord (stageIn two) (answerWord (referenceIn one) w)
   cared-word a counts w e =
       let below = of-bits-below (length (referenceIn one .outputs)) (answer (referenceIn one) (bitOf w)) in
-      and-in _ _ (lt-ltb _ _ (subst (λ (k : ℕ). answerWord (referenceIn one) w < 2 ^ k) (sym (a .outputs) ∙ counts) below)) e
+      and-in _ _ (lt-ltb _ _ (subst (λ (k : ℕ). answerWord (referenceIn one) w < 2 ^ k) (sym (sound-outputs a) ∙ counts) below)) e
 
 -- ---- the call
 

@@ -14,6 +14,8 @@ use Rattle.netlist.specs.Coded.{Coded}
 use Rattle.verdict.specs.declared.Verdict.{Verdict}
 use Rattle.verdict.specs.declared.WordOrder.{WordOrder}
 use Rattle.verdict.specs.declared.WordOrder.the-variants.{FirstHighest, FirstLowest}
+use Rattle.wiring_spec.specs.Parts as p
+use Rattle.wiring_spec.specs.Wires as x
 use Rattle.check_spec.specs.Cases as e
 use Rattle.check_spec.specs.Cases.{verdict, accepted}
 use Rattle.check_spec.specs.Lists as l
@@ -38,6 +40,7 @@ andWire = record {
   gates = code 2 (1 ∷ 3 ∷ []) ∷ code 26 (0 ∷ 2 ∷ 1 ∷ 3 ∷ []) ∷ [];
   outputs = (7 ∷ 6 ∷ []) ∷ (4 ∷ 5 ∷ []) ∷ [];
   care = 1 ∷ 6 ∷ [];
+  parts = [];
 }
 
 pub xor : Content
@@ -46,13 +49,14 @@ xor = record {
   gates = code 25 (0 ∷ 2 ∷ 1 ∷ 3 ∷ []) ∷ code 27 (0 ∷ 2 ∷ 1 ∷ 4 ∷ []) ∷ [];
   outputs = (4 ∷ 5 ∷ []) ∷ (0 ∷ 1 ∷ []) ∷ [];
   care = 2 ∷ [];
+  parts = [];
 }
 
 pub andWireFunction : Content
-andWireFunction = record { inputs = 3; gates = code 2 (0 ∷ 1 ∷ []) ∷ []; outputs = (3 ∷ []) ∷ (2 ∷ []) ∷ []; care = [] }
+andWireFunction = record { inputs = 3; gates = code 2 (0 ∷ 1 ∷ []) ∷ []; outputs = (3 ∷ []) ∷ (2 ∷ []) ∷ []; care = []; parts = [] }
 
 pub xorFunction : Content
-xorFunction = record { inputs = 2; gates = code 4 (0 ∷ 1 ∷ []) ∷ code 1 (2 ∷ []) ∷ []; outputs = (3 ∷ []) ∷ (0 ∷ []) ∷ []; care = [] }
+xorFunction = record { inputs = 2; gates = code 4 (0 ∷ 1 ∷ []) ∷ code 1 (2 ∷ []) ∷ []; outputs = (3 ∷ []) ∷ (0 ∷ []) ∷ []; care = []; parts = [] }
 
 -- rails of the second part are the first's outputs; its gates, here one on the other, and its outputs are moved
 pub joined-stage : joinedBy (netInWhole andWire xor) andWire xor ≡ record {
@@ -60,6 +64,7 @@ pub joined-stage : joinedBy (netInWhole andWire xor) andWire xor ≡ record {
   gates = code 2 (1 ∷ 3 ∷ []) ∷ code 26 (0 ∷ 2 ∷ 1 ∷ 3 ∷ []) ∷ code 25 (7 ∷ 4 ∷ 6 ∷ 5 ∷ []) ∷ code 27 (7 ∷ 4 ∷ 6 ∷ 8 ∷ []) ∷ [];
   outputs = (8 ∷ 9 ∷ []) ∷ (7 ∷ 6 ∷ []) ∷ [];
   care = 1 ∷ 6 ∷ [];
+  parts = [];
 }
 unfolding andWire xor netInWhole joinedBy
 joined-stage = refl
@@ -69,6 +74,7 @@ pub joined-reference : joinedBy (signalInWhole andWireFunction xorFunction) andW
   gates = code 2 (0 ∷ 1 ∷ []) ∷ code 4 (3 ∷ 2 ∷ []) ∷ code 1 (4 ∷ []) ∷ [];
   outputs = (5 ∷ []) ∷ (3 ∷ []) ∷ [];
   care = [];
+  parts = [];
 }
 unfolding andWireFunction xorFunction signalInWhole joinedBy
 joined-reference = refl
@@ -245,7 +251,8 @@ expected cases = map (λ (i : Case). i .expected) cases
 pub computed : answers joins ≡ expected joins
 unfolding joins answers result expected wire wireReference twoWires twoWiresReference andOf and not cared either neither idle fiveGates fiveOperations
     c.cells c.cellAt c.pinCount c.setExpression c.retiredCells c.among c.isRetired c.kindOf b.operand b.operands
-    k.whenFound k.ownCommands k.commandTable k.formIn k.pinsNeeded k.needed k.stray k.misfit k.misfitFrom k.takeGate k.takeCare k.takeSort k.takeCommand k.nextAt
+    k.whenFound k.ownCommands k.commandTable k.formIn k.pinsNeeded k.needed k.pinsUsed k.stray k.misfit k.misfitFrom k.takeGate k.takeCare k.takeElement
+    k.takeSort k.takeCommand k.nextAt r.partNets r.carriesData r.countOf t.wired p.registersOf p.registerCount x.times x.resolve
     r.names k.roleOf k.used r.nameless r.namelessAt r.namelessFrom r.floorAfter r.noted r.finish r.onNext r.readFrom r.readFile t.contentAt v.refusal e.first e.judge
     l.numbers l.select l.some l.every l.ofBits l.reaches e.sweep o.rounds o.risen o.fallen o.reachesItself w.caresFor w.spelled w.names w.words w.operate w.values w.answer
     h.wrong h.incomplete h.highAnd h.unobservable h.fallIncomplete h.fallUnobservable h.looped h.retired h.neverRises h.idle h.checks

@@ -20,16 +20,17 @@ use Rattle.runs.proofs.Series.{series-tight, series-clear}
 use Rattle.netlist.specs.declared.File.the-variants.{Stage, Reference}
 use Rattle.netlist.specs.Reading.{stageLimits, referenceLimits, partStageLimits, partReferenceLimits}
 use Rattle.check_spec.specs.Lists.{bitOf}
-use Rattle.check_spec.specs.Content.{Content, Files, stageIn, referenceIn, partFiles}
+use Rattle.check_spec.specs.Content.{Content, Files, rawIn, stageIn, referenceIn, partFiles}
 use Rattle.check_spec.specs.Rows.{netOf}
 use Rattle.check_spec.specs.Words.{railsFor, caresFor, IsWord, answer}
 use Rattle.check_spec.specs.Demands.{BothRead}
 use Rattle.check_spec.proofs.Loops.{acyclic}
 use Rattle.check_spec.proofs.Names.{bit-of}
 use Rattle.check_spec.proofs.OneWord.{word-data, spells-bit}
-use Rattle.check_spec.proofs.View.{pipeline-reads}
+use Rattle.check_spec.proofs.View.{stage-partless, reference-partless, pipeline-reads}
+use Rattle.check_spec.proofs.Wired.{wired-none, plain-stage}
 use Rattle.check_spec.proofs.Formed.{Formed, Small, read-formed, written-reads}
-use Rattle.check_spec.proofs.Sound.{Sound, Agrees, sound-from, sound-answers, sound-kept}
+use Rattle.check_spec.proofs.Sound.{Sound, sound-inputs, sound-outputs, sound-free, Agrees, sound-from, sound-answers, sound-kept}
 use Rattle.join_spec.specs.Joining.{joinedBy, netInWhole, joinedStage, joinedReference, whole, answerWord, Joined}
 use Rattle.join_spec.proofs.Whole.{RoomForTwo, outputs-length}
 use Rattle.join_spec.proofs.Series.{stage-named, whole-cast, in-series, stage-formed, whole-free}
@@ -69,19 +70,19 @@ module _ (s1 r1 s2 r2 : List ℕ) where
 
     -- the second reference takes as many inputs as the first has outputs
     signals : referenceIn two .inputs ≡ length (referenceIn one .outputs)
-    signals = sym (b .inputs) ∙ seam ∙ a .outputs
+    signals = sym (sound-inputs b) ∙ seam ∙ sound-outputs a
 
     formed1 : Formed Stage partStageLimits (stageIn one)
-    formed1 = read-formed Stage partStageLimits s1 (a .read .0)
+    formed1 = let none = stage-partless partStageLimits s1 in rw (wired-none (rawIn one) none) (read-formed Stage partStageLimits s1 (a .read .0) none)
 
     formed2 : Formed Stage partStageLimits (stageIn two)
-    formed2 = read-formed Stage partStageLimits s2 (b .read .0)
+    formed2 = let none = stage-partless partStageLimits s2 in rw (wired-none (rawIn two) none) (read-formed Stage partStageLimits s2 (b .read .0) none)
 
     ordered1 : Formed Reference partReferenceLimits (referenceIn one)
-    ordered1 = read-formed Reference partReferenceLimits r1 (a .read .1)
+    ordered1 = read-formed Reference partReferenceLimits r1 (a .read .1) (reference-partless partReferenceLimits r1)
 
     ordered2 : Formed Reference partReferenceLimits (referenceIn two)
-    ordered2 = read-formed Reference partReferenceLimits r2 (b .read .1)
+    ordered2 = read-formed Reference partReferenceLimits r2 (b .read .1) (reference-partless partReferenceLimits r2)
 
     answers : (bits : ℕ → Bool) (j : ℕ) → j < length (referenceIn two .outputs) → answer R bits j ≡ answer (referenceIn two) (answer (referenceIn one) bits) j
     answers = whole-answers (referenceIn one) (referenceIn two) partReferenceLimits ordered1 ordered2 signals
@@ -92,20 +93,20 @@ module _ (s1 r1 s2 r2 : List ℕ) where
 
       -- the bits of that word are the first part's answer
       next-bit : (j : ℕ) → j < stageIn two .inputs → bitOf next j ≡ answer (referenceIn one) (bitOf w) j
-      next-bit j l = bit-of (length (referenceIn one .outputs)) (answer (referenceIn one) (bitOf w)) j (omega (arith, a .outputs))
+      next-bit j l = bit-of (length (referenceIn one .outputs)) (answer (referenceIn one) (bitOf w)) j (omega (arith, sound-outputs a))
 
       -- the whole answers to w what the second part answers to it
       answers-next : (j : ℕ) → j < length (stageIn two .outputs) → answer (referenceIn two) (bitOf next) j ≡ answer R (bitOf w) j
       answers-next j l =
-          ap (λ (f : ℕ → Bool). f j) (answer-local (referenceIn two) (bitOf next) (answer (referenceIn one) (bitOf w)) (λ i h. next-bit i (omega (arith, b .inputs))))
-          ∙ sym (answers (bitOf w) j (omega (arith, b .outputs)))
+          ap (λ (f : ℕ → Bool). f j) (answer-local (referenceIn two) (bitOf next) (answer (referenceIn one) (bitOf w)) (λ i h. next-bit i (omega (arith, sound-inputs b))))
+          ∙ sym (answers (bitOf w) j (omega (arith, sound-outputs b)))
 
       whole-conforms : IsWord (stageIn one) w → IsWord (stageIn two) next → Conforms (netOf S) (railsFor w) (answer R (bitOf w))
       unfolding joinedBy
       whole-conforms h h′ =
-          let A = acyclic (stageIn one) (a .free) in
-          let B = acyclic (stageIn two) (b .free) in
-          let W = acyclic S (whole-free (stageIn one) (stageIn two) partStageLimits formed1 formed2 seam (a .free) (b .free)) in
+          let A = acyclic (stageIn one) (sound-free a) in
+          let B = acyclic (stageIn two) (sound-free b) in
+          let W = acyclic S (whole-free (stageIn one) (stageIn two) partStageLimits formed1 formed2 seam (sound-free a) (sound-free b)) in
           let v = answer (referenceIn one) (bitOf w) in
           let spelt : (j : ℕ) → j < stageIn two .inputs → DataOf (railsFor next) (inputRail j) (v j) = λ j l. spells-bit next j (v j) (next-bit j l) in
           let ta = word-tight A w v (a .conforms w h) in
@@ -127,9 +128,10 @@ module _ (s1 r1 s2 r2 : List ℕ) where
       agrees : Agrees S R
       unfolding joinedBy caresFor
       agrees = record {
-        inputs = a .inputs;
-        outputs = outputs-length _ (stageIn one) (stageIn two) ∙ b .outputs ∙ sym (outputs-length _ (referenceIn one) (referenceIn two));
-        free = whole-free (stageIn one) (stageIn two) partStageLimits formed1 formed2 seam (a .free) (b .free);
+        plain = refl;
+        inputs = sound-inputs a;
+        outputs = outputs-length _ (stageIn one) (stageIn two) ∙ sound-outputs b ∙ sym (outputs-length _ (referenceIn one) (referenceIn two));
+        free = whole-free (stageIn one) (stageIn two) partStageLimits formed1 formed2 seam (sound-free a) (sound-free b);
         cast = whole-cast (stageIn one) (stageIn two) (a .cast) (b .cast);
         conforms = λ w h. whole-conforms w h (cared w h);
       }
@@ -144,7 +146,7 @@ module _ (s1 r1 s2 r2 : List ℕ) where
           let h : Sound (whole one two) = sound-from (s .0, r .0) (s .1) (r .1) agrees in
           record {
             reads = (s .0, r .0);
-            stage-is = s .1;
+            stage-is = plain-stage (s .1) (agrees .plain);
             reference-is = r .1;
             answers = λ bits j l. ap (λ (c : Content). answer c bits j) (r .1) ∙ answers bits j l;
             whole-accepted = sound-answers h;

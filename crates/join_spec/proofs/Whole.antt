@@ -69,7 +69,7 @@ module _ (f : File) (move : ℕ → ℕ) (one two : Content) where
 
   -- of the whole
   abbrev W : Nets
-  W = record { inputs = one .inputs; gates = N .gates + M .gates }
+  W = record { inputs = one .inputs; gates = N .gates + M .gates; parts = [] }
 
   -- what the parts may name, the whole may, where the second part is moved
   pub record Moves : Type 0 where
@@ -89,6 +89,7 @@ module _ (f : File) (move : ℕ → ℕ) (one two : Content) where
         (λ vs o. record { whole = length-map vs move ∙ o .whole; named = Each-mapped _ _ move (names .outputs) 0 vs (o .named) }) (two .outputs) (h′ .outputs));
     care-in = h .care-in;
     care-stage = h .care-stage;
+    plain = refl;
   }
     where
       same-named : (k i : ℕ) (vs : List ℕ) → EachFrom (asked f sort.Gate N k) i vs → EachFrom (asked f sort.Gate W k) i vs

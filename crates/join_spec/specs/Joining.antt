@@ -32,6 +32,7 @@ joinedBy inWhole one two = record {
   gates = one .gates ++ map (λ (g : Coded). record { code = g .code; operands = map inWhole (g .operands) }) (two .gates);
   outputs = map (map inWhole) (two .outputs);
   care = one .care;
+  parts = [];
 }
 
 -- A net of the second part in the whole: rail 0 or 1 of its input j is that rail of the first part's output j, and its gates' nets follow

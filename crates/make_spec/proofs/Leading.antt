@@ -17,7 +17,7 @@ use Rattle.verdict.proofs.Names.{select-in, in-select}
 use Rattle.check_spec.specs.Lists.{numbers, some, reaches}
 use Rattle.check_spec.specs.Content.{Content}
 use Rattle.check_spec.specs.Rows.{noGate}
-use Rattle.check_spec.proofs.Loops.{some-in, some-out, reaches-more}
+use Rattle.verdict.proofs.Steps.{some-in, some-out, reaches-more}
 use Rattle.make_spec.specs.Make.{operandsOf, readers, isOutput, leadsOut, LeadsFound}
 use Rattle.make_spec.proofs.Lists.{all-in, among-in, in-among}
 

@@ -12,7 +12,7 @@ use Rattle.runs.proofs.Test.{eqb-same, eqb-eq}
 use Rattle.netlist.specs.Writing.{All}
 use Rattle.verdict.specs.Graph.{In}
 use Rattle.check_spec.specs.Lists.{some}
-use Rattle.check_spec.proofs.Loops.{some-in, some-out}
+use Rattle.verdict.proofs.Steps.{some-in, some-out}
 
 pub all-at : {X : Type 0} (P : X → Type 0) (xs : List X) → All P xs → (i : ℕ) (d : X) → i < length xs → P (getD xs i d)
 all-at P [] h i d l = absurd (omega arith)

@@ -32,7 +32,7 @@ use Rattle.verdict.proofs.Written.{holding-take}
 use Rattle.check_spec.proofs.Cut.{read-short}
 use Rattle.check_spec.specs.Cases.{verdict, accepted, first, judge, sweep, sweepPlaces}
 use Rattle.check_spec.specs.Lists.{numbers}
-use Rattle.check_spec.specs.Content.{Content, contentAt, files}
+use Rattle.check_spec.specs.Content.{Content, contentAt, stageIn, files}
 use Rattle.check_spec.specs.Loaded.{fromReference}
 use Rattle.check_spec.specs.Rows.{noGate}
 use Rattle.check_spec.specs.Verdicts.{refusal, reading}
@@ -42,6 +42,7 @@ use Rattle.check_spec.proofs.First.{judged}
 use Rattle.check_spec.proofs.Laws.{Laws, none, _&_, judge-later, before, whole-accepted, places-law, test-law}
 use Rattle.check_spec.proofs.Sound.{Sound, Agrees, reading-number, sound-from, sound-answers, sound-kept}
 use Rattle.check_spec.proofs.View.{pipeline-reads}
+use Rattle.check_spec.proofs.Wired.{plain-stage}
 use Rattle.check_spec.proofs.Formed.{Formed, netsOf, read-of, written-reads}
 use Rattle.check_spec.proofs.Back.{reference-content}
 use Rattle.check_spec.proofs.Writing.{leaves-bytes, leaves-verdict}
@@ -106,6 +107,7 @@ module _ (r : parsed.Reference) (formed : ReferenceFormed referenceLimits r) whe
     outputs = rw (outputs-are r formed) (outputs (r .outputs) (formed .outputs-formed));
     care-in = tt;
     care-stage = inl refl;
+    plain = refl;
   }
     where
       outputs : (l : List ℕ) → All (λ v. v < size r formed) l → All (OutputFormed Stage (netsOf c)) (map (railsAt (all r formed)) l)
@@ -115,6 +117,7 @@ module _ (r : parsed.Reference) (formed : ReferenceFormed referenceLimits r) whe
   module _ (lead : (s : ℕ) → s < size r formed → leadsOut (fromReference r) s ≡ true) where
     agrees : Agrees c (fromReference r)
     agrees = record {
+      plain = refl;
       inputs = refl;
       outputs = outputs-long r formed ∙ sym (length-map (r .outputs) (λ (v : ℕ). v ∷ []));
       free = free r formed;
@@ -129,12 +132,13 @@ module _ (r : parsed.Reference) (formed : ReferenceFormed referenceLimits r) whe
     made-from few reference read is =
         let s = pipeline-reads true stageLimits _ (written-reads Stage stageLimits c (record { words = omega arith; nets = omega arith }) (stage-formed few)) in
         let h : Sound (files (madeBytes (fromReference r)) reference) = sound-from (s .0, read) (s .1) is agrees in
+        let is-stage : stageIn (files (madeBytes (fromReference r)) reference) ≡ c = plain-stage (s .1) refl in
         record {
           reads = h .read;
-          stage-is = s .1 ∙ ap madeStage (sym is);
+          stage-is = is-stage ∙ ap madeStage (sym is);
           stage-accepted = sound-answers h;
           kept = sound-kept h;
-          waits = rw (s .1, is) (λ w h. word-waits r formed w);
+          waits = rw (is-stage, is) (λ w h. word-waits r formed w);
         }
 
 -- ---- the call
@@ -148,7 +152,7 @@ pub record Makes (r : Content) (room : ℕ) : Type 0 where
 unfoldable make-laws : (r : Content) (room : ℕ) → Laws (Makes r room) (λ v. Unit {0}) (makeChecks r room)
 unfolding makeChecks
 make-laws r room =
-    places-law 25 2 (r .inputs + length (r .gates)) (λ x. not (leadsOut r x)) (λ h x l. ap not (h .leads x l)) (λ x. tt)
+    places-law 25 2 (r .inputs + length (r .gates)) (λ x. not (leadsOut r x)) (λ h x l. ap not (h .leads x l)) (λ x l e. tt)
     & test-law 26 2 (length (built r .gates)) 0 (ltb 256 (length (built r .gates))) (λ h. h .few) tt
     & test-law 27 3 0 0 (ltb room (length (madeBytes r))) (λ h. h .fits) tt
     & none

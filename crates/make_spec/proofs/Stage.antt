@@ -67,7 +67,7 @@ module _ {most : Limits} (r : Reference) (formed : ReferenceFormed most r) where
   all = built (fromReference r)
 
   abbrev pub stage : Content
-  stage = record { inputs = n; gates = all .gates; outputs = map (λ (o : List ℕ). railsAt all (getD o 0 0)) (map (λ (v : ℕ). v ∷ []) (r .outputs)); care = [] }
+  stage = record { inputs = n; gates = all .gates; outputs = map (λ (o : List ℕ). railsAt all (getD o 0 0)) (map (λ (v : ℕ). v ∷ []) (r .outputs)); care = []; parts = [] }
 
   -- ---- what stands where
 

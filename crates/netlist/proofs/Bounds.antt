@@ -37,6 +37,8 @@ module _ {few most : Limits} (less : NoMore few most) where
         gates-in = omega (arith, h .gates-in, less .gates-in);
         outputs-in = (h .outputs-in .0, omega (arith, h .outputs-in .1, less .outputs-in));
         care-in = h .care-in;
+        registers-in = h .registers-in;
+        elements-in = h .elements-in;
         laid = h .laid;
         named = h .named;
       })

@@ -12,11 +12,11 @@ use borrow.Author.Tests.{lt-leb, le-ltb}
 use Rattle.netlist.specs.Types.{File, Sort, Form, Limits, Counts, Cursor, Next, Command, Refused}
 use Rattle.netlist.specs.Types.sort
 use Rattle.netlist.specs.Bytes.{byte, operand}
-use Rattle.netlist.specs.Commands.{isSort, formOf, width, needed, stray, misfitFrom, takeGate, takeCare, takeSort, takeCommand, nextAt}
+use Rattle.netlist.specs.Commands.{isSort, formOf, width, needed, pinsUsed, stray, misfitFrom, takeGate, takeCare, takeElement, takeSort, takeCommand, nextAt}
 use Rattle.netlist.specs.Reading.{Reading, Places, noPlaces, countsOf, noted, finish, onNext, readFrom, readFile}
-use Rattle.netlist.specs.Writing.{widthFor}
+use Rattle.netlist.specs.Writing.{formFor, widthFor, Has}
 use Rattle.netlist.specs.Read.{farthest}
-use Rattle.netlist.proofs.Encoding.{width-in, wide-gate, width-gate}
+use Rattle.netlist.proofs.Encoding.{form-for, element-form, width-in, wide-gate, width-gate}
 use Rattle.netlist.proofs.OneCommand.{There, next-there}
 use Rattle.netlist.proofs.Walk.{finish-more, Near, near-start, near-far, near-noted}
 
@@ -46,16 +46,31 @@ module _ (f : File) (most : Limits) (s : List ℕ) (m : ℕ) (far : farthest f m
   misfit-cut k i at zero l = refl
   misfit-cut k i at (suc j) l = rw (operand-cut at (omega arith), misfit-cut k (i + 1) (at + 2) j (omega arith))
 
+  pins-cut : (place : ℕ) → place + 8 ≤ m → pinsUsed cut place ≡ pinsUsed s place
+  unfolding pinsUsed
+  pins-cut place l = rw (operand-cut (place + 4) (omega arith), operand-cut (place + 6) (omega arith))
+
   module _ (at : ℕ) (room : at + widthFor f sort.Gate ≤ m) where
-    sort-cut : (before : Counts) (form : Form) → at + width form ≤ m → at + form .lead + 2 ≤ m → (taken : Next) (c : Sort) → takeSort f most cut at before form taken c ≡ takeSort f most s at before form taken c
-    unfolding takeSort takeGate takeCare
-    sort-cut before form l o taken sort.Inputs = rw (byte-cut (at + 1) (omega (arith, width-gate f)))
-    sort-cut before form l o taken sort.Gate =
+    sort-cut : (before : Counts) (form : Form) → at + width form ≤ m → at + form .lead + 2 ≤ m → (taken : Next) (c : Sort) → (c ≡ sort.Element → at + form .lead + 8 ≤ m) → takeSort f most cut at before form taken c ≡ takeSort f most s at before form taken c
+    unfolding takeSort takeGate takeCare takeElement
+    sort-cut before form l o taken sort.Inputs p = rw (byte-cut (at + 1) (omega (arith, width-gate f)))
+    sort-cut before form l o taken sort.Gate p =
         rw (byte-cut (at + 1) (omega (arith, width-gate f)), misfit-cut (needed f (byte s (at + 1))) 0 (at + form .lead) (form .operands) (omega arith))
-    sort-cut before form l o taken sort.Output = refl
-    sort-cut before form l o taken sort.Care = rw (operand-cut (at + form .lead) o)
-    sort-cut before form l o taken sort.End = refl
-    sort-cut before form l o taken sort.Unknown = refl
+    sort-cut before form l o taken sort.Output p = refl
+    sort-cut before form l o taken sort.Care p = rw (operand-cut (at + form .lead) o)
+    sort-cut before form l o taken sort.Register p = refl
+    sort-cut before form l o taken sort.Element p =
+        rw (pins-cut (at + form .lead) (p refl), misfit-cut (pinsUsed s (at + form .lead)) 0 (at + form .lead) (form .operands) (omega arith))
+    sort-cut before form l o taken sort.End p = refl
+    sort-cut before form l o taken sort.Unknown p = refl
+
+    -- a C-element has four pins
+    four-pins : (form : Form) → form ≡ formFor f (form .sort) → at + width form ≤ m → form .sort ≡ sort.Element → at + form .lead + 8 ≤ m
+    four-pins form is l e =
+        let row = is ∙ ap (formFor f) e in
+        let own : Has f sort.Element = sym (ap (λ (x : Form). x .sort) row) ∙ e in
+        let same = row ∙ element-form f own in
+        rw same (omega (arith, rw same at l))
 
     next-cut : (before : Counts) → nextAt f most cut at before ≡ nextAt f most s at before
     unfolding takeCommand
@@ -65,7 +80,7 @@ module _ (f : File) (most : Limits) (s : List ℕ) (m : ℕ) (far : farthest f m
         let taken = Command (form .sort) (record { at = at + width form }) in
         in-room f most cut at m before room inside (omega (arith, length-cut))
         ∙ ap (λ (b : ℕ). cond (stray at (formOf f b .sort)) (Refused 2 at) (takeCommand f most cut at before (formOf f b))) (byte-cut at inside)
-        ∙ ap (λ (x : Next). cond (stray at (form .sort)) (Refused 2 at) x) (sort-cut before form (omega (arith, width-in f (byte s at))) (omega (arith, width-in f (byte s at))) taken (form .sort))
+        ∙ ap (λ (x : Next). cond (stray at (form .sort)) (Refused 2 at) x) (sort-cut before form (omega (arith, width-in f (byte s at))) (omega (arith, width-in f (byte s at))) taken (form .sort) (four-pins form (form-for f (byte s at)) (omega (arith, width-in f (byte s at)))))
         ∙ sym (in-room f most s at m before room inside long)
 
     finish-cut : (p : Places) → finish f cut at p ≡ finish f s at p
@@ -80,6 +95,8 @@ module _ (f : File) (most : Limits) (s : List ℕ) (m : ℕ) (far : farthest f m
   noted-cut at p sort.Gate room = refl
   noted-cut at p sort.Output room = refl
   noted-cut at p sort.Care room = rw (operand-cut (at + 1) (omega (arith, wide-gate f)))
+  noted-cut at p sort.Register room = refl
+  noted-cut at p sort.Element room = refl
   noted-cut at p sort.End room = refl
   noted-cut at p sort.Unknown room = refl
 
@@ -100,6 +117,8 @@ module _ (f : File) (most : Limits) (s : List ℕ) (m : ℕ) (far : farthest f m
     command-cut sort.Gate next a t = goes-on sort.Gate next a t refl
     command-cut sort.Output next a t = goes-on sort.Output next a t refl
     command-cut sort.Care next a t = goes-on sort.Care next a t refl
+    command-cut sort.Register next a t = goes-on sort.Register next a t refl
+    command-cut sort.Element next a t = goes-on sort.Element next a t refl
     command-cut sort.End next a t = finish-cut at (near-room at p near) p
     command-cut sort.Unknown next a t = goes-on sort.Unknown next a t refl
 

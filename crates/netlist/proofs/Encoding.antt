@@ -16,7 +16,7 @@ use Rattle.netlist.specs.Types.{File, Sort, Form}
 use Rattle.netlist.specs.Types.file
 use Rattle.netlist.specs.Types.sort
 use Rattle.netlist.specs.Commands.{asForm, commandTable, ownCommands, formIn, formOf, width, isSort, pinsNeeded, needed}
-use Rattle.netlist.specs.Writing.{commandByte, formFor, widthFor, operandCount, Has, Item, gate, output, care, sortOf, codesOf, All}
+use Rattle.netlist.specs.Writing.{commandByte, formFor, widthFor, operandCount, Has, Item, gate, output, care, register, element, sortOf, codesOf, All}
 
 -- two constructors are never equal: `cc` makes 0 ≡ 1 of it
 pub clash : _≡_ {A = ℕ} 0 1 → ⊥
@@ -48,7 +48,7 @@ Alone f form = form ≡ formFor f (form .sort)
 pub form-for : (f : File) (b : ℕ) → Alone f (formOf f b)
 unfolding commandTable ownCommands formIn
 form-for file.Stage = table-all (λ b. Alone file.Stage) (λ b. refl) (commandTable file.Stage) (refl, (refl, (refl, (refl, (refl, tt)))))
-form-for file.Pipeline = table-all (λ b. Alone file.Pipeline) (λ b. refl) (commandTable file.Pipeline) (refl, (refl, (refl, (refl, (refl, tt)))))
+form-for file.Pipeline = table-all (λ b. Alone file.Pipeline) (λ b. refl) (commandTable file.Pipeline) (refl, (refl, (refl, (refl, (refl, (refl, (refl, tt)))))))
 form-for file.Reference = table-all (λ b. Alone file.Reference) (λ b. refl) (commandTable file.Reference) (refl, (refl, (refl, (refl, tt))))
 
 -- every file has these sorts of commands; care words a reference has not
@@ -91,7 +91,7 @@ only-byte file.Stage =
     ((λ e. refl), ((λ e. refl), ((λ e. refl), ((λ e. refl), ((λ e. refl), tt)))))
 only-byte file.Pipeline =
     table-all (Only file.Pipeline) (λ b e. absurd (clash (cc))) (commandTable file.Pipeline)
-    ((λ e. refl), ((λ e. refl), ((λ e. refl), ((λ e. refl), ((λ e. refl), tt)))))
+    ((λ e. refl), ((λ e. refl), ((λ e. refl), ((λ e. refl), ((λ e. refl), ((λ e. refl), ((λ e. refl), tt)))))))
 only-byte file.Reference =
     table-all (Only file.Reference) (λ b e. absurd (clash (cc))) (commandTable file.Reference) ((λ e. refl), ((λ e. refl), ((λ e. refl), ((λ e. refl), tt))))
 
@@ -123,6 +123,35 @@ care-form file.Stage e = refl
 care-form file.Pipeline e = refl
 care-form file.Reference e = absurd (clash (cc))
 
+pub register-form : (f : File) → Has f sort.Register → formFor f sort.Register ≡ asForm sort.Register 1 3
+unfolding commandTable ownCommands formIn
+register-form file.Stage e = absurd (clash (cc))
+register-form file.Pipeline e = refl
+register-form file.Reference e = absurd (clash (cc))
+
+pub element-form : (f : File) → Has f sort.Element → formFor f sort.Element ≡ asForm sort.Element 1 4
+unfolding commandTable ownCommands formIn
+element-form file.Stage e = absurd (clash (cc))
+element-form file.Pipeline e = refl
+element-form file.Reference e = absurd (clash (cc))
+
+-- a pipeline alone has registers and C-elements
+pub stage-registerless : Has file.Stage sort.Register → ⊥
+unfolding commandTable ownCommands formIn
+stage-registerless e = clash (cc)
+
+pub stage-elementless : Has file.Stage sort.Element → ⊥
+unfolding commandTable ownCommands formIn
+stage-elementless e = clash (cc)
+
+pub reference-registerless : Has file.Reference sort.Register → ⊥
+unfolding commandTable ownCommands formIn
+reference-registerless e = clash (cc)
+
+pub reference-elementless : Has file.Reference sort.Element → ⊥
+unfolding commandTable ownCommands formIn
+reference-elementless e = clash (cc)
+
 pub width-care : (f : File) → widthFor f sort.Care ≡ 1 + 2 * operandCount f sort.Care
 unfolding commandTable ownCommands formIn
 width-care = each-file (λ f. widthFor f sort.Care ≡ 1 + 2 * operandCount f sort.Care) (refl, refl, refl)
@@ -145,6 +174,8 @@ pub item-form : (f : File) (i : Item) → Has f (sortOf i) → formFor f (sortOf
 item-form f (gate c) h = gate-form f
 item-form f (output vs) h = output-form f
 item-form f (care w) h = care-form f h ∙ ap (asForm sort.Care 1) (sym (ap (λ (x : Form). x .operands) (care-form f h)))
+item-form f (register vs) h = register-form f h ∙ ap (asForm sort.Register 1) (sym (ap (λ (x : Form). x .operands) (register-form f h)))
+item-form f (element vs) h = element-form f h ∙ ap (asForm sort.Element 1) (sym (ap (λ (x : Form). x .operands) (element-form f h)))
 
 pub item-width : (f : File) (i : Item) → Has f (sortOf i) → widthFor f (sortOf i) ≡ 1 + length (codesOf i) + 2 * operandCount f (sortOf i)
 item-width f i h = ap width (item-form f i h)
@@ -160,7 +191,7 @@ width-in file.Stage =
     (omega arith, (omega arith, (omega arith, (omega arith, (omega arith, tt)))))
 width-in file.Pipeline =
     table-all (λ b form. Sized file.Pipeline form) (λ b. omega arith) (commandTable file.Pipeline)
-    (omega arith, (omega arith, (omega arith, (omega arith, (omega arith, tt)))))
+    (omega arith, (omega arith, (omega arith, (omega arith, (omega arith, (omega arith, (omega arith, tt)))))))
 width-in file.Reference = table-all (λ b form. Sized file.Reference form) (λ b. omega arith) (commandTable file.Reference) (omega arith, (omega arith, (omega arith, (omega arith, tt))))
 
 pub wide-gate : (f : File) → 3 ≤ widthFor f sort.Gate

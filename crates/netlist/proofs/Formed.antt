@@ -10,7 +10,7 @@ use Rattle.netlist.specs.Bytes.{byte, operands}
 use Rattle.netlist.specs.Commands.{needed}
 use Rattle.netlist.specs.Reading.{Nets, asked, Places, netsOf, readFile, readable}
 use Rattle.netlist.specs.Content.{Coded, codedAt}
-use Rattle.netlist.specs.Writing.{widthFor, operandCount, Item, gate, output, care, gatesIn, outputsIn, All, EachFrom, netsIn, ItemsFit}
+use Rattle.netlist.specs.Writing.{widthFor, operandCount, Item, gate, output, care, register, element, gatesIn, outputsIn, All, EachFrom, netsIn, ItemsFit}
 use Rattle.netlist.proofs.Operands.{length-operands}
 use Rattle.netlist.proofs.Laid.{Laid, Named, wiredAt, laid-code, laid-operands, laid-gates, laid-outputs}
 use Rattle.netlist.proofs.Walk.{readable-laid, nets-places}
@@ -45,6 +45,8 @@ module _ (f : File) (N : Nets) where
       let r = fits-formed k items (h .1) in
       (r .0, (record { whole = h .0 .whole; named = rw (output-names f N k) (h .0 .named) }, r .1))
   fits-formed k (care w ∷ items) h = fits-formed k items (h .1)
+  fits-formed k (register vs ∷ items) h = fits-formed k items (h .1)
+  fits-formed k (element vs ∷ items) h = fits-formed k items (h .1)
 
   laid-formed : (s : List ℕ) (at k : ℕ) (items : List Item) → Laid f s at items → Named f N k items → ItemsFormed f N k items
   laid-formed s at k [] h m = (tt, tt)
@@ -57,6 +59,8 @@ module _ (f : File) (N : Nets) where
       let r = laid-formed s (at + widthFor f sort.Output) k items (h .1) (m .1) in
       (r .0, (record { whole = ap length (sym (h .0 .shown)) ∙ length-operands s (at + 1) (operandCount f sort.Output); named = rw (output-names f N k) (m .0) }, r .1))
   laid-formed s at k (care w ∷ items) h m = laid-formed s (at + widthFor f sort.Care) k items (h .1) (m .1)
+  laid-formed s at k (register vs ∷ items) h m = laid-formed s (at + widthFor f sort.Register) k items (h .1) (m .1)
+  laid-formed s at k (element vs ∷ items) h m = laid-formed s (at + widthFor f sort.Element) k items (h .1) (m .1)
 
 pub readable-formed : (f : File) (most : Limits) (s : List ℕ) (p : Places) → readFile f most s ≡ readable p →
     GatesFormed f (netsOf p) 0 (map (codedAt f s) (p .gates)) × All (OutputFormed f (netsOf p)) (map (wiredAt f s) (p .outputs))

@@ -9,12 +9,12 @@ use lib.ListN.{length, getD}
 use Rattle.netlist.specs.Types.{File, Limits}
 use Rattle.netlist.specs.Types.file
 use Rattle.netlist.specs.Types.sort
-use Rattle.netlist.specs.Reading.{Places, netsOf, readFile, readable}
+use Rattle.netlist.specs.Reading.{Places, sortsOf, netsOf, readFile, readable}
 use Rattle.netlist.specs.Content.{Coded, codedAt}
-use Rattle.netlist.specs.Writing.{widthFor, Item, gate, output, care, gatesIn, outputsIn, careIn, gatePlaces, outputPlaces, writeFile, All, FileFits}
+use Rattle.netlist.specs.Writing.{widthFor, Item, gate, output, care, register, element, gatesIn, outputsIn, careIn, gatePlaces, outputPlaces, partsIn, writeFile, All, FileFits}
 use Rattle.netlist.proofs.Lists.{Bytes, map-back, map-again}
 use Rattle.netlist.proofs.Encoding.{width-output, width-care}
-use Rattle.netlist.proofs.Laid.{wiredAt, length-gatePlaces}
+use Rattle.netlist.proofs.Laid.{wiredAt, length-gatePlaces, sorts-partPlaces}
 use Rattle.netlist.proofs.ReadBack.{gates-write, outputs-write, write-read}
 use Rattle.netlist.proofs.Readable.{readable-read}
 use Rattle.netlist.proofs.Formed.{GatesFormed, OutputFormed, readable-formed}
@@ -31,26 +31,32 @@ places-from f at (gate c ∷ items) zero l = omega arith
 places-from f at (gate c ∷ items) (suc k) l = omega (arith, places-from f (at + widthFor f sort.Gate) items k (omega arith))
 places-from f at (output vs ∷ items) k l = omega (arith, places-from f (at + widthFor f sort.Output) items k l)
 places-from f at (care w ∷ items) k l = omega (arith, places-from f (at + widthFor f sort.Care) items k l)
+places-from f at (register vs ∷ items) k l = omega (arith, places-from f (at + widthFor f sort.Register) items k l)
+places-from f at (element vs ∷ items) k l = omega (arith, places-from f (at + widthFor f sort.Element) items k l)
 
-only-outputs : (items : List Item) → careIn items ≡ [] → gatesIn items ≡ [] → items ≡ map output (outputsIn items)
-only-outputs [] n e = refl
-only-outputs (gate c ∷ items) n e = absurd (omega (arith, ap length e))
-only-outputs (output vs ∷ items) n e = ap {B = List Item} (λ l. output vs ∷ l) (only-outputs items n e)
-only-outputs (care w ∷ items) n e = absurd (omega (arith, ap length n))
+only-outputs : (items : List Item) → partsIn items ≡ [] → careIn items ≡ [] → gatesIn items ≡ [] → items ≡ map output (outputsIn items)
+only-outputs [] q n e = refl
+only-outputs (gate c ∷ items) q n e = absurd (omega (arith, ap length e))
+only-outputs (output vs ∷ items) q n e = ap {B = List Item} (λ l. output vs ∷ l) (only-outputs items q n e)
+only-outputs (care w ∷ items) q n e = absurd (omega (arith, ap length n))
+only-outputs (register vs ∷ items) q n e = absurd (omega (arith, ap length q))
+only-outputs (element vs ∷ items) q n e = absurd (omega (arith, ap length q))
 
-gates-first : (f : File) (at : ℕ) (items : List Item) → careIn items ≡ [] → AllBefore (gatePlaces f at items) (outputPlaces f at items) →
+gates-first : (f : File) (at : ℕ) (items : List Item) → partsIn items ≡ [] → careIn items ≡ [] → AllBefore (gatePlaces f at items) (outputPlaces f at items) →
     items ≡ map gate (gatesIn items) ++ map output (outputsIn items)
-gates-first f at [] n h = refl
-gates-first f at (gate c ∷ items) n h =
-    ap {B = List Item} (λ l. gate c ∷ l) (gates-first f (at + widthFor f sort.Gate) items n (λ k j a b. h (suc k) j (omega arith) b))
-gates-first f at (care w ∷ items) n h = absurd (omega (arith, ap length n))
-gates-first f at (output vs ∷ items) n h = go (gatesIn items) refl
+gates-first f at [] q n h = refl
+gates-first f at (gate c ∷ items) q n h =
+    ap {B = List Item} (λ l. gate c ∷ l) (gates-first f (at + widthFor f sort.Gate) items q n (λ k j a b. h (suc k) j (omega arith) b))
+gates-first f at (care w ∷ items) q n h = absurd (omega (arith, ap length n))
+gates-first f at (register vs ∷ items) q n h = absurd (omega (arith, ap length q))
+gates-first f at (element vs ∷ items) q n h = absurd (omega (arith, ap length q))
+gates-first f at (output vs ∷ items) q n h = go (gatesIn items) refl
   where
     later : ℕ
     later = at + widthFor f sort.Output
 
     go : (cs : List Coded) → gatesIn items ≡ cs → output vs ∷ items ≡ map gate (gatesIn items) ++ map output (vs ∷ outputsIn items)
-    go [] e = rw e (ap {B = List Item} (λ l. output vs ∷ l) (only-outputs items n e))
+    go [] e = rw e (ap {B = List Item} (λ l. output vs ∷ l) (only-outputs items q n e))
     go (c ∷ cs) e =
         let some : 0 < length (gatePlaces f later items) = omega (arith, length-gatePlaces f later items, ap length e) in
         absurd (omega (arith, places-from f later items 0 some, width-output f, h 0 0 some (omega arith)))
@@ -75,18 +81,20 @@ none-left : (f : File) (at : ℕ) (ws : List ℕ) → at + widthFor f sort.Care 
 none-left f at [] h = refl
 none-left f at (w ∷ ws) h = absurd (omega (arith, width-care f))
 
-pub in-order : (f : File) (at : ℕ) (items : List Item) → CareFirst f at (length (careIn items)) (gatePlaces f at items) (outputPlaces f at items) →
+pub in-order : (f : File) (at : ℕ) (items : List Item) → partsIn items ≡ [] → CareFirst f at (length (careIn items)) (gatePlaces f at items) (outputPlaces f at items) →
     AllBefore (gatePlaces f at items) (outputPlaces f at items) → items ≡ map care (careIn items) ++ (map gate (gatesIn items) ++ map output (outputsIn items))
-in-order f at [] c h = refl
-in-order f at (care w ∷ items) c h =
+in-order f at [] q c h = refl
+in-order f at (care w ∷ items) q c h =
     ap {B = List Item} (λ l. care w ∷ l)
-    (in-order f (at + widthFor f sort.Care) items ((λ k l. omega (arith, c .0 k l)), (λ k l. omega (arith, c .1 k l))) h)
-in-order f at (gate x ∷ items) c h =
+    (in-order f (at + widthFor f sort.Care) items q ((λ k l. omega (arith, c .0 k l)), (λ k l. omega (arith, c .1 k l))) h)
+in-order f at (register vs ∷ items) q c h = absurd (omega (arith, ap length q))
+in-order f at (element vs ∷ items) q c h = absurd (omega (arith, ap length q))
+in-order f at (gate x ∷ items) q c h =
     let n = none-left f at (careIn items) (c .0 0 (omega arith)) in
-    gates-first f at (gate x ∷ items) n h ∙ rw n
-in-order f at (output vs ∷ items) c h =
+    gates-first f at (gate x ∷ items) q n h ∙ rw n
+in-order f at (output vs ∷ items) q c h =
     let n = none-left f at (careIn items) (c .1 0 (omega arith)) in
-    gates-first f at (output vs ∷ items) n h ∙ rw n
+    gates-first f at (output vs ∷ items) q n h ∙ rw n
 
 -- ---- contents with gates G and outputs O: to them from coded gates and lists of operands, and back
 
@@ -112,6 +120,12 @@ module _ {G O : Type 0} (toG : Coded → G) (fromG : G → Coded) (toO : List �
   careIn-items [] [] (o ∷ os) = careIn-items [] [] os
   careIn-items [] (g ∷ gs) os = careIn-items [] gs os
 
+  pub partsIn-items : (ws : List ℕ) (gs : List G) (os : List O) → partsIn (itemsOf ws gs os) ≡ []
+  partsIn-items (w ∷ ws) gs os = partsIn-items ws gs os
+  partsIn-items [] [] [] = refl
+  partsIn-items [] [] (o ∷ os) = partsIn-items [] [] os
+  partsIn-items [] (g ∷ gs) os = partsIn-items [] gs os
+
   module _ (f : File) (most : Limits) where
     -- a content that is written is what its places show
     module _ (n : ℕ) (ws : List ℕ) (gs : List G) (os : List O) (fits : FileFits f most n (itemsOf ws gs os)) where
@@ -129,18 +143,20 @@ module _ {G O : Type 0} (toG : Coded → G) (fromG : G → Coded) (toO : List �
 
     -- bytes that are readable, with the care words and then the gates first, are what writing their content gives
     module _ (s : List ℕ) (small : Bytes s) (p : Places) (e : readFile f most s ≡ readable p) where
-      pub write-back : CareFirst f 2 (length (p .care)) (p .gates) (p .outputs) → AllBefore (p .gates) (p .outputs) →
+      pub write-back : p .parts ≡ [] → CareFirst f 2 (length (p .care)) (p .gates) (p .outputs) → AllBefore (p .gates) (p .outputs) →
           ((cs : List Coded) → GatesFormed f (netsOf p) 0 cs → All (λ c. fromG (toG c) ≡ c) cs) →
           ((vss : List (List ℕ)) → All (OutputFormed f (netsOf p)) vss → All (λ vs. fromO (toO vs) ≡ vs) vss) →
           s ≡ writeFile f (p .inputs) (itemsOf (p .care) (map (λ at. toG (codedAt f s at)) (p .gates)) (map (λ at. toO (wiredAt f s at)) (p .outputs)))
-      write-back before first codes wires =
+      write-back partless before first codes wires =
           let h = write-read f most s p e in
           let formed = readable-formed f most s p e in
+          let none : partsIn (h .items) ≡ [] =
+          sym (sorts-partPlaces f 2 (h .items)) ∙ ap sortsOf (sym (ap (λ (x : Places). x .parts) (h .item-places)) ∙ partless) in
           let ordered = subst (λ (x : Places). AllBefore (x .gates) (x .outputs)) (h .item-places) first in
           let leading = subst (λ (x : Places). CareFirst f 2 (length (x .care)) (x .gates) (x .outputs)) (h .item-places) before in
           h .bytes small
           ∙ ap (writeFile f (p .inputs))
-          (in-order f 2 (h .items) leading ordered
+          (in-order f 2 (h .items) none leading ordered
           ∙ sym (ap₂ (λ (x y : List Item). map care (p .care) ++ (x ++ y))
           (map-again gate fromG toG (codedAt f s) (p .gates) (codes (map (codedAt f s) (p .gates)) (formed .0)) ∙ ap (map gate) (h .gates))
           (map-again output fromO toO (wiredAt f s) (p .outputs) (wires (map (wiredAt f s) (p .outputs)) (formed .1)) ∙ ap (map output) (h .outputs))

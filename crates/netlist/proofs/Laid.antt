@@ -9,11 +9,11 @@ use lib.ListN.{length}
 use Rattle.netlist.specs.Types.{File, Sort, Form, Limits, Found, Nothing}
 use Rattle.netlist.specs.Types.sort
 use Rattle.netlist.specs.Bytes.{byte, operand, operands, absent}
-use Rattle.netlist.specs.Commands.{isSort, asForm, formOf, needed, used, misfit, misfitFrom}
-use Rattle.netlist.specs.Reading.{Nets, asked, nameless, namelessAt, Ascending}
+use Rattle.netlist.specs.Commands.{isSort, asForm, formOf, mostParts, needed, pinsUsed, used, misfit, misfitFrom}
+use Rattle.netlist.specs.Reading.{Nets, asked, nameless, namelessAt, Ascending, countOf, sortsOf}
 use Rattle.netlist.specs.Content.{Coded, codedAt}
-use Rattle.netlist.specs.Writing.{formFor, widthFor, operandCount, Has, Item, gate, output, care, gatesIn, outputsIn, careIn, sortOf, codesOf, operandsOf, itemPlaces}
-use Rattle.netlist.specs.Writing.{gatePlaces, outputPlaces, EachFrom, gatesAfter, netsIn}
+use Rattle.netlist.specs.Writing.{formFor, widthFor, operandCount, Has, Item, gate, output, care, register, element, gatesIn, outputsIn, careIn, sortOf, codesOf, operandsOf, itemPlaces}
+use Rattle.netlist.specs.Writing.{gatePlaces, outputPlaces, partPlaces, partsIn, EachFrom, gatesAfter, netsIn}
 use Rattle.netlist.proofs.Operands.{length-operands, misfit-none, needed-there, bare-absent, nameless-named, named-nameless}
 use Rattle.netlist.proofs.Encoding.{care-form, item-form, needed-in}
 
@@ -27,11 +27,18 @@ pub record GateShown (f : File) (s : List ℕ) (at : ℕ) (c : Coded) : Type 0 w
   pub known : 1 ≤ needed f (byte s (at + 1))
   pub fits : misfitFrom (needed f (byte s (at + 1))) 0 s (at + 2) (operandCount f sort.Gate) ≡ Nothing
 
+-- a C-element, with FFFF exactly at the pins that it does not use
+pub record ElementShown (f : File) (s : List ℕ) (at : ℕ) (vs : List ℕ) : Type 0 where
+  pub content : operands s (at + 1) (pinsUsed s (at + 1)) ≡ vs
+  pub fits : misfitFrom (pinsUsed s (at + 1)) 0 s (at + 1) (operandCount f sort.Element) ≡ Nothing
+
 -- what an item's command shows
 abbrev pub Shown : File → List ℕ → ℕ → Item → Type 0
 Shown f s at (gate c) = GateShown f s at c
 Shown f s at (output vs) = wiredAt f s at ≡ vs
 Shown f s at (care w) = operand s (at + 1) ≡ w
+Shown f s at (register vs) = operands s (at + 1) (operandCount f sort.Register) ≡ vs
+Shown f s at (element vs) = ElementShown f s at vs
 
 -- a command of the file, with all of its bytes, that shows an item
 pub record ItemLaid (f : File) (s : List ℕ) (at : ℕ) (i : Item) : Type 0 where
@@ -71,12 +78,16 @@ unfolding used
 used-shown f s at (gate c) has h = sym (length-operands s (at + 2) (needed f (byte s (at + 1)))) ∙ ap length (laid-operands h)
 used-shown f s at (output vs) has h = sym (length-operands s (at + 1) (operandCount f sort.Output)) ∙ ap length h
 used-shown f s at (care w) has h = ap (λ (x : Form). x .operands) (care-form f has)
+used-shown f s at (register vs) has h = sym (length-operands s (at + 1) (operandCount f sort.Register)) ∙ ap length h
+used-shown f s at (element vs) has h = sym (length-operands s (at + 1) (pinsUsed s (at + 1))) ∙ ap length (h .content)
 
 pub operands-shown : (f : File) (s : List ℕ) (at : ℕ) (i : Item) → Has f (sortOf i) → Shown f s at i → operands s (operandsFrom at i) (length (operandsOf i)) ≡ operandsOf i
 unfolding used operands
 operands-shown f s at (gate c) has h = ap (operands s (at + 2)) (sym (used-shown f s at (gate c) has h)) ∙ laid-operands h
 operands-shown f s at (output vs) has h = ap (operands s (at + 1)) (sym (used-shown f s at (output vs) has h)) ∙ h
 operands-shown f s at (care w) has h = ap (λ (x : ℕ). x ∷ []) h
+operands-shown f s at (register vs) has h = ap (operands s (at + 1)) (sym (used-shown f s at (register vs) has h)) ∙ h
+operands-shown f s at (element vs) has h = ap (operands s (at + 1)) (sym (used-shown f s at (element vs) has h)) ∙ h .content
 
 -- the test for 9 looks at these
 pub nameless-item : {f : File} {s : List ℕ} {at : ℕ} {i : Item} (N : Nets) (k : ℕ) → ItemLaid f s at i
@@ -120,6 +131,8 @@ pub record FileLaid (f : File) (most : Limits) (s : List ℕ) (n : ℕ) (items :
   pub gates-in : length (gatesIn items) ≤ most .gates
   pub outputs-in : (1 ≤ length (outputsIn items)) × (length (outputsIn items) ≤ most .outputs)
   pub care-in : Ascending (2 ^ n) 0 (careIn items)
+  pub registers-in : countOf sort.Register (partsIn items) ≤ mostParts
+  pub elements-in : countOf sort.Element (partsIn items) ≤ mostParts
   pub laid : Laid f s 2 items
   pub named : Named f (netsIn n items) 0 items
 
@@ -130,12 +143,24 @@ length-gatePlaces f at [] = refl
 length-gatePlaces f at (gate c ∷ items) = ap suc (length-gatePlaces f (at + widthFor f sort.Gate) items)
 length-gatePlaces f at (output vs ∷ items) = length-gatePlaces f (at + widthFor f sort.Output) items
 length-gatePlaces f at (care w ∷ items) = length-gatePlaces f (at + widthFor f sort.Care) items
+length-gatePlaces f at (register vs ∷ items) = length-gatePlaces f (at + widthFor f sort.Register) items
+length-gatePlaces f at (element vs ∷ items) = length-gatePlaces f (at + widthFor f sort.Element) items
 
 pub length-outputPlaces : (f : File) (at : ℕ) (items : List Item) → length (outputPlaces f at items) ≡ length (outputsIn items)
 length-outputPlaces f at [] = refl
 length-outputPlaces f at (gate c ∷ items) = length-outputPlaces f (at + widthFor f sort.Gate) items
 length-outputPlaces f at (output vs ∷ items) = ap suc (length-outputPlaces f (at + widthFor f sort.Output) items)
 length-outputPlaces f at (care w ∷ items) = length-outputPlaces f (at + widthFor f sort.Care) items
+length-outputPlaces f at (register vs ∷ items) = length-outputPlaces f (at + widthFor f sort.Register) items
+length-outputPlaces f at (element vs ∷ items) = length-outputPlaces f (at + widthFor f sort.Element) items
+
+pub sorts-partPlaces : (f : File) (at : ℕ) (items : List Item) → sortsOf (partPlaces f at items) ≡ partsIn items
+sorts-partPlaces f at [] = refl
+sorts-partPlaces f at (gate c ∷ items) = sorts-partPlaces f (at + widthFor f sort.Gate) items
+sorts-partPlaces f at (output vs ∷ items) = sorts-partPlaces f (at + widthFor f sort.Output) items
+sorts-partPlaces f at (care w ∷ items) = sorts-partPlaces f (at + widthFor f sort.Care) items
+sorts-partPlaces f at (register vs ∷ items) = ap {B = List Sort} (λ l. sort.Register ∷ l) (sorts-partPlaces f (at + widthFor f sort.Register) items)
+sorts-partPlaces f at (element vs ∷ items) = ap {B = List Sort} (λ l. sort.Element ∷ l) (sorts-partPlaces f (at + widthFor f sort.Element) items)
 
 module _ (f : File) (s : List ℕ) where
   -- what the places show is the content
@@ -144,17 +169,34 @@ module _ (f : File) (s : List ℕ) where
   laid-gates at (gate c ∷ items) h = ap₂ (λ (x : Coded) (xs : List Coded). x ∷ xs) (h .0 .shown .content) (laid-gates (at + widthFor f sort.Gate) items (h .1))
   laid-gates at (output vs ∷ items) h = laid-gates (at + widthFor f sort.Output) items (h .1)
   laid-gates at (care w ∷ items) h = laid-gates (at + widthFor f sort.Care) items (h .1)
+  laid-gates at (register vs ∷ items) h = laid-gates (at + widthFor f sort.Register) items (h .1)
+  laid-gates at (element vs ∷ items) h = laid-gates (at + widthFor f sort.Element) items (h .1)
 
   pub laid-outputs : (at : ℕ) (items : List Item) → Laid f s at items → map (wiredAt f s) (outputPlaces f at items) ≡ outputsIn items
   laid-outputs at [] h = refl
   laid-outputs at (gate c ∷ items) h = laid-outputs (at + widthFor f sort.Gate) items (h .1)
   laid-outputs at (output vs ∷ items) h = ap₂ (λ (x : List ℕ) (xs : List (List ℕ)). x ∷ xs) (h .0 .shown) (laid-outputs (at + widthFor f sort.Output) items (h .1))
   laid-outputs at (care w ∷ items) h = laid-outputs (at + widthFor f sort.Care) items (h .1)
+  laid-outputs at (register vs ∷ items) h = laid-outputs (at + widthFor f sort.Register) items (h .1)
+  laid-outputs at (element vs ∷ items) h = laid-outputs (at + widthFor f sort.Element) items (h .1)
+
+  -- a file that has neither registers nor C-elements
+  pub laid-partless : (Has f sort.Register → ⊥) → (Has f sort.Element → ⊥) → (at : ℕ) (items : List Item) → Laid f s at items → partPlaces f at items ≡ []
+  laid-partless plain bare at [] h = refl
+  laid-partless plain bare at (gate c ∷ items) h = laid-partless plain bare (at + widthFor f sort.Gate) items (h .1)
+  laid-partless plain bare at (output vs ∷ items) h = laid-partless plain bare (at + widthFor f sort.Output) items (h .1)
+  laid-partless plain bare at (care w ∷ items) h = laid-partless plain bare (at + widthFor f sort.Care) items (h .1)
+  laid-partless plain bare at (register vs ∷ items) h = absurd (plain (h .0 .has))
+  laid-partless plain bare at (element vs ∷ items) h = absurd (bare (h .0 .has))
 
   -- nothing but the items and the end command stands there
   pub laid-length : (at : ℕ) (items : List Item) → Laid f s at items →
       length s ≡ at + 1 + widthFor f sort.Gate * length (gatesIn items) + widthFor f sort.Output * length (outputsIn items) + widthFor f sort.Care * length (careIn items)
+      + (widthFor f sort.Register * countOf sort.Register (partsIn items) + widthFor f sort.Element * countOf sort.Element (partsIn items))
+  unfolding countOf
   laid-length at [] h = omega (arith, h .last)
   laid-length at (gate c ∷ items) h = omega (arith, laid-length (at + widthFor f sort.Gate) items (h .1))
   laid-length at (output vs ∷ items) h = omega (arith, laid-length (at + widthFor f sort.Output) items (h .1))
   laid-length at (care w ∷ items) h = omega (arith, laid-length (at + widthFor f sort.Care) items (h .1))
+  laid-length at (register vs ∷ items) h = omega (arith, laid-length (at + widthFor f sort.Register) items (h .1))
+  laid-length at (element vs ∷ items) h = omega (arith, laid-length (at + widthFor f sort.Element) items (h .1))

@@ -11,7 +11,7 @@ use borrow.Author.Tests.{le-leb, lt-leb, lt-ltb, le-ltb, ne-eqb, leb-true, leb-f
 use Rattle.netlist.specs.Types.{File, Sort, Form, Limits, Counts, Cursor, Next, Command, Refused, Found, At, Nothing}
 use Rattle.netlist.specs.Types.sort
 use Rattle.netlist.specs.Bytes.{byte, operand}
-use Rattle.netlist.specs.Commands.{whenFound, formOf, width, needed, stray, misfitFrom, takeGate, takeCare, takeSort, takeCommand, nextAt}
+use Rattle.netlist.specs.Commands.{whenFound, formOf, mostParts, width, needed, pinsUsed, stray, misfitFrom, takeGate, takeCare, takeElement, takeSort, takeCommand, nextAt}
 use Rattle.netlist.specs.Writing.{formFor, widthFor}
 use Rattle.netlist.proofs.Encoding.{clash, form-for, width-in}
 
@@ -46,6 +46,9 @@ Taken f most s at before form sort.Gate =
     × (misfitFrom (needed f (byte s (at + 1))) 0 s (at + form .lead) (form .operands) ≡ Nothing)
 Taken f most s at before form sort.Output = before .outputs < most .outputs
 Taken f most s at before form sort.Care = (operand s (at + form .lead) < 2 ^ before .inputs) × (before .floor ≤ operand s (at + form .lead))
+Taken f most s at before form sort.Register = before .registers < mostParts
+Taken f most s at before form sort.Element =
+    (before .elements < mostParts) × (misfitFrom (pinsUsed s (at + form .lead)) 0 s (at + form .lead) (form .operands) ≡ Nothing)
 Taken f most s at before form sort.End = Unit {0}
 Taken f most s at before form sort.Unknown = Unit {0}
 
@@ -60,7 +63,7 @@ pub record There (f : File) (most : Limits) (s : List ℕ) (at : ℕ) (before : 
 module _ (f : File) (most : Limits) (s : List ℕ) (at : ℕ) (before : Counts) where
   module _ (form : Form) {later : Next} where
     sort-taken : {k : Sort} {next : Cursor} (c : Sort) → takeSort f most s at before form later c ≡ Command k next → (later ≡ Command k next) × Taken f most s at before form c
-    unfolding takeSort takeGate takeCare
+    unfolding takeSort takeGate takeCare takeElement
     sort-taken sort.Inputs e =
         let t = met (leb 1 (byte s (at + 1)) && leb (byte s (at + 1)) (most .inputs)) 3 (at + 1) e in
         let b = &&-both (leb 1 (byte s (at + 1))) (leb (byte s (at + 1)) (most .inputs)) (t .0) in
@@ -77,15 +80,22 @@ module _ (f : File) (most : Limits) (s : List ℕ) (at : ℕ) (before : Counts) 
         let t = met (ltb w (2 ^ before .inputs)) 18 (at + form .lead) e in
         let u = passed (ltb w (before .floor)) 19 (at + form .lead) (t .1) in
         (u .1, (ltb-true w (2 ^ before .inputs) (t .0), ltb-false w (before .floor) (u .0)))
+    sort-taken sort.Register e = let t = passed (leb mostParts (before .registers)) 6 at e in (t .1, leb-false mostParts (before .registers) (t .0))
+    sort-taken sort.Element e =
+        let room = passed (leb mostParts (before .elements)) 6 at e in
+        let fit = fitted (misfitFrom (pinsUsed s (at + form .lead)) 0 s (at + form .lead) (form .operands)) (room .1) in
+        (fit .1, (leb-false mostParts (before .elements) (room .0), fit .0))
     sort-taken sort.End e = (e, tt)
     sort-taken sort.Unknown e = (e, tt)
 
     taken-sort : (c : Sort) → Taken f most s at before form c → takeSort f most s at before form later c ≡ later
-    unfolding takeSort takeGate takeCare whenFound
+    unfolding takeSort takeGate takeCare takeElement whenFound
     taken-sort sort.Inputs t = rw (le-leb 1 (byte s (at + 1)) (t .0), le-leb (byte s (at + 1)) (most .inputs) (t .1))
     taken-sort sort.Gate t = rw (lt-leb (most .gates) (before .gates) (t .0), ne-eqb (needed f (byte s (at + 1))) 0 (λ z. omega (arith, t .1)), t .2)
     taken-sort sort.Output t = rw (lt-leb (most .outputs) (before .outputs) t)
     taken-sort sort.Care t = rw (lt-ltb (operand s (at + form .lead)) (2 ^ before .inputs) (t .0), le-ltb (operand s (at + form .lead)) (before .floor) (t .1))
+    taken-sort sort.Register t = rw (lt-leb mostParts (before .registers) t)
+    taken-sort sort.Element t = rw (lt-leb mostParts (before .elements) (t .0), t .1)
     taken-sort sort.End t = refl
     taken-sort sort.Unknown t = refl
 

@@ -11,7 +11,7 @@ use lib.Dec.{eqb}
 use borrow.Author.Tests.{lt-ltb, le-ltb, eq-eqb, ne-eqb, eqb-true, eqb-false, not-false}
 use Rattle.netlist.specs.Types.{Found, At, Nothing}
 use Rattle.netlist.specs.Bytes.{byte, operand, operands, absent}
-use Rattle.netlist.specs.Commands.{misfit, misfitFrom}
+use Rattle.netlist.specs.Commands.{pinsUsed, misfit, misfitFrom}
 use Rattle.netlist.specs.Reading.{nameless}
 use Rattle.netlist.specs.Writing.{writeOperands, All, EachFrom}
 use Rattle.netlist.proofs.Lists.{Bytes, byte-small}
@@ -84,6 +84,11 @@ pub same-asked : (test : ℕ → ℕ → Bool) (P : ℕ → Type 0) → ((i v : 
 same-asked test P says i [] h = tt
 same-asked test P says i (v ∷ vs) h = (says i v (h .0), same-asked test P says (suc i) vs (h .1))
 
+-- a test that holds where another does
+pub asked-more : (test test′ : ℕ → ℕ → Bool) → ((i v : ℕ) → test i v ≡ true → test′ i v ≡ true) → (i : ℕ) (vs : List ℕ) → EachFrom test i vs → EachFrom test′ i vs
+asked-more test test′ more i [] h = tt
+asked-more test test′ more i (v ∷ vs) h = (more i v (h .0), asked-more test test′ more (suc i) vs (h .1))
+
 pub asked-same : (test : ℕ → ℕ → Bool) (P : ℕ → Type 0) → ((i v : ℕ) → P v → test i v ≡ true) → (i : ℕ) (vs : List ℕ) → All P vs → EachFrom test i vs
 asked-same test P holds i [] h = tt
 asked-same test P holds i (v ∷ vs) h = (holds i v (h .0), asked-same test P holds (suc i) vs (h .1))
@@ -117,6 +122,34 @@ there-fits k i v l d = rw (lt-ltb i k l) (ne-eqb v absent d)
 absent-fits : (k i v : ℕ) → k ≤ i → v ≡ absent → misfit k i v ≡ false
 unfolding misfit
 absent-fits k i v l e = rw (le-ltb i k l, eq-eqb v absent e)
+
+-- how many pins a C-element uses, and that there is no other number for which they fit
+pub pins-used-in : (s : List ℕ) (place : ℕ) → (2 ≤ pinsUsed s place) × (pinsUsed s place ≤ 4)
+unfolding pinsUsed
+pins-used-in s place = go (eqb (operand s (place + 4)) absent) (eqb (operand s (place + 6)) absent)
+  where
+    go : (c d : Bool) → (2 ≤ cond c 2 (cond d 3 4)) × (cond c 2 (cond d 3 4) ≤ 4)
+    go true d = omega arith
+    go false true = omega arith
+    go false false = omega arith
+
+pub pins-are : (s : List ℕ) (place k : ℕ) → 2 ≤ k → k ≤ 4 → misfitFrom k 0 s place 4 ≡ Nothing → pinsUsed s place ≡ k
+unfolding pinsUsed
+pins-are s place zero lo hi e = absurd (omega arith)
+pins-are s place (suc zero) lo hi e = absurd (omega arith)
+pins-are s place (suc (suc zero)) lo hi e =
+    rw (eq-eqb (operand s (place + 4)) absent (bare-absent 2 2 (operand s (place + 4)) (misfit-none 2 0 s place 4 e 2 (omega arith)) (omega arith)))
+pins-are s place (suc (suc (suc zero))) lo hi e =
+    rw (
+      ne-eqb (operand s (place + 4)) absent (needed-there 3 2 (operand s (place + 4)) (misfit-none 3 0 s place 4 e 2 (omega arith)) (omega arith)),
+      eq-eqb (operand s (place + 6)) absent (bare-absent 3 3 (operand s (place + 6)) (misfit-none 3 0 s place 4 e 3 (omega arith)) (omega arith)),
+    )
+pins-are s place (suc (suc (suc (suc zero)))) lo hi e =
+    rw (
+      ne-eqb (operand s (place + 4)) absent (needed-there 4 2 (operand s (place + 4)) (misfit-none 4 0 s place 4 e 2 (omega arith)) (omega arith)),
+      ne-eqb (operand s (place + 6)) absent (needed-there 4 3 (operand s (place + 6)) (misfit-none 4 0 s place 4 e 3 (omega arith)) (omega arith)),
+    )
+pins-are s place (suc (suc (suc (suc (suc k))))) lo hi e = absurd (omega arith)
 
 -- ---- what stands from a place on
 

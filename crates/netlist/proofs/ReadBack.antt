@@ -10,17 +10,17 @@ use lib.ListN.{length, drop, getD, length-append, drop-of-length-le}
 use Rattle.netlist.specs.Types.{File, Form, Limits}
 use Rattle.netlist.specs.Types.sort
 use Rattle.netlist.specs.Bytes.{byte, operand, operands, absent}
-use Rattle.netlist.specs.Commands.{isSort, formOf, needed}
+use Rattle.netlist.specs.Commands.{isSort, formOf, needed, pinsUsed}
 use Rattle.netlist.specs.Reading.{Nets, asked, Places, readFile, readable}
 use Rattle.netlist.specs.Content.{Coded, codedAt}
-use Rattle.netlist.specs.Writing.{commandByte, widthFor, operandCount, Has, Item, gate, output, care, gatesIn, outputsIn, careIn, sortOf, codesOf, operandsOf}
+use Rattle.netlist.specs.Writing.{commandByte, widthFor, operandCount, Has, Item, gate, output, care, register, element, gatesIn, outputsIn, careIn, sortOf, codesOf, operandsOf}
 use Rattle.netlist.specs.Writing.{gatePlaces, outputPlaces, placesOf, writeOperands, writeItem, writeItems, writeFile, All, EachFrom, Whole, ItemFits, gatesAfter}
 use Rattle.netlist.specs.Writing.{netsIn, ItemsFit, FileFits}
 use Rattle.netlist.proofs.Lists.{Bytes, All-++, byte-small}
-use Rattle.netlist.proofs.Operands.{bytes-written, operand-small, length-operands, each-operands, byte-after, drop-after, length-after}
+use Rattle.netlist.proofs.Operands.{bytes-written, operand-small, misfit-none, needed-there, bare-absent, pins-used-in, pins-are, length-operands, each-operands, byte-after, drop-after, length-after}
 use Rattle.netlist.proofs.Operands.{length-written, operands-written, fits-written, drop-one, drop-two, written-operands}
-use Rattle.netlist.proofs.Encoding.{each-file, byte-for, has-end, has-inputs, care-form, item-width, needed-in}
-use Rattle.netlist.proofs.Laid.{GateShown, Shown, ItemLaid, Laid, Named, FileLaid, wiredAt, laid-code, laid-operands, laid-used, laid-bare}
+use Rattle.netlist.proofs.Encoding.{each-file, byte-for, has-end, has-inputs, care-form, element-form, item-width, needed-in}
+use Rattle.netlist.proofs.Laid.{GateShown, ElementShown, Shown, ItemLaid, Laid, Named, FileLaid, wiredAt, laid-code, laid-operands, laid-used, laid-bare}
 use Rattle.netlist.proofs.Laid.{operandsFrom, used-shown, operands-shown, laid-gates, laid-outputs, laid-length}
 use Rattle.netlist.proofs.Walk.{readable-laid, laid-readable}
 
@@ -37,11 +37,17 @@ length-item f i has = omega (arith, item-width f i has, length-append (codesOf i
 care-one : (f : File) → Has f sort.Care → operandCount f sort.Care ≡ 1
 care-one f e = ap (λ (x : Form). x .operands) (care-form f e)
 
+-- the pins of a C-element
+element-four : (f : File) → Has f sort.Element → operandCount f sort.Element ≡ 4
+element-four f e = ap (λ (x : Form). x .operands) (element-form f e)
+
 -- an item has no more operands than its command, and where it uses all of them as many
 few-operands : (f : File) (i : Item) → Has f (sortOf i) → Whole f i → length (operandsOf i) ≤ operandCount f (sortOf i)
 few-operands f (gate c) has h = omega (arith, h .2, needed-in f (c .code))
 few-operands f (output vs) has h = omega (arith, h)
 few-operands f (care w) has h = omega (arith, care-one f has)
+few-operands f (register vs) has h = omega (arith, h)
+few-operands f (element vs) has h = h .1
 
 -- ---- written items are laid
 
@@ -75,6 +81,11 @@ module _ (f : File) (s : List ℕ) where
         }
     written-shown (output vs) has h e = ap (operands s (at + 1)) (sym h) ∙ operands-there (output vs) has h e
     written-shown (care w) has h e = ap (λ (l : List ℕ). getD l 0 0) (operands-there (care w) has h e)
+    written-shown (register vs) has h e = ap (operands s (at + 1)) (sym h) ∙ operands-there (register vs) has h e
+    written-shown (element vs) has h e =
+        let fits = fits-written s rest (at + 1) (operandCount f sort.Element) (length vs) 0 vs (omega arith) (h .2) (operands-then (element vs) e) in
+        let pins : pinsUsed s (at + 1) ≡ length vs = pins-are s (at + 1) (length vs) (h .0) (omega (arith, h .1, element-four f has)) (rw (element-four f has) at fits) in
+        record { content = ap (operands s (at + 1)) pins ∙ operands-there (element vs) has h e; fits = rw pins fits }
 
     written-item : (i : Item) → ItemFits f N k i → drop at s ≡ writeItem f i ++ rest → ItemLaid f s at i
     written-item i h e =
@@ -107,6 +118,8 @@ byte-codes : (f : File) (i : Item) → Whole f i → Bytes (commandByte f (sortO
 byte-codes f (gate c) h = (each-file (λ f. commandByte f sort.Gate < 256) (omega arith) f, (h .0, tt))
 byte-codes f (output vs) h = (each-file (λ f. commandByte f sort.Output < 256) (omega arith) f, tt)
 byte-codes f (care w) h = (omega arith, tt)
+byte-codes f (register vs) h = (omega arith, tt)
+byte-codes f (element vs) h = (omega arith, tt)
 
 bytes-items : (f : File) (N : Nets) (k : ℕ) (items : List Item) → ItemsFit f N k items → Bytes (writeItems f items)
 bytes-items f N k [] h = tt
@@ -125,11 +138,19 @@ bare-shown f s at (gate c) has h j a b =
     laid-bare h j (omega arith) b
 bare-shown f s at (output vs) has h j a b = absurd (omega (arith, ap length h, length-operands s (at + 1) (operandCount f sort.Output)))
 bare-shown f s at (care w) has h j a b = absurd (omega (arith, care-one f has))
+bare-shown f s at (register vs) has h j a b = absurd (omega (arith, ap length h, length-operands s (at + 1) (operandCount f sort.Register)))
+bare-shown f s at (element vs) has h j a b =
+    let k = pinsUsed s (at + 1) in
+    let z : 0 + j ≡ j = omega arith in
+    bare-absent k j (operand s (at + 1 + 2 * j)) (rw z at (misfit-none k 0 s (at + 1) (operandCount f sort.Element) (h .fits) j b))
+    (omega (arith, ap length (h .content), length-operands s (at + 1) k))
 
 not-unknown : (i : Item) → isSort sort.Unknown (sortOf i) ≡ false
 not-unknown (gate c) = refl
 not-unknown (output vs) = refl
 not-unknown (care w) = refl
+not-unknown (register vs) = refl
+not-unknown (element vs) = refl
 
 module _ (f : File) (s : List ℕ) (small : Bytes s) where
   module _ (at : ℕ) where
@@ -138,6 +159,8 @@ module _ (f : File) (s : List ℕ) (small : Bytes s) where
     codes-then (gate c) h room = let e : at + 1 + 1 ≡ at + 2 = omega arith in rw (e, laid-code h) at (drop-one s (at + 1) (omega arith))
     codes-then (output vs) h room = refl
     codes-then (care w) h room = refl
+    codes-then (register vs) h room = refl
+    codes-then (element vs) h room = refl
 
     laid-item : (i : Item) → ItemLaid f s at i → drop at s ≡ writeItem f i ++ drop (at + widthFor f (sortOf i)) s
     laid-item i h =
@@ -151,21 +174,33 @@ module _ (f : File) (s : List ℕ) (small : Bytes s) where
         ∙ ap₂ (λ (x : ℕ) (xs : List ℕ). x ∷ xs) is
         (codes-then i (h .shown) (omega (arith, h .room)) ∙ ap (λ (l : List ℕ). codesOf i ++ l) ops ∙ sym (append-assoc (codesOf i) (operandBytes f i) (drop (at + widthFor f (sortOf i)) s)))
 
-    laid-whole : (i : Item) → Shown f s at i → Whole f i
-    laid-whole (gate c) h =
+    laid-whole : (i : Item) → Has f (sortOf i) → Shown f s at i → Whole f i
+    laid-whole (gate c) has h =
         let p = needed f (byte s (at + 1)) in (
           rw (laid-code h) at (byte-small s small (at + 1)),
           rw (laid-code h) at (h .known),
           ap length (sym (laid-operands h)) ∙ length-operands s (at + 2) p ∙ ap (needed f) (laid-code h),
           rw (laid-operands h) at (each-operands (λ v. v < absent) s (at + 2) p (λ i l. let d = laid-used h i l in omega (arith, operand-small s small (at + 2 + 2 * i)))),
         )
-    laid-whole (output vs) h = ap length (sym h) ∙ length-operands s (at + 1) (operandCount f sort.Output)
-    laid-whole (care w) h = tt
+    laid-whole (output vs) has h = ap length (sym h) ∙ length-operands s (at + 1) (operandCount f sort.Output)
+    laid-whole (care w) has h = tt
+    laid-whole (register vs) has h = ap length (sym h) ∙ length-operands s (at + 1) (operandCount f sort.Register)
+    laid-whole (element vs) has h =
+        let k = pinsUsed s (at + 1) in
+        let long : length vs ≡ k = ap length (sym (h .content)) ∙ length-operands s (at + 1) k in
+        let few = pins-used-in s (at + 1) in (
+          omega (arith, few .0),
+          omega (arith, few .1, element-four f has),
+          rw (h .content) at (each-operands (λ v. v < absent) s (at + 1) k (λ j l.
+              let z : 0 + j ≡ j = omega arith in
+              let d = needed-there k j (operand s (at + 1 + 2 * j)) (rw z at (misfit-none k 0 s (at + 1) (operandCount f sort.Element) (h .fits) j (omega (arith, few .1, element-four f has)))) l in
+              omega (arith, operand-small s small (at + 1 + 2 * j)))),
+        )
 
     item-fits : (N : Nets) (k : ℕ) (i : Item) → ItemLaid f s at i → EachFrom (asked f (sortOf i) N k) 0 (operandsOf i) → ItemFits f N k i
     item-fits N k i h named = record {
       has = h .has;
-      whole = laid-whole i (h .shown);
+      whole = laid-whole i (h .has) (h .shown);
       u16s = rw (operands-shown f s at i (h .has) (h .shown)) at
           (each-operands (λ v. v < 65536) s (operandsFrom at i) (length (operandsOf i)) (λ j l. operand-small s small (operandsFrom at i + 2 * j)));
       named = named;
@@ -197,6 +232,8 @@ module _ (f : File) (most : Limits) where
         gates-in = h .gates-in;
         outputs-in = h .outputs-in;
         care-in = h .care-in;
+        registers-in = h .registers-in;
+        elements-in = h .elements-in;
         laid = r .0;
         named = r .1;
       }
@@ -213,6 +250,8 @@ module _ (f : File) (most : Limits) where
           gates-in = h .gates-in;
           outputs-in = h .outputs-in;
           care-in = h .care-in;
+          registers-in = h .registers-in;
+          elements-in = h .elements-in;
           items-fit = laid-fits f s small (netsIn n items) 0 2 items (h .laid) (h .named);
         },
       )

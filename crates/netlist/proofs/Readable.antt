@@ -9,16 +9,16 @@ use mathlib.Core.Bool.{Bool, true}
 use mathlib.Core.List.{List, [], _∷_}
 use lib.ListN.{length, getD}
 use borrow.Author.Tests.{ltb-true, lt-ltb}
-use Rattle.netlist.specs.Types.{File, Limits}
+use Rattle.netlist.specs.Types.{File, Sort, Form, Limits}
 use Rattle.netlist.specs.Types.file
 use Rattle.netlist.specs.Types.sort
 use Rattle.netlist.specs.Bytes.{byte, operand}
-use Rattle.netlist.specs.Commands.{roleOf, needed}
-use Rattle.netlist.specs.Reading.{Nets, names, asked, Places, Ascending, netsOf, readFile, readable}
-use Rattle.netlist.specs.Writing.{widthFor, operandCount, Item, gate, output, care, gatesIn, outputsIn, careIn, gatePlaces, outputPlaces, All, EachFrom, netsIn}
-use Rattle.netlist.specs.Read.{GateRead, OutputRead, Read}
+use Rattle.netlist.specs.Commands.{roleOf, width, needed, pinsUsed}
+use Rattle.netlist.specs.Reading.{Nets, names, asked, Places, Ascending, countOf, sortsOf, countsOf, netsOf, readFile, readable}
+use Rattle.netlist.specs.Writing.{widthFor, operandCount, Has, Item, gate, output, care, register, element, gatesIn, outputsIn, careIn, gatePlaces, outputPlaces, All, EachFrom, partPlaces, partsIn, netsIn}
+use Rattle.netlist.specs.Read.{GateRead, OutputRead, PartOf, PartRead, Read, mostOfEither}
 use Rattle.netlist.proofs.Operands.{each-named, same-asked, asked-same}
-use Rattle.netlist.proofs.Encoding.{each-file, KindOfCell, kind-in, operation-needs}
+use Rattle.netlist.proofs.Encoding.{each-file, register-form, element-form, stage-registerless, stage-elementless, reference-registerless, reference-elementless, KindOfCell, kind-in, operation-needs}
 use Rattle.netlist.proofs.Laid.{Laid, Named, laid-operands, laid-used, laid-length, length-gatePlaces, length-outputPlaces}
 use Rattle.netlist.proofs.Walk.{LaidItems, readable-laid, nets-places}
 
@@ -108,11 +108,15 @@ module _ (f : File) (s : List ℕ) (N : Nets) where
       rw z (gate-read (at + widthFor f sort.Gate) (suc k) items (omega arith) (h .1) (m .1) i (omega arith))
   gate-read at k (output vs ∷ items) two h m i l = gate-read (at + widthFor f sort.Output) k items (omega arith) (h .1) (m .1) i l
   gate-read at k (care w ∷ items) two h m i l = gate-read (at + widthFor f sort.Care) k items (omega arith) (h .1) (m .1) i l
+  gate-read at k (register vs ∷ items) two h m i l = gate-read (at + widthFor f sort.Register) k items (omega arith) (h .1) (m .1) i l
+  gate-read at k (element vs ∷ items) two h m i l = gate-read (at + widthFor f sort.Element) k items (omega arith) (h .1) (m .1) i l
 
   output-read : (at k : ℕ) (items : List Item) → 2 ≤ at → Laid f s at items → Named f N k items → (i : ℕ) → i < length (outputsIn items) → OutputRead f s N (getD (outputPlaces f at items) i 0)
   output-read at k [] two h m i l = absurd (omega arith)
   output-read at k (gate c ∷ items) two h m i l = output-read (at + widthFor f sort.Gate) (suc k) items (omega arith) (h .1) (m .1) i l
   output-read at k (care w ∷ items) two h m i l = output-read (at + widthFor f sort.Care) k items (omega arith) (h .1) (m .1) i l
+  output-read at k (register vs ∷ items) two h m i l = output-read (at + widthFor f sort.Register) k items (omega arith) (h .1) (m .1) i l
+  output-read at k (element vs ∷ items) two h m i l = output-read (at + widthFor f sort.Element) k items (omega arith) (h .1) (m .1) i l
   output-read at k (output vs ∷ items) two h m zero l =
       record {
         first = two;
@@ -122,6 +126,57 @@ module _ (f : File) (s : List ℕ) (N : Nets) where
             ∙ each-named (asked f sort.Output N k) s (at + 1) (operandCount f sort.Output) (rw (h .0 .shown) (m .0)) j b;
       }
   output-read at k (output vs ∷ items) two h m (suc i) l = output-read (at + widthFor f sort.Output) k items (omega arith) (h .1) (m .1) i (omega arith)
+
+  parts-read : (at k : ℕ) (items : List Item) → Laid f s at items → Named f N k items → All (PartRead f s N) (partPlaces f at items)
+  parts-read at k [] h m = tt
+  parts-read at k (gate c ∷ items) h m = parts-read (at + widthFor f sort.Gate) (suc k) items (h .1) (m .1)
+  parts-read at k (output vs ∷ items) h m = parts-read (at + widthFor f sort.Output) k items (h .1) (m .1)
+  parts-read at k (care w ∷ items) h m = parts-read (at + widthFor f sort.Care) k items (h .1) (m .1)
+  parts-read at k (register vs ∷ items) h m =
+      let form = register-form f (h .0 .has) in
+      let three = ap (λ (x : Form). x .operands) form in (
+        record {
+          own = h .0 .has;
+          room = omega (arith, h .0 .room, ap width form);
+          after = k;
+          named = λ i l. each-named (asked f sort.Register N k) s (at + 1) (operandCount f sort.Register) (rw (h .0 .shown) (m .0)) i (omega arith);
+        },
+        parts-read (at + widthFor f sort.Register) k items (h .1) (m .1),
+      )
+  parts-read at k (element vs ∷ items) h m =
+      let form = element-form f (h .0 .has) in (
+        record {
+          own = h .0 .has;
+          room = omega (arith, h .0 .room, ap width form);
+          after = k;
+          named = each-named (asked f sort.Element N k) s (at + 1) (pinsUsed s (at + 1)) (rw (h .0 .shown .content) (m .0));
+          fits = rw (ap (λ (x : Form). x .operands) form) at (h .0 .shown .fits);
+        },
+        parts-read (at + widthFor f sort.Element) k items (h .1) (m .1),
+      )
+
+-- only a pipeline has registers and C-elements
+no-part : (f : File) (s : List ℕ) (N : Nets) → (Has f sort.Register → ⊥) → (Has f sort.Element → ⊥) → (c : Sort) (at : ℕ) → PartOf f s N at c → ⊥
+no-part f s N registerless elementless sort.Register at h = registerless (h .own)
+no-part f s N registerless elementless sort.Element at h = elementless (h .own)
+no-part f s N registerless elementless sort.Inputs at h = h
+no-part f s N registerless elementless sort.Gate at h = h
+no-part f s N registerless elementless sort.Output at h = h
+no-part f s N registerless elementless sort.Care at h = h
+no-part f s N registerless elementless sort.End at h = h
+no-part f s N registerless elementless sort.Unknown at h = h
+
+none-of : (f : File) (s : List ℕ) (N : Nets) → (Has f sort.Register → ⊥) → (Has f sort.Element → ⊥) → (ps : List (Sort × ℕ)) → All (PartRead f s N) ps → (c : Sort) → countOf c (sortsOf ps) ≡ 0
+unfolding countOf
+none-of f s N registerless elementless [] h c = refl
+none-of f s N registerless elementless (x ∷ ps) h c = absurd (no-part f s N registerless elementless (x .0) (x .1) (h .0))
+
+few-parts : {most : Limits} {s : List ℕ} {p : Places} (f : File) → Read f most s p → (countsOf p .registers ≤ mostOfEither f) × (countsOf p .elements ≤ mostOfEither f)
+few-parts file.Pipeline r = (r .registers-in, r .elements-in)
+few-parts {s = s} {p = p} file.Stage r =
+    let none = none-of file.Stage s (netsOf p) stage-registerless stage-elementless (p .parts) (r .parts-at) in (omega (arith, none sort.Register), omega (arith, none sort.Element))
+few-parts {s = s} {p = p} file.Reference r =
+    let none = none-of file.Reference s (netsOf p) reference-registerless reference-elementless (p .parts) (r .parts-at) in (omega (arith, none sort.Register), omega (arith, none sort.Element))
 
 module _ (f : File) (most : Limits) (s : List ℕ) (p : Places) (e : readFile f most s ≡ readable p) where
   found : LaidItems f most s p
@@ -139,6 +194,9 @@ module _ (f : File) (most : Limits) (s : List ℕ) (p : Places) (e : readFile f 
   nets-found : netsOf p ≡ netsIn (p .inputs) (found .items)
   nets-found = ap netsOf (found .item-places) ∙ nets-places f (p .inputs) (found .items)
 
+  count-parts : (c : Sort) → countOf c (sortsOf (p .parts)) ≡ countOf c (partsIn (found .items))
+  count-parts c = ap (λ (N : Nets). countOf c (N .parts)) nets-found
+
   named-found : Named f (netsOf p) 0 (found .items)
   named-found = rw nets-found (found .file-laid .named)
 
@@ -151,7 +209,9 @@ module _ (f : File) (most : Limits) (s : List ℕ) (p : Places) (e : readFile f 
         gates-in = omega (arith, count-gates, h .gates-in);
         outputs-in = omega (arith, count-outputs, h .outputs-in);
         care-in = subst (λ (ws : List ℕ). Ascending (2 ^ p .inputs) 0 ws) (sym (ap (λ (x : Places). x .care) (found .item-places))) (h .care-in);
-        size = rw (count-gates, count-outputs, count-care) (laid-length f s 2 (found .items) (h .laid));
+        registers-in = rw (count-parts sort.Register) (h .registers-in);
+        elements-in = rw (count-parts sort.Element) (h .elements-in);
+        size = rw (count-gates, count-outputs, count-care, count-parts sort.Register, count-parts sort.Element) (laid-length f s 2 (found .items) (h .laid));
         gate-at = λ k l.
             let z : 0 + k ≡ k = omega arith in
             let r = gate-read f s (netsOf p) 2 0 (found .items) (omega arith) (h .laid) named-found k (omega (arith, count-gates)) in
@@ -159,12 +219,16 @@ module _ (f : File) (most : Limits) (s : List ℕ) (p : Places) (e : readFile f 
         output-at = λ j l.
             let r = output-read f s (netsOf p) 2 0 (found .items) (omega arith) (h .laid) named-found j (omega (arith, count-outputs)) in
             subst (λ (os : List ℕ). OutputRead f s (netsOf p) (getD os j 0)) (sym (ap (λ (x : Places). x .outputs) (found .item-places))) r;
+        parts-at = subst (λ (ps : List (Sort × ℕ)). All (PartRead f s (netsOf p)) ps) (sym (ap (λ (x : Places). x .parts) (found .item-places)))
+            (parts-read f s (netsOf p) 2 0 (found .items) (h .laid) named-found);
       }
 
-  -- no readable file is longer than its most gates, outputs and care words make it
+  -- no readable file is longer than its most gates, outputs, care words, registers and C-elements make it
   pub readable-length : length s ≤ 3 + widthFor f sort.Gate * most .gates + widthFor f sort.Output * most .outputs + widthFor f sort.Care * 2 ^ most .inputs
+      + (widthFor f sort.Register * mostOfEither f + widthFor f sort.Element * mostOfEither f)
   readable-length =
       let r = readable-read in
+      let parts = few-parts f r in
       let words : length (p .care) ≤ 2 ^ p .inputs = omega (arith, rising-length (2 ^ p .inputs) 0 (p .care) (r .care-in)) in
       let few : length (p .care) ≤ 2 ^ most .inputs = omega (arith, pow-mono {i = p .inputs} {j = most .inputs} (r .inputs-in .1)) in
       omega (
@@ -173,4 +237,6 @@ module _ (f : File) (most : Limits) (s : List ℕ) (p : Places) (e : readFile f 
         mul-le-mul-left (widthFor f sort.Gate) (r .gates-in),
         mul-le-mul-left (widthFor f sort.Output) (r .outputs-in .1),
         mul-le-mul-left (widthFor f sort.Care) few,
+        mul-le-mul-left (widthFor f sort.Register) (parts .0),
+        mul-le-mul-left (widthFor f sort.Element) (parts .1),
       )

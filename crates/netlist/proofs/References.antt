@@ -12,20 +12,20 @@ use Rattle.netlist.specs.Types.file
 use Rattle.netlist.specs.Types.sort
 use Rattle.netlist.specs.Bytes.{operand, operands, absent}
 use Rattle.netlist.specs.Commands.{commandTable, ownCommands, formIn, roleOf}
-use Rattle.netlist.specs.Reading.{Nets, names, asked, Places, netsOf, readFile, readable}
+use Rattle.netlist.specs.Reading.{Nets, names, asked, Places, netsOf, countOf, readFile, readable}
 use Rattle.netlist.specs.Content.{Coded, codedAt, Reference, referenceOf}
-use Rattle.netlist.specs.Writing.{widthFor, Item, gate, output, care, gatesIn, outputsIn, careIn, ItemsFit, placesOf, writeFile, All, EachFrom, FileFits}
+use Rattle.netlist.specs.Writing.{widthFor, Item, gate, output, care, register, element, gatesIn, outputsIn, careIn, partsIn, ItemsFit, placesOf, writeFile, All, EachFrom, FileFits}
 use Rattle.netlist.specs.Writing.{referenceItems, writeReference}
 use Rattle.netlist.specs.Formed.{OperationFormed, FormedFrom, ReferenceFormed}
 use Rattle.netlist.proofs.Lists.{Bytes, All-every, All-map}
 use Rattle.netlist.proofs.Operands.{same-asked, asked-same}
-use Rattle.netlist.proofs.Encoding.{has-gate, has-output, reference-careless, operation-needs}
-use Rattle.netlist.proofs.Laid.{Laid, wiredAt}
+use Rattle.netlist.proofs.Encoding.{has-gate, has-output, reference-careless, reference-registerless, reference-elementless, operation-needs}
+use Rattle.netlist.proofs.Laid.{Laid, wiredAt, laid-partless}
 use Rattle.netlist.proofs.Walk.{readable-laid}
 use Rattle.netlist.proofs.ReadBack.{read-write}
 use Rattle.netlist.proofs.Readable.{readable-read, named-earlier, named-signal}
 use Rattle.netlist.proofs.Formed.{GatesFormed, OutputFormed, readable-formed}
-use Rattle.netlist.proofs.GatesFirst.{AllBefore, none-first, gatesIn-items, outputsIn-items, careIn-items, gates-back, outputs-back, write-back}
+use Rattle.netlist.proofs.GatesFirst.{AllBefore, none-first, gatesIn-items, outputsIn-items, careIn-items, partsIn-items, gates-back, outputs-back, write-back}
 
 -- ---- gates and outputs, coded and as a reference has them
 
@@ -107,6 +107,14 @@ module _ (most : Limits) (s : List ℕ) (p : Places) (e : readFile file.Referenc
       go at (gate c ∷ items) h = go (at + widthFor file.Reference sort.Gate) items (h .1)
       go at (output vs ∷ items) h = go (at + widthFor file.Reference sort.Output) items (h .1)
       go at (care w ∷ items) h = absurd (reference-careless (h .0 .has))
+      go at (register vs ∷ items) h = absurd (reference-registerless (h .0 .has))
+      go at (element vs ∷ items) h = absurd (reference-elementless (h .0 .has))
+
+  -- and no registers
+  pub no-parts : p .parts ≡ []
+  no-parts =
+      let r = readable-laid file.Reference most s p e in
+      ap (λ (x : Places). x .parts) (r .item-places) ∙ laid-partless file.Reference s reference-registerless reference-elementless 2 (r .items) (r .file-laid .laid)
 
   -- readable bytes with the gates first are what writing their reference gives
   pub writeReference-referenceOf : Bytes s → AllBefore (p .gates) (p .outputs) → s ≡ writeReference (referenceOf s p)
@@ -114,7 +122,7 @@ module _ (most : Limits) (s : List ℕ) (p : Places) (e : readFile file.Referenc
   writeReference-referenceOf small first =
       subst (λ (ws : List ℕ). s ≡ writeFile file.Reference (p .inputs) (map care ws ++ referenceItems (referenceOf s p)))
       no-care
-      (write-back same same signalOf lone file.Reference most s small p e (none-first file.Reference most s p e no-care) first (λ cs h. All-every (λ c. c ≡ c) (λ c. refl) cs) (signals-again (netsOf p)))
+      (write-back same same signalOf lone file.Reference most s small p e no-parts (none-first file.Reference most s p e no-care) first (λ cs h. All-every (λ c. c ≡ c) (λ c. refl) cs) (signals-again (netsOf p)))
 
   pub reference-formed : ReferenceFormed most (referenceOf s p)
   unfolding referenceOf
@@ -167,10 +175,12 @@ module _ (N : Nets) (small : N .inputs + N .gates ≤ absent) where
 
 module _ (most : Limits) (r : Reference) where
   pub reference-fits : most .inputs < 256 → most .inputs + most .gates ≤ absent → ReferenceFormed most r → FileFits file.Reference most (r .inputs) (referenceItems r)
+  unfolding countOf
   reference-fits low small h =
       let g : length (gatesIn (referenceItems r)) ≡ length (r .gates) = ap length (gatesIn-items same same signalOf lone [] (r .gates) (r .outputs)) ∙ length-map (r .gates) same in
       let o : length (outputsIn (referenceItems r)) ≡ length (r .outputs) = ap length (outputsIn-items same same signalOf lone [] (r .gates) (r .outputs)) ∙ length-map (r .outputs) lone in
-      let N : Nets = record { inputs = r .inputs; gates = length (r .gates) } in
+      let N : Nets = record { inputs = r .inputs; gates = length (r .gates); parts = [] } in
+      let none : partsIn (referenceItems r) ≡ [] = partsIn-items same same signalOf lone [] (r .gates) (r .outputs) in
       let in-reach : r .inputs + length (r .gates) ≤ absent = omega (arith, h .inputs-in, h .gates-in) in
       let z : r .inputs ≡ r .inputs + 0 = omega arith in
       let ordered : FormedFrom (r .inputs + 0) (r .gates) = subst (λ (b : ℕ). FormedFrom b (r .gates)) z (h .gates-formed) in
@@ -180,6 +190,8 @@ module _ (most : Limits) (r : Reference) where
         gates-in = rw g (h .gates-in);
         outputs-in = rw o (h .outputs-in);
         care-in = rw (careIn-items same same signalOf lone [] (r .gates) (r .outputs)) tt;
-        items-fit = rw g (operations-fit N in-reach 0 (r .gates) (map (λ v. output (v ∷ [])) (r .outputs)) (omega arith) ordered
+        registers-in = rw none (omega arith);
+        elements-in = rw none (omega arith);
+        items-fit = rw (g, none) (operations-fit N in-reach 0 (r .gates) (map (λ v. output (v ∷ [])) (r .outputs)) (omega arith) ordered
             (signals-fit N in-reach (r .outputs) (h .outputs-formed)));
       }

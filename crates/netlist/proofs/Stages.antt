@@ -20,8 +20,9 @@ use Rattle.netlist.specs.Writing.{care, careIn, placesOf, All, EachFrom,
 use Rattle.netlist.specs.Formed.{CellFormed, RailsFormed, StageFormed}
 use Rattle.netlist.proofs.Lists.{Bytes, All-every, All-map}
 use Rattle.netlist.proofs.Operands.{same-asked}
-use Rattle.netlist.proofs.Encoding.{KindOfCell, kind-in, kind-needs}
-use Rattle.netlist.proofs.Laid.{wiredAt}
+use Rattle.netlist.proofs.Encoding.{stage-registerless, stage-elementless, KindOfCell, kind-in, kind-needs}
+use Rattle.netlist.proofs.Laid.{wiredAt, laid-partless}
+use Rattle.netlist.proofs.Walk.{readable-laid}
 use Rattle.netlist.proofs.ReadBack.{read-write}
 use Rattle.netlist.proofs.Readable.{readable-read, named-pin, named-rail}
 use Rattle.netlist.proofs.Formed.{GatesFormed, OutputFormed, readable-formed}
@@ -122,13 +123,19 @@ module _ (most : Limits) (c : Stage) (fits : FileFits file.Stage most (c .inputs
       ∙ ap (stage (c .inputs) (c .gates) (c .outputs)) (careIn-items gateOf codedGate pairOf pairOperands (c .care) (c .gates) (c .outputs))
 
 module _ (most : Limits) (s : List ℕ) (p : Places) (e : readFile file.Stage most s ≡ readable p) where
+  -- a stage has no registers
+  pub no-parts : p .parts ≡ []
+  no-parts =
+      let r = readable-laid file.Stage most s p e in
+      ap (λ (x : Places). x .parts) (r .item-places) ∙ laid-partless file.Stage s stage-registerless stage-elementless 2 (r .items) (r .file-laid .laid)
+
   -- readable bytes with the care words and then the gates first are what writing their stage gives
   pub writeStage-stageOf : Bytes s → CareFirst file.Stage 2 (length (p .care)) (p .gates) (p .outputs) → AllBefore (p .gates) (p .outputs) →
       s ≡ writeStage (stageOf s p)
   unfolding writeStage stageOf
   writeStage-stageOf small before first =
       rw (pairs-view s (p .outputs))
-      (write-back gateOf codedGate pairOf pairOperands file.Stage most s small p e before first (known-again (netsOf p) 0) (wired-again (netsOf p)))
+      (write-back gateOf codedGate pairOf pairOperands file.Stage most s small p e no-parts before first (known-again (netsOf p) 0) (wired-again (netsOf p)))
 
   -- so are those of a stage without care words, with the gates first
   pub writeStage-no-care : Bytes s → p .care ≡ [] → AllBefore (p .gates) (p .outputs) → s ≡ writeStage (stageOf s p)

@@ -19,6 +19,10 @@ operands s at (suc k) = operand s at ∷ operands s (at + 2) k
 abbrev pub absent : ℕ
 absent = 0xFFFF
 
+-- what stands at a register's request input that is requested from outside; it names no net
+abbrev pub outside : ℕ
+outside = 0xFFFE
+
 -- k operands as they are written, FFFF where there is none
 abbrev pub writeOperands : ℕ → List ℕ → List ℕ
 writeOperands zero vs = []

@@ -1,32 +1,53 @@
 -- Reading a whole file: its commands one after the other, the refusals 7 to 9 at the end command, and what a readable file gives.
-use Prim.Native.Nat.{ℕ, zero, suc, _+_, _*_, _≤_, _<_}
-use mathlib.Core.Bool.{Bool, true, cond}
-use mathlib.Core.List.{List, [], _∷_, _++_}
+use Prim.Native.Nat.{ℕ, zero, suc, _+_, _-_, _*_, _≤_, _<_}
+use mathlib.Core.Path.{_≡_}
+use mathlib.Core.Bool.{Bool, true, false, cond, _||_}
+use mathlib.Core.Logic.{_⊎_}
+use mathlib.Core.List.{List, [], _∷_, _++_, map}
 use lib.ListN.{length, getD}
 use lib.Dec.{eqb, ltb}
-use Rattle.netlist.specs.Types.{File, Sort, Role, AnyNet, EarlierSignal, AnySignal, Number, Form, Limits, Counts, Next, Command, Refused, Found, At}
+use Rattle.netlist.specs.Types.{File, Sort, Role, AnyNet, EarlierSignal, AnySignal, Number, Data, Pin, Request}
+use Rattle.netlist.specs.Types.{Form, Limits, Counts, Next, Command, Refused, Found, At}
 use Rattle.netlist.specs.Types.{Nothing}
+use Rattle.netlist.specs.Types.file
 use Rattle.netlist.specs.Types.sort
-use Rattle.netlist.specs.Bytes.{byte, operand}
+use Rattle.netlist.specs.Bytes.{byte, operand, outside}
 use Rattle.netlist.specs.Commands.{whenFound, isSort, formOf, roleOf, width, used, nextAt}
 
 -- ---- 9: an operand that names nothing
 
--- what there is to name: a stage has two nets for an input and one for a gate, a reference has one signal for each
+-- What there is to name: a stage has two nets for an input and one for a gate, a reference has one signal for each. The nets of registers and
+-- C-elements follow those of all gates, in the order of the file, which is that of these sorts
 pub record Nets : Type 0 where
   pub inputs : ℕ
   pub gates : ℕ
+  pub parts : List Sort
 
--- the nets that carry data: the rails of the inputs, and the gates'
-abbrev pub carriesData : Nets → ℕ → Bool
-carriesData N v = ltb v (2 * N .inputs + N .gates)
+-- where the nets of the registers and C-elements begin
+abbrev pub firstPart : Nets → ℕ
+firstPart N = 2 * N .inputs + N .gates
+
+-- their nets, one after the other, each by whether it carries data: a register has two rails and Ko, a C-element one net
+unfoldable pub partNets : List Sort → List Bool
+partNets [] = []
+partNets (c ∷ cs) = let later = partNets cs in cond (isSort sort.Register c) (true ∷ true ∷ false ∷ later) (false ∷ later)
+
+abbrev pub isNet : Nets → ℕ → Bool
+isNet N v = ltb v (firstPart N + length (partNets (N .parts)))
+
+-- the nets that carry data: the rails of the inputs and of the registers, and the gates'
+unfoldable pub carriesData : Nets → ℕ → Bool
+carriesData N v = ltb v (firstPart N) || getD (partNets (N .parts)) (v - firstPart N) false
 
 -- an operand names what its role asks for, where k gates stand before its command; a number may be any
 unfoldable pub names : Role → Nets → ℕ → ℕ → Bool
-names AnyNet N k v = carriesData N v
+names AnyNet N k v = ltb v (firstPart N)
 names EarlierSignal N k v = ltb v (N .inputs + k)
 names AnySignal N k v = ltb v (N .inputs + N .gates)
 names Number N k v = true
+names Data N k v = carriesData N v
+names Pin N k v = isNet N v
+names Request N k v = eqb v outside || isNet N v
 
 -- what operand i of a command of a sort is asked
 abbrev pub asked : File → Sort → Nets → ℕ → ℕ → ℕ → Bool
@@ -52,19 +73,21 @@ namelessFrom (suc fuel) f N s at k =
 
 -- ---- the whole file
 
--- what stands before a position: the count of inputs, the places of the gate and output commands, and the care words, in file order
+-- what stands before a position: the count of inputs, the places of the gate and output commands, the care words, and the sorts and places of the
+-- register and C-element commands, in file order
 pub record Places : Type 0 where
   pub inputs : ℕ
   pub gates : List ℕ
   pub outputs : List ℕ
   pub care : List ℕ
+  pub parts : List (Sort × ℕ)
 
 -- each gate stands before each output
 abbrev pub GatesFirst : Places → Type 0
 GatesFirst p = (k j : ℕ) → k < length (p .gates) → j < length (p .outputs) → getD (p .gates) k 0 < getD (p .outputs) j 0
 
 abbrev pub noPlaces : Places
-noPlaces = record { inputs = 0; gates = []; outputs = []; care = [] }
+noPlaces = record { inputs = 0; gates = []; outputs = []; care = []; parts = [] }
 
 -- the least that may follow some care words, of which those before are all below a floor: one more than the last
 unfoldable pub floorAfter : ℕ → List ℕ → ℕ
@@ -76,6 +99,14 @@ abbrev pub Ascending : ℕ → ℕ → List ℕ → Type 0
 Ascending below floor [] = Unit {0}
 Ascending below floor (w ∷ ws) = (floor ≤ w) × (w < below) × Ascending below (w + 1) ws
 
+-- how many of some commands are of a sort
+unfoldable pub countOf : Sort → List Sort → ℕ
+countOf c [] = 0
+countOf c (d ∷ ds) = let later = countOf c ds in cond (isSort c d) (suc later) later
+
+abbrev pub sortsOf : List (Sort × ℕ) → List Sort
+sortsOf = map (λ (x : Sort × ℕ). x .0)
+
 abbrev pub countsOf : Places → Counts
 countsOf p = record {
   inputs = p .inputs;
@@ -83,19 +114,28 @@ countsOf p = record {
   outputs = length (p .outputs);
   care = length (p .care);
   floor = floorAfter 0 (p .care);
+  registers = countOf sort.Register (sortsOf (p .parts));
+  elements = countOf sort.Element (sortsOf (p .parts));
 }
+
+-- a register or C-element more
+abbrev pub notedPart : Sort → ℕ → Places → Places
+notedPart c at p = record { inputs = p .inputs; gates = p .gates; outputs = p .outputs; care = p .care; parts = p .parts ++ ((c, at) ∷ []) }
 
 -- what stands before the next command, where a command of a sort stands at a position
 unfoldable pub noted : Sort → List ℕ → ℕ → Places → Places
-noted sort.Inputs s at p = record { inputs = byte s (at + 1); gates = p .gates; outputs = p .outputs; care = p .care }
-noted sort.Gate s at p = record { inputs = p .inputs; gates = p .gates ++ (at ∷ []); outputs = p .outputs; care = p .care }
-noted sort.Output s at p = record { inputs = p .inputs; gates = p .gates; outputs = p .outputs ++ (at ∷ []); care = p .care }
-noted sort.Care s at p = record { inputs = p .inputs; gates = p .gates; outputs = p .outputs; care = p .care ++ (operand s (at + 1) ∷ []) }
+noted sort.Inputs s at p = record { inputs = byte s (at + 1); gates = p .gates; outputs = p .outputs; care = p .care; parts = p .parts }
+noted sort.Gate s at p = record { inputs = p .inputs; gates = p .gates ++ (at ∷ []); outputs = p .outputs; care = p .care; parts = p .parts }
+noted sort.Output s at p = record { inputs = p .inputs; gates = p .gates; outputs = p .outputs ++ (at ∷ []); care = p .care; parts = p .parts }
+noted sort.Care s at p =
+    record { inputs = p .inputs; gates = p .gates; outputs = p .outputs; care = p .care ++ (operand s (at + 1) ∷ []); parts = p .parts }
+noted sort.Register s at p = notedPart sort.Register at p
+noted sort.Element s at p = notedPart sort.Element at p
 noted sort.End s at p = p
 noted sort.Unknown s at p = p
 
 abbrev pub netsOf : Places → Nets
-netsOf p = record { inputs = p .inputs; gates = length (p .gates) }
+netsOf p = record { inputs = p .inputs; gates = length (p .gates); parts = sortsOf (p .parts) }
 
 -- a file is refused, with a number and a place; or it is readable
 pub data Reading : Type 0 where
@@ -120,6 +160,12 @@ readFrom (suc fuel) f most s at p = onNext (readFrom fuel f most s) f s at p (ne
 
 unfoldable pub readFile : File → Limits → List ℕ → Reading
 readFile f most s = readFrom (suc (length s)) f most s 0 noPlaces
+
+-- read as a stage, a file is refused by 2 at the command of a register or of a C-element
+pub record RefusedAtPart (most : Limits) (s : List ℕ) : Type 0 where
+  pub at : ℕ
+  pub refused-is : readFile file.Stage most s ≡ refused 2 at
+  pub part : (byte s at ≡ 0x04) ⊎ (byte s at ≡ 0x05)
 
 -- ---- limits
 

@@ -4,7 +4,7 @@ pub use Rattle.netlist.specs.declared.File.the-variants as file
 pub use Rattle.netlist.specs.declared.Sort.{Sort}
 pub use Rattle.netlist.specs.declared.Sort.the-variants as sort
 pub use Rattle.netlist.specs.declared.Role.{Role}
-pub use Rattle.netlist.specs.declared.Role.the-variants.{AnyNet, EarlierSignal, AnySignal, Number}
+pub use Rattle.netlist.specs.declared.Role.the-variants.{AnyNet, EarlierSignal, AnySignal, Number, Data, Pin, Request}
 pub use Rattle.netlist.specs.declared.Form.{Form}
 pub use Rattle.netlist.specs.declared.Limits.{Limits}
 pub use Rattle.netlist.specs.declared.Counts.{Counts}

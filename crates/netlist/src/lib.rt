@@ -32,6 +32,8 @@ pub enum Sort {
     Output,
     Care,
     Unknown,
+    Register,
+    Element,
 }
 
 // The most inputs, gates and outputs that a file may have.
@@ -54,6 +56,9 @@ pub const REFERENCE_GATES: usize = 512;
 const PART_STAGE_GATES: usize = 128;
 
 const PART_REFERENCE_GATES: usize = 256;
+
+// The registers, and the C-elements, that a pipeline may have.
+pub const PARTS: usize = 64;
 
 // How many words that many inputs have, and so the most care words.
 pub const WORDS: usize = 1 << INPUTS;
@@ -107,14 +112,16 @@ pub struct Cursor {
     pub at: usize,
 }
 
-// The count of the inputs command, how many gates, outputs and care words there are, and the least that the next care word may be:
-// before a position of a file, or in all.
+// The count of the inputs command, how many gates, outputs, care words, registers and C-elements there are, and the least that the next care
+// word may be: before a position of a file, or in all.
 pub struct Counts {
     pub inputs: usize,
     pub gates: usize,
     pub outputs: usize,
     pub care: usize,
     pub floor: usize,
+    pub registers: usize,
+    pub elements: usize,
 }
 
 // What stands at a position: a command, with the position after it, or the refusal that ends the reading.
@@ -124,12 +131,15 @@ pub enum Next {
 }
 
 // What an operand has to name: any net of the stage, a signal of the reference that is an input or an earlier gate, any signal of the
-// reference; or it is a number and names nothing.
+// reference; or it is a number and names nothing. In a pipeline: a net that carries data; any net; any net, or FFFE.
 pub enum Role {
     AnyNet,
     EarlierSignal,
     AnySignal,
     Number,
+    Data,
+    Pin,
+    Request,
 }
 
 // A row of the command table: the sort of a command, how many bytes stand before its operands, the command byte included, and how many u16

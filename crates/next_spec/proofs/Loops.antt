@@ -48,7 +48,7 @@ at-below test (suc m) h = rw (h m (omega arith)) (at-below test m (λ x l. h x (
 
 -- a stage of some gates, whatever its output
 abbrev bare : ℕ → List Coded → Content
-bare n gates = record { inputs = n; gates = gates; outputs = []; care = [] }
+bare n gates = record { inputs = n; gates = gates; outputs = []; care = []; parts = [] }
 
 unfoldable loopless : ℕ → List Coded → Bool
 loopless n gates = allBelow (λ g. not (reachesItself (netOf (bare n gates)) (2 * n + g))) (length gates)

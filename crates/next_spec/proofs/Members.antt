@@ -22,6 +22,7 @@ use Rattle.check_spec.specs.Verdicts.{refusal, reading}
 use Rattle.check_spec.specs.Demands.{Pass}
 use Rattle.check_spec.proofs.Formed as formed
 use Rattle.check_spec.proofs.Formed.{Formed, read-formed, written-reads}
+use Rattle.check_spec.proofs.View.{stage-partless}
 use Rattle.check_spec.proofs.Back.{stage-content, stage-write}
 use Rattle.next_spec.specs.Numbered.{netsOf, stages, lists, first, second, pairNumbered, gateNumbered, gatesNumbered, stageNumbered}
 use Rattle.next_spec.specs.Listing.{InShape, free, Listed}
@@ -54,7 +55,7 @@ module _ (n g : ℕ) (shaped : InShape n g) where
   nets-low = omega (arith, shaped .inputs-in, shaped .gates-in)
 
   gates-formed : (j x : ℕ) → x < lists m j → (k : ℕ)
-      → GatesFormed Stage (record { inputs = n; gates = g }) k (gatesNumbered m j x) × All (λ c. (1 ≤ c .code) × (c .code ≤ 2)) (gatesNumbered m j x)
+      → GatesFormed Stage (record { inputs = n; gates = g; parts = [] }) k (gatesNumbered m j x) × All (λ c. (1 ≤ c .code) × (c .code ≤ 2)) (gatesNumbered m j x)
   unfolding gatesNumbered lists
   gates-formed zero x l k = (tt, tt)
   gates-formed (suc j) x l k =
@@ -68,7 +69,7 @@ module _ (n g : ℕ) (shaped : InShape n g) where
           record {
             known = omega arith;
             whole = sym two;
-            named = in-pins (record { inputs = n; gates = g }) k 0 (first m (y % (m * m)) ∷ second m (y % (m * m)) ∷ []) (quotient-low m nets-some (y % (m * m)) m (mod-lt y s), (mod-lt (y % (m * m)) nets-some, tt));
+            named = in-pins (record { inputs = n; gates = g; parts = [] }) k 0 (first m (y % (m * m)) ∷ second m (y % (m * m)) ∷ []) (quotient-low m nets-some (y % (m * m)) m (mod-lt y s), (mod-lt (y % (m * m)) nets-some, tt));
           },
           later .0,
         ),
@@ -92,9 +93,10 @@ module _ (n g : ℕ) (shaped : InShape n g) where
           gates-in = omega (arith, shaped .gates-in);
           outputs-in = (omega arith, omega arith);
           gates = rw long (gates-formed g x inside 0 .0);
-          outputs = rw long (record { whole = refl; named = in-rails (record { inputs = n; gates = g }) g 0 (pairNumbered m (z % (m * m))) (quotient-low m nets-some (z % (m * m)) m y, (mod-lt (z % (m * m)) nets-some, tt)) }, tt);
+          outputs = rw long (record { whole = refl; named = in-rails (record { inputs = n; gates = g; parts = [] }) g 0 (pairNumbered m (z % (m * m))) (quotient-low m nets-some (z % (m * m)) m y, (mod-lt (z % (m * m)) nets-some, tt)) }, tt);
           care-in = tt;
           care-stage = inl refl;
+          plain = refl;
         }
 
     numbered-small : free n g z ≡ true → Small (stageNumbered n g z)
@@ -114,7 +116,7 @@ listed-in n g z l =
     record { reads = r .0; reads-as = r .1; small = numbered-small n g (l .shaped) z (l .below) (l .loop-free) }
 
 family-formed : (c : Content) → InFamily c → Formed Stage stageLimits c
-family-formed c i = subst (Formed Stage stageLimits) (i .reads-as) (read-formed Stage stageLimits (fileOf c) (i .reads))
+family-formed c i = subst (Formed Stage stageLimits) (i .reads-as) (read-formed Stage stageLimits (fileOf c) (i .reads) (stage-partless stageLimits (fileOf c)))
 
 -- a readable file with the gates first, whose stage is small, is of the family
 pub readable-member : EachFile
@@ -200,8 +202,8 @@ module _ (c : Content) (i : InFamily c) where
             x * (k * k) + (a * k + b),
             digits-low (k * k) (square k some) x (a * k + b) (lists k (length (c .gates))) (gs .1) (t .2),
             rw (d .0, d .1, t .0, t .1)
-                (ap₂ (λ (gs : List Coded) (os : List (List ℕ)). record { inputs = c .inputs; gates = gs; outputs = os; care = [] }) (gs .0) (sym e)
-                ∙ ap (λ (ws : List ℕ). record { inputs = c .inputs; gates = c .gates; outputs = c .outputs; care = ws }) (sym (i .small .no-care))),
+                (ap₂ (λ (gs : List Coded) (os : List (List ℕ)). record { inputs = c .inputs; gates = gs; outputs = os; care = []; parts = [] }) (gs .0) (sym e)
+                ∙ (λ k. record { inputs = c .inputs; gates = c .gates; outputs = c .outputs; care = sym (i .small .no-care) k; parts = sym (family-formed c i .plain) k })),
           )
       pair (a ∷ b ∷ d ∷ p) w h e = absurd (omega arith)
 

@@ -27,7 +27,9 @@ pub arm : (ks : List ℕ) (P : Sort → Type 0) →
     × Asked (hasKey ks 2) (P sort.Gate)
     × Asked (hasKey ks 3) (P sort.Output)
     × Asked (hasKey ks 4) (P sort.Care)
-    × Asked (hasKey ks 5) (P sort.Unknown) →
+    × Asked (hasKey ks 5) (P sort.Unknown)
+    × Asked (hasKey ks 6) (P sort.Register)
+    × Asked (hasKey ks 7) (P sort.Element) →
     (x : Sort) → OneOf ks (tagOf the-type x) → P x
 arm ks P p sort.End h = given (hasKey ks 0) (P sort.End) (p .0) (λ m. miss ks 0 m h)
 arm ks P p sort.Inputs h = given (hasKey ks 1) (P sort.Inputs) (p .1) (λ m. miss ks 1 m h)
@@ -35,3 +37,5 @@ arm ks P p sort.Gate h = given (hasKey ks 2) (P sort.Gate) (p .2) (λ m. miss ks
 arm ks P p sort.Output h = given (hasKey ks 3) (P sort.Output) (p .3) (λ m. miss ks 3 m h)
 arm ks P p sort.Care h = given (hasKey ks 4) (P sort.Care) (p .4) (λ m. miss ks 4 m h)
 arm ks P p sort.Unknown h = given (hasKey ks 5) (P sort.Unknown) (p .5) (λ m. miss ks 5 m h)
+arm ks P p sort.Register h = given (hasKey ks 6) (P sort.Register) (p .6) (λ m. miss ks 6 m h)
+arm ks P p sort.Element h = given (hasKey ks 7) (P sort.Element) (p .7) (λ m. miss ks 7 m h)

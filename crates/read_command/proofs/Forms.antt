@@ -17,7 +17,7 @@ use Rattle.netlist.specs.declared.Form.{Form}
 use Rattle.netlist.specs.Commands.{asForm, commandTable, ownCommands, formIn, formOf, roleOf, width, needed}
 use Rattle.netlist.specs.Writing.{formFor, All}
 use Rattle.netlist.proofs.Sort.{the-type}
-use Rattle.netlist.proofs.Encoding.{each-file, form-for, gate-form, inputs-form, care-form, width-in}
+use Rattle.netlist.proofs.Encoding.{form-for, gate-form, inputs-form, care-form, element-form, width-in}
 use Rattle.read_command.proofs.Arms.{arm}
 
 pub in-no-row : (rs : List (ℕ × Form)) (b : ℕ) → All (λ r. b ≡ r .0 → ⊥) rs → asForm sort.Unknown 1 0 ≡ formIn rs b
@@ -53,20 +53,26 @@ module _ (f : File) (b : ℕ) {form : Form} (is : form ≡ formOf f b) where
       let row = is-care ∙ care-form f (ap (λ (x : Form). x .sort) (sym is-care) ∙ e) in
       rw row
 
+  pub element-wide : form .sort ≡ sort.Element → form .operands ≡ 4
+  element-wide e =
+      let is-element = form-sort e in
+      ap (λ (x : Form). x .operands) (is-element ∙ element-form f (ap (λ (x : Form). x .sort) (sym is-element) ∙ e))
+
   pub inputs-wide : form .sort ≡ sort.Inputs → width form ≡ 2
   inputs-wide e = ap width (form-sort e ∙ inputs-form f)
 
--- the operands of a command that is neither gate nor output name nothing
-pub number-role : (f : File) (i : ℕ) (c : Sort) → OneOf (0 ∷ 1 ∷ 4 ∷ 5 ∷ []) (tagOf the-type c) → Number ≡ roleOf f c i
+-- the operands of the other commands name nothing
+pub stage-number : (i : ℕ) (c : Sort) → OneOf (0 ∷ 1 ∷ 4 ∷ 5 ∷ 6 ∷ 7 ∷ []) (tagOf the-type c) → Number ≡ roleOf file.Stage c i
 unfolding roleOf
-number-role f i = arm (0 ∷ 1 ∷ 4 ∷ 5 ∷ []) (λ c. Number ≡ roleOf f c i) (
-  each-file (λ f. Number ≡ roleOf f sort.End i) (refl, refl, refl) f,
-  each-file (λ f. Number ≡ roleOf f sort.Inputs i) (refl, refl, refl) f,
-  tt,
-  tt,
-  each-file (λ f. Number ≡ roleOf f sort.Care i) (refl, refl, refl) f,
-  each-file (λ f. Number ≡ roleOf f sort.Unknown i) (refl, refl, refl) f,
-)
+stage-number i = arm (0 ∷ 1 ∷ 4 ∷ 5 ∷ 6 ∷ 7 ∷ []) (λ c. Number ≡ roleOf file.Stage c i) (refl, refl, tt, tt, refl, refl, refl, refl)
+
+pub reference-number : (i : ℕ) (c : Sort) → OneOf (0 ∷ 1 ∷ 4 ∷ 5 ∷ 6 ∷ 7 ∷ []) (tagOf the-type c) → Number ≡ roleOf file.Reference c i
+unfolding roleOf
+reference-number i = arm (0 ∷ 1 ∷ 4 ∷ 5 ∷ 6 ∷ 7 ∷ []) (λ c. Number ≡ roleOf file.Reference c i) (refl, refl, tt, tt, refl, refl, refl, refl)
+
+pub pipeline-number : (i : ℕ) (c : Sort) → OneOf (0 ∷ 1 ∷ 4 ∷ 5 ∷ []) (tagOf the-type c) → Number ≡ roleOf file.Pipeline c i
+unfolding roleOf
+pipeline-number i = arm (0 ∷ 1 ∷ 4 ∷ 5 ∷ []) (λ c. Number ≡ roleOf file.Pipeline c i) (refl, refl, tt, tt, refl, refl, tt, tt)
 
 -- operations 2 to 6 need two operands
 pub operation-two : (b : ℕ) → 2 ≤ b → b ≤ 6 → needed file.Reference b ≡ 2

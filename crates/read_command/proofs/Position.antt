@@ -54,4 +54,4 @@ module _ (f : File) (most : Limits) (s : List ℕ) (at : ℕ) (before : Counts) 
     -- the end command, and what stands for no command: nothing is refused here
     pub by-rest : OneOf (0 ∷ 5 ∷ []) (tagOf the-type (form .sort)) → taken ≡ takeCommand f most s at before form
     unfolding takeSort
-    by-rest keys = arm (0 ∷ 5 ∷ []) (λ c. taken ≡ takeSort f most s at before form taken c) (refl, tt, tt, tt, tt, refl) (form .sort) keys ∙ sym (by-sort (form .sort) refl)
+    by-rest keys = arm (0 ∷ 5 ∷ []) (λ c. taken ≡ takeSort f most s at before form taken c) (refl, tt, tt, tt, tt, refl, tt, tt) (form .sort) keys ∙ sym (by-sort (form .sort) refl)

@@ -42,6 +42,20 @@ fn stage_form(command: u8) -> Form
     }
 }
 
+// The row of a command byte that only a pipeline has.
+fn pipeline_form(command: u8) -> Form
+    ensures { λ r. ⌜ r ≡ commands.formIn (commands.ownCommands file.Pipeline) command ⌝ }
+{
+    match command {
+        0x02 => as_form(Sort::Gate, 2, 4),
+        0x03 => as_form(Sort::Output, 1, 2),
+        0x04 => as_form(Sort::Register, 1, 3),
+        0x05 => as_form(Sort::Element, 1, 4),
+        0x06 => as_form(Sort::Care, 1, 1),
+        _ => as_form(Sort::Unknown, 1, 0),
+    }
+}
+
 // The row of a command byte that only a reference has.
 fn reference_form(command: u8) -> Form
     ensures { λ r. ⌜ r ≡ commands.formIn (commands.ownCommands file.Reference) command ⌝ }
@@ -62,28 +76,55 @@ pub fn form_of(file: File, command: u8) -> Form
         0x01 => as_form(Sort::Inputs, 2, 0),
         _ => match file {
             File::Stage => stage_form(command),
-            File::Pipeline => stage_form(command),
+            File::Pipeline => pipeline_form(command),
             File::Reference => reference_form(command),
         },
     }
 }
 
-// What operand i of a command of a stage, or of a reference, has to name.
+// What operand i of a command of a pipeline has to name.
+fn pipeline_role(sort: Sort, i: usize) -> Role
+    ensures { λ r. ⌜ r ≡ commands.roleOf file.Pipeline sort i ⌝ }
+{
+    match sort {
+        Sort::Gate => Role::Data,
+        Sort::Output => Role::Data,
+        Sort::Register => { if i < 2 { Role::Data } else { Role::Request } }
+        Sort::Element => Role::Pin,
+        _ => Role::Number,
+    }
+}
+
+// Of a command of a reference.
+fn reference_role(sort: Sort, i: usize) -> Role
+    ensures { λ r. ⌜ r ≡ commands.roleOf file.Reference sort i ⌝ }
+{
+    match sort {
+        Sort::Gate => Role::EarlierSignal,
+        Sort::Output => Role::AnySignal,
+        _ => Role::Number,
+    }
+}
+
+// Of a command of a stage.
+fn stage_role(sort: Sort, i: usize) -> Role
+    ensures { λ r. ⌜ r ≡ commands.roleOf file.Stage sort i ⌝ }
+{
+    match sort {
+        Sort::Gate => Role::AnyNet,
+        Sort::Output => Role::AnyNet,
+        _ => Role::Number,
+    }
+}
+
+// What operand i of a command has to name.
 pub fn role_of(file: File, sort: Sort, i: usize) -> Role
     ensures { λ r. ⌜ r ≡ commands.roleOf file sort i ⌝ }
 {
-    match sort {
-        Sort::Gate => match file {
-            File::Stage => Role::AnyNet,
-            File::Pipeline => Role::AnyNet,
-            File::Reference => Role::EarlierSignal,
-        },
-        Sort::Output => match file {
-            File::Stage => Role::AnyNet,
-            File::Pipeline => Role::AnyNet,
-            File::Reference => Role::AnySignal,
-        },
-        _ => Role::Number,
+    match file {
+        File::Stage => stage_role(sort, i),
+        File::Pipeline => pipeline_role(sort, i),
+        File::Reference => reference_role(sort, i),
     }
 }
 
@@ -192,6 +233,39 @@ fn take_gate(
     }
 }
 
+// How many of the four pins from a place on a C-element uses: A and B, C where it is not FFFF, and D only if C is used and D is not FFFF.
+pub fn pins_used(s: &[u8], place: usize) -> usize
+    requires { ⌜ place + 8 ≤ length (now s) ⌝ }
+    ensures { λ r. ⌜ r ≡ commands.pinsUsed (now (s .entry)) place ⌝ }
+{
+    if netlist::operand(s, place + 4) == 0xFFFF {
+        return 2;
+    }
+    if netlist::operand(s, place + 6) == 0xFFFF {
+        return 3;
+    }
+    4
+}
+
+// A C-element all of whose bytes are there, after m of them: 6, then 5 by pin.
+fn take_element(s: &[u8], at: usize, m: usize, form: Form, taken: Next) -> Next
+    requires { ⌜ (form .operands ≡ 4) × (at + commands.width form ≤ length (now s)) ⌝ }
+    ensures { λ r. ⌜ r ≡ commands.takeElement (now (s .entry)) at m form taken ⌝ }
+{
+    if netlist::PARTS <= m {
+        return Next::Refused { number: 6, at };
+    }
+    let first = at + form.lead;
+    let found = first_misfit(pins_used(s, first), s, first, form.operands);
+    match found {
+        Found::At(place) => Next::Refused {
+            number: 5,
+            at: place,
+        },
+        Found::Nothing => taken,
+    }
+}
+
 // A number is a word of n inputs. A u16 is one of 16 inputs or more.
 fn is_word(w: u16, n: usize) -> bool
     ensures { λ r. ⌜ r ≡ ltb w (2 ^ n) ⌝ }
@@ -224,7 +298,7 @@ fn take_care(s: &[u8], place: usize, before: Counts, taken: Next) -> Next
 }
 
 // A command all of whose bytes are there, by its sort: its refusals, or the command with the position after it. Inputs: 3 where
-// the count is not in 1 to the limit. An output: 6.
+// the count is not in 1 to the limit. An output, a register: 6.
 fn take_command(file: File, most: Limits, s: &[u8], at: usize, before: Counts, form: Form) -> Next
     requires { ⌜ (form ≡ commands.formOf file (bytes.byte (now s) at)) × (at + commands.width form ≤ length (now s)) ⌝ }
     ensures { λ r. ⌜ r ≡ commands.takeCommand file most (now (s .entry)) at before form ⌝ }
@@ -255,6 +329,14 @@ fn take_command(file: File, most: Limits, s: &[u8], at: usize, before: Counts, f
             }
         }
         Sort::Care => take_care(s, at + form.lead, before, taken),
+        Sort::Register => {
+            if netlist::PARTS <= before.registers {
+                Next::Refused { number: 6, at }
+            } else {
+                taken
+            }
+        }
+        Sort::Element => take_element(s, at, before.elements, form, taken),
         Sort::End | Sort::Unknown => taken,
     }
 }

@@ -8,21 +8,20 @@ use Rattle.netlist.specs.declared.File.the-variants as file
 use Rattle.netlist.specs.declared.Limits.{Limits}
 use Rattle.netlist.specs.Commands.{stageFile, commandTable, ownCommands, formIn}
 use Rattle.netlist.specs.Reading.{stageLimits, referenceLimits, NoMore}
-use Rattle.read_file.specs.Files.{mostCare, RoomFor}
+use Rattle.read_file.specs.Files.{mostCare, firstCare, RoomFor}
 
 module _ (most : Limits) (long : ℕ) where
-  pub stage-room : (registers : Bool) → NoMore most stageLimits → stageLimits .gates + stageLimits .outputs + 2 ^ stageLimits .inputs ≤ long →
-      RoomFor (stageFile registers) most long
+  pub stage-room : (registers : Bool) → NoMore most stageLimits → firstCare stageLimits + 2 ^ stageLimits .inputs ≤ long → RoomFor (stageFile registers) most long
   unfolding commandTable ownCommands formIn mostCare
   stage-room true less h =
       let few : 2 ^ most .inputs ≤ 2 ^ stageLimits .inputs = pow-mono {i = most .inputs} {j = stageLimits .inputs} (less .inputs-in) in
-      record { u16s = omega (arith, less .gates-in, less .outputs-in); space = omega (arith, less .gates-in, less .outputs-in) }
+      record { few-inputs = omega (arith, less .inputs-in); u16s = omega (arith, less .gates-in, less .outputs-in); space = omega (arith, less .gates-in, less .outputs-in) }
   stage-room false less h =
       let few : 2 ^ most .inputs ≤ 2 ^ stageLimits .inputs = pow-mono {i = most .inputs} {j = stageLimits .inputs} (less .inputs-in) in
-      record { u16s = omega (arith, less .gates-in, less .outputs-in); space = omega (arith, less .gates-in, less .outputs-in) }
+      record { few-inputs = omega (arith, less .inputs-in); u16s = omega (arith, less .gates-in, less .outputs-in); space = omega (arith, less .gates-in, less .outputs-in) }
 
-  pub reference-room : NoMore most referenceLimits → referenceLimits .gates + referenceLimits .outputs ≤ long → RoomFor file.Reference most long
+  pub reference-room : NoMore most referenceLimits → firstCare referenceLimits ≤ long → RoomFor file.Reference most long
   unfolding commandTable ownCommands formIn mostCare
   reference-room less h =
       let few : 2 ^ most .inputs ≤ 2 ^ referenceLimits .inputs = pow-mono {i = most .inputs} {j = referenceLimits .inputs} (less .inputs-in) in
-      record { u16s = omega (arith, less .gates-in, less .outputs-in); space = omega (arith, less .gates-in, less .outputs-in) }
+      record { few-inputs = omega (arith, less .inputs-in); u16s = omega (arith, less .gates-in, less .outputs-in); space = omega (arith, less .gates-in, less .outputs-in) }

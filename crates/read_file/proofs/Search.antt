@@ -15,14 +15,15 @@ use Rattle.netlist.specs.declared.Form.{Form}
 use Rattle.netlist.specs.declared.Found.{Found}
 use Rattle.netlist.specs.declared.Found.the-variants.{At, Nothing}
 use Rattle.netlist.specs.Bytes.{byte, operand}
-use Rattle.netlist.specs.Commands.{whenFound, isSort, formOf, width, needed, used}
+use Rattle.netlist.specs.Commands.{whenFound, isSort, formOf, width, needed, pinsUsed, used}
 use Rattle.netlist.specs.Reading.{Nets, nameless, namelessAt, namelessFrom}
 use Rattle.read_file.specs.Files.{Follow, FilledTo}
 use Rattle.netlist.proofs.Encoding.{needed-in}
+use Rattle.netlist.proofs.Operands.{pins-used-in}
 use Rattle.netlist.proofs.Walk.{nameless-past}
 use Rattle.netlist.proofs.Sort.{the-type}
 use Rattle.read_command.proofs.Arms.{arm}
-use Rattle.read_command.proofs.Forms.{few-bytes, form-sort}
+use Rattle.read_command.proofs.Forms.{few-bytes, form-sort, element-wide}
 use Rattle.read_command.proofs.Misfits.{one-less, next-place}
 
 -- ---- operand j of m operands from a place on, with the value v
@@ -60,12 +61,16 @@ used-in f s at b {form} is = go (form .sort) refl
     go sort.End e = rw e (omega arith)
     go sort.Inputs e = rw e (omega arith)
     go sort.Unknown e = rw e (omega arith)
+    go sort.Register e = rw e (omega arith)
+    go sort.Element e = rw e (omega (arith, element-wide f b is e, pins-used-in s (at + form .lead)))
 
--- a command that is no gate uses all of its operands
-pub used-all : (f : File) (s : List ℕ) (at : ℕ) (form : Form) → OneOf (0 ∷ 1 ∷ 3 ∷ 4 ∷ 5 ∷ []) (tagOf the-type (form .sort)) → form .operands ≡ used f s at form
+-- a command that is no gate and no C-element uses all of its operands
+pub used-all : (f : File) (s : List ℕ) (at : ℕ) (form : Form) → OneOf (0 ∷ 1 ∷ 3 ∷ 4 ∷ 5 ∷ 6 ∷ []) (tagOf the-type (form .sort)) → form .operands ≡ used f s at form
 unfolding used
 used-all f s at form =
-    arm (0 ∷ 1 ∷ 3 ∷ 4 ∷ 5 ∷ []) (λ c. form .operands ≡ cond (isSort sort.Gate c) (needed f (byte s (at + 1))) (form .operands)) (refl, refl, tt, refl, refl, refl) (form .sort)
+    arm (0 ∷ 1 ∷ 3 ∷ 4 ∷ 5 ∷ 6 ∷ [])
+    (λ c. form .operands ≡ cond (isSort sort.Gate c) (needed f (byte s (at + 1))) (cond (isSort sort.Element c) (pinsUsed s (at + form .lead)) (form .operands)))
+    (refl, refl, tt, refl, refl, refl, refl, tt) (form .sort)
 
 -- ---- the commands of a file, one after the other
 
@@ -76,8 +81,8 @@ gatesAfter k c = cond (isSort sort.Gate c) (suc k) k
 pub after-gate : (k : ℕ) {c : Sort} → c ≡ sort.Gate → gatesAfter k c ≡ k + 1
 after-gate k e = let z : suc k ≡ k + 1 = omega arith in rw e z
 
-pub after-other : (k : ℕ) (c : Sort) → OneOf (0 ∷ 1 ∷ 3 ∷ 4 ∷ 5 ∷ []) (tagOf the-type c) → gatesAfter k c ≡ k
-after-other k = arm (0 ∷ 1 ∷ 3 ∷ 4 ∷ 5 ∷ []) (λ c. gatesAfter k c ≡ k) (refl, refl, tt, refl, refl, refl)
+pub after-other : (k : ℕ) (c : Sort) → OneOf (0 ∷ 1 ∷ 3 ∷ 4 ∷ 5 ∷ 6 ∷ 7 ∷ []) (tagOf the-type c) → gatesAfter k c ≡ k
+after-other k = arm (0 ∷ 1 ∷ 3 ∷ 4 ∷ 5 ∷ 6 ∷ 7 ∷ []) (λ c. gatesAfter k c ≡ k) (refl, refl, tt, refl, refl, refl, refl, refl)
 
 -- the search comes to a position after k gates; whole commands follow, and the fuel lasts to the end of the file
 pub record Searched (f : File) (N : Nets) (s : List ℕ) (at k : ℕ) : Type 0 where

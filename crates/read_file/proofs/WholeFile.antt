@@ -3,15 +3,15 @@
 -- Assumes nothing.
 use Prim.Native.Nat.{ℕ, zero, suc, _+_, _*_, _-_, _^_, _≤_, _<_}
 use native.Mathlib.Omega.{arith}
-use native.Mathlib.Numerals.{add-one}
 use native.Mathlib.Nat.{mul-le-mul-right}
 use lib.Pow.{pow-mono}
 use mathlib.Core.Path.{_≡_, refl, sym, ap, ap₂, subst, _∙_}
 use mathlib.Core.Bool.{Bool, true, false, cond}
-use mathlib.Core.List.{List, [], _∷_, _++_}
-use lib.ListN.{length, take, drop, set, length-append, length-set, length-drop}
-use lib.Seq.{take-suc-set, take-set-le, drop-set-lt, drop-set-add}
+use mathlib.Core.List.{List, [], _∷_, map}
+use lib.ListN.{length}
 use lib.Dec.{eqb, ltb}
+use types.Run.{OneOf}
+use denote.Enum.Declared.{tagOf}
 use borrow.Author.Tests.{lt-ltb, le-ltb, eq-eqb, ne-eqb}
 use Rattle.netlist.specs.declared.File.{File}
 use Rattle.netlist.specs.declared.File.the-variants as file
@@ -26,12 +26,15 @@ use Rattle.netlist.specs.declared.Found.{Found}
 use Rattle.netlist.specs.declared.Found.the-variants.{At, Nothing}
 use Rattle.netlist.specs.Bytes.{byte, operand}
 use Rattle.netlist.specs.Commands.{whenFound, isSort, formOf, width, stray, nextAt}
-use Rattle.netlist.specs.Reading.{namelessFrom, Places, floorAfter, countsOf, netsOf, noted, Reading, refused, readable, finish, onNext, readFrom, readFile}
+use Rattle.netlist.specs.Reading.{namelessFrom, Places, floorAfter, countOf, sortsOf, countsOf, netsOf, Reading, refused, readable, finish, onNext, readFrom, readFile}
 use Rattle.netlist.specs.Writing.{Has, commandByte, widthFor}
-use Rattle.read_file.specs.Files.{netsWith, Follow, FilledTo, Countable, mostCare, RoomFor, standing, Placed}
+use Rattle.read_file.specs.Files.{partNoted, netsWith, Follow, FilledTo, Countable, mostCare, firstPart, RoomFor, standing, Placed, RoomOf, Notable, NotedIn}
 use Rattle.netlist.proofs.Encoding.{reference-careless, clash, care-form, width-in, width-inputs, width-end}
+use Rattle.netlist.proofs.Sort.{the-type}
+use Rattle.read_command.proofs.Arms.{arm}
 use Rattle.netlist.proofs.OneCommand.{There, next-there}
-use Rattle.netlist.proofs.Walk.{floor-snoc, care-taken, Near, near-start, near-far, near-noted}
+use Rattle.read_file.proofs.Noting.{counts}
+use Rattle.netlist.proofs.Walk.{most-parts, care-taken, Near, near-start, near-far, near-noted}
 
 -- where a file has care words, there may be as many as words of its inputs
 words-most : (f : File) (most : Limits) → Has f sort.Care → mostCare f most ≡ 2 ^ most .inputs
@@ -42,8 +45,8 @@ words-most file.Reference most e = absurd (reference-careless e)
 
 -- ---- at the end command
 
--- the counts are those of some places
-module _ (f : File) (s : List ℕ) (at : ℕ) (p : Places) (c : Counts) (e : countsOf p ≡ c) where
+-- the counts are those of some places, and the notes those of their registers and C-elements
+module _ (f : File) (s : List ℕ) (at : ℕ) (p : Places) (c : Counts) (e : countsOf p ≡ c) (notes : List ℕ) (kept : p .parts ≡ map partNoted notes) where
   outputs-same : length (p .outputs) ≡ c .outputs
   outputs-same = ap (λ (x : Counts). x .outputs) e
 
@@ -59,9 +62,11 @@ module _ (f : File) (s : List ℕ) (at : ℕ) (p : Places) (c : Counts) (e : cou
     unfolding finish
     finish-7 h = rw (tested, lt-ltb (at + 1) (length s) h)
 
-    module _ (last : length s ≤ at + 1) (found : Found) (is : found ≡ namelessFrom (length s) f (netsWith (c .inputs) (c .gates)) s 0 0) where
+    module _ (last : length s ≤ at + 1) (found : Found) (is : found ≡ namelessFrom (length s) f (netsWith (c .inputs) (c .gates) notes) s 0 0) where
       searched : namelessFrom (length s) f (netsOf p) s 0 0 ≡ found
-      searched = ap (λ (x : Counts). namelessFrom (length s) f (netsWith (x .inputs) (x .gates)) s 0 0) e ∙ sym is
+      searched =
+          ap₂ (λ (x : Counts) (ps : List (Sort × ℕ)). namelessFrom (length s) f (record { inputs = x .inputs; gates = x .gates; parts = sortsOf ps }) s 0 0) e kept
+          ∙ sym is
 
       pub finish-9 : (place : ℕ) → found ≡ At place → finish f s at p ≡ refused 9 place
       unfolding finish whenFound
@@ -103,15 +108,10 @@ module _ (f : File) (s : List ℕ) where
 
 -- ---- the walk over the commands
 
--- the counts before a position, as the code has them
-abbrev pub counts : ℕ → ℕ → ℕ → ℕ → ℕ → Counts
-counts n g o k w = record { inputs = n; gates = g; outputs = o; care = k; floor = w }
-
 -- The reading goes on from a position with what stands in the lent list. The position is near enough to 0 for a u16, whole commands fill
 -- the file up to it, and the fuel lasts to the end of the file.
 pub record Walking (f : File) (most : Limits) (s : List ℕ) (long : ℕ) (places : List ℕ) (at : ℕ) (c : Counts) : Type 0 where
   pub within : at ≤ length s
-  pub inputs-byte : c .inputs < 256
   pub near : Near f most at c
   pub long-same : length places ≡ long
   pub counted : countsOf (standing most places c) ≡ c
@@ -120,11 +120,10 @@ pub record Walking (f : File) (most : Limits) (s : List ℕ) (long : ℕ) (place
   pub enough : length s < at + fuel
   pub same : readFile f most s ≡ readFrom fuel f most s at (standing most places c)
 
-pub walk-starts : (f : File) (most : Limits) (s places : List ℕ) → Walking f most s (length places) places 0 (counts 0 0 0 0 0)
-unfolding readFile floorAfter
+pub walk-starts : (f : File) (most : Limits) (s places : List ℕ) → Walking f most s (length places) places 0 (counts 0 0 0 0 0 0 0)
+unfolding readFile floorAfter countOf
 walk-starts f most s places = record {
   within = omega arith;
-  inputs-byte = omega arith;
   near = near-start f most;
   long-same = refl;
   counted = refl;
@@ -138,21 +137,21 @@ walk-starts f most s places = record {
 pub read-as : {x : Next} {c c′ : Sort} {next : Cursor} → x ≡ Command c next → c ≡ c′ → x ≡ Command c′ next
 read-as {next} e told = e ∙ ap (λ (y : Sort). Command y next) told
 
--- one more of a list that is counted
-one-more : (xs : List ℕ) (x k : ℕ) → length xs ≡ k → length (xs ++ (x ∷ [])) ≡ k + 1
-one-more xs x k e = omega (arith, length-append xs (x ∷ []))
+-- the code's test for the end command
+pub goes-on : (k : Sort) → OneOf (1 ∷ 2 ∷ 3 ∷ 4 ∷ 5 ∷ 6 ∷ 7 ∷ []) (tagOf the-type k) → isSort sort.End k ≡ false
+goes-on = arm (1 ∷ 2 ∷ 3 ∷ 4 ∷ 5 ∷ 6 ∷ 7 ∷ []) (λ k. isSort sort.End k ≡ false) (tt, refl, refl, refl, refl, refl, refl, refl)
 
 module _ {f : File} {most : Limits} {s : List ℕ} {long : ℕ} {places : List ℕ} {at : ℕ} {c : Counts} (room : RoomFor f most long) (w : Walking f most s long places at c) where
   pub standing-counts : countsOf (standing most places c) ≡ c
   standing-counts = w .counted
 
-  -- the position fits a u16
-  pub place-fits : at < 2 ^ 16
-  place-fits = omega (arith, near-far f most (w .near), room .u16s)
+  -- the notes stand in the lent list
+  pub notes-room : firstPart most + (c .registers + c .elements) ≤ length places
+  notes-room = omega (arith, w .near .registers-in, w .near .elements-in, most-parts f, room .space, w .long-same)
 
   -- the sums that the search for 9 takes fit
   pub sums-fit : Countable (c .inputs) (c .gates)
-  sums-fit = omega (arith, w .inputs-byte, w .near .gates-in, room .u16s, mul-le-mul-right (most .gates + 1) (width-in f (commandByte f sort.Gate) .0))
+  sums-fit = omega (arith, w .near .inputs-in, room .few-inputs, w .near .gates-in, room .u16s, mul-le-mul-right (most .gates + 1) (width-in f (commandByte f sort.Gate) .0))
 
   -- x is what stands at the position
   module _ {x : Next} (is : x ≡ nextAt f most s at c) where
@@ -186,110 +185,64 @@ module _ {f : File} {most : Limits} {s : List ℕ} {long : ℕ} {places : List �
           let e : at + width (formOf f (byte s at)) ≡ next .at = omega (arith, after, form-wide) in
           rw e at (filled-next f s (w .filled) (omega (arith, walk-further)))
 
-      -- the reading goes on with what the code has then
-      walk-on : isSort sort.End k ≡ false → (places′ : List ℕ) (c′ : Counts) → length places′ ≡ length places → standing most places′ c′ ≡ noted k s at (standing most places c) →
-          countsOf (noted k s at (standing most places c)) ≡ c′ → c′ .inputs < 256 → Walking f most s long places′ (next .at) c′
+      -- it can be noted
+      pub walk-room : Notable k most s at c (length places)
+      unfolding RoomOf
+      walk-room =
+          let n = w .near in
+          record {
+            u16 = omega (arith, near-far f most n, room .u16s, width-in f (commandByte f sort.Gate));
+            space = omega (arith, room .space, w .long-same);
+            gates-in = n .gates-in;
+            outputs-in = n .outputs-in;
+            parts-in = omega (arith, n .registers-in, n .elements-in, most-parts f);
+            more = go k there;
+          }
+        where
+          go : (k : Sort) → There f most s at c k → RoomOf k most s at c (length places)
+          go sort.Inputs t = omega (arith, t .room, width-inputs f)
+          go sort.Gate t = t .taken .0
+          go sort.Output t = t .taken
+          go sort.Register t = omega (arith, t .taken, w .near .elements-in, most-parts f)
+          go sort.Element t = omega (arith, t .taken .0, w .near .registers-in, most-parts f)
+          go sort.End t = tt
+          go sort.Unknown t = tt
+          -- a care word follows those before it, and there are no more than words of the inputs
+          go sort.Care t =
+              let taken = care-taken f most s at c t in
+              let most-words = words-most f most (t .own) in
+              omega (
+                arith,
+                t .room,
+                ap width (care-form f (t .own)),
+                taken,
+                w .near .care-in,
+                most-words,
+                pow-mono {i = c .inputs} {j = most .inputs} (w .near .inputs-in),
+                room .space,
+                w .long-same,
+              )
+
+      -- the reading goes on with what was noted
+      pub walk-on : isSort sort.End k ≡ false → {places′ : List ℕ} {c′ : Counts} → NotedIn k most s at places c places′ c′ → Walking f most s long places′ (next .at) c′
       unfolding onNext
-      walk-on more places′ c′ same-length e made small =
+      walk-on more {places′} {c′} noted-in =
           let stood = standing most places c in
+          let made = noted-in .counted (w .counted) in
           let near = subst (λ (x : Counts). Near f most at x × There f most s at x k) (sym (w .counted)) (w .near, there) in
+          let nearer = subst (Near f most (at + widthFor f k)) made (near-noted f most s at stood k more (near .0) (near .1)) in
           record {
             within = walk-further .1;
-            inputs-byte = small;
-            near = rw after (subst (Near f most (at + widthFor f k)) made (near-noted f most s at stood k more (near .0) (near .1)));
-            long-same = same-length ∙ w .long-same;
-            counted = ap countsOf e ∙ made;
+            near = rw after nearer;
+            long-same = noted-in .long ∙ w .long-same;
+            counted = ap countsOf (noted-in .same) ∙ made;
             filled = filled-after;
             fuel = w .fuel - 1;
             enough = omega (arith, walk-further, w .enough);
-            same = walk-step ∙ rw (read, more) (ap (readFrom (w .fuel - 1) f most s (next .at)) (sym e));
+            same = walk-step ∙ rw (read, more) (ap (readFrom (w .fuel - 1) f most s (next .at)) (sym (noted-in .same)));
           }
 
     module _ {next : Cursor} where
-      pub inputs-room : x ≡ Command sort.Inputs next → at + 2 ≤ length s
-      inputs-room read = omega (arith, there read .room, width-inputs f)
-
-      pub gate-room : x ≡ Command sort.Gate next → c .gates < most .gates
-      gate-room read = there read .taken .0
-
-      pub output-room : x ≡ Command sort.Output next → c .outputs < most .outputs
-      output-room read = there read .taken
-
-      -- a care word follows those before it, and there are no more than words of the inputs
-      pub care-room : x ≡ Command sort.Care next → (at + 3 ≤ length s) × (operand s (at + 1) < 2 ^ most .inputs) × (c .care < mostCare f most)
-      unfolding mostCare
-      care-room read =
-          let t = there read in
-          let taken = care-taken f most s at c t in
-          let most-words = words-most f most (t .own) in
-          omega (arith, t .room, ap width (care-form f (t .own)), taken, w .near .care-in, most-words, pow-mono {i = c .inputs} {j = most .inputs} (w .near .inputs-in))
-
-      pub walk-inputs : x ≡ Command sort.Inputs next → byte s (at + 1) < 256 → Walking f most s long places (next .at) (counts (byte s (at + 1)) (c .gates) (c .outputs) (c .care) (c .floor))
-      unfolding noted
-      walk-inputs read small =
-          walk-on read refl places (counts (byte s (at + 1)) (c .gates) (c .outputs) (c .care) (c .floor)) refl refl
-          (ap (λ (x : Counts). counts (byte s (at + 1)) (x .gates) (x .outputs) (x .care) (x .floor)) (w .counted)) small
-
-      pub walk-gate : x ≡ Command sort.Gate next → Walking f most s long (set places (c .gates) at) (next .at) (counts (c .inputs) (c .gates + 1) (c .outputs) (c .care) (c .floor))
-      unfolding noted
-      walk-gate read =
-          let inside : c .gates < length places = omega (arith, gate-room read, room .space, w .long-same) in
-          walk-on read refl (set places (c .gates) at) (counts (c .inputs) (c .gates + 1) (c .outputs) (c .care) (c .floor)) (length-set places (c .gates) at)
-          (rw (
-            add-one,
-            take-suc-set places (c .gates) at inside,
-            drop-set-lt (most .gates) places (c .gates) at (gate-room read),
-            drop-set-lt (most .gates + most .outputs) places (c .gates) at (omega (arith, gate-room read)),
-          ))
-          (ap₂ (λ (g : ℕ) (x : Counts). counts (c .inputs) g (x .outputs) (x .care) (x .floor))
-          (one-more (take (c .gates) places) at (c .gates) (ap (λ (x : Counts). x .gates) (w .counted))) (w .counted))
-          (w .inputs-byte)
-
-      pub walk-output : x ≡ Command sort.Output next → Walking f most s long (set places (most .gates + c .outputs) at) (next .at) (counts (c .inputs) (c .gates) (c .outputs + 1) (c .care) (c .floor))
-      unfolding noted
-      walk-output read =
-          let inside : c .outputs < length (drop (most .gates) places) = simp length-drop (omega (arith, output-room read, room .space, w .long-same)) in
-          walk-on read refl (set places (most .gates + c .outputs) at) (counts (c .inputs) (c .gates) (c .outputs + 1) (c .care) (c .floor)) (length-set places (most .gates + c .outputs) at)
-          (rw (
-            add-one,
-            take-set-le (c .gates) places (most .gates + c .outputs) at (omega (arith, w .near .gates-in)),
-            drop-set-add (most .gates) places (c .outputs) at,
-            take-suc-set (drop (most .gates) places) (c .outputs) at inside,
-            drop-set-lt (most .gates + most .outputs) places (most .gates + c .outputs) at (omega (arith, output-room read)),
-          ))
-          (ap₂ (λ (o : ℕ) (x : Counts). counts (c .inputs) (x .gates) o (x .care) (x .floor))
-          (one-more (take (c .outputs) (drop (most .gates) places)) at (c .outputs) (ap (λ (x : Counts). x .outputs) (w .counted))) (w .counted))
-          (w .inputs-byte)
-
-      pub walk-care : x ≡ Command sort.Care next → {v : ℕ} → v ≡ operand s (at + 1) →
-          Walking f most s long (set places (most .gates + most .outputs + c .care) v) (next .at) (counts (c .inputs) (c .gates) (c .outputs) (c .care + 1) (v + 1))
-      unfolding noted
-      walk-care read {v} is-word =
-          let first : ℕ = most .gates + most .outputs in
-          let stood = drop first places in
-          let further : first + c .care ≡ most .gates + (most .outputs + c .care) = omega arith in
-          let kept : take (c .outputs) (drop (most .gates) (set places (first + c .care) v)) ≡ take (c .outputs) (drop (most .gates) places) =
-          rw (further, drop-set-add (most .gates) places (most .outputs + c .care) v, take-set-le (c .outputs) (drop (most .gates) places) (most .outputs + c .care) v (omega (arith, w .near .outputs-in))) in
-          let inside : c .care < length stood = simp length-drop (omega (arith, care-room read, room .space, w .long-same)) in
-          walk-on read refl (set places (first + c .care) v) (counts (c .inputs) (c .gates) (c .outputs) (c .care + 1) (v + 1)) (length-set places (first + c .care) v)
-          (rw (
-            ← is-word,
-            add-one,
-            kept,
-            take-set-le (c .gates) places (first + c .care) v (omega (arith, w .near .gates-in)),
-            drop-set-add first places (c .care) v,
-            take-suc-set stood (c .care) v inside,
-          ))
-          (rw (← is-word, floor-snoc 0 (take (c .care) stood) v)
-          (ap₂ (λ (k : ℕ) (x : Counts). counts (c .inputs) (x .gates) (x .outputs) k (v + 1))
-          (one-more (take (c .care) stood) v (c .care) (ap (λ (x : Counts). x .care) (w .counted))) (w .counted)))
-          (w .inputs-byte)
-
-      -- a byte that stands for no command is refused
-      pub walk-unknown : x ≡ Command sort.Unknown next → ⊥
-      unfolding stray
-      walk-unknown read = clash (let o = there read .ordered in cc)
-
       module _ (read : x ≡ Command sort.End next) where
         pub walk-ends : readFile f most s ≡ finish f s at (standing most places c)
         unfolding onNext

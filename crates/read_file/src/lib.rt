@@ -11,6 +11,7 @@ use netlist::Outcome;
 use netlist::Role;
 use netlist::Sort;
 ghost use mathlib.Core.Path.{_≡_};
+ghost use mathlib.Core.List.{map};
 ghost use Prim.Native.Nat.{ℕ, _+_, _*_, _^_, _<_, _≤_};
 ghost use lib.ListN.{length};
 ghost use Rattle.netlist.specs.Commands as commands;
@@ -51,46 +52,103 @@ pub fn take_next(file: File, most: Limits, s: &[u8], here: Cursor, before: Count
 
 // ---- 9: an operand that names nothing
 
-// Whether a number names what its role asks for, with n inputs and g gates in all and k gates before its command.
-fn names(role: Role, n: usize, g: usize, k: usize, v: usize) -> bool
+// What a net after the gates carries: data, or a register's Ko or the net of a C-element; or there is no such net.
+pub enum Carried {
+    Data,
+    Completion,
+    Nothing,
+}
+
+// How many nets a register or a C-element has: a register two rails and Ko, a C-element one net.
+fn nets_of(note: u16) -> usize
+    ensures { λ r. ⌜ r ≡ length (files.netsNoted note) ⌝ }
+{
+    if note % 2 == 1 { 1 } else { 3 }
+}
+
+// What net i of them carries.
+fn own_net(note: u16, i: usize) -> Carried
+    requires { ⌜ i < length (files.netsNoted note) ⌝ }
+    ensures { λ r. ⌜ r ≡ files.carriedAt (files.netsNoted note) i ⌝ }
+{
+    if note % 2 == 1 {
+        return Carried::Completion;
+    }
+    if i < 2 {
+        return Carried::Data;
+    }
+    Carried::Completion
+}
+
+// What net i after the gates carries.
+fn part_net(notes: &[u16], i: usize) -> Carried
+    ensures { λ r. ⌜ r ≡ files.carriedAt (reading.partNets (reading.sortsOf (map files.partNoted (now (notes .entry))))) i ⌝ }
+{
+    let mut left = i;
+    let mut p: usize = 0;
+    while p < notes.len() {
+        let note = notes[p];
+        let own = nets_of(note);
+        if left < own {
+            return own_net(note, left);
+        }
+        left -= own;
+        p += 1;
+    }
+    Carried::Nothing
+}
+
+// Whether a number names a net that carries data, with n inputs, g gates and the notes of the registers and C-elements.
+fn carries_data(n: usize, g: usize, notes: &[u16], v: usize) -> bool
+    requires { ⌜ 2 * n + g < 2 ^ 64 ⌝ }
+    ensures { λ r. ⌜ r ≡ reading.carriesData (files.netsWith n g (now (notes .entry))) v ⌝ }
+{
+    let first = 2 * n + g;
+    if v < first {
+        return true;
+    }
+    match part_net(notes, v - first) {
+        Carried::Data => true,
+        Carried::Completion => false,
+        Carried::Nothing => false,
+    }
+}
+
+// Whether a number names any net.
+fn is_net(n: usize, g: usize, notes: &[u16], v: usize) -> bool
+    requires { ⌜ 2 * n + g < 2 ^ 64 ⌝ }
+    ensures { λ r. ⌜ r ≡ reading.isNet (files.netsWith n g (now (notes .entry))) v ⌝ }
+{
+    let first = 2 * n + g;
+    if v < first {
+        return true;
+    }
+    match part_net(notes, v - first) {
+        Carried::Data => true,
+        Carried::Completion => true,
+        Carried::Nothing => false,
+    }
+}
+
+// Whether a number names what its role asks for, where k gates stand before its command.
+fn names(role: Role, n: usize, g: usize, notes: &[u16], k: usize, v: usize) -> bool
     requires { ⌜ (2 * n + g < 2 ^ 64) × (n + k < 2 ^ 64) ⌝ }
-    ensures { λ r. ⌜ r ≡ reading.names role (files.netsWith n g) k v ⌝ }
+    ensures { λ r. ⌜ r ≡ reading.names role (files.netsWith n g (now (notes .entry))) k v ⌝ }
 {
     match role {
         Role::AnyNet => v < 2 * n + g,
         Role::EarlierSignal => v < n + k,
         Role::AnySignal => v < n + g,
         Role::Number => true,
-    }
-}
-
-// The first of m operands of a command, from a place on, that does not name what it is asked for.
-fn first_nameless(
-    file: File,
-    sort: Sort,
-    n: usize,
-    g: usize,
-    k: usize,
-    s: &[u8],
-    at: usize,
-    m: usize,
-) -> Found
-    requires { ⌜ at + 2 * m ≤ length (now s) ⌝ }
-    requires { ⌜ (2 * n + g < 2 ^ 64) × (n + k < 2 ^ 64) ⌝ }
-    ensures { λ r. ⌜ r ≡ reading.nameless (reading.asked file sort (files.netsWith n g) k) 0 (now (s .entry)) at m ⌝ }
-{
-    let mut j: usize = 0;
-    while j < m {
-        let place = at + 2 * j;
-        let v = netlist::operand(s, place) as usize;
-        let role = read_command::role_of(file, sort, j);
-        if names(role, n, g, k, v) {
-            j += 1;
-        } else {
-            return Found::At(place);
+        Role::Data => carries_data(n, g, notes, v),
+        Role::Pin => is_net(n, g, notes, v),
+        Role::Request => {
+            if v == 0xFFFE {
+                return true;
+            }
+            is_net(n, g, notes, v)
         }
     }
-    Found::Nothing
 }
 
 // How many of its operands the command at a position uses, from the first on.
@@ -101,31 +159,53 @@ fn used_operands(file: File, s: &[u8], at: usize, form: Form) -> usize
     let sort = form.sort;
     match sort {
         Sort::Gate => read_command::needed(file, s[at + 1]),
+        Sort::Element => read_command::pins_used(s, at + form.lead),
         _ => form.operands,
     }
 }
 
-// The first of them that names nothing, where k gates stand before the command.
-fn nameless_at(file: File, n: usize, g: usize, s: &[u8], at: usize, k: usize, form: Form) -> Found
+// The first of them that does not name what it is asked for, where k gates stand before the command.
+fn nameless_at(
+    file: File,
+    n: usize,
+    g: usize,
+    notes: &[u16],
+    s: &[u8],
+    at: usize,
+    k: usize,
+    form: Form,
+) -> Found
     requires { ⌜ (form ≡ commands.formOf file (bytes.byte (now s) at)) × (at + commands.width form ≤ length (now s)) ⌝ }
     requires { ⌜ (2 * n + g < 2 ^ 64) × (n + k < 2 ^ 64) ⌝ }
-    ensures { λ r. ⌜ r ≡ reading.namelessAt file (files.netsWith n g) (now (s .entry)) at k form ⌝ }
+    ensures { λ r. ⌜ r ≡ reading.namelessAt file (files.netsWith n g (now (notes .entry))) (now (s .entry)) at k form ⌝ }
 {
     let sort = form.sort;
+    let first = at + form.lead;
     let m = used_operands(file, s, at, form);
-    first_nameless(file, sort, n, g, k, s, at + form.lead, m)
+    let mut j: usize = 0;
+    while j < m {
+        let place = first + 2 * j;
+        let v = netlist::operand(s, place) as usize;
+        let role = read_command::role_of(file, sort, j);
+        if names(role, n, g, notes, k, v) {
+            j += 1;
+        } else {
+            return Found::At(place);
+        }
+    }
+    Found::Nothing
 }
 
 // The first operand of a file that names nothing, in the order of the file, which whole commands fill.
-fn find_nameless(file: File, n: usize, g: usize, s: &[u8]) -> Found
+fn find_nameless(file: File, n: usize, g: usize, notes: &[u16], s: &[u8]) -> Found
     requires { ⌜ files.Countable n g × files.FilledTo file (now s) (length (now s)) ⌝ }
-    ensures { λ r. ⌜ r ≡ reading.namelessFrom (length (now (s .entry))) file (files.netsWith n g) (now (s .entry)) 0 0 ⌝ }
+    ensures { λ r. ⌜ r ≡ reading.namelessFrom (length (now (s .entry))) file (files.netsWith n g (now (notes .entry))) (now (s .entry)) 0 0 ⌝ }
 {
     let mut at: usize = 0;
     let mut k: usize = 0;
     while at < s.len() {
         let form = read_command::form_of(file, s[at]);
-        if let Found::At(place) = nameless_at(file, n, g, s, at, k, form) {
+        if let Found::At(place) = nameless_at(file, n, g, notes, s, at, k, form) {
             return Found::At(place);
         }
         let after = at + read_command::width(form);
@@ -156,10 +236,11 @@ fn refusal(next: Next) -> Outcome
     }
 }
 
-// At the end command, whose place is given with the counts before it: 8, 7, then 9.
-fn finish(file: File, s: &[u8], at: usize, counts: Counts) -> Outcome
+// At the end command, whose place is given with the counts before it and the notes of the registers and C-elements: 8, 7, then 9.
+fn finish(file: File, s: &[u8], at: usize, counts: Counts, notes: &[u16]) -> Outcome
     requires { ⌜ files.Countable (counts .inputs) (counts .gates) × (at < length (now s)) × files.FilledTo file (now s) (at + 1) ⌝ }
-    ensures { λ r. ⌜ ((p : reading.Places) → reading.countsOf p ≡ counts → r ≡ read.outcomeOf (reading.finish file (now (s .entry)) at p)) ⌝ }
+    ensures { λ r. ⌜ ((p : reading.Places) → reading.countsOf p ≡ counts → p .parts ≡ map files.partNoted (now (notes .entry))
+        → r ≡ read.outcomeOf (reading.finish file (now (s .entry)) at p)) ⌝ }
 {
     if counts.outputs == 0 {
         return Outcome::Refused { number: 8, at };
@@ -171,7 +252,7 @@ fn finish(file: File, s: &[u8], at: usize, counts: Counts) -> Outcome
             at: after,
         };
     }
-    if let Found::At(place) = find_nameless(file, counts.inputs, counts.gates, s) {
+    if let Found::At(place) = find_nameless(file, counts.inputs, counts.gates, notes, s) {
         return Outcome::Refused {
             number: 9,
             at: place,
@@ -180,72 +261,77 @@ fn finish(file: File, s: &[u8], at: usize, counts: Counts) -> Outcome
     Outcome::Readable(counts)
 }
 
+// Notes a command of a sort at a position, where some stand before it; the counts then.
+fn note(sort: Sort, most: Limits, s: &[u8], at: usize, places: &mut [u16], before: Counts) -> Counts
+    requires { ⌜ files.Notable sort most (now s) at before (length (now places)) ⌝ }
+    ensures { λ r. ⌜ files.NotedIn sort most (now (s .entry)) at (now (places .entry)) before (now (places .exit)) r ⌝ }
+{
+    let mut after = before;
+    match sort {
+        Sort::Inputs => {
+            after.inputs = s[at + 1] as usize;
+        }
+        Sort::Gate => {
+            let g = before.gates;
+            places[g] = at as u16;
+            after.gates = g + 1;
+        }
+        Sort::Output => {
+            let o = before.outputs;
+            places[most.gates + o] = at as u16;
+            after.outputs = o + 1;
+        }
+        Sort::Register => {
+            let k = before.registers;
+            places[most.gates + most.outputs + (k + before.elements)] = (2 * at) as u16;
+            after.registers = k + 1;
+        }
+        Sort::Element => {
+            let k = before.elements;
+            places[most.gates + most.outputs + (before.registers + k)] = (2 * at + 1) as u16;
+            after.elements = k + 1;
+        }
+        Sort::Care => {
+            let k = before.care;
+            let w = netlist::operand(s, at + 1);
+            places[most.gates + most.outputs + 2 * netlist::PARTS + k] = w;
+            after.care = k + 1;
+            after.floor = w as usize + 1;
+        }
+        Sort::End | Sort::Unknown => {}
+    }
+    after
+}
+
 // Reads a whole file, one command at a time. The places of its gates go into the lent slice from index 0 on, those of its
-// outputs from index most.gates on, and its care words behind room for the most outputs.
+// outputs from index most.gates on, the notes of its registers and C-elements behind room for the most outputs, and its care words behind room
+// for the most of these.
 pub fn read_file(file: File, most: Limits, s: &[u8], places: &mut [u16]) -> Outcome
     requires { ⌜ files.RoomFor file most (length (now places)) ⌝ }
     ensures answered { λ r. ⌜ r ≡ read.outcomeOf (reading.readFile file most (now (s .entry))) ⌝ }
     ensures placed { λ r. ⌜ files.Placed most (reading.readFile file most (now (s .entry))) (now (places .exit)) ⌝ }
 {
-    let first_output = most.gates;
-    let first_care = most.gates + most.outputs;
+    let first_part = most.gates + most.outputs;
     let mut at: usize = 0;
-    let mut inputs: usize = 0;
-    let mut gates: usize = 0;
-    let mut outputs: usize = 0;
-    let mut care: usize = 0;
-    let mut floor: usize = 0;
+    let mut counts = Counts {
+        inputs: 0,
+        gates: 0,
+        outputs: 0,
+        care: 0,
+        floor: 0,
+        registers: 0,
+        elements: 0,
+    };
     while at < s.len() {
-        let next = take_next(
-            file,
-            most,
-            s,
-            Cursor { at },
-            Counts {
-                inputs,
-                gates,
-                outputs,
-                care,
-                floor,
-            },
-        );
+        let next = take_next(file, most, s, Cursor { at }, counts);
         let Next::Command(sort, after) = next else {
             return refusal(next);
         };
-        match sort {
-            Sort::Inputs => {
-                inputs = s[at + 1] as usize;
-            }
-            Sort::Gate => {
-                places[gates] = at as u16;
-                gates += 1;
-            }
-            Sort::Output => {
-                places[first_output + outputs] = at as u16;
-                outputs += 1;
-            }
-            Sort::Care => {
-                let w = netlist::operand(s, at + 1);
-                places[first_care + care] = w;
-                care += 1;
-                floor = w as usize + 1;
-            }
-            Sort::End => {
-                return finish(
-                    file,
-                    s,
-                    at,
-                    Counts {
-                        inputs,
-                        gates,
-                        outputs,
-                        care,
-                        floor,
-                    },
-                );
-            }
-            Sort::Unknown => {}
+        if let Sort::End = sort {
+            let end = first_part + (counts.registers + counts.elements);
+            return finish(file, s, at, counts, &places[first_part..end]);
         }
+        counts = note(sort, most, s, at, places, counts);
         at = after.at;
     }
     Outcome::Refused {

@@ -30,7 +30,7 @@ use Rattle.verdict.proofs.Settling.{settled-bits}
 use Rattle.verdict.proofs.Names.{words-once}
 use Rattle.verdict.proofs.OneWord.{wires-length}
 use Rattle.check_spec.specs.Cases.{accepted}
-use Rattle.check_spec.specs.Content.{Content, Files, stageIn}
+use Rattle.check_spec.specs.Content.{Content, wired, Files, stageIn}
 use Rattle.check_spec.specs.Rows.{netOf}
 use Rattle.check_spec.specs.Words.{railsFor, spelled, names, IsWord}
 use Rattle.check_spec.specs.Checks.{rest}
@@ -39,7 +39,7 @@ use Rattle.check_spec.specs.Demands.{LoopFree, answerTo, Kept}
 use Rattle.check_spec.specs.Loaded.{stageView}
 use Rattle.check_spec.proofs.Formed.{read-of}
 use Rattle.check_spec.proofs.Alike.{spelled-alike, names-alike, rest-alike, levels-alike, word-in, in-word, care-rises}
-use Rattle.check_spec.proofs.Sound.{accepted-sound, sound-kept}
+use Rattle.check_spec.proofs.Sound.{accepted-sound, sound-free, sound-kept}
 use Rattle.report_spec.specs.High as code
 use Rattle.report_spec.specs.Report.{gatesHigh, reportOf, lines, reportOn, gateSwitchings, Cycle, switchings, EachWordOnce, Cycled, ReportMeans}
 use Rattle.report_spec.proofs.Cycles.{low-again}
@@ -202,7 +202,7 @@ module _ (order : WordOrder) (c : Content) (care : Ascending (2 ^ c .inputs) 0 (
 
 -- the report of two files means what is said of it
 pub report-means : (order : WordOrder) (f : Files) → ReportMeans f (reportOn order f)
-unfolding reportOn
+unfolding reportOn wired
 report-means order f = go (eqb (verdictOn order f .number) 0) refl
   where
     s : Content
@@ -214,7 +214,7 @@ report-means order f = go (eqb (verdictOn order f .number) 0) refl
         record { cycled = λ a. absurd (no a); half = λ a. absurd (no a) }
     go true e =
         let p = accepted-sound order f (eqb-eq (verdictOn order f .number) 0 e) .1 in
-        let free = p .free in
+        let free = sound-free p in
         let read = read-of (stageFile (f .registers)) (f .stageMost) (f .stage) (p .read .0) in
         let care = care-rises (stageFile (f .registers)) (f .stageMost) (f .stage) (read .0) (read .1) in
         record {

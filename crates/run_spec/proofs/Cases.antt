@@ -11,6 +11,8 @@ use Rattle.netlist.specs.Reading as r
 use Rattle.verdict.specs.declared.Verdict.{Verdict}
 use Rattle.verdict.specs.declared.WordOrder.{WordOrder}
 use Rattle.verdict.specs.declared.WordOrder.the-variants.{FirstHighest, FirstLowest}
+use Rattle.wiring_spec.specs.Parts as i
+use Rattle.wiring_spec.specs.Wires as x
 use Rattle.check_spec.specs.Cases as e
 use Rattle.check_spec.specs.Cases.{verdict, judge}
 use Rattle.check_spec.specs.Lists as l
@@ -206,8 +208,8 @@ Computed =
 
 computed : Computed
 unfolding wireReference andReference twoWires whole lent cases judgings keyedRuns b.operand b.operands
-    k.whenFound k.ownCommands k.commandTable k.formIn k.pinsNeeded k.needed k.stray k.misfit k.misfitFrom k.takeGate k.takeCare k.takeSort
-    k.takeCommand k.nextAt
+    k.whenFound k.ownCommands k.commandTable k.formIn k.pinsNeeded k.needed k.pinsUsed k.stray k.misfit k.misfitFrom k.takeGate k.takeCare k.takeElement
+    k.takeSort k.takeCommand k.nextAt r.partNets r.carriesData r.countOf t.wired i.registersOf i.registerCount x.times x.resolve
     r.names k.roleOf k.used r.nameless r.namelessAt r.namelessFrom r.floorAfter r.noted r.finish r.onNext r.readFrom r.readFile
     t.contentAt v.refusal e.first e.judge
     l.numbers l.select l.some l.every l.ofBits l.reaches e.sweep o.rounds o.risen o.fallen o.reachesItself

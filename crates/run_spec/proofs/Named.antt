@@ -14,16 +14,18 @@ use Rattle.verdict.specs.declared.WordOrder.{WordOrder}
 use Rattle.verdict.proofs.Words.{in-index}
 use Rattle.check_spec.specs.Cases.{Case, Check, accepted, first, judge}
 use Rattle.check_spec.specs.Lists.{some, numbers}
-use Rattle.check_spec.specs.Content.{Content, Files, stageIn, referenceIn}
+use Rattle.check_spec.specs.Content.{Content, Files, rawIn, stageIn, referenceIn}
 use Rattle.check_spec.specs.Rows.{netOf, reachesItself}
 use Rattle.check_spec.specs.Words.{spelled, names}
 use Rattle.check_spec.specs.Checks.{swept, wrong, incomplete, unobservable, fallIncomplete, fallUnobservable, looped, retired, retiredGate, neverRises, idle, checks}
 use Rattle.check_spec.specs.Verdicts.{verdictOn}
-use Rattle.check_spec.specs.Demands.{Pass, Named, BothRead, LoopFree}
+use Rattle.check_spec.specs.Demands.{Pass, Named, BothRead, LoopFree, wiringIn}
+use Rattle.wiring_spec.specs.Wiring.{registers, circular, uneven, missing, barred}
+use Rattle.verdict.proofs.Steps.{some-all}
 use Rattle.check_spec.proofs.First.{Each, first-says, named-says, sweep-each}
-use Rattle.check_spec.proofs.Loops.{some-all}
+use Rattle.check_spec.proofs.Wired.{wired-free}
 use Rattle.check_spec.proofs.Laws.{before}
-use Rattle.check_spec.proofs.Sound.{Ran, laws, past-reading, accepted-sound}
+use Rattle.check_spec.proofs.Sound.{Ran, laws, past-reading, accepted-sound, sound-free}
 use Rattle.check_spec.proofs.Demanded.{of-runs}
 
 -- ---- what each case of some checks says, the named case says
@@ -48,6 +50,9 @@ module _ (order : WordOrder) (f : Files) where
   abbrev s : Content
   s = stageIn f
 
+  abbrev raw : Content
+  raw = rawIn f
+
   abbrev r : Content
   r = referenceIn f
 
@@ -59,17 +64,29 @@ module _ (order : WordOrder) (f : Files) where
   named = spelled order (s .inputs) (v .word)
 
   pub accepted-free : v .number ≡ 0 → BothRead f × LoopFree (netOf s)
-  accepted-free e = let h = accepted-sound order f e .1 in (h .read, h .free)
+  accepted-free e = let h = accepted-sound order f e .1 in (h .read, sound-free h)
 
   pub refused-free : Ran (v .number) → BothRead f × LoopFree (netOf s)
   unfolding laws
   refused-free h =
       let n = v .number in
       let p = past-reading f order n (of-runs n h .1) refl in
+      let w = wired-free raw in
       let ls = laws f order in (
         p .0,
-        some-all (λ k. judge (checks order s r) .number ≡ k → LoopFree (netOf s)) (13 ∷ 14 ∷ 15 ∷ 20 ∷ 21 ∷ [])
-            (before 13 12 ls, (before 14 12 ls, (before 15 12 ls, (before 20 12 ls, (before 21 12 ls, tt))))) n h (ap (λ (x : Verdict). x .number) (sym (p .1))),
+        some-all (λ k. judge (checks order raw r) .number ≡ k → LoopFree (netOf s)) (13 ∷ 14 ∷ 15 ∷ 20 ∷ 21 ∷ []) (
+          (λ q. w (before 13 12 ls q) (before 13 33 ls q)),
+          (
+            (λ q. w (before 14 12 ls q) (before 14 33 ls q)),
+            (
+              (λ q. w (before 15 12 ls q) (before 15 33 ls q)),
+              (
+                (λ q. w (before 20 12 ls q) (before 20 33 ls q)),
+                ((λ q. w (before 21 12 ls q) (before 21 33 ls q)), tt),
+              ),
+            ),
+          ),
+        ) n h (ap (λ (x : Verdict). x .number) (sym (p .1))),
       )
 
   -- ---- the test of a number, at a place and in a word
@@ -97,32 +114,45 @@ module _ (order : WordOrder) (f : Files) where
   abbrev Holds : Case → Type 0
   Holds c = c .fails ≡ true → Tested (c .names .number) (c .names .at) (spelled order (s .inputs) (c .names .word))
 
-  each-holds : EachCheck Holds (checks order s r)
+  each-holds : EachCheck Holds (checks order raw r)
   unfolding checks looped retired idle
   each-holds =
       let sp = spelled order (s .inputs) in
       let m = length (s .gates) in
+      let p = wiringIn f in
       let outs = length (s .outputs) in (
         ((λ t. tt), tt),
         (
           ((λ t. tt), tt),
           (
-            sweep-each 12 1 (numbers 0 m) (λ w g. reachesItself (netOf s) (2 * s .inputs + g)) Holds (0 ∷ []) (λ w x i y t. tt),
+            sweep-each 12 1 (numbers 0 (length (raw .gates))) (λ w g. reachesItself (netOf raw) (2 * raw .inputs + g)) Holds (0 ∷ []) (λ w x i y t. tt),
             (
-              sweep-each 28 1 (numbers 0 m) (λ w. retiredGate s) Holds (0 ∷ []) (λ w x i y t. tt),
+              sweep-each 33 1 (registers p) (λ w. circular p) Holds (0 ∷ []) (λ w x i y t. tt),
               (
-                sweep-each 13 1 (numbers 0 outs) (λ name. wrong s r (sp name)) Holds (names order s) (λ w x i y t. (in-index outs i y, t)),
+                sweep-each 33 1 (registers p) (λ w. uneven p) Holds (0 ∷ []) (λ w x i y t. tt),
                 (
-                  sweep-each 14 1 (numbers 0 (s .inputs)) (λ name. incomplete s (sp name)) Holds (names order s) (λ w x i y t. (in-index (s .inputs) i y, t)),
+                  sweep-each 34 1 (registers p) (λ w. missing p) Holds (0 ∷ []) (λ w x i y t. tt),
                   (
-                    sweep-each 15 1 (numbers 0 m) (λ name. unobservable s (sp name)) Holds (names order s) (λ w x i y t. (in-index m i y, t)),
+                    sweep-each 35 1 (registers p) (λ w. barred p) Holds (0 ∷ []) (λ w x i y t. tt),
                     (
-                      sweep-each 20 1 (numbers 0 (s .inputs)) (λ name. fallIncomplete s (sp name)) Holds (names order s) (λ w x i y t. (in-index (s .inputs) i y, t)),
+                      sweep-each 28 1 (numbers 0 m) (λ w. retiredGate s) Holds (0 ∷ []) (λ w x i y t. tt),
                       (
-                        sweep-each 21 1 (numbers 0 m) (λ name. fallUnobservable s (sp name)) Holds (names order s) (λ w x i y t. (in-index m i y, t)),
+                        sweep-each 13 1 (numbers 0 outs) (λ name. wrong s r (sp name)) Holds (names order s) (λ w x i y t. (in-index outs i y, t)),
                         (
-                          sweep-each 32 1 (numbers 0 m) (λ w g. neverRises s (2 * s .inputs + g)) Holds (0 ∷ []) (λ w x i y t. tt),
-                          tt,
+                          sweep-each 14 1 (numbers 0 (s .inputs)) (λ name. incomplete s (sp name)) Holds (names order s) (λ w x i y t. (in-index (s .inputs) i y, t)),
+                          (
+                            sweep-each 15 1 (numbers 0 m) (λ name. unobservable s (sp name)) Holds (names order s) (λ w x i y t. (in-index m i y, t)),
+                            (
+                              sweep-each 20 1 (numbers 0 (s .inputs)) (λ name. fallIncomplete s (sp name)) Holds (names order s) (λ w x i y t. (in-index (s .inputs) i y, t)),
+                              (
+                                sweep-each 21 1 (numbers 0 m) (λ name. fallUnobservable s (sp name)) Holds (names order s) (λ w x i y t. (in-index m i y, t)),
+                                (
+                                  sweep-each 32 1 (numbers 0 m) (λ w g. neverRises s (2 * s .inputs + g)) Holds (0 ∷ []) (λ w x i y t. tt),
+                                  tt,
+                                ),
+                              ),
+                            ),
+                          ),
                         ),
                       ),
                     ),
@@ -135,12 +165,12 @@ module _ (order : WordOrder) (f : Files) where
       )
 
   tested : (n : ℕ) → Ran n → v .number ≡ n → Tested n (v .at) named
-  tested n h e = subst (λ (k : ℕ). Tested k (v .at) named) e (go (judge-says Holds (checks order s r) each-holds))
+  tested n h e = subst (λ (k : ℕ). Tested k (v .at) named) e (go (judge-says Holds (checks order raw r) each-holds))
     where
-      is : v ≡ judge (checks order s r)
+      is : v ≡ judge (checks order raw r)
       is = past-reading f order n (of-runs n h .1) e .1
 
-      go : ((c : Case) × Holds c × (c .fails ≡ true) × (judge (checks order s r) ≡ c .names)) ⊎ (judge (checks order s r) ≡ accepted) → Tested (v .number) (v .at) named
+      go : ((c : Case) × Holds c × (c .fails ≡ true) × (judge (checks order raw r) ≡ c .names)) ⊎ (judge (checks order raw r) ≡ accepted) → Tested (v .number) (v .at) named
       go (inl (c, holds, t, q)) = subst (λ (x : Verdict). Tested (x .number) (x .at) (spelled order (s .inputs) (x .word))) (sym (is ∙ q)) (holds t)
       go (inr q) = absurd (omega (arith, of-runs n h .0, ap (λ (x : Verdict). x .number) (is ∙ q)))
 

@@ -30,7 +30,8 @@ use Rattle.check_spec.specs.Words.{railsFor, spelled, answer}
 use Rattle.check_spec.specs.Checks.{rest, wrong, incomplete, unobservable, fallIncomplete, fallUnobservable}
 use Rattle.check_spec.specs.Verdicts.{verdictOn}
 use Rattle.check_spec.specs.Demands.{BothRead, LoopFree, answerTo}
-use Rattle.check_spec.proofs.Loops.{acyclic, risen-is, fallen-is, settled-is, some-out}
+use Rattle.verdict.proofs.Steps.{some-out}
+use Rattle.check_spec.proofs.Loops.{acyclic, risen-is, fallen-is, settled-is}
 use Rattle.check_spec.proofs.Pairs.{all-data, all-null}
 use Rattle.check_spec.proofs.OneWord.{word-data, high-out, rest-settled, inside, gate}
 use Rattle.run_spec.specs.declared.RunAnswer.{RunAnswer}

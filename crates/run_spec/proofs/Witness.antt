@@ -18,12 +18,12 @@ use Rattle.runs.proofs.Test.{clash, true?, not-true, eqb-eq, le-ltb}
 use Rattle.verdict.specs.declared.Verdict.{Verdict}
 use Rattle.verdict.specs.declared.WordOrder.{WordOrder}
 use Rattle.check_spec.specs.Lists.{some}
-use Rattle.check_spec.specs.Content.{Content, Files, stageIn, referenceIn}
+use Rattle.check_spec.specs.Content.{Content, Files, wired, stageIn, referenceIn}
 use Rattle.check_spec.specs.Rows.{netOf}
-use Rattle.check_spec.specs.Words.{railsFor, spelled, names, IsWord}
+use Rattle.check_spec.specs.Words.{railsFor, spelled, caresFor, names, IsWord}
 use Rattle.check_spec.specs.Verdicts.{verdictOn}
 use Rattle.check_spec.specs.Demands.{BothRead, LoopFree, answerTo}
-use Rattle.check_spec.proofs.Sound.{idle-sound}
+use Rattle.check_spec.proofs.Sound.{idle-sound, sound-free}
 use Rattle.check_spec.proofs.Demanded.{demand-2, demand-3}
 use Rattle.run_spec.specs.declared.RunAnswer.{RunAnswer}
 use Rattle.run_spec.specs.Played.{Run, switchings, answering, handedOut}
@@ -114,7 +114,7 @@ module _ (order : WordOrder) (f : Files) (w : ℕ) where
       let y = held-none s v 20 21 (λ q. omega arith) (λ q. omega arith) in
       let d = demand-3 order f .idle e .1 in
       let cycle : FullCycle N c (run .rise) (run .fall) =
-      rw (rise-is s v w 32 e low low x y refl, fall-is s v w 32 e low low x y refl) (full s (referenceIn f) (idle-sound order f e .free) w self self) in
+      rw (rise-is s v w 32 e low low x y refl, fall-is s v w 32 e low low x y refl) (full s (referenceIn f) (sound-free (idle-sound order f e)) w self self) in
       let l = cycle .lists in
       record {
         cycle = cycle;
@@ -166,7 +166,7 @@ module _ (order : WordOrder) (f : Files) (asked : ℕ) (before : List ℕ) where
       ))
 
   word-cared : verdict .number ≡ 32 → IsWord (stageIn f) (wordShown order f asked)
-  unfolding nameShown
+  unfolding nameShown wired caresFor
   word-cared e =
       let is : cared ≡ nameShown order (stageIn f) verdict asked =
       sym (ap (λ (b : Bool). cond b asked (cond (eqb (verdict .number) 32) cared (verdict .word))) (ne-eqb (verdict .number) 0 (λ q. omega arith))

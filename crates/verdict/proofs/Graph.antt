@@ -166,6 +166,17 @@ module _ (next : ℕ → List ℕ) (size : ℕ) (inside : (u v : ℕ) → In v (
   unfolding rank
   rank-≤ x = bits-sum size (reached x) (bits-tabulate (λ y. leads next (eqb y) size x) size)
 
+  -- a net leads to itself
+  pub rank-some : (x : ℕ) → x < size → 1 ≤ rank x
+  unfolding rank
+  rank-some x h =
+      ⊎-elim (λ e. absurd (omega (arith, sym (at (λ y. false)) ∙ ap (λ (l : List ℕ). getD l x 0) e ∙ at (λ y. leads next (eqb y) size x) ∙ ap bit (leads-from x h here))))
+      (λ l. omega arith)
+      (below-split (tabulate (λ y. bit false) size) (reached x) (below-tabulate (λ y. false) (λ y. leads next (eqb y) size x) (λ y e. absurd (let z : _≡_ {A = ℕ} 0 1 = cc in omega arith)) size))
+    where
+      at : (f : ℕ → Bool) → getD (tabulate (λ y. bit (f y)) size) x 0 ≡ bit (f x)
+      at f = getD-tabulate (λ y. bit (f y)) size x 0 h
+
   -- a step from u to v: u leads to whatever v does, and to itself
   pub rank-falls : (u v : ℕ) → ¬ (OnLoop next u) → In v (next u) → rank v < rank u
   unfolding rank

@@ -9,6 +9,7 @@ pub mod Least
 pub mod Words
 pub mod Names
 pub mod Bridge
+pub mod Steps
 pub mod Falls
 pub mod Refusals
 pub mod OneWord

@@ -18,7 +18,7 @@ use Rattle.netlist.specs.declared.Next.the-variants.{Command, Refused}
 use Rattle.netlist.specs.declared.Found.{Found}
 use Rattle.netlist.specs.declared.Found.the-variants.{At, Nothing}
 use Rattle.netlist.specs.Bytes.{byte, operand}
-use Rattle.netlist.specs.Commands.{whenFound, isSort, formOf, width, needed, stray, misfitFrom, takeGate, takeCare, takeSort, takeCommand, nextAt}
+use Rattle.netlist.specs.Commands.{whenFound, isSort, formOf, mostParts, width, needed, pinsUsed, stray, misfitFrom, takeGate, takeCare, takeElement, takeSort, takeCommand, nextAt}
 use Rattle.netlist.specs.Reading.{Places, noPlaces, Reading, refused, readable, namelessFrom, finish, onNext, noted, countsOf, netsOf, readFrom, readFile}
 
 abbrev pub InTable : ℕ → Type 0
@@ -43,7 +43,7 @@ unless-found P Nothing there none p q = q
 
 module _ (f : File) (most : Limits) (s : List ℕ) (at : ℕ) (before : Counts) where
   sort-numbered : (form : Form) (taken : Next) → NextNumbered taken → (c : Sort) → NextNumbered (takeSort f most s at before form taken c)
-  unfolding takeSort takeGate takeCare
+  unfolding takeSort takeGate takeCare takeElement
   sort-numbered form taken h sort.Inputs = either NextNumbered (leb 1 (byte s (at + 1)) && leb (byte s (at + 1)) (most .inputs)) taken _ h (omega arith)
   sort-numbered form taken h sort.Gate =
       let k = needed f (byte s (at + 1)) in
@@ -55,6 +55,10 @@ module _ (f : File) (most : Limits) (s : List ℕ) (at : ℕ) (before : Counts) 
       let w = operand s (at + form .lead) in
       either NextNumbered (ltb w (2 ^ before .inputs)) _ (Refused 18 (at + form .lead))
       (either NextNumbered (ltb w (before .floor)) (Refused 19 (at + form .lead)) taken (omega arith) h) (omega arith)
+  sort-numbered form taken h sort.Register = either NextNumbered (leb mostParts (before .registers)) (Refused 6 at) taken (omega arith) h
+  sort-numbered form taken h sort.Element =
+      either NextNumbered (leb mostParts (before .elements)) (Refused 6 at) _ (omega arith)
+      (unless-found NextNumbered (misfitFrom (pinsUsed s (at + form .lead)) 0 s (at + form .lead) (form .operands)) (λ place. Refused 5 place) taken (λ place. omega arith) h)
   sort-numbered form taken h sort.End = h
   sort-numbered form taken h sort.Unknown = h
 

@@ -146,14 +146,14 @@ sweeps order s r = riseSweeps order s r ++ fallSweeps order s r
 abbrev pub wordChecks : WordOrder → Stage → Reference → List Check
 wordChecks order s r = sweeps order s r ++ (idle s ∷ [])
 
--- all checks, in their order: those of the counts, of loops and of retired kinds, and those that settle the stage in its words
-unfoldable pub checks : WordOrder → Stage → Reference → List Check
-checks order s r =
-    unequal 10 (s .inputs) (r .inputs) ∷
-    unequal 11 (length (s .outputs)) (length (r .outputs)) ∷
-    looped s ∷
-    retired s ∷
-    wordChecks order s r
+-- all checks, in their order: those of the counts and of loops, in a stage as reading gives it; those of how it is wired; and in the stage whose
+-- registers are wires those of retired kinds, and those that settle it in its words
+unfoldable pub checks : WordOrder → Stage → List Check → Stage → Reference → List Check
+checks order raw wiring s r =
+    unequal 10 (raw .inputs) (r .inputs) ∷
+    unequal 11 (length (raw .outputs)) (length (r .outputs)) ∷
+    looped raw ∷
+    wiring ++ (retired s ∷ wordChecks order s r)
 
 -- 17: a rail of input i is above 1, or both are 1
 unfoldable pub illegal : List ℕ → ℕ → Bool

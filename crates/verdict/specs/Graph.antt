@@ -1,25 +1,11 @@
--- Nets that lead to others step by step, and a test of it that computes. `next x` are the nets one step from net x.
+-- A test that computes of nets that lead to others step by step. `next x` are the nets one step from net x.
 use Prim.Native.Nat.{ℕ, zero, suc}
 use mathlib.Core.Bool.{Bool, false, _||_}
-use mathlib.Core.Path.{_≡_}
-use mathlib.Core.Logic.{_⊎_}
 use mathlib.Core.List.{List, [], _∷_}
 use lib.Dec.{eqb}
 use Rattle.gates.specs.Cell.{bit}
 use Rattle.verdict.specs.Rows.{high, rounds}
-
-abbrev pub In : ℕ → List ℕ → Type 0
-In x [] = ⊥
-In x (y ∷ ys) = (x ≡ y) ⊎ In x ys
-
--- x leads to y: it is y, or a net one step from it leads to y
-pub data Leads (next : ℕ → List ℕ) (y : ℕ) : ℕ → Type 0 where
-  here : Leads next y y
-  onward : {x z : ℕ} → In z (next x) → Leads next y z → Leads next y x
-
--- x leads back to itself
-abbrev pub OnLoop : (ℕ → List ℕ) → ℕ → Type 0
-OnLoop next x = (z : ℕ) × In z (next x) × Leads next x z
+pub use Rattle.verdict.specs.Paths.{In, Leads, here, onward, OnLoop}
 
 abbrev pub anyHigh : List ℕ → List ℕ → Bool
 anyHigh row [] = false

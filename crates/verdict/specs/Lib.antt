@@ -1,5 +1,6 @@
 pub mod FourNumbers
 pub mod Lists
+pub mod Paths
 pub mod Rows
 pub mod Levels
 pub mod Graph

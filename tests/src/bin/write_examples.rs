@@ -26,11 +26,17 @@ fn main() -> std::io::Result<()> {
             example.about
         );
     }
+    for example in catalogue::pipelines::pipelines() {
+        let verdicts = ORDERS.map(|order| suite::verdict_in(order, &example.pair));
+        let pipelines = files::pipelines_folder(&folder);
+        files::store_example(&pipelines, &example.name, &example.pair, verdicts)?;
+    }
     for example in catalogue::texts::texts() {
         let read = file_of_text(&example.text);
         files::store_text(&folder, example.name, &example.text, &read)?;
     }
     std::fs::write(folder.join("TEXTS.md"), catalogue::texts::listing())?;
     std::fs::write(folder.join("LIST.md"), catalogue::listing())?;
+    std::fs::write(folder.join("PIPELINES.md"), catalogue::pipelines::listing())?;
     std::fs::write(folder.join("JOINS.md"), catalogue::joins::listing())
 }

@@ -6,15 +6,15 @@ use lib.ListN.{length, length-set}
 use denote.Ref.{now}
 use Rattle.circuit_load.specs.Load.{stageNumber}
 use Rattle.circuit_load.proofs.Numbers.{WrittenTo, write-more}
-use Rattle.circuit_load.proofs.Stages.{stage-same, stage-loaded}
+use Rattle.circuit_load.proofs.Stages.{stage-same, raw-loaded}
 use Rattle.circuit_load.proofs.load_stage.Statement.{statement}
 use Rattle.circuit_load.proofs.load_stage.Tie as tie
 
 abbrev Inv-loop : tie.InvT-loop
-Inv-loop s places most counts code₀ end i₀ code i = (length code ≡ length code₀) × WrittenTo (stageNumber most s places counts) code i
+Inv-loop s places most counts ground code₀ end i₀ code i = (length code ≡ length code₀) × WrittenTo (stageNumber most s places counts ground) code i
 
 abbrev μ-loop : tie.MeasureT-loop
-μ-loop s places most counts code₀ end i₀ code i = end - i
+μ-loop s places most counts ground code₀ end i₀ code i = end - i
 
 loop-holds : tie.Need-loop-holds Inv-loop μ-loop
 loop-holds c = (refl, λ q h. absurd (omega arith))
@@ -34,8 +34,8 @@ returns : tie.Need-returns Inv-loop μ-loop
 returns c =
     let z = c .before .before .before .before .before .before .before .before in
     let l = c .before .loop in (
-      stage-same (z .args .most) (now (z .args .s)) (now (z .args .places)) (z .args .counts) (l .code) (z .pre .0) (omega arith) (λ q h. l .inv .1 q (omega arith)),
-      stage-loaded (z .args .most) (now (z .args .s)) (now (z .args .places)) (z .args .counts) (l .code) (z .pre .0) (omega arith)
+      stage-same (z .args .most) (now (z .args .s)) (now (z .args .places)) (z .args .counts) (l .code) (z .args .ground) (z .pre .0) (omega arith) (λ q h. l .inv .1 q (omega arith)),
+      raw-loaded (z .args .most) (now (z .args .s)) (now (z .args .places)) (z .args .counts) (l .code) (z .args .ground) (z .pre .0) (omega arith)
           (λ q h. l .inv .1 q (omega arith)) (z .pre .1),
     )
 

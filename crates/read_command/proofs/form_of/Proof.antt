@@ -27,7 +27,7 @@ unfolding ownCommands
 returns-4 c =
     let start = c .before .before .before .before in
     let other = c .before .before .before .match .rest in
-    rw (c .before .enum-told2 .given .1) (c .stage-form2 .ensures ∙ own-row file.Pipeline (start .args .command) (other .0 .1) (other .1))
+    rw (c .before .enum-told2 .given .1) (c .pipeline-form .ensures ∙ own-row file.Pipeline (start .args .command) (other .0 .1) (other .1))
 
 returns-5 : tie.Need-returns-5
 unfolding ownCommands

@@ -18,7 +18,7 @@ returns-2 c = rw (c .enum-told2 .given .1)
 
 returns-3 : tie.Need-returns-3
 unfolding stray
-returns-3 c = arm (0 ∷ 2 ∷ 3 ∷ 4 ∷ []) (λ x. eqb (c .before .args .at) 0 ≡ stray (c .before .args .at) x) (refl, tt, refl, refl, refl, tt) (c .before .args .sort) (c .match .keys3)
+returns-3 c = arm (0 ∷ 2 ∷ 3 ∷ 4 ∷ 6 ∷ 7 ∷ []) (λ x. eqb (c .before .args .at) 0 ≡ stray (c .before .args .at) x) (refl, tt, refl, refl, refl, tt, refl, refl) (c .before .args .sort) (c .match .keys3)
 
 pub stray-spec : {M : Type 1} → statement M
 stray-spec = tie.close (tie.spec (λ c. search needs) (λ c. search needs) returns returns-2 returns-3)

@@ -5,7 +5,7 @@ use mathlib.Core.Path.{sym, _∙_}
 use borrow.Author.Tests.{le-leb, lt-leb}
 use borrow.Author.Needs.{needs}
 use Rattle.netlist.specs.Commands.{takeSort}
-use Rattle.read_command.proofs.Forms.{few-bytes, gate-lead, care-wide, inputs-wide}
+use Rattle.read_command.proofs.Forms.{few-bytes, gate-lead, care-wide, element-wide, inputs-wide}
 use Rattle.read_command.proofs.Position.{by-sort, by-rest}
 use Rattle.read_command.proofs.take_command.Statement.{statement}
 use Rattle.read_command.proofs.take_command.Tie as tie
@@ -29,6 +29,9 @@ returns c =
 
 take-gate-requires : tie.Need-take-gate-requires
 take-gate-requires c κs = omega (arith, gate-lead _ _ (c .before .before .before .before .pre .0) (c .enum-told2 .given .1), c .before .before .before .before .pre .1)
+
+take-element-requires : tie.Need-take-element-requires
+take-element-requires c κs = (element-wide _ _ (c .before .before .before .before .pre .0) (c .enum-told6 .given .1), c .before .before .before .before .pre .1)
 
 take-care-requires : tie.Need-take-care-requires
 take-care-requires c κs =
@@ -67,7 +70,23 @@ returns-7 c =
     c .take-care .ensures ∙ sym (by-sort _ _ _ _ _ _ _ (c .before .before .before .before .width .ensures) _ (c .before .before .enum-told4 .given .1))
 
 returns-8 : tie.Need-returns-8
-returns-8 c = by-rest _ _ _ _ _ _ _ (c .before .width .ensures) (c .match .keys5)
+unfolding takeSort
+returns-8 c =
+    let arm = c .before .before in
+    sym (by-sort _ _ _ _ _ _ _ (arm .before .before .width .ensures) _ (arm .enum-told5 .given .1) ∙ simp (le-leb _ _ (c .if4 .taken)))
+
+returns-9 : tie.Need-returns-9
+unfolding takeSort
+returns-9 c =
+    let arm = c .before .before in
+    sym (by-sort _ _ _ _ _ _ _ (arm .before .before .width .ensures) _ (arm .enum-told5 .given .1) ∙ simp (lt-leb _ _ (c .if4 .left)))
+
+returns-10 : tie.Need-returns-10
+unfolding takeSort
+returns-10 c = c .take-element .ensures ∙ sym (by-sort _ _ _ _ _ _ _ (c .before .before .before .width .ensures) _ (c .before .enum-told6 .given .1))
+
+returns-11 : tie.Need-returns-11
+returns-11 c = by-rest _ _ _ _ _ _ _ (c .before .width .ensures) (c .match .keys7)
 
 pub take-command-spec : {M : Type 1} → statement M
 take-command-spec =
@@ -86,10 +105,16 @@ take-command-spec =
     (λ c. search needs)
     (λ c. search needs)
     take-care-requires
+    (λ c. search needs)
+    (λ c. search needs)
+    take-element-requires
     returns-2
     returns-3
     returns-4
     returns-5
     returns-6
     returns-7
-    returns-8)
+    returns-8
+    returns-9
+    returns-10
+    returns-11)

@@ -12,18 +12,18 @@ use Rattle.read_file.proofs.find_nameless.Statement.{statement}
 use Rattle.read_file.proofs.find_nameless.Tie as tie
 
 abbrev Inv-loop : tie.InvT-loop
-Inv-loop file n g s at₀ k₀ at k = Searched file (netsWith n g) s at k
+Inv-loop file n g notes s at₀ k₀ at k = Searched file (netsWith n g notes) s at k
 
 abbrev μ-loop : tie.MeasureT-loop
-μ-loop file n g s at₀ k₀ at k = length s - at
+μ-loop file n g notes s at₀ k₀ at k = length s - at
 
 loop-holds : tie.Need-loop-holds Inv-loop μ-loop
-loop-holds c = search-starts _ _ _ (c .before .pre .1)
+loop-holds c = search-starts _ _ _ (c .before .before .pre .1)
 
 nameless-at-requires : tie.Need-nameless-at-requires Inv-loop μ-loop
 nameless-at-requires c κs =
     let loop = c .before .before .before in
-    ((c .form-of .ensures, command-room (loop .loop .inv) (c .before .before .loop-test .taken) (c .form-of .ensures)), (omega arith, omega (arith, loop .loop .inv, loop .before .before .good)))
+    ((c .form-of .ensures, command-room (loop .loop .inv) (c .before .before .loop-test .taken) (c .form-of .ensures)), (omega arith, omega (arith, loop .loop .inv, loop .before .before .before .good)))
 
 returns : tie.Need-returns Inv-loop μ-loop
 returns c =

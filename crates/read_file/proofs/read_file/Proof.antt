@@ -1,29 +1,27 @@
--- `read_file::read_file` meets its contract. The loop's invariant, `Walking`: the reading goes on from the position with the places that
--- stand in the lent slice. Assumes nothing.
-use Prim.Native.Nat.{_+_, _-_}
+-- `read_file::read_file` meets its contract. The loop's invariant, `Walking`: the reading goes on from the position with what stands in the
+-- lent slice. Assumes nothing.
+use Prim.Native.Nat.{ℕ, _+_, _-_}
 use native.Mathlib.Omega.{arith}
-use mathlib.Core.Path.{refl, sym, ap, _∙_}
-use lib.ListN.{length}
+use mathlib.Core.Path.{_≡_, refl, sym, ap, _∙_}
+use mathlib.Core.List.{map}
+use lib.ListN.{length, take, drop}
 use borrow.Author.Needs.{needs}
 use Rattle.netlist.specs.Read.{outcomeOf}
 use Rattle.read_command.proofs.Position.{next-past}
-use Rattle.read_file.proofs.WholeFile.{counts, Walking, walk-starts, read-as, standing-counts, place-fits, sums-fit, walk-stops, walk-further, inputs-room, gate-room, output-room, care-room}
-use Rattle.read_file.proofs.WholeFile.{walk-inputs, walk-gate, walk-output, walk-care, walk-unknown, walk-ends, walk-filled, walk-placed, refused-placed}
+use Rattle.read_file.specs.Files.{partNoted, firstPart}
+use Rattle.read_file.proofs.WholeFile.{Walking, walk-starts, read-as, goes-on, standing-counts, notes-room, sums-fit, walk-stops, walk-further, walk-room, walk-on, walk-ends}
+use Rattle.read_file.proofs.WholeFile.{walk-filled, walk-placed, refused-placed}
 use Rattle.read_file.proofs.read_file.Statement.{statement}
 use Rattle.read_file.proofs.read_file.Tie as tie
 
 abbrev Inv-loop : tie.InvT-loop
-Inv-loop file most s places₀ first-output first-care at₀ inputs₀ gates₀ outputs₀ care₀ floor₀ places at inputs gates outputs care floor =
-    Walking file most s (length places₀) places at (counts inputs gates outputs care floor)
+Inv-loop file most s places₀ first-part at₀ counts₀ places at counts = Walking file most s (length places₀) places at counts
 
 abbrev μ-loop : tie.MeasureT-loop
-μ-loop file most s places₀ first-output first-care at₀ inputs₀ gates₀ outputs₀ care₀ floor₀ places at inputs gates outputs care floor = length s - at
+μ-loop file most s places₀ first-part at₀ counts₀ places at counts = length s - at
 
-add-first-care : tie.Need-add-first-care Inv-loop μ-loop
-add-first-care c = omega (arith, c .before .before .before .pre .space, c .before .before .before .good)
-
-loop-holds : tie.Need-loop-holds Inv-loop μ-loop
-loop-holds c = walk-starts _ _ _ _
+add-first-part : tie.Need-add-first-part Inv-loop μ-loop
+add-first-part c = omega (arith, c .before .before .before .pre .space, c .before .before .before .good)
 
 returns : tie.Need-returns Inv-loop μ-loop
 unfolding outcomeOf
@@ -33,199 +31,72 @@ returns c =
     let e = walk-stops (loop .before .before .before .before .pre) (loop .loop .inv) (c .before .before .before .take-next .ensures) _ _ told in
     (c .refusal .ensures _ _ told ∙ sym (ap outcomeOf e), refused-placed _ _ _ _ _ e)
 
-shared-slice-read-inputs : tie.Need-shared-slice-read-inputs Inv-loop μ-loop
-shared-slice-read-inputs c =
-    let next = c .before .before .before .before in
-    let loop = next .before .before .before .before in
-    let room = loop .before .before .before .before .pre in
-    let is = next .before .before .take-next .ensures in
-    let read = read-as (next .next .given .1) (c .before .enum-told2 .given .1) in
-    omega (arith, inputs-room room (loop .loop .inv) is read)
+-- the part of the lent slice that holds the notes
+add-end : tie.Need-add-end Inv-loop μ-loop
+add-end c =
+    let loop = c .before .before .before .before .before .before .before .before in
+    let start = loop .before .before .before .before in
+    omega (arith, notes-room (start .pre) (loop .loop .inv), loop .loop .inv .long-same, start .good)
 
-cast-inputs : tie.Need-cast-inputs Inv-loop μ-loop
-cast-inputs c = omega (arith, c .shared-slice-known2 .given (c .before .before .before .before .before .before .before .before .loop .at + 1))
+add-end-2 : tie.Need-add-end-2 Inv-loop μ-loop
+add-end-2 c =
+    let loop = c .before .before .before .before .before .before .before .before in
+    let start = loop .before .before .before .before in
+    omega (arith, notes-room (start .pre) (loop .loop .inv), loop .loop .inv .long-same, start .good)
 
-cast-places : tie.Need-cast-places Inv-loop μ-loop
-cast-places c =
-    let next = c .before .before .before in
-    let loop = next .before .before .before .before in
-    let room = loop .before .before .before .before .pre in
-    omega (arith, place-fits room (loop .loop .inv))
+mul-finish : tie.Need-mul-finish Inv-loop μ-loop
+mul-finish c =
+    let loop = c .before .before .before .before .before .before .before .before in
+    let start = loop .before .before .before .before in
+    omega (arith, notes-room (start .pre) (loop .loop .inv), loop .loop .inv .long-same, start .good)
 
-slice-write-places : tie.Need-slice-write-places Inv-loop μ-loop
-slice-write-places c =
-    let next = c .before .before .before in
-    let loop = next .before .before .before .before in
-    let room = loop .before .before .before .before .pre in
-    let is = next .before .before .take-next .ensures in
-    let read = read-as (next .next .given .1) (c .enum-told3 .given .1) in
-    omega (arith, gate-room room (loop .loop .inv) is read, room .space, loop .loop .inv .long-same)
-
-cast-places-2 : tie.Need-cast-places-2 Inv-loop μ-loop
-cast-places-2 c =
-    let next = c .before .before .before in
-    let loop = next .before .before .before .before in
-    let room = loop .before .before .before .before .pre in
-    omega (arith, place-fits room (loop .loop .inv))
-
-slice-write-places-2 : tie.Need-slice-write-places-2 Inv-loop μ-loop
-slice-write-places-2 c =
-    let next = c .before .before .before in
-    let loop = next .before .before .before .before in
-    let room = loop .before .before .before .before .pre in
-    let is = next .before .before .take-next .ensures in
-    let read = read-as (next .next .given .1) (c .enum-told4 .given .1) in
-    omega (arith, output-room room (loop .loop .inv) is read, room .space, loop .loop .inv .long-same)
-
-operand-requires : tie.Need-operand-requires Inv-loop μ-loop
-operand-requires c κs =
-    let next = c .before .before .before in
-    let loop = next .before .before .before .before in
-    let room = loop .before .before .before .before .pre in
-    let is = next .before .before .take-next .ensures in
-    let read = read-as (next .next .given .1) (c .enum-told5 .given .1) in
-    omega (arith, care-room room (loop .loop .inv) is read)
-
-add-places-2 : tie.Need-add-places-2 Inv-loop μ-loop
-add-places-2 c =
-    let next = c .before .before .before .before in
-    let loop = next .before .before .before .before in
-    let room = loop .before .before .before .before .pre in
-    let is = next .before .before .take-next .ensures in
-    let read = read-as (next .next .given .1) (c .before .enum-told5 .given .1) in
-    omega (arith, care-room room (loop .loop .inv) is read, room .space, loop .before .before .before .before .good)
-
-mul-places-3 : tie.Need-mul-places-3 Inv-loop μ-loop
-mul-places-3 c =
-    let next = c .before .before .before .before in
-    let loop = next .before .before .before .before in
-    let room = loop .before .before .before .before .pre in
-    let is = next .before .before .take-next .ensures in
-    let read = read-as (next .next .given .1) (c .before .enum-told5 .given .1) in
-    omega (arith, care-room room (loop .loop .inv) is read, room .space, loop .before .before .before .before .good)
-
-slice-write-places-3 : tie.Need-slice-write-places-3 Inv-loop μ-loop
-slice-write-places-3 c =
-    let next = c .before .before .before .before in
-    let loop = next .before .before .before .before in
-    let room = loop .before .before .before .before .pre in
-    let is = next .before .before .take-next .ensures in
-    let read = read-as (next .next .given .1) (c .before .enum-told5 .given .1) in
-    omega (arith, care-room room (loop .loop .inv) is read, room .space, loop .loop .inv .long-same)
-
-add-care : tie.Need-add-care Inv-loop μ-loop
-add-care c =
-    let next = c .before .before .before .before in
-    let loop = next .before .before .before .before in
-    let room = loop .before .before .before .before .pre in
-    let is = next .before .before .take-next .ensures in
-    let read = read-as (next .next .given .1) (c .before .enum-told5 .given .1) in
-    omega (arith, care-room room (loop .loop .inv) is read, room .space, loop .before .before .before .before .good)
+part-finish-end : tie.Need-part-finish-end Inv-loop μ-loop
+part-finish-end c =
+    let loop = c .before .before .before .before .before .before .before .before .before in
+    omega (arith, notes-room (loop .before .before .before .before .pre) (loop .loop .inv))
 
 finish-requires : tie.Need-finish-requires Inv-loop μ-loop
 finish-requires c κs =
-    let next = c .before .before .before in
+    let next = c .before .before .before .before .before .before in
     let loop = next .before .before .before .before in
     let room = loop .before .before .before .before .pre in
-    let is = next .before .before .take-next .ensures in
-    let read = read-as (next .next .given .1) (c .enum-told6 .given .1) in
-    (sums-fit room (loop .loop .inv), next .before .before .before .loop-test .taken, walk-filled room (loop .loop .inv) is read)
+    let read = read-as (next .next .given .1) (c .before .before .before .enum-told2 .given .1) in
+    (sums-fit room (loop .loop .inv), next .before .before .before .loop-test .taken, walk-filled room (loop .loop .inv) (next .before .before .take-next .ensures) read)
 
 returns-2 : tie.Need-returns-2 Inv-loop μ-loop
 unfolding outcomeOf
 returns-2 c =
-    let next = c .before .before .before .before in
+    let next = c .before .before .before .before .before .before .before in
     let loop = next .before .before .before .before in
     let room = loop .before .before .before .before .pre in
     let is = next .before .before .take-next .ensures in
-    let read = read-as (next .next .given .1) (c .before .enum-told6 .given .1) in
-    let e = walk-ends room (loop .loop .inv) is read in
-    (c .finish .ensures _ (standing-counts room (loop .loop .inv)) ∙ sym (ap outcomeOf e), walk-placed room (loop .loop .inv) is read)
+    let read = read-as (next .next .given .1) (c .before .before .before .before .enum-told2 .given .1) in
+    let n = loop .loop .counts .registers + loop .loop .counts .elements in
+    let first = firstPart (loop .before .before .before .before .args .most) in
+    let kept : first + n - first ≡ n = omega arith in
+    let e = walk-ends room (loop .loop .inv) is read in (
+      c .finish .ensures _ (standing-counts room (loop .loop .inv)) (ap (λ (k : ℕ). map partNoted (take k (drop first (loop .loop .places)))) (sym kept)) ∙ sym (ap outcomeOf e),
+      walk-placed room (loop .loop .inv) is read,
+    )
+
+note-requires : tie.Need-note-requires Inv-loop μ-loop
+note-requires c κs =
+    let next = c .before .before .before in
+    let loop = next .before .before .before .before in
+    walk-room (loop .before .before .before .before .pre) (loop .loop .inv) (next .before .before .take-next .ensures) (next .next .given .1)
 
 loop-less : tie.Need-loop-less Inv-loop μ-loop
 loop-less c =
-    let next = c .before .before .before .before in
+    let next = c .before .before .before .before .before .before in
     let loop = next .before .before .before .before in
-    let room = loop .before .before .before .before .pre in
-    let is = next .before .before .take-next .ensures in
-    omega (arith, walk-further room (loop .loop .inv) is (next .next .given .1))
+    omega (arith, walk-further (loop .before .before .before .before .pre) (loop .loop .inv) (next .before .before .take-next .ensures) (next .next .given .1))
 
 loop-again : tie.Need-loop-again Inv-loop μ-loop
 loop-again c =
-    let next = c .before .before .before .before in
+    let next = c .before .before .before .before .before .before in
     let loop = next .before .before .before .before in
-    let room = loop .before .before .before .before .pre in
-    let is = next .before .before .take-next .ensures in
-    let read = read-as (next .next .given .1) (c .before .enum-told2 .given .1) in
-    walk-inputs room (loop .loop .inv) is read (omega (arith, c .shared-slice-known2 .given (loop .loop .at + 1)))
-
-loop-less-2 : tie.Need-loop-less-2 Inv-loop μ-loop
-loop-less-2 c =
-    let next = c .before .before .before in
-    let loop = next .before .before .before .before in
-    let room = loop .before .before .before .before .pre in
-    let is = next .before .before .take-next .ensures in
-    omega (arith, walk-further room (loop .loop .inv) is (next .next .given .1))
-
-loop-again-2 : tie.Need-loop-again-2 Inv-loop μ-loop
-loop-again-2 c =
-    let next = c .before .before .before in
-    let loop = next .before .before .before .before in
-    let room = loop .before .before .before .before .pre in
-    let is = next .before .before .take-next .ensures in
-    let read = read-as (next .next .given .1) (c .enum-told3 .given .1) in
-    walk-gate room (loop .loop .inv) is read
-
-loop-less-3 : tie.Need-loop-less-3 Inv-loop μ-loop
-loop-less-3 c =
-    let next = c .before .before .before in
-    let loop = next .before .before .before .before in
-    let room = loop .before .before .before .before .pre in
-    let is = next .before .before .take-next .ensures in
-    omega (arith, walk-further room (loop .loop .inv) is (next .next .given .1))
-
-loop-again-3 : tie.Need-loop-again-3 Inv-loop μ-loop
-loop-again-3 c =
-    let next = c .before .before .before in
-    let loop = next .before .before .before .before in
-    let room = loop .before .before .before .before .pre in
-    let is = next .before .before .take-next .ensures in
-    let read = read-as (next .next .given .1) (c .enum-told4 .given .1) in
-    walk-output room (loop .loop .inv) is read
-
-loop-less-4 : tie.Need-loop-less-4 Inv-loop μ-loop
-loop-less-4 c =
-    let next = c .before .before .before .before in
-    let loop = next .before .before .before .before in
-    let room = loop .before .before .before .before .pre in
-    let is = next .before .before .take-next .ensures in
-    omega (arith, walk-further room (loop .loop .inv) is (next .next .given .1))
-
-loop-again-4 : tie.Need-loop-again-4 Inv-loop μ-loop
-loop-again-4 c =
-    let next = c .before .before .before .before in
-    let loop = next .before .before .before .before in
-    let room = loop .before .before .before .before .pre in
-    let is = next .before .before .take-next .ensures in
-    let read = read-as (next .next .given .1) (c .before .enum-told5 .given .1) in
-    walk-care room (loop .loop .inv) is read (c .operand .ensures)
-
-loop-less-5 : tie.Need-loop-less-5 Inv-loop μ-loop
-loop-less-5 c =
-    let next = c .before .before .before in
-    let loop = next .before .before .before .before in
-    let room = loop .before .before .before .before .pre in
-    let is = next .before .before .take-next .ensures in
-    omega (arith, walk-further room (loop .loop .inv) is (next .next .given .1))
-
-loop-again-5 : tie.Need-loop-again-5 Inv-loop μ-loop
-loop-again-5 c =
-    let next = c .before .before .before in
-    let loop = next .before .before .before .before in
-    let room = loop .before .before .before .before .pre in
-    let is = next .before .before .take-next .ensures in
-    let read = read-as (next .next .given .1) (c .enum-told7 .given .1) in
-    absurd (walk-unknown room (loop .loop .inv) is read)
+    walk-on (loop .before .before .before .before .pre) (loop .loop .inv) (next .before .before .take-next .ensures) (next .next .given .1)
+    (goes-on (next .next .given .0 .0) (c .before .before .before .before .match2 .keys2)) (c .before .before .note .ensures)
 
 returns-3 : tie.Need-returns-3 Inv-loop μ-loop
 unfolding outcomeOf
@@ -239,8 +110,8 @@ read-file-spec =
     (tie.spec
     Inv-loop
     μ-loop
-    add-first-care
-    loop-holds
+    add-first-part
+    (λ c. walk-starts _ _ _ _)
     (λ c κs. search needs)
     (λ c. search needs)
     (λ c. search needs)
@@ -248,43 +119,17 @@ read-file-spec =
     (λ c. search needs)
     returns
     (λ c. search needs)
-    (λ c. search needs)
-    shared-slice-read-inputs
-    cast-inputs
-    (λ c. search needs)
-    cast-places
-    (λ c. search needs)
-    slice-write-places
-    (λ c. search needs)
-    (λ c. search needs)
-    cast-places-2
-    (λ c. search needs)
-    (λ c. search needs)
-    slice-write-places-2
-    (λ c. search needs)
-    (λ c. search needs)
-    (λ c. search needs)
-    operand-requires
-    add-places-2
-    mul-places-3
-    slice-write-places-3
-    add-care
-    (λ c. search needs)
-    (λ c. search needs)
-    (λ c. search needs)
+    add-end
+    add-end-2
+    mul-finish
+    (λ c. omega arith)
+    (λ c. omega arith)
+    part-finish-end
     finish-requires
     (λ c. search needs)
     returns-2
-    (λ c. search needs)
+    note-requires
     loop-less
     loop-again
-    loop-less-2
-    loop-again-2
-    loop-less-3
-    loop-again-3
-    loop-less-4
-    loop-again-4
-    loop-less-5
-    loop-again-5
     (λ c. search needs)
     returns-3)

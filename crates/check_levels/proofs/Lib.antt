@@ -1,0 +1,4 @@
+pub mod Gathering
+pub mod Sources
+pub mod Closing
+pub mod Raising

@@ -1,0 +1,3 @@
+pub mod Itself
+pub mod Opening
+pub mod Standing
