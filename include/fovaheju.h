@@ -32,14 +32,17 @@ struct fovaheju_verdict {
        that leads to no output, 26 too many gates needed, 27 a buffer that is too short for a stage, 28 a gate of a
        retired kind, 29 a line of a text that has another form, or a care list, which has no text, 30 a name in a text that
        nobody drives, 31 a name that is driven again, or an output that would give a net a second name, 32 a gate that
-       never rises, 36 to 38 no next small stage, 39 to 41 no drawn reference.
+       never rises, 33 a register that reaches itself, has a loop of C-elements behind its Ki or is fed from unequal
+       levels, 34 a Ko that is missing behind a Ki, 35 a net that may not stand behind a Ki, 36 to 38 no next small
+       stage, 39 to 41 no drawn reference.
        docs/VERDICTS.md has the list. */
     uint64_t number;
     /* In which file: 1 the stage or a stage's text, 2 the reference, 3 the row, the keys or a buffer, 0 none. Of a join 1 and 2 are
        the first part's, 4 and 5 the second's; 3 is none in the second part, and for 24 a buffer. */
     uint64_t file;
     /* At which place: a byte of the file for 1 to 9, 18 and 19, the stage's count for 10 and 11, a gate for 12, 15, 21,
-       28 and 32, an output for 13, an input for 14, 17 and 20, the length of the row or of the keys for 16, the first part's outputs for 22, a
+       28 and 32, an output for 13, an input for 14, 17 and 20, a register for 33 to 35, counted by themselves, the length
+       of the row or of the keys for 16, the first part's outputs for 22, a
        signal for 25, how many gates are needed for 26, a line of the text for 29 to 31, counted from 0, where a text is
        written an output for 31. */
     uint64_t at;
@@ -55,13 +58,15 @@ struct fovaheju_verdict {
    Care words in files have input 0 as the lowest bit always. */
 
 /* The verdict on a stage file and a reference file, given as their bytes. The numbers are 0 to 15,
-   18 to 21, 28 and 32. */
+   18 to 21, 28 and 32 to 35. Of all calls this one alone reads registers and C-elements, the commands 04 and 05 of
+   a stage file: to every other they are no commands, and it answers 2 at the first of them (of a join's second part
+   with file 4; fovaheju_next_stage answers 37). */
 struct fovaheju_verdict fovaheju_check(uint64_t order, const uint8_t *stage, size_t stage_len,
                                        const uint8_t *reference, size_t reference_len);
 
 /* The switching report: the verdict, and of an accepted stage how many gates are high at the rest of each word. */
 struct fovaheju_report {
-    /* As fovaheju_check answers. Where it refuses, all that follows is 0. */
+    /* As fovaheju_check answers of files without registers. Where it refuses, all that follows is 0. */
     struct fovaheju_verdict verdict;
     /* How many words the stage has: its care words, or without them 2 to the power of its inputs. */
     uint64_t words;
@@ -95,8 +100,8 @@ struct fovaheju_join {
 /* Joins two stages with their references: output j of the first is tied to input j of the second. The joined stage and
    reference are written at the start of two buffers; the bytes past them keep their values, and so do all of both where
    the number is not 0. A part may have at most 128 gates in its stage and 256 in its reference; 5,715 bytes have room
-   for every joined stage, and 3,123 for every joined reference. The numbers are those of fovaheju_check on the first
-   part, then on the second, with 3 added to its file, then 22, 23 and 24. The bytes written are the same in either
+   for every joined stage, and 3,123 for every joined reference. The numbers are those of fovaheju_check but 33 to 35 on
+   the first part, then on the second, with 3 added to its file, then 22, 23 and 24. The bytes written are the same in either
    order. fovaheju_check accepts what is written, or answers 32: a gate of the whole may never rise. */
 struct fovaheju_join fovaheju_join(uint64_t order, const uint8_t *stage1, size_t stage1_len,
                                    const uint8_t *reference1, size_t reference1_len,

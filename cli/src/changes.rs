@@ -1,10 +1,13 @@
 //! Changes of a stage that the check accepts. Each is judged by the library; nothing here says of itself that a stage is right. `explain` tries the
 //! likeliest and shows some, `mend` tries every single one: both take them from here. Single changes are another kind, another hold, a pin or a rail of
-//! an output on another net; where more has to change at once, only some ways are tried.
+//! an output on another net, and another net at a register or a C-element; where more has to change at once, only some ways are tried.
 
 use crate::explain::{Order, DEPTH};
-use crate::netlist::{commands, gate_command, kind_name, pin_count, relaxed, set_expression, two, Form, Reference, Side, Stage, ABSENT};
+use crate::netlist::{
+    commands, gate_command, kind_name, pin_count, relaxed, set_expression, two, Command, Form, Reference, Side, Stage, ABSENT, OUTSIDE,
+};
 use crate::situation::{once, Idle, Situation};
+use crate::wiring::Wiring;
 use fovaheju::Verdict;
 
 /// How many of the gates that are named are changed first.
@@ -70,23 +73,31 @@ struct Named {
     idle: Vec<usize>,
     /// The words that are not cared for, in which the first of these would rise.
     words: Vec<usize>,
+    /// A register that is not wired as it should be.
+    register: Option<usize>,
 }
 
 impl Named {
     /// What a verdict on the gates of a stage names; of other verdicts nothing.
     fn of(verdict: Verdict, base: Base, reference: &[u8], order: Order) -> Option<Named> {
-        let (stage, at) = (base.stage, verdict.at as usize);
+        let at = verdict.at as usize;
         let (gates, retired, idle, words) = (Vec::new(), Vec::new(), Vec::new(), Vec::new());
-        let mut named = Named { gates, output: None, net: None, rises: true, retired, idle, words };
+        let mut named = Named { gates, output: None, net: None, rises: true, retired, idle, words, register: None };
+        if let 33..=35 = verdict.number {
+            named.register = Some(at).filter(|&register| register < base.stage.registers.len());
+            return Some(named);
+        }
+        // Levels are those of the stage in which a register is two wires; inputs, gates and outputs have the same numbers there.
+        let (file, stage) = &wired(base.file, base.stage);
         match verdict.number {
-            12 => named.gates = stage.shortest_loop(at),
+            12 => named.gates = base.stage.shortest_loop(at),
             28 => named.retired = stage.alike(at),
             32 => {
-                let idle = Idle::of(at, base.file, stage)?;
+                let idle = Idle::of(at, file, stage)?;
                 (named.gates, named.idle, named.words) = (vec![at], idle.gates, idle.words);
             }
             13 => {
-                let case = Situation::of(verdict, base.file, stage, order)?;
+                let case = Situation::of(verdict, file, stage, order)?;
                 let value = Reference::of(reference).answer(&case.values).get(at).copied().unwrap_or(false);
                 for (_, net) in case.wrong_rails(at, value) {
                     case.behind(net, DEPTH, &mut named.gates);
@@ -94,12 +105,22 @@ impl Named {
                 named.output = Some(at);
             }
             _ => {
-                let case = Situation::of(verdict, base.file, stage, order)?;
+                let case = Situation::of(verdict, file, stage, order)?;
                 (named.gates, named.net, named.rises) = (case.places(), case.odd_net(), !case.falls);
             }
         }
         Some(named)
     }
+}
+
+/// A stage as its runs see it: a register is two wires. One without registers is itself.
+fn wired(file: &[u8], stage: &Stage) -> (Vec<u8>, Stage) {
+    if !stage.has_parts() {
+        return (file.to_vec(), stage.clone());
+    }
+    let file = Stage::of(file).wired();
+    let plain = Stage { names: stage.names.clone(), ..Stage::of(&file) };
+    (file, plain)
 }
 
 /// A refused stage that some change may mend.
@@ -156,6 +177,7 @@ impl<'a> Mending<'a> {
     /// Changes of what is named, single ones and others, the likeliest first.
     fn likely(&self) -> Changes<'a> {
         match self.spare {
+            _ if self.named.register.is_some() => self.base.of_register(self.named.register),
             _ if !self.named.idle.is_empty() => self.base.of_idle(&self.named, self.spare.is_some()),
             Some(gate) => Box::new(self.base.without(gate).into_iter()),
             None if !self.named.retired.is_empty() => self.base.of_retired(self.named.retired.clone()),
@@ -170,6 +192,7 @@ impl<'a> Mending<'a> {
     /// Two changes of a gate that is named, then single ones of all others.
     fn others(&self) -> Changes<'a> {
         match self.spare {
+            _ if self.named.register.is_some() => self.base.of_registers(),
             None if self.named.retired.is_empty() => self.base.of_all(&self.named),
             _ => Box::new(std::iter::empty()),
         }
@@ -186,13 +209,14 @@ impl<'a> Mending<'a> {
         self.base.waiting(net / 2, self.reference, self.order)
     }
 
-    /// The parts whose single changes are tried: each output, then each gate; none where a gate is only to be taken out.
+    /// The parts whose single changes are tried: each output, each gate, each register and each C-element; none where a gate is only to be taken out.
     pub fn parts(&self) -> Vec<Part> {
         if self.spare.is_some() {
             return Vec::new();
         }
         let stage = self.base.stage;
-        (0..stage.outputs.len()).map(Part::Output).chain((0..stage.gates.len()).map(Part::Gate)).collect()
+        let gates = (0..stage.outputs.len()).map(Part::Output).chain((0..stage.gates.len()).map(Part::Gate));
+        gates.chain((0..stage.registers.len()).map(Part::Register)).chain((0..stage.elements.len()).map(Part::Element)).collect()
     }
 
     /// Every single change of a part.
@@ -200,6 +224,8 @@ impl<'a> Mending<'a> {
         match part {
             Part::Output(output) => self.base.rails_exchanged(output).into_iter().chain(self.base.other_rails(output)).collect(),
             Part::Gate(gate) => [self.base.other_kinds(gate), self.base.other_pins(gate)].concat(),
+            Part::Register(register) => [self.base.other_kis(register), self.base.other_data(register)].concat(),
+            Part::Element(element) => self.base.other_element_pins(element),
         }
     }
 
@@ -212,7 +238,8 @@ impl<'a> Mending<'a> {
         }
         let gates = self.named.gates.iter().take(GATES);
         let places = gates.flat_map(|&gate| (0..stage.gates[gate].pins.len()).map(move |pin| (gate, pin)));
-        let mut pins: Vec<Pin> = places.flat_map(|(gate, pin)| (0..stage.nets()).map(move |net| Pin { gate, pin, net })).collect();
+        let mut pins: Vec<Pin> =
+            places.flat_map(|(gate, pin)| stage.data_nets().into_iter().map(move |net| Pin { gate, pin, net })).collect();
         pins.retain(|pin| stage.gates[pin.gate].pins[pin.pin] != pin.net);
         let late = self.named.net;
         pins.sort_by_key(|pin| Some(pin.net) != late);
@@ -230,11 +257,13 @@ impl<'a> Mending<'a> {
     }
 }
 
-/// An output or a gate.
+/// An output, a gate, a register or a C-element.
 #[derive(Clone, Copy, PartialEq, Eq, Debug)]
 pub enum Part {
     Output(usize),
     Gate(usize),
+    Register(usize),
+    Element(usize),
 }
 
 /// A pin of a gate that is put on another net.
@@ -286,10 +315,135 @@ impl<'a> Base<'a> {
         Box::new(out.chain(more).chain(others.into_iter().flatten()))
     }
 
-    /// Whether no gate but itself reads a gate, and no output does.
+    /// Whether no gate but itself reads a gate, and nothing else does.
     fn feeds_nothing(&self, gate: usize) -> bool {
         let net = self.stage.net_of(gate);
-        self.stage.readers(net).iter().all(|&reader| reader == gate) && !self.stage.outputs.iter().flatten().any(|&rail| rail == net)
+        self.stage.readers(net).iter().all(|&reader| reader == gate) && !self.read_by_others(net)
+    }
+
+    /// Whether an output, a register or a C-element reads a net.
+    fn read_by_others(&self, net: usize) -> bool {
+        let stage = self.stage;
+        stage.outputs.iter().flatten().any(|&rail| rail == net)
+            || stage.registers.iter().any(|register| register.data.contains(&net) || register.ki == net)
+            || stage.elements.iter().any(|element| element.pins.contains(&net))
+    }
+
+    /// Changes of a register that is named: its Ki as the rule asks, by a C-element more if it has to be; its Ki on any net that may stand there; its
+    /// data on other nets.
+    fn of_register(self, register: Option<usize>) -> Changes<'a> {
+        let each = register.into_iter().flat_map(move |register| {
+            let kis = self.other_kis(register).into_iter().chain(self.completed_ki(&[register]));
+            kis.chain(self.other_data(register))
+        });
+        Box::new(each)
+    }
+
+    /// Every Ki as the rule asks, then single changes of all registers and C-elements.
+    fn of_registers(self) -> Changes<'a> {
+        let all: Vec<usize> = (0..self.stage.registers.len()).collect();
+        let kis = (0..all.len()).flat_map(move |register| self.other_kis(register));
+        let pins = (0..self.stage.elements.len()).flat_map(move |element| self.other_element_pins(element));
+        let data = (0..all.len()).flat_map(move |register| self.other_data(register));
+        Box::new(self.completed_ki(&all).into_iter().chain(kis).chain(pins).chain(data))
+    }
+
+    /// The nets that are no data: each Ko, and each C-element.
+    fn completion_nets(&self) -> Vec<usize> {
+        let kos = self.stage.registers.iter().map(|register| register.ko());
+        kos.chain(self.stage.elements.iter().map(|element| element.net)).collect()
+    }
+
+    /// A register with its Ki on another net that may stand there, or on the outside.
+    fn other_kis(&self, register: usize) -> Vec<Change> {
+        let found = &self.stage.registers[register];
+        let nets = [OUTSIDE].into_iter().chain(self.completion_nets()).filter(|&net| net != found.ki);
+        let name = self.stage.register_name(register);
+        let change = |net: usize| {
+            let [now, before] = [net, found.ki].map(|net| self.stage.net_name(net));
+            let file = self.with(found.at + 5, &(net as u16).to_le_bytes());
+            Change::single(file, format!("the Ki of {name} on {now} in place of {before}"))
+        };
+        nets.map(change).collect()
+    }
+
+    /// A register with a data rail on another net.
+    fn other_data(&self, register: usize) -> Vec<Change> {
+        let found = &self.stage.registers[register];
+        let name = self.stage.register_name(register);
+        let places = (0..2).flat_map(|rail| self.stage.data_nets().into_iter().map(move |net| (rail, net)));
+        let change = |(rail, net): (usize, usize)| {
+            let [now, before] = [net, found.data[rail]].map(|net| self.stage.net_name(net));
+            let file = self.with(found.at + 1 + 2 * rail, &(net as u16).to_le_bytes());
+            Change::single(file, format!("data rail {rail} of {name} on {now} in place of {before}"))
+        };
+        places.filter(|&(rail, net)| found.data[rail] != net).map(change).collect()
+    }
+
+    /// A C-element with a pin on another net.
+    fn other_element_pins(&self, element: usize) -> Vec<Change> {
+        let found = &self.stage.elements[element];
+        let name = self.stage.element_name(element);
+        let places = (0..found.pins.len()).flat_map(|pin| self.completion_nets().into_iter().map(move |net| (pin, net)));
+        let change = |(pin, net): (usize, usize)| {
+            let [now, before] = [net, found.pins[pin]].map(|net| self.stage.net_name(net));
+            let letter = ["A", "B", "C", "D"][pin.min(3)];
+            let file = self.with(found.at + 1 + 2 * pin, &(net as u16).to_le_bytes());
+            Change::single(file, format!("pin {letter} of {name} on {now} in place of {before}"))
+        };
+        places.filter(|&(pin, net)| found.pins[pin] != net).map(change).collect()
+    }
+
+    /// The Ki of some registers as the rule asks: the outside, the one Ko that is needed, or new C-elements on all of them. C-elements that stand last in the
+    /// file have the last nets, so no other net moves.
+    fn completed_ki(&self, registers: &[usize]) -> Option<Change> {
+        let wiring = Wiring::of(self.stage);
+        let (mut file, mut added, mut says) = (self.file.to_vec(), Vec::<(Vec<usize>, usize)>::new(), Vec::new());
+        let mut elements: Vec<Vec<usize>> = Vec::new();
+        let first = self.stage.all_nets();
+        for &register in registers {
+            let found = &self.stage.registers[register];
+            if wiring.missing(register).is_empty() && wiring.barred(register).is_empty() {
+                continue;
+            }
+            let kos: Vec<usize> = wiring.reached(register).into_iter().map(|other| self.stage.registers[other].ko()).collect();
+            let known = added.iter().find(|(same, _)| *same == kos).map(|&(_, net)| net);
+            let net = match (kos.as_slice(), known) {
+                ([], _) => OUTSIDE,
+                (&[ko], _) => ko,
+                (_, Some(net)) => net,
+                _ => {
+                    let mut nets = kos.clone();
+                    while nets.len() > 1 {
+                        let one = |some: &[usize]| match some {
+                            &[net] => net,
+                            some => {
+                                elements.push(some.to_vec());
+                                first + elements.len() - 1
+                            }
+                        };
+                        nets = nets.chunks(4).map(one).collect();
+                    }
+                    added.push((kos.clone(), nets[0]));
+                    nets[0]
+                }
+            };
+            file.get_mut(found.at + 5..found.at + 7)?.copy_from_slice(&(net as u16).to_le_bytes());
+            says.push((register, net));
+        }
+        let name = |net: usize| match net.checked_sub(first) {
+            Some(new) if net != OUTSIDE => self.stage.element_name(self.stage.elements.len() + new),
+            _ => self.stage.net_name(net),
+        };
+        let new = elements.iter().enumerate().map(|(k, pins)| {
+            let pins: Vec<String> = pins.iter().map(|&pin| name(pin)).collect();
+            format!("a new {} = C({})", name(first + k), pins.join(", "))
+        });
+        let kis = says.iter().map(|&(register, net)| format!("the Ki of {} on {}", self.stage.register_name(register), name(net)));
+        let parts: Vec<String> = new.chain(kis).collect();
+        let end = file.len().checked_sub(1)?;
+        file.splice(end..end, elements.iter().flat_map(|pins| element_command(pins)));
+        (!parts.is_empty()).then(|| Change::several(file, some_of(&parts)))
     }
 
     /// The file with other bytes at a place.
@@ -330,7 +484,7 @@ impl<'a> Base<'a> {
     /// An output with one rail on another net.
     fn other_rails(&self, output: usize) -> Vec<Change> {
         let (Some(at), Some(&rails)) = (self.rails_at(output), self.stage.outputs.get(output)) else { return Vec::new() };
-        let places = (0..2).flat_map(|rail| (0..self.stage.nets()).map(move |net| (rail, net)));
+        let places = (0..2).flat_map(|rail| self.stage.data_nets().into_iter().map(move |net| (rail, net)));
         let others = places.filter(|&(rail, net)| rails[rail] != net);
         let name = self.stage.output_name(output);
         let change = |(rail, net): (usize, usize)| {
@@ -388,7 +542,8 @@ impl<'a> Base<'a> {
             if found.accepts() {
                 break;
             }
-            let case = Situation::of(found, &self.with_hold(&held), self.stage, order).filter(|case| case.falls)?;
+            let (file, plain) = wired(&self.with_hold(&held), self.stage);
+            let case = Situation::of(found, &file, &plain, order).filter(|case| case.falls)?;
             let next = case.places().into_iter().find(|gate| all.contains(gate) && !held.contains(gate));
             match next {
                 Some(gate) => held.push(gate),
@@ -440,8 +595,7 @@ impl<'a> Base<'a> {
     /// A gate that one other gate reads, built into that one: its pins in place of its net, and the gate taken out.
     fn built_in(self, gate: usize) -> Changes<'a> {
         let net = self.stage.net_of(gate);
-        let rails = self.stage.outputs.iter().flatten();
-        let (&[reader], false) = (self.stage.readers(net).as_slice(), rails.into_iter().any(|&rail| rail == net)) else {
+        let (&[reader], false) = (self.stage.readers(net).as_slice(), self.read_by_others(net)) else {
             return Box::new(std::iter::empty());
         };
         let found = &self.stage.gates[reader];
@@ -477,7 +631,8 @@ impl<'a> Base<'a> {
 
     /// An output whose rails wait for inputs: TH12 of the rails of an input tells that it has come, and TH22 to TH44 wait for all.
     fn output_waits(self, output: usize, inputs: &[usize]) -> Option<Change> {
-        let rails = *self.stage.outputs.get(output)?;
+        // New gates would move the nets of registers and C-elements.
+        let rails = self.stage.outputs.get(output).filter(|_| !self.stage.has_parts()).copied()?;
         let mut added = Vec::new();
         let mut add = |kind: u8, pins: &[usize]| {
             added.push((kind, pins.to_vec()));
@@ -512,7 +667,7 @@ impl<'a> Base<'a> {
     /// A gate with one pin on another net.
     fn other_pins(&self, gate: usize) -> Vec<Change> {
         let pins = &self.stage.gates[gate].pins;
-        let places = (0..pins.len()).flat_map(|pin| (0..self.stage.nets()).map(move |net| Pin { gate, pin, net }));
+        let places = (0..pins.len()).flat_map(|pin| self.stage.data_nets().into_iter().map(move |net| Pin { gate, pin, net }));
         places.filter(|place| pins[place.pin] != place.net).map(|place| self.other_pin(place)).collect()
     }
 
@@ -560,8 +715,10 @@ impl<'a> Base<'a> {
     fn without_idle(&self, idle: &[usize]) -> Option<Change> {
         let left: Vec<Left> = (0..self.stage.gates.len()).map(|gate| self.left(gate, idle)).collect::<Option<_>>()?;
         let kept: Vec<usize> = (0..left.len()).filter(|&gate| matches!(left[gate], Left::Gate(..))).collect();
+        let gone = left.len() - kept.len();
         let number = |mut net: usize| loop {
             match self.stage.driver(net).map(|gate| (gate, &left[gate])) {
+                None if net >= self.stage.nets() && net < OUTSIDE => return Some(net - gone),
                 None => return Some(net),
                 Some((gate, Left::Gate(..))) => return Some(self.stage.net_of(kept.binary_search(&gate).ok()?)),
                 Some((_, Left::Net(other))) => net = *other,
@@ -585,6 +742,7 @@ impl<'a> Base<'a> {
                     file.extend(two([low?, high?]));
                     output += 1;
                 }
+                Some(Form::Register | Form::Element) => file.extend(renumbered(&command, number)?),
                 _ => file.extend(command.bytes),
             }
         }
@@ -634,25 +792,38 @@ impl<'a> Base<'a> {
     fn without(&self, gate: usize) -> Option<Change> {
         let (net, at) = (self.stage.net_of(gate), self.stage.gates.get(gate)?.at);
         let mut file = Vec::new();
+        let less = |other: usize| Some(other - usize::from(other > net && other < OUTSIDE));
         for command in commands(self.file, Side::Stage).iter().filter(|command| command.at != at) {
-            let operands = match command.form {
-                Some(Form::Gate) => 2..10,
-                Some(Form::Output) => 1..5,
-                _ => 0..0,
-            };
-            let mut bytes = command.bytes.to_vec();
-            for place in operands.step_by(2) {
-                let operand = u16::from_le_bytes([bytes[place], bytes[place + 1]]);
-                let less = usize::from(operand) > net && usize::from(operand) != ABSENT;
-                bytes[place..place + 2].copy_from_slice(&(operand - u16::from(less)).to_le_bytes());
-            }
-            file.extend(bytes);
+            file.extend(renumbered(command, less)?);
         }
         // Names of a text stay; numbers do not.
         let later = gate + 1 < self.stage.gates.len() && self.stage.names.is_none();
         let moved = if later { " (later gates and nets move down by one)" } else { "" };
         Some(Change::several(file, format!("{} taken out{moved}", self.stage.gate_name(gate))))
     }
+}
+
+/// The command of a C-element.
+fn element_command(pins: &[usize]) -> Vec<u8> {
+    let operands = (0..4).flat_map(|pin| (pins.get(pin).copied().unwrap_or(ABSENT) as u16).to_le_bytes());
+    [0x05].into_iter().chain(operands).collect()
+}
+
+/// A command with other numbers for its nets; the outside and operands that are not used are handed on as they are.
+fn renumbered(command: &Command, number: impl Fn(usize) -> Option<usize>) -> Option<Vec<u8>> {
+    let operands = match command.form {
+        Some(Form::Gate) => 2..10,
+        Some(Form::Output) => 1..5,
+        Some(Form::Register) => 1..7,
+        Some(Form::Element) => 1..9,
+        _ => 0..0,
+    };
+    let mut bytes = command.bytes.to_vec();
+    for place in operands.step_by(2) {
+        let net = usize::from(u16::from_le_bytes([bytes[place], bytes[place + 1]]));
+        bytes[place..place + 2].copy_from_slice(&(number(net)? as u16).to_le_bytes());
+    }
+    Some(bytes)
 }
 
 /// What is left of a gate: nothing, the one net that it would follow, or a gate of a kind on some pins.

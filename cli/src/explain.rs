@@ -5,6 +5,7 @@ mod circuit;
 mod idle;
 mod lines;
 mod mended;
+mod registers;
 mod small;
 mod words;
 
@@ -264,11 +265,16 @@ fn of_pair(text: &mut Text, verdict: Verdict, pair: Pair, order: Order) {
             let stage = pair.stage.stage();
             text.row("stage", &format!("{}: {}", pair.stage.name(), stage.counts()));
             let words = if stage.care.is_empty() { "in every word" } else { "in each of its care words" };
+            let registers = if stage.registers.is_empty() {
+                ""
+            } else {
+                ". Each register is acknowledged by those that it reaches; in what is said of words and orders it counts as two wires"
+            };
             text.row(
                 "found",
                 &format!(
                     "{words}, and in every order in which its gates may switch, the stage answers what the reference says, waits for each \
-                     input and each gate, and goes back to NULL in the same way; each gate rises in some word"
+                     input and each gate, and goes back to NULL in the same way; each gate rises in some word{registers}"
                 ),
             );
         }
@@ -286,16 +292,22 @@ fn of_pair(text: &mut Text, verdict: Verdict, pair: Pair, order: Order) {
             circuit::on_a_loop(text, verdict, pair.stage);
             say_changes(text, verdict, pair, order);
         }
-        (28, _) => {
-            circuit::retired(text, verdict, pair);
+        (33..=35, _) => {
+            registers::miswired(text, verdict, pair);
             say_changes(text, verdict, pair, order);
         }
-        (13 | 14 | 15 | 20 | 21, _) => {
-            words::in_a_word(text, verdict, pair, order);
-            say_changes(text, verdict, pair, order);
-        }
-        (32, _) => {
-            idle::never_rises(text, verdict, pair);
+        (13 | 14 | 15 | 20 | 21 | 28 | 32, _) => {
+            // From 28 on a register is two wires, and is shown so.
+            let wired = pair.stage.wired();
+            let shown = Pair { stage: wired.as_ref().unwrap_or(pair.stage), ..pair };
+            if wired.is_some() {
+                text.row("registers", &format!("{}; a register is two wires here, and is shown so", pair.stage.stage().part_counts()));
+            }
+            match verdict.number {
+                28 => circuit::retired(text, verdict, shown),
+                32 => idle::never_rises(text, verdict, shown),
+                _ => words::in_a_word(text, verdict, shown, order),
+            }
             say_changes(text, verdict, pair, order);
         }
         _ => unknown(text, verdict),

@@ -5,7 +5,7 @@ use crate::explain::Order;
 use crate::failure::{Failure, Outcome};
 use crate::input::{read_within, Input, MOST};
 use crate::names::NamesFile;
-use crate::netlist::{Names, Stage};
+use crate::netlist::{Names, Reference, Stage};
 use fovaheju::{Verdict, MADE_STAGE};
 use std::path::Path;
 
@@ -73,14 +73,43 @@ impl Given {
         self.refused().unwrap_or_else(|| fovaheju::check(order.mark(), self.bytes(), reference))
     }
 
-    /// The verdict of reading the stage: a text's, or that of the settled-row call with all inputs NULL, which is 0 or 12 where it reads.
-    pub fn read_verdict(&self) -> Verdict {
+    /// The verdict of reading the stage without registers: a text's, or that of the settled-row call with all inputs NULL, which is 0 or 12 where it
+    /// reads.
+    pub fn plain_verdict(&self) -> Verdict {
         self.refused().unwrap_or_else(|| fovaheju::settled_row(self.bytes(), &mut vec![0; Stage::of(self.bytes()).nets()]))
     }
 
-    /// Whether it reads: whether it holds a stage, with loops or without.
+    /// The verdict of reading the stage. One with registers only the check reads: it is asked with a reference of as many inputs and outputs, and what it
+    /// says of registers counts too, 33 to 35, but nothing that follows.
+    pub fn read_verdict(&self) -> Verdict {
+        let stage = Stage::of(self.bytes());
+        if self.refused().is_some() || !stage.has_parts() {
+            return self.plain_verdict();
+        }
+        let outputs = vec![0; stage.outputs.len().clamp(1, 16)];
+        let reference = Reference { inputs: stage.inputs.clamp(1, 10), outputs, ..Reference::default() };
+        let verdict = fovaheju::check(Order::default().mark(), self.bytes(), &reference.encoded());
+        if matches!((verdict.number, verdict.file), (1..=9 | 12 | 18 | 19 | 33..=35, 1)) {
+            verdict
+        } else {
+            Verdict::ACCEPTED
+        }
+    }
+
+    /// Whether it reads: whether it holds a stage, with loops or without, its registers well wired or not.
     pub fn reads(&self) -> bool {
-        matches!(self.read_verdict().number, 0 | 12)
+        matches!(self.read_verdict().number, 0 | 12 | 33..=35)
+    }
+
+    /// The stage as its runs see it, where it has registers: each of them is two wires. Other calls than the check take it then. There is none
+    /// where the registers or the gates have loops.
+    pub fn wired(&self) -> Option<Given> {
+        let stage = self.stage();
+        if !stage.has_parts() || !self.read_verdict().accepts() {
+            return None;
+        }
+        let input = Input { bytes: stage.wired(), ..self.input.clone() };
+        Some(Given { input, made: None, names: self.names.clone() })
     }
 
     /// The same by the names of a file, which has to fit a stage that reads.

@@ -14,6 +14,7 @@ pub const MOST: usize = 8_192;
 pub type Identity = (u64, u64);
 
 /// A file that was read.
+#[derive(Clone)]
 pub struct Input {
     /// Its name for a reader.
     pub name: String,

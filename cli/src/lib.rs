@@ -23,6 +23,7 @@ pub mod situation;
 pub mod streams;
 pub mod tools;
 pub mod wave;
+pub mod wiring;
 
 use clap::error::ErrorKind;
 use failure::{Failure, Outcome};

@@ -1,11 +1,14 @@
 //! What the bytes of the two files say: their commands one by one, and what a readable file holds. For showing only: that a file reads, and
 //! every number of a verdict, comes from the proved library. Names are those of a text where the stage came as one, and else those that a
 //! written text has: input i is `xi` with the rails `xi_0` and `xi_1`, gate k is `gk`, output j is `yj`; signal k of a reference is `sk`.
+//! Register k is `rk` with the rails `rk_0` and `rk_1` and the acknowledge output `rk_ko`, C-element k is `ck`.
 
 use std::collections::VecDeque;
 
 /// An operand that is not used.
 pub const ABSENT: usize = 0xFFFF;
+/// The outside at a Ki.
+pub const OUTSIDE: usize = 0xFFFE;
 
 /// Which of the two files.
 #[derive(Clone, Copy, PartialEq, Eq, Debug)]
@@ -95,16 +98,20 @@ pub enum Form {
     Inputs,
     Gate,
     Output,
+    Register,
+    Element,
     Care,
     Operation,
     Signal,
     End,
 }
 
-const FORMS: [(Side, u8, usize, Form); 9] = [
+const FORMS: [(Side, u8, usize, Form); 11] = [
     (Side::Stage, 0x01, 2, Form::Inputs),
     (Side::Stage, 0x02, 10, Form::Gate),
     (Side::Stage, 0x03, 5, Form::Output),
+    (Side::Stage, 0x04, 7, Form::Register),
+    (Side::Stage, 0x05, 9, Form::Element),
     (Side::Stage, 0x06, 3, Form::Care),
     (Side::Stage, 0x00, 1, Form::End),
     (Side::Reference, 0x01, 2, Form::Inputs),
@@ -170,6 +177,43 @@ impl Gate {
     }
 }
 
+/// A register, which only the check reads: the nets at its data rails and at its Ki.
+#[derive(Clone, Debug)]
+pub struct Register {
+    pub data: [usize; 2],
+    pub ki: usize,
+    /// The byte at which its command stands.
+    pub at: usize,
+    /// Its rail 0; rail 1 and Ko are the two nets behind it.
+    pub net: usize,
+}
+
+impl Register {
+    pub fn ko(&self) -> usize {
+        self.net + 2
+    }
+}
+
+/// A C-element, with the pins that it uses.
+#[derive(Clone, Debug)]
+pub struct Element {
+    pub pins: Vec<usize>,
+    pub at: usize,
+    pub net: usize,
+}
+
+/// What drives a net.
+#[derive(Clone, Copy, PartialEq, Eq, Debug)]
+pub enum Driver {
+    Input(usize),
+    Gate(usize),
+    /// A rail of a register.
+    Rail(usize, usize),
+    Ko(usize),
+    Element(usize),
+    Nothing,
+}
+
 /// The names that a text gives: those of its inputs, of its outputs, and of the nets of its gates.
 #[derive(Clone, Debug, Default, PartialEq, Eq)]
 pub struct Names {
@@ -184,6 +228,8 @@ pub struct Stage {
     pub inputs: usize,
     pub gates: Vec<Gate>,
     pub outputs: Vec<[usize; 2]>,
+    pub registers: Vec<Register>,
+    pub elements: Vec<Element>,
     pub care: Vec<usize>,
     /// Where it came as text: what the text calls its parts.
     pub names: Option<Names>,
@@ -192,9 +238,24 @@ pub struct Stage {
 impl Stage {
     pub fn of(file: &[u8]) -> Stage {
         let mut stage = Stage::default();
-        for command in commands(file, Side::Stage) {
+        let listed = commands(file, Side::Stage);
+        // The nets of registers and C-elements are numbered behind all gates, in the order of the file.
+        let gates = listed.iter().filter(|command| command.form == Some(Form::Gate)).count();
+        let inputs = listed.iter().find(|command| command.form == Some(Form::Inputs)).map_or(0, |command| usize::from(command.bytes[1]));
+        let mut net = 2 * inputs + gates;
+        for command in listed {
             match command.form {
                 Some(Form::Inputs) => stage.inputs = command.bytes[1].into(),
+                Some(Form::Register) => {
+                    let [low, high, ki] = [1, 3, 5].map(|place| command.operand(place));
+                    stage.registers.push(Register { data: [low, high], ki, at: command.at, net });
+                    net += 3;
+                }
+                Some(Form::Element) => {
+                    let pins = (0..4).map(|pin| command.operand(1 + 2 * pin)).filter(|&pin| pin != ABSENT).collect();
+                    stage.elements.push(Element { pins, at: command.at, net });
+                    net += 1;
+                }
                 Some(Form::Gate) => {
                     let kind = command.bytes[1];
                     let count = pin_count(kind).unwrap_or(4);
@@ -226,6 +287,84 @@ impl Stage {
         2 * self.inputs + self.gates.len()
     }
 
+    /// Whether it has registers or C-elements, which only the check reads.
+    pub fn has_parts(&self) -> bool {
+        !self.registers.is_empty() || !self.elements.is_empty()
+    }
+
+    /// How many nets there are with those of registers and C-elements.
+    pub fn all_nets(&self) -> usize {
+        self.nets() + 3 * self.registers.len() + self.elements.len()
+    }
+
+    /// What drives a net.
+    pub fn source(&self, net: usize) -> Driver {
+        let register = || self.registers.iter().position(|register| (register.net..register.net + 3).contains(&net));
+        let element = || self.elements.iter().position(|element| element.net == net);
+        if net < 2 * self.inputs {
+            return Driver::Input(net / 2);
+        }
+        match (self.driver(net), register(), element()) {
+            (Some(gate), _, _) => Driver::Gate(gate),
+            (_, Some(k), _) if net == self.registers[k].ko() => Driver::Ko(k),
+            (_, Some(k), _) => Driver::Rail(k, net - self.registers[k].net),
+            (_, _, Some(k)) => Driver::Element(k),
+            _ => Driver::Nothing,
+        }
+    }
+
+    /// The nets that carry data: those of inputs, gates and the rails of registers.
+    pub fn data_nets(&self) -> Vec<usize> {
+        (0..self.nets()).chain(self.registers.iter().flat_map(|register| [register.net, register.net + 1])).collect()
+    }
+
+    /// The net that a rail of a register comes from, a register counting as two wires; any other net is its own.
+    pub fn resolved(&self, mut net: usize) -> usize {
+        for _ in 0..=self.registers.len() {
+            match self.source(net) {
+                Driver::Rail(k, rail) => net = self.registers[k].data[rail],
+                _ => return net,
+            }
+        }
+        net
+    }
+
+    /// The file of the stage in which each register is two wires: what the checks from 28 on and all runs are about.
+    pub fn wired(&self) -> Vec<u8> {
+        let gate = |gate: &Gate| Gate { pins: gate.pins.iter().map(|&pin| self.resolved(pin)).collect(), ..gate.clone() };
+        let outputs = self.outputs.iter().map(|rails| rails.map(|net| self.resolved(net))).collect();
+        let (registers, elements) = (Vec::new(), Vec::new());
+        Stage { gates: self.gates.iter().map(gate).collect(), outputs, registers, elements, ..self.clone() }.encoded()
+    }
+
+    pub fn register_name(&self, register: usize) -> String {
+        format!("r{register}")
+    }
+
+    pub fn element_name(&self, element: usize) -> String {
+        format!("c{element}")
+    }
+
+    /// A C-element as `c1 = C(r2_ko, c0)`.
+    pub fn element_text(&self, element: usize) -> String {
+        let pins: Vec<String> = self.elements[element].pins.iter().map(|&pin| self.net_name(pin)).collect();
+        format!("{} = C({})", self.element_name(element), pins.join(", "))
+    }
+
+    /// A register as `r0: data x0_0, x0_1, Ki r1_ko`.
+    pub fn register_text(&self, register: usize) -> String {
+        let Some(found) = self.registers.get(register) else { return self.register_name(register) };
+        let [low, high] = found.data.map(|net| self.net_name(net));
+        format!("{}: data {low}, {high}, Ki {}", self.register_name(register), self.net_name(found.ki))
+    }
+
+    /// How many registers and C-elements there are: `2 registers, 1 C-element`.
+    pub fn part_counts(&self) -> String {
+        let counts = [(self.registers.len(), "register"), (self.elements.len(), "C-element")];
+        let said: Vec<String> = counts.iter().filter(|(count, _)| *count > 0).map(|&(count, what)| many(count, what)).collect();
+        said.join(", ")
+    }
+
     pub fn net_of(&self, gate: usize) -> usize {
         2 * self.inputs + gate
     }
@@ -254,11 +393,15 @@ impl Stage {
     }
 
     pub fn net_name(&self, net: usize) -> String {
-        match self.driver(net) {
+        match self.source(net) {
             _ if net == ABSENT => "-".into(),
-            _ if net < 2 * self.inputs => format!("{}_{}", self.input_name(net / 2), net % 2),
-            Some(gate) => self.gate_name(gate),
-            None => format!("net {net}"),
+            _ if net == OUTSIDE => "the outside".into(),
+            Driver::Input(input) => format!("{}_{}", self.input_name(input), net % 2),
+            Driver::Gate(gate) => self.gate_name(gate),
+            Driver::Rail(register, rail) => format!("{}_{rail}", self.register_name(register)),
+            Driver::Ko(register) => format!("{}_ko", self.register_name(register)),
+            Driver::Element(element) => self.element_name(element),
+            Driver::Nothing => format!("net {net}"),
         }
     }
 
@@ -326,6 +469,10 @@ impl Stage {
         }
         text += ", ";
         text += &many(self.outputs.len(), "output");
+        if self.has_parts() {
+            text += ", ";
+            text += &self.part_counts();
+        }
         if !self.care.is_empty() {
             text += ", ";
             text += &many(self.care.len(), "care word");
@@ -446,6 +593,8 @@ pub struct Listing {
     reference: Reference,
     gates: usize,
     outputs: usize,
+    registers: usize,
+    elements: usize,
 }
 
 impl Listing {
@@ -454,7 +603,7 @@ impl Listing {
             Side::Stage => (Stage::of(file), Reference::default()),
             Side::Reference => (Stage::default(), Reference::of(file)),
         };
-        Listing { stage, reference, gates: 0, outputs: 0 }
+        Listing { stage, reference, gates: 0, outputs: 0, registers: 0, elements: 0 }
     }
 
     /// What the next command says.
@@ -464,6 +613,14 @@ impl Listing {
             Some(Form::End) => "end".into(),
             Some(Form::Inputs) => many(command.bytes[1].into(), "input"),
             Some(Form::Care) => format!("care word {}", command.operand(1)),
+            Some(Form::Register) => {
+                self.registers += 1;
+                self.stage.register_text(self.registers - 1)
+            }
+            Some(Form::Element) => {
+                self.elements += 1;
+                self.stage.element_text(self.elements - 1)
+            }
             Some(Form::Gate) => {
                 self.gates += 1;
                 self.stage.gate_text(self.gates - 1)

@@ -615,6 +615,36 @@ static void runs(void)
     holds("the row is as before", played.steps == 0 && memcmp(row, old, 6) == 0);
 }
 
+/* A wire through a register, two registers in a ring, and a cut register: the check reads them, every other call answers 2. */
+static void registers(void)
+{
+    static const uint8_t one[] = {1, 1, 4, 0, 0, 1, 0, 0xFE, 0xFF, 3, 2, 0, 3, 0, 0};
+    static const uint8_t ring[] = {1, 1, 4, 5, 0, 6, 0, 7, 0, 4, 2, 0, 3, 0, 0xFE, 0xFF, 3, 5, 0, 6, 0, 0};
+    static const uint8_t wire[] = {1, 1, 3, 0, 0, 1, 0, 0};
+    static const uint8_t signals[] = {1, 1, 0x12, 0, 0, 0};
+    uint8_t row[2] = {1, 0}, out[64], other[64];
+    uint16_t list[8];
+    uint32_t keys[4] = {0, 1, 2, 3};
+    same("a register", fovaheju_check(0, one, sizeof one, signals, sizeof signals), 0, 0, 0, 0);
+    same("a ring", fovaheju_check(1, ring, sizeof ring, signals, sizeof signals), 33, 1, 0, 0);
+    same("a cut register", fovaheju_check(0, one, 3, signals, sizeof signals), 1, 1, 3, 0);
+    same("report", fovaheju_report(0, one, sizeof one, signals, sizeof signals).verdict, 2, 1, 2, 0);
+    same("row", fovaheju_settled_row(one, sizeof one, row, sizeof row), 2, 1, 2, 0);
+    same("row of a cut register", fovaheju_settled_row(one, 3, row, sizeof row), 2, 1, 2, 0);
+    same("first part",
+         fovaheju_join(0, one, sizeof one, signals, sizeof signals, wire, sizeof wire, signals, sizeof signals, out, sizeof out, other, sizeof other).verdict,
+         2, 1, 2, 0);
+    same("second part",
+         fovaheju_join(0, wire, sizeof wire, signals, sizeof signals, one, sizeof one, signals, sizeof signals, out, sizeof out, other, sizeof other).verdict,
+         2, 4, 2, 0);
+    same("text", fovaheju_write_text(one, sizeof one, out, sizeof out).verdict, 2, 1, 2, 0);
+    same("next", fovaheju_next_stage(one, sizeof one, out, sizeof out).verdict, 37, 1, 0, 0);
+    same("witness", fovaheju_witness(0, one, sizeof one, signals, sizeof signals, 0, list, 8).verdict, 2, 1, 2, 0);
+    same("play", fovaheju_play(0, one, sizeof one, 0, 0, NULL, 0, row, sizeof row).verdict, 2, 1, 2, 0);
+    same("keys", fovaheju_run_by_keys(0, one, sizeof one, 0, keys, 4, list, 8).verdict, 2, 1, 2, 0);
+    holds("the row is as before", row[0] == 1 && row[1] == 0);
+}
+
 int main(int count, char **folders)
 {
     int i;
@@ -631,6 +661,7 @@ int main(int count, char **folders)
     nexts();
     draws();
     runs();
+    registers();
     printf("%d passed, %d failed\n", passed, failed);
     return failed != 0;
 }

@@ -1,7 +1,8 @@
 """Tests of 'ncl mend': the stored texts, every single change against a list made here, two pins at once, files, and the time."""
 import json
 
-from trying import ACCEPTED, WIRE, WIRE_REFERENCE, Ran, compared, examples, folder, holds, on_a_terminal, pair_of, root, same, stored, tried
+from trying import (
+    ACCEPTED, WIRE, WIRE_REFERENCE, Ran, compared, examples, folder, holds, on_a_terminal, pair_of, pipelines, root, same, stored, tried)
 
 # How many pins each kind has from A on; kinds by the table of document 01.
 PINS = {kind: 2 if kind <= 2 else 3 if kind <= 7 else 4 for kind in range(1, 28)}
@@ -16,7 +17,7 @@ def places(stage):
             gates.append(at)
         elif stage[at] == 3:
             outputs.append(at)
-        at += {2: 10, 3: 5, 6: 3}[stage[at]]
+        at += {2: 10, 3: 5, 4: 7, 5: 9, 6: 3}[stage[at]]
     return gates, outputs, 2 * stage[1] + len(gates)
 
 
@@ -66,7 +67,7 @@ def try_singles(example):
 
 def try_mending():
     text = []
-    for example in examples:
+    for example in examples + pipelines:
         verdict = (root / "examples" / example / "verdict").read_text()
         # 128 gates and ten inputs take some seconds.
         if verdict == ACCEPTED or example.startswith("timing-"):

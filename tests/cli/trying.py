@@ -11,6 +11,7 @@ program = root / "target/cli/release/ncl"
 stored = root / "tests/cli"
 examples = sorted(stage.parent.name for stage in root.glob("examples/*/stage.ncl"))
 texts = sorted(text.parent.name for text in root.glob("examples/text/*/stage.txt"))
+pipelines = sorted(f"pipelines/{stage.parent.name}" for stage in root.glob("examples/pipelines/*/stage.ncl"))
 top = Path(tempfile.mkdtemp())
 top.chmod(0o755)
 os.environ.pop("NO_COLOR", None)

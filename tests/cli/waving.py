@@ -5,7 +5,7 @@ import re
 import subprocess
 
 from mending import places
-from trying import ACCEPTED, WIRE, WIRE_REFERENCE, Ran, compared, examples, folder, holds, pair_of, root, same, stored, tried, watching
+from trying import ACCEPTED, WIRE, WIRE_REFERENCE, Ran, compared, examples, folder, holds, pair_of, pipelines, root, same, stored, tried, watching
 
 # The runs that the judge is to play, in one go: what each is about, whether it shows its verdict, and the run as a line.
 asked = []
@@ -79,13 +79,13 @@ def changes(vcd):
 def try_waving():
     text = []
     here = folder(stage=WIRE, reference=WIRE_REFERENCE)
-    for example in ["and-incomplete", "xor-unobservable", "and-relaxed", "wire-relaxed", "and"]:
+    for example in ["and-incomplete", "xor-unobservable", "and-relaxed", "wire-relaxed", "and", "pipelines/or-behind-registers"]:
         tried(f"wave {example}", 0 if example == "and" else 1, (root / "examples" / example / "verdict").read_text(), "",
               "wave", *pair_of(example), here / "new.vcd", "--save", here / "new.gtkw")
         save = (here / "new.gtkw").read_text().replace(str(here), "")
         text.append(f"== ncl wave {' '.join(pair_of(example))}\n{(here / 'new.vcd').read_text()}{save}")
     compared("what is waved", stored / "waved.txt", "".join(text))
-    for example in examples:
+    for example in examples + pipelines:
         verdict = [int(number) for number in (root / "examples" / example / "verdict").read_text().split()]
         if verdict[0] in (0, 13, 14, 15, 20, 21, 32):
             try_run(*pair_of(example), verdict, f"wave {example}")

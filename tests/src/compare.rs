@@ -11,9 +11,9 @@ use crate::generate::joins::{join_case, JoinCase};
 use crate::generate::made::{make_case, MakeCase};
 use crate::generate::nexts::{next_case, NextCase};
 use crate::generate::texts::{read_case, write_case, GeneratedText, TextCase};
-use crate::generate::{pair, row_case, RowCase};
+use crate::generate::{pair, row_case, Generated, RowCase};
 use crate::join::{self, Joined};
-use crate::judge::{self, Verdict, WordOrder, LIMITS, ORDERS};
+use crate::judge::{self, Verdict, WordOrder, ORDERS};
 use crate::make::{self, Made};
 use crate::next::{self, FAMILY};
 use crate::text;
@@ -367,7 +367,7 @@ pub fn compare_pair(
     name: &str,
     pair: &FilePair,
 ) -> Result<u64, Box<Difference>> {
-    let judged = judge::check_in_order(order, LIMITS, &pair.stage, &pair.reference);
+    let judged = judge::check_pipeline(order, &pair.stage, &pair.reference);
     let given = other(order, &pair.stage, &pair.reference);
     if judged == given {
         return Ok(judged[0]);
@@ -573,6 +573,9 @@ pub fn shrink(
     small
 }
 
+/// How pairs are made of a seed and their number.
+pub type Pairs = fn(u64, u64) -> Generated;
+
 /// Compares the check on the first `count` pairs of a seed up to the first difference.
 pub fn first_difference(other: Check, seed: u64, count: u64) -> Result<Histogram, Box<Difference>> {
     let other = |_: WordOrder, stage: &[u8], reference: &[u8]| other(stage, reference);
@@ -586,9 +589,19 @@ pub fn first_difference_in(
     seed: u64,
     count: u64,
 ) -> Result<Histogram, Box<Difference>> {
+    first_difference_of(pair, orders, other, seed, count)
+}
+
+fn first_difference_of(
+    pairs: Pairs,
+    orders: &[WordOrder],
+    other: impl Fn(WordOrder, &[u8], &[u8]) -> Verdict,
+    seed: u64,
+    count: u64,
+) -> Result<Histogram, Box<Difference>> {
     let mut histogram = NO_VERDICTS;
     for index in 0..count {
-        let generated = pair(seed, index);
+        let generated = pairs(seed, index);
         let name = format!("pair {index} of seed {seed} ({})", generated.family);
         for &order in orders {
             let number = compare_pair(&other, order, &name, &generated.pair)?;
@@ -605,7 +618,17 @@ pub fn compare_checks(
     seed: u64,
     count: u64,
 ) -> Result<Histogram, Box<Difference>> {
-    first_difference_in(&ORDERS, other, seed, count).inspect_err(|difference| {
+    compare_checks_of(pair, other, seed, count)
+}
+
+/// The same on other pairs.
+pub fn compare_checks_of(
+    pairs: Pairs,
+    other: CheckInOrder,
+    seed: u64,
+    count: u64,
+) -> Result<Histogram, Box<Difference>> {
+    first_difference_of(pairs, &ORDERS, other, seed, count).inspect_err(|difference| {
         println!("{difference}");
         if let Difference::Verdicts { order, pair, .. } = &**difference {
             let small = shrink(other, *order, pair);
@@ -854,6 +877,7 @@ fn arguments(order: WordOrder) -> &'static [&'static str] {
 pub fn compare_program(
     program: &Path,
     expected: Expected,
+    pairs: Pairs,
     folder: &Path,
     seed: u64,
     count: u64,
@@ -861,7 +885,7 @@ pub fn compare_program(
     let mut histogram = NO_VERDICTS;
     let cut = |file: &[u8]| file[..file.len().min(MOST_BYTES_READ as usize)].to_vec();
     for index in 0..count {
-        let generated = pair(seed, index);
+        let generated = pairs(seed, index);
         let (stage, reference) = (cut(&generated.pair.stage), cut(&generated.pair.reference));
         for order in ORDERS {
             let leave_out = index % 2 == 0;
@@ -888,7 +912,7 @@ pub fn compare_program(
 
 /// What `ncl_check` and `ncl_report` are to print.
 pub fn expected_verdict(order: WordOrder, stage: &[u8], reference: &[u8]) -> String {
-    verdict_line(judge::check_in_order(order, LIMITS, stage, reference))
+    verdict_line(judge::check_pipeline(order, stage, reference))
 }
 
 pub fn expected_report(order: WordOrder, stage: &[u8], reference: &[u8]) -> String {

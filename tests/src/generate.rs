@@ -882,9 +882,9 @@ fn refused_in_reading(random: &mut Random, number: u64, which: u64) -> Generated
             at
         }
     };
-    // Document 02 knows command 06 and relaxed kinds in a stage.
+    // Document 02 knows the commands 04 to 06 and relaxed kinds in a stage.
     let known = match (number, which) {
-        (2, 1) if at > 0 && pair.stage[at] == 0x06 => Known::Nothing,
+        (2, 1) if at > 0 && matches!(pair.stage[at], 0x04..=0x06) => Known::Nothing,
         (4, 1) if matches!(pair.stage[at], 129..=155) => Known::Nothing,
         _ => Known::Verdict([number, which, at as u64, 0]),
     };

@@ -786,10 +786,10 @@ pub fn answer(reference: &Reference, word: u64) -> Vec<bool> {
 
 /// The check of a stage file against a reference file, for a caller that sets the mark of M-106.
 pub fn check(stage_file: &[u8], reference_file: &[u8]) -> Verdict {
-    check_within(LIMITS, stage_file, reference_file)
+    check_pipeline(WordOrder::Input0Lowest, stage_file, reference_file)
 }
 
-/// The same within other limits.
+/// The same of files without registers, within other limits.
 pub fn check_within(limits: Limits, stage_file: &[u8], reference_file: &[u8]) -> Verdict {
     check_in_order(WordOrder::Input0Lowest, limits, stage_file, reference_file)
 }

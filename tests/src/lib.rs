@@ -4,6 +4,7 @@
 pub mod catalogue;
 pub mod circuits;
 pub mod compare;
+pub mod compare_pipelines;
 pub mod compare_runs;
 pub mod draw;
 pub mod exchange;

@@ -15,7 +15,7 @@ use crate::catalogue::examples;
 use crate::compare::expected_report;
 use crate::files::{verdict_line, FilePair};
 use crate::join::join_in_order;
-use crate::judge::{check_in_order, check_pipeline, Verdict, WordOrder, LIMITS};
+use crate::judge::{check_pipeline, Verdict, WordOrder};
 use crate::make::make_stage;
 use crate::next::{next_stage, FAMILY};
 use crate::text::{read_text, text_of_file, write_text};
@@ -109,13 +109,69 @@ fn spelt(buffer: &[u8]) -> String {
 
 /// The judge's verdict in an order of words.
 pub fn verdict_in(order: WordOrder, pair: &FilePair) -> Verdict {
-    check_in_order(order, LIMITS, &pair.stage, &pair.reference)
-}
-
-/// The same on a pair with registers.
-pub fn pipeline_verdict_in(order: WordOrder, pair: &FilePair) -> Verdict {
     check_pipeline(order, &pair.stage, &pair.reference)
 }
+
+/// A stage with a register or a C-element.
+struct WithPart {
+    about: &'static str,
+    stage: &'static str,
+    /// What the check says of it, against a wire.
+    verdict: Verdict,
+    /// Where its first such command stands: "every other call answers 2".
+    part: u64,
+}
+
+const WITH_PARTS: [WithPart; 8] = [
+    WithPart {
+        about: "a wire through a register",
+        stage: "01 01 04 00 00 01 00 FE FF 03 02 00 03 00 00",
+        verdict: [0, 0, 0, 0],
+        part: 2,
+    },
+    WithPart {
+        about: "a register behind the output that names it",
+        stage: "01 01 03 02 00 03 00 04 00 00 01 00 FE FF 00",
+        verdict: [0, 0, 0, 0],
+        part: 7,
+    },
+    WithPart {
+        about: "a wire, and a C-element behind no Ki",
+        stage: "01 01 05 00 00 01 00 FF FF FF FF 03 00 00 01 00 00",
+        verdict: [0, 0, 0, 0],
+        part: 2,
+    },
+    WithPart {
+        about: "a register cut off: 2 comes before 1",
+        stage: "01 01 04",
+        verdict: [1, 1, 3, 0],
+        part: 2,
+    },
+    WithPart {
+        about: "a C-element without its pin A",
+        stage: "01 01 03 00 00 01 00 05 FF FF 01 00 FF FF FF FF 00",
+        verdict: [5, 1, 8, 0],
+        part: 7,
+    },
+    WithPart {
+        about: "a Ki that is not there",
+        stage: "01 01 04 00 00 01 00 05 00 03 02 00 03 00 00",
+        verdict: [9, 1, 7, 0],
+        part: 2,
+    },
+    WithPart {
+        about: "a register on its own rails",
+        stage: "01 01 04 02 00 03 00 FE FF 03 02 00 03 00 00",
+        verdict: [33, 1, 0, 0],
+        part: 2,
+    },
+    WithPart {
+        about: "a care list, then a register with its own Ko as Ki",
+        stage: "01 01 06 01 00 04 00 00 01 00 04 00 03 02 00 03 00 00",
+        verdict: [35, 1, 0, 0],
+        part: 5,
+    },
+];
 
 /// What a program reads in its folder, by name, and what it prints.
 pub struct Program {

@@ -10,10 +10,10 @@ use fovaheju_tests::compare::{
 use fovaheju_tests::files::{as_the_program_reads, unhex, verdict_from_line, FilePair};
 use fovaheju_tests::generate::pair;
 use fovaheju_tests::judge::{
-    accepted_unless_a_gate_never_rises, answer, check, check_circuits, check_in_order, is_retired,
+    accepted_unless_a_gate_never_rises, answer, check, check_circuits, check_pipeline, is_retired,
     least_gate_on_a_loop, least_gate_that_never_rises, least_retired_gate, rails_of_word,
     read_reference, read_stage, set_expression_holds, settle, settled_row, Gate, Reference, Stage,
-    WordOrder, ACCEPTED, LIMITS, ORDERS,
+    WordOrder, ACCEPTED, ORDERS,
 };
 use fovaheju_tests::suite::verdict_in;
 use std::path::Path;
@@ -21,8 +21,7 @@ use std::path::Path;
 /// Of the comparison itself: two sides that are the same show no difference.
 #[test]
 fn the_judge_agrees_with_itself() {
-    let check: CheckInOrder = |order, s, r| check_in_order(order, LIMITS, s, r);
-    let checks = compare_checks(check, 7, 500).unwrap();
+    let checks = compare_checks(check_pipeline, 7, 500).unwrap();
     assert_eq!(checks.iter().sum::<u64>(), 1_000);
     let reports = compare_reports(judged_counts, 7, 400).unwrap();
     assert_eq!(reports.iter().sum::<u64>(), 800);

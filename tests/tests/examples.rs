@@ -9,7 +9,7 @@ use fovaheju_tests::catalogue::{
 };
 use fovaheju_tests::circuits::{multiplier_reference, ripple_adder_reference};
 use fovaheju_tests::files::{
-    examples_folder, load_example, load_text, stored_examples, stored_texts,
+    examples_folder, load_example, load_text, pipelines_folder, stored_examples, stored_texts,
 };
 use fovaheju_tests::judge::{answer, rails_of_word, read_stage, settle, Stage, ACCEPTED, ORDERS};
 use fovaheju_tests::read;
@@ -133,13 +133,13 @@ fn spelt(document: &str) -> Vec<u8> {
 #[test]
 fn the_documents_spell_the_and() {
     let (pair, _) = load_example(&examples_folder(), "and").unwrap();
-    for path in ["README.md", "docs/FILES.md"] {
-        assert_eq!(
-            spelt(&read(path)),
-            [pair.stage.clone(), pair.reference.clone()].concat(),
-            "{path}"
-        );
-    }
+    let and = [pair.stage, pair.reference].concat();
+    assert_eq!(spelt(&read("README.md")), and, "README.md");
+    // Behind it a stage with registers.
+    let folder = pipelines_folder(&examples_folder());
+    let (pair, _) = load_example(&folder, "registers-2x2").unwrap();
+    let both = [and, pair.stage].concat();
+    assert_eq!(spelt(&read("docs/FILES.md")), both, "docs/FILES.md");
 }
 
 /// The blocks of a document that are texts.

@@ -11,7 +11,7 @@ use fovaheju_tests::generate::joins::join_case;
 use fovaheju_tests::generate::pair;
 use fovaheju_tests::join::{join, join_in_order, word_of_answer};
 use fovaheju_tests::judge::{
-    answer, check, check_in_order, read_reference, read_stage, report, report_in_order, Stage,
+    answer, check, check_in_order, check_pipeline, read_reference, read_stage, report, report_in_order, Stage,
     Verdict, WordOrder, ACCEPTED, LIMITS, ORDERS,
 };
 use fovaheju_tests::suite::report::line;
@@ -19,7 +19,7 @@ use std::collections::BTreeMap;
 
 /// The check of a caller that sets no mark.
 fn check_by_default(stage: &[u8], reference: &[u8]) -> Verdict {
-    check_in_order(WordOrder::default(), LIMITS, stage, reference)
+    check_pipeline(WordOrder::default(), stage, reference)
 }
 
 /// Names by hand: input 0 is the leftmost digit.
@@ -397,14 +397,14 @@ fn wrong_orders_are_told() {
             },
         ),
         ("names the word as files do", |order, s, r| {
-            let [number, file, at, name] = check_in_order(order, LIMITS, s, r);
+            let [number, file, at, name] = check_pipeline(order, s, r);
             match names_a_word([number, file, at, name]) {
                 true => [number, file, at, order.named(inputs_of(s), name)],
                 false => [number, file, at, name],
             }
         }),
         ("counts ten inputs always", |order, s, r| {
-            let [number, file, at, name] = check_in_order(order, LIMITS, s, r);
+            let [number, file, at, name] = check_pipeline(order, s, r);
             let more = match (order, names_a_word([number, file, at, name])) {
                 (WordOrder::Input0Highest, true) => 10 - inputs_of(s),
                 _ => 0,
@@ -412,14 +412,14 @@ fn wrong_orders_are_told() {
             [number, file, at, name << more]
         }),
         ("turns counts", |order, s, r| {
-            let [number, file, at, count] = check_in_order(order, LIMITS, s, r);
+            let [number, file, at, count] = check_pipeline(order, s, r);
             match number {
                 10 | 11 => [number, file, at, order.named(inputs_of(s), count)],
                 _ => [number, file, at, count],
             }
         }),
         ("turns care words", |order, s, r| {
-            let verdict = check_in_order(order, LIMITS, s, r);
+            let verdict = check_pipeline(order, s, r);
             let Ok(mut stage) = read_stage(s) else {
                 return verdict;
             };
@@ -430,7 +430,7 @@ fn wrong_orders_are_told() {
             let words = words.map(|&word| order.named(stage.inputs, word));
             stage.care = words.collect();
             stage.care.sort();
-            check_in_order(order, LIMITS, &write_stage(&stage), r)
+            check_pipeline(order, &write_stage(&stage), r)
         }),
     ];
     for (about, check) in wrong {

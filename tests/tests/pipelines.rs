@@ -4,20 +4,24 @@
 //! FOVAHEJU_SEED and FOVAHEJU_COUNT name another seed and count.
 
 use fovaheju_tests::catalogue::pipelines::{listing, multiplier_pipeline, pipelines};
-use fovaheju_tests::compare::seed_and_count;
+use fovaheju_tests::compare::{judged_counts, seed_and_count, CheckInOrder};
+use fovaheju_tests::compare_pipelines::{
+    compare_all_other_calls, compare_pipelines, lack_of_other_calls, lack_of_pipelines, OtherCalls,
+};
 use fovaheju_tests::files::{
     examples_folder, hex, load_example, pipelines_folder, stored_examples, unhex, write_pipeline,
     write_stage, FilePair,
 };
 use fovaheju_tests::generate::pair;
 use fovaheju_tests::generate::pipelines::pipeline_pair;
-use fovaheju_tests::join::join;
+use fovaheju_tests::join::{join, join_in_order};
 use fovaheju_tests::judge::{
     check_in_order, check_pipeline, read_pipeline, read_stage, report, settled_row, Part, Pipeline,
     Verdict, WordOrder, ACCEPTED, LIMITS, ORDERS, OUTSIDE,
 };
 use fovaheju_tests::next::next_stage;
-use fovaheju_tests::suite::pipeline_verdict_in;
+use fovaheju_tests::run::{play, run_by_keys, witness};
+use fovaheju_tests::suite::verdict_in;
 use fovaheju_tests::text::write_text;
 use fovaheju_tests::wiring::{Behind, Source, Wiring};
 use std::collections::{BTreeMap, BTreeSet};
@@ -54,6 +58,36 @@ fn worked_examples() {
     // A register that reaches none and has a Ko of the next level.
     let stage = registers(&[[0, 1, 7], [2, 3, OUTSIDE], [0, 1, 7]], [5, 6]);
     assert_eq!(check(&stage, &wire), [35, 1, 2, 0]);
+    for (about, stage, verdict) in [
+        (
+            "an input rail beside the Ko that is needed",
+            "01 01 04 00 00 01 00 08 00 04 02 00 03 00 FE FF 05 07 00 00 00 FF FF FF FF 03 05 00 06 00 00",
+            [35, 1, 0, 0],
+        ),
+        (
+            "a gate on a rail of the register that it feeds, which is no loop of gates",
+            "01 01 02 01 03 00 00 00 FF FF FF FF 04 02 00 01 00 FE FF 03 03 00 04 00 00",
+            [33, 1, 0, 0],
+        ),
+        (
+            "a gate on one rail of a register",
+            "01 01 02 01 03 00 03 00 FF FF FF FF 04 00 00 01 00 FE FF 03 02 00 04 00 00",
+            ACCEPTED,
+        ),
+        (
+            "the net of a C-element as data",
+            "01 01 04 00 00 05 00 FE FF 05 04 00 04 00 FF FF FF FF 03 02 00 03 00 00",
+            [9, 1, 5, 0],
+        ),
+        (
+            "two C-elements, the second on the first",
+            "01 01 04 00 00 01 00 09 00 04 02 00 03 00 FE FF 05 07 00 07 00 FF FF FF FF \
+             05 08 00 07 00 FF FF FF FF 03 05 00 06 00 00",
+            ACCEPTED,
+        ),
+    ] {
+        assert_eq!(check(&unhex(stage), &wire), verdict, "{about}");
+    }
 }
 
 #[test]
@@ -118,6 +152,18 @@ fn places_in_a_file() {
     // Nets of registers and C-elements follow all gates, also those behind them in the file.
     let stage = unhex("01 01 04 02 00 01 00 FE FF 02 01 00 00 00 00 FF FF FF FF 03 03 00 04 00 00");
     assert_eq!(check(&stage, &wire), ACCEPTED);
+    // The 65th is refused by 6, and where it is cut by 1, which comes first.
+    for (command, width) in [
+        ("04 00 00 01 00 FE FF", 7),
+        ("05 00 00 00 00 FF FF FF FF", 9),
+    ] {
+        let most = unhex(&format!("01 01 {}", [command; 65].join(" ")));
+        let at = 2 + 64 * width;
+        assert_eq!(check(&most, &wire), [6, 1, at as u64, 0]);
+        for length in at + 1..at + width {
+            assert_eq!(check(&most[..length], &wire), [1, 1, length as u64, 0]);
+        }
+    }
     // In a reference 04 and 05 are no commands.
     for command in ["04", "05"] {
         let reference = unhex(&format!("01 01 {command}"));
@@ -158,7 +204,7 @@ fn stored_pairs() {
             panic!("{name}: {error}; the program write_examples stores it")
         });
         assert_eq!(pair, example.pair, "{name}");
-        let judged = ORDERS.map(|order| pipeline_verdict_in(order, &pair));
+        let judged = ORDERS.map(|order| verdict_in(order, &pair));
         assert_eq!(judged, verdicts, "{name}");
         assert_eq!(verdicts[0][0], example.number, "{name}");
         numbers.insert(example.number);
@@ -166,7 +212,7 @@ fn stored_pairs() {
     }
     described.sort();
     assert_eq!(stored_examples(&folder).unwrap(), described);
-    let all = [0, 1, 5, 6, 9, 12, 13, 14, 28, 33, 34, 35];
+    let all = [0, 1, 5, 6, 9, 12, 13, 14, 15, 20, 21, 28, 32, 33, 34, 35];
     assert_eq!(numbers, BTreeSet::from(all));
     let list = std::fs::read_to_string(examples_folder().join("PIPELINES.md")).unwrap();
     assert_eq!(list, listing(), "examples/PIPELINES.md");
@@ -217,7 +263,7 @@ fn generated_pairs() {
         for number in [33, 34, 35] {
             assert!(20 * histogram[&number] > count, "{number}");
         }
-        for number in [0, 1, 2, 5, 6, 7, 9, 12, 13, 14, 15, 28] {
+        for number in [0, 1, 2, 5, 6, 7, 9, 12, 13, 14, 15, 20, 21, 28, 32] {
             assert!(histogram.contains_key(&number), "{number}");
         }
     }
@@ -271,6 +317,16 @@ fn every_other_call() {
         assert!(matches!(stage[at as usize], 0x04 | 0x05));
         assert_eq!(settled_row(&stage, &mut []), [2, 1, at, 0]);
         assert_eq!(report(&stage, &reference).verdict, [2, 1, at, 0]);
+        for order in ORDERS {
+            let mut list = [7; 4];
+            let handed = witness(order, &stage, &reference, 0, &mut list);
+            assert_eq!(handed.verdict, [2, 1, at, 0]);
+            assert_eq!((handed.rise, handed.count), (0, 0));
+            let played = play(order, &stage, 0, 0, &[], &mut [7]);
+            assert_eq!((played.verdict, played.steps), ([2, 1, at, 0], 0));
+            let handed = run_by_keys(order, &stage, 0, &[], &mut list);
+            assert_eq!((handed.verdict, list), ([2, 1, at, 0], [7; 4]));
+        }
         let mut buffer = vec![7; 20_000];
         assert_eq!(write_text(&stage, &mut buffer).verdict, [2, 1, at, 0]);
         assert_eq!(next_stage(&stage, &mut buffer).verdict, [37, 1, 0, 0]);
@@ -286,6 +342,68 @@ fn every_other_call() {
         assert_eq!(joined(&plain, &part), [2, 4, at, 0]);
     }
     assert!(seen > 1_000);
+}
+
+/// Two sides that are the same show no difference; a check that reads no registers, and other calls that read some, are told.
+#[test]
+fn comparing_has_teeth() {
+    let checks = compare_pipelines(check_pipeline, 7, 4_000).unwrap();
+    assert_eq!(lack_of_pipelines(&checks), None);
+    let plain: CheckInOrder = |order, s, r| check_in_order(order, LIMITS, s, r);
+    assert!(compare_pipelines(plain, 7, 50).is_err());
+    let unlevelled: CheckInOrder = |order, s, r| match check_pipeline(order, s, r) {
+        [33, ..] => ACCEPTED,
+        verdict => verdict,
+    };
+    assert!(compare_pipelines(unlevelled, 7, 50).is_err());
+    let judge = OtherCalls {
+        report: judged_counts,
+        settled_row,
+        join: join_in_order,
+        write_text,
+        next: next_stage,
+        witness,
+        play,
+        by_keys: run_by_keys,
+    };
+    let answers = compare_all_other_calls(&judge, 7, 400).unwrap();
+    assert_eq!(lack_of_other_calls(&answers), None);
+    let others: [OtherCalls; 3] = [
+        OtherCalls {
+            report: |order, s, r| {
+                let mut counts = judged_counts(order, s, r);
+                counts.verdict = check_pipeline(order, s, r);
+                counts
+            },
+            ..judge
+        },
+        OtherCalls {
+            settled_row: |s, row| match read_pipeline(s) {
+                Ok(_) => [16, 3, row.len() as u64, 0],
+                Err((number, at)) => [number, 1, at as u64, 0],
+            },
+            ..judge
+        },
+        OtherCalls {
+            join: |order, first, second, s, r| {
+                let mut joined = join_in_order(order, first, second, s, r);
+                if let [2, 4, at, _] = joined.verdict {
+                    joined.verdict = [2, 1, at, 0];
+                }
+                joined
+            },
+            ..judge
+        },
+    ];
+    for (number, calls) in others.iter().enumerate() {
+        assert!(compare_all_other_calls(calls, 7, 50).is_err(), "{number}");
+    }
+    // Too few of a number are told too.
+    for number in [0, 33, 34, 35] {
+        let mut few = checks;
+        few[number] = 1;
+        assert!(lack_of_pipelines(&few).is_some(), "{number}");
+    }
 }
 
 /// 33, 34, 35 or nothing, by another reading of the rule.

@@ -7,8 +7,8 @@ use fovaheju_tests::compare::{
 use fovaheju_tests::files::{report_text, unhex};
 use fovaheju_tests::generate::pair;
 use fovaheju_tests::judge::{
-    cell, check, pin_count, read_stage, report, report_lines, settled_row, Gate, Stage, WordOrder,
-    ACCEPTED, KINDS, ORDERS,
+    cell, check_within, pin_count, read_stage, report, report_lines, settled_row, Gate, Stage,
+    WordOrder, ACCEPTED, KINDS, LIMITS, ORDERS,
 };
 use fovaheju_tests::suite::report::{cases, line};
 use std::fs;
@@ -47,7 +47,8 @@ fn generated_pairs() {
     for index in 0..1_500 {
         let pair = pair(100, index).pair;
         let report = report(&pair.stage, &pair.reference);
-        assert_eq!(report.verdict, check(&pair.stage, &pair.reference));
+        let checked = check_within(LIMITS, &pair.stage, &pair.reference);
+        assert_eq!(report.verdict, checked);
         if report.verdict != ACCEPTED {
             refused += 1;
             assert_eq!((report.lines.len(), report.total), (0, 0));

@@ -112,7 +112,11 @@ pub fn run(matches: &ArgMatches) -> Outcome<Found> {
 
 /// The drawing in dot's language.
 fn drawing(asked: &Asked, stage: &Stage, inputs: Option<&[Option<bool>]>, order: Order, all: bool) -> Outcome<String> {
-    let (verdict, file) = (asked.verdict, asked.stage.bytes());
+    let verdict = asked.verdict;
+    // Levels are those of the stage in which a register is two wires.
+    let wired = asked.stage.wired();
+    let plain = wired.as_ref().unwrap_or(&asked.stage);
+    let (file, held) = (plain.bytes(), plain.stage());
     let mut title = vec![format!("{}: {}", asked.stage.name(), stage.counts())];
     if let Some(values) = inputs {
         if values.len() != stage.inputs {
@@ -120,7 +124,7 @@ fn drawing(asked: &Asked, stage: &Stage, inputs: Option<&[Option<bool>]>, order:
             return Err(Failure::says(format!("{}: has {has}; --inputs gives {given}", asked.stage.name())));
         }
         title.push(format!("settled for {}", inputs_text(values, stage)));
-        return Ok(dot(&Scene::plain(stage, title).settled(file, values).near(all)));
+        return Ok(dot(&Scene::plain(stage, title).settled(file, &held, values).near(all)));
     }
     let question = asked.question();
     if !verdict.accepts() {
@@ -133,5 +137,5 @@ fn drawing(asked: &Asked, stage: &Stage, inputs: Option<&[Option<bool>]>, order:
         title.insert(0, format!("{verdict}  accepted"));
     }
     let reference = asked.reference.as_ref().map_or(&[][..], |reference| &reference.bytes);
-    Ok(dot(&Scene::plain(stage, title).judged(verdict, file, reference, order).near(all)))
+    Ok(dot(&Scene::plain(stage, title).judged(verdict, (file, &held), reference, order).near(all)))
 }

@@ -109,8 +109,10 @@ fn plain(given: &Given) -> Stage {
 }
 
 fn of_stage(matches: &ArgMatches, given: &Given, made: fn(&Stage) -> String) -> Outcome<Found> {
-    if !given.reads() {
-        return refused(Question::Row { stage: given, row: &[] }, given.read_verdict());
+    // Registers have no place in a netlist: such a stage has the number that every call but the check gives it.
+    let read = given.plain_verdict();
+    if !matches!(read.number, 0 | 12) {
+        return refused(Question::Row { stage: given, row: &[] }, read);
     }
     let stage = plain(given);
     if !stage.care.is_empty() {
@@ -123,8 +125,10 @@ fn bench(matches: &ArgMatches) -> Outcome<Found> {
     one_standard_input(&[path(matches, "stage"), path(matches, "reference")])?;
     let (given, reference) = (given(matches)?, read(path(matches, "reference"))?);
     let verdict = given.check(Order::default(), &reference.bytes);
-    // Files that do not read, or do not fit, have no words to be played.
-    if matches!(verdict.number, 1..=11 | 18 | 19 | 29..=31) {
+    // Files that do not read, or do not fit, have no words to be played, and registers no place in a netlist.
+    let parts = given.refused().is_none() && given.stage().has_parts();
+    if parts || matches!(verdict.number, 1..=11 | 18 | 19 | 29..=31) {
+        let verdict = if parts && matches!(verdict.number, 0 | 10..) { given.plain_verdict() } else { verdict };
         return refused(Question::Check(Pair::whole(&given, &reference)), verdict);
     }
     let seed = matches.get_one::<u32>("seed").copied().unwrap_or_default();

@@ -31,7 +31,8 @@ pub fn command() -> Command {
             "\
 One net switches each nanosecond. Inputs and outputs are shown as NULL, DATA0 and DATA1, and then each rail and gate as a wire. Of a refused
 stage the run ends where the promise breaks, and promise_broken rises. Under 32 nothing breaks: a full rise and fall is shown. Prints the
-verdict; where it speaks of no run, as of bytes, a loop or a kind, nothing is written, and it is said so.
+verdict; where it speaks of no run, as of bytes, a loop, registers or a kind, nothing is written, and it is said so. A register is two
+wires here.
 
 Examples:
   ncl wave stage.ncl reference.ncl fault.vcd --save fault.gtkw
@@ -85,10 +86,13 @@ pub fn run(matches: &ArgMatches) -> Outcome<Found> {
     let (given, reference) = called_pair(matches)?;
     let verdict = given.check(order, &reference.bytes);
     let question = Question::Check(Pair::whole(&given, &reference));
-    let stage = given.stage();
-    // A stage that reads and has no loop has runs, whatever else is said of it.
-    let files = Files { stage_file: given.bytes(), stage: &stage, reference_file: &reference.bytes, order };
-    let shown = if given.read_verdict().accepts() { asked(matches, verdict, files)? } else { None };
+    // In a run a register is two wires.
+    let wired = given.wired();
+    let played = wired.as_ref().unwrap_or(&given);
+    let stage = played.stage();
+    // A stage that reads and has no loop, its registers well wired, has runs, whatever else is said of it.
+    let files = Files { stage_file: played.bytes(), stage: &stage, reference_file: &reference.bytes, order };
+    let shown = if played.read_verdict().accepts() { asked(matches, verdict, files)? } else { None };
     if let Some((run, word, broken)) = &shown {
         let values = order.values(*word, stage.inputs);
         let cared = if cares(&stage, order, *word) { "" } else { ", for which the stage does not care" };

@@ -89,7 +89,7 @@ pub fn stage(netlist: &Netlist) -> Result<Made, Fault> {
     }
     let names = |signals: &[Signal]| signals.iter().map(|signal| signal.name.to_string()).collect();
     let names = Names { inputs: names(&inputs), outputs: names(&outputs), gates: Vec::new() };
-    let stage = Stage { inputs: inputs.len(), gates, outputs: rails, care: Vec::new(), names: Some(names) };
+    let stage = Stage { inputs: inputs.len(), gates, outputs: rails, names: Some(names), ..Stage::default() };
     Ok(Made { stage, notes })
 }
 

@@ -1,9 +1,10 @@
-//! A scene in the language of Graphviz: a node for each input, gate and output, as tables with a port for each pin and rail.
+//! A scene in the language of Graphviz: a node for each input, gate, register, C-element and output, as tables with a port for each pin and rail.
 
 use super::scene::{Mark, Scene};
 use crate::explain::wrapped;
-use crate::netlist::set_expression;
+use crate::netlist::{set_expression, Driver, OUTSIDE};
 use crate::situation::pair_state;
+use crate::wiring::Wiring;
 use std::fmt::Write;
 
 const INK: &str = "#1b1f24";
@@ -28,6 +29,11 @@ pub fn dot(scene: &Scene) -> String {
     let outputs: Vec<usize> = (0..scene.stage.outputs.len()).filter(|&output| scene.output_shown(output)).collect();
     inputs.iter().for_each(|&input| text += &input_node(scene, input));
     (0..scene.stage.gates.len()).filter(|&gate| scene.shown[gate]).for_each(|gate| text += &gate_node(scene, gate));
+    if scene.parts_shown() {
+        let wiring = Wiring::of(scene.stage);
+        (0..scene.stage.registers.len()).for_each(|register| text += &register_node(scene, &wiring, register));
+        (0..scene.stage.elements.len()).for_each(|element| text += &element_node(scene, element));
+    }
     outputs.iter().for_each(|&output| text += &output_node(scene, output));
     let listed = |letter: char, list: &[usize]| list.iter().map(|k| format!("{letter}{k}; ")).collect::<String>();
     let _ = writeln!(text, "  {{ rank=source; {}}}", listed('x', &inputs));
@@ -68,7 +74,7 @@ fn heading(scene: &Scene) -> String {
     if scene.levels {
         legend += &square(HIGH, "high");
     }
-    let marks: Vec<&Mark> = scene.inputs.iter().chain(&scene.gates).chain(&scene.outputs).collect();
+    let marks: Vec<&Mark> = scene.inputs.iter().chain(&scene.gates).chain(&scene.registers).chain(&scene.outputs).collect();
     let word = |words: &str| format!("<font color=\"{RED}\">{words}</font> &#160; ");
     if marks.iter().any(|mark| matches!(mark, Mark::Fault(_))) {
         legend += &square(RED, "the fault");
@@ -170,13 +176,67 @@ fn gate_node(scene: &Scene, gate: usize) -> String {
     text
 }
 
+/// A wire of the completion: it does not move what it leads to.
+fn completion() -> String {
+    format!("color=\"{SOFT}\", penwidth=0.7, style=dotted, constraint=false")
+}
+
+/// A register with its data at the left and its rails at the right, its Ki and Ko below them. Where no register reaches itself it has a level.
+fn register_node(scene: &Scene, wiring: &Wiring, register: usize) -> String {
+    let (found, mark) = (&scene.stage.registers[register], &scene.registers[register]);
+    let rails = [found.net, found.net + 1];
+    let ring = (0..wiring.fed.len()).any(|other| !wiring.ring(other).is_empty());
+    let level = if ring { "register".into() } else { format!("register, level {}", wiring.levels[register]) };
+    let state = if scene.levels { format!("<br/>{}", pair_state(&scene.row, rails)) } else { String::new() };
+    let name = escaped(&scene.stage.register_name(register));
+    let soft = |words: &str| format!("<font color=\"{SOFT}\" point-size=\"9\">{words}</font>");
+    let body = format!("<td rowspan=\"3\" cellpadding=\"4\"><b>{name}</b><br/>{}{state}{}</td>", soft(&level), note(mark));
+    let small = |port: &str, words: &str| format!("<td port=\"{port}\">{}</td>", soft(words));
+    let ki = if found.ki == OUTSIDE { "Ki: outside" } else { "Ki" };
+    let [low, high] = [0, 1].map(|rail| rail_cell(rail, scene.row[rails[rail]]));
+    let rows = [
+        format!("<tr>{}{body}{low}</tr>", small("d0", "0")),
+        format!("<tr>{}{high}</tr>", small("d1", "1")),
+        format!("<tr>{}{}</tr>", small("ki", ki), small("ko", "Ko")),
+    ];
+    let mut text = format!("  r{register} [label={}];\n", table(&style(mark, is_data(scene, rails)), &rows.concat()));
+    for (rail, &net) in found.data.iter().enumerate() {
+        let how = wire(RAILS[rail], scene.row.get(net) == Some(&true));
+        text += &edge(scene, net, &format!("r{register}:d{rail}"), &how);
+    }
+    if found.ki != OUTSIDE {
+        text += &edge(scene, found.ki, &format!("r{register}:ki"), &completion());
+    }
+    text
+}
+
+fn element_node(scene: &Scene, element: usize) -> String {
+    let found = &scene.stage.elements[element];
+    let name = escaped(&scene.stage.element_name(element));
+    let body = format!("<td rowspan=\"{}\" port=\"z\" cellpadding=\"3\"><b>{name} C</b></td>", found.pins.len());
+    let mut rows = String::new();
+    for (k, letter) in "ABCD".chars().enumerate().take(found.pins.len()) {
+        let body = if k == 0 { &body } else { "" };
+        rows += &format!("<tr><td port=\"{letter}\"><font color=\"{SOFT}\" point-size=\"8\">{letter}</font></td>{body}</tr>");
+    }
+    let mut text = format!("  c{element} [label={}];\n", table(&style(&Mark::None, false), &rows));
+    for (&pin, letter) in found.pins.iter().zip("ABCD".chars()) {
+        text += &edge(scene, pin, &format!("c{element}:{letter}"), &completion());
+    }
+    text
+}
+
 /// How the wire of a net is drawn that a gate reads.
 fn pin_style(scene: &Scene, gate: usize, net: usize) -> String {
     let on_loop = scene.path.iter().enumerate().any(|(k, &own)| {
         let before = scene.path[(k + scene.path.len() - 1) % scene.path.len()];
         own == gate && net == scene.stage.net_of(before)
     });
-    let rail = (net < 2 * scene.stage.inputs).then(|| RAILS[net % 2]);
+    let rail = match scene.stage.source(net) {
+        Driver::Input(_) => Some(RAILS[net % 2]),
+        Driver::Rail(_, rail) => Some(RAILS[rail]),
+        _ => None,
+    };
     if on_loop {
         format!("color=\"{RED}\", penwidth=2.4")
     } else if scene.late.get(net) == Some(&true) {
@@ -194,9 +254,12 @@ fn wire(colour: &str, high: bool) -> String {
 
 /// The wire from what drives a net; where that is not drawn, from the net's name.
 fn edge(scene: &Scene, net: usize, to: &str, how: &str) -> String {
-    let from = match scene.stage.driver(net) {
-        Some(gate) if scene.shown[gate] => format!("g{gate}:z:e"),
-        None if scene.net_shown(net) => format!("x{}:r{}:e", net / 2, net % 2),
+    let from = match scene.stage.source(net) {
+        Driver::Gate(gate) if scene.shown[gate] => format!("g{gate}:z:e"),
+        Driver::Input(input) if scene.net_shown(net) => format!("x{input}:r{}:e", net % 2),
+        Driver::Rail(register, rail) if scene.parts_shown() => format!("r{register}:r{rail}:e"),
+        Driver::Ko(register) if scene.parts_shown() => format!("r{register}:ko:e"),
+        Driver::Element(element) if scene.parts_shown() => format!("c{element}:z:e"),
         _ => {
             let stub = format!("from_{}", to.replace(':', "_"));
             let colour = if scene.row.get(net) == Some(&true) { GREEN } else { SOFT };

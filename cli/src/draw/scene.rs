@@ -2,8 +2,9 @@
 
 use crate::explain::{Order, DEPTH};
 use crate::levels::{Levels, Odd, Row};
-use crate::netlist::{relaxed, Reference, Stage};
+use crate::netlist::{relaxed, Driver, Reference, Stage};
 use crate::situation::{data, once, pair_state, Situation};
+use crate::wiring::Wiring;
 use fovaheju::Verdict;
 
 /// A stage with more gates is drawn around its fault only, with at most so many of them.
@@ -34,6 +35,7 @@ pub struct Scene<'a> {
     pub inputs: Vec<Mark>,
     pub gates: Vec<Mark>,
     pub outputs: Vec<Mark>,
+    pub registers: Vec<Mark>,
     /// The nets that are still to follow.
     pub late: Vec<bool>,
     /// The gates of a loop, each reading the one before it.
@@ -48,7 +50,7 @@ pub struct Scene<'a> {
 impl<'a> Scene<'a> {
     /// A readable stage with all nets low, and nothing marked.
     pub fn plain(stage: &'a Stage, title: Vec<String>) -> Scene<'a> {
-        let (nets, gates) = (stage.nets(), stage.gates.len());
+        let (nets, gates) = (stage.all_nets(), stage.gates.len());
         Scene {
             stage,
             title,
@@ -56,6 +58,7 @@ impl<'a> Scene<'a> {
             inputs: vec![Mark::None; stage.inputs],
             gates: vec![Mark::None; gates],
             outputs: vec![Mark::None; stage.outputs.len()],
+            registers: vec![Mark::None; stage.registers.len()],
             late: vec![false; nets],
             path: Vec::new(),
             shown: vec![true; gates],
@@ -64,17 +67,22 @@ impl<'a> Scene<'a> {
         }
     }
 
-    /// The same with the levels that it settles to for these rails.
-    pub fn settled(mut self, file: &[u8], values: &[Option<bool>]) -> Scene<'a> {
-        if let Some(row) = Levels::new(file, self.stage).settled_for(values) {
+    /// The levels of all nets by those of inputs and gates: the rails of a register are wires.
+    fn all_nets(&self, nets: &[bool]) -> Vec<bool> {
+        (0..self.stage.all_nets()).map(|net| nets.get(self.stage.resolved(net)) == Some(&true)).collect()
+    }
+
+    /// The same with the levels that it settles to for these rails. The file and what it holds are those in which a register is two wires.
+    pub fn settled(mut self, file: &[u8], plain: &Stage, values: &[Option<bool>]) -> Scene<'a> {
+        if let Some(row) = Levels::new(file, plain).settled_for(values) {
             self.levels = row.contains(&true);
-            self.row = row;
+            self.row = self.all_nets(&row);
         }
         self
     }
 
     /// The same with what a verdict says of it.
-    pub fn judged(mut self, verdict: Verdict, file: &[u8], reference: &[u8], order: Order) -> Scene<'a> {
+    pub fn judged(mut self, verdict: Verdict, (file, plain): (&[u8], &Stage), reference: &[u8], order: Order) -> Scene<'a> {
         let at = verdict.at as usize;
         match verdict.number {
             12 => {
@@ -86,13 +94,33 @@ impl<'a> Scene<'a> {
             }
             28 => self.stage.alike(at).into_iter().for_each(|gate| self.mark_gate(gate, "no longer cast")),
             32 => self.mark_gate(at, "never rises"),
+            33..=35 if at < self.registers.len() => self.miswired(verdict.number, at),
             _ => {
-                if let Some(case) = Situation::of(verdict, file, self.stage, order) {
+                if let Some(case) = Situation::of(verdict, file, plain, order) {
                     self.in_a_word(&case, verdict, reference);
                 }
             }
         }
         self
+    }
+
+    /// 33, 34 and 35: the register, and those that it has to do with.
+    fn miswired(&mut self, number: u64, at: usize) {
+        let wiring = Wiring::of(self.stage);
+        let (others, look, says) = match number {
+            33 if !wiring.ring(at).is_empty() => (wiring.ring(at), "on the ring", "reaches itself".into()),
+            33 if !wiring.element_loop(at).is_empty() => (Vec::new(), "", "a loop of C-elements behind its Ki".into()),
+            33 => (Vec::new(), "", "fed from unequal levels".into()),
+            34 => (wiring.missing(at), "its Ko is missing", "a Ko is missing behind its Ki".into()),
+            _ => {
+                let barred: Vec<String> = wiring.barred(at).iter().map(|&net| self.stage.net_name(net)).collect();
+                (Vec::new(), "", format!("not behind its Ki: {}", barred.join(", ")))
+            }
+        };
+        for other in others {
+            self.registers[other] = Mark::Look(look.into());
+        }
+        self.registers[at] = Mark::Fault(says);
     }
 
     fn mark_gate(&mut self, gate: usize, says: &str) {
@@ -102,7 +130,7 @@ impl<'a> Scene<'a> {
     }
 
     fn in_a_word(&mut self, case: &Situation, verdict: Verdict, reference: &[u8]) {
-        self.row = case.row.clone();
+        self.row = self.all_nets(&case.row);
         self.levels = true;
         match case.odd {
             None => self.wrong(case, verdict.at as usize, &Reference::of(reference)),
@@ -131,7 +159,8 @@ impl<'a> Scene<'a> {
 
     /// 14, 15, 20 and 21: what is missing, what still waits for it, and who does not.
     fn not_awaited(&mut self, case: &Situation, odd: Odd) {
-        self.late = (0..self.stage.nets()).map(|net| case.late(net)).collect();
+        let late: Vec<bool> = (0..self.stage.nets()).map(|net| case.late(net)).collect();
+        self.late = self.all_nets(&late);
         for gate in (0..self.stage.gates.len()).filter(|&gate| case.late(self.stage.net_of(gate))) {
             self.gates[gate] = Mark::Late;
         }
@@ -234,11 +263,18 @@ impl<'a> Scene<'a> {
         self.outputs[output] != Mark::None || rails.into_iter().any(|net| self.net_shown(net))
     }
 
+    /// Whether registers and C-elements are drawn: where all is.
+    pub fn parts_shown(&self) -> bool {
+        self.hidden == 0
+    }
+
     /// Whether what drives a net is drawn.
     pub fn net_shown(&self, net: usize) -> bool {
-        match self.stage.driver(net) {
-            Some(gate) => self.shown[gate],
-            None => self.input_shown(net / 2),
+        match self.stage.source(net) {
+            Driver::Gate(gate) => self.shown[gate],
+            Driver::Input(input) => self.input_shown(input),
+            Driver::Nothing => false,
+            _ => self.parts_shown(),
         }
     }
 }

@@ -2,7 +2,9 @@
 
 use super::Text;
 use crate::input::{Input, MOST};
-use crate::netlist::{commands, kind_name, length_of, many, operation_name, Command, Form, Listing, Reference, Side, Stage, ABSENT};
+use crate::netlist::{
+    commands, kind_name, length_of, many, operation_name, Command, Driver, Form, Listing, Reference, Side, Stage, ABSENT, OUTSIDE,
+};
 use fovaheju::Verdict;
 
 /// How many commands are shown before and after the one that is meant.
@@ -136,13 +138,22 @@ fn out_of_step(byte: u8, at: usize, listed: &[Command], taken: Taken) -> (String
     if byte == 0x01 && at > 0 {
         return ("the inputs command comes a second time".into(), "give the inputs once, at the start".into());
     }
+    // The check never answers this: it reads them.
+    if side == Side::Stage && at > 0 && [0x04, 0x05].contains(&byte) {
+        let what = if byte == 0x04 { "a register" } else { "a C-element" };
+        return (
+            format!("{byte:02X} is {what}, and only the check reads registers and C-elements"),
+            "give such a stage to 'ncl check' and 'ncl explain'; every other call takes one without them, with the gates of one level"
+                .into(),
+        );
+    }
     let known = listed.iter().any(|command| command.at == at && command.form.is_some());
     if known {
         return (format!("a {this} begins with its inputs (01), not with {byte:02X}"), "put the inputs command first".into());
     }
     let of_other = match side {
         Side::Stage => [0x11, 0x12].contains(&byte),
-        Side::Reference => [0x02, 0x03, 0x06].contains(&byte),
+        Side::Reference => (0x02..=0x06).contains(&byte),
     };
     let todo = match taken.alone {
         Some(call) if of_other => format!("{byte:02X} is a command of a {other}, so this is one: '{call}' takes a {this}"),
@@ -155,6 +166,13 @@ fn out_of_step(byte: u8, at: usize, listed: &[Command], taken: Taken) -> (String
 /// 5: an operand left out that the kind or operation needs, or one given that it lacks.
 fn operand_wrong(at: usize, operand: usize, command: Option<&Command>, side: Side) -> (String, String) {
     let Some(command) = command.filter(|command| command.bytes.len() > 1) else { return Default::default() };
+    if command.form == Some(Form::Element) {
+        let pin = ["A", "B", "C", "D"][((at - command.at).saturating_sub(1) / 2).min(3)];
+        return match operand {
+            ABSENT => (format!("a C-element waits for A and B at least, and its pin {pin} is FFFF"), format!("give pin {pin}")),
+            _ => ("pin D of the C-element is used, and its pin C is FFFF".into(), "use pin C first, or write FFFF here".into()),
+        };
+    }
     let place = (at - command.at).saturating_sub(2) / 2;
     let kind = command.bytes[1];
     let (name, which) = match side {
@@ -194,7 +212,38 @@ fn too_many(command: Option<&Command>, side: Side, most: usize) -> (String, Stri
     };
     match command.and_then(|command| command.form) {
         Some(Form::Output | Form::Signal) => ("a 17th output".into(), "split the circuit: a file has at most 16 outputs".into()),
+        Some(Form::Register) => ("a 65th register".into(), "split the pipeline: a stage has at most 64 registers".into()),
+        Some(Form::Element) => {
+            ("a 65th C-element".into(), "use pins C and D of the others, or split the pipeline: a stage has at most 64".into())
+        }
         _ => (format!("one gate more than {most}"), format!("split the circuit: {whose} has at most {most} gates")),
+    }
+}
+
+/// 9 where there are registers or C-elements: a net that is not there, or may not stand at this place.
+fn not_here(operand: usize, command: Option<&Command>, stage: &Stage) -> (String, String) {
+    let place = match command.and_then(|command| command.form) {
+        Some(Form::Register) => "a data rail of a register",
+        Some(Form::Element) => "a pin of a C-element",
+        Some(Form::Output) => "a rail of an output",
+        _ => "a pin of a gate",
+    };
+    match (operand, stage.source(operand)) {
+        (ABSENT, _) => ("FFFF stands for no net, and this place needs one".into(), "name a net here".into()),
+        (OUTSIDE, _) => (
+            format!("FFFE is the outside at a Ki, and this is {place}"),
+            "name a net here; FFFE stands only at the Ki of a register that reaches no other".into(),
+        ),
+        (_, Driver::Ko(_) | Driver::Element(_)) => (
+            format!("{} carries no data, and this is {place}", stage.net_name(operand)),
+            "name an input, a gate or a rail of a register; a Ko or a C-element stands at a Ki or at a pin of a C-element".into(),
+        ),
+        _ => {
+            let last = stage.all_nets().saturating_sub(1);
+            let data = stage.nets();
+            let parts = if data <= last { format!(", from {data} on those of registers and C-elements") } else { String::new() };
+            (format!("net {operand} is not there: the stage has nets 0 to {last}{parts}"), "name a net that is there".into())
+        }
     }
 }
 
@@ -202,6 +251,7 @@ fn too_many(command: Option<&Command>, side: Side, most: usize) -> (String, Stri
 fn absent(operand: usize, command: Option<&Command>, bytes: &[u8], side: Side) -> (String, String) {
     let none = if operand == ABSENT { " (FFFF)" } else { "" };
     match side {
+        Side::Stage if Stage::of(bytes).has_parts() || operand == OUTSIDE => not_here(operand, command, &Stage::of(bytes)),
         Side::Stage => {
             let stage = Stage::of(bytes);
             let inputs = 2 * stage.inputs;

@@ -24,8 +24,13 @@ pub fn of_mended(text: &mut Text, verdict: Verdict, pair: Pair, order: Order, me
         (_, 0) => "taking out a gate that feeds nothing",
         _ => "more than that, at one place",
     };
+    let single = if pair.stage.stage().has_parts() {
+        "every change of one kind, hold, pin or output rail, and of one net at a register or C-element"
+    } else {
+        "every change of one kind, hold, pin or output rail"
+    };
     let sorts = [
-        ("every change of one kind, hold, pin or output rail", Some(&mended.singles)),
+        (single, Some(&mended.singles)),
         (several, mended.several.as_ref()),
         ("two pins at once of the gates on the way", mended.pins.as_ref()),
         ("gates added, so that an output waits", mended.added.as_ref()),

@@ -37,11 +37,13 @@ use Rattle.check_spec.proofs.Names.{of-bits-below}
 use Rattle.check_spec.proofs.Alike.{cares-alike}
 use Rattle.check_spec.proofs.Bridge.{faultOr, swept-is, sweep-number}
 use Rattle.check_spec.proofs.Back.{stage-content, reference-content}
+use Rattle.check_spec.proofs.Wired.{plain-stage}
 use Rattle.check_spec.proofs.Writing.{leaves-none, leaves-bytes}
 use Rattle.check_spec.proofs.Sound.{Sound, accepted-sound}
 use Rattle.circuit.specs.Stage.{stageGates, stageOutputs, stageCare, stageIn, StageLoaded}
 use Rattle.circuit.specs.Reference.{operatorsIn, signalsIn, referenceIn, ReferenceLoaded}
 use Rattle.check_files.specs.Judgement.{PairLoaded}
+use Rattle.check_files.proofs.Files.{plain-content}
 use Rattle.join_spec.specs.declared.JoinAnswer.{JoinAnswer}
 use Rattle.join_spec.specs.Joining as joins
 use Rattle.join_spec.specs.Joining.{whole, seamChecks, joinChecks, JoinDemand}
@@ -161,11 +163,13 @@ module _ (order : WordOrder) (counts : FileCounts) (code1 reference1 code2 refer
 
 pub part-held : {m n : Limits} {s t : List ℕ} {c : Counts} {code : List ℕ} {d : Counts} {reference : List ℕ} → m ≡ partStageLimits → n ≡ partReferenceLimits
     → PairLoaded (filesWithin false m n s t) c code d reference
-    → (contentOf Stage partStageLimits s ≡ fromStage (stageIn c code)) × (contentOf Reference partReferenceLimits t ≡ fromReference (referenceIn d reference))
-part-held {m} {n} {s} {t} em en p = (
-  ap (λ (l : Limits). contentOf Stage l s) (sym em) ∙ stage-content m s (p .stage-from .places) (p .stage-from .reads) ∙ ap fromStage (sym (p .stage-from .content)),
-  ap (λ (l : Limits). contentOf Reference l t) (sym en) ∙ reference-content n t (p .reference-from .places) (p .reference-from .reads) ∙ ap fromReference (sym (p .reference-from .content)),
-)
+    → (content.stageIn (partFiles s t) ≡ fromStage (stageIn c code)) × (content.referenceIn (partFiles s t) ≡ fromReference (referenceIn d reference))
+part-held {m} {n} {s} {t} em en p =
+    let from = p .stage-from in
+    let answer = p .reference-from in (
+      plain-stage (ap (λ (l : Limits). contentOf Stage l s) (sym em) ∙ stage-content m s (from .places) (from .reads) ∙ ap fromStage (sym (plain-content from))) refl,
+      ap (λ (l : Limits). contentOf Reference l t) (sym en) ∙ reference-content n t (answer .places) (answer .reads) ∙ ap fromReference (sym (answer .content)),
+    )
 
 -- a flat form of few numbers has few care words
 pub few-care : {c : Counts} {code : List ℕ} {n : ℕ} → StageLoaded c code → length code ≡ n → n ≤ 0x10000 → c .care ≤ 0x10000

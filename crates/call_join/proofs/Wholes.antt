@@ -44,7 +44,7 @@ module _ (s t : Stage) where
   stage-bytes =
       let move = code.netInWhole s t in
       ap (λ (m : ℕ → ℕ). writeFile file.Stage (joinedBy m (fromStage s) (fromStage t))) net-alike
-      ∙ ap₂ (λ (gates : List Coded) (outputs : List (List ℕ)). writeFile file.Stage (record { inputs = s .inputs; gates = gates; outputs = outputs; care = s .care }))
+      ∙ ap₂ (λ (gates : List Coded) (outputs : List (List ℕ)). writeFile file.Stage (record { inputs = s .inputs; gates = gates; outputs = outputs; care = s .care; parts = [] }))
       (ap (λ (l : List Coded). map codedGate (s .gates) ++ l) (map-map (moved move) codedGate (t .gates) ∙ sym (map-map codedGate (code.gateInWhole s t) (t .gates)))
       ∙ sym (map-++ codedGate (s .gates) (map (code.gateInWhole s t) (t .gates))))
       (map-map (map move) pairOperands (t .outputs) ∙ sym (map-map pairOperands (code.pairInWhole s t) (t .outputs)))
@@ -65,6 +65,6 @@ module _ (r q : Reference) where
   reference-bytes =
       let move = code.signalInWhole r q in
       ap (λ (m : ℕ → ℕ). writeFile file.Reference (joinedBy m (fromReference r) (fromReference q))) signal-alike
-      ∙ ap (λ (outputs : List (List ℕ)). writeFile file.Reference (record { inputs = r .inputs; gates = r .gates ++ map (moved move) (q .gates); outputs = outputs; care = [] }))
+      ∙ ap (λ (outputs : List (List ℕ)). writeFile file.Reference (record { inputs = r .inputs; gates = r .gates ++ map (moved move) (q .gates); outputs = outputs; care = []; parts = [] }))
       (map-map (map move) (λ (v : ℕ). v ∷ []) (q .outputs) ∙ sym (map-map (λ (v : ℕ). v ∷ []) move (q .outputs)))
       ∙ reference-write (code.joinedReference r q)

@@ -11,22 +11,21 @@ use borrow.Author.Tests.{ne-eqb}
 use Rattle.netlist.specs.declared.File.the-variants as file
 use Rattle.netlist.specs.declared.Limits.{Limits}
 use Rattle.netlist.specs.declared.Counts.{Counts}
-use Rattle.netlist.specs.Reading.{Reading, readFile, stageLimits}
+use Rattle.netlist.specs.Reading.{stageLimits}
 use Rattle.netlist.specs.Content.{Stage}
 use Rattle.verdict.specs.declared.Verdict.{Verdict}
 use Rattle.verdict.specs.declared.WordOrder.{WordOrder}
 use Rattle.verdict.specs.Words as words
 use Rattle.verdict.specs.Verdicts.{accepted}
-use Rattle.check_spec.specs.Content.{Content, Files, contentAt, plainFiles}
+use Rattle.check_spec.specs.Content.{Content, contentOf, wired, Files, plainFiles}
 use Rattle.check_spec.specs.Content as content
 use Rattle.check_spec.specs.Rows.{netOf}
 use Rattle.check_spec.specs.Words.{names}
 use Rattle.check_spec.specs.Verdicts.{verdictOn}
 use Rattle.check_spec.specs.Demands.{LoopFree}
 use Rattle.check_spec.specs.Loaded.{stageView}
-use Rattle.check_spec.proofs.View.{stage-view}
 use Rattle.check_spec.proofs.Alike.{spelled-alike, names-alike}
-use Rattle.check_spec.proofs.Sound.{accepted-sound}
+use Rattle.check_spec.proofs.Sound.{sound-free, accepted-sound}
 use Rattle.circuit.specs.Stage.{stageIn}
 use Rattle.check_files.specs.Judgement.{StageFrom}
 use Rattle.words.specs.Listed.{Listed}
@@ -68,11 +67,10 @@ module _ (order : WordOrder) (stage reference : List ℕ) where
   unfolding reportOn
   report-accepted e {most} {c} {code} m from r is =
       let a = accepted-sound order f (sym (ap (λ (x : Verdict). x .number) e)) .1 in
-      let reads = ap (λ (x : Limits). readFile file.Stage x stage) (sym m) ∙ from .reads in
       let same : stageView (content.stageIn f) ≡ stageIn c code =
-      ap (λ (x : Reading). stageView (contentAt file.Stage stage x)) reads ∙ stage-view false stage (from .places) ∙ sym (from .content) in
+      ap (λ (x : Limits). stageView (wired (contentOf file.Stage x stage))) (sym m) ∙ sym (from .content) in
       let z : r ≡ reportOn order f =
-      is ∙ ap (stageReport order accepted) (sym same) ∙ report-alike order accepted (content.stageIn f) (a .free)
+      is ∙ ap (stageReport order accepted) (sym same) ∙ report-alike order accepted (content.stageIn f) (sound-free a)
       ∙ ap (λ (x : Verdict). cond (eqb (x .number) 0) (reportOf x (names order (content.stageIn f)) (spec.lines order (content.stageIn f))) (reportOf x [] [])) e in
       (z, subst (ReportMeans f) (sym z) (report-means order f))
 

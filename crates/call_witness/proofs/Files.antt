@@ -24,6 +24,8 @@ use Rattle.check_spec.specs.Rows.{netOf}
 use Rattle.check_spec.specs.Words.{spelled}
 use Rattle.check_spec.specs.Verdicts.{refusal, reading, rowStage, verdictOn}
 use Rattle.check_spec.specs.Demands.{Pass, BothRead, LoopFree}
+use Rattle.check_spec.proofs.View.{stage-partless}
+use Rattle.check_spec.proofs.Wired.{wired-none}
 use Rattle.check_spec.proofs.Alike.{spelled-alike, names-alike}
 use Rattle.netlist.specs.Content.{stageOf}
 use Rattle.circuit.specs.Stage as flat
@@ -132,15 +134,29 @@ module _ (order : WordOrder) (stage reference : List ℕ) (v : Verdict) (is : v 
   at-is : v .at ≡ verdictOn order f .at
   at-is = ap (λ (x : Verdict). x .at) is
 
+  -- without registers it is the stage as the file has it
+  plain : stageIn f ≡ rowStage stage
+  plain = wired-none (rowStage stage) (stage-partless stageLimits stage)
+
+  inputs-are : stageIn f .inputs ≡ rowStage stage .inputs
+  inputs-are = ap (λ (c : Content). c .inputs) plain
+
+  gates-are : length (stageIn f .gates) ≡ length (rowStage stage .gates)
+  gates-are = ap (λ (c : Content). length (c .gates)) plain
+
   pub showable : some (eqb (v .number)) ofRuns ≡ true → Showable stage v
   unfolding some
   showable h = record {
     reads = read .0;
     speaks = h;
-    input-14 = λ e. omega (arith, at-is, at-14 order f (number 14 e) .0);
-    gate-15 = λ e. omega (arith, at-is, at-15 order f (number 15 e) .0);
-    input-20 = λ e. (omega (arith, at-is, at-20 order f (number 20 e) .0), refused-free order f (subst (λ (n : ℕ). some (eqb n) (13 ∷ 14 ∷ 15 ∷ 20 ∷ 21 ∷ []) ≡ true) (sym (number 20 e)) refl) .1);
-    gate-21 = λ e. omega (arith, at-is, at-21 order f (number 21 e) .0);
+    input-14 = λ e. omega (arith, at-is, inputs-are, at-14 order f (number 14 e) .0);
+    gate-15 = λ e. omega (arith, at-is, gates-are, at-15 order f (number 15 e) .0);
+    input-20 = λ e. (
+      omega (arith, at-is, inputs-are, at-20 order f (number 20 e) .0),
+      subst (λ (c : Content). LoopFree (netOf c)) plain
+          (refused-free order f (subst (λ (n : ℕ). some (eqb n) (13 ∷ 14 ∷ 15 ∷ 20 ∷ 21 ∷ []) ≡ true) (sym (number 20 e)) refl) .1),
+    );
+    gate-21 = λ e. omega (arith, at-is, gates-are, at-21 order f (number 21 e) .0);
   }
     where
       read : BothRead f
@@ -150,7 +166,7 @@ module _ (order : WordOrder) (stage reference : List ℕ) (v : Verdict) (is : v 
     pub shown-demand : (r : RunAnswer) (list : List ℕ) → GivenFor order stage v asked before r list → WitnessDemand order f asked before r list
     shown-demand r list g =
         let to : witnessRun (rowStage stage) v (spelled order (rowStage stage .inputs) (nameShown order (rowStage stage) v asked)) ≡ witnessOn order f asked =
-        ap (λ (x : Verdict). witnessRun (rowStage stage) x (spelled order (rowStage stage .inputs) (nameShown order (rowStage stage) x asked))) is in
+        ap₂ (λ (c : Content) (x : Verdict). witnessRun c x (spelled order (c .inputs) (nameShown order c x asked))) (sym plain) is in
         witness-demand order f asked before r list (g .answer ∙ ap₂ answering is to) (g .list-is ∙ ap (λ (x : Run). handedOut (switchings x) before) to)
 
     pub none-demand : some (eqb (v .number)) ofRuns ≡ false → (r : RunAnswer) → r ≡ record { verdict = v; rise = 0; count = 0 } → WitnessDemand order f asked before r before

@@ -441,6 +441,12 @@ abbrev twoRows : ℕ → ℕ → ℕ → ℕ → List ℕ
 twoRows a b c d =
     1 ∷ 2 ∷ registered 0 1 16 (registered 2 3 15 (registered 4 5 0xFFFE (registered 7 8 0xFFFE (completed a b c d (pair 10 11 (pair 13 14 (0 ∷ [])))))))
 
+-- one input, a register, and three behind it
+abbrev threeBehind : List ℕ
+threeBehind =
+    1 ∷ 1 ∷ registered 0 1 15 (registered 2 3 0xFFFE (registered 2 3 0xFFFE (registered 2 3 0xFFFE
+    (completed 7 10 0xFFFF 0xFFFF (completed 14 13 0xFFFF 0xFFFF (pair 5 6 (pair 8 9 (pair 11 12 (0 ∷ [])))))))))
+
 pub pipelines : List Case
 pipelines =
     -- a register counts as two wires, whose rails are not exchanged; one behind the whole case's gates
@@ -448,7 +454,10 @@ pipelines =
     case (inRow (λ rest. rest)) wireReference (verdict 0 0 0 0) ∷
     case (1 ∷ 1 ∷ registered 1 0 0xFFFE (pair 2 3 (0 ∷ []))) wireReference (verdict 13 1 0 0) ∷
     case (wholeThen 0xFFFE) andReference (verdict 0 0 0 0) ∷
-    -- 1, 5, 9: cut; pins A, B and D; FFFF and FFFE, a net that there is not, a Ko as data or as an output
+    -- a gate behind a register, and a gate command after that of the register that it feeds
+    case (1 ∷ 1 ∷ twoPins 1 3 3 (registered 0 1 0xFFFE (pair 2 4 (0 ∷ [])))) wireReference (verdict 0 0 0 0) ∷
+    case (1 ∷ 1 ∷ registered 2 1 0xFFFE (twoPins 1 0 0 (pair 3 4 (0 ∷ [])))) wireReference (verdict 0 0 0 0) ∷
+    -- 1, 5, 9: cut; pins A, B and D; FFFF and FFFE, a net that there is not, a Ko as data or as an output, a C-element as data
     case (1 ∷ 1 ∷ 4 ∷ []) wireReference (verdict 1 1 3 0) ∷
     case (inRow (completed 0xFFFF 4 0xFFFF 0xFFFF)) wireReference (verdict 5 1 17 0) ∷
     case (inRow (completed 4 0xFFFF 4 0xFFFF)) wireReference (verdict 5 1 19 0) ∷
@@ -459,24 +468,29 @@ pipelines =
     case (inRow (registered 0 1 11)) wireReference (verdict 9 1 21 0) ∷
     case (inRow (registered 0 4 4)) wireReference (verdict 9 1 19 0) ∷
     case (1 ∷ 1 ∷ registered 0 1 0xFFFE (pair 2 4 (0 ∷ []))) wireReference (verdict 9 1 12 0) ∷
+    case (1 ∷ 1 ∷ registered 0 5 0xFFFE (completed 4 4 0xFFFF 0xFFFF (pair 2 3 (0 ∷ [])))) wireReference (verdict 9 1 5 0) ∷
     -- 33: a register of a ring; a C-element loop behind a Ki, and one behind none; levels, by the highest source
     case (1 ∷ 1 ∷ registered 5 6 7 (registered 2 3 0xFFFE (pair 5 6 (0 ∷ [])))) wireReference (verdict 33 1 0 0) ∷
     case (1 ∷ 1 ∷ registered 0 1 8 (registered 2 3 0xFFFE (completed 7 8 0xFFFF 0xFFFF (pair 5 6 (0 ∷ []))))) wireReference (verdict 33 1 0 0) ∷
     case (inRow (completed 8 0 0xFFFF 0xFFFF)) wireReference (verdict 0 0 0 0) ∷
     case (1 ∷ 1 ∷ registered 0 1 7 (registered 2 1 0xFFFE (pair 5 6 (0 ∷ [])))) wireReference (verdict 33 1 1 0) ∷
     case (1 ∷ 1 ∷ registered 5 9 0xFFFE (registered 0 9 4 (registered 0 1 7 (pair 2 3 (0 ∷ []))))) wireReference (verdict 33 1 0 0) ∷
-    -- unequal levels that meet in outputs alone are allowed; 12 comes before 33, and the ring before unequal levels
+    -- unequal levels that meet in outputs alone are allowed; 12 comes before 33, but follows gates only; and the ring comes before unequal levels
     case (1 ∷ 1 ∷ registered 0 1 0xFFFE (pair 0 3 (0 ∷ []))) wireReference (verdict 0 0 0 0) ∷
     case (1 ∷ 1 ∷ twoPins 1 2 0 (registered 3 4 0xFFFE (pair 3 4 (0 ∷ [])))) wireReference (verdict 12 1 0 0) ∷
+    case (1 ∷ 1 ∷ twoPins 1 3 0 (registered 2 1 0xFFFE (pair 3 4 (0 ∷ [])))) wireReference (verdict 33 1 0 0) ∷
     case (1 ∷ 1 ∷ registered 0 1 7 (registered 2 1 10 (registered 11 12 13 (registered 8 9 0xFFFE (pair 11 12 (0 ∷ [])))))) wireReference (verdict 33 1 2 0) ∷
     -- 34: one Ko of two, FFFE too early; it comes before 35 at an earlier register
     case (1 ∷ 1 ∷ registered 0 1 7 (registered 2 3 0xFFFE (registered 2 3 0xFFFE (pair 5 6 (pair 8 9 (0 ∷ [])))))) (twoSignals 0) (verdict 34 1 0 0) ∷
     case (1 ∷ 1 ∷ registered 0 1 0xFFFE (registered 2 3 0xFFFE (pair 5 6 (0 ∷ [])))) wireReference (verdict 34 1 0 0) ∷
     case (1 ∷ 1 ∷ registered 0 1 0 (registered 0 1 0xFFFE (registered 5 6 0xFFFE (pair 8 9 (0 ∷ []))))) wireReference (verdict 34 1 1 0) ∷
-    -- 35: a register that reaches none and has a Ko of the next level, its own, or its own rail
+    -- 35: a register that reaches none and has a Ko of the next level, its own, or its own rail; a rail of an input behind a C-element
     case (inRow (registered 0 1 7)) wireReference (verdict 35 1 2 0) ∷
     case (inRow (registered 0 1 10)) wireReference (verdict 35 1 2 0) ∷
     case (1 ∷ 1 ∷ registered 0 1 2 (pair 2 3 (0 ∷ []))) wireReference (verdict 35 1 0 0) ∷
+    case (1 ∷ 1 ∷ registered 0 1 8 (registered 2 3 0xFFFE (completed 7 0 0xFFFF 0xFFFF (pair 5 6 (0 ∷ []))))) wireReference (verdict 35 1 0 0) ∷
+    -- a tree of two C-elements over the Ko of three registers
+    case threeBehind (firstInput 1 3) (verdict 0 0 0 0) ∷
     -- both registers of the next level may stand behind a Ki, one of them twice; one of the same level, at pin B or at D, may not
     case (twoRows 12 15 12 0xFFFF) (twoSignals 1) (verdict 0 0 0 0) ∷
     case (twoRows 12 9 0xFFFF 0xFFFF) (twoSignals 1) (verdict 35 1 0 0) ∷

@@ -14,9 +14,9 @@ use Rattle.netlist.specs.declared.Found.{Found}
 use Rattle.netlist.specs.declared.Found.the-variants.{At, Nothing}
 use Rattle.netlist.specs.declared.Outcome.the-variants as outcome
 use Rattle.netlist.specs.Commands.{stageFile}
-use Rattle.netlist.specs.Reading.{Reading, refused, readable, readFile}
+use Rattle.netlist.specs.Reading.{Places, countsOf, Reading, refused, readable, readFile, stageLimits, NoMore}
 use Rattle.netlist.specs.Read.{outcomeOf}
-use Rattle.netlist.specs.Content.{Stage, Reference}
+use Rattle.netlist.specs.Content.{Stage, Reference, stageOf}
 use Rattle.verdict.specs.declared.Verdict.{Verdict}
 use Rattle.verdict.specs.declared.WordOrder.{WordOrder}
 use Rattle.verdict.specs.declared.Finding.{Finding}
@@ -24,22 +24,28 @@ use Rattle.verdict.specs.declared.Finding.the-variants.{Fault, Passed}
 use Rattle.verdict.specs.Checks.{verdict, Check, atFault, sweep, finding, orLater, firstFault, checks, riseSweeps, fallSweeps}
 use Rattle.verdict.specs.Verdicts as verdicts
 use Rattle.verdict.proofs.Refusals.{refused-number}
+use Rattle.wiring_spec.specs.Parts.{Pipeline}
+use Rattle.wiring_spec.specs.Table.{wiringChecks}
 use Rattle.check_spec.specs.Cases.{first, judge}
-use Rattle.check_spec.specs.Content.{Files, contentAt, filesWithin}
+use Rattle.check_spec.specs.Content.{Content, pipelineOf, contentAt, contentOf, wired, Files, rawIn, filesWithin}
 use Rattle.check_spec.specs.Verdicts.{fileNumber, refusal, verdictOn}
 use Rattle.check_spec.specs.Demands.{Demand2, Demand3}
 use Rattle.check_spec.specs.Loaded.{stageView, referenceView}
 use Rattle.check_spec.proofs.Demanded.{demand-2, demand-3}
-use Rattle.check_spec.proofs.View.{stage-view, reference-view}
+use Rattle.check_spec.proofs.View.{stage-partless, stage-view, reference-view}
+use Rattle.check_spec.proofs.Wired.{wired-none}
 use Rattle.check_spec.proofs.Alike.{read-care}
 use Rattle.check_spec.proofs.Bridge.{alike-judge, checks-alike}
 use Rattle.circuit.specs.Stage.{stageIn}
 use Rattle.circuit.specs.Reference.{referenceIn}
-use Rattle.circuit_load.specs.Load.{HoldsStage, HoldsReference}
-use Rattle.circuit_load.proofs.Reading.{was-refused, stage-held, reference-held}
+use Rattle.circuit_load.specs.Load.{HoldsReference}
+use Rattle.circuit_load.specs.Parts.{PipelineHeld, HoldsPipeline}
+use Rattle.circuit_load.proofs.Reading.{was-refused, reference-held}
+use Rattle.circuit_load.proofs.Holding.{pipeline-told}
 use Rattle.check_word.specs.Loaded.{BothLoaded}
 use Rattle.check_files.specs.declared.Judgement.{Judgement}
 use Rattle.check_files.specs.declared.Judgement.the-variants as judgement
+use Rattle.check_files.specs.Held.{StageHeld, contentIn}
 use Rattle.check_files.specs.Judgement.{StageFrom, ReferenceFrom, PairLoaded, JudgedAs}
 
 -- ---- a verdict that refuses has a number, and file 0, 1 or 2
@@ -76,9 +82,9 @@ fault-named (c ∷ cs) n v e = go (finding c) refl e (fault-named cs (and-right 
         (omega (arith, is .0, ltb-true 0 (c .number) (and-left _ (ltb (c .file) 3) own)), omega (arith, is .1, ltb-true (c .file) 3 (and-right (ltb 0 (c .number)) _ own)))
     go Passed f e later = later e
 
-checks-named : (order : WordOrder) (s : Stage) (r : Reference) → each-named (checks order s r) ≡ true
-unfolding checks riseSweeps fallSweeps named each-named
-checks-named order s r = refl
+checks-named : (order : WordOrder) (raw : Stage) (p : Pipeline) (s : Stage) (r : Reference) → each-named (checks order raw (wiringChecks p) s r) ≡ true
+unfolding checks wiringChecks riseSweeps fallSweeps named each-named
+checks-named order raw p s r = refl
 
 -- ---- two files that are read
 
@@ -119,20 +125,36 @@ module _ (order : WordOrder) (f : Files) where
       let r = was-refused stageReading number at e in
       refused-as (verdict number 1 at 0) (refuses-stage number at r) (refused-number (stageFile (f .registers)) (f .stageMost) s number at r .0, omega arith)
 
-  module _ (c : Counts) (code : List ℕ) (is : outcome.Readable c ≡ outcomeOf stageReading)
-      (h : HoldsStage s stageReading code) where
-    from : StageFrom (f .registers) (f .stageMost) s c code
-    from = let r = stage-held s stageReading c code is h in record { places = r .0; reads = r .1; content = r .2 }
+  module _ (less : NoMore (f .stageMost) stageLimits) (c : Counts) (code nets regs : List ℕ) (is : outcome.Readable c ≡ outcomeOf stageReading)
+      (h : HoldsPipeline s stageReading code nets regs) where
+    told : (p : Places) × (stageReading ≡ readable p) × (c ≡ countsOf p) × PipelineHeld s p code nets regs
+    told = pipeline-told s stageReading c code nets regs is h
 
     refuses-reference : (number at : ℕ) → referenceReading ≡ refused number at → verdict number 2 at 0 ≡ given
     unfolding judge first refusal
-    refuses-reference number at e = rw (from .reads, e)
+    refuses-reference number at e = rw (told .1, e)
 
     pub reference-refused : {code′ reference : List ℕ} (number at : ℕ) → outcome.Refused number at ≡ outcomeOf referenceReading
         → JudgedAs order f (judgement.Refused (verdict number 2 at 0)) code′ reference
     reference-refused number at e =
         let r = was-refused referenceReading number at e in
         refused-as (verdict number 2 at 0) (refuses-reference number at r) (refused-number file.Reference (f .referenceMost) t number at r .0, omega arith)
+
+    pub held : StageHeld c code nets regs
+    held = record {
+      registers = f .registers;
+      most = f .stageMost;
+      less = less;
+      bytes = s;
+      places = told .0;
+      reads = told .1;
+      counted = told .2;
+      held = told .3;
+    }
+
+    content-is : contentIn held ≡ rawIn f
+    unfolding held
+    content-is = ap (contentAt (stageFile (f .registers)) s) (sym (told .1))
 
     module _ (sizes : Counts) (reference : List ℕ) (it : outcome.Readable sizes ≡ outcomeOf referenceReading)
         (k : HoldsReference t referenceReading reference) where
@@ -141,25 +163,30 @@ module _ (order : WordOrder) (f : Files) where
           let r = reference-held t referenceReading sizes reference it k in record { places = r .0; reads = r .1; content = r .2 }
 
       abbrev found : Finding
-      found = firstFault (checks order (stageIn c code) (referenceIn sizes reference))
+      found = firstFault (checks order (stageView (contentIn held)) (wiringChecks (pipelineOf (contentIn held))) (stageView (wired (contentIn held))) (referenceIn sizes reference))
+
+      abbrev foundIn : Content → Reference → Finding
+      foundIn p r = firstFault (checks order (stageView p) (wiringChecks (pipelineOf p)) (stageView (wired p)) r)
 
       judged : verdicts.verdictOf found ≡ given
       unfolding judge first refusal
       judged =
-          let p = contentAt (stageFile (f .registers)) s (readable (from .places)) in
+          let p = contentAt (stageFile (f .registers)) s (readable (told .0)) in
           let q = contentAt file.Reference t (readable (of-reference .places)) in
-          let view : stageIn c code ≡ stageView p = from .content ∙ sym (stage-view (f .registers) s (from .places)) in
           let same : referenceIn sizes reference ≡ referenceView q = of-reference .content ∙ sym (reference-view t (of-reference .places)) in
-          rw (from .reads, of-reference .reads)
-          (ap verdicts.verdictOf (ap₂ (λ (x : Stage) (y : Reference). firstFault (checks order x y)) view same) ∙ sym (alike-judge (checks-alike order p q (read-care (stageFile (f .registers)) (f .stageMost) s (from .places) (from .reads)))))
+          ap verdicts.verdictOf (ap₂ foundIn (content-is ∙ ap (contentAt (stageFile (f .registers)) s) (told .1)) same)
+          ∙ sym (alike-judge (checks-alike order p q (read-care (stageFile (f .registers)) (f .stageMost) s (told .0) (told .1))))
+          ∙ rw (told .1, of-reference .reads)
 
       pub checks-refuse : {code′ : List ℕ} (v : Verdict) → Fault v ≡ found → JudgedAs order f (judgement.Refused v) code′ reference
       unfolding verdicts.verdictOf
       checks-refuse v e =
+          let p = contentIn held in
           refused-as v (ap verdicts.verdictOf e ∙ judged)
-          (fault-named (checks order (stageIn c code) (referenceIn sizes reference)) (checks-named order (stageIn c code) (referenceIn sizes reference)) v (sym e))
+          (fault-named (checks order (stageView p) (wiringChecks (pipelineOf p)) (stageView (wired p)) (referenceIn sizes reference))
+          (checks-named order (stageView p) (pipelineOf p) (stageView (wired p)) (referenceIn sizes reference)) v (sym e))
 
-      pub checks-pass : {code′ : List ℕ} → Passed ≡ found → BothLoaded c code′ sizes reference × (stageIn c code′ ≡ stageIn c code)
+      pub checks-pass : {code′ : List ℕ} → Passed ≡ found → BothLoaded c code′ sizes reference × (stageIn c code′ ≡ stageView (wired (contentIn held)))
           → JudgedAs order f (judgement.Accepted c sizes) code′ reference
       unfolding verdicts.verdictOf
       checks-pass {code′} e b = record {
@@ -172,10 +199,16 @@ module _ (order : WordOrder) (f : Files) where
             (subst (λ (x : Counts). PairLoaded f c code′ x reference) j
             (record {
               both = b .0;
-              stage-from = record { places = from .places; reads = from .reads; content = b .1 ∙ from .content };
+              stage-from = record { places = told .0; reads = told .1; content = b .1 ∙ ap (λ (p : Content). stageView (wired p)) content-is };
               reference-from = of-reference;
             }));
       }
+
+-- without registers the circuit that was loaded is the stage as the file has it
+pub plain-content : {most : Limits} {bytes : List ℕ} {c : Counts} {code : List ℕ} (from : StageFrom false most bytes c code) → stageIn c code ≡ stageOf bytes (from .places)
+plain-content {most} {bytes} from =
+    from .content ∙ ap stageView (wired-none (contentOf file.Stage most bytes) (stage-partless most bytes))
+    ∙ ap (λ (x : Reading). stageView (contentAt file.Stage bytes x)) (from .reads) ∙ stage-view false bytes (from .places)
 
 -- ---- the call
 

@@ -1,2 +1,5 @@
+pub mod Findings
+pub mod Wiring
+pub mod Holding
 pub mod Judging
 pub mod Files

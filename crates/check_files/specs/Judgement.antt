@@ -8,23 +8,24 @@ use Rattle.netlist.specs.declared.Limits.{Limits}
 use Rattle.netlist.specs.declared.Counts.{Counts}
 use Rattle.netlist.specs.Commands.{stageFile}
 use Rattle.netlist.specs.Reading.{Places, readable, readFile}
-use Rattle.netlist.specs.Content.{stageOf, referenceOf}
+use Rattle.netlist.specs.Content.{referenceOf}
 use Rattle.verdict.specs.declared.Verdict.{Verdict}
 use Rattle.verdict.specs.declared.WordOrder.{WordOrder}
 use Rattle.verdict.specs.Verdicts.{accepted}
-use Rattle.check_spec.specs.Content.{Files}
+use Rattle.check_spec.specs.Content.{contentOf, wired, Files}
 use Rattle.check_spec.specs.Verdicts.{verdictOn}
+use Rattle.check_spec.specs.Loaded.{stageView}
 use Rattle.circuit.specs.Stage.{stageIn}
 use Rattle.circuit.specs.Reference.{referenceIn}
 use Rattle.check_word.specs.Loaded.{BothLoaded}
 use Rattle.check_files.specs.declared.Judgement.{Judgement}
 use Rattle.check_files.specs.declared.Judgement.the-variants.{Refused, Accepted}
 
--- a file reads, and the circuit that was loaded is what it holds
+-- a file reads, and the circuit that was loaded is what it holds; in that of a stage file registers are wires
 pub record StageFrom (registers : Bool) (most : Limits) (s : List ℕ) (c : Counts) (code : List ℕ) : Type 0 where
   pub places : Places
   pub reads : readFile (stageFile registers) most s ≡ readable places
-  pub content : stageIn c code ≡ stageOf s places
+  pub content : stageIn c code ≡ stageView (wired (contentOf (stageFile registers) most s))
 
 pub record ReferenceFrom (most : Limits) (t : List ℕ) (sizes : Counts) (reference : List ℕ) : Type 0 where
   pub places : Places

@@ -115,11 +115,11 @@ pub record Round (p : Pipeline) (levels : List ℕ) (known r : ℕ) : Type 0 whe
   pub known-are : (t : ℕ) → t < registerCount p → lane t known ≡ leb (level p t) r
 
 module _ (p : Pipeline) (forward : (k : ℕ) → ¬ (ReachesOn p k k)) where
-  positive : (t : ℕ) → t < registerCount p → 1 ≤ level p t
+  pub positive : (t : ℕ) → t < registerCount p → 1 ≤ level p t
   positive t h = go (level-of p forward t h .next)
     where
-      go : (level p t ≡ 1) ⊎ ((k : ℕ) × Reaches p k t × (level p t ≡ suc (level p k))) → 1 ≤ level p t
-      go (inl e) = omega arith
+      go : (((k : ℕ) → ¬ (Reaches p k t)) × (level p t ≡ 1)) ⊎ ((k : ℕ) × Reaches p k t × (level p t ≡ suc (level p k))) → 1 ≤ level p t
+      go (inl e) = omega (arith, e .1)
       go (inr r) = omega (arith, r .2)
 
   pub round-none : (levels : List ℕ) → ((t : ℕ) → t < registerCount p → getD levels t 0 ≡ 1) → Round p levels 0 0
@@ -135,8 +135,8 @@ module _ (p : Pipeline) (forward : (k : ℕ) → ¬ (ReachesOn p k k)) where
         high : (t : ℕ) → t < registerCount p → isReady sources known t ≡ true → level p t ≤ r + 1
         high t h e = at (level-of p forward t h .next)
           where
-            at : (level p t ≡ 1) ⊎ ((k : ℕ) × Reaches p k t × (level p t ≡ suc (level p k))) → level p t ≤ r + 1
-            at (inl q) = omega arith
+            at : (((k : ℕ) → ¬ (Reaches p k t)) × (level p t ≡ 1)) ⊎ ((k : ℕ) × Reaches p k t × (level p t ≡ suc (level p k))) → level p t ≤ r + 1
+            at (inl q) = omega (arith, q .1)
             at (inr (k, a, q)) =
                 let i = source-inside p k t a in
                 let l = leb-true (level p k) r (sym (o .known-are k i) ∙ ready-known sources known t e k (of .each k t (omega arith) h ∙ reaches-complete p k t a)) in

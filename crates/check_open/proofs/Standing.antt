@@ -35,6 +35,10 @@ data-not-ko t (acknowledge k) e = absurd (never e)
 data-not-ko t (completion pins) e = refl
 data-not-ko t nothing e = refl
 
+-- a C-element that can be opened has a place
+abbrev pub Opens : Pipeline → List ℕ → ℕ → ℕ → Type 0
+Opens p nets first x = (v : ℕ) → In v (openings p x) → 0 < place nets first x
+
 module _ (p : Pipeline) (first count : ℕ) (nets regs : List ℕ) (loaded : PartsLoaded p first count nets regs) (long : length nets ≡ 8 * count) where
   -- ---- a net by itself
 
@@ -137,11 +141,7 @@ module _ (p : Pipeline) (first count : ℕ) (nets regs : List ℕ) (loaded : Par
 
     -- ---- paths
 
-    -- a C-element that can be opened has a place
-    abbrev pub Opens : ℕ → Type 0
-    Opens x = (v : ℕ) → In v (openings p x) → 0 < at x
-
-    up : (y : ℕ) {x : ℕ} → Opens x → Leads (openings p) y x → Leads (pins nets first) y x
+    up : (y : ℕ) {x : ℕ} → Opens p nets first x → Leads (openings p) y x → Leads (pins nets first) y x
     up y o here = here
     up y o (onward {x = x} {z = z} i l) =
         let h = o z i in
@@ -169,7 +169,7 @@ module _ (p : Pipeline) (first count : ℕ) (nets regs : List ℕ) (loaded : Par
 
     -- ---- what opening tells
 
-    told-as : (own : ℕ → Bool) (goal : Driver → Bool) → ((x : ℕ) → own x ≡ goal (driverOf p x)) → ¬ (goal nothing ≡ true) → (k : ℕ) → Opens (kiOf p k) → (b : Bool)
+    told-as : (own : ℕ → Bool) (goal : Driver → Bool) → ((x : ℕ) → own x ≡ goal (driverOf p x)) → ¬ (goal nothing ≡ true) → (k : ℕ) → Opens p nets first (kiOf p k) → (b : Bool)
         → Gathers (pins nets first) own (kiOf p k ∷ []) b → b ≡ behind p (λ x. goal (driverOf p x)) k
     unfolding behind
     told-as own goal same none k o b g =
@@ -181,11 +181,11 @@ module _ (p : Pipeline) (first count : ℕ) (nets regs : List ℕ) (loaded : Par
         net : (y : ℕ) → goal (driverOf p y) ≡ true → y < allNets p
         net y e = net-where p y (λ d. goal d ≡ true) none e
 
-        at-ki : (x : ℕ) → In x (kiOf p k ∷ []) → Opens x
-        at-ki x (inl e) = subst Opens (sym e) o
+        at-ki : (x : ℕ) → In x (kiOf p k ∷ []) → Opens p nets first x
+        at-ki x (inl e) = subst (Opens p nets first) (sym e) o
         at-ki x (inr i) = absurd i
 
-    module _ (k : ℕ) (o : Opens (kiOf p k)) (b : Behind) (told : Told nets first (kiOf p k) b) where
+    module _ (k : ℕ) (o : Opens p nets first (kiOf p k)) (b : Behind) (told : Told nets first (kiOf p k) b) where
       pub kos-behind : (t : ℕ) → t < 64 → lane t (b .kos) ≡ behind p (λ x. isKoOf t (driverOf p x)) k
       unfolding isKoOf
       kos-behind t h = told-as (ownKo nets first t) (isKoOf t) (ko-is t) never k o (lane t (b .kos)) (told .of-kos t h)

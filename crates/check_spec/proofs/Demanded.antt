@@ -5,7 +5,7 @@ use native.Mathlib.Omega.{arith}
 use mathlib.Core.Path.{_≡_, refl, sym, ap, _∙_, subst}
 use mathlib.Core.Logic.{_⊎_, inl, inr, _↔_, ⊎-elim}
 use mathlib.Core.Bool.{Bool, true, false}
-use mathlib.Core.List.{[], _∷_, flatMap}
+use mathlib.Core.List.{List, [], _∷_, flatMap}
 use lib.ListN.{length}
 use Rattle.runs.specs.Theory.{AllHold}
 use Rattle.netlist.specs.declared.File.the-variants.{Reference}
@@ -15,9 +15,11 @@ use Rattle.verdict.specs.declared.Verdict.{Verdict}
 use Rattle.verdict.specs.declared.WordOrder.{WordOrder}
 use Rattle.verdict.proofs.Refusals.{InTable}
 use Rattle.check_spec.specs.Cases.{verdict, accepted, first, judge, sweep}
-use Rattle.wiring_spec.specs.Passing.{Passes}
-use Rattle.wiring_spec.proofs.Passing.{passes-exactly}
-use Rattle.wiring_spec.proofs.Means.{wiring-means}
+use Rattle.wiring_spec.specs.Parts.{Pipeline, registerCount}
+use Rattle.wiring_spec.specs.Wiring.{registers, circular, uneven, missing, barred}
+use Rattle.wiring_spec.specs.Passing.{Circular, Uneven, Missing, Barred, Passes}
+use Rattle.wiring_spec.proofs.Passing.{circular-sound, circular-complete, uneven-sound, uneven-complete, missing-sound, missing-complete, barred-sound, barred-complete, none-out, least-out, levelled-found, passes-exactly}
+use Rattle.wiring_spec.proofs.Means.{wiring-means, wires-mean}
 use Rattle.check_spec.specs.Content.{Content, Files, rawIn, stageIn, referenceIn}
 use Rattle.check_spec.specs.Rows.{netOf}
 use Rattle.check_spec.specs.Words.{spelled}
@@ -29,16 +31,17 @@ use Rattle.verdict.proofs.Steps.{some-all}
 use Rattle.check_spec.proofs.Loops.{loops-found, settled-is, risen-is, fallen-is}
 use Rattle.check_spec.proofs.Pairs.{data-of, all-data, all-null}
 use Rattle.check_spec.proofs.OneWord.{inside, hold-clean}
-use Rattle.check_spec.proofs.Laws.{numbersOf, before, claimed, not-named, judge-from}
-use Rattle.check_spec.proofs.Wired.{wired-free}
+use Rattle.check_spec.proofs.Laws.{Names, numbersOf, all-before, said, each-said, before, claimed, comes-from, not-named, judge-from, places-least}
+use Rattle.check_spec.proofs.View.{plain-verdict, wiring-named}
+use Rattle.check_spec.proofs.Wired.{steps, wired-free}
 use Rattle.check_spec.proofs.Sound.{Ran, Wired, laws, past-reading, reads-past, accepted-faultless, accepted-sound, idle-sound, faultless-accepted, sound-answers, sound-kept}
 
 -- demand 3 speaks of numbers above 12, and of none by which a file is refused in reading
 pub of-runs : (n : ℕ) → Ran n → (12 < n) × (¬ (InTable n))
 of-runs n e = let r = some-all (λ k. (12 < k) × (17 < k → 19 < k)) (13 ∷ 14 ∷ 15 ∷ 20 ∷ 21 ∷ []) (omega arith) n e in (r .0, λ t. omega (arith, t .2 (omega arith), r .1 (omega (arith, t .2 (omega arith)))))
 
-of-wires : (n : ℕ) → Wired n → (19 < n) × (¬ (InTable n))
-of-wires n e = let r = some-all (λ k. 19 < k) (33 ∷ 34 ∷ 35 ∷ []) (omega arith) n e in (r, λ t. omega (arith, t .2 (omega arith)))
+of-wires : (n : ℕ) → Wired n → ¬ (InTable n)
+of-wires n e t = let r = some-all (λ k. 19 < k) (33 ∷ 34 ∷ 35 ∷ []) (omega arith) n e in omega (arith, t .2 (omega arith))
 
 module _ (order : WordOrder) (f : Files) where
   abbrev raw : Content
@@ -111,6 +114,7 @@ module _ (order : WordOrder) (f : Files) where
     exactly = exactly;
     least = judged (checksOn order f);
     loops = loops-found raw;
+    gates-only = λ x. ap (λ (next : ℕ → List ℕ). next x) (steps raw);
     data-is = data-of;
     all-data-is = all-data (netOf s);
     all-null-is = all-null (netOf s);
@@ -119,7 +123,10 @@ module _ (order : WordOrder) (f : Files) where
     fallen-is = λ free w X. fallen-is s free _ X (inside s r free w);
     hold-only = hold-only;
     wiring-is = wiring-means (wiringIn f);
+    wires-are = wires-mean (wiringIn f);
+    nets-named = λ less read. wiring-named f less (read .0);
     wires-free = wired-free raw;
+    plain = plain-verdict order f;
     retired = retired;
     either-order = λ other. (
       (λ e. faultless-accepted (accepted-faultless order f (ap number e) .1) other),
@@ -156,16 +163,72 @@ module _ (order : WordOrder) (f : Files) where
             (⊎-elim (λ c. c .1 free (rw (p .1) at e)) (λ q. absurd (omega (arith, h .0, ap number (p .1 ∙ q)))) (claimed ls)),
       )
 
+  -- 33, 34 and 35 name the least register, and those before them say that there is none
   miswired : Wired (number (verdictOn order f)) → BothRead f × Miswired (wiringIn f) (verdictOn order f)
   unfolding laws
   miswired e =
       let n = number (verdictOn order f) in
-      let h = of-wires n e in
-      let p = past-reading f order n (h .1) refl in (
-        p .0,
-        subst (Miswired (wiringIn f)) (sym (p .1))
-            (⊎-elim (λ c. c .2 (rw (p .1) at e)) (λ q. absurd (omega (arith, h .0, ap number (p .1 ∙ q)))) (claimed (laws f order))),
-      )
+      let b = past-reading f order n (of-wires n e) refl in
+      (b .0, some-all (λ k. n ≡ k → Miswired p v) (33 ∷ 34 ∷ 35 ∷ []) (by-33 (b .1), (by-34 (b .1), (by-35 (b .1), tt))) n e refl)
+    where
+      p : Pipeline
+      p = wiringIn f
+
+      v : Verdict
+      v = verdictOn order f
+
+      -- the least register at which a test fails, where what comes before it is so
+      at-least : (n : ℕ) (fails : ℕ → Bool) → Names (sweep n 1 (0 ∷ []) (registers p) (λ w. fails)) v
+          → ((k : ℕ) → k < registerCount p → fails k ≡ true → ((j : ℕ) → j < k → fails j ≡ false) → Miswired p (verdict n 1 k 0)) → Miswired p v
+      at-least n fails m says = let r = places-least n 1 (registerCount p) fails v m in subst (Miswired p) (sym (r .4)) (says (r .0) (r .1) (r .2) (r .3))
+
+      by-33 : v ≡ judge (checks order raw r) → number v ≡ 33 → Miswired p v
+      by-33 is q =
+          ⊎-elim
+          (λ m. at-least 33 (circular p) m (λ k l t less. record {
+            is = refl;
+            register = l;
+            circular = λ z. inl (least-out p (circular p) (Circular p) (circular-sound p) (circular-complete p) k t less);
+            missing = λ z. absurd (omega arith);
+            barred = λ z. absurd (omega arith);
+          }))
+          (λ m. at-least 33 (uneven p) (m .1) (λ k l t less. record {
+            is = refl;
+            register = l;
+            circular = λ z. inr (none-out p (circular p) (Circular p) (circular-complete p) (m .0), least-out p (uneven p) (Uneven p) (uneven-sound p) (uneven-complete p) k t less);
+            missing = λ z. absurd (omega arith);
+            barred = λ z. absurd (omega arith);
+          }))
+          (comes-from 33 (λ z. omega arith) v (laws f order) is q)
+
+      by-34 : v ≡ judge (checks order raw r) → number v ≡ 34 → Miswired p v
+      by-34 is q =
+          let ls = laws f order in
+          let levels = each-said 34 33 ls (all-before 34 34 ls refl (ap number (sym is) ∙ q)) in
+          at-least 34 (missing p) (comes-from 34 (λ z. omega arith) v ls is q) (λ k l t less. record {
+            is = refl;
+            register = l;
+            circular = λ z. absurd (omega arith);
+            missing = λ z. (levelled-found p (levels .0) (levels .1 .0), least-out p (missing p) (Missing p) (missing-sound p) (missing-complete p) k t less);
+            barred = λ z. absurd (omega arith);
+          })
+
+      by-35 : v ≡ judge (checks order raw r) → number v ≡ 35 → Miswired p v
+      by-35 is q =
+          let ls = laws f order in
+          let a = all-before 35 35 ls refl (ap number (sym is) ∙ q) in
+          let levels = each-said 35 33 ls a in
+          at-least 35 (barred p) (comes-from 35 (λ z. omega arith) v ls is q) (λ k l t less. record {
+            is = refl;
+            register = l;
+            circular = λ z. absurd (omega arith);
+            missing = λ z. absurd (omega arith);
+            barred = λ z. (
+              levelled-found p (levels .0) (levels .1 .0),
+              none-out p (missing p) (Missing p) (missing-complete p) (said 35 34 ls a),
+              least-out p (barred p) (Barred p) (barred-sound p) (barred-complete p) k t less,
+            );
+          })
 
   -- a verdict names one of the two files, or none
   pub verdict-file : verdictOn order f .file ≤ 2

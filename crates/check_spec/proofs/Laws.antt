@@ -6,7 +6,7 @@ use native.Mathlib.Omega.{arith}
 use mathlib.Core.Path.{_≡_, refl, sym, ap, _∙_}
 use mathlib.Core.Logic.{_⊎_, inl, inr, _↔_}
 use mathlib.Core.Bool.{Bool, true, false, not}
-use mathlib.Core.List.{List, [], _∷_}
+use mathlib.Core.List.{List, [], _∷_, flatMap}
 use lib.ListN.{length}
 use lib.Dec.{eqb}
 use Rattle.runs.specs.Net.{IsGate}
@@ -22,7 +22,7 @@ use Rattle.check_spec.specs.Rows.{netOf}
 use Rattle.check_spec.specs.Words.{spelled, names, IsWord}
 use Rattle.check_spec.specs.Checks.{swept}
 use Rattle.check_spec.specs.Demands.{Pass, Named}
-use Rattle.check_spec.proofs.First.{Each, each-map, first-says, first-pass, named-says, none-named, sweep-each, sweep-in, sweep-out}
+use Rattle.check_spec.proofs.First.{Each, Placed, each-map, places-say, first-says, first-pass, named-says, none-named, sweep-each, sweep-in, sweep-out}
 use Rattle.check_spec.proofs.Names.{named-word, word-named}
 
 -- a verdict of a number that the first of some checks does not name: it passes, and the verdict is that of the others
@@ -43,6 +43,10 @@ pub record Law (Whole : Type 0) (Claim : Verdict → Type 0) (number : ℕ) (Say
   pub passes : Pass c ↔ Says
   pub in-whole : Whole → Says
   pub cases : Each (λ d. (d .names .number ≡ number) × (d .fails ≡ true → Claim (d .names))) c
+
+-- a check names a verdict: a case of it fails, and the verdict is that of the first
+abbrev pub Names : Check → Verdict → Type 0
+Names c v = (later : Verdict) × Named c (first c later) × (v ≡ first c later)
 
 infixr 5 _&_
 pub data Laws (Whole : Type 0) (Claim : Verdict → Type 0) : List Check → Type 1 where
@@ -91,6 +95,49 @@ module _ {Whole : Type 0} {Claim : Verdict → Type 0} where
       go : (b : Bool) → eqb k n ≡ b → elim b as (λ b. Type 0) [ true ↦ Says × Saying n ls | false ↦ Saying n ls ] → (Saying n ls → ¬ (judge cs .number ≡ n)) → ⊥
       go true q p later = later (p .1) (ap (λ (v : Verdict). v .number) (sym (judge-pass c cs (l .passes .1 (p .0)))) ∙ e)
       go false q p later = later p (ap (λ (v : Verdict). v .number) (sym (judge-later n c cs (other n l q) e .1)) ∙ e)
+
+  -- no check has number n
+  abbrev pub lacking : ℕ → {cs : List Check} → Laws Whole Claim cs → Bool
+  lacking n none = true
+  lacking n (_&_ {number = k} l ls) = elim (eqb k n) as (λ b. Bool) [ true ↦ false | false ↦ lacking n ls ]
+
+  lacking-says : (n : ℕ) {cs : List Check} (ls : Laws Whole Claim cs) → lacking n ls ≡ true → Saying n ls
+  lacking-says n none a = tt
+  lacking-says n (_&_ {number = k} {Says = Says} l ls) a = go (eqb k n) a (lacking-says n ls)
+    where
+      go : (b : Bool) → elim b as (λ b. Bool) [ true ↦ false | false ↦ lacking n ls ] ≡ true → (lacking n ls ≡ true → Saying n ls)
+          → elim b as (λ b. Type 0) [ true ↦ Says × Saying n ls | false ↦ Saying n ls ]
+      go true a later = absurd (clash a refl)
+      go false a later = later a
+
+  -- which check of number n a verdict of this number comes from: the first of them, or a later one where the first says what it says
+  abbrev pub From : ℕ → Verdict → {cs : List Check} → Laws Whole Claim cs → Type 0
+  From n v none = ⊥
+  From n v (_&_ {number = k} {Says = Says} {c = c} l ls) =
+      elim (eqb k n) as (λ b. Type 0)
+      [ true ↦ elim (lacking n ls) as (λ b. Type 0) [ true ↦ Names c v | false ↦ Names c v ⊎ (Says × From n v ls) ] | false ↦ From n v ls ]
+
+  pub comes-from : (n : ℕ) → ¬ (n ≡ 0) → (v : Verdict) {cs : List Check} (ls : Laws Whole Claim cs) → v ≡ judge cs → v .number ≡ n → From n v ls
+  unfolding judge
+  comes-from n z v none is e = absurd (z (sym e ∙ ap (λ (v : Verdict). v .number) is))
+  comes-from n z v (_&_ {number = k} {Says = Says} {c = c} {cs = cs} l ls) is e = go (eqb k n) (lacking n ls) refl refl (comes-from n z v ls)
+    where
+      here : judge (c ∷ cs) .number ≡ n
+      here = ap (λ (v : Verdict). v .number) (sym is) ∙ e
+
+      go : (b d : Bool) → eqb k n ≡ b → lacking n ls ≡ d → (v ≡ judge cs → v .number ≡ n → From n v ls)
+          → elim b as (λ b. Type 0) [ true ↦ elim d as (λ b. Type 0) [ true ↦ Names c v | false ↦ Names c v ⊎ (Says × From n v ls) ] | false ↦ From n v ls ]
+      go false d q a later = later (is ∙ judge-later n c cs (other n l q) here .1) e
+      go true true q a later = at (first-says c (judge cs))
+        where
+          at : Named c (first c (judge cs)) ⊎ (Pass c × (first c (judge cs) ≡ judge cs)) → Names c v
+          at (inl m) = (judge cs, m, is)
+          at (inr p) = absurd (not-named n z ls (lacking-says n ls a) (ap (λ (v : Verdict). v .number) (sym (p .1)) ∙ here))
+      go true false q a later = at (first-says c (judge cs))
+        where
+          at : Named c (first c (judge cs)) ⊎ (Pass c × (first c (judge cs) ≡ judge cs)) → Names c v ⊎ (Says × From n v ls)
+          at (inl m) = inl (judge cs, m, is)
+          at (inr p) = inr (l .passes .0 (p .0), later (is ∙ p .1) e)
 
   -- what the checks before number n say, all together
   abbrev pub AllBefore : ℕ → {cs : List Check} → Laws Whole Claim cs → Type 0
@@ -189,6 +236,20 @@ places-passes number file m fails = (
   (λ p i l. sweep-out number file (numbers 0 m) (λ w. fails) (0 ∷ []) p 0 (inl refl) i (index-in m i l)),
   (λ h. sweep-in number file (numbers 0 m) (λ w. fails) (0 ∷ []) (λ w x i y. h i (in-index m i y))),
 )
+
+-- the least place at which it fails, where it names a verdict
+pub places-least : (number file m : ℕ) (fails : ℕ → Bool) (v : Verdict) → Names (sweep number file (0 ∷ []) (numbers 0 m) (λ w. fails)) v
+    → (i : ℕ) × (i < m) × (fails i ≡ true) × ((k : ℕ) → k < i → fails k ≡ false) × (v ≡ verdict number file i 0)
+unfolding sweep flatMap first
+places-least number file m fails v n = go (places-say number file 0 fails [] (n .0) 0 m)
+  where
+    go : Placed fails (λ i. verdict number file i 0) 0 m (n .0) (first (sweep number file (0 ∷ []) (numbers 0 m) (λ w. fails)) (n .0))
+        → (i : ℕ) × (i < m) × (fails i ≡ true) × ((k : ℕ) → k < i → fails k ≡ false) × (v ≡ verdict number file i 0)
+    go (inl (i, a, l, t, less, is)) = (i, omega arith, t, (λ k h. less k (omega arith) h), n .2 ∙ is)
+    go (inr (all, is)) =
+        let each = sweep-each number file (numbers 0 m) (λ w. fails) (λ c. c .fails ≡ false) (0 ∷ []) (λ w x i y. all i (omega arith) (omega (arith, in-index m i y))) in
+        let r = named-says (λ c. c .fails ≡ false) _ _ each (n .1) in
+        absurd (clash (r .2) (r .1))
 
 module _ (s : Content) where
   pub gates-passes : (number : ℕ) (fails : ℕ → Bool) → Pass (sweep number 1 (0 ∷ []) (numbers 0 (length (s .gates))) (λ w g. fails (2 * s .inputs + g)))

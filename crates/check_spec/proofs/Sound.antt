@@ -5,7 +5,7 @@ use Prim.Native.Nat.{ℕ, _+_, _*_, _≤_, _<_}
 use native.Mathlib.Omega.{arith}
 use mathlib.Core.Path.{_≡_, refl, sym, ap, _∙_, subst, subst₂}
 use mathlib.Core.Bool.{Bool, true, false}
-use mathlib.Core.Logic.{_⊎_, inl, inr}
+use mathlib.Core.Logic.{inl, inr}
 use mathlib.Core.List.{List, [], _∷_, map, flatMap, _++_}
 use lib.ListN.{length, length-map}
 use lib.Dec.{eqb}
@@ -30,14 +30,14 @@ use Rattle.wiring_spec.specs.Parts.{Pipeline, registerCount}
 use Rattle.wiring_spec.specs.Wiring.{circular, uneven, missing, barred}
 use Rattle.wiring_spec.specs.Wires.{resolve}
 use Rattle.wiring_spec.specs.Passing.{Passes, Nowhere, FindNothing}
-use Rattle.wiring_spec.proofs.Passing.{circular-sound, uneven-sound, missing-sound, barred-sound, passes-exactly}
+use Rattle.wiring_spec.proofs.Passing.{passes-exactly}
 use Rattle.wiring_spec.proofs.Means.{passes-none}
 use Rattle.check_spec.specs.Content.{Content, wired, Files, rawIn, stageIn, referenceIn}
 use Rattle.check_spec.specs.Rows.{driver, cellIn, netOf, reachesItself}
 use Rattle.check_spec.specs.Words.{railsFor, spelled, IsWord, answer}
 use Rattle.check_spec.specs.Checks.{wrong, incomplete, unobservable, fallIncomplete, fallUnobservable, looped, atRegisters, retired, swept, neverRises, idle, checks}
 use Rattle.check_spec.specs.Verdicts.{refusal, reading, verdictOn}
-use Rattle.check_spec.specs.Demands.{BothRead, LoopFree, wiringIn, answerTo, Rises, Kept, Broken, Idle, Miswired, AcceptedUnlessIdle}
+use Rattle.check_spec.specs.Demands.{BothRead, LoopFree, wiringIn, answerTo, Rises, Kept, Broken, Idle, AcceptedUnlessIdle}
 use Rattle.check_spec.proofs.First.{Each, Placed, places-say}
 use Rattle.check_spec.proofs.Names.{named-below, named-word}
 use Rattle.check_spec.proofs.OneWord.{CleanRise, CleanFall, word-exactly}
@@ -134,29 +134,26 @@ module _ (f : Files) where
       ]
 
   module _ (order : WordOrder) where
-    -- a refusal names one of the two files or none; and what demand 3 says of it
+    -- a refusal names one of the two files or none; and what demand 3 says of it as broken
     abbrev pub Claim : Verdict → Type 0
-    Claim v = (v .file ≤ 2) × (LoopFree (netOf s) → Ran (v .number) → Broken f (spelled order (s .inputs) (v .word)) v) × (Wired (v .number) → Miswired p v)
+    Claim v = (v .file ≤ 2) × (LoopFree (netOf s) → Ran (v .number) → Broken f (spelled order (s .inputs) (v .word)) v)
 
     -- it says nothing of the other numbers
-    pub silent : (n file at word : ℕ) → file ≤ 2 → some (eqb n) (13 ∷ 14 ∷ 15 ∷ 20 ∷ 21 ∷ []) ≡ false → some (eqb n) (33 ∷ 34 ∷ 35 ∷ []) ≡ false
-        → Claim (verdict n file at word)
-    silent n file at word few h w = (few, (λ free ran. absurd (clash ran h)), λ e. absurd (clash e w))
+    pub silent : (n file at word : ℕ) → file ≤ 2 → some (eqb n) (13 ∷ 14 ∷ 15 ∷ 20 ∷ 21 ∷ []) ≡ false → Claim (verdict n file at word)
+    silent n file at word few h = (few, λ free ran. absurd (clash ran h))
 
     -- a check of the registers
     pub wiring-law : (n : ℕ) (fails : Pipeline → ℕ → Bool) → some (eqb n) (13 ∷ 14 ∷ 15 ∷ 20 ∷ 21 ∷ []) ≡ false → (FindNothing p → Nowhere p (fails p))
-        → ((k : ℕ) → k < registerCount p → fails p k ≡ true → Miswired p (verdict n 1 k 0))
         → Law (Faultless f) Claim n (Nowhere p (fails p)) (atRegisters n fails raw)
-    wiring-law n fails h nowhere found = places-law n 1 (registerCount p) (fails p) (λ w. nowhere (passes-exactly p .0 (w .0 .wiring)))
-        (λ k l e. (omega arith, (λ free ran. absurd (clash ran h)), λ q. found k l e))
+    wiring-law n fails h nowhere = places-law n 1 (registerCount p) (fails p) (λ w. nowhere (passes-exactly p .0 (w .0 .wiring))) (λ k l e. silent n 1 k 0 (omega arith) h)
 
     -- a check of the words, which a run shows to be broken where it fails
-    pub run-law : (n m : ℕ) (fails : ℕ → ℕ → Bool) → some (eqb n) (33 ∷ 34 ∷ 35 ∷ []) ≡ false → ((w : ℕ) → CleanRise s r w × CleanFall s w → (i : ℕ) → i < m → fails w i ≡ false)
+    pub run-law : (n m : ℕ) (fails : ℕ → ℕ → Bool) → ((w : ℕ) → CleanRise s r w × CleanFall s w → (i : ℕ) → i < m → fails w i ≡ false)
         → (LoopFree (netOf s) → (w i : ℕ) → i < m → fails w i ≡ true → Shows w i n × (¬ (Promise (netOf s) (railsFor w) (answerTo f w))))
         → Law (Faultless f) Claim n ((w : ℕ) → IsWord s w → (i : ℕ) → i < m → fails w i ≡ false) (swept order s n 1 m fails)
-    run-law n m fails unwired clean shown = swept-law s order n 1 m fails (λ h w i. clean w (sound-clean (h .0) w i)) (λ name x i l e. (
+    run-law n m fails clean shown = swept-law s order n 1 m fails (λ h w i. clean w (sound-clean (h .0) w i)) (λ name x i l e. (
       omega arith,
-      (λ free ran.
+      λ free ran.
           let w = spelled order (s .inputs) name in
           let b = shown free w i l e in
           record {
@@ -168,31 +165,26 @@ module _ (f : Files) where
             unobservable = λ q. subst (Shows w i) q (b .0);
             fall-incomplete = λ q. subst (Shows w i) q (b .0);
             fall-unobservable = λ q. subst (Shows w i) q (b .0);
-          }),
-      λ q. absurd (clash q unwired),
+          },
     ))
 
     unfoldable pub laws : Laws (Faultless f) Claim (checks order raw r)
     unfolding checks looped retired idle some
     laws =
-        equal-law 10 0 (raw .inputs) (r .inputs) (raw .inputs) (r .inputs) (λ h. h .0 .inputs) (silent 10 0 _ _ (omega arith) refl refl)
-        & equal-law 11 0 (length (raw .outputs)) (length (r .outputs)) (length (raw .outputs)) (length (r .outputs)) (λ h. h .0 .outputs) (silent 11 0 _ _ (omega arith) refl refl)
-        & gates-law raw 12 (reachesItself (netOf raw)) (λ h. h .0 .raw-free) (λ g. silent 12 1 g 0 (omega arith) refl refl)
+        equal-law 10 0 (raw .inputs) (r .inputs) (raw .inputs) (r .inputs) (λ h. h .0 .inputs) (silent 10 0 _ _ (omega arith) refl)
+        & equal-law 11 0 (length (raw .outputs)) (length (r .outputs)) (length (raw .outputs)) (length (r .outputs)) (λ h. h .0 .outputs) (silent 11 0 _ _ (omega arith) refl)
+        & gates-law raw 12 (reachesItself (netOf raw)) (λ h. h .0 .raw-free) (λ g. silent 12 1 g 0 (omega arith) refl)
         & wiring-law 33 circular refl (λ n. n .circular)
-        (λ k l e. record { register = l; circular = λ q. inl (circular-sound p k e); missing = λ q. absurd (omega arith); barred = λ q. absurd (omega arith) })
         & wiring-law 33 uneven refl (λ n. n .uneven)
-        (λ k l e. record { register = l; circular = λ q. inr (uneven-sound p k e); missing = λ q. absurd (omega arith); barred = λ q. absurd (omega arith) })
         & wiring-law 34 missing refl (λ n. n .missing)
-        (λ k l e. record { register = l; circular = λ q. absurd (omega arith); missing = λ q. missing-sound p k e; barred = λ q. absurd (omega arith) })
         & wiring-law 35 barred refl (λ n. n .barred)
-        (λ k l e. record { register = l; circular = λ q. absurd (omega arith); missing = λ q. absurd (omega arith); barred = λ q. barred-sound p k e })
-        & gates-law s 28 (λ net. isRetired (cellIn (driver s net))) (λ h. h .0 .cast) (λ g. silent 28 1 g 0 (omega arith) refl refl)
-        & run-law 13 (length (s .outputs)) (wrong s r) refl (λ w c. c .0 .right) (wrong-shown s r)
-        & run-law 14 (s .inputs) (incomplete s) refl (λ w c. c .0 .complete) (incomplete-shown s r)
-        & run-law 15 (length (s .gates)) (unobservable s) refl (λ w c. c .0 .observable) (unobservable-shown s r)
-        & run-law 20 (s .inputs) (fallIncomplete s) refl (λ w c. c .1 .complete) (fall-incomplete-shown s r)
-        & run-law 21 (length (s .gates)) (fallUnobservable s) refl (λ w c. c .1 .observable) (fall-unobservable-shown s r)
-        & gates-law s 32 (neverRises s) (λ h net i. rises-not f (sound-free (h .0)) net (h .1 net i)) (λ g. silent 32 1 g 0 (omega arith) refl refl)
+        & gates-law s 28 (λ net. isRetired (cellIn (driver s net))) (λ h. h .0 .cast) (λ g. silent 28 1 g 0 (omega arith) refl)
+        & run-law 13 (length (s .outputs)) (wrong s r) (λ w c. c .0 .right) (wrong-shown s r)
+        & run-law 14 (s .inputs) (incomplete s) (λ w c. c .0 .complete) (incomplete-shown s r)
+        & run-law 15 (length (s .gates)) (unobservable s) (λ w c. c .0 .observable) (unobservable-shown s r)
+        & run-law 20 (s .inputs) (fallIncomplete s) (λ w c. c .1 .complete) (fall-incomplete-shown s r)
+        & run-law 21 (length (s .gates)) (fallUnobservable s) (λ w c. c .1 .observable) (fall-unobservable-shown s r)
+        & gates-law s 32 (neverRises s) (λ h net i. rises-not f (sound-free (h .0)) net (h .1 net i)) (λ g. silent 32 1 g 0 (omega arith) refl)
         & none
 
     -- a verdict of a number that is not one of reading: both files read, and it is that of the checks

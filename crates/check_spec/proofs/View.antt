@@ -2,28 +2,39 @@
 -- Assumes nothing.
 use Prim.Native.Nat.{ℕ, zero, suc, _+_, _-_, _*_}
 use native.Mathlib.Omega.{arith}
-use mathlib.Core.Path.{_≡_, refl, ap, ap₂, _∙_}
+use mathlib.Core.Path.{_≡_, refl, sym, ap, ap₂, _∙_, subst}
 use mathlib.Core.Bool.{Bool, true, false}
+use mathlib.Core.Logic.{_⊎_, inl, inr}
 use mathlib.Core.List.{List, [], _∷_, map, map-map}
 use lib.ListN.{getD, length-map}
 use Rattle.gates.specs.Cell.{bit, setExpression, cells, cellAt, kindOf, pinCount}
 use Rattle.runs.specs.Row.{Row}
+use Rattle.netlist.specs.declared.File.{File}
 use Rattle.netlist.specs.declared.File.the-variants as file
 use Rattle.netlist.specs.declared.Limits.{Limits}
 use Rattle.netlist.specs.Bytes.{operand, operands}
 use Rattle.netlist.specs.Commands.{stageFile, needed}
-use Rattle.netlist.specs.Reading.{Places, Reading, refused, readable, readFile}
+use Rattle.netlist.specs.Reading.{Places, Reading, refused, readable, readFile, RefusedAtPart, stageLimits, NoMore}
 use Rattle.netlist.specs.Content as old
 use Rattle.netlist.specs.Content.{Coded, Pair, codedAt, gateOf, pairAt, stageOf, referenceOf, holdOf}
-use Rattle.netlist.proofs.Alike.{stage-as-pipeline}
+use Rattle.netlist.proofs.Alike.{read-alike, stage-as-pipeline}
+use Rattle.netlist.proofs.Readable.{readable-read}
 use Rattle.netlist.proofs.Stages as stages
 use Rattle.netlist.proofs.References as references
 use Rattle.runs.proofs.Test.{clash}
+use Rattle.verdict.specs.declared.Verdict.{Verdict}
+use Rattle.verdict.specs.declared.WordOrder.{WordOrder}
 use Rattle.verdict.specs.Nets as nets
-use Rattle.wiring_spec.specs.Parts.{partAt}
-use Rattle.check_spec.specs.Content.{Content, contentAt, contentOf}
-use Rattle.check_spec.specs.Verdicts.{refusal, reading}
-use Rattle.check_spec.specs.Demands.{Pass}
+use Rattle.verdict.specs.Paths.{In}
+use Rattle.wiring_spec.specs.Parts.{partAt, Pipeline}
+use Rattle.wiring_spec.specs.Tables.{wiringOf}
+use Rattle.wiring_spec.specs.Named.{IsData, Named}
+use Rattle.wiring_spec.proofs.Named.{named, output-named}
+use Rattle.check_spec.specs.Content.{Content, railsOfOutput, contentAt, contentOf, pipelineOf, Files, rawIn, referenceIn, withoutRegisters}
+use Rattle.check_spec.specs.Cases.{judge}
+use Rattle.check_spec.specs.Checks.{checks}
+use Rattle.check_spec.specs.Verdicts.{refusal, reading, verdictOn}
+use Rattle.check_spec.specs.Demands.{Pass, StageNamed}
 use Rattle.check_spec.specs.Loaded.{pairOf, stageView, referenceView}
 use Rattle.check_spec.specs.Rows.{noGate, driver, setIn, netOf}
 
@@ -86,6 +97,54 @@ reference-view bytes p =
     signals : (places : List ℕ) → map (λ (vs : List ℕ). getD vs 0 0) (map (λ at. operands bytes (at + 1) 1) places) ≡ map (λ at. operand bytes (at + 1)) places
     signals [] = refl
     signals (at ∷ places) = ap (λ (l : List ℕ). operand bytes (at + 1) ∷ l) (signals places)
+
+-- the verdict is the same where the stage is read without registers, unless it is refused at one
+pub plain-verdict : (order : WordOrder) (f : Files) → (verdictOn order (withoutRegisters f) ≡ verdictOn order f) ⊎ RefusedAtPart (f .stageMost) (f .stage)
+unfolding contentAt refusal
+plain-verdict order f = go (f .registers) (read-alike (f .stageMost) (f .stage))
+  where
+    judgeOf : File → Reading → Verdict
+    judgeOf k x = judge (refusal k x ∷ reading file.Reference (f .referenceMost) (f .reference) ∷ checks order (contentAt k (f .stage) x) (referenceIn f))
+
+    same : (x : Reading) → judgeOf file.Stage x ≡ judgeOf file.Pipeline x
+    same (refused number at) = refl
+    same (readable p) = ap (λ (c : Content). judge ([] ∷ reading file.Reference (f .referenceMost) (f .reference) ∷ checks order c (referenceIn f))) (sym (content-alike true (f .stage) p))
+
+    go : (b : Bool) → (readFile file.Pipeline (f .stageMost) (f .stage) ≡ readFile file.Stage (f .stageMost) (f .stage)) ⊎ RefusedAtPart (f .stageMost) (f .stage)
+        → (verdictOn order (withoutRegisters f) ≡ judgeOf (stageFile b) (readFile (stageFile b) (f .stageMost) (f .stage))) ⊎ RefusedAtPart (f .stageMost) (f .stage)
+    go b (inr r) = inr r
+    go false (inl e) = inl refl
+    go true (inl e) = inl (same (readFile file.Stage (f .stageMost) (f .stage)) ∙ ap (judgeOf file.Pipeline) (sym e))
+
+-- ---- how it is wired
+
+wiring-view : (registers : Bool) (bytes : List ℕ) (p : Places) → pipelineOf (contentAt (stageFile registers) bytes (readable p)) ≡ wiringOf bytes p
+unfolding contentAt
+wiring-view registers bytes p =
+    ap pipelineOf (content-alike registers bytes p) ∙
+    ap (λ (gates : List (List ℕ)). record { inputs = p .inputs; gates = gates; parts = map (partAt bytes) (p .parts) })
+    (map-map (λ (g : Coded). g .operands) (codedAt file.Stage bytes) (p .gates))
+
+-- where a stage is readable every operand names what its role asks for: the nets that reading counts are those that are driven
+pub wiring-named : (f : Files) → NoMore (f .stageMost) stageLimits → Pass (reading (stageFile (f .registers)) (f .stageMost) (f .stage)) → StageNamed (rawIn f)
+unfolding refusal contentAt
+wiring-named f less pass = go (readFile (stageFile (f .registers)) (f .stageMost) (f .stage)) refl pass
+  where
+    rails : (registers : Bool) (places : List ℕ) (j v : ℕ) → In v (getD (map (λ at. operands (f .stage) (at + 1) (railsOfOutput (stageFile registers))) places) j [])
+        → In v (getD (map (λ at. operands (f .stage) (at + 1) 2) places) j [])
+    rails true places j v i = i
+    rails false places j v i = i
+
+    go : (x : Reading) → readFile (stageFile (f .registers)) (f .stageMost) (f .stage) ≡ x → Pass (refusal (stageFile (f .registers)) x) →
+        StageNamed (contentAt (stageFile (f .registers)) (f .stage) x)
+    go (refused number at) e pass = absurd (clash refl (pass .0))
+    go (readable p) e pass =
+        let read = readable-read (stageFile (f .registers)) (f .stageMost) (f .stage) p e in
+        let at = sym (wiring-view (f .registers) (f .stage) p) in
+        record {
+          wiring = subst Named at (named (f .registers) (f .stageMost) less (f .stage) p read);
+          outputs = λ j v i. subst (λ (q : Pipeline). IsData q v) at (output-named (f .registers) (f .stageMost) less (f .stage) p read j v (rails (f .registers) (p .outputs) j v i));
+        }
 
 -- ---- the net
 

@@ -24,7 +24,7 @@ use Rattle.check_spec.proofs.Loops.{no-loop}
 
 module _ (c : Content) where
   -- the steps of 12 are those through gates
-  steps : feeding (netOf c) ≡ gateSteps (pipelineOf c)
+  pub steps : feeding (netOf c) ≡ gateSteps (pipelineOf c)
   steps = fun-ext (λ x. sym (steps-are (pipelineOf c) x ∙ ap (cond (ltb x (2 * c .inputs)) []) (at (c .gates) (x - 2 * c .inputs))))
     where
       at : (gates : List Coded) (k : ℕ) → getD (map (λ (g : Coded). g .operands) gates) k [] ≡ getD gates k noGate .operands

@@ -49,7 +49,7 @@ fallIncomplete s w = let row = rest s w in λ i. allNull (netOf s) (fallen (netO
 unfoldable pub fallUnobservable : Content → ℕ → ℕ → Bool
 fallUnobservable s w = highAnd s w (λ row net. allNull (netOf s) (fallen (netOf s) row (only net)))
 
--- 12: gate g reaches itself through pins
+-- 12: gate g reaches itself through pins of gates; the nets of registers are ends
 unfoldable pub looped : Content → Check
 looped s = sweepPlaces 12 1 (numbers 0 (length (s .gates))) (λ g. reachesItself (netOf s) (2 * s .inputs + g))
 

@@ -45,7 +45,8 @@ contentOf f most bytes = contentAt f bytes (readFile f most bytes)
 abbrev pub pipelineOf : Content → Pipeline
 pipelineOf c = record { inputs = c .inputs; gates = map (λ (g : Coded). g .operands) (c .gates); parts = c .parts }
 
--- A stage as runs and the checks from 28 on see it, in which a register is two wires: each pin and each output has the net that its own comes from.
+-- A stage as runs and the checks from 28 on see it, in which a register is two wires: a pin or output on a register's rail is put on the net at that
+-- register's data, and again, until it is an input's rail or a gate.
 unfoldable pub wired : Content → Content
 wired raw = record {
   inputs = raw .inputs;
@@ -76,6 +77,10 @@ referenceIn f = contentOf file.Reference (f .referenceMost) (f .reference)
 abbrev pub filesWithin : Bool → Limits → Limits → List ℕ → List ℕ → Files
 filesWithin registers stageMost referenceMost stage reference =
     record { stage = stage; reference = reference; registers = registers; stageMost = stageMost; referenceMost = referenceMost }
+
+-- the same two files, the stage read without registers, as every call but the check reads it
+abbrev pub withoutRegisters : Files → Files
+withoutRegisters f = filesWithin false (f .stageMost) (f .referenceMost) (f .stage) (f .reference)
 
 -- those of the check, which alone reads registers; those of the other calls; and those of a part that is to be joined with another
 abbrev pub files : List ℕ → List ℕ → Files

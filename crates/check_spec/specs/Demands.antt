@@ -20,13 +20,16 @@ use Rattle.verdict.specs.declared.Verdict.{Verdict}
 use Rattle.verdict.specs.declared.WordOrder.{WordOrder}
 use Rattle.netlist.specs.Commands.{stageFile}
 use Rattle.netlist.specs.declared.File.the-variants.{Stage, Reference}
-use Rattle.netlist.specs.Reading.{stageLimits}
+use Rattle.netlist.specs.Reading.{stageLimits, NoMore, RefusedAtPart}
 use Rattle.check_spec.specs.Cases.{verdict, accepted, Case, Check}
 use Rattle.check_spec.specs.Lists.{bitOf, some, reaches}
 use Rattle.wiring_spec.specs.Parts.{Pipeline, registerCount}
-use Rattle.wiring_spec.specs.Wiring.{circular}
-use Rattle.wiring_spec.specs.Passing.{Circular, Uneven, Missing, Barred, Passes, Nowhere, WiringMeans}
-use Rattle.check_spec.specs.Content.{Content, pipelineOf, Files, rawIn, stageIn, referenceIn}
+use Rattle.wiring_spec.specs.Wiring.{gateSteps, circular}
+use Rattle.verdict.specs.Paths.{In}
+use Rattle.wiring_spec.specs.Named as naming
+use Rattle.wiring_spec.specs.Wires.{WiresMean}
+use Rattle.wiring_spec.specs.Passing.{Circular, Uneven, Missing, Barred, Levelled, Passes, LeastAt, AtNone, Nowhere, WiringMeans}
+use Rattle.check_spec.specs.Content.{Content, pipelineOf, Files, rawIn, stageIn, referenceIn, withoutRegisters}
 use Rattle.check_spec.specs.Rows.{driver, cellIn, netOf, risen, fallen, dataOf, allData, allNull, feeding, reachesItself}
 use Rattle.check_spec.specs.Words.{railsFor, spelled, IsWord, answer}
 use Rattle.check_spec.specs.Checks.{rest, retiredGate, illegal}
@@ -96,6 +99,11 @@ pub record Acceptable (f : Files) : Type 0 where
   pub conforms : (w : ℕ) → IsWord (stageIn f) w → Conforms (netOf (stageIn f)) (railsFor w) (answerTo f w)
   pub rises : (net : ℕ) → IsGate (netOf (stageIn f)) net → Rises f net
 
+-- every operand of a stage names a net of the sort that 9 asks for, by what drives the nets: pins, data, Ki and C-elements, and the outputs data
+pub record StageNamed (raw : Content) : Type 0 where
+  pub wiring : naming.Named (pipelineOf raw)
+  pub outputs : (j v : ℕ) → In v (getD (raw .outputs) j []) → naming.IsData (pipelineOf raw) v
+
 -- R is a row of some sort, and the only one
 abbrev pub TheOnly : (Row → Type 0) → Row → Type 0
 TheOnly P R = P R × ((r : Row) → P r → r ≡ R)
@@ -105,11 +113,14 @@ TheOnly P R = P R × ((r : Row) → P r → r ≡ R)
 -- 12, DATA and NULL are those of the theory of runs, and the rows of 13 to 15, 20, 21 and 32 are the settled ones of a loop-free stage: settled for given
 -- rails, with nets held low (the rails of an input, or a gate), and by the fall rule. Of M-102: "a stage without relaxed kinds" is "never to meet the
 -- two fall refusals". Of M-106: "acceptance is the same under either order". Of M-108: the check "refuses" retired kinds, at the least such gate,
--- whatever the stage does in its words. Of M-111: 33, 34 and 35 test what the paper says, and a loop-free stage stays one when its registers become wires.
+-- whatever the stage does in its words. Of M-111: "12 follows gates only"; 33, 34 and 35 test what the paper says; "a register counts as two wires" from
+-- 28 on; each operand of a readable pipeline names a net of the sort that 9 asks for; a loop-free stage stays one when its registers become wires; and
+-- the other calls, which do not read registers, give the same verdict on a stage without them, also where it is refused.
 pub record Demand2 (order : WordOrder) (f : Files) (v : Verdict) : Type 0 where
   pub exactly : Comparable f → (v ≡ accepted) ↔ Acceptable f
   pub least : Judged (checksOn order f) v
   pub loops : LoopsFound (netOf (rawIn f))
+  pub gates-only : (x : ℕ) → feeding (netOf (rawIn f)) x ≡ gateSteps (wiringIn f) x
   pub data-is : (r : Row) (p : Bool → ℕ) (b : Bool) → (dataOf r p b ≡ true) ↔ DataOf r p b
   pub all-data-is : (r : Row) → (allData (netOf (stageIn f)) r ≡ true) ↔ AllData (netOf (stageIn f)) r
   pub all-null-is : (r : Row) → (allNull (netOf (stageIn f)) r ≡ true) ↔ AllNull (netOf (stageIn f)) r
@@ -120,7 +131,10 @@ pub record Demand2 (order : WordOrder) (f : Files) (v : Verdict) : Type 0 where
   pub hold-only : ((net : ℕ) → IsGate (netOf (stageIn f)) net → netOf (stageIn f) .hold net ≡ true) → ¬ ((v .number ≡ 20) ⊎ (v .number ≡ 21))
   pub either-order : (other : WordOrder) → (v ≡ accepted) ↔ (verdictOn other f ≡ accepted)
   pub wiring-is : WiringMeans (wiringIn f)
+  pub wires-are : WiresMean (wiringIn f)
+  pub nets-named : NoMore (f .stageMost) stageLimits → BothRead f → StageNamed (rawIn f)
   pub wires-free : LoopFree (netOf (rawIn f)) → Nowhere (wiringIn f) (circular (wiringIn f)) → LoopFree (netOf (stageIn f))
+  pub plain : (verdictOn order (withoutRegisters f) ≡ v) ⊎ RefusedAtPart (f .stageMost) (f .stage)
   pub retired : Comparable f → Passes (wiringIn f) → (g : ℕ) → g < length (stageIn f .gates) → retiredGate (stageIn f) g ≡ true
       → ((k : ℕ) → k < g → retiredGate (stageIn f) k ≡ false) → v ≡ verdict 28 1 g 0
 
@@ -169,12 +183,14 @@ pub record Idle (f : Files) (v : Verdict) : Type 0 where
 abbrev pub AcceptedUnlessIdle : WordOrder → Files → Type 0
 AcceptedUnlessIdle order f = (verdictOn order f ≡ accepted) ⊎ Idle f (verdictOn order f)
 
--- refused by 33, 34 or 35: a register of the stage, in the paper's words
+-- refused by 33, 34 or 35, in the paper's words and "in this order": the register that is named is the least, and what comes before in the order is so at
+-- no register. 33 has two passes, of which the second follows where the first finds none
 pub record Miswired (p : Pipeline) (v : Verdict) : Type 0 where
+  pub is : v ≡ verdict (v .number) 1 (v .at) 0
   pub register : v .at < registerCount p
-  pub circular : v .number ≡ 33 → Circular p (v .at) ⊎ Uneven p (v .at)
-  pub missing : v .number ≡ 34 → Missing p (v .at)
-  pub barred : v .number ≡ 35 → Barred p (v .at)
+  pub circular : v .number ≡ 33 → LeastAt (Circular p) (v .at) ⊎ (AtNone p (Circular p) × LeastAt (Uneven p) (v .at))
+  pub missing : v .number ≡ 34 → Levelled p × LeastAt (Missing p) (v .at)
+  pub barred : v .number ≡ 35 → Levelled p × AtNone p (Missing p) × LeastAt (Barred p) (v .at)
 
 -- What demand 3 says of a verdict on two files, by its number
 pub record Demand3 (order : WordOrder) (f : Files) (v : Verdict) : Type 0 where

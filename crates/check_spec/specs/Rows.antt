@@ -12,11 +12,11 @@ use Rattle.netlist.specs.Coded.{Coded, cellOf, holdOf}
 use Rattle.check_spec.specs.Content.{Content}
 use Rattle.check_spec.specs.Lists.{xor, numbers, every, reaches}
 
--- what stands where there is no gate; no check asks for it
+-- what stands where there is no gate: it has no pins, so that 12 ends at a net of a register or a C-element
 abbrev pub noGate : Coded
 noGate = record { code = 1; operands = [] }
 
--- the gate that drives a net from 2n on: gate k drives net 2n + k. It is asked of no other net
+-- the gate that drives a net: gate k drives net 2n + k, and none the nets after these; it is not asked of a rail
 abbrev pub driver : Content → ℕ → Coded
 driver s net = getD (s .gates) (net - 2 * s .inputs) noGate
 
@@ -67,7 +67,7 @@ allData N r = every (λ j. xor (r (N .rail j false)) (r (N .rail j true))) (numb
 abbrev pub allNull : Net → Row → Bool
 allNull N r = every (λ j. not (r (N .rail j false) || r (N .rail j true))) (numbers 0 (N .outputs))
 
--- the nets at the pins of the gate that drives a net, none for a rail; net g reaches itself through these
+-- the nets at the pins of the gate that drives a net, none for a rail or a net after the gates; net g reaches itself through these
 abbrev pub feeding : Net → ℕ → List ℕ
 feeding N net = cond (ltb net (rails N)) [] (N .pins net)
 

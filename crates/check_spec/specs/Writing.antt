@@ -24,7 +24,7 @@ rowFor (r ∷ rs) c = let later = rowFor rs c in cond (isSort c (r .1 .sort)) r 
 unfoldable pub command : File → Sort → ℕ → List ℕ → List ℕ
 command f c code vs = let r = rowFor (commandTable f) c in r .0 ∷ take (r .1 .lead - 1) (code ∷ []) ++ writeOperands (r .1 .operands) vs
 
--- inputs, care list, gates, outputs, end
+-- inputs, care list, gates, outputs, end; no call writes registers or C-elements, and the parts of a content are not written
 unfoldable pub writeFile : File → Content → List ℕ
 writeFile f c =
     command f sort.Inputs (c .inputs) []

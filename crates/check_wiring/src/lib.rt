@@ -1,77 +1,84 @@
 // The checks of registers and their completion: 33, a register that reaches itself or has a loop of C-elements behind its Ki, and then one that is fed from
-// unequal levels; 34, a Ko that is missing behind a Ki; 35, a net that the rule bars there.
+// unequal levels; 34, a Ko that is missing behind a Ki; 35, a net that the rule bars there. What the rules are about is put into tables first.
 use netlist::Counts;
 use netlist::Found;
 use verdict::Finding;
-use verdict::Verdict;
 ghost use mathlib.Core.Path.{_≡_};
-ghost use mathlib.Core.Bool.{not};
-ghost use Prim.Native.Nat.{ℕ, _+_, _*_, _≤_, _<_};
-ghost use lib.ListN.{length, getD};
-ghost use lib.Dec.{eqb};
-ghost use lib.Bits.{bitAnd, bitXor};
+ghost use mathlib.Core.List.{List};
+ghost use Prim.Native.Nat.{ℕ, _*_, _≤_, _<_};
+ghost use lib.ListN.{length, take};
 ghost use Rattle.verdict.specs.Search.{least};
-ghost use Rattle.verdict.specs.Checks.{verdict, firstFault};
-ghost use Rattle.wiring_spec.specs.Parts.{Pipeline, registerCount, kiOf};
-ghost use Rattle.wiring_spec.specs.Wiring.{circular, uneven, missing, barred};
+ghost use Rattle.verdict.specs.Checks.{firstFault};
+ghost use Rattle.wiring_spec.specs.Parts.{Pipeline, registerCount};
+ghost use Rattle.wiring_spec.specs.Wiring.{circular};
+ghost use Rattle.wiring_spec.specs.Passing.{ReachesOn, Nowhere};
 ghost use Rattle.wiring_spec.specs.Table.{wiringChecks};
 ghost use Rattle.check_open.specs.Opening.{Table};
-ghost use Rattle.check_levels.specs.Graph.{SourcesOf};
-ghost use Rattle.check_wiring.specs.Rules.{circularIn, OpenedTo, TargetsTo, SortedTo, failsAt, laterChecks};
-ghost use Rattle.check_wiring.specs.Known.{KisOf, InputsOf, LevelsOf, RowsOf, KosOf, OthersOf, Known, Sized, Empty};
+ghost use Rattle.check_levels.specs.Graph.{SourcesOf, ComesFrom};
+ghost use Rattle.check_rules.specs.Known.{InputsOf, LevelsOf, KosOf, OthersOf};
+ghost use Rattle.check_rules.specs.Rules.{laterChecks};
 ghost use Rattle.check_wiring.specs.Loaded.{Loaded, Unplaced, Ordered, Forward};
+ghost use Rattle.check_wiring.specs.Opened.{OpenedTo};
 
 // As many registers, and as many nets of registers and C-elements, as there may be.
 const MOST: usize = netlist::PARTS;
 
 const NETS: usize = 4 * netlist::PARTS;
 
-// A place for each level, and for those next to the lowest and the highest.
-const ROWS: usize = netlist::PARTS + 2;
+// ---- where the data of the registers comes from
 
-// ---- 33, the first pass
-
-// Whether register k comes from itself, or has a C-element without a place at its Ki.
-fn is_circular(
-    closed: &[u64],
-    nets: &[u16],
-    first: usize,
-    count: usize,
-    regs: &[u16],
-    k: usize,
-) -> bool
-    requires { ⌜ (length (now nets) ≡ 8 * count) × (length (now closed) ≤ 64) × (4 * length (now closed) ≤ length (now regs)) × (k < length (now closed)) ⌝ }
-    ensures { λ r. ⌜ r ≡ circularIn (now (closed .entry)) (now (nets .entry)) first count (now (regs .entry)) k ⌝ }
+// The registers that reach each register.
+fn sources_of(raw: &[u16], order: &[u16], counts: Counts, nets: &[u16], regs: &[u16]) -> [u64; MOST]
+    requires { ⌜ Loaded counts (now raw) (now order) (now nets) (now regs) ⌝ }
+    ensures long { λ r. ⌜ length r ≡ 64 ⌝ }
+    ensures are { λ r. ⌜ ((l : Loaded counts (now (raw .entry)) (now (order .entry)) (now (nets .entry)) (now (regs .entry)))
+        → SourcesOf (l .pipeline) (take (counts .registers) r)) ⌝ }
 {
-    if check_levels::is_source(closed, k, k) {
-        return true;
-    }
-    circuit_place::waits(nets, first, count, regs[4 * k + 3] as usize)
+    let m = counts.registers;
+    let mut none = [0u64; circuit::ROW];
+    let mut sources = [0u64; MOST];
+    check_levels::gather_sources(nets, order, raw, counts, regs, &mut none, &mut sources[..m]);
+    sources
 }
 
-fn least_circular(
-    closed: &[u64],
-    nets: &[u16],
-    first: usize,
-    count: usize,
-    regs: &[u16],
-) -> Found
-    requires { ⌜ (length (now nets) ≡ 8 * count) × (length (now closed) ≤ 64) × (4 * length (now closed) ≤ length (now regs)) ⌝ }
-    ensures { λ r. ⌜ r ≡ least (circularIn (now (closed .entry)) (now (nets .entry)) first count (now (regs .entry))) 0 (length (now (closed .entry))) ⌝ }
+// Whether some data of each register comes from an input: no rail of a register is a source here, and each input is source 0.
+fn inputs_of(raw: &[u16], order: &[u16], counts: Counts, regs: &[u16]) -> [u64; MOST]
+    requires { ⌜ ((nets : List ℕ) × Loaded counts (now raw) (now order) nets (now regs)) ⌝ }
+    ensures long { λ r. ⌜ length r ≡ 64 ⌝ }
+    ensures are { λ r. ⌜ ((nets : List ℕ) (l : Loaded counts (now (raw .entry)) (now (order .entry)) nets (now (regs .entry)))
+        → InputsOf (l .pipeline) (take (counts .registers) r)) ⌝ }
 {
-    let mut k: usize = 0;
-    while k < closed.len() {
-        if is_circular(closed, nets, first, count, regs, k) {
-            return Found::At(k);
-        }
-        k += 1;
-    }
-    Found::Nothing
+    let m = counts.registers;
+    let mut ones = [1u64; circuit::ROW];
+    let mut inputs = [0u64; MOST];
+    check_levels::gather_sources(
+        &raw[..0],
+        order,
+        raw,
+        counts,
+        regs,
+        &mut ones,
+        &mut inputs[..m],
+    );
+    inputs
 }
 
-// ---- what the other checks are about
+// The levels of the registers.
+fn levels_of(sources: &[u64]) -> [u8; MOST]
+    requires { ⌜ length (now sources) ≤ 64 ⌝ }
+    ensures long { λ r. ⌜ length r ≡ 64 ⌝ }
+    ensures are { λ r. ⌜ ((p : Pipeline) → SourcesOf p (now (sources .entry)) → ((k : ℕ) → ¬ (ReachesOn p k k))
+        → LevelsOf p (take (length (now (sources .entry))) r)) ⌝ }
+{
+    let m = sources.len();
+    let mut levels = [1u8; MOST];
+    check_levels::level_registers(sources, &mut levels[..m]);
+    levels
+}
 
-// What stands behind the Ki of each register; `met` and `known` are what is known of the C-elements.
+// ---- what stands behind the Ki of the registers
+
+// `met` and `known` are what is known of the C-elements.
 fn open_all(
     nets: &[u16],
     first: usize,
@@ -82,7 +89,8 @@ fn open_all(
     known: &mut [u8],
 )
     requires { ⌜ Table (now nets) first (now met) (now known) × (length (now others) ≡ length (now kos)) × (4 * length (now kos) ≤ length (now regs)) ⌝ }
-    ensures { λ _. ⌜ OpenedTo (now (nets .entry)) first (now (regs .entry)) (now (kos .entry)) (now (kos .exit)) (now (others .exit)) (length (now (kos .entry))) ⌝ }
+    ensures { λ _. ⌜ OpenedTo (now (nets .entry)) first (now (regs .entry)) (now (kos .entry)) (now (kos .exit)) (now (others .exit))
+        (length (now (kos .entry))) ⌝ }
 {
     let mut k: usize = 0;
     while k < kos.len() {
@@ -92,178 +100,53 @@ fn open_all(
     }
 }
 
-// The registers that register k reaches.
-fn targets_of(sources: &[u64], k: usize) -> u64
-    requires { ⌜ (k < 64) × (length (now sources) ≤ 64) ⌝ }
-    ensures { λ r. ⌜ TargetsTo (now (sources .entry)) k (length (now (sources .entry))) r ⌝ }
+// Each C-element is opened once for all Ki.
+fn open_kis(nets: &[u16], counts: Counts, regs: &[u16], kos: &mut [u64], others: &mut [u8])
+    requires { ⌜ ((p : Pipeline) × Ordered p counts (now nets) (now regs)) × (length (now kos) ≡ counts .registers)
+        × (length (now others) ≡ counts .registers) ⌝ }
+    ensures long { λ _. ⌜ (length (now (kos .exit)) ≡ counts .registers) × (length (now (others .exit)) ≡ counts .registers) ⌝ }
+    ensures are { λ _. ⌜ ((p : Pipeline) → Ordered p counts (now (nets .entry)) (now (regs .entry)) → Nowhere p (circular p)
+        → KosOf p (now (kos .exit)) × OthersOf p (now (others .exit))) ⌝ }
 {
-    let mut all: u64 = 0;
-    let mut t: usize = 0;
-    while t < sources.len() {
-        let add = check_levels::is_source(sources, k, t);
-        all = check_levels::joined(all, 1 << t, add);
-        t += 1;
-    }
-    all
-}
-
-// The registers of each level.
-fn sort_levels(levels: &[u8], rows: &mut [u64])
-    requires { ⌜ (length (now levels) ≤ 64) × ((i : ℕ) → i < length (now levels) → getD (now levels) i 0 < length (now rows))
-        × ((l : ℕ) → getD (now rows) l 0 ≡ 0) ⌝ }
-    ensures { λ _. ⌜ SortedTo (now (levels .entry)) (now (rows .entry)) (now (rows .exit)) (length (now (levels .entry))) ⌝ }
-{
-    let mut t: usize = 0;
-    while t < levels.len() {
-        let l = levels[t] as usize;
-        rows[l] = rows[l] | 1 << t;
-        t += 1;
-    }
-}
-
-// Fills in what the checks are about, where no register is circular.
-fn learn(
-    raw: &[u16],
-    order: &[u16],
-    counts: Counts,
-    nets: &[u16],
-    regs: &[u16],
-    sources: &mut [u64],
-    inputs: &mut [u64],
-    levels: &mut [u8],
-    rows: &mut [u64],
-    kos: &mut [u64],
-    others: &mut [u8],
-)
-    requires { ⌜ Forward counts (now raw) (now order) (now nets) (now regs)
-        × Empty counts (now sources) (now inputs) (now levels) (now rows) (now kos) (now others) ⌝ }
-    ensures { λ _. ⌜ ((w : Forward counts (now (raw .entry)) (now (order .entry)) (now (nets .entry)) (now (regs .entry)))
-        → Known (w .ordered .loaded .pipeline) (now (sources .exit)) (now (inputs .exit)) (now (levels .exit)) (now (rows .exit)) (now (kos .exit))
-        (now (others .exit))) ⌝ }
-{
-    let mut none = [0u64; circuit::ROW];
-    check_levels::gather_sources(nets, order, raw, counts, regs, &mut none, sources);
-    let mut ones = [1u64; circuit::ROW];
-    check_levels::gather_sources(&nets[0..0], order, raw, counts, regs, &mut ones, inputs);
-    check_levels::level_registers(sources, levels);
-    sort_levels(levels, rows);
-    let mut met = [0u64; NETS];
-    let mut known = [0u8; NETS];
     let first = 2 * counts.inputs + counts.gates;
     let count = 3 * counts.registers + counts.elements;
-    open_all(nets, first, regs, kos, others, &mut met[..count], &mut known[..count]);
+    let mut met = [0u64; NETS];
+    let mut known = [0u8; NETS];
+    open_all(
+        nets,
+        first,
+        regs,
+        kos,
+        others,
+        &mut met[..count],
+        &mut known[..count],
+    );
 }
 
-// ---- 33, the second pass, 34 and 35
+// ---- 33, the first pass
 
-// What a register may fail in: it is fed from unequal levels, a Ko is missing behind its Ki, or a net is barred there.
-pub enum Rule {
-    Uneven,
-    Missing,
-    Barred,
-}
-
-// Whether a set lacks some of another.
-fn lacks(all: u64, few: u64) -> bool
-    ensures { λ r. ⌜ r ≡ not (eqb (bitAnd few (bitXor few all)) 0) ⌝ }
+// Whether register k comes from itself, or has a C-element without a place at its Ki.
+fn is_circular(closed: &[u64], counts: Counts, nets: &[u16], regs: &[u16], k: usize) -> bool
+    requires { ⌜ ((p : Pipeline) × Ordered p counts (now nets) (now regs) × ComesFrom p (now closed)) × (k < counts .registers) ⌝ }
+    ensures { λ r. ⌜ ((p : Pipeline) → Ordered p counts (now (nets .entry)) (now (regs .entry)) → ComesFrom p (now (closed .entry))
+        → r ≡ circular p k) ⌝ }
 {
-    few & (few ^ all) != 0
-}
-
-// 33: whether some data of register k comes from another level than the one before its own.
-fn is_uneven(sources: &[u64], inputs: &[u64], levels: &[u8], rows: &[u64], k: usize) -> bool
-    requires { ⌜ (k < length (now sources)) × (k < length (now inputs)) × (k < length (now levels)) × (1 ≤ getD (now levels) k 0)
-        × (getD (now levels) k 0 < length (now rows)) ⌝ }
-    ensures { λ r. ⌜ ((p : Pipeline) → k < registerCount p → registerCount p ≤ 64 → SourcesOf p (now (sources .entry)) → InputsOf p (now (inputs .entry))
-        → LevelsOf p (now (levels .entry)) → RowsOf p (now (rows .entry)) → r ≡ uneven p k) ⌝ }
-{
-    let own = levels[k];
-    if lacks(rows[(own - 1) as usize], sources[k]) {
+    if check_levels::is_source(closed, k, k) {
         return true;
     }
-    if check_levels::is_source(inputs, 0, k) {
-        return own != 1;
-    }
-    false
+    let first = 2 * counts.inputs + counts.gates;
+    let count = 3 * counts.registers + counts.elements;
+    circuit_place::waits(nets, first, count, regs[4 * k + 3] as usize)
 }
 
-// 34: whether the Ko of a register that register k reaches is missing behind its Ki.
-fn is_missing(sources: &[u64], kos: &[u64], k: usize) -> bool
-    requires { ⌜ (length (now sources) ≤ 64) × (k < length (now sources)) × (k < length (now kos)) ⌝ }
-    ensures { λ r. ⌜ ((p : Pipeline) → SourcesOf p (now (sources .entry)) → KosOf p (now (kos .entry)) → r ≡ missing p k) ⌝ }
-{
-    lacks(kos[k], targets_of(sources, k))
-}
-
-// 35: whether a net that the rule bars stands behind register k's Ki; where it reaches no other, whether its Ki is not the outside.
-fn is_barred(
-    ki: u16,
-    sources: &[u64],
-    levels: &[u8],
-    rows: &[u64],
-    kos: &[u64],
-    others: &[u8],
-    k: usize,
-) -> bool
-    requires { ⌜ (length (now sources) ≤ 64) × (k < length (now sources)) × (k < length (now levels)) × (k < length (now kos)) × (k < length (now others))
-        × (getD (now levels) k 0 + 1 < length (now rows)) ⌝ }
-    ensures { λ r. ⌜ ((p : Pipeline) → ki ≡ kiOf p k → SourcesOf p (now (sources .entry)) → LevelsOf p (now (levels .entry)) → RowsOf p (now (rows .entry))
-        → KosOf p (now (kos .entry)) → OthersOf p (now (others .entry)) → r ≡ barred p k) ⌝ }
-{
-    let reached = targets_of(sources, k);
-    if reached == 0 {
-        return ki != 0xFFFE;
-    }
-    if others[k] == 2 {
-        return true;
-    }
-    let next = rows[levels[k] as usize + 1];
-    lacks(reached | next, kos[k])
-}
-
-// Whether register k fails.
-fn fails(
-    rule: Rule,
-    regs: &[u16],
-    sources: &[u64],
-    inputs: &[u64],
-    levels: &[u8],
-    rows: &[u64],
-    kos: &[u64],
-    others: &[u8],
-    k: usize,
-) -> bool
-    requires { ⌜ Sized (now regs) (now sources) (now inputs) (now levels) (now rows) (now kos) (now others) × (k < length (now sources)) ⌝ }
-    ensures { λ r. ⌜ ((p : Pipeline) → KisOf p (now (regs .entry))
-        → Known p (now (sources .entry)) (now (inputs .entry)) (now (levels .entry)) (now (rows .entry)) (now (kos .entry)) (now (others .entry))
-        → r ≡ failsAt rule p k) ⌝ }
-{
-    match rule {
-        Rule::Uneven => is_uneven(sources, inputs, levels, rows, k),
-        Rule::Missing => is_missing(sources, kos, k),
-        Rule::Barred => is_barred(regs[4 * k + 3], sources, levels, rows, kos, others, k),
-    }
-}
-
-// The least register that fails.
-fn least_failing(
-    rule: Rule,
-    regs: &[u16],
-    sources: &[u64],
-    inputs: &[u64],
-    levels: &[u8],
-    rows: &[u64],
-    kos: &[u64],
-    others: &[u8],
-) -> Found
-    requires { ⌜ Sized (now regs) (now sources) (now inputs) (now levels) (now rows) (now kos) (now others) ⌝ }
-    ensures { λ r. ⌜ ((p : Pipeline) → KisOf p (now (regs .entry))
-        → Known p (now (sources .entry)) (now (inputs .entry)) (now (levels .entry)) (now (rows .entry)) (now (kos .entry)) (now (others .entry))
-        → r ≡ least (failsAt rule p) 0 (registerCount p)) ⌝ }
+fn least_circular(closed: &[u64], counts: Counts, nets: &[u16], regs: &[u16]) -> Found
+    requires { ⌜ ((p : Pipeline) × Ordered p counts (now nets) (now regs) × ComesFrom p (now closed)) ⌝ }
+    ensures { λ r. ⌜ ((p : Pipeline) → Ordered p counts (now (nets .entry)) (now (regs .entry)) → ComesFrom p (now (closed .entry))
+        → r ≡ least (circular p) 0 (registerCount p)) ⌝ }
 {
     let mut k: usize = 0;
-    while k < sources.len() {
-        if fails(rule, regs, sources, inputs, levels, rows, kos, others, k) {
+    while k < counts.registers {
+        if is_circular(closed, counts, nets, regs, k) {
             return Found::At(k);
         }
         k += 1;
@@ -271,109 +154,47 @@ fn least_failing(
     Found::Nothing
 }
 
+// The least register that is circular, told from the registers that reach each.
+fn find_circular(sources: [u64; MOST], counts: Counts, nets: &[u16], regs: &[u16]) -> Found
+    requires { ⌜ ((p : Pipeline) × Ordered p counts (now nets) (now regs) × SourcesOf p (take (counts .registers) sources)) × (length sources ≡ 64) ⌝ }
+    ensures { λ r. ⌜ ((p : Pipeline) → Ordered p counts (now (nets .entry)) (now (regs .entry)) → SourcesOf p (take (counts .registers) sources)
+        → r ≡ least (circular p) 0 (registerCount p)) ⌝ }
+{
+    let m = counts.registers;
+    let mut closed = sources;
+    check_levels::close(&mut closed[..m]);
+    least_circular(&closed[..m], counts, nets, regs)
+}
+
 // ---- the checks
 
-fn fault(number: u64, k: usize) -> Finding
-    ensures { λ r. ⌜ r ≡ Finding.Fault (verdict number 1 k 0) ⌝ }
-{
-    Finding::Fault(Verdict {
-        number: number,
-        file: 1,
-        at: k as u64,
-        word: 0,
-    })
-}
-
-// 33, the first pass.
-fn find_circular(
-    raw: &[u16],
-    order: &[u16],
-    counts: Counts,
-    nets: &[u16],
-    regs: &[u16],
-    closed: &mut [u64],
-) -> Found
-    requires { ⌜ Ordered counts (now raw) (now order) (now nets) (now regs) × (length (now closed) ≡ counts .registers) ⌝ }
-    ensures { λ r. ⌜ ((o : Ordered counts (now (raw .entry)) (now (order .entry)) (now (nets .entry)) (now (regs .entry)))
-        → r ≡ least (circular (o .loaded .pipeline)) 0 (registerCount (o .loaded .pipeline))) ⌝ }
-{
-    let mut none = [0u64; circuit::ROW];
-    check_levels::gather_sources(nets, order, raw, counts, regs, &mut none, closed);
-    check_levels::close(closed);
-    let first = 2 * counts.inputs + counts.gates;
-    let count = 3 * counts.registers + counts.elements;
-    least_circular(closed, nets, first, count, regs)
-}
-
-// 33, the second pass, then 34, then 35.
+// 33, the second pass, then 34, then 35, where the first pass finds nothing.
 fn find_others(
     raw: &[u16],
     order: &[u16],
     counts: Counts,
     nets: &[u16],
     regs: &[u16],
-    sources: &mut [u64],
-    inputs: &mut [u64],
-    levels: &mut [u8],
-    rows: &mut [u64],
-    kos: &mut [u64],
-    others: &mut [u8],
+    sources: [u64; MOST],
 ) -> Finding
-    requires { ⌜ Forward counts (now raw) (now order) (now nets) (now regs)
-        × Empty counts (now sources) (now inputs) (now levels) (now rows) (now kos) (now others) ⌝ }
-    ensures { λ r. ⌜ ((w : Forward counts (now (raw .entry)) (now (order .entry)) (now (nets .entry)) (now (regs .entry)))
-        → r ≡ firstFault (laterChecks (w .ordered .loaded .pipeline))) ⌝ }
+    requires { ⌜ Forward counts (now raw) (now order) (now nets) (now regs) sources × (length sources ≡ 64) ⌝ }
+    ensures { λ r. ⌜ ((w : Forward counts (now (raw .entry)) (now (order .entry)) (now (nets .entry)) (now (regs .entry)) sources)
+        → r ≡ firstFault (laterChecks (w .loaded .pipeline))) ⌝ }
 {
-    learn(
-        raw,
-        order,
-        counts,
-        nets,
+    let m = counts.registers;
+    let inputs = inputs_of(raw, order, counts, regs);
+    let levels = levels_of(&sources[..m]);
+    let mut kos = [0u64; MOST];
+    let mut others = [0u8; MOST];
+    open_kis(nets, counts, regs, &mut kos[..m], &mut others[..m]);
+    check_rules::find_failing(
         regs,
-        sources,
-        inputs,
-        levels,
-        rows,
-        kos,
-        others,
-    );
-    if let Found::At(k) = least_failing(
-        Rule::Uneven,
-        regs,
-        sources,
-        inputs,
-        levels,
-        rows,
-        kos,
-        others,
-    ) {
-        return fault(33, k);
-    }
-    if let Found::At(k) = least_failing(
-        Rule::Missing,
-        regs,
-        sources,
-        inputs,
-        levels,
-        rows,
-        kos,
-        others,
-    ) {
-        return fault(34, k);
-    }
-    if let Found::At(k) = least_failing(
-        Rule::Barred,
-        regs,
-        sources,
-        inputs,
-        levels,
-        rows,
-        kos,
-        others,
-    ) {
-        return fault(35, k);
-    }
-    Finding::Passed
+        &sources[..m],
+        &inputs[..m],
+        &levels[..m],
+        &kos[..m],
+        &others[..m],
+    )
 }
 
 // 33, then 34, then 35, where the gates are in an order and the C-elements in none. These then have places.
@@ -390,31 +211,12 @@ pub fn check_registers(
     ensures kept { λ _. ⌜ ((l : Loaded counts (now (raw .entry)) (now (order .entry)) (now (nets .entry)) (now (regs .entry)))
         → (m : Loaded counts (now (raw .entry)) (now (order .entry)) (now (nets .exit)) (now (regs .entry))) × (m .pipeline ≡ l .pipeline)) ⌝ }
 {
+    let sources = sources_of(raw, order, counts, nets, regs);
     let first = 2 * counts.inputs + counts.gates;
     let count = 3 * counts.registers + counts.elements;
     circuit_place::place_elements(nets, first, count);
-    let m = counts.registers;
-    let mut closed = [0u64; MOST];
-    if let Found::At(k) = find_circular(raw, order, counts, nets, regs, &mut closed[..m]) {
-        return fault(33, k);
+    if let Found::At(k) = find_circular(sources, counts, nets, regs) {
+        return check_rules::fault(33, k);
     }
-    let mut sources = [0u64; MOST];
-    let mut inputs = [0u64; MOST];
-    let mut levels = [1u8; MOST];
-    let mut rows = [0u64; ROWS];
-    let mut kos = [0u64; MOST];
-    let mut others = [0u8; MOST];
-    find_others(
-        raw,
-        order,
-        counts,
-        nets,
-        regs,
-        &mut sources[..m],
-        &mut inputs[..m],
-        &mut levels[..m],
-        &mut rows,
-        &mut kos[..m],
-        &mut others[..m],
-    )
+    find_others(raw, order, counts, nets, regs, sources)
 }

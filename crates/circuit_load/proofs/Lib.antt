@@ -3,7 +3,6 @@ pub mod Reading
 pub mod Stages
 pub mod Tables
 pub mod Holding
-pub mod Nets
 pub mod Rows
 pub mod Raw
 pub mod References

@@ -15,7 +15,7 @@ use Rattle.netlist.specs.Read.{Read}
 use Rattle.circuit_wire.specs.Wire.{RawLoaded}
 use Rattle.circuit_load.specs.Load.{groundOf}
 use Rattle.circuit_load.specs.Parts.{wiringOf, PipelineHeld}
-use Rattle.circuit_load.proofs.Nets.{data-is, named}
+use Rattle.wiring_spec.proofs.Named.{data-is, named}
 
 pub raw-held : (registers : Bool) {most : Limits} (less : NoMore most stageLimits) {s : List ℕ} {p : Places} (r : Read (stageFile registers) most s p) {code nets regs : List ℕ} →
     PipelineHeld s p code nets regs → (countsOf p .registers ≡ 0 → ⊥) → RawLoaded (wiringOf s p) (countsOf p) code

@@ -22,7 +22,7 @@ use Rattle.wiring_spec.specs.Parts.{Register, Part, register, element, partAt, 
 use Rattle.wiring_spec.specs.Parts.{partDrivers, drivers, driverOf, allNets}
 use Rattle.wiring_spec.specs.Tables.{slot, RowOf, registerSlot, RegisterRow, PartsLoaded}
 use Rattle.circuit_load.specs.Parts.{wiringOf, railRow, koRow, elementRow, netRows, registerRows, Begins, PipelineHeld}
-use Rattle.circuit_load.proofs.Nets.{long-alike, nets-count, all-named, first-part, all-long, named}
+use Rattle.wiring_spec.proofs.Named.{long-alike, nets-count, all-named, first-part, all-long, named}
 
 -- ---- row by row
 

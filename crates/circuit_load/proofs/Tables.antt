@@ -140,12 +140,17 @@ module _ (s : List ℕ) (note first : ℕ) (here : Spot) where
 
 -- ---- one after the other
 
--- what the tables lack, where a loop that loads some notes has come to note i
-pub record PartsLeft (s notes : List ℕ) (first : ℕ) (nets₀ nets regs₀ regs : List ℕ) (here : Spot) (i : ℕ) : Type 0 where
-  pub nets-left : Left nets₀ 0 (netRows 0 (partsIn s notes)) nets (8 * here .net) (netRows (here .register) (partsIn s (drop i notes)))
-  pub registers-left : Left regs₀ 0 (registerRows first (partsIn s notes)) regs (4 * here .register) (registerRows (first + here .net) (partsIn s (drop i notes)))
+-- what the tables lack, where a loop that loads some parts has come to part i
+pub record PartsLeft (parts : List Part) (first : ℕ) (nets₀ nets regs₀ regs : List ℕ) (here : Spot) (i : ℕ) : Type 0 where
+  pub nets-left : Left nets₀ 0 (netRows 0 parts) nets (8 * here .net) (netRows (here .register) (drop i parts))
+  pub registers-left : Left regs₀ 0 (registerRows first parts) regs (4 * here .register) (registerRows (first + here .net) (drop i parts))
   pub few-nets : here .net ≤ 3 * i
   pub few-registers : here .register ≤ i
+
+drop-parts : (s notes : List ℕ) (i : ℕ) → drop i (partsIn s notes) ≡ partsIn s (drop i notes)
+drop-parts s notes zero = refl
+drop-parts s [] (suc i) = refl
+drop-parts s (note ∷ notes) (suc i) = drop-parts s notes i
 
 -- a note among others
 pub note-read : {s notes : List ℕ} (i : ℕ) → NotesRead s notes → i < length notes → NotesRead s (getD notes i 0 ∷ [])
@@ -188,27 +193,27 @@ unfolding netRows registerRows
 ends (register r) first here = record { nets = omega arith; registers = omega arith; few-nets = omega arith; few-registers = omega arith }
 ends (element pins) first here = record { nets = omega arith; registers = omega arith; few-nets = omega arith; few-registers = omega arith }
 
-module _ {s notes : List ℕ} {first : ℕ} {nets₀ regs₀ : List ℕ} where
+module _ (s notes : List ℕ) {first : ℕ} {nets₀ regs₀ : List ℕ} where
   pub parts-start : length (netRows 0 (partsIn s notes)) ≤ length nets₀ → length (registerRows first (partsIn s notes)) ≤ length regs₀ →
-      PartsLeft s notes first nets₀ nets₀ regs₀ regs₀ (record { net = 0; register = 0 }) 0
+      PartsLeft (partsIn s notes) first nets₀ nets₀ regs₀ regs₀ (record { net = 0; register = 0 }) 0
   parts-start a b =
       let z : first + 0 ≡ first = omega arith in
       record { nets-left = left-all refl (omega arith); registers-left = rw z (left-all refl (omega arith)); few-nets = omega arith; few-registers = omega arith }
 
-  module _ {nets regs : List ℕ} {here : Spot} {i : ℕ} (l : PartsLeft s notes first nets₀ nets regs₀ regs here i) (h : i < length notes) where
+  module _ {nets regs : List ℕ} {here : Spot} {i : ℕ} (l : PartsLeft (partsIn s notes) first nets₀ nets regs₀ regs here i) (h : i < length notes) where
     abbrev part : Part
     part = partAt s (partNoted (getD notes i 0))
 
     abbrev later : List Part
-    later = partsIn s (drop (suc i) notes)
+    later = drop (suc i) (partsIn s notes)
 
-    next-part : partsIn s (drop i notes) ≡ part ∷ later
-    next-part = ap (partsIn s) (drop-cons notes i 0 h)
+    next-part : drop i (partsIn s notes) ≡ part ∷ later
+    next-part = drop-parts s notes i ∙ ap (partsIn s) (drop-cons notes i 0 h) ∙ ap (λ (parts : List Part). part ∷ parts) (sym (drop-parts s notes (suc i)))
 
-    nets-next : netRows (here .register) (partsIn s (drop i notes)) ≡ netRows (here .register) (part ∷ []) ++ netRows (spotAfter part here .register) later
+    nets-next : netRows (here .register) (drop i (partsIn s notes)) ≡ netRows (here .register) (part ∷ []) ++ netRows (spotAfter part here .register) later
     nets-next = ap (netRows (here .register)) next-part ∙ nets-split part later first here
 
-    registers-next : registerRows (first + here .net) (partsIn s (drop i notes))
+    registers-next : registerRows (first + here .net) (drop i (partsIn s notes))
         ≡ registerRows (first + here .net) (part ∷ []) ++ registerRows (first + spotAfter part here .net) later
     registers-next = ap (registerRows (first + here .net)) next-part ∙ registers-split part later first here
 
@@ -220,7 +225,7 @@ module _ {s notes : List ℕ} {first : ℕ} {nets₀ regs₀ : List ℕ} where
     )
 
     pub parts-put : {nets′ regs′ : List ℕ} {next : Spot} → PartPut part first here nets nets′ regs regs′ next →
-        PartsLeft s notes first nets₀ nets′ regs₀ regs′ next (i + 1)
+        PartsLeft (partsIn s notes) first nets₀ nets′ regs₀ regs′ next (i + 1)
     parts-put {nets′} {regs′} {next} p =
         let one : suc i ≡ i + 1 = omega arith in
         let e = ends part first here in
@@ -233,9 +238,9 @@ module _ {s notes : List ℕ} {first : ℕ} {nets₀ regs₀ : List ℕ} where
         })
 
   -- none is left
-  pub parts-done : {nets regs : List ℕ} {here : Spot} {i : ℕ} → PartsLeft s notes first nets₀ nets regs₀ regs here i → length notes ≤ i →
+  pub parts-done : {nets regs : List ℕ} {here : Spot} {i : ℕ} → PartsLeft (partsIn s notes) first nets₀ nets regs₀ regs here i → length notes ≤ i →
       Put nets₀ 0 (netRows 0 (partsIn s notes)) nets × Put regs₀ 0 (registerRows first (partsIn s notes)) regs
   unfolding netRows registerRows
   parts-done {here = here} {i = i} l h =
-      let none : drop i notes ≡ [] = drop-of-length-le notes h in
-      (left-none (l .nets-left) (ap (λ (ns : List ℕ). netRows (here .register) (partsIn s ns)) none), left-none (l .registers-left) (ap (λ (ns : List ℕ). registerRows (first + here .net) (partsIn s ns)) none))
+      let none : drop i (partsIn s notes) ≡ [] = drop-parts s notes i ∙ ap (partsIn s) (drop-of-length-le notes h) in
+      (left-none (l .nets-left) (ap (netRows (here .register)) none), left-none (l .registers-left) (ap (registerRows (first + here .net)) none))

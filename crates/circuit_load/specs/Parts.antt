@@ -5,22 +5,17 @@ use mathlib.Core.List.{List, [], _∷_, _++_, map}
 use lib.ListN.{length, getD, take}
 use Rattle.netlist.specs.declared.File.{File}
 use Rattle.netlist.specs.Bytes.{absent}
-use Rattle.netlist.specs.Coded.{codedAt}
-use Rattle.netlist.specs.declared.File.the-variants as file
 use Rattle.netlist.specs.Reading.{Nets, Places, countsOf, netsOf, Reading, refused, readable}
 use Rattle.netlist.specs.Content.{stageOf}
 use Rattle.netlist.specs.Read.{PartRead}
 use Rattle.netlist.specs.Writing.{All}
 use Rattle.read_file.specs.Files.{partNoted}
 use Rattle.circuit.specs.Stage.{netCount, stageIn}
-use Rattle.wiring_spec.specs.Parts.{Part, register, element, partAt, Pipeline}
+use Rattle.wiring_spec.specs.Parts.{Part, register, element, partAt}
+pub use Rattle.wiring_spec.specs.Tables.{wiringOf}
 use Rattle.write_command.specs.Put.{Put}
 use Rattle.circuit_load.specs.declared.Spot.{Spot}
 use Rattle.circuit_load.specs.Load.{RawStage, groundOf}
-
--- how the stage of a readable file is wired
-abbrev pub wiringOf : List ℕ → Places → Pipeline
-wiringOf s p = record { inputs = p .inputs; gates = map (λ at. codedAt file.Stage s at .operands) (p .gates); parts = map (partAt s) (p .parts) }
 
 -- ---- the two tables
 

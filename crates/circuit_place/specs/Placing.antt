@@ -53,5 +53,6 @@ pub record Passed (code₀ code : List ℕ) (first count before placed : ℕ) : 
 -- What the places are worth in a pipeline: the C-elements at the pins of one with a place have places, before its own; one without a place has such a one
 -- at a pin.
 pub record Placed (p : Pipeline) (code : List ℕ) (first : ℕ) : Type 0 where
-  pub before : (x v w : ℕ) → In v (openings p x) → In w (openings p v) → 0 < place code first x → (0 < place code first v) × (place code first v < place code first x)
+  pub before : (x v w : ℕ) → In v (openings p x) → In w (openings p v) → 0 < place code first x
+      → (0 < place code first v) × (place code first v < place code first x)
   pub stuck : (x w : ℕ) → In w (openings p x) → place code first x ≡ 0 → (v u : ℕ) × In v (openings p x) × In u (openings p v) × (place code first v ≡ 0)

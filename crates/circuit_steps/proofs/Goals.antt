@@ -38,7 +38,7 @@ module _ (c : Counts) (row : List ℕ) (ro : RowFor c row) where
   -- the rails that spell a word
   pub spelt : (w : ℕ) → railPart c row ≡ railsOf (bitsOf (c .inputs) w) → (k : ℕ) → k < 2 * c .inputs → rowIn c row k ≡ railsFor w k
   spelt w e k h =
-      let s : Content = record { inputs = c .inputs; gates = []; outputs = []; care = [] } in
+      let s : Content = record { inputs = c .inputs; gates = []; outputs = []; care = []; parts = [] } in
       level-in k (omega arith)
       ∙ ap (λ (x : ℕ). ltb 0 x) (sym (getD-take (2 * c .inputs) row k 0 h) ∙ ap (λ (l : List ℕ). getD l k 0) e)
       ∙ rails-alike s w k h

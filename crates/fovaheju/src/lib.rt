@@ -32,8 +32,9 @@ pub fn check(order: WordOrder, stage: &[u8], reference: &[u8]) -> Verdict
     check_files::check(order, stage, reference)
 }
 
-// The switching report of a stage file against a reference file: the check's verdict, and of an accepted stage how many gates are high at the
-// rest of each word, in the order of their names, and in all words together, which is half of all gate switchings when each word rises and falls once.
+// The switching report of a stage file without registers against a reference file: the check's verdict, and of an accepted stage how many gates are high
+// at the rest of each word, in the order of their names, and in all words together, which is half of all gate switchings when each word rises and falls
+// once.
 pub fn report(order: WordOrder, stage: &[u8], reference: &[u8]) -> Report
     ensures report { λ r. ⌜ r ≡ reportOn order (content.plainFiles (now (stage .entry)) (now (reference .entry))) ⌝ }
     ensures means { λ r. ⌜ ReportMeans (content.plainFiles (now (stage .entry)) (now (reference .entry))) r ⌝ }
@@ -117,9 +118,9 @@ pub fn draw_reference(seed: u32, inputs: usize, gates: usize, reference_out: &mu
     call_draw::draw_reference(seed, inputs, gates, reference_out)
 }
 
-// The witness of a verdict on two files: the check's verdict, and a run that shows what it says, the least net that may switch first, at the start of a
-// lent list. Of an accepted pair it is a full rise and a full fall of the word whose name is asked for; of a number that speaks of no run there is
-// none. A list too short is left as it was, and the answer still says how long the run is.
+// The witness of a verdict on two files, the stage without registers: the check's verdict, and a run that shows what it says, the least net that may
+// switch first, at the start of a lent list. Of an accepted pair it is a full rise and a full fall of the word whose name is asked for; of a number that
+// speaks of no run there is none. A list too short is left as it was, and the answer still says how long the run is.
 pub fn witness(
     order: WordOrder,
     stage: &[u8],

@@ -75,7 +75,13 @@ built r = build (r .inputs) (record { gates = []; rails = map (λ i. 2 * i ∷ (
 
 -- each output is the rails of its signal, and every word is cared for
 unfoldable pub madeStage : Content → Content
-madeStage r = record { inputs = r .inputs; gates = built r .gates; outputs = map (λ (o : List ℕ). railsAt (built r) (getD o 0 0)) (r .outputs); care = []; parts = [] }
+madeStage r = record {
+  inputs = r .inputs;
+  gates = built r .gates;
+  outputs = map (λ (o : List ℕ). railsAt (built r) (getD o 0 0)) (r .outputs);
+  care = [];
+  parts = [];
+}
 
 -- ---- the call
 

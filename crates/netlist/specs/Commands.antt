@@ -42,19 +42,18 @@ asForm c lead operands = record { sort = c; lead = lead; operands = operands }
 
 -- The table: a row for each command byte of a file. The command byte counts among the bytes before the operands, and so do the count
 -- of inputs and a gate's kind or operation. A pipeline is a stage that may have registers and C-elements too.
+abbrev pub stageGate : ℕ × Form
+stageGate = (0x02, asForm sort.Gate 2 4)
+
+abbrev pub stageOutput : ℕ × Form
+stageOutput = (0x03, asForm sort.Output 1 2)
+
+abbrev pub stageCare : ℕ × Form
+stageCare = (0x06, asForm sort.Care 1 1)
+
 unfoldable pub ownCommands : File → List (ℕ × Form)
-ownCommands Stage =
-    (0x02, asForm sort.Gate 2 4) ∷
-    (0x03, asForm sort.Output 1 2) ∷
-    (0x06, asForm sort.Care 1 1) ∷
-    []
-ownCommands Pipeline =
-    (0x02, asForm sort.Gate 2 4) ∷
-    (0x03, asForm sort.Output 1 2) ∷
-    (0x04, asForm sort.Register 1 3) ∷
-    (0x05, asForm sort.Element 1 4) ∷
-    (0x06, asForm sort.Care 1 1) ∷
-    []
+ownCommands Stage = stageGate ∷ stageOutput ∷ stageCare ∷ []
+ownCommands Pipeline = stageGate ∷ stageOutput ∷ (0x04, asForm sort.Register 1 3) ∷ (0x05, asForm sort.Element 1 4) ∷ stageCare ∷ []
 ownCommands Reference = (0x11, asForm sort.Gate 2 2) ∷ (0x12, asForm sort.Output 1 1) ∷ []
 
 -- a stage file, with registers or without
@@ -73,7 +72,7 @@ formIn (r ∷ rs) b = let later = formIn rs b in cond (eqb b (r .0)) (r .1) late
 abbrev pub formOf : File → ℕ → Form
 formOf f b = formIn (commandTable f) b
 
--- what operand i of a command has to name
+-- what operand i of a command has to name; of a register the third is its Ki
 unfoldable pub roleOf : File → Sort → ℕ → Role
 roleOf Stage sort.Gate i = AnyNet
 roleOf Stage sort.Output i = AnyNet
@@ -83,6 +82,7 @@ roleOf Pipeline sort.Register i = cond (ltb i 2) Data Request
 roleOf Pipeline sort.Element i = Pin
 roleOf Reference sort.Gate i = EarlierSignal
 roleOf Reference sort.Output i = AnySignal
+-- these files have no such command
 roleOf Stage sort.Register i = Number
 roleOf Stage sort.Element i = Number
 roleOf Reference sort.Register i = Number
@@ -154,7 +154,8 @@ takeCare s place before taken =
     (cond (ltb (operand s place) (before .floor)) (Refused 19 place) taken)
     (Refused 18 place)
 
--- a C-element, where m stand before it: 6, then 5 at the first of its pins that is used but FFFF, or not used and not FFFF
+-- a C-element, where m stand before it: 6, then 5 at the first of its pins that is used but FFFF, or not used and not FFFF. C only decides whether it is
+-- used, so 5 falls on A, B or D
 unfoldable pub takeElement : List ℕ → ℕ → ℕ → Form → Next → Next
 takeElement s at m form taken =
     cond (leb mostParts m) (Refused 6 at)

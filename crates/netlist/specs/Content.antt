@@ -32,6 +32,7 @@ gateOf c = record { cell = cellOf (kindOf (c .code)); hold = holdOf (kindOf (c .
 abbrev pub pairAt : List ℕ → ℕ → Pair
 pairAt s at = record { rail0 = operand s (at + 1); rail1 = operand s (at + 3) }
 
+-- registers and C-elements, where the file has some, are not in it
 unfoldable pub stageOf : List ℕ → Places → Stage
 stageOf s p = record {
   inputs = p .inputs;

@@ -1,4 +1,4 @@
--- Well-formed stages and references: what those of readable files are, and what a file can hold.
+-- Well-formed stages without registers, and references: what those of readable files are, and what a file can hold.
 use Prim.Native.Nat.{ℕ, suc, _+_, _*_, _^_, _≤_, _<_}
 use mathlib.Core.Path.{_≡_}
 use mathlib.Core.List.{List, [], _∷_}

@@ -1,4 +1,4 @@
--- What holds of a readable file by the places of its commands, whatever its elements; and a reading as the code answers it.
+-- What holds of a readable file by the places of its commands, also of a list of numbers that are no bytes; and a reading as the code answers it.
 use Prim.Native.Nat.{ℕ, _+_, _*_, _^_, _≤_, _<_}
 use mathlib.Core.Path.{_≡_}
 use mathlib.Core.Bool.{true}

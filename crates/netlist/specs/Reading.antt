@@ -1,12 +1,15 @@
 -- Reading a whole file: its commands one after the other, the refusals 7 to 9 at the end command, and what a readable file gives.
 use Prim.Native.Nat.{ℕ, zero, suc, _+_, _-_, _*_, _≤_, _<_}
+use mathlib.Core.Path.{_≡_}
 use mathlib.Core.Bool.{Bool, true, false, cond, _||_}
+use mathlib.Core.Logic.{_⊎_}
 use mathlib.Core.List.{List, [], _∷_, _++_, map}
 use lib.ListN.{length, getD}
 use lib.Dec.{eqb, ltb}
 use Rattle.netlist.specs.Types.{File, Sort, Role, AnyNet, EarlierSignal, AnySignal, Number, Data, Pin, Request}
 use Rattle.netlist.specs.Types.{Form, Limits, Counts, Next, Command, Refused, Found, At}
 use Rattle.netlist.specs.Types.{Nothing}
+use Rattle.netlist.specs.Types.file
 use Rattle.netlist.specs.Types.sort
 use Rattle.netlist.specs.Bytes.{byte, operand, outside}
 use Rattle.netlist.specs.Commands.{whenFound, isSort, formOf, roleOf, width, used, nextAt}
@@ -157,6 +160,12 @@ readFrom (suc fuel) f most s at p = onNext (readFrom fuel f most s) f s at p (ne
 
 unfoldable pub readFile : File → Limits → List ℕ → Reading
 readFile f most s = readFrom (suc (length s)) f most s 0 noPlaces
+
+-- read as a stage, a file is refused by 2 at the command of a register or of a C-element
+pub record RefusedAtPart (most : Limits) (s : List ℕ) : Type 0 where
+  pub at : ℕ
+  pub refused-is : readFile file.Stage most s ≡ refused 2 at
+  pub part : (byte s at ≡ 0x04) ⊎ (byte s at ≡ 0x05)
 
 -- ---- limits
 

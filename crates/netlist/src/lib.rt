@@ -131,7 +131,7 @@ pub enum Next {
 }
 
 // What an operand has to name: any net of the stage, a signal of the reference that is an input or an earlier gate, any signal of the
-// reference; or it is a number and names nothing. In a pipeline: a net that carries data, any net at all, or that or the outside.
+// reference; or it is a number and names nothing. In a pipeline: a net that carries data; any net; any net, or FFFE.
 pub enum Role {
     AnyNet,
     EarlierSignal,

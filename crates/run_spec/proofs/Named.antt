@@ -76,10 +76,16 @@ module _ (order : WordOrder) (f : Files) where
         p .0,
         some-all (λ k. judge (checks order raw r) .number ≡ k → LoopFree (netOf s)) (13 ∷ 14 ∷ 15 ∷ 20 ∷ 21 ∷ []) (
           (λ q. w (before 13 12 ls q) (before 13 33 ls q)),
-          ((λ q. w (before 14 12 ls q) (before 14 33 ls q)),
-          ((λ q. w (before 15 12 ls q) (before 15 33 ls q)),
-          ((λ q. w (before 20 12 ls q) (before 20 33 ls q)),
-          ((λ q. w (before 21 12 ls q) (before 21 33 ls q)), tt)))),
+          (
+            (λ q. w (before 14 12 ls q) (before 14 33 ls q)),
+            (
+              (λ q. w (before 15 12 ls q) (before 15 33 ls q)),
+              (
+                (λ q. w (before 20 12 ls q) (before 20 33 ls q)),
+                ((λ q. w (before 21 12 ls q) (before 21 33 ls q)), tt),
+              ),
+            ),
+          ),
         ) n h (ap (λ (x : Verdict). x .number) (sym (p .1))),
       )
 
@@ -120,32 +126,40 @@ module _ (order : WordOrder) (f : Files) where
           ((λ t. tt), tt),
           (
             sweep-each 12 1 (numbers 0 (length (raw .gates))) (λ w g. reachesItself (netOf raw) (2 * raw .inputs + g)) Holds (0 ∷ []) (λ w x i y t. tt),
-            (sweep-each 33 1 (registers p) (λ w. circular p) Holds (0 ∷ []) (λ w x i y t. tt),
-            (sweep-each 33 1 (registers p) (λ w. uneven p) Holds (0 ∷ []) (λ w x i y t. tt),
-            (sweep-each 34 1 (registers p) (λ w. missing p) Holds (0 ∷ []) (λ w x i y t. tt),
-            (sweep-each 35 1 (registers p) (λ w. barred p) Holds (0 ∷ []) (λ w x i y t. tt),
             (
-              sweep-each 28 1 (numbers 0 m) (λ w. retiredGate s) Holds (0 ∷ []) (λ w x i y t. tt),
+              sweep-each 33 1 (registers p) (λ w. circular p) Holds (0 ∷ []) (λ w x i y t. tt),
               (
-                sweep-each 13 1 (numbers 0 outs) (λ name. wrong s r (sp name)) Holds (names order s) (λ w x i y t. (in-index outs i y, t)),
+                sweep-each 33 1 (registers p) (λ w. uneven p) Holds (0 ∷ []) (λ w x i y t. tt),
                 (
-                  sweep-each 14 1 (numbers 0 (s .inputs)) (λ name. incomplete s (sp name)) Holds (names order s) (λ w x i y t. (in-index (s .inputs) i y, t)),
+                  sweep-each 34 1 (registers p) (λ w. missing p) Holds (0 ∷ []) (λ w x i y t. tt),
                   (
-                    sweep-each 15 1 (numbers 0 m) (λ name. unobservable s (sp name)) Holds (names order s) (λ w x i y t. (in-index m i y, t)),
+                    sweep-each 35 1 (registers p) (λ w. barred p) Holds (0 ∷ []) (λ w x i y t. tt),
                     (
-                      sweep-each 20 1 (numbers 0 (s .inputs)) (λ name. fallIncomplete s (sp name)) Holds (names order s) (λ w x i y t. (in-index (s .inputs) i y, t)),
+                      sweep-each 28 1 (numbers 0 m) (λ w. retiredGate s) Holds (0 ∷ []) (λ w x i y t. tt),
                       (
-                        sweep-each 21 1 (numbers 0 m) (λ name. fallUnobservable s (sp name)) Holds (names order s) (λ w x i y t. (in-index m i y, t)),
+                        sweep-each 13 1 (numbers 0 outs) (λ name. wrong s r (sp name)) Holds (names order s) (λ w x i y t. (in-index outs i y, t)),
                         (
-                          sweep-each 32 1 (numbers 0 m) (λ w g. neverRises s (2 * s .inputs + g)) Holds (0 ∷ []) (λ w x i y t. tt),
-                          tt,
+                          sweep-each 14 1 (numbers 0 (s .inputs)) (λ name. incomplete s (sp name)) Holds (names order s) (λ w x i y t. (in-index (s .inputs) i y, t)),
+                          (
+                            sweep-each 15 1 (numbers 0 m) (λ name. unobservable s (sp name)) Holds (names order s) (λ w x i y t. (in-index m i y, t)),
+                            (
+                              sweep-each 20 1 (numbers 0 (s .inputs)) (λ name. fallIncomplete s (sp name)) Holds (names order s) (λ w x i y t. (in-index (s .inputs) i y, t)),
+                              (
+                                sweep-each 21 1 (numbers 0 m) (λ name. fallUnobservable s (sp name)) Holds (names order s) (λ w x i y t. (in-index m i y, t)),
+                                (
+                                  sweep-each 32 1 (numbers 0 m) (λ w g. neverRises s (2 * s .inputs + g)) Holds (0 ∷ []) (λ w x i y t. tt),
+                                  tt,
+                                ),
+                              ),
+                            ),
+                          ),
                         ),
                       ),
                     ),
                   ),
                 ),
               ),
-            ))))),
+            ),
           ),
         ),
       )

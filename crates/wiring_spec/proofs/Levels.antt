@@ -24,15 +24,15 @@ unfolding highest
 highest-above f (x ∷ ks) k (inl e) = omega (arith, ap f e)
 highest-above f (x ∷ ks) k (inr i) = omega (arith, highest-above f ks k i)
 
-highest-some : (f : ℕ → ℕ) (ks : List ℕ) → (_≡_ {A = ℕ} (highest (map f ks)) 0) ⊎ ((k : ℕ) × In k ks × (highest (map f ks) ≡ f k))
+highest-some : (f : ℕ → ℕ) (ks : List ℕ) → (((k : ℕ) → ¬ (In k ks)) × (_≡_ {A = ℕ} (highest (map f ks)) 0)) ⊎ ((k : ℕ) × In k ks × (highest (map f ks) ≡ f k))
 unfolding highest
-highest-some f [] = inl refl
+highest-some f [] = inl ((λ k i. i), refl)
 highest-some f (x ∷ ks) = go (decLe (highest (map f ks)) (f x)) (highest-some f ks)
   where
-    go : Dec (highest (map f ks) ≤ f x) → (_≡_ {A = ℕ} (highest (map f ks)) 0) ⊎ ((k : ℕ) × In k ks × (highest (map f ks) ≡ f k))
-        → (_≡_ {A = ℕ} (max (f x) (highest (map f ks))) 0) ⊎ ((k : ℕ) × In k (x ∷ ks) × (max (f x) (highest (map f ks)) ≡ f k))
+    go : Dec (highest (map f ks) ≤ f x) → (((k : ℕ) → ¬ (In k ks)) × (_≡_ {A = ℕ} (highest (map f ks)) 0)) ⊎ ((k : ℕ) × In k ks × (highest (map f ks) ≡ f k))
+        → (((k : ℕ) → ¬ (In k (x ∷ ks))) × (_≡_ {A = ℕ} (max (f x) (highest (map f ks))) 0)) ⊎ ((k : ℕ) × In k (x ∷ ks) × (max (f x) (highest (map f ks)) ≡ f k))
     go (yes l) r = inr (x, inl refl, omega arith)
-    go (no l) (inl e) = absurd (omega arith)
+    go (no l) (inl e) = absurd (omega (arith, e .1))
     go (no l) (inr r) = inr (r .0, inr (r .1), omega (arith, r .2))
 
 -- no level is more than the number of registers
@@ -81,7 +81,8 @@ module _ (p : Pipeline) (forward : (k : ℕ) → ¬ (ReachesOn p k k)) where
     next = go (highest-some (level p) (sources p t));
   }
     where
-      go : (_≡_ {A = ℕ} (highest (map (level p) (sources p t))) 0) ⊎ ((k : ℕ) × In k (sources p t) × (highest (map (level p) (sources p t)) ≡ level p k))
-          → (level p t ≡ 1) ⊎ ((k : ℕ) × Reaches p k t × (level p t ≡ suc (level p k)))
-      go (inl e) = inl (level-is t h ∙ ap suc e)
+      go : (((k : ℕ) → ¬ (In k (sources p t))) × (_≡_ {A = ℕ} (highest (map (level p) (sources p t))) 0))
+          ⊎ ((k : ℕ) × In k (sources p t) × (highest (map (level p) (sources p t)) ≡ level p k))
+          → (((k : ℕ) → ¬ (Reaches p k t)) × (level p t ≡ 1)) ⊎ ((k : ℕ) × Reaches p k t × (level p t ≡ suc (level p k)))
+      go (inl e) = inl ((λ k r. e .0 k (source-in p k t r)), level-is t h ∙ ap suc (e .1))
       go (inr r) = inr (r .0, source-out p (r .0) t (r .1), level-is t h ∙ ap suc (r .2))

@@ -12,11 +12,11 @@ use Rattle.runs.proofs.Test.{clash, not-true, of-not, and-in, and-left, and-rig
 use Rattle.verdict.specs.Lists.{some}
 use Rattle.verdict.specs.Paths.{In, Leads, here, onward, OnLoop}
 use Rattle.verdict.proofs.Steps.{some-in, some-out, lead-sound, lead-complete}
-use Rattle.verdict.proofs.Words.{index-in, in-index}
+use Rattle.verdict.proofs.Words.{index-in}
 use Rattle.verdict.proofs.Names.{select-in, in-select}
 use Rattle.wiring_spec.specs.Parts.{Pipeline, Driver, input, gate, rail, acknowledge, completion, nothing, driverOf, allNets, dataOf, kiOf, registerCount}
 use Rattle.wiring_spec.specs.Wiring.{gateSteps, openings, isInput, isRailOf, isKoOf, dataFrom, reaches, fromInput, registers, sources, reachesItself, level, behind, isLoop, circular, uneven, missing, foreign, bars, barred}
-use Rattle.wiring_spec.specs.Passing.{DataFrom, Reaches, FromInput, ReachesOn, straight, through, ReachesNone, Behind, KoBehind, MayStand, Circular, Uneven, Missing, Barred, Levelled, Acknowledged, Passes, FindNothing}
+use Rattle.wiring_spec.specs.Passing.{DataFrom, Reaches, FromInput, ReachesOn, straight, through, ReachesNone, Behind, KoBehind, MayStand, Circular, Uneven, Missing, Barred, Levelled, Acknowledged, Passes, LeastAt, AtNone, Nowhere, FindNothing}
 use Rattle.wiring_spec.proofs.Nets.{never, net-where, register-inside, rail-inside, gate-inside, open-inside}
 
 -- ---- numbers that are equal, by their test
@@ -284,23 +284,27 @@ module _ (p : Pipeline) where
 
   -- ---- exactly
 
-  abbrev None : (ℕ → Type 0) → Type 0
-  None P = (k : ℕ) → k < registerCount p → ¬ (P k)
-
   module _ (fails : ℕ → Bool) (P : ℕ → Type 0) where
-    none-out : ((k : ℕ) → P k → fails k ≡ true) → ((k : ℕ) → k < registerCount p → fails k ≡ false) → None P
+    pub none-out : ((k : ℕ) → P k → fails k ≡ true) → Nowhere p fails → AtNone p P
     none-out complete n k h c = clash (complete k c) (n k h)
 
-    none-in : ((k : ℕ) → fails k ≡ true → P k) → None P → (k : ℕ) → k < registerCount p → fails k ≡ false
+    none-in : ((k : ℕ) → fails k ≡ true → P k) → AtNone p P → Nowhere p fails
     none-in sound f k h = not-true (fails k) (λ e. f k h (sound k e))
 
-  levelled-in : None (Circular p) → None (Uneven p) → Levelled p
+    pub least-out : ((k : ℕ) → fails k ≡ true → P k) → ((k : ℕ) → P k → fails k ≡ true) → (k : ℕ) → fails k ≡ true → ((j : ℕ) → j < k → fails j ≡ false) → LeastAt P k
+    least-out sound complete k e less = (sound k e, λ j h c. clash (complete j c) (less j h))
+
+  levelled-in : AtNone p (Circular p) → AtNone p (Uneven p) → Levelled p
   levelled-in c u = record {
     forward = λ k r. c k (on-inside k r) (inl r);
     noLoop = λ k y h b o. c k h (inr (y, b, o));
     equal = λ k t r. same? (level p t) (suc (level p k)) (λ d. u t (target-inside k t r) (inl (k, r, d)));
     first = λ t r. same? (level p t) 1 (λ d. u t (register-inside p t (r .0) (r .1)) (inr (r, d)));
   }
+
+  -- 33 finds nothing
+  pub levelled-found : Nowhere p (circular p) → Nowhere p (uneven p) → Levelled p
+  levelled-found c u = levelled-in (none-out (circular p) (Circular p) circular-complete c) (none-out (uneven p) (Uneven p) uneven-complete u)
 
   acknowledged-in : (k : ℕ) → ¬ (Missing p k) → ¬ (Barred p k) → Acknowledged p k
   acknowledged-in k l b = record { all = all-in; only = only-in; alone = λ f. same? (kiOf p k) outside (λ d. b (inr (f, d))) }
@@ -345,6 +349,6 @@ module _ (p : Pipeline) where
 
       back : FindNothing p → Passes p
       back n = record {
-        levelled = levelled-in (none-out (circular p) (Circular p) circular-complete (n .circular)) (none-out (uneven p) (Uneven p) uneven-complete (n .uneven));
+        levelled = levelled-found (n .circular) (n .uneven);
         acknowledged = λ k h. acknowledged-in k (none-out (missing p) (Missing p) missing-complete (n .missing) k h) (none-out (barred p) (Barred p) barred-complete (n .barred) k h);
       }

@@ -3,12 +3,11 @@
 use Prim.Native.Nat.{ℕ, zero, suc, _+_, _*_, _≤_, _<_}
 use native.Mathlib.Omega.{arith}
 use mathlib.Core.Path.{_≡_, refl, sym, ap, _∙_, subst}
-use mathlib.Core.Bool.{Bool, true, false}
+use mathlib.Core.Bool.{Bool, true}
 use mathlib.Core.List.{List, [], _∷_, map}
 use mathlib.Core.Logic.{inl, inr}
-use lib.ListN.{length, getD}
+use lib.ListN.{length}
 use borrow.Author.Tests.{eq-eqb, eqb-true}
-use Rattle.gates.specs.Cell.{bit}
 use Rattle.verdict.specs.Paths.{In, Leads, here, onward, OnLoop}
 use Rattle.verdict.proofs.Graph.{leads-trans, rank-≤}
 use Rattle.wiring_spec.specs.Parts.{Pipeline, Driver, input, gate, rail, acknowledge, completion, nothing, driverOf, registersOf, dataOf, registerCount}
@@ -81,7 +80,7 @@ module _ (p : Pipeline) where
 
   -- ---- resolving ends
 
-  module _ (named : Named p) (forward : (k : ℕ) → ¬ (ReachesOn p k k)) where
+  module _ (forward : (k : ℕ) → ¬ (ReachesOn p k k)) where
     rankOf : Driver → ℕ
     rankOf input = 0
     rankOf (gate pins) = 0
@@ -125,6 +124,27 @@ module _ (p : Pipeline) where
     ends zero x h k e = omega (arith, rank-rail k (driverOf p x) e, register-rank p forward k (rail-inside p k x e))
     ends (suc fuel) x h k e = ends fuel (wire x) (wire-ranks fuel x h) k e
 
+    -- .. so that one wire more changes nothing
+    pub resolve-ends : (x k : ℕ) → isRailOf k (driverOf p (resolve p x)) ≡ true → ⊥
+    unfolding resolve
+    resolve-ends x =
+        let m = registerCount p in
+        let few = rank-below (suc m) (omega arith) (driverOf p x) (λ j q. omega (arith, rank-≤ (sources p) m (step-inside p) j)) in
+        ends m x (omega arith)
+
+    pub resolve-wire : (x : ℕ) → resolve p x ≡ resolve p (wire x)
+    unfolding resolve times
+    resolve-wire x = sym (last (registerCount p) x ∙ still (wired (resolve p x)))
+      where
+        last : (k x : ℕ) → times k wire (wire x) ≡ wire (times k wire x)
+        last zero x = refl
+        last (suc k) x = last k (wire x)
+
+        still : Wired (resolve p x) (driverOf p (resolve p x)) → wire (resolve p x) ≡ resolve p x
+        still (same e n) = e
+        still (other k h e i s) = absurd (resolve-ends x k e)
+
+  module _ (named : Named p) (forward : (k : ℕ) → ¬ (ReachesOn p k k)) where
     times-data : (k x : ℕ) → IsData p x → IsData p (times k wire x)
     unfolding times
     times-data zero x c = c
@@ -137,10 +157,7 @@ module _ (p : Pipeline) where
     -- a data net is resolved to a rail of an input or to a gate
     pub resolve-inside : (x : ℕ) → IsData p x → resolve p x < 2 * p .inputs + length (p .gates)
     unfolding resolve carriesData isRailOf
-    resolve-inside x c =
-        let m = registerCount p in
-        let few = rank-below (suc m) (omega arith) (driverOf p x) (λ j q. omega (arith, rank-≤ (sources p) m (step-inside p) j)) in
-        go (driverOf p (resolve p x)) (stands p (resolve p x)) (times-data m x c) (ends m x (omega arith))
+    resolve-inside x c = go (driverOf p (resolve p x)) (stands p (resolve p x)) (times-data (registerCount p) x c) (resolve-ends forward x)
       where
         go : (d : Driver) → Stands p d (resolve p x) → carriesData d ≡ true → ((k : ℕ) → isRailOf k d ≡ true → ⊥) → resolve p x < 2 * p .inputs + length (p .gates)
         go input s c n = omega arith
@@ -149,6 +166,27 @@ module _ (p : Pipeline) where
         go (acknowledge k) s c n = absurd (never c)
         go (completion pins) s c n = absurd (never c)
         go nothing s c n = absurd (never c)
+
+  -- ---- a net that is no rail of a register
+
+  pub resolve-own : (x : ℕ) → ((k : ℕ) (b : Bool) → ¬ (driverOf p x ≡ rail k b)) → resolve p x ≡ x
+  unfolding resolve times wireOf
+  resolve-own x none = stays (registerCount p)
+    where
+      here : wire x ≡ x
+      here = go (driverOf p x) none
+        where
+          go : (d : Driver) → ((k : ℕ) (b : Bool) → ¬ (d ≡ rail k b)) → wireOf p x d ≡ x
+          go input n = refl
+          go (gate pins) n = refl
+          go (rail k b) n = absurd (n k b refl)
+          go (acknowledge k) n = refl
+          go (completion pins) n = refl
+          go nothing n = refl
+
+      stays : (k : ℕ) → times k wire x ≡ x
+      stays zero = refl
+      stays (suc k) = ap (times k wire) here ∙ stays k
 
   -- ---- without registers nothing changes
 

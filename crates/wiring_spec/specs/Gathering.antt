@@ -1,4 +1,4 @@
--- What a bit that code gathers along steps says: one of some nets is such a net, or leads to one.
+-- What a bit that code gathers along steps says: one of some nets passes a test, or leads to a net that does.
 use Prim.Native.Nat.{ℕ}
 use mathlib.Core.Path.{_≡_}
 use mathlib.Core.Bool.{Bool, true}

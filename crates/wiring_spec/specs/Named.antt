@@ -21,7 +21,7 @@ carriesData nothing = false
 abbrev pub IsData : Pipeline → ℕ → Type 0
 IsData p x = carriesData (driverOf p x) ≡ true
 
--- the outside is no net
+-- FFFE is above all nets
 pub record Named (p : Pipeline) : Type 0 where
   pub few : allNets p ≤ outside
   pub gatePin : (x v : ℕ) → In v (gateSteps p x) → IsData p v

@@ -13,7 +13,7 @@ use Rattle.wiring_spec.specs.Wiring.{gateSteps, openings, isInput, isRai
 
 -- ---- reaching
 
--- a net at register t's data is such a net, or leads back to one through gates
+-- a net at register t's data is a net whose driver passes `goal`, or leads back to one through gates
 abbrev pub DataFrom : Pipeline → (Driver → Bool) → ℕ → Type 0
 DataFrom p goal t = (x : ℕ) × In x (dataOf p t) × (y : ℕ) × (goal (driverOf p y) ≡ true) × Leads (gateSteps p) y x
 
@@ -43,8 +43,8 @@ Behind p k y = Leads (openings p) y (kiOf p k)
 abbrev pub KoBehind : Pipeline → ℕ → ℕ → Type 0
 KoBehind p k t = (y : ℕ) × (isKoOf t (driverOf p y) ≡ true) × Behind p k y
 
--- what may stand behind register k's Ki: C-elements, which are opened, the Ko of registers that it reaches, and otherwise only the Ko
--- of registers of the next level
+-- What may stand behind register k's Ki: C-elements, which are opened, the Ko of registers that it reaches, and otherwise only the Ko
+-- of registers of the next level. FFFE too, which nothing drives: where something is reached, 34 refuses it first.
 abbrev pub MayStand : Pipeline → ℕ → Driver → Type 0
 MayStand p k input = ⊥
 MayStand p k (gate pins) = ⊥
@@ -94,6 +94,13 @@ pub record Passes (p : Pipeline) : Type 0 where
   pub levelled : Levelled p
   pub acknowledged : (k : ℕ) → k < registerCount p → Acknowledged p k
 
+-- something is so at register k and at none before it, or at no register
+abbrev pub LeastAt : (ℕ → Type 0) → ℕ → Type 0
+LeastAt P k = P k × ((j : ℕ) → j < k → ¬ (P j))
+
+abbrev pub AtNone : Pipeline → (ℕ → Type 0) → Type 0
+AtNone p P = (k : ℕ) → k < registerCount p → ¬ (P k)
+
 -- a test fails at no register
 abbrev pub Nowhere : Pipeline → (ℕ → Bool) → Type 0
 Nowhere p fails = (k : ℕ) → k < registerCount p → fails k ≡ false
@@ -106,10 +113,10 @@ pub record FindNothing (p : Pipeline) : Type 0 where
   pub barred : Nowhere p (test.barred p)
 
 -- "a register's level is one more than the highest level its data comes from": it is above the level of each register that reaches it, and one more than
--- that of some, or 1 where its data comes from inputs alone, which "have level 0"
+-- that of some, or 1 where none does, since "inputs have level 0"
 pub record LevelOf (p : Pipeline) (t : ℕ) : Type 0 where
   pub above : (k : ℕ) → Reaches p k t → level p k < level p t
-  pub next : (level p t ≡ 1) ⊎ ((k : ℕ) × Reaches p k t × (level p t ≡ suc (level p k)))
+  pub next : (((k : ℕ) → ¬ (Reaches p k t)) × (level p t ≡ 1)) ⊎ ((k : ℕ) × Reaches p k t × (level p t ≡ suc (level p k)))
 
 -- What 33, 34 and 35 test is what the paper says, "the wiring passes exactly if" they find nothing, and levels are as it says where the first pass of 33
 -- finds nothing.

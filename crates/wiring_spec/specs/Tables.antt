@@ -1,17 +1,30 @@
 -- Registers and C-elements as code has them, in two tables. Eight numbers stand for each net after the gates: its sort (1 a rail of a register, 2 a Ko,
 -- 3 a C-element), four pins (of a rail the net at its data first; FFFF at a pin that a C-element lacks), its place in an order of the C-elements, the
 -- number of its register, and one that is free. Four numbers stand for each register: the net of its rail 0, the nets at its data, and the net at its Ki;
--- its rail 1 and its Ko are the two nets after its rail 0.
+-- its rail 1 is the net after its rail 0.
 use Prim.Native.Nat.{ℕ, _+_, _*_, _≤_, _<_}
 use mathlib.Core.Path.{_≡_}
 use mathlib.Core.Bool.{Bool, true, false}
-use mathlib.Core.List.{List}
+use mathlib.Core.List.{List, map}
 use lib.ListN.{length, getD}
 use Rattle.gates.specs.Cell.{bit}
+use Rattle.netlist.specs.declared.File.the-variants as file
 use Rattle.netlist.specs.Bytes.{absent}
-use Rattle.wiring_spec.specs.Parts.{Driver, input, gate, rail, acknowledge, completion, nothing}
+use Rattle.netlist.specs.Reading.{Places}
+use Rattle.netlist.specs.Coded.{codedAt}
+use Rattle.wiring_spec.specs.Parts.{partAt, Driver, input, gate, rail, acknowledge, completion, nothing}
 use Rattle.wiring_spec.specs.Parts.{Pipeline, registerCount, dataOf, kiOf, driverOf, allNets}
 use Rattle.wiring_spec.specs.Named.{Named}
+
+-- how the stage of a readable file is wired, by the places of its commands
+abbrev pub wiringOf : List ℕ → Places → Pipeline
+wiringOf bytes p = record {
+  inputs = p .inputs;
+  gates = map (λ at. codedAt file.Stage bytes at .operands) (p .gates);
+  parts = map (partAt bytes) (p .parts);
+}
+
+-- ---- the two tables
 
 -- number j of row i
 abbrev pub slot : List ℕ → ℕ → ℕ → ℕ

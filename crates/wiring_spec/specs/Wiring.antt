@@ -19,7 +19,7 @@ throughGate (acknowledge k) = []
 throughGate (completion pins) = []
 throughGate nothing = []
 
--- a C-element is opened
+-- a C-element is opened, to the nets at its pins; nothing else opens
 unfoldable pub opened : Driver → List ℕ
 opened input = []
 opened (gate pins) = []
@@ -53,7 +53,7 @@ isRailOf k (acknowledge j) = false
 isRailOf k (completion pins) = false
 isRailOf k nothing = false
 
--- a net at register t's data is such a net, or comes from one through gates
+-- a net at register t's data is a net whose driver passes `goal`, or comes from one through gates
 unfoldable pub dataFrom : Pipeline → (Driver → Bool) → ℕ → Bool
 dataFrom p goal t = leadTo (gateSteps p) (λ x. goal (driverOf p x)) (allNets p) (dataOf p t)
 
@@ -101,7 +101,7 @@ isKoOf k (acknowledge j) = eqb j k
 isKoOf k (completion pins) = false
 isKoOf k nothing = false
 
--- such a net stands behind register k's Ki once the C-elements there are opened, and opened again
+-- a net that passes `goal` stands behind register k's Ki once the C-elements there are opened, and opened again
 unfoldable pub behind : Pipeline → (ℕ → Bool) → ℕ → Bool
 behind p goal k = leadTo (openings p) goal (allNets p) (kiOf p k ∷ [])
 
@@ -131,7 +131,7 @@ missing p k = some (λ t. reaches p k t && not (behind p (λ x. isKoOf t (driver
 unfoldable pub foreign : Pipeline → ℕ → ℕ → Bool
 foreign p k t = not (reaches p k t) && not (eqb (level p t) (suc (level p k)))
 
--- what may not stand behind register k's Ki
+-- what may not stand behind register k's Ki. FFFE, which nothing drives, may: where something is reached, 34 refuses it first
 unfoldable pub bars : Pipeline → ℕ → Driver → Bool
 bars p k input = true
 bars p k (gate pins) = true

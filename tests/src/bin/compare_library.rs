@@ -1,8 +1,9 @@
 //! compare_library [SEED [COUNT]]: compares all calls of the proved library with the judge, in both orders of words,
 //! on the stored examples, cases of joins, references and texts, on as many generated pairs, rows, joins, references, texts and stage
 //! files to write, on the whole family of small stages and as many files beside it, on loads at the limits and on as many generated
-//! ones, and on as many witnesses, lists to judge and runs by keys; each witness is played too. Prints how many had each number, or the
-//! first difference. Fails too if some number never came or too few were accepted.
+//! ones, and on as many witnesses, lists to judge and runs by keys; each witness is played too. On pairs with registers it compares the
+//! check on as many, and all other calls on a fifth. Prints how many had each number, or the first difference. Fails too if some number
+//! never came or too few were accepted.
 
 use fovaheju_tests::compare::{
     compare_checks, compare_draws, compare_draws_at_limits, compare_family, compare_join,
@@ -12,12 +13,17 @@ use fovaheju_tests::compare::{
     ReportInOrder, CHECK_NUMBERS, DRAW_NUMBERS, JOIN_NUMBERS, MAKE_NUMBERS, NEXT_NUMBERS,
     READ_TEXT_NUMBERS, ROW_NUMBERS, WRITE_TEXT_NUMBERS,
 };
+use fovaheju_tests::compare_pipelines::{
+    compare_all_other_calls, compare_other_calls, compare_pipelines, lack_of_other_calls,
+    lack_of_pipelines, OtherCalls, PIPELINE_NUMBERS,
+};
 use fovaheju_tests::compare_runs::{
     compare_plays, compare_runs_by_keys, compare_witness, compare_witnesses, ByKeys, Play, Witness,
     PLAY_NUMBERS,
 };
 use fovaheju_tests::files::{
-    examples_folder, load_example, load_text, stored_examples, stored_texts, write_stage,
+    examples_folder, load_example, load_text, pipelines_folder, stored_examples, stored_texts,
+    write_stage,
 };
 use fovaheju_tests::generate::made::MakeCase;
 use fovaheju_tests::generate::runs::WitnessCase;
@@ -61,17 +67,30 @@ const BY_KEYS: ByKeys = |order, stage, name, keys, list| {
     library::run_by_keys(mark(order, stage), stage, name, keys, list)
 };
 
+const OTHER_CALLS: OtherCalls = OtherCalls {
+    report: REPORT,
+    settled_row: library::settled_row,
+    join: JOIN,
+    write_text: library::write_text,
+    next: library::next_stage,
+    witness: WITNESS,
+    play: PLAY,
+    by_keys: BY_KEYS,
+};
+
 /// How many files of each number were alike, or the first that was not.
 type Comparison<'a> = &'a (dyn Fn() -> Result<Histogram, Box<Difference>> + Sync);
 
+/// What the files of a comparison lack.
+type Lack = fn(&Histogram) -> Option<String>;
+
 /// Prints the numbers and what they lack; answers whether nothing is lacking.
-fn tell(what: &str, histogram: &Histogram, numbers: &[usize]) -> bool {
+fn tell(what: &str, histogram: &Histogram, numbers: &[usize], lack: Option<String>) -> bool {
     let count: u64 = histogram.iter().sum();
     println!("{count} {what} alike; by number:");
     for &number in numbers {
         println!("  {number:2} {:8}", histogram[number]);
     }
-    let lack = lack(histogram, numbers);
     if let Some(lack) = &lack {
         println!("{what} show too little: {lack}");
     }
@@ -123,6 +142,21 @@ fn written_and_again(file: &[u8], buffer: &mut [u8]) -> Made {
         assert_eq!(again, Some(write_stage(&stage)), "read again");
     }
     made
+}
+
+/// The stored pairs with registers.
+fn compare_stored_pipelines() -> Result<(), Box<Difference>> {
+    let folder = pipelines_folder(&examples_folder());
+    let names = stored_examples(&folder).expect("the pairs with registers");
+    for name in &names {
+        let (pair, _) = load_example(&folder, name).expect("a pair with registers");
+        for order in ORDERS {
+            compare_pair(CHECK, order, name, &pair)?;
+            compare_other_calls(&OTHER_CALLS, order, name, &pair)?;
+        }
+    }
+    println!("{} pairs with registers alike in both orders", names.len());
+    Ok(())
 }
 
 /// The stored texts and the stages of the stored pairs, into buffers with room, and the stored cases.
@@ -195,6 +229,7 @@ fn compare(seed: u64, count: u64) -> Result<bool, Box<Difference>> {
     }
     println!("stages of {} stored references alike", references.len());
     compare_stored_texts(&names).inspect_err(|difference| println!("{difference}"))?;
+    compare_stored_pipelines().inspect_err(|difference| println!("{difference}"))?;
     // The calls beside one another, each with its own files.
     let all: [(&str, &[usize], Comparison); 14] = [
         ("checks", &CHECK_NUMBERS, &|| {
@@ -238,13 +273,37 @@ fn compare(seed: u64, count: u64) -> Result<bool, Box<Difference>> {
             compare_runs_by_keys(BY_KEYS, seed, count)
         }),
     ];
-    let histograms = thread::scope(|scope| {
+    let pipelines: [(&str, &[usize], Lack, Comparison); 2] = [
+        (
+            "checks with registers",
+            &PIPELINE_NUMBERS,
+            lack_of_pipelines,
+            &|| compare_pipelines(CHECK, seed, count),
+        ),
+        (
+            "pairs with registers by all other calls",
+            &[2],
+            lack_of_other_calls,
+            &|| compare_all_other_calls(&OTHER_CALLS, seed, count / 5),
+        ),
+    ];
+    let (histograms, others) = thread::scope(|scope| {
         let begun = all.map(|(_, _, comparison)| scope.spawn(comparison));
-        begun.map(|thread| thread.join().expect("a comparison"))
+        let others = pipelines.map(|(_, _, _, comparison)| scope.spawn(comparison));
+        let joined = begun.map(|thread| thread.join().expect("a comparison"));
+        (
+            joined,
+            others.map(|thread| thread.join().expect("a comparison")),
+        )
     });
     let mut enough = true;
     for ((what, numbers, _), histogram) in all.iter().zip(histograms) {
-        enough &= tell(what, &histogram?, numbers);
+        let histogram = histogram?;
+        enough &= tell(what, &histogram, numbers, lack(&histogram, numbers));
+    }
+    for ((what, numbers, lack, _), histogram) in pipelines.iter().zip(others) {
+        let histogram = histogram?;
+        enough &= tell(what, &histogram, numbers, lack(&histogram));
     }
     Ok(enough)
 }

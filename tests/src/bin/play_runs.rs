@@ -3,8 +3,9 @@
 //! and the word of a verdict, where the fall begins, and the nets that switch. Prints for each 'shown', or why the run does not show what the verdict
 //! says; of 0 that is a full rise and fall.
 
-use fovaheju_tests::judge::{read_reference, read_stage, Reference, ORDERS, STAGE};
+use fovaheju_tests::judge::{read_pipeline, read_reference, Reference, ORDERS, STAGE};
 use fovaheju_tests::run::{shows, Run};
+use fovaheju_tests::wiring::Wiring;
 use std::io;
 
 fn bytes(text: &str) -> Option<Vec<u8>> {
@@ -14,7 +15,8 @@ fn bytes(text: &str) -> Option<Vec<u8>> {
 
 fn judged(line: &str) -> Option<String> {
     let mut parts = line.split_whitespace();
-    let stage = read_stage(&bytes(parts.next()?)?).ok()?;
+    // In a run a register is two wires.
+    let stage = Wiring::of(&read_pipeline(&bytes(parts.next()?)?).ok()?).wired();
     let reference = match parts.next()? {
         "-" => Reference::default(),
         file => read_reference(&bytes(file)?).ok()?,

@@ -27,7 +27,7 @@ fn main() -> std::io::Result<()> {
         );
     }
     for example in catalogue::pipelines::pipelines() {
-        let verdicts = ORDERS.map(|order| suite::pipeline_verdict_in(order, &example.pair));
+        let verdicts = ORDERS.map(|order| suite::verdict_in(order, &example.pair));
         let pipelines = files::pipelines_folder(&folder);
         files::store_example(&pipelines, &example.name, &example.pair, verdicts)?;
     }

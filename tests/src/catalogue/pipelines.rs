@@ -6,9 +6,13 @@
 
 use super::{multiplier_netlist, Example};
 use crate::circuits::{multiplier_reference, pipeline_from_netlist, Signal, StageBuilder};
-use crate::files::{self, write_pipeline, write_reference, FilePair};
+use crate::files::{self, unhex, write_pipeline, write_reference, FilePair};
 use crate::judge::{Gate, Part, Pipeline, Reference, Stage, ABSENT, ORDERS, OUTSIDE};
-use crate::suite::pipeline_verdict_in;
+use crate::suite::verdict_in;
+
+const TH12: usize = 1;
+const TH22: usize = 2;
+const THAND0: usize = 26;
 
 /// A register's nets.
 #[derive(Clone, Copy)]
@@ -187,6 +191,20 @@ fn and_gates() -> (Stage, Signal) {
     (builder.stage, and)
 }
 
+fn gate(kind: usize, pins: &[usize]) -> Gate {
+    Gate {
+        kind,
+        pins: pins.to_vec(),
+    }
+}
+
+/// So many inputs and these gates, no outputs. The first register drives 2n + g and the two nets behind it.
+fn with_gates(inputs: usize, gates: &[Gate]) -> Board {
+    let mut stage = StageBuilder::new(inputs).stage;
+    stage.gates = gates.to_vec();
+    Board::new(&stage)
+}
+
 fn and_reference() -> Reference {
     super::one_operation(crate::judge::AND)
 }
@@ -198,7 +216,7 @@ pub fn listing() -> String {
     );
     for example in pipelines() {
         let [verdict, lowest] = ORDERS.map(|order| {
-            let verdict = pipeline_verdict_in(order, &example.pair);
+            let verdict = verdict_in(order, &example.pair);
             files::verdict_line(verdict).trim_end().to_string()
         });
         text += &format!(
@@ -239,6 +257,7 @@ pub fn pipelines() -> Vec<Example> {
             add_file(name, about, number, stage, reference);
         };
     let wire = wires(1);
+    let pair = |rail_0, rail_1| Signal { rail_0, rail_1 };
 
     // Well wired.
     let source = Board {
@@ -298,12 +317,44 @@ pub fn pipelines() -> Vec<Example> {
         &board,
         &wires(2),
     );
+    let mut board = Board::of_inputs(1);
+    let first = board.register(board.input(0));
+    let three = [first; 3].map(|register| board.register(register.data));
+    let two = board.element(&[three[0].ko, three[1].ko]);
+    let tree = board.element(&[two, three[2].ko]);
+    board.ki(0, tree);
+    three
+        .iter()
+        .for_each(|register| board.output(register.data));
+    let thrice = Reference {
+        inputs: 1,
+        gates: vec![],
+        outputs: vec![0, 0, 0],
+    };
+    add(
+        "two-element-tree",
+        "a register that reaches three others, their Ko through two C-elements",
+        0,
+        &board,
+        &thrice,
+    );
     let (mut board, _) = row_of(2);
     let own = board.nets;
     board.element(&[own, 0]);
     add(
         "free-loop",
         "a C-element on its own net and on an input, behind no Ki",
+        0,
+        &board,
+        &wire,
+    );
+
+    let mut board = with_gates(1, &[gate(TH12, &[3, 3])]);
+    board.register(board.input(0));
+    board.output(pair(2, 4));
+    add(
+        "gate-on-rail",
+        "rail 0 of the output is a gate on rail 0 of a register, rail 1 is rail 1 of the register",
         0,
         &board,
         &wire,
@@ -351,6 +402,16 @@ pub fn pipelines() -> Vec<Example> {
         12,
         &board,
         &and_reference(),
+    );
+    let mut board = with_gates(1, &[gate(TH12, &[3, 0])]);
+    let register = board.register(pair(2, 1));
+    board.output(register.data);
+    add(
+        "gate-on-own-register",
+        "a gate on a rail of the register that it feeds: 33 and not 12",
+        33,
+        &board,
+        &wire,
     );
     let (mut board, registers) = row_of(2);
     let own = board.nets;
@@ -459,7 +520,6 @@ pub fn pipelines() -> Vec<Example> {
         &wire,
     );
     let mut board = Board::of_inputs(1);
-    let pair = |rail_0, rail_1| Signal { rail_0, rail_1 };
     for data in [pair(5, 9), pair(0, 9), pair(0, 1)] {
         board.register(data);
     }
@@ -644,10 +704,7 @@ pub fn pipelines() -> Vec<Example> {
         &board,
         &and_reference(),
     );
-    board.pipeline.raw.gates[0] = Gate {
-        kind: 24,
-        pins: vec![1, 3, 1, 3],
-    };
+    board.pipeline.raw.gates[0] = gate(24, &[1, 3, 1, 3]);
     add(
         "retired-behind-register",
         "the same with a gate of a retired kind",
@@ -660,6 +717,77 @@ pub fn pipelines() -> Vec<Example> {
         "retired-and-barred",
         "the same with an input rail as its Ki: 35 comes before 28",
         35,
+        &board,
+        &and_reference(),
+    );
+
+    let mut board = with_gates(1, &[gate(TH12, &[3, 4])]);
+    let register = board.register(board.input(0));
+    board.output(register.data);
+    add(
+        "spare-gate-behind-register",
+        "a wire through a register, and a gate on both rails of it that feeds nothing",
+        15,
+        &board,
+        &wire,
+    );
+    board.pipeline.raw.gates[0] = gate(TH22, &[3, 4]);
+    add(
+        "idle-gate-behind-register",
+        "the same gate as a TH22, which rises in no word",
+        32,
+        &board,
+        &wire,
+    );
+    // An AND of two inputs, each through a register: gates 0 and 1, then registers at 6 and 9.
+    let behind_registers = |gates: &[Gate], rails: Signal| {
+        let mut board = with_gates(2, gates);
+        let first = [0, 1].map(|input| board.register(board.input(input)));
+        assert_eq!(first.map(|register| register.data.rail_0), [6, 9]);
+        board.output(rails);
+        board
+    };
+    let and = [gate(TH22, &[7, 10]), gate(THAND0, &[6, 9, 7, 10])];
+    let relaxed = [gate(TH22 + 128, &[7, 10]), and[1].clone()];
+    add(
+        "relaxed-behind-registers",
+        "an AND of two registers whose TH22 has no hold",
+        20,
+        &behind_registers(&relaxed, pair(5, 4)),
+        &and_reference(),
+    );
+    let early = [gate(TH22, &[6, 9]), gate(TH12, &[7, 10])];
+    add(
+        "or-behind-registers",
+        "an OR of two registers by TH22 and TH12, which does not wait for the other input",
+        14,
+        &behind_registers(&early, pair(4, 5)),
+        &super::one_operation(crate::judge::OR),
+    );
+    let mut board = with_gates(1, &[gate(TH12, &[5, 5]), gate(TH22 + 128, &[2, 5])]);
+    let register = board.register(board.input(0));
+    board.output(pair(register.data.rail_0, 3));
+    add(
+        "relaxed-behind-buffer",
+        "a relaxed gate on a rail of a register and on a buffer of it, which may still be high",
+        21,
+        &board,
+        &wire,
+    );
+    let equal = [gate(TH22, &[6, 9]), gate(TH22, &[7, 10])];
+    let mut board = behind_registers(&equal, pair(4, 5));
+    add(
+        "equal-registers",
+        "TH22 on the equal rails of two registers, which shows nothing where they differ",
+        13,
+        &board,
+        &and_reference(),
+    );
+    board.pipeline.raw.care = vec![0, 3];
+    add(
+        "equal-registers-care",
+        "the same with a care list of the two words in which they are equal",
+        0,
         &board,
         &and_reference(),
     );
@@ -753,6 +881,17 @@ pub fn pipelines() -> Vec<Example> {
     ] {
         add(name, about, number, &with_part(part), &wire);
     }
+    let mut board = Board::of_inputs(1);
+    let first = board.register(pair(0, 5));
+    board.element(&[first.ko, first.ko]);
+    board.output(first.data);
+    add(
+        "element-data",
+        "a C-element's net as a data rail",
+        9,
+        &board,
+        &wire,
+    );
     let (mut board, registers) = row_of(2);
     board.pipeline.raw.outputs[0][1] = registers[1].ko;
     add("ko-output", "a Ko as a rail of an output", 9, &board, &wire);
@@ -776,6 +915,14 @@ pub fn pipelines() -> Vec<Example> {
         9,
         &board,
         &and_reference(),
+    );
+    let stage = "01 01 04 02 00 01 00 FE FF 02 01 00 00 00 00 FF FF FF FF 03 03 00 04 00 00";
+    add_file(
+        "gate-after-register",
+        "a register command before that of the gate it reads: new nets follow all gates",
+        0,
+        unhex(stage),
+        &wire,
     );
     let mut cut = write_pipeline(&row_of(1).0.pipeline);
     cut.truncate(8);

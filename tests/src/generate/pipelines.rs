@@ -8,7 +8,7 @@ use super::{
 };
 use crate::files::{care_word, file_of, part_command, stage_commands, FilePair};
 use crate::judge::{
-    check_circuits, least_gate_on_a_loop, least_retired_gate, Gate, Part, Pipeline, Reference,
+    check_circuits, is_relaxed, least_gate_on_a_loop, least_retired_gate, Gate, Part, Pipeline, Reference,
     Stage, Verdict, ABSENT, MOST_ELEMENTS, MOST_REGISTERS, OUTSIDE, STAGE,
 };
 use std::collections::{BTreeSet, HashMap};
@@ -304,6 +304,23 @@ fn pipeline_file(random: &mut Random, pipeline: &Pipeline) -> Vec<u8> {
     file_of(pipeline.raw.inputs, &commands)
 }
 
+/// A rail of an output behind a buffer and a gate that waits for the rail and the buffer.
+fn slow_rail(random: &mut Random, stage: &mut Stage) {
+    let output = random.below(stage.outputs.len());
+    let side = random.below(2);
+    let rail = stage.outputs[output][side];
+    let buffer = stage.nets();
+    stage.gates.push(Gate {
+        kind: 1,
+        pins: vec![rail, rail],
+    });
+    stage.gates.push(Gate {
+        kind: 2,
+        pins: vec![buffer, rail],
+    });
+    stage.outputs[output][side] = buffer + 1;
+}
+
 /// A stage without loops and its reference, mostly accepted, and what the check says of it.
 fn circuits(random: &mut Random) -> (Stage, Reference, Verdict) {
     loop {
@@ -314,6 +331,17 @@ fn circuits(random: &mut Random) -> (Stage, Reference, Verdict) {
         }
         if random.chance(1, 6) {
             stage.care = some_list(random, stage.inputs);
+        }
+        // Some gates without hold; now and then behind a gate that they do not wait for.
+        if random.chance(1, 6) {
+            if random.chance(1, 2) {
+                slow_rail(random, &mut stage);
+            }
+            for gate in &mut stage.gates {
+                if !is_relaxed(gate.kind) && random.chance(1, 3) {
+                    gate.kind += 128;
+                }
+            }
         }
         if stage.inputs > 5 || least_gate_on_a_loop(&stage).is_some() {
             continue;

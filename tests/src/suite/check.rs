@@ -3,6 +3,7 @@
 //! The verdicts of the paper's examples and of the cases made here are also written by
 //! hand from document 01.
 
+use crate::catalogue::pipelines::pipelines;
 use crate::catalogue::{
     care_examples, examples_of_document_01, low_examples, pair_examples, relaxed_examples,
     retired_examples, Example, MARKED,
@@ -11,13 +12,14 @@ use crate::circuits::{dual_rail, kind_named, ReferenceBuilder, Signal, StageBuil
 use crate::files::{
     care_word, file_of, reference_gate, reference_output, unhex, write_pair, FilePair,
 };
+use crate::generate::pipelines::pipeline_pair;
 use crate::generate::{self, Known};
 use crate::judge::{
     expression_holds, is_retired, pin_count, Boolean, Reference, Stage, Verdict, ACCEPTED, AND,
     KINDS, NONE, NOR, NOT, OR, ORDERS, REFERENCE, STAGE, XOR,
 };
 use crate::suite::row::{self, cut, gate, output};
-use crate::suite::{numbers, verdict_in, Stored};
+use crate::suite::{numbers, verdict_in, Stored, WITH_PARTS};
 
 pub struct Case {
     pub about: String,
@@ -138,6 +140,7 @@ pub fn cases() -> Vec<Case> {
     retired_kinds(&mut cases);
     stored_examples(&mut cases, low_examples());
     gates_that_never_rise(&mut cases);
+    registers(&mut cases);
     cases.0
 }
 
@@ -217,6 +220,35 @@ fn stored_examples(cases: &mut Cases, examples: Vec<Example>) {
             format!("{}: {}", example.name, example.about),
             example.pair,
             Known::Number(example.number),
+        );
+    }
+}
+
+/// Document 02, M-111: registers and C-elements.
+fn registers(cases: &mut Cases) {
+    for with in &WITH_PARTS {
+        cases.add(
+            with.about,
+            &unhex(with.stage),
+            &wire_reference(),
+            with.verdict,
+        );
+    }
+    for part in ["04", "05"] {
+        cases.reference(
+            &format!("2: {part} in a reference"),
+            &unhex(&format!("01 01 {part} 00 00 00 00 FF FF FF FF")),
+            2,
+            2,
+        );
+    }
+    stored_examples(cases, pipelines());
+    for index in 0..120 {
+        let generated = pipeline_pair(2026, index);
+        cases.push(
+            format!("generated, {}, number {index}", generated.family),
+            generated.pair,
+            generated.known,
         );
     }
 }

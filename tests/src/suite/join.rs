@@ -16,7 +16,7 @@ use crate::join::{join_in_order, PART_LIMITS};
 use crate::judge::{
     Boolean, Gate, Reference, Stage, Verdict, WordOrder, ACCEPTED, AND, NONE, NOT, ORDERS, ROW,
 };
-use crate::suite::{check, numbers, spelt, Stored};
+use crate::suite::{check, numbers, spelt, Stored, WITH_PARTS};
 use std::collections::BTreeSet;
 
 pub struct Case {
@@ -99,7 +99,19 @@ pub fn cases() -> Vec<Case> {
     refused_parts(&mut cases);
     part_limits(&mut cases);
     generated(&mut cases);
+    registers(&mut cases);
     cases.0
+}
+
+/// Document 02, M-111: a part with a register or a C-element answers 2.
+fn registers(cases: &mut Cases) {
+    for with in &WITH_PARTS {
+        let part = pair(with.stage, "01 01 12 00 00 00");
+        let about = format!("the first part has {}", with.about);
+        cases.add(&about, (&part, &wire()), [9, 9], [2, 1, with.part, 0]);
+        let about = format!("the second part has {}", with.about);
+        cases.add(&about, (&wire(), &part), [9, 9], [2, 4, with.part, 0]);
+    }
 }
 
 fn pair(stage: &str, reference: &str) -> FilePair {
@@ -306,8 +318,8 @@ fn refused_parts(cases: &mut Cases) {
         let Known::Verdict([number, file, at, word]) = case.known else {
             continue;
         };
-        // The gates of a part have limits of their own.
-        if number == 0 || number == 6 || !seen.insert((number, file)) {
+        // The gates of a part have limits of their own, and it has no registers.
+        if matches!(number, 0 | 6 | 33..=35) || !seen.insert((number, file)) {
             continue;
         }
         let first = format!("the first part is refused, {}", case.about);

@@ -10,7 +10,7 @@ use crate::circuits::{ReferenceBuilder, Signal, StageBuilder};
 use crate::files::{unhex, write_pair, FilePair};
 use crate::generate;
 use crate::judge::{report_in_order, WordOrder, ACCEPTED, ORDERS};
-use crate::suite::{numbers, Stored};
+use crate::suite::{numbers, Stored, WITH_PARTS};
 
 pub struct Case {
     pub about: String,
@@ -70,7 +70,24 @@ pub fn cases() -> Vec<Case> {
     stored_examples(&mut cases, relaxed_examples());
     stored_examples(&mut cases, retired_examples());
     stored_examples(&mut cases, low_examples());
+    registers(&mut cases);
     cases.0
+}
+
+/// Document 02, M-111: only the check reads registers and C-elements.
+fn registers(cases: &mut Cases) {
+    for with in &WITH_PARTS {
+        let pair = FilePair {
+            stage: unhex(with.stage),
+            reference: unhex("01 01 12 00 00 00"),
+        };
+        let known = match with.part {
+            2 => "2 1 2 0",
+            5 => "2 1 5 0",
+            _ => "2 1 7 0",
+        };
+        cases.add(with.about, pair, Some(known));
+    }
 }
 
 /// What the marked cases of document 01 report; the words of case 11 are 1,024 lines.

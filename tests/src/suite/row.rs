@@ -4,7 +4,7 @@
 
 use crate::files::{care_word, file_of, stage_gate, stage_output, unhex, write_stage};
 use crate::judge::{pin_count, settled_row, Gate, Stage, Verdict, ACCEPTED, ROW, STAGE};
-use crate::suite::{numbers, spelt, Stored};
+use crate::suite::{numbers, spelt, Stored, WITH_PARTS};
 
 pub struct Case {
     pub about: String,
@@ -89,7 +89,17 @@ pub fn cases() -> Vec<Case> {
     cases.extend(care_cases());
     cases.extend(relaxed_cases());
     cases.extend(retired_cases());
+    cases.extend(part_cases());
     cases
+}
+
+/// Document 02, M-111: registers and C-elements are no commands here.
+pub fn part_cases() -> Vec<Case> {
+    let mut cases = Cases(Vec::new());
+    for with in &WITH_PARTS {
+        cases.refused(with.about, unhex(with.stage), 2, with.part as usize);
+    }
+    cases.0
 }
 
 /// What document 02 adds: M-101, M-102, M-108.

@@ -10,7 +10,7 @@ use crate::files::{unhex, MOST_BYTES_READ};
 use crate::generate::texts::{read_case, write_case, GeneratedText, TextCase};
 use crate::generate::Known;
 use crate::judge::{Verdict, ACCEPTED, ROW, STAGE};
-use crate::suite::{numbers, row, spelt, Stored};
+use crate::suite::{numbers, row, spelt, Stored, WITH_PARTS};
 use crate::text::{file_of_text, read_text, text_of_file, write_text};
 use std::collections::BTreeSet;
 
@@ -337,6 +337,10 @@ pub fn write_cases() -> Vec<Case> {
     unreadable_stages(&mut cases);
     stored_stages(&mut cases);
     generated(&mut cases, write_case, 70);
+    for with in &WITH_PARTS {
+        let about = format!("refused, {}", with.about);
+        cases.refused(about, &unhex(with.stage), [2, STAGE, with.part, 0]);
+    }
     cases.0
 }
 

@@ -83,6 +83,11 @@ returns-3 c =
       row-is = l .inv .0 .row-is;
     }
 
+add-i : tie.Need-add-i Inv-loop μ-loop
+add-i c =
+    let l = c .before .before .before .before .before .before .before .before .before .before in
+    omega (arith, l .loop-test .taken, l .before .before .before .before .before .before .before .before .before .good)
+
 pub take-steps-spec : {M : Type 1} → statement M
 take-steps-spec =
     tie.close
@@ -102,7 +107,7 @@ take-steps-spec =
     same-length-2
     returns-2
     switch-net-requires
-    (λ c. search needs)
+    add-i
     (λ c. search needs)
     loop-again
     same-length-3

@@ -1,49 +1,66 @@
 -- `check_files::judge` meets its contract. Assumes nothing.
-use denote.Ref.{now}
-use Rattle.check_files.proofs.Judging.{not-passed, is-10, is-11, is-12, is-28, comparable, is-swept}
+use mathlib.Core.Path.{sym, _∙_}
+use Rattle.check_files.proofs.Findings.{not-passed}
+use Rattle.check_files.proofs.Judging.{is-10, is-11, is-wiring, is-28, comparable, is-swept}
 use borrow.Author.Needs.{needs}
 use Rattle.check_files.proofs.judge.Statement.{statement}
 use Rattle.check_files.proofs.judge.Tie as tie
 
 returns : tie.Need-returns
-returns c = (is-10 _ _ (now (c .before .before .before .before .before .args .code)) _ _ (c .if1 .taken), not-passed)
+returns c = (λ h. is-10 _ h _ _ (c .if1 .taken), λ h. not-passed)
 
 returns-2 : tie.Need-returns-2
-returns-2 c =
-    let z = c .before .before .before .before .before .before .before .before in
-    (is-11 _ _ (now (z .args .code)) _ _ (c .before .before .before .if1 .left) (c .if2 .taken), not-passed)
+returns-2 c = (λ h. is-11 _ h _ _ (c .before .before .before .if1 .left) (c .if2 .taken), λ h. not-passed)
 
 returns-3 : tie.Need-returns-3
 returns-3 c =
-    let z = c .before .before .before .before .before in
-    (is-12 _ _ _ _ _ (z .before .before .before .before .before .if1 .left) (z .before .before .if2 .left) _ _ (z .order-gates .ensures) _ (c .before .g .given .1), not-passed)
+    let z = c .before .before .before .before .before .before .before in
+    let inputs = z .before .before .before .before .before .before .if1 .left in
+    let outputs = z .before .before .before .if2 .left in
+    (λ h. is-wiring _ h _ _ inputs outputs (sym (c .before .fault .given .1) ∙ z .check-wires .ensures .0 h), λ h. not-passed)
+
+least-retired-requires : tie.Need-least-retired-requires
+least-retired-requires c κs =
+    let told = c .before in
+    let z = told .before .before .before .before .before .before in
+    let start = z .before .before .before .before .before .before .before .before .before .before .before .before .before in
+    z .check-wires .ensures .1 (start .pre .0) (told .enum-told .given .1) .loaded
 
 returns-4 : tie.Need-returns-4
 returns-4 c =
-    let z = c .before .before .before .before .before .before .before .before .before in (
-      is-28 _ _ _ _ _ (z .before .before .before .before .before .if1 .left) (z .before .before .if2 .left) _ _ (z .order-gates .ensures)
-          (c .before .before .before .before .before .enum-told .given .1) _ (c .before .before .before .least-retired .ensures) _ (c .before .g2 .given .1),
-      not-passed,
+    let old = c .before .before .before in
+    let told = old .before .before in
+    let z = told .before .before .before .before .before .before in
+    let inputs = z .before .before .before .before .before .before .if1 .left in
+    let outputs = z .before .before .before .if2 .left in
+    let passed = told .enum-told .given .1 in (
+      λ h. is-28 _ h _ _ inputs outputs (sym passed ∙ z .check-wires .ensures .0 h) (z .check-wires .ensures .1 h passed) (old .least-retired .ensures) _ (c .before .g .given .1),
+      λ h. not-passed,
     )
 
 sweep-all-requires : tie.Need-sweep-all-requires
 sweep-all-requires c κs =
-    let z = c .before .before .before .before .before .before .before .before .before in
-    let start = z .before .before .before .before .before .before .before .before .before .before in
-    comparable (start .args .order) _ _ _ _ (z .before .before .before .before .before .if1 .left) (z .before .before .if2 .left) _ _ (z .order-gates .ensures)
-    (c .before .before .before .before .before .enum-told .given .1)
-    (start .pre .1)
+    let told = c .before .before .before .before .before in
+    let z = told .before .before .before .before .before .before in
+    let out = z .before .before .before in
+    let inp = out .before .before .before in
+    let start = inp .before .before .before .before .before .before .before in
+    comparable (inp .if1 .left) (out .if2 .left) (z .check-wires .ensures .1 (start .pre .0) (told .enum-told .given .1)) (start .pre .2)
 
 returns-5 : tie.Need-returns-5
 returns-5 c =
-    let z = c .before .before .before .before .before .before .before .before .before .before in
-    let start = z .before .before .before .before .before .before .before .before .before .before in
-    let inputs = z .before .before .before .before .before .if1 .left in
-    let outputs = z .before .before .if2 .left in
-    let free = c .before .before .before .before .before .before .enum-told .given .1 in (
-      is-swept _ _ _ _ _ inputs outputs _ _ (z .order-gates .ensures) free _ (c .before .before .before .before .least-retired .ensures)
-          (c .before .before .enum-told2 .given .1) _ (c .sweep-all .ensures),
-      λ passed. (comparable (start .args .order) _ _ _ _ inputs outputs _ _ (z .order-gates .ensures) free (start .pre .1), z .order-gates .ensures .same),
+    let old = c .before .before .before .before in
+    let told = old .before .before in
+    let z = told .before .before .before .before .before .before in
+    let out = z .before .before .before in
+    let inp = out .before .before .before in
+    let start = inp .before .before .before .before .before .before .before in
+    let inputs = inp .if1 .left in
+    let outputs = out .if2 .left in
+    let passed = told .enum-told .given .1 in
+    let none = c .before .before .enum-told2 .given .1 in (
+      λ h. is-swept _ h _ _ inputs outputs (sym passed ∙ z .check-wires .ensures .0 h) (z .check-wires .ensures .1 h passed) (old .least-retired .ensures) none (c .sweep-all .ensures),
+      λ h e. let o = z .check-wires .ensures .1 h passed in (comparable inputs outputs o (start .pre .2), o .same),
     )
 
 pub judge-spec : {M : Type 1} → statement M
@@ -55,13 +72,16 @@ judge-spec =
     (λ c κs. search needs)
     (λ c. search needs)
     (λ c. search needs)
+    (λ c. search needs)
     returns-3
     (λ c. search needs)
-    (λ c κs. search needs)
+    least-retired-requires
+    (λ c. search needs)
     (λ c. search needs)
     (λ c. search needs)
     returns-4
     (λ c. search needs)
     sweep-all-requires
+    (λ c. search needs)
     (λ c. search needs)
     returns-5)

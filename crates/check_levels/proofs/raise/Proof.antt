@@ -41,8 +41,8 @@ loop-again c =
     let l = c .before .before .before .before .loop in (
       omega (arith, l .inv .1 .long, c .before .before .before .loop-test .taken),
       ⊎-elim (λ w. rw (w .1, w .2) (raised-known _ _ _ _ _ _ _ (l .inv .1) (omega (arith, l .inv .1 .long, c .before .before .before .loop-test .taken)) (omega (arith, c .before .before .before .before .before .pre .1, l .inv .1 .long, c .before .before .before .loop-test .taken)) (eq-eqb _ 0 (w .0 .taken))))
-      (λ w. rw (w .1, w .2) (raised-other _ _ _ _ _ _ _ (l .inv .1) (omega (arith, l .inv .1 .long, c .before .before .before .loop-test .taken)) (omega (arith, c .before .before .before .before .before .pre .1, l .inv .1 .long, c .before .before .before .loop-test .taken)) (ne-eqb _ 0 (w .0 .left))))
-      (c .if1 .came),
+          (λ w. rw (w .1, w .2) (raised-other _ _ _ _ _ _ _ (l .inv .1) (omega (arith, l .inv .1 .long, c .before .before .before .loop-test .taken)) (omega (arith, c .before .before .before .before .before .pre .1, l .inv .1 .long, c .before .before .before .loop-test .taken)) (ne-eqb _ 0 (w .0 .left))))
+          (c .if1 .came),
     )
 
 same-length : tie.Need-same-length Inv-loop μ-loop

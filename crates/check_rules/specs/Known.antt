@@ -1,10 +1,9 @@
--- What the tables of the checks hold of a pipeline.
-use Prim.Native.Nat.{ℕ, _+_, _*_, _≤_, _<_}
+-- What tables hold of the registers of a pipeline.
+use Prim.Native.Nat.{ℕ, _*_, _≤_, _<_}
 use mathlib.Core.Path.{_≡_}
 use mathlib.Core.List.{List}
 use lib.ListN.{length, getD}
 use lib.Dec.{eqb}
-use Rattle.netlist.specs.declared.Counts.{Counts}
 use Rattle.lane_cells.specs.Lane.{lane}
 use Rattle.wiring_spec.specs.Parts.{Pipeline, registerCount, kiOf, driverOf}
 use Rattle.wiring_spec.specs.Wiring.{fromInput, level, behind, isKoOf}
@@ -16,34 +15,30 @@ use Rattle.check_levels.specs.Graph.{sourceIn, SourcesOf}
 abbrev pub KisOf : Pipeline → List ℕ → Type 0
 KisOf p regs = (k : ℕ) → k < registerCount p → registerSlot regs k 3 ≡ kiOf p k
 
--- whether some data of a register comes from an input; its level; the registers of each level
+-- whether some data of a register comes from an input, in bit 0; and its level
 abbrev pub InputsOf : Pipeline → List ℕ → Type 0
 InputsOf p inputs = (t : ℕ) → t < registerCount p → sourceIn inputs 0 t ≡ fromInput p t
 
 abbrev pub LevelsOf : Pipeline → List ℕ → Type 0
 LevelsOf p levels = (t : ℕ) → t < registerCount p → getD levels t 0 ≡ level p t
 
-abbrev pub RowsOf : Pipeline → List ℕ → Type 0
-RowsOf p rows = (l t : ℕ) → t < registerCount p → lane t (getD rows l 0) ≡ eqb (level p t) l
-
--- the registers whose Ko stands behind the Ki of a register; whether a net that carries data does
+-- the registers whose Ko stands behind the Ki of a register; and whether a net that carries data does, which 2 says
 abbrev pub KosOf : Pipeline → List ℕ → Type 0
 KosOf p kos = (k t : ℕ) → k < registerCount p → t < 64 → lane t (getD kos k 0) ≡ behind p (λ x. isKoOf t (driverOf p x)) k
 
 abbrev pub OthersOf : Pipeline → List ℕ → Type 0
 OthersOf p others = (k : ℕ) → k < registerCount p → eqb (getD others k 0) 2 ≡ behind p (λ x. carriesData (driverOf p x)) k
 
-pub record Known (p : Pipeline) (sources inputs levels rows kos others : List ℕ) : Type 0 where
-  pub few : registerCount p ≤ 64
+pub record Known (p : Pipeline) (regs sources inputs levels kos others : List ℕ) : Type 0 where
+  pub kis-of : KisOf p regs
   pub sources-of : SourcesOf p sources
   pub inputs-of : InputsOf p inputs
   pub levels-of : LevelsOf p levels
-  pub rows-of : RowsOf p rows
   pub kos-of : KosOf p kos
   pub others-of : OthersOf p others
 
--- the tables have a place for each register, and for each level with those next to it
-pub record Sized (regs sources inputs levels rows kos others : List ℕ) : Type 0 where
+-- the tables have a place for each register, and levels are those that 64 registers can have
+pub record Sized (regs sources inputs levels kos others : List ℕ) : Type 0 where
   pub few : length sources ≤ 64
   pub regs-room : 4 * length sources ≤ length regs
   pub inputs-long : length inputs ≡ length sources
@@ -51,15 +46,4 @@ pub record Sized (regs sources inputs levels rows kos others : List ℕ) : Type 
   pub kos-long : length kos ≡ length sources
   pub others-long : length others ≡ length sources
   pub low : (k : ℕ) → k < length sources → 1 ≤ getD levels k 0
-  pub high : (k : ℕ) → k < length sources → getD levels k 0 + 1 < length rows
-
--- tables of which nothing is known yet
-pub record Empty (c : Counts) (sources inputs levels rows kos others : List ℕ) : Type 0 where
-  pub sources-long : length sources ≡ c .registers
-  pub inputs-long : length inputs ≡ c .registers
-  pub levels-long : length levels ≡ c .registers
-  pub rows-long : length rows ≡ 66
-  pub kos-long : length kos ≡ c .registers
-  pub others-long : length others ≡ c .registers
-  pub ones : (k : ℕ) → k < c .registers → getD levels k 0 ≡ 1
-  pub none : (l : ℕ) → getD rows l 0 ≡ 0
+  pub high : (k : ℕ) → k < length sources → getD levels k 0 ≤ 64

@@ -1,10 +1,10 @@
 -- The nets of a readable stage file, as reading counts them and as its wiring drives them: the same carry data, and there are as many. So every operand
 -- of the wiring names what its role asks for.
 -- Assumes nothing.
-use Prim.Native.Nat.{ℕ, zero, suc, _+_, _-_, _*_, _≤_, _<_}
+use Prim.Native.Nat.{ℕ, zero, suc, _+_, _-_, _*_, _<_}
 use native.Mathlib.Omega.{arith}
 use native.Mathlib.Decide.{decLt}
-use mathlib.Core.Path.{_≡_, refl, sym, ap, ap₂, _∙_, subst}
+use mathlib.Core.Path.{_≡_, refl, sym, ap, _∙_, subst}
 use mathlib.Core.Bool.{Bool, true, false, cond, _||_}
 use mathlib.Core.Logic.{_⊎_, inl, inr, ⊎-elim}
 use mathlib.Core.List.{List, [], _∷_, _++_, map}
@@ -12,26 +12,24 @@ use lib.ListN.{length, getD, replicate, length-append, length-map, length-replic
 use lib.Dec.{eqb, ltb}
 use borrow.Author.Tests.{lt-ltb, le-ltb, ltb-true, eqb-true}
 use Rattle.runs.proofs.Test.{or-cases}
-use Rattle.netlist.specs.declared.File.{File}
 use Rattle.netlist.specs.declared.File.the-variants as file
 use Rattle.netlist.specs.declared.Sort.{Sort}
 use Rattle.netlist.specs.declared.Sort.the-variants as sort
 use Rattle.netlist.specs.declared.Limits.{Limits}
 use Rattle.netlist.specs.Bytes.{byte, operand, operands, outside}
-use Rattle.netlist.specs.Commands.{stageFile, isSort, mostParts, roleOf, needed, pinsUsed}
-use Rattle.netlist.specs.Reading.{Nets, firstPart, partNets, isNet, carriesData, names, Places, countOf, sortsOf, countsOf, netsOf, stageLimits, NoMore}
+use Rattle.netlist.specs.Commands.{stageFile, isSort, commandTable, ownCommands, formIn, roleOf, needed, pinsUsed}
+use Rattle.netlist.specs.Reading.{Nets, firstPart, partNets, isNet, carriesData, names, Places, countOf, sortsOf, netsOf, stageLimits, NoMore}
 use Rattle.netlist.specs.Read.{RegisterRead, ElementRead, PartOf, PartRead, Read}
 use Rattle.netlist.specs.Writing.{All}
 use Rattle.netlist.proofs.Encoding.{stage-registerless, stage-elementless}
-use Rattle.netlist.proofs.Operands.{pins-used-in, length-operands}
 use Rattle.verdict.specs.Paths.{In}
-use Rattle.wiring_spec.specs.Parts.{Register, Part, register, element, partAt, Pipeline, Driver, input, gate, rail, acknowledge, completion, nothing, registersOf, registerCount, dataOf, kiOf}
+use Rattle.wiring_spec.specs.Parts.{Register, Part, register, element, partAt, Pipeline, input, gate, rail, nothing, registersOf, registerCount, dataOf, kiOf}
 use Rattle.wiring_spec.specs.Parts.{partDrivers, drivers, driverOf, allNets}
-use Rattle.wiring_spec.specs.Wiring.{opened, gateSteps, openings}
+use Rattle.wiring_spec.specs.Wiring.{opened}
+use Rattle.wiring_spec.specs.Tables.{wiringOf}
 use Rattle.wiring_spec.specs.Named as wiring
 use Rattle.wiring_spec.specs.Named.{IsData, Named}
 use Rattle.wiring_spec.proofs.Nets.{each-driver, steps-are}
-use Rattle.circuit_load.specs.Parts.{wiringOf}
 
 -- ---- what each register and C-element names
 
@@ -207,6 +205,13 @@ unfolding needed names roleOf carriesData
 gate-carries true most s p r k h i l = r .gate-at k h .named i l
 gate-carries false most s p r k h i l = rw (r .gate-at k h .named i l)
 
+-- and so do an output's rails
+output-carries : (registers : Bool) (most : Limits) (s : List ℕ) (p : Places) → Read (stageFile registers) most s p → (j : ℕ) → j < length (p .outputs) → (i : ℕ) → i < 2 →
+    carriesData (netsOf p) (operand s (getD (p .outputs) j 0 + 1 + 2 * i)) ≡ true
+unfolding names roleOf carriesData commandTable ownCommands formIn
+output-carries true most s p r j h i l = r .output-at j h .named i l
+output-carries false most s p r j h i l = rw (r .output-at j h .named i l)
+
 module _ (registers : Bool) (most : Limits) (less : NoMore most stageLimits) (s : List ℕ) (p : Places) (r : Read (stageFile registers) most s p) where
   abbrev P : Pipeline
   P = wiringOf s p
@@ -216,6 +221,9 @@ module _ (registers : Bool) (most : Limits) (less : NoMore most stageLimits) (s 
 
   abbrev gatePins : ℕ → List ℕ
   gatePins at = operands s (at + 2) (needed file.Stage (byte s (at + 1)))
+
+  abbrev outputRails : ℕ → List ℕ
+  outputRails at = operands s (at + 1) 2
 
   gates-long : length (P .gates) ≡ length (p .gates)
   gates-long = length-map (p .gates) gatePins
@@ -272,6 +280,21 @@ module _ (registers : Bool) (most : Limits) (less : NoMore most stageLimits) (s 
       go (yes h) =
           let o = operand-of s (place + 2) (needed file.Stage (byte s (place + 1))) v (subst (In v) (at (p .gates) k h) i) in
           rw (o .2) (gate-carries registers most s p r k h (o .0) (o .1))
+
+  -- what the outputs name carries data
+  pub output-named : (j v : ℕ) → In v (getD (map outputRails (p .outputs)) j []) → IsData P v
+  output-named j v i = go (decLt j (length (p .outputs)))
+    where
+      at : (os : List ℕ) (j : ℕ) → j < length os → getD (map outputRails os) j [] ≡ outputRails (getD os j 0)
+      at [] j h = absurd (omega arith)
+      at (o ∷ os) zero h = refl
+      at (o ∷ os) (suc j) h = at os j (omega arith)
+
+      go : Dec (j < length (p .outputs)) → IsData P v
+      go (no h) = absurd (subst (In v) (List·getD-eq-default (map outputRails (p .outputs)) [] (omega (arith, length-map (p .outputs) outputRails))) i)
+      go (yes h) =
+          let o = operand-of s (getD (p .outputs) j 0 + 1) 2 v (subst (In v) (at (p .outputs) j h) i) in
+          data-is v (rw (o .2) (output-carries registers most s p r j h (o .0) (o .1)))
 
   pub named : Named P
   unfolding dataOf kiOf registerCount opened
