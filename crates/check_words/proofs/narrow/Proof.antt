@@ -11,7 +11,8 @@ returns-2 : tie.Need-returns-2
 returns-2 c =
     let z = c .before .before .before .before .before .before .before .before .before in (
       (simp length-set, simp length-set),
-      λ reference. clean-narrowed (z .args .which) (stageIn (z .args .counts) (now (z .args .code))) reference (now (z .args .mask)) (z .args .b) _ (c .before .before .before .before .before .if1 .taken)
+      λ reference. clean-narrowed (z .args .which) (stageIn (z .args .counts) (now (z .args .code))) reference (now (z .args .mask)) (z .args .b) _
+          (c .before .before .before .before .before .if1 .taken)
           (c .before .input-words .ensures reference),
     )
 

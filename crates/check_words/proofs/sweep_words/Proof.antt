@@ -42,7 +42,8 @@ returns c =
     let under : find (getD (now (z .args .list)) (loop .loop .k) 0) ≡ found .result =
     ap (finds (z .args .which) s r) (sym (c .before .before .before .before .before .before .before .before .word-of .ensures)) ∙ sym (found .ensures .1 .1) in
     swept-words (z .args .which) (z .args .order) s r (now (z .args .list)) (z .pre .1) _ _ (loop .before .number-of .ensures)
-    (swept-here _ _ find _ (loop .loop .k) (omega (arith, c .before .before .before .before .before .before .before .before .before .before .loop-test)) (loop .loop .inv .0) _ (under ∙ c .before .i .given .1))
+    (swept-here _ _ find _ (loop .loop .k) (omega (arith, c .before .before .before .before .before .before .before .before .before .before .loop-test)) (loop .loop .inv .0) _
+    (under ∙ c .before .i .given .1))
 
 loop-again : tie.Need-loop-again Inv-loop μ-loop
 loop-again c =
