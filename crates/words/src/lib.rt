@@ -20,20 +20,56 @@ ghost use Rattle.words.specs.Listed.{Listed, NoneMarked, Marked};
 // A name for each word of the most inputs.
 pub const NAMES: usize = 1 << netlist::INPUTS;
 
-// The word that a name spells where input 0 is the highest bit of as many as there are inputs: the bits in turned order.
+// Five bits in turned order.
+fn turned_five(bits: usize) -> usize
+    requires { ⌜ bits < 32 ⌝ }
+    ensures { λ r. ⌜ r ≡ spelled FirstHighest 5 bits ⌝ }
+{
+    match bits {
+        0 => 0,
+        1 => 16,
+        2 => 8,
+        3 => 24,
+        4 => 4,
+        5 => 20,
+        6 => 12,
+        7 => 28,
+        8 => 2,
+        9 => 18,
+        10 => 10,
+        11 => 26,
+        12 => 6,
+        13 => 22,
+        14 => 14,
+        15 => 30,
+        16 => 1,
+        17 => 17,
+        18 => 9,
+        19 => 25,
+        20 => 5,
+        21 => 21,
+        22 => 13,
+        23 => 29,
+        24 => 3,
+        25 => 19,
+        26 => 11,
+        27 => 27,
+        28 => 7,
+        29 => 23,
+        30 => 15,
+        _ => 31,
+    }
+}
+
+// The word that a name spells where input 0 is the highest bit of as many as there are inputs: the bits in turned order. Those of the most inputs
+// are turned, five at a time, and as many of them as are inputs are the highest.
 fn turned(inputs: usize, name: usize) -> usize
     requires { ⌜ inputs ≤ stageLimits .inputs ⌝ }
     ensures { λ r. ⌜ r ≡ spelled FirstHighest inputs name ⌝ }
 {
-    let mut left = name;
-    let mut word: usize = 0;
-    let mut i: usize = 0;
-    while i < inputs {
-        word = left % 2 + 2 * word;
-        left = left / 2;
-        i += 1;
-    }
-    word
+    let first = turned_five(name % 32);
+    let last = turned_five(name / 32 % 32);
+    (last + 32 * first) >> (netlist::INPUTS - inputs)
 }
 
 // The word that a name spells, with words named in an order.
