@@ -3,7 +3,8 @@
 use netlist::Counts;
 use verdict::WordOrder;
 ghost use mathlib.Core.Path.{_≡_};
-ghost use mathlib.Core.List.{_++_};
+ghost use mathlib.Core.Bool.{cond};
+ghost use mathlib.Core.List.{_++_, map};
 ghost use Prim.Native.Nat.{_^_, _≤_, _<_};
 ghost use lib.ListN.{length, drop};
 ghost use Rattle.netlist.specs.Reading.{stageLimits};
@@ -13,7 +14,7 @@ ghost use Rattle.verdict.specs.Rows.{settled};
 ghost use Rattle.circuit.specs.Stage.{stageCare, stageIn, StageLoaded, stageGates};
 ghost use Rattle.circuit.specs.Order.{InOrder};
 ghost use Rattle.circuit.specs.Rows.{RowFor, netsIn, railPart};
-ghost use Rattle.words.specs.Listed.{Listed, NoneMarked, Marked};
+ghost use Rattle.words.specs.Listed.{Listed, shown, NoneMarked, Marked};
 
 // ---- by name
 
@@ -129,10 +130,27 @@ fn is_marked(code: &[u16], counts: Counts, marks: &[u8], w: usize) -> bool
     0 < marks[w]
 }
 
-// Lists the names of a stage's words from the start of `list`, the least first, and answers how many they are.
-pub fn list_names(order: WordOrder, code: &[u16], counts: Counts, list: &mut [u16]) -> usize
+// What is listed for a name: the name itself, or the word w that it spells.
+fn shown_as(as_words: bool, name: usize, w: usize) -> usize
+    ensures { λ r. ⌜ r ≡ cond «as_words» w name ⌝ }
+{
+    if as_words {
+        return w;
+    }
+    name
+}
+
+// Lists the words of a stage from the start of `list`, each by its name or as it is, those of the least names first, and answers how many they are.
+fn list_by(
+    as_words: bool,
+    order: WordOrder,
+    code: &[u16],
+    counts: Counts,
+    list: &mut [u16],
+) -> usize
     requires { ⌜ StageLoaded counts (now code) × (2 ^ stageLimits .inputs ≤ length (now list)) ⌝ }
-    ensures { λ r. ⌜ Listed (names order (stageIn counts (now (code .entry)))) (now (list .entry)) r (now (list .exit)) ⌝ }
+    ensures { λ r. ⌜ Listed (map (shown «as_words» order (counts .inputs)) (names order (stageIn counts (now (code .entry))))) (now (list .entry)) r
+        (now (list .exit)) ⌝ }
 {
     let inputs = counts.inputs;
     let mut marks = [0u8; NAMES];
@@ -142,13 +160,31 @@ pub fn list_names(order: WordOrder, code: &[u16], counts: Counts, list: &mut [u1
     let mut name: usize = 0;
     while name < all {
         let w = word_of(order, inputs, name);
+        let put = shown_as(as_words, name, w);
         if is_marked(code, counts, &marks, w) {
-            list[count] = name as u16;
+            list[count] = put as u16;
             count += 1;
         }
         name += 1;
     }
     count
+}
+
+// Lists the names of a stage's words from the start of `list`, the least first, and answers how many they are.
+pub fn list_names(order: WordOrder, code: &[u16], counts: Counts, list: &mut [u16]) -> usize
+    requires { ⌜ StageLoaded counts (now code) × (2 ^ stageLimits .inputs ≤ length (now list)) ⌝ }
+    ensures { λ r. ⌜ Listed (names order (stageIn counts (now (code .entry)))) (now (list .entry)) r (now (list .exit)) ⌝ }
+{
+    list_by(false, order, code, counts, list)
+}
+
+// Lists the words that these names spell.
+pub fn list_words(order: WordOrder, code: &[u16], counts: Counts, list: &mut [u16]) -> usize
+    requires { ⌜ StageLoaded counts (now code) × (2 ^ stageLimits .inputs ≤ length (now list)) ⌝ }
+    ensures { λ r. ⌜ Listed (map (spelled order (counts .inputs)) (names order (stageIn counts (now (code .entry))))) (now (list .entry)) r
+        (now (list .exit)) ⌝ }
+{
+    list_by(true, order, code, counts, list)
 }
 
 // ---- on the rails
