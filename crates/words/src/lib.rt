@@ -104,7 +104,7 @@ pub fn is_word(code: &[u16], counts: Counts, w: usize) -> bool
 }
 
 // Marks the care words of a stage, a byte for each word. A list that is empty marks none.
-fn mark_care(code: &[u16], counts: Counts, marks: &mut [u8])
+pub fn mark_care(code: &[u16], counts: Counts, marks: &mut [u8])
     requires { ⌜ StageLoaded counts (now code) × NoneMarked (now marks) ⌝ }
     ensures { λ r. ⌜ Marked (stageCare counts (now (code .entry))) (now (marks .exit)) × (length (now (marks .exit)) ≡ length (now (marks .entry))) ⌝ }
 {
@@ -120,7 +120,7 @@ fn mark_care(code: &[u16], counts: Counts, marks: &mut [u8])
 }
 
 // Whether w is a word of a stage whose care words are marked.
-fn is_marked(code: &[u16], counts: Counts, marks: &[u8], w: usize) -> bool
+pub fn is_marked(code: &[u16], counts: Counts, marks: &[u8], w: usize) -> bool
     requires { ⌜ StageLoaded counts (now code) × Marked (stageCare counts (now code)) (now marks) × (w < length (now marks)) ⌝ }
     ensures { λ r. ⌜ r ≡ isIn w (words (stageIn counts (now (code .entry)))) ⌝ }
 {
