@@ -1,7 +1,7 @@
 -- `call_join::uncared_named` meets its contract. The loop's invariant: nothing is found under the names before name k. Assumes nothing.
 use Prim.Native.Nat.{_-_, _^_, _<_}
 use native.Mathlib.Omega.{arith}
-use mathlib.Core.Path.{sym, subst}
+use mathlib.Core.Path.{refl, sym, subst}
 use lib.ListN.{length, getD}
 use denote.Ref.{now}
 use borrow.Author.Needs.{needs}
@@ -41,7 +41,7 @@ returns c =
     let below : w < 2 ^ z .args .inputs = spelled-below (z .args .order) (z .args .inputs) name (z .pre .1 (loop .loop .k) (omega arith)) in
     λ function second n.
     swept-here 23 0 (uncaredUnder (z .args .order) (z .args .inputs) function second) (now (z .args .list)) (loop .loop .k) (omega arith)
-    (loop .loop .inv function second n) 0
+    (loop .loop .inv function second n) 0 _ refl
     (uncared-under (z .args .order) (z .args .inputs) function second name
     (named-uncared (z .args .inputs) function second (now (z .args .masks)) n w below (c .before .is-named .result) (c .if1 .taken)
     (λ u. c .before .is-named .ensures .1 (subst (Unnamed (now (z .args .masks))) (sym (c .before .before .word-of .ensures)) u))))
