@@ -95,7 +95,8 @@ pub record Stands (f : File) (s : List ℕ) (at : ℕ) (c : Sort) : Type 0 where
 -- a top before a command and one after it: what reaches the second reaches the first, and the command's operands name what they have to name
 abbrev pub Topped : File → List ℕ → ℕ → Counts → ℕ → ℕ → Type 0
 Topped f s at before top top′ =
-    (N : Nets) → Reaches f (before .inputs) top′ N → Reaches f (before .inputs) top N × (namelessAt f N s at (before .gates) (formOf f (byte s at)) ≡ found.Nothing)
+    (N : Nets) → Reaches f (before .inputs) top′ N →
+    Reaches f (before .inputs) top N × (namelessAt f N s at (before .gates) (formOf f (byte s at)) ≡ found.Nothing)
 
 -- ---- the lent places
 

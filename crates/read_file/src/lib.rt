@@ -387,7 +387,6 @@ fn note(sort: Sort, most: Limits, s: &[u8], at: usize, places: &mut [u16], befor
     after
 }
 
-
 // No more than there are words of n inputs: all of them that are u16s.
 fn words_of(n: usize) -> usize
     ensures { λ r. ⌜ r ≤ 2 ^ n ⌝ }
@@ -413,9 +412,9 @@ fn word_at(s: &[u8], at: usize, floor: usize, below: usize) -> bool
     w < below
 }
 
-// Reads a whole file, one command at a time, and care words that follow one another at once. The places of its gates go into the lent slice from index 0 on, those of its
-// outputs from index most.gates on, the notes of its registers and C-elements behind room for the most outputs, and its care words behind room
-// for the most of these.
+// Reads a whole file, one command at a time, and care words that follow one another at once. The places of its gates go into the lent slice
+// from index 0 on, those of its outputs from index most.gates on, the notes of its registers and C-elements behind room for the most outputs,
+// and its care words behind room for the most of these.
 pub fn read_file(file: File, most: Limits, s: &[u8], places: &mut [u16]) -> Outcome
     requires { ⌜ files.RoomFor file most (length (now places)) ⌝ }
     ensures answered { λ r. ⌜ r ≡ read.outcomeOf (reading.readFile file most (now (s .entry))) ⌝ }
