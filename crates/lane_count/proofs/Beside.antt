@@ -40,7 +40,8 @@ levels-beside j x =
     (x / 2 ^ (16 + j) % 2) (x / 2 ^ (32 + j) % 2) (mask-low y 0x000100010001)
     (mask-low (y / 2 ^ 16) 0x00010001 ∙ ap (λ (n : ℕ). bitAnd (y / 2 ^ 16 / 2 ^ 16) 0x00010001 * 0x10000 + n) (up 16))
     (mask-low (y / 2 ^ 16 / 2 ^ 16) 1
-    ∙ ap₂ (λ (m n : ℕ). m * 0x10000 + n) (and-mask (y / 2 ^ 16 / 2 ^ 16 / 2 ^ 16) 1 ∙ ap (λ (n : ℕ). n % 2) (ap (λ (n : ℕ). n / 2 ^ 16) (shr-shr y 16 16) ∙ shr-shr y 32 16) ∙ up 48)
+    ∙ ap₂ (λ (m n : ℕ). m * 0x10000 + n) (and-mask (y / 2 ^ 16 / 2 ^ 16 / 2 ^ 16) 1
+    ∙ ap (λ (n : ℕ). n % 2) (ap (λ (n : ℕ). n / 2 ^ 16) (shr-shr y 16 16) ∙ shr-shr y 32 16) ∙ up 48)
     (ap (λ (n : ℕ). n % 2) (shr-shr y 16 16) ∙ up 32))
 
 -- ---- the loop that reads, from the highest digit on

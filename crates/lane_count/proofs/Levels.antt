@@ -3,7 +3,7 @@
 use Prim.Native.Nat.{ℕ, _+_, _*_, _^_, _≤_, _<_}
 use native.Mathlib.Omega.{arith}
 use native.Mathlib.Nat.{add-zero}
-use mathlib.Core.Path.{_≡_, refl, sym, ap, _∙_, subst}
+use mathlib.Core.Path.{_≡_, ap, _∙_}
 use mathlib.Core.List.{List}
 use lib.ListN.{length, getD, set, take, drop, replicate, length-replicate}
 use Rattle.verdict.specs.Levels.{sum}
@@ -58,7 +58,8 @@ module _ (digits row : List ℕ) (at : ℕ) (ab cd ef gh abcd efgh all : Sum) (p
     (s : Sums gh (ef .low) (getD row (at + 6) 0) (getD row (at + 6 + 1) 0)) (t : Sums abcd (getD digits 1 0) (ab .high) (cd .high))
     (u : Sums efgh (abcd .low) (ef .high) (gh .high)) (v : Sums all (getD digits 2 0) (abcd .high) (efgh .high)) where
   pub eight-sum : 3 ≤ length digits → at + 8 ≤ length row → (j : ℕ)
-      → counted j (set (set (set digits 0 (gh .low)) 1 (efgh .low)) 2 (all .low)) + 2 ^ 3 * levelIn j (all .high) ≡ counted j digits + sum (take 8 (drop at (laneOf j row)))
+      → counted j (set (set (set digits 0 (gh .low)) 1 (efgh .low)) 2 (all .low)) + 2 ^ 3 * levelIn j (all .high)
+      ≡ counted j digits + sum (take 8 (drop at (laneOf j row)))
   eight-sum long room j =
       omega (arith, counted-low j digits (gh .low) (efgh .low) (all .low) long, p j, q j, r j, s j, t j, u j, v j, eight-levels j row at room)
 

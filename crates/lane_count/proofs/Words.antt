@@ -1,10 +1,9 @@
 -- The counters of a block at rest, and the words that they are written for.
 -- Assumes nothing.
-use Prim.Native.Nat.{ℕ, zero, suc, _+_, _-_, _*_, _/_, _%_, _≤_, _<_}
+use Prim.Native.Nat.{ℕ, zero, suc, _+_, _-_, _*_, _%_, _≤_, _<_}
 use native.Mathlib.Omega.{arith}
 use native.Mathlib.Decide.{ℕ-discrete, decLt}
 use mathlib.Core.Path.{_≡_, refl, sym, ap, _∙_}
-use mathlib.Core.Bool.{Bool, true, false}
 use mathlib.Core.Logic.{_⊎_, inl, inr}
 use mathlib.Core.List.{List, _++_}
 use lib.ListN.{length, getD, take, drop, set, replicate, length-set, length-drop, length-replicate}
@@ -153,32 +152,29 @@ high-more c code high b s high′ before block w h = go (decLt w (64 * b))
     go (no l) = let e : 64 * b + (w - 64 * b) ≡ w = omega arith in rw e at (block (w - 64 * b) (omega arith))
 
 -- what the blocks share, and what is known once the first b of them are counted
-pub record BlocksTo (c : Counts) (code start high row ack : List ℕ) (b : ℕ) : Type 0 where
+pub record BlocksTo (c : Counts) (code start high row : List ℕ) (b : ℕ) : Type 0 where
   pub same-long : length high ≡ length start
   pub row-long : length row ≡ rowSize
-  pub ack-long : length ack ≡ rowSize
   pub ground : getD row (netCount c) 0 ≡ 0
   pub high-to : HighTo c code high b
 
-pub blocks-start : (c : Counts) (code start : List ℕ) → Within stageLimits c → BlocksTo c code start start (replicate rowSize 0) (replicate rowSize 0) 0
+pub blocks-start : (c : Counts) (code start : List ℕ) → Within stageLimits c → BlocksTo c code start start (replicate rowSize 0) 0
 blocks-start c code start within = record {
   same-long = refl;
   row-long = length-replicate {A = ℕ} rowSize 0;
-  ack-long = length-replicate {A = ℕ} rowSize 0;
   ground = low-row c within .ground;
   high-to = λ w h. absurd (omega arith);
 }
 
 -- one block more
-pub blocks-more : (c : Counts) (code start high row ack : List ℕ) (b : ℕ) → BlocksTo c code start high row ack b → (high′ row′ ack′ digits : List ℕ)
-    → netCount c < length row → (length row′ ≡ length row) × (length ack′ ≡ length ack) → Resting c code b row′
+pub blocks-more : (c : Counts) (code start high row : List ℕ) (b : ℕ) → BlocksTo c code start high row b → (high′ row′ digits : List ℕ)
+    → netCount c < length row → length row′ ≡ length row → Resting c code b row′
     → ((j : ℕ) → counted j digits ≡ sum (take (c .gates) (drop (2 * c .inputs) (laneOf j row′))))
     → (length high′ ≡ length high) × ((j : ℕ) → j < 64 → getD high′ (64 * b + j) 0 ≡ counted j digits) × ((w : ℕ) → w < 64 * b → getD high′ w 0 ≡ getD high w 0)
-    → BlocksTo c code start high′ row′ ack′ (b + 1)
-blocks-more c code start high row ack b s high′ row′ ack′ digits room long rest count written = record {
+    → BlocksTo c code start high′ row′ (b + 1)
+blocks-more c code start high row b s high′ row′ digits room long rest count written = record {
   same-long = written .0 ∙ s .same-long;
-  row-long = long .0 ∙ s .row-long;
-  ack-long = long .1 ∙ s .ack-long;
+  row-long = long ∙ s .row-long;
   ground = rest .ground;
-  high-to = high-more c code high b (s .high-to) high′ (written .2) (λ j d. written .1 j d ∙ count j ∙ block-high c code b row′ (omega (arith, long .0)) rest j d);
+  high-to = high-more c code high b (s .high-to) high′ (written .2) (λ j d. written .1 j d ∙ count j ∙ block-high c code b row′ (omega (arith, long)) rest j d);
 }

@@ -133,11 +133,10 @@ pub fn count_words(code: &[u16], counts: Counts, high: &mut [u16])
     ensures high { λ r. ⌜ HighIn (stageIn counts (now (code .entry))) (now (high .exit)) ⌝ }
 {
     let mut row = [0u64; circuit::ROW];
-    let mut ack = [0u64; circuit::ROW];
     let count = lane_settle::block_count(counts.inputs);
     let mut b: usize = 0;
     while b < count {
-        lane_settle::settle(code, counts, b, &mut row, &mut ack);
+        lane_complete::settle_block(code, counts, b, &mut row);
         let digits = count_high(&row, 2 * counts.inputs, counts.gates);
         write_counters(&digits, b, high);
         b += 1;

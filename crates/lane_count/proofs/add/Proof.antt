@@ -1,8 +1,7 @@
 -- `lane_count::add` meets its contract. The loop's invariant: the digits before place i have the level added, and the carry is still to be added. Assumes nothing.
-use Prim.Native.Nat.{ℕ, _-_}
+use Prim.Native.Nat.{_-_}
 use native.Mathlib.Omega.{arith}
 use lib.ListN.{length, length-set}
-use denote.Ref.{now}
 use borrow.Author.Needs.{needs}
 use Rattle.lane_count.proofs.Adding.{AddedTo, added-start, added-more, added-done}
 use Rattle.lane_count.proofs.add.Statement.{statement}

@@ -1,7 +1,6 @@
 -- `lane_count::add_eight` meets its contract. Assumes nothing.
-use Prim.Native.Nat.{ℕ, _+_, _≤_, _<_}
 use native.Mathlib.Omega.{arith}
-use mathlib.Core.Path.{_≡_, sym, _∙_}
+use mathlib.Core.Path.{_∙_}
 use lib.ListN.{length, length-set}
 use denote.Ref.{now}
 use borrow.Author.Needs.{needs}
@@ -13,10 +12,14 @@ slice-write-digits : tie.Need-slice-write-digits
 slice-write-digits c = let z = c .before .before .before .before .before .before .before .before .before .before .before .before in omega (arith, z .pre .0)
 
 slice-write-digits-2 : tie.Need-slice-write-digits-2
-slice-write-digits-2 c = let z = c .before .before .before .before .before .before .before .before .before .before .before .before in simp length-set (omega (arith, z .pre .0))
+slice-write-digits-2 c =
+    let z = c .before .before .before .before .before .before .before .before .before .before .before .before in
+    simp length-set (omega (arith, z .pre .0))
 
 slice-write-digits-3 : tie.Need-slice-write-digits-3
-slice-write-digits-3 c = let z = c .before .before .before .before .before .before .before .before .before .before .before .before in simp length-set (omega (arith, z .pre .0))
+slice-write-digits-3 c =
+    let z = c .before .before .before .before .before .before .before .before .before .before .before .before in
+    simp length-set (omega (arith, z .pre .0))
 
 add-requires : tie.Need-add-requires
 add-requires c κs j =

@@ -1,9 +1,8 @@
 -- `lane_count::count_high` meets its contract. The loops' invariant: the counters say how many of the nets passed are high. Assumes nothing.
-use Prim.Native.Nat.{ℕ, _+_, _-_, _≤_}
+use Prim.Native.Nat.{_+_, _-_, _≤_}
 use native.Mathlib.Omega.{arith}
 use mathlib.Core.Path.{_≡_, sym, subst}
-use mathlib.Core.List.{List}
-use lib.ListN.{length, getD, take, drop}
+use lib.ListN.{getD}
 use denote.Ref.{now}
 use borrow.Author.Needs.{needs}
 use Rattle.lane_count.proofs.Levels.{CountedTo, counted-start, counted-room, counted-more, counted-eight}
@@ -61,7 +60,8 @@ add-requires : tie.Need-add-requires Inv-loop μ-loop Inv-loop2 μ-loop2
 add-requires c κs j =
     let l = c .before .before .before .loop2 in
     let z = c .before .before .before .before .before .before .before in
-    omega (arith, counted-room _ _ (l .digits) (l .i) (l .inv .0) 1 (omega (arith, z .pre .1)) j, level-small j (getD (now (z .args .row)) (z .args .from + l .i) 0))
+    let room = counted-room _ _ (l .digits) (l .i) (l .inv .0) 1 (omega (arith, z .pre .1)) j in
+    omega (arith, room, level-small j (getD (now (z .args .row)) (z .args .from + l .i) 0))
 
 loop2-again : tie.Need-loop2-again Inv-loop μ-loop Inv-loop2 μ-loop2
 loop2-again c =
