@@ -14,7 +14,7 @@ add-above c =
 above-requires : tie.Need-above-requires
 above-requires c κs =
     let gate = c .before .before in
-    operation-room (stands-in (c .enum-told2 .given .1) (stands-as (gate .enum-told .given .1) (gate .before .before .before .pre .0)))
+    omega (arith, operation-room (stands-in (c .enum-told2 .given .1) (stands-as (gate .enum-told .given .1) (gate .before .before .before .pre .0))))
 
 add-above-2 : tie.Need-add-above-2
 add-above-2 c =
@@ -24,7 +24,7 @@ add-above-2 c =
 above-requires-2 : tie.Need-above-requires-2
 above-requires-2 c κs =
     let gate = c .before in
-    stage-gate-room (no-reference _ (c .match2 .keys2)) (stands-as (gate .enum-told .given .1) (gate .before .before .before .pre .0))
+    omega (arith, stage-gate-room (no-reference _ (c .match2 .keys2)) (stands-as (gate .enum-told .given .1) (gate .before .before .before .pre .0)))
 
 add-above-3 : tie.Need-add-above-3
 add-above-3 c =
@@ -34,7 +34,7 @@ add-above-3 c =
 above-requires-3 : tie.Need-above-requires-3
 above-requires-3 c κs =
     let output = c .before .before in
-    signal-room (stands-in (c .enum-told4 .given .1) (stands-as (output .enum-told3 .given .1) (output .before .before .before .pre .0)))
+    omega (arith, signal-room (stands-in (c .enum-told4 .given .1) (stands-as (output .enum-told3 .given .1) (output .before .before .before .pre .0))))
 
 add-above-4 : tie.Need-add-above-4
 add-above-4 c =
@@ -44,7 +44,7 @@ add-above-4 c =
 above-requires-4 : tie.Need-above-requires-4
 above-requires-4 c κs =
     let output = c .before in
-    stage-output-room (no-reference _ (c .match3 .keys2)) (stands-as (output .enum-told3 .given .1) (output .before .before .before .pre .0))
+    omega (arith, stage-output-room (no-reference _ (c .match3 .keys2)) (stands-as (output .enum-told3 .given .1) (output .before .before .before .pre .0)))
 
 returns : tie.Need-returns
 returns c =
