@@ -84,25 +84,6 @@ pub fn word_of(order: WordOrder, inputs: usize, name: usize) -> usize
     }
 }
 
-// Whether w is a word of a stage: one of its care words, or without a list one that its inputs have.
-pub fn is_word(code: &[u16], counts: Counts, w: usize) -> bool
-    requires { ⌜ StageLoaded counts (now code) ⌝ }
-    ensures { λ r. ⌜ r ≡ isIn w (words (stageIn counts (now (code .entry)))) ⌝ }
-{
-    let count = counts.care;
-    if count == 0 {
-        return w < 1 << counts.inputs;
-    }
-    let mut k: usize = 0;
-    while k < count {
-        if circuit::form::care_of(code, counts, k) == w {
-            return true;
-        }
-        k += 1;
-    }
-    false
-}
-
 // Marks the care words of a stage, a byte for each word. A list that is empty marks none.
 pub fn mark_care(code: &[u16], counts: Counts, marks: &mut [u8])
     requires { ⌜ StageLoaded counts (now code) × NoneMarked (now marks) ⌝ }
@@ -119,7 +100,7 @@ pub fn mark_care(code: &[u16], counts: Counts, marks: &mut [u8])
     }
 }
 
-// Whether w is a word of a stage whose care words are marked.
+// Whether w is a word of a stage whose care words are marked: one of these, or without a list one that its inputs have.
 pub fn is_marked(code: &[u16], counts: Counts, marks: &[u8], w: usize) -> bool
     requires { ⌜ StageLoaded counts (now code) × Marked (stageCare counts (now code)) (now marks) × (w < length (now marks)) ⌝ }
     ensures { λ r. ⌜ r ≡ isIn w (words (stageIn counts (now (code .entry)))) ⌝ }
