@@ -115,7 +115,8 @@ fn sweep_words(
     reference: &[u16],
     sizes: Counts,
 ) -> Finding
-    requires { ⌜ BothLoaded counts (now code) sizes (now reference) × (now list ≡ map (spelled order (counts .inputs)) (names order (stageIn counts (now code))))
+    requires { ⌜ BothLoaded counts (now code) sizes (now reference)
+        × (now list ≡ map (spelled order (counts .inputs)) (names order (stageIn counts (now code))))
         × Clean which (stageIn counts (now code)) (referenceIn sizes (now reference)) mask ⌝ }
     ensures { λ r. ⌜ r ≡ swept which order (stageIn counts (now (code .entry))) (referenceIn sizes (now (reference .entry))) ⌝ }
 {
@@ -159,7 +160,8 @@ fn sweep_check(
     reference: &[u16],
     sizes: Counts,
 ) -> Finding
-    requires { ⌜ BothLoaded counts (now code) sizes (now reference) × (now list ≡ map (spelled order (counts .inputs)) (names order (stageIn counts (now code))))
+    requires { ⌜ BothLoaded counts (now code) sizes (now reference)
+        × (now list ≡ map (spelled order (counts .inputs)) (names order (stageIn counts (now code))))
         × Clean which (stageIn counts (now code)) (referenceIn sizes (now reference)) mask ⌝ }
     ensures { λ r. ⌜ r ≡ swept which order (stageIn counts (now (code .entry))) (referenceIn sizes (now (reference .entry))) ⌝ }
 {
@@ -221,7 +223,8 @@ fn sweep_named(
     reference: &[u16],
     sizes: Counts,
 ) -> Finding
-    requires { ⌜ BothLoaded counts (now code) sizes (now reference) × (now list ≡ map (spelled order (counts .inputs)) (names order (stageIn counts (now code))))
+    requires { ⌜ BothLoaded counts (now code) sizes (now reference)
+        × (now list ≡ map (spelled order (counts .inputs)) (names order (stageIn counts (now code))))
         × AllClean (stageIn counts (now code)) (referenceIn sizes (now reference)) masks ⌝ }
     ensures { λ r. ⌜ r ≡ checks.firstFault (checks.sweeps order (stageIn counts (now (code .entry))) (referenceIn sizes (now (reference .entry)))) ⌝ }
 {
