@@ -5,7 +5,7 @@
    list. They may be any; that they are there (a list as its type is aligned), that nothing else writes them during the
    call, and that a row, a buffer or a list that is written overlaps nothing else is all that is asked. Each call
    returns, keeps nothing for later calls, and touches no other memory but its answer and the stack: at most 64
-   kilobytes of it (measured: report 61, join 59, witness 49, check 46, read a text 24, play 23, run by keys 23, settled
+   kilobytes of it (measured: join 61, report 59, witness 49, check 46, read a text 24, play 23, run by keys 23, settled
    row 21, write a text 18, make a stage 5, draw a reference 1, the next stage less than 1). So calls may run at the same time in several threads, each with a
    row, list or buffers of its own.
 

@@ -4,7 +4,7 @@ use Prim.Native.Nat.{ℕ, zero, suc, _+_, _-_, _*_, _^_, _≤_, _<_}
 use native.Mathlib.Omega.{arith}
 use native.Mathlib.Nat.{two-pow-succ}
 use mathlib.Core.Path.{_≡_, refl, sym, ap, ap₂, subst, _∙_}
-use mathlib.Core.Bool.{Bool, true, false}
+use mathlib.Core.Bool.{Bool, true, false, not}
 use mathlib.Core.List.{List, [], _∷_, map, map-map, map-id}
 use lib.ListN.{length, getD, take, drop, length-drop, length-map, drop-of-length-le}
 use lib.Seq.{drop-cons, getD-take}
@@ -13,16 +13,14 @@ use lib.Dec.{eqb}
 use borrow.Author.Tests.{lt-ltb}
 use Rattle.gates.specs.Cell.{bit}
 use Rattle.netlist.specs.declared.Counts.{Counts}
-use Rattle.netlist.specs.declared.Found.{Found}
 use Rattle.netlist.specs.declared.Found.the-variants.{At, Nothing}
 use Rattle.netlist.specs.Content.{Stage, Reference}
-use Rattle.verdict.specs.declared.Finding.{Finding}
 use Rattle.verdict.specs.declared.Finding.the-variants.{Passed}
 use Rattle.verdict.specs.Graph.{tabulate}
 use Rattle.verdict.specs.declared.WordOrder.{WordOrder}
-use Rattle.verdict.specs.Words.{words, bitsOf, wordOf, spelled, isIn, names}
+use Rattle.verdict.specs.Words.{bitsOf, wordOf, spelled}
 use Rattle.verdict.specs.Answers.{answer, valuesAt, signalValues}
-use Rattle.verdict.specs.Checks.{first, sweep, finding}
+use Rattle.verdict.specs.Checks.{first, sweep}
 use Rattle.verdict.proofs.Words.{bits-of-bit, answer-bit}
 use Rattle.check_spec.specs.Lists.{bitOf, ofBits}
 use Rattle.check_spec.specs.Words as content
@@ -33,11 +31,13 @@ use Rattle.join_spec.specs.Joining as joins
 use Rattle.circuit.specs.Stage.{stageIn}
 use Rattle.circuit.specs.Reference.{operatorsIn, signalIn, signalsIn, referenceIn, ReferenceLoaded}
 use Rattle.circuit.proofs.Tabulate.{length-tabulate, getD-tabulate}
-use Rattle.words.proofs.Spelling.{bits-prefix}
 use Rattle.words.proofs.Membership.{of-all}
+use Rattle.lane_cells.specs.Lane.{laneOf}
+use Rattle.lane_cells.proofs.Lane.{level-small}
+use Rattle.lane_cells.proofs.Blocks.{level-at}
 use Rattle.check_words.proofs.Sweeping.{swept-nothing}
 use Rattle.write_joined.proofs.Whole.{signals-count}
-use Rattle.call_join.specs.Steps.{answerWord, uncaredUnder}
+use Rattle.call_join.specs.Steps.{answerWord, answerIn, uncaredFor, uncaredUnder}
 
 -- ---- a word from its bits, the last first
 
@@ -83,24 +83,36 @@ values-before values n signal (suc m) h =
     ap₂ (λ (v : ℕ) (vs : List ℕ). v ∷ vs) (sym (getD-take n values (signal 0) 0 (h 0 (omega arith))))
     (values-before values n (λ i. signal (suc i)) m (λ j l. h (suc j) (omega arith)))
 
-pub answered : (sizes : Counts) (reference : List ℕ) (w : ℕ) → ReferenceLoaded sizes reference → (values bits : List ℕ) (long : ℕ) →
-    bits ≡ bitsOf long w → sizes .inputs ≤ long →
-    take (sizes .inputs + sizes .gates) values ≡ signalValues (take (sizes .inputs) bits) (operatorsIn sizes reference) → (r : ℕ) →
-    r ≡ wordOf (valuesAt values (signalsIn sizes reference)) → r ≡ answerWord (referenceIn sizes reference) w
-unfolding answer signalsIn
-answered sizes reference w loaded values bits long eb few ev r e =
-    e ∙ ap wordOf (values-before values (sizes .inputs + sizes .gates) (signalIn sizes reference) (sizes .outputs) (loaded .signal)
-    ∙ ap (λ (l : List ℕ). valuesAt l (tabulate (signalIn sizes reference) (sizes .outputs)))
-    (ev ∙ ap (λ (l : List ℕ). signalValues l (operatorsIn sizes reference)) (ap (take (sizes .inputs)) eb ∙ bits-prefix (sizes .inputs) long w few)))
+-- the value of a signal in word j of a block
+abbrev pub valueIn : List ℕ → ℕ → ℕ → ℕ
+valueIn values j v = getD (laneOf j values) v 0
+
+pub value-small : (values : List ℕ) (j v : ℕ) → valueIn values j v ≤ 1
+value-small values j v = rw (level-at j values v) (level-small j (getD values v 0))
+
+module _ (sizes : Counts) (reference values : List ℕ) (j : ℕ) where
+  pub answer-below : answerIn sizes reference values j < 2 ^ sizes .outputs
+  answer-below =
+      subst (λ (m : ℕ). answerIn sizes reference values j < 2 ^ m) (signals-count sizes reference)
+      (word-below (valueIn values j) (value-small values j) (signalsIn sizes reference))
+
+  -- where the signals have the values of word w, the outputs spell its answer
+  pub answered : ReferenceLoaded sizes reference → (w : ℕ) →
+      take (sizes .inputs + sizes .gates) (laneOf j values) ≡ signalValues (bitsOf (sizes .inputs) w) (operatorsIn sizes reference) →
+      answerIn sizes reference values j ≡ answerWord (referenceIn sizes reference) w
+  unfolding answer signalsIn
+  answered loaded w e =
+      ap wordOf (values-before (laneOf j values) (sizes .inputs + sizes .gates) (signalIn sizes reference) (sizes .outputs) (loaded .signal)
+      ∙ ap (λ (l : List ℕ). valuesAt l (tabulate (signalIn sizes reference) (sizes .outputs))) e)
 
 -- ---- what is found under a name
 
 module _ (order : WordOrder) (inputs : ℕ) (r : Reference) (t : Stage) (name : ℕ) where
-  pub cared-under : isIn (answerWord r (spelled order inputs name)) (words t) ≡ true → uncaredUnder order inputs r t name ≡ Nothing
+  pub cared-under : uncaredFor t (answerWord r (spelled order inputs name)) ≡ false → uncaredUnder order inputs r t name ≡ Nothing
   unfolding first
   cared-under e = rw e
 
-  pub uncared-under : isIn (answerWord r (spelled order inputs name)) (words t) ≡ false → uncaredUnder order inputs r t name ≡ At 0
+  pub uncared-under : uncaredFor t (answerWord r (spelled order inputs name)) ≡ true → uncaredUnder order inputs r t name ≡ At 0
   unfolding first
   uncared-under e = rw e
 
@@ -130,4 +142,4 @@ all-cared order inputs sizes reference c code none seam ns =
     let below : (w : ℕ) → answerWord r w < 2 ^ c .inputs = λ w. subst (λ (k : ℕ). answerWord r w < 2 ^ k) long
     (subst (λ (x : ℕ). x < 2 ^ length (fromReference r .outputs)) (answer-word r w) (of-bits-below (length (fromReference r .outputs)) _)) in
     sym (swept-nothing 23 0 _ ns (λ name i. cared-under order inputs r (stageIn c code) name
-    (sym (of-all c code _ none) ∙ lt-ltb _ _ (below (spelled order inputs name)))))
+    (ap not (sym (of-all c code _ none) ∙ lt-ltb _ _ (below (spelled order inputs name))))))

@@ -1,3 +1,4 @@
 pub mod Answers
+pub mod Masks
 pub mod Wholes
 pub mod Joining

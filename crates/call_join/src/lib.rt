@@ -9,69 +9,102 @@ use verdict::WordOrder;
 ghost use mathlib.Core.Path.{_≡_};
 ghost use Prim.Native.Nat.{ℕ, _+_, _*_, _^_, _≤_, _<_};
 ghost use lib.ListN.{length, getD};
-ghost use Rattle.netlist.specs.declared.File.the-variants.{Stage, Reference};
-ghost use Rattle.netlist.specs.Reading.{stageLimits, referenceLimits, partStageLimits, partReferenceLimits};
-ghost use Rattle.verdict.specs.Answers.{valuesAt};
-ghost use Rattle.verdict.specs.Words.{wordOf, names};
+ghost use Rattle.netlist.specs.Content.{Stage, Reference};
+ghost use Rattle.netlist.specs.Reading.{stageLimits};
+ghost use Rattle.verdict.specs.Words.{names};
 ghost use Rattle.verdict.specs.Checks.{sweep};
-ghost use Rattle.circuit.specs.Stage.{stageIn, StageLoaded};
-ghost use Rattle.circuit.specs.Reference.{signalsIn, referenceIn, ReferenceLoaded};
+ghost use Rattle.circuit.specs.Stage.{stageCare, stageIn, StageLoaded};
+ghost use Rattle.circuit.specs.Reference.{referenceIn, ReferenceLoaded};
+ghost use Rattle.words.specs.Listed.{Marked};
+ghost use Rattle.lane_cells.specs.Lane.{lane};
 ghost use Rattle.check_spec.specs.Cases.{judge};
-ghost use Rattle.check_spec.specs.Content.{Files, contentOf, partFiles};
-ghost use Rattle.check_spec.specs.Verdicts.{verdictOn};
-ghost use Rattle.check_spec.specs.Loaded.{fromStage, fromReference};
+ghost use Rattle.check_spec.specs.Content.{Files, partFiles};
 ghost use Rattle.join_spec.specs.Joining.{whole, seamChecks, JoinDemand};
-ghost use Rattle.call_join.specs.Steps.{answerWord, uncaredUnder, PartsLoaded, PartsHeld, answerWith, Leaves};
+ghost use Rattle.call_join.specs.Steps.{uncaredFor, answerIn, NamesUncared, uncaredUnder, PartsLoaded, PartsHeld, answerWith, Leaves};
 
 // ---- 23: words whose answer the second part does not care for
 
-// The word that the outputs of a reference spell, from the values of its signals: output j is bit j.
-fn word_answered(reference: &[u16], sizes: Counts, values: &[u8]) -> usize
-    requires { ⌜ ReferenceLoaded sizes (now reference) × (sizes .inputs + sizes .gates ≤ length (now values)) × ((i : ℕ) → getD (now values) i 0 ≤ 1) ⌝ }
-    ensures { λ r. ⌜ r ≡ wordOf (valuesAt (now (values .entry)) (signalsIn sizes (now (reference .entry)))) ⌝ }
+// The word that the outputs of a reference spell in word j of a block, from the values of its signals there: output k is bit k.
+fn word_answered(reference: &[u16], sizes: Counts, values: &[u64], j: usize) -> usize
+    requires { ⌜ ReferenceLoaded sizes (now reference) × (sizes .inputs + sizes .gates ≤ length (now values)) × (j < 64) ⌝ }
+    ensures { λ r. ⌜ r ≡ answerIn sizes (now (reference .entry)) (now (values .entry)) j ⌝ }
 {
     let mut word: usize = 0;
-    let mut j = sizes.outputs;
-    while 0 < j {
-        j -= 1;
-        let signal = circuit::form::signal_of(reference, sizes, j) as usize;
-        word = values[signal] as usize + 2 * word;
+    let mut k = sizes.outputs;
+    while 0 < k {
+        k -= 1;
+        let signal = circuit::form::signal_of(reference, sizes, k);
+        let rest = lane_cells::lanes_at(values, signal) >> j;
+        word = (rest % 2) as usize + 2 * word;
     }
     word
 }
 
-// The reference's answer to word w, as a word.
-fn answer_word(reference: &[u16], sizes: Counts, w: usize) -> usize
-    requires { ⌜ ReferenceLoaded sizes (now reference) ⌝ }
-    ensures { λ r. ⌜ r ≡ answerWord (referenceIn sizes (now (reference .entry))) w ⌝ }
+// The words of a block whose answer the second part does not care for, from the values of the first's signals there. The care words are marked.
+fn uncared_words(
+    reference1: &[u16],
+    sizes1: Counts,
+    values: &[u64],
+    code2: &[u16],
+    counts2: Counts,
+    marks: &[u8],
+) -> u64
+    requires { ⌜ ReferenceLoaded sizes1 (now reference1) × (sizes1 .inputs + sizes1 .gates ≤ length (now values)) × StageLoaded counts2 (now code2)
+        × Marked (stageCare counts2 (now code2)) (now marks) × (2 ^ sizes1 .outputs ≤ length (now marks)) ⌝ }
+    ensures { λ r. ⌜ ((j : ℕ) → j < 64 → lane j r ≡ uncaredFor (stageIn counts2 (now (code2 .entry))) (answerIn sizes1 (now (reference1 .entry))
+        (now (values .entry)) j)) ⌝ }
 {
-    let mut values = [0u8; circuit::SIGNALS];
-    words::word_bits(w, &mut values);
-    circuit_values::signal_values(reference, sizes, &mut values);
-    word_answered(reference, sizes, &values)
+    let mut words: u64 = 0;
+    let mut j: usize = 0;
+    while j < 64 {
+        let answer = word_answered(reference1, sizes1, values, j);
+        if words::is_marked(code2, counts2, marks, answer) {
+            j += 1;
+            continue;
+        }
+        words = words | 1 << j;
+        j += 1;
+    }
+    words
 }
 
-// The least of some names, of words of the first part, whose answer the second does not care for.
-fn uncared_named(
-    order: WordOrder,
-    list: &[u16],
+// Those of all words that so many inputs have, as a mask for each block.
+fn uncared_masks(
     inputs: usize,
     reference1: &[u16],
     sizes1: Counts,
     code2: &[u16],
     counts2: Counts,
-) -> Finding
-    requires { ⌜ (inputs ≤ stageLimits .inputs) × ReferenceLoaded sizes1 (now reference1) × StageLoaded counts2 (now code2) ⌝ }
-    ensures { λ r. ⌜ r ≡ sweep 23 0 (uncaredUnder order inputs (referenceIn sizes1 (now (reference1 .entry))) (stageIn counts2 (now (code2 .entry))))
-        (now (list .entry)) ⌝ }
+) -> [u64; lane_settle::BLOCKS]
+    requires { ⌜ (inputs ≤ stageLimits .inputs) × ReferenceLoaded sizes1 (now reference1) × StageLoaded counts2 (now code2)
+        × (sizes1 .outputs ≡ counts2 .inputs) ⌝ }
+    ensures { λ r. ⌜ NamesUncared inputs (referenceIn sizes1 (now (reference1 .entry))) (stageIn counts2 (now (code2 .entry))) r ⌝ }
+{
+    let mut marks = [0u8; words::NAMES];
+    words::mark_care(code2, counts2, &mut marks);
+    let mut values = [0u64; circuit::SIGNALS];
+    let mut masks = [0u64; lane_settle::BLOCKS];
+    let count = lane_settle::block_count(inputs);
+    let mut b: usize = 0;
+    while b < count {
+        lane_cells::signal_lanes(reference1, sizes1, b, &mut values);
+        masks[b] = uncared_words(reference1, sizes1, &values, code2, counts2, &marks);
+        b += 1;
+    }
+    masks
+}
+
+// The least of some names whose word the masks name.
+fn uncared_named(order: WordOrder, list: &[u16], inputs: usize, masks: &[u64]) -> Finding
+    requires { ⌜ (inputs ≤ stageLimits .inputs) × ((k : ℕ) → k < length (now list) → getD (now list) k 0 < 2 ^ inputs) ⌝ }
+    ensures { λ r. ⌜ ((function : Reference) (second : Stage) → NamesUncared inputs function second (now (masks .entry))
+        → r ≡ sweep 23 0 (uncaredUnder order inputs function second) (now (list .entry))) ⌝ }
 {
     let mut k: usize = 0;
     while k < list.len() {
         let name = list[k] as usize;
         let w = words::word_of(order, inputs, name);
-        if words::is_word(code2, counts2, answer_word(reference1, sizes1, w)) {
-            k += 1;
-        } else {
+        if lane_screen::is_named(masks, w) {
             return Finding::Fault(Verdict {
                 number: 23,
                 file: 0,
@@ -79,11 +112,24 @@ fn uncared_named(
                 word: name as u64,
             });
         }
+        k += 1;
     }
     Finding::Passed
 }
 
-// The least word of the first part, by its name, whose answer the second does not care for. Without a care list it cares for every answer.
+// The same of the names of the first part's words.
+fn uncared_listed(order: WordOrder, code1: &[u16], counts1: Counts, masks: &[u64]) -> Finding
+    requires { ⌜ StageLoaded counts1 (now code1) ⌝ }
+    ensures { λ r. ⌜ ((function : Reference) (second : Stage) → NamesUncared (counts1 .inputs) function second (now (masks .entry))
+        → r ≡ sweep 23 0 (uncaredUnder order (counts1 .inputs) function second) (names order (stageIn counts1 (now (code1 .entry))))) ⌝ }
+{
+    let mut list = [0u16; words::NAMES];
+    let count = words::list_names(order, code1, counts1, &mut list);
+    uncared_named(order, &list[..count], counts1.inputs, masks)
+}
+
+// The least word of the first part, by its name, whose answer the second does not care for. Without a care list it cares for every answer, and
+// where the masks name none of the first part's words they are not looked at by name.
 fn uncared(
     order: WordOrder,
     code1: &[u16],
@@ -101,17 +147,11 @@ fn uncared(
     if counts2.care == 0 {
         return Finding::Passed;
     }
-    let mut list = [0u16; words::NAMES];
-    let count = words::list_names(order, code1, counts1, &mut list);
-    uncared_named(
-        order,
-        &list[..count],
-        counts1.inputs,
-        reference1,
-        sizes1,
-        code2,
-        counts2,
-    )
+    let masks = uncared_masks(counts1.inputs, reference1, sizes1, code2, counts2);
+    if lane_screen::none_named(&masks, code1, counts1) {
+        return Finding::Passed;
+    }
+    uncared_listed(order, code1, counts1, &masks)
 }
 
 // ---- the call

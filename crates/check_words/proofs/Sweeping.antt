@@ -1,12 +1,12 @@
 -- All words, name by name, and check by check.
 -- Assumes nothing.
-use Prim.Native.Nat.{ℕ, zero, suc, _+_, _-_, _*_, _≤_, _<_}
+use Prim.Native.Nat.{ℕ, zero, suc, _+_, _-_, _*_, _^_, _≤_, _<_}
 use native.Mathlib.Omega.{arith}
 use native.Mathlib.Numerals.{add-one}
 use mathlib.Core.Path.{_≡_, refl, sym, ap, subst, _∙_}
 use mathlib.Core.Logic.{inl, inr, ⊎-elim}
-use mathlib.Core.List.{List, [], _∷_, _++_}
-use lib.ListN.{length, getD, take, drop, drop-of-length-le}
+use mathlib.Core.List.{List, [], _∷_, _++_, map}
+use lib.ListN.{length, getD, take, drop, length-map, drop-of-length-le}
 use lib.Seq.{drop-cons}
 use Rattle.netlist.specs.Content.{Stage, Reference}
 use Rattle.netlist.specs.declared.Counts.{Counts}
@@ -21,7 +21,8 @@ use Rattle.verdict.specs.Checks.{verdict, Check, atFault, sweep, finding, orLat
 use Rattle.verdict.specs.Search.{least}
 use Rattle.verdict.specs.Nets.{noGate}
 use Rattle.verdict.specs.Loops.{In}
-use Rattle.verdict.proofs.Names.{name-spells}
+use Rattle.verdict.proofs.Words.{rising-in}
+use Rattle.verdict.proofs.Names.{spelled-twice, name-spells, names-rise}
 use Rattle.check_spec.proofs.Hold.{fall-passes}
 use Rattle.circuit.specs.Stage.{gateIn, stageGates, outputIn, stageOutputs, stageIn, StageLoaded}
 use Rattle.circuit.specs.Reference.{signalIn, signalsIn, referenceIn}
@@ -55,9 +56,9 @@ module _ (number file : ℕ) (find : ℕ → Found) (names : List ℕ) (k : ℕ)
     unfolding atFault
     swept-on e = now-at Nothing e
 
-    pub swept-here : (i : ℕ) → find (getD names k 0) ≡ At i → Fault (verdict number file i (getD names k 0)) ≡ sweep number file find names
+    pub swept-here : (i name : ℕ) → name ≡ getD names k 0 → find (getD names k 0) ≡ At i → Fault (verdict number file i name) ≡ sweep number file find names
     unfolding atFault
-    swept-here i e = sym (now-at (At i) e)
+    swept-here i name is e = ap (λ (n : ℕ). Fault (verdict number file i n)) is ∙ sym (now-at (At i) e)
 
   pub swept-none : length names ≤ k → SweptTo → Passed ≡ sweep number file find names
   unfolding sweep
@@ -76,11 +77,35 @@ swept-nothing number file find (x ∷ names) h = rw (h x (inl refl)) (swept-noth
 abbrev pub findsUnder : Sweep → WordOrder → Stage → Reference → ℕ → Found
 findsUnder which order s r name = finds which s r (spelled order (s .inputs) name)
 
--- under the names of a stage's words, by the number of the check
-pub swept-words : (which : Sweep) (order : WordOrder) (s : Stage) (r : Reference) (list : List ℕ) → list ≡ names order s → (number : ℕ) (f : Finding) → number ≡ numberOf which
-    → f ≡ sweep number 1 (findsUnder which order s r) list → f ≡ swept which order s r
-swept-words which order s r list is number f a e =
-    e ∙ ap (sweep number 1 (findsUnder which order s r)) is ∙ ap (λ (k : ℕ). sweep k 1 (findsUnder which order s r) (names order s)) a
+-- by the number of the check
+pub swept-words : (which : Sweep) (order : WordOrder) (s : Stage) (r : Reference) (number : ℕ) (f : Finding) → number ≡ numberOf which
+    → f ≡ sweep number 1 (findsUnder which order s r) (names order s) → f ≡ swept which order s r
+swept-words which order s r number f a e = e ∙ ap (λ (k : ℕ). sweep k 1 (findsUnder which order s r) (names order s)) a
+
+-- ---- the words that the names spell, one after the other
+
+at-map : (f : ℕ → ℕ) (l : List ℕ) (k : ℕ) → k < length l → getD (map f l) k 0 ≡ f (getD l k 0)
+at-map f [] k h = absurd (omega arith)
+at-map f (x ∷ l) zero h = refl
+at-map f (x ∷ l) (suc k) h = at-map f l k (omega arith)
+
+at-in : (l : List ℕ) (k : ℕ) → k < length l → In (getD l k 0) l
+at-in [] k h = absurd (omega arith)
+at-in (x ∷ l) zero h = inl refl
+at-in (x ∷ l) (suc k) h = inr (at-in l k (omega arith))
+
+module _ (order : WordOrder) (s : Stage) (list : List ℕ) (is : list ≡ map (spelled order (s .inputs)) (names order s)) where
+  pub as-many : length list ≡ length (names order s)
+  as-many = ap length is ∙ length-map (names order s) (spelled order (s .inputs))
+
+  module _ (k : ℕ) (h : k < length list) where
+    pub word-at : getD list k 0 ≡ spelled order (s .inputs) (getD (names order s) k 0)
+    word-at = ap (λ (l : List ℕ). getD l k 0) is ∙ at-map (spelled order (s .inputs)) (names order s) k (omega (arith, as-many))
+
+    pub name-at : spelled order (s .inputs) (getD list k 0) ≡ getD (names order s) k 0
+    name-at =
+        let below = rising-in (2 ^ s .inputs) 0 (names order s) (names-rise order s) (getD (names order s) k 0) (at-in (names order s) k (omega (arith, as-many))) .1 in
+        ap (spelled order (s .inputs)) word-at ∙ spelled-twice order (s .inputs) (getD (names order s) k 0) below
 
 -- a check whose mask names none of the words finds nothing
 pub none-worth : (which : Sweep) (order : WordOrder) (s : Stage) (r : Reference) (mask : List ℕ) → Clean which s r mask

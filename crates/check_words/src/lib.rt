@@ -9,9 +9,10 @@ use verdict::WordOrder;
 ghost use mathlib.Core.Path.{_≡_};
 ghost use mathlib.Core.Bool.{true};
 ghost use Prim.Native.Nat.{_≤_, _<_};
+ghost use mathlib.Core.List.{map};
 ghost use lib.ListN.{length};
 ghost use Rattle.netlist.specs.Content.{Reference};
-ghost use Rattle.verdict.specs.Words.{names};
+ghost use Rattle.verdict.specs.Words.{spelled, names};
 ghost use Rattle.verdict.specs.Checks as checks;
 ghost use Rattle.circuit.specs.Stage.{stageIn, StageLoaded};
 ghost use Rattle.circuit.specs.Order.{InOrder};
@@ -34,7 +35,19 @@ fn number_of(which: Sweep) -> u64
     }
 }
 
-// The first time that block b is asked for, its words in which 14 or 20 finds nothing are taken out of the mask.
+// Whether a block of a mask has one or two words: to look at these is then less work than to settle the block with each input.
+fn has_few(words: u64) -> bool {
+    if words == 0 {
+        return true;
+    }
+    let later = words & (words - 1);
+    if later == 0 {
+        return true;
+    }
+    later & (later - 1) == 0
+}
+
+// The first time that block b is asked for, its words in which 14 or 20 finds nothing are taken out of the mask, unless there are few.
 fn narrow(
     which: Sweep,
     mask: &mut [u64],
@@ -54,8 +67,11 @@ fn narrow(
                 return;
             }
             asked[b] = true;
-            let words = lane_complete::input_words(which, code, counts, b);
             let old = mask[b];
+            if has_few(old) {
+                return;
+            }
+            let words = lane_complete::input_words(which, code, counts, b);
             mask[b] = old & words;
         }
     }
@@ -87,8 +103,8 @@ fn find_suspect(
     Found::Nothing
 }
 
-// What one of the checks finds in the words of a stage, whose names are listed: the word of the least name with a fault, and the least fault in it.
-// The mask is narrowed on the way, block by block.
+// What one of the checks finds in the words of a stage, which are listed by their names: the name of the first of them with a fault, and the least
+// fault in it. The mask is narrowed on the way, block by block.
 fn sweep_words(
     which: Sweep,
     order: WordOrder,
@@ -99,7 +115,8 @@ fn sweep_words(
     reference: &[u16],
     sizes: Counts,
 ) -> Finding
-    requires { ⌜ BothLoaded counts (now code) sizes (now reference) × (now list ≡ names order (stageIn counts (now code)))
+    requires { ⌜ BothLoaded counts (now code) sizes (now reference)
+        × (now list ≡ map (spelled order (counts .inputs)) (names order (stageIn counts (now code))))
         × Clean which (stageIn counts (now code)) (referenceIn sizes (now reference)) mask ⌝ }
     ensures { λ r. ⌜ r ≡ swept which order (stageIn counts (now (code .entry))) (referenceIn sizes (now (reference .entry))) ⌝ }
 {
@@ -108,8 +125,7 @@ fn sweep_words(
     let mut asked = [false; lane_settle::BLOCKS];
     let mut k: usize = 0;
     while k < list.len() {
-        let name = list[k] as usize;
-        let w = words::word_of(order, counts.inputs, name);
+        let w = list[k] as usize;
         if let Found::At(i) = find_suspect(
             which,
             &mut left,
@@ -120,6 +136,7 @@ fn sweep_words(
             sizes,
             w,
         ) {
+            let name = words::word_of(order, counts.inputs, w);
             return Finding::Fault(Verdict {
                 number,
                 file: 1,
@@ -143,7 +160,8 @@ fn sweep_check(
     reference: &[u16],
     sizes: Counts,
 ) -> Finding
-    requires { ⌜ BothLoaded counts (now code) sizes (now reference) × (now list ≡ names order (stageIn counts (now code)))
+    requires { ⌜ BothLoaded counts (now code) sizes (now reference)
+        × (now list ≡ map (spelled order (counts .inputs)) (names order (stageIn counts (now code))))
         × Clean which (stageIn counts (now code)) (referenceIn sizes (now reference)) mask ⌝ }
     ensures { λ r. ⌜ r ≡ swept which order (stageIn counts (now (code .entry))) (referenceIn sizes (now (reference .entry))) ⌝ }
 {
@@ -205,7 +223,8 @@ fn sweep_named(
     reference: &[u16],
     sizes: Counts,
 ) -> Finding
-    requires { ⌜ BothLoaded counts (now code) sizes (now reference) × (now list ≡ names order (stageIn counts (now code)))
+    requires { ⌜ BothLoaded counts (now code) sizes (now reference)
+        × (now list ≡ map (spelled order (counts .inputs)) (names order (stageIn counts (now code))))
         × AllClean (stageIn counts (now code)) (referenceIn sizes (now reference)) masks ⌝ }
     ensures { λ r. ⌜ r ≡ checks.firstFault (checks.sweeps order (stageIn counts (now (code .entry))) (referenceIn sizes (now (reference .entry)))) ⌝ }
 {
@@ -270,7 +289,7 @@ fn find_idle(low: Found) -> Finding
 }
 
 // All checks that settle a stage in its words: the words that are suspect are found first, 64 at a time, and on the way the least gate that never
-// rises. Where there are such words the names of all words are listed once, and swept in that order. 32 comes last.
+// rises. Where there are such words all words are listed once by their names, and swept in that order. 32 comes last.
 pub fn sweep_all(
     order: WordOrder,
     code: &[u16],
@@ -289,7 +308,7 @@ pub fn sweep_all(
         return last;
     }
     let mut list = [0u16; words::NAMES];
-    let count = words::list_names(order, code, counts, &mut list);
+    let count = words::list_words(order, code, counts, &mut list);
     if let Finding::Fault(v) = sweep_named(
         order,
         &list[..count],

@@ -23,7 +23,8 @@ use Rattle.netlist.proofs.Readable.{operation-read, named-earlier, named-signal
 use Rattle.circuit.specs.Reference.{operationIn, operandIn, operatorIn, operatorsIn, signalIn, signalsIn, referenceIn, ReferenceLoaded}
 use Rattle.circuit.proofs.Tabulate.{tabulate-map}
 use Rattle.circuit_load.specs.Load.{placesIn, FileRead, operatorNumber, referenceNumber}
-use Rattle.circuit_load.proofs.Numbers.{WrittenTo, number-operation, number-first, number-again, number-second, reference-gate, reference-output}
+use Rattle.circuit_load.specs.Load.{WrittenTo}
+use Rattle.circuit_load.proofs.Numbers.{number-operation, number-first, number-again, number-second, reference-gate, reference-output}
 use Rattle.circuit_load.proofs.Reading.{nets, length-gates, length-outputs, gate-at, output-place, output-at}
 
 -- NOT needs one operand, and the others two

@@ -24,8 +24,8 @@ use Rattle.read_file.specs.Files.{firstCare}
 use Rattle.circuit.specs.Stage.{netCount, cellIn, slot, pinIn, gateIn, stageGates, outputIn, stageOutputs, stageCare, stageIn}
 use Rattle.circuit.proofs.Tabulate.{tabulate-map}
 use Rattle.circuit.proofs.Pins.{pins-few}
-use Rattle.circuit_load.specs.Load.{placesIn, FileRead, StageRead, RawStage, pinNumber, cellNumber, kindNumber, gateNumber, stageNumber}
-use Rattle.circuit_load.proofs.Numbers.{WrittenTo, pin-there, pin-absent, number-cell, number-pin, number-hold, stage-gate, stage-output, stage-care}
+use Rattle.circuit_load.specs.Load.{placesIn, FileRead, StageRead, RawStage, pinNumber, cellRow, kindRow, gateRow, gatesNumber, stageNumber, WrittenTo}
+use Rattle.circuit_load.proofs.Numbers.{pin-there, pin-absent, gate-number, stage-gate, stage-later, output-rail, output-care}
 use Rattle.circuit_load.proofs.Reading.{length-gates, length-outputs, output-place, care-word, length-care, kind-known, pin-data, rail-data}
 
 -- the operands that a gate of m pins needs are the first m of four
@@ -84,30 +84,35 @@ module _ (most : Limits) (s places : List ℕ) (c : Counts) (code : List ℕ) (g
     needs-pins : needed file.Stage kind ≡ pinCount cell
     needs-pins = ap (needed file.Stage) (of .kind-is) ∙ kind-needs (of .hold) cell (of .cell-in .0) (of .cell-in .1)
 
-    -- number j of the gate stands where i says
-    number-at : (i j : ℕ) → i ≡ 8 * k + j → j < 8 → getD code i 0 ≡ cellNumber s at cell (pinCount cell) (bit (of .hold)) ground j
-    unfolding gateNumber kindNumber
-    number-at i j e l =
-        let a : i / 8 ≡ k = omega arith in
-        let b : i % 8 ≡ j = omega arith in
-        written i (omega arith) ∙ sym (stage-gate most s places c ground i (omega arith)) ∙ rw (a, b, kind-of) (go (of .hold))
+    row-is : gateRow s at ground ≡ cellRow s at cell (pinCount cell) (bit (of .hold)) ground
+    unfolding gateRow
+    row-is = rw kind-of (go (of .hold))
       where
-        go : (hold : Bool) → kindNumber (asKind hold cell (pinCount cell)) s at ground j ≡ cellNumber s at cell (pinCount cell) (bit hold) ground j
+        go : (hold : Bool) → kindRow (asKind hold cell (pinCount cell)) s at ground ≡ cellRow s at cell (pinCount cell) (bit hold) ground
         go true = refl
         go false = refl
 
+    -- number j of the gate stands where i says
+    number-at : (i j : ℕ) → i ≡ 8 * k + j → j < 8 → getD code i 0 ≡ getD (cellRow s at cell (pinCount cell) (bit (of .hold)) ground) j 0
+    number-at i j e l =
+        written i (omega arith) ∙ sym (stage-gate most s places c ground i (omega arith)) ∙ ap (gatesNumber s places ground) e ∙ sym (gate-number s places ground k j l)
+        ∙ ap (λ (row : List ℕ). getD row j 0) row-is
+
     cell-at : cellIn code k ≡ cell
-    cell-at = number-at (8 * k) 0 (omega arith) (omega arith) ∙ sym (number-cell s at ground cell (pinCount cell) (bit (of .hold)) 0 refl)
+    cell-at = number-at (8 * k) 0 (omega arith) (omega arith)
 
     pin-at : (i : ℕ) → i < 4 → pinIn code k i ≡ pinNumber s at (pinCount cell) ground i
-    pin-at i l =
-        let e : 1 + i - 1 ≡ i = omega arith in
-        number-at (8 * k + (1 + i)) (1 + i) refl (omega arith)
-        ∙ sym (number-pin s at ground cell (pinCount cell) (bit (of .hold)) (1 + i) (omega arith) (omega arith))
-        ∙ ap (pinNumber s at (pinCount cell) ground) e
+    pin-at i l = number-at (8 * k + (1 + i)) (1 + i) refl (omega arith) ∙ go i l
+      where
+        go : (i : ℕ) → i < 4 → getD (cellRow s at cell (pinCount cell) (bit (of .hold)) ground) (1 + i) 0 ≡ pinNumber s at (pinCount cell) ground i
+        go zero l = refl
+        go (suc zero) l = refl
+        go (suc (suc zero)) l = refl
+        go (suc (suc (suc zero))) l = refl
+        go (suc (suc (suc (suc i)))) l = absurd (omega arith)
 
     hold-at : slot code k 7 ≡ bit (of .hold)
-    hold-at = number-at (8 * k + 7) 7 refl (omega arith) ∙ sym (number-hold s at ground cell (pinCount cell) (bit (of .hold)) 7 refl)
+    hold-at = number-at (8 * k + 7) 7 refl (omega arith)
 
     -- the cell and the hold of its kind
     kind-says : (hold : Bool) → (cellOf (asKind hold cell (pinCount cell)) ≡ cell) × (holdOf (asKind hold cell (pinCount cell)) ≡ eqb (bit hold) 1)
@@ -148,9 +153,11 @@ module _ (most : Limits) (s places : List ℕ) (c : Counts) (code : List ℕ) (g
 
     rail-at : (i b : ℕ) → i ≡ 8 * c .gates + 2 * j + b → b < 2 → getD code i 0 ≡ operand s (place + 1 + 2 * b)
     rail-at i b e l =
-        let p : (i - 8 * c .gates) / 2 ≡ j = omega arith in
-        let q : (i - 8 * c .gates) % 2 ≡ b = omega arith in
-        written i (omega arith) ∙ sym (stage-output most s places c ground i (omega arith) (omega arith)) ∙ rw (p, q)
+        let p : (2 * j + b) / 2 ≡ j = omega arith in
+        let q : (2 * j + b) % 2 ≡ b = omega arith in
+        let n : i ≡ 8 * c .gates + (2 * j + b) = omega arith in
+        written i (omega arith) ∙ ap (stageNumber most s places c ground) n ∙ sym (stage-later most s places c ground (2 * j + b))
+        ∙ sym (output-rail most s places c (2 * j + b) (omega arith)) ∙ rw (p, q)
 
     rail-carries : (i b : ℕ) → i ≡ 8 * c .gates + 2 * j + b → b < 2 → carriesData N (getD code i 0) ≡ true
     rail-carries i b e l = ap (carriesData N) (rail-at i b e l) ∙ rail-data most s places c r j h b l
@@ -167,9 +174,10 @@ module _ (most : Limits) (s places : List ℕ) (c : Counts) (code : List ℕ) (g
 
   care-at : (k : ℕ) → k < c .care → getD code (8 * c .gates + 2 * c .outputs + k) 0 ≡ getD places (firstCare most + k) 0
   care-at k h =
-      let i : ℕ = 8 * c .gates + 2 * c .outputs + k in
-      let e : i - 8 * c .gates - 2 * c .outputs ≡ k = omega arith in
-      written i (omega arith) ∙ sym (stage-care most s places c ground i (omega arith) (omega arith)) ∙ rw e
+      let e : 2 * c .outputs + k - 2 * c .outputs ≡ k = omega arith in
+      let n : 8 * c .gates + 2 * c .outputs + k ≡ 8 * c .gates + (2 * c .outputs + k) = omega arith in
+      written (8 * c .gates + 2 * c .outputs + k) (omega arith) ∙ ap (stageNumber most s places c ground) n
+      ∙ sym (stage-later most s places c ground (2 * c .outputs + k)) ∙ sym (output-care most s places c (2 * c .outputs + k) (omega arith)) ∙ rw e
 
   -- ---- the stage
 

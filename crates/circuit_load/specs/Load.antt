@@ -2,8 +2,8 @@
 use Prim.Native.Nat.{ℕ, _+_, _-_, _*_, _/_, _%_, _≤_, _<_}
 use mathlib.Core.Path.{_≡_}
 use mathlib.Core.Bool.{Bool, true, cond}
-use mathlib.Core.List.{List}
-use lib.ListN.{length, getD}
+use mathlib.Core.List.{List, [], _∷_}
+use lib.ListN.{length, getD, replicate}
 use lib.Dec.{eqb, leb, ltb}
 use Rattle.gates.specs.Cell.{kindOf, pinCount}
 use Rattle.gates.specs.declared.Kind.{Kind}
@@ -67,27 +67,38 @@ HoldsReference s (readable p) code = ReferenceLoaded (countsOf p) code × (refer
 unfoldable pub pinNumber : List ℕ → ℕ → ℕ → ℕ → ℕ → ℕ
 pinNumber s at pins ground i = cond (ltb i pins) (operand s (at + 2 + 2 * i)) ground
 
--- number j of a gate: its cell, its pins, its places in the order, which are not known yet, and 1 for hold or 0
-unfoldable pub cellNumber : List ℕ → ℕ → ℕ → ℕ → ℕ → ℕ → ℕ → ℕ
-cellNumber s at cell pins hold ground j = cond (eqb j 0) cell (cond (leb j 4) (pinNumber s at pins ground (j - 1)) (cond (eqb j 7) hold 0))
+-- the numbers of a gate: its cell, its pins, its places in the order, which are not known yet, and 1 for hold or 0
+abbrev pub cellRow : List ℕ → ℕ → ℕ → ℕ → ℕ → ℕ → List ℕ
+cellRow s at cell pins hold ground =
+    cell ∷ pinNumber s at pins ground 0 ∷ pinNumber s at pins ground 1 ∷ pinNumber s at pins ground 2 ∷ pinNumber s at pins ground 3 ∷ 0 ∷ 0 ∷ hold ∷ []
 
-unfoldable pub kindNumber : Kind → List ℕ → ℕ → ℕ → ℕ → ℕ
-kindNumber (Hold cell pins) s at ground j = cellNumber s at cell pins 1 ground j
-kindNumber (Relaxed cell pins) s at ground j = cellNumber s at cell pins 0 ground j
-kindNumber Unknown s at ground j = 0
+abbrev pub kindRow : Kind → List ℕ → ℕ → ℕ → List ℕ
+kindRow (Hold cell pins) s at ground = cellRow s at cell pins 1 ground
+kindRow (Relaxed cell pins) s at ground = cellRow s at cell pins 0 ground
+kindRow Unknown s at ground = replicate 8 0
 
-unfoldable pub gateNumber : List ℕ → ℕ → ℕ → ℕ → ℕ
-gateNumber s at ground j = kindNumber (kindOf (byte s (at + 1))) s at ground j
+unfoldable pub gateRow : List ℕ → ℕ → ℕ → List ℕ
+gateRow s at ground = kindRow (kindOf (byte s (at + 1))) s at ground
 
--- number i of the stage, whose places were left within some limits: those of its gates, then the rails of its outputs, then its care words
+-- number i of the gates whose commands stand at some places
+unfoldable pub gatesNumber : List ℕ → List ℕ → ℕ → ℕ → ℕ
+gatesNumber s places ground i = getD (gateRow s (getD places (i / 8) 0) ground) (i % 8) 0
+
+-- number j of those that follow the gates: the rails of the outputs, then the care words
+unfoldable pub outputNumber : Limits → List ℕ → List ℕ → Counts → ℕ → ℕ
+outputNumber most s places c j =
+    cond (ltb j (2 * c .outputs))
+    (operand s (getD places (most .gates + j / 2) 0 + 1 + 2 * (j % 2)))
+    (getD places (firstCare most + (j - 2 * c .outputs)) 0)
+
+-- number i of the stage, whose places were left within some limits: those of its gates, then the others
 unfoldable pub stageNumber : Limits → List ℕ → List ℕ → Counts → ℕ → ℕ → ℕ
 stageNumber most s places c ground i =
-    let j = i - 8 * c .gates in
-    cond (ltb i (8 * c .gates))
-    (gateNumber s (getD places (i / 8) 0) ground (i % 8))
-    (cond (ltb j (2 * c .outputs))
-    (operand s (getD places (most .gates + j / 2) 0 + 1 + 2 * (j % 2)))
-    (getD places (firstCare most + (j - 2 * c .outputs)) 0))
+    cond (ltb i (8 * c .gates)) (gatesNumber s places ground i) (outputNumber most s places c (i - 8 * c .gates))
+
+-- the numbers before place i are those of a rule
+abbrev pub WrittenTo : (ℕ → ℕ) → List ℕ → ℕ → Type 0
+WrittenTo number code i = (q : ℕ) → q < i → getD code q 0 ≡ number q
 
 -- ---- a reference, number by number
 

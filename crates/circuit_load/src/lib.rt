@@ -6,8 +6,8 @@ use netlist::Limits;
 use netlist::Outcome;
 ghost use mathlib.Core.Path.{_≡_};
 ghost use mathlib.Core.List.{_∷_, []};
-ghost use Prim.Native.Nat.{_+_, _*_, _^_, _≤_, _<_};
-ghost use lib.ListN.{length};
+ghost use Prim.Native.Nat.{ℕ, _+_, _*_, _^_, _≤_, _<_};
+ghost use lib.ListN.{length, getD};
 ghost use Rattle.netlist.specs.declared.File.the-variants as file;
 ghost use Rattle.netlist.specs.Commands.{stageFile, mostParts};
 ghost use Rattle.netlist.specs.Reading.{netsOf, readFile, stageLimits, referenceLimits, NoMore, Within};
@@ -19,7 +19,7 @@ ghost use Rattle.write_command.specs.Put.{Put};
 ghost use Rattle.circuit.specs.Stage.{stageIn, stageSize, largestStage};
 ghost use Rattle.circuit.specs.Reference.{referenceIn, referenceSize, largestReference, ReferenceLoaded};
 ghost use Rattle.circuit_load.specs.Load.{placesIn, FileRead, StageRead, RawStage, groundOf, HoldsStage, HoldsReference};
-ghost use Rattle.circuit_load.specs.Load.{pinNumber, cellNumber, gateNumber, stageNumber, operatorNumber, referenceNumber};
+ghost use Rattle.circuit_load.specs.Load.{pinNumber, cellRow, gateRow, gatesNumber, outputNumber, WrittenTo, operatorNumber, referenceNumber};
 ghost use Rattle.circuit_load.specs.Parts.{netRows, registerRows, NotesRead, partsIn, PartPut, PipelineHeld, HoldsPipeline};
 
 // The room that the nets of the most registers and C-elements take, and the registers.
@@ -48,49 +48,74 @@ fn pin_number(s: &[u8], at: usize, pins: u8, ground: u16, i: usize) -> u16
     ground
 }
 
-// Number j of a gate of a cell, with hold 1 or 0.
-fn cell_number(s: &[u8], at: usize, cell: u8, pins: u8, hold: u16, ground: u16, j: usize) -> u16
-    requires { ⌜ at + 10 ≤ length (now s) ⌝ }
-    ensures { λ r. ⌜ r ≡ cellNumber (now (s .entry)) at cell pins hold ground j ⌝ }
+// The numbers of gate k: its cell, the nets at its pins, its places in the order, which are not known yet, and 1 for hold or 0.
+fn put_gate(code: &mut [u16], k: usize, cell: u16, a: u16, b: u16, c: u16, d: u16, hold: u16)
+    requires { ⌜ 8 * k + 8 ≤ length (now code) ⌝ }
+    ensures { λ _. ⌜ Put (now (code .entry)) (8 * k) (cell ∷ a ∷ b ∷ c ∷ d ∷ 0 ∷ 0 ∷ hold ∷ []) (now (code .exit)) ⌝ }
 {
-    match j {
-        0 => cell as u16,
-        1..=4 => pin_number(s, at, pins, ground, j - 1),
-        7 => hold,
-        _ => 0,
-    }
+    let at = 8 * k;
+    code[at] = cell;
+    code[at + 1] = a;
+    code[at + 2] = b;
+    code[at + 3] = c;
+    code[at + 4] = d;
+    code[at + 5] = 0;
+    code[at + 6] = 0;
+    code[at + 7] = hold;
 }
 
-// Number j of the gate whose command stands at a place.
-fn gate_number(s: &[u8], at: usize, ground: u16, j: usize) -> u16
-    requires { ⌜ at + 10 ≤ length (now s) ⌝ }
-    ensures { λ r. ⌜ r ≡ gateNumber (now (s .entry)) at ground j ⌝ }
+// The numbers of a gate of a cell, with hold 1 or 0, whose command stands at a place.
+fn put_cell(
+    s: &[u8],
+    at: usize,
+    cell: u8,
+    pins: u8,
+    hold: u16,
+    ground: u16,
+    code: &mut [u16],
+    k: usize,
+)
+    requires { ⌜ (at + 10 ≤ length (now s)) × (8 * k + 8 ≤ length (now code)) ⌝ }
+    ensures { λ _. ⌜ Put (now (code .entry)) (8 * k) (cellRow (now (s .entry)) at cell pins hold ground) (now (code .exit)) ⌝ }
+{
+    let a = pin_number(s, at, pins, ground, 0);
+    let b = pin_number(s, at, pins, ground, 1);
+    let c = pin_number(s, at, pins, ground, 2);
+    let d = pin_number(s, at, pins, ground, 3);
+    put_gate(code, k, cell as u16, a, b, c, d, hold);
+}
+
+// The numbers of gate k, whose command stands at a place.
+fn load_gate(s: &[u8], at: usize, ground: u16, code: &mut [u16], k: usize)
+    requires { ⌜ (at + 10 ≤ length (now s)) × (8 * k + 8 ≤ length (now code)) ⌝ }
+    ensures { λ _. ⌜ Put (now (code .entry)) (8 * k) (gateRow (now (s .entry)) at ground) (now (code .exit)) ⌝ }
 {
     let kind = gates::kind_of(s[at + 1]);
     match kind {
-        Kind::Hold { cell, pins } => cell_number(s, at, cell, pins, 1, ground, j),
-        Kind::Relaxed { cell, pins } => cell_number(s, at, cell, pins, 0, ground, j),
-        Kind::Unknown => 0,
+        Kind::Hold { cell, pins } => put_cell(s, at, cell, pins, 1, ground, code, k),
+        Kind::Relaxed { cell, pins } => put_cell(s, at, cell, pins, 0, ground, code, k),
+        Kind::Unknown => put_gate(code, k, 0, 0, 0, 0, 0, 0),
     }
 }
 
-// Number i of the stage.
-fn stage_number(
-    s: &[u8],
-    places: &[u16],
-    most: Limits,
-    counts: Counts,
-    ground: u16,
-    i: usize,
-) -> u16
-    requires { ⌜ StageRead most (now s) (now places) counts × NoMore most stageLimits × (i < stageSize counts) ⌝ }
-    ensures { λ r. ⌜ r ≡ stageNumber most (now (s .entry)) (now (places .entry)) counts ground i ⌝ }
+// The numbers of so many gates, whose commands stand at some places.
+fn load_gates(s: &[u8], places: &[u16], count: usize, ground: u16, code: &mut [u16])
+    requires { ⌜ (count ≤ length (now places)) × ((k : ℕ) → k < count → getD (now places) k 0 + 10 ≤ length (now s)) × (8 * count ≤ length (now code)) ⌝ }
+    ensures long { λ _. ⌜ length (now (code .exit)) ≡ length (now (code .entry)) ⌝ }
+    ensures written { λ _. ⌜ WrittenTo (gatesNumber (now (s .entry)) (now (places .entry)) ground) (now (code .exit)) (8 * count) ⌝ }
 {
-    let end = 8 * counts.gates;
-    if i < end {
-        return gate_number(s, places[i / 8] as usize, ground, i % 8);
+    let mut k: usize = 0;
+    while k < count {
+        load_gate(s, places[k] as usize, ground, code, k);
+        k += 1;
     }
-    let j = i - end;
+}
+
+// Number j of those that follow the gates: the rails of the outputs, then the care words.
+fn output_number(s: &[u8], places: &[u16], most: Limits, counts: Counts, j: usize) -> u16
+    requires { ⌜ StageRead most (now s) (now places) counts × NoMore most stageLimits × (j < 2 * counts .outputs + counts .care) ⌝ }
+    ensures { λ r. ⌜ r ≡ outputNumber most (now (s .entry)) (now (places .entry)) counts j ⌝ }
+{
     let rails = 2 * counts.outputs;
     if j < rails {
         let at = places[most.gates + j / 2] as usize;
@@ -107,11 +132,13 @@ fn load_stage(s: &[u8], places: &[u16], most: Limits, counts: Counts, ground: u1
     ensures same { λ r. ⌜ stageIn counts (now (code .exit)) ≡ stageOf (now (s .entry)) (placesIn most counts (now (places .entry))) ⌝ }
     ensures raw { λ r. ⌜ RawStage (netsOf (placesIn most counts (now (places .entry)))) counts ground (now (code .exit)) ⌝ }
 {
-    let end = 8 * counts.gates + 2 * counts.outputs + counts.care;
-    let mut i: usize = 0;
-    while i < end {
-        code[i] = stage_number(s, places, most, counts, ground, i);
-        i += 1;
+    load_gates(s, places, counts.gates, ground, code);
+    let first = 8 * counts.gates;
+    let end = 2 * counts.outputs + counts.care;
+    let mut j: usize = 0;
+    while j < end {
+        code[first + j] = output_number(s, places, most, counts, j);
+        j += 1;
     }
 }
 

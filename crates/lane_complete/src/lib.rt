@@ -10,7 +10,7 @@ ghost use Rattle.netlist.specs.Content.{Reference};
 ghost use Rattle.check_word.specs.declared.Sweep.the-variants.{Missing, Remaining};
 ghost use Rattle.circuit.specs.Stage.{netCount, stageIn, StageLoaded};
 ghost use Rattle.circuit.specs.Order.{InOrder};
-ghost use Rattle.lane_settle.specs.Block.{Room, Spelled, NetsOf, Holding, AtRest};
+ghost use Rattle.lane_settle.specs.Block.{Room, Spelled, NetsOf, Holding, AtRest, Resting};
 ghost use Rattle.lane_screen.specs.Suspects.{CleanIn};
 ghost use Rattle.lane_complete.specs.Rows.{SettledRows, FallenRows, RailsLow, MayRise, MayNotFall, OnlyIn, missingIn, remainingIn};
 
@@ -41,6 +41,16 @@ fn settle_gates(code: &[u16], counts: Counts, row: &mut [u64])
         row[first + k] = set_words(code, counts, k, row);
         i += 1;
     }
+}
+
+// Block b settles: its rails are spelled, and the gates take their levels. Nothing is marked.
+pub fn settle_block(code: &[u16], counts: Counts, b: usize, row: &mut [u64])
+    requires { ⌜ StageLoaded counts (now code) × InOrder counts (now code) × Room counts (now row) × (getD (now row) (netCount counts) 0 ≡ 0) ⌝ }
+    ensures long { λ r. ⌜ length (now (row .exit)) ≡ length (now (row .entry)) ⌝ }
+    ensures rest { λ r. ⌜ Resting counts (now (code .entry)) b (now (row .exit)) ⌝ }
+{
+    lane_settle::spell_rails(counts, b, row);
+    settle_gates(code, counts, row);
 }
 
 // Where gate k may not fall: with hold while some pin is high, and relaxed while its set expression holds.

@@ -1,14 +1,13 @@
--- Counters that go up: a level is added to the lowest digit, and what it carries to the next.
+-- Counters that go up: a level is added to a digit, and what it carries to the next.
 -- Assumes nothing.
-use Prim.Native.Nat.{ℕ, zero, suc, _+_, _-_, _*_, _^_, _≤_, _<_, min}
+use Prim.Native.Nat.{ℕ, zero, suc, _+_, _*_, _^_, _≤_, _<_, min}
 use native.Mathlib.Omega.{arith}
 use native.Mathlib.Nat.{mul-assoc, mul-zero, pow-succ'}
 use native.Mathlib.Numerals.{add-one}
 use lib.Pow.{pow-mono}
-use lib.Seq.{drop-length}
 use mathlib.Core.Path.{_≡_, refl, sym, ap, ap₂, _∙_}
 use mathlib.Core.List.{List, [], _∷_}
-use lib.ListN.{length, getD, set, drop, replicate, length-set, length-drop}
+use lib.ListN.{length, getD, set, drop, replicate, length-set}
 use lib.Bits.{bitAnd, bitXor, differ}
 use Rattle.lane_cells.specs.Lane.{levelIn}
 use Rattle.lane_cells.proofs.Lane.{level-small, level-zero, level-and, level-xor}
@@ -29,6 +28,12 @@ pub level-sum : (j x y : ℕ) → levelIn j x + levelIn j y ≡ levelIn j (bitXo
 level-sum j x y =
     digit-sum (levelIn j x) (levelIn j y) (level-small j x) (level-small j y)
     ∙ ap₂ (λ (a b : ℕ). a + 2 * b) (sym (level-xor j x y)) (sym (level-and j x y))
+
+-- three levels: what two sums of two carry is never 1 in both
+pub level-three : (j x y z : ℕ)
+    → levelIn j (bitXor (bitXor x y) z) + 2 * levelIn j (bitXor (bitAnd x y) (bitAnd (bitXor x y) z)) ≡ levelIn j x + levelIn j y + levelIn j z
+level-three j x y z =
+    omega (arith, level-sum j x y, level-sum j (bitXor x y) z, level-sum j (bitAnd x y) (bitAnd (bitXor x y) z), level-small j x, level-small j y, level-small j z)
 
 -- ---- all digits
 
@@ -56,19 +61,27 @@ counted-from j [] i h = absurd (omega arith)
 counted-from j (x ∷ l) zero h = refl
 counted-from j (x ∷ l) (suc i) h = let e : suc i + 1 ≡ suc (i + 1) = omega arith in rw e (counted-from j l i (omega arith))
 
+-- the three lowest are replaced
+pub counted-low : (j : ℕ) (l : List ℕ) (x y z : ℕ) → 3 ≤ length l → counted j (set (set (set l 0 x) 1 y) 2 z)
+    + (levelIn j (getD l 0 0) + 2 * (levelIn j (getD l 1 0) + 2 * levelIn j (getD l 2 0))) ≡ counted j l + (levelIn j x + 2 * (levelIn j y + 2 * levelIn j z))
+counted-low j [] x y z h = absurd (omega arith)
+counted-low j (a ∷ []) x y z h = absurd (omega arith)
+counted-low j (a ∷ b ∷ []) x y z h = absurd (omega arith)
+counted-low j (a ∷ b ∷ c ∷ l) x y z h = omega arith
+
 -- ---- the loop that adds
 
--- the digits before place i have the level added, and what they carry is still to be added there
-pub record AddedTo (start : List ℕ) (level : ℕ) (digits : List ℕ) (carry i : ℕ) : Type 0 where
+-- from place `from` on the digits before place i have the level added, and what they carry is still to be added there
+pub record AddedTo (start : List ℕ) (from level : ℕ) (digits : List ℕ) (carry i : ℕ) : Type 0 where
   pub same-long : length digits ≡ length start
-  pub carried : (j : ℕ) → counted j digits + 2 ^ i * levelIn j carry ≡ counted j start + levelIn j level
+  pub carried : (j : ℕ) → counted j digits + 2 ^ i * levelIn j carry ≡ counted j start + 2 ^ from * levelIn j level
 
-module _ (start : List ℕ) (level : ℕ) where
-  pub added-start : AddedTo start level start level 0
-  added-start = record { same-long = refl; carried = λ j. omega arith }
+module _ (start : List ℕ) (from level : ℕ) where
+  pub added-start : AddedTo start from level start level from
+  added-start = record { same-long = refl; carried = λ j. refl }
 
-  module _ (digits : List ℕ) (carry i : ℕ) (s : AddedTo start level digits carry i) where
-    pub added-more : i < length digits → AddedTo start level (set digits i (bitXor (getD digits i 0) carry)) (bitAnd (getD digits i 0) carry) (i + 1)
+  module _ (digits : List ℕ) (carry i : ℕ) (s : AddedTo start from level digits carry i) where
+    pub added-more : i < length digits → AddedTo start from level (set digits i (bitXor (getD digits i 0) carry)) (bitAnd (getD digits i 0) carry) (i + 1)
     added-more h = record {
       same-long = length-set digits i (bitXor (getD digits i 0) carry) ∙ s .same-long;
       carried = more;
@@ -77,7 +90,7 @@ module _ (start : List ℕ) (level : ℕ) where
         x : ℕ
         x = getD digits i 0
 
-        more : (j : ℕ) → counted j (set digits i (bitXor x carry)) + 2 ^ (i + 1) * levelIn j (bitAnd x carry) ≡ counted j start + levelIn j level
+        more : (j : ℕ) → counted j (set digits i (bitXor x carry)) + 2 ^ (i + 1) * levelIn j (bitAnd x carry) ≡ counted j start + 2 ^ from * levelIn j level
         more j =
             let e : 2 ^ (i + 1) * levelIn j (bitAnd x carry) ≡ 2 * (2 ^ i * levelIn j (bitAnd x carry)) =
             ap (λ (n : ℕ). 2 ^ n * levelIn j (bitAnd x carry)) (add-one i) ∙ twice i (levelIn j (bitAnd x carry)) in
@@ -86,25 +99,12 @@ module _ (start : List ℕ) (level : ℕ) where
             omega (arith, counted-set j digits i (bitXor x carry) h, s .carried j, e, w)
 
     -- nothing is carried out of counters that have room
-    pub added-done : length digits ≤ i → ((j : ℕ) → counted j start + 1 < 2 ^ length start) → (j : ℕ) → counted j digits ≡ counted j start + levelIn j level
+    pub added-done : length digits ≤ i → ((j : ℕ) → counted j start + 2 ^ from * levelIn j level < 2 ^ length start)
+        → (j : ℕ) → counted j digits ≡ counted j start + 2 ^ from * levelIn j level
     added-done h room j = go (levelIn j carry) refl
       where
-        go : (v : ℕ) → levelIn j carry ≡ v → counted j digits ≡ counted j start + levelIn j level
+        go : (v : ℕ) → levelIn j carry ≡ v → counted j digits ≡ counted j start + 2 ^ from * levelIn j level
         go zero e = let q : 2 ^ i * levelIn j carry ≡ 0 = rw e (mul-zero (2 ^ i)) in omega (arith, s .carried j, q)
         go (suc v) e =
             let q : 2 ^ i * levelIn j carry ≡ 2 ^ i + 2 ^ i * v = rw e (omega arith) in
-            absurd (omega (arith, s .carried j, q, room j, level-small j level, pow-mono {i = length start} {j = i} (omega (arith, s .same-long))))
-
--- ---- the loop that reads, from the highest digit on
-
-module _ (j : ℕ) (l : List ℕ) (i : ℕ) (after : 0 < i) (inside : i ≤ length l) where
-  pub counted-next : counted j (drop (i - 1) l) ≡ 2 * counted j (drop i l) + levelIn j (getD l (i - 1) 0)
-  counted-next =
-      let e : i - 1 + 1 ≡ i = omega arith in
-      omega (arith, counted-from j l (i - 1) (omega arith), ap (λ (n : ℕ). counted j (drop n l)) e)
-
-  pub counted-fits : length l ≤ 16 → counted j (drop i l) < 0x8000
-  counted-fits few = omega (arith, counted-small j (drop i l), pow-mono {i = length (drop i l)} {j = 15} (omega (arith, length-drop i l)))
-
-pub counted-none : (j : ℕ) (l : List ℕ) → counted j (drop (length l) l) ≡ 0
-counted-none j l = ap (counted j) (drop-length l)
+            absurd (omega (arith, s .carried j, q, room j, pow-mono {i = length start} {j = i} (omega (arith, s .same-long))))

@@ -1,4 +1,5 @@
 pub mod Summing
 pub mod Adding
+pub mod Beside
 pub mod Levels
 pub mod Words

@@ -1,10 +1,10 @@
 -- The counters of a block at rest, and the words that they are written for.
 -- Assumes nothing.
-use Prim.Native.Nat.{ℕ, zero, suc, _+_, _-_, _*_, _/_, _%_, _≤_, _<_}
+use Prim.Native.Nat.{ℕ, zero, suc, _+_, _-_, _*_, _%_, _≤_, _<_}
 use native.Mathlib.Omega.{arith}
 use native.Mathlib.Decide.{ℕ-discrete, decLt}
 use mathlib.Core.Path.{_≡_, refl, sym, ap, _∙_}
-use mathlib.Core.Bool.{Bool, true, false}
+use mathlib.Core.Logic.{_⊎_, inl, inr}
 use mathlib.Core.List.{List, _++_}
 use lib.ListN.{length, getD, take, drop, set, replicate, length-set, length-drop, length-replicate}
 use lib.Seq.{ext-getD, getD-take, getD-drop, getD-append-add, length-take-le, getD-set-same, getD-set-other}
@@ -82,26 +82,60 @@ module _ (c : Counts) (code : List ℕ) (b : ℕ) (row : List ℕ) (room : Room 
 
 -- ---- written one after the other
 
--- the counters of the first n words of block b are written, and the words before the block are as they were
-pub record WrittenTo (b : ℕ) (digits start high : List ℕ) (n : ℕ) : Type 0 where
+-- the counters of some words of block b are written, and the words before the block are as they were
+pub record Written (b : ℕ) (digits start high : List ℕ) (For : ℕ → Type 0) : Type 0 where
   pub same-long : length high ≡ length start
-  pub written : (j : ℕ) → j < n → getD high (64 * b + j) 0 ≡ counted j digits
+  pub written : (j : ℕ) → j < 64 → For j → getD high (64 * b + j) 0 ≡ counted j digits
   pub before : (w : ℕ) → w < 64 * b → getD high w 0 ≡ getD start w 0
+
+-- four words at a time, 16 apart: of each 16 words the first n
+abbrev pub WrittenTo : ℕ → List ℕ → List ℕ → List ℕ → ℕ → Type 0
+WrittenTo b digits start high n = Written b digits start high (λ j. j % 16 < n)
 
 module _ (b : ℕ) (digits start : List ℕ) where
   pub written-start : WrittenTo b digits start start 0
-  written-start = record { same-long = refl; written = λ j h. absurd (omega arith); before = λ w h. refl }
+  written-start = record { same-long = refl; written = λ j d h. absurd (omega arith); before = λ w h. refl }
 
-  pub written-more : (high : List ℕ) (n : ℕ) → WrittenTo b digits start high n → 64 * b + n < length high → WrittenTo b digits start (set high (64 * b + n) (counted n digits)) (n + 1)
-  written-more high n s room = record {
-    same-long = length-set high (64 * b + n) (counted n digits) ∙ s .same-long;
-    written = λ j h. at j h (ℕ-discrete j n);
-    before = λ w h. getD-set-other high (64 * b + n) w (counted n digits) 0 (λ e. omega arith) ∙ s .before w h;
+  -- one word more
+  put : (high : List ℕ) (For : ℕ → Type 0) → Written b digits start high For → (v at x : ℕ) → at ≡ 64 * b + v → at < length high → x ≡ counted v digits
+      → Written b digits start (set high at x) (λ j. (j ≡ v) ⊎ For j)
+  put high For s v at x place room is = record {
+    same-long = length-set high at x ∙ s .same-long;
+    written = go;
+    before = λ w h. getD-set-other high at w x 0 (λ e. omega arith) ∙ s .before w h;
   }
     where
-      at : (j : ℕ) → j < n + 1 → Dec (j ≡ n) → getD (set high (64 * b + n) (counted n digits)) (64 * b + j) 0 ≡ counted j digits
-      at j h (yes e) = rw e (getD-set-same high (64 * b + n) (counted n digits) 0 room)
-      at j h (no q) = getD-set-other high (64 * b + n) (64 * b + j) (counted n digits) 0 (λ e. q (omega arith)) ∙ s .written j (omega arith)
+      here : getD (set high at x) (64 * b + v) 0 ≡ counted v digits
+      here = ap (λ (n : ℕ). getD (set high at x) n 0) (sym place) ∙ getD-set-same high at x 0 room ∙ is
+
+      go : (j : ℕ) → j < 64 → (j ≡ v) ⊎ For j → getD (set high at x) (64 * b + j) 0 ≡ counted j digits
+      go j d (inl e) = rw e here
+      go j d (inr h) = at-word (ℕ-discrete j v)
+        where
+          at-word : Dec (j ≡ v) → getD (set high at x) (64 * b + j) 0 ≡ counted j digits
+          at-word (yes e) = rw e here
+          at-word (no q) = getD-set-other high at (64 * b + j) x 0 (λ e. q (omega arith)) ∙ s .written j d h
+
+  -- the next of each 16 words
+  pub written-more : (high : List ℕ) (n : ℕ) → WrittenTo b digits start high n → 64 * b + 64 ≤ length high → n < 16 → (x₀ x₁ x₂ x₃ : ℕ) → x₀ ≡ counted n digits
+      → x₁ ≡ counted (16 + n) digits → x₂ ≡ counted (32 + n) digits → x₃ ≡ counted (48 + n) digits
+      → WrittenTo b digits start (set (set (set (set high (64 * b + n) x₀) (64 * b + 16 + n) x₁) (64 * b + 32 + n) x₂) (64 * b + 48 + n) x₃) (n + 1)
+  written-more high n s room h x₀ x₁ x₂ x₃ e₀ e₁ e₂ e₃ =
+      let one = put high _ s n (64 * b + n) x₀ refl (omega arith) e₀ in
+      let two = put _ _ one (16 + n) (64 * b + 16 + n) x₁ (omega arith) (omega (arith, one .same-long, s .same-long)) e₁ in
+      let three = put _ _ two (32 + n) (64 * b + 32 + n) x₂ (omega arith) (omega (arith, two .same-long, s .same-long)) e₂ in
+      let all = put _ _ three (48 + n) (64 * b + 48 + n) x₃ (omega arith) (omega (arith, three .same-long, s .same-long)) e₃ in
+      record { same-long = all .same-long; written = λ j d l. all .written j d (which j d l); before = all .before }
+    where
+      which : (j : ℕ) → j < 64 → j % 16 < n + 1 → (j ≡ 48 + n) ⊎ ((j ≡ 32 + n) ⊎ ((j ≡ 16 + n) ⊎ ((j ≡ n) ⊎ (j % 16 < n))))
+      which j d l = go (ℕ-discrete j (48 + n)) (ℕ-discrete j (32 + n)) (ℕ-discrete j (16 + n)) (ℕ-discrete j n)
+        where
+          go : Dec (j ≡ 48 + n) → Dec (j ≡ 32 + n) → Dec (j ≡ 16 + n) → Dec (j ≡ n) → (j ≡ 48 + n) ⊎ ((j ≡ 32 + n) ⊎ ((j ≡ 16 + n) ⊎ ((j ≡ n) ⊎ (j % 16 < n))))
+          go (yes e) q r t = inl e
+          go (no p) (yes e) r t = inr (inl e)
+          go (no p) (no q) (yes e) t = inr (inr (inl e))
+          go (no p) (no q) (no r) (yes e) = inr (inr (inr (inl e)))
+          go (no p) (no q) (no r) (no t) = inr (inr (inr (inr (omega arith))))
 
 -- ---- block after block
 
@@ -118,32 +152,29 @@ high-more c code high b s high′ before block w h = go (decLt w (64 * b))
     go (no l) = let e : 64 * b + (w - 64 * b) ≡ w = omega arith in rw e at (block (w - 64 * b) (omega arith))
 
 -- what the blocks share, and what is known once the first b of them are counted
-pub record BlocksTo (c : Counts) (code start high row ack : List ℕ) (b : ℕ) : Type 0 where
+pub record BlocksTo (c : Counts) (code start high row : List ℕ) (b : ℕ) : Type 0 where
   pub same-long : length high ≡ length start
   pub row-long : length row ≡ rowSize
-  pub ack-long : length ack ≡ rowSize
   pub ground : getD row (netCount c) 0 ≡ 0
   pub high-to : HighTo c code high b
 
-pub blocks-start : (c : Counts) (code start : List ℕ) → Within stageLimits c → BlocksTo c code start start (replicate rowSize 0) (replicate rowSize 0) 0
+pub blocks-start : (c : Counts) (code start : List ℕ) → Within stageLimits c → BlocksTo c code start start (replicate rowSize 0) 0
 blocks-start c code start within = record {
   same-long = refl;
   row-long = length-replicate {A = ℕ} rowSize 0;
-  ack-long = length-replicate {A = ℕ} rowSize 0;
   ground = low-row c within .ground;
   high-to = λ w h. absurd (omega arith);
 }
 
 -- one block more
-pub blocks-more : (c : Counts) (code start high row ack : List ℕ) (b : ℕ) → BlocksTo c code start high row ack b → (high′ row′ ack′ digits : List ℕ)
-    → netCount c < length row → (length row′ ≡ length row) × (length ack′ ≡ length ack) → Resting c code b row′
+pub blocks-more : (c : Counts) (code start high row : List ℕ) (b : ℕ) → BlocksTo c code start high row b → (high′ row′ digits : List ℕ)
+    → netCount c < length row → length row′ ≡ length row → Resting c code b row′
     → ((j : ℕ) → counted j digits ≡ sum (take (c .gates) (drop (2 * c .inputs) (laneOf j row′))))
     → (length high′ ≡ length high) × ((j : ℕ) → j < 64 → getD high′ (64 * b + j) 0 ≡ counted j digits) × ((w : ℕ) → w < 64 * b → getD high′ w 0 ≡ getD high w 0)
-    → BlocksTo c code start high′ row′ ack′ (b + 1)
-blocks-more c code start high row ack b s high′ row′ ack′ digits room long rest count written = record {
+    → BlocksTo c code start high′ row′ (b + 1)
+blocks-more c code start high row b s high′ row′ digits room long rest count written = record {
   same-long = written .0 ∙ s .same-long;
-  row-long = long .0 ∙ s .row-long;
-  ack-long = long .1 ∙ s .ack-long;
+  row-long = long ∙ s .row-long;
   ground = rest .ground;
-  high-to = high-more c code high b (s .high-to) high′ (written .2) (λ j d. written .1 j d ∙ count j ∙ block-high c code b row′ (omega (arith, long .0)) rest j d);
+  high-to = high-more c code high b (s .high-to) high′ (written .2) (λ j d. written .1 j d ∙ count j ∙ block-high c code b row′ (omega (arith, long)) rest j d);
 }

@@ -106,6 +106,14 @@ module _ (c : Counts) (code masks : List ℕ) where
         is-kept g a j h l d m r (no q) =
             or-left (rowIn j rose g) (rowIn j row (2 * c .inputs + g) && lane j (getD masks b 0)) (n .kept g a j h (omega arith) d m r)
 
+    -- a block without a word that is cared for adds nothing
+    pub noted-skip : getD masks b 0 ≡ 0 → NotedTo c code masks rose (b + 1)
+    noted-skip none = record { long = n .long; risen = n .risen; kept = λ g a j h l d m r. go g a j h l d m r (ℕ-discrete a b) }
+      where
+        go : (g a j : ℕ) → g < c .gates → a < b + 1 → j < 64 → lane j (getD masks a 0) ≡ true → restIn c code a j (2 * c .inputs + g) ≡ true → Dec (a ≡ b) → rowIn j rose g ≡ true
+        go g a j h l d m r (yes q) = absurd (clash m (ap (λ (x : ℕ). lane j (getD masks x 0)) q ∙ ap (lane j) none ∙ lane-zero j))
+        go g a j h l d m r (no q) = n .kept g a j h (omega arith) d m r
+
     -- all words of the stage stand in those blocks
     pub noted-all : 2 ^ c .inputs ≤ 64 * b → Noted (stageIn c code) rose
     noted-all all = record {

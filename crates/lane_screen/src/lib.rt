@@ -226,12 +226,12 @@ fn acknowledged_lanes(
     }
 }
 
-// Each gate marks nets that it acknowledges.
-fn mark_gates(falls: bool, by_net: bool, code: &[u16], counts: Counts, row: &[u64], ack: &mut [u64])
+// Each gate marks nets that it acknowledges on the way back, asked pin by pin.
+fn mark_gates(code: &[u16], counts: Counts, row: &[u64], ack: &mut [u64])
     requires { ⌜ StageLoaded counts (now code) × InOrder counts (now code) × Room counts (now row) × Room counts (now ack) ⌝ }
     ensures long { λ r. ⌜ length (now (ack .exit)) ≡ length (now (ack .entry)) ⌝ }
-    ensures marked { λ r. ⌜ ((b : ℕ) → Resting counts (now (code .entry)) b (now (row .entry)) → MarkedIn falls counts (now (code .entry)) b (now (ack .entry))
-        → MarkedIn falls counts (now (code .entry)) b (now (ack .exit))) ⌝ }
+    ensures marked { λ r. ⌜ ((b : ℕ) → Resting counts (now (code .entry)) b (now (row .entry)) → MarkedIn true counts (now (code .entry)) b (now (ack .entry))
+        → MarkedIn true counts (now (code .entry)) b (now (ack .exit))) ⌝ }
 {
     let count = counts.gates;
     let mut k: usize = 0;
@@ -240,7 +240,51 @@ fn mark_gates(falls: bool, by_net: bool, code: &[u16], counts: Counts, row: &[u6
             code,
             counts,
             k,
-            acknowledged_lanes(falls, by_net, code, counts, k, row),
+            acknowledged_lanes(true, false, code, counts, k, row),
+            ack,
+        );
+        k += 1;
+    }
+}
+
+// Whether no net stands at two pins of gate k: to ask it by net is then to ask it pin by pin. Pins that it lacks, C among them if it has two, are at
+// the ground.
+fn has_distinct_pins(code: &[u16], counts: Counts, k: usize) -> bool
+    requires { ⌜ StageLoaded counts (now code) × (k < counts .gates) ⌝ }
+{
+    let pins = circuit::form::pins_of(code, counts, k);
+    if pins.a == pins.b {
+        return false;
+    }
+    let ground = 2 * counts.inputs + counts.gates;
+    if pins.c as usize == ground {
+        return true;
+    }
+    if pins.a == pins.c || pins.b == pins.c {
+        return false;
+    }
+    pins.a != pins.d && pins.b != pins.d && pins.c != pins.d
+}
+
+// The gates with some net at two pins mark nets that they acknowledge, asked by net.
+fn mark_by_net(falls: bool, code: &[u16], counts: Counts, row: &[u64], ack: &mut [u64])
+    requires { ⌜ StageLoaded counts (now code) × InOrder counts (now code) × Room counts (now row) × Room counts (now ack) ⌝ }
+    ensures long { λ r. ⌜ length (now (ack .exit)) ≡ length (now (ack .entry)) ⌝ }
+    ensures marked { λ r. ⌜ ((b : ℕ) → Resting counts (now (code .entry)) b (now (row .entry)) → MarkedIn falls counts (now (code .entry)) b (now (ack .entry))
+        → MarkedIn falls counts (now (code .entry)) b (now (ack .exit))) ⌝ }
+{
+    let count = counts.gates;
+    let mut k: usize = 0;
+    while k < count {
+        if has_distinct_pins(code, counts, k) {
+            k += 1;
+            continue;
+        }
+        lane_settle::mark_pins(
+            code,
+            counts,
+            k,
+            acknowledged_lanes(falls, true, code, counts, k, row),
             ack,
         );
         k += 1;
@@ -250,7 +294,7 @@ fn mark_gates(falls: bool, by_net: bool, code: &[u16], counts: Counts, row: &[u6
 // ---- 14 and 15
 
 // Block b settles; and its words in which some high net is not acknowledged. The marks are made anew. Where they leave some words the gates are
-// asked net by net: a net at several pins may be needed where none of these is.
+// asked net by net that have one at several pins: it may be needed where none of these is.
 fn rise_words(code: &[u16], counts: Counts, b: usize, row: &mut [u64], ack: &mut [u64]) -> u64
     requires { ⌜ StageLoaded counts (now code) × InOrder counts (now code) × Room counts (now row) × Room counts (now ack)
         × (getD (now row) (netCount counts) 0 ≡ 0) ⌝ }
@@ -265,7 +309,7 @@ fn rise_words(code: &[u16], counts: Counts, b: usize, row: &mut [u64], ack: &mut
     if words == 0 {
         return 0;
     }
-    mark_gates(false, true, code, counts, row, ack);
+    mark_by_net(false, code, counts, row, ack);
     unmarked(counts, row, ack)
 }
 
@@ -280,12 +324,12 @@ fn fall_words(code: &[u16], counts: Counts, row: &[u64], ack: &mut [u64]) -> u64
 {
     clear(counts, ack);
     mark_outputs(code, counts, ack);
-    mark_gates(true, false, code, counts, row, ack);
+    mark_gates(code, counts, row, ack);
     let words = unmarked(counts, row, ack);
     if words == 0 {
         return 0;
     }
-    mark_gates(true, true, code, counts, row, ack);
+    mark_by_net(true, code, counts, row, ack);
     unmarked(counts, row, ack)
 }
 
@@ -345,9 +389,9 @@ pub fn all_hold(code: &[u16], counts: Counts) -> bool
     true
 }
 
-// The words of a stage that are suspect, by the reference. A block past those that its inputs make is named whole; where there are fewer than
-// six inputs, the lanes behind the last word repeat the words. For 20 and 21 all words are named where every gate has hold. Beside them the least
-// gate that rises in no word of the stage.
+// The words of a stage that are suspect, by the reference. A block past those that its inputs make is named whole, and so is one without a word that
+// the stage cares for: it is not settled. Where there are fewer than six inputs, the lanes behind the last word repeat the words. For 20 and 21 all
+// words are named where every gate has hold. Beside them the least gate that rises in no word of the stage.
 pub fn screen(code: &[u16], counts: Counts, reference: &[u16], sizes: Counts) -> Screened
     requires { ⌜ BothLoaded counts (now code) sizes (now reference) ⌝ }
     ensures clean { λ r. ⌜ AllClean (stageIn counts (now (code .entry))) (referenceIn sizes (now (reference .entry))) (r .masks) ⌝ }
@@ -365,6 +409,11 @@ pub fn screen(code: &[u16], counts: Counts, reference: &[u16], sizes: Counts) ->
     let count = lane_settle::block_count(counts.inputs);
     let mut b: usize = 0;
     while b < count {
+        let cared = words[b];
+        if cared == 0 {
+            b += 1;
+            continue;
+        }
         let found = rise_block(
             code,
             counts,
@@ -378,7 +427,7 @@ pub fn screen(code: &[u16], counts: Counts, reference: &[u16], sizes: Counts) ->
         wrong[b] = found.wrong;
         rise[b] = found.all;
         fall[b] = fall_block(hold, code, counts, &row, &mut ack);
-        lane_rise::note(&row, 2 * counts.inputs, counts.gates, words[b], &mut rose);
+        lane_rise::note(&row, 2 * counts.inputs, counts.gates, cared, &mut rose);
         b += 1;
     }
     let low = lane_rise::never_risen(&rose, counts.gates);

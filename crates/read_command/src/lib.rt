@@ -10,10 +10,12 @@ use netlist::Next;
 use netlist::Role;
 use netlist::Sort;
 ghost use mathlib.Core.Path.{_≡_};
+ghost use mathlib.Core.Bool.{false};
 ghost use Prim.Native.Nat.{_+_, _*_, _^_, _<_, _≤_};
 ghost use lib.ListN.{length};
 ghost use lib.Dec.{ltb};
 ghost use Rattle.netlist.specs.declared.File.the-variants as file;
+ghost use Rattle.netlist.specs.declared.File.the-variants.{Reference};
 ghost use Rattle.netlist.specs.Bytes as bytes;
 ghost use Rattle.netlist.specs.Commands as commands;
 
@@ -152,28 +154,16 @@ pub fn needed(file: File, code: u8) -> usize
     ensures { λ r. ⌜ r ≡ commands.needed file code ⌝ }
 {
     match file {
-        File::Stage => pins_needed(gates::kind_of(code)),
-        File::Pipeline => pins_needed(gates::kind_of(code)),
         File::Reference => match code {
             1 => 1,
             2..=6 => 2,
             _ => 0,
         },
+        _ => pins_needed(gates::kind_of(code)),
     }
 }
 
 // ---- the command at a position
-
-// 2: no command of this file, first not 01, or 01 again.
-fn stray(at: usize, sort: Sort) -> bool
-    ensures { λ r. ⌜ r ≡ commands.stray at sort ⌝ }
-{
-    match sort {
-        Sort::Unknown => true,
-        Sort::Inputs => at != 0,
-        _ => at == 0,
-    }
-}
 
 // 5: operand i, of which the first k are needed, is needed but FFFF, or not needed and not FFFF.
 fn misfit(k: usize, i: usize, v: u16) -> bool
@@ -341,8 +331,83 @@ fn take_command(file: File, most: Limits, s: &[u8], at: usize, before: Counts, f
     }
 }
 
-// The command at a position, or the refusal that ends the reading there: 2, then 1, then those of its sort. The room for it is
-// compared with what is left of the file, so that no sum wraps, whatever the position.
+// A command with a row of the table, at a position where it may stand: 1, then those of its sort. The room for it is compared with what is
+// left of the file, so that no sum wraps, whatever the position.
+fn take_row(
+    file: File,
+    most: Limits,
+    s: &[u8],
+    at: usize,
+    before: Counts,
+    sort: Sort,
+    lead: usize,
+    operands: usize,
+) -> Next
+    requires { ⌜ (at < length (now s)) × (commands.stray at sort ≡ false) ⌝ }
+    requires { ⌜ commands.asForm sort lead operands ≡ commands.formOf file (bytes.byte (now s) at) ⌝ }
+    ensures { λ r. ⌜ r ≡ commands.nextAt file most (now (s .entry)) at before ⌝ }
+{
+    let form = as_form(sort, lead, operands);
+    if s.len() - at < width(form) {
+        return Next::Refused {
+            number: 1,
+            at: s.len(),
+        };
+    }
+    take_command(file, most, s, at, before, form)
+}
+
+// The first command of a file: 2 where it is not 01.
+fn take_first(file: File, most: Limits, s: &[u8], before: Counts) -> Next
+    requires { ⌜ 0 < length (now s) ⌝ }
+    ensures { λ r. ⌜ r ≡ commands.nextAt file most (now (s .entry)) 0 before ⌝ }
+{
+    let command = s[0];
+    match command {
+        0x01 => take_row(file, most, s, 0, before, Sort::Inputs, 2, 0),
+        _ => Next::Refused { number: 2, at: 0 },
+    }
+}
+
+// A later command of a stage or a pipeline: 2 where it is none of that file, or 01 again. Each row comes with its numbers, so that each is
+// read by code of its own.
+fn take_stage(file: File, most: Limits, s: &[u8], at: usize, before: Counts) -> Next
+    requires { ⌜ (at < length (now s)) × (1 ≤ at) × (file ≡ Reference → ⊥) ⌝ }
+    ensures { λ r. ⌜ r ≡ commands.nextAt file most (now (s .entry)) at before ⌝ }
+{
+    let command = s[at];
+    match command {
+        0x00 => take_row(file, most, s, at, before, Sort::End, 1, 0),
+        0x02 => take_row(file, most, s, at, before, Sort::Gate, 2, 4),
+        0x03 => take_row(file, most, s, at, before, Sort::Output, 1, 2),
+        0x04 => match file {
+            File::Pipeline => take_row(file, most, s, at, before, Sort::Register, 1, 3),
+            _ => Next::Refused { number: 2, at },
+        },
+        0x05 => match file {
+            File::Pipeline => take_row(file, most, s, at, before, Sort::Element, 1, 4),
+            _ => Next::Refused { number: 2, at },
+        },
+        0x06 => take_row(file, most, s, at, before, Sort::Care, 1, 1),
+        _ => Next::Refused { number: 2, at },
+    }
+}
+
+// A later command of a reference.
+fn take_reference(most: Limits, s: &[u8], at: usize, before: Counts) -> Next
+    requires { ⌜ (at < length (now s)) × (1 ≤ at) ⌝ }
+    ensures { λ r. ⌜ r ≡ commands.nextAt file.Reference most (now (s .entry)) at before ⌝ }
+{
+    let command = s[at];
+    match command {
+        0x00 => take_row(File::Reference, most, s, at, before, Sort::End, 1, 0),
+        0x11 => take_row(File::Reference, most, s, at, before, Sort::Gate, 2, 2),
+        0x12 => take_row(File::Reference, most, s, at, before, Sort::Output, 1, 1),
+        _ => Next::Refused { number: 2, at },
+    }
+}
+
+// The command at a position, or the refusal that ends the reading there: 2, then 1, then those of its sort.
 pub fn next_command(file: File, most: Limits, s: &[u8], here: Cursor, before: Counts) -> Next
     ensures { λ r. ⌜ r ≡ commands.nextAt file most (now (s .entry)) (here .at) before ⌝ }
 {
@@ -353,16 +418,11 @@ pub fn next_command(file: File, most: Limits, s: &[u8], here: Cursor, before: Co
             at: s.len(),
         };
     }
-    let form = form_of(file, s[at]);
-    let sort = form.sort;
-    if stray(at, sort) {
-        return Next::Refused { number: 2, at };
+    if at == 0 {
+        return take_first(file, most, s, before);
     }
-    if s.len() - at < width(form) {
-        return Next::Refused {
-            number: 1,
-            at: s.len(),
-        };
+    match file {
+        File::Reference => take_reference(most, s, at, before),
+        _ => take_stage(file, most, s, at, before),
     }
-    take_command(file, most, s, at, before, form)
 }

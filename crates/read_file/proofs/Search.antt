@@ -84,24 +84,58 @@ after-gate k e = let z : suc k ≡ k + 1 = omega arith in rw e z
 pub after-other : (k : ℕ) (c : Sort) → OneOf (0 ∷ 1 ∷ 3 ∷ 4 ∷ 5 ∷ 6 ∷ 7 ∷ []) (tagOf the-type c) → gatesAfter k c ≡ k
 after-other k = arm (0 ∷ 1 ∷ 3 ∷ 4 ∷ 5 ∷ 6 ∷ 7 ∷ []) (λ c. gatesAfter k c ≡ k) (refl, refl, tt, refl, refl, refl, refl, refl)
 
--- the search comes to a position after k gates; whole commands follow, and the fuel lasts to the end of the file
+pub after-few : (k : ℕ) (c : Sort) → gatesAfter k c ≤ k + 1
+after-few k c = go (isSort sort.Gate c)
+  where
+    go : (b : Bool) → cond b (suc k) k ≤ k + 1
+    go true = omega arith
+    go false = omega arith
+
+-- the search comes to a position after k gates, and the fuel lasts to the end of the file
+pub record Searching (f : File) (N : Nets) (s : List ℕ) (at k : ℕ) : Type 0 where
+  pub fuel : ℕ
+  pub enough : length s ≤ at + fuel
+  pub same : namelessFrom (length s) f N s 0 0 ≡ namelessFrom fuel f N s at k
+
+pub searching-starts : (f : File) (N : Nets) (s : List ℕ) → Searching f N s 0 0
+searching-starts f N s = record { fuel = length s; enough = omega arith; same = refl }
+
+module _ {f : File} {N : Nets} {s : List ℕ} {at k : ℕ} (w : Searching f N s at k) where
+  pub searching-past : length s ≤ at → namelessFrom (length s) f N s 0 0 ≡ Nothing
+  searching-past h = w .same ∙ nameless-past f N s (w .fuel) at k h
+
+  -- at a command, whose row is form and whose operands were searched
+  module _ (here : at < length s) {form : Form} (is : form ≡ formOf f (byte s at)) {found : Found} (searched : found ≡ namelessAt f N s at k form) where
+    searching-step : namelessFrom (length s) f N s 0 0
+        ≡ whenFound found At (namelessFrom (w .fuel - 1) f N s (at + width form) (gatesAfter k (form .sort)))
+    unfolding namelessFrom
+    searching-step =
+        let p : w .fuel ≡ suc (w .fuel - 1) = omega (arith, w .enough) in
+        w .same ∙ ap (λ (x : ℕ). namelessFrom x f N s at k) p ∙ rw (← is, ← searched)
+
+    pub searching-goes : found ≡ Nothing → (wide : ℕ) → wide ≡ width form → (k′ : ℕ) → gatesAfter k (form .sort) ≡ k′ → Searching f N s (at + wide) k′
+    unfolding whenFound
+    searching-goes none wide e k′ a = record {
+      fuel = w .fuel - 1;
+      enough = omega (arith, w .enough, few-bytes f (byte s at) is);
+      same = searching-step ∙ rw (none, a, ← e);
+    }
+
+-- and whole commands follow
 pub record Searched (f : File) (N : Nets) (s : List ℕ) (at k : ℕ) : Type 0 where
   pub within : at ≤ length s
   pub counted : k ≤ at
   pub left : ℕ
   pub commands : Follow f s at left (length s)
-  pub fuel : ℕ
-  pub enough : length s ≤ at + fuel
-  pub same : namelessFrom (length s) f N s 0 0 ≡ namelessFrom fuel f N s at k
+  pub on : Searching f N s at k
 
 pub search-starts : (f : File) (N : Nets) (s : List ℕ) → FilledTo f s (length s) → Searched f N s 0 0
-search-starts f N s w =
-    record { within = omega arith; counted = omega arith; left = w .count; commands = w .commands; fuel = length s; enough = omega arith; same = refl }
+search-starts f N s w = record { within = omega arith; counted = omega arith; left = w .count; commands = w .commands; on = searching-starts f N s }
 
 -- the search has come to a position
 module _ {f : File} {N : Nets} {s : List ℕ} {at k : ℕ} (w : Searched f N s at k) where
   pub search-past : length s ≤ at → namelessFrom (length s) f N s 0 0 ≡ Nothing
-  search-past h = w .same ∙ nameless-past f N s (w .fuel) at k h
+  search-past h = searching-past (w .on) h
 
   -- at a command, whose row is form and whose operands were searched
   module _ (here : at < length s) {form : Form} (is : form ≡ formOf f (byte s at)) where
@@ -114,24 +148,14 @@ module _ {f : File} {N : Nets} {s : List ℕ} {at k : ℕ} (w : Searched f N s a
         go (suc left) h = rw is (h .0)
 
     module _ {found : Found} (searched : found ≡ namelessAt f N s at k form) where
-      search-step : namelessFrom (length s) f N s 0 0
-          ≡ whenFound found At (namelessFrom (w .fuel - 1) f N s (at + width form) (gatesAfter k (form .sort)))
-      unfolding namelessFrom
-      search-step =
-          let p : w .fuel ≡ suc (w .fuel - 1) = omega (arith, w .enough) in
-          w .same ∙ ap (λ (x : ℕ). namelessFrom x f N s at k) p ∙ rw (← is, ← searched)
-
       pub search-found : {place : ℕ} → found ≡ At place → namelessFrom (length s) f N s 0 0 ≡ At place
       unfolding whenFound
-      search-found e = search-step ∙ rw e
+      search-found e = searching-step (w .on) here is searched ∙ rw e
 
       pub search-goes : found ≡ Nothing → (wide : ℕ) → wide ≡ width form → (k′ : ℕ) → gatesAfter k (form .sort) ≡ k′ → k′ ≤ k + 1 → Searched f N s (at + wide) k′
-      unfolding whenFound Follow
+      unfolding Follow
       search-goes none wide e k′ a few = go (w .left) (w .commands)
         where
-          later : namelessFrom (length s) f N s 0 0 ≡ namelessFrom (w .fuel - 1) f N s (at + wide) k′
-          later = search-step ∙ rw (none, a, ← e)
-
           go : (left : ℕ) → Follow f s at left (length s) → Searched f N s (at + wide) k′
           go zero h = absurd (omega arith)
           go (suc left) h =
@@ -142,7 +166,5 @@ module _ {f : File} {N : Nets} {s : List ℕ} {at k : ℕ} (w : Searched f N s a
                 counted = omega (arith, w .counted);
                 left = left;
                 commands = rw y at (h .1);
-                fuel = w .fuel - 1;
-                enough = omega (arith, w .enough);
-                same = later;
+                on = searching-goes (w .on) here is searched none wide e k′ a;
               }

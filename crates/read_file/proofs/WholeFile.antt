@@ -17,6 +17,7 @@ use Rattle.netlist.specs.declared.File.{File}
 use Rattle.netlist.specs.declared.File.the-variants as file
 use Rattle.netlist.specs.declared.Sort.{Sort}
 use Rattle.netlist.specs.declared.Sort.the-variants as sort
+use Rattle.netlist.specs.declared.Form.{Form}
 use Rattle.netlist.specs.declared.Limits.{Limits}
 use Rattle.netlist.specs.declared.Cursor.{Cursor}
 use Rattle.netlist.specs.declared.Counts.{Counts}
@@ -28,12 +29,14 @@ use Rattle.netlist.specs.Bytes.{byte, operand}
 use Rattle.netlist.specs.Commands.{whenFound, isSort, formOf, width, stray, nextAt}
 use Rattle.netlist.specs.Reading.{namelessFrom, Places, floorAfter, countOf, sortsOf, countsOf, netsOf, Reading, refused, readable, finish, onNext, readFrom, readFile}
 use Rattle.netlist.specs.Writing.{Has, commandByte, widthFor}
-use Rattle.read_file.specs.Files.{partNoted, netsWith, Follow, FilledTo, Countable, mostCare, firstPart, RoomFor, standing, Placed, RoomOf, Notable, NotedIn}
+use Rattle.read_file.specs.Files.{partNoted, netsWith, Follow, FilledTo, Countable, Settled, Stands, Topped, mostCare, firstPart, RoomFor, standing, Placed, RoomOf, WordAt, Notable, NotedIn}
 use Rattle.netlist.proofs.Encoding.{reference-careless, clash, care-form, width-in, width-inputs, width-end}
 use Rattle.netlist.proofs.Sort.{the-type}
 use Rattle.read_command.proofs.Arms.{arm}
-use Rattle.netlist.proofs.OneCommand.{There, next-there}
+use Rattle.netlist.proofs.OneCommand.{There, there-next, next-there}
 use Rattle.read_file.proofs.Noting.{counts}
+use Rattle.read_file.proofs.Search.{gatesAfter}
+use Rattle.read_file.proofs.Passing.{gates-noted, inputs-noted, Passing, there-stands, word-there, care-topped, passes, settled}
 use Rattle.netlist.proofs.Walk.{most-parts, care-taken, Near, near-start, near-far, near-noted}
 
 -- where a file has care words, there may be as many as words of its inputs
@@ -132,6 +135,13 @@ walk-starts f most s places = record {
   enough = omega arith;
   same = refl;
 }
+
+-- a list as long as another
+pub walk-long : {f : File} {most : Limits} {s : List ℕ} {long long′ : ℕ} {places : List ℕ} {at : ℕ} {c : Counts} → long ≡ long′ → Walking f most s long places at c → Walking f most s long′ places at c
+walk-long e w = rw e at w
+
+pub room-long : {f : File} {most : Limits} {long long′ : ℕ} → long ≡ long′ → RoomFor f most long → RoomFor f most long′
+room-long e h = rw e at h
 
 -- the code's match tells the sort of a command that was read
 pub read-as : {x : Next} {c c′ : Sort} {next : Cursor} → x ≡ Command c next → c ≡ c′ → x ≡ Command c′ next
@@ -242,8 +252,28 @@ module _ {f : File} {most : Limits} {s : List ℕ} {long : ℕ} {places : List �
             same = walk-step ∙ rw (read, more) (ap (readFrom (w .fuel - 1) f most s (next .at)) (sym (noted-in .same)));
           }
 
+      -- and the search for 9 goes on with it
+      pub walk-stands : Stands f s at k
+      walk-stands = there-stands there
+
+      pub walk-inputs : isSort sort.Inputs k ≡ false → {places′ : List ℕ} {c′ : Counts} → NotedIn k most s at places c places′ c′ → c′ .inputs ≡ c .inputs
+      walk-inputs other noted-in =
+          ap (λ (x : Counts). x .inputs) (sym (noted-in .counted (w .counted))) ∙ inputs-noted k s at (standing most places c) other ∙ ap (λ (x : Counts). x .inputs) (w .counted)
+
+      pub walk-passes : {top top′ : ℕ} → Passing f s at c top → Topped f s at c top top′ → {places′ : List ℕ} {c′ : Counts} → NotedIn k most s at places c places′ c′ → Passing f s (next .at) c′ top′
+      walk-passes p more noted-in =
+          rw after (passes p k there more
+          (ap (λ (x : Counts). x .gates) (sym (noted-in .counted (w .counted))) ∙ gates-noted k s at (standing most places c) ∙ ap (λ (x : Counts). gatesAfter (x .gates) k) (w .counted))
+          (λ other. walk-inputs other noted-in))
+
     module _ {next : Cursor} where
+      pub walk-has : {k : Sort} → x ≡ Command k next → Has f k
+      walk-has read = there read .own
+
       module _ (read : x ≡ Command sort.End next) where
+        pub walk-settled : {top : ℕ} → Passing f s at c top → length s ≤ at + 1 → Settled f s (c .inputs) top
+        walk-settled p last = settled p (there read) last
+
         pub walk-ends : readFile f most s ≡ finish f s at (standing most places c)
         unfolding onNext
         walk-ends = walk-step ∙ rw read
@@ -254,3 +284,22 @@ module _ {f : File} {most : Limits} {s : List ℕ} {long : ℕ} {places : List �
         pub walk-placed : Placed most (readFile f most s) places
         unfolding Placed
         walk-placed = rw walk-ends (finish-placed most places f s at (standing most places c) (ap (standing most places) (w .counted)))
+
+  -- a care word that follows others is read as one
+  module _ (own : Has f sort.Care) (later : 1 ≤ at) {below : ℕ} (few : below ≤ 2 ^ c .inputs) (h : WordAt s at (c .floor) below) where
+    word-read : Command sort.Care (record { at = at + 3 }) ≡ nextAt f most s at c
+    word-read =
+        let z : at + widthFor f sort.Care ≡ at + 3 = ap (λ (form : Form). at + width form) (care-form f own) in
+        sym (there-next f most s at c sort.Care (word-there own later few h) ∙ ap (λ (x : ℕ). Command sort.Care (record { at = x })) z)
+
+    pub word-room : Notable sort.Care most s at c (length places)
+    word-room = walk-room word-read refl
+
+    pub word-on : {places′ : List ℕ} {c′ : Counts} → NotedIn sort.Care most s at places c places′ c′ → Walking f most s long places′ (at + 3) c′
+    word-on noted-in = walk-on word-read refl refl noted-in
+
+    pub word-inputs : {places′ : List ℕ} {c′ : Counts} → NotedIn sort.Care most s at places c places′ c′ → c′ .inputs ≡ c .inputs
+    word-inputs noted-in = walk-inputs word-read refl refl noted-in
+
+    pub word-passes : {top : ℕ} → Passing f s at c top → {places′ : List ℕ} {c′ : Counts} → NotedIn sort.Care most s at places c places′ c′ → Passing f s (at + 3) c′ top
+    word-passes {top} p noted-in = walk-passes word-read refl p (care-topped (word-there {most = most} {c = c} own later few h) top) noted-in

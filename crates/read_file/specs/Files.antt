@@ -1,7 +1,7 @@
 -- What the functions that read a whole file ask of one another beside the reading itself, and what a readable file leaves in the lent places.
 use Prim.Native.Nat.{ℕ, zero, suc, _+_, _*_, _/_, _%_, _^_, _<_, _≤_}
 use mathlib.Core.Path.{_≡_}
-use mathlib.Core.Bool.{Bool, cond}
+use mathlib.Core.Bool.{Bool, true, cond}
 use mathlib.Core.List.{List, [], _∷_, map}
 use lib.ListN.{length, take, drop}
 use lib.Dec.{eqb}
@@ -11,9 +11,11 @@ use Rattle.netlist.specs.declared.Sort.{Sort}
 use Rattle.netlist.specs.declared.Sort.the-variants as sort
 use Rattle.netlist.specs.declared.Limits.{Limits}
 use Rattle.netlist.specs.declared.Counts.{Counts}
-use Rattle.netlist.specs.Bytes.{byte}
-use Rattle.netlist.specs.Commands.{mostParts, formOf, width}
-use Rattle.netlist.specs.Reading.{Nets, partNets, Places, sortsOf, countsOf, noted, Reading, refused, readable}
+use Rattle.netlist.specs.declared.Found.the-variants as found
+use Rattle.netlist.specs.Bytes.{byte, operand, absent}
+use Rattle.netlist.specs.Commands.{mostParts, formOf, width, needed}
+use Rattle.netlist.specs.Reading.{Nets, partNets, namelessAt, namelessFrom, Places, sortsOf, countsOf, noted, Reading, refused, readable}
+use Rattle.netlist.specs.Writing.{formFor, widthFor, Has}
 use Rattle.netlist.specs.Read.{farthest}
 use Rattle.read_file.specs.declared.Carried.{Carried}
 use Rattle.read_file.specs.declared.Carried.the-variants.{Data, Completion, Nothing}
@@ -57,6 +59,45 @@ pub record FilledTo (f : File) (s : List ℕ) (to : ℕ) : Type 0 where
 abbrev pub Countable : ℕ → ℕ → Type 0
 Countable n g = 2 * n + g < 2 ^ 32
 
+-- ---- 9 while the commands are read
+
+-- how far operands may reach that are asked by their numbers alone: in a reference to the last signal, else to the last net of a gate
+unfoldable pub reach : File → ℕ → ℕ → ℕ
+reach Stage n g = 2 * n + g
+reach Pipeline n g = 2 * n + g
+reach Reference n g = n + g
+
+-- some nets reach as far as a top, in a file with n inputs
+pub record Reaches (f : File) (n top : ℕ) (N : Nets) : Type 0 where
+  pub inputs-same : N .inputs ≡ n
+  pub countable : Countable (N .inputs) (N .gates)
+  pub far : top ≤ reach f (N .inputs) (N .gates)
+
+-- where they do, every operand of the file names what it has to name
+abbrev pub Settled : File → List ℕ → ℕ → ℕ → Type 0
+Settled f s n top = (N : Nets) → Reaches f n top N → namelessFrom (length s) f N s 0 0 ≡ found.Nothing
+
+-- an operand that is there; where some may be spare, FFFF is none
+abbrev pub Present : Bool → ℕ → Type 0
+Present spare v = spare ≡ true → v ≡ absent → ⊥
+
+-- m operands from a place on are below a top
+abbrev pub Below : List ℕ → ℕ → ℕ → Bool → ℕ → Type 0
+Below s place m spare top = (i : ℕ) → i < m → Present spare (operand s (place + 2 * i)) → operand s (place + 2 * i) < top
+
+-- a command of a sort stands at a position with all of its bytes, and a gate's operands are there
+pub record Stands (f : File) (s : List ℕ) (at : ℕ) (c : Sort) : Type 0 where
+  pub command : formOf f (byte s at) ≡ formFor f c
+  pub own : Has f c
+  pub room : at + widthFor f c ≤ length s
+  pub fits : c ≡ sort.Gate → (i : ℕ) → i < needed f (byte s (at + 1)) → operand s (at + 2 + 2 * i) ≡ absent → ⊥
+
+-- a top before a command and one after it: what reaches the second reaches the first, and the command's operands name what they have to name
+abbrev pub Topped : File → List ℕ → ℕ → Counts → ℕ → ℕ → Type 0
+Topped f s at before top top′ =
+    (N : Nets) → Reaches f (before .inputs) top′ N →
+    Reaches f (before .inputs) top N × (namelessAt f N s at (before .gates) (formOf f (byte s at)) ≡ found.Nothing)
+
 -- ---- the lent places
 
 -- how many care words a file may have: as many as there are words of its inputs, and a reference none
@@ -95,6 +136,13 @@ Placed most (refused number at) places = Unit {0}
 Placed most (readable p) places = standing most places (countsOf p) ≡ p
 
 -- ---- one command more
+
+-- a care word stands at a position, whole, no lower than a floor and below some number
+pub record WordAt (s : List ℕ) (at floor below : ℕ) : Type 0 where
+  pub room : at + 3 ≤ length s
+  pub command : byte s at ≡ 0x06
+  pub high : floor ≤ operand s (at + 1)
+  pub low : operand s (at + 1) < below
 
 -- room for one more of a sort, and the bytes that noting it looks at
 unfoldable pub RoomOf : Sort → Limits → List ℕ → ℕ → Counts → ℕ → Type 0

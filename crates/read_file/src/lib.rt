@@ -11,6 +11,7 @@ use netlist::Outcome;
 use netlist::Role;
 use netlist::Sort;
 ghost use mathlib.Core.Path.{_≡_};
+ghost use mathlib.Core.Bool.{true};
 ghost use mathlib.Core.List.{map};
 ghost use Prim.Native.Nat.{ℕ, _+_, _*_, _^_, _<_, _≤_};
 ghost use lib.ListN.{length};
@@ -221,6 +222,88 @@ fn find_nameless(file: File, n: usize, g: usize, notes: &[u16], s: &[u8]) -> Fou
     Found::Nothing
 }
 
+// ---- 9 while the commands are read
+
+// More than any nets reach: the operands are to be asked one by one.
+const ASKED: usize = 0x100000000;
+
+// How far operands may reach that are asked by their numbers alone: in a reference to the last signal, else to the last net of a gate.
+fn reach(file: File, n: usize, g: usize) -> usize
+    requires { ⌜ files.Countable n g ⌝ }
+    ensures { λ r. ⌜ r ≡ files.reach file n g ⌝ }
+{
+    match file {
+        File::Reference => n + g,
+        _ => 2 * n + g,
+    }
+}
+
+// The number after an operand; where some may be spare, FFFF is none and gives 0.
+fn past(v: u16, spare: bool) -> usize
+    ensures { λ r. ⌜ (files.Present spare v → v < r) ⌝ }
+{
+    let next = v as usize + 1;
+    if spare { next % 0x10000 } else { next }
+}
+
+// The higher of two numbers.
+fn higher(a: usize, b: usize) -> usize
+    ensures { λ r. ⌜ (a ≤ r) × (b ≤ r) ⌝ }
+{
+    if a < b { b } else { a }
+}
+
+// A top above m operands from a place on, and no lower than one before.
+fn above(top: usize, s: &[u8], place: usize, m: usize, spare: bool) -> usize
+    requires { ⌜ place + 2 * m ≤ length (now s) ⌝ }
+    ensures { λ r. ⌜ (top ≤ r) × files.Below (now (s .entry)) place m spare r ⌝ }
+{
+    let mut high = top;
+    let mut i: usize = 0;
+    while i < m {
+        let v = netlist::operand(s, place + 2 * i);
+        high = higher(high, past(v, spare));
+        i += 1;
+    }
+    high
+}
+
+// A top after a command of a sort, where one stood before it.
+fn top_after(file: File, sort: Sort, s: &[u8], at: usize, before: Counts, top: usize) -> usize
+    requires { ⌜ files.Stands file (now s) at sort × files.Countable (before .inputs) (before .gates) ⌝ }
+    ensures { λ r. ⌜ files.Topped file (now (s .entry)) at before top r ⌝ }
+{
+    match sort {
+        Sort::Gate => match file {
+            File::Reference => {
+                if above(0, s, at + 2, 2, true) <= before.inputs + before.gates {
+                    top
+                } else {
+                    ASKED
+                }
+            }
+            _ => above(top, s, at + 2, 4, true),
+        },
+        Sort::Output => match file {
+            File::Reference => above(top, s, at + 1, 1, false),
+            _ => above(top, s, at + 1, 2, false),
+        },
+        Sort::Register | Sort::Element => ASKED,
+        _ => top,
+    }
+}
+
+// The search for 9, where a top is known: within reach there is nothing to ask.
+fn first_nameless(file: File, n: usize, g: usize, notes: &[u16], s: &[u8], top: usize) -> Found
+    requires { ⌜ files.Countable n g × files.FilledTo file (now s) (length (now s)) × files.Settled file (now s) n top ⌝ }
+    ensures { λ r. ⌜ r ≡ reading.namelessFrom (length (now (s .entry))) file (files.netsWith n g (now (notes .entry))) (now (s .entry)) 0 0 ⌝ }
+{
+    if top <= reach(file, n, g) {
+        return Found::Nothing;
+    }
+    find_nameless(file, n, g, notes, s)
+}
+
 // ---- the whole file
 
 // The refusal of a command that cannot be read, as the file's. What is answered for a command that was read is not said.
@@ -236,9 +319,10 @@ fn refusal(next: Next) -> Outcome
     }
 }
 
-// At the end command, whose place is given with the counts before it and the notes of the registers and C-elements: 8, 7, then 9.
-fn finish(file: File, s: &[u8], at: usize, counts: Counts, notes: &[u16]) -> Outcome
+// At the end command, whose place is given with the counts before it, the notes of the registers and C-elements, and a top: 8, 7, then 9.
+fn finish(file: File, s: &[u8], at: usize, counts: Counts, notes: &[u16], top: usize) -> Outcome
     requires { ⌜ files.Countable (counts .inputs) (counts .gates) × (at < length (now s)) × files.FilledTo file (now s) (at + 1) ⌝ }
+    requires { ⌜ (length (now s) ≤ at + 1 → files.Settled file (now s) (counts .inputs) top) ⌝ }
     ensures { λ r. ⌜ ((p : reading.Places) → reading.countsOf p ≡ counts → p .parts ≡ map files.partNoted (now (notes .entry))
         → r ≡ read.outcomeOf (reading.finish file (now (s .entry)) at p)) ⌝ }
 {
@@ -252,7 +336,7 @@ fn finish(file: File, s: &[u8], at: usize, counts: Counts, notes: &[u16]) -> Out
             at: after,
         };
     }
-    if let Found::At(place) = find_nameless(file, counts.inputs, counts.gates, notes, s) {
+    if let Found::At(place) = first_nameless(file, counts.inputs, counts.gates, notes, s, top) {
         return Outcome::Refused {
             number: 9,
             at: place,
@@ -303,9 +387,34 @@ fn note(sort: Sort, most: Limits, s: &[u8], at: usize, places: &mut [u16], befor
     after
 }
 
-// Reads a whole file, one command at a time. The places of its gates go into the lent slice from index 0 on, those of its
-// outputs from index most.gates on, the notes of its registers and C-elements behind room for the most outputs, and its care words behind room
-// for the most of these.
+// No more than there are words of n inputs: all of them that are u16s.
+fn words_of(n: usize) -> usize
+    ensures { λ r. ⌜ r ≤ 2 ^ n ⌝ }
+{
+    if n < 16 { 1 << n } else { 0x10000 }
+}
+
+// Whether a care word stands at a position, whole, no lower than a floor and below some number.
+fn word_at(s: &[u8], at: usize, floor: usize, below: usize) -> bool
+    requires { ⌜ at ≤ length (now s) ⌝ }
+    ensures { λ r. ⌜ (r ≡ true → files.WordAt (now (s .entry)) at floor below) ⌝ }
+{
+    if s.len() - at < 3 {
+        return false;
+    }
+    if s[at] != 0x06 {
+        return false;
+    }
+    let w = netlist::operand(s, at + 1) as usize;
+    if w < floor {
+        return false;
+    }
+    w < below
+}
+
+// Reads a whole file, one command at a time, and care words that follow one another at once. The places of its gates go into the lent slice
+// from index 0 on, those of its outputs from index most.gates on, the notes of its registers and C-elements behind room for the most outputs,
+// and its care words behind room for the most of these.
 pub fn read_file(file: File, most: Limits, s: &[u8], places: &mut [u16]) -> Outcome
     requires { ⌜ files.RoomFor file most (length (now places)) ⌝ }
     ensures answered { λ r. ⌜ r ≡ read.outcomeOf (reading.readFile file most (now (s .entry))) ⌝ }
@@ -313,6 +422,7 @@ pub fn read_file(file: File, most: Limits, s: &[u8], places: &mut [u16]) -> Outc
 {
     let first_part = most.gates + most.outputs;
     let mut at: usize = 0;
+    let mut top: usize = 0;
     let mut counts = Counts {
         inputs: 0,
         gates: 0,
@@ -329,10 +439,18 @@ pub fn read_file(file: File, most: Limits, s: &[u8], places: &mut [u16]) -> Outc
         };
         if let Sort::End = sort {
             let end = first_part + (counts.registers + counts.elements);
-            return finish(file, s, at, counts, &places[first_part..end]);
+            return finish(file, s, at, counts, &places[first_part..end], top);
         }
+        top = top_after(file, sort, s, at, counts, top);
         counts = note(sort, most, s, at, places, counts);
         at = after.at;
+        if let Sort::Care = sort {
+            let below = words_of(counts.inputs);
+            while word_at(s, at, counts.floor, below) {
+                counts = note(Sort::Care, most, s, at, places, counts);
+                at += 3;
+            }
+        }
     }
     Outcome::Refused {
         number: 1,

@@ -1,4 +1,4 @@
--- Which words a stage in its flat form has: all that its inputs have, or those of its care list, looked at one after the other.
+-- Which words a stage in its flat form has: all that its inputs have, or those of its care list.
 -- Assumes nothing.
 use Prim.Native.Nat.{ℕ, _+_, _^_, _≤_, _<_}
 use native.Mathlib.Omega.{arith}
@@ -47,26 +47,6 @@ unfolding caredFor
 listed n [] d = absurd (d refl)
 listed n (w ∷ ws) d = refl
 
-module _ (w : ℕ) (ws : List ℕ) (k : ℕ) where
-  -- the words before word k are others
-  abbrev pub LookedTo : Type 0
-  LookedTo = isIn w ws ≡ isIn w (drop k ws)
-
-  module _ (l : LookedTo) (h : k < length ws) (x : ℕ) (is : x ≡ getD ws k 0) where
-    here : isIn w ws ≡ eqb w x || isIn w (drop (k + 1) ws)
-    unfolding isIn
-    here = l ∙ ap (isIn w) (drop-cons ws k 0 h) ∙ rw (← is, add-one)
-
-    looked-here : x ≡ w → true ≡ isIn w ws
-    looked-here e = sym (here ∙ rw (eq-eqb w x (sym e)))
-
-    looked-on : (x ≡ w → ⊥) → isIn w ws ≡ isIn w (drop (k + 1) ws)
-    looked-on n = here ∙ rw (ne-eqb w x (λ e. n (sym e)))
-
-  looked-none : LookedTo → length ws ≤ k → false ≡ isIn w ws
-  unfolding isIn
-  looked-none l h = sym (l ∙ ap (isIn w) (drop-of-length-le ws {i = k} h))
-
 module _ (c : Counts) (code : List ℕ) where
   pub care-long : length (stageCare c code) ≡ c .care
   unfolding stageCare
@@ -77,20 +57,6 @@ module _ (c : Counts) (code : List ℕ) where
   care-is k h x is = is ∙ sym (getD-tabulate (careIn c code) (c .care) k 0 h)
 
   module _ (w : ℕ) where
-    -- the care words before word k are others
-    abbrev pub CareTo : ℕ → Type 0
-    CareTo k = LookedTo w (stageCare c code) k
-
-    module _ (k : ℕ) (l : CareTo k) where
-      pub care-here : k < c .care → (x : ℕ) → x ≡ careIn c code k → x ≡ w → true ≡ isIn w (stageCare c code)
-      care-here h x is = looked-here w (stageCare c code) k l (omega (arith, care-long)) x (care-is k h x is)
-
-      pub care-on : k < c .care → (x : ℕ) → x ≡ careIn c code k → (x ≡ w → ⊥) → CareTo (k + 1)
-      care-on h x is = looked-on w (stageCare c code) k l (omega (arith, care-long)) x (care-is k h x is)
-
-      pub care-none : c .care ≤ k → false ≡ isIn w (stageCare c code)
-      care-none h = looked-none w (stageCare c code) k l (omega (arith, care-long))
-
     -- what is in the care list of a stage is a word of it
     pub of-care : (c .care ≡ 0 → ⊥) → (b : Bool) → b ≡ isIn w (stageCare c code) → b ≡ isIn w (words (stageIn c code))
     unfolding words

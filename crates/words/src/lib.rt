@@ -3,7 +3,8 @@
 use netlist::Counts;
 use verdict::WordOrder;
 ghost use mathlib.Core.Path.{_≡_};
-ghost use mathlib.Core.List.{_++_};
+ghost use mathlib.Core.Bool.{cond};
+ghost use mathlib.Core.List.{_++_, map};
 ghost use Prim.Native.Nat.{_^_, _≤_, _<_};
 ghost use lib.ListN.{length, drop};
 ghost use Rattle.netlist.specs.Reading.{stageLimits};
@@ -13,27 +14,63 @@ ghost use Rattle.verdict.specs.Rows.{settled};
 ghost use Rattle.circuit.specs.Stage.{stageCare, stageIn, StageLoaded, stageGates};
 ghost use Rattle.circuit.specs.Order.{InOrder};
 ghost use Rattle.circuit.specs.Rows.{RowFor, netsIn, railPart};
-ghost use Rattle.words.specs.Listed.{Listed, NoneMarked, Marked};
+ghost use Rattle.words.specs.Listed.{Listed, shown, NoneMarked, Marked};
 
 // ---- by name
 
 // A name for each word of the most inputs.
 pub const NAMES: usize = 1 << netlist::INPUTS;
 
-// The word that a name spells where input 0 is the highest bit of as many as there are inputs: the bits in turned order.
+// Five bits in turned order.
+fn turned_five(bits: usize) -> usize
+    requires { ⌜ bits < 32 ⌝ }
+    ensures { λ r. ⌜ r ≡ spelled FirstHighest 5 bits ⌝ }
+{
+    match bits {
+        0 => 0,
+        1 => 16,
+        2 => 8,
+        3 => 24,
+        4 => 4,
+        5 => 20,
+        6 => 12,
+        7 => 28,
+        8 => 2,
+        9 => 18,
+        10 => 10,
+        11 => 26,
+        12 => 6,
+        13 => 22,
+        14 => 14,
+        15 => 30,
+        16 => 1,
+        17 => 17,
+        18 => 9,
+        19 => 25,
+        20 => 5,
+        21 => 21,
+        22 => 13,
+        23 => 29,
+        24 => 3,
+        25 => 19,
+        26 => 11,
+        27 => 27,
+        28 => 7,
+        29 => 23,
+        30 => 15,
+        _ => 31,
+    }
+}
+
+// The word that a name spells where input 0 is the highest bit of as many as there are inputs: the bits in turned order. Those of the most inputs
+// are turned, five at a time, and as many of them as are inputs are the highest.
 fn turned(inputs: usize, name: usize) -> usize
     requires { ⌜ inputs ≤ stageLimits .inputs ⌝ }
     ensures { λ r. ⌜ r ≡ spelled FirstHighest inputs name ⌝ }
 {
-    let mut left = name;
-    let mut word: usize = 0;
-    let mut i: usize = 0;
-    while i < inputs {
-        word = left % 2 + 2 * word;
-        left = left / 2;
-        i += 1;
-    }
-    word
+    let first = turned_five(name % 32);
+    let last = turned_five(name / 32 % 32);
+    (last + 32 * first) >> (netlist::INPUTS - inputs)
 }
 
 // The word that a name spells, with words named in an order.
@@ -47,27 +84,8 @@ pub fn word_of(order: WordOrder, inputs: usize, name: usize) -> usize
     }
 }
 
-// Whether w is a word of a stage: one of its care words, or without a list one that its inputs have.
-pub fn is_word(code: &[u16], counts: Counts, w: usize) -> bool
-    requires { ⌜ StageLoaded counts (now code) ⌝ }
-    ensures { λ r. ⌜ r ≡ isIn w (words (stageIn counts (now (code .entry)))) ⌝ }
-{
-    let count = counts.care;
-    if count == 0 {
-        return w < 1 << counts.inputs;
-    }
-    let mut k: usize = 0;
-    while k < count {
-        if circuit::form::care_of(code, counts, k) == w {
-            return true;
-        }
-        k += 1;
-    }
-    false
-}
-
 // Marks the care words of a stage, a byte for each word. A list that is empty marks none.
-fn mark_care(code: &[u16], counts: Counts, marks: &mut [u8])
+pub fn mark_care(code: &[u16], counts: Counts, marks: &mut [u8])
     requires { ⌜ StageLoaded counts (now code) × NoneMarked (now marks) ⌝ }
     ensures { λ r. ⌜ Marked (stageCare counts (now (code .entry))) (now (marks .exit)) × (length (now (marks .exit)) ≡ length (now (marks .entry))) ⌝ }
 {
@@ -82,8 +100,8 @@ fn mark_care(code: &[u16], counts: Counts, marks: &mut [u8])
     }
 }
 
-// Whether w is a word of a stage whose care words are marked.
-fn is_marked(code: &[u16], counts: Counts, marks: &[u8], w: usize) -> bool
+// Whether w is a word of a stage whose care words are marked: one of these, or without a list one that its inputs have.
+pub fn is_marked(code: &[u16], counts: Counts, marks: &[u8], w: usize) -> bool
     requires { ⌜ StageLoaded counts (now code) × Marked (stageCare counts (now code)) (now marks) × (w < length (now marks)) ⌝ }
     ensures { λ r. ⌜ r ≡ isIn w (words (stageIn counts (now (code .entry)))) ⌝ }
 {
@@ -93,10 +111,27 @@ fn is_marked(code: &[u16], counts: Counts, marks: &[u8], w: usize) -> bool
     0 < marks[w]
 }
 
-// Lists the names of a stage's words from the start of `list`, the least first, and answers how many they are.
-pub fn list_names(order: WordOrder, code: &[u16], counts: Counts, list: &mut [u16]) -> usize
+// What is listed for a name: the name itself, or the word w that it spells.
+fn shown_as(as_words: bool, name: usize, w: usize) -> usize
+    ensures { λ r. ⌜ r ≡ cond «as_words» w name ⌝ }
+{
+    if as_words {
+        return w;
+    }
+    name
+}
+
+// Lists the words of a stage from the start of `list`, each by its name or as it is, those of the least names first, and answers how many they are.
+fn list_by(
+    as_words: bool,
+    order: WordOrder,
+    code: &[u16],
+    counts: Counts,
+    list: &mut [u16],
+) -> usize
     requires { ⌜ StageLoaded counts (now code) × (2 ^ stageLimits .inputs ≤ length (now list)) ⌝ }
-    ensures { λ r. ⌜ Listed (names order (stageIn counts (now (code .entry)))) (now (list .entry)) r (now (list .exit)) ⌝ }
+    ensures { λ r. ⌜ Listed (map (shown «as_words» order (counts .inputs)) (names order (stageIn counts (now (code .entry))))) (now (list .entry)) r
+        (now (list .exit)) ⌝ }
 {
     let inputs = counts.inputs;
     let mut marks = [0u8; NAMES];
@@ -106,13 +141,31 @@ pub fn list_names(order: WordOrder, code: &[u16], counts: Counts, list: &mut [u1
     let mut name: usize = 0;
     while name < all {
         let w = word_of(order, inputs, name);
+        let put = shown_as(as_words, name, w);
         if is_marked(code, counts, &marks, w) {
-            list[count] = name as u16;
+            list[count] = put as u16;
             count += 1;
         }
         name += 1;
     }
     count
+}
+
+// Lists the names of a stage's words from the start of `list`, the least first, and answers how many they are.
+pub fn list_names(order: WordOrder, code: &[u16], counts: Counts, list: &mut [u16]) -> usize
+    requires { ⌜ StageLoaded counts (now code) × (2 ^ stageLimits .inputs ≤ length (now list)) ⌝ }
+    ensures { λ r. ⌜ Listed (names order (stageIn counts (now (code .entry)))) (now (list .entry)) r (now (list .exit)) ⌝ }
+{
+    list_by(false, order, code, counts, list)
+}
+
+// Lists the words that these names spell.
+pub fn list_words(order: WordOrder, code: &[u16], counts: Counts, list: &mut [u16]) -> usize
+    requires { ⌜ StageLoaded counts (now code) × (2 ^ stageLimits .inputs ≤ length (now list)) ⌝ }
+    ensures { λ r. ⌜ Listed (map (spelled order (counts .inputs)) (names order (stageIn counts (now (code .entry))))) (now (list .entry)) r
+        (now (list .exit)) ⌝ }
+{
+    list_by(true, order, code, counts, list)
 }
 
 // ---- on the rails

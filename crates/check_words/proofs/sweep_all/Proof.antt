@@ -19,15 +19,15 @@ returns c =
     (c .before .before .find-idle .ensures)
 
 array-share-prefix-list : tie.Need-array-share-prefix-list
-array-share-prefix-list c = listed-in (c .before .list-names .ensures)
+array-share-prefix-list c = listed-in (c .before .list-words .ensures)
 
 slice-aggregate-sweep-named : tie.Need-slice-aggregate-sweep-named
-slice-aggregate-sweep-named c = listed-count (c .before .before .list-names .ensures)
+slice-aggregate-sweep-named c = listed-count (c .before .before .list-words .ensures)
 
 sweep-named-requires : tie.Need-sweep-named-requires
 sweep-named-requires c κs =
     let z = c .before .before .before .before .before .before .before .before in
-    (z .before .before .before .pre, listed-start (c .before .before .list-names .ensures), z .screen .ensures .0)
+    (z .before .before .before .pre, listed-start (c .before .before .list-words .ensures), z .screen .ensures .0)
 
 returns-2 : tie.Need-returns-2
 returns-2 c = swept-fault _ _ _ _ _ (sym (c .before .v .given .1) ∙ c .before .before .before .sweep-named .ensures)

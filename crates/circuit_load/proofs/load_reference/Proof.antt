@@ -5,7 +5,8 @@ use native.Mathlib.Omega.{arith}
 use lib.ListN.{length, length-set}
 use denote.Ref.{now}
 use Rattle.circuit_load.specs.Load.{referenceNumber}
-use Rattle.circuit_load.proofs.Numbers.{WrittenTo, write-more}
+use Rattle.circuit_load.specs.Load.{WrittenTo}
+use Rattle.circuit_load.proofs.Numbers.{write-more}
 use Rattle.circuit_load.proofs.References.{reference-same, reference-loaded}
 use Rattle.circuit_load.proofs.load_reference.Statement.{statement}
 use Rattle.circuit_load.proofs.load_reference.Tie as tie

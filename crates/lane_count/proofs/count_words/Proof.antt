@@ -1,20 +1,19 @@
 -- `lane_count::count_words` meets its contract. The loop's invariant: it is known how many gates are high in the words of the blocks before b.
 -- Assumes nothing.
-use Prim.Native.Nat.{ℕ, _+_, _-_, _*_, _≤_, _<_}
+use Prim.Native.Nat.{_-_, _≤_}
 use native.Mathlib.Omega.{arith}
-use mathlib.Core.Path.{_≡_, sym}
+use mathlib.Core.Path.{sym}
 use denote.Ref.{now}
 use borrow.Author.Needs.{needs}
-use Rattle.circuit.specs.Stage.{netCount}
 use Rattle.lane_count.proofs.Words.{BlocksTo, blocks-start, blocks-more}
 use Rattle.lane_count.proofs.count_words.Statement.{statement}
 use Rattle.lane_count.proofs.count_words.Tie as tie
 
 abbrev Inv-loop : tie.InvT-loop
-Inv-loop code counts high₀ row₀ ack₀ count b₀ high row ack b = BlocksTo counts code high₀ high row ack b × (b ≤ count)
+Inv-loop code counts high₀ row₀ count b₀ high row b = BlocksTo counts code high₀ high row b × (b ≤ count)
 
 abbrev μ-loop : tie.MeasureT-loop
-μ-loop code counts high₀ row₀ ack₀ count b₀ high row ack b = count - b
+μ-loop code counts high₀ row₀ count b₀ high row b = count - b
 
 block-count-requires : tie.Need-block-count-requires Inv-loop μ-loop
 block-count-requires c κs = c .before .before .pre .0 .within .inputs-in
@@ -22,50 +21,48 @@ block-count-requires c κs = c .before .before .pre .0 .within .inputs-in
 loop-holds : tie.Need-loop-holds Inv-loop μ-loop
 loop-holds c = (blocks-start _ _ _ (c .before .before .before .pre .0 .within), omega arith)
 
-slice-aggregate-settle : tie.Need-slice-aggregate-settle Inv-loop μ-loop
-slice-aggregate-settle c = sym (c .before .before .loop .inv .0 .row-long)
+slice-aggregate-settle-block : tie.Need-slice-aggregate-settle-block Inv-loop μ-loop
+slice-aggregate-settle-block c = sym (c .before .before .loop .inv .0 .row-long)
 
-slice-aggregate-settle-2 : tie.Need-slice-aggregate-settle-2 Inv-loop μ-loop
-slice-aggregate-settle-2 c = sym (c .before .before .before .loop .inv .0 .ack-long)
-
-settle-requires : tie.Need-settle-requires Inv-loop μ-loop
-settle-requires c κs =
-    let i = c .before .before .before .loop .inv .0 in
-    let z = c .before .before .before .before .before .before .before in
+settle-block-requires : tie.Need-settle-block-requires Inv-loop μ-loop
+settle-block-requires c κs =
+    let i = c .before .before .loop .inv .0 in
+    let z = c .before .before .before .before .before .before in
     let s = z .pre .0 .within in
-    (z .pre .0, z .pre .1, omega (arith, i .row-long, s .inputs-in, s .gates-in), omega (arith, i .ack-long, s .inputs-in, s .gates-in), i .ground)
+    (z .pre .0, z .pre .1, omega (arith, i .row-long, s .inputs-in, s .gates-in), i .ground)
 
 slice-aggregate-count-high : tie.Need-slice-aggregate-count-high Inv-loop μ-loop
 slice-aggregate-count-high c = search needs
 
 mul-count-high : tie.Need-mul-count-high Inv-loop μ-loop
-mul-count-high c = omega (arith, c .before .before .before .before .before .before .before .before .before .before .before .before .pre .0 .within .inputs-in)
+mul-count-high c = omega (arith, c .before .before .before .before .before .before .before .before .before .before .pre .0 .within .inputs-in)
 
 count-high-requires : tie.Need-count-high-requires Inv-loop μ-loop
 count-high-requires c κs =
-    let s = c .before .before .before .before .before .before .before .before .before .before .before .before .pre .0 .within in
-    let settled = c .before .before .before .before .settle .ensures .0 in
-    (omega (arith, settled .0, c .before .before .before .before .before .before .before .before .loop .inv .0 .row-long, s .inputs-in, s .gates-in), omega (arith, s .gates-in))
+    let s = c .before .before .before .before .before .before .before .before .before .before .pre .0 .within in
+    let i = c .before .before .before .before .before .before .loop .inv .0 in
+    (omega (arith, c .before .before .before .settle-block .ensures .0, i .row-long, s .inputs-in, s .gates-in), omega (arith, s .gates-in))
 
 slice-aggregate-write-counters : tie.Need-slice-aggregate-write-counters Inv-loop μ-loop
 slice-aggregate-write-counters c = sym (c .before .count-high .ensures .0)
 
 write-counters-requires : tie.Need-write-counters-requires Inv-loop μ-loop
 write-counters-requires c κs =
-    let l = c .before .before .before .before .before .before .before .before .before .before .before .loop in
-    let z = c .before .before .before .before .before .before .before .before .before .before .before .before .before .before .before in
-    let few = c .before .before .before .before .before .before .before .before .before .before .before .before .block-count .ensures .0 in
+    let l = c .before .before .before .before .before .before .before .before .before .loop in
+    let z = c .before .before .before .before .before .before .before .before .before .before .before .before .before in
+    let few = c .before .before .before .before .before .before .before .before .before .before .block-count .ensures .0 in
     (omega (arith, c .before .before .count-high .ensures .0), omega (arith, z .pre .2, l .inv .0 .same-long, few))
 
 loop-again : tie.Need-loop-again Inv-loop μ-loop
 loop-again c =
-    let l = c .before .before .before .before .before .before .before .before .before .before .before .before .before .before .loop in
-    let z = c .before .before .before .before .before .before .before .before .before .before .before .before .before .before .before .before .before .before in
+    let l = c .before .before .before .before .before .before .before .before .before .before .before .before .loop in
+    let z = c .before .before .before .before .before .before .before .before .before .before .before .before .before .before .before .before in
     let s = z .pre .0 .within in
-    let settled = c .before .before .before .before .before .before .before .before .before .before .settle .ensures in
+    let settled = c .before .before .before .before .before .before .before .before .before .settle-block .ensures in
+    let counted = c .before .before .before .before .before .count-high in
     let written = c .before .before .write-counters .ensures in (
-      blocks-more (z .args .counts) (now (z .args .code)) _ (l .high) (l .row) (l .ack) (l .b) (l .inv .0) _ _ _ (c .before .before .before .before .before .count-high .result)
-          (omega (arith, l .inv .0 .row-long, s .inputs-in, s .gates-in)) (settled .0) (settled .1 .0) (c .before .before .before .before .before .count-high .ensures .1)
+      blocks-more (z .args .counts) (now (z .args .code)) _ (l .high) (l .row) (l .b) (l .inv .0) _ _ (counted .result)
+          (omega (arith, l .inv .0 .row-long, s .inputs-in, s .gates-in)) (settled .0) (settled .1) (counted .ensures .1)
           (written .0, written .1 .0, written .1 .1),
       omega arith,
     )
@@ -86,9 +83,8 @@ count-words-spec =
     μ-loop
     block-count-requires
     loop-holds
-    slice-aggregate-settle
-    slice-aggregate-settle-2
-    settle-requires
+    slice-aggregate-settle-block
+    settle-block-requires
     slice-aggregate-count-high
     mul-count-high
     count-high-requires

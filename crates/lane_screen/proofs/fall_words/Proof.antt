@@ -28,12 +28,12 @@ returns c =
       first .ensures .0 ∙ marks .ensures .0 ∙ cleared .ensures .0,
       λ b rest.
           let start = outputs-marked true counts code b (cleared .last .1 .0) (marks .last .1 .1 .0) (cleared .ensures .1) (marks .ensures .1) in
-          acknowledged-but counts code (z .pre .1) b true (now (z .args .row)) (first .last .1 .1 .1 .1 .1 .0) 0 (rest .nets) (first .ensures .1 b rest start)
+          acknowledged-but counts code (z .pre .1) b true (now (z .args .row)) (first .last .1 .1 .1 .0) 0 (rest .nets) (first .ensures .1 b rest start)
           (λ j d e. c .before .unmarked .ensures j d (ap (lane j) (c .if1 .taken) ∙ e)),
     )
 
-mark-gates-requires-2 : tie.Need-mark-gates-requires-2
-mark-gates-requires-2 c κs =
+mark-by-net-requires : tie.Need-mark-by-net-requires
+mark-by-net-requires c κs =
     let g = c .before .before .before .before .before .before in
     let z = g .before .before .before .before .before .before .before .before .before .before .before .before .before in (
       z .pre .0,
@@ -57,11 +57,11 @@ returns-2 c =
     let cleared = g .before .before .before .before .before .before .before .before .clear in
     let marks = g .before .before .before .before .mark-outputs in
     let first = g .mark-gates in
-    let more = c .before .before .before .before .mark-gates2 in (
+    let more = c .before .before .before .before .mark-by-net in (
       more .ensures .0 ∙ first .ensures .0 ∙ marks .ensures .0 ∙ cleared .ensures .0,
       λ b rest.
           let start = outputs-marked true counts code b (cleared .last .1 .0) (marks .last .1 .1 .0) (cleared .ensures .1) (marks .ensures .1) in
-          acknowledged-but counts code (z .pre .1) b true (now (z .args .row)) (more .last .1 .1 .1 .1 .1 .0) (c .unmarked2 .result) (rest .nets)
+          acknowledged-but counts code (z .pre .1) b true (now (z .args .row)) (more .last .1 .1 .1 .1 .0) (c .unmarked2 .result) (rest .nets)
           (more .ensures .1 b rest (first .ensures .1 b rest start)) (c .unmarked2 .ensures),
     )
 
@@ -75,7 +75,7 @@ fall-words-spec =
     (λ c κs. search needs)
     (λ c. search needs)
     returns
-    mark-gates-requires-2
+    mark-by-net-requires
     (λ c κs. search needs)
     (λ c. search needs)
     returns-2)

@@ -2,16 +2,17 @@
 -- nothing.
 use Prim.Native.Nat.{_-_}
 use native.Mathlib.Omega.{arith}
+use mathlib.Core.Bool.{true}
 use denote.Ref.{now}
 use Rattle.lane_screen.proofs.ByNet.{GatesTo, gates-start, gates-turn}
 use Rattle.lane_screen.proofs.mark_gates.Statement.{statement}
 use Rattle.lane_screen.proofs.mark_gates.Tie as tie
 
 abbrev Inv-loop : tie.InvT-loop
-Inv-loop falls by-net code counts row ack₀ count k₀ ack k = GatesTo falls counts code row ack₀ ack
+Inv-loop code counts row ack₀ count k₀ ack k = GatesTo true counts code row ack₀ ack
 
 abbrev μ-loop : tie.MeasureT-loop
-μ-loop falls by-net code counts row ack₀ count k₀ ack k = count - k
+μ-loop code counts row ack₀ count k₀ ack k = count - k
 
 loop-holds : tie.Need-loop-holds Inv-loop μ-loop
 loop-holds c = gates-start _ _ _ _ _
@@ -27,7 +28,7 @@ loop-again c =
     let z = c .before .before .before .before .before .before .before .before .before .before in
     let l = c .before .before .before .before .before .before .loop in
     let m = c .before .before .mark-pins in
-    gates-turn (z .args .falls) (z .args .counts) (now (z .args .code)) (now (z .args .row)) (now (z .args .ack)) (l .ack) (l .inv) (l .k)
+    gates-turn true (z .args .counts) (now (z .args .code)) (now (z .args .row)) (now (z .args .ack)) (l .ack) (l .inv) (l .k)
     (c .before .before .before .before .acknowledged-lanes .result) (c .before .before .before .before .acknowledged-lanes .ensures)
     _ (m .ensures .0) (m .ensures .1)
 

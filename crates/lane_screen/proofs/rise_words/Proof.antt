@@ -36,8 +36,8 @@ returns c =
       ),
     )
 
-mark-gates-requires : tie.Need-mark-gates-requires
-mark-gates-requires c κs =
+mark-by-net-requires : tie.Need-mark-by-net-requires
+mark-by-net-requires c κs =
     let s = c .before .before .before .before .before .before .before .before .before .before in
     let z = s .before .before .before .before .before .before .before .before .before .before .before .before .before .before in
     let settle = s .settle .ensures .0 in (
@@ -63,13 +63,13 @@ returns-2 c =
     let cleared = s .before .before .before .before .before .before .before .before .before .clear in
     let marks = s .before .before .before .before .before .mark-outputs in
     let settle = s .settle in
-    let more = c .before .before .before .before .before .mark-gates in
+    let more = c .before .before .before .before .before .mark-by-net in
     let start = outputs-marked false counts code b (cleared .last .1 .0) (marks .last .1 .1 .0) (cleared .ensures .1) (marks .ensures .1) in
     let rest = settle .ensures .1 .0 in (
       (settle .ensures .0 .0, more .ensures .0 ∙ settle .ensures .0 .1 ∙ marks .ensures .0 ∙ cleared .ensures .0),
       (
         rest,
-        acknowledged-but counts code (z .pre .1) b false (settle .last .1 .1 .1 .0) (more .last .1 .1 .1 .1 .1 .0) (c .unmarked2 .result) (rest .nets)
+        acknowledged-but counts code (z .pre .1) b false (settle .last .1 .1 .1 .0) (more .last .1 .1 .1 .1 .0) (c .unmarked2 .result) (rest .nets)
             (more .ensures .1 b rest (settle .ensures .1 .1 start)) (c .unmarked2 .ensures),
       ),
     )
@@ -85,7 +85,7 @@ rise-words-spec =
     (λ c. search needs)
     (λ c. search needs)
     returns
-    mark-gates-requires
+    mark-by-net-requires
     (λ c κs. search needs)
     (λ c. search needs)
     (λ c. search needs)

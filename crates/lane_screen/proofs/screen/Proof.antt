@@ -7,7 +7,7 @@ use denote.Ref.{now}
 use Rattle.circuit.specs.Stage.{stageIn}
 use Rattle.circuit.specs.Reference.{referenceIn}
 use Rattle.lane_rise.specs.Rising.{NotedTo}
-use Rattle.lane_rise.proofs.Noting.{noted-start, noted-more, noted-all}
+use Rattle.lane_rise.proofs.Noting.{noted-start, noted-more, noted-skip, noted-all}
 use Rattle.lane_screen.specs.Marks.{Workspace}
 use Rattle.lane_screen.specs.Suspects.{AllClean}
 use Rattle.circuit.proofs.Settling.{length-stageGates, low-row}
@@ -41,23 +41,34 @@ loop-holds c =
       noted-start (z .args .counts) (now (z .args .code)) (c .before .before .word-masks .result),
     )
 
+array-read-cared : tie.Need-array-read-cared Inv-loop μ-loop
+array-read-cared c = omega (arith, c .before .before .block-count .ensures .0)
+
+-- a block that is not settled stays named
+loop-again : tie.Need-loop-again Inv-loop μ-loop
+loop-again c =
+    let z = c .before .before .before .before .before .before .before .before in
+    let masks = c .before .before .before .before .before .word-masks in
+    let l = c .before .before .loop in
+    (l .inv .0, l .inv .1, noted-skip (z .args .counts) (now (z .args .code)) (masks .result) (masks .ensures) (l .rose) (l .b) (l .inv .2) (c .if1 .taken))
+
 slice-aggregate-rise-block : tie.Need-slice-aggregate-rise-block Inv-loop μ-loop
-slice-aggregate-rise-block c = sym (c .before .before .loop .inv .0 .row-long)
+slice-aggregate-rise-block c = sym (c .before .before .before .loop .inv .0 .row-long)
 
 slice-aggregate-rise-block-2 : tie.Need-slice-aggregate-rise-block-2 Inv-loop μ-loop
-slice-aggregate-rise-block-2 c = sym (c .before .before .before .loop .inv .0 .ack-long)
+slice-aggregate-rise-block-2 c = sym (c .before .before .before .before .loop .inv .0 .ack-long)
 
 slice-aggregate-rise-block-3 : tie.Need-slice-aggregate-rise-block-3 Inv-loop μ-loop
-slice-aggregate-rise-block-3 c = sym (c .before .before .before .before .loop .inv .0 .values-long)
+slice-aggregate-rise-block-3 c = sym (c .before .before .before .before .before .loop .inv .0 .values-long)
 
 rise-block-requires : tie.Need-rise-block-requires Inv-loop μ-loop
-rise-block-requires c κs = (c .before .before .before .before .before .before .before .before .before .before .pre, c .before .before .before .before .loop .inv .0)
+rise-block-requires c κs = (c .before .before .before .before .before .before .before .before .before .before .before .pre, c .before .before .before .before .before .loop .inv .0)
 
 array-write-wrong : tie.Need-array-write-wrong Inv-loop μ-loop
-array-write-wrong c = omega (arith, c .before .before .before .before .before .before .before .before .before .block-count .ensures .0)
+array-write-wrong c = omega (arith, c .before .before .before .before .before .before .before .before .before .before .block-count .ensures .0)
 
 array-write-rise : tie.Need-array-write-rise Inv-loop μ-loop
-array-write-rise c = omega (arith, c .before .before .before .before .before .before .before .before .before .block-count .ensures .0)
+array-write-rise c = omega (arith, c .before .before .before .before .before .before .before .before .before .before .block-count .ensures .0)
 
 slice-aggregate-fall-block : tie.Need-slice-aggregate-fall-block Inv-loop μ-loop
 slice-aggregate-fall-block c = sym (c .before .before .before .before .rise-block .ensures .0 .row-long)
@@ -67,7 +78,7 @@ slice-aggregate-fall-block-2 c = sym (c .before .before .before .before .before 
 
 fall-block-requires : tie.Need-fall-block-requires Inv-loop μ-loop
 fall-block-requires c κs =
-    let z = c .before .before .before .before .before .before .before .before .before .before .before .before .before .before .before .before in
+    let z = c .before .before .before .before .before .before .before .before .before .before .before .before .before .before .before .before .before in
     let s = z .pre .stage in
     let space = c .before .before .before .before .before .rise-block .ensures .0 in (
       s,
@@ -77,34 +88,32 @@ fall-block-requires c κs =
     )
 
 array-write-fall : tie.Need-array-write-fall Inv-loop μ-loop
-array-write-fall c = omega (arith, c .before .before .before .before .before .before .before .before .before .before .before .before .before .block-count .ensures .0)
+array-write-fall c = omega (arith, c .before .before .before .before .before .before .before .before .before .before .before .before .before .before .block-count .ensures .0)
 
 slice-aggregate-note : tie.Need-slice-aggregate-note Inv-loop μ-loop
 slice-aggregate-note c = sym (c .before .before .before .before .before .before .before .before .rise-block .ensures .0 .row-long)
 
 mul-note : tie.Need-mul-note Inv-loop μ-loop
-mul-note c = omega (arith, c .before .before .before .before .before .before .before .before .before .before .before .before .before .before .before .before .before .before .before .before .pre .stage .within .inputs-in)
-
-mul-note-2 : tie.Need-mul-note-2 Inv-loop μ-loop
-mul-note-2 c = omega (arith, c .before .before .before .before .before .before .before .before .before .before .before .before .before .before .before .block-count .ensures .0)
-
-array-read-note : tie.Need-array-read-note Inv-loop μ-loop
-array-read-note c = omega (arith, c .before .before .before .before .before .before .before .before .before .before .before .before .before .before .before .block-count .ensures .0)
+mul-note c =
+    let loop = c .before .before .before .before .before .before .before .before .before .before .before .before .before .before .before in
+    omega (arith, loop .before .before .before .before .before .before .pre .stage .within .inputs-in)
 
 slice-aggregate-note-2 : tie.Need-slice-aggregate-note-2 Inv-loop μ-loop
-slice-aggregate-note-2 c = sym (c .before .before .before .before .before .before .before .before .before .before .before .before .before .before .before .loop .inv .2 .long)
+slice-aggregate-note-2 c = sym (c .before .before .before .before .before .before .before .before .before .before .before .before .before .before .before .before .loop .inv .2 .long)
 
 note-requires : tie.Need-note-requires Inv-loop μ-loop
 note-requires c κs =
-    let s = c .before .before .before .before .before .before .before .before .before .before .before .before .before .before .before .before .before .before .before .before .before .pre .stage .within in
+    let loop = c .before .before .before .before .before .before .before .before .before .before .before .before .before .before .before .before in
+    let s = loop .before .before .before .before .before .before .pre .stage .within in
     let space = c .before .before .before .before .before .before .before .before .before .before .rise-block .ensures .0 in
-    (omega (arith, space .row-long, s .inputs-in, s .gates-in), omega (arith, c .before .before .before .before .before .before .before .before .before .before .before .before .before .before .before .loop .inv .2 .long, s .gates-in))
+    (omega (arith, space .row-long, s .inputs-in, s .gates-in), omega (arith, loop .loop .inv .2 .long, s .gates-in))
 
-loop-again : tie.Need-loop-again Inv-loop μ-loop
-loop-again c =
-    let z = c .before .before .before .before .before .before .before .before .before .before .before .before .before .before .before .before .before .before .before .before .before .before .before in
-    let masks = c .before .before .before .before .before .before .before .before .before .before .before .before .before .before .before .before .before .before .before .before .word-masks in
-    let l = c .before .before .before .before .before .before .before .before .before .before .before .before .before .before .before .before .before .loop in
+loop-again-2 : tie.Need-loop-again-2 Inv-loop μ-loop
+loop-again-2 c =
+    let loop = c .before .before .before .before .before .before .before .before .before .before .before .before .before .before .before .before .before .before in
+    let z = loop .before .before .before .before .before .before in
+    let masks = loop .before .before .before .word-masks in
+    let l = loop .loop in
     let up = c .before .before .before .before .before .before .before .before .before .before .before .before .rise-block in
     let down = c .before .before .before .before .before .before .fall-block in
     let code = now (z .args .code) in
@@ -147,6 +156,11 @@ screen-spec =
     all-hold-requires
     block-count-requires
     loop-holds
+    (λ c. omega arith)
+    array-read-cared
+    (λ c. omega arith)
+    (λ c. omega arith)
+    loop-again
     slice-aggregate-rise-block
     slice-aggregate-rise-block-2
     slice-aggregate-rise-block-3
@@ -162,13 +176,11 @@ screen-spec =
     array-write-fall
     slice-aggregate-note
     mul-note
-    mul-note-2
-    array-read-note
     slice-aggregate-note-2
     note-requires
     (λ c. omega arith)
     (λ c. omega arith)
-    loop-again
+    loop-again-2
     slice-aggregate-never-risen
     never-risen-requires
     returns)

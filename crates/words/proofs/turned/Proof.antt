@@ -1,43 +1,65 @@
--- `words::turned` meets its contract. The loop's invariant: the bits that were taken spell the word, and those that are left follow.
--- Assumes nothing.
-use Prim.Native.Nat.{_-_}
+-- `words::turned` meets its contract: ten bits are turned, of which those of the inputs are the highest. Assumes nothing.
+use Prim.Native.Nat.{ℕ, _+_, _-_, _*_, _/_, _%_, _^_, _<_}
 use native.Mathlib.Omega.{arith}
+use mathlib.Core.Path.{_≡_, sym, ap, _∙_}
 use borrow.Author.Needs.{needs}
-use Rattle.netlist.specs.Reading.{stageLimits}
-use Rattle.words.proofs.Turning.{TurnedTo, turned-start, turned-few, turned-more, turned-done}
+use Rattle.verdict.specs.declared.WordOrder.the-variants.{FirstHighest}
+use Rattle.verdict.specs.Words.{spelled}
+use Rattle.words.proofs.Turning.{turned-highest, turned-ten, turned-below}
 use Rattle.words.proofs.turned.Statement.{statement}
 use Rattle.words.proofs.turned.Tie as tie
 use Rattle.words.proofs.turned.Reads as reads
 use Rattle.words.proofs.turned.Lts as lts
+use Rattle.words.proofs.turned_five.Reads as turned-five-reads
 
-abbrev Inv-loop : tie.InvT-loop
-Inv-loop inputs name left₀ word₀ i₀ left word i = TurnedTo inputs name i left word
+turned-five-requires : tie.Need-turned-five-requires
+turned-five-requires c κs = search needs
 
-abbrev μ-loop : tie.MeasureT-loop
-μ-loop inputs name left₀ word₀ i₀ left word i = stageLimits .inputs - i
+turned-five-requires-2 : tie.Need-turned-five-requires-2
+turned-five-requires-2 c κs = search needs
 
-loop-holds : tie.Need-loop-holds Inv-loop μ-loop
-loop-holds c = turned-start _ _
+mul-result : tie.Need-mul-result
+mul-result c = record { fits = omega (arith, c .before .turned-five .ensures, turned-below 5 (c .before .before .args .name % 32)) }
 
-mul-word : tie.Need-mul-word Inv-loop μ-loop
-mul-word c = omega (arith, turned-few _ _ _ _ _ (c .before .loop .inv) (c .before .before .pre))
+add-result : tie.Need-add-result
+add-result c = record {
+  fits =
+      omega (
+        arith,
+        c .before .turned-five .ensures,
+        turned-below 5 (c .before .before .args .name % 32),
+        c .turned-five2 .ensures,
+        turned-below 5 (c .before .before .args .name / 32 % 32),
+      );
+}
 
-add-word : tie.Need-add-word Inv-loop μ-loop
-add-word c = omega (arith, turned-few _ _ _ _ _ (c .before .loop .inv) (c .before .before .pre))
+sub-result : tie.Need-sub-result
+sub-result c = search needs
 
-add-i : tie.Need-add-i Inv-loop μ-loop
-add-i c = search needs
+shr-result : tie.Need-shr-result
+shr-result c = search needs
 
-loop-less : tie.Need-loop-less Inv-loop μ-loop
-loop-less c = search needs
-
-loop-again : tie.Need-loop-again Inv-loop μ-loop
-loop-again c = turned-more _ _ _ _ _ (c .before .loop .inv) (omega arith)
-
-returns : tie.Need-returns Inv-loop μ-loop
-returns c = turned-done _ _ _ _ _ (c .before .loop .inv) (omega arith)
+returns : tie.Need-returns
+returns c =
+    let n = c .before .before .args .inputs in
+    let name = c .before .before .args .name in
+    let first = c .before .turned-five .result in
+    let last = c .turned-five2 .result in
+    let ten : n + (10 - n) ≡ 10 = omega arith in
+    let all : last + 32 * first ≡ spelled FirstHighest (n + (10 - n)) name =
+    ap (λ (x : ℕ). last + 32 * x) (c .before .turned-five .ensures)
+    ∙ ap (λ (x : ℕ). x + 32 * spelled FirstHighest 5 (name % 32)) (c .turned-five2 .ensures)
+    ∙ sym (ap (λ (k : ℕ). spelled FirstHighest k name) ten ∙ turned-ten name) in
+    ap (λ (x : ℕ). x / 2 ^ (10 - n)) all ∙ turned-highest n (10 - n) name
 
 pub turned-spec : {M : Type 1} → statement M
 turned-spec =
     tie.close
-    (tie.spec Inv-loop μ-loop loop-holds mul-word add-word add-i loop-less loop-again returns)
+    (tie.spec
+    turned-five-requires
+    turned-five-requires-2
+    mul-result
+    add-result
+    sub-result
+    shr-result
+    returns)
