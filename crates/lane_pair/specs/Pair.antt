@@ -1,0 +1,77 @@
+-- Two blocks of 64 words side by side: in a space each net has two numbers that stand side by side, its levels in the words of the one block and of the
+-- other. Behind room for the most nets stand their marks in the same way.
+use Prim.Native.Nat.{ℕ, zero, suc, _+_, _*_, _≤_, _<_}
+use mathlib.Core.Path.{_≡_}
+use mathlib.Core.List.{List}
+use lib.ListN.{length, getD, set}
+use lib.Bits.{bitOr}
+use Rattle.netlist.specs.declared.Counts.{Counts}
+use Rattle.circuit.specs.declared.form.Pins.{Pins}
+use Rattle.circuit.specs.Stage.{netCount, tabulate}
+use Rattle.circuit.specs.Rows.{rowSize}
+use Rattle.lane_settle.specs.declared.PinLanes.{PinLanes}
+use Rattle.lane_settle.specs.Block.{gateLanes, PinsMarked}
+
+-- every second number, so many, from a place on
+unfoldable pub everySecond : ℕ → ℕ → List ℕ → List ℕ
+everySecond from n space = tabulate (λ p. getD space (from + 2 * p) 0) n
+
+-- where the marks begin
+abbrev pub firstMark : ℕ
+firstMark = 2 * rowSize
+
+-- the row, and the marks, of block l of the two, with the ground
+abbrev pub rowSide : Counts → ℕ → List ℕ → List ℕ
+rowSide c l space = everySecond l (netCount c + 1) space
+
+abbrev pub markSide : Counts → ℕ → List ℕ → List ℕ
+markSide c l space = everySecond (firstMark + l) (netCount c + 1) space
+
+-- a space with room for both, of a stage that is not too large
+pub record Spacious (c : Counts) (space : List ℕ) : Type 0 where
+  pub small : netCount c < rowSize
+  pub room : 4 * rowSize ≤ length space
+
+-- of two numbers that of block l
+abbrev pub pick : ℕ → ℕ → ℕ → ℕ
+pick zero x y = x
+pick (suc l) x y = y
+
+-- ---- what is put
+
+-- two numbers are put side by side
+pub record PutPair (at x y : ℕ) (before after : List ℕ) : Type 0 where
+  pub long : length after ≡ length before
+  pub first : getD after at 0 ≡ x
+  pub second : getD after (at + 1) 0 ≡ y
+  pub others : (i : ℕ) → (i ≡ at → ⊥) → (i ≡ at + 1 → ⊥) → getD after i 0 ≡ getD before i 0
+
+-- a net is marked in some words of the one block and of the other; all levels stay
+pub record NetMarked (c : Counts) (net x y : ℕ) (before after : List ℕ) : Type 0 where
+  pub long : length after ≡ length before
+  pub levels : (l : ℕ) → l < 2 → rowSide c l after ≡ rowSide c l before
+  pub marks : (l : ℕ) → l < 2 → markSide c l after ≡ set (markSide c l before) net (bitOr (getD (markSide c l before) net 0) (pick l x y))
+
+-- ---- one gate
+
+-- nets, or the ground
+pub record Near (c : Counts) (pins : Pins) : Type 0 where
+  pub a-in : pins .a ≤ netCount c
+  pub b-in : pins .b ≤ netCount c
+  pub c-in : pins .c ≤ netCount c
+  pub d-in : pins .d ≤ netCount c
+
+-- the levels at some pins in a row
+abbrev pub levelsBy : Pins → List ℕ → PinLanes
+levelsBy pins row = record { a = getD row (pins .a) 0; b = getD row (pins .b) 0; c = getD row (pins .c) 0; d = getD row (pins .d) 0 }
+
+-- Gate k takes its levels in block l: its own marks are cleared, the nets at its pins are marked where it would not be set without them, and its level
+-- is put.
+pub record GateTurn (c : Counts) (code : List ℕ) (k l : ℕ) (before after : List ℕ) : Type 0 where
+  pub level : rowSide c l after ≡ set (rowSide c l before) (2 * c .inputs + k) (gateLanes code k (rowSide c l before) .set)
+  pub marks : PinsMarked code k (gateLanes code k (rowSide c l before)) (set (markSide c l before) (2 * c .inputs + k) 0) (markSide c l after)
+
+-- in both blocks
+pub record GateTurns (c : Counts) (code : List ℕ) (k : ℕ) (before after : List ℕ) : Type 0 where
+  pub long : length after ≡ length before
+  pub side : (l : ℕ) → l < 2 → GateTurn c code k l before after

@@ -1,0 +1,130 @@
+// Two blocks of 64 words settle side by side: each net has two numbers that stand side by side, its levels in the words of the one block and of the
+// other, so that the compiler takes both at once. Behind room for the most nets stand their marks in the same way.
+use circuit::form::Pins;
+use lane_settle::PinLanes;
+use netlist::Counts;
+ghost use mathlib.Core.Path.{_≡_};
+ghost use mathlib.Core.List.{List};
+ghost use Prim.Native.Nat.{ℕ, _+_, _*_, _<_, _≤_};
+ghost use lib.ListN.{length, getD};
+ghost use lib.Bits.{bitOr};
+ghost use Rattle.circuit.specs.Stage.{netCount, cellIn, StageLoaded};
+ghost use Rattle.circuit.specs.Form.{pinsIn};
+ghost use Rattle.lane_pair.specs.Pair.{Spacious, Near, rowSide, levelsBy, PutPair, NetMarked, GateTurns};
+
+// Where the marks begin, and the room of levels and marks.
+pub const MARKS: usize = 2 * circuit::ROW;
+
+pub const SPACE: usize = 4 * circuit::ROW;
+
+// ---- two numbers side by side
+
+// Two numbers are put.
+pub fn put_pair(space: &mut [u64], at: usize, x: u64, y: u64)
+    requires { ⌜ at + 1 < length (now space) ⌝ }
+    ensures { λ _. ⌜ PutPair at x y (now (space .entry)) (now (space .exit)) ⌝ }
+{
+    space[at] = x;
+    space[at + 1] = y;
+}
+
+// Two marks are added to those that are there.
+pub fn mark_pair(space: &mut [u64], at: usize, x: u64, y: u64)
+    requires { ⌜ at + 1 < length (now space) ⌝ }
+    ensures { λ _. ⌜ PutPair at (bitOr (getD (now (space .entry)) at 0) x) (bitOr (getD (now (space .entry)) (at + 1) 0) y) (now (space .entry))
+        (now (space .exit)) ⌝ }
+{
+    let first = space[at];
+    let second = space[at + 1];
+    put_pair(space, at, first | x, second | y);
+}
+
+// ---- one gate
+
+// The level of a net in block l of the two.
+fn level_of(space: &[u64], net: u16, l: usize) -> u64
+    requires { ⌜ (l < 2) × (2 * net + 2 ≤ length (now space)) ⌝ }
+    ensures { λ r. ⌜ r ≡ getD (now (space .entry)) (l + 2 * net) 0 ⌝ }
+{
+    let p = 2 * net as usize;
+    space[p + l]
+}
+
+// The levels at some pins in block l.
+fn levels_at(pins: Pins, counts: Counts, space: &[u64], l: usize) -> PinLanes
+    requires { ⌜ (l < 2) × Near counts pins × Spacious counts (now space) ⌝ }
+    ensures { λ r. ⌜ r ≡ levelsBy pins (rowSide counts l (now (space .entry))) ⌝ }
+{
+    PinLanes {
+        a: level_of(space, pins.a, l),
+        b: level_of(space, pins.b, l),
+        c: level_of(space, pins.c, l),
+        d: level_of(space, pins.d, l),
+    }
+}
+
+// Two marks of a net are added to those that are there.
+fn mark_net(space: &mut [u64], counts: Counts, net: u16, x: u64, y: u64)
+    requires { ⌜ (net ≤ netCount counts) × Spacious counts (now space) ⌝ }
+    ensures { λ _. ⌜ NetMarked counts net x y (now (space .entry)) (now (space .exit)) ⌝ }
+{
+    mark_pair(space, MARKS + 2 * net as usize, x, y);
+}
+
+// A gate of a cell takes its levels in both blocks: its own marks are cleared, it marks the nets at its pins in the words in which it would not be
+// set without them, and its level is put.
+fn settle_as(cell: u16, pins: Pins, counts: Counts, k: usize, space: &mut [u64])
+    requires { ⌜ (1 ≤ cell) × (cell ≤ 27) × Near counts pins × (k < counts .gates) × Spacious counts (now space) ⌝ }
+    ensures { λ _. ⌜ ((code : List ℕ) → cell ≡ cellIn code k → pins ≡ pinsIn code k
+        → GateTurns counts code k (now (space .entry)) (now (space .exit))) ⌝ }
+{
+    let p = levels_at(pins, counts, space, 0);
+    let q = levels_at(pins, counts, space, 1);
+    let x = lane_cells::cell_lanes(cell, p.a, p.b, p.c, p.d);
+    let y = lane_cells::cell_lanes(cell, q.a, q.b, q.c, q.d);
+    let at = 2 * (2 * counts.inputs + k);
+    put_pair(space, MARKS + at, 0, 0);
+    mark_net(space, counts, pins.a, x.a, y.a);
+    mark_net(space, counts, pins.b, x.b, y.b);
+    mark_net(space, counts, pins.c, x.c, y.c);
+    mark_net(space, counts, pins.d, x.d, y.d);
+    put_pair(space, at, x.set, y.set);
+}
+
+// Gate k takes its levels in both blocks. Each cell has code of its own.
+fn settle_gate(code: &[u16], counts: Counts, k: usize, space: &mut [u64])
+    requires { ⌜ StageLoaded counts (now code) × (k < counts .gates) × Spacious counts (now space) ⌝ }
+    ensures { λ _. ⌜ GateTurns counts (now (code .entry)) k (now (space .entry)) (now (space .exit)) ⌝ }
+{
+    let pins = circuit::form::pins_of(code, counts, k);
+    let cell = circuit::form::cell_of(code, counts, k);
+    match cell {
+        1 => settle_as(1, pins, counts, k, space),
+        2 => settle_as(2, pins, counts, k, space),
+        3 => settle_as(3, pins, counts, k, space),
+        4 => settle_as(4, pins, counts, k, space),
+        5 => settle_as(5, pins, counts, k, space),
+        6 => settle_as(6, pins, counts, k, space),
+        7 => settle_as(7, pins, counts, k, space),
+        8 => settle_as(8, pins, counts, k, space),
+        9 => settle_as(9, pins, counts, k, space),
+        10 => settle_as(10, pins, counts, k, space),
+        11 => settle_as(11, pins, counts, k, space),
+        12 => settle_as(12, pins, counts, k, space),
+        13 => settle_as(13, pins, counts, k, space),
+        14 => settle_as(14, pins, counts, k, space),
+        15 => settle_as(15, pins, counts, k, space),
+        16 => settle_as(16, pins, counts, k, space),
+        17 => settle_as(17, pins, counts, k, space),
+        18 => settle_as(18, pins, counts, k, space),
+        19 => settle_as(19, pins, counts, k, space),
+        20 => settle_as(20, pins, counts, k, space),
+        21 => settle_as(21, pins, counts, k, space),
+        22 => settle_as(22, pins, counts, k, space),
+        23 => settle_as(23, pins, counts, k, space),
+        24 => settle_as(24, pins, counts, k, space),
+        25 => settle_as(25, pins, counts, k, space),
+        26 => settle_as(26, pins, counts, k, space),
+        _ => settle_as(27, pins, counts, k, space),
+    }
+}
