@@ -8,9 +8,10 @@ use lib.Bits.{bitOr}
 use Rattle.netlist.specs.declared.Counts.{Counts}
 use Rattle.circuit.specs.declared.form.Pins.{Pins}
 use Rattle.circuit.specs.Stage.{netCount, tabulate}
+use Rattle.circuit.specs.Order.{InOrder}
 use Rattle.circuit.specs.Rows.{rowSize}
 use Rattle.lane_settle.specs.declared.PinLanes.{PinLanes}
-use Rattle.lane_settle.specs.Block.{gateLanes, PinsMarked}
+use Rattle.lane_settle.specs.Block.{restIn, Spelled, Resting, Marked, gateLanes, PinsMarked}
 
 -- every second number, so many, from a place on
 unfoldable pub everySecond : ℕ → ℕ → List ℕ → List ℕ
@@ -52,6 +53,18 @@ pub record NetMarked (c : Counts) (net x y : ℕ) (before after : List ℕ) : Ty
   pub levels : (l : ℕ) → l < 2 → rowSide c l after ≡ rowSide c l before
   pub marks : (l : ℕ) → l < 2 → markSide c l after ≡ set (markSide c l before) net (bitOr (getD (markSide c l before) net 0) (pick l x y))
 
+-- a net's levels are put, and all marks stay
+pub record LevelPut (c : Counts) (net x y : ℕ) (before after : List ℕ) : Type 0 where
+  pub long : length after ≡ length before
+  pub levels : (l : ℕ) → l < 2 → rowSide c l after ≡ set (rowSide c l before) net (pick l x y)
+  pub marks : (l : ℕ) → l < 2 → markSide c l after ≡ markSide c l before
+
+-- a net's marks are cleared, and all levels stay
+pub record MarkCleared (c : Counts) (net : ℕ) (before after : List ℕ) : Type 0 where
+  pub long : length after ≡ length before
+  pub levels : (l : ℕ) → l < 2 → rowSide c l after ≡ rowSide c l before
+  pub marks : (l : ℕ) → l < 2 → markSide c l after ≡ set (markSide c l before) net 0
+
 -- ---- one gate
 
 -- nets, or the ground
@@ -75,3 +88,17 @@ pub record GateTurn (c : Counts) (code : List ℕ) (k l : ℕ) (before after : L
 pub record GateTurns (c : Counts) (code : List ℕ) (k : ℕ) (before after : List ℕ) : Type 0 where
   pub long : length after ≡ length before
   pub side : (l : ℕ) → l < 2 → GateTurn c code k l before after
+
+-- ---- all gates
+
+-- the rails of blocks b and b + 1 are spelled, and no rail is marked
+pub record SpelledBoth (c : Counts) (b : ℕ) (before after : List ℕ) : Type 0 where
+  pub long : length after ≡ length before
+  pub spelled : (l : ℕ) → l < 2 → (code : List ℕ) → InOrder c code → Spelled c (restIn c code (b + l)) (rowSide c l after)
+  pub unmarked : (l p : ℕ) → l < 2 → p < 2 * c .inputs → getD (markSide c l after) p 0 ≡ 0
+
+-- both blocks are at rest, and a net that is marked is acknowledged
+pub record SettledBoth (c : Counts) (code : List ℕ) (b : ℕ) (before after : List ℕ) : Type 0 where
+  pub long : length after ≡ length before
+  pub rest : (l : ℕ) → l < 2 → Resting c code (b + l) (rowSide c l after)
+  pub marked : (l : ℕ) → l < 2 → Marked c code (b + l) (markSide c l after)

@@ -9,8 +9,10 @@ ghost use Prim.Native.Nat.{ℕ, _+_, _*_, _<_, _≤_};
 ghost use lib.ListN.{length, getD};
 ghost use lib.Bits.{bitOr};
 ghost use Rattle.circuit.specs.Stage.{netCount, cellIn, StageLoaded};
+ghost use Rattle.netlist.specs.Reading.{stageLimits};
+ghost use Rattle.circuit.specs.Order.{InOrder};
 ghost use Rattle.circuit.specs.Form.{pinsIn};
-ghost use Rattle.lane_pair.specs.Pair.{Spacious, Near, rowSide, levelsBy, PutPair, NetMarked, GateTurns};
+ghost use Rattle.lane_pair.specs.Pair.{Spacious, Near, rowSide, levelsBy, PutPair, NetMarked, LevelPut, MarkCleared, GateTurns, SpelledBoth, SettledBoth};
 
 // Where the marks begin, and the room of levels and marks.
 pub const MARKS: usize = 2 * circuit::ROW;
@@ -37,6 +39,22 @@ pub fn mark_pair(space: &mut [u64], at: usize, x: u64, y: u64)
     let first = space[at];
     let second = space[at + 1];
     put_pair(space, at, first | x, second | y);
+}
+
+// The levels of a net are put.
+fn put_level(space: &mut [u64], counts: Counts, net: usize, x: u64, y: u64)
+    requires { ⌜ (net ≤ netCount counts) × Spacious counts (now space) ⌝ }
+    ensures { λ _. ⌜ LevelPut counts net x y (now (space .entry)) (now (space .exit)) ⌝ }
+{
+    put_pair(space, 2 * net, x, y);
+}
+
+// Its marks are cleared.
+fn clear_mark(space: &mut [u64], counts: Counts, net: usize)
+    requires { ⌜ (net ≤ netCount counts) × Spacious counts (now space) ⌝ }
+    ensures { λ _. ⌜ MarkCleared counts net (now (space .entry)) (now (space .exit)) ⌝ }
+{
+    put_pair(space, MARKS + 2 * net, 0, 0);
 }
 
 // ---- one gate
@@ -126,5 +144,41 @@ fn settle_gate(code: &[u16], counts: Counts, k: usize, space: &mut [u64])
         25 => settle_as(25, pins, counts, k, space),
         26 => settle_as(26, pins, counts, k, space),
         _ => settle_as(27, pins, counts, k, space),
+    }
+}
+
+// ---- all gates
+
+// The rails of blocks b and b + 1 are spelled, and the ground is low; no rail is marked.
+fn spell_pair(counts: Counts, b: usize, space: &mut [u64])
+    requires { ⌜ (counts .inputs ≤ stageLimits .inputs) × (b < 16) × Spacious counts (now space) ⌝ }
+    ensures { λ _. ⌜ SpelledBoth counts b (now (space .entry)) (now (space .exit)) ⌝ }
+{
+    put_level(space, counts, 2 * counts.inputs + counts.gates, 0, 0);
+    let mut i: usize = 0;
+    while i < counts.inputs {
+        let x = lane_cells::input_lanes(i, b);
+        let y = lane_cells::input_lanes(i, b + 1);
+        put_level(space, counts, 2 * i, x ^ lane_cells::ALL, y ^ lane_cells::ALL);
+        put_level(space, counts, 2 * i + 1, x, y);
+        clear_mark(space, counts, 2 * i);
+        clear_mark(space, counts, 2 * i + 1);
+        i += 1;
+    }
+}
+
+// Blocks b and b + 1 settle: their rails are spelled, and the gates take their levels in the order, and mark the nets at their pins in the words in
+// which they would not be set without them.
+pub fn settle_pair(code: &[u16], counts: Counts, b: usize, space: &mut [u64])
+    requires { ⌜ StageLoaded counts (now code) × InOrder counts (now code) × (b < 16) × Spacious counts (now space) ⌝ }
+    ensures { λ _. ⌜ SettledBoth counts (now (code .entry)) b (now (space .entry)) (now (space .exit)) ⌝ }
+{
+    spell_pair(counts, b, space);
+    let count = counts.gates;
+    let mut i: usize = 0;
+    while i < count {
+        let k = circuit::form::gate_at(code, counts, i);
+        settle_gate(code, counts, k, space);
+        i += 1;
     }
 }
