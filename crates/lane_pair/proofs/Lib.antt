@@ -1,3 +1,4 @@
 pub mod Sides
 pub mod Turning
 pub mod Spelling
+pub mod Settling
