@@ -332,7 +332,7 @@ pub fn lanes_at(row: &[u64], net: u16) -> u64
 }
 
 // An operation on two signals: 1 NOT, 2 AND, 3 OR, 4 XOR, 5 NAND, 6 NOR. NOT has only the first.
-fn operate(operation: u16, a: u64, b: u64) -> u64
+pub fn operate(operation: u16, a: u64, b: u64) -> u64
     ensures { λ r. ⌜ ((j : ℕ) → j < 64 → levelIn j r ≡ answers.operate operation (levelIn j a ∷ levelIn j b ∷ [])) ⌝ }
 {
     match operation {

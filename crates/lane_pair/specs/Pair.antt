@@ -3,13 +3,17 @@
 use Prim.Native.Nat.{ℕ, zero, suc, _+_, _*_, _≤_, _<_}
 use mathlib.Core.Path.{_≡_}
 use mathlib.Core.List.{List}
-use lib.ListN.{length, getD, set}
+use lib.ListN.{length, getD, set, take}
 use lib.Bits.{bitOr}
 use Rattle.netlist.specs.declared.Counts.{Counts}
 use Rattle.circuit.specs.declared.form.Pins.{Pins}
+use Rattle.verdict.specs.Words.{bitsOf}
+use Rattle.verdict.specs.Answers.{operate, valuesAt, signalValues}
 use Rattle.circuit.specs.Stage.{netCount, tabulate}
+use Rattle.circuit.specs.Reference.{operatorIn, operatorsIn}
 use Rattle.circuit.specs.Order.{InOrder}
 use Rattle.circuit.specs.Rows.{rowSize}
+use Rattle.lane_cells.specs.Lane.{levelIn, laneOf}
 use Rattle.lane_settle.specs.declared.PinLanes.{PinLanes}
 use Rattle.lane_settle.specs.Block.{restIn, Spelled, Resting, Marked, gateLanes, PinsMarked}
 
@@ -102,3 +106,41 @@ pub record SettledBoth (c : Counts) (code : List ℕ) (b : ℕ) (before after : 
   pub long : length after ≡ length before
   pub rest : (l : ℕ) → l < 2 → Resting c code (b + l) (rowSide c l after)
   pub marked : (l : ℕ) → l < 2 → Marked c code (b + l) (markSide c l after)
+
+-- ---- the reference
+
+-- the values of all signals of a reference in block l of the two
+abbrev pub valueSide : Counts → ℕ → List ℕ → List ℕ
+valueSide sizes l space = everySecond l (sizes .inputs + sizes .gates) space
+
+-- room for them
+abbrev pub SignalRoom : Counts → List ℕ → Type 0
+SignalRoom sizes space = 2 * (sizes .inputs + sizes .gates) ≤ length space
+
+-- the values of signal q are put
+pub record ValuePut (sizes : Counts) (q x y : ℕ) (before after : List ℕ) : Type 0 where
+  pub long : length after ≡ length before
+  pub values : (l : ℕ) → l < 2 → valueSide sizes l after ≡ set (valueSide sizes l before) q (pick l x y)
+
+-- gate k has its value in block l, from those of the signals before it
+pub record OperatorTurn (sizes : Counts) (code : List ℕ) (k l : ℕ) (before after : List ℕ) : Type 0 where
+  pub value : ℕ
+  pub put : valueSide sizes l after ≡ set (valueSide sizes l before) (sizes .inputs + k) value
+  pub is : (j : ℕ) → j < 64 → levelIn j value
+      ≡ operate (operatorIn code k .code) (valuesAt (take (sizes .inputs + k) (laneOf j (valueSide sizes l before))) (operatorIn code k .operands))
+
+-- in both blocks
+pub record OperatorTurns (sizes : Counts) (code : List ℕ) (k : ℕ) (before after : List ℕ) : Type 0 where
+  pub long : length after ≡ length before
+  pub side : (l : ℕ) → l < 2 → OperatorTurn sizes code k l before after
+
+-- the inputs of blocks b and b + 1 are spelled
+pub record InputsBoth (sizes : Counts) (b : ℕ) (before after : List ℕ) : Type 0 where
+  pub long : length after ≡ length before
+  pub spelled : (l : ℕ) → l < 2 → (j : ℕ) → j < 64 → take (sizes .inputs) (laneOf j (valueSide sizes l after)) ≡ bitsOf (sizes .inputs) (64 * (b + l) + j)
+
+-- all signals have their values
+pub record ValuesBoth (sizes : Counts) (code : List ℕ) (b : ℕ) (before after : List ℕ) : Type 0 where
+  pub long : length after ≡ length before
+  pub values : (l : ℕ) → l < 2 → (j : ℕ) → j < 64 → take (sizes .inputs + sizes .gates) (laneOf j (valueSide sizes l after))
+      ≡ signalValues (bitsOf (sizes .inputs) (64 * (b + l) + j)) (operatorsIn sizes code)

@@ -1,5 +1,6 @@
 // Two blocks of 64 words settle side by side: each net has two numbers that stand side by side, its levels in the words of the one block and of the
 // other, so that the compiler takes both at once. Behind room for the most nets stand their marks in the same way.
+use circuit::form::Operands;
 use circuit::form::Pins;
 use lane_settle::PinLanes;
 use netlist::Counts;
@@ -11,8 +12,10 @@ ghost use lib.Bits.{bitOr};
 ghost use Rattle.circuit.specs.Stage.{netCount, cellIn, StageLoaded};
 ghost use Rattle.netlist.specs.Reading.{stageLimits};
 ghost use Rattle.circuit.specs.Order.{InOrder};
-ghost use Rattle.circuit.specs.Form.{pinsIn};
+ghost use Rattle.circuit.specs.Reference.{operationIn, ReferenceLoaded};
+ghost use Rattle.circuit.specs.Form.{pinsIn, operandsIn};
 ghost use Rattle.lane_pair.specs.Pair.{Spacious, Near, rowSide, levelsBy, PutPair, NetMarked, LevelPut, MarkCleared, GateTurns, SpelledBoth, SettledBoth};
+ghost use Rattle.lane_pair.specs.Pair.{SignalRoom, ValuePut, OperatorTurns, InputsBoth, ValuesBoth};
 
 // Where the marks begin, and the room of levels and marks.
 pub const MARKS: usize = 2 * circuit::ROW;
@@ -159,7 +162,13 @@ fn spell_pair(counts: Counts, b: usize, space: &mut [u64])
     while i < counts.inputs {
         let x = lane_cells::input_lanes(i, b);
         let y = lane_cells::input_lanes(i, b + 1);
-        put_level(space, counts, 2 * i, x ^ lane_cells::ALL, y ^ lane_cells::ALL);
+        put_level(
+            space,
+            counts,
+            2 * i,
+            x ^ lane_cells::ALL,
+            y ^ lane_cells::ALL,
+        );
         put_level(space, counts, 2 * i + 1, x, y);
         clear_mark(space, counts, 2 * i);
         clear_mark(space, counts, 2 * i + 1);
@@ -180,5 +189,75 @@ pub fn settle_pair(code: &[u16], counts: Counts, b: usize, space: &mut [u64])
         let k = circuit::form::gate_at(code, counts, i);
         settle_gate(code, counts, k, space);
         i += 1;
+    }
+}
+
+// ---- the reference
+
+// The values of signal q are put.
+fn put_value(space: &mut [u64], sizes: Counts, q: usize, x: u64, y: u64)
+    requires { ⌜ (q < sizes .inputs + sizes .gates) × SignalRoom sizes (now space) ⌝ }
+    ensures { λ _. ⌜ ValuePut sizes q x y (now (space .entry)) (now (space .exit)) ⌝ }
+{
+    put_pair(space, 2 * q, x, y);
+}
+
+// The inputs of a reference in blocks b and b + 1.
+fn spell_inputs(sizes: Counts, b: usize, space: &mut [u64])
+    requires { ⌜ (sizes .inputs ≤ stageLimits .inputs) × (b < 16) × SignalRoom sizes (now space) ⌝ }
+    ensures { λ _. ⌜ InputsBoth sizes b (now (space .entry)) (now (space .exit)) ⌝ }
+{
+    let mut i: usize = 0;
+    while i < sizes.inputs {
+        let x = lane_cells::input_lanes(i, b);
+        let y = lane_cells::input_lanes(i, b + 1);
+        put_value(space, sizes, i, x, y);
+        i += 1;
+    }
+}
+
+// Gate k, which is of an operation, has its values in both blocks, from those of the signals before it.
+fn operate_as(operation: u16, operands: Operands, sizes: Counts, k: usize, space: &mut [u64])
+    requires { ⌜ (operands .a < sizes .inputs + k) × (operands .b < sizes .inputs + k) × (k < sizes .gates) × SignalRoom sizes (now space) ⌝ }
+    ensures { λ _. ⌜ ((code : List ℕ) → operation ≡ operationIn code k → operands ≡ operandsIn code k
+        → OperatorTurns sizes code k (now (space .entry)) (now (space .exit))) ⌝ }
+{
+    let a0 = level_of(space, operands.a, 0);
+    let a1 = level_of(space, operands.a, 1);
+    let b0 = level_of(space, operands.b, 0);
+    let b1 = level_of(space, operands.b, 1);
+    let x = lane_cells::operate(operation, a0, b0);
+    let y = lane_cells::operate(operation, a1, b1);
+    put_value(space, sizes, sizes.inputs + k, x, y);
+}
+
+// The same by its operation. Each has code of its own.
+fn operate_gate(reference: &[u16], sizes: Counts, k: usize, space: &mut [u64])
+    requires { ⌜ ReferenceLoaded sizes (now reference) × (k < sizes .gates) × SignalRoom sizes (now space) ⌝ }
+    ensures { λ _. ⌜ OperatorTurns sizes (now (reference .entry)) k (now (space .entry)) (now (space .exit)) ⌝ }
+{
+    let operands = circuit::form::operands_of(reference, sizes, k);
+    let operation = circuit::form::operation_of(reference, sizes, k);
+    match operation {
+        1 => operate_as(1, operands, sizes, k, space),
+        2 => operate_as(2, operands, sizes, k, space),
+        3 => operate_as(3, operands, sizes, k, space),
+        4 => operate_as(4, operands, sizes, k, space),
+        5 => operate_as(5, operands, sizes, k, space),
+        _ => operate_as(6, operands, sizes, k, space),
+    }
+}
+
+// The values of all signals of a reference in blocks b and b + 1. They take the place of levels and marks.
+pub fn signal_pair(reference: &[u16], sizes: Counts, b: usize, space: &mut [u64])
+    requires { ⌜ ReferenceLoaded sizes (now reference) × (b < 16) × SignalRoom sizes (now space) ⌝ }
+    ensures { λ _. ⌜ ValuesBoth sizes (now (reference .entry)) b (now (space .entry)) (now (space .exit)) ⌝ }
+{
+    spell_inputs(sizes, b, space);
+    let count = sizes.gates;
+    let mut k: usize = 0;
+    while k < count {
+        operate_gate(reference, sizes, k, space);
+        k += 1;
     }
 }

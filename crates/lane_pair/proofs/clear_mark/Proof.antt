@@ -23,8 +23,8 @@ returns c =
       long = put .long;
       levels = levels-kept (z .args .counts) (z .args .net) 0 0 _ _ (z .pre .0) (z .pre .1 .small) put;
       marks =
-        λ l two. mark-put (z .args .counts) (z .args .net) 0 0 _ _ (z .pre .0) (z .pre .1 .small) put l two
-        ∙ ap (set (markSide (z .args .counts) l (now (z .args .space))) (z .args .net)) (none l);
+          λ l two. mark-put (z .args .counts) (z .args .net) 0 0 _ _ (z .pre .0) (z .pre .1 .small) put l two
+          ∙ ap (set (markSide (z .args .counts) l (now (z .args .space))) (z .args .net)) (none l);
     }
 
 pub clear-mark-spec : {M : Type 1} → statement M

@@ -20,8 +20,12 @@ returns c =
     let near = z .pre .1 in
     let at : (net : ℕ) → net ≤ netCount counts → (r : ℕ) → r ≡ getD space (l + 2 * net) 0 → r ≡ getD (rowSide counts l space) net 0 =
     λ net i r e. e ∙ sym (side-at l (netCount counts + 1) space net (omega arith)) in
-    rw (at _ (near .a-in) _ (c .before .before .before .level-of .ensures), at _ (near .b-in) _ (c .before .before .level-of2 .ensures),
-    at _ (near .c-in) _ (c .before .level-of3 .ensures), at _ (near .d-in) _ (c .level-of4 .ensures)) refl
+    rw (
+      at _ (near .a-in) _ (c .before .before .before .level-of .ensures),
+      at _ (near .b-in) _ (c .before .before .level-of2 .ensures),
+      at _ (near .c-in) _ (c .before .level-of3 .ensures),
+      at _ (near .d-in) _ (c .level-of4 .ensures),
+    ) refl
 
 pub levels-at-spec : {M : Type 1} → statement M
 levels-at-spec =

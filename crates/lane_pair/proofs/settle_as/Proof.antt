@@ -37,8 +37,17 @@ mark-net-requires-4 c κs = let z = c .before .before .before .before .before .b
 put-pair-requires-2 : tie.Need-put-pair-requires-2
 put-pair-requires-2 c κs =
     let z = c .before .before .before .before .before .before .before .before .before .before .before .before .before .before .before .before .before .before .before .before .before .before .before .before .before .before .before .before .before in
-    omega (arith, z .pre .4 .small, z .pre .4 .room, z .pre .3, c .before .before .before .mark-net4 .ensures .long, c .before .before .before .before .before .before .before .mark-net3 .ensures .long, c .before .before .before .before .before .before .before .before .before .before .before .mark-net2 .ensures .long,
-    c .before .before .before .before .before .before .before .before .before .before .before .before .before .before .before .mark-net .ensures .long, c .before .before .before .before .before .before .before .before .before .before .before .before .before .before .before .before .before .before .before .put-pair .ensures .long)
+    omega (
+      arith,
+      z .pre .4 .small,
+      z .pre .4 .room,
+      z .pre .3,
+      c .before .before .before .mark-net4 .ensures .long,
+      c .before .before .before .before .before .before .before .mark-net3 .ensures .long,
+      c .before .before .before .before .before .before .before .before .before .before .before .mark-net2 .ensures .long,
+      c .before .before .before .before .before .before .before .before .before .before .before .before .before .before .before .mark-net .ensures .long,
+      c .before .before .before .before .before .before .before .before .before .before .before .before .before .before .before .before .before .before .before .put-pair .ensures .long,
+    )
 
 returns : tie.Need-returns
 returns c code cell-is pins-are =

@@ -49,9 +49,11 @@ loop-again : tie.Need-loop-again Inv-loop μ-loop
 loop-again c =
     let z = c .before .before .before .before .before .before .before .before .before .before .before .before .before .before .before .before .before .before .before .before .before .before .before .before .before .before .before .before in
     let l = c .before .before .before .before .before .before .before .before .before .before .before .before .before .before .before .before .before .before .before .before .loop in
-    let h = c .before .before .before .before .before .before .before .before .before .before .before .before .before .before .before .before .before .before .if1 .taken in
-    (omega arith, spells-turn (z .args .counts) (z .args .b) _ (l .space) _ _ _ _ (l .i) _ _ h (l .inv .1) (c .before .before .before .before .before .before .before .before .before .before .before .before .before .before .put-level2 .ensures) (c .before .before .before .before .before .before .before .before .before .before .put-level3 .ensures)
-    (c .before .before .before .before .before .before .clear-mark .ensures) (c .before .before .clear-mark2 .ensures) (c .before .before .before .before .before .before .before .before .before .before .before .before .before .before .before .before .before .input-lanes .ensures) (c .before .before .before .before .before .before .before .before .before .before .before .before .before .before .before .before .input-lanes2 .ensures))
+    let h = c .before .before .before .before .before .before .before .before .before .before .before .before .before .before .before .before .before .before .if1 .taken in (
+      omega arith,
+      spells-turn (z .args .counts) (z .args .b) _ (l .space) _ _ _ _ (l .i) _ _ h (l .inv .1) (c .before .before .before .before .before .before .before .before .before .before .before .before .before .before .put-level2 .ensures) (c .before .before .before .before .before .before .before .before .before .before .put-level3 .ensures)
+          (c .before .before .before .before .before .before .clear-mark .ensures) (c .before .before .clear-mark2 .ensures) (c .before .before .before .before .before .before .before .before .before .before .before .before .before .before .before .before .before .input-lanes .ensures) (c .before .before .before .before .before .before .before .before .before .before .before .before .before .before .before .before .input-lanes2 .ensures),
+    )
 
 same-length : tie.Need-same-length Inv-loop μ-loop
 same-length c = c .before .before .loop .inv .1 .long ∙ c .before .before .before .before .before .put-level .ensures .long
