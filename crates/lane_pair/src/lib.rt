@@ -63,7 +63,7 @@ fn clear_mark(space: &mut [u64], counts: Counts, net: usize)
 // ---- one gate
 
 // The level of a net in block l of the two.
-fn level_of(space: &[u64], net: u16, l: usize) -> u64
+pub fn level_of(space: &[u64], net: u16, l: usize) -> u64
     requires { ⌜ (l < 2) × (2 * net + 2 ≤ length (now space)) ⌝ }
     ensures { λ r. ⌜ r ≡ getD (now (space .entry)) (l + 2 * net) 0 ⌝ }
 {
@@ -85,7 +85,7 @@ fn levels_at(pins: Pins, counts: Counts, space: &[u64], l: usize) -> PinLanes
 }
 
 // Two marks of a net are added to those that are there.
-fn mark_net(space: &mut [u64], counts: Counts, net: u16, x: u64, y: u64)
+pub fn mark_net(space: &mut [u64], counts: Counts, net: u16, x: u64, y: u64)
     requires { ⌜ (net ≤ netCount counts) × Spacious counts (now space) ⌝ }
     ensures { λ _. ⌜ NetMarked counts net x y (now (space .entry)) (now (space .exit)) ⌝ }
 {

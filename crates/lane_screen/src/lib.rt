@@ -389,10 +389,139 @@ pub fn all_hold(code: &[u16], counts: Counts) -> bool
     true
 }
 
+// ---- two blocks at a time
+
+// Words of the one block and of the other.
+pub struct Two {
+    pub x: u64,
+    pub y: u64,
+}
+
+// The rails of the outputs are marked in all words of both blocks.
+fn mark_outputs_both(code: &[u16], counts: Counts, space: &mut [u64]) {
+    let mut j: usize = 0;
+    while j < counts.outputs {
+        let rails = circuit::form::rails_of(code, counts, j);
+        lane_pair::mark_net(space, counts, rails.rail0, lane_cells::ALL, lane_cells::ALL);
+        lane_pair::mark_net(space, counts, rails.rail1, lane_cells::ALL, lane_cells::ALL);
+        j += 1;
+    }
+}
+
+// The words in which some net is high and not marked.
+fn unmarked_both(counts: Counts, space: &[u64]) -> Two {
+    let count = 2 * (2 * counts.inputs + counts.gates);
+    let mut x: u64 = 0;
+    let mut y: u64 = 0;
+    let mut p: usize = 0;
+    while p < count {
+        let u = space[p];
+        let v = space[p + 1];
+        x = x | (u & (u ^ space[lane_pair::MARKS + p]));
+        y = y | (v & (v ^ space[lane_pair::MARKS + (p + 1)]));
+        p += 2;
+    }
+    Two { x, y }
+}
+
+// The levels of the outputs' rails are kept, four numbers for each output.
+fn keep_outputs(code: &[u16], counts: Counts, space: &[u64], kept: &mut [u64]) {
+    let mut j: usize = 0;
+    while j < counts.outputs {
+        let rails = circuit::form::rails_of(code, counts, j);
+        kept[4 * j] = lane_pair::level_of(space, rails.rail0, 0);
+        kept[4 * j + 1] = lane_pair::level_of(space, rails.rail0, 1);
+        kept[4 * j + 2] = lane_pair::level_of(space, rails.rail1, 0);
+        kept[4 * j + 3] = lane_pair::level_of(space, rails.rail1, 1);
+        j += 1;
+    }
+}
+
+// The words in which some output does not read as its signal in the reference.
+fn wrong_both(
+    counts: Counts,
+    kept: &[u64],
+    reference: &[u16],
+    sizes: Counts,
+    space: &[u64],
+) -> Two {
+    let mut x: u64 = 0;
+    let mut y: u64 = 0;
+    let mut j: usize = 0;
+    while j < counts.outputs {
+        let signal = circuit::form::signal_of(reference, sizes, j);
+        let v = lane_pair::level_of(space, signal, 0);
+        let w = lane_pair::level_of(space, signal, 1);
+        x = x | (kept[4 * j] ^ v ^ lane_cells::ALL) | (kept[4 * j + 2] ^ v);
+        y = y | (kept[4 * j + 1] ^ w ^ lane_cells::ALL) | (kept[4 * j + 3] ^ w);
+        j += 1;
+    }
+    Two { x, y }
+}
+
+// The gates that are high in the words of two masks are noted.
+fn note_both(counts: Counts, space: &[u64], x: u64, y: u64, rose: &mut [u64]) {
+    let first = 2 * (2 * counts.inputs);
+    let mut k: usize = 0;
+    while k < counts.gates {
+        let old = rose[k];
+        rose[k] = old | (space[first + 2 * k] & x) | (space[first + (2 * k + 1)] & y);
+        k += 1;
+    }
+}
+
+// The words of block b that are suspect for 14 and 15, block by block, where its marks leave some.
+fn refine(left: u64, code: &[u16], counts: Counts, b: usize) -> u64 {
+    if left == 0 {
+        return 0;
+    }
+    let mut row = [0u64; circuit::ROW];
+    let mut ack = [0u64; circuit::ROW];
+    rise_words(code, counts, b, &mut row, &mut ack)
+}
+
+// The words of a stage that are suspect, where every gate has hold and there are two blocks or more: two at a time.
+fn screen_pairs(code: &[u16], counts: Counts, reference: &[u16], sizes: Counts) -> Screened {
+    let mut space = [0u64; lane_pair::SPACE];
+    let mut kept = [0u64; 4 * netlist::OUTPUTS];
+    let mut wrong = [lane_cells::ALL; lane_settle::BLOCKS];
+    let mut rise = [lane_cells::ALL; lane_settle::BLOCKS];
+    let fall = [lane_cells::ALL; lane_settle::BLOCKS];
+    let mut rose = [0u64; netlist::STAGE_GATES];
+    let words = lane_rise::word_masks(code, counts);
+    let count = lane_settle::block_count(counts.inputs);
+    let mut b: usize = 0;
+    while b + 1 < count {
+        let x = words[b];
+        let y = words[b + 1];
+        if x | y == 0 {
+            b += 2;
+            continue;
+        }
+        lane_pair::settle_pair(code, counts, b, &mut space);
+        mark_outputs_both(code, counts, &mut space);
+        let left = unmarked_both(counts, &space);
+        note_both(counts, &space, x, y, &mut rose);
+        keep_outputs(code, counts, &space, &mut kept);
+        lane_pair::signal_pair(reference, sizes, b, &mut space);
+        let bad = wrong_both(counts, &kept, reference, sizes, &space);
+        wrong[b] = bad.x;
+        wrong[b + 1] = bad.y;
+        rise[b] = bad.x | refine(left.x, code, counts, b);
+        rise[b + 1] = bad.y | refine(left.y, code, counts, b + 1);
+        b += 2;
+    }
+    let low = lane_rise::never_risen(&rose, counts.gates);
+    Screened {
+        masks: Masks { wrong, rise, fall },
+        low,
+    }
+}
+
 // The words of a stage that are suspect, by the reference. A block past those that its inputs make is named whole, and so is one without a word that
 // the stage cares for: it is not settled. Where there are fewer than six inputs, the lanes behind the last word repeat the words. For 20 and 21 all
 // words are named where every gate has hold. Beside them the least gate that rises in no word of the stage.
-pub fn screen(code: &[u16], counts: Counts, reference: &[u16], sizes: Counts) -> Screened
+fn screen_blocks(code: &[u16], counts: Counts, reference: &[u16], sizes: Counts) -> Screened
     requires { ⌜ BothLoaded counts (now code) sizes (now reference) ⌝ }
     ensures clean { λ r. ⌜ AllClean (stageIn counts (now (code .entry))) (referenceIn sizes (now (reference .entry))) (r .masks) ⌝ }
     ensures low { λ r. ⌜ r .low ≡ least (neverRises (stageIn counts (now (code .entry)))) 0 (counts .gates) ⌝ }
@@ -435,6 +564,20 @@ pub fn screen(code: &[u16], counts: Counts, reference: &[u16], sizes: Counts) ->
         masks: Masks { wrong, rise, fall },
         low,
     }
+}
+
+// The words of a stage that are suspect, by the reference: two blocks at a time where that can be done.
+pub fn screen(code: &[u16], counts: Counts, reference: &[u16], sizes: Counts) -> Screened
+    requires { ⌜ BothLoaded counts (now code) sizes (now reference) ⌝ }
+    ensures clean { λ r. ⌜ AllClean (stageIn counts (now (code .entry))) (referenceIn sizes (now (reference .entry))) (r .masks) ⌝ }
+    ensures low { λ r. ⌜ r .low ≡ least (neverRises (stageIn counts (now (code .entry)))) 0 (counts .gates) ⌝ }
+{
+    if 6 < counts.inputs {
+        if all_hold(code, counts) {
+            return screen_pairs(code, counts, reference, sizes);
+        }
+    }
+    screen_blocks(code, counts, reference, sizes)
 }
 
 // Whether a mask names word w.
