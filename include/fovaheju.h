@@ -1,12 +1,12 @@
-/* The check of clockless stages, for C. Link target/staticlib/libfovaheju.a, which `rt staticlib fovaheju` writes for
+/* The check of clockless stages, for C. Link target/staticlib/libfovaheju.a, which `scripts/build fovaheju` writes for
    x86-64; of the C library it uses memcpy and memset only.
 
    Each call takes byte strings, and lists of numbers, as a pointer and then a length, which counts bytes, or numbers of a
    list. They may be any; that they are there (a list as its type is aligned), that nothing else writes them during the
    call, and that a row, a buffer or a list that is written overlaps nothing else is all that is asked. Each call
    returns, keeps nothing for later calls, and touches no other memory but its answer and the stack: at most 64
-   kilobytes of it (measured: join 61, report 59, witness 49, check 46, read a text 24, play 23, run by keys 23, settled
-   row 21, write a text 18, make a stage 5, draw a reference 1, the next stage less than 1). So calls may run at the same time in several threads, each with a
+   kilobytes of it (measured: report 60, join 58, witness 46, check 43, read a text 24, play 20, run by keys 20, settled
+   row 18, write a text 18, make a stage 6, draw a reference 1, the next stage less than 1). So calls may run at the same time in several threads, each with a
    row, list or buffers of its own.
 
    A pointer that goes with the length 0 is not read through. What is proved is about pointers that are not null; with

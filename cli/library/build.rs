@@ -1,4 +1,4 @@
-//! Links the static library that `rt staticlib fovaheju` writes.
+//! Links the static library that `scripts/build fovaheju` writes.
 
 use std::path::Path;
 
@@ -8,7 +8,7 @@ fn main() {
     let archive = folder.join("libfovaheju.a");
     println!("cargo::rerun-if-changed={}", archive.display());
     if !archive.exists() {
-        println!("cargo::error=the static library is not built: 'rt staticlib fovaheju' builds it");
+        println!("cargo::error=the static library is not built: 'scripts/build fovaheju' builds it");
     }
     println!("cargo::rustc-link-search=native={}", folder.display());
     println!("cargo::rustc-link-lib=static=fovaheju");

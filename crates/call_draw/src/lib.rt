@@ -1,4 +1,6 @@
 // A reference drawn from a seed, written into a buffer that the caller lends. What is drawn is said in crate `draw_spec`.
+#![tactic(auto)]
+
 ghost use Rattle.std.specs.Prelude.{◌≡◌, ℕ, ◌+◌, ◌*◌, ◌/◌, ◌%◌, ◌<◌, ◌≤◌, [], ◌∷◌, length, ◌≢◌};
 ghost use Rattle.netlist.specs.declared.File.TheVariants as file;
 ghost use Rattle.netlist.specs.Writing as writing;
@@ -37,7 +39,7 @@ fn yielded(s: u32, k: u32) -> u32
 }
 
 // A drawn gate, and the state after it. NOT, 1, has FFFF as its second operand.
-#[derive(Drop)]
+#[derive(Clone, Copy)]
 pub struct Gate {
     pub operation: u8,
     pub first: u16,

@@ -1,5 +1,7 @@
 // The join of two stages with their references: output j of the first is tied to input j of the second, and the whole is written into two
 // buffers that the caller lends.
+#![tactic(auto)]
+
 ghost use Rattle.std.specs.Prelude.{◌≡◌, ℕ, ◌+◌, ◌*◌, ◌^◌, ◌≤◌, ◌<◌, length, get_or};
 ghost use Rattle.netlist.specs.Content.{Stage, Reference};
 ghost use Rattle.netlist.specs.Reading.{stage_limits};
@@ -138,7 +140,8 @@ fn uncared(
 ) -> Finding
     requires { StageLoaded counts1 code1.now × ReferenceLoaded sizes1 reference1.now × StageLoaded counts2 code2.now
         × (sizes1.outputs ≡ counts2.inputs) }
-    ensures { result ≡ sweep 23 0 (uncared_under order counts1.inputs (reference_in sizes1 reference1.now) (stage_in counts2 code2.now)) (names order (stage_in counts1 code1.now)) }
+    ensures { result ≡ sweep 23 0 (uncared_under order counts1.inputs (reference_in sizes1 reference1.now) (stage_in counts2 code2.now))
+        (names order (stage_in counts1 code1.now)) }
 {
     if counts2.care == 0 {
         return Finding::Passed;
@@ -153,7 +156,7 @@ fn uncared(
 // ---- the call
 
 // The counts of the four files.
-#[derive(Drop)]
+#[derive(Clone, Copy)]
 pub struct FileCounts {
     pub stage1: Counts,
     pub reference1: Counts,

@@ -1,4 +1,6 @@
 // A run in an order that the caller chooses: at each step, of the nets that may switch, that with the least key does.
+#![tactic(auto)]
+
 ghost use Rattle.std.specs.Prelude.{◌≡◌, ◌+◌, ◌*◌, ◌≤◌, ◌<◌, length};
 ghost use Rattle.gates.specs.Table.{GateTable};
 ghost use Rattle.circuit.specs.Stage.{net_count, StageLoaded};

@@ -41,7 +41,8 @@ Located s place.Outside = (s ≡ [] → ⊥) × (Member s → ⊥)
 
 -- the search for the next number of a shape
 unfoldable pub FoundFree : ℕ → ℕ → ℕ → Found → Type 0
-FoundFree n g from (At z) = Listed n g z × (loop_free_from n g from (stages n g - from) ≡ stage_numbered n g z ∷ loop_free_from n g (z + 1) (stages n g - (z + 1)))
+FoundFree n g from (At z) = Listed n g z
+    × (loop_free_from n g from (stages n g - from) ≡ stage_numbered n g z ∷ loop_free_from n g (z + 1) (stages n g - (z + 1)))
 FoundFree n g from Nothing = loop_free_from n g from (stages n g - from) ≡ []
 
 -- the first of some stages is at a place; there is none outside

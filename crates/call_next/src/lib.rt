@@ -1,4 +1,6 @@
 // The next file of the family of small stages. What the family and its order are, is said in next_spec/specs/Family.antt.
+#![tactic(auto)]
+
 ghost use Rattle.std.specs.Prelude.{◌≡◌, ◌∷◌, [], ℕ, ◌+◌, ◌*◌, ◌-◌, ◌/◌, ◌%◌, ◌≤◌, ◌<◌, length, get_or, take, drop};
 ghost use Rattle.netlist.specs.declared.File.TheVariants as file;
 ghost use Rattle.netlist.specs.Writing.{gate, write_item};
@@ -16,7 +18,7 @@ use netlist::Found;
 use verdict::Answer;
 
 // Where a file stands: before the family, at a number of the stages of its shape, or nowhere.
-#[derive(Drop)]
+#[derive(Clone, Copy)]
 pub enum Place {
     Start,
     Stage(usize, usize, usize),

@@ -1,4 +1,6 @@
 // Opening a stage file for a call that takes a list with some entries for each net: reading, 12 and 16.
+#![tactic(auto)]
+
 ghost use Rattle.std.specs.Prelude.{◌≡◌, List, ℕ, ◌*◌, ◌≤◌, length};
 ghost use Rattle.circuit.specs.Stage.{net_count, StageLoaded, largest_stage};
 ghost use Rattle.call_open.specs.Opened.{OpenedFrom, OpenedAs};
@@ -7,7 +9,7 @@ use netlist::{Counts, Found, Outcome};
 use verdict::Verdict;
 
 // A stage that is refused, or its counts.
-#[derive(Drop)]
+#[derive(Clone, Copy)]
 pub enum Opening {
     Refused(Verdict),
     Opened(Counts),

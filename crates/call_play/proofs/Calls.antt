@@ -58,25 +58,18 @@ module _ (c : Counts) (code row : List ℕ) (ro : RowFor c row) where
       ∙ ap (λ (i : ℕ). bit (row_in c row i)) z)
       ∙ ap (λ (n : ℕ). map (λ k. bit (row_in c row k)) (numbers 0 n)) (first_long ∙ ap (λ (g : ℕ). 2 * c.inputs + g) (sym (length_stage_gates c code)))
 
--- it is copied to a row that has as many bytes
-pub copied_whole : (n : ℕ) (l before after' : List ℕ) → length before ≡ n → length l ≡ n → after' ≡ take (length l) l ++ drop (length l) before → after' ≡ l
-copied_whole n l before after' b e h =
-    h ∙ ap₂ (λ (x y : List ℕ). x ++ y) (take_all (length l) l (omega arith)) (drop_of_length-le before {i = length l} (omega (arith, b, e))) ∙ append-nil l
-
 -- ---- a stage that was opened
 
 pub left_by : (order : WordOrder) (c : Counts) (code : List ℕ) (name fall : ℕ) (list : List ℕ) (w : ℕ) → w ≡ flat.spelled order c.inputs name
-    → (steps : ℕ) (own : List ℕ) → Played c code w fall list steps own → (before after' : List ℕ) → length before ≡ net_count c
-    → after' ≡ take (length (take (net_count c) own)) (take (net_count c) own) ++ drop (length (take (net_count c) own)) before
+    → (steps : ℕ) (own : List ℕ) → Played c code w fall list steps own → (after' : List ℕ) → after' ≡ take (net_count c) own
     → (r : PlayAnswer) → r ≡ record { verdict = accepted; steps = steps } → LeftBy order c code name fall list r after'
-left_by order c code name fall list w e steps own p before after' b h r q =
+left_by order c code name fall list w e steps own p after' h r q =
     let s : steps ≡ steps_of (loaded_net c code) (rails_for (flat.spelled order c.inputs name)) fall list =
     p.steps_are ∙ ap (λ (x : ℕ). steps_of (loaded_net c code) (rails_for x) fall list) e in
     record {
       answer = q ∙ ap {B = PlayAnswer} (λ (n : ℕ). record { verdict = accepted; steps = n }) s;
       row_is =
-          copied_whole (net_count c) (take (net_count c) own) before after' b (first_long c code own p.row_for_holds) h
-          ∙ levels_are c code own p.row_for_holds
+          h ∙ levels_are c code own p.row_for_holds
           ∙ ap (levels_of (loaded_net c code)) p.row_is
           ∙ ap (λ (n : ℕ). levels_of (loaded_net c code) (after low (take n list))) s;
     }

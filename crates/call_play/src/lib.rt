@@ -1,4 +1,6 @@
 // A list of switchings, judged: how many of its steps come before the first that the rules bar, and the row that they leave.
+#![tactic(auto)]
+
 ghost use Rattle.std.specs.Prelude.{◌≡◌, ◌≤◌, length, replicate, take, drop};
 ghost use Rattle.circuit.specs.Stage.{net_count, StageLoaded};
 ghost use Rattle.circuit.specs.Rows.{row_size, RowFor};
@@ -111,7 +113,7 @@ fn play_stage(
     let mut own = [0u8; circuit::ROW];
     let steps = play_word(code, counts, w, fall, list, &mut own);
     let nets = 2 * counts.inputs + counts.gates;
-    bytes::copy(&own[..nets], row);
+    row.copy_from_slice(&own[..nets]);
     PlayAnswer {
         verdict: Verdict {
             number: 0,

@@ -1,4 +1,6 @@
 // The switching report: how many gates are high at rest, word by word, and in all words together.
+#![tactic(auto)]
+
 ghost use Rattle.std.specs.Prelude.{◌≡◌, ◌^◌, ◌≤◌, length, replicate};
 ghost use Rattle.netlist.specs.Reading.{Ascending, stage_limits};
 ghost use Rattle.verdict.specs.Levels.{sum};

@@ -2,7 +2,7 @@
 -- Assumes nothing.
 use Prim.Native.Nat.{ℕ, ◌+◌, ◌*◌, ◌/◌, ◌≤◌, ◌<◌}
 use native.Mathlib.Omega.{arith}
-use mathlib.Core.Path.{◌≡◌, refl, sym, ap, ap₂, subst, ◌∙◌}
+use mathlib.Core.Path.{◌≡◌, sym, ap, subst, ◌∙◌}
 use mathlib.Core.List.{List}
 use lib.ListN.{length, get_or, take}
 use borrow.Author.Tests.{eq-eqb, ne_eqb}
@@ -18,7 +18,7 @@ use Rattle.verdict.specs.declared.Verdict.{Verdict}
 use Rattle.verdict.specs.declared.Finding.{Finding}
 use Rattle.verdict.specs.declared.Finding.TheVariants.{Fault, Passed}
 use Rattle.verdict.specs.Rows.{settled}
-use Rattle.verdict.specs.Checks.{verdict, first, at_fault, sweep, finding, or_later, first_fault, looped, illegal, row_checks}
+use Rattle.verdict.specs.Checks.{verdict, first, at_fault, sweep, finding, or_later, first_fault, illegal, row_checks}
 use Rattle.verdict.specs.Search.{least}
 use Rattle.verdict.specs.Verdicts.{RowAnswer, answer_with, accepted, settle_unless, settle_reading, settled_row, settled_row_within}
 use Rattle.check_spec.specs.Verdicts.{row_verdict, row_after}

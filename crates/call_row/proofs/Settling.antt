@@ -3,26 +3,26 @@
 use Prim.Native.Nat.{ℕ, ◌+◌, ◌-◌, ◌*◌, ◌≤◌, ◌<◌}
 use native.Mathlib.Omega.{arith}
 use native.Mathlib.Decide.{dec_lt}
-use mathlib.Core.Path.{◌≡◌, refl, sym, ap, ap₂, subst, ◌∙◌}
+use mathlib.Core.Path.{◌≡◌, sym, ap, ap₂, ◌∙◌}
 use mathlib.Core.List.{List, [], ◌++◌, append-nil}
 use lib.ListN.{length, get_or, take, drop, replicate, length-append, length-drop, length-replicate, get_or-replicate, get_or-append, get_or-eq_default}
-use lib.Seq.{take-length, take_all, drop-length, take-append_seam, get_or-append-add, get_or-drop, get_or-take, length-take-le}
+use lib.Seq.{take_all, drop-length, take-append_seam, get_or-append-add, get_or-drop, get_or-take, length-take-le}
 use Rattle.netlist.specs.declared.Counts.{Counts}
 use Rattle.netlist.specs.Reading.{stage_limits, Within}
 use Rattle.verdict.specs.Rows.{settled_levels, settled}
 use Rattle.circuit.specs.Stage.{net_count, stage_gates}
 use Rattle.circuit.specs.Rows.{row_size, RowFor, nets_in, rail_part, level_part, settled_in}
-use Rattle.circuit.proofs.Settling.{levels_by, length_levels}
+use Rattle.circuit.proofs.Settling.{levels_by_holds}
 
 -- ---- the rails, and low levels after them
 
 module _ (c : Counts) (within : Within stage_limits c) (rails row : List ℕ) (both : length rails ≡ 2 * c.inputs) (bits : (p : ℕ) → get_or rails p 0 ≤ 1)
-    (is : row ≡ take (length rails) rails ++ drop (length rails) (replicate row_size 0)) where
+    (is : row ≡ rails ++ drop (length rails) (replicate row_size 0)) where
   abbrev low : List ℕ
   low = drop (length rails) (replicate row_size 0)
 
   whole : row ≡ rails ++ low
-  whole = is ∙ ap (λ (l : List ℕ). l ++ low) (take-length rails)
+  whole = is
 
   after : (p : ℕ) → 2 * c.inputs ≤ p → p ≤ net_count c → get_or row p 0 ≡ 0
   after p h l =
@@ -59,17 +59,12 @@ module _ (c : Counts) (within : Within stage_limits c) (rails row : List ℕ) (b
 -- the part of a settled row that was copied out is its levels
 pub part_settled : (c : Counts) (code rails row row' : List ℕ) → RowFor c row' → length rails ≡ 2 * c.inputs → rail_part c row ≡ rails →
     nets_in c row' ≡ settled_in c code row →
-    (first end : ℕ) → first ≡ 2 * c.inputs → end ≡ first + c.gates → (part part' : List ℕ) → length part ≡ c.gates →
-    part' ≡ take (length (take (end - first) (drop first row'))) (take (end - first) (drop first row')) ++ drop
-    (length (take (end - first) (drop first row'))) part →
+    (first end : ℕ) → first ≡ 2 * c.inputs → end ≡ first + c.gates → (part' : List ℕ) → part' ≡ take (end - first) (drop first row') →
     part' ≡ settled_levels (stage_gates c code) rails
-part_settled c code rails row row' r both same is first end a b part part' long e =
+part_settled c code rails row row' r both same is first end a b part' e =
     let g : end - first ≡ c.gates = omega arith in
     let levels : take (end - first) (drop first row') ≡ level_part c row' = ap₂ {C = List ℕ} (λ n m. take n (drop m row')) g a in
-    let size : length (take (end - first) (drop first row')) ≡ length part = ap length levels ∙ length_levels c row' r ∙ sym long in
-    e ∙ ap₂ {C = List ℕ} ◌++◌ (take-length (take (end - first) (drop first row')) ∙ levels) (ap (λ (n : ℕ). drop n part) size ∙ drop-length part)
-    ∙ append-nil (level_part c row')
-    ∙ levels_by c row' r rails (settled_levels (stage_gates c code) rails) both (is ∙ ap (settled (stage_gates c code)) same)
+    e ∙ levels ∙ levels_by_holds c row' r rails (settled_levels (stage_gates c code) rails) both (is ∙ ap (settled (stage_gates c code)) same)
 
 -- ---- the row that is lent
 
@@ -81,6 +76,11 @@ module _ (c : Counts) (row : List ℕ) (long : length row ≡ 2 * c.inputs + c.g
 
   pub first_long : length (take (2 * c.inputs) row) ≡ 2 * c.inputs
   first_long = length-take-le (2 * c.inputs) row (omega arith)
+
+  -- the rails were copied out of it, before what stood there
+  pub first_copied : (copy rest : List ℕ) → copy ≡ take (2 * c.inputs) row → take (2 * c.inputs) (copy ++ rest) ≡ take (2 * c.inputs) row
+  first_copied copy rest e =
+      ap (λ (k : ℕ). take k (copy ++ rest)) (sym (ap length e ∙ first_long)) ∙ take-append_seam copy rest ∙ e
 
   pub first_bits : ((p : ℕ) → p < 2 * c.inputs → get_or row p 0 ≤ 1) → (p : ℕ) → get_or (take (2 * c.inputs) row) p 0 ≤ 1
   first_bits bits p = go (dec_lt p (2 * c.inputs))

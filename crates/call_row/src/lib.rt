@@ -1,4 +1,6 @@
 // The settled-row call: the verdict on a stage's bytes and a lent row, one byte for each net, and the settled row in its place.
+#![tactic(auto)]
+
 ghost use Rattle.std.specs.Prelude.{◌≡◌, ℕ, ◌+◌, ◌*◌, ◌≤◌, ◌<◌, length, get_or, take};
 ghost use Rattle.verdict.specs.Rows as rows;
 ghost use Rattle.verdict.specs.Search.{least};
@@ -54,11 +56,11 @@ fn settle_part(code: &[u16], counts: Counts, rails: &[u8], part: &mut [u8])
     ensures { part.new ≡ rows.settled_levels (stage_gates counts code.now) rails.now }
 {
     let mut row = [0u8; circuit::ROW];
-    bytes::copy(rails, &mut row);
+    row[..rails.len()].copy_from_slice(rails);
     circuit::settle(code, counts, &mut row);
     let first = 2 * counts.inputs;
     let end = first + counts.gates;
-    bytes::copy(&row[first..end], part);
+    part.copy_from_slice(&row[first..end]);
 }
 
 // The gates of a row settle for its rails, which stay: only the part after them is lent.
@@ -69,7 +71,7 @@ fn settle_row(code: &[u16], counts: Counts, row: &mut [u8])
 {
     let first = 2 * counts.inputs;
     let mut rails = [0u8; 2 * netlist::INPUTS];
-    bytes::copy(&row[..first], &mut rails);
+    rails[..first].copy_from_slice(&row[..first]);
     settle_part(code, counts, &rails[..first], &mut row[first..]);
 }
 

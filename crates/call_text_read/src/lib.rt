@@ -1,5 +1,7 @@
 // The call that reads a text in the line form, and writes its stage file into a buffer that the caller lends. The numbers come in the paper's order:
 // 29, 30, 31, then 3 and 6, the reader's numbers for the file made, and 24.
+#![tactic(auto)]
+
 ghost use Rattle.std.specs.Prelude.{◌≡◌, ◌≤◌, length};
 ghost use Rattle.netlist.specs.Reading.{stage_limits};
 ghost use Rattle.write_command.specs.Put.{Put};

@@ -1,4 +1,6 @@
 // A stage file as text in the line form, written into a buffer that the caller lends.
+#![tactic(auto)]
+
 ghost use Rattle.std.specs.Prelude.{◌≡◌, ◌≤◌, length};
 ghost use Rattle.verdict.specs.Written.{written};
 ghost use Rattle.circuit.specs.Stage.{stage_in, StageLoaded};

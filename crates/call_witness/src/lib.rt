@@ -1,4 +1,6 @@
 // The witness of a verdict on two files: a run that shows what the verdict says, the least net that may switch first.
+#![tactic(auto)]
+
 ghost use Rattle.std.specs.Prelude.{◌≡◌, true, ℕ, ◌+◌, ◌*◌, ◌≤◌, ◌<◌, length, eqb};
 ghost use Rattle.gates.specs.Table.{GateTable};
 ghost use Rattle.runs.specs.Net.{nets};

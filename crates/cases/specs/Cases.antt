@@ -26,45 +26,45 @@ use Rattle.verdict.specs.declared.WordOrder.TheVariants.{FirstHighest, FirstLowe
 -- ---- files
 
 -- an operand that is not used
-abbrev FFFF : List ℕ
+abbrev pub FFFF : List ℕ
 FFFF = 0xFF ∷ 0xFF ∷ []
 
 -- 2. the wire, and the reference that is a wire
-wire : List ℕ
+unfoldable pub wire : List ℕ
 wire = 1 ∷ 1 ∷ 3 ∷ 0 ∷ 0 ∷ 1 ∷ 0 ∷ 0 ∷ []
 
-wire_reference : List ℕ
+unfoldable pub wire_reference : List ℕ
 wire_reference = 1 ∷ 1 ∷ 0x12 ∷ 0 ∷ 0 ∷ 0 ∷ []
 
 -- 1. the whole case
-whole_stage : List ℕ
+unfoldable pub whole_stage : List ℕ
 whole_stage = 1 ∷ 2 ∷ 2 ∷ 2 ∷ 1 ∷ 0 ∷ 3 ∷ 0 ∷ 0xFF ∷ 0xFF ∷ 0xFF ∷ 0xFF ∷ 2 ∷ 0x1A ∷ 0 ∷ 0 ∷ 2 ∷ 0 ∷ 1 ∷ 0 ∷ 3 ∷ 0 ∷ 3 ∷ 5 ∷ 0 ∷ 4 ∷ 0 ∷ 0 ∷ []
 
-and_reference : List ℕ
+unfoldable pub and_reference : List ℕ
 and_reference = 1 ∷ 2 ∷ 0x11 ∷ 2 ∷ 0 ∷ 0 ∷ 1 ∷ 0 ∷ 0x12 ∷ 2 ∷ 0 ∷ 0 ∷ []
 
 -- 3. the wire's rails swapped
-swapped : List ℕ
+unfoldable pub swapped : List ℕ
 swapped = 1 ∷ 1 ∷ 3 ∷ 1 ∷ 0 ∷ 0 ∷ 0 ∷ 0 ∷ []
 
-not_reference : List ℕ
+unfoldable pub not_reference : List ℕ
 not_reference = 1 ∷ 1 ∷ 0x11 ∷ 1 ∷ 0 ∷ 0 ∷ 0xFF ∷ 0xFF ∷ 0x12 ∷ 1 ∷ 0 ∷ 0 ∷ []
 
 -- 6. two-input AND with rail 0 TH12(0, 2), rail 1 TH22(1, 3)
-early_and : List ℕ
+unfoldable pub early_and : List ℕ
 early_and = 1 ∷ 2 ∷ 2 ∷ 1 ∷ 0 ∷ 0 ∷ 2 ∷ 0 ∷ FFFF ++ FFFF ++ (2 ∷ 2 ∷ 1 ∷ 0 ∷ 3 ∷ 0 ∷ FFFF ++ FFFF ++ (3 ∷ 4 ∷ 0 ∷ 5 ∷ 0 ∷ 0 ∷ []))
 
 -- n = 10, ten wires: the outputs of a stage from input i on, and of a reference
-wires : ℕ → ℕ → List ℕ
+unfoldable pub wires : ℕ → ℕ → List ℕ
 wires i zero = 0 ∷ []
 wires i (suc m) = 3 ∷ (2 * i) ∷ 0 ∷ (2 * i + 1) ∷ 0 ∷ wires (suc i) m
 
-wire_signals : ℕ → ℕ → List ℕ
+unfoldable pub wire_signals : ℕ → ℕ → List ℕ
 wire_signals i zero = 0 ∷ []
 wire_signals i (suc m) = 0x12 ∷ i ∷ 0 ∷ wire_signals (suc i) m
 
 -- m outputs on the wire's nets
-outputs : ℕ → List ℕ
+unfoldable pub outputs : ℕ → List ℕ
 outputs zero = 0 ∷ []
 outputs (suc m) = 3 ∷ 0 ∷ 0 ∷ 1 ∷ 0 ∷ outputs m
 
@@ -75,10 +75,10 @@ pub record Case : Type 0 where
   pub reference : List ℕ
   pub expected : Verdict
 
-abbrev case : List ℕ → List ℕ → Verdict → Case
+abbrev pub case : List ℕ → List ℕ → Verdict → Case
 case stage reference expected = record { stage = stage; reference = reference; expected = expected }
 
-pub twelve : List Case
+unfoldable pub twelve : List Case
 twelve =
     -- 1. the whole case
     case whole_stage and_reference (verdict 0 0 0 0) ∷
@@ -108,7 +108,7 @@ twelve =
 
 -- ---- the examples of the table, for 1 to 11, and more of the same numbers
 
-pub examples : List Case
+unfoldable pub examples : List Case
 examples =
     -- empty stage; then a reference that ends in a command
     case [] wire_reference (verdict 1 1 0 0) ∷
@@ -147,14 +147,14 @@ examples =
 -- ---- which check, word and index is named
 
 -- a gate with two pins, below net 256
-abbrev two_pins : ℕ → ℕ → ℕ → List ℕ → List ℕ
+abbrev pub two_pins : ℕ → ℕ → ℕ → List ℕ → List ℕ
 two_pins kind a b rest = 2 ∷ kind ∷ a ∷ 0 ∷ b ∷ 0 ∷ FFFF ++ FFFF ++ rest
 
-abbrev pair : ℕ → ℕ → List ℕ → List ℕ
+abbrev pub pair : ℕ → ℕ → List ℕ → List ℕ
 pair rail0 rail1 rest = 3 ∷ rail0 ∷ 0 ∷ rail1 ∷ 0 ∷ rest
 
 -- the reference of n inputs that has input 0 as each of m outputs
-first_input : ℕ → ℕ → List ℕ
+unfoldable pub first_input : ℕ → ℕ → List ℕ
 first_input n m = 1 ∷ n ∷ go m
   where
     go : ℕ → List ℕ
@@ -162,21 +162,21 @@ first_input n m = 1 ∷ n ∷ go m
     go (suc m) = 0x12 ∷ 0 ∷ 0 ∷ go m
 
 -- OR of two inputs whose rail 1 is TH12(1, 3), and its reference
-early_or : List ℕ
+unfoldable pub early_or : List ℕ
 early_or = 1 ∷ 2 ∷ two_pins 2 0 2 (two_pins 1 1 3 (pair 4 5 (0 ∷ [])))
 
-or_reference : List ℕ
+unfoldable pub or_reference : List ℕ
 or_reference = 1 ∷ 2 ∷ 0x11 ∷ 3 ∷ 0 ∷ 0 ∷ 1 ∷ 0 ∷ 0x12 ∷ 2 ∷ 0 ∷ 0 ∷ []
 
 -- two wires, and TH22(1, 2) that feeds nothing; their reference
-unobserved : List ℕ
+unfoldable pub unobserved : List ℕ
 unobserved = 1 ∷ 2 ∷ two_pins 2 1 2 (pair 0 1 (pair 2 3 (0 ∷ [])))
 
-two_wires : List ℕ
+unfoldable pub two_wires : List ℕ
 two_wires = 1 ∷ 2 ∷ 0x12 ∷ 0 ∷ 0 ∷ 0x12 ∷ 1 ∷ 0 ∷ 0 ∷ []
 
 -- words of two inputs are written with input 0 first
-pub ordered : List Case
+unfoldable pub ordered : List Case
 ordered =
     -- two faults at once: the earlier check is named
     case [] [] (verdict 1 1 0 0) ∷
@@ -207,25 +207,25 @@ ordered =
 -- ---- one gate more than there may be
 
 -- m gates TH12(0, 1)
-gates : ℕ → List ℕ → List ℕ
+unfoldable pub gates : ℕ → List ℕ → List ℕ
 gates zero rest = rest
 gates (suc m) rest = two_pins 1 0 1 (gates m rest)
 
 -- m inverters on input 0
-inverters : ℕ → List ℕ → List ℕ
+unfoldable pub inverters : ℕ → List ℕ → List ℕ
 inverters zero rest = rest
 inverters (suc m) rest = 0x11 ∷ 1 ∷ 0 ∷ 0 ∷ FFFF ++ inverters m rest
 
 -- the 257th gate of a stage and the 513th of a reference, whose kind and operation do not exist either
-pub many_gates : List Case
+unfoldable pub many_gates : List Case
 many_gates = case (1 ∷ 1 ∷ gates 256 (2 ∷ 0x1C ∷ FFFF ++ FFFF ++ FFFF ++ FFFF)) wire_reference (verdict 6 1 2562 0) ∷ []
 
-pub many_operations : List Case
+unfoldable pub many_operations : List Case
 many_operations = case wire (1 ∷ 1 ∷ inverters 512 (0x11 ∷ 7 ∷ FFFF ++ FFFF)) (verdict 6 2 3074 0) ∷ []
 
 -- ---- which of 1 to 9 is named, and where
 
-pub refused : List Case
+unfoldable pub refused : List Case
 refused =
     -- a kind that does not exist, with all pins absent: 4
     case (1 ∷ 1 ∷ 2 ∷ 0 ∷ FFFF ++ FFFF ++ FFFF ++ FFFF) wire_reference (verdict 4 1 3 0) ∷
@@ -259,21 +259,21 @@ refused =
 -- ---- care words
 
 -- a care command
-abbrev cared : ℕ → List ℕ → List ℕ
+abbrev pub cared : ℕ → List ℕ → List ℕ
 cared w rest = 6 ∷ w ∷ 0 ∷ rest
 
 -- case 6 without its inputs command
-early_gates : List ℕ
+unfoldable pub early_gates : List ℕ
 early_gates = two_pins 1 0 2 (two_pins 2 1 3 (pair 4 5 (0 ∷ [])))
 
 -- of the whole case the two gates, and what follows them
-abbrev whole_one : List ℕ → List ℕ
+abbrev pub whole_one : List ℕ → List ℕ
 whole_one rest = two_pins 2 1 3 rest
 
-abbrev whole_zero : List ℕ → List ℕ
+abbrev pub whole_zero : List ℕ → List ℕ
 whole_zero rest = 2 ∷ 0x1A ∷ 0 ∷ 0 ∷ 2 ∷ 0 ∷ 1 ∷ 0 ∷ 3 ∷ 0 ∷ rest
 
-pub care : List Case
+unfoldable pub care : List Case
 care =
     -- 18; 19, where the word is below the one before and where it is the same; a command that is cut is 1
     case (1 ∷ 1 ∷ cared 2 []) wire_reference (verdict 18 1 3 0) ∷
@@ -300,17 +300,17 @@ care =
 -- ---- the order of the files, by the mark
 
 -- AND of input 0 and NOT of input 1 with a relaxed TH22, which falls with the first of its pins, and its reference
-falls_early : List ℕ
+unfoldable pub falls_early : List ℕ
 falls_early = 1 ∷ 2 ∷ two_pins 0x82 1 2 (2 ∷ 0x1A ∷ 0 ∷ 0 ∷ 3 ∷ 0 ∷ 1 ∷ 0 ∷ 2 ∷ 0 ∷ pair 5 4 (0 ∷ []))
 
-and_not_reference : List ℕ
+unfoldable pub and_not_reference : List ℕ
 and_not_reference = 1 ∷ 2 ∷ 0x11 ∷ 1 ∷ 1 ∷ 0 ∷ FFFF ++ (0x11 ∷ 2 ∷ 0 ∷ 0 ∷ 2 ∷ 0 ∷ 0x12 ∷ 3 ∷ 0 ∷ 0 ∷ [])
 
 -- two wires, the rail 1 of the first through a buffer with hold, whose fall the relaxed gate behind it does not wait for
-stays_high : List ℕ
+unfoldable pub stays_high : List ℕ
 stays_high = 1 ∷ 2 ∷ two_pins 1 1 1 (two_pins 0x82 4 1 (pair 0 5 (pair 2 3 (0 ∷ []))))
 
-pub in_files_order : List Case
+unfoldable pub in_files_order : List Case
 in_files_order =
     case (1 ∷ 2 ∷ pair 0 1 (0 ∷ [])) and_reference (verdict 13 1 0 1) ∷
     case early_or or_reference (verdict 14 1 1 1) ∷
@@ -331,14 +331,14 @@ in_files_order =
 -- ---- relaxed gates, kinds 129 to 155, and the fall
 
 -- a buffer for each rail of one input
-abbrev buffers : ℕ → List ℕ → List ℕ
+abbrev pub buffers : ℕ → List ℕ → List ℕ
 buffers kind rest = two_pins kind 0 0 (two_pins kind 1 1 rest)
 
 -- the whole case with these kinds of its two gates
-abbrev and_of : ℕ → ℕ → List ℕ
+abbrev pub and_of : ℕ → ℕ → List ℕ
 and_of one zero' = 1 ∷ 2 ∷ two_pins one 1 3 (2 ∷ zero' ∷ 0 ∷ 0 ∷ 2 ∷ 0 ∷ 1 ∷ 0 ∷ 3 ∷ 0 ∷ pair 5 4 (0 ∷ []))
 
-pub relaxed : List Case
+unfoldable pub relaxed : List Case
 relaxed =
     -- kinds 128 and 156 do not exist; 130 has two pins
     case (1 ∷ 1 ∷ two_pins 0x80 0 1 (pair 0 1 (0 ∷ []))) wire_reference (verdict 4 1 3 0) ∷
@@ -364,14 +364,14 @@ relaxed =
 -- ---- retired kinds, 24 and 152
 
 -- a gate with all four pins on one net
-abbrev one_pin : ℕ → ℕ → List ℕ → List ℕ
+abbrev pub one_pin : ℕ → ℕ → List ℕ → List ℕ
 one_pin kind net rest = 2 ∷ kind ∷ net ∷ 0 ∷ net ∷ 0 ∷ net ∷ 0 ∷ net ∷ 0 ∷ rest
 
 -- the wire, with such a gate on its rail 1
-abbrev wire_by : ℕ → List ℕ
+abbrev pub wire_by : ℕ → List ℕ
 wire_by kind = 1 ∷ 1 ∷ one_pin kind 1 (pair 0 2 (0 ∷ []))
 
-pub retired : List Case
+unfoldable pub retired : List Case
 retired =
     -- stages that are right in all but their kind; kinds 23, 25, 151 and 153 are still cast
     case (wire_by 0x18) wire_reference (verdict 28 1 0 0) ∷
@@ -391,7 +391,7 @@ retired =
 
 -- ---- gates that never rise
 
-pub idle : List Case
+unfoldable pub idle : List Case
 idle =
     -- two wires with two such gates behind two that rise: the least is named, and no word
     case (1 ∷ 1 ∷ buffers 1 (two_pins 2 0 1 (two_pins 2 2 3 (pair 2 3 (0 ∷ []))))) wire_reference (verdict 32 1 2 0) ∷
@@ -414,39 +414,39 @@ idle =
 
 -- ---- registers and completion
 
-abbrev u16 : ℕ → List ℕ → List ℕ
+abbrev pub u16 : ℕ → List ℕ → List ℕ
 u16 v rest = v % 256 ∷ v / 256 ∷ rest
 
 -- a register with its data rails and its Ki, and a C-element
-abbrev registered : ℕ → ℕ → ℕ → List ℕ → List ℕ
+abbrev pub registered : ℕ → ℕ → ℕ → List ℕ → List ℕ
 registered a b ki rest = 4 ∷ u16 a (u16 b (u16 ki rest))
 
-abbrev completed : ℕ → ℕ → ℕ → ℕ → List ℕ → List ℕ
+abbrev pub completed : ℕ → ℕ → ℕ → ℕ → List ℕ → List ℕ
 completed a b c d rest = 5 ∷ u16 a (u16 b (u16 c (u16 d rest)))
 
-abbrev two_signals : ℕ → List ℕ
+abbrev pub two_signals : ℕ → List ℕ
 two_signals i = 1 ∷ suc i ∷ 0x12 ∷ 0 ∷ 0 ∷ 0x12 ∷ i ∷ 0 ∷ 0 ∷ []
 
 -- one input with two registers in a row, another register or C-element, and the output of the second register
-abbrev in_row : (List ℕ → List ℕ) → List ℕ
+abbrev pub in_row : (List ℕ → List ℕ) → List ℕ
 in_row more = 1 ∷ 1 ∷ registered 0 1 7 (registered 2 3 0xFFFE (more (pair 5 6 (0 ∷ []))))
 
 -- the whole case with a register behind its gates, whose Ki is given
-abbrev whole_then : ℕ → List ℕ
+abbrev pub whole_then : ℕ → List ℕ
 whole_then ki = 1 ∷ 2 ∷ whole_one (whole_zero (registered 5 4 ki (pair 6 7 (0 ∷ []))))
 
 -- two inputs, two registers each, and a C-element that is behind the Ki of the first
-abbrev two_rows : ℕ → ℕ → ℕ → ℕ → List ℕ
+abbrev pub two_rows : ℕ → ℕ → ℕ → ℕ → List ℕ
 two_rows a b c d =
     1 ∷ 2 ∷ registered 0 1 16 (registered 2 3 15 (registered 4 5 0xFFFE (registered 7 8 0xFFFE (completed a b c d (pair 10 11 (pair 13 14 (0 ∷ [])))))))
 
 -- one input, a register, and three behind it
-abbrev three_behind : List ℕ
+abbrev pub three_behind : List ℕ
 three_behind =
     1 ∷ 1 ∷ registered 0 1 15 (registered 2 3 0xFFFE (registered 2 3 0xFFFE (registered 2 3 0xFFFE
     (completed 7 10 0xFFFF 0xFFFF (completed 14 13 0xFFFF 0xFFFF (pair 5 6 (pair 8 9 (pair 11 12 (0 ∷ [])))))))))
 
-pub pipelines : List Case
+unfoldable pub pipelines : List Case
 pipelines =
     -- a register counts as two wires, whose rails are not exchanged; one behind the whole case's gates
     case (1 ∷ 1 ∷ registered 0 1 0xFFFE (pair 2 3 (0 ∷ []))) wire_reference (verdict 0 0 0 0) ∷
@@ -499,14 +499,14 @@ pipelines =
     case (1 ∷ 1 ∷ one_pin 0x18 1 (registered 0 2 0xFFFE (pair 3 4 (0 ∷ [])))) wire_reference (verdict 28 1 0 0) ∷
     []
 
-abbrev judged_in : WordOrder → List Case → List Verdict
+abbrev pub judged_in : WordOrder → List Case → List Verdict
 judged_in order cases = map (λ (x : Case). verdict_on order (files x.stage x.reference)) cases
 
 -- in the order that is taken where nothing is said
-abbrev judged : List Case → List Verdict
+abbrev pub judged : List Case → List Verdict
 judged = judged_in FirstHighest
 
-abbrev expected : List Case → List Verdict
+abbrev pub expected : List Case → List Verdict
 expected cases = map (λ (x : Case). x.expected) cases
 
 -- ---- the settled-row call
@@ -516,10 +516,10 @@ pub record RowAnswer : Type 0 where
   pub verdict : Verdict
   pub row : List ℕ
 
-abbrev answer_with : Verdict → List ℕ → RowAnswer
+abbrev pub answer_with : Verdict → List ℕ → RowAnswer
 answer_with v row = record { verdict = v; row = row }
 
-abbrev settled_row : List ℕ → List ℕ → RowAnswer
+abbrev pub settled_row : List ℕ → List ℕ → RowAnswer
 settled_row stage row = answer_with (row_verdict stage row) (row_after stage row)
 
 pub record RowCase : Type 0 where
@@ -527,10 +527,10 @@ pub record RowCase : Type 0 where
   pub row : List ℕ
   pub expected : RowAnswer
 
-abbrev row_case : List ℕ → List ℕ → RowAnswer → RowCase
+abbrev pub row_case : List ℕ → List ℕ → RowAnswer → RowCase
 row_case stage row expected = record { stage = stage; row = row; expected = expected }
 
-pub row_examples : List RowCase
+unfoldable pub row_examples : List RowCase
 row_examples =
     row_case [] (7 ∷ []) (answer_with (verdict 1 1 0 0) (7 ∷ [])) ∷
     -- a loop comes before a row of the wrong length
@@ -548,86 +548,3 @@ row_examples =
     row_case (wire_by 0x18) (0 ∷ 1 ∷ 9 ∷ []) (answer_with (verdict 0 0 0 0) (0 ∷ 1 ∷ 1 ∷ [])) ∷
     row_case (wire_by 0x98) (1 ∷ 0 ∷ 9 ∷ []) (answer_with (verdict 0 0 0 0) (1 ∷ 0 ∷ 0 ∷ [])) ∷
     []
-
--- ---- computed, the two long files each by itself and all others at once
-
-pub many_gates_holds : judged many_gates ≡ expected many_gates
-unfolding many_gates gates c.cells c.cell_at c.pin_count c.kind_of b.operand b.operands
-    k.when_found k.own_commands k.command_table k.form_in k.pins_needed k.needed k.pins_used k.stray k.misfit k.misfit_from k.take_gate k.take_care k.take_element
-    k.take_sort k.take_command k.next_at r.part_nets r.carries_data
-    r.names k.role_of k.used r.nameless r.nameless_at r.nameless_from r.floor_after r.count_of r.noted r.finish r.on_next r.read_from r.read_file
-    t.content_at v.refusal e.first e.judge
-many_gates_holds = refl
-
-pub many_operations_holds : judged many_operations ≡ expected many_operations
-unfolding many_operations wire inverters b.operand b.operands
-    k.when_found k.own_commands k.command_table k.form_in k.pins_needed k.needed k.pins_used k.stray k.misfit k.misfit_from k.take_gate k.take_care k.take_element
-    k.take_sort k.take_command k.next_at r.part_nets r.carries_data
-    r.names k.role_of k.used r.nameless r.nameless_at r.nameless_from r.floor_after r.count_of r.noted r.finish r.on_next r.read_from r.read_file
-    t.content_at v.refusal e.first e.judge
-many_operations_holds = refl
-
-abbrev Computed : Type 0
-Computed =
-    (judged twelve ≡ expected twelve)
-    × (judged examples ≡ expected examples)
-    × (judged ordered ≡ expected ordered)
-    × (judged refused ≡ expected refused)
-    × (judged care ≡ expected care)
-    × (judged_in FirstLowest in_files_order ≡ expected in_files_order)
-    × (judged relaxed ≡ expected relaxed)
-    × (judged retired ≡ expected retired)
-    × (judged idle ≡ expected idle)
-    × (judged pipelines ≡ expected pipelines)
-    × (map (λ (x : RowCase). settled_row x.stage x.row) row_examples ≡ map (λ (x : RowCase). x.expected) row_examples)
-
-computed : Computed
-unfolding twelve examples ordered refused care in_files_order early_gates early_or or_reference unobserved two_wires falls_early and_not_reference stays_high
-    relaxed retired idle pipelines row_examples wire wire_reference whole_stage and_reference swapped not_reference early_and wires wire_signals
-    outputs first_input inverters b.operand b.operands
-    k.when_found k.own_commands k.command_table k.form_in k.pins_needed k.needed k.pins_used k.stray k.misfit k.misfit_from k.take_gate k.take_care k.take_element
-    k.take_sort k.take_command k.next_at r.part_nets r.carries_data
-    r.names k.role_of k.used r.nameless r.nameless_at r.nameless_from r.floor_after r.count_of r.noted r.finish r.on_next r.read_from r.read_file
-    t.content_at v.refusal e.first e.judge
-    l.numbers l.select l.some l.every l.of_bits l.reaches e.sweep o.rounds o.risen o.fallen o.reaches_itself
-    w.cares_for w.spelled w.names w.words w.operate w.values w.answer
-    h.wrong h.incomplete h.high_and h.unobservable h.fall_incomplete h.fall_unobservable h.looped h.retired h.never_rises
-    h.idle h.checks h.row_checks v.settled_bytes v.row_after t.wired
-    p.registers_of p.register_count p.data_of p.ki_of p.part_drivers p.drivers p.driver_of p.all_nets x.wire_of x.times x.resolve
-    q.through_gate q.opened q.is_input q.is_rail_of q.data_from q.reaches q.from_input q.sources q.reaches_itself q.highest q.level_within q.level
-    q.is_ko_of q.behind q.is_loop q.circular q.uneven q.missing q.foreign q.bars q.barred
-    c.cells c.cell_at c.pin_count c.set_expression c.retired_cells c.among c.is_retired c.kind_of flat_map
-computed = (refl, refl, refl, refl, refl, refl, refl, refl, refl, refl, refl)
-
-pub twelve_cases : judged twelve ≡ expected twelve
-twelve_cases = computed.0
-
-pub table_examples : judged examples ≡ expected examples
-table_examples = computed.1
-
-pub named_first : judged ordered ≡ expected ordered
-named_first = computed.2
-
-pub refused_first : judged refused ≡ expected refused
-refused_first = computed.3
-
-pub care_cases : judged care ≡ expected care
-care_cases = computed.4
-
-pub files_order_cases : judged_in FirstLowest in_files_order ≡ expected in_files_order
-files_order_cases = computed.5
-
-pub relaxed_cases : judged relaxed ≡ expected relaxed
-relaxed_cases = computed.6
-
-pub retired_cases : judged retired ≡ expected retired
-retired_cases = computed.7
-
-pub idle_cases : judged idle ≡ expected idle
-idle_cases = computed.8
-
-pub pipeline_cases : judged pipelines ≡ expected pipelines
-pipeline_cases = computed.9
-
-pub row_cases : map (λ (x : RowCase). settled_row x.stage x.row) row_examples ≡ map (λ (x : RowCase). x.expected) row_examples
-row_cases = computed.10

@@ -1,5 +1,7 @@
 // The check of two files: both are read and loaded, then the checks 10, 11, 12, 33, 34, 35, 28 and those that settle the stage in its words follow in this
 // order. From 28 on they look at the stage whose registers are wires.
+#![tactic(auto)]
+
 ghost use Rattle.std.specs.Prelude.{◌≡◌, ◌∷◌, ◌+◌, ◌*◌, ◌/◌, ◌≤◌, length};
 ghost use Rattle.netlist.specs.Reading.{stage_limits, reference_limits, NoMore, Within};
 ghost use Rattle.verdict.specs.Retired.{retired_at};
@@ -22,7 +24,7 @@ use netlist::{Counts, Found, Limits, Outcome};
 use verdict::{Finding, Verdict, WordOrder};
 
 // What the check leaves of two files: the verdict on a pair that is refused, or the counts of the stage and of the reference.
-#[derive(Drop)]
+#[derive(Clone, Copy)]
 pub enum Judgement {
     Refused(Verdict),
     Accepted(Counts, Counts),
@@ -123,8 +125,8 @@ fn judge(
 ) -> Finding
     requires { StageHeld counts code.old nets.old regs.now × Roomy nets.old regs.now × ReferenceLoaded sizes reference.now }
     ensures found { (h : StageHeld counts code.old nets.old regs.now)
-        → result ≡ checks.first_fault (checks.checks order (stage_view (content_in h)) (wiring_checks (pipeline_of (content_in h))) (stage_view (wired (content_in h)))
-        (reference_in sizes reference.now)) }
+        → result ≡ checks.first_fault (checks.checks order (stage_view (content_in h)) (wiring_checks (pipeline_of (content_in h)))
+        (stage_view (wired (content_in h))) (reference_in sizes reference.now)) }
     ensures passed { (h : StageHeld counts code.old nets.old regs.now) → result ≡ Finding.Passed
         → BothLoaded counts code.new sizes reference.now × (stage_in counts code.new ≡ stage_view (wired (content_in h))) }
 {

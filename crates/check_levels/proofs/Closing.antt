@@ -16,7 +16,7 @@ use Rattle.lane_cells.specs.Lane.{lane}
 use Rattle.lane_cells.proofs.Lane.{lane_or}
 use Rattle.wiring_spec.specs.Parts.{Pipeline, register_count}
 use Rattle.wiring_spec.specs.Passing.{Reaches, ReachesOn, straight, through}
-use Rattle.wiring_spec.proofs.Passing.{reaches_sound, reaches_complete, source_inside, target_inside}
+use Rattle.wiring_spec.proofs.Passing.{reaches_sound, reaches_complete, source_inside}
 use Rattle.check_levels.specs.Graph.{source_in, SourcesOf, ComesFrom, through_one, Through}
 
 -- ---- one register

@@ -4,13 +4,13 @@ use Prim.Native.Nat.{ℕ, zero, suc, ◌+◌, ◌*◌, ◌-◌, ◌/◌, ◌%◌
 use native.Mathlib.Omega.{arith}
 use native.Mathlib.Decide.{ℕ_discrete, dec_lt}
 use mathlib.Core.Path.{◌≡◌, refl, sym, ap, ◌∙◌, subst}
-use mathlib.Core.Bool.{Bool, true, false, cond, ◌&&◌, ◌||◌}
+use mathlib.Core.Bool.{Bool, true, false, cond, ◌||◌}
 use mathlib.Core.Logic.{inl, inr}
 use mathlib.Core.List.{List, [], ◌∷◌}
 use lib.ListN.{length, get_or, set, take, length-set, get_or-eq_default}
 use lib.Seq.{get_or-set_same, get_or-set_other}
 use lib.Bits.{bit_or}
-use borrow.Author.Tests.{lt-ltb, le-ltb, eq-eqb, ne_eqb}
+use borrow.Author.Tests.{lt-ltb, le-ltb, ne_eqb}
 use Rattle.gates.specs.Cell.{pin_count}
 use Rattle.netlist.specs.declared.Counts.{Counts}
 use Rattle.netlist.specs.Bytes.{absent}
@@ -18,7 +18,7 @@ use Rattle.verdict.specs.Lists.{some}
 use Rattle.verdict.specs.Paths.{In}
 use Rattle.verdict.specs.Loops as loops
 use Rattle.verdict.proofs.Reaching.{steps_gate, step_gate}
-use Rattle.circuit.specs.Stage.{net_count, cell_in, pin_in, gate_in, gate_at_place, stage_gates}
+use Rattle.circuit.specs.Stage.{net_count, cell_in, gate_in, gate_at_place, stage_gates}
 use Rattle.circuit.specs.Order.{order_in}
 use Rattle.circuit.proofs.Tabulate.{get_d_tabulate, length_tabulate}
 use Rattle.lane_cells.specs.Lane.{lane}

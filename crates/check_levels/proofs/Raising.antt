@@ -1,12 +1,12 @@
 -- Levels in rounds: in round l those registers are found whose level is l.
 -- Assumes nothing.
-use Prim.Native.Nat.{ℕ, zero, suc, ◌+◌, ◌^◌, ◌≤◌, ◌<◌, min}
+use Prim.Native.Nat.{ℕ, suc, ◌+◌, ◌^◌, ◌≤◌, ◌<◌, min}
 use native.Mathlib.Omega.{arith}
 use native.Mathlib.Decide.{ℕ_discrete, dec_le}
-use mathlib.Core.Path.{◌≡◌, refl, sym, ap, ◌∙◌, subst}
+use mathlib.Core.Path.{◌≡◌, refl, sym, ap, ◌∙◌}
 use mathlib.Core.Bool.{Bool, true, false, cond, not, ◌&&◌, ◌||◌}
 use mathlib.Core.Logic.{◌⊎◌, inl, inr}
-use mathlib.Core.List.{List, [], ◌∷◌, map}
+use mathlib.Core.List.{List}
 use lib.ListN.{length, get_or, set, length-set}
 use lib.Seq.{get_or-set_same, get_or-set_other}
 use lib.Dec.{eqb, leb, ltb}
@@ -17,8 +17,8 @@ use Rattle.lane_cells.specs.Lane.{lane}
 use Rattle.lane_cells.proofs.Lane.{lane_zero, lane_and, lane_or, lane_xor, unlike}
 use Rattle.lane_rise.proofs.Lanes.{some_lane, one_at, one_lane}
 use Rattle.wiring_spec.specs.Parts.{Pipeline, register_count}
-use Rattle.wiring_spec.specs.Wiring.{sources, highest, level_within, level}
-use Rattle.wiring_spec.specs.Passing.{Reaches, ReachesOn, LevelOf}
+use Rattle.wiring_spec.specs.Wiring.{sources, level}
+use Rattle.wiring_spec.specs.Passing.{Reaches, ReachesOn}
 use Rattle.wiring_spec.proofs.Passing.{reaches_sound, reaches_complete, source_inside}
 use Rattle.wiring_spec.proofs.Levels.{level_of, level_bound}
 use Rattle.check_levels.specs.Graph.{source_in, SourcesOf, is_ready, RaisedTo}

@@ -1,12 +1,12 @@
 -- The rows of a pipeline's nets are seeds for its registers, and for its inputs; so what is gathered is what reaches each register.
 -- Assumes nothing.
-use Prim.Native.Nat.{ℕ, ◌+◌, ◌*◌, ◌-◌, ◌%◌, ◌≤◌, ◌<◌}
+use Prim.Native.Nat.{ℕ, ◌+◌, ◌*◌, ◌-◌, ◌≤◌, ◌<◌}
 use native.Mathlib.Omega.{arith}
 use native.Mathlib.Decide.{dec_lt}
 use mathlib.Core.Path.{◌≡◌, refl, sym, ap, ◌∙◌}
-use mathlib.Core.Bool.{Bool, true, false, ◌&&◌}
+use mathlib.Core.Bool.{Bool, true, false}
 use mathlib.Core.List.{List, []}
-use lib.ListN.{length, get_or, replicate, get_or-eq_default}
+use lib.ListN.{length, get_or, get_or-eq_default}
 use Rattle.netlist.specs.declared.Counts.{Counts}
 use Rattle.netlist.specs.Bytes.{absent}
 use Rattle.circuit.specs.Stage.{net_count}
@@ -21,7 +21,6 @@ use Rattle.wiring_spec.proofs.Nets.{never, eqb_sym, past_nothing, net_where, Sta
 use Rattle.wiring_spec.proofs.Rows.{by_row}
 use Rattle.wiring_spec.proofs.Gathering.{gathers_lead}
 use Rattle.circuit_wire.specs.Wire.{RawLoaded}
-use Rattle.circuit_wire.proofs.Stage.{first-is}
 use Rattle.check_levels.specs.Sources.{is_rail, RailsIn, Seeds}
 use Rattle.check_levels.specs.Graph.{source_in, SourcesOf}
 

@@ -1,5 +1,7 @@
 // Where the data of each register comes from, as a graph of the registers: which reach which through gates or straight, which also through others, and
 // their levels. Bit k of number t says that register k reaches register t.
+#![tactic(auto)]
+
 ghost use Rattle.std.specs.Prelude.{◌≡◌, Bool, cond, ◌∷◌, [], ℕ, ◌+◌, ◌*◌, ◌≤◌, ◌<◌, length, get_or};
 ghost use Rattle.std.specs.Int.Bits.{bit_or};
 ghost use Rattle.wiring_spec.specs.Parts.{Pipeline, register_count, data_of};

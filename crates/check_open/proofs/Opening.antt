@@ -4,14 +4,14 @@ use Prim.Native.Nat.{ℕ, zero, suc, ◌+◌, ◌*◌, ◌-◌, ◌≤◌, ◌<�
 use native.Mathlib.Omega.{arith}
 use native.Mathlib.Decide.{ℕ_discrete, dec_lt}
 use mathlib.Core.Path.{◌≡◌, refl, sym, ap, ◌∙◌, subst}
-use mathlib.Core.Bool.{Bool, true, false, cond, ◌||◌, ◌&&◌}
+use mathlib.Core.Bool.{Bool, true, false, cond, ◌||◌}
 use mathlib.Core.Logic.{inl, inr}
 use mathlib.Core.List.{List, [], ◌∷◌}
 use lib.ListN.{length, get_or, set, drop, length-set, get_or-eq_default}
 use lib.Seq.{get_or-set_same, get_or-set_other}
-use lib.Dec.{eqb, ltb}
+use lib.Dec.{eqb}
 use lib.Bits.{bit_or}
-use borrow.Author.Tests.{lt-ltb, le-ltb, ne_eqb, eqb-true, ltb-true}
+use borrow.Author.Tests.{lt-ltb, le-ltb}
 use Rattle.lane_cells.specs.Lane.{lane}
 use Rattle.lane_cells.proofs.Lane.{lane_zero, lane_or}
 use Rattle.wiring_spec.specs.Tables.{slot}
@@ -20,7 +20,7 @@ use Rattle.wiring_spec.proofs.Gathering.{gathers_none, gathers_more, gathers_ste
 use Rattle.verdict.specs.Paths.{In}
 use Rattle.circuit_place.specs.Placing.{place, four}
 use Rattle.check_open.specs.declared.Behind.{Behind}
-use Rattle.check_open.specs.Opening.{pins, own_ko, own_data, Own, ToldOf, Told, remembered, Table, Opened}
+use Rattle.check_open.specs.Opening.{pins, own_ko, own_data, Own, ToldOf, Told, remembered, Table}
 
 or-false : (b : Bool) → (b || false) ≡ b
 or-false true = refl

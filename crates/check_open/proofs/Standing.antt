@@ -4,25 +4,23 @@ use Prim.Native.Nat.{ℕ, zero, suc, ◌+◌, ◌*◌, ◌-◌, ◌≤◌, ◌<�
 use native.Mathlib.Omega.{arith}
 use native.Mathlib.Decide.{dec_lt}
 use mathlib.Core.Path.{◌≡◌, refl, sym, ap, ◌∙◌, subst}
-use mathlib.Core.Bool.{Bool, true, false, cond, ◌&&◌}
+use mathlib.Core.Bool.{Bool, true, false}
 use mathlib.Core.Logic.{inl, inr}
 use mathlib.Core.List.{List, [], ◌∷◌}
 use lib.ListN.{length, get_or, get_or-eq_default}
-use lib.Dec.{eqb, ltb}
-use borrow.Author.Tests.{lt-ltb, le-ltb, eq-eqb, eqb-true}
-use Rattle.verdict.specs.Lists.{lead_to}
+use borrow.Author.Tests.{lt-ltb, le-ltb}
 use Rattle.verdict.specs.Paths.{In, Leads, here, onward}
 use Rattle.lane_cells.specs.Lane.{lane}
-use Rattle.wiring_spec.specs.Parts.{Pipeline, Driver, input, gate, rail, acknowledge, completion, nothing, driver_of, all_nets, ki_of, register_count}
+use Rattle.wiring_spec.specs.Parts.{Pipeline, Driver, input, gate, rail, acknowledge, completion, nothing, driver_of, all_nets, ki_of}
 use Rattle.wiring_spec.specs.Wiring.{openings, is_ko_of, behind}
 use Rattle.wiring_spec.specs.Named.{carries_data}
 use Rattle.wiring_spec.specs.Tables.{slot, RowOf, PartsLoaded}
 use Rattle.wiring_spec.specs.Gathering.{Gathers}
-use Rattle.wiring_spec.proofs.Nets.{never, eqb_sym, net_where, Stands, stands, open_inside, open_late}
+use Rattle.wiring_spec.proofs.Nets.{never, eqb_sym, net_where, Stands, stands, open_inside}
 use Rattle.wiring_spec.proofs.Rows.{by_row}
 use Rattle.wiring_spec.proofs.Gathering.{gathers_lead}
-use Rattle.circuit_place.specs.Placing.{place, four, Passed, Placed}
-use Rattle.circuit_place.proofs.Order.{ElementRow, element_row_holds, row_element, pin_four, four_pin, placed_of}
+use Rattle.circuit_place.specs.Placing.{place, four, Passed}
+use Rattle.circuit_place.proofs.Order.{row_element, pin_four, four_pin, placed_of}
 use Rattle.check_open.specs.declared.Behind.{Behind}
 use Rattle.check_open.specs.Opening.{pins, own_ko, own_data, Told, Table}
 

@@ -1,5 +1,5 @@
 -- Opening the C-elements behind a Ki in the table of the nets after the gates: what stands behind a net, and what is known of that already.
-use Rattle.std.specs.Prelude.{ℕ, zero, suc, ◌+◌, ◌*◌, ◌-◌, ◌<◌, ◌≡◌, Bool, true, false, cond, ◌&&◌, List, [], ◌∷◌, length, get_or, eqb, ltb}
+use Rattle.std.specs.Prelude.{ℕ, ◌+◌, ◌*◌, ◌-◌, ◌<◌, ◌≡◌, Bool, true, false, cond, ◌&&◌, List, [], ◌∷◌, length, get_or, eqb, ltb}
 use Rattle.verdict.specs.Paths.{In}
 use Rattle.lane_cells.specs.Lane.{lane}
 use Rattle.wiring_spec.specs.Tables.{slot}

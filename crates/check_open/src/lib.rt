@@ -1,4 +1,6 @@
 // Opening the C-elements behind a Ki: which registers' Ko stand there, and whether a net that carries data does. Each C-element is opened once.
+#![tactic(auto)]
+
 ghost use Rattle.std.specs.Prelude.{◌≡◌, cond, ◌||◌, ℕ, ◌+◌, ◌*◌, ◌%◌, ◌≤◌, ◌<◌, length, get_or, set, ltb};
 ghost use Rattle.std.specs.Int.Bits.{bit_or};
 ghost use Rattle.wiring_spec.specs.Tables.{slot};
@@ -6,7 +8,7 @@ ghost use Rattle.circuit_place.specs.Placing.{place};
 ghost use Rattle.check_open.specs.Opening.{Own, remembered, Table, Opened};
 
 // What stands behind a net: the registers whose Ko is there, bit t for register t, and whether a net that carries data is.
-#[derive(Drop)]
+#[derive(Clone, Copy)]
 pub struct Behind {
     pub kos: u64,
     pub other: bool,

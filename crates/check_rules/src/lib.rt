@@ -1,5 +1,7 @@
 // Whether a register breaks a rule of the wiring, told from tables of what is known of each: 33, where it is fed from unequal levels; 34, where a Ko is
 // missing behind its Ki; 35, where a net is barred there. Bit k of a number says that register k is in a set.
+#![tactic(auto)]
+
 ghost use Rattle.std.specs.Prelude.{◌≡◌, ◌≤◌, ◌<◌, length, get_or, eqb};
 ghost use Rattle.verdict.specs.Search.{least};
 ghost use Rattle.verdict.specs.Checks.{verdict, first_fault};
@@ -96,7 +98,7 @@ fn is_barred(ki: u16, sources: &[u64], levels: &[u8], kos: &[u64], others: &[u8]
     lacks(reached | next, kos[k])
 }
 
-#[derive(Drop)]
+#[derive(Clone, Copy)]
 pub enum Rule {
     Uneven,
     Missing,

@@ -4,12 +4,11 @@ use Prim.Native.Nat.{ℕ, ◌+◌}
 use native.Mathlib.Omega.{arith}
 use mathlib.Core.Path.{◌≡◌, refl, sym, ap, ap₂, ◌∙◌}
 use mathlib.Core.List.{List, [], ◌∷◌, ◌++◌, map, map-map}
-use lib.ListN.{length, get_or}
 use Rattle.netlist.specs.declared.File.TheVariants as file
 use Rattle.netlist.specs.declared.Limits.{Limits}
 use Rattle.netlist.specs.Bytes.{operand, operands}
 use Rattle.netlist.specs.Reading.{Places, nets_of, readable, read_file}
-use Rattle.netlist.specs.Content.{Coded, Stage, Reference, coded_at, gate_of, pair_at, stage_of, reference_of}
+use Rattle.netlist.specs.Content.{Stage, Reference, coded_at, gate_of, pair_at, stage_of, reference_of}
 use Rattle.netlist.specs.Writing as items
 use Rattle.netlist.specs.Writing.{Item, gate, output, care, coded_gate, pair_operands, stage_items, reference_items, write_stage, write_reference}
 use Rattle.netlist.proofs.Lists.{map_back}
@@ -19,10 +18,10 @@ use Rattle.netlist.proofs.Stages.{known_again}
 use Rattle.netlist.proofs.References as references
 use Rattle.netlist.proofs.References.{no_care}
 use Rattle.wiring_spec.specs.Parts.{part_at}
-use Rattle.check_spec.specs.Content.{Content, content_at, content_of}
+use Rattle.check_spec.specs.Content.{content_at, content_of}
 use Rattle.check_spec.specs.Loaded.{from_stage, from_reference}
 use Rattle.check_spec.specs.Writing.{write_file}
-use Rattle.check_spec.proofs.Writing.{items_of, stage_bytes, reference_bytes}
+use Rattle.check_spec.proofs.Writing.{stage_bytes, reference_bytes}
 
 module _ (most : Limits) (bytes : List ℕ) (p : Places) where
   pub stage_content : read_file file.Stage most bytes ≡ readable p → content_of file.Stage most bytes ≡ from_stage (stage_of bytes p)

@@ -11,13 +11,11 @@ use lib.Dec.{eqb, ltb}
 use Rattle.gates.specs.Cell.{bit, is_retired}
 use Rattle.runs.specs.Row.{Row}
 use Rattle.runs.specs.Theory.{AllHold}
-use Rattle.runs.specs.Net.{Net, nets}
-use Rattle.runs.specs.Pair.{AllData, AllNull}
+use Rattle.runs.specs.Net.{nets}
 use Rattle.runs.proofs.Test.{clash, not-true}
 use Rattle.netlist.specs.declared.Found.{Found}
 use Rattle.netlist.specs.declared.Found.TheVariants.{At, Nothing}
-use Rattle.netlist.specs.declared.File.TheVariants as file
-use Rattle.netlist.specs.Reading.{Ascending, Reading, refused, readable, read_file}
+use Rattle.netlist.specs.Reading.{Ascending}
 use Rattle.netlist.specs.Content as parsed
 use Rattle.netlist.specs.Content.{Coded, gate_of}
 use Rattle.verdict.specs.declared.Verdict.{Verdict}
@@ -41,21 +39,19 @@ use Rattle.wiring_spec.specs.Parts.{register_count}
 use Rattle.wiring_spec.specs.Wiring.{circular, uneven, missing, barred}
 use Rattle.wiring_spec.specs.Wires.{resolve}
 use Rattle.wiring_spec.specs.Table.{wiring_checks}
-use Rattle.check_spec.specs.Content.{Content, pipeline_of, wired, Files, content_at}
+use Rattle.check_spec.specs.Content.{Content, pipeline_of, wired}
 use Rattle.check_spec.specs.Rows.{no_gate, driver, cell_in, net_of, data_of, all_data, all_null, feeding, reaches_itself}
 use Rattle.check_spec.specs.Words.{spelled, names, IsWord, answer}
 use Rattle.check_spec.specs.Checks.{rest, wrong, incomplete, high_and, unobservable, fall_incomplete, fall_unobservable, looped, retired_gate, retired, swept, never_rises, idle, checks}
-use Rattle.check_spec.specs.Verdicts.{refusal, verdict_on}
 use Rattle.check_spec.specs.Demands.{Pass, LoopFree}
 use Rattle.check_spec.specs.Loaded.{pair_of, stage_view, reference_view}
 use Rattle.check_spec.proofs.First.{first_pass, first-++}
 use Rattle.check_spec.proofs.OneWord.{CleanFall, hold_clean}
-use Rattle.check_spec.proofs.Laws.{Law, Laws, none, ◌&◌, equal_passes, places_passes, gates_passes, swept_passes}
+use Rattle.check_spec.proofs.Laws.{Laws, none, ◌&◌, equal_passes, places_passes, gates_passes, swept_passes}
 use Rattle.verdict.proofs.Steps.{loop-found, found_loop}
 use Rattle.check_spec.proofs.Loops.{feeding_gate}
 use Rattle.check_spec.proofs.Wired.{wired_free}
-use Rattle.check_spec.proofs.Pairs.{all_data_holds, all_null_holds}
-use Rattle.check_spec.proofs.View.{stage_view_holds, reference_view_holds, net_view, rail_view}
+use Rattle.check_spec.proofs.View.{rail_view}
 use Rattle.check_spec.proofs.Alike.{spelled_alike, names_alike, answer_alike, rest_alike, missing_alike, held_alike, but_alike, keeping_alike, word_in, in_word_holds}
 use Rattle.check_spec.proofs.Rising.{never_low, low_never}
 

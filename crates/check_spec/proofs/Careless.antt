@@ -4,7 +4,6 @@ use Prim.Native.Nat.{ℕ, suc}
 use mathlib.Core.Path.{◌≡◌, refl, sym, ap, ◌∙◌}
 use mathlib.Core.Bool.{cond}
 use mathlib.Core.List.{List, [], ◌∷◌}
-use lib.ListN.{length}
 use lib.Dec.{eqb}
 use Rattle.netlist.specs.declared.File.{File}
 use Rattle.netlist.specs.declared.File.TheVariants as file
@@ -19,7 +18,7 @@ use Rattle.netlist.proofs.Lists.{Bytes}
 use Rattle.netlist.proofs.ReadBack.{read-write, Holds}
 use Rattle.verdict.specs.declared.Verdict.{Verdict}
 use Rattle.check_spec.specs.Cases.{first, judge}
-use Rattle.check_spec.specs.Content.{Content, content_of}
+use Rattle.check_spec.specs.Content.{Content}
 use Rattle.check_spec.specs.Checks.{looped, row_checks}
 use Rattle.check_spec.specs.Verdicts.{refusal, row_verdict, settled_bytes, row_after}
 use Rattle.check_spec.proofs.Writing.{items_content}

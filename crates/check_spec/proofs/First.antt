@@ -112,6 +112,7 @@ module _ (number file : ℕ) (places : List ℕ) (fails : ℕ → ℕ → Bool) 
 
   pub sweep_out : (ws : List ℕ) → Pass (sweep number file ws places fails) → (w : ℕ) → In w ws → (i : ℕ) → In i places → fails w i ≡ false
   unfolding sweep flat_map
+  sweep_out [] p w x4 i x = elim x4 [ ]
   sweep_out (v ∷ ws) p w (inl e) i x = ap (λ (u : ℕ). fails u i) e ∙ word places (left (in_word v places) p) i x
     where
       left : (a : List Case) → Pass (a ++ sweep number file ws places fails) → Pass a
@@ -119,6 +120,7 @@ module _ (number file : ℕ) (places : List ℕ) (fails : ℕ → ℕ → Bool) 
       left (c ∷ a) p = (p.0, left a p.1)
 
       word : (is : List ℕ) → Pass (in_word v is) → (i : ℕ) → In i is → fails v i ≡ false
+      word [] p i x8 = elim x8 [ ]
       word (k ∷ is) p i (inl e) = ap (fails v) e ∙ p.0
       word (k ∷ is) p i (inr x) = word is p.1 i x
   sweep_out (v ∷ ws) p w (inr y) i x = sweep_out ws (right (in_word v places) p) w y i x

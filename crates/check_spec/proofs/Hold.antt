@@ -1,12 +1,10 @@
 -- With hold everywhere the code's checks of the fall find nothing where those of the rise do.
 -- Assumes nothing.
-use Prim.Native.Nat.{ℕ, zero, suc, ◌+◌, ◌-◌, ◌*◌, ◌≤◌, ◌<◌}
+use Prim.Native.Nat.{ℕ, suc, ◌+◌, ◌-◌, ◌*◌, ◌≤◌, ◌<◌}
 use native.Mathlib.Omega.{arith}
 use mathlib.Core.Path.{◌≡◌, refl, sym, ap, ap₂, ◌∙◌, subst}
-use mathlib.Core.Bool.{true}
 use mathlib.Core.List.{List, [], ◌∷◌, map, map-map, map-id}
 use lib.ListN.{length, get_or, length-map}
-use Rattle.runs.specs.Net.{Net}
 use Rattle.runs.specs.Theory.{AllHold}
 use Rattle.netlist.specs.Content.{Gate, Pair, Stage, Reference, gate_of}
 use Rattle.netlist.specs.Writing.{coded_gate, pair_operands}
@@ -17,7 +15,6 @@ use Rattle.verdict.specs.Loops as loops
 use Rattle.verdict.specs.Nets.{no_gate}
 use Rattle.verdict.specs.Nets as code
 use Rattle.verdict.specs.Checks.{first_fault, rise_sweeps, fall_sweeps}
-use Rattle.check_spec.specs.Content.{Content}
 use Rattle.check_spec.specs.Rows.{net_of, reaches_itself}
 use Rattle.check_spec.specs.Demands.{LoopFree}
 use Rattle.check_spec.specs.Loaded.{from_stage, from_reference, pair_of, stage_view, reference_view}

@@ -47,9 +47,9 @@ unfolding reaches_itself
 ranked_free s rank falls net g =
     not-true _ (λ e. let l = found_loop (feeding (net_of s)) (nets (net_of s)) net e in omega (arith, falls net l.0 l.1, down l.2))
   where
-    down : {x y : ℕ} → Leads (feeding (net_of s)) y x → rank y ≤ rank x
+    down : {y x : ℕ} → Leads (feeding (net_of s)) y x → rank y ≤ rank x
     down here = omega arith
-    down {x} {y} (onward {z = z} i l) = omega (arith, falls x z i, down l)
+    down {y} {x} (onward {z = z} i l) = omega (arith, falls x z i, down l)
 
 -- every loop is found
 pub loops_found : (s : Content) → LoopsFound (net_of s)

@@ -70,9 +70,9 @@ module _ (s : Content) (w : ℕ) (test : Row → ℕ → Bool) (g : ℕ) where
       go true e t = (e, t)
       go false e t = absurd (clash t refl)
 
-  high_in : rest s w (2 * s.inputs + g) ≡ true → test (rest s w) (2 * s.inputs + g) ≡ true → high_and s w test g ≡ true
+  high_in_holds : rest s w (2 * s.inputs + g) ≡ true → test (rest s w) (2 * s.inputs + g) ≡ true → high_and s w test g ≡ true
   unfolding high_and
-  high_in e t = rw e t
+  high_in_holds e t = rw e t
 
 module _ (s r : Content) (free : LoopFree (net_of s)) (w : ℕ) where
   abbrev N : Net
@@ -112,7 +112,7 @@ module _ (s r : Content) (free : LoopFree (net_of s)) (w : ℕ) where
   high-at : (g : ℕ) → IsGate N g → (test : Row → ℕ → Bool) → R g ≡ true → test R g ≡ true → high_and s w test (g - 2 * s.inputs) ≡ true
   high-at g l test u t =
       let e : 2 * s.inputs + (g - 2 * s.inputs) ≡ g = omega (arith, l.0) in
-      high_in s w test (g - 2 * s.inputs) (ap R e ∙ u) (ap (test R) e ∙ t)
+      high_in_holds s w test (g - 2 * s.inputs) (ap R e ∙ u) (ap (test R) e ∙ t)
 
   pub rise_passes : CleanRise s r w → Passes N c a
   unfolding wrong incomplete unobservable

@@ -24,6 +24,7 @@ use Rattle.check_spec.proofs.Loops.{risen_is}
 -- every one of a list passes a test, or some one does not
 pub every_out : (test : ℕ → Bool) (l : List ℕ) → every test l ≡ true → (x : ℕ) → In x l → test x ≡ true
 unfolding every
+every_out test [] e x i = elim i [ ]
 every_out test (y ∷ l) e x i = go (test y) refl e i (every_out test l)
   where
     go : (b : Bool) → test y ≡ b → cond b (every test l) false ≡ true → (x ≡ y) ⊎ In x l → (every test l ≡ true → (x : ℕ) → In x l → test x ≡ true) → test x ≡ true

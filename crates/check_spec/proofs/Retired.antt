@@ -6,7 +6,7 @@ use mathlib.Core.Path.{◌≡◌, refl, ap}
 use mathlib.Core.Bool.{Bool, true, false, ◌||◌}
 use mathlib.Core.Logic.{◌⊎◌, inl, inr, ◌↔◌, ⊎_elim}
 use lib.Dec.{eqb}
-use Rattle.gates.specs.Cell.{pin_count, retired_cells, among, is_retired, kind_of, kind_byte}
+use Rattle.gates.specs.Cell.{pin_count, retired_cells, among, is_retired, kind_byte}
 use Rattle.gates.proofs.Ranges.{KindCases, of_cell, no_kind, kind_cases, kind_at}
 use Rattle.runs.proofs.Test.{clash, or_cases, eqb_eq}
 use Rattle.netlist.specs.Coded.{Coded, cell_of}

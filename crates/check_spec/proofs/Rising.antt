@@ -2,11 +2,10 @@
 -- Assumes nothing.
 use Prim.Native.Nat.{ℕ}
 use mathlib.Core.Path.{◌≡◌, ap, ◌∙◌, subst}
-use mathlib.Core.Bool.{Bool, true, false, not}
+use mathlib.Core.Bool.{true, false, not}
 use mathlib.Core.List.{List}
 use Rattle.runs.specs.Row.{Row, low, after}
 use Rattle.runs.specs.Net.{Net, RiseList, RiseEnd, FallList}
-use Rattle.runs.specs.Settled.{Settled}
 use Rattle.runs.proofs.Test.{clash, not-true, not-false, of_not}
 use Rattle.runs.proofs.Row.{⊑-low}
 use Rattle.runs.proofs.Rise.{rise-⊑-settled, rise_end_settled, settled_reached}

@@ -1,5 +1,7 @@
 // The checks of registers and their completion: 33, a register that reaches itself or has a loop of C-elements behind its Ki, and then one that is fed from
 // unequal levels; 34, a Ko that is missing behind a Ki; 35, a net that the rule bars there. What the rules are about is put into tables first.
+#![tactic(auto)]
+
 ghost use Rattle.std.specs.Prelude.{◌≡◌, List, ℕ, ◌*◌, ◌≤◌, ◌<◌, length, take};
 ghost use Rattle.verdict.specs.Search.{least};
 ghost use Rattle.verdict.specs.Checks.{first_fault};

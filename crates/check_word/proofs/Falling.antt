@@ -8,7 +8,7 @@ use mathlib.Core.Bool.{Bool, true, false, cond, not, ◌&&◌, ◌||◌}
 use mathlib.Core.List.{List, [], ◌∷◌, ◌++◌}
 use lib.ListN.{length, get_or, set, take, drop, replicate, length-replicate, get_or-replicate}
 use lib.Seq.{get_or-take, get_or-drop, get_or-set_same, get_or-set_other, ext_get_or, length-take-le, take-set-le, take-set-lt, drop-set-lt}
-use lib.Dec.{eqb, ltb, eqb-zero-suc, eqb-suc-zero, eqb-suc-suc}
+use lib.Dec.{eqb, eqb-zero-suc, eqb-suc-zero, eqb-suc-suc}
 use borrow.Author.Tests.{ne_eqb, lt-ltb, le-ltb}
 use Rattle.gates.specs.Cell.{bit}
 use Rattle.runs.specs.Row.{only}
@@ -18,10 +18,10 @@ use Rattle.netlist.specs.Content.{Gate}
 use Rattle.verdict.specs.Rows.{high, with_null, rounds, settled_levels, settled, all_null}
 use Rattle.verdict.specs.Words.{rails_in}
 use Rattle.verdict.specs.Nets.{no_gate}
-use Rattle.verdict.specs.Falls.{stays, level_falling, fallen_levels, fallen}
+use Rattle.verdict.specs.Falls.{stays, fallen_levels, fallen}
 use Rattle.verdict.specs.Checks.{fall_incomplete, fall_unobservable}
 use Rattle.circuit.specs.Stage.{net_count, stage_gates, stage_outputs, stage_in}
-use Rattle.circuit.specs.Rows.{row_size, RowFor, nets_in, rail_part, level_part, fallen_in}
+use Rattle.circuit.specs.Rows.{row_size, RowFor, rail_part, level_part, fallen_in}
 use Rattle.circuit.proofs.Settling.{length_stage_gates, length_rails, length_levels, low_row, row_set}
 use Rattle.circuit.proofs.Tabulate.{all_same}
 use Rattle.words.proofs.Rest.{word_length, word_rails_holds, word_levels}

@@ -3,14 +3,12 @@
 use Prim.Native.Nat.{ℕ}
 use mathlib.Core.Path.{◌≡◌, sym, ap, ◌∙◌}
 use mathlib.Core.List.{List}
-use lib.ListN.{length}
 use Rattle.netlist.specs.declared.Counts.{Counts}
 use Rattle.netlist.specs.declared.Found.{Found}
 use Rattle.netlist.specs.Content.{Stage, Reference}
 use Rattle.verdict.specs.Checks.{wrong, incomplete, unobservable, fall_incomplete, fall_unobservable}
 use Rattle.verdict.specs.Search.{least}
 use Rattle.circuit.specs.Stage.{output_in, stage_outputs, stage_in}
-use Rattle.circuit.specs.Reference.{reference_in}
 use Rattle.circuit.proofs.Tabulate.{length_tabulate}
 use Rattle.circuit.proofs.Settling.{length_stage_gates}
 use Rattle.check_word.specs.declared.Sweep.{Sweep}

@@ -1,10 +1,10 @@
 -- 15: a gate held low in a settled row. What stands before it in the order stays right.
 -- Assumes nothing.
-use Prim.Native.Nat.{ℕ, ◌+◌, ◌*◌, ◌≤◌, ◌<◌}
+use Prim.Native.Nat.{ℕ, ◌+◌, ◌*◌, ◌<◌}
 use native.Mathlib.Omega.{arith}
 use mathlib.Core.Path.{◌≡◌, sym, ap, ◌∙◌, subst}
 use mathlib.Core.Bool.{Bool, true, false}
-use mathlib.Core.List.{List, ◌++◌}
+use mathlib.Core.List.{List}
 use lib.ListN.{length, get_or, take}
 use lib.Seq.{get_or-take, take-take}
 use borrow.Author.Tests.{lt-ltb, le-ltb}
@@ -17,7 +17,7 @@ use Rattle.verdict.specs.Checks.{unobservable}
 use Rattle.circuit.specs.Stage.{net_count, place_of, stage_gates, stage_outputs, stage_in}
 use Rattle.circuit.specs.Order.{order_in, InOrder}
 use Rattle.circuit.specs.Rows.{RowFor, nets_in, rail_part, SettledTo, SettledBefore, settled_in, settled_holding_in}
-use Rattle.circuit.proofs.Settling.{holding_none, settled_before, length_stage_gates, length_rails, levels_by, order_at}
+use Rattle.circuit.proofs.Settling.{holding_none, settled_before, length_stage_gates, length_rails, levels_by_holds, order_at}
 use Rattle.words.proofs.Rest.{word_length, word_rails_holds}
 use Rattle.check_word.specs.Finds.{unobserved}
 
@@ -55,7 +55,7 @@ module _ (c : Counts) (code row : List ℕ) (ordered : InOrder c code) (r : RowF
   pub hold_before : SettledTo (place_of code g) g c code row
   hold_before =
       let at = ordered.place_in g hg in
-      subst (SettledBefore (place_of code g) (level_holding g gates) (order_in c code) R) (holding_none gates R ∙ sym (levels_by c row r R (settled_levels gates R) (length_rails c row r) is))
+      subst (SettledBefore (place_of code g) (level_holding g gates) (order_in c code) R) (holding_none gates R ∙ sym (levels_by_holds c row r R (settled_levels gates R) (length_rails c row r) is))
       (settled_before g gates (order_in c code) R (length gates) (place_of code g)
       (λ i h e.
       omega (

@@ -1,4 +1,6 @@
 // The checks of one input word of a loaded stage and reference: 13, 14 and 15 on its rise, 20 and 21 on its fall.
+#![tactic(auto)]
+
 ghost use Rattle.std.specs.Prelude.{◌≡◌, ℕ, ◌*◌, ◌<◌, replicate};
 ghost use Rattle.netlist.specs.Reading.{stage_limits, Within};
 ghost use Rattle.verdict.specs.Rows.{all_null};
@@ -33,6 +35,7 @@ fn with_rails_low(counts: Counts, row: &[u8]) -> [u8; circuit::ROW]
 
 // From the rest in a row: whether all outputs are NULL once all inputs have fallen but one and the gates have settled by the fall rule, with
 // one gate kept high. Where `input` is no input all have fallen; where `gate` is no gate none is kept.
+#[inline(always)]
 fn all_fallen(code: &[u16], counts: Counts, rest: &[u8], input: usize, gate: usize) -> bool
     requires { StageLoaded counts code.now × InOrder counts code.now × RowFor counts rest.now }
     ensures { result ≡ all_null (fallen_from counts code.now rest.now input gate) (stage_outputs counts code.now) }
@@ -105,7 +108,7 @@ pub fn still_high_gate(code: &[u16], counts: Counts, w: usize) -> Found
 // ---- 13, 14 and 15: the rise
 
 // The checks that go over the words of a stage: 13, 14 and 15 in the rise, 20 and 21 in the fall.
-#[derive(Drop)]
+#[derive(Clone, Copy)]
 pub enum Sweep {
     Wrong,
     Missing,
@@ -176,7 +179,7 @@ fn unobserved_at(code: &[u16], counts: Counts, row: &[u8], g: usize) -> bool
     }
     let mut held = [0u8; circuit::ROW];
     let size = first + counts.gates + 1;
-    bytes::copy(&row[..size], &mut held);
+    held[..size].copy_from_slice(&row[..size]);
     let start = circuit::form::place_of(code, counts, g);
     circuit::settle_from(code, counts, &mut held, start, g);
     circuit_values::all_data(code, counts, &held)

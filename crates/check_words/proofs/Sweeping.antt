@@ -2,6 +2,7 @@
 -- Assumes nothing.
 use Prim.Native.Nat.{ℕ, zero, suc, ◌+◌, ◌-◌, ◌*◌, ◌^◌, ◌≤◌, ◌<◌}
 use native.Mathlib.Omega.{arith}
+use native.Mathlib.Decide.{ℕ_discrete}
 use native.Mathlib.Numerals.{add-one}
 use mathlib.Core.Path.{◌≡◌, refl, sym, ap, subst, ◌∙◌}
 use mathlib.Core.Logic.{inl, inr, ⊎_elim}
@@ -81,6 +82,29 @@ finds_under which order s r name = finds which s r (spelled order s.inputs name)
 pub swept_words : (which : Sweep) (order : WordOrder) (s : Stage) (r : Reference) (number : ℕ) (f : Finding) → number ≡ number_of which
     → f ≡ sweep number 1 (finds_under which order s r) (names order s) → f ≡ swept which order s r
 swept_words which order s r number f a e = e ∙ ap (λ (k : ℕ). sweep k 1 (finds_under which order s r) (names order s)) a
+
+-- ---- words that are passed over
+
+-- a mask names none of the words of a list from one place on and before another
+abbrev pub Unnamed_from : List ℕ → List ℕ → ℕ → ℕ → Type 0
+Unnamed_from mask list from i = (j : ℕ) → from ≤ j → j < i → Unnamed mask (get_or list j 0)
+
+pub unnamed_on : (mask list : List ℕ) (from i : ℕ) → Unnamed_from mask list from i → Unnamed mask (get_or list i 0) → Unnamed_from mask list from (i + 1)
+unnamed_on mask list from i before here j above below = go (ℕ_discrete j i)
+  where
+    go : Dec (j ≡ i) → Unnamed mask (get_or list j 0)
+    go (yes e) = subst (λ (k : ℕ). Unnamed mask (get_or list k 0)) (sym e) here
+    go (no d) = before j above (omega (arith, below, d))
+
+-- nothing is found under names that are passed over, d of them
+pub swept_past : (number file : ℕ) (find : ℕ → Found) (names : List ℕ) (k n d : ℕ) → n ≡ k + d → n ≤ length names → SweptTo number file find names k
+    → ((j : ℕ) → k ≤ j → j < n → find (get_or names j 0) ≡ Nothing) → SweptTo number file find names n
+swept_past number file find names k n zero is h s none = subst (SweptTo number file find names) (omega (arith, is)) s
+swept_past number file find names k n (suc d) is h s none =
+    let before : SweptTo number file find names (k + d) =
+    swept_past number file find names k (k + d) d refl (omega (arith, is, h)) s (λ j above below. none j above (omega (arith, below, is))) in
+    subst (SweptTo number file find names) (omega (arith, is))
+    (swept_on number file find names (k + d) (omega (arith, is, h)) before (none (k + d) (omega arith) (omega (arith, is))))
 
 -- ---- the words that the names spell, one after the other
 

@@ -1,5 +1,7 @@
 // The sweeps of 13, 14 and 15, and of 20 and 21, over the words of a stage and a reference in their flat forms, and 32 after them.
-ghost use Rattle.std.specs.Prelude.{◌≡◌, true, ◌≤◌, ◌<◌, map, length};
+#![tactic(auto)]
+
+ghost use Rattle.std.specs.Prelude.{◌≡◌, true, ◌≤◌, ◌<◌, ℕ, map, length, get_or};
 ghost use Rattle.netlist.specs.Content.{Reference};
 ghost use Rattle.verdict.specs.Words.{spelled, names};
 ghost use Rattle.verdict.specs.Checks as checks;
@@ -8,7 +10,7 @@ ghost use Rattle.circuit.specs.Order.{InOrder};
 ghost use Rattle.circuit.specs.Reference.{reference_in};
 ghost use Rattle.check_word.specs.Loaded.{BothLoaded};
 ghost use Rattle.check_word.specs.Finds.{finds};
-ghost use Rattle.lane_screen.specs.Suspects.{Clean, AllClean};
+ghost use Rattle.lane_screen.specs.Suspects.{Unnamed, Clean, AllClean};
 ghost use Rattle.check_words.specs.Sweeps.{number_of, swept, sweep_at, mask_of, Enough};
 
 use check_word::Sweep;
@@ -97,8 +99,24 @@ fn find_suspect(
     Found::Nothing
 }
 
+// The first place of a list, from place `from` on, at which a mask names the word; where there is none, the end of the list.
+fn next_named(list: &[u16], mask: &[u64], from: usize) -> usize
+    requires { from ≤ length list.now }
+    ensures within { from ≤ result × result ≤ length list.now }
+    ensures passed { (i : ℕ) → from ≤ i → i < result → Unnamed mask.now (get_or list.now i 0) }
+{
+    let mut i = from;
+    while i < list.len() {
+        if lane_screen::is_named(mask, list[i] as usize) {
+            return i;
+        }
+        i += 1;
+    }
+    i
+}
+
 // What one of the checks finds in the words of a stage, which are listed by their names: the name of the first of them with a fault, and the least
-// fault in it. The mask is narrowed on the way, block by block.
+// fault in it. The mask is narrowed on the way, block by block. After a word the next is the next that is named.
 fn sweep_words(
     which: Sweep,
     order: WordOrder,
@@ -131,7 +149,7 @@ fn sweep_words(
                 word: name as u64,
             });
         }
-        k += 1;
+        k = next_named(list, &left, k + 1);
     }
     Finding::Passed
 }

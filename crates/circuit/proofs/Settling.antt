@@ -142,8 +142,8 @@ module _ (c : Counts) (row : List ℕ) (r : RowFor c row) where
   length_levels = length-take-le c.gates (drop (2 * c.inputs) row) (omega (arith, length-drop (2 * c.inputs) row, r.long))
 
   -- the levels of a row by its nets
-  pub levels_by : (rails levels : List ℕ) → length rails ≡ 2 * c.inputs → nets_in c row ≡ rails ++ levels → level_part c row ≡ levels
-  levels_by rails levels e is =
+  pub levels_by_holds : (rails levels : List ℕ) → length rails ≡ 2 * c.inputs → nets_in c row ≡ rails ++ levels → level_part c row ≡ levels
+  levels_by_holds rails levels e is =
       sym (drop-append_seam (rail_part c row) (level_part c row))
       ∙ ap₂ {C = List ℕ} (λ n l. drop n l) (length_rails ∙ sym e) (sym (take-add (2 * c.inputs) c.gates row) ∙ is)
       ∙ drop-append_seam rails levels

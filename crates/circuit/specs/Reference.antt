@@ -1,6 +1,6 @@
 -- A reference in its flat form, one list of numbers. Gate k has three, from 3k on: its operation and its two operands; a NOT has its
 -- first operand twice. Output j has one, after the gates: its signal.
-use Rattle.std.specs.Prelude.{ℕ, ◌+◌, ◌*◌, ◌≤◌, ◌<◌, ◌≡◌, cond, List, [], ◌∷◌, length, get_or, take, eqb}
+use Rattle.std.specs.Prelude.{ℕ, ◌+◌, ◌*◌, ◌≤◌, ◌<◌, cond, List, [], ◌∷◌, length, get_or, take, eqb}
 use Rattle.netlist.specs.declared.Counts.{Counts}
 use Rattle.netlist.specs.Reading.{reference_limits, Within}
 use Rattle.netlist.specs.Content.{Coded, Reference}

@@ -14,7 +14,7 @@ pub const STAGE_CODE: usize = 8 * netlist::STAGE_GATES + 2 * netlist::OUTPUTS + 
 pub const REFERENCE_CODE: usize = 3 * netlist::REFERENCE_GATES + netlist::OUTPUTS;
 
 // The nets at the four pins of a gate; a pin that it lacks is at the ground.
-#[derive(Drop)]
+#[derive(Clone, Copy)]
 pub struct Pins {
     pub a: u16,
     pub b: u16,
@@ -23,14 +23,14 @@ pub struct Pins {
 }
 
 // The nets of the two rails of an output.
-#[derive(Drop)]
+#[derive(Clone, Copy)]
 pub struct Rails {
     pub rail0: u16,
     pub rail1: u16,
 }
 
 // The two operands of a reference's gate; NOT has its operand twice.
-#[derive(Drop)]
+#[derive(Clone, Copy)]
 pub struct Operands {
     pub a: u16,
     pub b: u16,

@@ -1,4 +1,6 @@
 // Circuits in their flat form: settling the rows of a stage.
+#![tactic(auto)]
+
 pub mod form;
 
 ghost use Rattle.std.specs.Prelude.{◌≡◌, ◌≤◌, ◌<◌, length, get_or};

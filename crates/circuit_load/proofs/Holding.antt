@@ -4,13 +4,13 @@ use Prim.Native.Nat.{ℕ, zero, suc, ◌+◌, ◌-◌, ◌*◌, ◌/◌, ◌%◌
 use native.Mathlib.Omega.{arith}
 use native.Mathlib.Decide.{dec_lt}
 use lib.Pow.{pow_mono}
-use mathlib.Core.Path.{◌≡◌, refl, sym, ap, ap₂, ◌∙◌, subst}
-use mathlib.Core.Bool.{Bool, true, false, cond, ◌||◌}
-use mathlib.Core.List.{List, [], ◌∷◌, ◌++◌, map, map-map}
-use lib.ListN.{length, get_or, take, drop, length-map, length-drop}
+use mathlib.Core.Path.{◌≡◌, refl, sym, ap, ◌∙◌, subst}
+use mathlib.Core.Bool.{Bool, true, false, cond}
+use mathlib.Core.List.{List, [], ◌∷◌, map, map-map}
+use lib.ListN.{length, get_or, take, drop, length-drop}
 use lib.Seq.{length-take-le, take_at}
 use lib.Dec.{eqb}
-use borrow.Author.Tests.{eq-eqb, lt-ltb, le-ltb}
+use borrow.Author.Tests.{eq-eqb, le-ltb}
 use Rattle.gates.specs.Cell.{pin_count}
 use Rattle.netlist.specs.declared.File.{File}
 use Rattle.netlist.specs.declared.File.TheVariants as file
@@ -28,7 +28,7 @@ use Rattle.netlist.proofs.Bounds.{within_more}
 use Rattle.netlist.proofs.Stages.{no_parts}
 use Rattle.read_file.specs.Files as files
 use Rattle.read_file.specs.Files.{sort_noted, part_noted, most_care, Placed}
-use Rattle.circuit.specs.Stage.{net_count, cell_in, pin_in, stage_in, GateLoaded, StageLoaded}
+use Rattle.circuit.specs.Stage.{net_count, cell_in, pin_in, stage_in, StageLoaded}
 use Rattle.wiring_spec.specs.Parts.{part_at}
 use Rattle.write_command.specs.Put.{Put}
 use Rattle.write_command.proofs.Joining.{put_holding}

@@ -3,21 +3,19 @@
 use Prim.Native.Nat.{ℕ, ◌+◌, ◌*◌, ◌^◌, ◌≤◌, ◌<◌}
 use native.Mathlib.Omega.{arith}
 use lib.Pow.{pow_mono}
-use mathlib.Core.Path.{◌≡◌, refl, sym, ap, ap₂, ◌∙◌, subst}
+use mathlib.Core.Path.{◌≡◌, refl, sym, ap, ◌∙◌, subst}
 use mathlib.Core.Bool.{Bool, true, false}
 use mathlib.Core.List.{List}
 use lib.ListN.{length, get_or, take, drop, length-drop}
 use lib.Seq.{length-take-le, get_or-take, get_or-drop}
 use Rattle.netlist.specs.declared.File.{File}
 use Rattle.netlist.specs.declared.File.TheVariants as file
-use Rattle.netlist.specs.declared.Sort.TheVariants as sort
 use Rattle.netlist.specs.declared.Limits.{Limits}
 use Rattle.netlist.specs.declared.Counts.{Counts}
 use Rattle.netlist.specs.Bytes.{byte, operand}
 use Rattle.netlist.specs.Commands.{stage_file, command_table, own_commands, form_in, role_of, needed}
-use Rattle.netlist.specs.declared.Outcome.{Outcome}
 use Rattle.netlist.specs.declared.Outcome.TheVariants as outcome
-use Rattle.netlist.specs.Reading.{Nets, carries_data, names, Places, counts_of, nets_of, Reading, refused, readable, read_file, Within}
+use Rattle.netlist.specs.Reading.{Nets, carries_data, names, Places, counts_of, nets_of, Reading, refused, readable, read_file}
 use Rattle.netlist.specs.Read.{GateRead, OutputRead, Read, outcome_of}
 use Rattle.netlist.specs.Content.{stage_of, reference_of}
 use Rattle.netlist.proofs.Readable.{readable_read, rising_length}

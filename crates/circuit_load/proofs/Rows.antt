@@ -1,25 +1,25 @@
 -- The two tables that loading leaves are those of the wiring: each row is that of what drives its net, and each register has its own.
 -- Assumes nothing.
-use Prim.Native.Nat.{ℕ, zero, suc, ◌+◌, ◌-◌, ◌*◌, ◌≤◌, ◌<◌}
+use Prim.Native.Nat.{ℕ, zero, suc, ◌+◌, ◌*◌, ◌≤◌, ◌<◌}
 use native.Mathlib.Omega.{arith}
-use mathlib.Core.Path.{◌≡◌, refl, sym, ap, ap₂, ◌∙◌, subst}
+use mathlib.Core.Path.{◌≡◌, refl, sym, ap, ◌∙◌, subst}
 use mathlib.Core.Bool.{Bool, true, false, cond}
-use mathlib.Core.List.{List, [], ◌∷◌, ◌++◌, map, append_assoc}
-use lib.ListN.{length, get_or, take, replicate, length-append, length-map, length-replicate, get_or-append}
+use mathlib.Core.List.{List, [], ◌∷◌, ◌++◌, map}
+use lib.ListN.{length, get_or, replicate, length-append, length-map, length-replicate, get_or-append}
 use lib.Seq.{get_or-append-add, get_or-take}
 use Rattle.gates.specs.Cell.{bit}
 use Rattle.netlist.specs.declared.Sort.{Sort}
 use Rattle.netlist.specs.declared.Sort.TheVariants as sort
 use Rattle.netlist.specs.declared.Limits.{Limits}
 use Rattle.netlist.specs.Bytes.{operand, operands, absent, outside}
-use Rattle.netlist.specs.Commands.{stage_file, is_sort, most_parts, pins_used}
-use Rattle.netlist.specs.Reading.{Places, counts_of, nets_of, sorts_of, count_of, stage_limits, NoMore}
+use Rattle.netlist.specs.Commands.{stage_file, is_sort, pins_used}
+use Rattle.netlist.specs.Reading.{Places, counts_of, nets_of, stage_limits, NoMore}
 use Rattle.netlist.specs.Read.{Read}
 use Rattle.netlist.specs.Writing.{All}
 use Rattle.netlist.proofs.Operands.{pins_used_in, length_operands}
 use Rattle.circuit.specs.Stage.{net_count}
 use Rattle.wiring_spec.specs.Parts.{Register, Part, register, element, part_at, Pipeline, Driver, input, gate, rail, acknowledge, completion, nothing, registers_of, register_count, data_of, ki_of}
-use Rattle.wiring_spec.specs.Parts.{part_drivers, drivers, driver_of, all_nets}
+use Rattle.wiring_spec.specs.Parts.{part_drivers, drivers, driver_of}
 use Rattle.wiring_spec.specs.Tables.{slot, RowOf, register_slot, RegisterRow, PartsLoaded}
 use Rattle.circuit_load.specs.Parts.{wiring_of, rail_row, ko_row, element_row, net_rows, register_rows, Begins, PipelineHeld}
 use Rattle.wiring_spec.proofs.Named.{long_alike, nets_count, all_named, first_part_lem, all_long, named}

@@ -4,24 +4,24 @@ use Prim.Native.Nat.{ℕ, zero, suc, ◌+◌, ◌-◌, ◌*◌, ◌/◌, ◌%◌
 use native.Mathlib.Omega.{arith}
 use mathlib.Core.Path.{◌≡◌, refl, sym, ap, ap₂, ◌∙◌, subst}
 use mathlib.Core.Bool.{Bool, true, false}
-use mathlib.Core.List.{List, [], ◌∷◌, map, map-id}
+use mathlib.Core.List.{List, [], ◌∷◌, map-id}
 use lib.ListN.{length, get_or, take, drop}
 use lib.Seq.{get_or-take}
 use lib.Dec.{eqb}
-use Rattle.gates.specs.Cell.{kind_of, kind_byte, as_kind, pin_count, bit}
+use Rattle.gates.specs.Cell.{kind_of, as_kind, pin_count, bit}
 use Rattle.gates.proofs.Ranges.{kind_at}
 use Rattle.netlist.specs.declared.File.{File}
 use Rattle.netlist.specs.declared.File.TheVariants as file
 use Rattle.netlist.specs.declared.Limits.{Limits}
 use Rattle.netlist.specs.declared.Counts.{Counts}
 use Rattle.netlist.specs.Bytes.{byte, operand, operands}
-use Rattle.netlist.specs.Commands.{stage_file, needed, pins_needed}
+use Rattle.netlist.specs.Commands.{stage_file, needed}
 use Rattle.netlist.specs.Reading.{Nets, carries_data, nets_of, stage_limits, NoMore}
 use Rattle.netlist.specs.Content.{Gate, Pair, cell_of, hold_of, gate_of, coded_at, pair_at, stage_of}
 use Rattle.netlist.proofs.Bounds.{within_more}
 use Rattle.netlist.proofs.Encoding.{KindOfCell, kind_in_holds, kind_needs}
 use Rattle.read_file.specs.Files.{first_care}
-use Rattle.circuit.specs.Stage.{net_count, cell_in, slot, pin_in, gate_in, stage_gates, output_in, stage_outputs, stage_care, stage_in}
+use Rattle.circuit.specs.Stage.{cell_in, slot, pin_in, gate_in, stage_gates, output_in, stage_outputs, stage_care, stage_in}
 use Rattle.circuit.proofs.Tabulate.{tabulate_map}
 use Rattle.circuit.proofs.Pins.{pins_few}
 use Rattle.circuit_load.specs.Load.{places_in, FileRead, StageRead, RawStage, pin_number, cell_row, kind_row, gate_row, gates_number, stage_number, WrittenTo}

@@ -1,23 +1,17 @@
 -- A register or C-element in both tables, by its note; and one after the other.
 -- Assumes nothing.
-use Prim.Native.Nat.{ℕ, zero, suc, ◌+◌, ◌-◌, ◌*◌, ◌/◌, ◌%◌, ◌≤◌, ◌<◌}
+use Prim.Native.Nat.{ℕ, zero, suc, ◌+◌, ◌*◌, ◌/◌, ◌%◌, ◌≤◌, ◌<◌}
 use native.Mathlib.Omega.{arith}
 use native.Mathlib.Decide.{ℕ_discrete, dec_lt}
-use mathlib.Core.Path.{◌≡◌, refl, sym, ap, ap₂, ◌∙◌, subst}
-use mathlib.Core.Bool.{Bool, true, false, cond}
+use mathlib.Core.Path.{◌≡◌, refl, sym, ap, ◌∙◌}
 use mathlib.Core.List.{List, [], ◌∷◌, ◌++◌, map}
 use lib.ListN.{length, get_or, drop, drop_of_length-le, get_or-eq_default}
 use lib.Seq.{drop-cons}
-use lib.Dec.{eqb}
 use borrow.Author.Tests.{eq-eqb, ne_eqb}
-use Rattle.netlist.specs.declared.File.{File}
-use Rattle.netlist.specs.declared.Sort.{Sort}
-use Rattle.netlist.specs.declared.Sort.TheVariants as sort
 use Rattle.netlist.specs.Bytes.{operand, operands, absent}
 use Rattle.netlist.specs.declared.Found.TheVariants.{Nothing}
 use Rattle.netlist.specs.Commands.{pins_used, misfit_from}
-use Rattle.netlist.specs.Reading.{Nets}
-use Rattle.netlist.specs.Read.{RegisterRead, ElementRead, PartOf, PartRead}
+use Rattle.netlist.specs.Read.{RegisterRead, ElementRead, PartRead}
 use Rattle.netlist.specs.Writing.{All}
 use Rattle.netlist.proofs.Operands.{length_operands, misfit_none, bare_absent}
 use Rattle.read_file.specs.Files.{sort_noted, part_noted}
@@ -25,7 +19,7 @@ use Rattle.wiring_spec.specs.Parts.{Register, Part, register, element, part_at}
 use Rattle.write_command.specs.Put.{Put}
 use Rattle.write_command.proofs.Joining.{put-++, put_none, Left, left_all, left_put, left_room, left_none}
 use Rattle.circuit_load.specs.declared.Spot.{Spot}
-use Rattle.circuit_load.specs.Parts.{rail_row, ko_row, element_row, net_rows, register_rows, NotesRead, parts_in, spot_after, PartPut}
+use Rattle.circuit_load.specs.Parts.{rail_row, ko_row, net_rows, register_rows, NotesRead, parts_in, spot_after, PartPut}
 
 -- ---- the command of a note
 

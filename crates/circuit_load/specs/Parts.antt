@@ -1,5 +1,5 @@
 -- Registers and C-elements as loading writes them into the two tables that wiring_spec/specs/Tables.antt describes, row by row.
-use Rattle.std.specs.Prelude.{ℕ, ◌+◌, ◌*◌, ◌^◌, ◌≤◌, ◌<◌, ◌≡◌, List, [], ◌∷◌, ◌++◌, map, length, get_or, take}
+use Rattle.std.specs.Prelude.{ℕ, ◌+◌, ◌*◌, ◌≡◌, List, [], ◌∷◌, ◌++◌, map, length, get_or, take}
 use Rattle.netlist.specs.declared.File.{File}
 use Rattle.netlist.specs.Bytes.{absent}
 use Rattle.netlist.specs.Reading.{Nets, Places, counts_of, nets_of, Reading, refused, readable}

@@ -1,4 +1,6 @@
 // Loading a stage or a reference that was read into its flat form, number by number. After this nothing looks at the bytes of a file.
+#![tactic(auto)]
+
 ghost use Rattle.std.specs.Prelude.{◌≡◌, ◌∷◌, [], ℕ, ◌+◌, ◌*◌, ◌^◌, ◌≤◌, ◌<◌, length, get_or};
 ghost use Rattle.netlist.specs.declared.File.TheVariants as file;
 ghost use Rattle.netlist.specs.Commands.{stage_file, most_parts};
@@ -151,7 +153,7 @@ fn ground_of(counts: Counts) -> u16
 // ---- registers and C-elements
 
 // How many nets after the gates, and how many registers, stand before a register or C-element.
-#[derive(Drop)]
+#[derive(Clone, Copy)]
 pub struct Spot {
     pub net: usize,
     pub register: usize,

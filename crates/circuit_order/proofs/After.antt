@@ -1,24 +1,22 @@
 -- Placing a gate after those that feed it: pin by pin, and then itself.
 -- Assumes nothing.
-use Prim.Native.Nat.{ℕ, zero, suc, ◌+◌, ◌-◌, ◌*◌, ◌≤◌, ◌<◌}
+use Prim.Native.Nat.{ℕ, suc, ◌+◌, ◌-◌, ◌*◌, ◌≤◌, ◌<◌}
 use native.Mathlib.Omega.{arith}
 use native.Mathlib.Decide.{ℕ_discrete, dec_lt}
-use mathlib.Core.Path.{◌≡◌, refl, sym, ap, ◌∙◌, subst}
-use mathlib.Core.Bool.{Bool, true, false, ◌&&◌, not}
+use mathlib.Core.Path.{◌≡◌, sym, ap, ◌∙◌}
+use mathlib.Core.Bool.{true}
 use mathlib.Core.List.{List}
-use lib.ListN.{length, get_or, set}
+use lib.ListN.{get_or, set}
 use lib.Dec.{ltb}
-use borrow.Author.Tests.{ltb-true, lt-ltb, le-ltb}
-use Rattle.gates.specs.Cell.{pin_count}
+use borrow.Author.Tests.{lt-ltb, le-ltb}
 use Rattle.netlist.specs.declared.Counts.{Counts}
 use Rattle.verdict.specs.Rows.{high}
 use Rattle.verdict.specs.Levels.{sum}
 use Rattle.verdict.specs.Loops.{In, pins_at, LoopFree}
 use Rattle.verdict.proofs.Reaching.{rank_of, rank_of-≤, rank_pin}
-use Rattle.circuit.specs.Stage.{net_count, cell_in, pin_in, gate_in, stage_gates, StageLoaded}
+use Rattle.circuit.specs.Stage.{pin_in, stage_gates}
 use Rattle.circuit.proofs.Settling.{length_stage_gates}
-use Rattle.circuit_order.specs.Marks.{fed_by}
-use Rattle.circuit_order.specs.Placing.{Waits, Gone, Placing, is_ready, Ranks, PlacedAfter, AfterPins, Ordered}
+use Rattle.circuit_order.specs.Placing.{Gone, Placing, is_ready, Ranks, PlacedAfter, AfterPins, Ordered}
 use Rattle.circuit_order.proofs.Feeding.{pin_in_holds, unfed}
 use Rattle.circuit_order.proofs.Sums.{sum_some}
 use Rattle.circuit.specs.Form.{Reordered}

@@ -1,6 +1,6 @@
 -- The pins of a gate in the code: four nets, of which those that its cell lacks are the ground, so that no mark is there.
 -- Assumes nothing.
-use Prim.Native.Nat.{ℕ, zero, suc, ◌+◌, ◌*◌, ◌≤◌, ◌<◌}
+use Prim.Native.Nat.{ℕ, zero, suc, ◌≤◌, ◌<◌}
 use native.Mathlib.Omega.{arith}
 use native.Mathlib.Decide.{dec_lt, ℕ_discrete}
 use mathlib.Core.Path.{◌≡◌, refl, sym, ap, ◌∙◌}
@@ -10,7 +10,6 @@ use mathlib.Core.List.{List, [], ◌∷◌}
 use lib.ListN.{length, get_or, take, set, length-set}
 use lib.Seq.{get_or-set_same, get_or-set_other}
 use lib.Dec.{ltb}
-use borrow.Author.Tests.{lt-ltb, le-ltb}
 use Rattle.gates.specs.Cell.{pin_count}
 use Rattle.netlist.specs.declared.Counts.{Counts}
 use Rattle.netlist.specs.Content.{Gate}
@@ -18,8 +17,7 @@ use Rattle.verdict.specs.Rows.{high}
 use Rattle.verdict.specs.Graph.{any_high}
 use Rattle.verdict.specs.Loops.{In, pins_at}
 use Rattle.circuit.specs.Stage.{net_count, cell_in, pin_in, gate_in, stage_gates, StageLoaded}
-use Rattle.circuit.specs.Rows.{RowFor, nets_in, pattern_in}
-use Rattle.circuit.proofs.Pins.{pattern_nets}
+use Rattle.circuit.specs.Rows.{RowFor}
 use Rattle.circuit.proofs.Tabulate.{get_d_tabulate, map_tabulate}
 use Rattle.circuit_order.specs.Marks.{MarksFor, fed_by}
 

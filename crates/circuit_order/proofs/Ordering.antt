@@ -1,26 +1,20 @@
 -- Topological orders and loops: where every gate is placed there is an order; where those that wait are stuck there is a loop.
 -- Assumes nothing.
-use Prim.Native.Nat.{ℕ, zero, suc, ◌+◌, ◌*◌, ◌≤◌, ◌<◌}
+use Prim.Native.Nat.{ℕ, ◌+◌, ◌*◌, ◌≤◌, ◌<◌}
 use native.Mathlib.Omega.{arith}
-use native.Mathlib.Decide.{dec_lt}
-use mathlib.Core.Path.{◌≡◌, sym, ap, ◌∙◌, subst}
-use mathlib.Core.Bool.{true}
+use mathlib.Core.Path.{◌≡◌, sym, ap, ◌∙◌}
 use mathlib.Core.List.{List}
 use lib.ListN.{length, get_or}
 use borrow.Author.Tests.{le-ltb}
 use Rattle.netlist.specs.declared.Counts.{Counts}
-use Rattle.verdict.specs.Rows.{high}
-use Rattle.verdict.specs.Levels.{sum}
-use Rattle.verdict.specs.Loops.{pins_at, Feeds, LoopFree}
-use Rattle.verdict.proofs.Graph.{any_high_out}
-use Rattle.verdict.proofs.Reaching.{rank_of, rank_pin, placed_free}
+use Rattle.verdict.specs.Loops.{Feeds, LoopFree}
+use Rattle.verdict.proofs.Reaching.{placed_free}
 use Rattle.circuit.specs.Stage.{gate_at_place, place_of, stage_gates}
 use Rattle.circuit.specs.Order.{order_in, InOrder}
 use Rattle.circuit.proofs.Tabulate.{length_tabulate}
 use Rattle.circuit.proofs.Settling.{length_stage_gates, order_at}
 use Rattle.circuit_order.specs.Placing.{Gone, Placing, Ordered}
-use Rattle.circuit_order.specs.Marks.{fed_by}
-use Rattle.circuit_order.proofs.Sums.{get-≤-sum, sum_some}
+use Rattle.circuit_order.proofs.Sums.{get-≤-sum}
 
 module _ (c : Counts) (code waiting : List ℕ) (placed : ℕ) (p : Placing c code waiting placed) where
   -- ---- all placed

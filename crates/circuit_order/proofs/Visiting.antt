@@ -1,13 +1,13 @@
 -- Visiting what a gate comes from, pin by pin; and what it tells of a gate that reaches itself.
 -- Assumes nothing.
-use Prim.Native.Nat.{ℕ, zero, suc, ◌+◌, ◌-◌, ◌*◌, ◌≤◌, ◌<◌}
+use Prim.Native.Nat.{ℕ, ◌+◌, ◌-◌, ◌*◌, ◌≤◌, ◌<◌}
 use native.Mathlib.Omega.{arith}
 use native.Mathlib.Decide.{ℕ_discrete, dec_lt}
 use mathlib.Core.Path.{◌≡◌, refl, sym, ap, ◌∙◌, subst}
 use mathlib.Core.Bool.{Bool, true, false}
 use mathlib.Core.List.{List}
 use lib.ListN.{length, get_or, set}
-use lib.Dec.{ltb, eqb}
+use lib.Dec.{eqb}
 use borrow.Author.Tests.{ltb-true, lt-ltb, le-ltb, eq-eqb, ne_eqb}
 use Rattle.netlist.specs.declared.Counts.{Counts}
 use Rattle.netlist.specs.Content.{Gate}
@@ -19,7 +19,7 @@ use Rattle.verdict.proofs.Graph.{leads_trans}
 use Rattle.verdict.proofs.Reaching.{steps_gate, step_gate, reaches_sound, reaches_complete}
 use Rattle.circuit.specs.Stage.{net_count, pin_in, stage_gates, StageLoaded}
 use Rattle.circuit.proofs.Settling.{length_stage_gates}
-use Rattle.circuit_order.specs.Marks.{MarksFor, Left, Visited, Pins, FirstPins, From}
+use Rattle.circuit_order.specs.Marks.{Left, Visited, Pins, FirstPins, From}
 use Rattle.circuit_order.specs.Placing.{WaitTo}
 use Rattle.circuit_order.proofs.Feeding.{marks_set, pin_in_holds, pin_out}
 use Rattle.circuit_order.proofs.Sums.{sum_set}

@@ -1,5 +1,7 @@
 // Making a topological order of the gates of a loaded stage, and finding the loops that rule it out (12).
 // Marks have one byte for each net, and one for the ground, which is never marked.
+#![tactic(auto)]
+
 ghost use Rattle.std.specs.Prelude.{◌≡◌, Bool, true, false, ℕ, ◌+◌, ◌*◌, ◌<◌, length, set};
 ghost use Rattle.verdict.specs.Loops.{reaches_itself};
 ghost use Rattle.verdict.specs.Search.{least};

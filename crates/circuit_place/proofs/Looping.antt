@@ -45,7 +45,7 @@ module _ (p : Pipeline) (code : List ℕ) (first : ℕ) (placed : Placed p code 
   begins w i here = (w, i)
   begins w i (onward {z = z} j l) = (z, j)
 
-  down : {x y : ℕ} (w : ℕ) → In w (openings p y) → Opens x → Leads (openings p) y x → (at y ≤ at x) × Opens y
+  down : {y x : ℕ} (w : ℕ) → In w (openings p y) → Opens x → Leads (openings p) y x → (at y ≤ at x) × Opens y
   down w i o here = (omega arith, o)
   down w i o (onward {x = x} {z = z} j l) =
       let b = begins w i l in

@@ -4,22 +4,20 @@ use Prim.Native.Nat.{ℕ, zero, suc, ◌+◌, ◌*◌, ◌-◌, ◌≤◌, ◌<�
 use native.Mathlib.Omega.{arith}
 use native.Mathlib.Decide.{dec_lt}
 use mathlib.Core.Path.{◌≡◌, refl, sym, ap, ◌∙◌, subst}
-use mathlib.Core.Bool.{Bool, true, false}
-use mathlib.Core.Logic.{◌⊎◌, inl, inr}
+use mathlib.Core.Bool.{true}
+use mathlib.Core.Logic.{inl, inr}
 use mathlib.Core.List.{List, [], ◌∷◌}
 use lib.ListN.{length, get_or, get_or-eq_default}
 use borrow.Author.Tests.{le-ltb}
 use Rattle.netlist.specs.Bytes.{absent}
-use Rattle.verdict.specs.Lists.{some}
 use Rattle.verdict.specs.Paths.{In}
 use Rattle.verdict.proofs.Steps.{some_out}
 use Rattle.wiring_spec.specs.Parts.{Pipeline, Driver, input, gate, rail, acknowledge, completion, nothing, driver_of, all_nets}
 use Rattle.wiring_spec.specs.Wiring.{opened, openings}
-use Rattle.wiring_spec.specs.Named.{Named}
 use Rattle.wiring_spec.specs.Tables.{slot, RowOf, PartsLoaded}
 use Rattle.wiring_spec.proofs.Nets.{open_inside, open_late, opened_element}
 use Rattle.circuit_place.specs.Placing.{place, waiting, four, InOrder, Passed, Placed}
-use Rattle.circuit_place.proofs.Placing.{never, Waits, waits_out, waits_in}
+use Rattle.circuit_place.proofs.Placing.{never, waits_out, waits_in}
 
 -- the four numbers of a row, one by one
 pub in_four : (code : List ℕ) (i j v : ℕ) → j < 4 → slot code i (1 + j) ≡ v → In v (four code (8 * i + 1))

@@ -1,11 +1,10 @@
 -- Placing the C-elements: a net waits or does not, a place taken, a pass, and passes.
 -- Assumes nothing.
-use Prim.Native.Nat.{ℕ, zero, suc, ◌+◌, ◌*◌, ◌-◌, ◌≤◌, ◌<◌}
+use Prim.Native.Nat.{ℕ, ◌+◌, ◌*◌, ◌-◌, ◌≤◌, ◌<◌}
 use native.Mathlib.Omega.{arith}
 use native.Mathlib.Decide.{ℕ_discrete}
 use mathlib.Core.Path.{◌≡◌, refl, sym, ap, ◌∙◌, subst}
-use mathlib.Core.Bool.{Bool, true, false, cond, not, ◌&&◌, ◌||◌}
-use mathlib.Core.Logic.{◌⊎◌, inl, inr, ⊎_elim}
+use mathlib.Core.Bool.{Bool, true, false, cond, not, ◌&&◌}
 use mathlib.Core.List.{List, [], ◌∷◌}
 use lib.ListN.{length, get_or, set, length-set}
 use lib.Seq.{get_or-set_same, get_or-set_other}
@@ -13,7 +12,6 @@ use lib.Dec.{eqb, leb, ltb}
 use borrow.Author.Tests.{lt-ltb, le-ltb, le-leb, lt-leb, leb-false, ltb-true, ltb-false, eq-eqb, ne_eqb, eqb-true, not-true}
 use Rattle.verdict.specs.Paths.{In}
 use Rattle.verdict.proofs.Steps.{some_in}
-use Rattle.wiring_spec.specs.Counting.{passing}
 use Rattle.verdict.specs.Lists.{some}
 use Rattle.wiring_spec.proofs.Counting.{passing_bound, fewer}
 use Rattle.wiring_spec.specs.Tables.{slot}
@@ -279,8 +277,8 @@ turn_last code₀ code first count taken placed i t h = record { placing = t.pla
 pub placing_anew : (code₀ code : List ℕ) (first count placed : ℕ) → Placing code₀ code first count placed → Placing code code first count placed
 placing_anew code₀ code first count placed w = record { long = w.long; kept = λ i j h d. refl; few = w.few; top = w.top; order = w.order }
 
-pub placing_on : (code₀ code code' : List ℕ) (first count placed placed' : ℕ) → Placing code₀ code first count placed → Placing code code' first count placed' → Placing code₀ code' first count placed'
-placing_on code₀ code code' first count placed placed' w v = record { long = v.long; kept = λ i j h d. v.kept i j h d ∙ w.kept i j h d; few = v.few; top = v.top; order = v.order }
+pub placing_on : (code₀ code more : List ℕ) (first count placed placed' : ℕ) → Placing code₀ code first count placed → Placing code more first count placed' → Placing code₀ more first count placed'
+placing_on code₀ code more first count placed placed' w v = record { long = v.long; kept = λ i j h d. v.kept i j h d ∙ w.kept i j h d; few = v.few; top = v.top; order = v.order }
 
 pub passed_end : (code₀ code code' : List ℕ) (first count placed more : ℕ) → Placing code₀ code first count placed → Passed code code' first count placed more → more ≡ placed → Passed code₀ code' first count placed placed
 passed_end code₀ code code' first count placed more w v e = record {

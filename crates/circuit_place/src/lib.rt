@@ -1,4 +1,6 @@
 // Placing the C-elements in an order in which each comes after those at its pins.
+#![tactic(auto)]
+
 ghost use Rattle.std.specs.Prelude.{◌≡◌, ◌&&◌, not, ◌+◌, ◌*◌, ◌≤◌, ◌<◌, length};
 ghost use Rattle.verdict.specs.Lists.{some};
 ghost use Rattle.circuit_place.specs.Placing.{waiting, four, Placing, Stuck, Passed};

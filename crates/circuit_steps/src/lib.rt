@@ -1,4 +1,6 @@
 // One step of a loaded stage: which nets may switch in a row, and where to look next once one has.
+#![tactic(auto)]
+
 ghost use Rattle.std.specs.Prelude.{◌≡◌, ◌+◌, ◌*◌, ◌<◌, length, set};
 ghost use Rattle.gates.specs.Table.{GateTable};
 ghost use Rattle.runs.specs.Row.{toggle};

@@ -1,5 +1,7 @@
 // What a loaded circuit gives in a row: the outputs of a stage, which are DATA, which are NULL, and which do not read as the reference's
 // values; and the values of the signals of a reference.
+#![tactic(auto)]
+
 ghost use Rattle.std.specs.Prelude.{◌≡◌, ◌∷◌, [], ℕ, ◌+◌, ◌≤◌, ◌<◌, min, max, length, get_or, take};
 ghost use Rattle.verdict.specs.Rows as rows;
 ghost use Rattle.verdict.specs.Search.{least};
@@ -14,7 +16,7 @@ use netlist::{Counts, Found};
 // ---- DATA
 
 // The levels of the two rails of an output.
-#[derive(Drop)]
+#[derive(Clone, Copy)]
 struct RailLevels {
     rail0: u8,
     rail1: u8,

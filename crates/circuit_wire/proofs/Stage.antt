@@ -4,29 +4,27 @@ use Prim.Native.Nat.{ℕ, zero, suc, ◌+◌, ◌*◌, ◌-◌, ◌/◌, ◌≤�
 use native.Mathlib.Omega.{arith}
 use native.Mathlib.Decide.{dec_lt}
 use mathlib.Core.Path.{◌≡◌, refl, sym, ap, ap₂, ◌∙◌, subst}
-use mathlib.Core.Bool.{Bool, true, false, cond}
+use mathlib.Core.Bool.{Bool, true, false}
 use mathlib.Core.Logic.{inl, inr}
 use mathlib.Core.List.{List, [], ◌∷◌, map}
-use lib.ListN.{length, get_or, take, length-map, get_or-map}
-use lib.Dec.{eqb, ltb}
+use lib.ListN.{length, get_or, take, length-map}
+use lib.Dec.{eqb}
 use Rattle.gates.specs.Cell.{pin_count}
 use Rattle.netlist.specs.declared.Counts.{Counts}
 use Rattle.netlist.specs.Bytes.{absent}
-use Rattle.netlist.specs.Content.{Gate, Pair, Stage}
-use Rattle.verdict.specs.Paths.{In, Leads, here, onward, OnLoop}
+use Rattle.netlist.specs.Content.{Gate, Stage}
+use Rattle.verdict.specs.Paths.{In, Leads, here, onward}
 use Rattle.verdict.specs.Loops as loops
 use Rattle.verdict.specs.Loops.{pins_at, reaches_itself}
 use Rattle.verdict.proofs.Reaching.{steps_gate, step_gate, reaches_sound, reaches_complete}
 use Rattle.circuit.specs.Stage.{net_count, cell_in, slot, pin_in, gate_in, stage_gates, output_in, stage_outputs, stage_care, stage_in, GateLoaded, StageLoaded}
 use Rattle.circuit.specs.Order.{TopologicalOrder, order_in, InOrder}
 use Rattle.circuit.proofs.Tabulate.{all_same, map_tabulate, get_d_tabulate, length_tabulate}
-use Rattle.circuit.proofs.Pins.{pins_few}
-use Rattle.wiring_spec.specs.Parts.{Pipeline, driver_of, all_nets, register_count}
+use Rattle.wiring_spec.specs.Parts.{Pipeline, register_count}
 use Rattle.wiring_spec.specs.Wiring.{gate_steps}
 use Rattle.wiring_spec.specs.Passing.{ReachesOn}
 use Rattle.wiring_spec.specs.Wires.{resolve, times}
 use Rattle.wiring_spec.specs.Named.{IsData}
-use Rattle.wiring_spec.specs.Tables as tables
 use Rattle.wiring_spec.specs.Tables.{PartsLoaded}
 use Rattle.wiring_spec.proofs.Nets.{steps_are, data_net}
 use Rattle.wiring_spec.proofs.Wires.{resolve_inside}
@@ -52,6 +50,7 @@ in_take (suc m) (x ∷ l) zero a b = inl refl
 in_take (suc m) (x ∷ l) (suc i) a b = inr (in_take m l i (omega arith) (omega arith))
 
 map-in : (f : ℕ → ℕ) (xs : List ℕ) (v : ℕ) → In v xs → In (f v) (map f xs)
+map-in f [] v x' = elim x' [ ]
 map-in f (x ∷ xs) v (inl e) = inl (ap f e)
 map-in f (x ∷ xs) v (inr i) = inr (map-in f xs v i)
 

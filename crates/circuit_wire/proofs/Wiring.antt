@@ -3,12 +3,11 @@
 use Prim.Native.Nat.{ℕ, zero, suc, ◌+◌, ◌*◌, ◌-◌, ◌/◌, ◌≤◌, ◌<◌}
 use native.Mathlib.Omega.{arith}
 use native.Mathlib.Decide.{ℕ_discrete}
-use mathlib.Core.Path.{◌≡◌, refl, sym, ap, ap₂, ◌∙◌}
-use mathlib.Core.Bool.{Bool, true, false, cond}
+use mathlib.Core.Path.{◌≡◌, refl, sym, ap, ◌∙◌}
+use mathlib.Core.Bool.{true}
 use mathlib.Core.List.{List}
 use lib.ListN.{length, get_or, set, length-set}
 use lib.Seq.{get_or-set_same, get_or-set_other}
-use lib.Dec.{eqb, ltb}
 use borrow.Author.Tests.{lt-ltb, le-ltb, le-leb, lt-leb, eq-eqb, ne_eqb}
 use Rattle.wiring_spec.specs.Parts.{Pipeline, Driver, input, gate, rail, acknowledge, completion, nothing, driver_of, register_count}
 use Rattle.wiring_spec.specs.Wires.{wire_of, times, resolve}
@@ -16,7 +15,7 @@ use Rattle.wiring_spec.specs.Named.{carries_data}
 use Rattle.wiring_spec.specs.Tables.{slot, RowOf, PartsLoaded}
 use Rattle.wiring_spec.proofs.Nets.{Stands}
 use Rattle.wiring_spec.proofs.Rows.{by_row}
-use Rattle.circuit_wire.specs.Wire.{wire_in, ResolvedTo, wired_net}
+use Rattle.circuit_wire.specs.Wire.{wire_in, ResolvedTo}
 
 module _ (nets : List ℕ) (first x : ℕ) where
   pub wire_before : x < first → x ≡ wire_in nets first x

@@ -1,5 +1,7 @@
 // Registers as wires: the stage of a pipeline as the file has it becomes the wired one, in which each pin and each rail has the net that its own comes
 // from.
+#![tactic(auto)]
+
 ghost use Rattle.std.specs.Prelude.{◌≡◌, ◌+◌, ◌*◌, ◌/◌, ◌≤◌, length};
 ghost use Rattle.netlist.specs.Reading.{stage_limits, Within};
 ghost use Rattle.wiring_spec.specs.Wires.{times};

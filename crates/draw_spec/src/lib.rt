@@ -1,1 +1,2 @@
 // A reference drawn from a seed. The definitions are in specs/, and nothing is run.
+#![tactic(auto)]

@@ -4,12 +4,11 @@ use Prim.Native.Nat.{ℕ, ◌+◌, ◌-◌, ◌^◌, ◌≤◌, ◌<◌}
 use native.Mathlib.Omega.{arith}
 use mathlib.Core.Path.{◌≡◌, refl, sym, ◌∙◌, ap, subst}
 use native.Mathlib.Decide.{dec_lt}
-use mathlib.Core.Bool.{Bool, true, false, cond, ◌&&◌}
+use mathlib.Core.Bool.{Bool, true, false}
 use lib.Dec.{T, lit<, eqb, eqb→eq, leb, leb→le}
-use borrow.Author.Tests.{le-leb, lt-leb, ne_eqb}
-use Rattle.gates.specs.Cell.{cells, cell_at, pin_count, set_bit, at_least, threshold, kind_of, kind_byte, as_kind}
+use borrow.Author.Tests.{le-leb, lt-leb}
+use Rattle.gates.specs.Cell.{cells, cell_at, pin_count, threshold, kind_of, kind_byte, as_kind}
 use Rattle.gates.specs.Unweighted.{Unweighted, unweighted_cells, SetByCount, AllByCount}
-use Rattle.gates.specs.declared.Kind.{Kind}
 use Rattle.gates.specs.declared.Kind.TheVariants.{Hold, Relaxed, Unknown}
 use Rattle.gates.proofs.Every.{every, every_at}
 use Rattle.gates.proofs.Patterns.{count_decides}

@@ -1,5 +1,5 @@
 -- The 27 fundamental NCL gates: name, pins and set expression of each, in the paper's order; and what a kind byte stands for.
-use Rattle.std.specs.Prelude.{ℕ, ◌+◌, ◌-◌, ◌*◌, ◌/◌, ◌%◌, ◌^◌, Bool, true, false, cond, ◌&&◌, ◌||◌, List, [], ◌∷◌, eqb, leb, get_or}
+use Rattle.std.specs.Prelude.{ℕ, ◌+◌, ◌-◌, ◌/◌, ◌%◌, ◌^◌, Bool, true, false, cond, ◌&&◌, ◌||◌, List, [], ◌∷◌, eqb, leb, get_or}
 use Prim.Native.String.{String}
 use Rattle.std.specs.Int.Count.{ones}
 use Rattle.gates.specs.Expression.{Expression, A, B, C, D, ◌·◌, ◌∔◌, holds}

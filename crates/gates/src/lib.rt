@@ -1,11 +1,13 @@
 // The 27 fundamental NCL gates: which patterns of pins set a cell, which cells are retired, and what a kind byte of a stage file stands for.
+#![tactic(auto)]
+
 ghost use Rattle.std.specs.Prelude.{◌≡◌, ◌<◌, ◌≤◌, ◌^◌};
 ghost use Rattle.gates.specs.Cell.{set_bit, at_least, pin_count, is_retired, kind_of};
 ghost use Rattle.gates.specs.Table.{GateTable};
 
 // What a kind byte stands for: a cell with hold, which falls when all of its pins are low; a relaxed one, which falls as soon as its set
 // expression is false; or no kind.
-#[derive(Drop)]
+#[derive(Clone, Copy)]
 pub enum Kind {
     Hold { cell: u8, pins: u8 },
     Relaxed { cell: u8, pins: u8 },

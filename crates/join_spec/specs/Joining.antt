@@ -91,7 +91,8 @@ pub record Joinable (order : WordOrder) (one two : Files) : Type 0 where
 -- What is said of the join, by the order of words, the files of its parts, the two buffers, its answer and the buffers after it: these are as defined,
 -- the earliest failing case is named, and where it accepts, the bytes at the start of the buffers, as many as it says, are the whole, and in the other
 -- order it accepts too, and so writes the same. Parts that can be joined are accepted where the buffers have room.
-pub record JoinDemand (order : WordOrder) (one two : Files) (stage_out reference_out : List ℕ) (r : JoinAnswer) (stage_left reference_left : List ℕ) : Type 0 where
+pub record JoinDemand (order : WordOrder) (one two : Files) (stage_out reference_out : List ℕ) (r : JoinAnswer)
+    (stage_left reference_left : List ℕ) : Type 0 where
   pub stage_left_holds : written (record { verdict = r.verdict; count = r.stage_count }) stage_left
       ≡ leaving (judge (join_checks order one two (length stage_out) (length reference_out))) (whole one two).stage stage_out
   pub reference_left_holds : written (record { verdict = r.verdict; count = r.reference_count }) reference_left

@@ -1,5 +1,7 @@
 // Cells and reference gates in 64 words at a time. The words of a stage stand in blocks of 64, and a u64 holds a net's levels in the words of a
 // block: bit j is its level in word 64 b + j of block b.
+#![tactic(auto)]
+
 ghost use Rattle.std.specs.Prelude.{◌≡◌, true, ◌∷◌, [], ℕ, ◌+◌, ◌*◌, ◌≤◌, ◌<◌, length, get_or, take};
 ghost use Rattle.std.specs.Int.Bits.{bit_xor};
 ghost use Rattle.gates.specs.Expression.{holds};
@@ -16,7 +18,7 @@ use netlist::Counts;
 
 // Words of a block for a gate and for each of its four pins; which words they are is said where they are made. Those of a cell (`cell_lanes`) are
 // where its set expression holds, and for each pin where it holds and would not with that pin low.
-#[derive(Drop)]
+#[derive(Clone, Copy)]
 pub struct CellLanes {
     pub set: u64,
     pub a: u64,

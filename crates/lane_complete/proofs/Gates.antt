@@ -19,8 +19,8 @@ use Rattle.lane_cells.proofs.Lane.{lane_or}
 use Rattle.lane_settle.specs.declared.PinLanes.{PinLanes}
 use Rattle.lane_settle.specs.Block.{net_in, pin_lanes, gate_lanes}
 use Rattle.lane_settle.proofs.Pins.{driver_at}
-use Rattle.lane_settle.proofs.Settling.{level_of, pin_absent, set_lane}
-use Rattle.lane_complete.specs.Rows.{PinsAs, MayRise, MayNotFall}
+use Rattle.lane_settle.proofs.Settling.{pin_absent, set_lane}
+use Rattle.lane_complete.specs.Rows.{MayRise, MayNotFall}
 
 -- nets of which those past the first m are low
 low_take : (R : Row) (l : List ℕ) (m : ℕ) → ((i : ℕ) → m ≤ i → i < length l → R (get_or l i 0) ≡ false) → all_low R (take m l) ≡ all_low R l

@@ -5,22 +5,21 @@ use native.Mathlib.Omega.{arith}
 use mathlib.Core.Path.{◌≡◌, refl, sym, ap, ap₂, ◌∙◌}
 use mathlib.Core.Bool.{Bool, true, false, not, ◌||◌}
 use mathlib.Core.List.{List}
-use lib.ListN.{length, get_or}
+use lib.ListN.{get_or}
 use lib.Dec.{eqb}
 use lib.Bits.{bit_and, bit_or, bit_xor}
 use Rattle.runs.specs.Row.{Row}
 use Rattle.runs.specs.Pair.{Data, Null}
 use Rattle.runs.proofs.Test.{clash, and_in}
 use Rattle.netlist.specs.declared.Counts.{Counts}
-use Rattle.netlist.specs.Content.{Pair}
 use Rattle.verdict.specs.Nets.{rail_of}
-use Rattle.circuit.specs.Stage.{net_count, output_in, StageLoaded}
+use Rattle.circuit.specs.Stage.{output_in, StageLoaded}
 use Rattle.circuit.specs.declared.form.Rails.{Rails}
 use Rattle.circuit.specs.Form.{rails_in}
 use Rattle.lane_cells.specs.Lane.{lane}
 use Rattle.lane_cells.proofs.Lane.{lane_and, lane_or, unlike, lane_xor}
 use Rattle.lane_cells.proofs.Blocks.{all-at, lane_not}
-use Rattle.lane_settle.specs.Block.{net_in, NetsOf}
+use Rattle.lane_settle.specs.Block.{NetsOf}
 use Rattle.lane_screen.proofs.Outputs.{output_at, length_outputs}
 use Rattle.lane_complete.specs.Rows.{OnlyIn}
 

@@ -2,13 +2,13 @@
 -- Assumes nothing.
 use Prim.Native.Nat.{ℕ, ◌+◌, ◌*◌, ◌≤◌, ◌<◌}
 use native.Mathlib.Omega.{arith}
-use mathlib.Core.Path.{◌≡◌, sym, ap, ap₂, ◌∙◌}
+use mathlib.Core.Path.{◌≡◌, sym, ap₂, ◌∙◌}
 use mathlib.Core.Bool.{Bool, true, false, not, ◌&&◌, ◌||◌}
 use mathlib.Core.List.{List}
-use lib.ListN.{length, get_or, set}
+use lib.ListN.{get_or, set}
 use lib.Bits.{bit_and}
 use Rattle.runs.specs.Row.{Row, only}
-use Rattle.runs.specs.Net.{rails_of_inputs, may_fall, fall_down}
+use Rattle.runs.specs.Net.{rails_of_inputs, may_fall}
 use Rattle.runs.proofs.Test.{clash, not-true, and_left, le-ltb}
 use Rattle.runs.proofs.Net.{by_net_gate}
 use Rattle.runs.proofs.Rise.{settled_gate, settled_inside}
@@ -17,7 +17,7 @@ use Rattle.circuit.specs.Stage.{net_count, StageLoaded}
 use Rattle.circuit.specs.Order.{InOrder}
 use Rattle.circuit.specs.Form.{GateAt}
 use Rattle.circuit.proofs.Settling.{length_stage_gates}
-use Rattle.lane_cells.specs.Lane.{lane, row_in}
+use Rattle.lane_cells.specs.Lane.{lane}
 use Rattle.lane_cells.proofs.Lane.{lane_and}
 use Rattle.lane_settle.specs.Block.{rest_in, net_in, Room, Spelled, LanesSettledTo, AtRest}
 use Rattle.lane_settle.proofs.Settling.{gate_net, rest_past, pins_settled, settled_more}

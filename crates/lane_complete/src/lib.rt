@@ -1,4 +1,6 @@
 // 14 and 20 in 64 words at a time: in which of them all outputs are DATA with an input NULL, and in which all are NULL while an input keeps its DATA.
+#![tactic(auto)]
+
 ghost use Rattle.std.specs.Prelude.{◌≡◌, ℕ, ◌<◌, length, get_or};
 ghost use Rattle.runs.specs.Row.{Row};
 ghost use Rattle.runs.specs.Pair.{AllData, AllNull};

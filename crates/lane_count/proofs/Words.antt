@@ -143,9 +143,9 @@ module _ (b : ℕ) (digits start : List ℕ) where
 abbrev pub HighTo : Counts → List ℕ → List ℕ → ℕ → Type 0
 HighTo c code high b = (w : ℕ) → w < 64 * b → get_or high w 0 ≡ gates_high (stage_in c code) w
 
-high-more : (c : Counts) (code high : List ℕ) (b : ℕ) → HighTo c code high b → (high' : List ℕ) → ((w : ℕ) → w < 64 * b → get_or high' w 0 ≡ get_or high w 0)
+high_more : (c : Counts) (code high : List ℕ) (b : ℕ) → HighTo c code high b → (high' : List ℕ) → ((w : ℕ) → w < 64 * b → get_or high' w 0 ≡ get_or high w 0)
     → ((j : ℕ) → j < 64 → get_or high' (64 * b + j) 0 ≡ gates_high (stage_in c code) (64 * b + j)) → HighTo c code high' (b + 1)
-high-more c code high b s high' before block w h = go (dec_lt w (64 * b))
+high_more c code high b s high' before block w h = go (dec_lt w (64 * b))
   where
     go : Dec (w < 64 * b) → get_or high' w 0 ≡ gates_high (stage_in c code) w
     go (yes l) = before w l ∙ s w l
@@ -176,5 +176,5 @@ blocks_more c code start high row b s high' row' digits room long rest count wri
   same_long = written.0 ∙ s.same_long;
   row_long = long ∙ s.row_long;
   ground = rest.ground;
-  high_to = high-more c code high b s.high_to high' written.2 (λ j d. written.1 j d ∙ count j ∙ block_high c code b row' (omega (arith, long)) rest j d);
+  high_to = high_more c code high b s.high_to high' written.2 (λ j d. written.1 j d ∙ count j ∙ block_high c code b row' (omega (arith, long)) rest j d);
 }

@@ -1,4 +1,6 @@
 // How many gates are high at the rest of each word, 64 words at a time: a counter for each word of a block, all of them side by side.
+#![tactic(auto)]
+
 ghost use Rattle.std.specs.Prelude.{◌≡◌, ℕ, ◌+◌, ◌*◌, ◌^◌, ◌≤◌, ◌<◌, length, get_or, take, drop};
 ghost use Rattle.netlist.specs.Reading.{stage_limits};
 ghost use Rattle.verdict.specs.Levels.{sum};
@@ -14,7 +16,7 @@ use netlist::Counts;
 const DIGITS: usize = 9;
 
 // Two digits of a sum in each word.
-#[derive(Drop)]
+#[derive(Clone, Copy)]
 struct Sum {
     low: u64,
     high: u64,

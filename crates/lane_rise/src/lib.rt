@@ -1,4 +1,6 @@
 // Which gates rise in some word that a stage cares for, noted where a block of 64 words has settled, and the least gate that never does.
+#![tactic(auto)]
+
 ghost use Rattle.std.specs.Prelude.{◌≡◌, ◌+◌, ◌≤◌, length};
 ghost use Rattle.netlist.specs.Content.{Stage};
 ghost use Rattle.verdict.specs.Search.{least};

@@ -39,6 +39,7 @@ use Rattle.lane_settle.proofs.Settling.{gate_net, rest_gate, rest_past}
 
 -- some net of a list is high
 not_all_low : (r : Row) (l : List ℕ) (p : ℕ) → In p l → r p ≡ true → all_low r l ≡ false
+not_all_low r mathlib.Core.List.[] p x'' u = elim x'' [ ]
 not_all_low r (q ∷ l) p (inl e) u = rw (sym (ap r e) ∙ u)
 not_all_low r (q ∷ l) p (inr i) u = go (not (r q)) (not_all_low r l p i u)
   where

@@ -10,7 +10,7 @@ use Rattle.runs.specs.Pair.{Reads, AllData, AllNull}
 use Rattle.runs.proofs.Test.{clash, not-true}
 use Rattle.netlist.specs.declared.Found.TheVariants.{Nothing}
 use Rattle.netlist.specs.Content.{Pair, Stage, Reference}
-use Rattle.verdict.specs.Rows.{high, with_null, settled, settled_holding, DualRail, pair_in, is_data, is_null, every_pair, all_data, all_null}
+use Rattle.verdict.specs.Rows.{high, settled, DualRail, pair_in, is_data, is_null, every_pair, all_data, all_null}
 use Rattle.verdict.specs.Search.{least}
 use Rattle.verdict.specs.Words.{numbers, bits_of, rails_in}
 use Rattle.verdict.specs.Answers.{answer}

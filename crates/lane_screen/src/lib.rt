@@ -1,5 +1,7 @@
 // Which words of a stage are suspect: in 64 words at a time, where an output is not the reference's DATA, and where a high net is not
 // acknowledged. Beside it the least gate that rises in none of them.
+#![tactic(auto)]
+
 ghost use Rattle.std.specs.Prelude.{◌≡◌, true, false, ◌⊎◌, ℕ, ◌+◌, ◌*◌, ◌^◌, ◌≤◌, ◌<◌, length, get_or};
 ghost use Rattle.runs.specs.Pair.{DataOf};
 ghost use Rattle.netlist.specs.Reading.{stage_limits};
@@ -22,14 +24,14 @@ use lane_cells::CellLanes;
 use netlist::{Counts, Found};
 
 // The words of a block in which something may be wrong: for 13; and for 14 and 15, those for 13 among them.
-#[derive(Drop)]
+#[derive(Clone, Copy)]
 pub struct Rise {
     pub wrong: u64,
     pub all: u64,
 }
 
 // The words of the files in which something may be wrong: for 13, for 14 and 15 (those for 13 among them), and for 20 and 21.
-#[derive(Drop)]
+#[derive(Clone, Copy)]
 pub struct Masks {
     pub wrong: [u64; lane_settle::BLOCKS],
     pub rise: [u64; lane_settle::BLOCKS],
@@ -37,7 +39,7 @@ pub struct Masks {
 }
 
 // What a stage shows where its words settle side by side: the words in which something may be wrong, and the least gate that never rises.
-#[derive(Drop)]
+#[derive(Clone, Copy)]
 pub struct Screened {
     pub masks: Masks,
     pub low: Found,

@@ -1,4 +1,6 @@
 // 64 words of a stage settle side by side: the words stand in blocks of 64, and a block's row holds each net's levels in its words.
+#![tactic(auto)]
+
 ghost use Rattle.std.specs.Prelude.{◌≡◌, true, ◌⊎◌, List, ℕ, ◌+◌, ◌*◌, ◌^◌, ◌≤◌, ◌<◌, length, get_or};
 ghost use Rattle.netlist.specs.Reading.{stage_limits};
 ghost use Rattle.circuit.specs.Stage.{net_count, StageLoaded};
@@ -66,7 +68,7 @@ pub fn spell_rails(counts: Counts, b: usize, row: &mut [u64])
 }
 
 // The levels at the four pins of a gate, in the words of a block.
-#[derive(Drop)]
+#[derive(Clone, Copy)]
 pub struct PinLanes {
     pub a: u64,
     pub b: u64,

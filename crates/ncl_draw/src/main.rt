@@ -1,9 +1,11 @@
 // ncl_draw SEED INPUTS GATES: draws a reference from a seed, with so many inputs and gates, and prints the verdict. Where it accepts, the reference is
 // written as reference.ncl; otherwise no file is touched. Where it could not be written, or an argument is no number, no verdict is printed.
-use libc::STDERR_FILENO;
+#![tactic(auto)]
+
+use std::rt::{Env, Files};
 
 // A number that was given as decimal digits, or none.
-#[derive(Drop)]
+#[derive(Clone, Copy)]
 enum Given {
     Number(u64),
     Nothing,
@@ -47,54 +49,48 @@ fn decimal(text: &[u8]) -> Given {
 }
 
 // Argument i as a number. One that is missing or too long has no digits.
-fn argument(i: usize) -> Given {
+fn argument<R: Env>(rt: &R, i: usize) -> Given {
     let mut text = [0u8; 20];
-    let n = os::arg(i, &mut text);
+    let Ok(n) = rt.arg(i, &mut text) else {
+        return Given::Nothing;
+    };
     decimal(&text[..n])
 }
 
-fn draw(seed: u32, inputs: usize, gates: usize) {
+fn draw<R: Files + Print + Eprint>(rt: &R, seed: u32, inputs: usize, gates: usize) {
     let mut reference = [0u8; 512];
     let answer = call_draw::draw_reference(seed, inputs, gates, &mut reference);
     if answer.verdict.number == 0 {
-        if !console::save(b"reference.ncl", &reference, answer.count) {
+        if !console::save(rt, b"reference.ncl", &reference, answer.count) {
             return;
         }
     }
-    console::print_verdict(answer.verdict);
+    console::print_verdict(rt, answer.verdict);
 }
 
-fn main() {
-    let first = argument(1);
+fn main(rt: HostRuntime) {
+    let first = argument(&rt, 1);
     let Given::Number(seed) = first else {
-        io::write_all(
-            STDERR_FILENO,
-            b"ncl_draw: the seed must be a decimal number up to 4294967295\n",
-        );
+        let _ = eprintln!(rt; "ncl_draw: the seed must be a decimal number up to 4294967295");
         return;
     };
     if 4294967295 < seed {
-        io::write_all(
-            STDERR_FILENO,
-            b"ncl_draw: the seed must be a decimal number up to 4294967295\n",
-        );
+        let _ = eprintln!(rt; "ncl_draw: the seed must be a decimal number up to 4294967295");
         return;
     }
-    let second = argument(2);
+    let second = argument(&rt, 2);
     let Given::Number(inputs) = second else {
-        io::write_all(
-            STDERR_FILENO,
-            b"ncl_draw: the inputs must be a decimal number up to 18446744073709551615\n",
+        let _ = eprintln!(rt;
+            "ncl_draw: the inputs must be a decimal number up to 18446744073709551615"
         );
         return;
     };
-    let third = argument(3);
+    let third = argument(&rt, 3);
     let Given::Number(gates) = third else {
-        io::write_all(
-            STDERR_FILENO,
-            b"ncl_draw: the gates must be a decimal number up to 18446744073709551615\n",
+        let _ = eprintln!(rt;
+            "ncl_draw: the gates must be a decimal number up to 18446744073709551615"
         );
         return;
     };
-    draw(seed as u32, inputs as usize, gates as usize);
+    draw(&rt, seed as u32, inputs as usize, gates as usize);
 }

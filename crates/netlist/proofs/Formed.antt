@@ -1,12 +1,12 @@
 -- The gates and outputs that a readable file holds are well-formed: their codes are known, their operands are complete and name what they have to name.
 -- Assumes nothing.
-use Prim.Native.Nat.{ℕ, suc, ◌+◌, ◌≤◌, ◌<◌}
+use Prim.Native.Nat.{ℕ, suc, ◌+◌, ◌≤◌}
 use mathlib.Core.Path.{◌≡◌, sym, ap, subst₃, ◌∙◌}
 use mathlib.Core.List.{List, [], ◌∷◌, map}
 use lib.ListN.{length}
 use Rattle.netlist.specs.Types.{File, Limits}
 use Rattle.netlist.specs.Types.sort
-use Rattle.netlist.specs.Bytes.{byte, operands}
+use Rattle.netlist.specs.Bytes.{byte}
 use Rattle.netlist.specs.Commands.{needed}
 use Rattle.netlist.specs.Reading.{Nets, asked, Places, nets_of, read_file, readable}
 use Rattle.netlist.specs.Content.{Coded, coded_at}

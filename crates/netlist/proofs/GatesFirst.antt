@@ -7,7 +7,6 @@ use mathlib.Core.Path.{◌≡◌, refl, sym, ap, ap₂, subst, ◌∙◌}
 use mathlib.Core.List.{List, [], ◌∷◌, ◌++◌, map, map-map}
 use lib.ListN.{length, get_or}
 use Rattle.netlist.specs.Types.{File, Limits}
-use Rattle.netlist.specs.Types.file
 use Rattle.netlist.specs.Types.sort
 use Rattle.netlist.specs.Reading.{Places, sorts_of, nets_of, read_file, readable}
 use Rattle.netlist.specs.Content.{Coded, coded_at}

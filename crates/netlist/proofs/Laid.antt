@@ -3,16 +3,16 @@
 use Prim.Native.Nat.{ℕ, suc, ◌+◌, ◌*◌, ◌^◌, ◌≤◌, ◌<◌}
 use native.Mathlib.Omega.{arith}
 use mathlib.Core.Path.{◌≡◌, refl, sym, ap, ap₂, ◌∙◌}
-use mathlib.Core.Bool.{Bool, true, false, cond}
+use mathlib.Core.Bool.{false}
 use mathlib.Core.List.{List, [], ◌∷◌, map}
 use lib.ListN.{length}
-use Rattle.netlist.specs.Types.{File, Sort, Form, Limits, Found, Nothing}
+use Rattle.netlist.specs.Types.{File, Sort, Form, Limits, Nothing}
 use Rattle.netlist.specs.Types.sort
 use Rattle.netlist.specs.Bytes.{byte, operand, operands, absent}
-use Rattle.netlist.specs.Commands.{is_sort, as_form, form_of, most_parts, needed, pins_used, used, misfit, misfit_from}
+use Rattle.netlist.specs.Commands.{as_form, form_of, most_parts, needed, pins_used, used, misfit, misfit_from}
 use Rattle.netlist.specs.Reading.{Nets, asked, nameless, nameless_at, Ascending, count_of, sorts_of}
 use Rattle.netlist.specs.Content.{Coded, coded_at}
-use Rattle.netlist.specs.Writing.{form_for, width_for, operand_count, Has, Item, gate, output, care, register, element, gates_in, outputs_in, care_in, sort_of, codes_of, operands_of, item_places}
+use Rattle.netlist.specs.Writing.{form_for, width_for, operand_count, Has, Item, gate, output, care, register, element, gates_in, outputs_in, care_in, sort_of, codes_of, operands_of}
 use Rattle.netlist.specs.Writing.{gate_places, output_places, part_places, parts_in, EachFrom, gates_after, nets_in}
 use Rattle.netlist.proofs.Operands.{length_operands, misfit_none, needed_there, bare_absent, nameless_named, named_nameless}
 use Rattle.netlist.proofs.Encoding.{care_form, item_form, needed_in}

@@ -1,10 +1,10 @@
 -- What is written reads back as itself, and bytes that are readable are what writing their content gives.
 -- Assumes nothing.
-use Prim.Native.Nat.{ℕ, suc, ◌+◌, ◌*◌, ◌≤◌, ◌<◌}
+use Prim.Native.Nat.{ℕ, ◌+◌, ◌*◌, ◌≤◌, ◌<◌}
 use native.Mathlib.Omega.{arith}
 use mathlib.Core.Path.{◌≡◌, refl, sym, ap, ap₂, ◌∙◌}
 use mathlib.Core.Logic.{◌↔◌}
-use mathlib.Core.Bool.{true, false}
+use mathlib.Core.Bool.{false}
 use mathlib.Core.List.{List, [], ◌∷◌, ◌++◌, append_assoc, map}
 use lib.ListN.{length, drop, get_or, length-append, drop_of_length-le}
 use Rattle.netlist.specs.Types.{File, Form, Limits}
@@ -14,14 +14,14 @@ use Rattle.netlist.specs.Commands.{is_sort, form_of, needed, pins_used}
 use Rattle.netlist.specs.Reading.{Nets, asked, Places, read_file, readable}
 use Rattle.netlist.specs.Content.{Coded, coded_at}
 use Rattle.netlist.specs.Writing.{command_byte, width_for, operand_count, Has, Item, gate, output, care, register, element, gates_in, outputs_in, care_in, sort_of, codes_of, operands_of}
-use Rattle.netlist.specs.Writing.{gate_places, output_places, places_of, write_operands, write_item, write_items, write_file, All, EachFrom, Whole, ItemFits, gates_after}
+use Rattle.netlist.specs.Writing.{gate_places, output_places, places_of, write_operands, write_item, write_items, write_file, EachFrom, Whole, ItemFits, gates_after}
 use Rattle.netlist.specs.Writing.{nets_in, ItemsFit, FileFits}
 use Rattle.netlist.proofs.Lists.{Bytes, All-++, byte_small}
 use Rattle.netlist.proofs.Operands.{bytes_written, operand_small, misfit_none, needed_there, bare_absent, pins_used_in, pins_are, length_operands, each_operands, byte_after, drop_after, length_after}
 use Rattle.netlist.proofs.Operands.{length_written, operands_written, fits_written, drop-one, drop_two, written_operands}
 use Rattle.netlist.proofs.Encoding.{each_file, byte_for, has_end, has_inputs, care_form, element_form, item_width, needed_in}
-use Rattle.netlist.proofs.Laid.{GateShown, ElementShown, Shown, ItemLaid, Laid, Named, FileLaid, wired_at, laid_code, laid_operands, laid_used, laid_bare}
-use Rattle.netlist.proofs.Laid.{operands_from, used_shown, operands_shown, laid_gates, laid_outputs, laid_length}
+use Rattle.netlist.proofs.Laid.{Shown, ItemLaid, Laid, Named, FileLaid, wired_at, laid_code, laid_operands, laid_used, laid_bare}
+use Rattle.netlist.proofs.Laid.{operands_from, operands_shown, laid_gates, laid_outputs, laid_length}
 use Rattle.netlist.proofs.Walk.{readable_laid, laid_readable}
 
 abbrev coded : ℕ → List ℕ → Coded

@@ -16,7 +16,7 @@ use Rattle.netlist.specs.Bytes.{operands}
 use Rattle.netlist.specs.Commands.{command_table, own_commands, form_in, needed}
 use Rattle.netlist.specs.Reading.{Nets, asked, Places, nets_of, read_file, readable}
 use Rattle.netlist.specs.Content.{Coded, coded_at, Gate, Pair, Stage, gate_of, pair_at, stage_of}
-use Rattle.netlist.specs.Writing.{care, care_in, places_of, All, EachFrom, FileFits, coded_gate, pair_operands, stage_items, write_stage}
+use Rattle.netlist.specs.Writing.{care_in, places_of, All, EachFrom, FileFits, coded_gate, pair_operands, stage_items, write_stage}
 use Rattle.netlist.specs.Formed.{CellFormed, RailsFormed, StageFormed}
 use Rattle.netlist.proofs.Lists.{Bytes, All-every, All-map}
 use Rattle.netlist.proofs.Operands.{same_asked}

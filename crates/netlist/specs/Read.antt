@@ -1,6 +1,6 @@
 -- What holds of a readable file by the places of its commands, also of a list of numbers that are no bytes; and a reading as the code answers it.
 use Rattle.std.specs.Prelude.{ℕ, ◌+◌, ◌*◌, ◌^◌, ◌≤◌, ◌<◌, ◌≡◌, true, List, length, get_or}
-use Rattle.netlist.specs.Types.{File, Sort, Limits, Found, Nothing, Outcome}
+use Rattle.netlist.specs.Types.{File, Sort, Limits, Nothing, Outcome}
 use Rattle.netlist.specs.Types.file
 use Rattle.netlist.specs.Types.sort
 use Rattle.netlist.specs.Types.outcome

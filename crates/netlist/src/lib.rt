@@ -1,11 +1,13 @@
 // The stage and reference files: what stands in them, and how they are read. What it means is said in specs/.
+#![tactic(auto)]
+
 ghost use Rattle.std.specs.Prelude.{◌≡◌, ◌+◌, ◌<◌, length};
 ghost use Rattle.netlist.specs.Bytes as bytes;
 ghost use Rattle.netlist.specs.Commands as commands;
 ghost use Rattle.netlist.specs.Reading as reading;
 
 // Which file is read: a stage, a stage with registers, or a reference.
-#[derive(Drop)]
+#[derive(Clone, Copy)]
 pub enum File {
     Stage,
     Pipeline,
@@ -24,7 +26,7 @@ pub fn stage_file(registers: bool) -> File
 }
 
 // What a command byte calls for.
-#[derive(Drop)]
+#[derive(Clone, Copy)]
 pub enum Sort {
     End,
     Inputs,
@@ -37,7 +39,7 @@ pub enum Sort {
 }
 
 // The most inputs, gates and outputs that a file may have.
-#[derive(Drop)]
+#[derive(Clone, Copy)]
 pub struct Limits {
     pub inputs: usize,
     pub gates: usize,
@@ -109,14 +111,14 @@ pub fn part_reference_limits() -> Limits
 }
 
 // A position in a file.
-#[derive(Drop)]
+#[derive(Clone, Copy)]
 pub struct Cursor {
     pub at: usize,
 }
 
 // The count of the inputs command, how many gates, outputs, care words, registers and C-elements there are, and the least that the next care
 // word may be: before a position of a file, or in all.
-#[derive(Drop)]
+#[derive(Clone, Copy)]
 pub struct Counts {
     pub inputs: usize,
     pub gates: usize,
@@ -128,7 +130,7 @@ pub struct Counts {
 }
 
 // What stands at a position: a command, with the position after it, or the refusal that ends the reading.
-#[derive(Drop)]
+#[derive(Clone, Copy)]
 pub enum Next {
     Command(Sort, Cursor),
     Refused { number: u8, at: usize },
@@ -136,7 +138,7 @@ pub enum Next {
 
 // What an operand has to name: any net of the stage, a signal of the reference that is an input or an earlier gate, any signal of the
 // reference; or it is a number and names nothing. In a pipeline: a net that carries data; any net; any net, or FFFE.
-#[derive(Drop)]
+#[derive(Clone, Copy)]
 pub enum Role {
     AnyNet,
     EarlierSignal,
@@ -149,7 +151,7 @@ pub enum Role {
 
 // A row of the command table: the sort of a command, how many bytes stand before its operands, the command byte included, and how many u16
 // operands follow.
-#[derive(Drop)]
+#[derive(Clone, Copy)]
 pub struct Form {
     pub sort: Sort,
     pub lead: usize,
@@ -157,14 +159,14 @@ pub struct Form {
 }
 
 // A place or an index, if there is one.
-#[derive(Drop)]
+#[derive(Clone, Copy)]
 pub enum Found {
     At(usize),
     Nothing,
 }
 
 // How the reading of a file ends: with its counts, or refused.
-#[derive(Drop)]
+#[derive(Clone, Copy)]
 pub enum Outcome {
     Readable(Counts),
     Refused { number: u8, at: usize },

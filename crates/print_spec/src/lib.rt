@@ -1,1 +1,2 @@
 // What programs print. The definitions are in specs/, and nothing is run.
+#![tactic(auto)]

@@ -7,8 +7,6 @@ use mathlib.Core.Bool.{Bool, true, false, cond}
 use mathlib.Core.List.{List, [], ◌∷◌}
 use lib.ListN.{get_or-eq_default}
 use lib.Dec.{eqb}
-use types.Run.{OneOf}
-use denote.Enum.Declared.{tag_of}
 use borrow.Author.Tests.{ne_eqb}
 use Rattle.netlist.specs.declared.File.{File}
 use Rattle.netlist.specs.declared.File.TheVariants as file
@@ -19,9 +17,7 @@ use Rattle.netlist.specs.declared.Form.{Form}
 use Rattle.gates.specs.Cell.{kind_of}
 use Rattle.netlist.specs.Commands.{as_form, command_table, own_commands, form_in, form_of, role_of, width, pins_needed, needed, stray}
 use Rattle.netlist.specs.Writing.{form_for, All}
-use Rattle.netlist.specs.contracts.Sort.{the_type}
 use Rattle.netlist.proofs.Encoding.{form_for_holds, gate_form, inputs_form, care_form, element_form, width_in}
-use Rattle.read_command.proofs.Arms.{arm}
 
 pub in_no_row : (rs : List (ℕ × Form)) (b : ℕ) → All (λ r. b ≡ r.0 → ⊥) rs → as_form sort.Unknown 1 0 ≡ form_in rs b
 unfolding form_in
@@ -117,17 +113,38 @@ later_stray f b at no_end none h = rw (ne_eqb b 0 no_end, ← in_no_row (own_com
     go false = refl
 
 -- the operands of the other commands name nothing
-pub stage_number_holds : (i : ℕ) (c : Sort) → OneOf (0 ∷ 1 ∷ 4 ∷ 5 ∷ 6 ∷ 7 ∷ []) (tag_of the_type c) → Number ≡ role_of file.Stage c i
+pub stage_number_holds : (i : ℕ) (c : Sort) → (c ≡ sort.Gate → ⊥) → (c ≡ sort.Output → ⊥) → Number ≡ role_of file.Stage c i
 unfolding role_of
-stage_number_holds i = arm (0 ∷ 1 ∷ 4 ∷ 5 ∷ 6 ∷ 7 ∷ []) (λ c. Number ≡ role_of file.Stage c i) (refl, refl, tt, tt, refl, refl, refl, refl)
+stage_number_holds i sort.End g o = refl
+stage_number_holds i sort.Inputs g o = refl
+stage_number_holds i sort.Gate g o = absurd (g refl)
+stage_number_holds i sort.Output g o = absurd (o refl)
+stage_number_holds i sort.Care g o = refl
+stage_number_holds i sort.Unknown g o = refl
+stage_number_holds i sort.Register g o = refl
+stage_number_holds i sort.Element g o = refl
 
-pub reference_number_holds : (i : ℕ) (c : Sort) → OneOf (0 ∷ 1 ∷ 4 ∷ 5 ∷ 6 ∷ 7 ∷ []) (tag_of the_type c) → Number ≡ role_of file.Reference c i
+pub reference_number_holds : (i : ℕ) (c : Sort) → (c ≡ sort.Gate → ⊥) → (c ≡ sort.Output → ⊥) → Number ≡ role_of file.Reference c i
 unfolding role_of
-reference_number_holds i = arm (0 ∷ 1 ∷ 4 ∷ 5 ∷ 6 ∷ 7 ∷ []) (λ c. Number ≡ role_of file.Reference c i) (refl, refl, tt, tt, refl, refl, refl, refl)
+reference_number_holds i sort.End g o = refl
+reference_number_holds i sort.Inputs g o = refl
+reference_number_holds i sort.Gate g o = absurd (g refl)
+reference_number_holds i sort.Output g o = absurd (o refl)
+reference_number_holds i sort.Care g o = refl
+reference_number_holds i sort.Unknown g o = refl
+reference_number_holds i sort.Register g o = refl
+reference_number_holds i sort.Element g o = refl
 
-pub pipeline_number : (i : ℕ) (c : Sort) → OneOf (0 ∷ 1 ∷ 4 ∷ 5 ∷ []) (tag_of the_type c) → Number ≡ role_of file.Pipeline c i
+pub pipeline_number : (i : ℕ) (c : Sort) → (c ≡ sort.Gate → ⊥) → (c ≡ sort.Output → ⊥) → (c ≡ sort.Register → ⊥) → (c ≡ sort.Element → ⊥) → Number ≡ role_of file.Pipeline c i
 unfolding role_of
-pipeline_number i = arm (0 ∷ 1 ∷ 4 ∷ 5 ∷ []) (λ c. Number ≡ role_of file.Pipeline c i) (refl, refl, tt, tt, refl, refl, tt, tt)
+pipeline_number i sort.End g o r e = refl
+pipeline_number i sort.Inputs g o r e = refl
+pipeline_number i sort.Gate g o r e = absurd (g refl)
+pipeline_number i sort.Output g o r e = absurd (o refl)
+pipeline_number i sort.Care g o r e = refl
+pipeline_number i sort.Unknown g o r e = refl
+pipeline_number i sort.Register g o r e = absurd (r refl)
+pipeline_number i sort.Element g o r e = absurd (e refl)
 
 -- operations 2 to 6 need two operands
 pub operation_two : (b : ℕ) → 2 ≤ b → b ≤ 6 → needed file.Reference b ≡ 2

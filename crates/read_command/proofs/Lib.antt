@@ -1,5 +1,4 @@
 pub mod Forms
 pub mod Misfits
 pub mod Care
-pub mod Arms
 pub mod Position

@@ -2,15 +2,15 @@
 -- Assumes nothing.
 use Prim.Native.Nat.{ℕ, ◌+◌, ◌-◌, ◌≤◌, ◌<◌}
 use native.Mathlib.Omega.{arith}
-use mathlib.Core.Path.{◌≡◌, refl, sym, ap, ◌∙◌}
+use mathlib.Core.Path.{◌≡◌, sym, ap}
 use mathlib.Core.Bool.{Bool, true, false}
-use mathlib.Core.List.{List, [], ◌∷◌}
+use mathlib.Core.Logic.{◌⊎◌, inl, inr}
+use mathlib.Core.List.{List}
 use lib.ListN.{length}
 use borrow.Author.Tests.{le-leb, lt-leb, lt-ltb, le-ltb}
-use types.Run.{OneOf}
-use denote.Enum.Declared.{tag_of}
 use Rattle.netlist.specs.declared.File.{File}
 use Rattle.netlist.specs.declared.Sort.{Sort}
+use Rattle.netlist.specs.declared.Sort.TheVariants as sort
 use Rattle.netlist.specs.declared.Form.{Form}
 use Rattle.netlist.specs.declared.Limits.{Limits}
 use Rattle.netlist.specs.declared.Counts.{Counts}
@@ -18,8 +18,6 @@ use Rattle.netlist.specs.declared.Next.{Next}
 use Rattle.netlist.specs.declared.Next.TheVariants.{Command, Refused}
 use Rattle.netlist.specs.Bytes.{byte}
 use Rattle.netlist.specs.Commands.{form_of, width, stray, take_sort, take_command, next_at}
-use Rattle.netlist.specs.contracts.Sort.{the_type}
-use Rattle.read_command.proofs.Arms.{arm}
 
 module _ (f : File) (most : Limits) (s : List ℕ) (at : ℕ) (before : Counts) where
   pub next_past : length s ≤ at → next_at f most s at before ≡ Refused 1 (length s)
@@ -52,6 +50,7 @@ module _ (f : File) (most : Limits) (s : List ℕ) (at : ℕ) (before : Counts) 
     by_sort c told = rw (← wide) (ap (take_sort f most s at before form taken) told)
 
     -- the end command, and what stands for no command: nothing is refused here
-    pub by_rest : OneOf (0 ∷ 5 ∷ []) (tag_of the_type form.sort) → taken ≡ take_command f most s at before form
+    pub by_rest : (form.sort ≡ sort.End) ⊎ (form.sort ≡ sort.Unknown) → taken ≡ take_command f most s at before form
     unfolding take_sort
-    by_rest keys = arm (0 ∷ 5 ∷ []) (λ c. taken ≡ take_sort f most s at before form taken c) (refl, tt, tt, tt, tt, refl, tt, tt) form.sort keys ∙ sym (by_sort form.sort refl)
+    by_rest (inl e) = sym (by_sort sort.End e)
+    by_rest (inr e) = sym (by_sort sort.Unknown e)

@@ -1,4 +1,6 @@
 // Reading a stage or reference file, one command at a time. What is read is defined in the crate netlist.
+#![tactic(auto)]
+
 ghost use Rattle.std.specs.Prelude.{◌≡◌, false, ◌+◌, ◌*◌, ◌^◌, ◌<◌, ◌≤◌, length, ltb};
 ghost use Rattle.netlist.specs.declared.File.TheVariants as file;
 ghost use Rattle.netlist.specs.declared.File.TheVariants.{Reference};

@@ -3,16 +3,16 @@
 use Prim.Native.Nat.{ℕ, zero, suc, ◌+◌, ◌*◌, ◌-◌, ◌%◌, ◌≤◌, ◌<◌}
 use native.Mathlib.Omega.{arith}
 use mathlib.Core.Path.{◌≡◌, refl, sym, ap, ◌∙◌}
-use mathlib.Core.Bool.{Bool, true, false, cond, ◌||◌}
+use mathlib.Core.Bool.{Bool, true, false, cond}
 use mathlib.Core.List.{List, [], ◌∷◌, ◌++◌, map}
 use lib.ListN.{length, get_or, drop, length-drop}
 use lib.Seq.{drop-cons}
-use lib.Dec.{eqb, ltb}
+use lib.Dec.{ltb}
 use borrow.Author.Tests.{lt-ltb, le-ltb, eq-eqb, ne_eqb, ltb-true, ltb-false}
 use Rattle.netlist.specs.declared.Sort.{Sort}
 use Rattle.netlist.specs.declared.Sort.TheVariants as sort
 use Rattle.netlist.specs.Commands.{is_sort}
-use Rattle.netlist.specs.Reading.{Nets, part_nets, sorts_of, carries_data, is_net}
+use Rattle.netlist.specs.Reading.{part_nets, sorts_of, carries_data, is_net}
 use Rattle.read_file.specs.declared.Carried.{Carried}
 use Rattle.read_file.specs.declared.Carried.TheVariants.{Data, Completion, Nothing}
 use Rattle.read_file.specs.Files.{sort_noted, part_noted, nets_noted, nets_with, carried_at}

@@ -5,4 +5,3 @@ pub mod Carrying
 pub mod Noting
 pub mod WholeFile
 pub mod Room
-pub mod Held

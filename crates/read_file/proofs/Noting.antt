@@ -1,25 +1,20 @@
 -- Noting a command more: what stands in the lent list then, by its sort.
 -- Assumes nothing.
-use Prim.Native.Nat.{ℕ, suc, ◌+◌, ◌*◌, ◌-◌, ◌/◌, ◌%◌, ◌≤◌, ◌<◌}
+use Prim.Native.Nat.{ℕ, ◌+◌, ◌*◌, ◌-◌, ◌/◌, ◌%◌, ◌≤◌, ◌<◌}
 use native.Mathlib.Omega.{arith}
 use native.Mathlib.Numerals.{add-one}
 use mathlib.Core.Path.{◌≡◌, refl, sym, ap, ap₂, ◌∙◌}
-use mathlib.Core.Bool.{cond}
+use mathlib.Core.Logic.{◌⊎◌, inl, inr}
 use mathlib.Core.List.{List, [], ◌∷◌, ◌++◌, map, map-append}
 use lib.ListN.{length, take, drop, set, length-append, length-set, length-drop}
 use lib.Seq.{take-suc-set, take-set-le, drop-set-lt, drop-set-add}
-use lib.Dec.{eqb}
-use types.Run.{OneOf}
-use denote.Enum.Declared.{tag_of}
 use Rattle.netlist.specs.declared.Sort.{Sort}
 use Rattle.netlist.specs.declared.Sort.TheVariants as sort
 use Rattle.netlist.specs.declared.Limits.{Limits}
 use Rattle.netlist.specs.declared.Counts.{Counts}
 use Rattle.netlist.specs.Bytes.{byte, operand}
-use Rattle.netlist.specs.Reading.{Places, floor_after, count_of, sorts_of, counts_of, noted}
+use Rattle.netlist.specs.Reading.{count_of, sorts_of, noted}
 use Rattle.netlist.proofs.Walk.{floor_snoc, count_snoc}
-use Rattle.netlist.specs.contracts.Sort.{the_type}
-use Rattle.read_command.proofs.Arms.{arm}
 use Rattle.read_file.specs.Files.{sort_noted, part_noted, first_part, first_care, standing, RoomOf, Notable, NotedIn}
 
 -- ---- a list in which one number is written
@@ -187,6 +182,7 @@ module _ (most : Limits) (s : List ℕ) (at : ℕ) (places : List ℕ) (c : Coun
       }
 
   -- nothing is noted of the other commands
-  pub noted_other : (k : Sort) → OneOf (0 ∷ 5 ∷ []) (tag_of the_type k) → Done k places c
+  pub noted_other : (k : Sort) → (k ≡ sort.End) ⊎ (k ≡ sort.Unknown) → Done k places c
   unfolding noted
-  noted_other = arm (0 ∷ 5 ∷ []) (λ k. Done k places c) (record { long = refl; same = refl; counted = λ e. e }, tt, tt, tt, tt, record { long = refl; same = refl; counted = λ e. e }, tt, tt)
+  noted_other k (inl e) = rw e (record { long = refl; same = refl; counted = λ e. e })
+  noted_other k (inr e) = rw e (record { long = refl; same = refl; counted = λ e. e })

@@ -1,13 +1,11 @@
 -- The search for 9 goes on by one operand or one command at a time.
 -- Assumes nothing.
-use Prim.Native.Nat.{ℕ, zero, suc, ◌+◌, ◌*◌, ◌-◌, ◌^◌, ◌<◌, ◌≤◌}
+use Prim.Native.Nat.{ℕ, zero, suc, ◌+◌, ◌*◌, ◌-◌, ◌<◌, ◌≤◌}
 use native.Mathlib.Omega.{arith}
 use mathlib.Core.Path.{◌≡◌, refl, sym, ap, ◌∙◌}
 use mathlib.Core.Bool.{Bool, true, false, cond}
-use mathlib.Core.List.{List, [], ◌∷◌}
+use mathlib.Core.List.{List}
 use lib.ListN.{length}
-use types.Run.{OneOf}
-use denote.Enum.Declared.{tag_of}
 use Rattle.netlist.specs.declared.File.{File}
 use Rattle.netlist.specs.declared.Sort.{Sort}
 use Rattle.netlist.specs.declared.Sort.TheVariants as sort
@@ -21,8 +19,6 @@ use Rattle.read_file.specs.Files.{Follow, FilledTo}
 use Rattle.netlist.proofs.Encoding.{needed_in}
 use Rattle.netlist.proofs.Operands.{pins_used_in}
 use Rattle.netlist.proofs.Walk.{nameless_past}
-use Rattle.netlist.specs.contracts.Sort.{the_type}
-use Rattle.read_command.proofs.Arms.{arm}
 use Rattle.read_command.proofs.Forms.{few_bytes, form_sort, element_wide}
 use Rattle.read_command.proofs.Misfits.{one_less, next_place}
 
@@ -65,12 +61,20 @@ used_in f s at b {form} is = go form.sort refl
     go sort.Element e = rw e (omega (arith, element_wide f b is e, pins_used_in s (at + form.lead)))
 
 -- a command that is no gate and no C-element uses all of its operands
-pub used_all : (f : File) (s : List ℕ) (at : ℕ) (form : Form) → OneOf (0 ∷ 1 ∷ 3 ∷ 4 ∷ 5 ∷ 6 ∷ []) (tag_of the_type form.sort) → form.operands ≡ used f s at form
+pub used_all : (f : File) (s : List ℕ) (at : ℕ) (form : Form) → (form.sort ≡ sort.Gate → ⊥) → (form.sort ≡ sort.Element → ⊥) → form.operands ≡ used f s at form
 unfolding used
-used_all f s at form =
-    arm (0 ∷ 1 ∷ 3 ∷ 4 ∷ 5 ∷ 6 ∷ [])
-    (λ c. form.operands ≡ cond (is_sort sort.Gate c) (needed f (byte s (at + 1))) (cond (is_sort sort.Element c) (pins_used s (at + form.lead)) form.operands))
-    (refl, refl, tt, refl, refl, refl, refl, tt) form.sort
+used_all f s at form g e = go form.sort g e
+  where
+    go : (c : Sort) → (c ≡ sort.Gate → ⊥) → (c ≡ sort.Element → ⊥) →
+        form.operands ≡ cond (is_sort sort.Gate c) (needed f (byte s (at + 1))) (cond (is_sort sort.Element c) (pins_used s (at + form.lead)) form.operands)
+    go sort.End g e = refl
+    go sort.Inputs g e = refl
+    go sort.Gate g e = absurd (g refl)
+    go sort.Output g e = refl
+    go sort.Care g e = refl
+    go sort.Unknown g e = refl
+    go sort.Register g e = refl
+    go sort.Element g e = absurd (e refl)
 
 -- ---- the commands of a file, one after the other
 
@@ -81,8 +85,15 @@ gates_after k c = cond (is_sort sort.Gate c) (suc k) k
 pub after_gate_holds : (k : ℕ) {c : Sort} → c ≡ sort.Gate → gates_after k c ≡ k + 1
 after_gate_holds k e = let z : suc k ≡ k + 1 = omega arith in rw e z
 
-pub after_other : (k : ℕ) (c : Sort) → OneOf (0 ∷ 1 ∷ 3 ∷ 4 ∷ 5 ∷ 6 ∷ 7 ∷ []) (tag_of the_type c) → gates_after k c ≡ k
-after_other k = arm (0 ∷ 1 ∷ 3 ∷ 4 ∷ 5 ∷ 6 ∷ 7 ∷ []) (λ c. gates_after k c ≡ k) (refl, refl, tt, refl, refl, refl, refl, refl)
+pub after_other : (k : ℕ) (c : Sort) → (c ≡ sort.Gate → ⊥) → gates_after k c ≡ k
+after_other k sort.End g = refl
+after_other k sort.Inputs g = refl
+after_other k sort.Gate g = absurd (g refl)
+after_other k sort.Output g = refl
+after_other k sort.Care g = refl
+after_other k sort.Unknown g = refl
+after_other k sort.Register g = refl
+after_other k sort.Element g = refl
 
 pub after_few : (k : ℕ) (c : Sort) → gates_after k c ≤ k + 1
 after_few k c = go (is_sort sort.Gate c)

@@ -2,13 +2,11 @@
 -- Assumes nothing.
 use Prim.Native.Nat.{ℕ, zero, suc, ◌+◌, ◌*◌, ◌^◌, ◌≤◌, ◌<◌}
 use native.Mathlib.Omega.{arith}
-use mathlib.Core.Path.{◌≡◌, refl, sym, ap, ◌∙◌}
-use mathlib.Core.Bool.{Bool, true, false, ◌||◌}
-use mathlib.Core.List.{List, [], ◌∷◌}
+use mathlib.Core.Path.{◌≡◌, refl, ap, ◌∙◌}
+use mathlib.Core.Bool.{Bool, true, false}
+use mathlib.Core.List.{List}
 use lib.ListN.{length}
 use lib.Dec.{ltb}
-use types.Run.{OneOf}
-use denote.Enum.Declared.{tag_of}
 use borrow.Author.Tests.{lt-ltb, ltb-true, ltb-false}
 use Rattle.netlist.specs.declared.File.{File}
 use Rattle.netlist.specs.declared.File.TheVariants as file
@@ -17,13 +15,11 @@ use Rattle.netlist.specs.declared.Sort.TheVariants as sort
 use Rattle.netlist.specs.declared.Form.{Form}
 use Rattle.netlist.specs.declared.Counts.{Counts}
 use Rattle.netlist.specs.declared.Found.TheVariants.{Nothing}
-use Rattle.netlist.specs.Bytes.{byte, operand, absent}
+use Rattle.netlist.specs.Bytes.{byte, operand}
 use Rattle.netlist.specs.Commands.{command_table, own_commands, form_in, form_of, role_of, needed, used}
 use Rattle.netlist.specs.Reading.{Nets, carries_data, names, asked, nameless, nameless_at}
 use Rattle.netlist.specs.Writing.{form_for, operand_count}
 use Rattle.netlist.proofs.Encoding.{clash, gate_form, output_form, width_gate, width_output, needed_in}
-use Rattle.netlist.specs.contracts.Sort.{the_type}
-use Rattle.read_command.proofs.Arms.{arm}
 use Rattle.read_file.specs.Files.{Countable, reach, Reaches, Present, Below, Stands, Topped}
 
 -- ---- a top
@@ -89,10 +85,19 @@ module _ (f : File) (N : Nets) (s : List ℕ) (at k : ℕ) where
   plain_named : {c : Sort} → (form_of f (byte s at)).sort ≡ c → ((j v : ℕ) → asked f c N k j v ≡ true) → nameless_at f N s at k (form_of f (byte s at)) ≡ Nothing
   plain_named told h = command-named f N s at k (form_of f (byte s at)) (λ j l. rw told (h j (operand s (at + (form_of f (byte s at)).lead + 2 * j))))
 
-  number_named : {c : Sort} → (form_of f (byte s at)).sort ≡ c → OneOf (0 ∷ 1 ∷ 4 ∷ 5 ∷ []) (tag_of the_type c) → nameless_at f N s at k (form_of f (byte s at)) ≡ Nothing
+  number_asked : (c : Sort) → (c ≡ sort.Gate → ⊥) → (c ≡ sort.Output → ⊥) → (c ≡ sort.Register → ⊥) → (c ≡ sort.Element → ⊥) → (j v : ℕ) → asked f c N k j v ≡ true
   unfolding role_of names
-  number_named {c} told keys =
-      plain_named told (λ j v. arm (0 ∷ 1 ∷ 4 ∷ 5 ∷ []) (λ d. asked f d N k j v ≡ true) (refl, refl, tt, tt, refl, refl, tt, tt) c keys)
+  number_asked sort.End g o r e j v = refl
+  number_asked sort.Inputs g o r e j v = refl
+  number_asked sort.Gate g o r e j v = absurd (g refl)
+  number_asked sort.Output g o r e j v = absurd (o refl)
+  number_asked sort.Care g o r e j v = refl
+  number_asked sort.Unknown g o r e j v = refl
+  number_asked sort.Register g o r e j v = absurd (r refl)
+  number_asked sort.Element g o r e j v = absurd (e refl)
+
+  number_named : {c : Sort} → (form_of f (byte s at)).sort ≡ c → (c ≡ sort.Gate → ⊥) → (c ≡ sort.Output → ⊥) → (c ≡ sort.Register → ⊥) → (c ≡ sort.Element → ⊥) → nameless_at f N s at k (form_of f (byte s at)) ≡ Nothing
+  number_named {c} told g o r e = plain_named told (number_asked c g o r e)
 
   pub inputs_named : (form_of f (byte s at)).sort ≡ sort.Inputs → nameless_at f N s at k (form_of f (byte s at)) ≡ Nothing
   unfolding role_of names
@@ -164,8 +169,8 @@ pub top_asked : (f : File) (s : List ℕ) (at : ℕ) (before : Counts) (top : �
 top_asked f s at before top = λ N r. absurd (omega (arith, r.far, reach-in f N.inputs N.gates r.countable))
 
 module _ {f : File} {s : List ℕ} {at : ℕ} (before : Counts) (top : ℕ) where
-  pub top_number : {c : Sort} → Stands f s at c → OneOf (0 ∷ 1 ∷ 4 ∷ 5 ∷ []) (tag_of the_type c) → Topped f s at before top top
-  top_number h keys = λ N r. (r, number_named f N s at before.gates (ap (λ (x : Form). x.sort) h.command ∙ h.own) keys)
+  pub top_number : {c : Sort} → Stands f s at c → (c ≡ sort.Gate → ⊥) → (c ≡ sort.Output → ⊥) → (c ≡ sort.Register → ⊥) → (c ≡ sort.Element → ⊥) → Topped f s at before top top
+  top_number h g o r e = λ N w. (w, number_named f N s at before.gates (ap (λ (x : Form). x.sort) h.command ∙ h.own) g o r e)
 
   module _ (staged : f ≡ file.Reference → ⊥) {top' : ℕ} (up : top ≤ top') where
     pub top_gate : Stands f s at sort.Gate → Below s (at + 2) 4 true top' → Topped f s at before top top'

@@ -1,17 +1,15 @@
 -- Reading a whole file, as the code does it: the walk from one command to the next, with the places in one lent list, and the tests
 -- at the end command.
 -- Assumes nothing.
-use Prim.Native.Nat.{ℕ, zero, suc, ◌+◌, ◌*◌, ◌-◌, ◌^◌, ◌≤◌, ◌<◌}
+use Prim.Native.Nat.{ℕ, zero, suc, ◌+◌, ◌-◌, ◌^◌, ◌≤◌, ◌<◌}
 use native.Mathlib.Omega.{arith}
 use native.Mathlib.Nat.{mul-le-mul_right}
 use lib.Pow.{pow_mono}
 use mathlib.Core.Path.{◌≡◌, refl, sym, ap, ap₂, subst, ◌∙◌}
 use mathlib.Core.Bool.{Bool, true, false, cond}
-use mathlib.Core.List.{List, [], ◌∷◌, map}
+use mathlib.Core.List.{List, map}
 use lib.ListN.{length}
 use lib.Dec.{eqb, ltb}
-use types.Run.{OneOf}
-use denote.Enum.Declared.{tag_of}
 use borrow.Author.Tests.{lt-ltb, le-ltb, eq-eqb, ne_eqb}
 use Rattle.netlist.specs.declared.File.{File}
 use Rattle.netlist.specs.declared.File.TheVariants as file
@@ -25,14 +23,12 @@ use Rattle.netlist.specs.declared.Next.{Next}
 use Rattle.netlist.specs.declared.Next.TheVariants.{Command, Refused}
 use Rattle.netlist.specs.declared.Found.{Found}
 use Rattle.netlist.specs.declared.Found.TheVariants.{At, Nothing}
-use Rattle.netlist.specs.Bytes.{byte, operand}
-use Rattle.netlist.specs.Commands.{when_found, is_sort, form_of, width, stray, next_at}
+use Rattle.netlist.specs.Bytes.{byte}
+use Rattle.netlist.specs.Commands.{when_found, is_sort, form_of, width, next_at}
 use Rattle.netlist.specs.Reading.{nameless_from, Places, floor_after, count_of, sorts_of, counts_of, nets_of, Reading, refused, readable, finish, on_next, read_from, read_file}
 use Rattle.netlist.specs.Writing.{Has, command_byte, width_for}
 use Rattle.read_file.specs.Files.{part_noted, nets_with, Follow, FilledTo, Countable, Settled, Stands, Topped, most_care, first_part, RoomFor, standing, Placed, RoomOf, WordAt, Notable, NotedIn}
-use Rattle.netlist.proofs.Encoding.{reference_careless, clash, care_form, width_in, width_inputs, width_end}
-use Rattle.netlist.specs.contracts.Sort.{the_type}
-use Rattle.read_command.proofs.Arms.{arm}
+use Rattle.netlist.proofs.Encoding.{reference_careless, care_form, width_in, width_inputs, width_end}
 use Rattle.netlist.proofs.OneCommand.{There, there_next, next_there}
 use Rattle.read_file.proofs.Noting.{counts}
 use Rattle.read_file.proofs.Search.{gates_after}
@@ -148,8 +144,15 @@ pub read_as : {x : Next} {c c' : Sort} {next : Cursor} → x ≡ Command c next 
 read_as {next} e told = e ∙ ap (λ (y : Sort). Command y next) told
 
 -- the code's test for the end command
-pub goes_on : (k : Sort) → OneOf (1 ∷ 2 ∷ 3 ∷ 4 ∷ 5 ∷ 6 ∷ 7 ∷ []) (tag_of the_type k) → is_sort sort.End k ≡ false
-goes_on = arm (1 ∷ 2 ∷ 3 ∷ 4 ∷ 5 ∷ 6 ∷ 7 ∷ []) (λ k. is_sort sort.End k ≡ false) (tt, refl, refl, refl, refl, refl, refl, refl)
+pub goes_on : (k : Sort) → (k ≡ sort.End → ⊥) → is_sort sort.End k ≡ false
+goes_on sort.End e = absurd (e refl)
+goes_on sort.Inputs e = refl
+goes_on sort.Gate e = refl
+goes_on sort.Output e = refl
+goes_on sort.Care e = refl
+goes_on sort.Unknown e = refl
+goes_on sort.Register e = refl
+goes_on sort.Element e = refl
 
 module _ {f : File} {most : Limits} {s : List ℕ} {long : ℕ} {places : List ℕ} {at : ℕ} {c : Counts} (room : RoomFor f most long) (w : Walking f most s long places at c) where
   pub standing_counts : counts_of (standing most places c) ≡ c

@@ -1,5 +1,7 @@
 // Reading a whole stage or reference file. A reader over its bytes takes one command at a time; what a command is, and how a file is
 // refused, is said in the crate netlist, and one command is read in the crate read_command.
+#![tactic(auto)]
+
 ghost use Rattle.std.specs.Prelude.{◌≡◌, true, map, ℕ, ◌+◌, ◌*◌, ◌^◌, ◌<◌, ◌≤◌, length};
 ghost use Rattle.netlist.specs.Commands as commands;
 ghost use Rattle.netlist.specs.Bytes as bytes;
@@ -12,7 +14,7 @@ use netlist::{Counts, Cursor, File, Form, Found, Limits, Next, Outcome, Role, So
 // ---- the reader
 
 // The bytes of a file, and a position in them.
-#[derive(Drop)]
+#[derive(Clone, Copy)]
 pub struct Reader<'a> {
     pub src: &'a [u8],
     pub here: Cursor,
@@ -43,7 +45,7 @@ pub fn take_next(file: File, most: Limits, s: &[u8], here: Cursor, before: Count
 // ---- 9: an operand that names nothing
 
 // What a net after the gates carries: data, or a register's Ko or the net of a C-element; or there is no such net.
-#[derive(Drop)]
+#[derive(Clone, Copy)]
 pub enum Carried {
     Data,
     Completion,
@@ -410,7 +412,7 @@ pub fn read_file(file: File, most: Limits, s: &[u8], places: &mut [u16]) -> Outc
     ensures answered { result ≡ read.outcome_of (reading.read_file file most s.now) }
     ensures placed { files.Placed most (reading.read_file file most s.now) places.new }
 {
-    let first_part_lem = most.gates + most.outputs;
+    let first_part = most.gates + most.outputs;
     let mut at: usize = 0;
     let mut top: usize = 0;
     let mut counts = Counts {
@@ -428,7 +430,7 @@ pub fn read_file(file: File, most: Limits, s: &[u8], places: &mut [u16]) -> Outc
             return refusal(next);
         };
         if let Sort::End = sort {
-            let end = first_part_lem + (counts.registers + counts.elements);
+            let end = first_part + (counts.registers + counts.elements);
             return finish(file, s, at, counts, &places[first_part..end], top);
         }
         top = top_after(file, sort, s, at, counts, top);

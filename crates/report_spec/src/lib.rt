@@ -1,5 +1,7 @@
 // The switching report of two files: how many gates are high at rest, word by word, and in all words together; and what its total counts. The
 // definitions and what is shown of them are in specs/ and proofs/, and nothing is run.
+#![tactic(auto)]
+
 use verdict::Verdict;
 
 // A line for each word of the most inputs.
@@ -9,7 +11,7 @@ pub const LINES: usize = 1 << netlist::INPUTS;
 // of their names, how many that makes, and the names of these words. What stands behind the last word is 0, and so is all of it where the pair is
 // refused. Laid out as C does: the C function of crate `fovaheju` answers one.
 #[repr(C)]
-#[derive(Drop)]
+#[derive(Clone, Copy)]
 pub struct Report {
     pub verdict: Verdict,
     pub words: u64,

@@ -69,6 +69,7 @@ module _ (order : WordOrder) (s : Content) (has : (w : ℕ) × IsWord s w) (aske
       go (inr d) later = inr (later (rw (eqb_other asked x d) at e))
 
   first_of : (l : List ℕ) (x : ℕ) → In x l → In (get_or l 0 0) l
+  first_of [] x h = elim h [ ]
   first_of (y ∷ l) x h = inl refl
 
   cared-in : In (asked_or_first (names order s) asked) (names order s)

@@ -144,6 +144,7 @@ module _ (S : System) (key : ℕ → ℕ) where
       inside x h = go r l q p x h
         where
           go : (r : Row) (l : List ℕ) → Quiet S r → Legal (can S) r l → (x : ℕ) → In x l → x < S.size
+          go r [] q p x x6 = elim x6 [ ]
           go r (k ∷ l) q p x (inl m) = rw m (S.up_inside r k (can_rise S r k q p.0).1)
           go r (k ∷ l) q p x (inr m) = go (toggle r k) l (quiet_toggle S r k q p.0) p.1 x m
 

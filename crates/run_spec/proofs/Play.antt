@@ -61,6 +61,7 @@ module _ (can : Rule) where
 
 every_out : (test : ℕ → Bool) (l : List ℕ) → every test l ≡ true → (x : ℕ) → In x l → test x ≡ true
 unfolding every
+every_out test [] e x h = elim h [ ]
 every_out test (y ∷ l) e x h = go (test y) refl e h (every_out test l)
   where
     go : (b : Bool) → test y ≡ b → cond b (every test l) false ≡ true → In x (y ∷ l) → (every test l ≡ true → (x : ℕ) → In x l → test x ≡ true) → test x ≡ true
@@ -216,8 +217,8 @@ module _ (N : Net) (c : Row) (fall : ℕ) (list : List ℕ) where
               legal = rw (front down, back down) (rise_legal, λ l. (left_ended N c (after low rise) e, allowed_legal (fall_step N) (after low rise) (drop fall list)));
               barred = λ l p.
                   let q : RunList N c fall (take (fall + suc down) list) = rw next at p in
-                  let in-it : fall < length (take (fall + suc down) list) = omega (arith, length-take-le (fall + suc down) list (omega arith)) in
-                  allowed_barred (fall_step N) (after low rise) (drop fall list) (omega arith) (rw (front (suc down), back (suc down)) at (q.1 in-it).1);
+                  let in_it : fall < length (take (fall + suc down) list) = omega (arith, length-take-le (fall + suc down) list (omega arith)) in
+                  allowed_barred (fall_step N) (after low rise) (drop fall list) (omega arith) (rw (front (suc down), back (suc down)) at (q.1 in_it).1);
             })
 
   pub steps_barred : Barred N c fall list (steps_of N c fall list)

@@ -12,7 +12,7 @@ use Rattle.runs.specs.Theory.{Reached}
 use Rattle.runs.specs.Settled.{Settled, SettledHeld, SettledKept}
 use Rattle.runs.specs.Pair.{DataOf, AllData, AllNull, InputsData}
 use Rattle.runs.specs.Acyclic.{Acyclic}
-use Rattle.runs.specs.Witness.{ShowsWrong, Wrong, ShowsIncomplete, Incomplete, ShowsUnobservable, Unobservable}
+use Rattle.runs.specs.Witness.{Wrong, ShowsIncomplete, Incomplete, ShowsUnobservable, Unobservable}
 use Rattle.runs.specs.FallWitness.{RiseAndFall, ShowsFallIncomplete, FallIncomplete, ShowsFallUnobservable, FallUnobservable}
 use Rattle.runs.proofs.Test.{clash, not-false, same?, eqb_same, eqb_other}
 use Rattle.runs.proofs.Net.{by_net_gate, rails_of_inputs_in}

@@ -1,6 +1,6 @@
 -- A stage as its file gives it, and how it moves: the gate rule, the rise and the fall.
 -- Assumes nothing.
-use Rattle.std.specs.Prelude.{◌≡◌, Bool, true, false, not, cond, ◌&&◌, List, [], ◌∷◌, ℕ, ◌+◌, ◌*◌, ◌/◌, ◌≤◌, ◌<◌, ltb}
+use Rattle.std.specs.Prelude.{Bool, true, false, not, cond, ◌&&◌, List, [], ◌∷◌, ℕ, ◌+◌, ◌*◌, ◌/◌, ◌≤◌, ◌<◌, ltb}
 use Rattle.runs.specs.Row.{Row, Rule, low, switch, after, Legal, Ended}
 
 -- "Input i of a stage has nets 2i (rail 0) and 2i + 1 (rail 1); gate k drives net 2n + k."

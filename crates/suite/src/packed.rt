@@ -1,14 +1,16 @@
 // Cases packed in a file, one after the other: the byte of a call, then its operands, each as its length in two bytes, the low one first, and
 // so many bytes. The byte 0 stands after the last case.
-ghost use Rattle.io.specs.Counts.{IsPrefixLen};
+ghost use Rattle.console.specs.Counts.{IsPrefixLen};
 ghost use Rattle.std.specs.Prelude.{◌<◌};
+
+use std::io::Read;
 
 pub const END: u8 = 0;
 
 // The next byte of a file; 255 where the file has ended.
-pub fn next_byte(file: i32) -> u8 {
+pub fn next_byte<F: Read>(file: &mut F) -> u8 {
     let mut byte = [255u8; 1];
-    io::read_full(file, &mut byte);
+    console::read_full(file, &mut byte);
     byte[0]
 }
 
@@ -18,19 +20,19 @@ fn wide(byte: u8) -> usize
     byte as usize
 }
 
-fn next_length(file: i32) -> usize {
+fn next_length<F: Read>(file: &mut F) -> usize {
     let low = wide(next_byte(file));
     let high = wide(next_byte(file));
     low + 256 * high
 }
 
 // Puts the next operand at the start of a buffer and answers its length. One that does not fit counts as empty, and its bytes are not passed.
-pub fn next_operand(file: i32, buffer: &mut [u8]) -> usize
+pub fn next_operand<F: Read>(file: &mut F, buffer: &mut [u8]) -> usize
     ensures { IsPrefixLen result buffer.new }
 {
     let n = next_length(file);
     if buffer.len() < n {
         return 0;
     }
-    io::read_full(file, &mut buffer[..n])
+    console::read_full(file, &mut buffer[..n])
 }

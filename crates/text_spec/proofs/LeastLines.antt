@@ -12,7 +12,6 @@ use Rattle.netlist.specs.declared.Limits.{Limits}
 use Rattle.netlist.specs.declared.Found.{Found}
 use Rattle.netlist.specs.declared.Found.TheVariants.{At, Nothing}
 use Rattle.netlist.specs.Reading.{Reading, refused, readable, read_file, stage_limits}
-use Rattle.verdict.specs.declared.Verdict.{Verdict}
 use Rattle.verdict.specs.Checks.{verdict}
 use Rattle.verdict.proofs.Refusals.{refused_number}
 use Rattle.verdict.specs.declared.Answer.{Answer}
@@ -22,7 +21,7 @@ use Rattle.text_spec.specs.Lines.{onto, split, formed, other_form, lines_from, T
 use Rattle.text_spec.specs.FromText.{drivers, driving, needing, all_driven, undriven, drives_again, driven_again, file_of, from_parsed, from_text}
 use Rattle.text_spec.specs.FromText.{TextAnswer, refusal, gives, unless, unless_refused, if_room, unless_more}
 use Rattle.text_spec.specs.Call.{leaves, stage_from}
-use Rattle.text_spec.specs.Promises.{LeastLine, formless, lacking, driven_before, repeating, LeastLines}
+use Rattle.text_spec.specs.Promises.{LeastLine, formless, driven_before, LeastLines}
 
 -- ---- searches
 

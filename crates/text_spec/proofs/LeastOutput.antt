@@ -1,6 +1,6 @@
 -- 31 in writing names the least output: what its search finds, and so what a verdict says.
 -- Assumes nothing.
-use Prim.Native.Nat.{ℕ, zero, suc, ◌*◌, ◌≤◌, ◌<◌}
+use Prim.Native.Nat.{ℕ, suc, ◌*◌}
 use native.Mathlib.Omega.{arith}
 use mathlib.Core.Path.{◌≡◌, refl, sym, ap, ap₂, subst, ◌∙◌}
 use mathlib.Core.Bool.{Bool, true, false, cond, not, ◌&&◌, ◌||◌}
@@ -18,7 +18,7 @@ use Rattle.verdict.specs.Written.{Written, written}
 use Rattle.text_spec.specs.FromText.{TextAnswer, refusal, gives, unless, if_room}
 use Rattle.text_spec.specs.ToText.{straight, among, named, second_name, text_for, care_list, stage_text, on_reading, to_text}
 use Rattle.text_spec.specs.Call.{leaves, text_from}
-use Rattle.text_spec.specs.Promises.{LeastLine, named_by, renames, LeastOutput, no_pair}
+use Rattle.text_spec.specs.Promises.{named_by, renames, LeastOutput, no_pair}
 use Rattle.text_spec.proofs.LeastLines.{Finds, finds_zero, finds_suc, from_first}
 
 -- ---- tests in another order

@@ -1,5 +1,7 @@
 // The text of a loaded stage in the line form, put into a buffer part by part; and 31, an output that would give a net a second name. Each
 // function that puts something answers the place after it. The text is said in text_spec/specs/ToText.antt.
+#![tactic(auto)]
+
 ghost use Rattle.std.specs.Prelude.{◌≡◌, ◌+◌, ◌*◌, ◌≤◌, ◌<◌, [], length};
 ghost use Rattle.circuit.specs.Stage.{net_count, pin_in, output_in, stage_outputs, stage_in, StageLoaded};
 ghost use Rattle.text_spec.specs.Characters as characters;

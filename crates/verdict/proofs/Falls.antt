@@ -72,15 +72,15 @@ stays-mono u v h g e = go g.hold e
 -- ---- the levels
 
 module _ (kept : ℕ → Bool) (gates : List Gate) (rest rails : List ℕ) where
-  abbrev high_in : List ℕ → ℕ → Bool
-  high_in levels g = high rest g && (kept g || stays (rails ++ levels) (get_or gates g no_gate))
+  abbrev high_in_holds : List ℕ → ℕ → Bool
+  high_in_holds levels g = high rest g && (kept g || stays (rails ++ levels) (get_or gates g no_gate))
 
   abbrev step : List ℕ → List ℕ
-  step levels = tabulate (λ g. bit (high_in levels g)) (length gates)
+  step levels = tabulate (λ g. bit (high_in_holds levels g)) (length gates)
 
   step_rises : (u v : List ℕ) → Below u v → Below (step u) (step v)
   step_rises u v h =
-      below_tabulate (high_in u) (high_in v)
+      below_tabulate (high_in_holds u) (high_in_holds v)
       (λ g e. and_in (high rest g) _ (and_left (high rest g) _ e)
       (or_mono (kept g) (stays (rails ++ u) (get_or gates g no_gate)) (stays (rails ++ v) (get_or gates g no_gate))
       (stays-mono (rails ++ u) (rails ++ v) (below-++ rails rails u v (below_refl rails) h) (get_or gates g no_gate)) (and_right (high rest g) _ e)))
@@ -88,17 +88,17 @@ module _ (kept : ℕ → Bool) (gates : List Gate) (rest rails : List ℕ) where
 
   pub fallen_bits : Bits (length gates) (fallen_levels kept gates rest rails)
   unfolding fallen_levels
-  fallen_bits = rounds_bits step (length gates) (λ v b. bits_tabulate (high_in v) (length gates)) step_rises (length gates)
+  fallen_bits = rounds_bits step (length gates) (λ v b. bits_tabulate (high_in_holds v) (length gates)) step_rises (length gates)
 
   fallen-fixed : step (fallen_levels kept gates rest rails) ≡ fallen_levels kept gates rest rails
   unfolding fallen_levels
-  fallen-fixed = rounds_fixed step (length gates) (λ v b. bits_tabulate (high_in v) (length gates)) step_rises
+  fallen-fixed = rounds_fixed step (length gates) (λ v b. bits_tabulate (high_in_holds v) (length gates)) step_rises
 
-  fallen-at : (g : ℕ) → g < length gates → high (fallen_levels kept gates rest rails) g ≡ high_in (fallen_levels kept gates rest rails) g
+  fallen-at : (g : ℕ) → g < length gates → high (fallen_levels kept gates rest rails) g ≡ high_in_holds (fallen_levels kept gates rest rails) g
   fallen-at g h =
       ap (λ (l : List ℕ). high l g) (sym fallen-fixed)
-      ∙ ap (λ (x : ℕ). ltb 0 x) (get_d_tabulate (λ k. bit (high_in (fallen_levels kept gates rest rails) k)) (length gates) g 0 h)
-      ∙ high_bit (high_in (fallen_levels kept gates rest rails) g)
+      ∙ ap (λ (x : ℕ). ltb 0 x) (get_d_tabulate (λ k. bit (high_in_holds (fallen_levels kept gates rest rails) k)) (length gates) g 0 h)
+      ∙ high_bit (high_in_holds (fallen_levels kept gates rest rails) g)
 
 -- ---- one row
 

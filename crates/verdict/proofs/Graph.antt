@@ -24,8 +24,8 @@ high_bit row x true e = lt-ltb 0 (get_or row x 0) (omega arith)
 high_bit row x false e = ap (λ (v : ℕ). ltb 0 v) e
 
 -- a high net is one of the row
-pub high_in : (row : List ℕ) (x : ℕ) → high row x ≡ true → x < length row
-high_in row x h = go (dec_lt x (length row))
+pub high_in_holds : (row : List ℕ) (x : ℕ) → high row x ≡ true → x < length row
+high_in_holds row x h = go (dec_lt x (length row))
   where
     go : Dec (x < length row) → x < length row
     go (yes l) = l
@@ -78,7 +78,7 @@ below_tabulate f g h (suc m) = (bit_mono (f 0) (g 0) (h 0), below_tabulate (λ i
 -- ---- steps
 
 module _ (next : ℕ → List ℕ) where
-  pub leads_trans : {x : ℕ} (y z : ℕ) → Leads next y x → Leads next z y → Leads next z x
+  pub leads_trans : (y z : ℕ) {x : ℕ} → Leads next y x → Leads next z y → Leads next z x
   leads_trans y z here q = q
   leads_trans y z (onward i p) q = onward i (leads_trans y z p q)
 
@@ -117,7 +117,7 @@ module _ (next : ℕ → List ℕ) (goal : ℕ → Bool) (size : ℕ) where
       low (suc n) (suc x) e = low n x e
   marks_sound (suc k) x e =
       let b = bits_length size (rounds round size (suc k)) (rounds_bits round size round_bits round_rises (suc k)) in
-      let h : x < size = omega (arith, high_in (rounds round size (suc k)) x e) in
+      let h : x < size = omega (arith, high_in_holds (rounds round size (suc k)) x e) in
       ⊎_elim (λ g. (x, h, g, here))
       (λ a.
       let r = any_high_out (rounds round size k) (next x) a in
@@ -136,9 +136,9 @@ module _ (next : ℕ → List ℕ) (goal : ℕ → Bool) (size : ℕ) where
 -- ---- steps from nets alone
 
 module _ (next : ℕ → List ℕ) (size : ℕ) (inside : (u v : ℕ) → In v (next u) → u < size) where
-  pub leads_complete : (goal : ℕ → Bool) {x : ℕ} (y : ℕ) → y < size → goal y ≡ true → Leads next y x → leads next goal size x ≡ true
-  leads_complete goal {x} y h g here = leads-at next goal size x h ∙ ||-left (goal x) (any_high (leading next goal size) (next x)) g
-  leads_complete goal {x} y h g (onward {z = z} i l) =
+  pub leads_complete : (goal : ℕ → Bool) (y : ℕ) {x : ℕ} → y < size → goal y ≡ true → Leads next y x → leads next goal size x ≡ true
+  leads_complete goal y {x} h g here = leads-at next goal size x h ∙ ||-left (goal x) (any_high (leading next goal size) (next x)) g
+  leads_complete goal y {x} h g (onward {z = z} i l) =
       leads-at next goal size x (inside x z i)
       ∙ ||-right (goal x) (any_high (leading next goal size) (next x)) (any_high_in (leading next goal size) (next x) z i (leads_complete goal y h g l))
 

@@ -20,21 +20,29 @@ below_refl [] = tt
 below_refl (x ∷ u) = (omega arith, below_refl u)
 
 pub below_get : (u v : List ℕ) → Below u v → (k : ℕ) → get_or u k 0 ≤ get_or v k 0
+below_get [] (y ∷ v) p k = elim p [ ]
+below_get (x ∷ u) [] p k = elim p [ ]
 below_get [] [] p k = omega arith
 below_get (x ∷ u) (y ∷ v) p zero = p.0
 below_get (x ∷ u) (y ∷ v) p (suc k) = below_get u v p.1 k
 
 pub below-++ : (w x u v : List ℕ) → Below w x → Below u v → Below (w ++ u) (x ++ v)
+below-++ [] (b ∷ x) u v p q = elim p [ ]
+below-++ (a ∷ w) [] u v p q = elim p [ ]
 below-++ [] [] u v p q = q
 below-++ (a ∷ w) (b ∷ x) u v p q = (p.0, below-++ w x u v p.1 q)
 
 pub below_set : (u v : List ℕ) → Below u v → (k x : ℕ) → Below (set u k x) (set v k x)
+below_set [] (b ∷ v) p k x = elim p [ ]
+below_set (a ∷ u) [] p k x = elim p [ ]
 below_set [] [] p k x = tt
 below_set (a ∷ u) (b ∷ v) p zero x = (omega arith, p.1)
 below_set (a ∷ u) (b ∷ v) p (suc k) x = (p.0, below_set u v p.1 k x)
 
 -- levels below others are those, or fewer of them are high
 pub below_split : (u v : List ℕ) → Below u v → (u ≡ v) ⊎ (sum u < sum v)
+below_split [] (y ∷ v) p = elim p [ ]
+below_split (x ∷ u) [] p = elim p [ ]
 below_split [] [] p = inl refl
 below_split (x ∷ u) (y ∷ v) p = go (ℕ_discrete x y) (below_split u v p.1)
   where
@@ -63,23 +71,33 @@ low_bits zero = tt
 low_bits (suc n) = (omega arith, low_bits n)
 
 pub low_below : (n : ℕ) (v : List ℕ) → Bits n v → Below (replicate n 0) v
+low_below zero (x ∷ v) b = elim b [ ]
+low_below (suc n) [] b = elim b [ ]
 low_below zero [] b = tt
 low_below (suc n) (x ∷ v) b = (omega arith, low_below n v b.1)
 
 pub bits_length : (n : ℕ) (v : List ℕ) → Bits n v → length v ≡ n
+bits_length zero (x ∷ v) b = elim b [ ]
+bits_length (suc n) [] b = elim b [ ]
 bits_length zero [] b = refl
 bits_length (suc n) (x ∷ v) b = ap suc (bits_length n v b.1)
 
 pub bits_sum : (n : ℕ) (v : List ℕ) → Bits n v → sum v ≤ n
+bits_sum zero (x ∷ v) b = elim b [ ]
+bits_sum (suc n) [] b = elim b [ ]
 bits_sum zero [] b = omega arith
 bits_sum (suc n) (x ∷ v) b = omega (arith, b.0, bits_sum n v b.1)
 
 pub bits_get : (n : ℕ) (v : List ℕ) → Bits n v → (k : ℕ) → get_or v k 0 ≤ 1
+bits_get zero (x ∷ v) p k = elim p [ ]
+bits_get (suc n) [] p k = elim p [ ]
 bits_get zero [] p k = omega arith
 bits_get (suc n) (x ∷ v) p zero = p.0
 bits_get (suc n) (x ∷ v) p (suc k) = bits_get n v p.1 k
 
 pub bits_set : (n : ℕ) (v : List ℕ) → Bits n v → (k x : ℕ) → x ≤ 1 → Bits n (set v k x)
+bits_set zero (a ∷ v) p k x h = elim p [ ]
+bits_set (suc n) [] p k x h = elim p [ ]
 bits_set zero [] p k x h = tt
 bits_set (suc n) (a ∷ v) p zero x h = (h, p.1)
 bits_set (suc n) (a ∷ v) p (suc k) x h = (p.0, bits_set n v p.1 k x h)

@@ -113,6 +113,7 @@ select_in test (y ∷ l) x h = go (test y) refl h (select_in test l x)
 
 pub in_select : (test : ℕ → Bool) (l : List ℕ) (x : ℕ) → In x l → test x ≡ true → In x (select test l)
 unfolding select
+in_select test [] x h t = elim h [ ]
 in_select test (y ∷ l) x h t = go (test y) refl h (λ i. in_select test l x i t)
   where
     go : (b : Bool) → test y ≡ b → In x (y ∷ l) → (In x l → In x (select test l)) → In x (cond b (y ∷ select test l) (select test l))

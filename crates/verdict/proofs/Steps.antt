@@ -1,6 +1,6 @@
 -- Laws of tests of lists, and of steps that lead to a goal: what the search in so many steps finds, and that as many as there are nets are enough.
 -- Assumes nothing.
-use Prim.Native.Nat.{ℕ, zero, suc, ◌-◌, ◌<◌}
+use Prim.Native.Nat.{ℕ, zero, suc, ◌<◌}
 use native.Mathlib.Omega.{arith}
 use mathlib.Core.Path.{◌≡◌, refl, sym, ap, ◌∙◌, subst}
 use mathlib.Core.Logic.{◌⊎◌, inl, inr, ⊎_elim}
@@ -14,13 +14,14 @@ use Rattle.runs.proofs.Test.{clash, or_cases, eqb_eq, ltb-true}
 use Rattle.verdict.specs.Lists.{some, reaches, lead_to}
 use Rattle.verdict.specs.Rows.{high, rounds}
 use Rattle.verdict.specs.Graph.{In, Leads, here, onward, OnLoop, any_high, tabulate, leading}
-use Rattle.verdict.proofs.Graph.{high_in, any_high_out, length_tabulate, get_d_tabulate, leads_complete, on_loop_complete}
+use Rattle.verdict.proofs.Graph.{high_in_holds, any_high_out, length_tabulate, get_d_tabulate, leads_complete, on_loop_complete}
 use Rattle.verdict.proofs.Bridge.{high_bit}
 
 -- ---- some of a list
 
 pub some_in : (test : ℕ → Bool) (l : List ℕ) (p : ℕ) → In p l → test p ≡ true → some test l ≡ true
 unfolding some
+some_in test [] p x'' t = elim x'' [ ]
 some_in test (x ∷ xs) p (inl e) t = rw (ap test (sym e) ∙ t)
 some_in test (x ∷ xs) p (inr i) t = go (test x) refl (some_in test xs p i t)
   where
@@ -113,7 +114,7 @@ module _ (next : ℕ → List ℕ) (goal : ℕ → Bool) where
     -- one more round marks the goals and what has a marked net one step from it
     again : (m : List ℕ) (x : ℕ) → high (round m) x ≡ true → (goal x ≡ true) ⊎ (any_high m (next x) ≡ true)
     again m x e =
-        let h : x < size = omega (arith, high_in (round m) x e, length_tabulate (λ x. bit (goal x || any_high m (next x))) size) in
+        let h : x < size = omega (arith, high_in_holds (round m) x e, length_tabulate (λ x. bit (goal x || any_high m (next x))) size) in
         or_cases (goal x) (any_high m (next x))
         (sym (ap (λ (v : ℕ). ltb 0 v) (get_d_tabulate (λ x. bit (goal x || any_high m (next x))) size x 0 h) ∙ high_bit (goal x || any_high m (next x))) ∙ e)
 

@@ -6,7 +6,7 @@ use native.Mathlib.Decide.{dec_le}
 use mathlib.Core.Path.{◌≡◌, refl, ap, ap₂, ◌∙◌}
 use mathlib.Core.Logic.{◌⊎◌, inl, inr}
 use mathlib.Core.List.{List, [], ◌∷◌, map}
-use Rattle.verdict.specs.Paths.{In, OnLoop}
+use Rattle.verdict.specs.Paths.{In}
 use Rattle.verdict.proofs.Graph as graph
 use Rattle.verdict.proofs.Graph.{rank-≤, rank_some, rank_falls}
 use Rattle.wiring_spec.specs.Parts.{Pipeline, register_count}
@@ -21,6 +21,7 @@ map-in f g (x ∷ xs) h = ap₂ ◌∷◌ (h x (inl refl)) (map-in f g xs (λ y 
 -- the highest of some levels is none below any, and one of them, or 0
 highest-above : (f : ℕ → ℕ) (ks : List ℕ) (k : ℕ) → In k ks → f k ≤ highest (map f ks)
 unfolding highest
+highest-above f [] k x' = elim x' [ ]
 highest-above f (x ∷ ks) k (inl e) = omega (arith, ap f e)
 highest-above f (x ∷ ks) k (inr i) = omega (arith, highest-above f ks k i)
 

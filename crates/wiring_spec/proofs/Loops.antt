@@ -1,11 +1,10 @@
 -- Where 12 finds no loop of gates and 33 no register that reaches itself, no data net leads back to itself.
 -- Assumes nothing.
 use Prim.Native.Nat.{ℕ}
-use mathlib.Core.Path.{◌≡◌, refl, sym, subst}
+use mathlib.Core.Path.{◌≡◌, refl, subst}
 use mathlib.Core.Bool.{true}
 use mathlib.Core.Logic.{◌⊎◌, inl, inr}
 use mathlib.Core.List.{List, []}
-use lib.Dec.{eqb}
 use borrow.Author.Tests.{eq-eqb, eqb-true}
 use Rattle.verdict.specs.Paths.{In, Leads, here, onward, OnLoop}
 use Rattle.verdict.proofs.Graph.{leads_trans}
@@ -93,7 +92,7 @@ module _ (p : Pipeline) where
     step : In after (data_steps p at)
     on : Leads (data_steps p) y after
 
-  path_split : {x : ℕ} (y : ℕ) → Leads (data_steps p) y x → Leads (gate_steps p) y x ⊎ ThroughRail y x
+  path_split : (y : ℕ) {x : ℕ} → Leads (data_steps p) y x → Leads (gate_steps p) y x ⊎ ThroughRail y x
   path_split y here = inl here
   path_split y (onward {x = x} {z = z} i q) = go (step_split p (driver_of p x) z i) (path_split y q)
     where

@@ -23,7 +23,7 @@ use Rattle.netlist.specs.Read.{RegisterRead, ElementRead, PartOf, PartRead, Read
 use Rattle.netlist.specs.Writing.{All}
 use Rattle.netlist.proofs.Encoding.{stage_registerless, stage_elementless}
 use Rattle.verdict.specs.Paths.{In}
-use Rattle.wiring_spec.specs.Parts.{Register, Part, register, element, part_at, Pipeline, input, gate, rail, nothing, registers_of, register_count, data_of, ki_of}
+use Rattle.wiring_spec.specs.Parts.{Register, Part, register, element, part_at, Pipeline, input, gate, nothing, registers_of, register_count, data_of, ki_of}
 use Rattle.wiring_spec.specs.Parts.{part_drivers, drivers, driver_of, all_nets}
 use Rattle.wiring_spec.specs.Wiring.{opened}
 use Rattle.wiring_spec.specs.Tables.{wiring_of}

@@ -5,14 +5,14 @@ use native.Mathlib.Omega.{arith}
 use native.Mathlib.Decide.{dec_lt}
 use mathlib.Core.Path.{◌≡◌, refl, sym, ap, ◌∙◌, subst}
 use mathlib.Core.Bool.{Bool, true, false, cond}
-use mathlib.Core.Logic.{◌⊎◌, inl, inr, ⊎_elim}
+use mathlib.Core.Logic.{inl, inr}
 use mathlib.Core.List.{List, [], ◌∷◌, ◌++◌, map}
 use lib.ListN.{length, get_or, replicate, length-map, get_or-eq_default}
 use Rattle.gates.specs.Cell.{bit}
 use lib.Dec.{eqb, ltb}
 use borrow.Author.Tests.{eq-eqb, eqb-true, lt-ltb, le-ltb}
 use Rattle.verdict.specs.Paths.{In, Leads, here, onward}
-use Rattle.wiring_spec.specs.Parts.{Register, Part, register, element, Pipeline, Driver, input, gate, rail, acknowledge, completion, nothing, registers_of, part_drivers, drivers, driver_of, all_nets, register_count, data_of, ki_of}
+use Rattle.wiring_spec.specs.Parts.{Register, Part, register, element, Pipeline, Driver, input, gate, rail, acknowledge, completion, nothing, registers_of, part_drivers, drivers, driver_of, all_nets, register_count, data_of}
 use Rattle.wiring_spec.specs.Wiring.{through_gate, opened, gate_steps, openings, is_rail_of}
 use Rattle.wiring_spec.specs.Named.{carries_data, IsData}
 
@@ -28,7 +28,7 @@ eqb_sym a b = go (eqb a b) (eqb b a) refl refl
     go false false e f = refl
 
 -- steps of one sort are steps of another
-pub leads_more : (next next' : ℕ → List ℕ) → ((u v : ℕ) → In v (next u) → In v (next' u)) → {x : ℕ} (y : ℕ) → Leads next y x → Leads next' y x
+pub leads_more : (next next' : ℕ → List ℕ) → ((u v : ℕ) → In v (next u) → In v (next' u)) → (y : ℕ) {x : ℕ} → Leads next y x → Leads next' y x
 leads_more next next' h y here = here
 leads_more next next' h y (onward {x = x} {z = z} i p) = onward (h x z i) (leads_more next next' h y p)
 

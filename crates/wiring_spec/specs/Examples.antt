@@ -67,6 +67,7 @@ row_resolved = refl
 
 pub examples_found : map (λ (i : Example). found i.pipeline) examples ≡ map (λ (i : Example). i.expected) examples
 unfolding examples found c.first c.at_fault c.sweep c.finding c.or_later c.first_fault g.verdict_of t.wiring_checks l.numbers l.select l.some l.reaches
-    p.registers_of p.register_count p.data_of p.ki_of p.part_drivers p.drivers p.driver_of p.all_nets w.through_gate w.opened w.is_input w.is_rail_of w.data_from w.reaches
-    w.from_input w.sources w.reaches_itself w.highest w.level_within w.level w.is_ko_of w.behind w.is_loop w.circular w.uneven w.missing w.foreign w.bars w.barred
+    p.registers_of p.register_count p.data_of p.ki_of p.part_drivers p.drivers p.driver_of p.all_nets w.through_gate w.opened w.is_input w.is_rail_of
+    w.data_from w.reaches w.from_input w.sources w.reaches_itself w.highest w.level_within w.level w.is_ko_of w.behind w.is_loop w.circular w.uneven w.missing
+    w.foreign w.bars w.barred
 examples_found = refl

@@ -1,21 +1,17 @@
 -- Which words a stage in its flat form has: all that its inputs have, or those of its care list.
 -- Assumes nothing.
-use Prim.Native.Nat.{ℕ, ◌+◌, ◌^◌, ◌≤◌, ◌<◌}
+use Prim.Native.Nat.{ℕ, ◌^◌, ◌≤◌, ◌<◌}
 use native.Mathlib.Omega.{arith}
-use native.Mathlib.Numerals.{add-one}
 use lib.Pow.{pow_mono}
 use mathlib.Core.Path.{◌≡◌, refl, sym, ap, ◌∙◌}
-use mathlib.Core.Bool.{Bool, true, false, ◌||◌}
+use mathlib.Core.Bool.{Bool, true, false}
 use mathlib.Core.Logic.{◌⊎◌, inl, inr}
 use mathlib.Core.List.{List, [], ◌∷◌}
-use lib.ListN.{length, get_or, drop, drop_of_length-le}
-use lib.Seq.{drop-cons}
-use lib.Dec.{eqb, ltb}
-use borrow.Author.Tests.{eq-eqb, ne_eqb}
+use lib.ListN.{length, get_or}
+use lib.Dec.{ltb}
 use Rattle.runs.proofs.Test.{true?, not-true, ltb-true, ltb-false}
 use Rattle.netlist.specs.declared.Counts.{Counts}
 use Rattle.netlist.specs.Reading.{stage_limits}
-use Rattle.netlist.specs.Content.{Stage}
 use Rattle.verdict.specs.Graph.{tabulate}
 use Rattle.verdict.specs.Words.{numbers, cared_for, words, is_in}
 use Rattle.verdict.proofs.Words.{index_in, in_index}

@@ -1,11 +1,11 @@
 -- The bits of a name in turned order: those of so many inputs are the highest of those of more.
 -- Assumes nothing.
-use Prim.Native.Nat.{ℕ, zero, suc, ◌+◌, ◌-◌, ◌*◌, ◌/◌, ◌%◌, ◌^◌, ◌≤◌, ◌<◌}
+use Prim.Native.Nat.{ℕ, zero, suc, ◌+◌, ◌*◌, ◌/◌, ◌%◌, ◌^◌, ◌<◌}
 use native.Mathlib.Omega.{arith}
 use native.Mathlib.Nat.{add-mul-div_left, div-eq_of_lt, pow-succ', mul-add, mul_assoc, mul_comm, zero-add}
 use lib.Pow.{pow_pos}
 use mathlib.Core.Path.{◌≡◌, refl, sym, ap, subst, ◌∙◌}
-use mathlib.Core.List.{List, [], ◌∷◌, reverse, reverse_aux}
+use mathlib.Core.List.{List, [], ◌∷◌, reverse_aux}
 use Rattle.verdict.specs.declared.WordOrder.TheVariants.{FirstHighest}
 use Rattle.verdict.specs.Words.{bits_of, word_of, spelled}
 

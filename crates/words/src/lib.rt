@@ -1,5 +1,7 @@
 // The input words of a stage. By name: the word that a name spells in either order, and the names of all words, the least first. On the
 // rails: the bits of a word, the rails that spell it, and the row that is settled in it.
+#![tactic(auto)]
+
 ghost use Rattle.std.specs.Prelude.{◌≡◌, cond, ◌++◌, map, ◌^◌, ◌≤◌, ◌<◌, length, drop};
 ghost use Rattle.netlist.specs.Reading.{stage_limits};
 ghost use Rattle.verdict.specs.declared.WordOrder.TheVariants.{FirstHighest};

@@ -1,4 +1,6 @@
 // The line that the suite prints of a stored case, put at the start of a buffer. Each function of a whole line answers how long it is.
+#![tactic(auto)]
+
 ghost use Rattle.std.specs.Prelude.{◌≡◌, ◌∷◌, [], ◌+◌, ◌*◌, ◌≤◌, ◌<◌, length, take};
 ghost use Rattle.print_spec.specs.Cases as cases;
 ghost use Rattle.print_spec.specs.Decimal.{decimal};

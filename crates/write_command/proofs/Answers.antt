@@ -2,7 +2,7 @@
 -- Assumes nothing.
 use Prim.Native.Nat.{ℕ, ◌+◌, ◌≤◌, ◌<◌}
 use native.Mathlib.Omega.{arith}
-use mathlib.Core.Path.{◌≡◌, refl, ap, ◌∙◌}
+use mathlib.Core.Path.{◌≡◌, ap, ◌∙◌}
 use mathlib.Core.List.{List}
 use lib.ListN.{length, take}
 use lib.Seq.{length-take-le}
@@ -11,7 +11,7 @@ use Rattle.verdict.specs.declared.Verdict.{Verdict}
 use Rattle.verdict.specs.Verdicts.{accepted}
 use Rattle.verdict.specs.declared.Answer.{Answer}
 use Rattle.write_command.specs.Put.{Put}
-use Rattle.verdict.specs.Written.{Written, answer_of, written, refuse, write_or}
+use Rattle.verdict.specs.Written.{answer_of, written, refuse, write_or}
 use Rattle.write_command.proofs.Joining.{put_holding}
 use Rattle.verdict.proofs.Written.{holding_take}
 

@@ -1,6 +1,6 @@
 -- The files of a stage and of a reference as they are put command by command: their parts, their lengths, and operands that are absent.
 -- Assumes nothing.
-use Prim.Native.Nat.{ℕ, zero, suc, ◌+◌, ◌*◌, ◌/◌, ◌%◌, ◌≤◌, ◌<◌}
+use Prim.Native.Nat.{ℕ, zero, suc, ◌+◌, ◌*◌, ◌/◌, ◌%◌}
 use native.Mathlib.Omega.{arith}
 use mathlib.Core.Path.{◌≡◌, refl, sym, ap, ◌∙◌}
 use mathlib.Core.List.{List, [], ◌∷◌, ◌++◌, map, append_assoc}
@@ -11,7 +11,7 @@ use Rattle.netlist.specs.declared.Sort.TheVariants as sort
 use Rattle.netlist.specs.Bytes.{absent}
 use Rattle.netlist.specs.Commands.{command_table, own_commands, form_in}
 use Rattle.netlist.specs.Content.{Coded, Stage, Reference}
-use Rattle.netlist.specs.Writing.{Item, gate, output, care, command_byte, coded_gate, pair_operands, operand_count, write_operands, write_item, write_items, write_file, stage_items, reference_items, write_stage, write_reference}
+use Rattle.netlist.specs.Writing.{Item, gate, output, care, command_byte, coded_gate, pair_operands, operand_count, write_operands, write_item, write_items, write_file, write_stage, write_reference}
 use Rattle.netlist.proofs.Operands.{length_written}
 use Rattle.write_command.specs.Put.{coded}
 use Rattle.write_command.specs.Parts.{gate_item, pair_item, signal_item, bytes_of}

@@ -1,11 +1,11 @@
 -- Bytes that are put one part after the other are the whole; a loop that writes keeps to "putting what is left gives the whole".
 -- Assumes nothing.
-use Prim.Native.Nat.{ℕ, zero, suc, ◌+◌, ◌≤◌, ◌<◌}
+use Prim.Native.Nat.{ℕ, suc, ◌+◌, ◌≤◌, ◌<◌}
 use native.Mathlib.Omega.{arith}
 use mathlib.Core.Path.{◌≡◌, refl, sym, ap, ◌∙◌}
 use mathlib.Core.Logic.{◌⊎◌, inl, inr, ⊎_elim}
 use mathlib.Core.List.{List, [], ◌∷◌, ◌++◌}
-use lib.ListN.{length, get_or, set, length-set, length-append}
+use lib.ListN.{length, get_or, set, length-append}
 use lib.Seq.{sets, length-sets, sets-eq, get_or-set_other}
 use Rattle.write_command.specs.Put.{Put}
 use Rattle.verdict.specs.Written.{holding}

@@ -1,5 +1,7 @@
 // Writing into a buffer that the caller lends: a command of a stage or reference file at a place, and what a call that writes answers. The
 // bytes of a command are said in netlist/specs/Writing.antt, the rest in specs/.
+#![tactic(auto)]
+
 ghost use Rattle.std.specs.Prelude.{◌≡◌, ◌∷◌, [], ◌+◌, ◌<◌, ◌≤◌, ◌/◌, ◌%◌, length};
 ghost use Rattle.netlist.specs.declared.File.TheVariants as file;
 ghost use Rattle.netlist.specs.declared.Sort.TheVariants as sort;

@@ -1,4 +1,6 @@
 // Characters and decimal numbers, put into a buffer. Each function answers the place after what it put.
+#![tactic(auto)]
+
 ghost use Rattle.std.specs.Prelude.{◌∷◌, [], ◌+◌, ◌≤◌, length};
 ghost use Rattle.print_spec.specs.Decimal.{decimal};
 ghost use Rattle.write_decimal.specs.Put.{PutNext};

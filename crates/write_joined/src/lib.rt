@@ -1,4 +1,6 @@
 // The whole that two loaded parts make: the joined stage and the joined reference, put at the start of two buffers.
+#![tactic(auto)]
+
 ghost use Rattle.std.specs.Prelude.{◌≡◌, cond, List, map, ℕ, ◌+◌, ◌*◌, ◌≤◌, ◌<◌, length, ltb};
 ghost use Rattle.gates.specs.Cell.{pin_count, kind_byte};
 ghost use Rattle.netlist.specs.declared.File.TheVariants as file;
@@ -15,7 +17,7 @@ ghost use Rattle.write_joined.specs.Moved.{net_moved, gate_moved, pair_moved, St
 use netlist::Counts;
 
 // Where a part stands in the whole: how many of its inputs are outputs of the first part, and where its other nets, or signals, start.
-#[derive(Drop)]
+#[derive(Clone, Copy)]
 pub struct Move {
     pub inputs: usize,
     pub start: usize,

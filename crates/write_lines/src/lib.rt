@@ -1,4 +1,6 @@
 // What programs print, put into a buffer: the text of a verdict, and that of a report. Each function answers the place after what it put.
+#![tactic(auto)]
+
 ghost use Rattle.std.specs.Prelude.{◌≡◌, ◌∷◌, ◌+◌, ◌*◌, ◌≤◌, length, take};
 ghost use Rattle.text_spec.specs.Characters.{space};
 ghost use Rattle.print_spec.specs.Decimal.{decimal};

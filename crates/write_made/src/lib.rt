@@ -1,5 +1,7 @@
 // What makes a stage from a loaded reference: the signals that lead to no output (25), how many gates it needs (26), and one operation as
 // gates of a stage, put into a buffer.
+#![tactic(auto)]
+
 ghost use Rattle.std.specs.Prelude.{◌≡◌, not, [], ◌∷◌, ◌+◌, ◌≤◌, ◌<◌, ℕ, ◌*◌, length, set};
 ghost use Rattle.netlist.specs.Reading.{reference_limits, stage_limits};
 ghost use Rattle.netlist.specs.Formed.{ReferenceFormed};
@@ -110,7 +112,7 @@ pub fn operation_count(reference: &[u16], sizes: Counts) -> usize
 // ---- one operation as gates
 
 // The nets of a signal's two rails.
-#[derive(Drop)]
+#[derive(Clone, Copy)]
 pub struct Rails {
     pub rail0: u16,
     pub rail1: u16,

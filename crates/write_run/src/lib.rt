@@ -1,9 +1,11 @@
 // A run in the list that a caller lends.
+#![tactic(auto)]
+
 ghost use Rattle.std.specs.Prelude.{◌≡◌};
 ghost use Rattle.run_spec.specs.Played.{handed_out};
 
 // How many switchings a rise has, and a rise and a fall together.
-#[derive(Drop)]
+#[derive(Clone, Copy)]
 pub struct Lengths {
     pub rise: usize,
     pub count: usize,

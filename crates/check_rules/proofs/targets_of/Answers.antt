@@ -1,0 +1,26 @@
+-- `check_rules::targets_of` meets its contract. The loop's invariant: the number is the set of those registers before t that k reaches. Assumes nothing.
+use native.Mathlib.Omega.{arith}
+use mathlib.Core.Path.{◌≡◌}
+use lib.ListN.{length}
+use Rattle.check_rules.proofs.Sets.{set_none, set_more}
+use Rattle.check_rules.proofs.targets_of.Goals as goal
+
+pub loop-t-init : goal.loop-t-init
+loop-t-init c = (omega arith, set_none _)
+
+pub is_source-add-requires : goal.is_source-add-requires
+is_source-add-requires c = omega arith
+
+pub overflow_shl-t : goal.overflow_shl-t
+overflow_shl-t c = omega arith
+
+pub loop-t-preserved : goal.loop-t-preserved
+loop-t-preserved c =
+    let l = c.loop-t in
+    (omega arith, set_more _ _ _ _ _ (omega arith) l.invariant.1 c.is_source-add.ensures c.joined-all.ensures)
+
+pub returns : goal.returns
+returns c =
+    let l = c.loop-t in
+    let e : l.t ≡ length c.args.sources.now = omega arith in
+    rw e at l.invariant.1

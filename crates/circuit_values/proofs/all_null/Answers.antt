@@ -1,0 +1,15 @@
+-- `circuit_values::all_null` meets its contract. Assumes nothing.
+use Rattle.verdict.specs.Rows.{is_null}
+use Rattle.circuit.specs.Rows.{nets_in}
+use Rattle.circuit_values.proofs.Outputs.{all_pass, not_all_pass}
+use Rattle.circuit_values.proofs.all_null.Goals as goal
+
+pub returns-in-At : goal.returns-in-At
+returns-in-At c =
+    not_all_pass is_null (nets_in c.args.counts c.args.row.now) c.args.counts c.args.code.now _
+    c.first_not_null.ensures _ c.in-At.is
+
+pub returns-in-Nothing : goal.returns-in-Nothing
+returns-in-Nothing c =
+    all_pass is_null (nets_in c.args.counts c.args.row.now) c.args.counts c.args.code.now _
+    c.first_not_null.ensures c.in-Nothing.is

@@ -1,0 +1,11 @@
+-- `text_scan::same` meets its contract. The loop's invariant: the lists are alike before i. Assumes nothing.
+use Prim.Native.Nat.{◌-◌}
+use lib.ListN.{length}
+use Rattle.text_scan.proofs.Pieces.{Alike}
+use Rattle.text_scan.proofs.same.Given as goal
+
+abbrev pub invariant-loop-i : goal.invariant-loop-i
+invariant-loop-i l = Alike l.a l.b l.i
+
+abbrev pub decreases-loop-i : goal.decreases-loop-i
+decreases-loop-i l = length l.a - l.i

@@ -1,0 +1,9 @@
+-- `text_table::link` meets its contract. Assumes nothing.
+use Rattle.text_table.proofs.Tables.{Linking}
+use Rattle.text_table.proofs.link.Given as goal
+
+abbrev pub invariant-loop-k : goal.invariant-loop-k
+invariant-loop-k l = Linking l.initial.table l.table l.count l.k
+
+abbrev pub decreases-loop-k : goal.decreases-loop-k
+decreases-loop-k l = l.k

@@ -1,0 +1,12 @@
+-- `write_command::put_care` meets its contract. Assumes nothing.
+use native.Mathlib.Omega.{arith}
+use Rattle.netlist.specs.Commands.{command_table, own_commands, form_in}
+use Rattle.write_command.proofs.Joining.{put-++}
+use Rattle.write_command.proofs.put_care.Goals as goal
+
+pub returns : goal.returns
+unfolding command_table own_commands form_in
+returns c =
+    let lead = c.put_byte.ensures in
+    let a = c.put_operand.ensures in
+    put-++ lead a (omega arith)

@@ -1,0 +1,13 @@
+-- `write_command::put_reference_gate` meets its contract. Assumes nothing.
+use native.Mathlib.Omega.{arith}
+use Rattle.netlist.specs.Commands.{command_table, own_commands, form_in}
+use Rattle.write_command.proofs.Joining.{put-++}
+use Rattle.write_command.proofs.put_reference_gate.Goals as goal
+
+pub returns : goal.returns
+unfolding command_table own_commands form_in
+returns c =
+    let lead = c.put_two.ensures in
+    let a = c.put_operand.ensures in
+    let b = c.put_operand-2.ensures in
+    put-++ (put-++ lead a (omega arith)) b (omega arith)

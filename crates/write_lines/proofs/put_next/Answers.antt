@@ -1,0 +1,6 @@
+-- `write_lines::put_next` meets its contract. Assumes nothing.
+use Rattle.write_lines.proofs.Within.{within_one, within-++}
+use Rattle.write_lines.proofs.put_next.Goals as goal
+
+pub returns : goal.returns
+returns c = within-++ (within_one c.put_char-first.ensures) c.put_number.ensures
