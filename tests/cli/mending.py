@@ -109,7 +109,8 @@ def try_mending():
     tried("mend, odd seconds", 2, "", "--seconds", "mend", *pair_of("and-swapped"), "--seconds", "x")
     tried("mend over its stage", 2, "", "is one of the files read", "mend", *pair_of("and-swapped"), "-o", pair_of("and-swapped")[0])
     tried("mend, a missing stage", 2, "", "nothing.ncl: No such file", "mend", "nothing.ncl", "reference.ncl", cwd=here)
-    words, status = on_a_terminal("mend", "--seconds", "0", *pair_of("timing-network-last-word"))
+    # However fast the machine is, this takes more than the second after which a bar is drawn: one thread, held for more than a second.
+    words, status = on_a_terminal("mend", "--seconds", "0", *pair_of("timing-network-last-word"), env={"RAYON_NUM_THREADS": "1"}, held=1.3)
     same("mend on a terminal, a bar", [1, True], [status, "gates and outputs" in words])
 
 

@@ -1,9 +1,11 @@
 """What the tests of the command ncl share: one test, one run of the command, and files for it. tests/shell/cli and tests/shell/tools use it."""
 import os
 import pty
+import signal
 import subprocess
 import sys
 import tempfile
+import time
 from pathlib import Path
 
 root = Path(__file__).resolve().parent.parent.parent
@@ -89,11 +91,16 @@ def compared(about, file, text):
         same(f"{about} of {after.splitlines()[0] if after else ''}", before, after)
 
 
-def on_a_terminal(*words, env=None):
-    """what the command prints on a terminal, standard error too, and its exit status"""
+def on_a_terminal(*words, env=None, held=0):
+    """what the command prints on a terminal, standard error too, and its exit status; soon after it began it is held for some seconds"""
     inside, outside = pty.openpty()
     done = subprocess.Popen([str(program), *words], cwd=root, stdin=outside, stdout=outside, stderr=outside, env={**os.environ, **(env or {})})
     os.close(outside)
+    if held:
+        time.sleep(0.2)
+        done.send_signal(signal.SIGSTOP)
+        time.sleep(held)
+        done.send_signal(signal.SIGCONT)
     text = b""
     while True:
         try:
