@@ -11,8 +11,6 @@ import sys
 
 def check(crate):
     r = subprocess.run(["rt", "check"], cwd=f"crates/{crate}", stdout=subprocess.PIPE, stderr=subprocess.STDOUT, text=True, errors="replace")
-    with open(f"/tmp/check-{crate}.log", "w") as f:
-        f.write(r.stdout)
     return r.stdout
 
 
@@ -152,4 +150,5 @@ for crate in sys.argv[1:]:
             break
         said = check(crate)
     errors = len(re.findall(r": error", said))
-    print(f"{crate}: {errors} errors, {re.findall(r'(?m)^logic=[a-z-]*', said)}", flush=True)
+    proved, left = (len(re.findall(rf"(?m)^fn .*: {word}", said)) for word in ("proved", "no"))
+    print(f"{crate}: {proved} proved, {left} not, {errors} errors, {re.findall(r'(?m)^logic=[a-z-]*', said)}", flush=True)

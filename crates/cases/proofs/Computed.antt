@@ -17,7 +17,10 @@ use Rattle.check_spec.specs.Words as w
 use Rattle.check_spec.specs.Checks as h
 use Rattle.check_spec.specs.Verdicts as v
 use Rattle.verdict.specs.declared.WordOrder.TheVariants.{FirstLowest}
-use Rattle.cases.specs.Cases.{wire, wire_reference, whole_stage, and_reference, swapped, not_reference, early_and, wires, wire_signals, outputs, twelve, examples, first_input, early_or, or_reference, unobserved, two_wires, ordered, gates, inverters, many_gates, many_operations, refused, early_gates, care, falls_early, and_not_reference, stays_high, in_files_order, relaxed, retired, idle, pipelines, judged_in, judged, expected, settled_row, RowCase, row_examples}
+use Rattle.cases.specs.Cases.{wire, wire_reference, whole_stage, and_reference, swapped, not_reference, early_and, wires, wire_signals, outputs}
+use Rattle.cases.specs.Cases.{twelve, examples, first_input, early_or, or_reference, unobserved, two_wires, ordered, gates, inverters, many_gates}
+use Rattle.cases.specs.Cases.{many_operations, refused, early_gates, care, falls_early, and_not_reference, stays_high, in_files_order, relaxed}
+use Rattle.cases.specs.Cases.{retired, idle, pipelines, judged_in, judged, expected, settled_row, RowCase, row_examples}
 
 -- ---- computed, the two long files each by itself and all others at once
 

@@ -1,27 +1,13 @@
 -- The twelve marked cases of the paper, the examples of its table, cases that show which fault is named, relaxed gates, retired kinds, gates that
--- never rise, and registers with their completion, computed from the definitions alone.
-use Rattle.std.specs.Prelude.{ℕ, zero, suc, ◌+◌, ◌*◌, ◌/◌, ◌%◌, ◌≡◌, refl}
-use mathlib.Core.List.{List, [], ◌∷◌, ◌++◌, map, flat_map}
-use Rattle.gates.specs.Cell as c
-use Rattle.netlist.specs.Bytes as b
-use Rattle.netlist.specs.Commands as k
-use Rattle.netlist.specs.Reading as r
+-- never rise, and registers with their completion. proofs/Computed computes them from the definitions alone: each verdict is the one expected.
+use Rattle.std.specs.Prelude.{ℕ, zero, suc, ◌+◌, ◌*◌, ◌/◌, ◌%◌}
+use mathlib.Core.List.{List, [], ◌∷◌, ◌++◌, map}
 use Rattle.verdict.specs.declared.Verdict.{Verdict}
-use Rattle.wiring_spec.specs.Parts as p
-use Rattle.wiring_spec.specs.Wiring as q
-use Rattle.wiring_spec.specs.Wires as x
-use Rattle.check_spec.specs.Cases as e
 use Rattle.check_spec.specs.Cases.{verdict}
-use Rattle.check_spec.specs.Lists as l
-use Rattle.check_spec.specs.Content as t
 use Rattle.check_spec.specs.Content.{files}
-use Rattle.check_spec.specs.Rows as o
-use Rattle.check_spec.specs.Words as w
-use Rattle.check_spec.specs.Checks as h
-use Rattle.check_spec.specs.Verdicts as v
 use Rattle.check_spec.specs.Verdicts.{verdict_on, row_verdict, row_after}
 use Rattle.verdict.specs.declared.WordOrder.{WordOrder}
-use Rattle.verdict.specs.declared.WordOrder.TheVariants.{FirstHighest, FirstLowest}
+use Rattle.verdict.specs.declared.WordOrder.TheVariants.{FirstHighest}
 
 -- ---- files
 

@@ -7,7 +7,7 @@ use Rattle.runs.specs.Net.{Net, IsGate, nets, rise_step, fall_step, RiseList, Ri
 use Rattle.runs.specs.Settled.{Settled, SettledHeld, SettledKept}
 use Rattle.runs.specs.Pair.{DataOf, AllData, AllNull}
 use Rattle.runs.specs.Complete.{Conforms}
-use Rattle.runs.specs.Promise.{Goes_on, Promise}
+use Rattle.runs.specs.Promise.{GoesOn, Promise}
 use Rattle.runs.specs.Exchange.{OneFromAnother}
 use Rattle.runs.specs.Witness.{Wrong, Incomplete, Unobservable}
 use Rattle.runs.specs.FallWitness.{FallIncomplete, FallUnobservable}
@@ -137,7 +137,7 @@ pub record Demand2 (order : WordOrder) (f : Files) (v : Verdict) : Type 0 where
 
 -- every list of a rise of some rails goes on to an end, and every end is this row
 pub record RisesTo (N : Net) (rails end : Row) : Type 0 where
-  pub goes_on : (l : List ℕ) → RiseList N rails l → Goes_on (rise_step N rails) low l
+  pub goes_on : (l : List ℕ) → RiseList N rails l → GoesOn (rise_step N rails) low l
   pub end_is : (l : List ℕ) → RiseList N rails l → RiseEnd N rails l → after low l ≡ end
 
 -- of an accepted stage, in one word w: the promise is kept; all ends of its rises are the paper's "rest"; and any two full rises, and any two full

@@ -3,7 +3,7 @@
 
 use verdict::Verdict;
 
-// The verdict of the join, and how many bytes it wrote into each of the two buffers. Laid out as C does: the C function of crate `fovaheju`
+// The verdict of the join, and how many bytes it wrote into each of the two buffers. Laid out as C does: the C function of crate `fovaheju_c`
 // answers one.
 #[repr(C)]
 #[derive(Clone, Copy)]

@@ -8,7 +8,7 @@ use verdict::Verdict;
 pub const RUN: usize = 2 * (2 * netlist::INPUTS + netlist::STAGE_GATES);
 
 // The verdict; how many switchings the rise has, so that the fall begins at place `rise` of the list; and how many the rise and the fall have together.
-// Laid out as C does: C functions of crate `fovaheju` answer one.
+// Laid out as C does: C functions of crate `fovaheju_c` answer one.
 #[repr(C)]
 #[derive(Clone, Copy)]
 pub struct RunAnswer {

@@ -8,7 +8,7 @@ use native.Mathlib.Omega.{arith}
 use lib.Dec.{eqb}
 use Rattle.runs.specs.Row.{Row, toggle, after, Legal, Ended, tally, count}
 use Rattle.runs.specs.Theory.{◌⊑◌, Reached}
-use Rattle.runs.specs.Promise.{Goes_on}
+use Rattle.runs.specs.Promise.{GoesOn}
 use Rattle.runs.proofs.Test.{clash, not-false}
 use Rattle.runs.proofs.System.{System, can, complement, dual}
 use Rattle.runs.proofs.Exchange.{Swapped, done, swap}
@@ -67,7 +67,7 @@ module _ (S : System) where
   dual_exchanged r done = done
   dual_exchanged r (swap a i k b p x) = swap a i k b (dual_legal r (a ++ k ∷ i ∷ b) p) (dual_exchanged r x)
 
-  pub dual_goes_on : (r : Row) (l : List ℕ) → Goes_on (can (dual S)) (complement r) l → Goes_on (can S) r l
+  pub dual_goes_on : (r : Row) (l : List ℕ) → GoesOn (can (dual S)) (complement r) l → GoesOn (can S) r l
   dual_goes_on r l t = record { more = t.more; legal = dual_legal r (l ++ t.more) t.legal; ended = dual_ended r (l ++ t.more) t.ended }
 
   pub dual_reached : (s r : Row) → Reached (can (dual S)) (complement s) (complement r) → Reached (can S) s r

@@ -15,7 +15,7 @@ use Rattle.runs.specs.Theory.{◌⊑◌, Reached}
 use Rattle.runs.specs.Settled.{Settled, SettledKept}
 use Rattle.runs.specs.Acyclic.{Acyclic}
 use Rattle.runs.specs.Tight.{Released}
-use Rattle.runs.specs.Promise.{Goes_on, Switched}
+use Rattle.runs.specs.Promise.{GoesOn, Switched}
 use Rattle.runs.proofs.Test.{clash, true?, not-false, and_left}
 use Rattle.runs.proofs.Row.{count-∖}
 use Rattle.runs.proofs.System.{can, Quiet, SupportedFrom, SettledFrom, Ranked, mask, mask_ranked, complement}
@@ -105,7 +105,7 @@ module _ (S : Acyclic) (c R : Row) (rest : Settled S.net c R) where
   pub fall-⊑ : (l : List ℕ) → FallList S.net R l → after R l ⊑ R
   fall-⊑ l p = ⊑-complement R (after R l) (rw (after_complement R l) at (⊑-after (fallen S) (complement R) l quiet (up l p)))
 
-  pub fall_goes_on : (l : List ℕ) → FallList S.net R l → Goes_on (fall_step S.net) R l
+  pub fall_goes_on : (l : List ℕ) → FallList S.net R l → GoesOn (fall_step S.net) R l
   fall_goes_on l p = dual_goes_on (fall S) R l (goes_on (fallen S) (complement R) l quiet (up l p))
 
   pub fall_released : (l : List ℕ) → FallList S.net R l → Released S.net R (after R l)

@@ -11,7 +11,7 @@ use lib.Dec.{eqb}
 use lib.ListN.{length}
 use Rattle.runs.specs.Row.{Row, low, toggle, after, Legal, Ended, tally, count, times}
 use Rattle.runs.specs.Theory.{◌⊑◌}
-use Rattle.runs.specs.Promise.{Goes_on}
+use Rattle.runs.specs.Promise.{GoesOn}
 use Rattle.runs.proofs.Test.{clash, not-true, same?, eqb_same, eqb_other, find}
 use Rattle.runs.proofs.Row.{⊑_refl, ⊑_trans, ⊑-antisym, toggle_high, toggle_other, toggle-⊑, after-++, Legal-++, count-≤, count_toggle}
 use Rattle.runs.proofs.System.{System, can, Quiet, Full}
@@ -115,23 +115,23 @@ module _ (S : System) where
       under : (a b : List ℕ) → Legal (can S) r a → Legal (can S) r b → Ended (can S) (after r b) → after r a ⊑ after r b
       under a b x y z = after-⊑ r (after r b) a q x (⊑-after r b q y) (ended_full (after r b) z)
 
-  to_end_go : (r : Row) → Quiet S r → ((k : ℕ) → can S r k ≡ true → Goes_on (can S) (toggle r k) [])
-      → ((k : ℕ) × (k < S.size) × (can S r k ≡ true)) ⊎ ((k : ℕ) → k < S.size → can S r k ≡ false) → Goes_on (can S) r []
-  to_end_go r q f (inl x) = let t : Goes_on (can S) (toggle r x.0) [] = f x.0 x.2 in record { more = x.0 ∷ t.more; legal = (x.2, t.legal); ended = t.ended }
+  to_end_go : (r : Row) → Quiet S r → ((k : ℕ) → can S r k ≡ true → GoesOn (can S) (toggle r k) [])
+      → ((k : ℕ) × (k < S.size) × (can S r k ≡ true)) ⊎ ((k : ℕ) → k < S.size → can S r k ≡ false) → GoesOn (can S) r []
+  to_end_go r q f (inl x) = let t : GoesOn (can S) (toggle r x.0) [] = f x.0 x.2 in record { more = x.0 ∷ t.more; legal = (x.2, t.legal); ended = t.ended }
   to_end_go r q f (inr g) = record { more = []; legal = tt; ended = λ k. not-true (can S r k) (λ e. clash e (g k (S.up_inside r k (can_rise r k q e).1))) }
 
   -- n nets or fewer are still low
-  to_end_within : (n : ℕ) (r : Row) → Quiet S r → S.size ≤ count S.size r + n → Goes_on (can S) r []
+  to_end_within : (n : ℕ) (r : Row) → Quiet S r → S.size ≤ count S.size r + n → GoesOn (can S) r []
   to_end_within zero r q h = to_end_go r q (λ k e. absurd (omega (arith, one_more r k q e, count-≤ S.size (toggle r k)))) (find (can S r) S.size)
   to_end_within (suc n) r q h = to_end_go r q (λ k e. to_end_within n (toggle r k) (quiet_toggle r k q e) (omega (arith, one_more r k q e))) (find (can S r) S.size)
 
-  pub to_end : (r : Row) → Quiet S r → Goes_on (can S) r []
+  pub to_end : (r : Row) → Quiet S r → GoesOn (can S) r []
   to_end r q = to_end_within S.size r q (omega arith)
 
   -- every list goes on to an end
-  pub goes_on : (r : Row) (l : List ℕ) → Quiet S r → Legal (can S) r l → Goes_on (can S) r l
+  pub goes_on : (r : Row) (l : List ℕ) → Quiet S r → Legal (can S) r l → GoesOn (can S) r l
   goes_on r l q p =
-      let t : Goes_on (can S) (after r l) [] = to_end (after r l) (quiet_after r l q p) in
+      let t : GoesOn (can S) (after r l) [] = to_end (after r l) (quiet_after r l q p) in
       record {
         more = t.more;
         legal = Legal-++ (can S) r l t.more p t.legal;

@@ -15,7 +15,7 @@ use Rattle.runs.specs.Pair.{AllData, AllNull, Reads, InputsData, AllLow}
 use Rattle.runs.specs.Acyclic.{Acyclic}
 use Rattle.runs.specs.Checks.{Passes, FallPasses}
 use Rattle.runs.specs.Tight.{Tight, Clear}
-use Rattle.runs.specs.Promise.{Goes_on, Falling, Arrived, Rest, Rising, Promise}
+use Rattle.runs.specs.Promise.{GoesOn, Falling, Arrived, Rest, Rising, Promise}
 use Rattle.runs.specs.Witness.{Wrong, Incomplete, Unobservable}
 use Rattle.runs.specs.FallWitness.{RiseAndFall, FallIncomplete, FallUnobservable}
 use Rattle.runs.proofs.Test.{clash}
@@ -40,10 +40,10 @@ module _ (N : Net) (c : Row) (answer : ℕ → Bool) (keeps : Promise N c answer
   pub promise_cycle : (l m : List ℕ) × RiseList N c l × RiseEnd N c l × Reads N (after low l) answer
       × FallList N (after low l) m × FallEnd N (after low l) m × AllLow N (after (after low l) m)
   promise_cycle =
-      let l : Goes_on (rise_step N c) low [] = (keeps.lists [] tt).goes_on in
+      let l : GoesOn (rise_step N c) low [] = (keeps.lists [] tt).goes_on in
       let rising : Rising N c answer l.more = keeps.lists l.more l.legal in
       let rest : Rest N c answer l.more = rising.end_rest l.ended in
-      let m : Goes_on (fall_step N) (after low l.more) [] = (rest.falls [] tt).goes_on in
+      let m : GoesOn (fall_step N) (after low l.more) [] = (rest.falls [] tt).goes_on in
       (l.more, m.more, l.legal, l.ended, (rising.data_whole rest.all_data_holds).read, m.legal, m.ended, (rest.falls m.more m.legal).end_low m.ended)
 
   -- and no run breaks it at an output, an input or a gate

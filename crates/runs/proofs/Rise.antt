@@ -14,7 +14,7 @@ use Rattle.runs.specs.Settled.{Settled, SettledHeld}
 use Rattle.runs.specs.Pair.{InputsData}
 use Rattle.runs.specs.Acyclic.{Acyclic}
 use Rattle.runs.specs.Tight.{Supported}
-use Rattle.runs.specs.Promise.{Goes_on, Switched}
+use Rattle.runs.specs.Promise.{GoesOn, Switched}
 use Rattle.runs.proofs.Test.{eqb_same, eqb_other, same?}
 use Rattle.runs.proofs.Row.{∖-same, count_low}
 use Rattle.runs.proofs.System.{Quiet, mask, mask_ranked}
@@ -39,7 +39,7 @@ module _ (S : Acyclic) (c : Row) where
       → rise_step S.net c (after low l) k ≡ true → i ≢ k → rise_step S.net c (toggle (after low l) i) k ≡ true
   rise_persistent l p i k = persistent (rise S c) (after low l) i k (quiet_after (rise S c) low l quiet p)
 
-  pub rise_goes_on : (l : List ℕ) → RiseList S.net c l → Goes_on (rise_step S.net c) low l
+  pub rise_goes_on : (l : List ℕ) → RiseList S.net c l → GoesOn (rise_step S.net c) low l
   rise_goes_on l p = goes_on (rise S c) low l quiet p
 
   pub rise_switched : (l : List ℕ) → RiseList S.net c l → Switched S.net (after low l) l

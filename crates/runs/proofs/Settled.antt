@@ -8,7 +8,7 @@ use Prim.Native.Nat.{ℕ, zero, suc, ◌<◌}
 use native.Mathlib.Omega.{arith}
 use Rattle.runs.specs.Row.{Row, ◌∖◌, toggle, after, Legal, Ended}
 use Rattle.runs.specs.Theory.{◌⊑◌, Reached}
-use Rattle.runs.specs.Promise.{Goes_on}
+use Rattle.runs.specs.Promise.{GoesOn}
 use Rattle.runs.proofs.Test.{clash, true?, not-true, of_not, and_in, and_left, and_right, or_left, or_right, or_cases, or_mono, and_same, same?}
 use Rattle.runs.proofs.Row.{⊑-antisym, toggle_other, toggle-⊑}
 use Rattle.runs.proofs.System.{System, can, Quiet, Full, SupportedFrom, SettledFrom, Ranked, mask, mask_ranked}
@@ -60,7 +60,7 @@ module _ (S : System) where
 
   -- so there is a settled row
   pub settling : (s : Row) → Quiet S s → (a : Row) × SettledFrom S s a
-  settling s q = let t : Goes_on (can S) s [] = to_end S s q in (after s t.more, end_settled s t.more q t.legal t.ended)
+  settling s q = let t : GoesOn (can S) s [] = to_end S s q in (after s t.more, end_settled s t.more q t.legal t.ended)
 
 -- ---- without loops
 
@@ -92,7 +92,7 @@ module _ (S : System) (R : Ranked S) where
   -- and to which a list leads
   pub reached : (s a : Row) → Quiet S s → SettledFrom S s a → Reached (can S) s a
   reached s a q h =
-      let t : Goes_on (can S) s [] = to_end S s q in
+      let t : GoesOn (can S) s [] = to_end S s q in
       record { list = t.more; legal = t.legal; arrives = end_is s a t.more q h t.legal t.ended }
 
   pub settled_quiet : (s a : Row) → Quiet S s → SettledFrom S s a → Quiet S a

@@ -8,7 +8,7 @@ use Rattle.runs.specs.Settled.{Settled}
 use Rattle.runs.specs.Pair.{Both, AllData, AllNull, Reads, InputsData, AllLow}
 
 -- A list from row s can be carried on to an end.
-pub record Goes_on (can : Rule) (s : Row) (l : List ℕ) : Type 0 where
+pub record GoesOn (can : Rule) (s : Row) (l : List ℕ) : Type 0 where
   pub more : List ℕ
   pub legal : Legal can s (l ++ more)
   pub ended : Ended can (after s (l ++ more))
@@ -22,7 +22,7 @@ pub record Switched (N : Net) (R : Row) (l : List ℕ) : Type 0 where
 -- After a list l of the fall from the rest R: it "can be carried on to an end"; "no output pair has both rails high"; "if all outputs are
 -- NULL, every input and gate is low"; "each end comes after exactly as many switchings again, with every input and gate low".
 pub record Falling (N : Net) (R : Row) (l : List ℕ) : Type 0 where
-  pub goes_on : Goes_on (fall_step N) R l
+  pub goes_on : GoesOn (fall_step N) R l
   pub not_both : (j : ℕ) → j < N.outputs → ¬ (Both (after R l) (N.rail j))
   pub null_low : AllNull N (after R l) → AllLow N (after R l)
   pub end_switched : FallEnd N R l → Switched N R l
@@ -45,7 +45,7 @@ module _ (N : Net) (c : Row) (answer : ℕ → Bool) where
 
   -- After a list l of the rise: it "can be carried on to an end"; "no output pair has both rails high"; and as said above.
   pub record Rising (l : List ℕ) : Type 0 where
-    pub goes_on : Goes_on (rise_step N c) low l
+    pub goes_on : GoesOn (rise_step N c) low l
     pub not_both : (j : ℕ) → j < N.outputs → ¬ (Both (after low l) (N.rail j))
     pub data_whole : AllData N (after low l) → Arrived (after low l)
     pub end_rest : RiseEnd N c l → Rest l

@@ -5,7 +5,7 @@ use Rattle.std.specs.Prelude.{◌≡◌, Bool, true, false, List, ℕ}
 use Rattle.runs.specs.Row.{Row, low, after}
 use Rattle.runs.specs.Net.{Net, input_rail, rise_step, RiseList, RiseEnd}
 use Rattle.runs.specs.Pair.{DataOf, Null, AllData}
-use Rattle.runs.specs.Promise.{Goes_on}
+use Rattle.runs.specs.Promise.{GoesOn}
 
 -- 13: a run that has come to its end, "with output `at` not the reference's DATA".
 pub record ShowsWrong (N : Net) (c : Row) (answer : ℕ → Bool) (j : ℕ) (list : List ℕ) : Type 0 where
@@ -16,7 +16,7 @@ pub record ShowsWrong (N : Net) (c : Row) (answer : ℕ → Bool) (j : ℕ) (lis
 -- "Every run of the named word ends with output `at` not the reference's DATA": every list, the empty one too, goes on to an end, and every
 -- end is so.
 pub record Wrong (N : Net) (c : Row) (answer : ℕ → Bool) (j : ℕ) : Type 0 where
-  pub goes_on : (l : List ℕ) → RiseList N c l → Goes_on (rise_step N c) low l
+  pub goes_on : (l : List ℕ) → RiseList N c l → GoesOn (rise_step N c) low l
   pub wrong : (l : List ℕ) → RiseList N c l → RiseEnd N c l → ShowsWrong N c answer j l
 
 -- 14: "some list of its steps leaves all outputs DATA and input `at` NULL".

@@ -1,7 +1,7 @@
 // The verdict's type, how words are named, and what one check finds. What they mean is said in specs/.
 #![tactic(auto)]
 
-// The four numbers of a verdict, laid out as C does: the C functions of crate `fovaheju` answer one. `word` is the name of a word under 13 to 15,
+// The four numbers of a verdict, laid out as C does: the C functions of crate `fovaheju_c` answer one. `word` is the name of a word under 13 to 15,
 // 20, 21 and 23, a count under 10, 11 and 22, and else 0.
 #[repr(C)]
 #[derive(Clone, Copy)]
