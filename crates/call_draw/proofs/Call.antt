@@ -1,7 +1,6 @@
 -- The cases of the call.
 -- Assumes nothing.
-use Rattle.std.proofs.Common.{◌≡◌, ℕ, ◌+◌, ◌*◌, ◌<◌, ◌≤◌, Bool, true, false, leb, List, length, take, sym, ◌∙◌, arith, le-ltb, lt-ltb, le-leb}
-use borrow.Author.Tests.{lt-leb}
+use Rattle.std.proofs.Common.{◌≡◌, ℕ, ◌+◌, ◌*◌, ◌<◌, ◌≤◌, Bool, true, false, List, length, take, sym, ◌∙◌, arith, le-ltb, lt-ltb, le-leb}
 use Rattle.verdict.specs.FourNumbers.{verdict, accepted}
 use Rattle.verdict.specs.declared.Answer.{Answer}
 use Rattle.write_command.specs.Put.{Put}
@@ -12,16 +11,6 @@ use Rattle.draw_spec.specs.Demand.{DrawnDemand}
 use Rattle.draw_spec.proofs.Answers.{drawn_demand}
 
 -- ---- 39
-
-module _ (n g : ℕ) where
-  pub range_low : n < 1 → false ≡ in_range n g
-  range_low l = rw (lt-leb 1 n l)
-
-  pub range_high : 1 ≤ n → 10 < n → false ≡ in_range n g
-  range_high s l = rw (le-leb 1 n s, lt-leb n 10 l)
-
-  pub range_gates : 1 ≤ n → n ≤ 10 → leb g 40 ≡ in_range n g
-  range_gates s l = rw (le-leb 1 n s, le-leb n 10 l)
 
 pub out_of_range : (seed n g : ℕ) (buffer : List ℕ) {b : Bool} {r : Answer} → b ≡ in_range n g → b ≡ false → r ≡ answer_of (verdict 39 0 0 0) 0
     → DrawnDemand seed n g buffer r buffer

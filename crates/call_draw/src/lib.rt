@@ -38,7 +38,8 @@ fn yielded(s: u32, k: u32) -> u32
     (s ^ (s / 65536)) % k
 }
 
-// A drawn gate, and the state after it. NOT, 1, has FFFF as its second operand.
+// A drawn gate, and the state after it. NOT, 1, has FFFF as its second operand: no `Option`, since the command in the file has FFFF there too, and
+// GateDrawn says of the four numbers that they are written as they stand.
 #[derive(Clone, Copy)]
 pub struct Gate {
     pub operation: u8,
@@ -96,8 +97,7 @@ fn put_gates(seed: u32, inputs: usize, gates: usize, marks: &mut [u8], buffer: &
     ensures marks { marks.new ≡ marked marks.old (used_by (draws.gates_from inputs gates seed)) }
 {
     let mut state = seed;
-    let mut k: usize = 0;
-    while k < gates {
+    for k in 0..gates {
         let gate = draw_gate(state, (inputs + k) as u32);
         state = gate.state;
         mark_gate(gate, marks);
@@ -108,7 +108,6 @@ fn put_gates(seed: u32, inputs: usize, gates: usize, marks: &mut [u8], buffer: &
             gate.first,
             gate.second,
         );
-        k += 1;
     }
 }
 
@@ -120,13 +119,11 @@ fn put_outputs(marks: &[u8], signals: usize, buffer: &mut [u8], from: usize) -> 
         buffer.new }
 {
     let mut at = from;
-    let mut x: usize = 0;
-    while x < signals {
+    for x in 0..signals {
         if marks[x] == 0 {
             write_command::put_reference_output(buffer, at, x as u16);
             at += 3;
         }
-        x += 1;
     }
     at
 }
@@ -152,13 +149,7 @@ fn put_file(seed: u32, inputs: usize, gates: usize, buffer: &mut [u8]) -> usize
 fn in_range(inputs: usize, gates: usize) -> bool
     ensures { result ≡ in_range inputs gates }
 {
-    if inputs < 1 {
-        return false;
-    }
-    if 10 < inputs {
-        return false;
-    }
-    gates <= 40
+    (1..=10).contains(&inputs) && gates <= 40
 }
 
 // The call, where the counts are in range: 40, 41 or the file, which is made aside, since a refusal writes nothing. Where it has more outputs than a

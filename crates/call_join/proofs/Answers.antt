@@ -1,5 +1,6 @@
 -- 23: the word that a reference answers, and what is found under the name of a word.
 -- Assumes nothing.
+use Rattle.std.specs.Prelude.{Some, None, Ok}
 use Prim.Native.Nat.{ℕ, zero, suc, ◌+◌, ◌-◌, ◌*◌, ◌^◌, ◌≤◌, ◌<◌}
 use native.Mathlib.Omega.{arith}
 use native.Mathlib.Nat.{two-pow-succ}
@@ -13,9 +14,7 @@ use lib.Dec.{eqb}
 use borrow.Author.Tests.{lt-ltb}
 use Rattle.gates.specs.Cell.{bit}
 use Rattle.netlist.specs.declared.Counts.{Counts}
-use Rattle.netlist.specs.declared.Found.TheVariants.{At, Nothing}
 use Rattle.netlist.specs.Content.{Stage, Reference}
-use Rattle.verdict.specs.declared.Finding.TheVariants.{Passed}
 use Rattle.verdict.specs.Graph.{tabulate}
 use Rattle.verdict.specs.declared.WordOrder.{WordOrder}
 use Rattle.verdict.specs.Words.{bits_of, word_of, spelled}
@@ -108,11 +107,11 @@ module _ (sizes : Counts) (reference values : List ℕ) (j : ℕ) where
 -- ---- what is found under a name
 
 module _ (order : WordOrder) (inputs : ℕ) (r : Reference) (t : Stage) (name : ℕ) where
-  pub cared_under : uncared_for t (answer_word r (spelled order inputs name)) ≡ false → uncared_under order inputs r t name ≡ Nothing
+  pub cared_under : uncared_for t (answer_word r (spelled order inputs name)) ≡ false → uncared_under order inputs r t name ≡ None
   unfolding first
   cared_under e = rw e
 
-  pub uncared_under_holds : uncared_for t (answer_word r (spelled order inputs name)) ≡ true → uncared_under order inputs r t name ≡ At 0
+  pub uncared_under_holds : uncared_for t (answer_word r (spelled order inputs name)) ≡ true → uncared_under order inputs r t name ≡ Some 0
   unfolding first
   uncared_under_holds e = rw e
 
@@ -135,7 +134,7 @@ answer_word_lem r w =
 
 -- a second part without a care list cares for every answer
 pub all_cared : (order : WordOrder) (inputs : ℕ) (sizes : Counts) (reference : List ℕ) (c : Counts) (code : List ℕ) → c.care ≡ 0 → sizes.outputs ≡ c.inputs
-    → (ns : List ℕ) → Passed ≡ sweep 23 0 (uncared_under order inputs (reference_in sizes reference) (stage_in c code)) ns
+    → (ns : List ℕ) → Ok tt ≡ sweep 23 0 (uncared_under order inputs (reference_in sizes reference) (stage_in c code)) ns
 all_cared order inputs sizes reference c code none seam ns =
     let r = reference_in sizes reference in
     let long : length (from_reference r).outputs ≡ c.inputs = length-map r.outputs (λ (v : ℕ). v ∷ []) ∙ signals_count sizes reference ∙ seam in

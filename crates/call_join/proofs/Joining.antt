@@ -1,5 +1,6 @@
 -- The join from its steps: the parts' verdicts, then 22, 23 and 24, and what the call leaves in the buffers.
 -- Assumes nothing.
+use Rattle.std.specs.Prelude.{Option, Ok, Err}
 use Prim.Native.Nat.{ℕ, ◌+◌, ◌*◌, ◌^◌, ◌≤◌, ◌<◌}
 use native.Mathlib.Omega.{arith}
 use mathlib.Core.Path.{◌≡◌, refl, sym, ap, ap₂, ◌∙◌, subst}
@@ -12,14 +13,12 @@ use borrow.Author.Tests.{eq-eqb, ne_eqb, lt-ltb, le-ltb}
 use Rattle.netlist.specs.declared.File.TheVariants.{Stage, Reference}
 use Rattle.netlist.specs.declared.Counts.{Counts}
 use Rattle.netlist.specs.declared.Limits.{Limits}
-use Rattle.netlist.specs.declared.Found.{Found}
 use Rattle.netlist.specs.Reading.{Reading, refused, readable, read_file, part_stage_limits, part_reference_limits}
 use Rattle.netlist.specs.Content as parsed
 use Rattle.netlist.specs.Writing.{pair_operands, write_stage, write_reference}
 use Rattle.verdict.specs.declared.Verdict.{Verdict}
 use Rattle.verdict.specs.declared.WordOrder.{WordOrder}
-use Rattle.verdict.specs.declared.Finding.{Finding}
-use Rattle.verdict.specs.declared.Finding.TheVariants.{Fault, Passed}
+use Rattle.verdict.specs.FourNumbers.{Finding}
 use Rattle.verdict.specs.Graph.{tabulate}
 use Rattle.verdict.specs.Words.{words, names, spelled, is_in}
 use Rattle.verdict.specs.Checks.{sweep}
@@ -137,16 +136,16 @@ module _ (order : WordOrder) (counts : FileCounts) (code1 reference1 code2 refer
         ∙ ap₂ fault_or (ap under held.stage1_is ∙ sym is) (ap₂ (λ (a b : List ℕ). cond (ltb stage_room (length a) || ltb reference_room (length b)) (verdict 24 3 0 0) accepted) stage_is reference_is)
 
     -- a fault of 23 has its number
-    pub leaves_uncared : counts.stage1.outputs ≡ counts.stage2.inputs → (v : Verdict) → Fault v ≡ sweep 23 0 (uncared_under order counts.stage1.inputs R1 S2) (names order S1)
+    pub leaves_uncared : counts.stage1.outputs ≡ counts.stage2.inputs → (v : Verdict) → Err v ≡ sweep 23 0 (uncared_under order counts.stage1.inputs R1 S2) (names order S1)
         → {r : JoinAnswer} (stage reference : List ℕ) → r ≡ answer_with v 0 0 → Leaves (judge (seam_checks order one two stage_room reference_room)) (whole one two) r stage reference stage reference
-    leaves_uncared e v is stage reference a = leaves_refused v (whole one two) stage reference (seam_is e (Fault v) is) (λ z. omega (arith, sweep_number 23 0 _ (names order S1) v (sym is), z)) a
+    leaves_uncared e v is stage reference a = leaves_refused v (whole one two) stage reference (seam_is e (Err v) is) (λ z. omega (arith, sweep_number 23 0 _ (names order S1) v (sym is), z)) a
 
-    module _ (e : counts.stage1.outputs ≡ counts.stage2.inputs) (passed : Passed ≡ sweep 23 0 (uncared_under order counts.stage1.inputs R1 S2) (names order S1)) where
+    module _ (e : counts.stage1.outputs ≡ counts.stage2.inputs) (passed : Ok tt ≡ sweep 23 0 (uncared_under order counts.stage1.inputs R1 S2) (names order S1)) where
       pub leaves_short : (stage_room < m) ⊎ (reference_room < n) → {r : JoinAnswer} (stage reference : List ℕ) → r ≡ answer_with (verdict 24 3 0 0) 0 0
           → Leaves (judge (seam_checks order one two stage_room reference_room)) (whole one two) r stage reference stage reference
       leaves_short l stage reference a =
           let short : is_short ≡ true = ⊎_elim (λ h. rw (lt-ltb stage_room m h)) (λ h. rw (lt-ltb reference_room n h) (or-true (ltb stage_room m))) l in
-          leaves_refused (verdict 24 3 0 0) (whole one two) stage reference (seam_is e Passed passed ∙ rw short) (λ z. omega arith) a
+          leaves_refused (verdict 24 3 0 0) (whole one two) stage reference (seam_is e (Ok tt) passed ∙ rw short) (λ z. omega arith) a
 
       pub leaves_written : m ≤ stage_room → n ≤ reference_room
           → (r : JoinAnswer) {stage reference after after' : List ℕ} → r.verdict ≡ accepted
@@ -154,7 +153,7 @@ module _ (order : WordOrder) (counts : FileCounts) (code1 reference1 code2 refer
           → Put stage 0 (write_stage (code.joined_stage S1 S2)) after → m ≤ length stage
           → Put reference 0 (write_reference (code.joined_reference R1 R2)) after' → n ≤ length reference
           → Leaves (judge (seam_checks order one two stage_room reference_room)) (whole one two) r stage reference after after'
-      leaves_written l l' r {stage} {reference} v em en s fits t fits' = rw (seam_is e Passed passed, le-ltb stage_room m l, le-ltb reference_room n l', stage_is, reference_is) (record {
+      leaves_written l l' r {stage} {reference} v em en s fits t fits' = rw (seam_is e (Ok tt) passed, le-ltb stage_room m l, le-ltb reference_room n l', stage_is, reference_is) (record {
         stage_left_holds = (λ i. record { verdict = v i; count = em i; buffer = put_holding s fits i }) ∙ sym (leaves_bytes accepted refl _ stage);
         reference_left_holds = (λ i. record { verdict = v i; count = en i; buffer = put_holding t fits' i }) ∙ sym (leaves_bytes accepted refl _ reference);
       })

@@ -1,5 +1,6 @@
 -- Masks of the words whose answer the second part does not care for: word by word in a block, block by block, and what they say of a name.
 -- Assumes nothing.
+use Rattle.std.specs.Prelude.{Ok}
 use Prim.Native.Nat.{ℕ, zero, suc, ◌+◌, ◌*◌, ◌/◌, ◌%◌, ◌^◌, ◌≤◌, ◌<◌}
 use native.Mathlib.Omega.{arith}
 use native.Mathlib.Decide.{ℕ_discrete}
@@ -16,7 +17,6 @@ use Rattle.runs.proofs.Test.{clash, not-false, or_right}
 use Rattle.netlist.specs.Content.{Stage, Reference}
 use Rattle.netlist.specs.Reading.{Ascending}
 use Rattle.verdict.specs.declared.WordOrder.{WordOrder}
-use Rattle.verdict.specs.declared.Finding.TheVariants.{Passed}
 use Rattle.verdict.specs.Words.{IsWord, spelled, names}
 use Rattle.verdict.specs.Checks.{sweep}
 use Rattle.verdict.proofs.Words.{rising_in}
@@ -105,7 +105,7 @@ module _ (inputs : ℕ) (r : Reference) (t : Stage) (masks : List ℕ) (names-un
 
   -- nothing is found where they name no word of the first part
   pub none_uncared : (order : WordOrder) (s : Stage) → s.inputs ≡ inputs → ((w : ℕ) → IsWord s w → Unnamed masks w) →
-      Passed ≡ sweep 23 0 (uncared_under order inputs r t) (names order s)
+      (Ok tt) ≡ sweep 23 0 (uncared_under order inputs r t) (names order s)
   none_uncared order s same none = sym (swept_nothing 23 0 (uncared_under order inputs r t) (names order s) (λ name i.
       let below : name < 2 ^ inputs = subst (λ (n : ℕ). name < 2 ^ n) same (rising_in (2 ^ s.inputs) 0 (names order s) (names_rise order s) name i).1 in
       cared_under order inputs r t name (unnamed_cared (spelled order inputs name) (spelled_below order inputs name below)

@@ -1,7 +1,6 @@
 -- What the functions of the join hand to one another.
-use Rattle.std.specs.Prelude.{ℕ, ◌/◌, ◌%◌, ◌^◌, ◌≤◌, ◌<◌, ◌≡◌, Bool, not, List, [], ◌∷◌, length, get_or}
+use Rattle.std.specs.Prelude.{ℕ, ◌/◌, ◌%◌, ◌^◌, ◌≤◌, ◌<◌, ◌≡◌, Bool, not, List, [], ◌∷◌, length, get_or, Option}
 use Rattle.netlist.specs.declared.Counts.{Counts}
-use Rattle.netlist.specs.declared.Found.{Found}
 use Rattle.netlist.specs.Content.{Stage, Reference}
 use Rattle.verdict.specs.declared.Verdict.{Verdict}
 use Rattle.verdict.specs.declared.WordOrder.{WordOrder}
@@ -32,7 +31,7 @@ abbrev pub uncared_for : Stage → ℕ → Bool
 uncared_for second answered = not (is_in answered (words second))
 
 -- what 23 finds under a name, by the number of the first part's inputs
-abbrev pub uncared_under : WordOrder → ℕ → Reference → Stage → ℕ → Found
+abbrev pub uncared_under : WordOrder → ℕ → Reference → Stage → ℕ → Option ℕ
 uncared_under order inputs function second name = first (λ i. uncared_for second (answer_word function (spelled order inputs name))) (0 ∷ [])
 
 -- masks, one for each block of 64 words, name those words of so many inputs whose answer the second part does not care for

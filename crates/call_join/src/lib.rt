@@ -16,10 +16,9 @@ ghost use Rattle.check_spec.specs.Content.{Files, part_files};
 ghost use Rattle.join_spec.specs.Joining.{whole, seam_checks, JoinDemand};
 ghost use Rattle.call_join.specs.Steps.{uncared_for, answer_in, NamesUncared, uncared_under, PartsLoaded, PartsHeld, answer_with, Leaves};
 
-use check_files::Judgement;
 use join_spec::JoinAnswer;
 use netlist::Counts;
-use verdict::{Finding, Verdict, WordOrder};
+use verdict::{Verdict, WordOrder};
 
 // ---- 23: words whose answer the second part does not care for
 
@@ -29,9 +28,7 @@ fn word_answered(reference: &[u16], sizes: Counts, values: &[u64], j: usize) -> 
     ensures { result ≡ answer_in sizes reference.now values.now j }
 {
     let mut word: usize = 0;
-    let mut k = sizes.outputs;
-    while 0 < k {
-        k -= 1;
+    for k in (0..sizes.outputs).rev() {
         let signal = circuit::form::signal_of(reference, sizes, k);
         let rest = lane_cells::lanes_at(values, signal) >> j;
         word = (rest % 2) as usize + 2 * word;
@@ -54,15 +51,12 @@ fn uncared_words(
         values.now j) }
 {
     let mut words: u64 = 0;
-    let mut j: usize = 0;
-    while j < 64 {
+    for j in 0..64 {
         let answer = word_answered(reference1, sizes1, values, j);
         if words::is_marked(code2, counts2, marks, answer) {
-            j += 1;
             continue;
         }
-        words = words | 1 << j;
-        j += 1;
+        words |= 1 << j;
     }
     words
 }
@@ -83,41 +77,45 @@ fn uncared_masks(
     words::mark_care(code2, counts2, &mut marks);
     let mut values = [0u64; circuit::SIGNALS];
     let mut masks = [0u64; lane_settle::BLOCKS];
-    let count = lane_settle::block_count(inputs);
-    let mut b: usize = 0;
-    while b < count {
+    for b in 0..lane_settle::block_count(inputs) {
         lane_cells::signal_lanes(reference1, sizes1, b, &mut values);
         masks[b] = uncared_words(reference1, sizes1, &values, code2, counts2, &marks);
-        b += 1;
     }
     masks
 }
 
 // The least of some names whose word the masks name.
-fn uncared_named(order: WordOrder, list: &[u16], inputs: usize, masks: &[u64]) -> Finding
+fn uncared_named(
+    order: WordOrder,
+    list: &[u16],
+    inputs: usize,
+    masks: &[u64],
+) -> Result<(), Verdict>
     requires { (inputs ≤ stage_limits.inputs) × ((k : ℕ) → k < length list.now → get_or list.now k 0 < 2 ^ inputs) }
     ensures { (function : Reference) (second : Stage) → NamesUncared inputs function second masks.now
         → result ≡ sweep 23 0 (uncared_under order inputs function second) list.now }
 {
-    let mut k: usize = 0;
-    while k < list.len() {
-        let name = list[k] as usize;
-        let w = words::word_of(order, inputs, name);
+    for name in list {
+        let w = words::word_of(order, inputs, *name as usize);
         if lane_screen::is_named(masks, w) {
-            return Finding::Fault(Verdict {
+            return Err(Verdict {
                 number: 23,
                 file: 0,
                 at: 0,
-                word: name as u64,
+                word: *name as u64,
             });
         }
-        k += 1;
     }
-    Finding::Passed
+    Ok(())
 }
 
 // The same of the names of the first part's words.
-fn uncared_listed(order: WordOrder, code1: &[u16], counts1: Counts, masks: &[u64]) -> Finding
+fn uncared_listed(
+    order: WordOrder,
+    code1: &[u16],
+    counts1: Counts,
+    masks: &[u64],
+) -> Result<(), Verdict>
     requires { StageLoaded counts1 code1.now }
     ensures { (function : Reference) (second : Stage) → NamesUncared counts1.inputs function second masks.now
         → result ≡ sweep 23 0 (uncared_under order counts1.inputs function second) (names order (stage_in counts1 code1.now)) }
@@ -137,18 +135,18 @@ fn uncared(
     sizes1: Counts,
     code2: &[u16],
     counts2: Counts,
-) -> Finding
+) -> Result<(), Verdict>
     requires { StageLoaded counts1 code1.now × ReferenceLoaded sizes1 reference1.now × StageLoaded counts2 code2.now
         × (sizes1.outputs ≡ counts2.inputs) }
     ensures { result ≡ sweep 23 0 (uncared_under order counts1.inputs (reference_in sizes1 reference1.now) (stage_in counts2 code2.now))
         (names order (stage_in counts1 code1.now)) }
 {
     if counts2.care == 0 {
-        return Finding::Passed;
+        return Ok(());
     }
     let masks = uncared_masks(counts1.inputs, reference1, sizes1, code2, counts2);
     if lane_screen::none_named(&masks, code1, counts1) {
-        return Finding::Passed;
+        return Ok(());
     }
     uncared_listed(order, code1, counts1, &masks)
 }
@@ -203,36 +201,21 @@ fn join_loaded(
             word: counts2.inputs as u64,
         });
     }
-    if let Finding::Fault(v) = uncared(order, code1, counts1, reference1, sizes1, code2, counts2) {
+    if let Err(v) = uncared(order, code1, counts1, reference1, sizes1, code2, counts2) {
         return refusal(v);
     }
     let stage_count = write_joined::stage_length(counts1, counts2);
     let reference_count = write_joined::reference_length(sizes1, sizes2);
     if stage_out.len() < stage_count {
-        return refusal(Verdict {
-            number: 24,
-            file: 3,
-            at: 0,
-            word: 0,
-        });
+        return refusal(Verdict::fault(24, 3, 0));
     }
     if reference_out.len() < reference_count {
-        return refusal(Verdict {
-            number: 24,
-            file: 3,
-            at: 0,
-            word: 0,
-        });
+        return refusal(Verdict::fault(24, 3, 0));
     }
     write_joined::put_stage(stage_out, code1, counts1, code2, counts2);
     write_joined::put_reference(reference_out, reference1, sizes1, reference2, sizes2);
     JoinAnswer {
-        verdict: Verdict {
-            number: 0,
-            file: 0,
-            at: 0,
-            word: 0,
-        },
+        verdict: Verdict::accepted(),
         stage_count: stage_count as u64,
         reference_count: reference_count as u64,
     }
@@ -258,7 +241,7 @@ pub fn join(
     let mut loaded1 = [0u16; circuit::form::REFERENCE_CODE];
     let mut code2 = [0u16; circuit::form::STAGE_CODE];
     let mut loaded2 = [0u16; circuit::form::REFERENCE_CODE];
-    match check_files::check_loading(
+    let one = match check_files::check_loading(
         order,
         false,
         stage1,
@@ -268,40 +251,42 @@ pub fn join(
         &mut code1,
         &mut loaded1,
     ) {
-        Judgement::Refused(v) => refusal(v),
-        Judgement::Accepted(counts1, sizes1) => {
-            match check_files::check_loading(
-                order,
-                false,
-                stage2,
-                reference2,
-                most,
-                reference_most,
-                &mut code2,
-                &mut loaded2,
-            ) {
-                Judgement::Refused(v) => refusal(Verdict {
-                    number: v.number,
-                    file: v.file + 3,
-                    at: v.at,
-                    word: v.word,
-                }),
-                Judgement::Accepted(counts2, sizes2) => join_loaded(
-                    order,
-                    &code1,
-                    &loaded1,
-                    &code2,
-                    &loaded2,
-                    FileCounts {
-                        stage1: counts1,
-                        reference1: sizes1,
-                        stage2: counts2,
-                        reference2: sizes2,
-                    },
-                    stage_out,
-                    reference_out,
-                ),
-            }
+        Ok(one) => one,
+        Err(v) => return refusal(v),
+    };
+    let two = match check_files::check_loading(
+        order,
+        false,
+        stage2,
+        reference2,
+        most,
+        reference_most,
+        &mut code2,
+        &mut loaded2,
+    ) {
+        Ok(two) => two,
+        Err(v) => {
+            return refusal(Verdict {
+                number: v.number,
+                file: v.file + 3,
+                at: v.at,
+                word: v.word,
+            });
         }
-    }
+    };
+    join_loaded(
+        order,
+        &code1,
+        &loaded1,
+        &code2,
+        &loaded2,
+        FileCounts {
+            stage1: one.stage,
+            reference1: one.reference,
+            stage2: two.stage,
+            reference2: two.reference,
+        },
+        stage_out,
+        reference_out,
+    )
 }

@@ -1,12 +1,12 @@
 -- Looking for the net with the least key. Assumes nothing.
+use Rattle.std.specs.Prelude.{Some, None}
 use Prim.Native.Nat.{ℕ, ◌+◌, ◌≤◌, ◌<◌}
 use native.Mathlib.Omega.{arith}
 use native.Mathlib.Decide.{dec_lt, ℕ_discrete}
-use mathlib.Core.Path.{◌≡◌, refl, sym, ap, ◌∙◌, subst}
-use mathlib.Core.Logic.{◌⊎◌, inl, inr, ⊎_elim}
+use mathlib.Core.Path.{◌≡◌, sym, ap, ◌∙◌, subst}
+use mathlib.Core.Logic.{inl, inr, ⊎_elim}
 use mathlib.Core.Bool.{Bool, true, false}
 use Rattle.runs.proofs.Test.{clash}
-use Rattle.netlist.specs.declared.Found.TheVariants.{At, Nothing}
 use Rattle.run_spec.proofs.Played.{Before, NextIs}
 use Rattle.call_keys.specs.Lists.{BestOf, Earlier}
 
@@ -64,8 +64,8 @@ module _ (test : ℕ → Bool) (key : ℕ → ℕ) (n : ℕ) where
       pub best_of_both : Earlier key n best m r → BestOf test key n (m + 1) r
       best_of_both = ⊎_elim kept taken
 
-  pub best_none : (best : ℕ) → BestOf test key n n best → best ≡ n → NextIs key test n Nothing
+  pub best_none : (best : ℕ) → BestOf test key n n best → best ≡ n → NextIs key test n None
   best_none best b e = b.none e
 
-  pub best_next : (best : ℕ) → BestOf test key n n best → ¬ (best ≡ n) → NextIs key test n (At best)
+  pub best_next : (best : ℕ) → BestOf test key n n best → ¬ (best ≡ n) → NextIs key test n (Some best)
   best_next best b d = b.some (omega (arith, b.within, d))

@@ -2,7 +2,7 @@
 use Prim.Native.Nat.{ℕ, ◌+◌, ◌-◌, ◌*◌, ◌≤◌, ◌<◌}
 use native.Mathlib.Omega.{arith}
 use mathlib.Core.Path.{◌≡◌, refl, sym, ap, ap₂, ◌∙◌, subst}
-use mathlib.Core.Bool.{Bool, not, ◌&&◌, and-true}
+use mathlib.Core.Bool.{and-true}
 use mathlib.Core.List.{List, ◌++◌}
 use lib.ListN.{length, take, drop, replicate, length-append, length-drop}
 use lib.Seq.{take_all}
@@ -30,7 +30,7 @@ use Rattle.write_run.specs.declared.Lengths.{Lengths}
 use Rattle.write_run.specs.Listing.{ListedRun, RunPut}
 use Rattle.write_run.proofs.Listing.{run_taken}
 use Rattle.run_spec.specs.declared.RunAnswer.{RunAnswer}
-use Rattle.run_spec.specs.Played.{Run, rise_by, fall_by, played, switchings, answering, handed_out}
+use Rattle.run_spec.specs.Played.{Run, rise_by, fall_by, switchings, answering, handed_out}
 use Rattle.run_spec.specs.Keys.{key_in, run_by_keys, key_checks_on, keys_on, KeysDemand}
 use Rattle.run_spec.proofs.Played.{played_alike, played_few}
 use Rattle.run_spec.proofs.Calls.{no_run, none_handed, keyed_accepted, keyed_refused, keys_demand}

@@ -1,18 +1,17 @@
 -- Nets switch one after the other, each time that with the least key. Assumes nothing.
+use Rattle.std.specs.Prelude.{Some}
 use Prim.Native.Nat.{ℕ, ◌+◌, ◌*◌, ◌≤◌, ◌<◌}
 use native.Mathlib.Omega.{arith}
-use mathlib.Core.Path.{◌≡◌, refl, sym, ap, ◌∙◌, subst, fun_ext}
-use mathlib.Core.Bool.{Bool}
+use mathlib.Core.Path.{◌≡◌, sym, ap, ◌∙◌, subst, fun_ext}
 use mathlib.Core.List.{List}
 use lib.ListN.{length, set}
 use Rattle.runs.specs.Row.{Row, Rule, toggle}
 use Rattle.runs.specs.Net.{Net, nets}
 use Rattle.netlist.specs.declared.Counts.{Counts}
-use Rattle.netlist.specs.declared.Found.TheVariants.{At}
-use Rattle.circuit.specs.Stage.{net_count, stage_gates}
+use Rattle.circuit.specs.Stage.{net_count}
 use Rattle.circuit.specs.Rows.{RowFor}
 use Rattle.circuit.proofs.Settling.{length_stage_gates}
-use Rattle.circuit_steps.specs.Moves.{moves, loaded_net, row_in}
+use Rattle.circuit_steps.specs.Moves.{loaded_net, row_in}
 use Rattle.circuit_steps.proofs.Rules.{goal_alike}
 use Rattle.run_spec.specs.Played.{played}
 use Rattle.run_spec.proofs.Played.{NextIs}
@@ -64,7 +63,7 @@ module _ (c : Counts) (code : List ℕ) (step : Rule) (key : ℕ → ℕ) where
         pub is_net_holds : net < net_count c
         is_net_holds = omega (arith, best.within, d)
 
-        next : NextIs key (step r) (nets N) (At net)
+        next : NextIs key (step r) (nets N) (Some net)
         next = best_next (step r) key (nets N) net found (λ q. d (q ∙ all_nets_holds))
 
         pub walk_room : count < length list

@@ -1,5 +1,5 @@
 -- Lists that are played by keys on a stage in its flat form.
-use Rattle.std.specs.Prelude.{ℕ, ◌+◌, ◌≤◌, ◌<◌, ◌≡◌, Bool, true, false, ◌⊎◌, List, drop}
+use Rattle.std.specs.Prelude.{ℕ, ◌≤◌, ◌<◌, ◌≡◌, Bool, true, false, ◌⊎◌, List, drop}
 use Rattle.runs.specs.Row.{Row, low, after}
 use Rattle.runs.specs.Net.{Net, nets}
 use Rattle.netlist.specs.declared.Counts.{Counts}

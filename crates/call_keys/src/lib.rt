@@ -10,7 +10,6 @@ ghost use Rattle.write_run.specs.Listing.{ListedRun, RunPut};
 ghost use Rattle.run_spec.specs.Keys.{key_in, KeysDemand};
 ghost use Rattle.call_keys.specs.Lists.{BestOf, Earlier, by_keys, rise_in, fall_in, GivenBy};
 
-use call_open::Opening;
 use netlist::Counts;
 use run_spec::RunAnswer;
 use verdict::{Verdict, WordOrder};
@@ -18,7 +17,7 @@ use write_run::Lengths;
 
 // ---- steps
 
-// The one of two nets with the lesser key, the first if they are equal; where the first is none, the second.
+// The one of two nets with the lesser key, the first if they are equal; where the first is none, the second (Earlier says none by the number of nets).
 fn earlier(keys: &[u32], none: usize, best: usize, net: usize) -> usize
     requires { (none ≤ length keys.now) × (best ≤ none) × (net < none) }
     ensures { Earlier (key_in keys.now) none best net result }
@@ -31,7 +30,8 @@ fn earlier(keys: &[u32], none: usize, best: usize, net: usize) -> usize
     net
 }
 
-// Of the nets that may switch, that with the least key, or the number of nets where none may.
+// Of the nets that may switch, that with the least key, or the number of nets where none may: no `Option`, since BestOf and Earlier, of which each
+// keeps its meaning, say that number (specs/Lists.antt).
 fn next_by_key(
     entries: &[[u8; 16]; 27],
     code: &[u16],
@@ -47,12 +47,10 @@ fn next_by_key(
 {
     let nets = 2 * counts.inputs + counts.gates;
     let mut best = nets;
-    let mut net: usize = 0;
-    while net < nets {
+    for net in 0..nets {
         if circuit_steps::may_switch(entries, code, counts, goal, row, net) {
             best = earlier(keys, nets, best, net);
         }
-        net += 1;
     }
     best
 }
@@ -77,17 +75,15 @@ fn list_by_keys(
     let entries = gates::table();
     let nets = 2 * counts.inputs + counts.gates;
     let end = start + nets;
-    let mut count = start;
-    while count < end {
+    for count in start..end {
         let net = next_by_key(&entries, code, counts, goal, row, keys);
         if net == nets {
             return count;
         }
         circuit_steps::switch_net(counts, row, net);
         list[count] = net as u16;
-        count += 1;
     }
-    count
+    end
 }
 
 // ---- the run
@@ -128,12 +124,7 @@ fn run_stage(
     let count = lengths.count;
     write_run::hand_out(&run[..count], list);
     RunAnswer {
-        verdict: Verdict {
-            number: 0,
-            file: 0,
-            at: 0,
-            word: 0,
-        },
+        verdict: Verdict::accepted(),
         rise: lengths.rise as u64,
         count: count as u64,
     }
@@ -152,11 +143,11 @@ pub fn run_by_keys(
 {
     let mut code = [0u16; circuit::form::STAGE_CODE];
     match call_open::open_stage(stage, keys.len(), 2, &mut code) {
-        Opening::Refused(verdict) => RunAnswer {
+        Err(verdict) => RunAnswer {
             verdict,
             rise: 0,
             count: 0,
         },
-        Opening::Opened(counts) => run_stage(order, &code, counts, name, keys, list),
+        Ok(counts) => run_stage(order, &code, counts, name, keys, list),
     }
 }

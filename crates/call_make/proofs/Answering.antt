@@ -1,5 +1,6 @@
 -- The whole stage, put part by part, and what the call answers by its checks.
 -- Assumes nothing.
+use Rattle.std.specs.Prelude.{Option, Some, None, Ok, Err}
 use Prim.Native.Nat.{ℕ, ◌+◌, ◌*◌, ◌≤◌, ◌<◌}
 use native.Mathlib.Omega.{arith}
 use mathlib.Core.Path.{◌≡◌, refl, sym, ap, ap₂, ◌∙◌, subst}
@@ -10,10 +11,8 @@ use borrow.Author.Tests.{lt-ltb, le-ltb}
 use Rattle.netlist.specs.declared.File.TheVariants as file
 use Rattle.netlist.specs.declared.Counts.{Counts}
 use Rattle.netlist.specs.declared.Limits.{Limits}
-use Rattle.netlist.specs.declared.Found.{Found}
-use Rattle.netlist.specs.declared.Found.TheVariants.{At, Nothing}
-use Rattle.netlist.specs.declared.Outcome.{Outcome}
-use Rattle.netlist.specs.declared.Outcome.TheVariants as outcome
+use Rattle.netlist.specs.Types.{Outcome}
+use Rattle.netlist.specs.Types.{refusal as unread}
 use Rattle.netlist.specs.Commands.{when_found}
 use Rattle.netlist.specs.Reading.{Reading, read_file, stage_limits, reference_limits}
 use Rattle.netlist.specs.Read.{outcome_of}
@@ -108,29 +107,29 @@ module _ (c : Counts) (code buffer : List ℕ) where
   abbrev verdict_of : Verdict
   verdict_of = judge (make_checks (loaded c code) (length buffer))
 
-  abbrev search : Found
+  abbrev search : Option ℕ
   search = least (λ x. not (leads_out (loaded c code) x)) 0 (c.inputs + c.gates)
 
-  told : (x : Found) → x ≡ search → verdict_of ≡ when_found x (λ x. verdict 25 2 x 0) (later_verdict (loaded c code) (length buffer))
+  told : (x : Option ℕ) → x ≡ search → verdict_of ≡ when_found x (λ x. verdict 25 2 x 0) (later_verdict (loaded c code) (length buffer))
   told x e =
       judged_by (loaded c code) (length buffer)
-      ∙ ap (λ (f : Found). when_found f (λ x. verdict 25 2 x 0) (later_verdict (loaded c code) (length buffer))) (ap (λ (m : ℕ). least (λ x. not (leads_out (loaded c code) x)) 0 (c.inputs + m)) (gates_count c code) ∙ sym e)
+      ∙ ap (λ (f : Option ℕ). when_found f (λ x. verdict 25 2 x 0) (later_verdict (loaded c code) (length buffer))) (ap (λ (m : ℕ). least (λ x. not (leads_out (loaded c code) x)) 0 (c.inputs + m)) (gates_count c code) ∙ sym e)
 
-  pub told_25 : (x : ℕ) → At x ≡ search → verdict_of ≡ verdict 25 2 x 0
+  pub told_25 : (x : ℕ) → Some x ≡ search → verdict_of ≡ verdict 25 2 x 0
   unfolding when_found
-  told_25 x e = told (At x) e
+  told_25 x e = told (Some x) e
 
-  pub told_26 : Nothing ≡ search → stage_limits.gates < needed → verdict_of ≡ verdict 26 2 needed 0
+  pub told_26 : None ≡ search → stage_limits.gates < needed → verdict_of ≡ verdict 26 2 needed 0
   unfolding when_found
-  told_26 e l = told Nothing e ∙ rw (lt-ltb stage_limits.gates needed l)
+  told_26 e l = told None e ∙ rw (lt-ltb stage_limits.gates needed l)
 
-  pub told_27 : Nothing ≡ search → needed ≤ stage_limits.gates → length buffer < length bytes → verdict_of ≡ verdict 27 3 0 0
+  pub told_27 : None ≡ search → needed ≤ stage_limits.gates → length buffer < length bytes → verdict_of ≡ verdict 27 3 0 0
   unfolding when_found
-  told_27 e l s = told Nothing e ∙ rw (le-ltb stage_limits.gates needed l, lt-ltb (length buffer) (length bytes) s)
+  told_27 e l s = told None e ∙ rw (le-ltb stage_limits.gates needed l, lt-ltb (length buffer) (length bytes) s)
 
-  pub told_none : Nothing ≡ search → needed ≤ stage_limits.gates → length bytes ≤ length buffer → verdict_of ≡ accepted
+  pub told_none : None ≡ search → needed ≤ stage_limits.gates → length bytes ≤ length buffer → verdict_of ≡ accepted
   unfolding when_found
-  told_none e l s = told Nothing e ∙ rw (le-ltb stage_limits.gates needed l, le-ltb (length buffer) (length bytes) s)
+  told_none e l s = told None e ∙ rw (le-ltb stage_limits.gates needed l, le-ltb (length buffer) (length bytes) s)
 
   pub refused_as : (a : Answer) (v : Verdict) → a ≡ answer_of v 0 → verdict_of ≡ v → 1 ≤ v.number → written a buffer ≡ leaving verdict_of bytes buffer
   refused_as a v e f l = ap (λ (x : Answer). written x buffer) e ∙ sym (leaves_none v (λ z. omega arith) bytes buffer) ∙ sym (ap (λ (u : Verdict). leaving u bytes buffer) f)
@@ -156,7 +155,7 @@ module _ (s buffer : List ℕ) where
   abbrev left : Written
   left = leaving (judge (make_checks_on s (length buffer))) (made_bytes (reference_read s)) buffer
 
-  pub file_refused : (a : Answer) (number at : ℕ) → outcome.Refused number at ≡ outcome_of reading → a ≡ answer_of (verdict number 2 at 0) 0 → written a buffer ≡ left
+  pub file_refused : (a : Answer) (number at : ℕ) → Err (unread number at) ≡ outcome_of reading → a ≡ answer_of (verdict number 2 at 0) 0 → written a buffer ≡ left
   unfolding judge first refusal
   file_refused a number at e h =
       let r = was_refused reading number at e in
@@ -164,7 +163,7 @@ module _ (s buffer : List ℕ) where
       ∙ sym (leaves_none (verdict number 2 at 0) (λ z. omega (arith, (refused_number file.Reference reference_limits s number at r).0)) (made_bytes (reference_read s)) buffer)
       ∙ sym (ap (λ (x : Reading). leaving (judge (refusal file.Reference x ∷ make_checks (reference_read s) (length buffer))) (made_bytes (reference_read s)) buffer) r)
 
-  module _ (c : Counts) (code : List ℕ) (e : outcome.Readable c ≡ outcome_of reading) (h : HoldsReference s reading code) where
+  module _ (c : Counts) (code : List ℕ) (e : Ok c ≡ outcome_of reading) (h : HoldsReference s reading code) where
     pub file_loaded : ReferenceLoaded c code × ReferenceFormed reference_limits (reference_in c code)
     file_loaded =
         let l = reference_held s reading c code e h in

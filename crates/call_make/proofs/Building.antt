@@ -30,7 +30,7 @@ use Rattle.write_command.proofs.Putting.{put_same}
 use Rattle.circuit.specs.Stage.{tabulate}
 use Rattle.circuit.specs.Reference.{operation_in, operand_in, operator_in, operators_in, reference_in, ReferenceLoaded}
 use Rattle.circuit.proofs.Tabulate.{get_d_tabulate, from_at, none_from, one_more, all_same}
-use Rattle.write_made.specs.declared.Rails.{Rails}
+use Rattle.circuit.specs.declared.form.Rails.{Rails}
 use Rattle.write_made.specs.Rails.{content_in, pair_of, pair_stored, pairs_in, becomes}
 use Rattle.write_made.proofs.Operations.{not_gates, other_gates, one_operation}
 

@@ -16,7 +16,7 @@ ghost use Rattle.verdict.specs.Written.{written};
 ghost use Rattle.circuit.specs.Reference.{signals_in, reference_in, ReferenceLoaded};
 ghost use Rattle.write_made.specs.Rails.{content_in, pair_stored, pairs_in};
 
-use netlist::{Counts, Found, Outcome};
+use netlist::Counts;
 use verdict::{Answer, Verdict};
 
 // ---- the stage
@@ -27,11 +27,8 @@ fn input_rails(rails: &mut [u16], inputs: usize)
     ensures { (pairs_in rails.new inputs ≡ map (λ i. 2 * i ∷ (2 * i + 1) ∷ []) (numbers 0 inputs))
         × (length rails.new ≡ length rails.old) }
 {
-    let count = 2 * inputs;
-    let mut i: usize = 0;
-    while i < count {
+    for i in 0..2 * inputs {
         rails[i] = i as u16;
-        i += 1;
     }
 }
 
@@ -48,12 +45,9 @@ fn put_gates(buffer: &mut [u8], reference: &[u16], sizes: Counts, rails: &mut [u
     ensures rails { (pairs_in rails.new (sizes.inputs + sizes.gates) ≡ (built (content_in sizes reference.now)).rails)
         × (length rails.new ≡ length rails.old) }
 {
-    let count = sizes.gates;
     let mut made: usize = 0;
-    let mut k: usize = 0;
-    while k < count {
+    for k in 0..sizes.gates {
         made = write_made::put_gate(buffer, reference, sizes, k, rails, made);
-        k += 1;
     }
     made
 }
@@ -65,13 +59,10 @@ fn put_outputs(buffer: &mut [u8], at: usize, reference: &[u16], sizes: Counts, r
     ensures { Put buffer.old at (bytes_of file.Stage writing.output
         (map (pair_stored rails.now) (signals_in sizes reference.now))) buffer.new }
 {
-    let count = sizes.outputs;
-    let mut j: usize = 0;
-    while j < count {
+    for j in 0..sizes.outputs {
         let signal = circuit::form::signal_of(reference, sizes, j);
         let pair = write_made::rails_of(rails, signal);
         write_command::put_stage_output(buffer, at + 5 * j, pair.rail0, pair.rail1);
-        j += 1;
     }
 }
 
@@ -99,31 +90,16 @@ fn make_loaded(reference: &[u16], sizes: Counts, buffer: &mut [u8]) -> Answer
     ensures { written result buffer.new ≡ leaving (judge (make_checks (content_in sizes reference.now)
         (length buffer.old))) (made_bytes (content_in sizes reference.now)) buffer.old }
 {
-    if let Found::At(x) = write_made::leading_nowhere(reference, sizes) {
-        return write_command::refused(Verdict {
-            number: 25,
-            file: 2,
-            at: x as u64,
-            word: 0,
-        });
+    if let Some(x) = write_made::leading_nowhere(reference, sizes) {
+        return write_command::refused(Verdict::fault(25, 2, x));
     }
     let gates = 2 * write_made::operation_count(reference, sizes);
     if netlist::STAGE_GATES < gates {
-        return write_command::refused(Verdict {
-            number: 26,
-            file: 2,
-            at: gates as u64,
-            word: 0,
-        });
+        return write_command::refused(Verdict::fault(26, 2, gates));
     }
     let count = 3 + 10 * gates + 5 * sizes.outputs;
     if buffer.len() < count {
-        return write_command::refused(Verdict {
-            number: 27,
-            file: 3,
-            at: 0,
-            word: 0,
-        });
+        return write_command::refused(Verdict::fault(27, 3, 0));
     }
     put_stage(buffer, reference, sizes);
     write_command::wrote(count)
@@ -135,12 +111,7 @@ pub fn make_stage(reference: &[u8], buffer: &mut [u8]) -> Answer
 {
     let mut loaded = [0u16; circuit::form::REFERENCE_CODE];
     match circuit_load::read_reference_within(reference, netlist::reference_limits(), &mut loaded) {
-        Outcome::Refused { number, at } => write_command::refused(Verdict {
-            number: number as u64,
-            file: 2,
-            at: at as u64,
-            word: 0,
-        }),
-        Outcome::Readable(sizes) => make_loaded(&loaded, sizes, buffer),
+        Err(refusal) => write_command::refused(Verdict::unreadable(2, refusal)),
+        Ok(sizes) => make_loaded(&loaded, sizes, buffer),
     }
 }

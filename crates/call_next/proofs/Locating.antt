@@ -7,6 +7,7 @@ use mathlib.Core.Bool.{Bool, true, false}
 use Rattle.runs.proofs.Test.{clash}
 use mathlib.Core.List.{List, [], ◌∷◌}
 use lib.ListN.{length, get_or, take, replicate, length-replicate}
+use Rattle.std.specs.Bool.{Decides}
 use Rattle.write_command.specs.Put.{Put}
 use Rattle.verdict.specs.Written.{holding}
 use Rattle.write_command.proofs.Joining.{put_holding}
@@ -15,11 +16,10 @@ use Rattle.call_next.specs.declared.Place.TheVariants as place
 use Rattle.next_spec.specs.Numbered.{nets_of, stages, stage_numbered}
 use Rattle.next_spec.specs.Family.{file_of, Member}
 use Rattle.next_spec.specs.Listing.{InShape, free, Listed}
-use Rattle.call_next.specs.Steps.{number_in, same, Located}
+use Rattle.call_next.specs.Steps.{number_in, Located}
 use Rattle.next_spec.proofs.Less.{stage_bytes}
 use Rattle.next_spec.proofs.Members.{in_listed}
 use Rattle.next_spec.proofs.Listed.{numbered_shaped}
-use Rattle.call_next.proofs.Stores.{same_refl, same_eq}
 use Rattle.call_next.proofs.Shown.{number_shown}
 
 -- ---- a file of the family has a number
@@ -84,7 +84,7 @@ module _ (s : List ℕ) (n g z : ℕ) (i : InShape n g) (long : length s ≡ 8 +
   pub outside_loop : (b : Bool) → b ≡ free n g z → b ≡ false → Located s place.Outside
   outside_loop b h f = outside s (λ k. omega arith) (λ m. clash (its_number m).listed.loop_free (sym h ∙ f))
 
-  module _ (bytes : List ℕ) (w : Put (replicate 28 0) 0 (file_of (stage_numbered n g z)) bytes) (b : Bool) (h : b ≡ same s (take (length s) bytes)) where
+  module _ (bytes : List ℕ) (w : Put (replicate 28 0) 0 (file_of (stage_numbered n g z)) bytes) (b : Bool) (h : Decides b (s ≡ take (length s) bytes)) where
     file_long : length (file_of (stage_numbered n g z)) ≡ length s
     file_long = (numbered_shaped n g i z).long ∙ sym long
 
@@ -96,8 +96,8 @@ module _ (s : List ℕ) (n g z : ℕ) (i : InShape n g) (long : length s ≡ 8 +
         ∙ holding_take f (replicate 28 0)
 
     pub outside_bytes : b ≡ false → Located s place.Outside
-    outside_bytes f = outside s (λ k. omega arith) (λ m. clash (sym (ap (same s) ((its_number m).bytes ∙ sym first-bytes)) ∙ same_refl s) (sym h ∙ f))
+    outside_bytes f = outside s (λ k. omega arith) (λ m. clash (h.1 ((its_number m).bytes ∙ sym first-bytes)) f)
 
     pub located_stage : z < stages n g → free n g z ≡ true → b ≡ true → Located s (place.Stage n g z)
     unfolding Located
-    located_stage l f t = (record { shaped = i; below = l; loop_free = f }, same_eq s (take (length s) bytes) (sym h ∙ t) ∙ first-bytes)
+    located_stage l f t = (record { shaped = i; below = l; loop_free = f }, h.0 t ∙ first-bytes)

@@ -1,11 +1,8 @@
 -- How many stages there are, and the parts of the loop test, as the code computes them.
 -- Assumes nothing.
-use Prim.Native.Nat.{ℕ, zero, suc, ◌+◌, ◌*◌, ◌/◌, ◌%◌, ◌≤◌}
-use native.Mathlib.Omega.{arith}
+use Prim.Native.Nat.{ℕ, ◌+◌, ◌*◌, ◌/◌}
 use mathlib.Core.Path.{◌≡◌, refl, sym}
 use mathlib.Core.Bool.{Bool, true, false, not}
-use lib.Dec.{eqb}
-use borrow.Author.Tests.{eq-eqb, ne_eqb}
 use Rattle.next_spec.specs.Numbered.{nets_of, stages, lists}
 use Rattle.next_spec.specs.Listing.{has_pin, two_free, no_loop, free}
 
@@ -40,17 +37,6 @@ count_22 = refl
 
 -- ---- the parts of the loop test
 
-pub self_square : (m : ℕ) → m ≤ m * m
-self_square zero = omega arith
-self_square (suc m) = omega arith
-
-module _ (m x net r : ℕ) (e : r ≡ m * m) where
-  pub pin_first : x % r / m ≡ net → true ≡ has_pin m x net
-  pin_first h = let t : eqb (x % (m * m) / m) net ≡ true = eq-eqb (x % (m * m) / m) net (rw e at h) in rw t
-
-  pub pin_second : (x % r / m ≡ net → ⊥) → eqb (x % r % m) net ≡ has_pin m x net
-  pin_second h = let f : eqb (x % (m * m) / m) net ≡ false = ne_eqb (x % (m * m) / m) net (rw e at h) in rw (f, e)
-
 module _ (n a b : ℕ) (p : Bool) (e : p ≡ has_pin (2 * n + 2) a (2 * n)) where
   pub free_first : p ≡ true → false ≡ two_free n a b
   free_first t = rw (← e, t)
@@ -65,16 +51,6 @@ module _ (n a b : ℕ) (p : Bool) (e : p ≡ has_pin (2 * n + 2) a (2 * n)) wher
 
       pub free_none : r ≡ false → true ≡ two_free n a b
       free_none t = rw (← e, f, ← h, g, ← i, t)
-
-module _ (n g x : ℕ) where
-  pub loop_none : g ≡ 0 → true ≡ no_loop n g x
-  loop_none e = rw e
-
-  pub loop-one : g ≡ 1 → (p : Bool) → p ≡ has_pin (2 * n + 1) x (2 * n) → not p ≡ no_loop n g x
-  loop-one e p h = rw (e, h)
-
-  pub loop_two : g ≡ 2 → (k : ℕ) → k ≡ 2 * ((2 * n + 2) * (2 * n + 2)) → (p : Bool) → p ≡ two_free n (x / k) (x % k) → p ≡ no_loop n g x
-  loop_two e k h p q = rw (e, ← h) q
 
 pub stage_free : (n g z k : ℕ) (b : Bool) → k ≡ nets_of n g * nets_of n g → b ≡ no_loop n g (z / k) → b ≡ free n g z
 unfolding free

@@ -1,12 +1,12 @@
 -- The search for the stage after a number: the next of its shape without a loop, or the first of the next shape.
 -- Assumes nothing.
+use Rattle.std.specs.Prelude.{Some, None}
 use Prim.Native.Nat.{ℕ, ◌+◌, ◌*◌, ◌-◌, ◌≤◌, ◌<◌}
 use native.Mathlib.Omega.{arith}
 use mathlib.Core.Path.{◌≡◌, sym, ap, subst, ◌∙◌}
 use mathlib.Core.Bool.{Bool, true, false}
 use mathlib.Core.List.{List, ◌∷◌, ◌++◌}
 use lib.ListN.{drop}
-use Rattle.netlist.specs.declared.Found.TheVariants.{At, Nothing}
 use Rattle.check_spec.specs.Content.{Content}
 use Rattle.next_spec.specs.Numbered.{stages, stage_numbered}
 use Rattle.next_spec.specs.Listing.{InShape, free, loop_free_from, stages_of, shapes, onward}
@@ -30,7 +30,7 @@ module _ (n g from count : ℕ) where
   pub search_passed : (z : ℕ) (b : Bool) → SearchTo n g from count z → z < count → b ≡ free n g z → b ≡ false → SearchTo n g from count (z + 1)
   search_passed z b s l e f = record { within = omega arith; counted = s.counted; rest = sym (from_loop n g count z l (sym e ∙ f)) ∙ s.rest }
 
-  pub search_found : (z : ℕ) (b : Bool) → InShape n g → SearchTo n g from count z → z < count → b ≡ free n g z → b ≡ true → FoundFree n g from (At z)
+  pub search_found : (z : ℕ) (b : Bool) → InShape n g → SearchTo n g from count z → z < count → b ≡ free n g z → b ≡ true → FoundFree n g from (Some z)
   unfolding FoundFree
   search_found z b i s l e t =
       let f : free n g z ≡ true = sym e ∙ t in
@@ -39,7 +39,7 @@ module _ (n g from count : ℕ) where
         sym s.rest ∙ from_free n g count z l f ∙ ap (λ (k : ℕ). stage_numbered n g z ∷ loop_free_from n g (z + 1) (k - (z + 1))) h,
       )
 
-  pub search_end : (z : ℕ) → SearchTo n g from count z → count ≤ z → FoundFree n g from Nothing
+  pub search_end : (z : ℕ) → SearchTo n g from count z → count ≤ z → FoundFree n g from None
   unfolding FoundFree
   search_end z s l = sym s.rest ∙ from_none n g count z l
 
@@ -60,10 +60,10 @@ unfolding First shapes
 first-none k e = rw e
 
 module _ (n g from : ℕ) where
-  pub first_number : (y : ℕ) → FoundFree n g from (At y) → First (onward n g from) (place.Stage n g y)
+  pub first_number : (y : ℕ) → FoundFree n g from (Some y) → First (onward n g from) (place.Stage n g y)
   unfolding First onward FoundFree
   first_number y r = (r.0, ap (λ (cs : List Content). cs ++ stages_of (drop (3 * (n - 1) + g + 1) shapes)) r.1)
 
-  pub first_later : (p : Place) → FoundFree n g from Nothing → First (stages_of (drop (3 * (n - 1) + g + 1) shapes)) p → First (onward n g from) p
+  pub first_later : (p : Place) → FoundFree n g from None → First (stages_of (drop (3 * (n - 1) + g + 1) shapes)) p → First (onward n g from) p
   unfolding onward FoundFree
   first_later p e h = subst (λ (cs : List Content). First (cs ++ stages_of (drop (3 * (n - 1) + g + 1) shapes)) p) (sym e) h

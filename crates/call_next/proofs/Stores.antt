@@ -1,16 +1,11 @@
--- The file of a numbered stage, put command by command, and comparing a file with another.
+-- The file of a numbered stage, put command by command.
 -- Assumes nothing.
-use Prim.Native.Nat.{ℕ, suc, ◌+◌, ◌*◌, ◌/◌, ◌%◌, ◌≤◌, ◌<◌}
+use Prim.Native.Nat.{ℕ, ◌+◌, ◌*◌, ◌/◌, ◌%◌, ◌≤◌, ◌<◌}
 use native.Mathlib.Omega.{arith}
 use native.Mathlib.Nat.{mod-lt, div-one}
-use native.Mathlib.Numerals.{add-one}
-use mathlib.Core.Path.{◌≡◌, refl, sym, ap, ap₂, ◌∙◌}
-use mathlib.Core.Bool.{Bool, true, false, ◌&&◌}
+use mathlib.Core.Path.{◌≡◌, refl, sym, ◌∙◌}
 use mathlib.Core.List.{List, [], ◌∷◌, ◌++◌}
-use lib.ListN.{length, get_or, take, drop, length-append}
-use lib.Seq.{drop-cons, get_or-take, drop-length, length-take-le}
-use lib.Dec.{eqb}
-use borrow.Author.Tests.{eqb-true, eq-eqb, ne_eqb}
+use lib.ListN.{length-append}
 use Rattle.netlist.specs.declared.File.TheVariants as file
 use Rattle.netlist.specs.Coded.{Coded}
 use Rattle.netlist.specs.Writing.{gate, output, write_item}
@@ -23,7 +18,6 @@ use Rattle.check_spec.proofs.Writing.{stage_bytes}
 use Rattle.next_spec.specs.Family.{file_of}
 use Rattle.next_spec.specs.Numbered.{nets_of, lists, gate_numbered, gates_numbered, stage_numbered}
 use Rattle.next_spec.specs.Listing.{InShape}
-use Rattle.call_next.specs.Steps.{same}
 use Rattle.next_spec.proofs.Bytes.{gate_bytes, list_bytes}
 use Rattle.next_spec.proofs.Digits.{quotient_low, square}
 use Rattle.next_spec.proofs.Members.{gates_long}
@@ -138,48 +132,3 @@ stage_put {b3 = b3} n g z k i e p q o w =
     )))
     (omega (arith, long, gates_long m g x)))
     refl)
-
--- ---- comparing
-
--- the first i bytes agree
-pub record SameTo (s t : List ℕ) (i : ℕ) : Type 0 where
-  pub within : i ≤ length s
-  pub rest : same (drop i s) (drop i (take (length s) t)) ≡ same s (take (length s) t)
-
-module _ (s t : List ℕ) (fits : length s ≤ length t) where
-  pub same_start : SameTo s t 0
-  same_start = record { within = omega arith; rest = refl }
-
-  one_more : (i : ℕ) → i < length s
-      → same (drop i s) (drop i (take (length s) t)) ≡ (eqb (get_or s i 0) (get_or t i 0) && same (drop (suc i) s) (drop (suc i) (take (length s) t)))
-  one_more i l =
-      let long : length (take (length s) t) ≡ length s = length-take-le (length s) t fits in
-      let h : i < length (take (length s) t) = omega arith in
-      rw (drop-cons s i 0 l, drop-cons (take (length s) t) i 0 h, get_or-take (length s) t i 0 l)
-
-  pub same_step : (i : ℕ) → SameTo s t i → i < length s → get_or s i 0 ≡ get_or t i 0 → SameTo s t (i + 1)
-  same_step i w l e = record { within = omega arith; rest = rw (add-one i) (sym (one_more i l ∙ rw (eq-eqb (get_or s i 0) (get_or t i 0) e)) ∙ w.rest) }
-
-  pub same_differ : (i : ℕ) → SameTo s t i → i < length s → (get_or s i 0 ≡ get_or t i 0 → ⊥) → false ≡ same s (take (length s) t)
-  same_differ i w l e = sym (one_more i l ∙ rw (ne_eqb (get_or s i 0) (get_or t i 0) e)) ∙ w.rest
-
-  pub same_all : (i : ℕ) → SameTo s t i → length s ≤ i → true ≡ same s (take (length s) t)
-  same_all i w l =
-      let long : length (take (length s) t) ≡ length s = length-take-le (length s) t fits in
-      let e : i ≡ length s = omega (arith, w.within) in
-      let f : i ≡ length (take (length s) t) = omega arith in
-      sym (ap₂ same (ap (λ (k : ℕ). drop k s) e ∙ drop-length s) (ap (λ (k : ℕ). drop k (take (length s) t)) f ∙ drop-length (take (length s) t))) ∙ w.rest
-
-pub same_refl : (xs : List ℕ) → same xs xs ≡ true
-same_refl [] = refl
-same_refl (x ∷ xs) = rw (eq-eqb x x refl) (same_refl xs)
-
-pub same_eq : (xs ys : List ℕ) → same xs ys ≡ true → xs ≡ ys
-same_eq [] [] e = refl
-same_eq [] (y ∷ ys) e = let z : ◌≡◌ {A = ℕ} 0 1 = cc in absurd (omega arith)
-same_eq (x ∷ xs) [] e = let z : ◌≡◌ {A = ℕ} 0 1 = cc in absurd (omega arith)
-same_eq (x ∷ xs) (y ∷ ys) e = go (eqb x y) refl (same_eq xs ys)
-  where
-    go : (b : Bool) → eqb x y ≡ b → (same xs ys ≡ true → xs ≡ ys) → x ∷ xs ≡ y ∷ ys
-    go true t later = ap₂ (λ (a : ℕ) (l : List ℕ). a ∷ l) (eqb-true x y t) (later (rw t at e))
-    go false f later = let z : false ≡ true = rw f at e in let y : ◌≡◌ {A = ℕ} 0 1 = cc in absurd (omega arith)

@@ -1,7 +1,5 @@
 -- What the functions of this crate ask of one another: numbers read from a file, where a file stands in the list, and the stage after it.
-use Rattle.std.specs.Prelude.{ℕ, zero, suc, ◌+◌, ◌*◌, ◌-◌, ◌≡◌, Bool, true, false, ◌&&◌, List, [], ◌∷◌, get_or, eqb}
-use Rattle.netlist.specs.declared.Found.{Found}
-use Rattle.netlist.specs.declared.Found.TheVariants.{At, Nothing}
+use Rattle.std.specs.Prelude.{ℕ, zero, suc, ◌+◌, ◌*◌, ◌-◌, ◌≡◌, List, [], ◌∷◌, get_or, Option, Some, None}
 use Rattle.check_spec.specs.Content.{Content}
 use Rattle.verdict.specs.FourNumbers.{verdict}
 use Rattle.verdict.specs.Written.{Written, refuse, write_or}
@@ -25,12 +23,6 @@ gates_at s m (suc (suc g)) = gate_at s m 2 * (2 * (m * m)) + gate_at s m 12
 unfoldable pub number_in : List ℕ → ℕ → ℕ → ℕ
 number_in s m g = gates_at s m g * (m * m) + (get_or s (3 + 10 * g) 0 * m + get_or s (5 + 10 * g) 0)
 
-abbrev pub same : List ℕ → List ℕ → Bool
-same [] [] = true
-same [] (y ∷ ys) = false
-same (x ∷ xs) [] = false
-same (x ∷ xs) (y ∷ ys) = eqb x y && same xs ys
-
 -- ---- places in the list
 
 -- a file is the empty one, or that of a listed stage, or none of the family
@@ -40,10 +32,10 @@ Located s (place.Stage n g z) = Listed n g z × (s ≡ file_of (stage_numbered n
 Located s place.Outside = (s ≡ [] → ⊥) × (Member s → ⊥)
 
 -- the search for the next number of a shape
-unfoldable pub FoundFree : ℕ → ℕ → ℕ → Found → Type 0
-FoundFree n g from (At z) = Listed n g z
+unfoldable pub FoundFree : ℕ → ℕ → ℕ → Option ℕ → Type 0
+FoundFree n g from (Some z) = Listed n g z
     × (loop_free_from n g from (stages n g - from) ≡ stage_numbered n g z ∷ loop_free_from n g (z + 1) (stages n g - (z + 1)))
-FoundFree n g from Nothing = loop_free_from n g from (stages n g - from) ≡ []
+FoundFree n g from None = loop_free_from n g from (stages n g - from) ≡ []
 
 -- the first of some stages is at a place; there is none outside
 unfoldable pub First : List Content → Place → Type 0

@@ -1,7 +1,7 @@
 // The next file of the family of small stages. What the family and its order are, is said in next_spec/specs/Family.antt.
 #![tactic(auto)]
 
-ghost use Rattle.std.specs.Prelude.{◌≡◌, ◌∷◌, [], ℕ, ◌+◌, ◌*◌, ◌-◌, ◌/◌, ◌%◌, ◌≤◌, ◌<◌, length, get_or, take, drop};
+ghost use Rattle.std.specs.Prelude.{◌≡◌, ◌∷◌, [], ℕ, ◌+◌, ◌*◌, ◌-◌, ◌/◌, ◌%◌, ◌≤◌, ◌<◌, length, get_or, drop};
 ghost use Rattle.netlist.specs.declared.File.TheVariants as file;
 ghost use Rattle.netlist.specs.Writing.{gate, write_item};
 ghost use Rattle.write_command.specs.Put.{Put};
@@ -12,12 +12,11 @@ ghost use Rattle.next_spec.specs.Numbered as numbered;
 ghost use Rattle.next_spec.specs.Numbered.{gate_numbered, gates_numbered, stage_numbered};
 ghost use Rattle.next_spec.specs.Listing as listing;
 ghost use Rattle.next_spec.specs.Listing.{InShape, has_pin, two_free, no_loop, Listed, onward};
-ghost use Rattle.call_next.specs.Steps.{gate_at, gates_at, number_in, same, Located, FoundFree, First, ListedAt, written_at};
+ghost use Rattle.call_next.specs.Steps.{gate_at, gates_at, number_in, Located, FoundFree, First, ListedAt, written_at};
 
-use netlist::Found;
 use verdict::Answer;
 
-// Where a file stands: before the family, at a number of the stages of its shape, or nowhere.
+// Where a file stands: before the family, at a number of the stages of its shape, or nowhere. Three cases, so no `Option`.
 #[derive(Clone, Copy)]
 pub enum Place {
     Start,
@@ -40,22 +39,14 @@ fn stages(inputs: usize, gates: usize) -> usize
     requires { InShape inputs gates }
     ensures { (result ≡ numbered.stages inputs gates) × (result ≤ 186624) }
 {
-    if inputs == 1 {
-        if gates == 0 {
-            return 4;
-        }
-        if gates == 1 {
-            return 162;
-        }
-        return 16384;
+    match (inputs, gates) {
+        (1, 0) => 4,
+        (1, 1) => 162,
+        (1, _) => 16384,
+        (_, 0) => 16,
+        (_, 1) => 1250,
+        _ => 186624,
     }
-    if gates == 0 {
-        return 16;
-    }
-    if gates == 1 {
-        return 1250;
-    }
-    186624
 }
 
 // ---- loops
@@ -66,13 +57,11 @@ fn has_pin(m: usize, x: usize, net: usize) -> bool
     ensures { result ≡ has_pin m x net }
 {
     let y = x % square(m);
-    if y / m == net {
-        return true;
-    }
-    y % m == net
+    y / m == net || y % m == net
 }
 
-// Whether two gates, over the nets of so many inputs and these gates, have no loop.
+// Whether two gates, over the nets of so many inputs and these gates, have no loop. Test by test: in one expression a wrong pin makes a goal that the
+// search gives up, and does not refuse.
 fn two_free(inputs: usize, a: usize, b: usize) -> bool
     requires { (1 ≤ inputs) × (inputs ≤ 2) }
     ensures { result ≡ two_free inputs a b }
@@ -114,19 +103,17 @@ fn loop_free(inputs: usize, gates: usize, number: usize) -> bool
 }
 
 // The least number without a loop, from a number on.
-fn next_number(inputs: usize, gates: usize, from: usize) -> Found
+fn next_number(inputs: usize, gates: usize, from: usize) -> Option<usize>
     requires { InShape inputs gates × (from ≤ numbered.stages inputs gates) }
     ensures { FoundFree inputs gates from result }
 {
     let count = stages(inputs, gates);
-    let mut z = from;
-    while z < count {
+    for z in from..count {
         if loop_free(inputs, gates, z) {
-            return Found::At(z);
+            return Some(z);
         }
-        z += 1;
     }
-    Found::Nothing
+    None
 }
 
 // ---- the stage after a number
@@ -152,8 +139,8 @@ fn first_from(inputs: usize, gates: usize, number: usize) -> Place
 {
     let found = next_number(inputs, gates, number);
     match found {
-        Found::At(z) => Place::Stage(inputs, gates, z),
-        Found::Nothing => next_shape(inputs, gates),
+        Some(z) => Place::Stage(inputs, gates, z),
+        None => next_shape(inputs, gates),
     }
 }
 
@@ -210,21 +197,6 @@ fn write_stage(inputs: usize, gates: usize, number: usize, buffer: &mut [u8])
 }
 
 // ---- reading
-
-// Whether a file is the start of another.
-fn same_bytes(s: &[u8], t: &[u8]) -> bool
-    requires { length s.now ≤ length t.now }
-    ensures { result ≡ same s.now (take (length s.now) t.now) }
-{
-    let mut i: usize = 0;
-    while i < s.len() {
-        if s[i] != t[i] {
-            return false;
-        }
-        i += 1;
-    }
-    true
-}
 
 // The number that the gate at a place shows, over m nets.
 fn gate_at(s: &[u8], m: usize, at: usize) -> usize
@@ -285,7 +257,7 @@ fn locate_shaped(s: &[u8], inputs: usize, gates: usize) -> Place
     if loop_free(inputs, gates, number) {
         let mut bytes: [u8; 28] = [0; 28];
         write_stage(inputs, gates, number, &mut bytes);
-        if same_bytes(s, &bytes) {
+        if bytes.starts_with(s) {
             return Place::Stage(inputs, gates, number);
         }
         return Place::Outside;
@@ -301,20 +273,11 @@ fn locate(s: &[u8]) -> Place
     if long == 0 {
         return Place::Start;
     }
-    if long < 8 {
-        return Place::Outside;
-    }
-    if 28 < long {
-        return Place::Outside;
-    }
-    if long % 10 != 8 {
+    if long < 8 || 28 < long || long % 10 != 8 {
         return Place::Outside;
     }
     let inputs = wide(s[1]);
-    if inputs < 1 {
-        return Place::Outside;
-    }
-    if 2 < inputs {
+    if inputs < 1 || 2 < inputs {
         return Place::Outside;
     }
     locate_shaped(s, inputs, (long - 8) / 10)

@@ -1,5 +1,5 @@
 -- A stage file that a call opens: its refusals, or the stage in its flat form.
-use Rattle.std.specs.Prelude.{ℕ, ◌*◌, ◌<◌, ◌≡◌, true, false, ◌⊎◌, List, length}
+use Rattle.std.specs.Prelude.{ℕ, ◌*◌, ◌<◌, ◌≡◌, true, false, ◌⊎◌, List, length, Result, Ok, Err}
 use Rattle.netlist.specs.declared.Counts.{Counts}
 use Rattle.verdict.specs.declared.Verdict.{Verdict}
 use Rattle.verdict.specs.FourNumbers.{verdict, accepted}
@@ -11,8 +11,10 @@ use Rattle.check_spec.specs.Verdicts.{row_stage}
 use Rattle.circuit.specs.Stage.{net_count, stage_gates, stage_in, StageLoaded}
 use Rattle.circuit_steps.specs.Moves.{loaded_net}
 use Rattle.run_spec.specs.Play.{opening_checks}
-use Rattle.call_open.specs.declared.Opening.{Opening}
-use Rattle.call_open.specs.declared.Opening.TheVariants.{Refused, Opened}
+
+-- a stage that is refused, or its counts
+abbrev pub Opening : Type 0
+Opening = Result Counts Verdict
 
 -- ---- a stage that was loaded
 
@@ -27,9 +29,9 @@ NoLoops c code = (k : ℕ) → k < c.gates → reaches_itself c.inputs (stage_ga
 
 -- 12, then 16 where a length is not the wanted one, else it is opened
 abbrev pub ByLoaded : Counts → List ℕ → ℕ → ℕ → List ℕ → Opening → Type 0
-ByLoaded c code given wanted after (Refused v) =
+ByLoaded c code given wanted after (Err v) =
     ((g : ℕ) × LeastLoop c code g × (v ≡ verdict 12 1 g 0)) ⊎ (NoLoops c code × (¬ (given ≡ wanted)) × (v ≡ verdict 16 3 given 0))
-ByLoaded c code given wanted after (Opened d) = (d ≡ c) × NoLoops c code × (given ≡ wanted) × StageLoaded c after × (stage_in c after ≡ stage_in c code)
+ByLoaded c code given wanted after (Ok d) = (d ≡ c) × NoLoops c code × (given ≡ wanted) × StageLoaded c after × (stage_in c after ≡ stage_in c code)
 
 pub record OpenedFrom (c : Counts) (code : List ℕ) (given wanted : ℕ) (after : List ℕ) (o : Opening) : Type 0 where
   pub by : ByLoaded c code given wanted after o
@@ -45,8 +47,8 @@ pub record StageOpened (stage : List ℕ) (c : Counts) (code : List ℕ) : Type 
 
 -- the verdict on a stage and a list with so many entries for each net, or the stage where it is accepted
 abbrev pub ByFile : List ℕ → List ℕ → ℕ → List ℕ → Opening → Type 0
-ByFile stage list each code (Refused v) = (v ≡ judge (opening_checks stage each list)) × (¬ (v.number ≡ 0))
-ByFile stage list each code (Opened c) = StageOpened stage c code × (judge (opening_checks stage each list) ≡ accepted)
+ByFile stage list each code (Err v) = (v ≡ judge (opening_checks stage each list)) × (¬ (v.number ≡ 0))
+ByFile stage list each code (Ok c) = StageOpened stage c code × (judge (opening_checks stage each list) ≡ accepted)
 
 pub record OpenedAs (stage list : List ℕ) (each : ℕ) (code : List ℕ) (o : Opening) : Type 0 where
   pub by : ByFile stage list each code o

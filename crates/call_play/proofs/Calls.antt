@@ -3,13 +3,13 @@ use Prim.Native.Nat.{ℕ, zero, suc, ◌+◌, ◌*◌, ◌≤◌, ◌<◌}
 use native.Mathlib.Omega.{arith}
 use mathlib.Core.Path.{◌≡◌, refl, sym, ap, ap₂, ◌∙◌}
 use mathlib.Core.Bool.{Bool}
-use mathlib.Core.List.{List, [], ◌∷◌, ◌++◌, map, append-nil}
-use lib.ListN.{drop_of_length-le, length, get_or, take, drop}
-use lib.Seq.{take_all, length-take-le, get_or-take}
+use mathlib.Core.List.{List, [], ◌∷◌, map}
+use lib.ListN.{length, get_or, take}
+use lib.Seq.{length-take-le, get_or-take}
 use lib.Dec.{ltb}
 use Rattle.gates.specs.Cell.{bit}
-use Rattle.runs.specs.Row.{Row, low, after}
-use Rattle.runs.specs.Net.{Net, nets}
+use Rattle.runs.specs.Row.{low, after}
+use Rattle.runs.specs.Net.{Net}
 use Rattle.netlist.specs.declared.Counts.{Counts}
 use Rattle.verdict.specs.declared.Verdict.{Verdict}
 use Rattle.verdict.specs.declared.WordOrder.{WordOrder}
@@ -17,7 +17,6 @@ use Rattle.verdict.specs.FourNumbers.{accepted}
 use Rattle.verdict.specs.Words as flat
 use Rattle.check_spec.specs.Cases.{judge}
 use Rattle.check_spec.specs.Lists.{numbers}
-use Rattle.check_spec.specs.Verdicts.{row_stage}
 use Rattle.check_spec.specs.Words.{rails_for, spelled}
 use Rattle.check_spec.proofs.Alike.{spelled_alike}
 use Rattle.circuit.specs.Stage.{net_count}

@@ -2,27 +2,24 @@
 use Prim.Native.Nat.{ℕ, suc, ◌+◌, ◌-◌, ◌*◌, ◌≤◌, ◌<◌}
 use native.Mathlib.Omega.{arith}
 use native.Mathlib.Decide.{dec_lt, ℕ_discrete}
-use mathlib.Core.Path.{◌≡◌, refl, sym, ap, ap₂, ◌∙◌, subst, fun_ext}
-use mathlib.Core.Bool.{Bool, true, false, cond, not, ◌&&◌}
-use mathlib.Core.List.{List, [], ◌∷◌, ◌++◌, map}
-use lib.ListN.{drop_of_length-le, length, get_or, take, drop, length-take, length-drop}
+use mathlib.Core.Path.{◌≡◌, refl, sym, ap, ap₂, ◌∙◌, subst}
+use mathlib.Core.Bool.{Bool, true, false, cond, ◌&&◌}
+use mathlib.Core.List.{List, [], ◌∷◌}
+use lib.ListN.{drop_of_length-le, length, get_or, take, drop, length-drop}
 use lib.Seq.{drop-cons, take-suc, take_all, take-take, take-add, length-take-le}
-use lib.Dec.{eqb, ltb}
+use lib.Dec.{eqb}
 use borrow.Author.Tests.{eq-eqb, ne_eqb}
-use Rattle.gates.specs.Cell.{bit}
 use Rattle.runs.specs.Row.{Row, Rule, low, toggle, after, Legal}
-use Rattle.runs.specs.Net.{Net, nets, rails, rise_step, fall_step}
-use Rattle.runs.proofs.Test.{clash, true?}
+use Rattle.runs.specs.Net.{Net, nets, rise_step, fall_step}
+use Rattle.runs.proofs.Test.{clash}
 use Rattle.runs.proofs.Row.{after-++}
 use Rattle.netlist.specs.declared.Counts.{Counts}
-use Rattle.check_spec.specs.Lists.{numbers}
 use Rattle.check_spec.specs.Words.{rails_for}
 use Rattle.circuit.specs.Stage.{net_count}
-use Rattle.circuit.specs.Rows.{RowFor, row_size, rail_part}
 use Rattle.circuit.proofs.Settling.{length_stage_gates}
 use Rattle.circuit_steps.specs.Moves.{moves, loaded_net, row_in}
-use Rattle.circuit_steps.proofs.Rules.{RailsBelow, rise_free, fall_free, free_stays, moves_none}
-use Rattle.run_spec.specs.Play.{allowed, none_left, steps_of, levels_of}
+use Rattle.circuit_steps.proofs.Rules.{RailsBelow, rise_free, fall_free, free_stays}
+use Rattle.run_spec.specs.Play.{allowed, none_left, steps_of}
 use Rattle.run_spec.proofs.Play.{allowed_within, allowed_legal, allowed_alike, left_alike, kept_after}
 use Rattle.call_play.specs.Steps.{Taken, Begins, Played}
 
@@ -39,11 +36,12 @@ module _ (can : Rule) (r₀ : Row) (list : List ℕ) where
   steps_start = record { within = omega arith; so_far = omega arith; row_is = refl }
 
   module _ (i : ℕ) (r : Row) (s : StepsTo i r) where
-    pub steps_end : length list ≤ i → i ≡ allowed can r₀ list
+    pub steps_end : length list ≤ i → (length list ≡ allowed can r₀ list) × (r ≡ after r₀ (take (length list) list))
     unfolding allowed
     steps_end h =
         let e : drop i list ≡ [] = drop_of_length-le list h in
-        sym (s.so_far ∙ ap (λ (l : List ℕ). i + allowed can r l) e ∙ omega arith)
+        let all : length list ≡ i = omega (arith, s.within) in
+        (all ∙ sym (s.so_far ∙ ap (λ (l : List ℕ). i + allowed can r l) e ∙ omega arith), s.row_is ∙ ap (λ (n : ℕ). after r₀ (take n list)) (sym all))
 
     module _ (more : i < length list) where
       abbrev k : ℕ
@@ -189,10 +187,6 @@ module _ (fall : ℕ) (list : List ℕ) (rise : ℕ) (b : Begins fall (length li
               ∙ ap (after low) (sym (take-add rise more list) ∙ ap (λ (n : ℕ). take (n + more) list) (sym taken_all))
 
 -- ---- the code's steps
-
-pub of_no : (b : Bool) → not b ≡ false → b ≡ true
-of_no true e = refl
-of_no false e = absurd (clash refl e)
 
 pub none_more : (test : ℕ → Bool) (n : ℕ) → ((k : ℕ) → k < n → test k ≡ false) → test n ≡ false → (k : ℕ) → k < n + 1 → test k ≡ false
 none_more test n h e k l = go (ℕ_discrete k n)

@@ -1,6 +1,6 @@
 -- Steps of a list on a stage in its flat form.
 use Rattle.std.specs.Prelude.{ℕ, ◌≤◌, ◌<◌, ◌≡◌, List, take}
-use Rattle.runs.specs.Row.{Row, Rule, low, after}
+use Rattle.runs.specs.Row.{Rule, low, after}
 use Rattle.netlist.specs.declared.Counts.{Counts}
 use Rattle.verdict.specs.declared.WordOrder.{WordOrder}
 use Rattle.verdict.specs.FourNumbers.{accepted}

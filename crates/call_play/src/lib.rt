@@ -8,7 +8,6 @@ ghost use Rattle.circuit_steps.specs.Moves.{moves, loaded_net, row_in};
 ghost use Rattle.run_spec.specs.Play.{none_left, PlayDemand};
 ghost use Rattle.call_play.specs.Steps.{Taken, Begins, Played, LeftBy};
 
-use call_open::Opening;
 use netlist::Counts;
 use run_spec::PlayAnswer;
 use verdict::{Verdict, WordOrder};
@@ -23,9 +22,8 @@ fn take_steps(code: &[u16], counts: Counts, goal: &[u8], row: &mut [u8], list: &
 {
     let entries = gates::table();
     let nets = 2 * counts.inputs + counts.gates;
-    let mut i: usize = 0;
-    while i < list.len() {
-        let net = list[i] as usize;
+    for (i, step) in list.iter().enumerate() {
+        let net = *step as usize;
         if nets <= net {
             return i;
         }
@@ -33,9 +31,8 @@ fn take_steps(code: &[u16], counts: Counts, goal: &[u8], row: &mut [u8], list: &
             return i;
         }
         circuit_steps::switch_net(counts, row, net);
-        i += 1;
     }
-    i
+    list.len()
 }
 
 // Whether no net may switch.
@@ -46,12 +43,10 @@ fn has_ended(code: &[u16], counts: Counts, goal: &[u8], row: &[u8]) -> bool
 {
     let entries = gates::table();
     let nets = 2 * counts.inputs + counts.gates;
-    let mut net: usize = 0;
-    while net < nets {
+    for net in 0..nets {
         if circuit_steps::may_switch(&entries, code, counts, goal, row, net) {
             return false;
         }
-        net += 1;
     }
     true
 }
@@ -62,10 +57,7 @@ fn has_ended(code: &[u16], counts: Counts, goal: &[u8], row: &[u8]) -> bool
 fn fall_begins(fall: usize, count: usize) -> usize
     ensures { Begins fall count result }
 {
-    if fall < count {
-        return fall;
-    }
-    count
+    fall.min(count)
 }
 
 // The steps of a list of word w that is a rise up to a place, and from there on a fall: this begins only where the rise has ended.
@@ -115,12 +107,7 @@ fn play_stage(
     let nets = 2 * counts.inputs + counts.gates;
     row.copy_from_slice(&own[..nets]);
     PlayAnswer {
-        verdict: Verdict {
-            number: 0,
-            file: 0,
-            at: 0,
-            word: 0,
-        },
+        verdict: Verdict::accepted(),
         steps: steps as u64,
     }
 }
@@ -139,7 +126,7 @@ pub fn play(
 {
     let mut code = [0u16; circuit::form::STAGE_CODE];
     match call_open::open_stage(stage, row.len(), 1, &mut code) {
-        Opening::Refused(verdict) => PlayAnswer { verdict, steps: 0 },
-        Opening::Opened(counts) => play_stage(order, &code, counts, name, fall, list, row),
+        Err(verdict) => PlayAnswer { verdict, steps: 0 },
+        Ok(counts) => play_stage(order, &code, counts, name, fall, list, row),
     }
 }

@@ -13,7 +13,6 @@ ghost use Rattle.check_spec.specs.Content.{plain_files};
 ghost use Rattle.report_spec.specs.Report.{report_on, ReportMeans};
 ghost use Rattle.call_report.specs.Lines.{lines_by};
 
-use check_files::Judgement;
 use netlist::Counts;
 use report_spec::Report;
 use verdict::{Verdict, WordOrder};
@@ -32,13 +31,11 @@ fn write_lines(
         × (lines.new ≡ spec.padded (lines_by order inputs high.now list.now)) }
 {
     let mut total: u64 = 0;
-    let mut k: usize = 0;
-    while k < list.len() {
-        let w = words::word_of(order, inputs, list[k] as usize);
+    for (k, name) in list.iter().enumerate() {
+        let w = words::word_of(order, inputs, *name as usize);
         let count = high[w];
         lines[k] = count;
         total += count as u64;
-        k += 1;
     }
     total
 }
@@ -71,12 +68,7 @@ fn report_stage(order: WordOrder, code: &[u16], counts: Counts) -> Report
     let count = words::list_names(order, code, counts, &mut list);
     let total = fill_lines(order, code, counts, &list[..count], &mut lines);
     Report {
-        verdict: Verdict {
-            number: 0,
-            file: 0,
-            at: 0,
-            word: 0,
-        },
+        verdict: Verdict::accepted(),
         words: count as u64,
         total,
         lines,
@@ -102,13 +94,13 @@ pub fn report_on(order: WordOrder, stage: &[u8], reference: &[u8]) -> Report
         &mut loaded,
     );
     match judgement {
-        Judgement::Refused(verdict) => Report {
+        Err(verdict) => Report {
             verdict,
             words: 0,
             total: 0,
             lines: [0u16; report_spec::LINES],
             names: [0u16; report_spec::LINES],
         },
-        Judgement::Accepted(counts, _) => report_stage(order, &code, counts),
+        Ok(sizes) => report_stage(order, &code, sizes.stage),
     }
 }

@@ -4,10 +4,9 @@ use Prim.Native.Nat.{ℕ, ◌+◌, ◌*◌, ◌/◌, ◌≤◌, ◌<◌}
 use native.Mathlib.Omega.{arith}
 use native.Mathlib.Decide.{ℕ_discrete, dec_lt}
 use mathlib.Core.Path.{◌≡◌, sym, subst}
-use mathlib.Core.Bool.{Bool, true, false, ◌||◌, ◌&&◌}
+use mathlib.Core.Bool.{Bool, true, false}
 use mathlib.Core.List.{List}
 use lib.ListN.{get_or}
-use lib.Dec.{eqb, ltb}
 use borrow.Author.Tests.{lt-ltb, le-ltb}
 use Rattle.verdict.specs.Checks.{illegal}
 
@@ -25,17 +24,6 @@ module _ (row : List ℕ) (i : ℕ) where
   pub above_1 : rail0 ≤ 1 → 1 < rail1 → true ≡ illegal row i
   unfolding illegal
   above_1 h h' = sym (simp (le-ltb 1 rail0 h, lt-ltb 1 rail1 h'))
-
-  -- neither is above 1: their sum is exactly where both are 1
-  pub both_high : rail0 ≤ 1 → rail1 ≤ 1 → ltb 1 (rail0 + rail1) ≡ illegal row i
-  unfolding illegal
-  both_high h h' = go (ℕ_discrete rail0 1) (ℕ_discrete rail1 1)
-    where
-      go : Dec (rail0 ≡ 1) → Dec (rail1 ≡ 1) → ltb 1 (rail0 + rail1) ≡ ltb 1 rail0 || ltb 1 rail1 || eqb rail0 1 && eqb rail1 1
-      go (yes a) (yes b) = simp (a, b)
-      go (yes a) (no b) = let z : rail1 ≡ 0 = omega arith in simp (a, z)
-      go (no a) (yes b) = let z : rail0 ≡ 0 = omega arith in simp (z, b)
-      go (no a) (no b) = let z : rail0 ≡ 0 = omega arith in let y : rail1 ≡ 0 = omega arith in simp (z, y)
 
 -- the rails of a legal input are 0 and 1
 pub legal_low : (row : List ℕ) (p : ℕ) → illegal row (p / 2) ≡ false → get_or row p 0 ≤ 1

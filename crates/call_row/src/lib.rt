@@ -11,40 +11,28 @@ ghost use Rattle.check_spec.specs.Demands.{DemandRow};
 ghost use Rattle.circuit.specs.Stage.{stage_gates, stage_in, StageLoaded};
 ghost use Rattle.circuit.specs.Order.{InOrder};
 
-use netlist::{Counts, Found, Outcome};
+use netlist::Counts;
 use verdict::Verdict;
 
 // ---- 17
 
 // Whether a rail of input i is above 1, or both are 1.
+#[tactic(auto, unfolding(verdict::specs::Checks::illegal))]
 fn is_illegal(row: &[u8], i: usize) -> bool
     requires { 2 * i + 1 < length row.now }
     ensures { result ≡ checks.illegal row.now i }
 {
     let rail0 = row[2 * i];
     let rail1 = row[2 * i + 1];
-    if 1 < rail0 {
-        return true;
-    }
-    if 1 < rail1 {
-        return true;
-    }
-    1 < rail0 + rail1
+    1 < rail0 || 1 < rail1 || (rail0 == 1 && rail1 == 1)
 }
 
 // The least of the inputs that is illegal.
-fn illegal_input(row: &[u8], inputs: usize) -> Found
+fn illegal_input(row: &[u8], inputs: usize) -> Option<usize>
     requires { 2 * inputs ≤ length row.now }
     ensures { result ≡ least (checks.illegal row.now) 0 inputs }
 {
-    let mut i: usize = 0;
-    while i < inputs {
-        if is_illegal(row, i) {
-            return Found::At(i);
-        }
-        i += 1;
-    }
-    Found::Nothing
+    search::least(inputs, |i| is_illegal(row, i))
 }
 
 // ---- settling
@@ -83,37 +71,17 @@ fn settle_stage(code: &mut [u16], counts: Counts, row: &mut [u8]) -> Verdict
     ensures { verdicts.answer_with result row.new ≡ verdicts.settle_unless (checks.first_fault (checks.row_checks
         (stage_in counts code.old) row.old)) (stage_in counts code.old) row.old }
 {
-    if let Found::At(g) = circuit_order::order_gates(code, counts) {
-        return Verdict {
-            number: 12,
-            file: 1,
-            at: g as u64,
-            word: 0,
-        };
+    if let Some(g) = circuit_order::order_gates(code, counts) {
+        return Verdict::fault(12, 1, g);
     }
     if row.len() != 2 * counts.inputs + counts.gates {
-        return Verdict {
-            number: 16,
-            file: 3,
-            at: row.len() as u64,
-            word: 0,
-        };
+        return Verdict::fault(16, 3, row.len());
     }
-    if let Found::At(i) = illegal_input(row, counts.inputs) {
-        return Verdict {
-            number: 17,
-            file: 3,
-            at: i as u64,
-            word: 0,
-        };
+    if let Some(i) = illegal_input(row, counts.inputs) {
+        return Verdict::fault(17, 3, i);
     }
     settle_row(code, counts, row);
-    Verdict {
-        number: 0,
-        file: 0,
-        at: 0,
-        word: 0,
-    }
+    Verdict::accepted()
 }
 
 // The verdict on a stage's bytes and a lent row. A refusal leaves the row as it was; else the bytes of the inputs keep their values
@@ -125,12 +93,7 @@ pub fn settled_row(stage: &[u8], row: &mut [u8]) -> Verdict
 {
     let mut code = [0u16; circuit::form::STAGE_CODE];
     match circuit_load::read_stage(stage, &mut code) {
-        Outcome::Refused { number, at } => Verdict {
-            number: number as u64,
-            file: 1,
-            at: at as u64,
-            word: 0,
-        },
-        Outcome::Readable(counts) => settle_stage(&mut code, counts, row),
+        Err(refusal) => Verdict::unreadable(1, refusal),
+        Ok(counts) => settle_stage(&mut code, counts, row),
     }
 }

@@ -1,5 +1,6 @@
 -- The inputs and gates of a text of the line form, counted by its commas and newlines, and the names that it drives.
 -- Assumes nothing.
+use Rattle.std.specs.Prelude.{None}
 use Prim.Native.Nat.{ℕ, suc, ◌+◌, ◌*◌, ◌-◌, ◌≤◌}
 use native.Mathlib.Omega.{arith}
 use mathlib.Core.Path.{◌≡◌, refl, ap, ◌∙◌}
@@ -8,7 +9,6 @@ use mathlib.Core.List.{List, [], ◌∷◌, ◌++◌, map}
 use lib.ListN.{length, take, drop, length-append, length-map}
 use lib.Seq.{length-take-le, take_at}
 use lib.Dec.{eqb}
-use Rattle.netlist.specs.declared.Found.TheVariants.{Nothing}
 use Rattle.text_spec.specs.Characters.{newline, comma}
 use Rattle.text_spec.specs.Lines.{split, other_form, GateLine, gate_lines, Text, text_of}
 use Rattle.text_spec.specs.FromText.{rails}
@@ -39,7 +39,7 @@ rails-count : (ns : List (List ℕ)) → length (rails ns) ≡ 2 * length ns
 rails-count [] = refl
 rails-count (n ∷ ns) = omega (arith, rails-count ns)
 
-module _ (s : List ℕ) (fine : other_form 0 (split newline s) ≡ Nothing) where
+module _ (s : List ℕ) (fine : other_form 0 (split newline s) ≡ None) where
   -- line 0, line 1, and the rest
   lines : split newline s ≡ take (before newline s) s ∷ take (before newline (drop (before newline s + 1) s)) (drop (before newline s + 1) s)
       ∷ split newline (drop (suc (before newline (drop (before newline s + 1) s))) (drop (before newline s + 1) s))

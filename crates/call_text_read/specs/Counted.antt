@@ -1,7 +1,6 @@
 -- A text of the line form whose inputs and gates are counted, the table of the names that it drives, and the file that is made of it.
-use Rattle.std.specs.Prelude.{ℕ, ◌+◌, ◌*◌, ◌≤◌, ◌≡◌, List, length, take}
+use Rattle.std.specs.Prelude.{ℕ, ◌+◌, ◌*◌, ◌≤◌, ◌≡◌, List, length, take, None}
 use Rattle.netlist.specs.declared.File.TheVariants as file
-use Rattle.netlist.specs.declared.Found.TheVariants.{Nothing}
 use Rattle.netlist.specs.Reading.{stage_limits, read_file}
 use Rattle.verdict.specs.Written.{Written}
 use Rattle.text_spec.specs.Characters.{newline}
@@ -16,7 +15,7 @@ saying s = text_of (split newline s)
 
 -- a text in which 29 finds nothing, with so many inputs and gates
 pub record TextCounted (s : List ℕ) (inputs gates : ℕ) : Type 0 where
-  pub formed : other_form 0 (split newline s) ≡ Nothing
+  pub formed : other_form 0 (split newline s) ≡ None
   pub inputs_are : inputs ≡ length (saying s).inputs
   pub gates_are : gates ≡ length (saying s).gates
 

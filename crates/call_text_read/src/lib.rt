@@ -13,7 +13,6 @@ ghost use Rattle.text_table.specs.Table.{Full};
 ghost use Rattle.text_read.specs.Parts.{cut_file};
 ghost use Rattle.call_text_read.specs.Counted.{saying, TextCounted, Few, table_length, work_length, TableFor, file_leaves};
 
-use netlist::Found;
 use verdict::Answer;
 
 // The length of the table of the most names that a stage drives: the rails of its inputs, and its gates.
@@ -68,10 +67,10 @@ fn read_lines(s: &[u8], inputs: usize, gates: usize, buffer: &mut [u8]) -> Answe
 {
     let mut table = [0u64; TABLE];
     let used = fill_table(s, inputs, gates, &mut table);
-    if let Found::At(i) = text_drive::undriven(s, &table[..used]) {
+    if let Some(i) = text_drive::undriven(s, &table[..used]) {
         return text_read::refuse(30, 1, i);
     }
-    if let Found::At(i) = text_drive::driven_again(s, &table[..used], 2 * inputs) {
+    if let Some(i) = text_drive::driven_again(s, &table[..used], 2 * inputs) {
         return text_read::refuse(31, 1, i);
     }
     if netlist::INPUTS < inputs {
@@ -88,7 +87,7 @@ pub fn read_text(s: &[u8], buffer: &mut [u8]) -> Answer
     ensures { ReadDemand s.now buffer.old result buffer.new }
 {
     let names = text_lines::names();
-    if let Found::At(i) = text_lines::other_form(&names, s) {
+    if let Some(i) = text_lines::other_form(&names, s) {
         return text_read::refuse(29, 1, i);
     }
     let n = text_scan::piece_len(s, 10);

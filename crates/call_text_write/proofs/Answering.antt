@@ -1,5 +1,6 @@
 -- What the call answers, step by step.
 -- Assumes nothing.
+use Rattle.std.specs.Prelude.{Option, Some, None, Ok, Err}
 use Prim.Native.Nat.{ℕ, zero, suc, ◌≤◌, ◌<◌}
 use native.Mathlib.Omega.{arith}
 use mathlib.Core.Path.{◌≡◌, refl, sym, ap, ◌∙◌}
@@ -9,9 +10,7 @@ use lib.ListN.{length, get_or, take}
 use lib.Dec.{ltb}
 use Rattle.netlist.specs.declared.File.TheVariants as file
 use Rattle.netlist.specs.declared.Counts.{Counts}
-use Rattle.netlist.specs.declared.Found.{Found}
-use Rattle.netlist.specs.declared.Found.TheVariants.{At, Nothing}
-use Rattle.netlist.specs.declared.Outcome.TheVariants as outcome
+use Rattle.netlist.specs.Types.{refusal as unread}
 use Rattle.netlist.specs.Reading.{Reading, read_file, stage_limits}
 use Rattle.netlist.specs.Read.{outcome_of}
 use Rattle.netlist.specs.Content.{Stage, stage_of}
@@ -33,12 +32,12 @@ use Rattle.text_spec.specs.Call.{leaves, text_from}
 
 -- ---- 29, 31, 24
 
-care_some : (f : ℕ → ℕ) (m : ℕ) → 0 < m → care_list (tabulate f m) ≡ At 0
+care_some : (f : ℕ → ℕ) (m : ℕ) → 0 < m → care_list (tabulate f m) ≡ Some 0
 unfolding care_list tabulate
 care_some f zero l = absurd (omega arith)
 care_some f (suc m) l = refl
 
-care_none : (f : ℕ → ℕ) (m : ℕ) → m ≤ 0 → care_list (tabulate f m) ≡ Nothing
+care_none : (f : ℕ → ℕ) (m : ℕ) → m ≤ 0 → care_list (tabulate f m) ≡ None
 unfolding care_list tabulate
 care_none f zero l = refl
 care_none f (suc m) l = absurd (omega arith)
@@ -61,39 +60,39 @@ module _ (c : Counts) (code buffer : List ℕ) where
   abbrev answer : TextAnswer
   answer = stage_text (length buffer) (stage_in c code)
 
-  abbrev again : Found
+  abbrev again : Option ℕ
   again = second_name c.inputs [] 0 (stage_outputs c code)
 
-  cared : (d : Found) → care_list (stage_care c code) ≡ d → answer ≡ unless 29 d (unless 31 again (if_room (length buffer) (text_for (stage_in c code))))
+  cared : (d : Option ℕ) → care_list (stage_care c code) ≡ d → answer ≡ unless 29 d (unless 31 again (if_room (length buffer) (text_for (stage_in c code))))
   unfolding stage_text
   cared d e = rw e
 
   pub care_leaves : {a : Answer} → 0 < c.care → a ≡ answer_of (verdict 29 1 0 0) 0 → written a buffer ≡ leaves answer buffer
   unfolding unless leaves stage_care
-  care_leaves l e = rw (cared (At 0) (care_some _ c.care l), e)
+  care_leaves l e = rw (cared (Some 0) (care_some _ c.care l), e)
 
   module _ (l : c.care ≤ 0) where
-    named : (d : Found) → d ≡ again → answer ≡ unless 31 d (if_room (length buffer) (text_for (stage_in c code)))
+    named : (d : Option ℕ) → d ≡ again → answer ≡ unless 31 d (if_room (length buffer) (text_for (stage_in c code)))
     unfolding unless stage_care
-    named d e = cared Nothing (care_none _ c.care l) ∙ rw (sym e)
+    named d e = cared None (care_none _ c.care l) ∙ rw (sym e)
 
-    pub second_leaves : {a : Answer} (j : ℕ) → At j ≡ again → a ≡ answer_of (verdict 31 1 j 0) 0 → written a buffer ≡ leaves answer buffer
+    pub second_leaves : {a : Answer} (j : ℕ) → Some j ≡ again → a ≡ answer_of (verdict 31 1 j 0) 0 → written a buffer ≡ leaves answer buffer
     unfolding unless leaves
-    second_leaves j d e = rw (named (At j) d, e)
+    second_leaves j d e = rw (named (Some j) d, e)
 
-    pub text_leaves : {w : Written} → Nothing ≡ again → w ≡ leaves (if_room (length buffer) (text_for (stage_in c code))) buffer → w ≡ leaves answer buffer
+    pub text_leaves : {w : Written} → None ≡ again → w ≡ leaves (if_room (length buffer) (text_for (stage_in c code))) buffer → w ≡ leaves answer buffer
     unfolding unless
-    text_leaves d e = e ∙ sym (ap (λ (t : TextAnswer). leaves t buffer) (named Nothing d))
+    text_leaves d e = e ∙ sym (ap (λ (t : TextAnswer). leaves t buffer) (named None d))
 
 -- ---- a stage file
 
 module _ (s buffer : List ℕ) where
-  pub file_refused : {a : Answer} (number at : ℕ) → outcome.Refused number at ≡ outcome_of (read_file file.Stage stage_limits s)
+  pub file_refused : {a : Answer} (number at : ℕ) → Err (unread number at) ≡ outcome_of (read_file file.Stage stage_limits s)
       → a ≡ answer_of (verdict number 1 at 0) 0 → written a buffer ≡ text_from s buffer
   unfolding to_text on_reading leaves
   file_refused number at e d = rw (was_refused (read_file file.Stage stage_limits s) number at e, d)
 
-  module _ (c : Counts) (code : List ℕ) (e : outcome.Readable c ≡ outcome_of (read_file file.Stage stage_limits s))
+  module _ (c : Counts) (code : List ℕ) (e : Ok c ≡ outcome_of (read_file file.Stage stage_limits s))
       (h : HoldsStage s (read_file file.Stage stage_limits s) code) where
     pub file_loaded : StageLoaded c code × (1 ≤ c.inputs) × (1 ≤ c.outputs)
     unfolding stage_outputs

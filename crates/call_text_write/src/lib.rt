@@ -9,7 +9,7 @@ ghost use Rattle.text_spec.specs.ToText as text;
 ghost use Rattle.text_spec.specs.Call.{leaves};
 ghost use Rattle.text_spec.specs.Promises.{WriteDemand};
 
-use netlist::{Counts, Found, Outcome};
+use netlist::Counts;
 use verdict::{Answer, Verdict};
 
 // 24, or a text at the start of the buffer.
@@ -42,13 +42,8 @@ fn write_loaded(code: &[u16], counts: Counts, buffer: &mut [u8]) -> Answer
     if 0 < counts.care {
         return write_command::refused_by(29, 1);
     }
-    if let Found::At(j) = text_write::second_name(code, counts) {
-        return write_command::refused(Verdict {
-            number: 31,
-            file: 1,
-            at: j as u64,
-            word: 0,
-        });
+    if let Some(j) = text_write::second_name(code, counts) {
+        return write_command::refused(Verdict::fault(31, 1, j));
     }
     write_room(code, counts, buffer)
 }
@@ -59,12 +54,7 @@ pub fn write_text(stage: &[u8], buffer: &mut [u8]) -> Answer
 {
     let mut code = [0u16; circuit::form::STAGE_CODE];
     match circuit_load::read_stage(stage, &mut code) {
-        Outcome::Refused { number, at } => write_command::refused(Verdict {
-            number: number as u64,
-            file: 1,
-            at: at as u64,
-            word: 0,
-        }),
-        Outcome::Readable(counts) => write_loaded(&code, counts, buffer),
+        Err(refusal) => write_command::refused(Verdict::unreadable(1, refusal)),
+        Ok(counts) => write_loaded(&code, counts, buffer),
     }
 }

@@ -1,19 +1,17 @@
 -- The witness of two files: what the run shows is what the verdict says. Assumes nothing.
-use Prim.Native.Nat.{ℕ, ◌+◌, ◌*◌, ◌≤◌, ◌<◌}
+use Rattle.std.specs.Prelude.{Ok, Err}
+use Prim.Native.Nat.{ℕ, ◌*◌, ◌≤◌}
 use native.Mathlib.Omega.{arith}
 use mathlib.Core.Path.{◌≡◌, refl, sym, ap, ap₂, ◌∙◌, subst}
-use mathlib.Core.Logic.{◌⊎◌, inl, inr}
-use mathlib.Core.Bool.{Bool, true, false, cond}
+use mathlib.Core.Bool.{true, false, cond}
 use mathlib.Core.List.{List, [], ◌∷◌, ◌++◌}
-use lib.ListN.{length, take, drop}
+use lib.ListN.{length, take}
 use lib.Dec.{eqb}
-use borrow.Author.Tests.{ne_eqb}
-use Rattle.runs.specs.Net.{nets}
-use Rattle.runs.proofs.Test.{clash, true?, eqb_eq}
+use Rattle.runs.proofs.Test.{clash}
 use Rattle.netlist.specs.declared.File.TheVariants as file
 use Rattle.netlist.specs.declared.Counts.{Counts}
-use Rattle.netlist.specs.declared.Outcome.TheVariants as outcome
-use Rattle.netlist.specs.Reading.{Places, Reading, refused, readable, read_file, stage_limits}
+use Rattle.netlist.specs.Types.{refusal as unread}
+use Rattle.netlist.specs.Reading.{Places, Reading, readable, read_file, stage_limits}
 use Rattle.netlist.specs.Read.{outcome_of}
 use Rattle.verdict.specs.declared.Verdict.{Verdict}
 use Rattle.verdict.specs.declared.WordOrder.{WordOrder}
@@ -30,7 +28,6 @@ use Rattle.check_spec.proofs.Alike.{spelled_alike, names_alike}
 use Rattle.netlist.specs.Content.{stage_of}
 use Rattle.circuit.specs.Stage as flat
 use Rattle.circuit.specs.Stage.{net_count, StageLoaded}
-use Rattle.circuit.proofs.Settling.{length_stage_gates}
 use Rattle.circuit_load.specs.Load.{HoldsStage}
 use Rattle.circuit_load.proofs.Reading.{was_refused, stage_held}
 use Rattle.circuit_steps.proofs.Stages.{SameStage, same_stage}
@@ -49,7 +46,7 @@ use Rattle.call_witness.proofs.Runs.{rise_same, fall_same}
 -- ---- a stage that was read
 
 module _ (stage : List ℕ) (v : Verdict) (show : Showable stage v) (c : Counts) (code : List ℕ)
-    (answered : outcome.Readable c ≡ outcome_of (read_file file.Stage stage_limits stage)) (holds : HoldsStage stage (read_file file.Stage stage_limits stage) code) where
+    (answered : Ok c ≡ outcome_of (read_file file.Stage stage_limits stage)) (holds : HoldsStage stage (read_file file.Stage stage_limits stage) code) where
   abbrev s : Content
   s = row_stage stage
 
@@ -116,7 +113,7 @@ module _ (stage : List ℕ) (v : Verdict) (show : Showable stage v) (c : Counts)
         }
 
 -- it was read
-pub not_refused : (stage : List ℕ) → Pass (reading file.Stage stage_limits stage) → (number at : ℕ) → outcome.Refused number at ≡ outcome_of (read_file file.Stage stage_limits stage) → ⊥
+pub not_refused : (stage : List ℕ) → Pass (reading file.Stage stage_limits stage) → (number at : ℕ) → Err (unread number at) ≡ outcome_of (read_file file.Stage stage_limits stage) → ⊥
 unfolding refusal
 not_refused stage p number at e =
     let q = was_refused (read_file file.Stage stage_limits stage) number at e in

@@ -1,20 +1,17 @@
 -- The goals of the rails: a word's without an input, or with one alone; and the numbers that a verdict names. Assumes nothing.
-use Prim.Native.Nat.{ℕ, zero, suc, ◌+◌, ◌*◌, ◌/◌, ◌≤◌, ◌<◌}
+use Prim.Native.Nat.{ℕ, zero, suc, ◌+◌, ◌*◌, ◌/◌, ◌<◌}
 use native.Mathlib.Omega.{arith}
-use mathlib.Core.Path.{◌≡◌, refl, sym, ap, ap₂, ◌∙◌}
+use mathlib.Core.Path.{◌≡◌, refl, sym, ap, ◌∙◌}
 use mathlib.Core.Logic.{◌⊎◌, inl, inr}
-use mathlib.Core.Bool.{Bool, true, false, not, cond, ◌&&◌, and-true, and-false}
+use mathlib.Core.Bool.{Bool, not, ◌&&◌, and-true, and-false}
 use mathlib.Core.List.{List}
-use lib.ListN.{length, get_or, take, set, replicate}
-use lib.Dec.{eqb, ltb}
+use lib.ListN.{get_or, set, replicate}
+use lib.Dec.{ltb}
 use borrow.Author.Tests.{eq-eqb, ne_eqb}
-use Rattle.runs.specs.Row.{Row}
 use Rattle.netlist.specs.declared.Counts.{Counts}
 use Rattle.verdict.specs.Words.{bits_of, rails_of}
 use Rattle.check_spec.specs.Words.{rails_for}
-use Rattle.circuit.specs.Stage.{net_count}
 use Rattle.circuit.specs.Rows.{row_size, RowFor, rail_part}
-use Rattle.circuit_steps.specs.Moves.{row_in}
 use Rattle.circuit_steps.proofs.Goals.{level_in, spelt, pair_row, pair_at_holds}
 use Rattle.call_witness.specs.Lists.{without, alone, GoalIn}
 

@@ -1,14 +1,13 @@
 -- A number that is looked for in a list, and the name of the word that is shown. Assumes nothing.
-use Prim.Native.Nat.{ℕ, suc, ◌+◌, ◌≤◌, ◌<◌}
+use Prim.Native.Nat.{ℕ, ◌<◌}
 use native.Mathlib.Omega.{arith}
 use mathlib.Core.Path.{◌≡◌, refl, sym, ap, ◌∙◌}
-use mathlib.Core.Bool.{Bool, true, false, cond}
+use mathlib.Core.Bool.{Bool, true, false, cond, ◌||◌}
 use mathlib.Core.List.{List, [], ◌∷◌}
-use lib.ListN.{drop_of_length-le, length, get_or, drop}
-use lib.Seq.{drop-cons}
+use lib.ListN.{length, get_or}
 use lib.Dec.{eqb}
 use borrow.Author.Tests.{eq-eqb, ne_eqb}
-use Rattle.runs.proofs.Test.{eqb_same, eqb_other}
+use Rattle.std.specs.List.{list_any}
 use Rattle.netlist.specs.Content.{Stage}
 use Rattle.verdict.specs.declared.Verdict.{Verdict}
 use Rattle.verdict.specs.declared.WordOrder.{WordOrder}
@@ -17,30 +16,24 @@ use Rattle.check_spec.specs.Lists.{some}
 use Rattle.run_spec.specs.Witness.{asked_or_first}
 use Rattle.call_witness.specs.Lists.{name_in}
 
-module _ (list : List ℕ) (asked : ℕ) where
-  -- it is none of the first i
-  abbrev pub SoughtTo : ℕ → Type 0
-  SoughtTo i = some (eqb asked) list ≡ some (eqb asked) (drop i list)
+-- the library's test of a list is that of the definition
+or-is : (a b : Bool) → (a || b) ≡ cond a true b
+or-is true b = refl
+or-is false b = refl
 
-  module _ (i : ℕ) (s : SoughtTo i) where
-    next-is : i < length list → some (eqb asked) list ≡ cond (eqb asked (get_or list i 0)) true (some (eqb asked) (drop (suc i) list))
-    unfolding some
-    next-is h = s ∙ ap (some (eqb asked)) (drop-cons list i 0 h)
+any-is : (test : ℕ → Bool) (list : List ℕ) → list_any test list ≡ some test list
+unfolding some
+any-is test [] = refl
+any-is test (x ∷ l) = or-is (test x) (list_any test l) ∙ ap (λ (b : Bool). cond (test x) true b) (any-is test l)
 
-    pub sought_on : i < length list → ¬ (get_or list i 0 ≡ asked) → SoughtTo (i + 1)
-    sought_on h d =
-        let z : i + 1 ≡ suc i = omega arith in
-        rw z (next-is h ∙ ap (λ (b : Bool). cond b true (some (eqb asked) (drop (suc i) list))) (eqb_other asked (get_or list i 0) (λ q. d (sym q))))
+module _ (list : List ℕ) (asked : ℕ) (b : Bool) (is : b ≡ list_any (eqb asked) list) where
+  pub sought_found : b ≡ true → asked ≡ asked_or_first list asked
+  unfolding asked_or_first
+  sought_found e = sym (ap (λ (b : Bool). cond b asked (get_or list 0 0)) (sym (is ∙ any-is (eqb asked) list) ∙ e))
 
-    pub sought_found : i < length list → get_or list i 0 ≡ asked → asked ≡ asked_or_first list asked
-    unfolding asked_or_first
-    sought_found h e =
-        sym (ap (λ (b : Bool). cond b asked (get_or list 0 0)) (next-is h
-        ∙ ap (λ (b : Bool). cond b true (some (eqb asked) (drop (suc i) list))) (ap (eqb asked) e ∙ eqb_same asked)))
-
-    pub sought_none : length list ≤ i → get_or list 0 0 ≡ asked_or_first list asked
-    unfolding asked_or_first some
-    sought_none h = sym (ap (λ (b : Bool). cond b asked (get_or list 0 0)) (s ∙ ap (some (eqb asked)) (drop_of_length-le list {i = i} h)))
+  pub sought_none : b ≡ false → get_or list 0 0 ≡ asked_or_first list asked
+  unfolding asked_or_first
+  sought_none e = sym (ap (λ (b : Bool). cond b asked (get_or list 0 0)) (sym (is ∙ any-is (eqb asked) list) ∙ e))
 
 -- an empty list has no first
 pub first-none : (list : List ℕ) → ¬ (0 < length list) → 0 ≡ get_or list 0 0

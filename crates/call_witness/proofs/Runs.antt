@@ -2,13 +2,12 @@
 use Prim.Native.Nat.{ℕ, ◌+◌, ◌*◌, ◌/◌, ◌≤◌, ◌<◌}
 use native.Mathlib.Omega.{arith}
 use native.Mathlib.Decide.{ℕ_discrete, dec_lt}
-use mathlib.Core.Path.{◌≡◌, refl, sym, ap, ap₂, ◌∙◌, subst}
+use mathlib.Core.Path.{◌≡◌, refl, sym, ap, ap₂, ◌∙◌}
 use mathlib.Core.Bool.{Bool, true, false, not, cond, ◌&&◌, ◌||◌}
 use mathlib.Core.List.{List, []}
-use lib.ListN.{length}
-use lib.Dec.{eqb, ltb}
+use lib.Dec.{eqb}
 use borrow.Author.Tests.{eq-eqb, ne_eqb, le-ltb, lt-ltb}
-use Rattle.runs.specs.Row.{Row, Rule, low, only, toggle, after, ◌∖◌}
+use Rattle.runs.specs.Row.{Row, low, only, toggle, after, ◌∖◌}
 use Rattle.runs.specs.Net.{Net, nets, rails, rise_step, fall_step, rails_of_inputs}
 use Rattle.runs.proofs.Test.{clash}
 use Rattle.runs.proofs.Rise.{settled_rail}
@@ -22,10 +21,9 @@ use Rattle.check_spec.specs.Checks.{rest}
 use Rattle.check_spec.specs.Demands.{LoopFree}
 use Rattle.check_spec.proofs.OneWord.{rest_settled}
 use Rattle.circuit.specs.Stage.{net_count}
-use Rattle.circuit_steps.specs.Moves.{moves, loaded_net}
 use Rattle.circuit_steps.proofs.Stages.{SameStage}
 use Rattle.circuit_steps.proofs.Rules.{held_in, RailsBelow, InputKept, rise_moves, below_stays, fall_moves, kept_stays}
-use Rattle.run_spec.specs.Played.{Run, played, rise_by, fall_by}
+use Rattle.run_spec.specs.Played.{played, rise_by}
 use Rattle.run_spec.specs.Witness.{of_runs, of_falls, held_back, witness_run}
 use Rattle.run_spec.proofs.Played.{played_alike}
 use Rattle.run_spec.proofs.OneWord.{to_rest}

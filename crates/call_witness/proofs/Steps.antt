@@ -1,19 +1,19 @@
 -- Nets switch one after the other, each time the least that may. Assumes nothing.
+use Rattle.std.specs.Prelude.{Some}
 use Prim.Native.Nat.{ℕ, ◌+◌, ◌*◌, ◌≤◌, ◌<◌}
 use native.Mathlib.Omega.{arith}
 use native.Mathlib.Decide.{dec_lt, ℕ_discrete}
-use mathlib.Core.Path.{◌≡◌, refl, sym, ap, ap₂, ◌∙◌, subst, fun_ext}
-use mathlib.Core.Logic.{◌⊎◌, inl, inr}
+use mathlib.Core.Path.{◌≡◌, sym, ap, ◌∙◌, subst, fun_ext}
+use mathlib.Core.Logic.{inl, inr}
 use mathlib.Core.Bool.{Bool, true, false, not, ◌&&◌, and-true, and-false}
-use mathlib.Core.List.{List, [], ◌∷◌}
-use lib.ListN.{length, get_or, set}
+use mathlib.Core.List.{List}
+use lib.ListN.{length, set}
 use lib.Dec.{eqb}
 use Rattle.runs.specs.Row.{Row, Rule, toggle, only}
 use Rattle.runs.specs.Net.{Net, nets}
 use Rattle.runs.proofs.Test.{clash, eqb_same, eqb_other}
 use Rattle.netlist.specs.declared.Counts.{Counts}
-use Rattle.netlist.specs.declared.Found.TheVariants.{At, Nothing}
-use Rattle.circuit.specs.Stage.{net_count, stage_gates}
+use Rattle.circuit.specs.Stage.{net_count}
 use Rattle.circuit.specs.Rows.{RowFor}
 use Rattle.circuit.proofs.Settling.{length_stage_gates}
 use Rattle.circuit_steps.specs.Moves.{moves, loaded_net, row_in}
@@ -112,7 +112,7 @@ module _ (c : Counts) (code : List ℕ) (goal : Row) (held : ℕ) where
         pub is_net_holds : net < net_count c
         is_net_holds = omega (arith, f.within, d)
 
-        next : NextIs self (step r) (nets N) (At net)
+        next : NextIs self (step r) (nets N) (Some net)
         next = (omega (arith, is_net_holds, all_nets_holds), f.found is_net_holds, λ i h t. first i t (dec_lt i net))
           where
             first : (i : ℕ) → step r i ≡ true → Dec (i < net) → Before self net i

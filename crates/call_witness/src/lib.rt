@@ -17,14 +17,15 @@ ghost use Rattle.run_spec.specs.Witness.{of_runs, of_falls, asked_or_first, Witn
 ghost use Rattle.call_witness.specs.Lists.{moving, FirstFrom, LookFrom, least_first, without, alone, GoalIn, input_under, gate_under, NamedIn};
 ghost use Rattle.call_witness.specs.Lists.{rise_in, fall_in, name_in, Showable, GivenFor};
 
-use netlist::{Counts, Outcome};
+use netlist::Counts;
 use run_spec::RunAnswer;
 use verdict::{Verdict, WordOrder};
 use write_run::Lengths;
 
 // ---- steps
 
-// The least net from a place on that may move towards a goal and is not held back, or the number of nets where there is none.
+// The least net from a place on that may move towards a goal and is not held back, or the number of nets where there is none: no `Option`, since
+// FirstFrom, which keeps its meaning, says that number (specs/Lists.antt).
 fn least_from(
     entries: &[[u8; 16]; 27],
     code: &[u16],
@@ -40,14 +41,12 @@ fn least_from(
         (row_in counts row.now)) (net_count counts) from result }
 {
     let nets = 2 * counts.inputs + counts.gates;
-    let mut net = from;
-    while net < nets {
+    for net in from..nets {
         if net != held {
             if circuit_steps::may_switch(entries, code, counts, goal, row, net) {
                 return net;
             }
         }
-        net += 1;
     }
     nets
 }
@@ -85,24 +84,22 @@ fn list_least(
     let entries = gates::table();
     let nets = 2 * counts.inputs + counts.gates;
     let end = start + nets;
-    let mut count = start;
     let mut from: usize = 0;
-    while count < end {
+    for count in start..end {
         let net = least_from(&entries, code, counts, goal, held, row, from);
         if net == nets {
             return count;
         }
         circuit_steps::switch_net(counts, row, net);
         list[count] = net as u16;
-        count += 1;
         from = look_from(fed, net);
     }
-    count
+    end
 }
 
 // ---- goals
 
-// The rails of word w without those of input i; where i is no input, all of them.
+// The rails of word w without those of input i; where i is no input, all of them (a number and no `Option`, as `without` and `alone` say it).
 fn rails_without(counts: Counts, w: usize, i: usize) -> [u8; circuit::ROW]
     requires { Within stage_limits counts }
     ensures { RowFor counts result × GoalIn counts result (without w i) }
@@ -135,6 +132,8 @@ fn rails_alone(counts: Counts, w: usize, i: usize) -> [u8; circuit::ROW]
 
 // ---- what a verdict names
 
+// Both answer a number for none, and no `Option`: the definitions input_under and gate_under, which keep their meaning, say it (specs/Lists.antt).
+
 // The input that a verdict of this number names, or none.
 fn input_under(counts: Counts, verdict: Verdict, number: u64) -> usize
     ensures { result ≡ input_under counts verdict number }
@@ -160,26 +159,22 @@ fn gate_under(counts: Counts, verdict: Verdict, number: u64) -> usize
 fn has_run(number: u64) -> bool
     ensures { result ≡ some (eqb number) of_runs }
 {
+    // 32 stands apart: tried as one of the patterns below, and the proof did not close, since what is known where none fits named it no more.
     if number == 32 {
         return true;
     }
-    match number {
-        0 | 13 | 14 | 15 | 20 | 21 => true,
-        _ => false,
-    }
+    matches!(number, 0 | 13 | 14 | 15 | 20 | 21)
 }
 
 // Whether it speaks of a fall.
 fn has_fall(number: u64) -> bool
     ensures { result ≡ some (eqb number) of_falls }
 {
+    // 32 stands apart, as above.
     if number == 32 {
         return true;
     }
-    match number {
-        0 | 20 | 21 => true,
-        _ => false,
-    }
+    matches!(number, 0 | 20 | 21)
 }
 
 // ---- the run
@@ -211,17 +206,13 @@ fn list_run(code: &[u16], counts: Counts, verdict: Verdict, w: usize, list: &mut
 fn asked_or_first(list: &[u16], asked: usize) -> usize
     ensures { result ≡ asked_or_first list.now asked }
 {
-    let mut i: usize = 0;
-    while i < list.len() {
-        if list[i] as usize == asked {
-            return asked;
-        }
-        i += 1;
+    if list.iter().any(|x| asked == *x as usize) {
+        asked
+    } else if 0 < list.len() {
+        list[0] as usize
+    } else {
+        0
     }
-    if 0 < list.len() {
-        return list[0] as usize;
-    }
-    0
 }
 
 // The name that is asked for, if it is that of a word that is cared for; else the first such name.
@@ -267,7 +258,7 @@ fn witness_stage(
     ensures { GivenFor order stage.now verdict asked list.old result list.new }
 {
     let mut code = [0u16; circuit::form::STAGE_CODE];
-    if let Outcome::Readable(counts) = circuit_load::read_stage(stage, &mut code) {
+    if let Ok(counts) = circuit_load::read_stage(stage, &mut code) {
         let name = name_shown(order, &code, counts, verdict, asked);
         let w = words::word_of(order, counts.inputs, name);
         let mut run = [0u16; run_spec::RUN];

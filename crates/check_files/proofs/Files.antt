@@ -1,5 +1,6 @@
 -- The two files by what reading and loading them answers, and by what the checks find.
 -- Assumes nothing.
+use Rattle.std.specs.Prelude.{Option, Some, None, Ok, Err}
 use Prim.Native.Nat.{ℕ, ◌≤◌}
 use native.Mathlib.Omega.{arith}
 use mathlib.Core.Path.{◌≡◌, refl, sym, ap, ap₂, subst, ◌∙◌}
@@ -10,17 +11,14 @@ use Rattle.runs.proofs.Test.{and_left, and_right, ltb-true}
 use Rattle.netlist.specs.declared.File.TheVariants as file
 use Rattle.netlist.specs.declared.Limits.{Limits}
 use Rattle.netlist.specs.declared.Counts.{Counts}
-use Rattle.netlist.specs.declared.Found.{Found}
-use Rattle.netlist.specs.declared.Found.TheVariants.{At, Nothing}
-use Rattle.netlist.specs.declared.Outcome.TheVariants as outcome
+use Rattle.netlist.specs.Types.{refusal as unread}
 use Rattle.netlist.specs.Commands.{stage_file}
 use Rattle.netlist.specs.Reading.{Places, counts_of, Reading, refused, readable, read_file, stage_limits, NoMore}
 use Rattle.netlist.specs.Read.{outcome_of}
 use Rattle.netlist.specs.Content.{Stage, Reference, stage_of}
 use Rattle.verdict.specs.declared.Verdict.{Verdict}
 use Rattle.verdict.specs.declared.WordOrder.{WordOrder}
-use Rattle.verdict.specs.declared.Finding.{Finding}
-use Rattle.verdict.specs.declared.Finding.TheVariants.{Fault, Passed}
+use Rattle.verdict.specs.FourNumbers.{Finding}
 use Rattle.verdict.specs.Checks.{verdict, Check, at_fault, sweep, finding, or_later, first_fault, checks, rise_sweeps, fall_sweeps}
 use Rattle.verdict.specs.Verdicts as verdicts
 use Rattle.verdict.proofs.Refusals.{refused_number}
@@ -43,9 +41,8 @@ use Rattle.circuit_load.specs.Parts.{PipelineHeld, HoldsPipeline}
 use Rattle.circuit_load.proofs.Reading.{was_refused, reference_held}
 use Rattle.circuit_load.proofs.Holding.{pipeline_told}
 use Rattle.check_word.specs.Loaded.{BothLoaded}
-use Rattle.check_files.specs.declared.Judgement.{Judgement}
-use Rattle.check_files.specs.declared.Judgement.TheVariants as judgement
 use Rattle.check_files.specs.Held.{StageHeld, content_in}
+use Rattle.check_files.specs.declared.Sizes.{Sizes}
 use Rattle.check_files.specs.Judgement.{StageFrom, ReferenceFrom, PairLoaded, JudgedAs}
 
 -- ---- a verdict that refuses has a number, and file 0, 1 or 2
@@ -60,27 +57,27 @@ each_named : List Check → Bool
 each_named [] = true
 each_named (c ∷ cs) = named c && each_named cs
 
-swept_as : (number file : ℕ) (find : ℕ → Found) (ws : List ℕ) (v : Verdict) → sweep number file find ws ≡ Fault v → (v.number ≡ number) × (v.file ≡ file)
+swept_as : (number file : ℕ) (find : ℕ → Option ℕ) (ws : List ℕ) (v : Verdict) → sweep number file find ws ≡ Err v → (v.number ≡ number) × (v.file ≡ file)
 unfolding sweep at_fault
 swept_as number file find [] v e = absurd (let z : ◌≡◌ {A = ℕ} 0 1 = cc in omega arith)
 swept_as number file find (w ∷ ws) v e = go (find w) e (swept_as number file find ws v)
   where
-    go : (x : Found) → at_fault number file w x (sweep number file find ws) ≡ Fault v → (sweep number file find ws ≡ Fault v → (v.number ≡ number) × (v.file ≡ file))
+    go : (x : Option ℕ) → at_fault number file w x (sweep number file find ws) ≡ Err v → (sweep number file find ws ≡ Err v → (v.number ≡ number) × (v.file ≡ file))
         → (v.number ≡ number) × (v.file ≡ file)
-    go (At i) e later = let q : v ≡ verdict number file i w = cc in (ap (λ (x : Verdict). x.number) q, ap (λ (x : Verdict). x.file) q)
-    go Nothing e later = later e
+    go (Some i) e later = let q : v ≡ verdict number file i w = cc in (ap (λ (x : Verdict). x.number) q, ap (λ (x : Verdict). x.file) q)
+    go None e later = later e
 
-fault_named : (cs : List Check) → each_named cs ≡ true → (v : Verdict) → first_fault cs ≡ Fault v → Refusal v
+fault_named : (cs : List Check) → each_named cs ≡ true → (v : Verdict) → first_fault cs ≡ Err v → Refusal v
 unfolding first_fault or_later finding named each_named
 fault_named [] n v e = absurd (let z : ◌≡◌ {A = ℕ} 0 1 = cc in omega arith)
 fault_named (c ∷ cs) n v e = go (finding c) refl e (fault_named cs (and_right (named c) (each_named cs) n) v)
   where
-    go : (x : Finding) → finding c ≡ x → or_later x (first_fault cs) ≡ Fault v → (first_fault cs ≡ Fault v → Refusal v) → Refusal v
-    go (Fault u) f e later =
+    go : (x : Finding) → finding c ≡ x → or_later x (first_fault cs) ≡ Err v → (first_fault cs ≡ Err v → Refusal v) → Refusal v
+    go (Err u) f e later =
         let is = swept_as c.number c.file _ c.words v (f ∙ e) in
         let own = and_left (named c) (each_named cs) n in
         (omega (arith, is.0, ltb-true 0 c.number (and_left _ (ltb c.file 3) own)), omega (arith, is.1, ltb-true c.file 3 (and_right (ltb 0 c.number) _ own)))
-    go Passed f e later = later e
+    go (Ok _) f e later = later e
 
 checks-named : (order : WordOrder) (raw : Stage) (p : Pipeline) (s : Stage) (r : Reference) → each_named (checks order raw (wiring_checks p) s r) ≡ true
 unfolding checks wiring_checks rise_sweeps fall_sweeps named each_named
@@ -104,11 +101,11 @@ module _ (order : WordOrder) (f : Files) where
   abbrev given : Verdict
   given = verdict_on order f
 
-  refused_as : {code reference : List ℕ} (v : Verdict) → v ≡ given → Refusal v → JudgedAs order f (judgement.Refused v) code reference
+  refused_as : {code reference : List ℕ} (v : Verdict) → v ≡ given → Refusal v → JudgedAs order f (Err v) code reference
   refused_as v e n = record {
     verdict_is = e;
     refuses = λ u q. let i : v ≡ u = cc in subst Refusal i n;
-    loaded = λ c d q. absurd (let z : ◌≡◌ {A = ℕ} 0 1 = cc in omega arith);
+    loaded = λ d q. absurd (let z : ◌≡◌ {A = ℕ} 0 1 = cc in omega arith);
   }
 
   refuses_stage : (number at : ℕ) → stage_reading ≡ refused number at → verdict number 1 at 0 ≡ given
@@ -119,13 +116,13 @@ module _ (order : WordOrder) (f : Files) where
       one true = refl
       one false = refl
 
-  pub stage_refused : {code reference : List ℕ} (number at : ℕ) → outcome.Refused number at ≡ outcome_of stage_reading
-      → JudgedAs order f (judgement.Refused (verdict number 1 at 0)) code reference
+  pub stage_refused : {code reference : List ℕ} (number at : ℕ) → Err (unread number at) ≡ outcome_of stage_reading
+      → JudgedAs order f (Err (verdict number 1 at 0)) code reference
   stage_refused number at e =
       let r = was_refused stage_reading number at e in
       refused_as (verdict number 1 at 0) (refuses_stage number at r) ((refused_number (stage_file f.registers) f.stage_most s number at r).0, omega arith)
 
-  module _ (less : NoMore f.stage_most stage_limits) (c : Counts) (code nets regs : List ℕ) (is : outcome.Readable c ≡ outcome_of stage_reading)
+  module _ (less : NoMore f.stage_most stage_limits) (c : Counts) (code nets regs : List ℕ) (is : Ok c ≡ outcome_of stage_reading)
       (h : HoldsPipeline s stage_reading code nets regs) where
     told : (p : Places) × (stage_reading ≡ readable p) × (c ≡ counts_of p) × PipelineHeld s p code nets regs
     told = pipeline_told s stage_reading c code nets regs is h
@@ -134,8 +131,8 @@ module _ (order : WordOrder) (f : Files) where
     unfolding judge first refusal
     refuses_reference number at e = rw (told.1, e)
 
-    pub reference_refused : {code' reference : List ℕ} (number at : ℕ) → outcome.Refused number at ≡ outcome_of reference_reading
-        → JudgedAs order f (judgement.Refused (verdict number 2 at 0)) code' reference
+    pub reference_refused : {code' reference : List ℕ} (number at : ℕ) → Err (unread number at) ≡ outcome_of reference_reading
+        → JudgedAs order f (Err (verdict number 2 at 0)) code' reference
     reference_refused number at e =
         let r = was_refused reference_reading number at e in
         refused_as (verdict number 2 at 0) (refuses_reference number at r) ((refused_number file.Reference f.reference_most t number at r).0, omega arith)
@@ -156,7 +153,7 @@ module _ (order : WordOrder) (f : Files) where
     unfolding held
     content_is = ap (content_at (stage_file f.registers) s) (sym told.1)
 
-    module _ (sizes : Counts) (reference : List ℕ) (it : outcome.Readable sizes ≡ outcome_of reference_reading)
+    module _ (sizes : Counts) (reference : List ℕ) (it : Ok sizes ≡ outcome_of reference_reading)
         (k : HoldsReference t reference_reading reference) where
       of_reference : ReferenceFrom f.reference_most t sizes reference
       of_reference =
@@ -178,7 +175,7 @@ module _ (order : WordOrder) (f : Files) where
           ∙ sym (alike_judge (checks_alike order p q (read_care (stage_file f.registers) f.stage_most s told.0 told.1)))
           ∙ rw (told.1, of_reference.reads)
 
-      pub checks_refuse : {code' : List ℕ} (v : Verdict) → Fault v ≡ found → JudgedAs order f (judgement.Refused v) code' reference
+      pub checks_refuse : {code' : List ℕ} (v : Verdict) → Err v ≡ found → JudgedAs order f (Err v) code' reference
       unfolding verdicts.verdict_of
       checks_refuse v e =
           let p = content_in held in
@@ -186,22 +183,21 @@ module _ (order : WordOrder) (f : Files) where
           (fault_named (checks order (stage_view p) (wiring_checks (pipeline_of p)) (stage_view (wired p)) (reference_in sizes reference))
           (checks-named order (stage_view p) (pipeline_of p) (stage_view (wired p)) (reference_in sizes reference)) v (sym e))
 
-      pub checks_pass : {code' : List ℕ} → Passed ≡ found → BothLoaded c code' sizes reference × (stage_in c code' ≡ stage_view (wired (content_in held)))
-          → JudgedAs order f (judgement.Accepted c sizes) code' reference
+      pub checks_pass : {code' : List ℕ} → Ok tt ≡ found → BothLoaded c code' sizes reference × (stage_in c code' ≡ stage_view (wired (content_in held)))
+          → JudgedAs order f (Ok (record { stage = c; reference = sizes })) code' reference
       unfolding verdicts.verdict_of
       checks_pass {code'} e b = record {
         verdict_is = ap verdicts.verdict_of e ∙ judged;
         refuses = λ v q. absurd (let z : ◌≡◌ {A = ℕ} 0 1 = cc in omega arith);
-        loaded = λ d z q.
-            let i : c ≡ d = cc in
-            let j : sizes ≡ z = cc in
-            subst (λ (x : Counts). PairLoaded f x code' z reference) i
-            (subst (λ (x : Counts). PairLoaded f c code' x reference) j
+        loaded = λ d q.
+            let pair : Sizes = record { stage = c; reference = sizes } in
+            let i : pair ≡ d = cc in
+            subst (λ (x : Sizes). PairLoaded f x.stage code' x.reference reference) i
             (record {
               both = b.0;
               stage_from_holds = record { places = told.0; reads = told.1; content = b.1 ∙ ap (λ (p : Content). stage_view (wired p)) content_is };
               reference_from = of_reference;
-            }));
+            });
       }
 
 -- without registers the circuit that was loaded is the stage as the file has it

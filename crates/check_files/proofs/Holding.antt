@@ -1,6 +1,7 @@
 -- A stage file as loading leaves it: without registers the code holds its stage; with some, the pipeline that the checks of the wiring ask for, and what the
 -- wired stage is to the code.
 -- Assumes nothing.
+use Rattle.std.specs.Prelude.{Ok, Err}
 use Prim.Native.Nat.{ℕ, zero, suc, ◌+◌, ◌*◌, ◌≤◌, ◌<◌}
 use native.Mathlib.Omega.{arith}
 use mathlib.Core.Path.{◌≡◌, refl, sym, ap, ap₂, ◌∙◌, subst}
@@ -16,8 +17,7 @@ use Rattle.netlist.specs.Reading.{Places, counts_of, nets_of, readable}
 use Rattle.netlist.specs.Content.{Coded, Gate, Pair, Stage, coded_at, gate_of, stage_of}
 use Rattle.netlist.specs.Read.{Read}
 use Rattle.netlist.proofs.Readable.{readable_read}
-use Rattle.verdict.specs.declared.Finding.{Finding}
-use Rattle.verdict.specs.declared.Finding.TheVariants.{Fault, Passed}
+use Rattle.verdict.specs.FourNumbers.{Finding}
 use Rattle.verdict.specs.Checks.{check, finding, or_later, first_fault, looped}
 use Rattle.wiring_spec.specs.Parts.{Part, register, element, part_at, Pipeline, registers_of, register_count, part_drivers}
 use Rattle.wiring_spec.specs.Wires.{resolve, times}
@@ -133,11 +133,11 @@ module _ {c : Counts} {code nets regs : List ℕ} (h : StageHeld c code nets reg
     no_register : register_count (pipeline_of (content_in h)) ≡ 0
     no_register = register_count_holds ∙ none
 
-    wiring_none : first_fault (wiring_checks (pipeline_of (content_in h))) ≡ Passed
+    wiring_none : first_fault (wiring_checks (pipeline_of (content_in h))) ≡ Ok tt
     unfolding first_fault wiring_checks
     wiring_none =
         let p = pipeline_of (content_in h) in
-        let none : (number : ℕ) (fails : ℕ → Bool) → finding (check number 1 (0 ∷ []) (registers p) (λ w. fails)) ≡ Passed =
+        let none : (number : ℕ) (fails : ℕ → Bool) → finding (check number 1 (0 ∷ []) (registers p) (λ w. fails)) ≡ (Ok tt) =
         λ number fails. places_none number 1 (register_count p) fails (λ i l. absurd (omega (arith, no_register))) in
         passed_on _ _ (none 33 (circular p)) ∙ passed_on _ _ (none 33 (uneven p)) ∙ passed_on _ _ (none 34 (missing p)) ∙ passed_on _ _ (none 35 (barred p))
 
@@ -151,8 +151,8 @@ module _ {c : Counts} {code nets regs : List ℕ} (h : StageHeld c code nets reg
         e ∙ ap (λ (s : Stage). finding (looped s)) raw_same ∙ sym (alone (finding (looped (stage_view (content_in h)))))
       where
         alone : (f : Finding) → or_later f (first_fault (wiring_checks (pipeline_of (content_in h)))) ≡ f
-        alone (Fault v) = refl
-        alone Passed = wiring_none
+        alone (Err v) = refl
+        alone (Ok _) = wiring_none
 
     pub plain_ordered : {code' : List ℕ} → StageOrdered c code' (stage_in c code) → StageOrdered c code' (stage_view (wired (content_in h)))
     plain_ordered o = record {

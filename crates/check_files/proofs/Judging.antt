@@ -1,19 +1,17 @@
 -- The checks of two circuits in their order: 10, 11, 12, 33, 34, 35, 28, and those that settle the stage in its words.
 -- Assumes nothing.
+use Rattle.std.specs.Prelude.{Option, Some, None, Ok, Err}
 use Prim.Native.Nat.{ℕ, ◌<◌}
 use mathlib.Core.Path.{◌≡◌, refl, sym, ap, ap₂, ◌∙◌}
 use mathlib.Core.List.{List, ◌∷◌, ◌++◌}
 use lib.ListN.{length}
 use borrow.Author.Tests.{eq-eqb, ne_eqb}
 use Rattle.netlist.specs.declared.Counts.{Counts}
-use Rattle.netlist.specs.declared.Found.{Found}
-use Rattle.netlist.specs.declared.Found.TheVariants.{At, Nothing}
 use Rattle.gates.specs.Cell.{is_retired}
 use Rattle.netlist.specs.Content.{Gate, Stage, Reference}
 use Rattle.verdict.specs.declared.Verdict.{Verdict}
 use Rattle.verdict.specs.declared.WordOrder.{WordOrder}
-use Rattle.verdict.specs.declared.Finding.{Finding}
-use Rattle.verdict.specs.declared.Finding.TheVariants.{Fault, Passed}
+use Rattle.verdict.specs.FourNumbers.{Finding}
 use Rattle.verdict.specs.Nets.{no_gate}
 use Rattle.verdict.specs.Retired.{retired_at}
 use Rattle.verdict.specs.Search.{least}
@@ -33,11 +31,11 @@ use Rattle.check_files.proofs.Holding.{raw_same}
 
 -- ---- one check
 
-differ : (number a b : ℕ) → (a ≡ b → ⊥) → finding (unequal number a b) ≡ Fault (verdict number 0 a b)
+differ : (number a b : ℕ) → (a ≡ b → ⊥) → finding (unequal number a b) ≡ Err (verdict number 0 a b)
 unfolding finding sweep first at_fault
 differ number a b d = rw (ne_eqb a b d)
 
-agree : (number a b : ℕ) → a ≡ b → finding (unequal number a b) ≡ Passed
+agree : (number a b : ℕ) → a ≡ b → finding (unequal number a b) ≡ Ok tt
 unfolding finding sweep first at_fault
 agree number a b e = rw (eq-eqb a b e)
 
@@ -86,7 +84,7 @@ module _ (order : WordOrder) {c : Counts} {code nets regs : List ℕ} (h : Stage
       ap₂ (λ (a b : ℕ). first_fault (unequal 10 raw.inputs sizes.inputs ∷ unequal 11 a b ∷ ((looped raw ∷ wiring) ++ later))) raw_outputs reference_outputs
       ∙ ap (λ (x : Stage). first_fault (unequal 10 x.inputs sizes.inputs ∷ unequal 11 c.outputs sizes.outputs ∷ ((looped raw ∷ wiring) ++ later))) (sym (raw_same h))
 
-  pub is_10 : (c.inputs ≡ sizes.inputs → ⊥) → Fault (verdict 10 0 c.inputs sizes.inputs) ≡ all
+  pub is_10 : (c.inputs ≡ sizes.inputs → ⊥) → Err (verdict 10 0 c.inputs sizes.inputs) ≡ all
   unfolding first_fault
   is_10 d = sym (in_order ∙ faulty _ _ _ (differ 10 c.inputs sizes.inputs d))
 
@@ -95,7 +93,7 @@ module _ (order : WordOrder) {c : Counts} {code nets regs : List ℕ} (h : Stage
     unfolding first_fault
     after-10 = in_order ∙ passed_on _ _ (agree 10 c.inputs sizes.inputs inputs)
 
-    pub is_11 : (c.outputs ≡ sizes.outputs → ⊥) → Fault (verdict 11 0 c.outputs sizes.outputs) ≡ all
+    pub is_11 : (c.outputs ≡ sizes.outputs → ⊥) → Err (verdict 11 0 c.outputs sizes.outputs) ≡ all
     unfolding first_fault
     is_11 d = sym (after-10 ∙ faulty _ _ _ (differ 11 c.outputs sizes.outputs d))
 
@@ -104,10 +102,10 @@ module _ (order : WordOrder) {c : Counts} {code nets regs : List ℕ} (h : Stage
       unfolding first_fault
       after-11 = after-10 ∙ passed_on _ _ (agree 11 c.outputs sizes.outputs outputs) ∙ then_later (looped raw ∷ wiring) later
 
-      pub is_wiring : {v : Verdict} → Fault v ≡ first_fault (looped raw ∷ wiring) → Fault v ≡ all
+      pub is_wiring : {v : Verdict} → Err v ≡ first_fault (looped raw ∷ wiring) → Err v ≡ all
       is_wiring {v} e = sym (after-11 ∙ faulty _ _ v (sym e))
 
-      module _ (none : Passed ≡ first_fault (looped raw ∷ wiring)) {after : List ℕ} (o : StageOrdered c after s) {old : Found}
+      module _ (none : Ok tt ≡ first_fault (looped raw ∷ wiring)) {after : List ℕ} (o : StageOrdered c after s) {old : Option ℕ}
           (is : old ≡ least (retired_at (stage_gates c after)) 0 c.gates) where
         after-wiring : all ≡ first_fault later
         after-wiring = after-11 ∙ passed_on _ _ (sym none)
@@ -118,11 +116,11 @@ module _ (order : WordOrder) {c : Counts} {code nets regs : List ℕ} (h : Stage
             is ∙ ap (least (retired_at (stage_gates c after)) 0) (sym (length_stage_gates c after))
             ∙ ap (λ (x : Stage). least (retired_at x.gates) 0 (length x.gates)) o.same
 
-        pub is_28 : (g : ℕ) → old ≡ At g → Fault (verdict 28 1 g 0) ≡ all
+        pub is_28 : (g : ℕ) → old ≡ Some g → Err (verdict 28 1 g 0) ≡ all
         unfolding first_fault
         is_28 g q = sym (after-wiring ∙ faulty _ _ _ (found_at (retired s) refl old least-old g q))
 
-        pub is_swept : old ≡ Nothing → {f : Finding} → f ≡ first_fault (word_checks order (stage_in c after) r) → f ≡ all
+        pub is_swept : old ≡ None → {f : Finding} → f ≡ first_fault (word_checks order (stage_in c after) r) → f ≡ all
         unfolding first_fault
         is_swept nothing q =
             q ∙ ap (λ (x : Stage). first_fault (word_checks order x r)) o.same

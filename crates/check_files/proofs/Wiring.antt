@@ -1,5 +1,6 @@
 -- Of a stage with registers: 12, which its gates by themselves tell; 33, 34 and 35; and where they find nothing the stage whose registers are wires.
 -- Assumes nothing.
+use Rattle.std.specs.Prelude.{Ok, Err}
 use Prim.Native.Nat.{ℕ, zero, suc, ◌+◌, ◌-◌, ◌*◌, ◌/◌, ◌≤◌, ◌<◌}
 use native.Mathlib.Omega.{arith}
 use mathlib.Core.Path.{◌≡◌, refl, sym, ap, ◌∙◌, subst, fun_ext}
@@ -11,8 +12,7 @@ use Rattle.netlist.specs.declared.Counts.{Counts}
 use Rattle.netlist.specs.Reading.{stage_limits, Within}
 use Rattle.netlist.specs.Content.{Gate, Stage}
 use Rattle.verdict.specs.declared.Verdict.{Verdict}
-use Rattle.verdict.specs.declared.Finding.{Finding}
-use Rattle.verdict.specs.declared.Finding.TheVariants.{Fault, Passed}
+use Rattle.verdict.specs.FourNumbers.{Finding}
 use Rattle.verdict.specs.Graph.{In, Leads, OnLoop}
 use Rattle.verdict.specs.Loops as loops
 use Rattle.verdict.specs.Loops.{pins_at, reaches_itself, LoopFree, NoLoop}
@@ -38,10 +38,10 @@ use Rattle.check_files.proofs.Findings.{passed_first, places_pass, places_none, 
 
 -- 12 finds nothing exactly if no gate reaches itself
 module _ (c : Counts) (code : List ℕ) where
-  pub free_of : finding (looped (stage_in c code)) ≡ Passed → LoopFree c.inputs (stage_gates c code)
+  pub free_of : finding (looped (stage_in c code)) ≡ Ok tt → LoopFree c.inputs (stage_gates c code)
   free_of e = places_pass 12 1 (length (stage_gates c code)) (reaches_itself c.inputs (stage_gates c code)) e
 
-  pub of_free : LoopFree c.inputs (stage_gates c code) → finding (looped (stage_in c code)) ≡ Passed
+  pub of_free : LoopFree c.inputs (stage_gates c code) → finding (looped (stage_in c code)) ≡ Ok tt
   of_free free = places_none 12 1 (length (stage_gates c code)) (reaches_itself c.inputs (stage_gates c code)) free
 
 -- a pipeline is loaded, with an order of its gates
@@ -79,11 +79,11 @@ module _ {c : Counts} {code nets regs : List ℕ} (h : RegistersHeld c code nets
           ∙ places_alike 12 1 c.gates (cut_loops p c code h.raw_loaded before cut bare-wired)
           ∙ ap (λ (m : ℕ). finding (check 12 1 (0 ∷ []) (numbers 0 m) (λ w. reaches_itself c.inputs (stage_gates c code)))) (sym (length_stage_gates c code))
 
-      pub loop-found : {v : Verdict} → Fault v ≡ finding (looped (stage_in b cut)) → Fault v ≡ first_fault (looped (stage_in c code) ∷ wiring_checks p)
+      pub loop-found : {v : Verdict} → Err v ≡ finding (looped (stage_in b cut)) → Err v ≡ first_fault (looped (stage_in c code) ∷ wiring_checks p)
       unfolding first_fault
       loop-found {v} e = sym (faulty _ _ v (sym cut_finds ∙ sym e))
 
-      pub loop_none : Passed ≡ finding (looped (stage_in b cut)) → finding (looped (stage_in c code)) ≡ Passed
+      pub loop_none : Ok tt ≡ finding (looped (stage_in b cut)) → finding (looped (stage_in c code)) ≡ Ok tt
       loop_none none = sym cut_finds ∙ sym none
 
       -- what 33, 34 and 35 ask
@@ -107,7 +107,7 @@ module _ {c : Counts} {code nets regs : List ℕ} (h : RegistersHeld c code nets
 -- ---- 33, 34 and 35
 
 module _ {c : Counts} {code order nets regs : List ℕ} {p : Pipeline} (l : LoadedAs c code order nets regs p) where
-  pub wiring_found : finding (looped (stage_in c code)) ≡ Passed → {f : Finding} → f ≡ first_fault (wiring_checks l.0.pipeline)
+  pub wiring_found : finding (looped (stage_in c code)) ≡ Ok tt → {f : Finding} → f ≡ first_fault (wiring_checks l.0.pipeline)
       → f ≡ first_fault (looped (stage_in c code) ∷ wiring_checks p)
   unfolding first_fault
   wiring_found none e = e ∙ ap (λ (p : Pipeline). first_fault (wiring_checks p)) l.1 ∙ sym (passed_on _ _ none)
@@ -123,11 +123,11 @@ module _ {c : Counts} {code order nets regs : List ℕ} {p : Pipeline} (l : Load
   connect_fits =
       let r = l.0.raw_loaded in (r.within, omega (arith, r.room), omega (arith, l.0.long, l.0.parts.all_nets_holds, l.0.parts.named.few))
 
-  module _ (found : Passed ≡ first_fault (looped (stage_in c code) ∷ wiring_checks p)) where
+  module _ (found : Ok tt ≡ first_fault (looped (stage_in c code) ∷ wiring_checks p)) where
     raw : RawLoaded p c code
     raw = rw l.1 at l.0.raw_loaded
 
-    both_none : (finding (looped (stage_in c code)) ≡ Passed) × (first_fault (wiring_checks p) ≡ Passed)
+    both_none : (finding (looped (stage_in c code)) ≡ Ok tt) × (first_fault (wiring_checks p) ≡ Ok tt)
     unfolding first_fault
     both_none = passed_first _ _ (sym found)
 
@@ -176,7 +176,7 @@ module _ {c : Counts} {code order nets regs : List ℕ} {p : Pipeline} (l : Load
           under false u = refl
 
       -- it has no loop, so 12 finds none there
-      wires_free : finding (looped (stage_in c code')) ≡ Passed
+      wires_free : finding (looped (stage_in c code')) ≡ Ok tt
       wires_free = of_free c code' (no_loop_loop_free c.inputs (stage_gates c code')
           (λ g h o. wired_no_loop p gates-free registers-forward (2 * c.inputs + g) (subst (λ (next : ℕ → List ℕ). OnLoop next (2 * c.inputs + g)) steps_wired o)))
 

@@ -1,5 +1,5 @@
 -- What the check leaves of two files: the verdict that refuses them, or both circuits, loaded.
-use Rattle.std.specs.Prelude.{ℕ, ◌≤◌, ◌≡◌, Bool, List}
+use Rattle.std.specs.Prelude.{ℕ, ◌≤◌, ◌≡◌, Bool, List, Result, Ok, Err}
 use Rattle.netlist.specs.declared.File.TheVariants as file
 use Rattle.netlist.specs.declared.Limits.{Limits}
 use Rattle.netlist.specs.declared.Counts.{Counts}
@@ -15,8 +15,7 @@ use Rattle.check_spec.specs.Loaded.{stage_view}
 use Rattle.circuit.specs.Stage.{stage_in}
 use Rattle.circuit.specs.Reference.{reference_in}
 use Rattle.check_word.specs.Loaded.{BothLoaded}
-use Rattle.check_files.specs.declared.Judgement.{Judgement}
-use Rattle.check_files.specs.declared.Judgement.TheVariants.{Refused, Accepted}
+use Rattle.check_files.specs.declared.Sizes.{Sizes}
 
 -- a file reads, and the circuit that was loaded is what it holds; in that of a stage file registers are wires
 pub record StageFrom (registers : Bool) (most : Limits) (s : List ℕ) (c : Counts) (code : List ℕ) : Type 0 where
@@ -35,11 +34,14 @@ pub record PairLoaded (f : Files) (c : Counts) (code : List ℕ) (sizes : Counts
   pub stage_from_holds : StageFrom f.registers f.stage_most f.stage c code
   pub reference_from : ReferenceFrom f.reference_most f.reference sizes reference
 
+abbrev pub Judgement : Type 0
+Judgement = Result Sizes Verdict
+
 abbrev pub verdict_of : Judgement → Verdict
-verdict_of (Refused v) = v
-verdict_of (Accepted c sizes) = accepted
+verdict_of (Err v) = v
+verdict_of (Ok sizes) = accepted
 
 pub record JudgedAs (order : WordOrder) (f : Files) (j : Judgement) (code reference : List ℕ) : Type 0 where
   pub verdict_is : verdict_of j ≡ verdict_on order f
-  pub refuses : (v : Verdict) → j ≡ Refused v → (1 ≤ v.number) × (v.file ≤ 2)
-  pub loaded : (c sizes : Counts) → j ≡ Accepted c sizes → PairLoaded f c code sizes reference
+  pub refuses : (v : Verdict) → j ≡ Err v → (1 ≤ v.number) × (v.file ≤ 2)
+  pub loaded : (sizes : Sizes) → j ≡ Ok sizes → PairLoaded f sizes.stage code sizes.reference reference

@@ -2,7 +2,7 @@
 // order. From 28 on they look at the stage whose registers are wires.
 #![tactic(auto)]
 
-ghost use Rattle.std.specs.Prelude.{◌≡◌, ◌∷◌, ◌+◌, ◌*◌, ◌/◌, ◌≤◌, length};
+ghost use Rattle.std.specs.Prelude.{◌≡◌, ◌∷◌, ◌+◌, ◌*◌, ◌/◌, ◌≤◌, length, Ok, Err};
 ghost use Rattle.netlist.specs.Reading.{stage_limits, reference_limits, NoMore, Within};
 ghost use Rattle.verdict.specs.Retired.{retired_at};
 ghost use Rattle.verdict.specs.Search.{least};
@@ -20,46 +20,39 @@ ghost use Rattle.check_word.specs.Loaded.{BothLoaded};
 ghost use Rattle.check_files.specs.Held.{StageHeld, Roomy, content_in, RegistersHeld, StageOrdered};
 ghost use Rattle.check_files.specs.Judgement.{verdict_of, JudgedAs};
 
-use netlist::{Counts, Found, Limits, Outcome};
-use verdict::{Finding, Verdict, WordOrder};
+use netlist::{Counts, Limits};
+use verdict::{Verdict, WordOrder};
 
-// What the check leaves of two files: the verdict on a pair that is refused, or the counts of the stage and of the reference.
+// The counts of the two files of a pair that is accepted.
 #[derive(Clone, Copy)]
-pub enum Judgement {
-    Refused(Verdict),
-    Accepted(Counts, Counts),
+pub struct Sizes {
+    pub stage: Counts,
+    pub reference: Counts,
 }
 
-// The least gate of a retired kind.
-fn least_retired(code: &[u16], counts: Counts) -> Found
+// The least gate of a retired kind. A `for` and not `search::least`, with which the edit `retired-past-last` would be refused by a goal's name alone.
+fn least_retired(code: &[u16], counts: Counts) -> Option<usize>
     requires { StageLoaded counts code.now }
     ensures { result ≡ least (retired_at (stage_gates counts code.now)) 0 counts.gates }
 {
-    let mut k: usize = 0;
-    while k < counts.gates {
+    for k in 0..counts.gates {
         if gates::is_retired(circuit::form::cell_of(code, counts, k)) {
-            return Found::At(k);
+            return Some(k);
         }
-        k += 1;
     }
-    Found::Nothing
+    None
 }
 
 // 12: the least gate that reaches itself. Where there is none, the code then holds an order of the gates.
-fn find_loop(code: &mut [u16], counts: Counts) -> Finding
+fn find_loop(code: &mut [u16], counts: Counts) -> Result<(), Verdict>
     requires { StageLoaded counts code.old }
     ensures found { result ≡ checks.finding (checks.looped (stage_in counts code.old)) }
-    ensures passed { result ≡ Finding.Passed → StageOrdered counts code.new (stage_in counts code.old) }
+    ensures passed { result ≡ Ok tt → StageOrdered counts code.new (stage_in counts code.old) }
 {
-    if let Found::At(g) = circuit_order::order_gates(code, counts) {
-        return Finding::Fault(Verdict {
-            number: 12,
-            file: 1,
-            at: g as u64,
-            word: 0,
-        });
+    if let Some(g) = circuit_order::order_gates(code, counts) {
+        return Err(Verdict::fault(12, 1, g));
     }
-    Finding::Passed
+    Ok(())
 }
 
 // The registers become wires: each pin and each output gets the net that its own comes from.
@@ -78,32 +71,38 @@ fn connect(code: &mut [u16], counts: Counts, nets: &mut [u16])
 
 // Of a stage with registers 12, which follows gates only, then 33, 34 and 35. Where they find nothing the code then holds the stage whose registers are
 // wires, with an order of its gates: that stage has no loop.
-fn wire_registers(code: &mut [u16], counts: Counts, nets: &mut [u16], regs: &[u16]) -> Finding
+fn wire_registers(
+    code: &mut [u16],
+    counts: Counts,
+    nets: &mut [u16],
+    regs: &[u16],
+) -> Result<(), Verdict>
     requires { RegistersHeld counts code.old nets.old regs.now }
     ensures found { (h : RegistersHeld counts code.old nets.old regs.now)
         → result ≡ checks.first_fault (checks.looped (stage_in counts code.old) ∷ wiring_checks h.pipeline) }
-    ensures passed { (h : RegistersHeld counts code.old nets.old regs.now) → result ≡ Finding.Passed
+    ensures passed { (h : RegistersHeld counts code.old nets.old regs.now) → result ≡ Ok tt
         → StageOrdered counts code.new (stage_by (resolve h.pipeline) (stage_in counts code.old)) }
 {
     let mut cut = [0u16; circuit::form::STAGE_CODE];
     let bare = circuit_wire::bare_counts(counts);
     circuit_wire::wire_stage(&nets[0..0], bare, code, &mut cut);
-    if let Finding::Fault(looped) = find_loop(&mut cut, bare) {
-        return Finding::Fault(looped);
-    }
-    if let Finding::Fault(wiring) = check_wiring::check_registers(code, &cut, counts, nets, regs) {
-        return Finding::Fault(wiring);
-    }
+    find_loop(&mut cut, bare)?;
+    check_wiring::check_registers(code, &cut, counts, nets, regs)?;
     connect(code, counts, nets);
     find_loop(code, counts)
 }
 
 // 12, then 33, 34 and 35 where there are registers. Where they find nothing the code then holds the wired stage, with an order of its gates.
-fn check_wires(code: &mut [u16], counts: Counts, nets: &mut [u16], regs: &[u16]) -> Finding
+fn check_wires(
+    code: &mut [u16],
+    counts: Counts,
+    nets: &mut [u16],
+    regs: &[u16],
+) -> Result<(), Verdict>
     requires { StageHeld counts code.old nets.old regs.now × Roomy nets.old regs.now }
     ensures found { (h : StageHeld counts code.old nets.old regs.now)
         → result ≡ checks.first_fault (checks.looped (stage_view (content_in h)) ∷ wiring_checks (pipeline_of (content_in h))) }
-    ensures passed { (h : StageHeld counts code.old nets.old regs.now) → result ≡ Finding.Passed
+    ensures passed { (h : StageHeld counts code.old nets.old regs.now) → result ≡ Ok tt
         → StageOrdered counts code.new (stage_view (wired (content_in h))) }
 {
     if counts.registers == 0 {
@@ -122,16 +121,16 @@ fn judge(
     regs: &[u16],
     reference: &[u16],
     sizes: Counts,
-) -> Finding
+) -> Result<(), Verdict>
     requires { StageHeld counts code.old nets.old regs.now × Roomy nets.old regs.now × ReferenceLoaded sizes reference.now }
     ensures found { (h : StageHeld counts code.old nets.old regs.now)
         → result ≡ checks.first_fault (checks.checks order (stage_view (content_in h)) (wiring_checks (pipeline_of (content_in h)))
         (stage_view (wired (content_in h))) (reference_in sizes reference.now)) }
-    ensures passed { (h : StageHeld counts code.old nets.old regs.now) → result ≡ Finding.Passed
+    ensures passed { (h : StageHeld counts code.old nets.old regs.now) → result ≡ Ok tt
         → BothLoaded counts code.new sizes reference.now × (stage_in counts code.new ≡ stage_view (wired (content_in h))) }
 {
     if counts.inputs != sizes.inputs {
-        return Finding::Fault(Verdict {
+        return Err(Verdict {
             number: 10,
             file: 0,
             at: counts.inputs as u64,
@@ -139,40 +138,18 @@ fn judge(
         });
     }
     if counts.outputs != sizes.outputs {
-        return Finding::Fault(Verdict {
+        return Err(Verdict {
             number: 11,
             file: 0,
             at: counts.outputs as u64,
             word: sizes.outputs as u64,
         });
     }
-    if let Finding::Fault(fault) = check_wires(code, counts, nets, regs) {
-        return Finding::Fault(fault);
-    }
-    if let Found::At(g) = least_retired(code, counts) {
-        return Finding::Fault(Verdict {
-            number: 28,
-            file: 1,
-            at: g as u64,
-            word: 0,
-        });
+    check_wires(code, counts, nets, regs)?;
+    if let Some(g) = least_retired(code, counts) {
+        return Err(Verdict::fault(28, 1, g));
     }
     check_words::sweep_all(order, code, counts, reference, sizes)
-}
-
-// The verdict of a judgement.
-fn verdict_of(judgement: Judgement) -> Verdict
-    ensures { result ≡ verdict_of judgement }
-{
-    match judgement {
-        Judgement::Refused(v) => v,
-        Judgement::Accepted(_, _) => Verdict {
-            number: 0,
-            file: 0,
-            at: 0,
-            word: 0,
-        },
-    }
 }
 
 // The check of a stage file, with registers or without, and a reference file, which are read within some limits, with words named in an order. The
@@ -186,7 +163,7 @@ pub fn check_loading(
     reference_most: Limits,
     code: &mut [u16],
     loaded: &mut [u16],
-) -> Judgement
+) -> Result<Sizes, Verdict>
     requires { NoMore stage_most stage_limits × NoMore reference_most reference_limits
         × (largest_stage ≤ length code.old) × (largest_reference ≤ length loaded.old) }
     ensures { JudgedAs order (files_within registers stage_most reference_most stage.now reference.now) result
@@ -194,32 +171,21 @@ pub fn check_loading(
 {
     let mut nets = [0u16; circuit_load::NETS_CODE];
     let mut regs = [0u16; circuit_load::REGISTERS_CODE];
-    match circuit_load::read_pipeline_within(
+    let counts = match circuit_load::read_pipeline_within(
         registers, stage, stage_most, code, &mut nets, &mut regs,
     ) {
-        Outcome::Refused { number, at } => Judgement::Refused(Verdict {
-            number: number as u64,
-            file: 1,
-            at: at as u64,
-            word: 0,
-        }),
-        Outcome::Readable(counts) => {
-            match circuit_load::read_reference_within(reference, reference_most, loaded) {
-                Outcome::Refused { number, at } => Judgement::Refused(Verdict {
-                    number: number as u64,
-                    file: 2,
-                    at: at as u64,
-                    word: 0,
-                }),
-                Outcome::Readable(sizes) => match judge(
-                    order, code, counts, &mut nets, &regs, loaded, sizes,
-                ) {
-                    Finding::Fault(v) => Judgement::Refused(v),
-                    Finding::Passed => Judgement::Accepted(counts, sizes),
-                },
-            }
-        }
-    }
+        Ok(counts) => counts,
+        Err(refusal) => return Err(Verdict::unreadable(1, refusal)),
+    };
+    let sizes = match circuit_load::read_reference_within(reference, reference_most, loaded) {
+        Ok(sizes) => sizes,
+        Err(refusal) => return Err(Verdict::unreadable(2, refusal)),
+    };
+    judge(order, code, counts, &mut nets, &regs, loaded, sizes)?;
+    Ok(Sizes {
+        stage: counts,
+        reference: sizes,
+    })
 }
 
 // The verdict on a stage file, with registers or without, and a reference file, with words named in an order.
@@ -228,7 +194,7 @@ pub fn verdict_on(order: WordOrder, registers: bool, stage: &[u8], reference: &[
 {
     let mut code = [0u16; circuit::form::STAGE_CODE];
     let mut loaded = [0u16; circuit::form::REFERENCE_CODE];
-    verdict_of(check_loading(
+    match check_loading(
         order,
         registers,
         stage,
@@ -237,7 +203,10 @@ pub fn verdict_on(order: WordOrder, registers: bool, stage: &[u8], reference: &[
         netlist::reference_limits(),
         &mut code,
         &mut loaded,
-    ))
+    ) {
+        Ok(_) => Verdict::accepted(),
+        Err(verdict) => verdict,
+    }
 }
 
 // The check of a stage file and a reference file, with words named in an order. This call alone reads registers.

@@ -18,7 +18,8 @@ use netlist::Counts;
 
 // ---- from net to net
 
-// What leads to a net: a row of an input or of a gate holds it, and a rail of a register is that register by itself.
+// What leads to a net: a row of an input or of a gate holds it, and a rail of a register is that register by itself. The sort of a net is a number, since
+// the table of the nets is one (fixed memory); 1 is a rail (`is_rail`).
 fn set_at(rails: &[u16], first: usize, sets: &[u64], net: u16) -> u64
     requires { RailsIn rails.now × (first ≤ length sets.now) }
     ensures { SetOf rails.now first sets.now (net ∷ []) result }
@@ -59,11 +60,9 @@ fn gather(rails: &[u16], order: &[u16], raw: &[u16], counts: Counts, sets: &mut 
 {
     let inputs = 2 * counts.inputs;
     let first = inputs + counts.gates;
-    let mut i: usize = 0;
-    while i < counts.gates {
+    for i in 0..counts.gates {
         let k = order[8 * i + 5] as usize;
         sets[inputs + k] = pin_sets(rails, first, sets, raw, k);
-        i += 1;
     }
 }
 
@@ -96,10 +95,8 @@ pub fn gather_sources(
 {
     gather(rails, order, raw, counts, sets);
     let first = 2 * counts.inputs + counts.gates;
-    let mut t: usize = 0;
-    while t < sources.len() {
-        sources[t] = data_sets(rails, first, sets, regs, t);
-        t += 1;
+    for (t, all) in sources.iter_mut().enumerate() {
+        *all = data_sets(rails, first, sets, regs, t);
     }
 }
 
@@ -114,7 +111,7 @@ pub fn is_source(sources: &[u64], k: usize, t: usize) -> bool
     rest % 2 == 1
 }
 
-// A register's sources, with those of another where these are to be added.
+// A register's sources, with those of another where these are to be added: sets of registers are numbers of 64 bits, with no heap.
 pub fn joined(own: u64, other: u64, add: bool) -> u64
     ensures { result ≡ cond add (bit_or own other) own }
 {
@@ -130,11 +127,9 @@ fn close_through(sources: &mut [u64], j: usize)
     ensures { Through sources.old j (length sources.old) sources.new }
 {
     let through = sources[j];
-    let mut t: usize = 0;
-    while t < sources.len() {
+    for t in 0..sources.len() {
         let add = is_source(sources, j, t);
         sources[t] = joined(sources[t], through, add);
-        t += 1;
     }
 }
 
@@ -143,10 +138,8 @@ pub fn close(sources: &mut [u64])
     requires { length sources.old ≤ 64 }
     ensures { (p : Pipeline) → SourcesOf p sources.old → ComesFrom p sources.new }
 {
-    let mut j: usize = 0;
-    while j < sources.len() {
+    for j in 0..sources.len() {
         close_through(sources, j);
-        j += 1;
     }
 }
 
@@ -158,14 +151,12 @@ fn raise(sources: &[u64], known: u64, level: u8, levels: &mut [u8]) -> u64
     ensures { RaisedTo sources.now known level levels.old levels.new result (length levels.old) }
 {
     let mut next: u64 = 0;
-    let mut t: usize = 0;
-    while t < levels.len() {
+    for t in 0..levels.len() {
         if sources[t] & (sources[t] ^ known) == 0 {
-            next = next | 1 << t;
+            next |= 1 << t;
         } else {
             levels[t] = level;
         }
-        t += 1;
     }
     next
 }
@@ -180,9 +171,7 @@ pub fn level_registers(sources: &[u64], levels: &mut [u8])
 {
     let count = levels.len();
     let mut known: u64 = 0;
-    let mut round: usize = 0;
-    while round < count {
+    for round in 0..count {
         known = raise(sources, known, (round + 2) as u8, levels);
-        round += 1;
     }
 }

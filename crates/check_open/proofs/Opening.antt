@@ -4,12 +4,12 @@ use Prim.Native.Nat.{ℕ, zero, suc, ◌+◌, ◌*◌, ◌-◌, ◌≤◌, ◌<�
 use native.Mathlib.Omega.{arith}
 use native.Mathlib.Decide.{ℕ_discrete, dec_lt}
 use mathlib.Core.Path.{◌≡◌, refl, sym, ap, ◌∙◌, subst}
-use mathlib.Core.Bool.{Bool, true, false, cond, ◌||◌}
+use mathlib.Core.Bool.{Bool, true, false, ◌||◌}
 use mathlib.Core.Logic.{inl, inr}
 use mathlib.Core.List.{List, [], ◌∷◌}
 use lib.ListN.{length, get_or, set, drop, length-set, get_or-eq_default}
 use lib.Seq.{get_or-set_same, get_or-set_other}
-use lib.Dec.{eqb}
+use Rattle.std.specs.Prelude.{Option, Some, None}
 use lib.Bits.{bit_or}
 use borrow.Author.Tests.{lt-ltb, le-ltb}
 use Rattle.lane_cells.specs.Lane.{lane}
@@ -20,7 +20,7 @@ use Rattle.wiring_spec.proofs.Gathering.{gathers_none, gathers_more, gathers_ste
 use Rattle.verdict.specs.Paths.{In}
 use Rattle.circuit_place.specs.Placing.{place, four}
 use Rattle.check_open.specs.declared.Behind.{Behind}
-use Rattle.check_open.specs.Opening.{pins, own_ko, own_data, Own, ToldOf, Told, remembered, Table}
+use Rattle.check_open.specs.Opening.{pins, own_ko, own_data, Own, ToldOf, Told, Table}
 
 or-false : (b : Bool) → (b || false) ≡ b
 or-false true = refl
@@ -57,7 +57,7 @@ own_told nets first x b e o =
 
 -- ---- a C-element with a place
 
-module _ (nets : List ℕ) (first : ℕ) (kos known : List ℕ) (w : Table nets first kos known) (x : ℕ) (d : ¬ (place nets first x ≡ 0)) where
+module _ (nets : List ℕ) (first : ℕ) (met : List (Option Behind)) (w : Table nets first met) (x : ℕ) (d : ¬ (place nets first x ≡ 0)) where
   pub after_gates : first ≤ x
   unfolding place
   after_gates = go (dec_lt x first)
@@ -74,10 +74,10 @@ module _ (nets : List ℕ) (first : ℕ) (kos known : List ℕ) (w : Table nets 
   positive zero n = absurd (n refl)
   positive (suc k) n = omega arith
 
-  pub row_in : x - first < length kos
-  row_in = go (dec_lt (x - first) (length kos))
+  pub row_in : x - first < length met
+  row_in = go (dec_lt (x - first) (length met))
     where
-      go : Dec (x - first < length kos) → x - first < length kos
+      go : Dec (x - first < length met) → x - first < length met
       go (yes l) = l
       go (no l) = absurd (d (place-slot ∙ get_or-eq_default nets 0 (omega (arith, w.rows))))
 
@@ -105,8 +105,8 @@ module _ (nets : List ℕ) (first : ℕ) (kos known : List ℕ) (w : Table nets 
         (gathers_step (pins nets first) (own_data nets first) x b.other (rw pins-four h.of_other));
   }
 
-  pub known_told : 0 < get_or known (x - first) 0 → Told nets first x (remembered kos known (x - first))
-  known_told h = let z : first + (x - first) ≡ x = omega (arith, after_gates) in subst (λ (y : ℕ). Told nets first y (remembered kos known (x - first))) z (w.right (x - first) h)
+  pub known_told : (b : Behind) → get_or met (x - first) None ≡ Some b → Told nets first x b
+  known_told b e = let z : first + (x - first) ≡ x = omega (arith, after_gates) in subst (λ (y : ℕ). Told nets first y b) z (w.right (x - first) b e)
 
   pin_at : (j : ℕ) → j < 4 → drop j (four nets (8 * (x - first) + 1)) ≡ slot nets (x - first) (1 + j) ∷ drop (suc j) (four nets (8 * (x - first) + 1))
   pin_at j h = go j h
@@ -138,38 +138,19 @@ module _ (nets : List ℕ) (first : ℕ) (kos known : List ℕ) (w : Table nets 
       in_four j h = in_drop j (four nets (8 * (x - first) + 1)) _ (subst (In (slot nets (x - first) (1 + j))) (sym (pin_at j h)) (inl refl))
 
   -- what was found is remembered
-  pub remembers : (b : Behind) → Told nets first x b → Table nets first (set kos (x - first) b.kos) (set known (x - first) (cond b.other 2 1))
+  pub remembers : (b : Behind) → Told nets first x b → Table nets first (set met (x - first) (Some b))
   remembers b told = record {
-    rows = w.rows ∙ ap (λ (n : ℕ). 8 * n) (sym (length-set kos (x - first) b.kos));
-    marks = length-set known (x - first) (cond b.other 2 1) ∙ w.marks ∙ sym (length-set kos (x - first) b.kos);
+    rows = w.rows ∙ ap (λ (n : ℕ). 8 * n) (sym (length-set met (x - first) (Some b)));
     ko_in = w.ko_in;
     others = w.others;
     falls = w.falls;
-    right = λ i h. go i h (ℕ_discrete i (x - first));
+    right = λ i r h. go i r h (ℕ_discrete i (x - first));
   }
     where
-      kos' : List ℕ
-      kos' = set kos (x - first) b.kos
-
-      known' : List ℕ
-      known' = set known (x - first) (cond b.other 2 1)
-
-      two : (c : Bool) → eqb (cond c 2 1) 2 ≡ c
-      two true = refl
-      two false = refl
-
-      here_is : remembered kos' known' (x - first) ≡ b
-      here_is = λ i. record {
-        kos = get_or-set_same kos (x - first) b.kos 0 row_in i;
-        other = (ap (λ (m : ℕ). eqb m 2) (get_or-set_same known (x - first) (cond b.other 2 1) 0 (omega (arith, w.marks, row_in))) ∙ two b.other) i;
-      }
-
-      go : (i : ℕ) → 0 < get_or known' i 0 → Dec (i ≡ x - first) → Told nets first (first + i) (remembered kos' known' i)
-      go i h (yes e) =
+      go : (i : ℕ) (r : Behind) → get_or (set met (x - first) (Some b)) i None ≡ Some r → Dec (i ≡ x - first) → Told nets first (first + i) r
+      go i r h (yes e) =
           let z : first + i ≡ x = omega (arith, after_gates) in
-          let q : remembered kos' known' i ≡ b = ap (remembered kos' known') e ∙ here_is in
-          rw (z, q) told
-      go i h (no n) =
-          let k = get_or-set_other kos (x - first) i b.kos 0 n in
-          let m = get_or-set_other known (x - first) i (cond b.other 2 1) 0 n in
-          subst (Told nets first (first + i)) (λ l. record { kos = sym k l; other = eqb (sym m l) 2 }) (w.right i (omega (arith, m)))
+          let s : Some b ≡ Some r = sym (get_or-set_same met (x - first) (Some b) None row_in) ∙ ap (λ (k : ℕ). get_or (set met (x - first) (Some b)) k None) (sym e) ∙ h in
+          let q : b ≡ r = cc in
+          rw z (subst (Told nets first x) q told)
+      go i r h (no n) = w.right i r (sym (get_or-set_other met (x - first) i (Some b) None n) ∙ h)

@@ -6,6 +6,7 @@ use native.Mathlib.Decide.{dec_lt}
 use mathlib.Core.Path.{◌≡◌, refl, sym, ap, ◌∙◌, subst}
 use mathlib.Core.Bool.{Bool, true, false}
 use mathlib.Core.Logic.{inl, inr}
+use Rattle.std.specs.Prelude.{Option, None}
 use mathlib.Core.List.{List, [], ◌∷◌}
 use lib.ListN.{length, get_or, get_or-eq_default}
 use borrow.Author.Tests.{lt-ltb, le-ltb}
@@ -108,17 +109,16 @@ module _ (p : Pipeline) (first count : ℕ) (nets regs : List ℕ) (loaded : Par
         go (suc n) e = omega arith
 
     -- the table, of which nothing is known yet
-    pub table_of : (kos known : List ℕ) → length kos ≡ count → length known ≡ count → ((i : ℕ) → get_or known i 0 ≡ 0) → Table nets first kos known
-    table_of kos known a b none = record {
+    pub table_of : (met : List (Option Behind)) → length met ≡ count → ((i : ℕ) → get_or met i None ≡ None) → Table nets first met
+    table_of met a none = record {
       rows = long ∙ ap (λ (n : ℕ). 8 * n) (sym a);
-      marks = b ∙ sym a;
       ko_in = λ i e. ko i e (dec_lt i count);
       others = λ i h. sort i h (dec_lt i count);
       falls = λ x y i.
           let h = step_place x y i in
           let q = has_place x h in
           omega (arith, at_slot x q.low, (w.placing.order (x - first) q.top (omega (arith, at_slot x q.low))).falls y (subst (In y) (pins_of x h) i));
-      right = λ i h. absurd (omega (arith, none i));
+      right = λ i b h. let q = sym (none i) ∙ h in cc;
     }
       where
         sort : (i : ℕ) → 0 < slot nets i 5 → Dec (i < count) → slot nets i 0 ≡ 3

@@ -1,5 +1,6 @@
 -- Opening the C-elements behind a Ki in the table of the nets after the gates: what stands behind a net, and what is known of that already.
 use Rattle.std.specs.Prelude.{ℕ, ◌+◌, ◌*◌, ◌-◌, ◌<◌, ◌≡◌, Bool, true, false, cond, ◌&&◌, List, [], ◌∷◌, length, get_or, eqb, ltb}
+use Rattle.std.specs.Prelude.{Option, Some, None}
 use Rattle.verdict.specs.Paths.{In}
 use Rattle.lane_cells.specs.Lane.{lane}
 use Rattle.wiring_spec.specs.Tables.{slot}
@@ -10,6 +11,10 @@ use Rattle.check_open.specs.declared.Behind.{Behind}
 -- the numbers at the pins of a C-element that has a place; none for another net
 unfoldable pub pins : List ℕ → ℕ → ℕ → List ℕ
 pins nets first x = cond (ltb 0 (place nets first x)) (four nets (8 * (x - first) + 1)) []
+
+-- behind nothing, nothing stands
+abbrev pub nothing_behind : Behind
+nothing_behind = record { kos = 0; other = false }
 
 -- what a net is by itself: the Ko of register t; or one that carries data
 unfoldable pub own_ko : List ℕ → ℕ → ℕ → ℕ → Bool
@@ -31,21 +36,16 @@ pub record ToldOf (nets : List ℕ) (first : ℕ) (xs : List ℕ) (b : Behind) :
 abbrev pub Told : List ℕ → ℕ → ℕ → Behind → Type 0
 Told nets first x b = ToldOf nets first (x ∷ []) b
 
--- a mark says whether a net was opened: 0 not yet, 1 it was, 2 it was and a net that carries data stands behind it
-abbrev pub remembered : List ℕ → List ℕ → ℕ → Behind
-remembered kos known i = record { kos = get_or kos i 0; other = eqb (get_or known i 0) 2 }
-
--- the table with its order, and what is known of it
-pub record Table (nets : List ℕ) (first : ℕ) (kos known : List ℕ) : Type 0 where
-  pub rows : length nets ≡ 8 * length kos
-  pub marks : length known ≡ length kos
+-- the table with its order, and what was found of each C-element that was opened
+pub record Table (nets : List ℕ) (first : ℕ) (met : List (Option Behind)) : Type 0 where
+  pub rows : length nets ≡ 8 * length met
   pub ko_in : (i : ℕ) → slot nets i 0 ≡ 2 → slot nets i 6 < 64
   pub others : (i : ℕ) → 0 < slot nets i 5 → slot nets i 0 ≡ 3
   pub falls : (x y : ℕ) → In y (pins nets first x) → place nets first y < place nets first x
-  pub right : (i : ℕ) → 0 < get_or known i 0 → Told nets first (first + i) (remembered kos known i)
+  pub right : (i : ℕ) (b : Behind) → get_or met i None ≡ Some b → Told nets first (first + i) b
 
 -- what opening a net answers and leaves
-pub record Opened (nets : List ℕ) (first x : ℕ) (b : Behind) (long : ℕ) (kos known : List ℕ) : Type 0 where
+pub record Opened (nets : List ℕ) (first x : ℕ) (b : Behind) (long : ℕ) (met : List (Option Behind)) : Type 0 where
   pub told : Told nets first x b
-  pub kos_long : length kos ≡ long
-  pub table : Table nets first kos known
+  pub met_long : length met ≡ long
+  pub table : Table nets first met

@@ -5,7 +5,7 @@ ghost use Rattle.std.specs.Prelude.{◌≡◌, cond, ◌||◌, ℕ, ◌+◌, ◌
 ghost use Rattle.std.specs.Int.Bits.{bit_or};
 ghost use Rattle.wiring_spec.specs.Tables.{slot};
 ghost use Rattle.circuit_place.specs.Placing.{place};
-ghost use Rattle.check_open.specs.Opening.{Own, remembered, Table, Opened};
+ghost use Rattle.check_open.specs.Opening.{Own, Table, Opened};
 
 // What stands behind a net: the registers whose Ko is there, bit t for register t, and whether a net that carries data is.
 #[derive(Clone, Copy)]
@@ -14,7 +14,7 @@ pub struct Behind {
     pub other: bool,
 }
 
-// The place of a net's C-element in the order, 0 for a net of another sort.
+// The place of a net's C-element in the order, 0 for a net of another sort: a number, as the table of the nets holds it and the definition `place` says.
 fn place_of(nets: &[u16], first: usize, x: usize) -> u16
     requires { length nets.now % 8 ≡ 0 }
     ensures { result ≡ place nets.now first x }
@@ -75,39 +75,6 @@ fn joined(a: Behind, b: Behind) -> Behind
     }
 }
 
-// What is known of the net of a row.
-fn is_known(known: &[u8], i: usize) -> bool
-    requires { i < length known.now }
-    ensures { result ≡ ltb 0 (get_or known.now i 0) }
-{
-    0 < known[i]
-}
-
-fn recall(kos: &[u64], known: &[u8], i: usize) -> Behind
-    requires { (i < length kos.now) × (i < length known.now) }
-    ensures { result ≡ remembered kos.now known.now i }
-{
-    Behind {
-        kos: kos[i],
-        other: known[i] == 2,
-    }
-}
-
-fn mark_of(other: bool) -> u8
-    ensures { result ≡ cond other 2 1 }
-{
-    if other { 2 } else { 1 }
-}
-
-pub fn remember(kos: &mut [u64], known: &mut [u8], i: usize, all: Behind)
-    requires { (i < length kos.old) × (i < length known.old) }
-    ensures kos { kos.new ≡ set kos.old i all.kos }
-    ensures known { known.new ≡ set known.old i (cond all.other 2 1) }
-{
-    kos[i] = all.kos;
-    known[i] = mark_of(all.other);
-}
-
 // The number at pin j of the C-element of a row.
 fn pin_at(nets: &[u16], i: usize, j: usize) -> u16
     requires { (8 * i + 8 ≤ length nets.now) × (j < 4) }
@@ -116,30 +83,28 @@ fn pin_at(nets: &[u16], i: usize, j: usize) -> u16
     nets[8 * i + (1 + j)]
 }
 
-// A C-element behind a Ki is opened, and those at its pins again, until only other nets remain. What is known of one is not looked for again. A number past
-// the nets names none.
-pub fn open_net(nets: &[u16], first: usize, net: u16, kos: &mut [u64], known: &mut [u8]) -> Behind
-    requires { Table nets.now first kos.old known.old }
-    ensures { Opened nets.now first net result (length kos.old) kos.new known.new }
+// A C-element behind a Ki is opened, and those at its pins again, until only other nets remain. What was found of one, in `met`, is not looked for again. A
+// number past the nets names none.
+pub fn open_net(nets: &[u16], first: usize, net: u16, met: &mut [Option<Behind>]) -> Behind
+    requires { Table nets.now first met.old }
+    ensures { Opened nets.now first net result (length met.old) met.new }
 {
     let x = net as usize;
     if place_of(nets, first, x) == 0 {
         return own(nets, first, x);
     }
     let i = x - first;
-    if is_known(known, i) {
-        return recall(kos, known, i);
+    if let Some(all) = met[i] {
+        return all;
     }
     let mut all = Behind {
         kos: 0,
         other: false,
     };
-    let mut j: usize = 4;
-    while 0 < j {
-        j -= 1;
-        let pin = open_net(nets, first, pin_at(nets, i, j), kos, known);
+    for j in (0..4).rev() {
+        let pin = open_net(nets, first, pin_at(nets, i, j), met);
         all = joined(pin, all);
     }
-    remember(kos, known, i, all);
+    met[i] = Some(all);
     all
 }

@@ -25,7 +25,9 @@ use Rattle.wiring_spec.specs.Named.{carries_data}
 use Rattle.wiring_spec.proofs.Nets.{never, net_where, data_net, Stands, stands}
 use Rattle.wiring_spec.proofs.Passing.{reaches_sound, source_inside, behind_sound, behind_complete, ko_sound, ko_complete}
 use Rattle.check_levels.specs.Graph.{source_in, SourcesOf}
-use Rattle.check_rules.specs.Known.{InputsOf, LevelsOf, KosOf, OthersOf}
+use Rattle.check_open.specs.declared.Behind.{Behind as Standing}
+use Rattle.check_open.specs.Opening.{nothing_behind}
+use Rattle.check_rules.specs.Known.{InputsOf, LevelsOf, BehindOf}
 use Rattle.check_rules.specs.Rules.{SetTo, lacking}
 use Rattle.check_rules.proofs.Sets.{together, set_in_holds, set_out, set_empty, lacking_some}
 
@@ -177,11 +179,11 @@ module _ (p : Pipeline) (table : List ℕ) (of : SourcesOf p table) (small : len
         go (yes q) = rw (of.long, lt-ltb i m q) (of.each k i (omega arith) q)
         go (no q) = rw (of.long, le-ltb i m (omega arith))
 
-    pub missing_told : (kos : List ℕ) → KosOf p kos → lacking (get_or kos k 0) reached ≡ missing p k
+    pub missing_told : (found : List Standing) → BehindOf p found → lacking (get_or found k nothing_behind).kos reached ≡ missing p k
     unfolding missing
-    missing_told kos kos_of =
-        lacking_some (get_or kos k 0) reached m (λ t. reaches p k t && not (ko_behind p k t)) few
-        (λ t l. ap₂ (λ (a b : Bool). a && not b) (set_in_holds (reaches p k) m reached few reached_set t l) (kos_of k t inside (omega (arith, few))))
+    missing_told found stands_of =
+        lacking_some (get_or found k nothing_behind).kos reached m (λ t. reaches p k t && not (ko_behind p k t)) few
+        (λ t l. ap₂ (λ (a b : Bool). a && not b) (set_in_holds (reaches p k) m reached few reached_set t l) (stands_of.kos_of k t inside (omega (arith, few))))
         (set_out (reaches p k) m reached few reached_set)
 
     module _ (fits : reached < 2 ^ 64) where
@@ -200,17 +202,17 @@ module _ (p : Pipeline) (table : List ℕ) (of : SourcesOf p table) (small : len
       barred_alone ki e z = rw (reached_none z, e)
 
       -- where it reaches some
-      module _ (others : List ℕ) (others_of : OthersOf p others) (d : ¬ (reached ≡ 0)) where
-        pub barred_data : get_or others k 0 ≡ 2 → true ≡ barred p k
+      module _ (found : List Standing) (stands_of : BehindOf p found) (d : ¬ (reached ≡ 0)) where
+        pub barred_data : (get_or found k nothing_behind).other ≡ true → true ≡ barred p k
         unfolding barred
-        barred_data e = rw (reached_some d, bars_split p k, sym (others_of k inside) ∙ eq-eqb (get_or others k 0) 2 e)
+        barred_data e = rw (reached_some d, bars_split p k, sym (stands_of.others_of k inside) ∙ e)
 
-        pub barred_told : (levels kos : List ℕ) → LevelsOf p levels → KosOf p kos → length levels ≡ length table → ¬ (get_or others k 0 ≡ 2) → (next : ℕ)
-            → SetTo (λ t. eqb (get_or levels t 0) (get_or levels k 0 + 1)) (length levels) next → lacking (bit_or reached next) (get_or kos k 0) ≡ barred p k
+        pub barred_told : (levels : List ℕ) → LevelsOf p levels → length levels ≡ length table → (get_or found k nothing_behind).other ≡ false → (next : ℕ)
+            → SetTo (λ t. eqb (get_or levels t 0) (get_or levels k 0 + 1)) (length levels) next → lacking (bit_or reached next) (get_or found k nothing_behind).kos ≡ barred p k
         unfolding barred foreign
-        barred_told levels kos level-is kos_of long n next w =
-            rw (reached_some d, bars_split p k, sym (others_of k inside) ∙ ne_eqb (get_or others k 0) 2 n)
-            (lacking_some (bit_or reached next) (get_or kos k 0) m (strange p k) few at (λ t l l64. kos_of k t inside l64 ∙ no_ko p k t l))
+        barred_told levels level-is long n next w =
+            rw (reached_some d, bars_split p k, sym (stands_of.others_of k inside) ∙ n)
+            (lacking_some (bit_or reached next) (get_or found k nothing_behind).kos m (strange p k) few at (λ t l l64. stands_of.kos_of k t inside l64 ∙ no_ko p k t l))
           where
             neither : (a b : Bool) → not (a || b) ≡ (not a && not b)
             neither true b = refl
@@ -221,8 +223,8 @@ module _ (p : Pipeline) (table : List ℕ) (of : SourcesOf p table) (small : len
                 let e : get_or levels k 0 + 1 ≡ suc (level p k) = omega (arith, level-is k inside) in
                 level_in levels level-is long (get_or levels k 0 + 1) next w t l ∙ ap (eqb (level p t)) e
 
-            at : (t : ℕ) → t < m → (lane t (get_or kos k 0) && not (lane t (bit_or reached next))) ≡ strange p k t
+            at : (t : ℕ) → t < m → (lane t (get_or found k nothing_behind).kos && not (lane t (bit_or reached next))) ≡ strange p k t
             at t l =
-                ap₂ (λ (a b : Bool). a && b) (kos_of k t inside (omega (arith, few)))
+                ap₂ (λ (a b : Bool). a && b) (stands_of.kos_of k t inside (omega (arith, few)))
                 (ap not (lane_or t reached next) ∙ neither (lane t reached) (lane t next)
                 ∙ ap₂ (λ (a b : Bool). not a && not b) (set_in_holds (reaches p k) m reached few reached_set t l) (after t l))

@@ -6,8 +6,6 @@ use Rattle.lane_cells.specs.Lane.{lane}
 use Rattle.wiring_spec.specs.Parts.{Pipeline}
 use Rattle.wiring_spec.specs.Wiring.{uneven, missing, barred}
 use Rattle.wiring_spec.specs.Table.{of_registers}
-use Rattle.check_rules.specs.declared.Rule.{Rule}
-use Rattle.check_rules.specs.declared.Rule.TheVariants.{Uneven, Missing, Barred}
 
 -- a number is the set of those registers before t that pass a test
 abbrev pub SetTo : (ℕ → Bool) → ℕ → ℕ → Type 0
@@ -16,12 +14,6 @@ SetTo test t set = (i : ℕ) → i < 64 → lane i set ≡ cond (ltb i t) (test 
 -- some of `few` are not in `all`
 abbrev pub lacking : ℕ → ℕ → Bool
 lacking all few = some (λ i. lane i few && not (lane i all)) (numbers 0 64)
-
--- register k breaks a rule
-unfoldable pub fails_at : Rule → Pipeline → ℕ → Bool
-fails_at Uneven = uneven
-fails_at Missing = missing
-fails_at Barred = barred
 
 -- the checks after the first pass of 33
 abbrev pub later_checks : Pipeline → List Check

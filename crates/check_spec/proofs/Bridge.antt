@@ -1,5 +1,6 @@
 -- The verdict as the first failing case is the one that the code finds, check by check: the law that joins the definitions with those of the code.
 -- Assumes nothing.
+use Rattle.std.specs.Prelude.{Option, Some, None, Ok, Err}
 use Prim.Native.Nat.{ℕ, zero, suc, ◌+◌, ◌-◌, ◌*◌, ◌^◌, ◌≤◌, ◌<◌}
 use native.Mathlib.Omega.{arith}
 use mathlib.Core.Path.{◌≡◌, refl, sym, ap, ap₂, ◌∙◌, subst, fun_ext}
@@ -13,15 +14,12 @@ use Rattle.runs.specs.Row.{Row}
 use Rattle.runs.specs.Theory.{AllHold}
 use Rattle.runs.specs.Net.{nets}
 use Rattle.runs.proofs.Test.{clash, not-true}
-use Rattle.netlist.specs.declared.Found.{Found}
-use Rattle.netlist.specs.declared.Found.TheVariants.{At, Nothing}
 use Rattle.netlist.specs.Reading.{Ascending}
 use Rattle.netlist.specs.Content as parsed
 use Rattle.netlist.specs.Content.{Coded, gate_of}
 use Rattle.verdict.specs.declared.Verdict.{Verdict}
 use Rattle.verdict.specs.declared.WordOrder.{WordOrder}
-use Rattle.verdict.specs.declared.Finding.{Finding}
-use Rattle.verdict.specs.declared.Finding.TheVariants.{Fault, Passed}
+use Rattle.verdict.specs.FourNumbers.{Finding}
 use Rattle.verdict.specs.Graph.{In, OnLoop}
 use Rattle.verdict.specs.Rows as levels
 use Rattle.verdict.specs.Loops as loops
@@ -57,13 +55,13 @@ use Rattle.check_spec.proofs.Rising.{never_low, low_never}
 
 -- ---- a sweep finds what its cases say
 
-abbrev found_or : ℕ → ℕ → ℕ → Found → Verdict → Verdict
-found_or number file w (At i) later = verdict number file i w
-found_or number file w Nothing later = later
+abbrev found_or : ℕ → ℕ → ℕ → Option ℕ → Verdict → Verdict
+found_or number file w (Some i) later = verdict number file i w
+found_or number file w None later = later
 
 abbrev pub fault_or : Finding → Verdict → Verdict
-fault_or (Fault v) later = v
-fault_or Passed later = later
+fault_or (Err v) later = v
+fault_or (Ok _) later = later
 
 module _ (number file : ℕ) (places : List ℕ) where
   places_is : (w : ℕ) (test test' : ℕ → Bool) (is : List ℕ) → ((i : ℕ) → In i is → test i ≡ test' i) → (later : Verdict)
@@ -74,14 +72,14 @@ module _ (number file : ℕ) (places : List ℕ) where
       rw (same i (inl refl)) (go (test' i) (places_is w test test' is (λ k x. same k (inr x)) later))
     where
       go : (b : Bool) → first (map (λ i. case number file i w (test i)) is) later ≡ found_or number file w (found.first test' is) later
-          → cond b (verdict number file i w) (first (map (λ i. case number file i w (test i)) is) later) ≡ found_or number file w (cond b (At i) (found.first test' is)) later
+          → cond b (verdict number file i w) (first (map (λ i. case number file i w (test i)) is) later) ≡ found_or number file w (cond b (Some i) (found.first test' is)) later
       go true r = refl
       go false r = r
 
-  found-fault : (w : ℕ) (x : Found) (f : Finding) (later : Verdict) → found_or number file w x (fault_or f later) ≡ fault_or (found.at_fault number file w x f) later
+  found-fault : (w : ℕ) (x : Option ℕ) (f : Finding) (later : Verdict) → found_or number file w x (fault_or f later) ≡ fault_or (found.at_fault number file w x f) later
   unfolding found.at_fault
-  found-fault w (At i) f later = refl
-  found-fault w Nothing f later = refl
+  found-fault w (Some i) f later = refl
+  found-fault w None f later = refl
 
   -- where two tests agree at the places
   pub sweep_is : (fails fails' : ℕ → ℕ → Bool) (ws : List ℕ) → ((w : ℕ) → In w ws → (i : ℕ) → In i places → fails w i ≡ fails' w i) → (later : Verdict)
@@ -95,14 +93,14 @@ module _ (number file : ℕ) (places : List ℕ) where
       ∙ found-fault w (found.first (fails' w) places) (found.sweep number file (λ w. found.first (fails' w) places) ws) later
 
 -- a fault that the code finds has the number of its check
-pub sweep_number : (number file : ℕ) (find : ℕ → Found) (ws : List ℕ) (v : Verdict) → found.sweep number file find ws ≡ Fault v → v.number ≡ number
+pub sweep_number : (number file : ℕ) (find : ℕ → Option ℕ) (ws : List ℕ) (v : Verdict) → found.sweep number file find ws ≡ Err v → v.number ≡ number
 unfolding found.sweep found.at_fault
 sweep_number number file find [] v e = let z : ◌≡◌ {A = ℕ} 0 1 = cc in absurd (omega arith)
 sweep_number number file find (w ∷ ws) v e = go (find w) e (sweep_number number file find ws v)
   where
-    go : (x : Found) → found.at_fault number file w x (found.sweep number file find ws) ≡ Fault v → (found.sweep number file find ws ≡ Fault v → v.number ≡ number) → v.number ≡ number
-    go (At i) e later = let q : verdict number file i w ≡ v = cc in sym (ap (λ (x : Verdict). x.number) q)
-    go Nothing e later = later e
+    go : (x : Option ℕ) → found.at_fault number file w x (found.sweep number file find ws) ≡ Err v → (found.sweep number file find ws ≡ Err v → v.number ≡ number) → v.number ≡ number
+    go (Some i) e later = let q : verdict number file i w ≡ v = cc in sym (ap (λ (x : Verdict). x.number) q)
+    go None e later = later e
 
 -- a check, and what the code finds for it
 abbrev pub Same : Check → found.Check → Type 0
@@ -133,31 +131,31 @@ alike_judge (also {c = c} {d = d} {cs = cs} {ds = ds} e a) = e (judge cs) ∙ go
   where
     go : (x : Finding) → found.finding d ≡ x → (Pass c → judge cs ≡ given.verdict_of (found.first_fault ds))
         → fault_or (found.finding d) (judge cs) ≡ given.verdict_of (found.or_later (found.finding d) (found.first_fault ds))
-    go (Fault v) q later = rw q
-    go Passed q later = rw q (later (same-pass c (λ y. e y ∙ ap (λ (x : Finding). fault_or x y) q)))
+    go (Err v) q later = rw q
+    go (Ok _) q later = rw q (later (same-pass c (λ y. e y ∙ ap (λ (x : Finding). fault_or x y) q)))
 
 abbrev pub AllPass : List Check → Type 0
 AllPass [] = Unit {0}
 AllPass (c ∷ cs) = Pass c × AllPass cs
 
 -- the code finds nothing exactly if all checks pass
-pub alike_passed : {cs : List Check} {ds : List found.Check} → Alike cs ds → AllPass cs → found.first_fault ds ≡ Passed
+pub alike_passed : {cs : List Check} {ds : List found.Check} → Alike cs ds → AllPass cs → found.first_fault ds ≡ Ok tt
 unfolding found.first_fault found.or_later
 alike_passed alike p = refl
 alike_passed (also {c = c} {d = d} {ds = ds} e a) p = go (found.finding d) (λ y. sym (e y) ∙ first_pass c y p.0) (alike_passed (a p.0) p.1)
   where
-    go : (x : Finding) → ((later : Verdict) → fault_or x later ≡ later) → found.first_fault ds ≡ Passed → found.or_later x (found.first_fault ds) ≡ Passed
-    go (Fault v) same later = absurd (omega (arith, ap (λ (x : Verdict). x.number) (sym (same accepted) ∙ same (verdict 1 0 0 0))))
-    go Passed same later = later
+    go : (x : Finding) → ((later : Verdict) → fault_or x later ≡ later) → found.first_fault ds ≡ Ok tt → found.or_later x (found.first_fault ds) ≡ Ok tt
+    go (Err v) same later = absurd (omega (arith, ap (λ (x : Verdict). x.number) (sym (same accepted) ∙ same (verdict 1 0 0 0))))
+    go (Ok _) same later = later
 
-pub passed_alike : {cs : List Check} {ds : List found.Check} → Alike cs ds → found.first_fault ds ≡ Passed → AllPass cs
+pub passed_alike : {cs : List Check} {ds : List found.Check} → Alike cs ds → found.first_fault ds ≡ Ok tt → AllPass cs
 unfolding found.first_fault found.or_later
 passed_alike alike e = tt
 passed_alike (also {c = c} {d = d} {cs = cs} {ds = ds} e a) q = go (found.finding d) refl q (λ p. passed_alike (a p))
   where
-    go : (x : Finding) → found.finding d ≡ x → found.or_later x (found.first_fault ds) ≡ Passed → (Pass c → found.first_fault ds ≡ Passed → AllPass cs) → Pass c × AllPass cs
-    go (Fault v) z q later = let y : ◌≡◌ {A = ℕ} 0 1 = cc in absurd (omega arith)
-    go Passed z q later = let p = same-pass c (λ y. e y ∙ ap (λ (x : Finding). fault_or x y) z) in (p, later p q)
+    go : (x : Finding) → found.finding d ≡ x → found.or_later x (found.first_fault ds) ≡ Ok tt → (Pass c → found.first_fault ds ≡ Ok tt → AllPass cs) → Pass c × AllPass cs
+    go (Err v) z q later = let y : ◌≡◌ {A = ℕ} 0 1 = cc in absurd (omega arith)
+    go (Ok _) z q later = let p = same-pass c (λ y. e y ∙ ap (λ (x : Finding). fault_or x y) z) in (p, later p q)
 
 -- all pass in a whole
 pub whole_passes : {Whole : Type 0} {Claim : Verdict → Type 0} → Whole → {cs : List Check} → Laws Whole Claim cs → AllPass cs
@@ -333,7 +331,7 @@ module _ (order : WordOrder) (c : Content) where
       ≡ fault_or (found.sweep number file (λ name. found.first (fails' (words.spelled order c.inputs name)) (numbers 0 m')) (words.names order (stage_view c))) later
   swept_is number file m m' fails fails' e same later =
       let n = c.inputs in
-      let find : ℕ → ℕ → Found = λ k name. found.first (fails' (words.spelled order n name)) (numbers 0 k) in
+      let find : ℕ → ℕ → (Option ℕ) = λ k name. found.first (fails' (words.spelled order n name)) (numbers 0 k) in
       sweep_is number file (numbers 0 m) (λ name. fails (spelled order n name)) (λ name. fails' (words.spelled order n name)) (names order c)
       (λ name x i y. ap (λ (w : ℕ). fails w i) (spelled_alike order n name) ∙ same (words.spelled order n name) i (in_index m i y)) later
       ∙ ap₂ (λ (k : ℕ) (ws : List ℕ). fault_or (found.sweep number file (find k) ws) later) e (names_alike order c)
@@ -372,7 +370,7 @@ module _ (order : WordOrder) (c : Content) where
           also (swept_is 21 1 (length c.gates) (length s.gates) (fall_unobservable c) (found.fall_unobservable s) gates_long (λ w g h. fall_unobservable_alike c r free w g)) λ n21. later
 
       -- with hold everywhere the code passes the fall where it passes the rise
-      pub hold_passes : length c.outputs ≤ length r.outputs → AllHold (net_of c) → found.first_fault (found.rise_sweeps order s q) ≡ Passed → found.first_fault (found.fall_sweeps order s q) ≡ Passed
+      pub hold_passes : length c.outputs ≤ length r.outputs → AllHold (net_of c) → found.first_fault (found.rise_sweeps order s q) ≡ Ok tt → found.first_fault (found.fall_sweeps order s q) ≡ Ok tt
       unfolding found.rise_sweeps found.fall_sweeps
       hold_passes few hold e =
           let p = passed_alike (rises_alike few alike) e in

@@ -1,5 +1,6 @@
 -- With hold everywhere the code's checks of the fall find nothing where those of the rise do.
 -- Assumes nothing.
+use Rattle.std.specs.Prelude.{Ok}
 use Prim.Native.Nat.{ℕ, suc, ◌+◌, ◌-◌, ◌*◌, ◌≤◌, ◌<◌}
 use native.Mathlib.Omega.{arith}
 use mathlib.Core.Path.{◌≡◌, refl, sym, ap, ap₂, ◌∙◌, subst}
@@ -10,7 +11,6 @@ use Rattle.netlist.specs.Content.{Gate, Pair, Stage, Reference, gate_of}
 use Rattle.netlist.specs.Writing.{coded_gate, pair_operands}
 use Rattle.netlist.proofs.Stages.{cell_of_holds}
 use Rattle.verdict.specs.declared.WordOrder.{WordOrder}
-use Rattle.verdict.specs.declared.Finding.TheVariants.{Passed}
 use Rattle.verdict.specs.Loops as loops
 use Rattle.verdict.specs.Nets.{no_gate}
 use Rattle.verdict.specs.Nets as code
@@ -33,7 +33,7 @@ module _ (s : Stage) (cells : (k : ℕ) → k < length s.gates → (1 ≤ (get_o
       again (g ∷ gs) h = ap₂ (λ (x : Gate) (l : List Gate). x ∷ l) (cell_of_holds g.hold g.cell g.pins (h 0 (omega arith)).0 (h 0 (omega arith)).1) (again gs (λ k l. h (suc k) (omega arith)))
 
   pub fall_passes : (order : WordOrder) (r : Reference) → loops.LoopFree s.inputs s.gates → length s.outputs ≤ length r.outputs → AllHold (code.net_of s)
-      → first_fault (rise_sweeps order s r) ≡ Passed → first_fault (fall_sweeps order s r) ≡ Passed
+      → first_fault (rise_sweeps order s r) ≡ Ok tt → first_fault (fall_sweeps order s r) ≡ Ok tt
   fall_passes order r free few hold e =
       let c = from_stage s in
       let q = from_reference r in

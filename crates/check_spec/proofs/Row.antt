@@ -1,5 +1,6 @@
 -- The settled-row call: its verdict and the row after it are those of the code's definitions, and what demands 1 and 2 say of them.
 -- Assumes nothing.
+use Rattle.std.specs.Prelude.{Ok, Err}
 use Prim.Native.Nat.{ℕ, ◌+◌, ◌-◌, ◌*◌}
 use native.Mathlib.Omega.{arith}
 use mathlib.Core.Path.{◌≡◌, refl, sym, ap, ◌∙◌, subst}
@@ -20,8 +21,7 @@ use Rattle.netlist.specs.Reading.{Reading, refused, readable, read_file, stage_l
 use Rattle.netlist.specs.Content as parsed
 use Rattle.netlist.specs.Content.{gate_of}
 use Rattle.verdict.specs.declared.Verdict.{Verdict}
-use Rattle.verdict.specs.declared.Finding.{Finding}
-use Rattle.verdict.specs.declared.Finding.TheVariants.{Fault, Passed}
+use Rattle.verdict.specs.FourNumbers.{Finding}
 use Rattle.verdict.specs.Levels.{Bits}
 use Rattle.verdict.specs.Rows as levels
 use Rattle.verdict.specs.Loops as loops
@@ -147,7 +147,7 @@ pub record RowIs (stage row : List ℕ) (a : given.RowAnswer) : Type 0 where
 number_of : {v w : Verdict} → v ≡ w → v.number ≡ w.number
 number_of e = ap (λ (v : Verdict). v.number) e
 
-fault_passed : {v : Verdict} → Fault v ≡ Passed → ⊥
+fault_passed : {v : Verdict} → ◌≡◌ {A = Finding} (Err v) (Ok tt) → ⊥
 fault_passed e = let z : ◌≡◌ {A = ℕ} 0 1 = cc in omega arith
 
 -- an accepted call has read its stage
@@ -174,12 +174,12 @@ row_is stage row = go (read_file file.Stage (stage_limits) stage) refl
 
     settle : (c : Content) → row_stage stage ≡ c → row_verdict stage row ≡ judge (row_checks c row)
         → (x : Finding) → found.first_fault (found.row_checks (stage_view c) row) ≡ x → RowIs stage row (given.settle_unless x (stage_view c) row)
-    settle c is e (Fault v) f =
+    settle c is e (Err v) f =
         let z : judge (row_checks c row) ≡ v = alike_judge (row_checks_alike c row) ∙ ap given.verdict_of f in
-        let found_none : Fits c row → Fault v ≡ Passed = λ fit. sym f ∙ alike_passed (row_checks_alike c row) (whole_passes fit (row_laws c row)) in
+        let found_none : Fits c row → ◌≡◌ {A = Finding} (Err v) (Ok tt) = λ fit. sym f ∙ alike_passed (row_checks_alike c row) (whole_passes fit (row_laws c row)) in
         refuse v (e ∙ z) (λ q. fault_passed (found_none (fitting c row (number_of z ∙ q)))) (λ read fit. absurd (fault_passed (found_none (subst (λ (x : Content). Fits x row) is fit))))
         (⊎_elim (λ n q. n (number_of z ∙ q)) (λ y q. omega (arith, number_of (sym z ∙ y))) (claimed (row_laws c row)))
-    settle c is e Passed f =
+    settle c is e (Ok _) f =
         let z : row_verdict stage row ≡ accepted = e ∙ alike_judge (row_checks_alike c row) ∙ ap given.verdict_of f in
         let fit = fitting c row (number_of (sym e ∙ z)) in
         record {

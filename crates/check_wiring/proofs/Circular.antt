@@ -17,10 +17,12 @@ use Rattle.circuit.specs.Stage.{net_count}
 use Rattle.circuit_place.specs.Placing.{place, waiting}
 use Rattle.circuit_place.proofs.Order.{waits}
 use Rattle.circuit_place.proofs.Looping.{loop-behind}
-use Rattle.check_open.specs.Opening.{Told, Table, remembered}
+use Rattle.std.specs.Prelude.{Option, None}
+use Rattle.check_open.specs.declared.Behind.{Behind}
+use Rattle.check_open.specs.Opening.{Told, Table, nothing_behind}
 use Rattle.check_open.proofs.Standing.{Opens, table_of, kos_behind, other_behind}
 use Rattle.check_levels.specs.Graph.{source_in, ComesFrom}
-use Rattle.check_rules.specs.Known.{KosOf, OthersOf}
+use Rattle.check_rules.specs.Known.{BehindOf}
 use Rattle.check_wiring.specs.Loaded.{part_nets, Ordered}
 use Rattle.check_wiring.specs.Opened.{OpenedTo}
 
@@ -58,7 +60,7 @@ module _ (p : Pipeline) (c : Counts) (nets regs : List ℕ) (o : Ordered p c net
 
   -- ---- what opening finds
 
-  pub table_new : (kos known : List ℕ) → length kos ≡ part_nets c → length known ≡ part_nets c → ((i : ℕ) → get_or known i 0 ≡ 0) → Table nets (net_count c) kos known
+  pub table_new : (met : List (Option Behind)) → length met ≡ part_nets c → ((i : ℕ) → get_or met i None ≡ None) → Table nets (net_count c) met
   table_new = table_of p (net_count c) (part_nets c) nets regs o.parts o.long o.before o.placed o.passed
 
   module _ (none : Nowhere p (circular p)) where
@@ -77,12 +79,12 @@ module _ (p : Pipeline) (c : Counts) (nets regs : List ℕ) (o : Ordered p c net
         go zero e = absurd (clash (waits p (net_count c) (part_nets c) nets regs o.parts o.before o.placed o.passed (ki_of p k) v i e) (loop-at k ∙ no_loop k h))
         go (suc n) e = omega arith
 
-    module _ (before kos others : List ℕ) (w : OpenedTo nets (net_count c) regs before kos others (register_count p)) where
-      told_at : (k : ℕ) → k < register_count p → Told nets (net_count c) (ki_of p k) (remembered kos others k)
-      told_at k h = subst (λ (x : ℕ). Told nets (net_count c) x (remembered kos others k)) (ki_at k h) (w.told k h)
+    module _ (before found : List Behind) (w : OpenedTo nets (net_count c) regs before found (register_count p)) where
+      told_at : (k : ℕ) → k < register_count p → Told nets (net_count c) (ki_of p k) (get_or found k nothing_behind)
+      told_at k h = subst (λ (x : ℕ). Told nets (net_count c) x (get_or found k nothing_behind)) (ki_at k h) (w.told k h)
 
-      pub kos_opened : KosOf p kos
-      kos_opened k t h l = kos_behind p (net_count c) (part_nets c) nets regs o.parts o.long o.before o.placed o.passed k (opens k h) (remembered kos others k) (told_at k h) t l
-
-      pub others_opened : OthersOf p others
-      others_opened k h = other_behind p (net_count c) (part_nets c) nets regs o.parts o.long o.before o.placed o.passed k (opens k h) (remembered kos others k) (told_at k h)
+      pub behind_opened : BehindOf p found
+      behind_opened = record {
+        kos_of = λ k t h l. kos_behind p (net_count c) (part_nets c) nets regs o.parts o.long o.before o.placed o.passed k (opens k h) (get_or found k nothing_behind) (told_at k h) t l;
+        others_of = λ k h. other_behind p (net_count c) (part_nets c) nets regs o.parts o.long o.before o.placed o.passed k (opens k h) (get_or found k nothing_behind) (told_at k h);
+      }

@@ -8,10 +8,10 @@ use lib.ListN.{length, take, drop, length-append, length-take, length-drop}
 use lib.Seq.{length-take-le, take_at}
 
 -- a part is no longer than it was asked for
-pub part_few : (m k : ℕ) (all : List ℕ) → m ≤ k → length (take m all) ≤ k
+pub part_few : {A : Type 0} (m k : ℕ) (all : List A) → m ≤ k → length (take m all) ≤ k
 part_few m k all h = omega (arith, length-take m all)
 
-module _ (m : ℕ) (all part : List ℕ) (few : m ≤ length all) (same : length part ≡ length (take m all)) where
+module _ {A : Type 0} (m : ℕ) (all part : List A) (few : m ≤ length all) (same : length part ≡ length (take m all)) where
   pub part_long : length part ≡ m
   part_long = same ∙ length-take-le m all few
 

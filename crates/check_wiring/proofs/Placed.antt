@@ -1,13 +1,11 @@
 -- The pipeline whose C-elements were placed, and what the first pass of 33 says of the checks.
 -- Assumes nothing.
+use Rattle.std.specs.Prelude.{Option, Some, None, Err}
 use Prim.Native.Nat.{ℕ, ◌+◌, ◌<◌}
 use native.Mathlib.Omega.{arith}
 use mathlib.Core.Path.{◌≡◌, refl, sym, ◌∙◌}
 use mathlib.Core.List.{List}
 use Rattle.netlist.specs.declared.Counts.{Counts}
-use Rattle.netlist.specs.declared.Found.{Found}
-use Rattle.netlist.specs.declared.Found.TheVariants.{At, Nothing}
-use Rattle.verdict.specs.declared.Finding.TheVariants.{Fault}
 use Rattle.verdict.specs.Checks.{verdict, first_fault}
 use Rattle.verdict.specs.Search.{least}
 use Rattle.verdict.proofs.Least.{least_says}
@@ -66,14 +64,14 @@ module _ (c : Counts) (raw order nets regs : List ℕ) (l : Loaded c raw order n
 
 -- ---- the first pass of 33
 
-module _ (p : Pipeline) (found : Found) (is : found ≡ least (circular p) 0 (register_count p)) where
-  pub circular_at : (k : ℕ) → found ≡ At k → Fault (verdict 33 1 k 0) ≡ first_fault (wiring_checks p)
+module _ (p : Pipeline) (found : Option ℕ) (is : found ≡ least (circular p) 0 (register_count p)) where
+  pub circular_at : (k : ℕ) → found ≡ Some k → Err (verdict 33 1 k 0) ≡ first_fault (wiring_checks p)
   unfolding first_fault wiring_checks
   circular_at k e = sym (faulty _ _ (verdict 33 1 k 0) (found_at (of_registers 33 circular p) refl found is k e))
 
-  module _ (none : found ≡ Nothing) where
+  module _ (none : found ≡ None) where
     pub circular_nowhere : Nowhere p (circular p)
-    circular_nowhere k h = least_says (circular p) 0 (register_count p) Nothing (sym is ∙ none) k (omega arith) (omega arith)
+    circular_nowhere k h = least_says (circular p) 0 (register_count p) None (sym is ∙ none) k (omega arith) (omega arith)
 
     pub others_follow : first_fault (later_checks p) ≡ first_fault (wiring_checks p)
     unfolding first_fault wiring_checks

@@ -6,7 +6,9 @@ use mathlib.Core.Path.{◌≡◌, refl, sym, ◌∙◌}
 use mathlib.Core.Bool.{Bool}
 use mathlib.Core.List.{List, []}
 use lib.ListN.{length, get_or, take, replicate}
+use Rattle.std.specs.Prelude.{Option, None}
 use Rattle.netlist.specs.declared.Counts.{Counts}
+use Rattle.check_open.specs.declared.Behind.{Behind}
 use Rattle.wiring_spec.specs.Parts.{Pipeline, register_count, driver_of, data_of}
 use Rattle.wiring_spec.specs.Wiring.{gate_steps, is_rail_of, is_input}
 use Rattle.wiring_spec.specs.Gathering.{Gathers}
@@ -34,6 +36,13 @@ none_taken zero n x = refl
 none_taken (suc m) zero x = refl
 none_taken (suc m) (suc n) zero = refl
 none_taken (suc m) (suc n) (suc x) = none_taken m n x
+
+-- nothing was found yet
+pub met_taken : (m n x : ℕ) → ◌≡◌ {A = Option Behind} (get_or (take m (replicate n None)) x None) None
+met_taken zero n x = refl
+met_taken (suc m) zero x = refl
+met_taken (suc m) (suc n) zero = refl
+met_taken (suc m) (suc n) (suc x) = met_taken m n x
 
 pub no_rails : RailsIn []
 no_rails = record { rows = refl; registers = λ i e. absurd (omega arith) }

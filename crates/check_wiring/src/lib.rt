@@ -11,13 +11,14 @@ ghost use Rattle.wiring_spec.specs.Passing.{ReachesOn, Nowhere};
 ghost use Rattle.wiring_spec.specs.Table.{wiring_checks};
 ghost use Rattle.check_open.specs.Opening.{Table};
 ghost use Rattle.check_levels.specs.Graph.{SourcesOf, ComesFrom};
-ghost use Rattle.check_rules.specs.Known.{InputsOf, LevelsOf, KosOf, OthersOf};
+ghost use Rattle.check_rules.specs.Known.{InputsOf, LevelsOf, BehindOf};
 ghost use Rattle.check_rules.specs.Rules.{later_checks};
 ghost use Rattle.check_wiring.specs.Loaded.{Loaded, Unplaced, Ordered, Forward};
 ghost use Rattle.check_wiring.specs.Opened.{OpenedTo};
 
-use netlist::{Counts, Found};
-use verdict::Finding;
+use check_open::Behind;
+use netlist::Counts;
+use verdict::Verdict;
 
 // As many registers, and as many nets of registers and C-elements, as there may be.
 const MOST: usize = netlist::PARTS;
@@ -40,7 +41,8 @@ fn sources_of(raw: &[u16], order: &[u16], counts: Counts, nets: &[u16], regs: &[
     sources
 }
 
-// Whether some data of each register comes from an input: no rail of a register is a source here, and each input is source 0.
+// Whether some data of each register comes from an input: no rail of a register is a source here, and each input is source 0. It and `sources_of` are one
+// call each, with other seeds and another promise (`InputsOf`, `SourcesOf`): one function with a switch would be no plainer.
 fn inputs_of(raw: &[u16], order: &[u16], counts: Counts, regs: &[u16]) -> [u64; MOST]
     requires { (nets : List ℕ) × Loaded counts raw.now order.now nets regs.now }
     ensures long { length result ≡ 64 }
@@ -77,49 +79,33 @@ fn levels_of(sources: &[u64]) -> [u8; MOST]
 
 // ---- what stands behind the Ki of the registers
 
-// `met` and `known` are what is known of the C-elements.
+// `met` is what is known of the C-elements.
 fn open_all(
     nets: &[u16],
     first: usize,
     regs: &[u16],
-    kos: &mut [u64],
-    others: &mut [u8],
-    met: &mut [u64],
-    known: &mut [u8],
+    behind: &mut [Behind],
+    met: &mut [Option<Behind>],
 )
-    requires { Table nets.now first met.old known.old × (length others.old ≡ length kos.old) × (4 * length kos.old ≤ length regs.now) }
-    ensures { OpenedTo nets.now first regs.now kos.old kos.new others.new
-        (length kos.old) }
+    requires { Table nets.now first met.old × (4 * length behind.old ≤ length regs.now) }
+    ensures { OpenedTo nets.now first regs.now behind.old behind.new (length behind.old) }
 {
-    let mut k: usize = 0;
-    while k < kos.len() {
-        let all = check_open::open_net(nets, first, regs[4 * k + 3], met, known);
-        check_open::remember(kos, others, k, all);
-        k += 1;
+    for k in 0..behind.len() {
+        behind[k] = check_open::open_net(nets, first, regs[4 * k + 3], met);
     }
 }
 
 // Each C-element is opened once for all Ki.
-fn open_kis(nets: &[u16], counts: Counts, regs: &[u16], kos: &mut [u64], others: &mut [u8])
-    requires { ((p : Pipeline) × Ordered p counts nets.now regs.now) × (length kos.old ≡ counts.registers)
-        × (length others.old ≡ counts.registers) }
-    ensures long { (length kos.new ≡ counts.registers) × (length others.new ≡ counts.registers) }
+fn open_kis(nets: &[u16], counts: Counts, regs: &[u16], behind: &mut [Behind])
+    requires { ((p : Pipeline) × Ordered p counts nets.now regs.now) × (length behind.old ≡ counts.registers) }
+    ensures long { length behind.new ≡ counts.registers }
     ensures are { (p : Pipeline) → Ordered p counts nets.now regs.now → Nowhere p (circular p)
-        → KosOf p kos.new × OthersOf p others.new }
+        → BehindOf p behind.new }
 {
     let first = 2 * counts.inputs + counts.gates;
     let count = 3 * counts.registers + counts.elements;
-    let mut met = [0u64; NETS];
-    let mut known = [0u8; NETS];
-    open_all(
-        nets,
-        first,
-        regs,
-        kos,
-        others,
-        &mut met[..count],
-        &mut known[..count],
-    );
+    let mut met = [None; NETS];
+    open_all(nets, first, regs, behind, &mut met[..count]);
 }
 
 // ---- 33, the first pass
@@ -138,23 +124,19 @@ fn is_circular(closed: &[u64], counts: Counts, nets: &[u16], regs: &[u16], k: us
     circuit_place::waits(nets, first, count, regs[4 * k + 3] as usize)
 }
 
-fn least_circular(closed: &[u64], counts: Counts, nets: &[u16], regs: &[u16]) -> Found
+fn least_circular(closed: &[u64], counts: Counts, nets: &[u16], regs: &[u16]) -> Option<usize>
     requires { (p : Pipeline) × Ordered p counts nets.now regs.now × ComesFrom p closed.now }
     ensures { (p : Pipeline) → Ordered p counts nets.now regs.now → ComesFrom p closed.now
         → result ≡ least (circular p) 0 (register_count p) }
 {
-    let mut k: usize = 0;
-    while k < counts.registers {
-        if is_circular(closed, counts, nets, regs, k) {
-            return Found::At(k);
-        }
-        k += 1;
-    }
-    Found::Nothing
+    search::least(
+        counts.registers,
+        |k| is_circular(closed, counts, nets, regs, k),
+    )
 }
 
 // The least register that is circular, told from the registers that reach each.
-fn find_circular(sources: [u64; MOST], counts: Counts, nets: &[u16], regs: &[u16]) -> Found
+fn find_circular(sources: [u64; MOST], counts: Counts, nets: &[u16], regs: &[u16]) -> Option<usize>
     requires { ((p : Pipeline) × Ordered p counts nets.now regs.now × SourcesOf p (take counts.registers sources)) × (length sources ≡ 64) }
     ensures { (p : Pipeline) → Ordered p counts nets.now regs.now → SourcesOf p (take counts.registers sources)
         → result ≡ least (circular p) 0 (register_count p) }
@@ -175,7 +157,7 @@ fn find_others(
     nets: &[u16],
     regs: &[u16],
     sources: [u64; MOST],
-) -> Finding
+) -> Result<(), Verdict>
     requires { Forward counts raw.now order.now nets.now regs.now sources × (length sources ≡ 64) }
     ensures { (w : Forward counts raw.now order.now nets.now regs.now sources)
         → result ≡ first_fault (later_checks w.loaded.pipeline) }
@@ -183,16 +165,17 @@ fn find_others(
     let m = counts.registers;
     let inputs = inputs_of(raw, order, counts, regs);
     let levels = levels_of(&sources[..m]);
-    let mut kos = [0u64; MOST];
-    let mut others = [0u8; MOST];
-    open_kis(nets, counts, regs, &mut kos[..m], &mut others[..m]);
+    let mut behind = [Behind {
+        kos: 0,
+        other: false,
+    }; MOST];
+    open_kis(nets, counts, regs, &mut behind[..m]);
     check_rules::find_failing(
         regs,
         &sources[..m],
         &inputs[..m],
         &levels[..m],
-        &kos[..m],
-        &others[..m],
+        &behind[..m],
     )
 }
 
@@ -203,7 +186,7 @@ pub fn check_registers(
     counts: Counts,
     nets: &mut [u16],
     regs: &[u16],
-) -> Finding
+) -> Result<(), Verdict>
     requires { Loaded counts raw.now order.now nets.old regs.now × Unplaced nets.old }
     ensures found { (l : Loaded counts raw.now order.now nets.old regs.now)
         → result ≡ first_fault (wiring_checks l.pipeline) }
@@ -214,7 +197,7 @@ pub fn check_registers(
     let first = 2 * counts.inputs + counts.gates;
     let count = 3 * counts.registers + counts.elements;
     circuit_place::place_elements(nets, first, count);
-    if let Found::At(k) = find_circular(sources, counts, nets, regs) {
+    if let Some(k) = find_circular(sources, counts, nets, regs) {
         return check_rules::fault(33, k);
     }
     find_others(raw, order, counts, nets, regs, sources)

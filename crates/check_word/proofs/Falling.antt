@@ -2,12 +2,15 @@
 -- Assumes nothing.
 use Prim.Native.Nat.{ℕ, zero, suc, ◌+◌, ◌*◌, ◌≤◌, ◌<◌}
 use native.Mathlib.Omega.{arith}
+use Rattle.std.proofs.lemmas.Slice.{put_mid-paste}
+use Rattle.std.proofs.lemmas.List.Edits.{paste_none, paste_more}
+use borrow.Rule.Slice.PartMut.{put_mid}
 use native.Mathlib.Decide.{ℕ_discrete}
-use mathlib.Core.Path.{◌≡◌, refl, sym, ap, ap₂, ◌∙◌, fun_ext}
+use mathlib.Core.Path.{◌≡◌, refl, sym, ap, ap₂, ◌∙◌, fun_ext, subst}
 use mathlib.Core.Bool.{Bool, true, false, cond, not, ◌&&◌, ◌||◌}
 use mathlib.Core.List.{List, [], ◌∷◌, ◌++◌}
 use lib.ListN.{length, get_or, set, take, drop, replicate, length-replicate, get_or-replicate}
-use lib.Seq.{get_or-take, get_or-drop, get_or-set_same, get_or-set_other, ext_get_or, length-take-le, take-set-le, take-set-lt, drop-set-lt}
+use lib.Seq.{paste, get_or-take, get_or-drop, get_or-set_same, get_or-set_other, ext_get_or, length-take-le, take-set-le, take-set-lt, drop-set-lt}
 use lib.Dec.{eqb, eqb-zero-suc, eqb-suc-zero, eqb-suc-suc}
 use borrow.Author.Tests.{ne_eqb, lt-ltb, le-ltb}
 use Rattle.gates.specs.Cell.{bit}
@@ -104,6 +107,34 @@ module _ (c : Counts) (row low : List ℕ) (r : RowFor c row) (p : ℕ) (t : Low
     where
       part : (l : List ℕ) (k : ℕ) → k < c.gates → get_or (level_part c l) k 0 ≡ get_or l (2 * c.inputs + k) 0
       part l k g = get_or-take c.gates (drop (2 * c.inputs) l) k 0 g ∙ get_or-drop (2 * c.inputs) l k 0
+
+-- the levels of the first m gates copied to a row of zeros
+module _ (c : Counts) (row : List ℕ) (w : Within stage_limits c) (r : RowFor c row) where
+  low_to : (m : ℕ) → m ≤ c.gates → LowTo c row (paste (replicate row_size 0) (2 * c.inputs) (level_part c row) m) (2 * c.inputs + m)
+  low_to zero h =
+      let e : 2 * c.inputs ≡ 2 * c.inputs + 0 = omega arith in
+      subst (LowTo c row (paste (replicate row_size 0) (2 * c.inputs) (level_part c row) 0)) e
+      (subst (λ (v : List ℕ). LowTo c row v (2 * c.inputs)) (paste_none (replicate row_size 0) (2 * c.inputs) (level_part c row)) (low_start c row w))
+  low_to (suc m) h =
+      let e : m + 1 ≡ suc m = omega arith in
+      let f : 2 * c.inputs + m + 1 ≡ 2 * c.inputs + (m + 1) = omega arith in
+      let g : get_or row (2 * c.inputs + m) 0 ≡ get_or (level_part c row) m 0 = sym (get_or-take c.gates (drop (2 * c.inputs) row) m 0 h ∙ get_or-drop (2 * c.inputs) row m 0) in
+      let t = low_to m (omega arith) in
+      subst (λ (k : ℕ). LowTo c row (paste (replicate row_size 0) (2 * c.inputs) (level_part c row) k) (2 * c.inputs + k)) e
+      (subst (LowTo c row (paste (replicate row_size 0) (2 * c.inputs) (level_part c row) (m + 1))) f
+      (subst (λ (v : List ℕ). LowTo c row v (2 * c.inputs + m + 1))
+      (ap (set (paste (replicate row_size 0) (2 * c.inputs) (level_part c row) m) (2 * c.inputs + m)) g
+      ∙ paste_more (replicate row_size 0) (2 * c.inputs) (level_part c row) m 0 (omega (arith, length-replicate {A = ℕ} row_size 0, w.inputs_in, w.gates_in_holds)) (omega (arith, length_levels c row r)))
+      (low_turn c row (paste (replicate row_size 0) (2 * c.inputs) (level_part c row) m) r (2 * c.inputs + m) t (omega arith) (omega arith))))
+
+  -- all of them
+  pub low_copied : (part : List ℕ) (n : ℕ) → n ≡ c.gates → part ≡ take n (drop (2 * c.inputs) row)
+      → LowTo c row (put_mid (2 * c.inputs) n (replicate row_size 0) part) (net_count c)
+  low_copied part n e f =
+      let p : part ≡ level_part c row = f ∙ ap (λ (k : ℕ). take k (drop (2 * c.inputs) row)) e in
+      subst (λ (v : List ℕ). LowTo c row v (net_count c))
+      (sym (put_mid-paste (2 * c.inputs) n (replicate row_size 0) part (level_part c row) c.gates p (sym e) (sym (length_levels c row r))))
+      (low_to c.gates (omega arith))
 
 -- the rails of one input put back, if it is one; and what the gates settle to
 module _ (c : Counts) (code rest row : List ℕ) (rest-for : RowFor c rest) (row_for_holds : RowFor c row)

@@ -1,10 +1,10 @@
 -- What each of the checks finds in a word, by its name.
 -- Assumes nothing.
+use Rattle.std.specs.Prelude.{Option}
 use Prim.Native.Nat.{ℕ}
 use mathlib.Core.Path.{◌≡◌, sym, ap, ◌∙◌}
 use mathlib.Core.List.{List}
 use Rattle.netlist.specs.declared.Counts.{Counts}
-use Rattle.netlist.specs.declared.Found.{Found}
 use Rattle.netlist.specs.Content.{Stage, Reference}
 use Rattle.verdict.specs.Checks.{wrong, incomplete, unobservable, fall_incomplete, fall_unobservable}
 use Rattle.verdict.specs.Search.{least}
@@ -15,7 +15,7 @@ use Rattle.check_word.specs.declared.Sweep.{Sweep}
 use Rattle.check_word.specs.declared.Sweep.TheVariants.{Wrong, Missing, Unobserved, Remaining, StillHigh}
 use Rattle.check_word.specs.Finds.{finds}
 
-module _ (c : Counts) (code : List ℕ) (r : Reference) (w : ℕ) (found : Found) (which : Sweep) where
+module _ (c : Counts) (code : List ℕ) (r : Reference) (w : ℕ) (found : Option ℕ) (which : Sweep) where
   abbrev s : Stage
   s = stage_in c code
 

@@ -1,5 +1,6 @@
 -- 13: which outputs the reference's values find wrong.
 -- Assumes nothing.
+use Rattle.std.specs.Prelude.{Option}
 use Prim.Native.Nat.{ℕ, zero, suc, ◌+◌, ◌≤◌, ◌<◌}
 use native.Mathlib.Omega.{arith}
 use mathlib.Core.Path.{◌≡◌, refl, sym, ap, ap₂, ◌∙◌}
@@ -8,7 +9,6 @@ use mathlib.Core.List.{List}
 use lib.ListN.{get_or, take}
 use lib.Seq.{get_or-take}
 use Rattle.netlist.specs.declared.Counts.{Counts}
-use Rattle.netlist.specs.declared.Found.{Found}
 use Rattle.netlist.specs.Content.{Pair}
 use Rattle.verdict.specs.Words.{numbers, bits_of, rails_in}
 use Rattle.verdict.specs.Rows.{settled, pair_in, spells}
@@ -42,7 +42,7 @@ module _ (c : Counts) (code : List ℕ) (sizes : Counts) (reference : List ℕ) 
       ap (λ (l : List ℕ). get_or l j 0) (map_tabulate value (signal_in sizes reference) sizes.outputs)
       ∙ get_d_tabulate (λ i. value (signal_in sizes reference i)) sizes.outputs j 0 h
 
-  pub wrong_word : (nets values bits : List ℕ) (found : Found) → nets ≡ settled (stage_gates c code) (rails_in (stage_in c code) w) → (long : ℕ) →
+  pub wrong_word : (nets values bits : List ℕ) (found : Option ℕ) → nets ≡ settled (stage_gates c code) (rails_in (stage_in c code) w) → (long : ℕ) →
       bits ≡ bits_of long w → sizes.inputs ≤ long →
       take (sizes.inputs + sizes.gates) values ≡ signal_values (take sizes.inputs bits) (operators_in sizes reference) →
       found ≡ least (misread c code nets (λ j. get_or values (signal_in sizes reference j) 0)) 0 c.outputs → found ≡ least

@@ -1,6 +1,5 @@
 -- The checks that go over the words of a stage, by one name for each.
-use Rattle.std.specs.Prelude.{ℕ, ◌+◌, Bool, true, false, List, length}
-use Rattle.netlist.specs.declared.Found.{Found}
+use Rattle.std.specs.Prelude.{ℕ, ◌+◌, Bool, true, false, List, length, Option}
 use Rattle.netlist.specs.Content.{Gate, Pair, Stage, Reference}
 use Rattle.verdict.specs.Rows.{high, settled, settled_holding, all_data}
 use Rattle.verdict.specs.Checks.{wrong, incomplete, unobservable, fall_incomplete, fall_unobservable}
@@ -9,7 +8,7 @@ use Rattle.check_word.specs.declared.Sweep.{Sweep}
 use Rattle.check_word.specs.declared.Sweep.TheVariants.{Wrong, Missing, Unobserved, Remaining, StillHigh}
 
 -- what it finds in a word: the least output, input or gate at which it fails
-abbrev pub finds : Sweep → Stage → Reference → ℕ → Found
+abbrev pub finds : Sweep → Stage → Reference → ℕ → Option ℕ
 finds Wrong s r w = least (wrong s r w) 0 (length s.outputs)
 finds Missing s r w = least (incomplete s w) 0 s.inputs
 finds Unobserved s r w = least (unobservable s w) 0 (length s.gates)

@@ -14,7 +14,7 @@ ghost use Rattle.check_word.specs.Fallen.{RestOf, fallen_from};
 ghost use Rattle.check_word.specs.Finds.{finds, unobserved};
 ghost use Rattle.check_word.specs.Loaded.{BothLoaded};
 
-use netlist::{Counts, Found};
+use netlist::Counts;
 
 // ---- the fall
 
@@ -25,16 +25,14 @@ fn with_rails_low(counts: Counts, row: &[u8]) -> [u8; circuit::ROW]
 {
     let mut low = [0u8; circuit::ROW];
     let first = 2 * counts.inputs;
-    let mut p = first;
-    while p < first + counts.gates {
-        low[p] = row[p];
-        p += 1;
-    }
+    let end = first + counts.gates;
+    low[first..end].copy_from_slice(&row[first..end]);
     low
 }
 
 // From the rest in a row: whether all outputs are NULL once all inputs have fallen but one and the gates have settled by the fall rule, with
 // one gate kept high. Where `input` is no input all have fallen; where `gate` is no gate none is kept.
+// Both are numbers and no options: what the promise cites, `fallen_from` and the rule of `circuit::fall`, says none by a number past the last.
 #[inline(always)]
 fn all_fallen(code: &[u16], counts: Counts, rest: &[u8], input: usize, gate: usize) -> bool
     requires { StageLoaded counts code.now × InOrder counts code.now × RowFor counts rest.now }
@@ -54,22 +52,16 @@ fn all_fallen(code: &[u16], counts: Counts, rest: &[u8], input: usize, gate: usi
 // ---- 20
 
 // The least input that may keep its DATA, from the rest of word w, while all outputs are NULL.
-pub fn remaining_input(code: &[u16], counts: Counts, w: usize) -> Found
+pub fn remaining_input(code: &[u16], counts: Counts, w: usize) -> Option<usize>
     requires { StageLoaded counts code.now × InOrder counts code.now }
     ensures { result ≡ least (checks.fall_incomplete (stage_in counts code.now) w) 0 counts.inputs }
 {
     let mut row = [0u8; circuit::ROW];
     words::settle_word(code, counts, w, &mut row);
-    let inputs = counts.inputs;
-    let none = counts.gates;
-    let mut i: usize = 0;
-    while i < inputs {
-        if all_fallen(code, counts, &row, i, none) {
-            return Found::At(i);
-        }
-        i += 1;
-    }
-    Found::Nothing
+    search::least(
+        counts.inputs,
+        |i| all_fallen(code, counts, &row, i, counts.gates),
+    )
 }
 
 // ---- 21
@@ -88,21 +80,13 @@ fn still_high_at(code: &[u16], counts: Counts, rest: &[u8], g: usize) -> bool
 }
 
 // The least gate that is high in word w and may stay high while all outputs are NULL.
-pub fn still_high_gate(code: &[u16], counts: Counts, w: usize) -> Found
+pub fn still_high_gate(code: &[u16], counts: Counts, w: usize) -> Option<usize>
     requires { StageLoaded counts code.now × InOrder counts code.now }
     ensures { result ≡ least (checks.fall_unobservable (stage_in counts code.now) w) 0 counts.gates }
 {
     let mut row = [0u8; circuit::ROW];
     words::settle_word(code, counts, w, &mut row);
-    let gates = counts.gates;
-    let mut g = 0usize;
-    while g < gates {
-        if still_high_at(code, counts, &row, g) {
-            return Found::At(g);
-        }
-        g += 1;
-    }
-    Found::Nothing
+    search::least(counts.gates, |g| still_high_at(code, counts, &row, g))
 }
 
 // ---- 13, 14 and 15: the rise
@@ -120,7 +104,13 @@ pub enum Sweep {
 // ---- 13
 
 // The least output that is not the reference's DATA in word w.
-fn wrong_output(code: &[u16], counts: Counts, reference: &[u16], sizes: Counts, w: usize) -> Found
+fn wrong_output(
+    code: &[u16],
+    counts: Counts,
+    reference: &[u16],
+    sizes: Counts,
+    w: usize,
+) -> Option<usize>
     requires { BothLoaded counts code.now sizes reference.now }
     ensures { result ≡ least (checks.wrong (stage_in counts code.now) (reference_in sizes reference.now) w) 0
         counts.outputs }
@@ -149,19 +139,11 @@ fn incomplete(code: &[u16], counts: Counts, w: usize, i: usize) -> bool
 }
 
 // The least input with which NULL, and the others as in word w, all outputs are DATA.
-fn missing_input(code: &[u16], counts: Counts, w: usize) -> Found
+fn missing_input(code: &[u16], counts: Counts, w: usize) -> Option<usize>
     requires { StageLoaded counts code.now × InOrder counts code.now }
     ensures { result ≡ least (checks.incomplete (stage_in counts code.now) w) 0 counts.inputs }
 {
-    let inputs = counts.inputs;
-    let mut i: usize = 0;
-    while i < inputs {
-        if incomplete(code, counts, w, i) {
-            return Found::At(i);
-        }
-        i += 1;
-    }
-    Found::Nothing
+    search::least(counts.inputs, |i| incomplete(code, counts, w, i))
 }
 
 // ---- 15
@@ -186,21 +168,13 @@ fn unobserved_at(code: &[u16], counts: Counts, row: &[u8], g: usize) -> bool
 }
 
 // The least gate that is high in word w and with which held low all outputs are still DATA.
-fn unobserved_gate(code: &[u16], counts: Counts, w: usize) -> Found
+fn unobserved_gate(code: &[u16], counts: Counts, w: usize) -> Option<usize>
     requires { StageLoaded counts code.now × InOrder counts code.now }
     ensures { result ≡ least (checks.unobservable (stage_in counts code.now) w) 0 counts.gates }
 {
     let mut row = [0u8; circuit::ROW];
     words::settle_word(code, counts, w, &mut row);
-    let gates = counts.gates;
-    let mut g: usize = 0;
-    while g < gates {
-        if unobserved_at(code, counts, &row, g) {
-            return Found::At(g);
-        }
-        g += 1;
-    }
-    Found::Nothing
+    search::least(counts.gates, |g| unobserved_at(code, counts, &row, g))
 }
 
 // ---- all of them
@@ -213,7 +187,7 @@ pub fn find(
     reference: &[u16],
     sizes: Counts,
     w: usize,
-) -> Found
+) -> Option<usize>
     requires { BothLoaded counts code.now sizes reference.now }
     ensures { result ≡ finds which (stage_in counts code.now) (reference_in sizes reference.now) w }
 {

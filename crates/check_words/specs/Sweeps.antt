@@ -1,7 +1,7 @@
 -- The checks that sweep the words of a stage: 13, 14 and 15 in the rise, 20 and 21 in the fall.
-use Rattle.std.specs.Prelude.{ℕ, ◌≤◌, ◌≡◌, ◌⊎◌, List, [], ◌∷◌, get_or}
+use Rattle.std.specs.Prelude.{ℕ, ◌≤◌, ◌<◌, ◌≡◌, ◌⊎◌, List, [], ◌∷◌, get_or}
 use Rattle.netlist.specs.Content.{Stage, Reference}
-use Rattle.verdict.specs.declared.Finding.{Finding}
+use Rattle.verdict.specs.FourNumbers.{Finding}
 use Rattle.verdict.specs.declared.WordOrder.{WordOrder}
 use Rattle.verdict.specs.Words.{spelled, names}
 use Rattle.verdict.specs.Checks.{sweep}
@@ -9,6 +9,7 @@ use Rattle.check_word.specs.declared.Sweep.{Sweep}
 use Rattle.check_word.specs.declared.Sweep.TheVariants.{Wrong, Missing, Unobserved, Remaining, StillHigh}
 use Rattle.check_word.specs.Finds.{finds}
 use Rattle.lane_screen.specs.declared.Masks.{Masks}
+use Rattle.lane_screen.specs.Suspects.{Unnamed}
 use Rattle.lane_screen.specs.Hold.{WithHold}
 
 -- the number of a check
@@ -37,6 +38,10 @@ mask_of Missing m = m.rise
 mask_of Unobserved m = m.rise
 mask_of Remaining m = m.fall
 mask_of StillHigh m = m.fall
+
+-- a mask names none of the words of a list from one place on and before another
+abbrev pub UnnamedFrom : List ℕ → List ℕ → ℕ → ℕ → Type 0
+UnnamedFrom mask list from i = (j : ℕ) → from ≤ j → j < i → Unnamed mask (get_or list j 0)
 
 -- so many of the checks decide: all, or where every gate has hold those of the rise
 pub record Enough (s : Stage) (m : ℕ) : Type 0 where

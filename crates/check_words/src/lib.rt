@@ -1,7 +1,7 @@
 // The sweeps of 13, 14 and 15, and of 20 and 21, over the words of a stage and a reference in their flat forms, and 32 after them.
 #![tactic(auto)]
 
-ghost use Rattle.std.specs.Prelude.{◌≡◌, true, ◌≤◌, ◌<◌, ℕ, map, length, get_or};
+ghost use Rattle.std.specs.Prelude.{◌≡◌, true, ◌≤◌, ◌<◌, ℕ, map, length, get_or, Ok, Err};
 ghost use Rattle.netlist.specs.Content.{Reference};
 ghost use Rattle.verdict.specs.Words.{spelled, names};
 ghost use Rattle.verdict.specs.Checks as checks;
@@ -10,13 +10,14 @@ ghost use Rattle.circuit.specs.Order.{InOrder};
 ghost use Rattle.circuit.specs.Reference.{reference_in};
 ghost use Rattle.check_word.specs.Loaded.{BothLoaded};
 ghost use Rattle.check_word.specs.Finds.{finds};
-ghost use Rattle.lane_screen.specs.Suspects.{Unnamed, Clean, AllClean};
-ghost use Rattle.check_words.specs.Sweeps.{number_of, swept, sweep_at, mask_of, Enough};
+ghost use Rattle.lane_screen.specs.Suspects.{Clean, AllClean};
+ghost use Rattle.check_words.specs.Sweeps.{number_of, swept, sweep_at, mask_of, Enough, UnnamedFrom};
+ghost use Rattle.std.specs.Option.{MatchOption};
 
 use check_word::Sweep;
 use lane_screen::Masks;
-use netlist::{Counts, Found};
-use verdict::{Finding, Verdict, WordOrder};
+use netlist::Counts;
+use verdict::{Verdict, WordOrder};
 
 // The number of a check.
 fn number_of(which: Sweep) -> u64
@@ -33,14 +34,7 @@ fn number_of(which: Sweep) -> u64
 
 // Whether a block of a mask has one or two words: to look at these is then less work than to settle the block with each input.
 fn has_few(words: u64) -> bool {
-    if words == 0 {
-        return true;
-    }
-    let later = words & (words - 1);
-    if later == 0 {
-        return true;
-    }
-    later & (later - 1) == 0
+    words.count_ones() <= 2
 }
 
 // The first time that block b is asked for, its words in which 14 or 20 finds nothing are taken out of the mask, unless there are few.
@@ -73,7 +67,7 @@ fn narrow(
     }
 }
 
-// What one of the checks finds in word w. A word that its mask does not name is passed over, or does not any more once its block is asked.
+// What one of the checks finds in word w. A word that its mask does not name once its block is asked is passed over.
 fn find_suspect(
     which: Sweep,
     mask: &mut [u64],
@@ -83,36 +77,31 @@ fn find_suspect(
     reference: &[u16],
     sizes: Counts,
     w: usize,
-) -> Found
+) -> Option<usize>
     requires { BothLoaded counts code.now sizes reference.now
         × Clean which (stage_in counts code.now) (reference_in sizes reference.now) mask.old }
     ensures long { (length mask.new ≡ length mask.old) × (length asked.new ≡ length asked.old) }
     ensures clean { Clean which (stage_in counts code.now) (reference_in sizes reference.now) mask.new }
     ensures found { result ≡ finds which (stage_in counts code.now) (reference_in sizes reference.now) w }
 {
+    narrow(which, mask, asked, code, counts, w / 64);
     if lane_screen::is_named(mask, w) {
-        narrow(which, mask, asked, code, counts, w / 64);
-        if lane_screen::is_named(mask, w) {
-            return check_word::find(which, code, counts, reference, sizes, w);
-        }
+        return check_word::find(which, code, counts, reference, sizes, w);
     }
-    Found::Nothing
+    None
 }
 
-// The first place of a list, from place `from` on, at which a mask names the word; where there is none, the end of the list.
-fn next_named(list: &[u16], mask: &[u64], from: usize) -> usize
-    requires { from ≤ length list.now }
-    ensures within { from ≤ result × result ≤ length list.now }
-    ensures passed { (i : ℕ) → from ≤ i → i < result → Unnamed mask.now (get_or list.now i 0) }
+// The first place of a list, from place `from` on, at which a mask names the word.
+fn next_named(list: &[u16], mask: &[u64], from: usize) -> Option<usize>
+    ensures { MatchOption result (UnnamedFrom mask.now list.now from (length list.now))
+        (λ k. (from ≤ k) × (k < length list.now) × UnnamedFrom mask.now list.now from k) }
 {
-    let mut i = from;
-    while i < list.len() {
-        if lane_screen::is_named(mask, list[i] as usize) {
-            return i;
+    for k in from..list.len() {
+        if lane_screen::is_named(mask, list[k] as usize) {
+            return Some(k);
         }
-        i += 1;
     }
-    i
+    None
 }
 
 // What one of the checks finds in the words of a stage, which are listed by their names: the name of the first of them with a fault, and the least
@@ -126,7 +115,7 @@ fn sweep_words(
     counts: Counts,
     reference: &[u16],
     sizes: Counts,
-) -> Finding
+) -> Result<(), Verdict>
     requires { BothLoaded counts code.now sizes reference.now
         × (list.now ≡ map (spelled order counts.inputs) (names order (stage_in counts code.now)))
         × Clean which (stage_in counts code.now) (reference_in sizes reference.now) mask }
@@ -135,23 +124,24 @@ fn sweep_words(
     let number = number_of(which);
     let mut left = mask;
     let mut asked = [false; lane_settle::BLOCKS];
-    let mut k: usize = 0;
-    while k < list.len() {
+    let mut from: usize = 0;
+    // A `while`: the mask is narrowed on the way, and the next place is the next that what is left of it names.
+    while let Some(k) = next_named(list, &left, from) {
         let w = list[k] as usize;
-        if let Found::At(i) = find_suspect(
+        if let Some(i) = find_suspect(
             which, &mut left, &mut asked, code, counts, reference, sizes, w,
         ) {
             let name = words::word_of(order, counts.inputs, w);
-            return Finding::Fault(Verdict {
+            return Err(Verdict {
                 number,
                 file: 1,
                 at: i as u64,
                 word: name as u64,
             });
         }
-        k = next_named(list, &left, k + 1);
+        from = k + 1;
     }
-    Finding::Passed
+    Ok(())
 }
 
 // The same, where no word is looked at if none is named.
@@ -164,19 +154,20 @@ fn sweep_check(
     counts: Counts,
     reference: &[u16],
     sizes: Counts,
-) -> Finding
+) -> Result<(), Verdict>
     requires { BothLoaded counts code.now sizes reference.now
         × (list.now ≡ map (spelled order counts.inputs) (names order (stage_in counts code.now)))
         × Clean which (stage_in counts code.now) (reference_in sizes reference.now) mask }
     ensures { result ≡ swept which order (stage_in counts code.now) (reference_in sizes reference.now) }
 {
     if lane_screen::none_named(&mask, code, counts) {
-        return Finding::Passed;
+        return Ok(());
     }
     sweep_words(which, order, list, mask, code, counts, reference, sizes)
 }
 
-// The checks in the order in which they sweep the words, those of the rise first.
+// The checks in the order in which they sweep the words, those of the rise first. A match like the definition's (`sweep_at`), and no array: it is
+// asked place by place, and `number_of` and `mask_of` are asked check by check.
 fn sweep_at(i: usize) -> Sweep
     requires { i < 5 }
     ensures { result ≡ sweep_at i }
@@ -227,25 +218,19 @@ fn sweep_named(
     counts: Counts,
     reference: &[u16],
     sizes: Counts,
-) -> Finding
+) -> Result<(), Verdict>
     requires { BothLoaded counts code.now sizes reference.now
         × (list.now ≡ map (spelled order counts.inputs) (names order (stage_in counts code.now)))
         × AllClean (stage_in counts code.now) (reference_in sizes reference.now) masks }
     ensures { result ≡ checks.first_fault (checks.sweeps order (stage_in counts code.now) (reference_in sizes reference.now)) }
 {
     let count = sweep_count(code, counts);
-    let mut i: usize = 0;
-    while i < count {
+    for i in 0..count {
         let which = sweep_at(i);
         let mask = mask_of(which, masks);
-        if let Finding::Fault(v) = sweep_check(
-            which, order, list, mask, code, counts, reference, sizes,
-        ) {
-            return Finding::Fault(v);
-        }
-        i += 1;
+        sweep_check(which, order, list, mask, code, counts, reference, sizes)?;
     }
-    Finding::Passed
+    Ok(())
 }
 
 // Whether the masks name no word in which a check may find something: where every gate has hold those of the fall are not asked for.
@@ -253,7 +238,7 @@ fn nothing_named(masks: Masks, code: &[u16], counts: Counts) -> bool
     requires { StageLoaded counts code.now × InOrder counts code.now }
     ensures { result ≡ true → (order : WordOrder) (reference : Reference) → counts.outputs ≤ length reference.outputs
         → AllClean (stage_in counts code.now) reference masks
-        → Finding.Passed ≡ checks.first_fault (checks.sweeps order (stage_in counts code.now) reference) }
+        → Ok tt ≡ checks.first_fault (checks.sweeps order (stage_in counts code.now) reference) }
 {
     let wrong = masks.wrong;
     if lane_screen::none_named(&wrong, code, counts) {
@@ -272,17 +257,12 @@ fn nothing_named(masks: Masks, code: &[u16], counts: Counts) -> bool
 }
 
 // 32 at the least gate that never rises, if there is one.
-fn find_idle(low: Found) -> Finding
-    ensures { result ≡ checks.at_fault 32 1 0 low Finding.Passed }
+fn find_idle(low: Option<usize>) -> Result<(), Verdict>
+    ensures { result ≡ checks.at_fault 32 1 0 low (Ok tt) }
 {
     match low {
-        Found::At(g) => Finding::Fault(Verdict {
-            number: 32,
-            file: 1,
-            at: g as u64,
-            word: 0,
-        }),
-        Found::Nothing => Finding::Passed,
+        Some(g) => Err(Verdict::fault(32, 1, g)),
+        None => Ok(()),
     }
 }
 
@@ -294,7 +274,7 @@ pub fn sweep_all(
     counts: Counts,
     reference: &[u16],
     sizes: Counts,
-) -> Finding
+) -> Result<(), Verdict>
     requires { BothLoaded counts code.now sizes reference.now }
     ensures { result ≡ checks.first_fault (checks.word_checks order (stage_in counts code.now) (reference_in sizes reference.now)) }
 {
@@ -307,16 +287,6 @@ pub fn sweep_all(
     }
     let mut list = [0u16; words::NAMES];
     let count = words::list_words(order, code, counts, &mut list);
-    if let Finding::Fault(v) = sweep_named(
-        order,
-        &list[..count],
-        masks,
-        code,
-        counts,
-        reference,
-        sizes,
-    ) {
-        return Finding::Fault(v);
-    }
+    sweep_named(order, &list[..count], masks, code, counts, reference, sizes)?;
     last
 }

@@ -81,7 +81,8 @@ fn level_holding(
 // ---- settling
 
 // The gates from place `start` of the order on are evaluated once each, in the order; gate `held` stays low. A `held` that
-// is no gate holds none. The gates before that place have their levels already.
+// is no gate holds none: a number and no Option, since settled_holding_in says it by the number. The gates before that place have their
+// levels already.
 pub fn settle_from(code: &[u16], counts: Counts, row: &mut [u8], start: usize, held: usize)
     requires { StageLoaded counts code.now × InOrder counts code.now × RowFor counts row.old
         × SettledTo start held counts code.now row.old }
@@ -90,12 +91,9 @@ pub fn settle_from(code: &[u16], counts: Counts, row: &mut [u8], start: usize, h
 {
     let entries = gates::table();
     let first = 2 * counts.inputs;
-    let count = counts.gates;
-    let mut i = start;
-    while i < count {
+    for i in start..counts.gates {
         let k = form::gate_at(code, counts, i);
         row[first + k] = level_holding(&entries, code, counts, k, row, held);
-        i += 1;
     }
 }
 
@@ -142,7 +140,7 @@ pub fn level_falling(
 }
 
 // The gates settle by the fall rule for the rails in the row, where their levels are the rest's: each is evaluated once, in the order. Gate
-// `kept` stays high; where it is no gate, none is kept.
+// `kept` stays high; where it is no gate, none is kept (a number here too, by fallen_in).
 pub fn fall(code: &[u16], counts: Counts, row: &mut [u8], kept: usize)
     requires { StageLoaded counts code.now × InOrder counts code.now × RowFor counts row.old }
     ensures settled { nets_in counts row.new ≡ fallen_in kept counts code.now row.old }
@@ -150,11 +148,8 @@ pub fn fall(code: &[u16], counts: Counts, row: &mut [u8], kept: usize)
 {
     let entries = gates::table();
     let first = 2 * counts.inputs;
-    let count = counts.gates;
-    let mut i: usize = 0;
-    while i < count {
+    for i in 0..counts.gates {
         let k = form::gate_at(code, counts, i);
         row[first + k] = level_falling(&entries, code, counts, k, row, kept);
-        i += 1;
     }
 }

@@ -1,5 +1,6 @@
 -- What reading a stage file and loading it leave together: the stage as the file has it, its registers and C-elements, and without registers a stage.
 -- Assumes nothing.
+use Rattle.std.specs.Prelude.{Ok, Err}
 use Prim.Native.Nat.{ℕ, zero, suc, ◌+◌, ◌-◌, ◌*◌, ◌/◌, ◌%◌, ◌^◌, ◌≤◌, ◌<◌}
 use native.Mathlib.Omega.{arith}
 use native.Mathlib.Decide.{dec_lt}
@@ -19,8 +20,8 @@ use Rattle.netlist.specs.declared.Sort.TheVariants as sort
 use Rattle.netlist.specs.declared.Limits.{Limits}
 use Rattle.netlist.specs.declared.Counts.{Counts}
 use Rattle.netlist.specs.Commands.{stage_file, is_sort, most_parts}
-use Rattle.netlist.specs.declared.Outcome.{Outcome}
-use Rattle.netlist.specs.declared.Outcome.TheVariants as outcome
+use Rattle.netlist.specs.Types.{Outcome}
+use Rattle.netlist.specs.Types.{refusal}
 use Rattle.netlist.specs.Reading.{Nets, first_part, part_nets, carries_data, Places, count_of, sorts_of, counts_of, nets_of, Reading, refused, readable, read_file, stage_limits, NoMore, Within}
 use Rattle.netlist.specs.Read.{outcome_of}
 use Rattle.netlist.specs.Content.{stage_of}
@@ -189,7 +190,7 @@ module _ {most : Limits} (less : NoMore most stage_limits) {s places : List ℕ}
 
 -- with registers or without, by the file that was asked for
 pub read_as : (registers : Bool) {f : File} {most : Limits} {s places : List ℕ} {c : Counts} → f ≡ stage_file registers → files.RoomFor f most (length places) →
-    outcome.Readable c ≡ outcome_of (read_file f most s) → Placed most (read_file f most s) places → WasRead (stage_file registers) most s places c
+    Ok c ≡ outcome_of (read_file f most s) → Placed most (read_file f most s) places → WasRead (stage_file registers) most s places c
 read_as registers {f} {most} {s} {places} {c} is room e placed =
     subst (λ (f : File). WasRead f most s places c) is (was_read f most s places c room.space e placed)
 
@@ -212,13 +213,13 @@ holds_stage {most} less {s} {places} {c} w {code} same is raw =
     rw w.reading
     (subst (λ (d : Counts). StageLoaded d code × (stage_in d code ≡ stage_of s (places_in most c places))) (sym w.counts) (plain_stage less (stage_read false w) same is raw zero, same))
 
-pub holds_no_pipeline : (s : List ℕ) (x : Reading) (number at : ℕ) (code nets regs : List ℕ) → outcome.Refused number at ≡ outcome_of x → HoldsPipeline s x code nets regs
+pub holds_no_pipeline : (s : List ℕ) (x : Reading) (number at : ℕ) (code nets regs : List ℕ) → Err (refusal number at) ≡ outcome_of x → HoldsPipeline s x code nets regs
 unfolding HoldsPipeline outcome_of
 holds_no_pipeline s (refused k p) number at code nets regs e = tt
 holds_no_pipeline s (readable p) number at code nets regs e = absurd (let z : ◌≡◌ {A = ℕ} 0 1 = cc in omega arith)
 
 -- what a reading and what it left say together
-pub pipeline_told : (s : List ℕ) (x : Reading) (c : Counts) (code nets regs : List ℕ) → outcome.Readable c ≡ outcome_of x → HoldsPipeline s x code nets regs →
+pub pipeline_told : (s : List ℕ) (x : Reading) (c : Counts) (code nets regs : List ℕ) → Ok c ≡ outcome_of x → HoldsPipeline s x code nets regs →
     (p : Places) × (x ≡ readable p) × (c ≡ counts_of p) × PipelineHeld s p code nets regs
 unfolding outcome_of HoldsPipeline
 pipeline_told s (refused k p) c code nets regs e h = absurd (let z : ◌≡◌ {A = ℕ} 0 1 = cc in omega arith)

@@ -1,5 +1,6 @@
 -- What a file that was read says of the command at each of its places, and what reading and loading leave.
 -- Assumes nothing.
+use Rattle.std.specs.Prelude.{Ok, Err}
 use Prim.Native.Nat.{ℕ, ◌+◌, ◌*◌, ◌^◌, ◌≤◌, ◌<◌}
 use native.Mathlib.Omega.{arith}
 use lib.Pow.{pow_mono}
@@ -14,7 +15,8 @@ use Rattle.netlist.specs.declared.Limits.{Limits}
 use Rattle.netlist.specs.declared.Counts.{Counts}
 use Rattle.netlist.specs.Bytes.{byte, operand}
 use Rattle.netlist.specs.Commands.{stage_file, command_table, own_commands, form_in, role_of, needed}
-use Rattle.netlist.specs.declared.Outcome.TheVariants as outcome
+use Rattle.netlist.specs.declared.Refusal.{Refusal}
+use Rattle.netlist.specs.Types.{refusal}
 use Rattle.netlist.specs.Reading.{Nets, carries_data, names, Places, counts_of, nets_of, Reading, refused, readable, read_file}
 use Rattle.netlist.specs.Read.{GateRead, OutputRead, Read, outcome_of}
 use Rattle.netlist.specs.Content.{stage_of, reference_of}
@@ -130,12 +132,12 @@ few_care file.Pipeline most s p e =
     omega (arith, rising_length (2 ^ p.inputs) 0 p.care r.care_in_holds, pow_mono {i = p.inputs} {j = most.inputs} r.inputs_in.1)
 few_care file.Reference most s p e = omega (arith, ap length (no_care most s p e))
 
-pub was_read : (f : File) (most : Limits) (s places : List ℕ) (c : Counts) → first_care most + most_care f most ≤ length places → outcome.Readable c ≡ outcome_of (read_file f most s) →
+pub was_read : (f : File) (most : Limits) (s places : List ℕ) (c : Counts) → first_care most + most_care f most ≤ length places → Ok c ≡ outcome_of (read_file f most s) →
     Placed most (read_file f most s) places → WasRead f most s places c
 unfolding outcome_of Placed
 was_read f most s places c room e placed = go (read_file f most s) refl e placed
   where
-    go : (x : Reading) → read_file f most s ≡ x → outcome.Readable c ≡ outcome_of x → Placed most x places → WasRead f most s places c
+    go : (x : Reading) → read_file f most s ≡ x → Ok c ≡ outcome_of x → Placed most x places → WasRead f most s places c
     go (refused number at) is e t = absurd (let z : ◌≡◌ {A = ℕ} 0 1 = cc in omega arith)
     go (readable p) is e t =
         let q : counts_of p ≡ c = cc in
@@ -163,30 +165,32 @@ module _ (most : Limits) (s : List ℕ) where
       (l, e))
 
 module _ (s : List ℕ) where
-  pub holds_no_stage : (x : Reading) (number at : ℕ) (code : List ℕ) → outcome.Refused number at ≡ outcome_of x → HoldsStage s x code
+  pub holds_no_stage : (x : Reading) (number at : ℕ) (code : List ℕ) → Err (refusal number at) ≡ outcome_of x → HoldsStage s x code
   unfolding HoldsStage outcome_of
   holds_no_stage (refused k p) number at code e = tt
   holds_no_stage (readable p) number at code e = absurd (let z : ◌≡◌ {A = ℕ} 0 1 = cc in omega arith)
 
-  pub holds_no_reference : (x : Reading) (number at : ℕ) (code : List ℕ) → outcome.Refused number at ≡ outcome_of x → HoldsReference s x code
+  pub holds_no_reference : (x : Reading) (number at : ℕ) (code : List ℕ) → Err (refusal number at) ≡ outcome_of x → HoldsReference s x code
   unfolding HoldsReference outcome_of
   holds_no_reference (refused k p) number at code e = tt
   holds_no_reference (readable p) number at code e = absurd (let z : ◌≡◌ {A = ℕ} 0 1 = cc in omega arith)
 
 -- ---- what a reading and what it left say together
 
-pub was_refused : (x : Reading) (number at : ℕ) → outcome.Refused number at ≡ outcome_of x → x ≡ refused number at
+pub was_refused : (x : Reading) (number at : ℕ) → Err (refusal number at) ≡ outcome_of x → x ≡ refused number at
 unfolding outcome_of
-was_refused (refused k p) number at e = let a : k ≡ number = cc in let b : p ≡ at = cc in rw (a, b)
+was_refused (refused k p) number at e =
+    let r : refusal k p ≡ refusal number at = cc in
+    rw (ap (λ (x : Refusal). x.number) r, ap (λ (x : Refusal). x.at) r)
 was_refused (readable p) number at e = absurd (let z : ◌≡◌ {A = ℕ} 0 1 = cc in omega arith)
 
-pub stage_held : (s : List ℕ) (x : Reading) (c : Counts) (code : List ℕ) → outcome.Readable c ≡ outcome_of x → HoldsStage s x code →
+pub stage_held : (s : List ℕ) (x : Reading) (c : Counts) (code : List ℕ) → Ok c ≡ outcome_of x → HoldsStage s x code →
     (p : Places) × (x ≡ readable p) × (stage_in c code ≡ stage_of s p) × StageLoaded c code
 unfolding outcome_of HoldsStage
 stage_held s (refused k p) c code e h = absurd (let z : ◌≡◌ {A = ℕ} 0 1 = cc in omega arith)
 stage_held s (readable p) c code e h = let q : c ≡ counts_of p = cc in rw q (p, refl, h.1, h.0)
 
-pub reference_held : (s : List ℕ) (x : Reading) (c : Counts) (code : List ℕ) → outcome.Readable c ≡ outcome_of x → HoldsReference s x code →
+pub reference_held : (s : List ℕ) (x : Reading) (c : Counts) (code : List ℕ) → Ok c ≡ outcome_of x → HoldsReference s x code →
     (p : Places) × (x ≡ readable p) × (reference_in c code ≡ reference_of s p) × ReferenceLoaded c code
 unfolding outcome_of HoldsReference
 reference_held s (refused k p) c code e h = absurd (let z : ◌≡◌ {A = ℕ} 0 1 = cc in omega arith)

@@ -1,5 +1,6 @@
 -- A register or C-element in both tables, by its note; and one after the other.
 -- Assumes nothing.
+use Rattle.std.specs.Prelude.{None}
 use Prim.Native.Nat.{ℕ, zero, suc, ◌+◌, ◌*◌, ◌/◌, ◌%◌, ◌≤◌, ◌<◌}
 use native.Mathlib.Omega.{arith}
 use native.Mathlib.Decide.{ℕ_discrete, dec_lt}
@@ -9,7 +10,6 @@ use lib.ListN.{length, get_or, drop, drop_of_length-le, get_or-eq_default}
 use lib.Seq.{drop-cons}
 use borrow.Author.Tests.{eq-eqb, ne_eqb}
 use Rattle.netlist.specs.Bytes.{operand, operands, absent}
-use Rattle.netlist.specs.declared.Found.TheVariants.{Nothing}
 use Rattle.netlist.specs.Commands.{pins_used, misfit_from}
 use Rattle.netlist.specs.Read.{RegisterRead, ElementRead, PartRead}
 use Rattle.netlist.specs.Writing.{All}
@@ -17,7 +17,7 @@ use Rattle.netlist.proofs.Operands.{length_operands, misfit_none, bare_absent}
 use Rattle.read_file.specs.Files.{sort_noted, part_noted}
 use Rattle.wiring_spec.specs.Parts.{Register, Part, register, element, part_at}
 use Rattle.write_command.specs.Put.{Put}
-use Rattle.write_command.proofs.Joining.{put-++, put_none, Left, left_all, left_put, left_room, left_none}
+use Rattle.write_command.proofs.Joining.{put-++, put_none, Left, left_put, left_room, left_none}
 use Rattle.circuit_load.specs.declared.Spot.{Spot}
 use Rattle.circuit_load.specs.Parts.{rail_row, ko_row, net_rows, register_rows, NotesRead, parts_in, spot_after, PartPut}
 
@@ -69,7 +69,7 @@ operand-there s place zero i l = absurd (omega arith)
 operand-there s place (suc m) zero l = let e : place + 2 * 0 ≡ place = omega arith in rw e
 operand-there s place (suc m) (suc i) l = let e : place + 2 * suc i ≡ place + 2 + 2 * i = omega arith in rw e (operand-there s (place + 2) m i (omega arith))
 
-pin_number_lem : (s : List ℕ) (place : ℕ) → misfit_from (pins_used s place) 0 s place 4 ≡ Nothing → (i : ℕ) → i < 4 →
+pin_number_lem : (s : List ℕ) (place : ℕ) → misfit_from (pins_used s place) 0 s place 4 ≡ None → (i : ℕ) → i < 4 →
     get_or (operands s place (pins_used s place)) i absent ≡ operand s (place + 2 * i)
 pin_number_lem s place fits i l = go (dec_lt i (pins_used s place))
   where
@@ -188,12 +188,6 @@ ends (register r) first here = record { nets = omega arith; registers = omega ar
 ends (element pins) first here = record { nets = omega arith; registers = omega arith; few_nets = omega arith; few_registers = omega arith }
 
 module _ (s notes : List ℕ) {first : ℕ} {nets₀ regs₀ : List ℕ} where
-  pub parts_start : length (net_rows 0 (parts_in s notes)) ≤ length nets₀ → length (register_rows first (parts_in s notes)) ≤ length regs₀ →
-      PartsLeft (parts_in s notes) first nets₀ nets₀ regs₀ regs₀ (record { net = 0; register = 0 }) 0
-  parts_start a b =
-      let z : first + 0 ≡ first = omega arith in
-      record { nets_left = left_all refl (omega arith); registers_left = rw z (left_all refl (omega arith)); few_nets = omega arith; few_registers = omega arith }
-
   module _ {nets regs : List ℕ} {here : Spot} {i : ℕ} (l : PartsLeft (parts_in s notes) first nets₀ nets regs₀ regs here i) (h : i < length notes) where
     abbrev part : Part
     part = part_at s (part_noted (get_or notes i 0))

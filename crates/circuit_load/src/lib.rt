@@ -17,7 +17,7 @@ ghost use Rattle.circuit_load.specs.Load.{pin_number, cell_row, gate_row, gates_
 ghost use Rattle.circuit_load.specs.Parts.{net_rows, register_rows, NotesRead, parts_in, PartPut, PipelineHeld, HoldsPipeline};
 
 use gates::Kind;
-use netlist::{Counts, File, Limits, Outcome};
+use netlist::{Counts, File, Limits, Refusal};
 
 // The room that the nets of the most registers and C-elements take, and the registers.
 pub const NETS_CODE: usize = 32 * netlist::PARTS;
@@ -46,19 +46,13 @@ fn pin_number(s: &[u8], at: usize, pins: u8, ground: u16, i: usize) -> u16
 }
 
 // The numbers of gate k: its cell, the nets at its pins, its places in the order, which are not known yet, and 1 for hold or 0.
+#[tactic(auto, using(write_command::proofs::Joining::put_copied))]
 fn put_gate(code: &mut [u16], k: usize, cell: u16, a: u16, b: u16, c: u16, d: u16, hold: u16)
     requires { 8 * k + 8 ≤ length code.old }
     ensures { Put code.old (8 * k) (cell ∷ a ∷ b ∷ c ∷ d ∷ 0 ∷ 0 ∷ hold ∷ []) code.new }
 {
     let at = 8 * k;
-    code[at] = cell;
-    code[at + 1] = a;
-    code[at + 2] = b;
-    code[at + 3] = c;
-    code[at + 4] = d;
-    code[at + 5] = 0;
-    code[at + 6] = 0;
-    code[at + 7] = hold;
+    code[at..at + 8].copy_from_slice(&[cell, a, b, c, d, 0, 0, hold]);
 }
 
 // The numbers of a gate of a cell, with hold 1 or 0, whose command stands at a place.
@@ -101,10 +95,8 @@ fn load_gates(s: &[u8], places: &[u16], count: usize, ground: u16, code: &mut [u
     ensures long { length code.new ≡ length code.old }
     ensures written { WrittenTo (gates_number s.now places.now ground) code.new (8 * count) }
 {
-    let mut k: usize = 0;
-    while k < count {
+    for k in 0..count {
         load_gate(s, places[k] as usize, ground, code, k);
-        k += 1;
     }
 }
 
@@ -131,11 +123,8 @@ fn load_stage(s: &[u8], places: &[u16], most: Limits, counts: Counts, ground: u1
 {
     load_gates(s, places, counts.gates, ground, code);
     let first = 8 * counts.gates;
-    let end = 2 * counts.outputs + counts.care;
-    let mut j: usize = 0;
-    while j < end {
+    for j in 0..2 * counts.outputs + counts.care {
         code[first + j] = output_number(s, places, most, counts, j);
-        j += 1;
     }
 }
 
@@ -160,31 +149,23 @@ pub struct Spot {
 }
 
 // The row of net x after the gates: its sort, its pins, and the number of its register.
+#[tactic(auto, using(write_command::proofs::Joining::put_copied))]
 fn put_net(nets: &mut [u16], x: usize, sort: u16, a: u16, b: u16, c: u16, d: u16, k: u16)
     requires { 8 * x + 8 ≤ length nets.old }
     ensures { Put nets.old (8 * x) (sort ∷ a ∷ b ∷ c ∷ d ∷ 0 ∷ k ∷ 0 ∷ []) nets.new }
 {
     let at = 8 * x;
-    nets[at] = sort;
-    nets[at + 1] = a;
-    nets[at + 2] = b;
-    nets[at + 3] = c;
-    nets[at + 4] = d;
-    nets[at + 5] = 0;
-    nets[at + 6] = k;
-    nets[at + 7] = 0;
+    nets[at..at + 8].copy_from_slice(&[sort, a, b, c, d, 0, k, 0]);
 }
 
 // The row of register k: the net of its rail 0, the nets at its data, and the net at its Ki.
+#[tactic(auto, using(write_command::proofs::Joining::put_copied))]
 fn put_register(regs: &mut [u16], k: usize, rail: u16, a: u16, b: u16, ki: u16)
     requires { 4 * k + 4 ≤ length regs.old }
     ensures { Put regs.old (4 * k) (rail ∷ a ∷ b ∷ ki ∷ []) regs.new }
 {
     let at = 4 * k;
-    regs[at] = rail;
-    regs[at + 1] = a;
-    regs[at + 2] = b;
-    regs[at + 3] = ki;
+    regs[at..at + 4].copy_from_slice(&[rail, a, b, ki]);
 }
 
 // The rows of the register or C-element of a note; what stands before the next.
@@ -238,10 +219,8 @@ fn load_parts(s: &[u8], notes: &[u16], first: usize, nets: &mut [u16], regs: &mu
         net: 0,
         register: 0,
     };
-    let mut i: usize = 0;
-    while i < notes.len() {
-        here = put_part(s, notes[i], first, here, nets, regs);
-        i += 1;
+    for note in notes {
+        here = put_part(s, *note, first, here, nets, regs);
     }
 }
 
@@ -282,7 +261,7 @@ pub fn read_pipeline_within(
     code: &mut [u16],
     nets: &mut [u16],
     regs: &mut [u16],
-) -> Outcome
+) -> Result<Counts, Refusal>
     requires { NoMore most stage_limits × (largest_stage ≤ length code.old)
         × (32 * most_parts ≤ length nets.old) × (4 * most_parts ≤ length regs.old) }
     ensures answered { result ≡ outcome_of (read_file (stage_file registers) most s.now) }
@@ -291,14 +270,14 @@ pub fn read_pipeline_within(
 {
     let mut places = [0u16; STAGE_PLACES];
     let outcome = read_file::read_file(netlist::stage_file(registers), most, s, &mut places);
-    if let Outcome::Readable(counts) = outcome {
+    if let Ok(counts) = outcome {
         load_pipeline(s, &places, most, counts, code, nets, regs);
     }
     outcome
 }
 
 // Reads a stage file without registers, within the limits of a stage file, and loads the stage that it holds.
-pub fn read_stage(s: &[u8], code: &mut [u16]) -> Outcome
+pub fn read_stage(s: &[u8], code: &mut [u16]) -> Result<Counts, Refusal>
     requires { largest_stage ≤ length code.old }
     ensures answered { result ≡ outcome_of (read_file file.Stage stage_limits s.now) }
     ensures loaded { HoldsStage s.now (read_file file.Stage stage_limits s.now) code.new }
@@ -306,7 +285,7 @@ pub fn read_stage(s: &[u8], code: &mut [u16]) -> Outcome
     let mut places = [0u16; STAGE_PLACES];
     let most = netlist::stage_limits();
     let outcome = read_file::read_file(File::Stage, most, s, &mut places);
-    if let Outcome::Readable(counts) = outcome {
+    if let Ok(counts) = outcome {
         load_stage(s, &places, most, counts, ground_of(counts), code);
     }
     outcome
@@ -353,23 +332,20 @@ pub fn load_reference(s: &[u8], places: &[u16], most: Limits, sizes: Counts, ref
     ensures same { reference_in sizes reference.new ≡ reference_of s.now (places_in most sizes places.now) }
     ensures loaded { ReferenceLoaded sizes reference.new }
 {
-    let end = 3 * sizes.gates + sizes.outputs;
-    let mut i: usize = 0;
-    while i < end {
+    for i in 0..3 * sizes.gates + sizes.outputs {
         reference[i] = reference_number(s, places, most, sizes, i);
-        i += 1;
     }
 }
 
 // Reads a reference file within some limits, and loads the reference that it holds.
-pub fn read_reference_within(s: &[u8], most: Limits, code: &mut [u16]) -> Outcome
+pub fn read_reference_within(s: &[u8], most: Limits, code: &mut [u16]) -> Result<Counts, Refusal>
     requires { NoMore most reference_limits × (largest_reference ≤ length code.old) }
     ensures answered { result ≡ outcome_of (read_file file.Reference most s.now) }
     ensures loaded { HoldsReference s.now (read_file file.Reference most s.now) code.new }
 {
     let mut places = [0u16; REFERENCE_PLACES];
     let outcome = read_file::read_file(File::Reference, most, s, &mut places);
-    if let Outcome::Readable(counts) = outcome {
+    if let Ok(counts) = outcome {
         load_reference(s, &places, most, counts, code);
     }
     outcome

@@ -1,13 +1,16 @@
 -- Placing the gates: all of them wait; one that no waiting gate feeds takes the next place; and a pass over all of them.
 -- Assumes nothing.
-use Prim.Native.Nat.{ℕ, zero, suc, ◌+◌, ◌*◌, ◌<◌}
+use Prim.Native.Nat.{ℕ, zero, suc, ◌+◌, ◌*◌, ◌≤◌, ◌<◌}
 use native.Mathlib.Omega.{arith}
+use Rattle.std.proofs.lemmas.Slice.{put_mid-paste}
+use Rattle.std.proofs.lemmas.List.Edits.{paste_none, fill_from_more}
+use borrow.Rule.Slice.PartMut.{put_mid}
 use native.Mathlib.Decide.{ℕ_discrete, dec_lt}
 use mathlib.Core.Path.{◌≡◌, refl, sym, ap, ◌∙◌, subst}
 use mathlib.Core.Bool.{Bool, true, false, ◌&&◌, not}
 use mathlib.Core.List.{List}
 use lib.ListN.{length, get_or, set, replicate, length-replicate}
-use lib.Seq.{get_or-set_same, get_or-set_other}
+use lib.Seq.{paste, get_or-set_same, get_or-set_other}
 use lib.Dec.{ltb}
 use borrow.Author.Tests.{ltb-true, lt-ltb}
 use Rattle.netlist.specs.declared.Counts.{Counts}
@@ -96,6 +99,21 @@ module _ (c : Counts) where
       all = λ k l. all' k l (ℕ_discrete k m);
       only = λ p e. one_more p e (ℕ_discrete p next);
     }
+
+  -- the first m of the gates' places filled with 1
+  wait_to : (marks : List ℕ) → Unmarked c marks → (m : ℕ) → m ≤ c.gates → WaitTo c (paste marks (2 * c.inputs) (replicate m 1) m) m
+  wait_to marks u zero h = subst (λ (v : List ℕ). WaitTo c v 0) (paste_none marks (2 * c.inputs) (replicate 0 1)) (wait_none marks u)
+  wait_to marks u (suc m) h =
+      let e : m + 1 ≡ suc m = omega arith in
+      subst (λ (k : ℕ). WaitTo c (paste marks (2 * c.inputs) (replicate k 1) k) k) e
+      (subst (λ (v : List ℕ). WaitTo c v (m + 1)) (fill_from_more marks (2 * c.inputs) m 1 (omega (arith, u.marks_for.long, u.marks_for.room)))
+      (wait_more (paste marks (2 * c.inputs) (replicate m 1) m) m (wait_to marks u m (omega arith)) (omega arith)))
+
+  -- all of them
+  pub wait_filled : (marks part : List ℕ) (n : ℕ) → Unmarked c marks → n ≡ c.gates → part ≡ replicate n 1 → WaitTo c (put_mid (2 * c.inputs) n marks part) c.gates
+  wait_filled marks part n u e f =
+      subst (λ (v : List ℕ). WaitTo c v c.gates) (sym (put_mid-paste (2 * c.inputs) n marks part (replicate c.gates 1) c.gates (f ∙ ap (λ (k : ℕ). replicate k 1) e) (sym e) (sym (length-replicate {A = ℕ} c.gates 1))))
+      (wait_to marks u c.gates (omega arith))
 
   pub placing_start : (code waiting : List ℕ) → StageLoaded c code → WaitTo c waiting c.gates → Placing c code waiting 0
   placing_start code waiting l w = record {

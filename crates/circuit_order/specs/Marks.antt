@@ -1,8 +1,6 @@
 -- Marks on the nets of a loaded stage, and the search for the least gate that reaches itself, which visits what a gate comes from.
-use Rattle.std.specs.Prelude.{ℕ, ◌+◌, ◌*◌, ◌≤◌, ◌<◌, ◌≡◌, Bool, true, false, List, length, get_or}
+use Rattle.std.specs.Prelude.{ℕ, ◌+◌, ◌*◌, ◌≤◌, ◌<◌, ◌≡◌, Bool, true, false, List, length, get_or, Option, None}
 use Rattle.netlist.specs.declared.Counts.{Counts}
-use Rattle.netlist.specs.declared.Found.{Found}
-use Rattle.netlist.specs.declared.Found.TheVariants.{Nothing}
 use Rattle.netlist.specs.Content.{Gate}
 use Rattle.verdict.specs.Rows.{high}
 use Rattle.verdict.specs.Graph.{Leads, any_high}
@@ -60,8 +58,8 @@ pub record From (c : Counts) (code left : List ℕ) (g : ℕ) : Type 0 where
   pub none : (k : ℕ) → k < g → reaches_itself c.inputs (stage_gates c code) k ≡ false
 
 -- 12: the least gate that reaches itself. The stage is the same; where no gate was found its gates are in order.
-pub record LoopFound (c : Counts) (before code : List ℕ) (found : Found) : Type 0 where
+pub record LoopFound (c : Counts) (before code : List ℕ) (found : Option ℕ) : Type 0 where
   pub loaded : StageLoaded c code
   pub same : stage_in c code ≡ stage_in c before
   pub least_loop : found ≡ least (reaches_itself c.inputs (stage_gates c before)) 0 (length (stage_gates c before))
-  pub in_order : found ≡ Nothing → InOrder c code
+  pub in_order : found ≡ None → InOrder c code

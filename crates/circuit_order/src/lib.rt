@@ -10,7 +10,7 @@ ghost use Rattle.circuit.specs.Form.{Reordered};
 ghost use Rattle.circuit_order.specs.Placing.{Placing, is_ready, WaitTo, PlacedAfter, Ordered};
 ghost use Rattle.circuit_order.specs.Marks.{Unmarked, Left, Visited, Pins, From, LoopFound};
 
-use netlist::{Counts, Found};
+use netlist::Counts;
 
 // ---- a topological order
 
@@ -19,11 +19,8 @@ fn wait_all(counts: Counts, marks: &mut [u8])
     requires { Unmarked counts marks.old }
     ensures { WaitTo counts marks.new counts.gates }
 {
-    let mut k: usize = 0;
-    while k < counts.gates {
-        marks[2 * counts.inputs + k] = 1;
-        k += 1;
-    }
+    let first = 2 * counts.inputs;
+    marks[first..first + counts.gates].fill(1);
 }
 
 // Gate k, which is ready, takes the next place of the order.
@@ -53,8 +50,7 @@ fn place_after(
         return taken;
     }
     let mut placed = taken;
-    let mut pin: usize = 0;
-    while pin < 4 {
+    for pin in 0..4 {
         let feeder = circuit::form::pin_of(code, counts, k, pin) as usize;
         if 0 < waiting[feeder] {
             placed = place_after(
@@ -69,7 +65,6 @@ fn place_after(
                 return placed;
             }
         }
-        pin += 1;
     }
     if waiting[2 * counts.inputs + k] == 0 {
         return placed;
@@ -86,13 +81,11 @@ fn place_all(code: &mut [u16], counts: Counts, waiting: &mut [u8]) -> usize
     wait_all(counts, waiting);
     let depth = 2 * counts.inputs + counts.gates + 1;
     let mut placed: usize = 0;
-    let mut k: usize = 0;
-    while k < counts.gates {
+    for k in 0..counts.gates {
         placed = place_after(code, counts, k, waiting, placed, depth);
         if 0 < waiting[2 * counts.inputs + k] {
             return placed;
         }
-        k += 1;
     }
     placed
 }
@@ -104,14 +97,12 @@ fn visit(code: &[u16], counts: Counts, k: usize, left: &mut [u8])
     requires { StageLoaded counts code.now × (k < counts.gates) × Left counts left.old }
     ensures { Visited counts code.now left.old left.new (Pins counts code.now k) }
 {
-    let mut i: usize = 0;
-    while i < 4 {
+    for i in 0..4 {
         let net = circuit::form::pin_of(code, counts, k, i) as usize;
         if 0 < left[net] {
             left[net] = 0;
             visit(code, counts, net - 2 * counts.inputs, left);
         }
-        i += 1;
     }
 }
 
@@ -125,33 +116,31 @@ fn reaches_itself(code: &[u16], counts: Counts, g: usize, left: &mut [u8]) -> bo
 }
 
 // The least gate that reaches itself, gate by gate.
-fn least_loop(code: &[u16], counts: Counts) -> Found
+fn least_loop(code: &[u16], counts: Counts) -> Option<usize>
     requires { StageLoaded counts code.now }
     ensures { result ≡ least (reaches_itself counts.inputs (stage_gates counts code.now)) 0 counts.gates }
 {
     let mut later = [0u8; circuit::ROW];
     wait_all(counts, &mut later);
-    let mut g: usize = 0;
-    while g < counts.gates {
+    for g in 0..counts.gates {
         let mut left = later;
         if reaches_itself(code, counts, g, &mut left) {
-            return Found::At(g);
+            return Some(g);
         }
         later[2 * counts.inputs + g] = 0;
-        g += 1;
     }
-    Found::Nothing
+    None
 }
 
 // 12: the least gate that reaches itself. Where there is none, the code then holds a topological order of the gates.
-pub fn order_gates(code: &mut [u16], counts: Counts) -> Found
+pub fn order_gates(code: &mut [u16], counts: Counts) -> Option<usize>
     requires { StageLoaded counts code.old }
     ensures { LoopFound counts code.old code.new result }
 {
     let mut waiting = [0u8; circuit::ROW];
     let placed = place_all(code, counts, &mut waiting);
     if placed == counts.gates {
-        return Found::Nothing;
+        return None;
     }
     least_loop(code, counts)
 }

@@ -5,11 +5,11 @@ use native.Mathlib.Omega.{arith}
 use native.Mathlib.Decide.{ℕ_discrete}
 use mathlib.Core.Path.{◌≡◌, refl, sym, ap, ◌∙◌, subst}
 use mathlib.Core.Bool.{Bool, true, false, cond, not, ◌&&◌}
-use mathlib.Core.List.{List, [], ◌∷◌}
+use mathlib.Core.List.{List}
 use lib.ListN.{length, get_or, set, length-set}
 use lib.Seq.{get_or-set_same, get_or-set_other}
 use lib.Dec.{eqb, leb, ltb}
-use borrow.Author.Tests.{lt-ltb, le-ltb, le-leb, lt-leb, leb-false, ltb-true, ltb-false, eq-eqb, ne_eqb, eqb-true, not-true}
+use borrow.Author.Tests.{lt-ltb, le-ltb, lt-leb, leb-false, ltb-true, ltb-false, eq-eqb, eqb-true, not-true}
 use Rattle.verdict.specs.Paths.{In}
 use Rattle.verdict.proofs.Steps.{some_in}
 use Rattle.verdict.specs.Lists.{some}
@@ -23,14 +23,6 @@ never e = let z : ◌≡◌ {A = ℕ} 0 1 = cc in omega arith
 -- ---- waiting
 
 module _ (code : List ℕ) (first count x : ℕ) where
-  pub waits_before : x < first → false ≡ waiting code first count x
-  unfolding waiting
-  waits_before h = rw (lt-ltb x first h)
-
-  pub waits_past : first ≤ x → count ≤ x - first → false ≡ waiting code first count x
-  unfolding waiting
-  waits_past h l = rw (le-ltb x first h, le-leb count (x - first) l)
-
   module _ (h : first ≤ x) (l : x - first < count) where
     pub waits_at : waiting code first count x ≡ (eqb (slot code (x - first) 0) 3 && eqb (slot code (x - first) 5) 0)
     unfolding waiting
@@ -205,42 +197,6 @@ module _
 -- there are no more places than C-elements
 pub placed_bound : (code₀ code : List ℕ) (first count placed : ℕ) → Placing code₀ code first count placed → placed ≤ count
 placed_bound code₀ code first count placed w = omega (arith, w.few, passing_bound (λ k. ltb 0 (slot code k 5)) count)
-
--- ---- what the tests of the code say
-
-module _ (code : List ℕ) (first count x : ℕ) (h : first ≤ x) (l : x - first < count) where
-  plus_none : 8 * (x - first) + 0 ≡ 8 * (x - first)
-  plus_none = omega arith
-
-  pub waits_element : get_or code (8 * (x - first)) 0 ≡ 3 → eqb (get_or code (8 * (x - first) + 5) 0) 0 ≡ waiting code first count x
-  waits_element e = sym (waits_at code first count x h l ∙ ap (λ (b : Bool). b && eqb (slot code (x - first) 5) 0) (eq-eqb (slot code (x - first) 0) 3 (ap (λ (k : ℕ). get_or code k 0) plus_none ∙ e)))
-
-  pub waits_other : (get_or code (8 * (x - first)) 0 ≡ 3 → ⊥) → false ≡ waiting code first count x
-  waits_other d = sym (waits_at code first count x h l ∙ ap (λ (b : Bool). b && eqb (slot code (x - first) 5) 0) (ne_eqb (slot code (x - first) 0) 3 (λ e. d (ap (λ (k : ℕ). get_or code k 0) (sym plus_none) ∙ e))))
-
-module _ (test : ℕ → Bool) (x : ℕ) (xs : List ℕ) (r : Bool) (is : r ≡ test x) where
-  pub any-hit : r ≡ true → true ≡ some test (x ∷ xs)
-  unfolding some
-  any-hit e = rw (sym is ∙ e)
-
-  pub any_miss : r ≡ false → (s : Bool) → s ≡ some test xs → s ≡ some test (x ∷ xs)
-  unfolding some
-  any_miss e s q = rw (sym is ∙ e) q
-
-pub any_last : (test : ℕ → Bool) (x : ℕ) (r : Bool) → r ≡ test x → r ≡ some test (x ∷ [])
-unfolding some
-any_last test x r e = e ∙ go (test x)
-  where
-    go : (b : Bool) → b ≡ cond b true false
-    go true = refl
-    go false = refl
-
-module _ (w q W A : Bool) (iw : w ≡ W) where
-  pub ready_waits : w ≡ true → q ≡ A → (b : Bool) → q ≡ b → not b ≡ (W && not A)
-  ready_waits e iq b f = rw (← iw, e, ← iq, f)
-
-  pub ready_not : w ≡ false → false ≡ (W && not A)
-  ready_not e = rw (← iw, e)
 
 -- ---- a pass
 

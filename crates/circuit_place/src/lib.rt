@@ -6,42 +6,29 @@ ghost use Rattle.verdict.specs.Lists.{some};
 ghost use Rattle.circuit_place.specs.Placing.{waiting, four, Placing, Stuck, Passed};
 
 // Whether a net is a C-element without a place.
+#[tactic(auto, unfolding(crate::specs::Placing::waiting))]
 pub fn waits(code: &[u16], first: usize, count: usize, net: usize) -> bool
     requires { length code.now ≡ 8 * count }
     ensures { result ≡ waiting code.now first count net }
 {
-    if net < first {
+    if net < first || count <= net - first {
         return false;
     }
     let i = net - first;
-    if count <= i {
-        return false;
-    }
-    if code[8 * i] == 3 {
-        return code[8 * i + 5] == 0;
-    }
-    false
+    code[8 * i] == 3 && code[8 * i + 5] == 0
 }
 
-// Whether one of the four nets from `at` on is a C-element without a place.
+// Whether one of the four nets from `at` on is a C-element without a place. Four calls and no `any`: of that the proof did not close, since `some` is a
+// word of this repository, and is no plainer for four.
+#[tactic(auto, unfolding(verdict::specs::Lists::some))]
 fn pin_waits(code: &[u16], first: usize, count: usize, at: usize) -> bool
     requires { (length code.now ≡ 8 * count) × (at + 4 ≤ length code.now) }
     ensures { result ≡ some (waiting code.now first count) (four code.now at) }
 {
-    let a = waits(code, first, count, code[at] as usize);
-    let b = waits(code, first, count, code[at + 1] as usize);
-    let c = waits(code, first, count, code[at + 2] as usize);
-    let d = waits(code, first, count, code[at + 3] as usize);
-    if a {
-        return true;
-    }
-    if b {
-        return true;
-    }
-    if c {
-        return true;
-    }
-    d
+    waits(code, first, count, code[at] as usize)
+        || waits(code, first, count, code[at + 1] as usize)
+        || waits(code, first, count, code[at + 2] as usize)
+        || waits(code, first, count, code[at + 3] as usize)
 }
 
 // Whether net i after the gates is to be placed: a C-element without a place, none such at a pin of it.
@@ -50,13 +37,7 @@ fn is_ready(code: &[u16], first: usize, count: usize, i: usize) -> bool
     ensures { result ≡ (waiting code.now first count (first + i)
         && not (some (waiting code.now first count) (four code.now (8 * i + 1)))) }
 {
-    if waits(code, first, count, first + i) {
-        if pin_waits(code, first, count, 8 * i + 1) {
-            return false;
-        }
-        return true;
-    }
-    false
+    waits(code, first, count, first + i) && !pin_waits(code, first, count, 8 * i + 1)
 }
 
 // A pass: each C-element that is ready takes the next place. How many have one then.
@@ -65,13 +46,11 @@ fn place_ready(code: &mut [u16], first: usize, count: usize, taken: usize) -> us
     ensures { Passed code.old code.new first count taken result }
 {
     let mut placed = taken;
-    let mut i: usize = 0;
-    while i < count {
+    for i in 0..count {
         if is_ready(code, first, count, i) {
             placed += 1;
             code[8 * i + 5] = placed as u16;
         }
-        i += 1;
     }
     placed
 }
@@ -82,6 +61,7 @@ pub fn place_elements(code: &mut [u16], first: usize, count: usize) -> usize
     ensures { Passed code.old code.new first count result result }
 {
     let mut placed: usize = 0;
+    // A `loop`: it counts no index, and ends at the first pass that places none.
     loop {
         let more = place_ready(code, first, count, placed);
         if more == placed {

@@ -8,7 +8,7 @@ use mathlib.Core.List.{List}
 use lib.ListN.{length, get_or, set, length-set}
 use lib.Seq.{set_out, get_or-set_same, get_or-set_other}
 use Rattle.netlist.specs.declared.Counts.{Counts}
-use Rattle.circuit.specs.Stage.{net_count, pin_in, StageLoaded}
+use Rattle.circuit.specs.Stage.{pin_in, StageLoaded}
 use Rattle.circuit_steps.specs.Fed.{FedFrom}
 
 -- an entry stays within a bound that the new number has too

@@ -4,9 +4,8 @@ use native.Mathlib.Omega.{arith}
 use native.Mathlib.Decide.{ℕ_discrete}
 use mathlib.Core.Path.{◌≡◌, refl, sym, ap, ◌∙◌, fun_ext}
 use mathlib.Core.Logic.{◌⊎◌, inl, inr}
-use mathlib.Core.Bool.{Bool, true, false}
 use mathlib.Core.List.{List, []}
-use lib.ListN.{length, get_or, take, set, replicate, length-set}
+use lib.ListN.{get_or, take, set, replicate, length-set}
 use lib.Seq.{get_or-take, get_or-set_same, get_or-set_other}
 use lib.Dec.{ltb}
 use Rattle.runs.specs.Row.{low}

@@ -1,16 +1,15 @@
 -- When a net has switched, those below it and below what it feeds may switch exactly if they could before. Assumes nothing.
 use Prim.Native.Nat.{ℕ, zero, suc, ◌+◌, ◌-◌, ◌*◌, ◌≤◌, ◌<◌}
 use native.Mathlib.Omega.{arith}
-use native.Mathlib.Decide.{dec_lt}
 use mathlib.Core.Path.{◌≡◌, refl, sym, ap, ap₂, ◌∙◌, subst}
 use mathlib.Core.Logic.{◌≢◌}
 use mathlib.Core.Bool.{Bool, false, cond, not}
-use mathlib.Core.List.{List, [], ◌∷◌, map}
-use lib.ListN.{length, get_or, take}
+use mathlib.Core.List.{List, [], ◌∷◌}
+use lib.ListN.{get_or, take}
 use Rattle.gates.specs.Expression.{holds}
 use Rattle.gates.specs.Cell.{set_expression, pin_count}
 use Rattle.runs.specs.Row.{Row, toggle}
-use Rattle.runs.specs.Net.{Net, may_rise, may_fall, all_low, by_net}
+use Rattle.runs.specs.Net.{Net, may_rise, may_fall, all_low}
 use Rattle.runs.specs.Acyclic.{AllPins}
 use Rattle.runs.proofs.Row.{toggle_other}
 use Rattle.runs.proofs.Net.{by_net_both, all_low_local}

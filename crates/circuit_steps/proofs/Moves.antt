@@ -4,16 +4,16 @@ use native.Mathlib.Omega.{arith}
 use mathlib.Core.Path.{◌≡◌, refl, sym, ap, ap₂, ◌∙◌}
 use mathlib.Core.Bool.{Bool, true, false, not, cond, ◌&&◌, ◌||◌}
 use mathlib.Core.List.{List}
-use lib.ListN.{length, get_or}
+use lib.ListN.{get_or}
 use lib.Dec.{eqb, ltb}
 use borrow.Author.Tests.{lt-ltb, le-ltb, ne_eqb}
 use Rattle.gates.specs.Cell.{bit}
-use Rattle.runs.specs.Row.{Row, only}
-use Rattle.runs.specs.Net.{Net, nets, IsGate, may_rise, may_fall}
+use Rattle.runs.specs.Row.{only}
+use Rattle.runs.specs.Net.{Net, may_rise, may_fall}
 use Rattle.runs.proofs.Net.{by_net_rail, by_net_gate}
 use Rattle.netlist.specs.declared.Counts.{Counts}
 use Rattle.verdict.specs.Rows.{high, is_set}
-use Rattle.verdict.specs.Nets.{no_gate, driver, set_in, net_of, row_of}
+use Rattle.verdict.specs.Nets.{no_gate, driver, set_in}
 use Rattle.verdict.specs.Falls.{stays, level_falling}
 use Rattle.verdict.proofs.Bridge.{high_bit}
 use Rattle.verdict.proofs.Falls.{stays_rule}

@@ -7,7 +7,7 @@ use mathlib.Core.Bool.{Bool, true, false, not, cond, ◌&&◌, ◌||◌}
 use lib.Dec.{eqb}
 use Rattle.runs.specs.Row.{Row, low, only, toggle, ◌∖◌}
 use Rattle.runs.specs.Net.{Net, nets, rails, IsGate, may_rise, may_fall, rise_up, rise_down, rise_step, fall_up, fall_down, fall_step, rails_of_inputs}
-use Rattle.runs.proofs.Test.{clash, true?, not-true, and_left, and_right, same?, eqb_same, eqb_other, lt-ltb, le-ltb}
+use Rattle.runs.proofs.Test.{clash, and_left, same?, eqb_other, lt-ltb, le-ltb}
 use Rattle.runs.proofs.Row.{toggle_same, toggle_other}
 use Rattle.runs.proofs.Net.{Place, rail, gate, none, place, by_net_rail, by_net_gate, by_net_none, by_net_both}
 use Rattle.check_spec.specs.Lists.{xor}

@@ -14,7 +14,7 @@ use Rattle.check_spec.specs.Rows.{net_of}
 use Rattle.check_spec.specs.Verdicts.{row_stage}
 use Rattle.check_spec.specs.Loaded.{stage_view}
 use Rattle.check_spec.proofs.View.{stage_view_holds, net_view}
-use Rattle.circuit.specs.Stage.{stage_in, stage_gates}
+use Rattle.circuit.specs.Stage.{stage_in}
 use Rattle.circuit.proofs.Settling.{length_stage_gates}
 use Rattle.circuit_steps.specs.Moves.{loaded_net}
 

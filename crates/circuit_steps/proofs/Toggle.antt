@@ -3,12 +3,12 @@ use Prim.Native.Nat.{ℕ, zero, suc, ◌-◌, ◌≤◌, ◌<◌}
 use native.Mathlib.Omega.{arith}
 use mathlib.Core.Path.{◌≡◌, refl, sym, ap, ◌∙◌, fun_ext}
 use mathlib.Core.Logic.{◌⊎◌, inl, inr, ◌≢◌}
-use mathlib.Core.Bool.{Bool, not}
+use mathlib.Core.Bool.{not}
 use mathlib.Core.List.{List}
-use lib.ListN.{length, get_or, set}
+use lib.ListN.{get_or, set}
 use lib.Seq.{get_or-set_same, get_or-set_other, take-set-lt, length-take-le}
 use lib.Dec.{ltb}
-use Rattle.runs.specs.Row.{Row, toggle}
+use Rattle.runs.specs.Row.{toggle}
 use Rattle.runs.proofs.Test.{same?}
 use Rattle.runs.proofs.Row.{toggle_same, toggle_other}
 use Rattle.netlist.specs.declared.Counts.{Counts}

@@ -1,6 +1,6 @@
 -- Which nets of a stage may switch in a row: a rail that is not yet at its goal, and a gate by its rule. In a rise the goal of the rails is what the word
 -- calls for, in a fall all low.
-use Rattle.std.specs.Prelude.{ℕ, Bool, cond, List}
+use Rattle.std.specs.Prelude.{ℕ, cond, List}
 use Rattle.runs.specs.Row.{Row, Rule}
 use Rattle.runs.specs.Net.{Net, may_rise, may_fall, by_net}
 use Rattle.netlist.specs.declared.Counts.{Counts}

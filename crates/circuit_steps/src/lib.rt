@@ -69,10 +69,8 @@ fn note_gate(code: &[u16], counts: Counts, k: usize, fed: &mut [u16])
     ensures { FedFrom counts code.now k fed.new }
 {
     let net = (2 * counts.inputs + k) as u16;
-    let mut i: usize = 0;
-    while i < 4 {
+    for i in 0..4 {
         note_pin(fed, circuit::form::pin_of(code, counts, k, i), net);
-        i += 1;
     }
 }
 
@@ -81,9 +79,7 @@ pub fn note_fed(code: &[u16], counts: Counts, fed: &mut [u16])
     requires { StageLoaded counts code.now × (net_count counts < length fed.old) }
     ensures { FedFrom counts code.now 0 fed.new }
 {
-    let mut k = counts.gates;
-    while 0 < k {
-        k -= 1;
+    for k in (0..counts.gates).rev() {
         note_gate(code, counts, k, fed);
     }
 }

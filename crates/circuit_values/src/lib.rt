@@ -2,7 +2,7 @@
 // values; and the values of the signals of a reference.
 #![tactic(auto)]
 
-ghost use Rattle.std.specs.Prelude.{◌≡◌, ◌∷◌, [], ℕ, ◌+◌, ◌≤◌, ◌<◌, min, max, length, get_or, take};
+ghost use Rattle.std.specs.Prelude.{◌≡◌, ◌∷◌, [], ℕ, ◌+◌, ◌≤◌, ◌<◌, length, get_or, take};
 ghost use Rattle.verdict.specs.Rows as rows;
 ghost use Rattle.verdict.specs.Search.{least};
 ghost use Rattle.verdict.specs.Answers as answers;
@@ -11,7 +11,7 @@ ghost use Rattle.circuit.specs.Rows.{RowFor, nets_in};
 ghost use Rattle.circuit.specs.Reference.{signal_in, ReferenceLoaded, operator_in, operators_in};
 ghost use Rattle.circuit_values.specs.Failing.{RailsHigh, output_fails, misread};
 
-use netlist::{Counts, Found};
+use netlist::Counts;
 
 // ---- DATA
 
@@ -44,20 +44,11 @@ fn is_data(code: &[u16], counts: Counts, row: &[u8], j: usize) -> bool
 }
 
 // The least output that is not DATA, or that there is none: the pairs are taken in turn, and the loop ends at that one. In 14 and 15 it decides.
-pub fn first_not_data(code: &[u16], counts: Counts, row: &[u8]) -> Found
+pub fn first_not_data(code: &[u16], counts: Counts, row: &[u8]) -> Option<usize>
     requires { StageLoaded counts code.now × RowFor counts row.now }
     ensures { result ≡ least (output_fails rows.is_data counts code.now (nets_in counts row.now)) 0 counts.outputs }
 {
-    let count = counts.outputs;
-    let mut pair: usize = 0;
-    while pair < count {
-        if is_data(code, counts, row, pair) {
-            pair += 1;
-        } else {
-            return Found::At(pair);
-        }
-    }
-    Found::Nothing
+    search::least(counts.outputs, |j| !is_data(code, counts, row, j))
 }
 
 // Whether all outputs are DATA.
@@ -66,8 +57,8 @@ pub fn all_data(code: &[u16], counts: Counts, row: &[u8]) -> bool
     ensures { result ≡ rows.all_data (nets_in counts row.now) (stage_outputs counts code.now) }
 {
     match first_not_data(code, counts, row) {
-        Found::At(_) => false,
-        Found::Nothing => true,
+        Some(_) => false,
+        None => true,
     }
 }
 
@@ -83,20 +74,11 @@ fn is_null(code: &[u16], counts: Counts, row: &[u8], j: usize) -> bool
 }
 
 // The least output that is not NULL, or that there is none, found in the same way. In 20 and 21 it decides.
-fn first_not_null(code: &[u16], counts: Counts, row: &[u8]) -> Found
+fn first_not_null(code: &[u16], counts: Counts, row: &[u8]) -> Option<usize>
     requires { StageLoaded counts code.now × RowFor counts row.now }
     ensures { result ≡ least (output_fails rows.is_null counts code.now (nets_in counts row.now)) 0 counts.outputs }
 {
-    let count = counts.outputs;
-    let mut j: usize = 0;
-    while j < count {
-        if is_null(code, counts, row, j) {
-            j += 1;
-        } else {
-            return Found::At(j);
-        }
-    }
-    Found::Nothing
+    search::least(counts.outputs, |j| !is_null(code, counts, row, j))
 }
 
 // Whether all outputs are NULL.
@@ -105,8 +87,8 @@ pub fn all_null(code: &[u16], counts: Counts, row: &[u8]) -> bool
     ensures { result ≡ rows.all_null (nets_in counts row.now) (stage_outputs counts code.now) }
 {
     match first_not_null(code, counts, row) {
-        Found::At(_) => false,
-        Found::Nothing => true,
+        Some(_) => false,
+        None => true,
     }
 }
 
@@ -118,11 +100,7 @@ fn reads_as(code: &[u16], counts: Counts, row: &[u8], j: usize, value: u8) -> bo
     ensures { result ≡ rows.spells (rows.pair_in (nets_in counts row.now) (output_in counts code.now j)) value }
 {
     let levels = rail_levels(code, counts, row, j);
-    if levels.rail1 == value {
-        levels.rail0 + value == 1
-    } else {
-        false
-    }
+    levels.rail1 == value && levels.rail0 + value == 1
 }
 
 // The least output that does not read as the value of its signal in the reference.
@@ -133,45 +111,19 @@ pub fn first_misread(
     reference: &[u16],
     sizes: Counts,
     values: &[u8],
-) -> Found
+) -> Option<usize>
     requires { StageLoaded counts code.now × RowFor counts row.now × ReferenceLoaded sizes reference.now × (counts.outputs ≤ sizes.outputs)
         × (sizes.inputs + sizes.gates ≤ length values.now) × ((i : ℕ) → get_or values.now i 0 ≤ 1) }
     ensures { result ≡ least (misread counts code.now (nets_in counts row.now) (λ j. get_or values.now
         (signal_in sizes reference.now j) 0)) 0 counts.outputs }
 {
-    let count = counts.outputs;
-    let mut j: usize = 0;
-    while j < count {
-        if reads_as(
-            code,
-            counts,
-            row,
-            j,
-            circuit::level(values, circuit::form::signal_of(reference, sizes, j)),
-        ) {
-            j += 1;
-        } else {
-            return Found::At(j);
-        }
-    }
-    Found::Nothing
+    search::least(counts.outputs, |j| {
+        let value = circuit::level(values, circuit::form::signal_of(reference, sizes, j));
+        !reads_as(code, counts, row, j, value)
+    })
 }
 
 // ---- the signals of a reference
-
-// AND of two bits.
-fn both(a: u8, b: u8) -> u8
-    ensures { result ≡ min a b }
-{
-    if a < b { a } else { b }
-}
-
-// OR of two bits.
-fn either(a: u8, b: u8) -> u8
-    ensures { result ≡ max a b }
-{
-    if a < b { b } else { a }
-}
 
 // An operation on two bits: 1 NOT, 2 AND, 3 OR, 4 XOR, 5 NAND, 6 NOR. NOT has only the first.
 fn operate(operation: u16, a: u8, b: u8) -> u8
@@ -180,11 +132,11 @@ fn operate(operation: u16, a: u8, b: u8) -> u8
 {
     match operation {
         1 => 1 - a,
-        2 => both(a, b),
-        3 => either(a, b),
+        2 => a.min(b),
+        3 => a.max(b),
         4 => (a + b) % 2,
-        5 => 1 - both(a, b),
-        6 => 1 - either(a, b),
+        5 => 1 - a.min(b),
+        6 => 1 - a.max(b),
         _ => 0,
     }
 }
@@ -212,10 +164,7 @@ pub fn signal_values(reference: &[u16], sizes: Counts, values: &mut [u8])
         (operators_in sizes reference.now)) × ((i : ℕ) → get_or values.new i 0 ≤ 1) }
 {
     let inputs = sizes.inputs;
-    let count = sizes.gates;
-    let mut k: usize = 0;
-    while k < count {
+    for k in 0..sizes.gates {
         values[inputs + k] = operator_value(reference, sizes, k, values);
-        k += 1;
     }
 }

@@ -2,42 +2,28 @@
 -- Assumes nothing.
 use Prim.Native.Nat.{ℕ, ◌+◌, ◌*◌, ◌-◌, ◌/◌, ◌%◌, ◌≤◌, ◌<◌}
 use native.Mathlib.Omega.{arith}
-use native.Mathlib.Decide.{ℕ_discrete}
-use mathlib.Core.Path.{◌≡◌, refl, sym, ◌∙◌}
+use mathlib.Core.Path.{◌≡◌, refl, sym, ap, ◌∙◌}
 use mathlib.Core.Bool.{Bool, true, false}
-use mathlib.Core.List.{List}
-use lib.ListN.{length, get_or, set, length-set}
-use lib.Seq.{get_or-set_same, get_or-set_other}
+use mathlib.Core.List.{List, ◌++◌}
+use lib.ListN.{length, get_or, take, drop, length-append, length-drop, get_or-append}
+use lib.Seq.{get_or-take, length-take-le}
 use lib.Dec.{leb}
 use borrow.Author.Tests.{lt-ltb, le-ltb, le-leb, lt-leb, eq-eqb, ne_eqb}
 use Rattle.netlist.specs.declared.Counts.{Counts}
 use Rattle.circuit.specs.Stage.{net_count}
 use Rattle.wiring_spec.specs.Tables.{slot}
-use Rattle.circuit_wire.specs.Wire.{wired_net, names_net, wired_number, WiredTo, CopiedTo}
+use Rattle.circuit_wire.specs.Wire.{wired_net, names_net, wired_number, CopiedTo}
 
--- ---- one after the other
+-- ---- copies
 
-pub wired_none : (nets : List ℕ) (c : Counts) (raw code : List ℕ) → WiredTo nets c raw code code 0
-wired_none nets c raw code = record { long = refl; done = λ j h. absurd (omega arith); rest = λ j h. refl }
-
-pub wired_more : (nets : List ℕ) (c : Counts) (raw before code : List ℕ) (i v : ℕ) → i < length code → WiredTo nets c raw before code i
-    → v ≡ wired_number nets c i (get_or raw i 0) → WiredTo nets c raw before (set code i v) (i + 1)
-wired_more nets c raw before code i v h w e =
-    record { long = simp length-set w.long; done = λ j l. go j l (ℕ_discrete j i); rest = λ j l. get_or-set_other code i j v 0 (omega arith) ∙ w.rest j (omega arith) }
+pub copied : (from before part : List ℕ) (end : ℕ) → end ≤ length from → end ≤ length before → part ≡ take end from → CopiedTo from before (part ++ drop end before) end
+copied from before part end a b e = record {
+  long = omega (arith, length-append part (drop end before), length-drop end before, long);
+  done = λ j h. get_or-append part (drop end before) 0 j (omega (arith, long)) ∙ ap (λ (l : List ℕ). get_or l j 0) e ∙ get_or-take end from j 0 h;
+}
   where
-    go : (j : ℕ) → j < i + 1 → Dec (j ≡ i) → get_or (set code i v) j 0 ≡ wired_number nets c j (get_or raw j 0)
-    go j l (yes q) = rw q (get_or-set_same code i v 0 h ∙ e)
-    go j l (no d) = get_or-set_other code i j v 0 d ∙ w.done j (omega arith)
-
-pub copied_none : (from code : List ℕ) → CopiedTo from code code 0
-copied_none from code = record { long = refl; done = λ j h. absurd (omega arith) }
-
-pub copied_more : (from before code : List ℕ) (i v : ℕ) → i < length code → CopiedTo from before code i → v ≡ get_or from i 0 → CopiedTo from before (set code i v) (i + 1)
-copied_more from before code i v h w e = record { long = simp length-set w.long; done = λ j l. go j l (ℕ_discrete j i) }
-  where
-    go : (j : ℕ) → j < i + 1 → Dec (j ≡ i) → get_or (set code i v) j 0 ≡ get_or from j 0
-    go j l (yes q) = rw q (get_or-set_same code i v 0 h ∙ e)
-    go j l (no d) = get_or-set_other code i j v 0 d ∙ w.done j (omega arith)
+    long : length part ≡ end
+    long = ap length e ∙ length-take-le end from a
 
 -- ---- what a net becomes
 

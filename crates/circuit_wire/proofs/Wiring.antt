@@ -45,10 +45,17 @@ module _ (nets : List ℕ) (first x : ℕ) where
     other_read d = wire_other (λ e. d (sym sort_at ∙ e))
 
 -- one more wire
-pub times_turn : (f : ℕ → ℕ) (left x y : ℕ) → 0 < left → y ≡ f x → times (left - 1) f y ≡ times left f x
+pub times_turn : (f : ℕ → ℕ) (n i x y : ℕ) → i < n → y ≡ f x → times (n - (i + 1)) f y ≡ times (n - i) f x
 unfolding times
-times_turn f zero x y h e = absurd (omega arith)
-times_turn f (suc left) x y h e = let s : suc left - 1 ≡ left = omega arith in ap (λ (k : ℕ). times k f y) s ∙ ap (times left f) e
+times_turn f n i x y h e =
+    let s : n - i ≡ suc (n - (i + 1)) = omega arith in
+    ap (times (n - (i + 1)) f) e ∙ sym (ap (λ (k : ℕ). times k f x) s)
+
+-- what is its own stays so
+pub times_own : (f : ℕ → ℕ) (n x : ℕ) → f x ≡ x → times n f x ≡ x
+unfolding times
+times_own f zero x e = refl
+times_own f (suc n) x e = ap (times n f) e ∙ times_own f n x e
 
 pub times_none : (f : ℕ → ℕ) (left x : ℕ) → left ≤ 0 → x ≡ times left f x
 unfolding times
@@ -67,9 +74,6 @@ kept_wire : (before nets : List ℕ) (first : ℕ) → length nets ≡ length be
     → wire_in nets first x ≡ wire_in before first x
 unfolding wire_in
 kept_wire before nets first long kept x = rw (long, kept (x - first) 0 (omega arith), kept (x - first) 1 (omega arith))
-
-pub resolved_none : (before : List ℕ) (first m : ℕ) → ResolvedTo before before first m 0
-resolved_none before first m = record { long = refl; kept = λ k j h. refl; done = λ k h. absurd (omega arith) }
 
 pub resolved_more : (before nets : List ℕ) (first m i v : ℕ) → i < length before / 8 → ResolvedTo before nets first m i → v ≡ times m (wire_in nets first) (first + i)
     → ResolvedTo before (set nets (8 * i + 7) v) first m (i + 1)

@@ -29,15 +29,17 @@ fn wire(nets: &[u16], first: usize, net: u16) -> u16
     net
 }
 
-// A net, followed through some registers.
+// A net, followed through some registers, as long as it comes from another net.
 fn resolve(nets: &[u16], first: usize, registers: usize, net: u16) -> u16
     ensures { result ≡ times registers (wire_in nets.now first) net }
 {
     let mut x = net;
-    let mut left = registers;
-    while 0 < left {
-        x = wire(nets, first, x);
-        left -= 1;
+    for _step in 0..registers {
+        let next = wire(nets, first, x);
+        if next == x {
+            return x;
+        }
+        x = next;
     }
     x
 }
@@ -47,11 +49,8 @@ pub fn resolve_rails(nets: &mut [u16], first: usize, registers: usize)
     requires { first + length nets.old / 8 ≤ 65536 }
     ensures { ResolvedTo nets.old nets.new first registers (length nets.old / 8) }
 {
-    let count = nets.len() / 8;
-    let mut i: usize = 0;
-    while i < count {
+    for i in 0..nets.len() / 8 {
         nets[8 * i + 7] = resolve(nets, first, registers, (first + i) as u16);
-        i += 1;
     }
 }
 
@@ -102,11 +101,8 @@ pub fn wire_stage(nets: &[u16], counts: Counts, raw: &[u16], code: &mut [u16])
         × (8 * counts.gates + 2 * counts.outputs ≤ length code.old) }
     ensures { WiredTo nets.now counts raw.now code.old code.new (8 * counts.gates + 2 * counts.outputs) }
 {
-    let end = 8 * counts.gates + 2 * counts.outputs;
-    let mut i: usize = 0;
-    while i < end {
+    for i in 0..8 * counts.gates + 2 * counts.outputs {
         code[i] = wired_number(nets, counts, i, raw[i]);
-        i += 1;
     }
 }
 
@@ -130,9 +126,5 @@ pub fn copy(from: &[u16], to: &mut [u16], end: usize)
     requires { (end ≤ length from.now) × (end ≤ length to.old) }
     ensures { CopiedTo from.now to.old to.new end }
 {
-    let mut i: usize = 0;
-    while i < end {
-        to[i] = from[i];
-        i += 1;
-    }
+    to[..end].copy_from_slice(&from[..end]);
 }

@@ -47,6 +47,7 @@ pub fn read_full<F: Read>(file: &mut F, buf: &mut [u8]) -> usize
     ensures bytes { Consumes (F.remaining file.old) (F.remaining file.new) (take result buf.new) }
 {
     let mut done = 0;
+    // A `while`: a read says how far it came, and `read_exact` does not say how many bytes a shorter file had.
     while done < buf.len() {
         let Ok(n) = file.read(&mut buf[done..]) else {
             break;
@@ -132,7 +133,7 @@ pub fn print_verdict<R: Print + Eprint>(rt: &R, v: Verdict) {
     complain_unless(rt, written);
 }
 
-// The same of a report.
+// The same of a report. Two functions, not one: each asks that the text is the one of what it is handed, which a function of any text could not say.
 fn write_report_lines<W: Write>(out: &mut W, text: &[u8], report: Report) -> bool
     requires { text.now ≡ lines.report_lines report }
     ensures { IsTrue result → Appends (W.contents out.old) (W.contents out.new) (lines.report_lines report) }

@@ -1,5 +1,6 @@
 -- Every signal of a drawn reference is an output or leads to one, so that a stage is made of it.
 -- Assumes nothing.
+use Rattle.std.specs.Prelude.{Option, Some, None}
 use Prim.Native.Nat.{ℕ, zero, suc, ◌+◌, ◌≤◌, ◌<◌}
 use native.Mathlib.Omega.{arith}
 use mathlib.Core.Path.{◌≡◌, refl, sym, ap, ◌∙◌}
@@ -10,8 +11,6 @@ use lib.ListN.{length, get_or}
 use lib.Dec.{eqb, ltb}
 use borrow.Author.Tests.{le-ltb}
 use Rattle.runs.proofs.Test.{clash, true?}
-use Rattle.netlist.specs.declared.Found.{Found}
-use Rattle.netlist.specs.declared.Found.TheVariants.{At, Nothing}
 use Rattle.netlist.specs.Commands.{when_found}
 use Rattle.netlist.specs.Reading.{stage_limits, reference_limits}
 use Rattle.netlist.specs.Content.{Coded, Reference}
@@ -59,16 +58,16 @@ not_25 v (inr e) h = let z : ◌≡◌ {A = ℕ} 27 25 = sym (ap (λ (v : Verdic
 
 -- 25 finds nothing, nor does 26 where the gates are few
 module _ (r : Reference) (well : ReferenceFormed reference_limits r) (lead : (x : ℕ) → x < r.inputs + length r.gates → leads_out (from_reference r) x ≡ true) (few : length r.gates ≤ 128) where
-  none_25 : (x : Found) → least (λ x. not (leads_out (from_reference r) x)) 0 (r.inputs + length r.gates) ≡ x → x ≡ Nothing
-  none_25 (At x) e =
-      let s = least_says (λ x. not (leads_out (from_reference r) x)) 0 (r.inputs + length r.gates) (At x) e in
+  none_25 : (x : Option ℕ) → least (λ x. not (leads_out (from_reference r) x)) 0 (r.inputs + length r.gates) ≡ x → x ≡ None
+  none_25 (Some x) e =
+      let s = least_says (λ x. not (leads_out (from_reference r) x)) 0 (r.inputs + length r.gates) (Some x) e in
       absurd (clash s.passes (ap not (lead x (omega (arith, s.below)))))
-  none_25 Nothing e = refl
+  none_25 None e = refl
 
   pub made_or_27 : (room : ℕ) → MadeOr27 (judge (make_checks (from_reference r) room))
   unfolding when_found
   made_or_27 room = go (ltb room (length (made_bytes (from_reference r)))) (judged_by (from_reference r) room
-      ∙ ap (λ (x : Found). when_found x (λ x. verdict 25 2 x 0) (later_verdict (from_reference r) room)) (none_25 _ refl)
+      ∙ ap (λ (x : Option ℕ). when_found x (λ x. verdict 25 2 x 0) (later_verdict (from_reference r) room)) (none_25 _ refl)
       ∙ rw (le-ltb stage_limits.gates (length (built (from_reference r)).gates) (omega (arith, needed_counted r well, operations-most r.gates))))
     where
       go : (short : Bool) → judge (make_checks (from_reference r) room) ≡ cond short (verdict 27 3 0 0) accepted → MadeOr27 (judge (make_checks (from_reference r) room))

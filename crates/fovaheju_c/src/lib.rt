@@ -22,7 +22,8 @@ use report_spec::Report;
 use run_spec::{PlayAnswer, RunAnswer};
 use verdict::{Answer, Verdict, WordOrder};
 
-// The order of words that a number stands for: 0 has input 0 as the highest bit of a word, every other number has it as the lowest.
+// The order of words that a number stands for: 0 has input 0 as the highest bit of a word, every other number has it as the lowest. No `From<u64>`:
+// it would stand beside the type, in crate `verdict`, for all crates, and only callers in C give a number.
 fn order_of(mark: u64) -> WordOrder
     ensures { result ≡ order_of mark }
 {

@@ -6,7 +6,7 @@ ghost use Rattle.gates.specs.Cell.{set_bit, at_least, pin_count, is_retired, kin
 ghost use Rattle.gates.specs.Table.{GateTable};
 
 // What a kind byte stands for: a cell with hold, which falls when all of its pins are low; a relaxed one, which falls as soon as its set
-// expression is false; or no kind.
+// expression is false; or no kind. It is no `Option`: definitions give each of the three cases its own line (`pins_needed`), and code matches on all three.
 #[derive(Clone, Copy)]
 pub enum Kind {
     Hold { cell: u8, pins: u8 },

@@ -212,7 +212,8 @@ pub fn cell_lanes(cell: u16, a: u64, b: u64, c: u64, d: u64) -> CellLanes
     }
 }
 
-// Where the set expression of a cell holds, and nothing of its pins.
+// Where the set expression of a cell holds, and nothing of its pins. A table beside `cell_lanes`, of which it is one field in five: the loops that ask
+// nothing of the pins would reckon the other four as well.
 pub fn set_lanes(cell: u16, a: u64, b: u64, c: u64, d: u64) -> u64
     requires { (1 ≤ cell) × (cell ≤ 27) }
     ensures { result ≡ (cell_lanes cell a b c d).set }
@@ -366,10 +367,8 @@ fn spell_inputs(inputs: usize, b: usize, values: &mut [u64])
     ensures { (length values.new ≡ length values.old)
         × ((j : ℕ) → j < 64 → take inputs (lane_of j values.new) ≡ bits_of inputs (64 * b + j)) }
 {
-    let mut i: usize = 0;
-    while i < inputs {
+    for i in 0..inputs {
         values[i] = input_lanes(i, b);
-        i += 1;
     }
 }
 
@@ -383,10 +382,7 @@ pub fn signal_lanes(reference: &[u16], sizes: Counts, b: usize, values: &mut [u6
 {
     let inputs = sizes.inputs;
     spell_inputs(inputs, b, values);
-    let count = sizes.gates;
-    let mut k: usize = 0;
-    while k < count {
+    for k in 0..sizes.gates {
         values[inputs + k] = operator_lanes(reference, sizes, k, values);
-        k += 1;
     }
 }

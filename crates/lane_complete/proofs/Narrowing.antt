@@ -1,5 +1,6 @@
 -- A mask from which words of one block are taken in which a check finds nothing.
 -- Assumes nothing.
+use Rattle.std.specs.Prelude.{None}
 use Prim.Native.Nat.{ℕ, ◌+◌, ◌*◌, ◌/◌, ◌%◌, ◌<◌}
 use native.Mathlib.Omega.{arith}
 use mathlib.Core.Path.{◌≡◌, refl, sym, ◌∙◌}
@@ -8,7 +9,6 @@ use mathlib.Core.Logic.{◌⊎◌, inl, inr}
 use mathlib.Core.List.{List}
 use lib.ListN.{length, get_or, set}
 use lib.Bits.{bit_and}
-use Rattle.netlist.specs.declared.Found.TheVariants.{Nothing}
 use Rattle.netlist.specs.Content.{Stage, Reference}
 use Rattle.check_word.specs.declared.Sweep.{Sweep}
 use Rattle.check_word.specs.Finds.{finds}
@@ -26,7 +26,7 @@ pub clean_narrowed : (which : Sweep) (s : Stage) (r : Reference) (mask : List �
 clean_narrowed which s r mask b words h new ok = clean_more s r which mask b (bit_and (get_or mask b 0) words) ok
     (λ j d e. go j d (one_false (lane j (get_or mask b 0)) (lane j words) (sym (lane_and j (get_or mask b 0) words) ∙ e)))
   where
-    go : (j : ℕ) → j < 64 → (lane j (get_or mask b 0) ≡ false) ⊎ (lane j words ≡ false) → finds which s r (64 * b + j) ≡ Nothing
+    go : (j : ℕ) → j < 64 → (lane j (get_or mask b 0) ≡ false) ⊎ (lane j words ≡ false) → finds which s r (64 * b + j) ≡ None
     go j d (inr e) = new j d e
     go j d (inl e) =
         let block : (64 * b + j) / 64 ≡ b = omega arith in

@@ -1,5 +1,6 @@
 -- 64 rows side by side that settle with an input NULL, or fall with an input kept; what a gate does in them, and what the outputs show.
-use Rattle.std.specs.Prelude.{ℕ, ◌+◌, ◌*◌, ◌≤◌, ◌<◌, ◌≡◌, false, not, List, get_or}
+use Rattle.std.specs.Prelude.{ℕ, zero, suc, ◌+◌, ◌*◌, ◌≤◌, ◌<◌, ◌≡◌, false, not, List, get_or}
+use Rattle.std.specs.Int.Bits.{bit_and}
 use Rattle.runs.specs.Row.{Row, only}
 use Rattle.runs.specs.Net.{Net, rails_of_inputs, may_rise, may_fall}
 use Rattle.runs.specs.Settled.{Settled, SettledKept}
@@ -7,6 +8,7 @@ use Rattle.netlist.specs.declared.Counts.{Counts}
 use Rattle.verdict.specs.Nets.{row_of, missing_row}
 use Rattle.verdict.specs.Falls.{fallen_but}
 use Rattle.circuit.specs.Stage.{net_count, pin_in, stage_in}
+use Rattle.circuit.specs.Form.{rails_in}
 use Rattle.lane_cells.specs.Lane.{lane, row_in}
 use Rattle.lane_settle.specs.Block.{rest_in, net_in}
 
@@ -49,3 +51,9 @@ MayNotFall c code k row words = (j : ℕ) (R : Row) → PinsAs c code k row j R 
 -- only in words that are named all outputs are so, DATA or NULL
 abbrev pub OnlyIn : (Net → Row → Type 0) → Counts → List ℕ → (ℕ → Row) → ℕ → Type 0
 OnlyIn AllSo c code rows words = (j : ℕ) → j < 64 → lane j words ≡ false → ¬ (AllSo (net_in c code) (rows j))
+
+-- the words in which the first n outputs pass a test, which gives the words in which one does by those of its two rails
+unfoldable pub passing : (ℕ → ℕ → ℕ) → Counts → List ℕ → List ℕ → ℕ → ℕ
+passing test c code row zero = 0xFFFF_FFFF_FFFF_FFFF
+passing test c code row (suc n) =
+    bit_and (passing test c code row n) (test (get_or row (rails_in c code n).rail0 0) (get_or row (rails_in c code n).rail1 0))

@@ -10,7 +10,7 @@ ghost use Rattle.circuit.specs.Stage.{net_count, stage_in, StageLoaded};
 ghost use Rattle.circuit.specs.Order.{InOrder};
 ghost use Rattle.lane_settle.specs.Block.{Room, Spelled, NetsOf, Holding, AtRest, Resting};
 ghost use Rattle.lane_screen.specs.Suspects.{CleanIn};
-ghost use Rattle.lane_complete.specs.Rows.{SettledRows, FallenRows, RailsLow, MayRise, MayNotFall, OnlyIn, missing_in, remaining_in};
+ghost use Rattle.lane_complete.specs.Rows.{SettledRows, FallenRows, RailsLow, MayRise, MayNotFall, OnlyIn, passing, missing_in, remaining_in};
 
 use check_word::Sweep;
 use netlist::Counts;
@@ -35,12 +35,9 @@ fn settle_gates(code: &[u16], counts: Counts, row: &mut [u64])
         → Holding counts rows row.new }
 {
     let first = 2 * counts.inputs;
-    let count = counts.gates;
-    let mut i: usize = 0;
-    while i < count {
+    for i in 0..counts.gates {
         let k = circuit::form::gate_at(code, counts, i);
         row[first + k] = set_words(code, counts, k, row);
-        i += 1;
     }
 }
 
@@ -66,7 +63,7 @@ fn stay_words(code: &[u16], counts: Counts, k: usize, row: &[u64]) -> u64
     set_words(code, counts, k, row)
 }
 
-// The gates settle by the fall rule in the order, from their levels at the rest.
+// The gates settle by the fall rule in the order, from their levels at the rest. No twin of `settle_gates`: there a level is what is set, here one that stays.
 fn fall_gates(code: &[u16], counts: Counts, rest: &[u64], row: &mut [u64])
     requires { StageLoaded counts code.now × InOrder counts code.now × Room counts rest.now × Room counts row.old }
     ensures long { length row.new ≡ length row.old }
@@ -74,32 +71,35 @@ fn fall_gates(code: &[u16], counts: Counts, rest: &[u64], row: &mut [u64])
         → FallenRows counts code.now b i rows → Spelled counts rows row.old → Holding counts rows row.new }
 {
     let first = 2 * counts.inputs;
-    let count = counts.gates;
-    let mut i: usize = 0;
-    while i < count {
+    for i in 0..counts.gates {
         let k = circuit::form::gate_at(code, counts, i);
         row[first + k] = rest[first + k] & stay_words(code, counts, k, row);
-        i += 1;
     }
 }
 
 // ---- outputs
+
+// The words in which all outputs pass a test, which gives the words in which one does by those of its two rails.
+fn words_where<F: Fn(u64, u64) -> u64>(code: &[u16], counts: Counts, row: &[u64], test: F) -> u64
+    requires { StageLoaded counts code.now × Room counts row.now × F.IsAlwaysCallable test }
+    ensures { (f : ℕ → ℕ → ℕ) → ((a b r : ℕ) → F.post test a b r → r ≡ f a b) → result ≡ passing f counts code.now row.now counts.outputs }
+{
+    let mut words = lane_cells::ALL;
+    for j in 0..counts.outputs {
+        let rails = circuit::form::rails_of(code, counts, j);
+        let rail0 = lane_cells::lanes_at(row, rails.rail0);
+        let rail1 = lane_cells::lanes_at(row, rails.rail1);
+        words &= test(rail0, rail1);
+    }
+    words
+}
 
 // The words in which all outputs are DATA.
 fn data_words(code: &[u16], counts: Counts, row: &[u64]) -> u64
     requires { StageLoaded counts code.now × Room counts row.now }
     ensures { (rows : ℕ → Row) → NetsOf counts rows row.now → OnlyIn AllData counts code.now rows result }
 {
-    let mut words = lane_cells::ALL;
-    let mut j: usize = 0;
-    while j < counts.outputs {
-        let rails = circuit::form::rails_of(code, counts, j);
-        let rail0 = lane_cells::lanes_at(row, rails.rail0);
-        let rail1 = lane_cells::lanes_at(row, rails.rail1);
-        words = words & (rail0 ^ rail1);
-        j += 1;
-    }
-    words
+    words_where(code, counts, row, |rail0, rail1| rail0 ^ rail1)
 }
 
 // The words in which all outputs are NULL.
@@ -107,16 +107,9 @@ fn null_words(code: &[u16], counts: Counts, row: &[u64]) -> u64
     requires { StageLoaded counts code.now × Room counts row.now }
     ensures { (rows : ℕ → Row) → NetsOf counts rows row.now → OnlyIn AllNull counts code.now rows result }
 {
-    let mut words = lane_cells::ALL;
-    let mut j: usize = 0;
-    while j < counts.outputs {
-        let rails = circuit::form::rails_of(code, counts, j);
-        let rail0 = lane_cells::lanes_at(row, rails.rail0);
-        let rail1 = lane_cells::lanes_at(row, rails.rail1);
-        words = words & ((rail0 | rail1) ^ lane_cells::ALL);
-        j += 1;
-    }
-    words
+    words_where(code, counts, row, |rail0, rail1| {
+        (rail0 | rail1) ^ lane_cells::ALL
+    })
 }
 
 // ---- 14
@@ -143,10 +136,8 @@ fn missing_words(code: &[u16], counts: Counts, b: usize) -> u64
 {
     let mut row = [0u64; circuit::ROW];
     let mut words: u64 = 0;
-    let mut i: usize = 0;
-    while i < counts.inputs {
-        words = words | without_input(code, counts, b, i, &mut row);
-        i += 1;
+    for i in 0..counts.inputs {
+        words |= without_input(code, counts, b, i, &mut row);
     }
     words
 }
@@ -181,10 +172,8 @@ fn remaining_words(code: &[u16], counts: Counts, b: usize) -> u64
     settle_gates(code, counts, &mut rest);
     let mut row = [0u64; circuit::ROW];
     let mut words: u64 = 0;
-    let mut i: usize = 0;
-    while i < counts.inputs {
-        words = words | keeping_input(code, counts, &rest, i, &mut row);
-        i += 1;
+    for i in 0..counts.inputs {
+        words |= keeping_input(code, counts, &rest, i, &mut row);
     }
     words
 }

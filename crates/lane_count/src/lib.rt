@@ -48,12 +48,10 @@ fn add(digits: &mut [u64], from: usize, level: u64)
         × ((j : ℕ) → counted j digits.new ≡ counted j digits.old + 2 ^ from * level_in j level) }
 {
     let mut carry = level;
-    let mut i = from;
-    while i < digits.len() {
+    for i in from..digits.len() {
         let digit = digits[i];
         digits[i] = digit ^ carry;
         carry = digit & carry;
-        i += 1;
     }
 }
 
@@ -82,14 +80,12 @@ fn count_high(row: &[u64], from: usize, count: usize) -> [u64; DIGITS]
     ensures { (length result ≡ digit_count) × ((j : ℕ) → counted j result ≡ sum (take count (drop from (lane_of j row.now)))) }
 {
     let mut digits = [0u64; DIGITS];
-    let mut i: usize = 0;
-    while i + 8 <= count {
-        add_eight(&mut digits, row, from + i);
-        i += 8;
+    let eights = count / 8;
+    for i in 0..eights {
+        add_eight(&mut digits, row, from + 8 * i);
     }
-    while i < count {
+    for i in 8 * eights..count {
         add(&mut digits, 0, row[from + i]);
-        i += 1;
     }
     digits
 }
@@ -100,11 +96,8 @@ fn counters(digits: &[u64], j: usize) -> u64
     ensures { result ≡ counted_beside j digits.now }
 {
     let mut high: u64 = 0;
-    let mut i = digits.len();
-    while 0 < i {
-        i -= 1;
-        let rest = digits[i] >> j;
-        high = 2 * high + (rest & 0x0001_0001_0001_0001);
+    for i in (0..digits.len()).rev() {
+        high = 2 * high + (digits[i] >> j & 0x0001_0001_0001_0001);
     }
     high
 }
@@ -117,14 +110,12 @@ fn write_counters(digits: &[u64], b: usize, high: &mut [u16])
     ensures before { (w : ℕ) → w < 64 * b → get_or high.new w 0 ≡ get_or high.old w 0 }
 {
     let first = 64 * b;
-    let mut j: usize = 0;
-    while j < 16 {
+    for j in 0..16 {
         let four = counters(digits, j);
         high[first + j] = (four % 65536) as u16;
         high[first + 16 + j] = (four / 65536 % 65536) as u16;
         high[first + 32 + j] = (four / 4294967296 % 65536) as u16;
         high[first + 48 + j] = (four / 281474976710656) as u16;
-        j += 1;
     }
 }
 
@@ -136,11 +127,9 @@ pub fn count_words(code: &[u16], counts: Counts, high: &mut [u16])
 {
     let mut row = [0u64; circuit::ROW];
     let count = lane_settle::block_count(counts.inputs);
-    let mut b: usize = 0;
-    while b < count {
+    for b in 0..count {
         lane_complete::settle_block(code, counts, b, &mut row);
         let digits = count_high(&row, 2 * counts.inputs, counts.gates);
         write_counters(&digits, b, high);
-        b += 1;
     }
 }

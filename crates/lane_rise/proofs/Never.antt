@@ -1,5 +1,6 @@
 -- The least gate that was never noted is the least that never rises.
 -- Assumes nothing.
+use Rattle.std.specs.Prelude.{Some, None}
 use Prim.Native.Nat.{ℕ, zero, suc, ◌+◌, ◌≤◌, ◌<◌}
 use native.Mathlib.Omega.{arith}
 use mathlib.Core.Path.{◌≡◌, ap, subst, ◌∙◌}
@@ -7,7 +8,6 @@ use mathlib.Core.Bool.{Bool, true, false}
 use mathlib.Core.List.{List}
 use lib.ListN.{length, get_or}
 use Rattle.runs.proofs.Test.{clash, not-true}
-use Rattle.netlist.specs.declared.Found.TheVariants.{At, Nothing}
 use Rattle.netlist.specs.Content.{Stage}
 use Rattle.verdict.specs.Search.{least}
 use Rattle.verdict.specs.Checks.{high_at, never_rises}
@@ -40,11 +40,11 @@ module _ (s : Stage) (rose : List ℕ) (noted : Noted s rose) (k : ℕ) (before 
       sought_all (never_rises s) (length s.gates) k h
       (λ g d. let n = before g d in rises_not s g (noted.risen g n.0 (omega arith) n.1 n.2))
 
-  pub least_never : k < length s.gates → get_or rose k 0 ≡ 0 → At k ≡ least (never_rises s) 0 (length s.gates)
+  pub least_never : k < length s.gates → get_or rose k 0 ≡ 0 → Some k ≡ least (never_rises s) 0 (length s.gates)
   least_never h e = sought_here (never_rises s) (length s.gates) k h (sought (omega arith)) (rises_never s k low)
     where
       low : NeverRises s k
       low w i = not-true (high_at s w k) (λ u. let n = noted.kept k w h i u in clash n.1 (ap (lane n.0) e ∙ lane_zero n.0))
 
-  pub none_never : k ≡ length s.gates → Nothing ≡ least (never_rises s) 0 (length s.gates)
+  pub none_never : k ≡ length s.gates → None ≡ least (never_rises s) 0 (length s.gates)
   none_never e = sought_none (never_rises s) (length s.gates) k (omega arith) (sought (omega arith))

@@ -8,24 +8,18 @@ ghost use Rattle.verdict.specs.Checks.{never_rises};
 ghost use Rattle.circuit.specs.Stage.{stage_in, StageLoaded};
 ghost use Rattle.lane_rise.specs.Rising.{WordMasks, ListedIn, NotedIn, Noted};
 
-use netlist::{Counts, Found};
+use netlist::Counts;
 
 // The care words of a stage as a mask for each block, each taken below 2 to the power of the inputs.
 fn listed_words(code: &[u16], counts: Counts) -> [u64; lane_settle::BLOCKS]
     requires { StageLoaded counts code.now }
     ensures { ListedIn counts code.now counts.care result }
 {
-    let count = counts.care;
     let size: usize = 1 << counts.inputs;
     let mut masks = [0u64; lane_settle::BLOCKS];
-    let mut k: usize = 0;
-    while k < count {
+    for k in 0..counts.care {
         let w = circuit::form::care_of(code, counts, k) % size;
-        let b = w / 64;
-        let j = w % 64;
-        let old = masks[b];
-        masks[b] = old | 1 << j;
-        k += 1;
+        masks[w / 64] |= 1 << (w % 64);
     }
     masks
 }
@@ -46,25 +40,20 @@ pub fn note(row: &[u64], from: usize, count: usize, words: u64, rose: &mut [u64]
     requires { (from + count ≤ length row.now) × (count ≤ length rose.old) }
     ensures { NotedIn row.now from count words rose.old rose.new }
 {
-    let mut k: usize = 0;
-    while k < count {
-        let old = rose[k];
-        rose[k] = old | (row[from + k] & words);
-        k += 1;
+    for k in 0..count {
+        rose[k] |= row[from + k] & words;
     }
 }
 
 // The least of so many gates that was never noted: it rises in no word of the stage.
-pub fn never_risen(rose: &[u64], count: usize) -> Found
+pub fn never_risen(rose: &[u64], count: usize) -> Option<usize>
     requires { count ≤ length rose.now }
     ensures { (s : Stage) → length s.gates ≡ count → Noted s rose.now → result ≡ least (never_rises s) 0 count }
 {
-    let mut g: usize = 0;
-    while g < count {
+    for g in 0..count {
         if rose[g] == 0 {
-            return Found::At(g);
+            return Some(g);
         }
-        g += 1;
     }
-    Found::Nothing
+    None
 }

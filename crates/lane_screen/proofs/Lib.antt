@@ -2,6 +2,7 @@ pub mod Outputs
 pub mod Gathering
 pub mod Tests
 pub mod OneWord
+pub mod Below
 pub mod ByNet
 pub mod Resting
 pub mod Hold

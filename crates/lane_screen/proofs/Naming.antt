@@ -1,5 +1,6 @@
 -- Masks of all words: a block's words are put in, and what is not named stays without faults.
 -- Assumes nothing.
+use Rattle.std.specs.Prelude.{None}
 use Prim.Native.Nat.{ℕ, ◌+◌, ◌*◌, ◌/◌, ◌%◌, ◌≤◌, ◌<◌}
 use native.Mathlib.Omega.{arith}
 use native.Mathlib.Decide.{ℕ_discrete}
@@ -10,7 +11,6 @@ use lib.ListN.{length, get_or, set, replicate, length-set, length-replicate, get
 use lib.Seq.{get_or-set_same, get_or-set_other}
 use lib.Dec.{eqb, lit<}
 use Rattle.runs.proofs.Test.{clash}
-use Rattle.netlist.specs.declared.Found.TheVariants.{Nothing}
 use Rattle.netlist.specs.Content.{Stage, Reference}
 use Rattle.check_word.specs.declared.Sweep.{Sweep}
 use Rattle.check_word.specs.declared.Sweep.TheVariants.{Wrong, Missing, Unobserved, Remaining, StillHigh}
@@ -37,11 +37,11 @@ module _ (s : Stage) (r : Reference) (which : Sweep) where
       inside : w / 64 < length mask
       inside = omega (arith, u.inside, length-set mask b x)
 
-      go : Dec (w / 64 ≡ b) → finds which s r w ≡ Nothing
+      go : Dec (w / 64 ≡ b) → finds which s r w ≡ None
       go (yes e) =
           let is : 64 * b + w % 64 ≡ w = omega arith in
           let stored : get_or (set mask b x) (w / 64) 0 ≡ x = rw e (get_or-set_same mask b x 0 (omega (arith, inside))) in
-          subst (λ (v : ℕ). finds which s r v ≡ Nothing) is (new (w % 64) (mod-lt w (lit< tt)) (sym (ap (lane (w % 64)) stored) ∙ u.clear))
+          subst (λ (v : ℕ). finds which s r v ≡ None) is (new (w % 64) (mod-lt w (lit< tt)) (sym (ap (lane (w % 64)) stored) ∙ u.clear))
       go (no d) = ok w (record { inside = inside; clear = sym (ap (lane (w % 64)) (get_or-set_other mask b (w / 64) x 0 d)) ∙ u.clear })
 
 abbrev pub masks_of : List ℕ → List ℕ → List ℕ → Masks

@@ -1,6 +1,5 @@
 -- Which words are suspect, as masks with a bit for each word of the files: word w is bit w mod 64 of number w / 64.
-use Rattle.std.specs.Prelude.{ℕ, ◌+◌, ◌*◌, ◌/◌, ◌%◌, ◌<◌, ◌≡◌, false, List, length, get_or}
-use Rattle.netlist.specs.declared.Found.TheVariants.{Nothing}
+use Rattle.std.specs.Prelude.{ℕ, ◌+◌, ◌*◌, ◌/◌, ◌%◌, ◌<◌, ◌≡◌, false, List, length, get_or, None}
 use Rattle.netlist.specs.Content.{Stage, Reference}
 use Rattle.check_word.specs.declared.Sweep.{Sweep}
 use Rattle.check_word.specs.declared.Sweep.TheVariants.{Wrong, Missing, Unobserved, Remaining, StillHigh}
@@ -11,7 +10,7 @@ use Rattle.lane_screen.specs.declared.Masks.{Masks}
 
 -- some words of block b are named, and in one that is not a check finds nothing
 abbrev pub CleanIn : Sweep → Stage → Reference → ℕ → ℕ → Type 0
-CleanIn which s r b words = (j : ℕ) → j < 64 → lane j words ≡ false → finds which s r (64 * b + j) ≡ Nothing
+CleanIn which s r b words = (j : ℕ) → j < 64 → lane j words ≡ false → finds which s r (64 * b + j) ≡ None
 
 pub record RiseClean (s : Stage) (r : Reference) (b : ℕ) (l : Rise) : Type 0 where
   pub wrong : CleanIn Wrong s r b l.wrong
@@ -25,7 +24,7 @@ pub record Unnamed (mask : List ℕ) (w : ℕ) : Type 0 where
 
 -- a check finds nothing in a word that its mask does not name
 abbrev pub Clean : Sweep → Stage → Reference → List ℕ → Type 0
-Clean which s r mask = (w : ℕ) → Unnamed mask w → finds which s r w ≡ Nothing
+Clean which s r mask = (w : ℕ) → Unnamed mask w → finds which s r w ≡ None
 
 -- so it is of each of the five: 14 and 15 share a mask, and so do 20 and 21
 pub record AllClean (s : Stage) (r : Reference) (m : Masks) : Type 0 where

@@ -21,7 +21,7 @@ ghost use Rattle.lane_screen.specs.Marks.{AcknowledgedBut};
 ghost use Rattle.lane_screen.specs.Suspects.{RiseClean, Unnamed, AllClean};
 
 use lane_cells::CellLanes;
-use netlist::{Counts, Found};
+use netlist::Counts;
 
 // The words of a block in which something may be wrong: for 13; and for 14 and 15, those for 13 among them.
 #[derive(Clone, Copy)]
@@ -42,7 +42,7 @@ pub struct Masks {
 #[derive(Clone, Copy)]
 pub struct Screened {
     pub masks: Masks,
-    pub low: Found,
+    pub low: Option<usize>,
 }
 
 // ---- what is acknowledged
@@ -52,12 +52,7 @@ fn clear(counts: Counts, ack: &mut [u64])
     requires { Room counts ack.old }
     ensures { (length ack.new ≡ length ack.old) × ((p : ℕ) → p < net_count counts → get_or ack.new p 0 ≡ 0) }
 {
-    let count = 2 * counts.inputs + counts.gates;
-    let mut p: usize = 0;
-    while p < count {
-        ack[p] = 0;
-        p += 1;
-    }
+    ack[..2 * counts.inputs + counts.gates].fill(0);
 }
 
 // The rails of the outputs are marked in all words.
@@ -67,12 +62,10 @@ fn mark_outputs(code: &[u16], counts: Counts, ack: &mut [u64])
     ensures marked { (j p : ℕ) → row_in j ack.new p ≡ true
         → (row_in j ack.old p ≡ true) ⊎ AlwaysAcknowledged (net_in counts code.now) p }
 {
-    let mut j: usize = 0;
-    while j < counts.outputs {
+    for j in 0..counts.outputs {
         let rails = circuit::form::rails_of(code, counts, j);
         lane_settle::mark(ack, rails.rail0, lane_cells::ALL);
         lane_settle::mark(ack, rails.rail1, lane_cells::ALL);
-        j += 1;
     }
 }
 
@@ -81,13 +74,9 @@ fn unmarked(counts: Counts, row: &[u64], ack: &[u64]) -> u64
     requires { Room counts row.now × Room counts ack.now }
     ensures { (j : ℕ) → j < 64 → lane j result ≡ false → AllMarked j counts row.now ack.now }
 {
-    let count = 2 * counts.inputs + counts.gates;
     let mut words: u64 = 0;
-    let mut p: usize = 0;
-    while p < count {
-        let level = row[p];
-        words = words | (level & (level ^ ack[p]));
-        p += 1;
+    for p in 0..2 * counts.inputs + counts.gates {
+        words |= row[p] & (row[p] ^ ack[p]);
     }
     words
 }
@@ -121,12 +110,10 @@ fn wrong_words(
         (row_in l values.now (signal_in sizes reference.now j)) }
 {
     let mut words: u64 = 0;
-    let mut j: usize = 0;
-    while j < counts.outputs {
+    for j in 0..counts.outputs {
         let signal = circuit::form::signal_of(reference, sizes, j);
         let value = lane_cells::lanes_at(values, signal);
-        words = words | misread(code, counts, row, j, value);
-        j += 1;
+        words |= misread(code, counts, row, j, value);
     }
     words
 }
@@ -138,16 +125,10 @@ fn cofactor_pin(row: &[u64], alone: bool, net: u16, pin: u16) -> u64
     requires { pin < length row.now }
     ensures { result ≡ cofactor_pin row.now alone net pin }
 {
-    if alone {
-        if pin == net {
-            return lane_cells::lanes_at(row, pin);
-        }
-        return 0;
+    if (pin == net) == alone {
+        return lane_cells::lanes_at(row, pin);
     }
-    if pin == net {
-        return 0;
-    }
-    lane_cells::lanes_at(row, pin)
+    0
 }
 
 // The words in which gate k is set by the pins that are kept.
@@ -227,27 +208,6 @@ fn acknowledged_lanes(
     }
 }
 
-// Each gate marks nets that it acknowledges on the way back, asked pin by pin.
-fn mark_gates(code: &[u16], counts: Counts, row: &[u64], ack: &mut [u64])
-    requires { StageLoaded counts code.now × InOrder counts code.now × Room counts row.now × Room counts ack.old }
-    ensures long { length ack.new ≡ length ack.old }
-    ensures marked { (b : ℕ) → Resting counts code.now b row.now → MarkedIn true counts code.now b ack.old
-        → MarkedIn true counts code.now b ack.new }
-{
-    let count = counts.gates;
-    let mut k: usize = 0;
-    while k < count {
-        lane_settle::mark_pins(
-            code,
-            counts,
-            k,
-            acknowledged_lanes(true, false, code, counts, k, row),
-            ack,
-        );
-        k += 1;
-    }
-}
-
 // Whether no net stands at two pins of gate k: to ask it by net is then to ask it pin by pin. Pins that it lacks, C among them if it has two, are at
 // the ground.
 fn has_distinct_pins(code: &[u16], counts: Counts, k: usize) -> bool
@@ -267,28 +227,24 @@ fn has_distinct_pins(code: &[u16], counts: Counts, k: usize) -> bool
     pins.a != pins.d && pins.b != pins.d && pins.c != pins.d
 }
 
-// The gates with some net at two pins mark nets that they acknowledge, asked by net.
-fn mark_by_net(falls: bool, code: &[u16], counts: Counts, row: &[u64], ack: &mut [u64])
+// The gates mark nets that they acknowledge: each, asked pin by pin, or those with some net at two pins, asked by net.
+fn mark_gates(falls: bool, by_net: bool, code: &[u16], counts: Counts, row: &[u64], ack: &mut [u64])
     requires { StageLoaded counts code.now × InOrder counts code.now × Room counts row.now × Room counts ack.old }
     ensures long { length ack.new ≡ length ack.old }
     ensures marked { (b : ℕ) → Resting counts code.now b row.now → MarkedIn falls counts code.now b ack.old
         → MarkedIn falls counts code.now b ack.new }
 {
-    let count = counts.gates;
-    let mut k: usize = 0;
-    while k < count {
-        if has_distinct_pins(code, counts, k) {
-            k += 1;
+    for k in 0..counts.gates {
+        if by_net && has_distinct_pins(code, counts, k) {
             continue;
         }
         lane_settle::mark_pins(
             code,
             counts,
             k,
-            acknowledged_lanes(falls, true, code, counts, k, row),
+            acknowledged_lanes(falls, by_net, code, counts, k, row),
             ack,
         );
-        k += 1;
     }
 }
 
@@ -310,7 +266,7 @@ fn rise_words(code: &[u16], counts: Counts, b: usize, row: &mut [u64], ack: &mut
     if words == 0 {
         return 0;
     }
-    mark_by_net(false, code, counts, row, ack);
+    mark_gates(false, true, code, counts, row, ack);
     unmarked(counts, row, ack)
 }
 
@@ -325,12 +281,12 @@ fn fall_words(code: &[u16], counts: Counts, row: &[u64], ack: &mut [u64]) -> u64
 {
     clear(counts, ack);
     mark_outputs(code, counts, ack);
-    mark_gates(code, counts, row, ack);
+    mark_gates(true, false, code, counts, row, ack);
     let words = unmarked(counts, row, ack);
     if words == 0 {
         return 0;
     }
-    mark_by_net(true, code, counts, row, ack);
+    mark_gates(true, true, code, counts, row, ack);
     unmarked(counts, row, ack)
 }
 
@@ -378,16 +334,7 @@ pub fn all_hold(code: &[u16], counts: Counts) -> bool
     requires { StageLoaded counts code.now }
     ensures { (result ≡ true → WithHold (stage_in counts code.now)) × (WithHold (stage_in counts code.now) → result ≡ true) }
 {
-    let count = counts.gates;
-    let mut i: usize = 0;
-    while i < count {
-        if circuit::form::has_hold(code, counts, i) {
-            i += 1;
-        } else {
-            return false;
-        }
-    }
-    true
+    (0..counts.gates).all(|i| circuit::form::has_hold(code, counts, i))
 }
 
 // The words of a stage that are suspect, by the reference. A block past those that its inputs make is named whole, and so is one without a word that
@@ -408,11 +355,9 @@ pub fn screen(code: &[u16], counts: Counts, reference: &[u16], sizes: Counts) ->
     let words = lane_rise::word_masks(code, counts);
     let hold = all_hold(code, counts);
     let count = lane_settle::block_count(counts.inputs);
-    let mut b: usize = 0;
-    while b < count {
+    for b in 0..count {
         let cared = words[b];
         if cared == 0 {
-            b += 1;
             continue;
         }
         let found = rise_block(
@@ -429,7 +374,6 @@ pub fn screen(code: &[u16], counts: Counts, reference: &[u16], sizes: Counts) ->
         rise[b] = found.all;
         fall[b] = fall_block(hold, code, counts, &row, &mut ack);
         lane_rise::note(&row, 2 * counts.inputs, counts.gates, cared, &mut rose);
-        b += 1;
     }
     let low = lane_rise::never_risen(&rose, counts.gates);
     Screened {
@@ -442,12 +386,10 @@ pub fn screen(code: &[u16], counts: Counts, reference: &[u16], sizes: Counts) ->
 pub fn is_named(mask: &[u64], w: usize) -> bool
     ensures { (result ≡ false → Unnamed mask.now w) × (Unnamed mask.now w → result ≡ false) }
 {
-    let b = w / 64;
-    if b < mask.len() {
-        let rest = mask[b] >> (w % 64);
-        return rest % 2 == 1;
+    match mask.get(w / 64) {
+        Some(words) => (words >> (w % 64)) % 2 == 1,
+        None => true,
     }
-    true
 }
 
 // Whether a mask names none of the words that so many inputs have.
@@ -459,15 +401,7 @@ fn none_of_all(mask: &[u64], inputs: usize) -> bool
     if mask.len() < count {
         return false;
     }
-    let mut b: usize = 0;
-    while b < count {
-        if mask[b] == 0 {
-            b += 1;
-        } else {
-            return false;
-        }
-    }
-    true
+    mask[..count].iter().all(|words| *words == 0)
 }
 
 // Whether a mask names none of a stage's care words.
@@ -475,14 +409,7 @@ fn none_listed(mask: &[u64], code: &[u16], counts: Counts) -> bool
     requires { StageLoaded counts code.now }
     ensures { result ≡ true → (k : ℕ) → k < counts.care → Unnamed mask.now (care_in counts code.now k) }
 {
-    let mut k: usize = 0;
-    while k < counts.care {
-        if is_named(mask, circuit::form::care_of(code, counts, k)) {
-            return false;
-        }
-        k += 1;
-    }
-    true
+    (0..counts.care).all(|k| !is_named(mask, circuit::form::care_of(code, counts, k)))
 }
 
 // Whether a mask names none of a stage's words: of its care words, or without a care list of all that its inputs have.

@@ -33,9 +33,7 @@ pub fn mark(ack: &mut [u64], net: u16, words: u64)
     ensures { (length ack.new ≡ length ack.old)
         × ((j p : ℕ) → row_in j ack.new p ≡ true → (row_in j ack.old p ≡ true) ⊎ ((p ≡ net) × (lane j words ≡ true))) }
 {
-    let p = net as usize;
-    let old = ack[p];
-    ack[p] = old | words;
+    ack[net as usize] |= words;
 }
 
 // The nets at the pins of gate k are marked, each in the words that are named for its pin.
@@ -58,12 +56,10 @@ pub fn spell_rails(counts: Counts, b: usize, row: &mut [u64])
     ensures long { length row.new ≡ length row.old }
     ensures spelled { (code : List ℕ) → InOrder counts code → Spelled counts (rest_in counts code b) row.new }
 {
-    let mut i: usize = 0;
-    while i < counts.inputs {
+    for i in 0..counts.inputs {
         let level = lane_cells::input_lanes(i, b);
         row[2 * i] = level ^ lane_cells::ALL;
         row[2 * i + 1] = level;
-        i += 1;
     }
 }
 
@@ -110,14 +106,11 @@ fn settle_gates(code: &[u16], counts: Counts, row: &mut [u64], ack: &mut [u64])
         → Marked counts code.now b ack.old → Marked counts code.now b ack.new }
 {
     let first = 2 * counts.inputs;
-    let count = counts.gates;
-    let mut i: usize = 0;
-    while i < count {
+    for i in 0..counts.gates {
         let k = circuit::form::gate_at(code, counts, i);
         let cell = gate_lanes(code, counts, k, row);
         row[first + k] = cell.set;
         mark_pins(code, counts, k, cell, ack);
-        i += 1;
     }
 }
 

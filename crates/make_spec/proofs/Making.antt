@@ -1,5 +1,6 @@
 -- The call: its checks by their tests, that the stage it writes reads back, and that this stage is accepted against its reference.
 -- Assumes nothing.
+use Rattle.std.specs.Prelude.{Some}
 use Prim.Native.Nat.{ℕ, suc, ◌+◌, ◌*◌, ◌≤◌, ◌<◌}
 use native.Mathlib.Omega.{arith}
 use mathlib.Core.Path.{◌≡◌, refl, sym, ap, ap₂, ◌∙◌, subst}
@@ -10,7 +11,6 @@ use lib.ListN.{length, take, length-map}
 use lib.Dec.{ltb}
 use Rattle.runs.proofs.Test.{clash, not-false, ltb-false}
 use Rattle.netlist.specs.declared.File.TheVariants.{Stage, Reference}
-use Rattle.netlist.specs.declared.Found.TheVariants.{At}
 use Rattle.netlist.specs.Commands.{when_found, command_table, own_commands, form_in}
 use Rattle.netlist.specs.Reading.{Nets, Reading, refused, readable, read_file, stage_limits, reference_limits}
 use Rattle.netlist.specs.Read.{farthest, most_bytes}
@@ -61,7 +61,7 @@ first-swept number file f [] v = refl
 first-swept number file f (x ∷ l) v = go (f x) (first-swept number file f l v)
   where
     go : (b : Bool) {u : Verdict} → u ≡ when_found (found.first f l) (λ x. verdict number file x 0) v
-        → cond b (verdict number file x 0) u ≡ when_found (cond b (At x) (found.first f l)) (λ x. verdict number file x 0) v
+        → cond b (verdict number file x 0) u ≡ when_found (cond b (Some x) (found.first f l)) (λ x. verdict number file x 0) v
     go true e = refl
     go false e = e
 

@@ -1,6 +1,7 @@
 -- A stage file reads alike as a pipeline, also where it is refused: only one that is refused at the command of a register or of a C-element does not. The two
 -- readers are followed side by side; the test of 9 begins again at the first command, so what is known of it is carried along.
 -- Assumes nothing.
+use Rattle.std.specs.Prelude.{Option, Some}
 use Prim.Native.Nat.{ℕ, zero, suc, ◌+◌, ◌≤◌, ◌<◌}
 use native.Mathlib.Omega.{arith}
 use native.Mathlib.Decide.{ℕ_discrete, dec_lt}
@@ -11,7 +12,7 @@ use mathlib.Core.List.{List, []}
 use lib.ListN.{length, get_or-eq_default}
 use lib.Dec.{eqb, ltb}
 use borrow.Author.Tests.{ne_eqb, lt-leb, ltb-false}
-use Rattle.netlist.specs.Types.{File, Sort, Form, Limits, Counts, Next, Command, Refused, Found, At}
+use Rattle.netlist.specs.Types.{File, Sort, Form, Limits, Counts, Next, Command, Refused}
 use Rattle.netlist.specs.Types.file
 use Rattle.netlist.specs.Types.sort
 use Rattle.netlist.specs.Bytes.{byte}
@@ -73,7 +74,7 @@ module _ (s : List ℕ) where
     same_step fuel at h h' later k =
         let form = form_of file.Stage (byte s at) in
         rw (form_alike (byte s at) h h')
-        (ap₂ (λ (test : ℕ → ℕ → Bool) (rest : Found). when_found (nameless test 0 s (at + form.lead) (used file.Stage s at form)) At rest)
+        (ap₂ (λ (test : ℕ → ℕ → Bool) (rest : Option ℕ). when_found (nameless test 0 s (at + form.lead) (used file.Stage s at form)) Some rest)
         (asked-alike form.sort k (stage_plain (byte s at))) (later (cond (is_sort sort.Gate form.sort) (suc k) k)))
 
     past_end : (fuel at : ℕ) → length s ≤ at → (k : ℕ) → Same fuel at k
@@ -107,7 +108,7 @@ module _ (s : List ℕ) where
 
       go : (b : Bool) → ltb (at + 1) (length s) ≡ b → cond b (refused 7 (at + 1)) (ends file.Pipeline) ≡ cond b (refused 7 (at + 1)) (ends file.Stage)
       go true e = refl
-      go false e = ap (λ (x : Found). when_found x (refused 9) (readable p)) (rw plain
+      go false e = ap (λ (x : Option ℕ). when_found x (refused 9) (readable p)) (rw plain
           (t p.inputs (length p.gates) (λ fuel k. past_end p.inputs (length p.gates) fuel (at + 1) (ltb-false (at + 1) (length s) e) k) (length s) 0))
 
   -- ---- command by command

@@ -1,12 +1,13 @@
 -- Items that stand in a file from a place on, as the reader finds them: no bound on the elements of the file is asked.
 -- Assumes nothing.
+use Rattle.std.specs.Prelude.{None}
 use Prim.Native.Nat.{ℕ, suc, ◌+◌, ◌*◌, ◌^◌, ◌≤◌, ◌<◌}
 use native.Mathlib.Omega.{arith}
 use mathlib.Core.Path.{◌≡◌, refl, sym, ap, ap₂, ◌∙◌}
 use mathlib.Core.Bool.{false}
 use mathlib.Core.List.{List, [], ◌∷◌, map}
 use lib.ListN.{length}
-use Rattle.netlist.specs.Types.{File, Sort, Form, Limits, Nothing}
+use Rattle.netlist.specs.Types.{File, Sort, Form, Limits}
 use Rattle.netlist.specs.Types.sort
 use Rattle.netlist.specs.Bytes.{byte, operand, operands, absent}
 use Rattle.netlist.specs.Commands.{as_form, form_of, most_parts, needed, pins_used, used, misfit, misfit_from}
@@ -25,12 +26,12 @@ wired_at f s p = operands s (p + 1) (operand_count f sort.Output)
 pub record GateShown (f : File) (s : List ℕ) (at : ℕ) (c : Coded) : Type 0 where
   pub content : coded_at f s at ≡ c
   pub known : 1 ≤ needed f (byte s (at + 1))
-  pub fits : misfit_from (needed f (byte s (at + 1))) 0 s (at + 2) (operand_count f sort.Gate) ≡ Nothing
+  pub fits : misfit_from (needed f (byte s (at + 1))) 0 s (at + 2) (operand_count f sort.Gate) ≡ None
 
 -- a C-element, with FFFF exactly at the pins that it does not use
 pub record ElementShown (f : File) (s : List ℕ) (at : ℕ) (vs : List ℕ) : Type 0 where
   pub content : operands s (at + 1) (pins_used s (at + 1)) ≡ vs
-  pub fits : misfit_from (pins_used s (at + 1)) 0 s (at + 1) (operand_count f sort.Element) ≡ Nothing
+  pub fits : misfit_from (pins_used s (at + 1)) 0 s (at + 1) (operand_count f sort.Element) ≡ None
 
 -- what an item's command shows
 abbrev pub Shown : File → List ℕ → ℕ → Item → Type 0
@@ -97,12 +98,12 @@ nameless_item {f} {s} {at} {i} N k h =
     ap (nameless_at f N s at k) (item_form f i h.has) ∙ ap (nameless (asked f (sort_of i) N k) 0 s (operands_from at i)) (used_shown f s at i h.has h.shown)
 
 module _ {f : File} {s : List ℕ} {at : ℕ} {i : Item} (N : Nets) (k : ℕ) (h : ItemLaid f s at i) where
-  pub item_named : nameless_at f N s at k (form_for f (sort_of i)) ≡ Nothing → EachFrom (asked f (sort_of i) N k) 0 (operands_of i)
+  pub item_named : nameless_at f N s at k (form_for f (sort_of i)) ≡ None → EachFrom (asked f (sort_of i) N k) 0 (operands_of i)
   item_named e =
       rw (operands_shown f s at i h.has h.shown) at
       (nameless_named (asked f (sort_of i) N k) s 0 (operands_from at i) (length (operands_of i)) (sym (nameless_item N k h) ∙ e))
 
-  pub named_item : EachFrom (asked f (sort_of i) N k) 0 (operands_of i) → nameless_at f N s at k (form_for f (sort_of i)) ≡ Nothing
+  pub named_item : EachFrom (asked f (sort_of i) N k) 0 (operands_of i) → nameless_at f N s at k (form_for f (sort_of i)) ≡ None
   named_item e =
       nameless_item N k h
       ∙ named_nameless (asked f (sort_of i) N k) s 0 (operands_from at i) (length (operands_of i)) (rw (operands_shown f s at i h.has h.shown) e)

@@ -1,5 +1,6 @@
 -- The command at a position: the reader takes it exactly where it is there, in order, whole, and as its sort asks.
 -- Assumes nothing.
+use Rattle.std.specs.Prelude.{Option, Some, None}
 use Prim.Native.Nat.{ℕ, ◌+◌, ◌^◌, ◌≤◌, ◌<◌}
 use native.Mathlib.Omega.{arith}
 use mathlib.Core.Path.{◌≡◌, refl, sym, ap, subst, subst₂, ◌∙◌}
@@ -8,7 +9,7 @@ use mathlib.Core.List.{List}
 use lib.ListN.{length}
 use lib.Dec.{eqb, leb, ltb}
 use borrow.Author.Tests.{le-leb, lt-leb, lt-ltb, le-ltb, ne_eqb, leb-true, leb-false, ltb-true, ltb-false, eqb-false}
-use Rattle.netlist.specs.Types.{File, Sort, Form, Limits, Counts, Cursor, Next, Command, Refused, Found, At, Nothing}
+use Rattle.netlist.specs.Types.{File, Sort, Form, Limits, Counts, Cursor, Next, Command, Refused}
 use Rattle.netlist.specs.Types.sort
 use Rattle.netlist.specs.Bytes.{byte, operand}
 use Rattle.netlist.specs.Commands.{when_found, form_of, most_parts, width, needed, pins_used, stray, misfit_from, take_gate, take_care, take_element, take_sort, take_command, next_at}
@@ -26,10 +27,10 @@ module _ {k : Sort} {next : Cursor} where
   met true number place e = (refl, e)
   met false number place e = absurd (clash (cc))
 
-  fitted : (x : Found) {later : Next} → when_found x (Refused 5) later ≡ Command k next → (x ≡ Nothing) × (later ≡ Command k next)
+  fitted : (x : Option ℕ) {later : Next} → when_found x (Refused 5) later ≡ Command k next → (x ≡ None) × (later ≡ Command k next)
   unfolding when_found
-  fitted (At p) e = absurd (clash (cc))
-  fitted Nothing e = (refl, e)
+  fitted (Some p) e = absurd (clash (cc))
+  fitted None e = (refl, e)
 
 &&-both : (x y : Bool) → (x && y) ≡ true → (x ≡ true) × (y ≡ true)
 &&-both true y e = (refl, e)
@@ -43,12 +44,12 @@ Taken f most s at before form sort.Inputs = (1 ≤ byte s (at + 1)) × (byte s (
 Taken f most s at before form sort.Gate =
     (before.gates < most.gates)
     × (1 ≤ needed f (byte s (at + 1)))
-    × (misfit_from (needed f (byte s (at + 1))) 0 s (at + form.lead) form.operands ≡ Nothing)
+    × (misfit_from (needed f (byte s (at + 1))) 0 s (at + form.lead) form.operands ≡ None)
 Taken f most s at before form sort.Output = before.outputs < most.outputs
 Taken f most s at before form sort.Care = (operand s (at + form.lead) < 2 ^ before.inputs) × (before.floor ≤ operand s (at + form.lead))
 Taken f most s at before form sort.Register = before.registers < most_parts
 Taken f most s at before form sort.Element =
-    (before.elements < most_parts) × (misfit_from (pins_used s (at + form.lead)) 0 s (at + form.lead) form.operands ≡ Nothing)
+    (before.elements < most_parts) × (misfit_from (pins_used s (at + form.lead)) 0 s (at + form.lead) form.operands ≡ None)
 Taken f most s at before form sort.End = Unit {0}
 Taken f most s at before form sort.Unknown = Unit {0}
 

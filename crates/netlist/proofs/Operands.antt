@@ -1,5 +1,6 @@
 -- Operands in a file: what the tests of 5 and 9 say of them, and that writing and reading them undo one another.
 -- Assumes nothing.
+use Rattle.std.specs.Prelude.{Option, Some, None}
 use Prim.Native.Nat.{ℕ, zero, suc, ◌+◌, ◌-◌, ◌*◌, ◌/◌, ◌%◌, ◌≤◌, ◌<◌}
 use native.Mathlib.Omega.{arith}
 use mathlib.Core.Path.{◌≡◌, refl, sym, ap, ap₂, ◌∙◌}
@@ -9,7 +10,6 @@ use lib.ListN.{length, drop, length-drop}
 use lib.Seq.{get_or-drop, drop-drop, drop-cons, drop_at}
 use lib.Dec.{eqb}
 use borrow.Author.Tests.{lt-ltb, le-ltb, eq-eqb, ne_eqb, eqb-true, eqb-false, not-false}
-use Rattle.netlist.specs.Types.{Found, At, Nothing}
 use Rattle.netlist.specs.Bytes.{byte, operand, operands, absent}
 use Rattle.netlist.specs.Commands.{pins_used, misfit, misfit_from}
 use Rattle.netlist.specs.Reading.{nameless}
@@ -42,23 +42,23 @@ module _ (P : ℕ → Type 0) (s : List ℕ) where
 
 -- ---- 9
 
-kept : (b : Bool) (p : ℕ) (later : Found) → cond b later (At p) ≡ Nothing → (b ≡ true) × (later ≡ Nothing)
+kept : (b : Bool) (p : ℕ) (later : Option ℕ) → cond b later (Some p) ≡ None → (b ≡ true) × (later ≡ None)
 kept true p later e = (refl, e)
 kept false p later e = absurd (let z : ◌≡◌ {A = ℕ} 0 1 = cc in omega arith)
 
-passed : (b : Bool) (p : ℕ) (later : Found) → cond b (At p) later ≡ Nothing → (b ≡ false) × (later ≡ Nothing)
+passed : (b : Bool) (p : ℕ) (later : Option ℕ) → cond b (Some p) later ≡ None → (b ≡ false) × (later ≡ None)
 passed true p later e = absurd (let z : ◌≡◌ {A = ℕ} 0 1 = cc in omega arith)
 passed false p later e = (refl, e)
 
 module _ (test : ℕ → ℕ → Bool) (s : List ℕ) where
-  pub nameless_named : (i at m : ℕ) → nameless test i s at m ≡ Nothing → EachFrom test i (operands s at m)
+  pub nameless_named : (i at m : ℕ) → nameless test i s at m ≡ None → EachFrom test i (operands s at m)
   unfolding nameless operands
   nameless_named i at zero e = tt
   nameless_named i at (suc m) e =
       let k = kept (test i (operand s at)) at (nameless test (suc i) s (at + 2) m) e in
       (k.0, nameless_named (suc i) (at + 2) m k.1)
 
-  pub named_nameless : (i at m : ℕ) → EachFrom test i (operands s at m) → nameless test i s at m ≡ Nothing
+  pub named_nameless : (i at m : ℕ) → EachFrom test i (operands s at m) → nameless test i s at m ≡ None
   unfolding nameless operands
   named_nameless i at zero h = refl
   named_nameless i at (suc m) h = rw h.0 (named_nameless (suc i) (at + 2) m h.1)
@@ -95,7 +95,7 @@ asked_same test P holds i (v ∷ vs) h = (holds i v h.0, asked_same test P holds
 
 -- ---- 5
 
-pub misfit_none : (k i : ℕ) (s : List ℕ) (at m : ℕ) → misfit_from k i s at m ≡ Nothing → (j : ℕ) → j < m → misfit k (i + j) (operand s (at + 2 * j)) ≡ false
+pub misfit_none : (k i : ℕ) (s : List ℕ) (at m : ℕ) → misfit_from k i s at m ≡ None → (j : ℕ) → j < m → misfit k (i + j) (operand s (at + 2 * j)) ≡ false
 unfolding misfit_from
 misfit_none k i s at zero e j l = absurd (omega arith)
 misfit_none k i s at (suc m) e zero l =
@@ -133,7 +133,7 @@ pins_used_in s place = go (eqb (operand s (place + 4)) absent) (eqb (operand s (
     go false true = omega arith
     go false false = omega arith
 
-pub pins_are : (s : List ℕ) (place k : ℕ) → 2 ≤ k → k ≤ 4 → misfit_from k 0 s place 4 ≡ Nothing → pins_used s place ≡ k
+pub pins_are : (s : List ℕ) (place k : ℕ) → 2 ≤ k → k ≤ 4 → misfit_from k 0 s place 4 ≡ None → pins_used s place ≡ k
 unfolding pins_used
 pins_are s place zero lo hi e = absurd (omega arith)
 pins_are s place (suc zero) lo hi e = absurd (omega arith)
@@ -196,7 +196,7 @@ module _ (s rest : List ℕ) where
       ap₂ (λ (x : ℕ) (xs : List ℕ). x ∷ xs) (operand-written s at v (write_operands m vs ++ rest) e)
       (operands_written (at + 2) m vs (omega arith) (two_further s at v (write_operands m vs ++ rest) e))
 
-  pub fits_written : (at m k i : ℕ) (vs : List ℕ) → length vs ≡ k - i → All (λ v. v < absent) vs → drop at s ≡ write_operands m vs ++ rest → misfit_from k i s at m ≡ Nothing
+  pub fits_written : (at m k i : ℕ) (vs : List ℕ) → length vs ≡ k - i → All (λ v. v < absent) vs → drop at s ≡ write_operands m vs ++ rest → misfit_from k i s at m ≡ None
   unfolding misfit_from
   fits_written at zero k i vs l h e = refl
   fits_written at (suc m) k i [] l h e =

@@ -1,5 +1,6 @@
 -- A file is readable exactly where items are laid in it; the walk of the reader over the commands is followed once, both ways.
 -- Assumes nothing.
+use Rattle.std.specs.Prelude.{Option, Some, None}
 use Prim.Native.Nat.{ℕ, zero, suc, ◌+◌, ◌-◌, ◌*◌, ◌^◌, ◌≤◌, ◌<◌}
 use native.Mathlib.Omega.{arith}
 use native.Mathlib.Nat.{mul-le-mul_left}
@@ -11,7 +12,7 @@ use lib.Seq.{append_snoc}
 use lib.Pow.{pow_mono}
 use lib.Dec.{eqb, ltb}
 use borrow.Author.Tests.{lt-ltb, le-ltb, ne_eqb, ltb-false, eqb-true, eqb-false, not-false}
-use Rattle.netlist.specs.Types.{File, Sort, Form, Limits, Counts, Cursor, Next, Command, Refused, Found, At, Nothing}
+use Rattle.netlist.specs.Types.{File, Sort, Form, Limits, Counts, Cursor, Next, Command, Refused}
 use Rattle.netlist.specs.Types.file
 use Rattle.netlist.specs.Types.sort
 use Rattle.netlist.specs.Bytes.{byte, operand, operands}
@@ -29,13 +30,13 @@ use Rattle.netlist.proofs.Laid.{Shown, ItemLaid, Laid, Named, FileLaid, wired_at
 -- ---- the end command
 
 -- the tests for 8, 7 and 9 were passed
-ended : (x y : Bool) (z : Found) (a b : ℕ) (p P : Places) → cond x (refused 8 a) (cond y (refused 7 b) (when_found z (refused 9) (readable p))) ≡ readable P →
-    (x ≡ false) × (y ≡ false) × (z ≡ Nothing) × (p ≡ P)
+ended : (x y : Bool) (z : Option ℕ) (a b : ℕ) (p P : Places) → cond x (refused 8 a) (cond y (refused 7 b) (when_found z (refused 9) (readable p))) ≡ readable P →
+    (x ≡ false) × (y ≡ false) × (z ≡ None) × (p ≡ P)
 unfolding when_found
 ended true y z a b p P e = absurd (clash (cc))
 ended false true z a b p P e = absurd (clash (cc))
-ended false false (At r) a b p P e = absurd (clash (cc))
-ended false false Nothing a b p P e = (refl, refl, refl, cc)
+ended false false (Some r) a b p P e = absurd (clash (cc))
+ended false false None a b p P e = (refl, refl, refl, cc)
 
 -- with bytes after the end command: 8 at it where there is no output, and else 7 at the first of them
 pub finish_more : (f : File) (s : List ℕ) (at : ℕ) (p : Places) → at + 1 < length s → finish f s at p ≡ cond (eqb (length p.outputs) 0) (refused 8 at) (refused 7 (at + 1))
@@ -256,7 +257,7 @@ pub record Ended (f : File) (most : Limits) (s : List ℕ) (p : Places) : Type 0
   pub outputs_in_holds : (1 ≤ length p.outputs) × (length p.outputs ≤ most.outputs)
   pub registers_in : (counts_of p).registers ≤ most_parts
   pub elements_in : (counts_of p).elements ≤ most_parts
-  pub all_named : nameless_from (length s) f (nets_of p) s 0 0 ≡ Nothing
+  pub all_named : nameless_from (length s) f (nets_of p) s 0 0 ≡ None
 
 module _ (f : File) (most : Limits) (s : List ℕ) (P : Places) where
   -- what the walk from a position on has found, where some places stand before it
@@ -358,22 +359,22 @@ module _ (f : File) (most : Limits) (s : List ℕ) (P : Places) where
 
 -- ---- 9, along the items
 
-or_later : (x later : Found) → when_found x At later ≡ Nothing → (x ≡ Nothing) × (later ≡ Nothing)
+or_later : (x later : Option ℕ) → when_found x Some later ≡ None → (x ≡ None) × (later ≡ None)
 unfolding when_found
-or_later (At p) later e = absurd (clash (cc))
-or_later Nothing later e = (refl, e)
+or_later (Some p) later e = absurd (clash (cc))
+or_later None later e = (refl, e)
 
 module _ (f : File) (N : Nets) (s : List ℕ) (fuel at k : ℕ) where
   -- the search at one command, by its row
-  step : Form → Found
-  step form = when_found (nameless_at f N s at k form) At (nameless_from fuel f N s (at + width form) (cond (is_sort sort.Gate form.sort) (suc k) k))
+  step : Form → Option ℕ
+  step form = when_found (nameless_at f N s at k form) Some (nameless_from fuel f N s (at + width form) (cond (is_sort sort.Gate form.sort) (suc k) k))
 
   step_item : {i : Item} → ItemLaid f s at i → nameless_from (suc fuel) f N s at k
-      ≡ when_found (nameless_at f N s at k (form_for f (sort_of i))) At (nameless_from fuel f N s (at + width_for f (sort_of i)) (gates_after k i))
+      ≡ when_found (nameless_at f N s at k (form_for f (sort_of i))) Some (nameless_from fuel f N s (at + width_for f (sort_of i)) (gates_after k i))
   unfolding nameless_from step
   step_item {i} h =
       ap step h.command
-      ∙ ap (λ (c : Sort). when_found (nameless_at f N s at k (form_for f (sort_of i))) At (nameless_from fuel f N s (at + width_for f (sort_of i)) (cond (is_sort sort.Gate c) (suc k) k))) h.has
+      ∙ ap (λ (c : Sort). when_found (nameless_at f N s at k (form_for f (sort_of i))) Some (nameless_from fuel f N s (at + width_for f (sort_of i)) (cond (is_sort sort.Gate c) (suc k) k))) h.has
 
   step_inputs : form_of f (byte s at) ≡ form_for f sort.Inputs → nameless_from (suc fuel) f N s at k ≡ nameless_from fuel f N s (at + 2) k
   unfolding nameless_from nameless_at used step nameless when_found
@@ -384,7 +385,7 @@ module _ (f : File) (N : Nets) (s : List ℕ) (fuel at k : ℕ) where
   step_end e = ap step (e ∙ end_form f)
 
 -- past the last byte nothing is found
-pub nameless_past : (f : File) (N : Nets) (s : List ℕ) (fuel at k : ℕ) → length s ≤ at → nameless_from fuel f N s at k ≡ Nothing
+pub nameless_past : (f : File) (N : Nets) (s : List ℕ) (fuel at k : ℕ) → length s ≤ at → nameless_from fuel f N s at k ≡ None
 unfolding nameless_from
 nameless_past f N s zero at k h = refl
 nameless_past f N s (suc fuel) at k h =
@@ -392,14 +393,14 @@ nameless_past f N s (suc fuel) at k h =
 
 module _ (f : File) (N : Nets) (s : List ℕ) where
   -- the test for 9 finds nothing exactly where each operand names what it has to name
-  named-walk : (fuel at k : ℕ) (items : List Item) → Laid f s at items → length s ≤ at + fuel → nameless_from fuel f N s at k ≡ Nothing → Named f N k items
+  named-walk : (fuel at k : ℕ) (items : List Item) → Laid f s at items → length s ≤ at + fuel → nameless_from fuel f N s at k ≡ None → Named f N k items
   named-walk fuel at k [] h l e = tt
   named-walk zero at k (i ∷ items) h l e = absurd (omega (arith, h.0.room, item_width f i h.0.has))
   named-walk (suc fuel) at k (i ∷ items) h l e =
       let d = or_later _ _ (sym (step_item f N s fuel at k h.0) ∙ e) in
       (item_named N k h.0 d.0, named-walk fuel (at + width_for f (sort_of i)) (gates_after k i) items h.1 (omega (arith, item_width f i h.0.has)) d.1)
 
-  walk_named : (fuel at k : ℕ) (items : List Item) → Laid f s at items → Named f N k items → nameless_from fuel f N s at k ≡ Nothing
+  walk_named : (fuel at k : ℕ) (items : List Item) → Laid f s at items → Named f N k items → nameless_from fuel f N s at k ≡ None
   unfolding nameless_from when_found
   walk_named zero at k items h m = refl
   walk_named (suc fuel) at k [] h m = step_end f N s fuel at k h.command ∙ nameless_past f N s fuel (at + 1) k (omega (arith, h.last))
@@ -497,7 +498,7 @@ module _ (f : File) (most : Limits) (s : List ℕ) (last : ℕ) (ends : length s
       (walk_laid fuel (at + width_for f (sort_of x)) (noted (sort_of x) s at p) items h.1 (omega arith) (omega (arith, item_width f x h.0.has)) t.1
       ∙ ap (finish f s last) (added_item f s at p x items h.0.shown))
 
-  finish_readable : (p : Places) → 1 ≤ length p.outputs → nameless_from (length s) f (nets_of p) s 0 0 ≡ Nothing → finish f s last p ≡ readable p
+  finish_readable : (p : Places) → 1 ≤ length p.outputs → nameless_from (length s) f (nets_of p) s 0 0 ≡ None → finish f s last p ≡ readable p
   unfolding finish when_found
   finish_readable p some all = rw (ne_eqb (length p.outputs) 0 (omega arith), le-ltb (last + 1) (length s) (omega arith), all)
 

@@ -1,20 +1,20 @@
 -- The commands of the two files: the table that says what a command byte calls for, and the command that stands at a position or
 -- the refusal, 1 to 6, 18 or 19, with its place.
-use Rattle.std.specs.Prelude.{ℕ, zero, suc, ◌+◌, ◌*◌, ◌^◌, Bool, true, false, cond, not, ◌&&◌, ◌||◌, List, [], ◌∷◌, length, get_or, eqb, leb, ltb}
+use Rattle.std.specs.Prelude.{ℕ, zero, suc, ◌+◌, ◌*◌, ◌^◌, Bool, true, false, cond, not, ◌&&◌, ◌||◌, List, [], ◌∷◌, length, get_or}
+use Rattle.std.specs.Prelude.{eqb, leb, ltb, Option, Some, None}
 use Rattle.gates.specs.Cell.{kind_of}
 use Rattle.gates.specs.declared.Kind.{Kind}
 use Rattle.gates.specs.declared.Kind.TheVariants.{Hold, Relaxed, Unknown}
 use Rattle.netlist.specs.Types.{File, Sort, Role, AnyNet, EarlierSignal, AnySignal, Number, Data, Pin, Request}
-use Rattle.netlist.specs.Types.{Form, Limits, Counts, Next, Command, Refused, Found, At}
-use Rattle.netlist.specs.Types.{Nothing}
+use Rattle.netlist.specs.Types.{Form, Limits, Counts, Next, Command, Refused}
 use Rattle.netlist.specs.Types.file.{Stage, Pipeline, Reference}
 use Rattle.netlist.specs.Types.sort
 use Rattle.netlist.specs.Bytes.{byte, operand, absent}
 
 -- what follows where something was found, and where nothing was
-unfoldable pub when_found : {A : Type 0} → Found → (ℕ → A) → A → A
-when_found (At place) there none = there place
-when_found Nothing there none = none
+unfoldable pub when_found : {A : Type 0} → Option ℕ → (ℕ → A) → A → A
+when_found (Some place) there none = there place
+when_found None there none = none
 
 -- ---- the command table
 
@@ -131,9 +131,9 @@ unfoldable pub misfit : ℕ → ℕ → ℕ → Bool
 misfit k i v = cond (ltb i k) (eqb v absent) (not (eqb v absent))
 
 -- the first such operand among m that follow from operand i on
-unfoldable pub misfit_from : ℕ → ℕ → List ℕ → ℕ → ℕ → Found
-misfit_from k i s at zero = Nothing
-misfit_from k i s at (suc m) = let later = misfit_from k (i + 1) s (at + 2) m in cond (misfit k i (operand s at)) (At at) later
+unfoldable pub misfit_from : ℕ → ℕ → List ℕ → ℕ → ℕ → Option ℕ
+misfit_from k i s at zero = None
+misfit_from k i s at (suc m) = let later = misfit_from k (i + 1) s (at + 2) m in cond (misfit k i (operand s at)) (Some at) later
 
 -- a gate, where g gates stand before it: 6, then 4, then 5 by operand
 unfoldable pub take_gate : File → Limits → List ℕ → ℕ → ℕ → Form → Next → Next

@@ -1,9 +1,8 @@
 -- What holds of a readable file by the places of its commands, also of a list of numbers that are no bytes; and a reading as the code answers it.
-use Rattle.std.specs.Prelude.{ℕ, ◌+◌, ◌*◌, ◌^◌, ◌≤◌, ◌<◌, ◌≡◌, true, List, length, get_or}
-use Rattle.netlist.specs.Types.{File, Sort, Limits, Nothing, Outcome}
+use Rattle.std.specs.Prelude.{ℕ, ◌+◌, ◌*◌, ◌^◌, ◌≤◌, ◌<◌, ◌≡◌, true, List, length, get_or, None, Ok, Err}
+use Rattle.netlist.specs.Types.{File, Sort, Limits, Outcome, refusal}
 use Rattle.netlist.specs.Types.file
 use Rattle.netlist.specs.Types.sort
-use Rattle.netlist.specs.Types.outcome
 use Rattle.netlist.specs.Bytes.{byte, operand, absent}
 use Rattle.netlist.specs.Commands.{most_parts, needed, pins_used, misfit_from}
 use Rattle.netlist.specs.Reading.{Nets, asked, Places, Ascending, counts_of, nets_of, Reading, refused, readable}
@@ -36,7 +35,7 @@ pub record ElementRead (f : File) (s : List ℕ) (N : Nets) (at : ℕ) : Type 0 
   pub room : at + 9 ≤ length s
   pub after : ℕ
   pub named : (i : ℕ) → i < pins_used s (at + 1) → asked f sort.Element N after i (operand s (at + 1 + 2 * i)) ≡ true
-  pub fits : misfit_from (pins_used s (at + 1)) 0 s (at + 1) 4 ≡ Nothing
+  pub fits : misfit_from (pins_used s (at + 1)) 0 s (at + 1) 4 ≡ None
 
 abbrev pub PartOf : File → List ℕ → Nets → ℕ → Sort → Type 0
 PartOf f s N at sort.Register = RegisterRead f s N at
@@ -68,8 +67,8 @@ pub record Read (f : File) (most : Limits) (s : List ℕ) (p : Places) : Type 0 
 
 -- the refusal, or the counts; the places go to a slice that the caller lends
 unfoldable pub outcome_of : Reading → Outcome
-outcome_of (refused number at) = outcome.Refused number at
-outcome_of (readable p) = outcome.Readable (counts_of p)
+outcome_of (refused number at) = Err (refusal number at)
+outcome_of (readable p) = Ok (counts_of p)
 
 -- how many registers, and how many C-elements, a file may have: only a pipeline has them
 abbrev pub most_of_either : File → ℕ

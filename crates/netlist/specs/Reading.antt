@@ -1,9 +1,8 @@
 -- Reading a whole file: its commands one after the other, the refusals 7 to 9 at the end command, and what a readable file gives.
-use Rattle.std.specs.Prelude.{ℕ, zero, suc, ◌+◌, ◌-◌, ◌*◌, ◌≤◌, ◌<◌, ◌≡◌, Bool, true, false, cond, ◌||◌, ◌⊎◌, List, [], ◌∷◌, ◌++◌}
+use Rattle.std.specs.Prelude.{ℕ, zero, suc, ◌+◌, ◌-◌, ◌*◌, ◌≤◌, ◌<◌, ◌≡◌, Bool, true, false, cond, ◌||◌, ◌⊎◌, List, [], ◌∷◌, ◌++◌, Option, Some, None}
 use Rattle.std.specs.Prelude.{map, length, get_or, eqb, ltb}
 use Rattle.netlist.specs.Types.{File, Sort, Role, AnyNet, EarlierSignal, AnySignal, Number, Data, Pin, Request}
-use Rattle.netlist.specs.Types.{Form, Limits, Counts, Next, Command, Refused, Found, At}
-use Rattle.netlist.specs.Types.{Nothing}
+use Rattle.netlist.specs.Types.{Form, Limits, Counts, Next, Command, Refused}
 use Rattle.netlist.specs.Types.file
 use Rattle.netlist.specs.Types.sort
 use Rattle.netlist.specs.Bytes.{byte, operand, outside}
@@ -49,22 +48,22 @@ abbrev pub asked : File → Sort → Nets → ℕ → ℕ → ℕ → Bool
 asked f c N k i = names (role_of f c i) N k
 
 -- the first of m operands from a place on that fails a test; the first of them is operand i
-unfoldable pub nameless : (ℕ → ℕ → Bool) → ℕ → List ℕ → ℕ → ℕ → Found
-nameless test i s at zero = Nothing
-nameless test i s at (suc m) = let later = nameless test (suc i) s (at + 2) m in cond (test i (operand s at)) later (At at)
+unfoldable pub nameless : (ℕ → ℕ → Bool) → ℕ → List ℕ → ℕ → ℕ → Option ℕ
+nameless test i s at zero = None
+nameless test i s at (suc m) = let later = nameless test (suc i) s (at + 2) m in cond (test i (operand s at)) later (Some at)
 
 -- the first operand that the command at a position uses and that names nothing
-unfoldable pub nameless_at : File → Nets → List ℕ → ℕ → ℕ → Form → Found
+unfoldable pub nameless_at : File → Nets → List ℕ → ℕ → ℕ → Form → Option ℕ
 nameless_at f N s at k form = nameless (asked f form.sort N k) 0 s (at + form.lead) (used f s at form)
 
 -- The search over a file from a position on, after k gates, in file order. Each command takes a byte, so that the file's length is fuel
 -- enough; past the last byte nothing is found.
-unfoldable pub nameless_from : ℕ → File → Nets → List ℕ → ℕ → ℕ → Found
-nameless_from zero f N s at k = Nothing
+unfoldable pub nameless_from : ℕ → File → Nets → List ℕ → ℕ → ℕ → Option ℕ
+nameless_from zero f N s at k = None
 nameless_from (suc fuel) f N s at k =
     let form = form_of f (byte s at) in
     let later = nameless_from fuel f N s (at + width form) (cond (is_sort sort.Gate form.sort) (suc k) k) in
-    when_found (nameless_at f N s at k form) At later
+    when_found (nameless_at f N s at k form) Some later
 
 -- ---- the whole file
 

@@ -1,4 +1,5 @@
 -- The types that the code and the definitions share, by their short names.
+use Rattle.std.specs.Prelude.{ℕ, Result}
 pub use Rattle.netlist.specs.declared.File.{File}
 pub use Rattle.netlist.specs.declared.File.TheVariants as file
 pub use Rattle.netlist.specs.declared.Sort.{Sort}
@@ -11,7 +12,11 @@ pub use Rattle.netlist.specs.declared.Counts.{Counts}
 pub use Rattle.netlist.specs.declared.Cursor.{Cursor}
 pub use Rattle.netlist.specs.declared.Next.{Next}
 pub use Rattle.netlist.specs.declared.Next.TheVariants.{Command, Refused}
-pub use Rattle.netlist.specs.declared.Found.{Found}
-pub use Rattle.netlist.specs.declared.Found.TheVariants.{At, Nothing}
-pub use Rattle.netlist.specs.declared.Outcome.{Outcome}
-pub use Rattle.netlist.specs.declared.Outcome.TheVariants as outcome
+pub use Rattle.netlist.specs.declared.Refusal.{Refusal}
+
+-- how the reading of a file ends: with its counts, or refused
+abbrev pub Outcome : Type 0
+Outcome = Result Counts Refusal
+
+abbrev pub refusal : ℕ → ℕ → Refusal
+refusal number at = record { number = number; at = at }

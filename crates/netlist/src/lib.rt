@@ -14,7 +14,7 @@ pub enum File {
     Reference,
 }
 
-// A stage file, with registers or without.
+// A stage file, with registers or without. No `From<bool>`: where it is called, `true` alone would not say what it stands for.
 pub fn stage_file(registers: bool) -> File
     ensures { result ≡ commands.stage_file registers }
 {
@@ -25,7 +25,7 @@ pub fn stage_file(registers: bool) -> File
     }
 }
 
-// What a command byte calls for.
+// What a command byte calls for. An unknown byte is a case and no `None`: it has a row of the command table, with a width (`form_in`).
 #[derive(Clone, Copy)]
 pub enum Sort {
     End,
@@ -66,48 +66,45 @@ pub const PARTS: usize = 64;
 // How many words that many inputs have, and so the most care words.
 pub const WORDS: usize = 1 << INPUTS;
 
+// The limits of a file with so many gates at most: all files have the same of inputs and of outputs.
+fn with_gates(gates: usize) -> Limits
+    ensures inputs { result.inputs ≡ reading.stage_limits.inputs }
+    ensures gates { result.gates ≡ gates }
+    ensures outputs { result.outputs ≡ reading.stage_limits.outputs }
+{
+    Limits {
+        inputs: INPUTS,
+        gates,
+        outputs: OUTPUTS,
+    }
+}
+
 // The limits of a stage file.
 pub fn stage_limits() -> Limits
     ensures { result ≡ reading.stage_limits }
 {
-    Limits {
-        inputs: INPUTS,
-        gates: STAGE_GATES,
-        outputs: OUTPUTS,
-    }
+    with_gates(STAGE_GATES)
 }
 
 // The limits of a reference file.
 pub fn reference_limits() -> Limits
     ensures { result ≡ reading.reference_limits }
 {
-    Limits {
-        inputs: INPUTS,
-        gates: REFERENCE_GATES,
-        outputs: OUTPUTS,
-    }
+    with_gates(REFERENCE_GATES)
 }
 
 // The limits of a part's stage file.
 pub fn part_stage_limits() -> Limits
     ensures { result ≡ reading.part_stage_limits }
 {
-    Limits {
-        inputs: INPUTS,
-        gates: PART_STAGE_GATES,
-        outputs: OUTPUTS,
-    }
+    with_gates(PART_STAGE_GATES)
 }
 
 // The limits of a part's reference file.
 pub fn part_reference_limits() -> Limits
     ensures { result ≡ reading.part_reference_limits }
 {
-    Limits {
-        inputs: INPUTS,
-        gates: PART_REFERENCE_GATES,
-        outputs: OUTPUTS,
-    }
+    with_gates(PART_REFERENCE_GATES)
 }
 
 // A position in a file.
@@ -129,7 +126,8 @@ pub struct Counts {
     pub elements: usize,
 }
 
-// What stands at a position: a command, with the position after it, or the refusal that ends the reading.
+// What stands at a position: a command, with the position after it, or the refusal that ends the reading. It is no `Result`: the reader of a file is to take
+// `let Next::Command(..) = next else` (docs/promises/form.md).
 #[derive(Clone, Copy)]
 pub enum Next {
     Command(Sort, Cursor),
@@ -158,18 +156,12 @@ pub struct Form {
     pub operands: usize,
 }
 
-// A place or an index, if there is one.
+// Why a file cannot be read: a number, and the place that it names. The numbers are those of docs/VERDICTS.md, which definitions, callers in C and users
+// know: an enum of them would be turned back into the number wherever it is met.
 #[derive(Clone, Copy)]
-pub enum Found {
-    At(usize),
-    Nothing,
-}
-
-// How the reading of a file ends: with its counts, or refused.
-#[derive(Clone, Copy)]
-pub enum Outcome {
-    Readable(Counts),
-    Refused { number: u8, at: usize },
+pub struct Refusal {
+    pub number: u8,
+    pub at: usize,
 }
 
 // The u16 operand at a place, low byte first.

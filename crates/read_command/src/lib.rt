@@ -8,7 +8,7 @@ ghost use Rattle.netlist.specs.Bytes as bytes;
 ghost use Rattle.netlist.specs.Commands as commands;
 
 use gates::Kind;
-use netlist::{Counts, Cursor, File, Form, Found, Limits, Next, Role, Sort};
+use netlist::{Counts, Cursor, File, Form, Limits, Next, Role, Sort};
 
 // ---- the command table
 
@@ -129,7 +129,7 @@ pub fn width(form: Form) -> usize
     form.lead + 2 * form.operands
 }
 
-// How many pins a gate of a kind has; 0 where there is no such kind.
+// How many pins a gate of a kind has; 0 where there is no such kind: a number and no Option, since commands.needed of specs/ says it so.
 fn pins_needed(kind: Kind) -> usize
     ensures { result ≡ commands.pins_needed kind }
 {
@@ -140,7 +140,7 @@ fn pins_needed(kind: Kind) -> usize
     }
 }
 
-// How many of a gate's operands its kind or operation needs, from the first on; 0 where there is no such kind or operation.
+// How many of a gate's operands its kind or operation needs, from the first on; 0 where there is no such kind or operation (by commands.needed).
 pub fn needed(file: File, code: u8) -> usize
     ensures { result ≡ commands.needed file code }
 {
@@ -164,20 +164,18 @@ fn misfit(k: usize, i: usize, v: u16) -> bool
 }
 
 // The first such operand among m that stand from a place on.
-fn first_misfit(k: usize, s: &[u8], at: usize, m: usize) -> Found
+fn first_misfit(k: usize, s: &[u8], at: usize, m: usize) -> Option<usize>
     requires { at + 2 * m ≤ length s.now }
     ensures { result ≡ commands.misfit_from k 0 s.now at m }
 {
-    let mut i: usize = 0;
-    while i < m {
+    for i in 0..m {
         let place = at + 2 * i;
         let v = netlist::operand(s, place);
         if misfit(k, i, v) {
-            return Found::At(place);
+            return Some(place);
         }
-        i += 1;
     }
-    Found::Nothing
+    None
 }
 
 // A gate all of whose bytes are there, after g gates: 6, then 4, then 5 by operand.
@@ -206,11 +204,11 @@ fn take_gate(
     }
     let found = first_misfit(k, s, at + form.lead, form.operands);
     match found {
-        Found::At(place) => Next::Refused {
+        Some(place) => Next::Refused {
             number: 5,
             at: place,
         },
-        Found::Nothing => taken,
+        None => taken,
     }
 }
 
@@ -239,11 +237,11 @@ fn take_element(s: &[u8], at: usize, m: usize, form: Form, taken: Next) -> Next
     let first = at + form.lead;
     let found = first_misfit(pins_used(s, first), s, first, form.operands);
     match found {
-        Found::At(place) => Next::Refused {
+        Some(place) => Next::Refused {
             number: 5,
             at: place,
         },
-        Found::Nothing => taken,
+        None => taken,
     }
 }
 

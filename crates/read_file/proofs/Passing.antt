@@ -1,5 +1,6 @@
 -- The search for 9 while the commands are read: as far as a top tells, every operand before the position names what it has to name.
 -- Assumes nothing.
+use Rattle.std.specs.Prelude.{None}
 use Prim.Native.Nat.{ℕ, ◌+◌, ◌*◌, ◌^◌, ◌≤◌, ◌<◌}
 use native.Mathlib.Omega.{arith}
 use mathlib.Core.Path.{◌≡◌, refl, sym, ap, subst, ◌∙◌}
@@ -12,7 +13,6 @@ use Rattle.netlist.specs.declared.Sort.TheVariants as sort
 use Rattle.netlist.specs.declared.Form.{Form}
 use Rattle.netlist.specs.declared.Limits.{Limits}
 use Rattle.netlist.specs.declared.Counts.{Counts}
-use Rattle.netlist.specs.declared.Found.TheVariants.{Nothing}
 use Rattle.netlist.specs.Bytes.{byte, operand, absent}
 use Rattle.netlist.specs.Commands.{is_sort, form_of, width, needed, stray}
 use Rattle.netlist.specs.Reading.{Nets, nameless_at, Places, counts_of, noted}
@@ -93,7 +93,7 @@ module _ {f : File} {most : Limits} {s : List ℕ} {at : ℕ} {c : Counts} where
 
   -- after a command
   module _ {top : ℕ} (p : Passing f s at c top) where
-    searched : {k : Sort} → There f most s at c k → (N : Nets) → Searching f N s at c.gates → nameless_at f N s at c.gates (form_of f (byte s at)) ≡ Nothing → Searching f N s (at + width_for f k) (gates_after c.gates k)
+    searched : {k : Sort} → There f most s at c k → (N : Nets) → Searching f N s at c.gates → nameless_at f N s at c.gates (form_of f (byte s at)) ≡ None → Searching f N s (at + width_for f k) (gates_after c.gates k)
     searched {k} t N w none =
         let one = few_bytes f (byte s at) {form = form_of f (byte s at)} refl in
         searching_goes w (omega (arith, t.room, ap width t.command)) {form = form_of f (byte s at)} refl refl none (width_for f k) (sym (ap width t.command)) (gates_after c.gates k)

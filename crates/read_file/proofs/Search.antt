@@ -1,5 +1,6 @@
 -- The search for 9 goes on by one operand or one command at a time.
 -- Assumes nothing.
+use Rattle.std.specs.Prelude.{Option, Some, None}
 use Prim.Native.Nat.{ℕ, zero, suc, ◌+◌, ◌*◌, ◌-◌, ◌<◌, ◌≤◌}
 use native.Mathlib.Omega.{arith}
 use mathlib.Core.Path.{◌≡◌, refl, sym, ap, ◌∙◌}
@@ -10,8 +11,6 @@ use Rattle.netlist.specs.declared.File.{File}
 use Rattle.netlist.specs.declared.Sort.{Sort}
 use Rattle.netlist.specs.declared.Sort.TheVariants as sort
 use Rattle.netlist.specs.declared.Form.{Form}
-use Rattle.netlist.specs.declared.Found.{Found}
-use Rattle.netlist.specs.declared.Found.TheVariants.{At, Nothing}
 use Rattle.netlist.specs.Bytes.{byte, operand}
 use Rattle.netlist.specs.Commands.{when_found, is_sort, form_of, width, needed, pins_used, used}
 use Rattle.netlist.specs.Reading.{Nets, nameless, nameless_at, nameless_from}
@@ -28,7 +27,7 @@ module _ (test : ℕ → ℕ → Bool) (s : List ℕ) (at m j : ℕ) (more : j <
   nameless-step : nameless test j s (at + 2 * j) (suc (m - (j + 1))) ≡ nameless test j s (at + 2 * j) (m - j)
   nameless-step = ap (nameless test j s (at + 2 * j)) (sym (one_less m j more))
 
-  pub nameless_found : test j v ≡ false → nameless test j s (at + 2 * j) (m - j) ≡ At (at + 2 * j)
+  pub nameless_found : test j v ≡ false → nameless test j s (at + 2 * j) (m - j) ≡ Some (at + 2 * j)
   unfolding nameless
   nameless_found h = sym nameless-step ∙ rw (← read, h)
 
@@ -39,7 +38,7 @@ module _ (test : ℕ → ℕ → Bool) (s : List ℕ) (at m j : ℕ) (more : j <
       sym nameless-step ∙ rw (← read, h, next_place at j) (ap (λ (i : ℕ). nameless test i s (at + 2 * (j + 1)) (m - (j + 1))) z)
 
 -- none are left
-pub nameless_none : (test : ℕ → ℕ → Bool) (j : ℕ) (s : List ℕ) (at m : ℕ) → m ≡ 0 → nameless test j s at m ≡ Nothing
+pub nameless_none : (test : ℕ → ℕ → Bool) (j : ℕ) (s : List ℕ) (at m : ℕ) → m ≡ 0 → nameless test j s at m ≡ None
 unfolding nameless
 nameless_none test j s at m e = rw e
 
@@ -112,19 +111,19 @@ pub searching_starts : (f : File) (N : Nets) (s : List ℕ) → Searching f N s 
 searching_starts f N s = record { fuel = length s; enough = omega arith; same = refl }
 
 module _ {f : File} {N : Nets} {s : List ℕ} {at k : ℕ} (w : Searching f N s at k) where
-  pub searching_past : length s ≤ at → nameless_from (length s) f N s 0 0 ≡ Nothing
+  pub searching_past : length s ≤ at → nameless_from (length s) f N s 0 0 ≡ None
   searching_past h = w.same ∙ nameless_past f N s w.fuel at k h
 
   -- at a command, whose row is form and whose operands were searched
-  module _ (here : at < length s) {form : Form} (is : form ≡ form_of f (byte s at)) {found : Found} (searched : found ≡ nameless_at f N s at k form) where
+  module _ (here : at < length s) {form : Form} (is : form ≡ form_of f (byte s at)) {found : Option ℕ} (searched : found ≡ nameless_at f N s at k form) where
     searching_step : nameless_from (length s) f N s 0 0
-        ≡ when_found found At (nameless_from (w.fuel - 1) f N s (at + width form) (gates_after k form.sort))
+        ≡ when_found found Some (nameless_from (w.fuel - 1) f N s (at + width form) (gates_after k form.sort))
     unfolding nameless_from
     searching_step =
         let p : w.fuel ≡ suc (w.fuel - 1) = omega (arith, w.enough) in
         w.same ∙ ap (λ (x : ℕ). nameless_from x f N s at k) p ∙ rw (← is, ← searched)
 
-    pub searching_goes : found ≡ Nothing → (wide : ℕ) → wide ≡ width form → (k' : ℕ) → gates_after k form.sort ≡ k' → Searching f N s (at + wide) k'
+    pub searching_goes : found ≡ None → (wide : ℕ) → wide ≡ width form → (k' : ℕ) → gates_after k form.sort ≡ k' → Searching f N s (at + wide) k'
     unfolding when_found
     searching_goes none wide e k' a = record {
       fuel = w.fuel - 1;
@@ -145,7 +144,7 @@ search_starts f N s w = record { within = omega arith; counted = omega arith; le
 
 -- the search has come to a position
 module _ {f : File} {N : Nets} {s : List ℕ} {at k : ℕ} (w : Searched f N s at k) where
-  pub search_past : length s ≤ at → nameless_from (length s) f N s 0 0 ≡ Nothing
+  pub search_past : length s ≤ at → nameless_from (length s) f N s 0 0 ≡ None
   search_past h = searching_past w.on h
 
   -- at a command, whose row is form and whose operands were searched
@@ -158,12 +157,12 @@ module _ {f : File} {N : Nets} {s : List ℕ} {at k : ℕ} (w : Searched f N s a
         go zero h = absurd (omega arith)
         go (suc left) h = rw is h.0
 
-    module _ {found : Found} (searched : found ≡ nameless_at f N s at k form) where
-      pub search_found : {place : ℕ} → found ≡ At place → nameless_from (length s) f N s 0 0 ≡ At place
+    module _ {found : Option ℕ} (searched : found ≡ nameless_at f N s at k form) where
+      pub search_found : {place : ℕ} → found ≡ Some place → nameless_from (length s) f N s 0 0 ≡ Some place
       unfolding when_found
       search_found e = searching_step w.on here is searched ∙ rw e
 
-      pub search_goes : found ≡ Nothing → (wide : ℕ) → wide ≡ width form → (k' : ℕ) → gates_after k form.sort ≡ k' → k' ≤ k + 1 → Searched f N s (at + wide) k'
+      pub search_goes : found ≡ None → (wide : ℕ) → wide ≡ width form → (k' : ℕ) → gates_after k form.sort ≡ k' → k' ≤ k + 1 → Searched f N s (at + wide) k'
       unfolding Follow
       search_goes none wide e k' a few = go w.left w.commands
         where

@@ -1,26 +1,25 @@
 -- 9 while the commands are read: operands below a top that is within reach name what they have to name.
 -- Assumes nothing.
+use Rattle.std.specs.Prelude.{None}
 use Prim.Native.Nat.{ℕ, zero, suc, ◌+◌, ◌*◌, ◌^◌, ◌≤◌, ◌<◌}
 use native.Mathlib.Omega.{arith}
 use mathlib.Core.Path.{◌≡◌, refl, ap, ◌∙◌}
 use mathlib.Core.Bool.{Bool, true, false}
 use mathlib.Core.List.{List}
 use lib.ListN.{length}
-use lib.Dec.{ltb}
-use borrow.Author.Tests.{lt-ltb, ltb-true, ltb-false}
+use borrow.Author.Tests.{lt-ltb}
 use Rattle.netlist.specs.declared.File.{File}
 use Rattle.netlist.specs.declared.File.TheVariants as file
 use Rattle.netlist.specs.declared.Sort.{Sort}
 use Rattle.netlist.specs.declared.Sort.TheVariants as sort
 use Rattle.netlist.specs.declared.Form.{Form}
 use Rattle.netlist.specs.declared.Counts.{Counts}
-use Rattle.netlist.specs.declared.Found.TheVariants.{Nothing}
 use Rattle.netlist.specs.Bytes.{byte, operand}
 use Rattle.netlist.specs.Commands.{command_table, own_commands, form_in, form_of, role_of, needed, used}
 use Rattle.netlist.specs.Reading.{Nets, carries_data, names, asked, nameless, nameless_at}
 use Rattle.netlist.specs.Writing.{form_for, operand_count}
 use Rattle.netlist.proofs.Encoding.{clash, gate_form, output_form, width_gate, width_output, needed_in}
-use Rattle.read_file.specs.Files.{Countable, reach, Reaches, Present, Below, Stands, Topped}
+use Rattle.read_file.specs.Files.{Countable, reach, Reaches, Below, Stands, Topped}
 
 -- ---- a top
 
@@ -37,18 +36,9 @@ reach-in file.Stage n g h = h
 reach-in file.Pipeline n g h = h
 reach-in file.Reference n g h = omega arith
 
--- one operand more
-pub below_more : (s : List ℕ) (place i : ℕ) (spare : Bool) {top top' : ℕ} → Below s place i spare top → top ≤ top' →
-    (Present spare (operand s (place + 2 * i)) → operand s (place + 2 * i) < top') → Below s place (i + 1) spare top'
-below_more s place i spare {top} {top'} h up own = λ j l p. go j l p (ltb j i) refl
-  where
-    go : (j : ℕ) → j < i + 1 → Present spare (operand s (place + 2 * j)) → (b : Bool) → ltb j i ≡ b → operand s (place + 2 * j) < top'
-    go j l p true e = let low = h j (ltb-true j i e) p in omega arith
-    go j l p false e = let z : j ≡ i = omega (arith, ltb-false j i e) in rw z (own (rw z at p))
-
 -- ---- what the operands of a command name
 
-each_named : (test : ℕ → ℕ → Bool) (s : List ℕ) (i at m : ℕ) → ((j : ℕ) → j < m → test (i + j) (operand s (at + 2 * j)) ≡ true) → nameless test i s at m ≡ Nothing
+each_named : (test : ℕ → ℕ → Bool) (s : List ℕ) (i at m : ℕ) → ((j : ℕ) → j < m → test (i + j) (operand s (at + 2 * j)) ≡ true) → nameless test i s at m ≡ None
 unfolding nameless
 each_named test s i at zero h = refl
 each_named test s i at (suc m) h =
@@ -65,24 +55,24 @@ each_named test s i at (suc m) h =
 
 -- each operand that a command uses is asked what its role says
 command-named : (f : File) (N : Nets) (s : List ℕ) (at k : ℕ) (form : Form) →
-    ((j : ℕ) → j < used f s at form → asked f form.sort N k j (operand s (at + form.lead + 2 * j)) ≡ true) → nameless_at f N s at k form ≡ Nothing
+    ((j : ℕ) → j < used f s at form → asked f form.sort N k j (operand s (at + form.lead + 2 * j)) ≡ true) → nameless_at f N s at k form ≡ None
 unfolding nameless_at
 command-named f N s at k form h =
     each_named (asked f form.sort N k) s 0 (at + form.lead) (used f s at form) (λ j l. let z : 0 + j ≡ j = omega arith in rw z (h j l))
 
 module _ (f : File) (N : Nets) (s : List ℕ) (at k : ℕ) where
   gate-named : form_of f (byte s at) ≡ form_for f sort.Gate →
-      ((j : ℕ) → j < needed f (byte s (at + 1)) → asked f sort.Gate N k j (operand s (at + 2 + 2 * j)) ≡ true) → nameless_at f N s at k (form_of f (byte s at)) ≡ Nothing
+      ((j : ℕ) → j < needed f (byte s (at + 1)) → asked f sort.Gate N k j (operand s (at + 2 + 2 * j)) ≡ true) → nameless_at f N s at k (form_of f (byte s at)) ≡ None
   unfolding used
   gate-named is h = rw (is, gate_form f) (command-named f N s at k _ h)
 
   output_named : form_of f (byte s at) ≡ form_for f sort.Output →
-      ((j : ℕ) → j < operand_count f sort.Output → asked f sort.Output N k j (operand s (at + 1 + 2 * j)) ≡ true) → nameless_at f N s at k (form_of f (byte s at)) ≡ Nothing
+      ((j : ℕ) → j < operand_count f sort.Output → asked f sort.Output N k j (operand s (at + 1 + 2 * j)) ≡ true) → nameless_at f N s at k (form_of f (byte s at)) ≡ None
   unfolding used
   output_named is h = rw (is, output_form f) (command-named f N s at k _ h)
 
   -- the operands of some commands are numbers, and name nothing
-  plain_named : {c : Sort} → (form_of f (byte s at)).sort ≡ c → ((j v : ℕ) → asked f c N k j v ≡ true) → nameless_at f N s at k (form_of f (byte s at)) ≡ Nothing
+  plain_named : {c : Sort} → (form_of f (byte s at)).sort ≡ c → ((j v : ℕ) → asked f c N k j v ≡ true) → nameless_at f N s at k (form_of f (byte s at)) ≡ None
   plain_named told h = command-named f N s at k (form_of f (byte s at)) (λ j l. rw told (h j (operand s (at + (form_of f (byte s at)).lead + 2 * j))))
 
   number_asked : (c : Sort) → (c ≡ sort.Gate → ⊥) → (c ≡ sort.Output → ⊥) → (c ≡ sort.Register → ⊥) → (c ≡ sort.Element → ⊥) → (j v : ℕ) → asked f c N k j v ≡ true
@@ -96,18 +86,18 @@ module _ (f : File) (N : Nets) (s : List ℕ) (at k : ℕ) where
   number_asked sort.Register g o r e j v = absurd (r refl)
   number_asked sort.Element g o r e j v = absurd (e refl)
 
-  number_named : {c : Sort} → (form_of f (byte s at)).sort ≡ c → (c ≡ sort.Gate → ⊥) → (c ≡ sort.Output → ⊥) → (c ≡ sort.Register → ⊥) → (c ≡ sort.Element → ⊥) → nameless_at f N s at k (form_of f (byte s at)) ≡ Nothing
+  number_named : {c : Sort} → (form_of f (byte s at)).sort ≡ c → (c ≡ sort.Gate → ⊥) → (c ≡ sort.Output → ⊥) → (c ≡ sort.Register → ⊥) → (c ≡ sort.Element → ⊥) → nameless_at f N s at k (form_of f (byte s at)) ≡ None
   number_named {c} told g o r e = plain_named told (number_asked c g o r e)
 
-  pub inputs_named : (form_of f (byte s at)).sort ≡ sort.Inputs → nameless_at f N s at k (form_of f (byte s at)) ≡ Nothing
+  pub inputs_named : (form_of f (byte s at)).sort ≡ sort.Inputs → nameless_at f N s at k (form_of f (byte s at)) ≡ None
   unfolding role_of names
   inputs_named told = plain_named told (λ j v. refl)
 
-  pub end_named : (form_of f (byte s at)).sort ≡ sort.End → nameless_at f N s at k (form_of f (byte s at)) ≡ Nothing
+  pub end_named : (form_of f (byte s at)).sort ≡ sort.End → nameless_at f N s at k (form_of f (byte s at)) ≡ None
   unfolding role_of names
   end_named told = plain_named told (λ j v. refl)
 
-  pub care_named : (form_of f (byte s at)).sort ≡ sort.Care → nameless_at f N s at k (form_of f (byte s at)) ≡ Nothing
+  pub care_named : (form_of f (byte s at)).sort ≡ sort.Care → nameless_at f N s at k (form_of f (byte s at)) ≡ None
   unfolding role_of names
   care_named told = plain_named told (λ j v. refl)
 

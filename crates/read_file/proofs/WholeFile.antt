@@ -1,6 +1,7 @@
 -- Reading a whole file, as the code does it: the walk from one command to the next, with the places in one lent list, and the tests
 -- at the end command.
 -- Assumes nothing.
+use Rattle.std.specs.Prelude.{Option, Some, None}
 use Prim.Native.Nat.{ℕ, zero, suc, ◌+◌, ◌-◌, ◌^◌, ◌≤◌, ◌<◌}
 use native.Mathlib.Omega.{arith}
 use native.Mathlib.Nat.{mul-le-mul_right}
@@ -21,8 +22,6 @@ use Rattle.netlist.specs.declared.Cursor.{Cursor}
 use Rattle.netlist.specs.declared.Counts.{Counts}
 use Rattle.netlist.specs.declared.Next.{Next}
 use Rattle.netlist.specs.declared.Next.TheVariants.{Command, Refused}
-use Rattle.netlist.specs.declared.Found.{Found}
-use Rattle.netlist.specs.declared.Found.TheVariants.{At, Nothing}
 use Rattle.netlist.specs.Bytes.{byte}
 use Rattle.netlist.specs.Commands.{when_found, is_sort, form_of, width, next_at}
 use Rattle.netlist.specs.Reading.{nameless_from, Places, floor_after, count_of, sorts_of, counts_of, nets_of, Reading, refused, readable, finish, on_next, read_from, read_file}
@@ -61,17 +60,17 @@ module _ (f : File) (s : List ℕ) (at : ℕ) (p : Places) (c : Counts) (e : cou
     unfolding finish
     finish_7 h = rw (tested, lt-ltb (at + 1) (length s) h)
 
-    module _ (last : length s ≤ at + 1) (found : Found) (is : found ≡ nameless_from (length s) f (nets_with c.inputs c.gates notes) s 0 0) where
+    module _ (last : length s ≤ at + 1) (found : Option ℕ) (is : found ≡ nameless_from (length s) f (nets_with c.inputs c.gates notes) s 0 0) where
       searched : nameless_from (length s) f (nets_of p) s 0 0 ≡ found
       searched =
           ap₂ (λ (x : Counts) (ps : List (Sort × ℕ)). nameless_from (length s) f (record { inputs = x.inputs; gates = x.gates; parts = sorts_of ps }) s 0 0) e kept
           ∙ sym is
 
-      pub finish_9 : (place : ℕ) → found ≡ At place → finish f s at p ≡ refused 9 place
+      pub finish_9 : (place : ℕ) → found ≡ Some place → finish f s at p ≡ refused 9 place
       unfolding finish when_found
       finish_9 place q = rw (tested, le-ltb (at + 1) (length s) last, searched, q)
 
-      pub finish_readable : found ≡ Nothing → finish f s at p ≡ readable p
+      pub finish_readable : found ≡ None → finish f s at p ≡ readable p
       unfolding finish when_found
       finish_readable q = rw (tested, le-ltb (at + 1) (length s) last, searched, q)
 
@@ -84,11 +83,11 @@ module _ (most : Limits) (places : List ℕ) where
   unfolding finish when_found Placed
   finish-placed f s at p h = go (eqb (length p.outputs) 0) (ltb (at + 1) (length s)) (nameless_from (length s) f (nets_of p) s 0 0)
     where
-      go : (x y : Bool) (found : Found) → Placed most (cond x (refused 8 at) (cond y (refused 7 (at + 1)) (when_found found (refused 9) (readable p)))) places
+      go : (x y : Bool) (found : Option ℕ) → Placed most (cond x (refused 8 at) (cond y (refused 7 (at + 1)) (when_found found (refused 9) (readable p)))) places
       go true y found = tt
       go false true found = tt
-      go false false (At place) = tt
-      go false false Nothing = h
+      go false false (Some place) = tt
+      go false false None = h
 
 -- ---- whole commands fill the file
 

@@ -1,12 +1,11 @@
 -- What the functions that read a whole file ask of one another beside the reading itself, and what a readable file leaves in the lent places.
-use Rattle.std.specs.Prelude.{ℕ, zero, suc, ◌+◌, ◌*◌, ◌/◌, ◌%◌, ◌^◌, ◌<◌, ◌≤◌, ◌≡◌, Bool, true, cond, List, [], ◌∷◌, map, length, take, drop, eqb}
+use Rattle.std.specs.Prelude.{ℕ, zero, suc, ◌+◌, ◌*◌, ◌/◌, ◌%◌, ◌^◌, ◌<◌, ◌≤◌, ◌≡◌, Bool, true, cond, List, [], ◌∷◌, map, length, take, drop, eqb, Some, None}
 use Rattle.netlist.specs.declared.File.{File}
 use Rattle.netlist.specs.declared.File.TheVariants.{Stage, Pipeline, Reference}
 use Rattle.netlist.specs.declared.Sort.{Sort}
 use Rattle.netlist.specs.declared.Sort.TheVariants as sort
 use Rattle.netlist.specs.declared.Limits.{Limits}
 use Rattle.netlist.specs.declared.Counts.{Counts}
-use Rattle.netlist.specs.declared.Found.TheVariants as found
 use Rattle.netlist.specs.Bytes.{byte, operand, absent}
 use Rattle.netlist.specs.Commands.{most_parts, form_of, width, needed}
 use Rattle.netlist.specs.Reading.{Nets, part_nets, nameless_at, nameless_from, Places, sorts_of, counts_of, noted, Reading, refused, readable}
@@ -70,7 +69,7 @@ pub record Reaches (f : File) (n top : ℕ) (N : Nets) : Type 0 where
 
 -- where they do, every operand of the file names what it has to name
 abbrev pub Settled : File → List ℕ → ℕ → ℕ → Type 0
-Settled f s n top = (N : Nets) → Reaches f n top N → nameless_from (length s) f N s 0 0 ≡ found.Nothing
+Settled f s n top = (N : Nets) → Reaches f n top N → nameless_from (length s) f N s 0 0 ≡ None
 
 -- an operand that is there; where some may be spare, FFFF is none
 abbrev pub Present : Bool → ℕ → Type 0
@@ -91,7 +90,7 @@ pub record Stands (f : File) (s : List ℕ) (at : ℕ) (c : Sort) : Type 0 where
 abbrev pub Topped : File → List ℕ → ℕ → Counts → ℕ → ℕ → Type 0
 Topped f s at before top top' =
     (N : Nets) → Reaches f before.inputs top' N →
-    Reaches f before.inputs top N × (nameless_at f N s at before.gates (form_of f (byte s at)) ≡ found.Nothing)
+    Reaches f before.inputs top N × (nameless_at f N s at before.gates (form_of f (byte s at)) ≡ None)
 
 -- ---- the lent places
 

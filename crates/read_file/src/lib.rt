@@ -2,14 +2,15 @@
 // refused, is said in the crate netlist, and one command is read in the crate read_command.
 #![tactic(auto)]
 
-ghost use Rattle.std.specs.Prelude.{◌≡◌, true, map, ℕ, ◌+◌, ◌*◌, ◌^◌, ◌<◌, ◌≤◌, length};
+ghost use Rattle.std.specs.Prelude.{◌≡◌, true, map, ℕ, ◌+◌, ◌*◌, ◌^◌, ◌<◌, ◌≤◌, length, Err};
 ghost use Rattle.netlist.specs.Commands as commands;
 ghost use Rattle.netlist.specs.Bytes as bytes;
 ghost use Rattle.netlist.specs.Reading as reading;
 ghost use Rattle.netlist.specs.Read as read;
+ghost use Rattle.netlist.specs.Types as types;
 ghost use Rattle.read_file.specs.Files as files;
 
-use netlist::{Counts, Cursor, File, Form, Found, Limits, Next, Outcome, Role, Sort};
+use netlist::{Counts, Cursor, File, Form, Limits, Next, Refusal, Role, Sort};
 
 // ---- the reader
 
@@ -78,15 +79,12 @@ fn part_net(notes: &[u16], i: usize) -> Carried
     ensures { result ≡ files.carried_at (reading.part_nets (reading.sorts_of (map files.part_noted notes.now))) i }
 {
     let mut left = i;
-    let mut p: usize = 0;
-    while p < notes.len() {
-        let note = notes[p];
-        let own = nets_of(note);
+    for note in notes {
+        let own = nets_of(*note);
         if left < own {
-            return own_net(note, left);
+            return own_net(*note, left);
         }
         left -= own;
-        p += 1;
     }
     Carried::Nothing
 }
@@ -167,7 +165,7 @@ fn nameless_at(
     at: usize,
     k: usize,
     form: Form,
-) -> Found
+) -> Option<usize>
     requires form_value { (form ≡ commands.form_of file (bytes.byte s.now at)) × (at + commands.width form ≤ length s.now) }
     requires g_bound { (2 * n + g < 2 ^ 64) × (n + k < 2 ^ 64) }
     ensures { result ≡ reading.nameless_at file (files.nets_with n g notes.now) s.now at k form }
@@ -175,31 +173,29 @@ fn nameless_at(
     let sort = form.sort;
     let first = at + form.lead;
     let m = used_operands(file, s, at, form);
-    let mut j: usize = 0;
-    while j < m {
+    for j in 0..m {
         let place = first + 2 * j;
         let v = netlist::operand(s, place) as usize;
         let role = read_command::role_of(file, sort, j);
-        if names(role, n, g, notes, k, v) {
-            j += 1;
-        } else {
-            return Found::At(place);
+        if !names(role, n, g, notes, k, v) {
+            return Some(place);
         }
     }
-    Found::Nothing
+    None
 }
 
 // The first operand of a file that names nothing, in the order of the file, which whole commands fill.
-fn find_nameless(file: File, n: usize, g: usize, notes: &[u16], s: &[u8]) -> Found
+fn find_nameless(file: File, n: usize, g: usize, notes: &[u16], s: &[u8]) -> Option<usize>
     requires { files.Countable n g × files.FilledTo file s.now (length s.now) }
     ensures { result ≡ reading.nameless_from (length s.now) file (files.nets_with n g notes.now) s.now 0 0 }
 {
     let mut at: usize = 0;
     let mut k: usize = 0;
+    // A `while`: the position moves on by the width of the command that stands there, and not by one.
     while at < s.len() {
         let form = read_command::form_of(file, s[at]);
-        if let Found::At(place) = nameless_at(file, n, g, notes, s, at, k, form) {
-            return Found::At(place);
+        if let Some(place) = nameless_at(file, n, g, notes, s, at, k, form) {
+            return Some(place);
         }
         let after = at + read_command::width(form);
         let sort = form.sort;
@@ -211,12 +207,13 @@ fn find_nameless(file: File, n: usize, g: usize, notes: &[u16], s: &[u8]) -> Fou
         }
         at = after;
     }
-    Found::Nothing
+    None
 }
 
 // ---- 9 while the commands are read
 
-// More than any nets reach: the operands are to be asked one by one.
+// More than any nets reach: the operands are to be asked one by one. A number and no Option: a top is only compared, and Topped and Settled of
+// specs/ say it by the number.
 const ASKED: usize = 0x100000000;
 
 // How far operands may reach that are asked by their numbers alone: in a reference to the last signal, else to the last net of a gate.
@@ -238,24 +235,15 @@ fn past(v: u16, spare: bool) -> usize
     if spare { next % 0x10000 } else { next }
 }
 
-// The higher of two numbers.
-fn higher(a: usize, b: usize) -> usize
-    ensures { (a ≤ result) × (b ≤ result) }
-{
-    if a < b { b } else { a }
-}
-
 // A top above m operands from a place on, and no lower than one before.
 fn above(top: usize, s: &[u8], place: usize, m: usize, spare: bool) -> usize
     requires { place + 2 * m ≤ length s.now }
     ensures { (top ≤ result) × files.Below s.now place m spare result }
 {
     let mut high = top;
-    let mut i: usize = 0;
-    while i < m {
+    for i in 0..m {
         let v = netlist::operand(s, place + 2 * i);
-        high = higher(high, past(v, spare));
-        i += 1;
+        high = high.max(past(v, spare));
     }
     high
 }
@@ -286,12 +274,19 @@ fn top_after(file: File, sort: Sort, s: &[u8], at: usize, before: Counts, top: u
 }
 
 // The search for 9, where a top is known: within reach there is nothing to ask.
-fn first_nameless(file: File, n: usize, g: usize, notes: &[u16], s: &[u8], top: usize) -> Found
+fn first_nameless(
+    file: File,
+    n: usize,
+    g: usize,
+    notes: &[u16],
+    s: &[u8],
+    top: usize,
+) -> Option<usize>
     requires { files.Countable n g × files.FilledTo file s.now (length s.now) × files.Settled file s.now n top }
     ensures { result ≡ reading.nameless_from (length s.now) file (files.nets_with n g notes.now) s.now 0 0 }
 {
     if top <= reach(file, n, g) {
-        return Found::Nothing;
+        return None;
     }
     find_nameless(file, n, g, notes, s)
 }
@@ -299,42 +294,49 @@ fn first_nameless(file: File, n: usize, g: usize, notes: &[u16], s: &[u8], top: 
 // ---- the whole file
 
 // The refusal of a command that cannot be read, as the file's. What is answered for a command that was read is not said.
-fn refusal(next: Next) -> Outcome
-    ensures { (number at : ℕ) → next ≡ Next.Refused number at → result ≡ Outcome.Refused number at }
+fn refusal(next: Next) -> Result<Counts, Refusal>
+    ensures { (number at : ℕ) → next ≡ Next.Refused number at → result ≡ Err (types.refusal number at) }
 {
     match next {
-        Next::Refused { number, at } => Outcome::Refused { number, at },
-        Next::Command(_, after) => Outcome::Refused {
+        Next::Refused { number, at } => Err(Refusal { number, at }),
+        Next::Command(_, after) => Err(Refusal {
             number: 0,
             at: after.at,
-        },
+        }),
     }
 }
 
 // At the end command, whose place is given with the counts before it, the notes of the registers and C-elements, and a top: 8, 7, then 9.
-fn finish(file: File, s: &[u8], at: usize, counts: Counts, notes: &[u16], top: usize) -> Outcome
+fn finish(
+    file: File,
+    s: &[u8],
+    at: usize,
+    counts: Counts,
+    notes: &[u16],
+    top: usize,
+) -> Result<Counts, Refusal>
     requires countable { files.Countable counts.inputs counts.gates × (at < length s.now) × files.FilledTo file s.now (at + 1) }
     requires settled { length s.now ≤ at + 1 → files.Settled file s.now counts.inputs top }
     ensures { (p : reading.Places) → reading.counts_of p ≡ counts → p.parts ≡ map files.part_noted notes.now
         → result ≡ read.outcome_of (reading.finish file s.now at p) }
 {
     if counts.outputs == 0 {
-        return Outcome::Refused { number: 8, at };
+        return Err(Refusal { number: 8, at });
     }
     let after = at + 1;
     if after < s.len() {
-        return Outcome::Refused {
+        return Err(Refusal {
             number: 7,
             at: after,
-        };
+        });
     }
-    if let Found::At(place) = first_nameless(file, counts.inputs, counts.gates, notes, s, top) {
-        return Outcome::Refused {
+    if let Some(place) = first_nameless(file, counts.inputs, counts.gates, notes, s, top) {
+        return Err(Refusal {
             number: 9,
             at: place,
-        };
+        });
     }
-    Outcome::Readable(counts)
+    Ok(counts)
 }
 
 // Notes a command of a sort at a position, where some stand before it; the counts then.
@@ -407,7 +409,7 @@ fn word_at(s: &[u8], at: usize, floor: usize, below: usize) -> bool
 // Reads a whole file, one command at a time, and care words that follow one another at once. The places of its gates go into the lent slice
 // from index 0 on, those of its outputs from index most.gates on, the notes of its registers and C-elements behind room for the most outputs,
 // and its care words behind room for the most of these.
-pub fn read_file(file: File, most: Limits, s: &[u8], places: &mut [u16]) -> Outcome
+pub fn read_file(file: File, most: Limits, s: &[u8], places: &mut [u16]) -> Result<Counts, Refusal>
     requires { files.RoomFor file most (length places.old) }
     ensures answered { result ≡ read.outcome_of (reading.read_file file most s.now) }
     ensures placed { files.Placed most (reading.read_file file most s.now) places.new }
@@ -424,6 +426,7 @@ pub fn read_file(file: File, most: Limits, s: &[u8], places: &mut [u16]) -> Outc
         registers: 0,
         elements: 0,
     };
+    // A `while`: the position moves on by the width of the command that stands there, and past the care words that follow one.
     while at < s.len() {
         let next = take_next(file, most, s, Cursor { at }, counts);
         let Next::Command(sort, after) = next else {
@@ -444,8 +447,8 @@ pub fn read_file(file: File, most: Limits, s: &[u8], places: &mut [u16]) -> Outc
             }
         }
     }
-    Outcome::Refused {
+    Err(Refusal {
         number: 1,
         at: s.len(),
-    }
+    })
 }

@@ -1,5 +1,6 @@
 -- What is played: the net with the least key switches, every list is legal and goes on to an end, and rules that allow the same give the same list.
 -- Assumes nothing.
+use Rattle.std.specs.Prelude.{Option, Some, None}
 use Prim.Native.Nat.{ℕ, zero, suc, ◌+◌, ◌≤◌, ◌<◌}
 use native.Mathlib.Omega.{arith}
 use native.Mathlib.Decide.{dec_lt}
@@ -12,8 +13,6 @@ use lib.Dec.{ltb}
 use Rattle.runs.specs.Row.{Row, Rule, low, toggle, after, Legal, Ended, ◌∖◌}
 use Rattle.runs.specs.Net.{Net, nets, rise_step, fall_step}
 use Rattle.runs.proofs.Test.{clash, true?, not-true, lt-ltb, le-ltb}
-use Rattle.netlist.specs.declared.Found.{Found}
-use Rattle.netlist.specs.declared.Found.TheVariants.{At, Nothing}
 use Rattle.verdict.specs.declared.Verdict.{Verdict}
 use Rattle.verdict.specs.Written.{holding}
 use Rattle.check_spec.specs.Lists.{numbers}
@@ -27,9 +26,9 @@ abbrev pub Before : (ℕ → ℕ) → ℕ → ℕ → Type 0
 Before key k i = (key k < key i) ⊎ ((key k ≡ key i) × (k ≤ i))
 
 -- what is found among m nets from j on: one that may switch, before all others that may; or none may
-abbrev pub NextOf : (ℕ → ℕ) → (ℕ → Bool) → ℕ → ℕ → Found → Type 0
-NextOf key may j m (At k) = (j ≤ k) × (k < j + m) × (may k ≡ true) × ((i : ℕ) → j ≤ i → i < j + m → may i ≡ true → Before key k i)
-NextOf key may j m Nothing = (i : ℕ) → j ≤ i → i < j + m → may i ≡ false
+abbrev pub NextOf : (ℕ → ℕ) → (ℕ → Bool) → ℕ → ℕ → Option ℕ → Type 0
+NextOf key may j m (Some k) = (j ≤ k) × (k < j + m) × (may k ≡ true) × ((i : ℕ) → j ≤ i → i < j + m → may i ≡ true → Before key k i)
+NextOf key may j m None = (i : ℕ) → j ≤ i → i < j + m → may i ≡ false
 
 module _ (key : ℕ → ℕ) (may : ℕ → Bool) where
   more : (P : ℕ → Type 0) (j m : ℕ) → P j → ((i : ℕ) → suc j ≤ i → i < suc j + m → P i) → (i : ℕ) → j ≤ i → i < j + suc m → P i
@@ -39,13 +38,13 @@ module _ (key : ℕ → ℕ) (may : ℕ → Bool) where
       go (yes d) = f i d (omega arith)
       go (no d) = let e : j ≡ i = omega arith in subst P e p
 
-  passed : (j m : ℕ) → may j ≡ false → (f : Found) → NextOf key may (suc j) m f → NextOf key may j (suc m) f
-  passed j m e Nothing p = more (λ i. may i ≡ false) j m e p
-  passed j m e (At k) p = (omega (arith, p.0), omega (arith, p.1), p.2, more (λ i. may i ≡ true → Before key k i) j m (λ t. absurd (clash t e)) p.3)
+  passed : (j m : ℕ) → may j ≡ false → (f : Option ℕ) → NextOf key may (suc j) m f → NextOf key may j (suc m) f
+  passed j m e None p = more (λ i. may i ≡ false) j m e p
+  passed j m e (Some k) p = (omega (arith, p.0), omega (arith, p.1), p.2, more (λ i. may i ≡ true → Before key k i) j m (λ t. absurd (clash t e)) p.3)
 
-  compared : (j m : ℕ) → may j ≡ true → (f : Found) → NextOf key may (suc j) m f → NextOf key may j (suc m) (lesser key j f)
-  compared j m e Nothing p = (omega arith, omega arith, e, more (λ i. may i ≡ true → Before key j i) j m (λ t. inr (refl, omega arith)) (λ i h l t. absurd (clash t (p i h l))))
-  compared j m e (At k) p = go (dec_lt (key k) (key j))
+  compared : (j m : ℕ) → may j ≡ true → (f : Option ℕ) → NextOf key may (suc j) m f → NextOf key may j (suc m) (lesser key j f)
+  compared j m e None p = (omega arith, omega arith, e, more (λ i. may i ≡ true → Before key j i) j m (λ t. inr (refl, omega arith)) (λ i h l t. absurd (clash t (p i h l))))
+  compared j m e (Some k) p = go (dec_lt (key k) (key j))
     where
       before : key j ≤ key k → (i : ℕ) → suc j ≤ i → i < suc j + m → may i ≡ true → Before key j i
       before le i h l t = at (p.3 i h l t)
@@ -61,7 +60,7 @@ module _ (key : ℕ → ℕ) (may : ℕ → Bool) where
           at (inl x) = inl (omega arith)
           at (inr x) = equal (key j) (key i) (omega (arith, x.0)) h
 
-      go : Dec (key k < key j) → NextOf key may j (suc m) (cond (ltb (key k) (key j)) (At k) (At j))
+      go : Dec (key k < key j) → NextOf key may j (suc m) (cond (ltb (key k) (key j)) (Some k) (Some j))
       go (yes d) =
           rw (lt-ltb (key k) (key j) d) (omega (arith, p.0), omega (arith, p.1), p.2, more (λ i. may i ≡ true → Before key k i) j m (λ t. inl d) p.3)
       go (no d) =
@@ -78,24 +77,24 @@ module _ (key : ℕ → ℕ) (may : ℕ → Bool) where
       go p (inr e) = rw e (passed j m e (next key may (numbers (suc j) m)) p)
 
 -- the same of all nets below n
-abbrev pub NextIs : (ℕ → ℕ) → (ℕ → Bool) → ℕ → Found → Type 0
-NextIs key may n (At k) = (k < n) × (may k ≡ true) × ((i : ℕ) → i < n → may i ≡ true → Before key k i)
-NextIs key may n Nothing = (i : ℕ) → i < n → may i ≡ false
+abbrev pub NextIs : (ℕ → ℕ) → (ℕ → Bool) → ℕ → Option ℕ → Type 0
+NextIs key may n (Some k) = (k < n) × (may k ≡ true) × ((i : ℕ) → i < n → may i ≡ true → Before key k i)
+NextIs key may n None = (i : ℕ) → i < n → may i ≡ false
 
 module _ (key : ℕ → ℕ) (may : ℕ → Bool) (n : ℕ) where
   pub next-is : NextIs key may n (next key may (numbers 0 n))
   next-is = go (next key may (numbers 0 n)) (next-from key may 0 n)
     where
-      go : (f : Found) → NextOf key may 0 n f → NextIs key may n f
-      go Nothing p = λ i l. p i (omega arith) (omega arith)
-      go (At k) p = (omega (arith, p.1), p.2, λ i l t. p.3 i (omega arith) (omega arith) t)
+      go : (f : Option ℕ) → NextOf key may 0 n f → NextIs key may n f
+      go None p = λ i l. p i (omega arith) (omega arith)
+      go (Some k) p = (omega (arith, p.1), p.2, λ i l t. p.3 i (omega arith) (omega arith) t)
 
   -- there is one such net
-  next_one : (f g : Found) → NextIs key may n f → NextIs key may n g → f ≡ g
-  next_one Nothing Nothing p q = refl
-  next_one Nothing (At k) p q = absurd (clash q.1 (p k q.0))
-  next_one (At k) Nothing p q = absurd (clash p.1 (q k p.0))
-  next_one (At k) (At i) p q = ap At (same (p.2 i q.0 q.1) (q.2 k p.0 p.1))
+  next_one : (f g : Option ℕ) → NextIs key may n f → NextIs key may n g → f ≡ g
+  next_one None None p q = refl
+  next_one None (Some k) p q = absurd (clash q.1 (p k q.0))
+  next_one (Some k) None p q = absurd (clash p.1 (q k p.0))
+  next_one (Some k) (Some i) p q = ap Some (same (p.2 i q.0 q.1) (q.2 k p.0 p.1))
     where
       same : Before key k i → Before key i k → k ≡ i
       same (inl x) (inl y) = absurd (omega arith)
@@ -103,32 +102,32 @@ module _ (key : ℕ → ℕ) (may : ℕ → Bool) (n : ℕ) where
       same (inr x) (inl y) = absurd (omega (arith, x.0))
       same (inr x) (inr y) = omega (arith, x.1, y.1)
 
-  pub next_only : (f : Found) → NextIs key may n f → f ≡ next key may (numbers 0 n)
+  pub next_only : (f : Option ℕ) → NextIs key may n f → f ≡ next key may (numbers 0 n)
   next_only f p = next_one f (next key may (numbers 0 n)) p next-is
 
 -- ---- one step
 
 module _ (can : Rule) (key : ℕ → ℕ) (n : ℕ) where
-  pub played_none : (steps : ℕ) (r : Row) → NextIs key (can r) n Nothing → played can key n steps r ≡ []
+  pub played_none : (steps : ℕ) (r : Row) → NextIs key (can r) n None → played can key n steps r ≡ []
   unfolding played
   played_none zero r p = refl
-  played_none (suc steps) r p = ap (onward (λ k. played can key n steps (toggle r k))) (sym (next_only key (can r) n Nothing p))
+  played_none (suc steps) r p = ap (onward (λ k. played can key n steps (toggle r k))) (sym (next_only key (can r) n None p))
 
-  pub played_next : (steps : ℕ) (r : Row) (k : ℕ) → NextIs key (can r) n (At k) → played can key n (suc steps) r ≡ k ∷ played can key n steps (toggle r k)
+  pub played_next : (steps : ℕ) (r : Row) (k : ℕ) → NextIs key (can r) n (Some k) → played can key n (suc steps) r ≡ k ∷ played can key n steps (toggle r k)
   unfolding played
-  played_next steps r k p = ap (onward (λ k. played can key n steps (toggle r k))) (sym (next_only key (can r) n (At k) p))
+  played_next steps r k p = ap (onward (λ k. played can key n steps (toggle r k))) (sym (next_only key (can r) n (Some k) p))
 
   -- a list that is played, by its first step
   by_step : (P : List ℕ → Type 0) (steps : ℕ) (r : Row)
-      → (NextIs key (can r) n Nothing → P [])
-      → ((k : ℕ) → NextIs key (can r) n (At k) → P (k ∷ played can key n steps (toggle r k)))
+      → (NextIs key (can r) n None → P [])
+      → ((k : ℕ) → NextIs key (can r) n (Some k) → P (k ∷ played can key n steps (toggle r k)))
       → P (played can key n (suc steps) r)
   unfolding played
   by_step P steps r none some = go (next key (can r) (numbers 0 n)) (next-is key (can r) n)
     where
-      go : (f : Found) → NextIs key (can r) n f → P (onward (λ k. played can key n steps (toggle r k)) f)
-      go Nothing p = none p
-      go (At k) p = some k p
+      go : (f : Option ℕ) → NextIs key (can r) n f → P (onward (λ k. played can key n steps (toggle r k)) f)
+      go None p = none p
+      go (Some k) p = some k p
 
   -- ---- every list
 
@@ -149,7 +148,7 @@ module _ (can : Rule) (key : ℕ → ℕ) (n : ℕ) where
     pub fewer : (r : Row) (k : ℕ) → I r → can r k ≡ true → left (toggle r k) < left r
 
   module _ (I : Row → Type 0) (left : Row → ℕ) (falls : Falls I left) where
-    none_ended : (r : Row) → I r → NextIs key (can r) n Nothing → Ended can r
+    none_ended : (r : Row) → I r → NextIs key (can r) n None → Ended can r
     none_ended r i p k = not-true (can r k) (λ e. clash e (p k (falls.inside r k i e)))
 
     pub played_least : (steps : ℕ) (r : Row) → I r → left r ≤ steps → LeastFirst can key r (played can key n steps r)
@@ -194,9 +193,9 @@ module _ (can : Rule) (key : ℕ → ℕ) where
 module _ (a b : Rule) (key : ℕ → ℕ) (n : ℕ) (Alike : Row → Row → Type 0)
     (same : (r s : Row) → Alike r s → (k : ℕ) → k < n → a r k ≡ b s k)
     (stays : (r s : Row) (k : ℕ) → Alike r s → a r k ≡ true → Alike (toggle r k) (toggle s k)) where
-  carried : (r s : Row) → Alike r s → (f : Found) → NextIs key (a r) n f → NextIs key (b s) n f
-  carried r s x Nothing p = λ i h. sym (same r s x i h) ∙ p i h
-  carried r s x (At k) p = (p.0, sym (same r s x k p.0) ∙ p.1, λ i h t. p.2 i h (same r s x i h ∙ t))
+  carried : (r s : Row) → Alike r s → (f : Option ℕ) → NextIs key (a r) n f → NextIs key (b s) n f
+  carried r s x None p = λ i h. sym (same r s x i h) ∙ p i h
+  carried r s x (Some k) p = (p.0, sym (same r s x k p.0) ∙ p.1, λ i h t. p.2 i h (same r s x i h ∙ t))
 
   pub played_alike : (steps : ℕ) (r s : Row) → Alike r s → played a key n steps r ≡ played b key n steps s
   unfolding played
@@ -205,11 +204,11 @@ module _ (a b : Rule) (key : ℕ → ℕ) (n : ℕ) (Alike : Row → Row → Typ
       go (next key (a r) (numbers 0 n)) (next-is key (a r) n) (next_only key (b s) n (next key (a r) (numbers 0 n)) (carried r s x (next key (a r) (numbers 0 n)) (next-is key (a r) n)))
       (λ k e. played_alike steps (toggle r k) (toggle s k) (stays r s k x e))
     where
-      go : (f : Found) → NextIs key (a r) n f → f ≡ next key (b s) (numbers 0 n)
+      go : (f : Option ℕ) → NextIs key (a r) n f → f ≡ next key (b s) (numbers 0 n)
           → ((k : ℕ) → a r k ≡ true → played a key n steps (toggle r k) ≡ played b key n steps (toggle s k))
           → onward (λ k. played a key n steps (toggle r k)) f ≡ onward (λ k. played b key n steps (toggle s k)) (next key (b s) (numbers 0 n))
-      go Nothing p e later = ap (onward (λ k. played b key n steps (toggle s k))) e
-      go (At k) p e later = ap (λ (l : List ℕ). k ∷ l) (later k p.1) ∙ ap (onward (λ k. played b key n steps (toggle s k))) e
+      go None p e later = ap (onward (λ k. played b key n steps (toggle s k))) e
+      go (Some k) p e later = ap (λ (l : List ℕ). k ∷ l) (later k p.1) ∙ ap (onward (λ k. played b key n steps (toggle s k))) e
 
 -- ---- runs of a net
 

@@ -1,30 +1,28 @@
 -- Runs that are played: at each step, of the nets that may switch, that with the least key does.
-use Rattle.std.specs.Prelude.{ℕ, zero, suc, ◌+◌, ◌≤◌, ◌<◌, ◌≡◌, Bool, true, cond, List, [], ◌∷◌, ◌++◌, length, drop, ltb}
+use Rattle.std.specs.Prelude.{ℕ, zero, suc, ◌+◌, ◌≤◌, ◌<◌, ◌≡◌, Bool, true, cond, List, [], ◌∷◌, ◌++◌, length, drop, ltb, Option, Some, None}
 use Rattle.runs.specs.Row.{Row, Rule, low, toggle, after, Ended, ◌∖◌}
 use Rattle.runs.specs.Net.{Net, nets, rise_step, fall_step}
-use Rattle.netlist.specs.declared.Found.{Found}
-use Rattle.netlist.specs.declared.Found.TheVariants.{At, Nothing}
 use Rattle.verdict.specs.declared.Verdict.{Verdict}
 use Rattle.verdict.specs.Written.{holding}
 use Rattle.check_spec.specs.Lists.{numbers}
 use Rattle.run_spec.specs.declared.RunAnswer.{RunAnswer}
 
 -- net k, or the one that was found if its key is less
-abbrev pub lesser : (ℕ → ℕ) → ℕ → Found → Found
-lesser key k Nothing = At k
-lesser key k (At i) = cond (ltb (key i) (key k)) (At i) (At k)
+abbrev pub lesser : (ℕ → ℕ) → ℕ → Option ℕ → Option ℕ
+lesser key k None = Some k
+lesser key k (Some i) = cond (ltb (key i) (key k)) (Some i) (Some k)
 
 -- of the nets of a list that may switch, that with the least key; of equal keys the first
-unfoldable pub next : (ℕ → ℕ) → (ℕ → Bool) → List ℕ → Found
-next key may [] = Nothing
+unfoldable pub next : (ℕ → ℕ) → (ℕ → Bool) → List ℕ → Option ℕ
+next key may [] = None
 next key may (k ∷ ks) = let later = next key may ks in cond (may k) (lesser key k later) later
 
 -- a list that begins with the net that was found, with what follows it; none where none was
-abbrev pub onward : (ℕ → List ℕ) → Found → List ℕ
-onward more Nothing = []
-onward more (At k) = k ∷ more k
+abbrev pub onward : (ℕ → List ℕ) → Option ℕ → List ℕ
+onward more None = []
+onward more (Some k) = k ∷ more k
 
--- At each step the next of the nets below n switches; so for some steps, or until none may.
+-- Some each step the next of the nets below n switches; so for some steps, or until none may.
 unfoldable pub played : Rule → (ℕ → ℕ) → ℕ → ℕ → Row → List ℕ
 played can key n zero r = []
 played can key n (suc steps) r = onward (λ k. played can key n steps (toggle r k)) (next key (can r) (numbers 0 n))

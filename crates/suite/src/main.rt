@@ -213,9 +213,10 @@ fn run_case<R: Print, F: Read>(rt: &R, i: usize, order: WordOrder, file: &mut F)
 
 // A file has at most 1,000 cases, so that three digits number them.
 fn run_cases<R: Print, F: Read>(rt: &R, order: WordOrder, file: &mut F) {
-    let mut i = 0;
-    while i < 1000 && run_case(rt, i, order, file) {
-        i += 1;
+    for i in 0..1000 {
+        if !run_case(rt, i, order, file) {
+            return;
+        }
     }
 }
 

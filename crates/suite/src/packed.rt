@@ -1,7 +1,6 @@
 // Cases packed in a file, one after the other: the byte of a call, then its operands, each as its length in two bytes, the low one first, and
 // so many bytes. The byte 0 stands after the last case.
 ghost use Rattle.console.specs.Counts.{IsPrefixLen};
-ghost use Rattle.std.specs.Prelude.{◌<◌};
 
 use std::io::Read;
 
@@ -14,16 +13,10 @@ pub fn next_byte<F: Read>(file: &mut F) -> u8 {
     byte[0]
 }
 
-fn wide(byte: u8) -> usize
-    ensures { result < 256 }
-{
-    byte as usize
-}
-
 fn next_length<F: Read>(file: &mut F) -> usize {
-    let low = wide(next_byte(file));
-    let high = wide(next_byte(file));
-    low + 256 * high
+    let low = next_byte(file);
+    let high = next_byte(file);
+    usize::from(u16::from_le_bytes([low, high]))
 }
 
 // Puts the next operand at the start of a buffer and answers its length. One that does not fit counts as empty, and its bytes are not passed.

@@ -1,5 +1,6 @@
 -- The answer to a text: each number by its condition, after those before it found nothing; and what an answer that gives bytes says.
 -- Assumes nothing.
+use Rattle.std.specs.Prelude.{Option, Some, None}
 use Prim.Native.Nat.{ℕ, ◌+◌, ◌*◌, ◌≤◌, ◌<◌}
 use native.Mathlib.Omega.{arith}
 use mathlib.Core.Path.{◌≡◌, refl}
@@ -10,8 +11,6 @@ use lib.Dec.{ltb}
 use borrow.Author.Tests.{lt-ltb, le-ltb}
 use Rattle.netlist.specs.declared.File.TheVariants as file
 use Rattle.netlist.specs.declared.Limits.{Limits}
-use Rattle.netlist.specs.declared.Found.{Found}
-use Rattle.netlist.specs.declared.Found.TheVariants.{At, Nothing}
 use Rattle.netlist.specs.Reading.{read_file}
 use Rattle.text_spec.specs.Characters.{newline}
 use Rattle.text_spec.specs.Lines.{split, other_form, Text, text_of}
@@ -21,11 +20,11 @@ use Rattle.text_spec.specs.FromText.{TextAnswer, refusal, gives, unless, unless_
 -- ---- the numbers in their order
 
 module _ (most : Limits) (room : ℕ) (s : List ℕ) where
-  pub text_29 : (i : ℕ) → other_form 0 (split newline s) ≡ At i → from_text most room s ≡ refusal 29 1 i
+  pub text_29 : (i : ℕ) → other_form 0 (split newline s) ≡ Some i → from_text most room s ≡ refusal 29 1 i
   unfolding from_text unless
   text_29 i e = rw e
 
-  pub text_formed : other_form 0 (split newline s) ≡ Nothing → from_text most room s ≡ from_parsed most room (text_of (split newline s))
+  pub text_formed : other_form 0 (split newline s) ≡ None → from_text most room s ≡ from_parsed most room (text_of (split newline s))
   unfolding from_text unless
   text_formed e = rw e
 
@@ -34,16 +33,16 @@ module _ (most : Limits) (room : ℕ) (t : Text) where
   abbrev Answers : TextAnswer → Type 0
   Answers a = from_parsed most room t ≡ a
 
-  pub text_30 : (i : ℕ) → undriven (drivers t) 0 (needing t) ≡ At i → Answers (refusal 30 1 i)
+  pub text_30 : (i : ℕ) → undriven (drivers t) 0 (needing t) ≡ Some i → Answers (refusal 30 1 i)
   unfolding unless
   text_30 i e = rw e
 
-  module _ (all_driven_holds : undriven (drivers t) 0 (needing t) ≡ Nothing) where
-    pub text_31 : (i : ℕ) → driven_again [] 0 (driving t) ≡ At i → Answers (refusal 31 1 i)
+  module _ (all_driven_holds : undriven (drivers t) 0 (needing t) ≡ None) where
+    pub text_31 : (i : ℕ) → driven_again [] 0 (driving t) ≡ Some i → Answers (refusal 31 1 i)
     unfolding unless
     text_31 i e = rw (all_driven_holds, e)
 
-    module _ (driven-once : driven_again [] 0 (driving t) ≡ Nothing) where
+    module _ (driven-once : driven_again [] 0 (driving t) ≡ None) where
       pub text_3 : most.inputs < length t.inputs → Answers (refusal 3 1 1)
       unfolding unless unless_more
       text_3 l = rw (all_driven_holds, driven-once, lt-ltb most.inputs (length t.inputs) l)
@@ -60,10 +59,10 @@ module _ (most : Limits) (room : ℕ) (t : Text) where
 
 -- ---- an answer that gives bytes: the check before them found nothing
 
-pub found_none : (number : ℕ) (f : Found) (later : TextAnswer) (s : List ℕ) → unless number f later ≡ gives s → (f ≡ Nothing) × (later ≡ gives s)
+pub found_none : (number : ℕ) (f : Option ℕ) (later : TextAnswer) (s : List ℕ) → unless number f later ≡ gives s → (f ≡ None) × (later ≡ gives s)
 unfolding unless
-found_none number (At i) later s e = let z : ◌≡◌ {A = ℕ} 0 1 = cc in absurd (omega arith)
-found_none number Nothing later s e = (refl, e)
+found_none number (Some i) later s e = let z : ◌≡◌ {A = ℕ} 0 1 = cc in absurd (omega arith)
+found_none number None later s e = (refl, e)
 
 pub room_given : (room : ℕ) (u s : List ℕ) → if_room room u ≡ gives s → u ≡ s
 unfolding if_room

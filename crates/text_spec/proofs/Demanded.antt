@@ -1,5 +1,6 @@
 -- What is promised of reading a text, and of writing one, follows from the answer.
 -- Assumes nothing.
+use Rattle.std.specs.Prelude.{Option, Some, None}
 use Prim.Native.Nat.{ℕ, ◌+◌, ◌*◌, ◌≤◌}
 use native.Mathlib.Omega.{arith}
 use mathlib.Core.Path.{◌≡◌, refl, sym, ap, ap₂, subst, ◌∙◌}
@@ -9,8 +10,6 @@ use lib.ListN.{length, take}
 use lib.Dec.{ltb}
 use Rattle.netlist.specs.declared.File.TheVariants as file
 use Rattle.netlist.specs.declared.Limits.{Limits}
-use Rattle.netlist.specs.declared.Found.{Found}
-use Rattle.netlist.specs.declared.Found.TheVariants.{At, Nothing}
 use Rattle.netlist.specs.Content.{Stage, stage_of}
 use Rattle.netlist.specs.Reading.{Places, GatesFirst, Reading, refused, readable, read_file, stage_limits}
 use Rattle.netlist.proofs.Lists.{Bytes}
@@ -36,10 +35,10 @@ Numbered : TextAnswer → Type 0
 Numbered (refusal number file at) = 1 ≤ number
 Numbered (gives s) = Unit {0}
 
-found-numbered : (number : ℕ) (f : Found) (later : TextAnswer) → 1 ≤ number → Numbered later → Numbered (unless number f later)
+found-numbered : (number : ℕ) (f : Option ℕ) (later : TextAnswer) → 1 ≤ number → Numbered later → Numbered (unless number f later)
 unfolding unless Numbered
-found-numbered number (At i) later l h = l
-found-numbered number Nothing later l h = h
+found-numbered number (Some i) later l h = l
+found-numbered number None later l h = h
 
 room_numbered : (room : ℕ) (s : List ℕ) → Numbered (if_room room s)
 unfolding if_room Numbered

@@ -1,5 +1,6 @@
 -- 29, 30 and 31 name the least line: what their searches find, and so what a verdict says.
 -- Assumes nothing.
+use Rattle.std.specs.Prelude.{Option, Some, None}
 use Prim.Native.Nat.{ℕ, zero, suc, ◌+◌, ◌*◌, ◌≤◌, ◌<◌}
 use native.Mathlib.Omega.{arith}
 use mathlib.Core.Path.{◌≡◌, refl, sym, ap, subst, ◌∙◌}
@@ -9,8 +10,6 @@ use lib.ListN.{length, get_or}
 use lib.Dec.{eqb, leb, ltb}
 use Rattle.netlist.specs.declared.File.TheVariants as file
 use Rattle.netlist.specs.declared.Limits.{Limits}
-use Rattle.netlist.specs.declared.Found.{Found}
-use Rattle.netlist.specs.declared.Found.TheVariants.{At, Nothing}
 use Rattle.netlist.specs.Reading.{Reading, refused, readable, read_file, stage_limits}
 use Rattle.verdict.specs.Checks.{verdict}
 use Rattle.verdict.proofs.Refusals.{refused_number}
@@ -44,7 +43,7 @@ pub record Finds (f : ℕ → Bool) (n i k : ℕ) : Type 0 where
   pub is : k ≡ i + place
   pub found : LeastLine f n place
 
-pub finds_zero : (f : ℕ → Bool) (n i k : ℕ) → At i ≡ At k → f 0 ≡ true → Finds f (suc n) i k
+pub finds_zero : (f : ℕ → Bool) (n i k : ℕ) → Some i ≡ Some k → f 0 ≡ true → Finds f (suc n) i k
 finds_zero f n i k e z = let q : i ≡ k = cc in record { place = 0; is = omega (arith, q); found = least_zero f n z }
 
 pub finds_suc : (f g : ℕ → Bool) (n i k : ℕ) → f 0 ≡ false → ((j : ℕ) → g j ≡ f (suc j)) → Finds g n (suc i) k → Finds f (suc n) i k
@@ -57,11 +56,11 @@ from_first f n k h = let q : h.place ≡ k = omega (arith, h.is) in subst (Least
 abbrev formless_at : ℕ → List (List ℕ) → ℕ → Bool
 formless_at i ls j = formless (i + j) (lines_from j ls)
 
-form_finds : (i k : ℕ) (l : List ℕ) (ls : List (List ℕ)) → other_form i (l ∷ ls) ≡ At k → Finds (formless_at i (l ∷ ls)) (suc (length ls)) i k
+form_finds : (i k : ℕ) (l : List ℕ) (ls : List (List ℕ)) → other_form i (l ∷ ls) ≡ Some k → Finds (formless_at i (l ∷ ls)) (suc (length ls)) i k
 unfolding other_form
 form_finds i k l [] e = go (eqb (length l) 0 && leb 2 i) refl e
   where
-    go : (b : Bool) → (eqb (length l) 0 && leb 2 i) ≡ b → cond b Nothing (At i) ≡ At k → Finds (formless_at i (l ∷ [])) 1 i k
+    go : (b : Bool) → (eqb (length l) 0 && leb 2 i) ≡ b → cond b None (Some i) ≡ Some k → Finds (formless_at i (l ∷ [])) 1 i k
     go true is e = let z : ◌≡◌ {A = ℕ} 0 1 = cc in absurd (omega arith)
     go false is e =
         let q : i + 0 ≡ i = omega arith in
@@ -74,8 +73,8 @@ form_finds i k l (m ∷ ls) e = go (formed i l) refl (form_finds (suc i) k m ls)
     alike : (j : ℕ) → formless_at (suc i) (m ∷ ls) j ≡ formless_at i (l ∷ m ∷ ls) (suc j)
     alike j = let q : suc i + j ≡ i + suc j = omega arith in ap (λ (x : ℕ). formless x (lines_from j (m ∷ ls))) q
 
-    go : (b : Bool) → formed i l ≡ b → (other_form (suc i) (m ∷ ls) ≡ At k → Finds (formless_at (suc i) (m ∷ ls)) (suc (length ls)) (suc i) k) →
-        cond b (other_form (suc i) (m ∷ ls)) (At i) ≡ At k → Finds (formless_at i (l ∷ m ∷ ls)) (suc (suc (length ls))) i k
+    go : (b : Bool) → formed i l ≡ b → (other_form (suc i) (m ∷ ls) ≡ Some k → Finds (formless_at (suc i) (m ∷ ls)) (suc (length ls)) (suc i) k) →
+        cond b (other_form (suc i) (m ∷ ls)) (Some i) ≡ Some k → Finds (formless_at i (l ∷ m ∷ ls)) (suc (suc (length ls))) i k
     go true is later e =
         finds_suc (formless_at i (l ∷ m ∷ ls)) (formless_at (suc i) (m ∷ ls)) (suc (length ls)) i k (start ∙ ap not is) alike (later e)
     go false is later e = finds_zero (formless_at i (l ∷ m ∷ ls)) (suc (length ls)) i k e (start ∙ ap not is)
@@ -83,20 +82,20 @@ form_finds i k l (m ∷ ls) e = go (formed i l) refl (form_finds (suc i) k m ls)
 abbrev lacking_in : List (List ℕ) → List (List (List ℕ)) → ℕ → Bool
 lacking_in ds ls j = not (all_driven ds (get_or ls j []))
 
-undriven-finds : (ds : List (List ℕ)) (i k : ℕ) (ls : List (List (List ℕ))) → undriven ds i ls ≡ At k → Finds (lacking_in ds ls) (length ls) i k
+undriven-finds : (ds : List (List ℕ)) (i k : ℕ) (ls : List (List (List ℕ))) → undriven ds i ls ≡ Some k → Finds (lacking_in ds ls) (length ls) i k
 unfolding undriven
 undriven-finds ds i k [] e = let z : ◌≡◌ {A = ℕ} 0 1 = cc in absurd (omega arith)
 undriven-finds ds i k (l ∷ ls) e = go (all_driven ds l) refl (undriven-finds ds (suc i) k ls) e
   where
-    go : (b : Bool) → all_driven ds l ≡ b → (undriven ds (suc i) ls ≡ At k → Finds (lacking_in ds ls) (length ls) (suc i) k) →
-        cond b (undriven ds (suc i) ls) (At i) ≡ At k → Finds (lacking_in ds (l ∷ ls)) (suc (length ls)) i k
+    go : (b : Bool) → all_driven ds l ≡ b → (undriven ds (suc i) ls ≡ Some k → Finds (lacking_in ds ls) (length ls) (suc i) k) →
+        cond b (undriven ds (suc i) ls) (Some i) ≡ Some k → Finds (lacking_in ds (l ∷ ls)) (suc (length ls)) i k
     go true is later e = finds_suc (lacking_in ds (l ∷ ls)) (lacking_in ds ls) (length ls) i k (ap not is) (λ j. refl) (later e)
     go false is later e = finds_zero (lacking_in ds (l ∷ ls)) (length ls) i k e (ap not is)
 
 abbrev repeating_in : List (List ℕ) → List (List (List ℕ)) → ℕ → Bool
 repeating_in before ls j = drives_again (before ++ driven_before j ls) (get_or ls j [])
 
-again_finds : (before : List (List ℕ)) (i k : ℕ) (ls : List (List (List ℕ))) → driven_again before i ls ≡ At k →
+again_finds : (before : List (List ℕ)) (i k : ℕ) (ls : List (List (List ℕ))) → driven_again before i ls ≡ Some k →
     Finds (repeating_in before ls) (length ls) i k
 unfolding driven_again
 again_finds before i k [] e = let z : ◌≡◌ {A = ℕ} 0 1 = cc in absurd (omega arith)
@@ -109,8 +108,8 @@ again_finds before i k (l ∷ ls) e = go (drives_again before l) refl (again_fin
     alike j = ap (λ (b : List (List ℕ)). drives_again b (get_or ls j [])) (append_assoc before l (driven_before j ls))
 
     go : (b : Bool) → drives_again before l ≡ b →
-        (driven_again (before ++ l) (suc i) ls ≡ At k → Finds (repeating_in (before ++ l) ls) (length ls) (suc i) k) →
-        cond b (At i) (driven_again (before ++ l) (suc i) ls) ≡ At k → Finds (repeating_in before (l ∷ ls)) (suc (length ls)) i k
+        (driven_again (before ++ l) (suc i) ls ≡ Some k → Finds (repeating_in (before ++ l) ls) (length ls) (suc i) k) →
+        cond b (Some i) (driven_again (before ++ l) (suc i) ls) ≡ Some k → Finds (repeating_in before (l ∷ ls)) (suc (length ls)) i k
     go true is later e = finds_zero (repeating_in before (l ∷ ls)) (length ls) i k e (start ∙ is)
     go false is later e = finds_suc (repeating_in before (l ∷ ls)) (repeating_in (before ++ l) ls) (length ls) i k (start ∙ is) alike (later e)
 
@@ -139,7 +138,7 @@ module _ (u : List ℕ) where
   below_29 number file at l =
       record { least_29 = λ e. absurd (omega (arith, e)); least_30 = λ e. absurd (omega (arith, e)); least_31 = λ e. absurd (omega (arith, e)) }
 
-  pieces_say : (i : ℕ) (ls : List (List ℕ)) → other_form 0 ls ≡ At i → 1 ≤ length ls → LeastLine (λ j. formless j (lines_from j ls)) (length ls) i
+  pieces_say : (i : ℕ) (ls : List (List ℕ)) → other_form 0 ls ≡ Some i → 1 ≤ length ls → LeastLine (λ j. formless j (lines_from j ls)) (length ls) i
   pieces_say i [] e some = absurd (omega arith)
   pieces_say i (l ∷ ls) e some =
       let z : (j : ℕ) → 0 + j ≡ j = λ j. omega arith in
@@ -173,32 +172,32 @@ module _ (u : List ℕ) where
       go false true = below_29 6 1 (2 + 10 * most.gates) (omega arith)
       go false false = h
 
-  again_says : (f : Found) → driven_again [] 0 (driving t) ≡ f → (later : TextAnswer) → Says u later → Says u (unless 31 f later)
+  again_says : (f : Option ℕ) → driven_again [] 0 (driving t) ≡ f → (later : TextAnswer) → Says u later → Says u (unless 31 f later)
   unfolding unless Says
-  again_says (At i) e later h = record {
+  again_says (Some i) e later h = record {
     least_29 = λ z. absurd (omega (arith, z));
     least_30 = λ z. absurd (omega (arith, z));
     least_31 = λ z. from_first (repeating_in [] (driving t)) (length (driving t)) i (again_finds [] 0 i (driving t) e);
   }
-  again_says Nothing e later h = h
+  again_says None e later h = h
 
-  undriven-says : (f : Found) → undriven (drivers t) 0 (needing t) ≡ f → (later : TextAnswer) → Says u later → Says u (unless 30 f later)
+  undriven-says : (f : Option ℕ) → undriven (drivers t) 0 (needing t) ≡ f → (later : TextAnswer) → Says u later → Says u (unless 30 f later)
   unfolding unless Says
-  undriven-says (At i) e later h = record {
+  undriven-says (Some i) e later h = record {
     least_29 = λ z. absurd (omega (arith, z));
     least_30 = λ z. from_first (lacking_in (drivers t) (needing t)) (length (needing t)) i (undriven-finds (drivers t) 0 i (needing t) e);
     least_31 = λ z. absurd (omega (arith, z));
   }
-  undriven-says Nothing e later h = h
+  undriven-says None e later h = h
 
-  form_says : (f : Found) → other_form 0 (split newline u) ≡ f → (later : TextAnswer) → Says u later → Says u (unless 29 f later)
+  form_says : (f : Option ℕ) → other_form 0 (split newline u) ≡ f → (later : TextAnswer) → Says u later → Says u (unless 29 f later)
   unfolding unless Says
-  form_says (At i) e later h = record {
+  form_says (Some i) e later h = record {
     least_29 = λ z. pieces_say i (split newline u) e (pieces_some newline u);
     least_30 = λ z. absurd (omega (arith, z));
     least_31 = λ z. absurd (omega (arith, z));
   }
-  form_says Nothing e later h = h
+  form_says None e later h = h
 
   says : (most : Limits) (room : ℕ) → Says u (from_text most room u)
   unfolding from_text

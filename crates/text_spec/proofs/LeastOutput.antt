@@ -1,5 +1,6 @@
 -- 31 in writing names the least output: what its search finds, and so what a verdict says.
 -- Assumes nothing.
+use Rattle.std.specs.Prelude.{Option, Some, None}
 use Prim.Native.Nat.{ℕ, suc, ◌*◌}
 use native.Mathlib.Omega.{arith}
 use mathlib.Core.Path.{◌≡◌, refl, sym, ap, ap₂, subst, ◌∙◌}
@@ -8,8 +9,6 @@ use mathlib.Core.List.{List, [], ◌∷◌, ◌++◌, append_assoc, append-nil}
 use lib.ListN.{length, get_or, take}
 use lib.Dec.{eqb, ltb}
 use Rattle.netlist.specs.declared.File.TheVariants as file
-use Rattle.netlist.specs.declared.Found.{Found}
-use Rattle.netlist.specs.declared.Found.TheVariants.{At, Nothing}
 use Rattle.netlist.specs.Content.{Pair, Stage, stage_of}
 use Rattle.netlist.specs.Reading.{Places, Reading, refused, readable, read_file, stage_limits}
 use Rattle.verdict.proofs.Refusals.{refused_number}
@@ -87,7 +86,7 @@ module _ (n : ℕ) where
   abbrev renames_among : List Pair → List Pair → ℕ → Bool
   renames_among earlier qs j = renames n (earlier ++ take j qs) (get_or qs j no_pair)
 
-  second-finds : (given : List ℕ) (earlier : List Pair) (j k : ℕ) (qs : List Pair) → Given given earlier → second_name n given j qs ≡ At k →
+  second-finds : (given : List ℕ) (earlier : List Pair) (j k : ℕ) (qs : List Pair) → Given given earlier → second_name n given j qs ≡ Some k →
       Finds (renames_among earlier qs) (length qs) j k
   unfolding second_name
   second-finds given earlier j k [] passed e = let z : ◌≡◌ {A = ℕ} 0 1 = cc in absurd (omega arith)
@@ -103,11 +102,11 @@ module _ (n : ℕ) where
       alike i = ap (λ (b : List Pair). renames n b (get_or qs i no_pair)) (append_assoc earlier (p ∷ []) (take i qs))
 
       go : (t : Bool) → straight n p ≡ t → (u : Bool) → (named n given p.rail0 || named n (p.rail0 ∷ given) p.rail1) ≡ u →
-          (Given given (earlier ++ (p ∷ [])) → second_name n given (suc j) qs ≡ At k →
+          (Given given (earlier ++ (p ∷ [])) → second_name n given (suc j) qs ≡ Some k →
           Finds (renames_among (earlier ++ (p ∷ [])) qs) (length qs) (suc j) k) →
-          (Given (p.rail1 ∷ p.rail0 ∷ given) (earlier ++ (p ∷ [])) → second_name n (p.rail1 ∷ p.rail0 ∷ given) (suc j) qs ≡ At k →
+          (Given (p.rail1 ∷ p.rail0 ∷ given) (earlier ++ (p ∷ [])) → second_name n (p.rail1 ∷ p.rail0 ∷ given) (suc j) qs ≡ Some k →
           Finds (renames_among (earlier ++ (p ∷ [])) qs) (length qs) (suc j) k) →
-          cond t (second_name n given (suc j) qs) (cond u (At j) (second_name n (p.rail1 ∷ p.rail0 ∷ given) (suc j) qs)) ≡ At k →
+          cond t (second_name n given (suc j) qs) (cond u (Some j) (second_name n (p.rail1 ∷ p.rail0 ∷ given) (suc j) qs)) ≡ Some k →
           Finds (renames_among earlier (p ∷ qs)) (suc (length qs)) j k
       go true is u test same later e =
           let passes : renames n earlier p ≡ false = rw is refl in
@@ -136,19 +135,19 @@ module _ (stage : List ℕ) where
     abbrev c : Stage
     c = stage_of stage p
 
-    second-says : (f : Found) → second_name c.inputs [] 0 c.outputs ≡ f → (later : TextAnswer) → Says later → Says (unless 31 f later)
+    second-says : (f : Option ℕ) → second_name c.inputs [] 0 c.outputs ≡ f → (later : TextAnswer) → Says later → Says (unless 31 f later)
     unfolding unless Says
-    second-says (At i) e later h = λ z. record {
+    second-says (Some i) e later h = λ z. record {
       places = p;
       reads = reads;
       least = from_first _ (length c.outputs) i (second-finds c.inputs [] [] 0 i c.outputs (λ v. refl) e);
     }
-    second-says Nothing e later h = h
+    second-says None e later h = h
 
-    care_says : (f : Found) (later : TextAnswer) → Says later → Says (unless 29 f later)
+    care_says : (f : Option ℕ) (later : TextAnswer) → Says later → Says (unless 29 f later)
     unfolding unless Says
-    care_says (At i) later h = λ z. absurd (omega (arith, z))
-    care_says Nothing later h = h
+    care_says (Some i) later h = λ z. absurd (omega (arith, z))
+    care_says None later h = h
 
     stage_says : (room : ℕ) → Says (stage_text room c)
     unfolding stage_text

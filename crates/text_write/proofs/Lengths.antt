@@ -166,7 +166,7 @@ module _ (c : Counts) (code : List ℕ) (h : StageLoaded c code) where
   text_short =
       omega (
         arith,
-        ap length (text_parts c code),
+        ap length (text_parts c code).is,
         length-append (input_names c.inputs) (newline ∷ (output_names_in c code ++ (newline ∷ gate_lines c code))),
         length-append (output_names_in c code) (newline ∷ gate_lines c code),
         inputs_short,

@@ -44,6 +44,49 @@ module _ {work₀ : List ℕ} {from : ℕ} {whole : List ℕ} {work : List ℕ} 
   pub text_none : rest ≡ [] → PutNext work₀ from whole work at
   text_none e = record { put = left_none t.left e; end = omega (arith, t.end, ap length e) }
 
+-- ---- a text of five parts
+
+-- a whole is five parts, one after the other
+pub record FiveParts (whole one two three four five : List ℕ) : Type 0 where
+  pub is : whole ≡ one ++ (two ++ (three ++ (four ++ five)))
+
+-- there is room for each behind the one before it
+module _ {whole one two three four five : List ℕ} (f : FiveParts whole one two three four five) (work : List ℕ) (at : ℕ)
+    (room : at + length whole ≤ length work) where
+  pub first_of_five : at + length one ≤ length work
+  first_of_five = text_room (text_all work at whole room) one (two ++ (three ++ (four ++ five))) f.is
+
+  module _ {work1 : List ℕ} {at1 : ℕ} (p1 : PutNext work at one work1 at1) where
+    after_one : TextLeft work at whole work1 at1 (two ++ (three ++ (four ++ five)))
+    after_one = text_put (text_all work at whole room) one (two ++ (three ++ (four ++ five))) f.is p1
+
+    pub second_of_five : at1 + length two ≤ length work1
+    second_of_five = text_room after_one two (three ++ (four ++ five)) refl
+
+    module _ {work2 : List ℕ} {at2 : ℕ} (p2 : PutNext work1 at1 two work2 at2) where
+      after_two : TextLeft work at whole work2 at2 (three ++ (four ++ five))
+      after_two = text_put after_one two (three ++ (four ++ five)) refl p2
+
+      pub third_of_five : at2 + length three ≤ length work2
+      third_of_five = text_room after_two three (four ++ five) refl
+
+      module _ {work3 : List ℕ} {at3 : ℕ} (p3 : PutNext work2 at2 three work3 at3) where
+        after_three : TextLeft work at whole work3 at3 (four ++ five)
+        after_three = text_put after_two three (four ++ five) refl p3
+
+        pub fourth_of_five : at3 + length four ≤ length work3
+        fourth_of_five = text_room after_three four five refl
+
+        module _ {work4 : List ℕ} {at4 : ℕ} (p4 : PutNext work3 at3 four work4 at4) where
+          after_four : TextLeft work at whole work4 at4 five
+          after_four = text_put after_three four five refl p4
+
+          pub fifth_of_five : at4 + length five ≤ length work4
+          fifth_of_five = after_four.left.room
+
+          pub five_put : {work5 : List ℕ} {at5 : ℕ} → PutNext work4 at4 five work5 at5 → PutNext work at whole work5 at5
+          five_put p5 = text_last after_four p5
+
 -- ---- parts that a loop puts
 
 abbrev pub flat : List (List ℕ) → List ℕ

@@ -17,13 +17,13 @@ use Rattle.netlist.specs.Writing.{coded_gate}
 use Rattle.circuit.specs.Stage.{tabulate, pin_in, gate_in, stage_gates, output_in, stage_outputs, stage_in}
 use Rattle.circuit.specs.Form.{PinCountAt}
 use Rattle.circuit.proofs.Tabulate.{from_at, none_from, map_tabulate}
-use Rattle.text_spec.specs.Characters.{newline, comma, rail, cell_name, kind_name}
+use Rattle.text_spec.specs.Characters.{newline, space, comma, rail, cell_name, kind_name}
 use Rattle.text_spec.specs.ToText.{numbered, x, y, g, gate_name, net_name, straight, output_name, join, ended, gate_texts, lines_of, text_for}
 use Rattle.text_lines.specs.Names.{NameTable}
 use Rattle.print_spec.specs.Decimal.{decimal}
 use Rattle.write_decimal.proofs.Decimal.{decimal_small}
-use Rattle.text_write.specs.Parts.{input_names, output_names_in, pin_names, gate_line, gate_lines}
-use Rattle.text_write.proofs.Loops.{parts_from}
+use Rattle.text_write.specs.Parts.{kind_in, input_names, output_names_in, pin_names, gate_line, gate_lines}
+use Rattle.text_write.proofs.Loops.{FiveParts, parts_from}
 use Rattle.text_write.proofs.Lists.{range_are, outputs_are, gates_are, pins_are, join-parts, ended_parts}
 
 -- ---- the name of a net
@@ -117,9 +117,15 @@ module _ (c : Counts) (code : List ℕ) where
 
   -- ---- the whole text
 
-  pub text_parts : text_for (stage_in c code) ≡ input_names c.inputs ++ (newline ∷ (output_names_in c code ++ (newline ∷ gate_lines c code)))
+  pub text_parts : FiveParts (text_for (stage_in c code)) (input_names c.inputs) (newline ∷ []) (output_names_in c code) (newline ∷ []) (gate_lines c code)
   unfolding text_for lines_of
-  text_parts = refl
+  text_parts = record { is = refl }
+
+  -- ---- the line of a gate
+
+  pub line_parts : (k : ℕ) → FiveParts (gate_line c code k) (kind_name (kind_in code k)) (space ∷ []) (pin_names c code k) (space ∷ [])
+      (net_name c.inputs (stage_outputs c code) (2 * c.inputs + k))
+  line_parts k = record { is = refl }
 
 -- ---- kinds
 

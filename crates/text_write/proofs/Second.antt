@@ -1,15 +1,18 @@
 -- 31, output by output: straight pairs, the nets that have a name, and the least output that would give one a second name.
 -- Assumes nothing.
-use Prim.Native.Nat.{ℕ, zero, suc, ◌+◌, ◌*◌, ◌-◌, ◌%◌, ◌≤◌, ◌<◌}
+use Rattle.std.specs.Prelude.{Some, None}
+use Prim.Native.Nat.{ℕ, zero, suc, ◌+◌, ◌*◌, ◌%◌, ◌≤◌, ◌<◌}
 use native.Mathlib.Omega.{arith}
 use native.Mathlib.Numerals.{add-one}
 use mathlib.Core.Path.{◌≡◌, refl, sym, ap, ◌∙◌}
 use mathlib.Core.Bool.{Bool, true, false, cond, ◌||◌}
-use mathlib.Core.List.{List, [], ◌∷◌}
+use mathlib.Core.List.{List, [], ◌∷◌, ◌++◌, map-id}
 use lib.ListN.{drop}
 use lib.Dec.{eqb, ltb}
+use Rattle.std.specs.List.{list_any, range_with_len}
+use Rattle.std.proofs.lemmas.List.Folds.{list_any-append}
+use Rattle.std.proofs.lemmas.List.FromFn.{map-range_with_len_more}
 use borrow.Author.Tests.{lt-ltb, le-ltb, eq-eqb, ne_eqb}
-use Rattle.netlist.specs.declared.Found.TheVariants.{At, Nothing}
 use Rattle.netlist.specs.Content.{Pair}
 use Rattle.circuit.specs.Stage.{tabulate}
 use Rattle.circuit.proofs.Tabulate.{from_at, none_from}
@@ -74,30 +77,33 @@ module _ (n : ℕ) (p : ℕ → Pair) (v : ℕ) where
       go true = refl
       go false = assoc (eqb v (p j).rail1) (eqb v (p j).rail0) (among v (given n p j))
 
-  -- outputs i and later ones before j do not name the net
-  abbrev pub NotSince : ℕ → ℕ → Type 0
-  NotSince j i = among v (given n p j) ≡ among v (given n p i)
+  -- one of the outputs before output j names it
+  abbrev pub names_before : ℕ → Bool
+  names_before j = list_any (λ i. names_net n (p i) v) (range_with_len 0 j)
 
-  before : (i : ℕ) → 0 < i → among v (given n p i) ≡ (names_net n (p (i - 1)) v || among v (given n p (i - 1)))
-  before zero l = absurd (omega arith)
-  before (suc i) l = let e : suc i - 1 ≡ i = omega arith in rw e (one_more i)
+  before_more : (j : ℕ) → names_before (j + 1) ≡ (names_before j || (names_net n (p j) v || false))
+  before_more j =
+      let numbers = range_with_len 0 j in
+      let more : range_with_len 0 (j + 1) ≡ numbers ++ (j ∷ []) =
+      sym (map-id _) ∙ map-range_with_len_more (λ (i : ℕ). i) 0 j j (omega arith) ∙ ap (λ (l : List ℕ). l ++ (j ∷ [])) (map-id numbers) in
+      ap (list_any (λ i. names_net n (p i) v)) more ∙ list_any-append (λ i. names_net n (p i) v) numbers (j ∷ [])
 
-  module _ (j i : ℕ) (h : NotSince j i) (l : 0 < i) where
-    pub not_here : names_net n (p (i - 1)) v ≡ false → NotSince j (i - 1)
-    not_here e = h ∙ before i l ∙ rw e
-
-    pub named_here : names_net n (p (i - 1)) v ≡ true → true ≡ named n (given n p j) v
-    named_here e = rw (h ∙ before i l ∙ ap (λ (b : Bool). b || among v (given n p (i - 1))) e) (go (ltb v (2 * n)))
-      where
-        go : (b : Bool) → true ≡ (b || true)
-        go true = refl
-        go false = refl
+  before_are : (j : ℕ) → names_before j ≡ among v (given n p j)
+  before_are zero = refl
+  before_are (suc j) =
+      ap names_before (sym (add-one j)) ∙ before_more j ∙ swap (names_before j) (names_net n (p j) v) ∙ ap (λ (b : Bool). names_net n (p j) v || b) (before_are j) ∙ sym (one_more j)
+    where
+      swap : (a b : Bool) → (a || (b || false)) ≡ (b || a)
+      swap true true = refl
+      swap true false = refl
+      swap false true = refl
+      swap false false = refl
 
   pub named_input : (j : ℕ) → v < 2 * n → true ≡ named n (given n p j) v
   named_input j l = rw (lt-ltb v (2 * n) l)
 
-  pub named_nowhere : (j i : ℕ) → NotSince j i → i ≤ 0 → 2 * n ≤ v → false ≡ named n (given n p j) v
-  named_nowhere j i h z l = let e : i ≡ 0 = omega arith in rw (le-ltb v (2 * n) l) (sym (h ∙ ap (λ (k : ℕ). among v (given n p k)) e))
+  pub named_before : (j : ℕ) → 2 * n ≤ v → names_before j ≡ named n (given n p j) v
+  named_before j l = before_are j ∙ sym (rw (le-ltb v (2 * n) l))
 
 -- ---- the least output that would give a net a second name
 
@@ -107,30 +113,30 @@ module _ (n : ℕ) (p : ℕ → Pair) (m : ℕ) where
   NoneTo j = second_name n [] 0 (tabulate p m) ≡ second_name n (given n p j) j (drop j (tabulate p m))
 
   step : (j : ℕ) (ps : List Pair) →
-      second_name n (given n p j) j (p j ∷ ps) ≡ cond (second n (given n p j) (p j)) (At j) (second_name n (given n p (suc j)) (suc j) ps)
+      second_name n (given n p j) j (p j ∷ ps) ≡ cond (second n (given n p j) (p j)) (Some j) (second_name n (given n p (suc j)) (suc j) ps)
   unfolding second_name
   step j ps = go (straight n (p j))
     where
       go : (b : Bool) →
           cond b (second_name n (given n p j) (suc j) ps)
-          (cond (named n (given n p j) (p j).rail0 || named n ((p j).rail0 ∷ given n p j) (p j).rail1) (At j)
+          (cond (named n (given n p j) (p j).rail0 || named n ((p j).rail0 ∷ given n p j) (p j).rail1) (Some j)
           (second_name n ((p j).rail1 ∷ (p j).rail0 ∷ given n p j) (suc j) ps))
-          ≡ cond (cond b false (named n (given n p j) (p j).rail0 || named n ((p j).rail0 ∷ given n p j) (p j).rail1)) (At j)
+          ≡ cond (cond b false (named n (given n p j) (p j).rail0 || named n ((p j).rail0 ∷ given n p j) (p j).rail1)) (Some j)
           (second_name n (cond b (given n p j) ((p j).rail1 ∷ (p j).rail0 ∷ given n p j)) (suc j) ps)
       go true = refl
       go false = refl
 
   module _ {j : ℕ} (h : NoneTo j) where
     here : j < m → second_name n [] 0 (tabulate p m)
-        ≡ cond (second n (given n p j) (p j)) (At j) (second_name n (given n p (suc j)) (suc j) (drop (suc j) (tabulate p m)))
+        ≡ cond (second n (given n p j) (p j)) (Some j) (second_name n (given n p (suc j)) (suc j) (drop (suc j) (tabulate p m)))
     here l = h ∙ ap (second_name n (given n p j) j) (from_at p m j l) ∙ step j (drop (suc j) (tabulate p m))
 
-    pub second_found : j < m → second n (given n p j) (p j) ≡ true → At j ≡ second_name n [] 0 (tabulate p m)
+    pub second_found : j < m → second n (given n p j) (p j) ≡ true → Some j ≡ second_name n [] 0 (tabulate p m)
     second_found l e = sym (here l ∙ rw e)
 
     pub second_on : j < m → second n (given n p j) (p j) ≡ false → NoneTo (j + 1)
     second_on l e = here l ∙ rw (e, add-one j)
 
-    pub second_none : m ≤ j → Nothing ≡ second_name n [] 0 (tabulate p m)
+    pub second_none : m ≤ j → None ≡ second_name n [] 0 (tabulate p m)
     unfolding second_name
     second_none l = sym (h ∙ ap (second_name n (given n p j) j) (none_from p m j l))

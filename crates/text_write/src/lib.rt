@@ -3,6 +3,7 @@
 #![tactic(auto)]
 
 ghost use Rattle.std.specs.Prelude.{◌≡◌, ◌+◌, ◌*◌, ◌≤◌, ◌<◌, [], length};
+ghost use Rattle.std.specs.List.{list_any, range_with_len};
 ghost use Rattle.circuit.specs.Stage.{net_count, pin_in, output_in, stage_outputs, stage_in, StageLoaded};
 ghost use Rattle.text_spec.specs.Characters as characters;
 ghost use Rattle.text_spec.specs.ToText as text;
@@ -11,7 +12,7 @@ ghost use Rattle.write_decimal.specs.Put.{PutNext};
 ghost use Rattle.text_write.specs.Parts.{kind_in, input_names, output_names_in, pin_names, gate_line, gate_lines};
 ghost use Rattle.text_write.specs.Second.{names_net, given, second};
 
-use netlist::{Counts, Found};
+use netlist::Counts;
 
 // Room for the text of the largest stage: at most 5 bytes for each name in the first two lines, with what follows it, and 46 for each gate line.
 pub const WORK: usize = 5 * netlist::INPUTS + 5 * netlist::OUTPUTS + 46 * netlist::STAGE_GATES + 2;
@@ -43,17 +44,14 @@ fn put_gate_net(code: &[u16], counts: Counts, v: usize, work: &mut [u8], at: usi
         × (at + length (text.net_name counts.inputs (stage_outputs counts code.now) v) ≤ length work.old) }
     ensures { PutNext work.old at (text.net_name counts.inputs (stage_outputs counts code.now) v) work.new result }
 {
-    let count = counts.outputs;
-    let mut j = 0;
-    while j < count {
-        let rails = circuit::form::rails_of(code, counts, j);
+    for i in 0..counts.outputs {
+        let rails = circuit::form::rails_of(code, counts, i);
         if rails.rail0 as usize == v {
-            return put_rail(work, at, b'y', j, 0);
+            return put_rail(work, at, b'y', i, 0);
         }
         if rails.rail1 as usize == v {
-            return put_rail(work, at, b'y', j, 1);
+            return put_rail(work, at, b'y', i, 1);
         }
-        j += 1;
     }
     put_numbered(work, at, b'g', v - 2 * counts.inputs)
 }
@@ -78,11 +76,9 @@ fn put_input_names(inputs: usize, work: &mut [u8], start: usize) -> usize
     ensures { PutNext work.old start (input_names inputs) work.new result }
 {
     let mut at = put_numbered(work, start, b'x', 0);
-    let mut i: usize = 1;
-    while i < inputs {
+    for i in 1..inputs {
         at = write_decimal::put_char(work, at, b',');
         at = put_numbered(work, at, b'x', i);
-        i += 1;
     }
     at
 }
@@ -122,13 +118,10 @@ fn put_output_names(code: &[u16], counts: Counts, work: &mut [u8], start: usize)
     requires { StageLoaded counts code.now × (1 ≤ counts.outputs) × (start + length (output_names_in counts code.now) ≤ length work.old) }
     ensures { PutNext work.old start (output_names_in counts code.now) work.new result }
 {
-    let count = counts.outputs;
     let mut at = put_output_name(code, counts, 0, work, start);
-    let mut j: usize = 1;
-    while j < count {
+    for j in 1..counts.outputs {
         at = write_decimal::put_char(work, at, b',');
         at = put_output_name(code, counts, j, work, at);
-        j += 1;
     }
     at
 }
@@ -186,11 +179,9 @@ fn put_pins(code: &[u16], counts: Counts, k: usize, work: &mut [u8], start: usiz
 {
     let count = circuit::form::pin_count(code, counts, k);
     let mut at = put_pin(code, counts, k, 0, work, start);
-    let mut i: usize = 1;
-    while i < count {
+    for i in 1..count {
         at = write_decimal::put_char(work, at, b',');
         at = put_pin(code, counts, k, i, work, at);
-        i += 1;
     }
     at
 }
@@ -221,13 +212,10 @@ fn put_gates(code: &[u16], counts: Counts, work: &mut [u8], start: usize) -> usi
     ensures { PutNext work.old start (gate_lines counts code.now) work.new result }
 {
     let names = text_lines::names();
-    let count = counts.gates;
     let mut at = start;
-    let mut k: usize = 0;
-    while k < count {
+    for k in 0..counts.gates {
         at = put_gate(&names, code, counts, k, work, at);
         at = write_decimal::put_char(work, at, b'\n');
-        k += 1;
     }
     at
 }
@@ -262,22 +250,20 @@ fn names_net(code: &[u16], counts: Counts, j: usize, v: u16) -> bool
     v == rails.rail0
 }
 
+// An output before output j names a net.
+fn names_before(code: &[u16], counts: Counts, j: usize, v: u16) -> bool
+    requires { StageLoaded counts code.now × (j ≤ counts.outputs) }
+    ensures { result ≡ list_any (λ i. names_net counts.inputs (output_in counts code.now i) v) (range_with_len 0 j) }
+{
+    (0..j).any(|i| names_net(code, counts, i, v))
+}
+
 // A net has a name before output j: it is an input's rail, or an earlier output names it.
 fn is_named(code: &[u16], counts: Counts, j: usize, v: u16) -> bool
     requires { StageLoaded counts code.now × (j ≤ counts.outputs) }
     ensures { result ≡ text.named counts.inputs (given counts.inputs (output_in counts code.now) j) v }
 {
-    if (v as usize) < 2 * counts.inputs {
-        return true;
-    }
-    let mut i = j;
-    while 0 < i {
-        i -= 1;
-        if names_net(code, counts, i, v) {
-            return true;
-        }
-    }
-    false
+    (v as usize) < 2 * counts.inputs || names_before(code, counts, j, v)
 }
 
 // Output j would give a net a second name.
@@ -301,17 +287,14 @@ fn is_second(code: &[u16], counts: Counts, j: usize) -> bool
 }
 
 // The least output that would give a net a second name.
-pub fn second_name(code: &[u16], counts: Counts) -> Found
+pub fn second_name(code: &[u16], counts: Counts) -> Option<usize>
     requires { StageLoaded counts code.now }
     ensures { result ≡ text.second_name counts.inputs [] 0 (stage_outputs counts code.now) }
 {
-    let count = counts.outputs;
-    let mut j: usize = 0;
-    while j < count {
+    for j in 0..counts.outputs {
         if is_second(code, counts, j) {
-            return Found::At(j);
+            return Some(j);
         }
-        j += 1;
     }
-    Found::Nothing
+    None
 }

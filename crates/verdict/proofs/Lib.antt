@@ -16,3 +16,4 @@ pub mod OneWord
 pub mod Rises
 pub mod Rising
 pub mod Written
+pub mod HandedOn

@@ -1,5 +1,6 @@
 -- A file that is refused is refused by one of the numbers 1 to 9, 18 and 19.
 -- Assumes nothing.
+use Rattle.std.specs.Prelude.{Option, Some, None}
 use Prim.Native.Nat.{ℕ, zero, suc, ◌+◌, ◌^◌, ◌≤◌, ◌<◌}
 use native.Mathlib.Omega.{arith}
 use mathlib.Core.Path.{◌≡◌, subst}
@@ -15,8 +16,6 @@ use Rattle.netlist.specs.declared.Limits.{Limits}
 use Rattle.netlist.specs.declared.Counts.{Counts}
 use Rattle.netlist.specs.declared.Next.{Next}
 use Rattle.netlist.specs.declared.Next.TheVariants.{Command, Refused}
-use Rattle.netlist.specs.declared.Found.{Found}
-use Rattle.netlist.specs.declared.Found.TheVariants.{At, Nothing}
 use Rattle.netlist.specs.Bytes.{byte, operand}
 use Rattle.netlist.specs.Commands.{when_found, is_sort, form_of, most_parts, width, needed, pins_used, stray, misfit_from, take_gate, take_care, take_element, take_sort, take_command, next_at}
 use Rattle.netlist.specs.Reading.{Places, no_places, Reading, refused, readable, nameless_from, finish, on_next, noted, counts_of, nets_of, read_from, read_file}
@@ -36,10 +35,10 @@ either : {X : Type 0} (P : X → Type 0) (b : Bool) (x y : X) → P x → P y �
 either P true x y p q = p
 either P false x y p q = q
 
-unless-found : {X : Type 0} (P : X → Type 0) (x : Found) (there : ℕ → X) (none : X) → ((place : ℕ) → P (there place)) → P none → P (when_found x there none)
+unless-found : {X : Type 0} (P : X → Type 0) (x : Option ℕ) (there : ℕ → X) (none : X) → ((place : ℕ) → P (there place)) → P none → P (when_found x there none)
 unfolding when_found
-unless-found P (At place) there none p q = p place
-unless-found P Nothing there none p q = q
+unless-found P (Some place) there none p q = p place
+unless-found P None there none p q = q
 
 module _ (f : File) (most : Limits) (s : List ℕ) (at : ℕ) (before : Counts) where
   sort_numbered : (form : Form) (taken : Next) → NextNumbered taken → (c : Sort) → NextNumbered (take_sort f most s at before form taken c)

@@ -1,13 +1,10 @@
 -- The checks that follow reading, as the rows of document 01's table, and the first fault of a list of checks.
-use Rattle.std.specs.Prelude.{ℕ, ◌+◌, ◌*◌, Bool, true, false, cond, not, ◌&&◌, ◌||◌, List, [], ◌∷◌, ◌++◌, length, get_or, eqb, ltb}
+use Rattle.std.specs.Prelude.{ℕ, ◌+◌, ◌*◌, Bool, true, false, cond, not, ◌&&◌, ◌||◌, List, [], ◌∷◌, ◌++◌, length, get_or, eqb, ltb, Option, Some, None, Ok, Err}
 use Rattle.runs.specs.Row.{only}
-use Rattle.netlist.specs.declared.Found.{Found}
-use Rattle.netlist.specs.declared.Found.TheVariants.{At, Nothing}
 use Rattle.netlist.specs.Content.{Stage, Reference}
 pub use Rattle.verdict.specs.FourNumbers.{verdict}
 use Rattle.verdict.specs.declared.WordOrder.{WordOrder}
-use Rattle.verdict.specs.declared.Finding.{Finding}
-use Rattle.verdict.specs.declared.Finding.TheVariants.{Fault, Passed}
+use Rattle.verdict.specs.FourNumbers.{Finding}
 use Rattle.verdict.specs.Rows.{high, with_null, settled, settled_holding, pair_in, spells, all_data, all_null}
 use Rattle.verdict.specs.Loops.{reaches_itself}
 use Rattle.verdict.specs.Words.{numbers, words, bits_of, rails_in, spelled, names}
@@ -31,30 +28,30 @@ check number file words places fails = record { number = number; file = file; wo
 -- ---- what a check finds: "least word, then least index"
 
 -- the first of some numbers that passes a test
-unfoldable pub first : (ℕ → Bool) → List ℕ → Found
-first test [] = Nothing
-first test (i ∷ is) = let later = first test is in cond (test i) (At i) later
+unfoldable pub first : (ℕ → Bool) → List ℕ → Option ℕ
+first test [] = None
+first test (i ∷ is) = let later = first test is in cond (test i) (Some i) later
 
 -- a fault in word w, at what was found there; if nothing was, what comes later
-unfoldable pub at_fault : ℕ → ℕ → ℕ → Found → Finding → Finding
-at_fault number file w (At i) later = Fault (verdict number file i w)
-at_fault number file w Nothing later = later
+unfoldable pub at_fault : ℕ → ℕ → ℕ → Option ℕ → Finding → Finding
+at_fault number file w (Some i) later = Err (verdict number file i w)
+at_fault number file w None later = later
 
 -- the first of some words in which something is found, with that
-unfoldable pub sweep : ℕ → ℕ → (ℕ → Found) → List ℕ → Finding
-sweep number file find [] = Passed
+unfoldable pub sweep : ℕ → ℕ → (ℕ → Option ℕ) → List ℕ → Finding
+sweep number file find [] = Ok tt
 sweep number file find (w ∷ ws) = let later = sweep number file find ws in at_fault number file w (find w) later
 
 unfoldable pub finding : Check → Finding
 finding c = sweep c.number c.file (λ w. first (c.fails w) c.places) c.words
 
 unfoldable pub or_later : Finding → Finding → Finding
-or_later (Fault v) later = Fault v
-or_later Passed later = later
+or_later (Err v) later = Err v
+or_later (Ok _) later = later
 
 -- the first fault that some checks find
 unfoldable pub first_fault : List Check → Finding
-first_fault [] = Passed
+first_fault [] = Ok tt
 first_fault (c ∷ later) = let rest = first_fault later in or_later (finding c) rest
 
 -- ---- 13, 14 and 15 in word w, computed

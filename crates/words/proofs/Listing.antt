@@ -3,28 +3,28 @@
 use Prim.Native.Nat.{ℕ, suc, ◌+◌, ◌-◌, ◌^◌, ◌≤◌, ◌<◌}
 use native.Mathlib.Omega.{arith}
 use native.Mathlib.Numerals.{add-one}
-use mathlib.Core.Path.{◌≡◌, refl, sym, ap, subst, ◌∙◌}
+use mathlib.Core.Path.{◌≡◌, refl, sym, ap, ◌∙◌}
 use mathlib.Core.Bool.{Bool, true, false, cond}
-use mathlib.Core.List.{List, [], ◌∷◌, ◌++◌, map, map-id, append_assoc, append-nil}
+use mathlib.Core.List.{List, [], ◌∷◌, ◌++◌, append_assoc, append-nil}
 use lib.ListN.{length, get_or, take, drop, set, length-append, length-drop}
 use lib.Seq.{drop-cons, set-append_seam, take-append_seam}
 use Rattle.netlist.specs.Content.{Stage}
 use Rattle.verdict.specs.declared.WordOrder.{WordOrder}
 use Rattle.verdict.specs.Words.{numbers, words, spelled, is_in, select, names}
-use Rattle.words.specs.Listed.{Listed, shown}
+use Rattle.words.specs.Listed.{Listed}
 
--- Numbers that pass a test, of those below `most`, are listed up to number k, each as something: so many were found, they stand at the start of the
+-- Numbers that pass a test, of those below `most`, are listed up to number k: so many were found, they stand at the start of the
 -- slice, and with those that are found from k on they are all.
-pub record ListedTo (all : List ℕ) (test : ℕ → Bool) (put : ℕ → ℕ) (most : ℕ) (before : List ℕ) (count k : ℕ) (list : List ℕ) : Type 0 where
+pub record ListedTo (all : List ℕ) (test : ℕ → Bool) (most : ℕ) (before : List ℕ) (count k : ℕ) (list : List ℕ) : Type 0 where
   pub found : List ℕ
   pub found_count : length found ≡ count
   pub list_is : list ≡ found ++ drop count before
-  pub all_are : all ≡ found ++ map put (select test (numbers k (most - k)))
+  pub all_are : all ≡ found ++ select test (numbers k (most - k))
   pub few : count ≤ k
   pub within : k ≤ most
 
-module _ (all : List ℕ) (test : ℕ → Bool) (put : ℕ → ℕ) (most : ℕ) (before : List ℕ) where
-  pub list_start : all ≡ map put (select test (numbers 0 most)) → ListedTo all test put most before 0 0 before
+module _ (all : List ℕ) (test : ℕ → Bool) (most : ℕ) (before : List ℕ) where
+  pub list_start : all ≡ select test (numbers 0 most) → ListedTo all test most before 0 0 before
   list_start e = record {
     found = [];
     found_count = refl;
@@ -34,7 +34,7 @@ module _ (all : List ℕ) (test : ℕ → Bool) (put : ℕ → ℕ) (most : ℕ)
     within = omega arith;
   }
 
-  module _ (count k : ℕ) (list : List ℕ) (to : ListedTo all test put most before count k list) where
+  module _ (count k : ℕ) (list : List ℕ) (to : ListedTo all test most before count k list) where
     -- the slice keeps its length
     pub list_long : count ≤ length before → length list ≡ length before
     list_long h = ap length to.list_is ∙ omega (arith, length-append to.found (drop count before), length-drop count before, to.found_count)
@@ -43,29 +43,29 @@ module _ (all : List ℕ) (test : ℕ → Bool) (put : ℕ → ℕ) (most : ℕ)
     later : List ℕ
     later = select test (numbers (k + 1) (most - (k + 1)))
 
-    at_k : k < most → (b : Bool) → test k ≡ b → map put (select test (numbers k (most - k))) ≡ map put (cond b (k ∷ later) later)
+    at_k : k < most → (b : Bool) → test k ≡ b → select test (numbers k (most - k)) ≡ cond b (k ∷ later) later
     unfolding select numbers later
     at_k h b e =
         let m : most - k ≡ suc (most - (k + 1)) = omega arith in
         rw (m, e, add-one) refl
 
-    pub list_hit : k < most → most ≤ length before → test k ≡ true → ListedTo all test put most before (count + 1) (k + 1) (set list count (put k))
+    pub list_hit : k < most → most ≤ length before → test k ≡ true → ListedTo all test most before (count + 1) (k + 1) (set list count k)
     unfolding later
     list_hit h room e = record {
-      found = to.found ++ (put k ∷ []);
-      found_count = length-append to.found (put k ∷ []) ∙ omega (arith, to.found_count);
+      found = to.found ++ (k ∷ []);
+      found_count = length-append to.found (k ∷ []) ∙ omega (arith, to.found_count);
       list_is =
-          ap (λ (l : List ℕ). set l count (put k)) (to.list_is ∙ ap (λ (l : List ℕ). to.found ++ l) (drop-cons before count 0 (omega (arith, to.few))))
-          ∙ ap (λ (i : ℕ). set (to.found ++ (get_or before count 0 ∷ drop (suc count) before)) i (put k)) (sym to.found_count)
-          ∙ set-append_seam to.found (get_or before count 0) (drop (suc count) before) (put k)
-          ∙ sym (append_assoc to.found (put k ∷ []) (drop (suc count) before))
-          ∙ ap (λ (i : ℕ). (to.found ++ (put k ∷ [])) ++ drop i before) (sym (add-one count));
-      all_are = to.all_are ∙ ap (λ (l : List ℕ). to.found ++ l) (at_k h true e) ∙ sym (append_assoc to.found (put k ∷ []) (map put later));
+          ap (λ (l : List ℕ). set l count k) (to.list_is ∙ ap (λ (l : List ℕ). to.found ++ l) (drop-cons before count 0 (omega (arith, to.few))))
+          ∙ ap (λ (i : ℕ). set (to.found ++ (get_or before count 0 ∷ drop (suc count) before)) i k) (sym to.found_count)
+          ∙ set-append_seam to.found (get_or before count 0) (drop (suc count) before) k
+          ∙ sym (append_assoc to.found (k ∷ []) (drop (suc count) before))
+          ∙ ap (λ (i : ℕ). (to.found ++ (k ∷ [])) ++ drop i before) (sym (add-one count));
+      all_are = to.all_are ∙ ap (λ (l : List ℕ). to.found ++ l) (at_k h true e) ∙ sym (append_assoc to.found (k ∷ []) later);
       few = omega (arith, to.few);
       within = omega arith;
     }
 
-    pub list_miss : k < most → test k ≡ false → ListedTo all test put most before count (k + 1) list
+    pub list_miss : k < most → test k ≡ false → ListedTo all test most before count (k + 1) list
     unfolding later
     list_miss h e = record {
       found = to.found;
@@ -87,19 +87,9 @@ module _ (all : List ℕ) (test : ℕ → Bool) (put : ℕ → ℕ) (most : ℕ)
 abbrev pub spells_word : WordOrder → Stage → ℕ → Bool
 spells_word order s name = is_in (spelled order s.inputs name) (words s)
 
-pub names_are : (put : ℕ → ℕ) (order : WordOrder) (s : Stage) → map put (names order s) ≡ map put (select (spells_word order s) (numbers 0 (2 ^ s.inputs)))
+pub names_are : (order : WordOrder) (s : Stage) → names order s ≡ select (spells_word order s) (numbers 0 (2 ^ s.inputs))
 unfolding names
-names_are put order s = refl
-
--- names that are listed as they are
-pub listed_names : (order : WordOrder) (n : ℕ) (l : List ℕ) {before : List ℕ} {count : ℕ} {after : List ℕ} → Listed (map (shown false order n) l) before count after
-    → Listed l before count after
-unfolding shown
-listed_names order n l {before} {count} {after} x = subst (λ (names : List ℕ). Listed names before count after) (map-id l) x
-
-pub put_below : (as_word : Bool) (w name most : ℕ) → w < most → name < most → cond as_word w name < most
-put_below true w name most a b = a
-put_below false w name most a b = b
+names_are order s = refl
 
 -- the start of a slice in which they are listed
 pub listed_start : {numbers before : List ℕ} {count : ℕ} {after : List ℕ} → Listed numbers before count after → take count after ≡ numbers

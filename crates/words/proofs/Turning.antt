@@ -1,12 +1,13 @@
 -- The bits of a name in turned order: those of so many inputs are the highest of those of more.
 -- Assumes nothing.
-use Prim.Native.Nat.{ℕ, zero, suc, ◌+◌, ◌*◌, ◌/◌, ◌%◌, ◌^◌, ◌<◌}
+use Prim.Native.Nat.{ℕ, zero, suc, ◌+◌, ◌*◌, ◌/◌, ◌%◌, ◌^◌, ◌≤◌, ◌<◌}
 use native.Mathlib.Omega.{arith}
 use native.Mathlib.Nat.{add-mul-div_left, div-eq_of_lt, pow-succ', mul-add, mul_assoc, mul_comm, zero-add}
-use lib.Pow.{pow_pos}
+use lib.Pow.{pow_pos, pow_mono}
 use mathlib.Core.Path.{◌≡◌, refl, sym, ap, subst, ◌∙◌}
 use mathlib.Core.List.{List, [], ◌∷◌, reverse_aux}
-use Rattle.verdict.specs.declared.WordOrder.TheVariants.{FirstHighest}
+use Rattle.verdict.specs.declared.WordOrder.{WordOrder}
+use Rattle.verdict.specs.declared.WordOrder.TheVariants.{FirstHighest, FirstLowest}
 use Rattle.verdict.specs.Words.{bits_of, word_of, spelled}
 
 -- n bits of a name are taken, the lowest first, and put behind a word
@@ -130,3 +131,9 @@ turned_ten name =
 
 pub turned_below : (n name : ℕ) → spelled FirstHighest n name < 2 ^ n
 turned_below n name = subst (λ (x : ℕ). x < 2 ^ n) (turn_spelled n name) (turn_below n name)
+
+-- the word that a name of sixteen bits spells has no more
+pub spelled_fits : (order : WordOrder) (n name : ℕ) → n ≤ 10 → name < 65536 → spelled order n name < 65536
+unfolding spelled
+spelled_fits FirstHighest n name h l = omega (arith, turned_below n name, pow_mono {i = n} {j = 10} h)
+spelled_fits FirstLowest n name h l = l

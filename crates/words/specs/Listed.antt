@@ -1,16 +1,11 @@
 -- What listing some numbers leaves in a slice, and marks on numbers.
-use Rattle.std.specs.Prelude.{ℕ, ◌<◌, ◌≡◌, Bool, cond, List, ◌++◌, length, get_or, drop, ltb}
-use Rattle.verdict.specs.declared.WordOrder.{WordOrder}
-use Rattle.verdict.specs.Words.{spelled, is_in}
+use Rattle.std.specs.Prelude.{ℕ, ◌<◌, ◌≡◌, List, ◌++◌, length, get_or, drop, ltb}
+use Rattle.verdict.specs.Words.{is_in}
 
 -- all of them, so many, stand at its start, and what is behind them stays as it was
 pub record Listed (numbers before : List ℕ) (count : ℕ) (after : List ℕ) : Type 0 where
   pub count-is : count ≡ length numbers
   pub list_is : after ≡ numbers ++ drop count before
-
--- what a name is listed as: the word that it spells, with n inputs, or the name itself
-unfoldable pub shown : Bool → WordOrder → ℕ → ℕ → ℕ
-shown as_word order n name = cond as_word (spelled order n name) name
 
 -- a byte for each of the first numbers: none is marked; or those are that stand in a list
 abbrev pub NoneMarked : List ℕ → Type 0

@@ -10,7 +10,7 @@ ghost use Rattle.verdict.specs.Rows.{settled};
 ghost use Rattle.circuit.specs.Stage.{stage_care, stage_in, StageLoaded, stage_gates};
 ghost use Rattle.circuit.specs.Order.{InOrder};
 ghost use Rattle.circuit.specs.Rows.{RowFor, nets_in, rail_part};
-ghost use Rattle.words.specs.Listed.{Listed, shown, NoneMarked, Marked};
+ghost use Rattle.words.specs.Listed.{Listed, NoneMarked, Marked};
 
 use netlist::Counts;
 use verdict::WordOrder;
@@ -20,45 +20,18 @@ use verdict::WordOrder;
 // A name for each word of the most inputs.
 pub const NAMES: usize = 1 << netlist::INPUTS;
 
+// Each number of five bits, with its bits in turned order. `reverse_bits` of the library goes bit by bit, which was most of a sweep.
+const TURNED_FIVE: [u8; 32] = [
+    0, 16, 8, 24, 4, 20, 12, 28, 2, 18, 10, 26, 6, 22, 14, 30, 1, 17, 9, 25, 5, 21, 13, 29, 3, 19,
+    11, 27, 7, 23, 15, 31,
+];
+
 // Five bits in turned order.
 fn turned_five(bits: usize) -> usize
     requires { bits < 32 }
     ensures { result ≡ spelled FirstHighest 5 bits }
 {
-    match bits {
-        0 => 0,
-        1 => 16,
-        2 => 8,
-        3 => 24,
-        4 => 4,
-        5 => 20,
-        6 => 12,
-        7 => 28,
-        8 => 2,
-        9 => 18,
-        10 => 10,
-        11 => 26,
-        12 => 6,
-        13 => 22,
-        14 => 14,
-        15 => 30,
-        16 => 1,
-        17 => 17,
-        18 => 9,
-        19 => 25,
-        20 => 5,
-        21 => 21,
-        22 => 13,
-        23 => 29,
-        24 => 3,
-        25 => 19,
-        26 => 11,
-        27 => 27,
-        28 => 7,
-        29 => 23,
-        30 => 15,
-        _ => 31,
-    }
+    TURNED_FIVE[bits] as usize
 }
 
 // The word that a name spells where input 0 is the highest bit of as many as there are inputs: the bits in turned order. Those of the most inputs
@@ -88,14 +61,11 @@ pub fn mark_care(code: &[u16], counts: Counts, marks: &mut [u8])
     requires { StageLoaded counts code.now × NoneMarked marks.old }
     ensures { Marked (stage_care counts code.now) marks.new × (length marks.new ≡ length marks.old) }
 {
-    let count = counts.care;
-    let mut k: usize = 0;
-    while k < count {
+    for k in 0..counts.care {
         let w = circuit::form::care_of(code, counts, k);
         if w < marks.len() {
             marks[w] = 1;
         }
-        k += 1;
     }
 }
 
@@ -110,52 +80,24 @@ pub fn is_marked(code: &[u16], counts: Counts, marks: &[u8], w: usize) -> bool
     0 < marks[w]
 }
 
-// What is listed for a name: the name itself, or the word w that it spells.
-fn shown_as(as_words: bool, name: usize, w: usize) -> usize
-    ensures { result ≡ cond as_words w name }
-{
-    if as_words {
-        return w;
-    }
-    name
-}
-
-// Lists the words of a stage from the start of `list`, each by its name or as it is, those of the least names first, and answers how many they are.
-fn list_by(
-    as_words: bool,
-    order: WordOrder,
-    code: &[u16],
-    counts: Counts,
-    list: &mut [u16],
-) -> usize
+// Lists the names of a stage's words from the start of `list`, the least first, and answers how many they are.
+pub fn list_names(order: WordOrder, code: &[u16], counts: Counts, list: &mut [u16]) -> usize
     requires { StageLoaded counts code.now × (2 ^ stage_limits.inputs ≤ length list.old) }
-    ensures { Listed (map (shown as_words order counts.inputs) (names order (stage_in counts code.now))) list.old result
-        list.new }
+    ensures { Listed (names order (stage_in counts code.now)) list.old result list.new }
 {
     let inputs = counts.inputs;
     let mut marks = [0u8; NAMES];
     mark_care(code, counts, &mut marks);
     let all: usize = 1 << inputs;
     let mut count: usize = 0;
-    let mut name: usize = 0;
-    while name < all {
+    for name in 0..all {
         let w = word_of(order, inputs, name);
-        let put = shown_as(as_words, name, w);
         if is_marked(code, counts, &marks, w) {
-            list[count] = put as u16;
+            list[count] = name as u16;
             count += 1;
         }
-        name += 1;
     }
     count
-}
-
-// Lists the names of a stage's words from the start of `list`, the least first, and answers how many they are.
-pub fn list_names(order: WordOrder, code: &[u16], counts: Counts, list: &mut [u16]) -> usize
-    requires { StageLoaded counts code.now × (2 ^ stage_limits.inputs ≤ length list.old) }
-    ensures { Listed (names order (stage_in counts code.now)) list.old result list.new }
-{
-    list_by(false, order, code, counts, list)
 }
 
 // Lists the words that these names spell.
@@ -164,7 +106,12 @@ pub fn list_words(order: WordOrder, code: &[u16], counts: Counts, list: &mut [u1
     ensures { Listed (map (spelled order counts.inputs) (names order (stage_in counts code.now))) list.old result
         list.new }
 {
-    list_by(true, order, code, counts, list)
+    let count = list_names(order, code, counts, list);
+    for i in 0..count {
+        let name = list[i];
+        list[i] = word_of(order, counts.inputs, name as usize) as u16;
+    }
+    count
 }
 
 // ---- on the rails
@@ -174,11 +121,9 @@ pub fn word_bits(w: usize, bits: &mut [u8])
     ensures { bits.new ≡ bits_of (length bits.old) w }
 {
     let mut rest = w;
-    let mut i: usize = 0;
-    while i < bits.len() {
-        bits[i] = (rest % 2) as u8;
-        rest = rest / 2;
-        i += 1;
+    for bit in bits.iter_mut() {
+        *bit = (rest % 2) as u8;
+        rest /= 2;
     }
 }
 
@@ -189,13 +134,11 @@ pub fn spell_word(counts: Counts, w: usize, row: &mut [u8])
     ensures row { RowFor counts row.new }
 {
     let mut rest = w;
-    let mut i: usize = 0;
-    while i < counts.inputs {
+    for i in 0..counts.inputs {
         let b = (rest % 2) as u8;
         row[2 * i] = 1 - b;
         row[2 * i + 1] = b;
-        rest = rest / 2;
-        i += 1;
+        rest /= 2;
     }
 }
 

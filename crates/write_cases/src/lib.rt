@@ -39,10 +39,8 @@ fn put_bytes(line: &mut [u8], start: usize, bytes: &[u8]) -> usize
     ensures { PutWithin (4 * length bytes.now) line.old start (cases.numbers_then bytes.now []) line.new result }
 {
     let mut at = start;
-    let mut k: usize = 0;
-    while k < bytes.len() {
-        at = put_byte(line, at, bytes[k]);
-        k += 1;
+    for byte in bytes {
+        at = put_byte(line, at, *byte);
     }
     at
 }

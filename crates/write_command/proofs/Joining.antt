@@ -5,7 +5,11 @@ use native.Mathlib.Omega.{arith}
 use mathlib.Core.Path.{◌≡◌, refl, sym, ap, ◌∙◌}
 use mathlib.Core.Logic.{◌⊎◌, inl, inr, ⊎_elim}
 use mathlib.Core.List.{List, [], ◌∷◌, ◌++◌}
-use lib.ListN.{length, get_or, set, length-append}
+use borrow.Rule.Slice.PartMut.{put_mid}
+use Rattle.std.proofs.Common.{append_assoc}
+use Rattle.std.proofs.lemmas.Slice.{put_mid-paste}
+use Rattle.std.proofs.lemmas.List.Edits.{paste_all}
+use lib.ListN.{length, get_or, set, take, drop, length-append}
 use lib.Seq.{sets, length-sets, sets-eq, get_or-set_other}
 use Rattle.write_command.specs.Put.{Put}
 use Rattle.verdict.specs.Written.{holding}
@@ -19,6 +23,14 @@ sets-++ l at (x ∷ xs) ys = let e : at + suc (length xs) ≡ suc at + length xs
 -- the stores give the record
 pub put : (before after : List ℕ) (at : ℕ) (bytes : List ℕ) → after ≡ sets before at bytes → Put before at bytes after
 put before after at bytes e = record { stored = e; long = ap length e ∙ length-sets before at bytes }
+
+-- a copy over a part of the buffer, as `copy_from_slice` leaves it
+pub put_copied : (before bytes part : List ℕ) (at count : ℕ) → at + length bytes ≤ length before → part ≡ bytes → count ≡ length bytes →
+    Put before at bytes (put_mid at count before part)
+put_copied before bytes part at count room same long =
+    put _ _ _ _
+    (put_mid-paste at count before part bytes (length bytes) same (sym long) refl ∙ paste_all before at bytes (length bytes) refl
+    ∙ sym (append_assoc (take at before) bytes (drop (at + length bytes) before)) ∙ sym (sets-eq bytes before at room))
 
 -- two parts, of which the second begins where the first ends
 pub put-++ : {before between after : List ℕ} {at next : ℕ} {xs ys : List ℕ} → Put before at xs between → Put between next ys after →

@@ -39,43 +39,21 @@ pub fn wrote(count: usize) -> Answer
     ensures { result ≡ answer_of accepted count }
 {
     Answer {
-        verdict: Verdict {
-            number: 0,
-            file: 0,
-            at: 0,
-            word: 0,
-        },
+        verdict: Verdict::accepted(),
         count: count as u64,
     }
 }
 
 // ---- bytes
 
-fn put_byte(buffer: &mut [u8], at: usize, x: u8)
-    requires { at + 1 ≤ length buffer.old }
-    ensures { Put buffer.old at (x ∷ []) buffer.new }
-{
-    buffer[at] = x;
-}
-
-fn put_two(buffer: &mut [u8], at: usize, x: u8, y: u8)
-    requires { at + 2 ≤ length buffer.old }
-    ensures { Put buffer.old at (x ∷ y ∷ []) buffer.new }
-{
-    buffer[at] = x;
-    buffer[at + 1] = y;
-}
-
 // All bytes of a slice.
+#[tactic(auto, using(crate::proofs::Joining::put_copied))]
 pub fn put_bytes(buffer: &mut [u8], at: usize, bytes: &[u8])
     requires { at + length bytes.now ≤ length buffer.old }
     ensures { Put buffer.old at bytes.now buffer.new }
 {
-    let mut i: usize = 0;
-    while i < bytes.len() {
-        buffer[at + i] = bytes[i];
-        i += 1;
-    }
+    let end = at + bytes.len();
+    buffer[at..end].copy_from_slice(bytes);
 }
 
 // An operand, low byte first.
@@ -83,7 +61,7 @@ fn put_operand(buffer: &mut [u8], at: usize, v: u16)
     requires { at + 2 ≤ length buffer.old }
     ensures { Put buffer.old at (writing.write_operands 1 (v ∷ [])) buffer.new }
 {
-    put_two(buffer, at, (v % 256) as u8, (v / 256) as u8);
+    put_bytes(buffer, at, &v.to_le_bytes());
 }
 
 // ---- commands of either file
@@ -93,7 +71,7 @@ pub fn put_inputs(buffer: &mut [u8], at: usize, inputs: usize)
     requires { (at + 2 ≤ length buffer.old) × (inputs < 256) }
     ensures { Put buffer.old at (writing.command_byte file.Stage sort.Inputs ∷ inputs ∷ []) buffer.new }
 {
-    put_two(buffer, at, 0x01, inputs as u8);
+    put_bytes(buffer, at, &[0x01, inputs as u8]);
 }
 
 // The end command.
@@ -101,7 +79,7 @@ pub fn put_end(buffer: &mut [u8], at: usize)
     requires { at + 1 ≤ length buffer.old }
     ensures { Put buffer.old at (writing.command_byte file.Stage sort.End ∷ []) buffer.new }
 {
-    put_byte(buffer, at, 0x00);
+    put_bytes(buffer, at, &[0x00]);
 }
 
 // ---- commands of a stage file
@@ -111,7 +89,7 @@ pub fn put_care(buffer: &mut [u8], at: usize, word: u16)
     requires { at + 3 ≤ length buffer.old }
     ensures { Put buffer.old at (writing.write_item file.Stage (writing.care word)) buffer.new }
 {
-    put_byte(buffer, at, 0x06);
+    put_bytes(buffer, at, &[0x06]);
     put_operand(buffer, at + 1, word);
 }
 
@@ -120,7 +98,7 @@ pub fn put_stage_gate(buffer: &mut [u8], at: usize, kind: u8, a: u16, b: u16, c:
     requires { at + 10 ≤ length buffer.old }
     ensures { Put buffer.old at (writing.write_item file.Stage (writing.gate (coded kind (a ∷ b ∷ c ∷ d ∷ [])))) buffer.new }
 {
-    put_two(buffer, at, 0x02, kind);
+    put_bytes(buffer, at, &[0x02, kind]);
     put_operand(buffer, at + 2, a);
     put_operand(buffer, at + 4, b);
     put_operand(buffer, at + 6, c);
@@ -132,7 +110,7 @@ pub fn put_stage_output(buffer: &mut [u8], at: usize, rail0: u16, rail1: u16)
     requires { at + 5 ≤ length buffer.old }
     ensures { Put buffer.old at (writing.write_item file.Stage (writing.output (rail0 ∷ rail1 ∷ []))) buffer.new }
 {
-    put_byte(buffer, at, 0x03);
+    put_bytes(buffer, at, &[0x03]);
     put_operand(buffer, at + 1, rail0);
     put_operand(buffer, at + 3, rail1);
 }
@@ -144,7 +122,7 @@ pub fn put_reference_gate(buffer: &mut [u8], at: usize, operation: u8, a: u16, b
     requires { at + 6 ≤ length buffer.old }
     ensures { Put buffer.old at (writing.write_item file.Reference (writing.gate (coded operation (a ∷ b ∷ [])))) buffer.new }
 {
-    put_two(buffer, at, 0x11, operation);
+    put_bytes(buffer, at, &[0x11, operation]);
     put_operand(buffer, at + 2, a);
     put_operand(buffer, at + 4, b);
 }
@@ -154,6 +132,6 @@ pub fn put_reference_output(buffer: &mut [u8], at: usize, signal: u16)
     requires { at + 3 ≤ length buffer.old }
     ensures { Put buffer.old at (writing.write_item file.Reference (writing.output (signal ∷ []))) buffer.new }
 {
-    put_byte(buffer, at, 0x12);
+    put_bytes(buffer, at, &[0x12]);
     put_operand(buffer, at + 1, signal);
 }

@@ -14,7 +14,8 @@ pub fn put_char(buffer: &mut [u8], at: usize, b: u8) -> usize
     at + 1
 }
 
-// A number in decimal: the digits before the last one, if there are any, and the last one.
+// A number in decimal: the digits before the last one, if there are any, and the last one. Not `write!`: it says whether the text fits, and not the
+// place after it.
 pub fn put_decimal(buffer: &mut [u8], at: usize, n: usize) -> usize
     requires { at + length (decimal n) ≤ length buffer.old }
     ensures { PutNext buffer.old at (decimal n) buffer.new result }

@@ -23,23 +23,31 @@ pub struct Move {
     pub start: usize,
 }
 
+// The first part and a move: where a part stands in the whole whose first part this is.
+#[derive(Clone, Copy)]
+struct Place<'a> {
+    first: &'a [u16],
+    counts: Counts,
+    moved: Move,
+}
+
 // ---- a gate of a stage
 
 // A net of a part, where it stands in the whole.
-fn net_in_whole(code1: &[u16], counts1: Counts, moved: Move, net: u16) -> u16
-    requires { StageLoaded counts1 code1.now × (moved.inputs ≤ counts1.outputs) × (moved.start + net < 0x10000) }
-    ensures { result ≡ net_moved (stage_in counts1 code1.now) moved net }
+fn net_in_whole(place: Place, net: u16) -> u16
+    requires { StageLoaded place.counts place.first.now × (place.moved.inputs ≤ place.counts.outputs) × (place.moved.start + net < 0x10000) }
+    ensures { result ≡ net_moved (stage_in place.entry.counts place.entry.first.now) place.entry.moved net }
 {
     let n = net as usize;
-    let rails = 2 * moved.inputs;
+    let rails = 2 * place.moved.inputs;
     if n < rails {
-        let output = circuit::form::rails_of(code1, counts1, n / 2);
+        let output = circuit::form::rails_of(place.first, place.counts, n / 2);
         if n % 2 == 1 {
             return output.rail1;
         }
         return output.rail0;
     }
-    (moved.start + (n - rails)) as u16
+    (place.moved.start + (n - rails)) as u16
 }
 
 // The kind of gate k: its cell, with hold or relaxed.
@@ -55,98 +63,56 @@ fn kind_at(code: &[u16], counts: Counts, k: usize) -> u8
 }
 
 // The net at pin i of gate k, where it stands in the whole, or FFFF where the gate has no such pin.
-fn pin_in_whole(
-    code: &[u16],
-    counts: Counts,
-    k: usize,
-    i: usize,
-    code1: &[u16],
-    counts1: Counts,
-    moved: Move,
-) -> u16
-    requires { StageLoaded counts code.now × StageMoves counts counts1 code1.now moved × (k < counts.gates) × (i < 4) }
+fn pin_in_whole(code: &[u16], counts: Counts, k: usize, i: usize, place: Place) -> u16
+    requires { StageLoaded counts code.now × StageMoves counts place.counts place.first.now place.moved × (k < counts.gates) × (i < 4) }
     ensures { result ≡ cond (ltb i (pin_count (cell_in code.now k)))
-        (net_moved (stage_in counts1 code1.now) moved (pin_in code.now k i))
+        (net_moved (stage_in place.entry.counts place.entry.first.now) place.entry.moved (pin_in code.now k i))
         absent }
 {
     if i < circuit::form::pin_count(code, counts, k) {
-        return net_in_whole(
-            code1,
-            counts1,
-            moved,
-            circuit::form::pin_of(code, counts, k, i),
-        );
+        return net_in_whole(place, circuit::form::pin_of(code, counts, k, i));
     }
     0xFFFF
 }
 
 // Gate k of a part, at a place of a buffer.
-fn put_gate(
-    buffer: &mut [u8],
-    at: usize,
-    code: &[u16],
-    counts: Counts,
-    k: usize,
-    code1: &[u16],
-    counts1: Counts,
-    moved: Move,
-)
-    requires { StageLoaded counts code.now × StageMoves counts counts1 code1.now moved × (k < counts.gates) × (at + 10 ≤ length buffer.old) }
-    ensures { Put buffer.old at (writing.write_item file.Stage (gate_item (gate_moved (stage_in counts1 code1.now) moved (gate_in code.now k)))) buffer.new }
+fn put_gate(buffer: &mut [u8], at: usize, code: &[u16], counts: Counts, k: usize, place: Place)
+    requires { StageLoaded counts code.now × StageMoves counts place.counts place.first.now place.moved × (k < counts.gates)
+        × (at + 10 ≤ length buffer.old) }
+    ensures { Put buffer.old at (writing.write_item file.Stage
+        (gate_item (gate_moved (stage_in place.entry.counts place.entry.first.now) place.entry.moved (gate_in code.now k)))) buffer.new }
 {
-    let a = pin_in_whole(code, counts, k, 0, code1, counts1, moved);
-    let b = pin_in_whole(code, counts, k, 1, code1, counts1, moved);
-    let c = pin_in_whole(code, counts, k, 2, code1, counts1, moved);
-    let d = pin_in_whole(code, counts, k, 3, code1, counts1, moved);
+    let a = pin_in_whole(code, counts, k, 0, place);
+    let b = pin_in_whole(code, counts, k, 1, place);
+    let c = pin_in_whole(code, counts, k, 2, place);
+    let d = pin_in_whole(code, counts, k, 3, place);
     write_command::put_stage_gate(buffer, at, kind_at(code, counts, k), a, b, c, d);
 }
 
 // ---- the parts of a stage file
 
 // All gates of a part.
-fn put_gates(
-    buffer: &mut [u8],
-    at: usize,
-    code: &[u16],
-    counts: Counts,
-    code1: &[u16],
-    counts1: Counts,
-    moved: Move,
-)
-    requires { StageLoaded counts code.now × StageMoves counts counts1 code1.now moved × (at + 10 * counts.gates ≤ length buffer.old) }
+fn put_gates(buffer: &mut [u8], at: usize, code: &[u16], counts: Counts, place: Place)
+    requires { StageLoaded counts code.now × StageMoves counts place.counts place.first.now place.moved × (at + 10 * counts.gates ≤ length buffer.old) }
     ensures { Put buffer.old at (bytes_of file.Stage gate_item
-        (map (gate_moved (stage_in counts1 code1.now) moved) (stage_gates counts code.now))) buffer.new }
+        (map (gate_moved (stage_in place.entry.counts place.entry.first.now) place.entry.moved) (stage_gates counts code.now))) buffer.new }
 {
-    let count = counts.gates;
-    let mut k: usize = 0;
-    while k < count {
-        put_gate(buffer, at + 10 * k, code, counts, k, code1, counts1, moved);
-        k += 1;
+    for k in 0..counts.gates {
+        put_gate(buffer, at + 10 * k, code, counts, k, place);
     }
 }
 
 // The outputs of a part.
-fn put_outputs(
-    buffer: &mut [u8],
-    at: usize,
-    code: &[u16],
-    counts: Counts,
-    code1: &[u16],
-    counts1: Counts,
-    moved: Move,
-)
-    requires { StageLoaded counts code.now × StageMoves counts counts1 code1.now moved × (at + 5 * counts.outputs ≤ length buffer.old) }
+fn put_outputs(buffer: &mut [u8], at: usize, code: &[u16], counts: Counts, place: Place)
+    requires { StageLoaded counts code.now × StageMoves counts place.counts place.first.now place.moved × (at + 5 * counts.outputs ≤ length buffer.old) }
     ensures { Put buffer.old at (bytes_of file.Stage pair_item
-        (map (pair_moved (stage_in counts1 code1.now) moved) (stage_outputs counts code.now))) buffer.new }
+        (map (pair_moved (stage_in place.entry.counts place.entry.first.now) place.entry.moved) (stage_outputs counts code.now))) buffer.new }
 {
-    let count = counts.outputs;
-    let mut j: usize = 0;
-    while j < count {
+    for j in 0..counts.outputs {
         let rails = circuit::form::rails_of(code, counts, j);
-        let rail0 = net_in_whole(code1, counts1, moved, rails.rail0);
-        let rail1 = net_in_whole(code1, counts1, moved, rails.rail1);
+        let rail0 = net_in_whole(place, rails.rail0);
+        let rail1 = net_in_whole(place, rails.rail1);
         write_command::put_stage_output(buffer, at + 5 * j, rail0, rail1);
-        j += 1;
     }
 }
 
@@ -155,28 +121,25 @@ fn put_care_words(buffer: &mut [u8], at: usize, code: &[u16], counts: Counts)
     requires { StageLoaded counts code.now × (at + 3 * counts.care ≤ length buffer.old) }
     ensures { Put buffer.old at (bytes_of file.Stage writing.care (stage_care counts code.now)) buffer.new }
 {
-    let count = counts.care;
-    let mut k: usize = 0;
-    while k < count {
+    for k in 0..counts.care {
         let w = circuit::form::care_of(code, counts, k) as u16;
         write_command::put_care(buffer, at + 3 * k, w);
-        k += 1;
     }
 }
 
 // ---- the parts of a reference file
 
 // A signal of a part, where it stands in the whole.
-fn signal_in_whole(reference1: &[u16], sizes1: Counts, moved: Move, signal: u16) -> u16
-    requires { ReferenceLoaded sizes1 reference1.now × (moved.inputs ≤ sizes1.outputs) × (moved.start + signal < 0x10000) }
-    ensures { result ≡ signal_moved (reference_in sizes1 reference1.now) moved signal }
+fn signal_in_whole(place: Place, signal: u16) -> u16
+    requires { ReferenceLoaded place.counts place.first.now × (place.moved.inputs ≤ place.counts.outputs) × (place.moved.start + signal < 0x10000) }
+    ensures { result ≡ signal_moved (reference_in place.entry.counts place.entry.first.now) place.entry.moved signal }
 {
     let n = signal as usize;
-    let inputs = moved.inputs;
+    let inputs = place.moved.inputs;
     if n < inputs {
-        return circuit::form::signal_of(reference1, sizes1, n);
+        return circuit::form::signal_of(place.first, place.counts, n);
     }
-    (moved.start + (n - inputs)) as u16
+    (place.moved.start + (n - inputs)) as u16
 }
 
 // Gate k of a part, at a place of a buffer; a NOT has FFFF for its second operand.
@@ -186,82 +149,50 @@ fn put_operation(
     reference: &[u16],
     sizes: Counts,
     k: usize,
-    reference1: &[u16],
-    sizes1: Counts,
-    moved: Move,
+    place: Place,
 )
-    requires { ReferenceLoaded sizes reference.now × ReferenceMoves sizes sizes1 reference1.now moved × (k < sizes.gates)
+    requires { ReferenceLoaded sizes reference.now × ReferenceMoves sizes place.counts place.first.now place.moved × (k < sizes.gates)
         × (at + 6 ≤ length buffer.old) }
     ensures { Put buffer.old at (writing.write_item file.Reference
-        (writing.gate (operation_moved (reference_in sizes1 reference1.now) moved
+        (writing.gate (operation_moved (reference_in place.entry.counts place.entry.first.now) place.entry.moved
         (operator_in reference.now k)))) buffer.new }
 {
     let operation = circuit::form::operation_of(reference, sizes, k) as u8;
     let operands = circuit::form::operands_of(reference, sizes, k);
-    let a = signal_in_whole(reference1, sizes1, moved, operands.a);
+    let a = signal_in_whole(place, operands.a);
     if operation == 1 {
         write_command::put_reference_gate(buffer, at, operation, a, 0xFFFF);
     } else {
-        let b = signal_in_whole(reference1, sizes1, moved, operands.b);
+        let b = signal_in_whole(place, operands.b);
         write_command::put_reference_gate(buffer, at, operation, a, b);
     }
 }
 
 // All gates of a part.
-fn put_operations(
-    buffer: &mut [u8],
-    at: usize,
-    reference: &[u16],
-    sizes: Counts,
-    reference1: &[u16],
-    sizes1: Counts,
-    moved: Move,
-)
-    requires { ReferenceLoaded sizes reference.now × ReferenceMoves sizes sizes1 reference1.now moved × (at + 6 * sizes.gates ≤ length buffer.old) }
+fn put_operations(buffer: &mut [u8], at: usize, reference: &[u16], sizes: Counts, place: Place)
+    requires { ReferenceLoaded sizes reference.now × ReferenceMoves sizes place.counts place.first.now place.moved
+        × (at + 6 * sizes.gates ≤ length buffer.old) }
     ensures { Put buffer.old at (bytes_of file.Reference writing.gate
-        (map (operation_moved (reference_in sizes1 reference1.now) moved)
+        (map (operation_moved (reference_in place.entry.counts place.entry.first.now) place.entry.moved)
         (operators_in sizes reference.now))) buffer.new }
 {
-    let count = sizes.gates;
-    let mut k: usize = 0;
-    while k < count {
-        put_operation(
-            buffer,
-            at + 6 * k,
-            reference,
-            sizes,
-            k,
-            reference1,
-            sizes1,
-            moved,
-        );
-        k += 1;
+    for k in 0..sizes.gates {
+        put_operation(buffer, at + 6 * k, reference, sizes, k, place);
     }
 }
 
 // The outputs of a part.
-fn put_signals(
-    buffer: &mut [u8],
-    at: usize,
-    reference: &[u16],
-    sizes: Counts,
-    reference1: &[u16],
-    sizes1: Counts,
-    moved: Move,
-)
-    requires { ReferenceLoaded sizes reference.now × ReferenceMoves sizes sizes1 reference1.now moved
+fn put_signals(buffer: &mut [u8], at: usize, reference: &[u16], sizes: Counts, place: Place)
+    requires { ReferenceLoaded sizes reference.now × ReferenceMoves sizes place.counts place.first.now place.moved
         × (at + 3 * sizes.outputs ≤ length buffer.old) }
     ensures { Put buffer.old at (bytes_of file.Reference signal_item
-        (map (signal_moved (reference_in sizes1 reference1.now) moved) (signals_in
+        (map (signal_moved (reference_in place.entry.counts place.entry.first.now) place.entry.moved) (signals_in
         sizes reference.now))) buffer.new }
 {
-    let count = sizes.outputs;
-    let mut j: usize = 0;
-    while j < count {
+    for j in 0..sizes.outputs {
         let own = circuit::form::signal_of(reference, sizes, j);
-        let signal = signal_in_whole(reference1, sizes1, moved, own);
+        let signal = signal_in_whole(place, own);
         write_command::put_reference_output(buffer, at + 3 * j, signal);
-        j += 1;
     }
 }
 
@@ -292,13 +223,21 @@ pub fn put_stage(buffer: &mut [u8], code1: &[u16], counts1: Counts, code2: &[u16
         (joined_stage (stage_in counts1 code1.now) (stage_in counts2 code2.now)))
         buffer.new }
 {
-    let stays = Move {
-        inputs: 0,
-        start: 0,
+    let stays = Place {
+        first: code1,
+        counts: counts1,
+        moved: Move {
+            inputs: 0,
+            start: 0,
+        },
     };
-    let moved = Move {
-        inputs: counts2.inputs,
-        start: 2 * counts1.inputs + counts1.gates,
+    let follows = Place {
+        first: code1,
+        counts: counts1,
+        moved: Move {
+            inputs: counts2.inputs,
+            start: 2 * counts1.inputs + counts1.gates,
+        },
     };
     let gates = 2 + 3 * counts1.care;
     let gates2 = gates + 10 * counts1.gates;
@@ -306,9 +245,9 @@ pub fn put_stage(buffer: &mut [u8], code1: &[u16], counts1: Counts, code2: &[u16
     let end = outputs + 5 * counts2.outputs;
     write_command::put_inputs(buffer, 0, counts1.inputs);
     put_care_words(buffer, 2, code1, counts1);
-    put_gates(buffer, gates, code1, counts1, code1, counts1, stays);
-    put_gates(buffer, gates2, code2, counts2, code1, counts1, moved);
-    put_outputs(buffer, outputs, code2, counts2, code1, counts1, moved);
+    put_gates(buffer, gates, code1, counts1, stays);
+    put_gates(buffer, gates2, code2, counts2, follows);
+    put_outputs(buffer, outputs, code2, counts2, follows);
     write_command::put_end(buffer, end);
 }
 
@@ -326,24 +265,28 @@ pub fn put_reference(
     ensures { Put buffer.old 0 (writing.write_reference
         (joined_reference (reference_in sizes1 reference1.now) (reference_in sizes2 reference2.now))) buffer.new }
 {
-    let stays = Move {
-        inputs: 0,
-        start: 0,
+    let stays = Place {
+        first: reference1,
+        counts: sizes1,
+        moved: Move {
+            inputs: 0,
+            start: 0,
+        },
     };
-    let moved = Move {
-        inputs: sizes2.inputs,
-        start: sizes1.inputs + sizes1.gates,
+    let follows = Place {
+        first: reference1,
+        counts: sizes1,
+        moved: Move {
+            inputs: sizes2.inputs,
+            start: sizes1.inputs + sizes1.gates,
+        },
     };
     let gates2 = 2 + 6 * sizes1.gates;
     let outputs = gates2 + 6 * sizes2.gates;
     let end = outputs + 3 * sizes2.outputs;
     write_command::put_inputs(buffer, 0, sizes1.inputs);
-    put_operations(buffer, 2, reference1, sizes1, reference1, sizes1, stays);
-    put_operations(
-        buffer, gates2, reference2, sizes2, reference1, sizes1, moved,
-    );
-    put_signals(
-        buffer, outputs, reference2, sizes2, reference1, sizes1, moved,
-    );
+    put_operations(buffer, 2, reference1, sizes1, stays);
+    put_operations(buffer, gates2, reference2, sizes2, follows);
+    put_signals(buffer, outputs, reference2, sizes2, follows);
     write_command::put_end(buffer, end);
 }

@@ -69,24 +69,22 @@ fn put_word(buffer: &mut [u8], at: usize, word: u16, high: u16, between: u8, aft
 }
 
 // The first so many words of a report.
-fn put_words<'a>(
+fn put_words(
     buffer: &mut [u8],
     start: usize,
-    names: &'a [u16],
-    highs: &'a [u16],
+    names: &[u16],
+    highs: &[u16],
     words: usize,
     between: u8,
     after: u8,
 ) -> usize
-    requires { (start + 12 * length highs.now ≤ length buffer.old) × (length names.now ≡ length highs.now) }
+    requires { start + 12 * length highs.now ≤ length buffer.old }
     ensures { PutWithin (12 * length highs.now) buffer.old start
         (lines.word_texts between after (take words names.now) (take words highs.now)) buffer.new result }
 {
     let mut at = start;
-    let mut k: usize = 0;
-    while k < highs.len() && k < words {
-        at = put_word(buffer, at, names[k], highs[k], between, after);
-        k += 1;
+    for (name, high) in names.iter().zip(highs).take(words) {
+        at = put_word(buffer, at, *name, *high, between, after);
     }
     at
 }

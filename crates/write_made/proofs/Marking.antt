@@ -1,5 +1,6 @@
 -- Marks of the signals that lead to an output, as the loops set them: what is to be marked yet gives all; a row may be longer than the signals.
 -- Assumes nothing.
+use Rattle.std.specs.Prelude.{Option, Some}
 use Prim.Native.Nat.{ℕ, zero, suc, ◌+◌, ◌-◌, ◌≤◌, ◌<◌}
 use native.Mathlib.Omega.{arith}
 use native.Mathlib.Numerals.{add-one}
@@ -10,8 +11,6 @@ use lib.ListN.{length, set, take, drop, replicate, length-set}
 use lib.Dec.{eqb}
 use borrow.Author.Tests.{eq-eqb, ne_eqb}
 use Rattle.netlist.specs.declared.Counts.{Counts}
-use Rattle.netlist.specs.declared.Found.{Found}
-use Rattle.netlist.specs.declared.Found.TheVariants.{At}
 use Rattle.netlist.specs.Content.{Coded}
 use Rattle.netlist.specs.Formed.{ReferenceFormed}
 use Rattle.verdict.specs.Rows.{high}
@@ -158,7 +157,7 @@ least-same : (f g : ℕ → Bool) (j m : ℕ) → ((i : ℕ) → j ≤ i → i <
 unfolding first numbers
 least-same f g j zero h = refl
 least-same f g j (suc m) h =
-    ap₂ (λ (b : Bool) (x : Found). cond b (At j) x) (h j (omega arith) (omega arith)) (least-same f g (suc j) m (λ i l u. h i (omega arith) (omega arith)))
+    ap₂ (λ (b : Bool) (x : Option ℕ). cond b (Some j) x) (h j (omega arith) (omega arith)) (least-same f g (suc j) m (λ i l u. h i (omega arith) (omega arith)))
 
 -- among the marks, in a row of at least as many signals
 pub nowhere_in : (c : Counts) (code : List ℕ) → ReferenceFormed reference_limits (reference_in c code) → (size : ℕ) → c.inputs + c.gates ≤ size → (between marks : List ℕ)

@@ -6,7 +6,7 @@ use Rattle.check_spec.specs.Loaded.{from_reference}
 use Rattle.make_spec.specs.Make.{Built, realize}
 use Rattle.circuit.specs.Stage.{tabulate}
 use Rattle.circuit.specs.Reference.{operation_in, operand_in, reference_in}
-use Rattle.write_made.specs.declared.Rails.{Rails}
+use Rattle.circuit.specs.declared.form.Rails.{Rails}
 
 abbrev pub content_in : Counts → List ℕ → Content
 content_in c code = from_reference (reference_in c code)

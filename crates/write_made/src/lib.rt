@@ -17,7 +17,8 @@ ghost use Rattle.write_command.specs.Put.{Put};
 ghost use Rattle.write_command.specs.Parts.{bytes_of};
 ghost use Rattle.write_made.specs.Rails.{content_in, pair_of, pair_stored, becomes};
 
-use netlist::{Counts, Found};
+use circuit::form::Rails;
+use netlist::Counts;
 
 // ---- 25: signals that are no output and lead to none
 
@@ -26,12 +27,9 @@ fn mark_outputs(reference: &[u16], sizes: Counts, marks: &mut [u8])
     requires { ReferenceLoaded sizes reference.now × (sizes.inputs + sizes.gates ≤ length marks.old) }
     ensures { marks.new ≡ marked marks.old (signals_in sizes reference.now) }
 {
-    let count = sizes.outputs;
-    let mut j: usize = 0;
-    while j < count {
+    for j in 0..sizes.outputs {
         let signal = circuit::form::signal_of(reference, sizes, j) as usize;
         marks[signal] = 1;
-        j += 1;
     }
 }
 
@@ -55,9 +53,7 @@ fn mark_leading(reference: &[u16], sizes: Counts, marks: &mut [u8])
     ensures { marks.new ≡ marked_from sizes.inputs (operators_in sizes reference.now) marks.old }
 {
     let inputs = sizes.inputs;
-    let mut k = sizes.gates;
-    while 0 < k {
-        k -= 1;
+    for k in (0..sizes.gates).rev() {
         if 0 < marks[inputs + k] {
             mark_operands(reference, sizes, k, marks);
         }
@@ -65,23 +61,20 @@ fn mark_leading(reference: &[u16], sizes: Counts, marks: &mut [u8])
 }
 
 // The least of the first signals that is not marked.
-fn unmarked(marks: &[u8], count: usize) -> Found
+fn unmarked(marks: &[u8], count: usize) -> Option<usize>
     requires { count ≤ length marks.now }
     ensures { result ≡ least (λ x. not (high marks.now x)) 0 count }
 {
-    let mut x: usize = 0;
-    while x < count {
-        if 0 < marks[x] {
-            x += 1;
-        } else {
-            return Found::At(x);
+    for x in 0..count {
+        if marks[x] == 0 {
+            return Some(x);
         }
     }
-    Found::Nothing
+    None
 }
 
 // The least signal that is no output and leads to none.
-pub fn leading_nowhere(reference: &[u16], sizes: Counts) -> Found
+pub fn leading_nowhere(reference: &[u16], sizes: Counts) -> Option<usize>
     requires { ReferenceLoaded sizes reference.now × ReferenceFormed reference_limits (reference_in sizes reference.now) }
     ensures { result ≡ least (λ x. not (leads_out (content_in sizes reference.now) x)) 0 (sizes.inputs + sizes.gates) }
 {
@@ -99,9 +92,7 @@ pub fn operation_count(reference: &[u16], sizes: Counts) -> usize
     ensures { (result ≡ operations (operators_in sizes reference.now)) × (result ≤ sizes.gates) }
 {
     let mut count: usize = 0;
-    let mut k = sizes.gates;
-    while 0 < k {
-        k -= 1;
+    for k in (0..sizes.gates).rev() {
         if circuit::form::operation_of(reference, sizes, k) != 1 {
             count += 1;
         }
@@ -110,13 +101,6 @@ pub fn operation_count(reference: &[u16], sizes: Counts) -> usize
 }
 
 // ---- one operation as gates
-
-// The nets of a signal's two rails.
-#[derive(Clone, Copy)]
-pub struct Rails {
-    pub rail0: u16,
-    pub rail1: u16,
-}
 
 // The rails of a signal.
 pub fn rails_of(rails: &[u16], signal: u16) -> Rails
@@ -131,7 +115,7 @@ pub fn rails_of(rails: &[u16], signal: u16) -> Rails
 }
 
 // The rails of an operation's result, where the next gate drives net `next`: NOT swaps the rails of its operand; AND and NOR have rail 1 first,
-// the others rail 0.
+// the others rail 0. Two arms are alike: behind an arm of two numbers the last one does not know that it is neither.
 fn result_rails(operation: u16, a: Rails, next: u16) -> Rails
     requires { (1 ≤ operation) × (operation ≤ 6) × (next < 0xFFFF) }
     ensures { (b : Rails) → pair_of result ∷ [] ≡ (realize operation (pair_of a) (pair_of b) next).rails }
@@ -176,7 +160,7 @@ fn put_xor(buffer: &mut [u8], at: usize, a0: u16, b0: u16, a1: u16, b1: u16)
     write_command::put_stage_gate(buffer, at + 10, 27, a0, b0, a1, b1);
 }
 
-// The two gates of an operation that is not NOT. NAND and NOR have the gates of AND and OR.
+// The two gates of an operation that is not NOT. NAND and NOR have the gates of AND and OR; NAND has an arm of its own, as in `result_rails`.
 fn put_operation(buffer: &mut [u8], at: usize, operation: u16, a: Rails, b: Rails)
     requires { (2 ≤ operation) × (operation ≤ 6) × (at + 20 ≤ length buffer.old) }
     ensures { (next : ℕ) → Put buffer.old at (bytes_of file.Stage writing.gate (realize operation (pair_of a) (pair_of b) next).gates)

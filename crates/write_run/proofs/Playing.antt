@@ -1,11 +1,11 @@
 -- A run that is played and put into a list, one net after the other. Assumes nothing.
+use Rattle.std.specs.Prelude.{Some, None}
 use Prim.Native.Nat.{ℕ, suc, ◌+◌, ◌-◌, ◌≤◌, ◌<◌}
 use native.Mathlib.Omega.{arith}
 use mathlib.Core.Path.{◌≡◌, ap, ◌∙◌}
 use mathlib.Core.List.{List, ◌∷◌}
 use lib.ListN.{length, set}
 use Rattle.runs.specs.Row.{Row, Rule, toggle}
-use Rattle.netlist.specs.declared.Found.TheVariants.{At, Nothing}
 use Rattle.run_spec.specs.Played.{played}
 use Rattle.run_spec.proofs.Played.{NextIs, played_none, played_next, played_few}
 use Rattle.write_run.specs.Listing.{ListedRun}
@@ -48,11 +48,11 @@ module _ (can : Rule) (key : ℕ → ℕ) (n : ℕ) where
         let z : l.steps ≡ 0 = omega (arith, l.steps_are) in
         listing_done more n before start r₀ list count r l (ap (λ (m : ℕ). more m r) z)
 
-    pub playing_none : NextIs key (can r) n Nothing → ListedRun (more n r₀) before start r₀ count list r
+    pub playing_none : NextIs key (can r) n None → ListedRun (more n r₀) before start r₀ count list r
     playing_none next = listing_done more n before start r₀ list count r l (played_none can key n l.steps r next)
 
     -- the next net switches
-    module _ (k : ℕ) (next : NextIs key (can r) n (At k)) (left : count < start + n) where
+    module _ (k : ℕ) (next : NextIs key (can r) n (Some k)) (left : count < start + n) where
       steps_left : l.steps ≡ suc (l.steps - 1)
       steps_left = omega (arith, l.steps_are)
 

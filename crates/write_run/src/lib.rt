@@ -12,15 +12,12 @@ pub struct Lengths {
 }
 
 // A run is written at the start of a list that has room for it; a list too short is left as it was.
+#[tactic(auto, unfolding(run_spec::specs::Played::handed_out))]
 pub fn hand_out(run: &[u16], list: &mut [u16])
     ensures { list.new ≡ handed_out run.now list.old }
 {
     if list.len() < run.len() {
         return;
     }
-    let mut i: usize = 0;
-    while i < run.len() {
-        list[i] = run[i];
-        i += 1;
-    }
+    list[..run.len()].copy_from_slice(run);
 }

@@ -1,5 +1,5 @@
 -- `call_draw::put_gates` meets its contract. The loop's invariant: the gates before gate k are drawn, put and marked. Assumes nothing.
-use Rattle.std.proofs.Common.{◌-◌, arith}
+use Rattle.std.proofs.Common.{arith}
 use Rattle.write_command.proofs.Items.{items_long}
 use Rattle.call_draw.proofs.Turns.{gates_start, marks_start, gates_room, gates_turn, marks_turn, gates_put, gates_marked}
 use Rattle.call_draw.proofs.put_gates.Goals as goal

@@ -1,5 +1,5 @@
 -- `call_draw::put_outputs` meets its contract. The loop's invariant: the signals before signal x are passed. Assumes nothing.
-use Rattle.std.proofs.Common.{◌-◌, ⊎_elim, arith}
+use Rattle.std.proofs.Common.{arith}
 use Rattle.call_draw.proofs.Turns.{outputs_start, outputs_room, outputs_put_holds, outputs_passed, outputs_done}
 use Rattle.call_draw.proofs.put_outputs.Goals as goal
 use Rattle.call_draw.proofs.put_outputs.Goals.{then-marks-x-eq0, else-marks-x-eq0}

@@ -1,6 +1,8 @@
 -- `call_join::join_loaded` meets its contract: each way out is a step of the checks 22, 23 and 24. Assumes nothing.
 use native.Mathlib.Omega.{arith}
-use mathlib.Core.Path.{refl, sym, ◌∙◌}
+use mathlib.Core.Path.{sym, ap, ◌∙◌}
+use Rattle.verdict.specs.declared.Verdict.{Verdict}
+use Rattle.call_join.specs.Steps.{answer_with}
 use mathlib.Core.Logic.{inl, inr}
 use lib.ListN.{length}
 use Rattle.call_join.proofs.Joining.{leaves_refused, seam_22, leaves_uncared, leaves_short, leaves_written}
@@ -46,11 +48,11 @@ returns-then-counts1-counts2 c =
     λ one two held. leaves_refused _ _ _ _ (seam_22 a.order a.counts a.code1.now a.reference1.now a.code2.now a.reference2.now c.requires one two held _ _ c.if-counts1-counts2.true)
     (λ q. omega arith) c.refusal.ensures
 
-pub returns-in-Fault : goal.returns-in-Fault
-returns-in-Fault c =
+pub returns-in-Err : goal.returns-in-Err
+returns-in-Err c =
     let a = c.args in
     λ one two held. leaves_uncared a.order a.counts a.code1.now a.reference1.now a.code2.now a.reference2.now c.requires one two held _ _
-    (omega (arith, c.if-counts1-counts2.false)) _ (sym c.in-Fault.is ∙ c.uncared.ensures) _ _ c.refusal-in-Fault.ensures
+    (omega (arith, c.if-counts1-counts2.false)) _ (sym c.in-Err.is ∙ c.uncared.ensures) _ _ c.refusal-in-Err.ensures
 
 pub returns-then-stage_out-stage_count : goal.returns-then-stage_out-stage_count
 returns-then-stage_out-stage_count c =
@@ -58,7 +60,8 @@ returns-then-stage_out-stage_count c =
     λ one two held. leaves_short a.order a.counts a.code1.now a.reference1.now a.code2.now a.reference2.now c.requires one two held (length a.stage_out.now) (length a.reference_out.now)
     (omega (arith, c.if-counts1-counts2.false))
     (sym c.in_default.is ∙ c.uncared.ensures)
-    (inl (omega (arith, c.stage_length-stage_count.ensures a.code1.now a.code2.now, c.if-stage_out-stage_count.true))) _ _ c.refusal-then-stage_out-stage_count.ensures
+    (inl (omega (arith, c.stage_length-stage_count.ensures a.code1.now a.code2.now, c.if-stage_out-stage_count.true))) _ _
+    (c.refusal-then-stage_out-stage_count.ensures ∙ ap (λ (v : Verdict). answer_with v 0 0) c.fault.ensures)
 
 pub returns-then-reference_out-reference_count : goal.returns-then-reference_out-reference_count
 returns-then-reference_out-reference_count c =
@@ -66,7 +69,8 @@ returns-then-reference_out-reference_count c =
     λ one two held. leaves_short a.order a.counts a.code1.now a.reference1.now a.code2.now a.reference2.now c.requires one two held (length a.stage_out.now) (length a.reference_out.now)
     (omega (arith, c.if-counts1-counts2.false))
     (sym c.in_default.is ∙ c.uncared.ensures)
-    (inr (omega (arith, c.reference_length-reference_count.ensures a.reference1.now a.reference2.now, c.if-reference_out-reference_count.true))) _ _ c.refusal-then-reference_out-reference_count.ensures
+    (inr (omega (arith, c.reference_length-reference_count.ensures a.reference1.now a.reference2.now, c.if-reference_out-reference_count.true))) _ _
+    (c.refusal-then-reference_out-reference_count.ensures ∙ ap (λ (v : Verdict). answer_with v 0 0) c.fault-then-reference_out-reference_count.ensures)
 
 pub returns : goal.returns
 returns c =
@@ -79,5 +83,5 @@ returns c =
     (omega (arith, c.if-counts1-counts2.false))
     (sym c.in_default.is
     ∙ c.uncared.ensures)
-    (omega (arith, m, l)) (omega (arith, k, l')) _ refl m k
+    (omega (arith, m, l)) (omega (arith, k, l')) _ c.accepted.ensures m k
     c.put_stage.ensures (omega (arith, m, l)) c.put_reference.ensures (omega (arith, k, l'))

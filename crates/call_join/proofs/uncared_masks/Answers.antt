@@ -44,13 +44,13 @@ uncared_words-requires c =
     )
 
 pub bounds-masks-b : goal.bounds-masks-b
-bounds-masks-b c = omega (arith, c.block_count-count.ensures.0)
+bounds-masks-b c = omega (arith, c.block_count-b-end.ensures.0)
 
 pub loop-b-preserved : goal.loop-b-preserved
 loop-b-preserved c =
     let signals = c.signal_lanes in
     let l = c.loop-b in
-    let count = c.block_count-count.ensures in
+    let count = c.block_count-b-end.ensures in
     let r = reference_in c.args.sizes1 c.args.reference1.now in
     let t = stage_in c.args.counts2 c.args.code2.now in (
       signals.ensures.long ∙ l.invariant.0,
@@ -65,5 +65,5 @@ loop-b-preserved c =
 pub returns : goal.returns
 returns c =
     let l = c.loop-b in
-    let count = c.block_count-count.ensures in
+    let count = c.block_count-b-end.ensures in
     blocks_done _ _ _ l.masks l.b (omega (arith, count.1)) (omega (arith, count.0, l.invariant.1, l.invariant.2)) l.invariant.3

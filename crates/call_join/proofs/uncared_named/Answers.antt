@@ -12,35 +12,35 @@ use Rattle.call_join.proofs.Answers.{cared_under, uncared_under_holds}
 use Rattle.call_join.proofs.Masks.{unnamed_cared, named_uncared}
 use Rattle.call_join.proofs.uncared_named.Goals as goal
 
-pub loop-k-init : goal.loop-k-init
-loop-k-init c = λ function second n. swept_start _ _ _ _
+pub loop-name-init : goal.loop-name-init
+loop-name-init c = λ function second n. swept_start _ _ _ _
 
 pub word_of-w-requires : goal.word_of-w-requires
 word_of-w-requires c = c.requires.0
 
 pub returns-then-is_named : goal.returns-then-is_named
 returns-then-is_named c =
-    let name = get_or c.args.list.now c.loop-k.k 0 in
+    let name = get_or c.args.list.now c.loop-name.name-index 0 in
     let w = spelled c.args.order c.args.inputs name in
-    let below : w < 2 ^ c.args.inputs = spelled_below c.args.order c.args.inputs name (c.requires.1 c.loop-k.k (omega arith)) in
+    let below : w < 2 ^ c.args.inputs = spelled_below c.args.order c.args.inputs name (c.requires.1 c.loop-name.name-index (omega arith)) in
     λ function second n.
-    swept_here 23 0 (uncared_under c.args.order c.args.inputs function second) c.args.list.now c.loop-k.k (omega arith)
-    (c.loop-k.invariant function second n) 0 _ refl
+    swept_here 23 0 (uncared_under c.args.order c.args.inputs function second) c.args.list.now c.loop-name.name-index (omega arith)
+    (c.loop-name.invariant function second n) 0 _ refl
     (uncared_under_holds c.args.order c.args.inputs function second name
     (named_uncared c.args.inputs function second c.args.masks.now n w below c.is_named.result c.if-is_named.true
     (λ u. c.is_named.ensures.1 (subst (Unnamed c.args.masks.now) (sym c.word_of-w.ensures) u))))
 
-pub loop-k-preserved : goal.loop-k-preserved
-loop-k-preserved c =
-    let name = get_or c.args.list.now c.loop-k.k 0 in
+pub loop-name-preserved : goal.loop-name-preserved
+loop-name-preserved c =
+    let name = get_or c.args.list.now c.loop-name.name-index 0 in
     let w = spelled c.args.order c.args.inputs name in
-    let below : w < 2 ^ c.args.inputs = spelled_below c.args.order c.args.inputs name (c.requires.1 c.loop-k.k (omega arith)) in
+    let below : w < 2 ^ c.args.inputs = spelled_below c.args.order c.args.inputs name (c.requires.1 c.loop-name.name-index (omega arith)) in
     λ function second n.
-    swept_on 23 0 (uncared_under c.args.order c.args.inputs function second) c.args.list.now c.loop-k.k (omega arith)
-    (c.loop-k.invariant function second n)
+    swept_on 23 0 (uncared_under c.args.order c.args.inputs function second) c.args.list.now c.loop-name.name-index (omega arith)
+    (c.loop-name.invariant function second n)
     (cared_under c.args.order c.args.inputs function second name
     (unnamed_cared c.args.inputs function second c.args.masks.now n w below
     (subst (Unnamed c.args.masks.now) c.word_of-w.ensures (c.is_named.ensures.0 c.if-is_named.false))))
 
 pub returns : goal.returns
-returns c = λ function second n. swept_none _ _ _ _ c.loop-k.k (omega arith) (c.loop-k.invariant function second n)
+returns c = λ function second n. swept_none _ _ _ _ c.loop-name.name-index (omega arith) (c.loop-name.invariant function second n)

@@ -10,7 +10,7 @@ use Rattle.call_join.proofs.word_answered.Goals as goal
 
 pub loop-k-init : goal.loop-k-init
 loop-k-init c =
-    (omega arith, word_none (value_in c.args.values.now c.args.j) (signal_in c.args.sizes c.args.reference.now) c.args.sizes.outputs)
+    word_none (value_in c.args.values.now c.args.j) (signal_in c.args.sizes c.args.reference.now) c.args.sizes.outputs
 
 pub lanes_at-requires : goal.lanes_at-requires
 lanes_at-requires c = omega (arith, c.signal_of-signal.ensures.there, c.requires.1)
@@ -21,7 +21,7 @@ overflow_mul-word c =
     let value = value_in c.args.values.now c.args.j in
     omega (
       arith,
-      l.invariant.1,
+      l.invariant,
       word_few value (signal_in c.args.sizes c.args.reference.now) c.args.sizes.outputs l.k (value_small c.args.values.now c.args.j)
           (omega (arith, c.requires.0.within.outputs_in_holds)),
     )
@@ -32,7 +32,7 @@ overflow_add-word c =
     let value = value_in c.args.values.now c.args.j in
     omega (
       arith,
-      l.invariant.1,
+      l.invariant,
       word_few value (signal_in c.args.sizes c.args.reference.now) c.args.sizes.outputs l.k (value_small c.args.values.now c.args.j)
           (omega (arith, c.requires.0.within.outputs_in_holds)),
     )
@@ -44,16 +44,13 @@ loop-k-preserved c =
     let value = value_in c.args.values.now c.args.j in
     let is : level_in c.args.j c.lanes_at.result ≡ value (signal_in c.args.sizes c.args.reference.now (l.k - 1)) =
     ap (level_in c.args.j) c.lanes_at.ensures ∙ sym (level_at c.args.j c.args.values.now c.signal_of-signal.result)
-    ∙ ap value c.signal_of-signal.ensures.is in (
-      omega arith,
-      ap (λ (x : ℕ). x + 2 * l.word) is
-          ∙ word_more value (signal_in c.args.sizes c.args.reference.now) c.args.sizes.outputs l.k l.word (omega arith) l.invariant.0
-          l.invariant.1,
-    )
+    ∙ ap value c.signal_of-signal.ensures.is in
+    ap (λ (x : ℕ). x + 2 * l.word) is
+    ∙ word_more value (signal_in c.args.sizes c.args.reference.now) c.args.sizes.outputs l.k l.word (omega arith) (omega arith) l.invariant
 
 pub returns : goal.returns
 unfolding signals_in
 returns c =
     let l = c.loop-k in
     let e : l.k ≡ 0 = omega arith in
-    l.invariant.1 ∙ ap (word_from (value_in c.args.values.now c.args.j) (signal_in c.args.sizes c.args.reference.now) c.args.sizes.outputs) e
+    l.invariant ∙ ap (word_from (value_in c.args.values.now c.args.j) (signal_in c.args.sizes c.args.reference.now) c.args.sizes.outputs) e

@@ -1,7 +1,7 @@
 -- `call_keys::list_by_keys` meets its contract. The loop's invariant: what has switched is listed. Assumes nothing.
-use Prim.Native.Nat.{◌-◌}
+use Prim.Native.Nat.{◌+◌, ◌*◌}
 use native.Mathlib.Omega.{arith}
-use mathlib.Core.Path.{refl}
+use mathlib.Core.Path.{◌≡◌, refl}
 use Rattle.circuit_steps.specs.Moves.{moves, loaded_net, row_in}
 use Rattle.run_spec.specs.Keys.{key_in}
 use Rattle.call_keys.proofs.Steps.{walk_start, walk_long, walk_full, walk_none, is_net_holds, walk_room, walk_turn}
@@ -51,14 +51,6 @@ bounds-list-count c =
     let l = c.loop-count in
     walk_room c.args.counts c.args.code.now (moves (loaded_net c.args.counts c.args.code.now) (row_in c.args.counts c.args.goal.now)) (key_in c.args.keys.now) _ _ _ _ l.invariant.0 _ c.next_by_key-net.ensures c.if-net-nets.false (omega (arith, c.loop-count-test.true))
 
-pub overflow_add-count : goal.overflow_add-count
-overflow_add-count c =
-    let l = c.loop-count in
-    omega (arith, walk_room c.args.counts c.args.code.now (moves (loaded_net c.args.counts c.args.code.now) (row_in c.args.counts c.args.goal.now)) (key_in c.args.keys.now) _ _ _ _ l.invariant.0 _ c.next_by_key-net.ensures c.if-net-nets.false (omega (arith, c.loop-count-test.true)))
-
-pub loop-count-smaller : goal.loop-count-smaller
-loop-count-smaller c = omega (arith, c.loop-count-test.true)
-
 pub loop-count-preserved : goal.loop-count-preserved
 loop-count-preserved c =
     let l = c.loop-count in
@@ -73,5 +65,7 @@ shape_of-list c =
 
 pub returns : goal.returns
 returns c =
-    let w = c.loop-count.invariant.0 in
-    record { row = w.row_for_holds; listed = walk_full c.args.counts c.args.code.now (moves (loaded_net c.args.counts c.args.code.now) (row_in c.args.counts c.args.goal.now)) (key_in c.args.keys.now) _ _ _ _ w (omega (arith, c.loop-count-test.false)) }
+    let l = c.loop-count in
+    let w = l.invariant.0 in
+    let e : l.count ≡ c.args.start + (2 * c.args.counts.inputs + c.args.counts.gates) = omega arith in
+    record { row = w.row_for_holds; listed = rw (← e) (walk_full c.args.counts c.args.code.now (moves (loaded_net c.args.counts c.args.code.now) (row_in c.args.counts c.args.goal.now)) (key_in c.args.keys.now) _ _ _ _ w (omega (arith, c.loop-count-test.false))) }

@@ -1,5 +1,5 @@
 -- `call_keys::next_by_key` meets its contract. The loop's invariant: of the nets that were looked at, the best is known. Assumes nothing.
-use Prim.Native.Nat.{ℕ, ◌-◌}
+use Prim.Native.Nat.{ℕ}
 use native.Mathlib.Omega.{arith}
 use mathlib.Core.Path.{◌≡◌, sym, ◌∙◌, subst}
 use Rattle.circuit.specs.Stage.{net_count}

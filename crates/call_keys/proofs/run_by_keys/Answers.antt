@@ -7,15 +7,15 @@ use Rattle.call_keys.proofs.run_by_keys.Goals as goal
 pub run_stage-requires : goal.run_stage-requires
 run_stage-requires c =
     let o = c.open_stage.ensures c.args.keys.now refl in
-    let e = c.in-Opened.is in
+    let e = c.in-Ok.is in
     ((opened_by o _ e).0.loaded, opened_fits o _ e)
 
-pub returns-in-Refused : goal.returns-in-Refused
-returns-in-Refused c =
+pub returns-in-Err : goal.returns-in-Err
+returns-in-Err c =
     by_refusal c.args.order c.args.stage.now c.args.name c.args.keys.now _ _
-    (refused_by (c.open_stage.ensures c.args.keys.now refl) _ c.in-Refused.is) _ refl
+    (refused_by (c.open_stage.ensures c.args.keys.now refl) _ c.in-Err.is) _ refl
 
-pub returns-in-Opened : goal.returns-in-Opened
-returns-in-Opened c =
+pub returns-in-Ok : goal.returns-in-Ok
+returns-in-Ok c =
     by_run c.args.order c.args.stage.now c.args.name c.args.keys.now _ _ _
-    (opened_by (c.open_stage.ensures c.args.keys.now refl) _ c.in-Opened.is) _ _ c.run_stage.ensures
+    (opened_by (c.open_stage.ensures c.args.keys.now refl) _ c.in-Ok.is) _ _ c.run_stage.ensures

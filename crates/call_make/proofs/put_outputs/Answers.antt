@@ -22,27 +22,12 @@ room_at g m p l = put_room file.Stage output 5 stage_output_width g m p l
 pub loop-j-init : goal.loop-j-init
 loop-j-init c = put-start file.Stage output 5 stage_output_width _ _ _ _ c.requires.2
 
-pub rails_of-pair-requires : goal.rails_of-pair-requires
-rails_of-pair-requires c = omega (arith, c.signal_of-signal.ensures.there, c.requires.1)
-
-pub overflow_mul-j : goal.overflow_mul-j
-overflow_mul-j c = let room = room_at _ _ c.loop-j.invariant c.loop-j-test.true in omega (arith, room)
-
-pub overflow_add-at : goal.overflow_add-at
-overflow_add-at c = let room = room_at _ _ c.loop-j.invariant c.loop-j-test.true in omega (arith, room)
-
-pub put_stage_output-requires : goal.put_stage_output-requires
-put_stage_output-requires c = room_at _ _ c.loop-j.invariant c.loop-j-test.true
-
 pub loop-j-preserved : goal.loop-j-preserved
 loop-j-preserved c =
     put_more file.Stage output 5 stage_output_width _ _ c.loop-j.invariant
     c.loop-j-test.true
     (put_same (ap (λ (p : List ℕ). write_item file.Stage (output p))
     (rw c.signal_of-signal.ensures.is at c.rails_of-pair.ensures)) c.put_stage_output.ensures)
-
-pub shape_of-buffer : goal.shape_of-buffer
-shape_of-buffer c = c.loop-j.invariant.items.left.long
 
 pub returns : goal.returns
 unfolding signals_in

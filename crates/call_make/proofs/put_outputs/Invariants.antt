@@ -1,5 +1,4 @@
 -- `call_make::put_outputs` meets its contract. The loop's invariant: the outputs before output j are put. Assumes nothing.
-use Prim.Native.Nat.{◌-◌}
 use Rattle.netlist.specs.declared.File.TheVariants as file
 use Rattle.netlist.specs.Writing.{output}
 use Rattle.write_made.specs.Rails.{pair_stored}
@@ -10,7 +9,4 @@ use Rattle.call_make.proofs.put_outputs.Given as goal
 
 abbrev pub invariant-loop-j : goal.invariant-loop-j
 invariant-loop-j l =
-    PutTo file.Stage output 5 (tabulate (λ i. pair_stored l.rails (signal_in l.sizes l.reference i)) l.count) l.initial.buffer l.at l.buffer l.j
-
-abbrev pub decreases-loop-j : goal.decreases-loop-j
-decreases-loop-j l = l.count - l.j
+    PutTo file.Stage output 5 (tabulate (λ i. pair_stored l.rails (signal_in l.sizes l.reference i)) l.sizes.outputs) l.initial.buffer l.at l.buffer l.j

@@ -6,11 +6,6 @@ use lib.ListN.{length-replicate}
 use Rattle.call_make.proofs.Answering.{made_long, made_put}
 use Rattle.call_make.proofs.put_stage.Goals as goal
 
-pub input_rails-requires : goal.input_rails-requires
-input_rails-requires c =
-    let p = c.requires.0.within in
-    (omega (arith, p.inputs_in, length-replicate {A = ℕ} 1044 0), omega (arith, p.inputs_in))
-
 pub put_inputs-requires : goal.put_inputs-requires
 put_inputs-requires c =
     (omega (arith, c.requires.3, made_long c.args.sizes c.args.reference.now), omega (arith, c.requires.0.within.inputs_in))
@@ -37,10 +32,6 @@ put_outputs-requires c =
       omega (arith, p.inputs_in, p.gates_in_holds, i.1, g.rails.1, length-replicate {A = ℕ} 1044 0),
       omega (arith, c.requires.3, long, c.put_inputs.ensures.long, g.count, g.put.long),
     )
-
-pub overflow_add-outputs-2 : goal.overflow_add-outputs-2
-overflow_add-outputs-2 c =
-    omega (arith, c.put_gates-made.ensures.count, c.requires.2, c.requires.0.within.outputs_in_holds)
 
 pub put_end-requires : goal.put_end-requires
 put_end-requires c =

@@ -4,13 +4,13 @@ use Rattle.call_next.specs.Steps.{FoundFree}
 use Rattle.call_next.proofs.Searching.{first_number, first_later}
 use Rattle.call_next.proofs.first_from.Goals as goal
 
-pub returns-in-At : goal.returns-in-At
-returns-in-At c =
+pub returns-in-Some : goal.returns-in-Some
+returns-in-Some c =
     first_number c.args.inputs c.args.gates c.args.number _
-    (subst (FoundFree c.args.inputs c.args.gates c.args.number) c.in-At.is c.next_number-found.ensures)
+    (subst (FoundFree c.args.inputs c.args.gates c.args.number) c.in-Some.is c.next_number-found.ensures)
 
-pub returns-in-Nothing : goal.returns-in-Nothing
-returns-in-Nothing c =
+pub returns-in-None : goal.returns-in-None
+returns-in-None c =
     first_later c.args.inputs c.args.gates c.args.number _
-    (subst (FoundFree c.args.inputs c.args.gates c.args.number) c.in-Nothing.is c.next_number-found.ensures)
+    (subst (FoundFree c.args.inputs c.args.gates c.args.number) c.in-None.is c.next_number-found.ensures)
     c.next_shape.ensures

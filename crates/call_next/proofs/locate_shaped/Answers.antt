@@ -2,6 +2,8 @@
 use native.Mathlib.Omega.{arith}
 use mathlib.Core.Path.{sym, ◌∙◌}
 use Rattle.call_next.proofs.Locating.{outside_count, outside_loop, outside_bytes, located_stage}
+use Rattle.std.proofs.lemmas.Bool.Decides.{Decides-eqb}
+use Rattle.std.proofs.lemmas.Slice.Eq.{slice_eq-Decides}
 use Rattle.call_next.proofs.locate_shaped.Goals as goal
 
 pub returns-then-stages-number : goal.returns-then-stages-number
@@ -12,17 +14,17 @@ returns-then-stages-number c =
     outside_count a.s.now a.inputs a.gates c.number_in-number.result p.0 p.1 p.2 e c.stages.result
     c.stages.ensures.0 c.if-stages-number.true
 
-pub returns-then-same_bytes : goal.returns-then-same_bytes
-returns-then-same_bytes c =
+pub returns-then-starts_with : goal.returns-then-starts_with
+returns-then-starts_with c =
     let a = c.args in
     let p = c.requires in
     let e = c.number_in-number.ensures in
     located_stage a.s.now a.inputs a.gates c.number_in-number.result
     p.0 p.1 p.2 e _
-    c.write_stage.ensures _ c.same_bytes.ensures
+    c.write_stage.ensures _ (slice_eq-Decides Decides-eqb _ _ _ c.starts_with.ensures.value)
     (omega (arith, c.stages.ensures.0))
     (sym c.loop_free.ensures ∙ c.if-loop_free.true)
-    c.if-same_bytes.true
+    c.if-starts_with.true
 
 pub returns-then-loop_free : goal.returns-then-loop_free
 returns-then-loop_free c =
@@ -31,7 +33,7 @@ returns-then-loop_free c =
     let e = c.number_in-number.ensures in
     outside_bytes a.s.now a.inputs a.gates c.number_in-number.result
     p.0 p.1 p.2 e _
-    c.write_stage.ensures _ c.same_bytes.ensures c.if-same_bytes.false
+    c.write_stage.ensures _ (slice_eq-Decides Decides-eqb _ _ _ c.starts_with.ensures.value) c.if-starts_with.false
 
 pub returns : goal.returns
 returns c =

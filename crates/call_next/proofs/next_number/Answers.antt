@@ -1,11 +1,7 @@
 -- `family::next_number` meets its contract. The loop's invariant: the numbers before z have loops. Assumes nothing.
 use native.Mathlib.Omega.{arith}
-use Prim.Native.Nat.{◌-◌}
-use Rattle.call_next.proofs.Searching.{search_start, search_passed, search_found, search_end}
+use Rattle.call_next.proofs.Searching.{search_passed, search_found, search_end}
 use Rattle.call_next.proofs.next_number.Goals as goal
-
-pub loop-z-init : goal.loop-z-init
-loop-z-init c = search_start _ _ _ _ c.stages-count.ensures.0 c.requires.1
 
 pub returns-then-loop_free : goal.returns-then-loop_free
 returns-then-loop_free c =

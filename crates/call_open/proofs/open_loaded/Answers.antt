@@ -7,9 +7,9 @@ use mathlib.Core.Logic.{inl, inr}
 use Rattle.call_open.proofs.Files.{loop-found, none_found}
 use Rattle.call_open.proofs.open_loaded.Goals as goal
 
-pub returns-in-At : goal.returns-in-At
-returns-in-At c =
-    record { by = inl (_, loop-found c.args.counts c.args.code.now _ _ c.order_gates.ensures _ c.in-At.is, refl) }
+pub returns-in-Some : goal.returns-in-Some
+returns-in-Some c =
+    record { by = inl (_, loop-found c.args.counts c.args.code.now _ _ c.order_gates.ensures _ c.in-Some.is, c.fault.ensures) }
 
 pub overflow_mul-each : goal.overflow_mul-each
 overflow_mul-each c =
@@ -19,7 +19,7 @@ overflow_mul-each c =
 
 pub returns-then-given-each : goal.returns-then-given-each
 returns-then-given-each c =
-    record { by = inr (none_found c.args.counts c.args.code.now _ _ c.order_gates.ensures c.in_default.is, c.if-given-each.true, refl) }
+    record { by = inr (none_found c.args.counts c.args.code.now _ _ c.order_gates.ensures c.in_default.is, c.if-given-each.true, c.fault-then-given-each.ensures) }
 
 pub returns : goal.returns
 returns c =

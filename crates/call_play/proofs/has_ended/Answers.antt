@@ -1,8 +1,6 @@
 -- `call_play::has_ended` meets its contract. The loop's invariant: none of the nets that were looked at may switch. Assumes nothing.
-use Prim.Native.Nat.{◌-◌}
 use native.Mathlib.Omega.{arith}
 use mathlib.Core.Path.{sym, ◌∙◌}
-use mathlib.Core.Bool.{false}
 use Rattle.circuit.specs.Stage.{net_count}
 use Rattle.circuit_steps.specs.Moves.{moves, loaded_net, row_in}
 use Rattle.run_spec.proofs.Play.{none_left_lem, some_left}

@@ -1,5 +1,5 @@
 -- `call_play::has_ended` meets its contract. The loop's invariant: none of the nets that were looked at may switch. Assumes nothing.
-use Prim.Native.Nat.{ℕ, ◌-◌, ◌≤◌, ◌<◌}
+use Prim.Native.Nat.{ℕ, ◌≤◌, ◌<◌}
 use mathlib.Core.Path.{◌≡◌}
 use mathlib.Core.Bool.{false}
 use Rattle.circuit.specs.Stage.{net_count}
@@ -9,6 +9,3 @@ use Rattle.call_play.proofs.has_ended.Given as goal
 abbrev pub invariant-loop-net : goal.invariant-loop-net
 invariant-loop-net l =
     (l.net ≤ net_count l.counts) × ((k : ℕ) → k < l.net → moves (loaded_net l.counts l.code) (row_in l.counts l.goal) (row_in l.counts l.row) k ≡ false)
-
-abbrev pub decreases-loop-net : goal.decreases-loop-net
-decreases-loop-net l = net_count l.counts - l.net

@@ -1,13 +1,11 @@
 -- `call_play::take_steps` meets its contract. The loop's invariant: so many steps were taken. Assumes nothing.
-use Prim.Native.Nat.{◌-◌}
 use native.Mathlib.Omega.{arith}
 use mathlib.Core.Path.{refl, sym, ◌∙◌}
 use lib.ListN.{get_or}
-use Rattle.runs.proofs.Test.{of_not}
 use Rattle.circuit.proofs.Settling.{length_stage_gates}
 use Rattle.circuit_steps.specs.Moves.{moves, loaded_net, row_in}
 use Rattle.circuit_steps.proofs.Rules.{moves_none}
-use Rattle.call_play.proofs.Steps.{steps_start, steps_end, steps_barred, steps_on, of_no}
+use Rattle.call_play.proofs.Steps.{steps_start, steps_end, steps_barred, steps_on}
 use Rattle.call_play.proofs.take_steps.Goals as goal
 
 pub loop-i-init : goal.loop-i-init
@@ -37,7 +35,7 @@ returns-then-not-may_switch c =
     let l = c.loop-i in
     record {
       row_for_holds = l.invariant.1;
-      steps_are = steps_barred (moves (loaded_net c.args.counts c.args.code.now) (row_in c.args.counts c.args.goal.now)) (row_in c.args.counts c.args.row.now) c.args.list.now l.i _ l.invariant.0 (omega (arith, c.loop-i-test.true)) (sym c.may_switch.ensures ∙ of_not _ c.if-not-may_switch.true-raw);
+      steps_are = steps_barred (moves (loaded_net c.args.counts c.args.code.now) (row_in c.args.counts c.args.goal.now)) (row_in c.args.counts c.args.row.now) c.args.list.now l.i _ l.invariant.0 (omega (arith, c.loop-i-test.true)) (sym c.may_switch.ensures ∙ c.if-not-may_switch.true);
       row_is = l.invariant.0.row_is;
     }
 
@@ -48,7 +46,7 @@ pub loop-i-preserved : goal.loop-i-preserved
 loop-i-preserved c =
     let l = c.loop-i in
     let s = c.switch_net.ensures in (
-      rw s.toggled (steps_on (moves (loaded_net c.args.counts c.args.code.now) (row_in c.args.counts c.args.goal.now)) (row_in c.args.counts c.args.row.now) c.args.list.now l.i _ l.invariant.0 (omega (arith, c.loop-i-test.true)) (sym c.may_switch.ensures ∙ of_no _ c.if-not-may_switch.false-raw)),
+      rw s.toggled (steps_on (moves (loaded_net c.args.counts c.args.code.now) (row_in c.args.counts c.args.goal.now)) (row_in c.args.counts c.args.row.now) c.args.list.now l.i _ l.invariant.0 (omega (arith, c.loop-i-test.true)) (sym c.may_switch.ensures ∙ c.if-not-may_switch.false)),
       s.row,
       omega (arith, c.row-1.given, l.invariant.2),
     )
@@ -59,12 +57,5 @@ shape_of-row c = c.loop-i.invariant.2
 pub returns : goal.returns
 returns c =
     let l = c.loop-i in
-    record {
-      row_for_holds = l.invariant.1;
-      steps_are = steps_end (moves (loaded_net c.args.counts c.args.code.now) (row_in c.args.counts c.args.goal.now)) (row_in c.args.counts c.args.row.now) c.args.list.now l.i _ l.invariant.0 (omega (arith, c.loop-i-test.false));
-      row_is = l.invariant.0.row_is;
-    }
-
-pub overflow_add-i : goal.overflow_add-i
-overflow_add-i c =
-    omega (arith, c.loop-i-test.true, c.well_formed)
+    let e = steps_end (moves (loaded_net c.args.counts c.args.code.now) (row_in c.args.counts c.args.goal.now)) (row_in c.args.counts c.args.row.now) c.args.list.now l.i _ l.invariant.0 (omega (arith, c.loop-i-test.false)) in
+    record { row_for_holds = l.invariant.1; steps_are = e.0; row_is = e.1 }

@@ -1,5 +1,4 @@
 -- `call_play::take_steps` meets its contract. The loop's invariant: so many steps were taken. Assumes nothing.
-use Prim.Native.Nat.{◌-◌}
 use mathlib.Core.Path.{◌≡◌}
 use lib.ListN.{length}
 use Rattle.circuit.specs.Rows.{RowFor}
@@ -10,6 +9,3 @@ use Rattle.call_play.proofs.take_steps.Given as goal
 abbrev pub invariant-loop-i : goal.invariant-loop-i
 invariant-loop-i l =
     StepsTo (moves (loaded_net l.counts l.code) (row_in l.counts l.goal)) (row_in l.counts l.initial.row) l.list l.i (row_in l.counts l.row) × RowFor l.counts l.row × (length l.row ≡ length l.initial.row)
-
-abbrev pub decreases-loop-i : goal.decreases-loop-i
-decreases-loop-i l = length l.list - l.i

@@ -1,13 +1,7 @@
 -- `call_report::write_lines` meets its contract. The loop's invariant: the lines of the names before name k are written, and their sum is known.
 -- Assumes nothing.
-use Prim.Native.Nat.{◌-◌, ◌≤◌}
-use lib.ListN.{length}
-use Rattle.call_report.specs.Report as spec
 use Rattle.call_report.specs.Lines.{lines_by, LinesTo}
 use Rattle.call_report.proofs.write_lines.Given as goal
 
 abbrev pub invariant-loop-k : goal.invariant-loop-k
-invariant-loop-k l = LinesTo (lines_by l.order l.inputs l.high l.list) l.k l.lines l.total × (l.k ≤ length l.list)
-
-abbrev pub decreases-loop-k : goal.decreases-loop-k
-decreases-loop-k l = length l.list - l.k
+invariant-loop-k l = LinesTo (lines_by l.order l.inputs l.high l.list) l.k l.lines l.total

@@ -10,11 +10,11 @@ use Rattle.call_text_read.proofs.read_lines.Goals as goal
 pub slice_bounds-undriven-end : goal.slice_bounds-undriven-end
 slice_bounds-undriven-end c = sym (length-take-le _ _ c.fill_table-used.ensures.inside)
 
-pub returns-in-At : goal.returns-in-At
-returns-in-At c =
+pub returns-in-Some : goal.returns-in-Some
+returns-in-Some c =
     let t = saying c.args.s.now in
     let b = c.args.buffer.now in
-    refused_30 t b _ _ (sym c.in-At.is ∙ c.undriven.ensures) c.refuse.ensures
+    refused_30 t b _ _ (sym c.in-Some.is ∙ c.undriven.ensures) c.refuse.ensures
 
 pub overflow_mul-inputs : goal.overflow_mul-inputs
 overflow_mul-inputs c = omega (arith, counted_few c.requires)
@@ -23,13 +23,13 @@ pub driven_again-requires : goal.driven_again-requires
 driven_again-requires c =
     (c.requires.formed, c.fill_table-used.ensures.tabled, counted_rails c.requires)
 
-pub returns-in-At-driven_again : goal.returns-in-At-driven_again
-returns-in-At-driven_again c =
+pub returns-in-Some-driven_again : goal.returns-in-Some-driven_again
+returns-in-Some-driven_again c =
     let driven = sym c.in_default.is
     ∙ c.undriven.ensures in
     let t = saying c.args.s.now in
     let b = c.args.buffer.now in
-    refused_31 t b driven _ _ (sym c.in-At-driven_again.is ∙ c.driven_again.ensures) c.refuse-in-At-driven_again.ensures
+    refused_31 t b driven _ _ (sym c.in-Some-driven_again.is ∙ c.driven_again.ensures) c.refuse-in-Some-driven_again.ensures
 
 pub returns-then-inputs-gt-INPUTS : goal.returns-then-inputs-gt-INPUTS
 returns-then-inputs-gt-INPUTS c =

@@ -7,11 +7,11 @@ use Rattle.call_text_read.proofs.Counting.{inputs_fit, two_newlines, counted}
 use Rattle.call_text_read.proofs.Answering.{refused_29, passed_29}
 use Rattle.call_text_read.proofs.read_text.Goals as goal
 
-pub returns-in-At : goal.returns-in-At
-returns-in-At c =
+pub returns-in-Some : goal.returns-in-Some
+returns-in-Some c =
     let s = c.args.s.now in
     let b = c.args.buffer.now in
-    read_demanded s b _ _ (refused_29 s b _ _ (sym c.in-At.is ∙ c.other_form.ensures)
+    read_demanded s b _ _ (refused_29 s b _ _ (sym c.in-Some.is ∙ c.other_form.ensures)
     c.refuse.ensures)
 
 pub slice_bounds-count-end : goal.slice_bounds-count-end

@@ -1,5 +1,7 @@
 -- `call_text_write::write_loaded` meets its contract. Assumes nothing.
-use mathlib.Core.Path.{sym, ◌∙◌}
+use mathlib.Core.Path.{sym, ap, ◌∙◌}
+use Rattle.verdict.specs.declared.Verdict.{Verdict}
+use Rattle.verdict.specs.Written.{answer_of}
 use Rattle.call_text_write.proofs.Answering.{care_leaves, second_leaves, text_leaves}
 use Rattle.call_text_write.proofs.write_loaded.Goals as goal
 
@@ -13,12 +15,13 @@ pub second_name-requires : goal.second_name-requires
 second_name-requires c =
     c.requires.0
 
-pub returns-in-At : goal.returns-in-At
-returns-in-At c =
+pub returns-in-Some : goal.returns-in-Some
+returns-in-Some c =
     let if1 = c.if-counts-gt0 in
     let second-name = c.second_name in
     let refused = c.refused in
-    second_leaves c.args.counts c.args.code.now c.args.buffer.now if1.false _ (sym c.in-At.is ∙ second-name.ensures) refused.ensures
+    second_leaves c.args.counts c.args.code.now c.args.buffer.now if1.false _ (sym c.in-Some.is ∙ second-name.ensures)
+    (refused.ensures ∙ ap (λ (v : Verdict). answer_of v 0) c.fault.ensures)
 
 pub write_room-requires : goal.write_room-requires
 write_room-requires c =

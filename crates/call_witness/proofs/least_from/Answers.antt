@@ -1,14 +1,9 @@
 -- `call_witness::least_from` meets its contract. The loop's invariant: none from the start up to a net may move. Assumes nothing.
-use Prim.Native.Nat.{◌-◌}
 use native.Mathlib.Omega.{arith}
 use mathlib.Core.Path.{sym, ◌∙◌}
-use mathlib.Core.Logic.{⊎_elim}
 use Rattle.circuit_steps.specs.Moves.{loaded_net, row_in}
 use Rattle.call_witness.specs.Lists.{moving}
 use Rattle.call_witness.proofs.Steps.{at_held, not_held, none_more, found_first, found_none}
-use Rattle.call_witness.proofs.least_from.Reads as reads
-use Rattle.call_witness.proofs.least_from.Lts as lts
-use Rattle.circuit_steps.proofs.may_switch.Reads as may-switch-reads
 use Rattle.call_witness.proofs.least_from.Goals as goal
 use Rattle.call_witness.proofs.least_from.Goals.{then-net-held+else-may_switch, else-net-held}
 

@@ -1,15 +1,9 @@
 -- `call_witness::list_least` meets its contract. The loop's invariant: what has switched is listed, and none below a place may switch. Assumes nothing.
-use Prim.Native.Nat.{◌-◌}
+use Prim.Native.Nat.{◌+◌, ◌*◌}
 use native.Mathlib.Omega.{arith}
-use mathlib.Core.Path.{refl}
+use mathlib.Core.Path.{◌≡◌, refl}
 use Rattle.circuit_steps.specs.Moves.{row_in}
 use Rattle.call_witness.proofs.Steps.{walk_start, walk_long, walk_full, walk_none, is_net_holds, walk_room, walk_turn}
-use Rattle.call_witness.proofs.list_least.Reads as reads
-use Rattle.call_witness.proofs.list_least.Lts as lts
-use Rattle.call_witness.proofs.least_from.Reads as least-from-reads
-use Rattle.call_witness.proofs.look_from.Reads as look-from-reads
-use Rattle.circuit_steps.proofs.switch_net.Reads as switch-net-reads
-use Rattle.gates.proofs.table.Reads as table-reads
 use Rattle.call_witness.proofs.list_least.Goals as goal
 
 pub overflow_add-end : goal.overflow_add-end
@@ -58,19 +52,10 @@ bounds-list-count c =
     let l = c.loop-count in
     walk_room c.args.counts c.args.code.now (row_in c.args.counts c.args.goal.now) c.args.held _ _ _ _ _ l.invariant.0 _ c.least_from-net.ensures c.if-net-nets.false (omega (arith, c.loop-count-test.true))
 
-pub overflow_add-count : goal.overflow_add-count
-overflow_add-count c =
-    let l = c.loop-count in
-    omega (arith, walk_room c.args.counts c.args.code.now (row_in c.args.counts c.args.goal.now) c.args.held _ _ _ _ _ l.invariant.0 _ c.least_from-net.ensures c.if-net-nets.false (omega (arith, c.loop-count-test.true)))
-
 pub look_from-from-requires : goal.look_from-from-requires
 look_from-from-requires c =
     let l = c.loop-count in
     omega (arith, is_net_holds c.args.counts c.args.code.now (row_in c.args.counts c.args.goal.now) c.args.held _ _ _ _ _ l.invariant.0 _ c.least_from-net.ensures c.if-net-nets.false (omega (arith, c.loop-count-test.true)), c.requires.2.long)
-
-pub loop-count-smaller : goal.loop-count-smaller
-loop-count-smaller c =
-    omega (arith, c.loop-count-test.true)
 
 pub loop-count-preserved : goal.loop-count-preserved
 loop-count-preserved c =
@@ -88,5 +73,7 @@ shape_of-list c =
 
 pub returns : goal.returns
 returns c =
-    let w = c.loop-count.invariant.0 in
-    record { row = w.row_for_holds; listed = walk_full c.args.counts c.args.code.now (row_in c.args.counts c.args.goal.now) c.args.held _ _ _ _ _ w (omega arith) }
+    let l = c.loop-count in
+    let w = l.invariant.0 in
+    let e : l.count ≡ c.args.start + (2 * c.args.counts.inputs + c.args.counts.gates) = omega arith in
+    record { row = w.row_for_holds; listed = rw (← e) (walk_full c.args.counts c.args.code.now (row_in c.args.counts c.args.goal.now) c.args.held _ _ _ _ _ w (omega arith)) }

@@ -1,6 +1,10 @@
 -- `check_files::check_loading` meets its contract. Assumes nothing.
 use native.Mathlib.Omega.{arith}
-use mathlib.Core.Path.{sym, ◌∙◌}
+use Rattle.std.specs.Prelude.{Err}
+use mathlib.Core.Path.{sym, subst, ◌∙◌}
+use Rattle.verdict.specs.declared.Verdict.{Verdict}
+use Rattle.verdict.proofs.HandedOn.{handed_on}
+use Rattle.check_files.specs.Judgement.{Judgement, JudgedAs}
 use Rattle.check_spec.specs.Content.{files_within}
 use Rattle.circuit_load.proofs.Reading.{reference_held}
 use Rattle.check_files.proofs.Files.{held, stage_refused, reference_refused, checks_refuse, checks_pass}
@@ -11,46 +15,47 @@ judge-requires c =
     let a = c.args in
     let f = files_within a.registers a.stage_most a.reference_most a.stage.now a.reference.now in
     let is = c.read_pipeline_within.ensures in (
-      held a.order f c.requires.0 _ _ _ _ (sym c.in-Readable.is ∙ is.answered) is.loaded,
+      held a.order f c.requires.0 _ _ _ _ (sym c.in-Ok.is ∙ is.answered) is.loaded,
       record { nets_room = omega arith; registers_room = omega arith },
-      (reference_held a.reference.now _ _ _ (sym c.in-Readable-read_reference_within.is ∙ c.read_reference_within.ensures.answered) c.read_reference_within.ensures.loaded).3,
+      (reference_held a.reference.now _ _ _ (sym c.in-Ok-read_reference_within.is ∙ c.read_reference_within.ensures.answered) c.read_reference_within.ensures.loaded).3,
     )
 
-pub returns-in-Refused : goal.returns-in-Refused
-returns-in-Refused c =
+pub returns-in-Err : goal.returns-in-Err
+returns-in-Err c =
     let a = c.args in
-    stage_refused a.order (files_within a.registers a.stage_most a.reference_most a.stage.now a.reference.now) _ _
-    (sym c.in-Refused.is ∙ c.read_pipeline_within.ensures.answered)
+    let f = files_within a.registers a.stage_most a.reference_most a.stage.now a.reference.now in
+    subst (λ (v : Verdict). JudgedAs a.order f (Err v) c.read_pipeline_within.new.code a.loaded.now) (sym c.unreadable.ensures)
+    (stage_refused a.order f _ _ (sym c.in-Err.is ∙ c.read_pipeline_within.ensures.answered))
 
-pub returns-in-Refused-read_reference_within : goal.returns-in-Refused-read_reference_within
-returns-in-Refused-read_reference_within c =
+pub returns-in-Err-read_reference_within : goal.returns-in-Err-read_reference_within
+returns-in-Err-read_reference_within c =
     let a = c.args in
     let is = c.read_pipeline_within.ensures in
-    reference_refused a.order (files_within a.registers a.stage_most a.reference_most a.stage.now a.reference.now) c.requires.0 _ _ _ _
-    (sym c.in-Readable.is ∙ is.answered) is.loaded _ _ (sym c.in-Refused-read_reference_within.is ∙ c.read_reference_within.ensures.answered)
+    let f = files_within a.registers a.stage_most a.reference_most a.stage.now a.reference.now in
+    subst (λ (v : Verdict). JudgedAs a.order f (Err v) c.read_pipeline_within.new.code c.read_reference_within.new.code)
+    (sym c.unreadable-in-Err-read_reference_within.ensures)
+    (reference_refused a.order f c.requires.0 _ _ _ _ (sym c.in-Ok.is ∙ is.answered) is.loaded _ _
+    (sym c.in-Err-read_reference_within.is ∙ c.read_reference_within.ensures.answered))
 
-pub shape_of-code-in-Fault : goal.shape_of-code-in-Fault
-shape_of-code-in-Fault c =
-    omega (arith, c.code-in-Readable-read_reference_within-1.given, c.code-1.given)
-
-pub returns-in-Fault : goal.returns-in-Fault
-returns-in-Fault c =
+pub returns-in_err-judge : goal.returns-in_err-judge
+returns-in_err-judge c =
     let a = c.args in
     let f = files_within a.registers a.stage_most a.reference_most a.stage.now a.reference.now in
     let is = c.read_pipeline_within.ensures in
     let it = c.read_reference_within.ensures in
-    let read = sym c.in-Readable.is ∙ is.answered in
-    checks_refuse a.order f c.requires.0 _ _ _ _ read is.loaded _ _ (sym c.in-Readable-read_reference_within.is ∙ it.answered) it.loaded _
-    (sym c.in-Fault.is ∙ c.judge.ensures.found (held a.order f c.requires.0 _ _ _ _ read is.loaded))
+    let read = sym c.in-Ok.is ∙ is.answered in
+    subst (λ (j : Judgement). JudgedAs a.order f j c.judge.new.code c.read_reference_within.new.code) (sym (handed_on _ _ c.from_residual.ensures.1))
+    (checks_refuse a.order f c.requires.0 _ _ _ _ read is.loaded _ _ (sym c.in-Ok-read_reference_within.is ∙ it.answered) it.loaded _
+    (sym c.in_err-judge.was ∙ c.judge.ensures.found (held a.order f c.requires.0 _ _ _ _ read is.loaded)))
 
-pub returns-in-Passed : goal.returns-in-Passed
-returns-in-Passed c =
+pub returns : goal.returns
+returns c =
     let a = c.args in
     let f = files_within a.registers a.stage_most a.reference_most a.stage.now a.reference.now in
     let is = c.read_pipeline_within.ensures in
     let it = c.read_reference_within.ensures in
-    let read = sym c.in-Readable.is ∙ is.answered in
-    let passed = c.in-Passed.is in
+    let read = sym c.in-Ok.is ∙ is.answered in
+    let passed = c.in_ok-judge.was in
     let h = held a.order f c.requires.0 _ _ _ _ read is.loaded in
-    checks_pass a.order f c.requires.0 _ _ _ _ read is.loaded _ _ (sym c.in-Readable-read_reference_within.is ∙ it.answered) it.loaded
+    checks_pass a.order f c.requires.0 _ _ _ _ read is.loaded _ _ (sym c.in-Ok-read_reference_within.is ∙ it.answered) it.loaded
     (sym passed ∙ c.judge.ensures.found h) (c.judge.ensures.passed h passed)

@@ -1,11 +1,12 @@
 -- `check_files::find_loop` meets its contract. Assumes nothing.
-use mathlib.Core.Path.{sym}
+use Rattle.std.specs.Prelude.{Err}
+use mathlib.Core.Path.{sym, ap, ◌∙◌}
 use Rattle.circuit_order.proofs.Findings.{loop-at, no_loop}
 use Rattle.check_files.proofs.Findings.{not_passed}
 use Rattle.check_files.proofs.find_loop.Goals as goal
 
-pub returns-in-At : goal.returns-in-At
-returns-in-At c = record { found = sym (loop-at _ _ _ _ c.order_gates.ensures _ c.in-At.is); passed = not_passed }
+pub returns-in-Some : goal.returns-in-Some
+returns-in-Some c = record { found = ap Err c.fault.ensures ∙ sym (loop-at _ _ _ _ c.order_gates.ensures _ c.in-Some.is); passed = not_passed }
 
 pub returns : goal.returns
 returns c =

@@ -1,5 +1,4 @@
 -- `check_files::least_retired` meets its contract. The loop's invariant: no gate before k is of a retired kind. Assumes nothing.
-use Prim.Native.Nat.{◌-◌}
 use native.Mathlib.Omega.{arith}
 use mathlib.Core.Path.{sym, ap, ◌∙◌}
 use Rattle.gates.specs.Cell.{is_retired}

@@ -1,6 +1,7 @@
 -- `check_files::wire_registers` meets its contract. Assumes nothing.
 use native.Mathlib.Omega.{arith}
 use mathlib.Core.Path.{sym, ◌∙◌}
+use Rattle.verdict.proofs.HandedOn.{handed_on}
 use Rattle.check_files.proofs.Findings.{not_passed}
 use Rattle.check_files.proofs.Wiring.{bare_fits, cut_stage, loop-found, loop_none, gates_ordered, wiring_found, loaded_still, connect_fits, wires_loaded, wires_found, wires_ordered}
 use Rattle.check_files.proofs.wire_registers.Goals as goal
@@ -12,28 +13,30 @@ pub find_loop-requires : goal.find_loop-requires
 find_loop-requires c =
     cut_stage c.requires c.bare_counts-bare.ensures c.wire_stage.ensures (omega arith)
 
-pub returns-in-Fault : goal.returns-in-Fault
-returns-in-Fault c =
-    record { found = λ h. loop-found h c.bare_counts-bare.ensures c.wire_stage.ensures (sym c.in-Fault.is ∙ c.find_loop.ensures.found); passed = λ h. not_passed }
+pub returns-in_err-find_loop : goal.returns-in_err-find_loop
+returns-in_err-find_loop c =
+    let is = handed_on _ _ c.from_residual.ensures.1 in
+    record { found = λ h. is ∙ loop-found h c.bare_counts-bare.ensures c.wire_stage.ensures (sym c.in_err-find_loop.was ∙ c.find_loop.ensures.found); passed = λ h e. not_passed (sym is ∙ e) }
 
 pub check_registers-requires : goal.check_registers-requires
 check_registers-requires c =
-    ((gates_ordered c.requires c.bare_counts-bare.ensures c.wire_stage.ensures (c.find_loop.ensures.passed c.in_default.is)).0, c.requires.unplaced)
+    ((gates_ordered c.requires c.bare_counts-bare.ensures c.wire_stage.ensures (c.find_loop.ensures.passed c.in_ok-find_loop.was)).0, c.requires.unplaced)
 
-pub returns-in-Fault-check_registers : goal.returns-in-Fault-check_registers
-returns-in-Fault-check_registers c =
+pub returns-in_err-check_registers : goal.returns-in_err-check_registers
+returns-in_err-check_registers c =
     let is = c.bare_counts-bare.ensures in
     let bare = c.wire_stage.ensures in
-    let none = c.in_default.is in record {
+    let none = c.in_ok-find_loop.was in
+    let on = handed_on _ _ c.from_residual-in_err-check_registers.ensures.1 in record {
       found = λ h.
           let l = gates_ordered h is bare (c.find_loop.ensures.passed none) in
-          wiring_found l (loop_none h is bare (sym none ∙ c.find_loop.ensures.found)) (sym c.in-Fault-check_registers.is ∙ c.check_registers.ensures.found l.0);
-      passed = λ h. not_passed;
+          on ∙ wiring_found l (loop_none h is bare (sym none ∙ c.find_loop.ensures.found)) (sym c.in_err-check_registers.was ∙ c.check_registers.ensures.found l.0);
+      passed = λ h e. not_passed (sym on ∙ e);
     }
 
 pub connect-requires : goal.connect-requires
 connect-requires c =
-    let l = gates_ordered c.requires c.bare_counts-bare.ensures c.wire_stage.ensures (c.find_loop.ensures.passed c.in_default.is) in
+    let l = gates_ordered c.requires c.bare_counts-bare.ensures c.wire_stage.ensures (c.find_loop.ensures.passed c.in_ok-find_loop.was) in
     connect_fits (loaded_still l (c.check_registers.ensures.kept l.0))
 
 pub find_loop-requires-2 : goal.find_loop-requires-2
@@ -41,17 +44,17 @@ find_loop-requires-2 c =
     let h = c.requires in
     let is = c.bare_counts-bare.ensures in
     let bare = c.wire_stage.ensures in
-    let none = c.in_default.is in
+    let none = c.in_ok-find_loop.was in
     let l = gates_ordered h is bare (c.find_loop.ensures.passed none) in
-    let found = wiring_found l (loop_none h is bare (sym none ∙ c.find_loop.ensures.found)) (sym c.in_default-check_registers.is ∙ c.check_registers.ensures.found l.0) in
+    let found = wiring_found l (loop_none h is bare (sym none ∙ c.find_loop.ensures.found)) (sym c.in_ok-check_registers.was ∙ c.check_registers.ensures.found l.0) in
     wires_loaded (loaded_still l (c.check_registers.ensures.kept l.0)) found c.connect.ensures.resolved c.connect.ensures.wired
 
 pub returns : goal.returns
 returns c =
     let is = c.bare_counts-bare.ensures in
     let bare = c.wire_stage.ensures in
-    let none = c.in_default.is in
-    let nothing = c.in_default-check_registers.is in record {
+    let none = c.in_ok-find_loop.was in
+    let nothing = c.in_ok-check_registers.was in record {
       found = λ h.
           let l = gates_ordered h is bare (c.find_loop.ensures.passed none) in
           let found = wiring_found l (loop_none h is bare (sym none ∙ c.find_loop.ensures.found)) (sym nothing ∙ c.check_registers.ensures.found l.0) in

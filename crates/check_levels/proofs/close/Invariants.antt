@@ -1,5 +1,4 @@
 -- `check_levels::close` meets its contract. The loop's invariant: the registers before j were gone through. Assumes nothing.
-use Prim.Native.Nat.{◌-◌, ◌≤◌}
 use mathlib.Core.Path.{◌≡◌}
 use lib.ListN.{length}
 use Rattle.wiring_spec.specs.Parts.{Pipeline}
@@ -8,7 +7,4 @@ use Rattle.check_levels.proofs.Closing.{Closing}
 use Rattle.check_levels.proofs.close.Given as goal
 
 abbrev pub invariant-loop-j : goal.invariant-loop-j
-invariant-loop-j l = (length l.sources ≡ length l.initial.sources) × (l.j ≤ length l.initial.sources) × ((p : Pipeline) → SourcesOf p l.initial.sources → Closing p l.initial.sources l.sources l.j)
-
-abbrev pub decreases-loop-j : goal.decreases-loop-j
-decreases-loop-j l = length l.initial.sources - l.j
+invariant-loop-j l = (length l.sources ≡ length l.initial.sources) × ((p : Pipeline) → SourcesOf p l.initial.sources → Closing p l.initial.sources l.sources l.j)

@@ -1,12 +1,8 @@
 -- `check_levels::close_through` meets its contract. The loop's invariant: the registers before t have the sources of j added, where j is among theirs. Assumes nothing.
-use Prim.Native.Nat.{◌-◌, ◌≤◌}
 use mathlib.Core.Path.{◌≡◌}
-use lib.ListN.{length, get_or}
+use lib.ListN.{get_or}
 use Rattle.check_levels.specs.Graph.{Through}
 use Rattle.check_levels.proofs.close_through.Given as goal
 
 abbrev pub invariant-loop-t : goal.invariant-loop-t
-invariant-loop-t l = (l.t ≤ length l.initial.sources) × (l.through ≡ get_or l.initial.sources l.j 0) × Through l.initial.sources l.j l.t l.sources
-
-abbrev pub decreases-loop-t : goal.decreases-loop-t
-decreases-loop-t l = length l.initial.sources - l.t
+invariant-loop-t l = (l.through ≡ get_or l.initial.sources l.j 0) × Through l.initial.sources l.j l.t l.sources

@@ -2,11 +2,5 @@
 use Rattle.check_levels.proofs.Gathering.{set_join}
 use Rattle.check_levels.proofs.data_sets.Goals as goal
 
-pub set_at-a-requires : goal.set_at-a-requires
-set_at-a-requires c = (c.requires.0, c.requires.1)
-
-pub set_at-b-requires : goal.set_at-b-requires
-set_at-b-requires c = (c.requires.0, c.requires.1)
-
 pub returns : goal.returns
 returns c = let a = c.args in set_join a.rails.now a.first a.sets.now _ _ _ _ c.set_at-a.ensures c.set_at-b.ensures

@@ -1,11 +1,6 @@
 -- `check_levels::gather_sources` meets its contract. The loop's invariant: the registers before t have what leads to their data. Assumes nothing.
-use Prim.Native.Nat.{◌-◌, ◌≤◌}
-use lib.ListN.{length}
 use Rattle.check_levels.proofs.Gathering.{FilledTo}
 use Rattle.check_levels.proofs.gather_sources.Given as goal
 
 abbrev pub invariant-loop-t : goal.invariant-loop-t
-invariant-loop-t l = (l.t ≤ length l.initial.sources) × FilledTo l.rails l.first l.sets l.regs l.initial.sources l.sources l.t
-
-abbrev pub decreases-loop-t : goal.decreases-loop-t
-decreases-loop-t l = length l.initial.sources - l.t
+invariant-loop-t l = FilledTo l.rails l.first l.sets l.regs l.initial.sources l.sources l.t

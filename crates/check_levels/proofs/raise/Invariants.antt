@@ -1,11 +1,6 @@
 -- `check_levels::raise` meets its contract. The loop's invariant: the round has come to register t. Assumes nothing.
-use Prim.Native.Nat.{◌-◌, ◌≤◌}
-use lib.ListN.{length}
 use Rattle.check_levels.specs.Graph.{RaisedTo}
 use Rattle.check_levels.proofs.raise.Given as goal
 
 abbrev pub invariant-loop-t : goal.invariant-loop-t
-invariant-loop-t l = (l.t ≤ length l.initial.levels) × RaisedTo l.sources l.known l.level l.initial.levels l.levels l.next l.t
-
-abbrev pub decreases-loop-t : goal.decreases-loop-t
-decreases-loop-t l = length l.initial.levels - l.t
+invariant-loop-t l = RaisedTo l.sources l.known l.level l.initial.levels l.levels l.next l.t

@@ -1,22 +1,12 @@
 -- `check_levels::set_at` meets its contract. Assumes nothing.
-use native.Mathlib.Omega.{arith}
 use Rattle.check_levels.proofs.Gathering.{set_before, set_past, set_rail, set_other}
 use Rattle.check_levels.proofs.set_at.Goals as goal
-
-pub bounds-sets-x : goal.bounds-sets-x
-bounds-sets-x c = omega (arith, c.requires.1)
 
 pub returns-then-x-first : goal.returns-then-x-first
 returns-then-x-first c = set_before c.args.rails.now c.args.first c.args.sets.now c.args.net c.if-x-first.true
 
 pub returns-then-rails-i : goal.returns-then-rails-i
 returns-then-rails-i c = set_past c.args.rails.now c.args.first c.args.sets.now c.args.net c.if-x-first.false c.requires.0.rows c.if-rails-i.true
-
-pub overflow_cast-result : goal.overflow_cast-result
-overflow_cast-result c = omega (arith, c.requires.0.registers _ c.if-rails-i-eq1.true)
-
-pub overflow_shl-result : goal.overflow_shl-result
-overflow_shl-result c = omega (arith, c.requires.0.registers _ c.if-rails-i-eq1.true)
 
 pub returns-then-rails-i-eq1 : goal.returns-then-rails-i-eq1
 returns-then-rails-i-eq1 c = set_rail c.args.rails.now c.args.first c.args.sets.now c.args.net c.if-x-first.false c.requires.0 c.if-rails-i-eq1.true

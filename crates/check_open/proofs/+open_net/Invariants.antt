@@ -1,6 +1,6 @@
 -- The proof of the cycle of calls {open_net}. The measure is the place of the net's C-element in the order, 0 for a net of another sort. The loop's invariant:
 -- what stands behind the pins from j on was gathered, and the table is right. Assumes nothing.
-use Prim.Native.Nat.{◌+◌, ◌*◌, ◌-◌, ◌≤◌}
+use Prim.Native.Nat.{◌+◌, ◌*◌, ◌-◌}
 use mathlib.Core.Path.{◌≡◌}
 use lib.ListN.{length, drop}
 use Rattle.circuit_place.specs.Placing.{place, four}
@@ -12,7 +12,4 @@ decreases-open_net l = place l.nets.now l.first l.net
 
 abbrev pub invariant-loop-j : goal.invariant-loop-j
 invariant-loop-j l =
-    (l.j ≤ 4) × (length l.kos ≡ length l.initial.kos) × Table l.nets l.first l.kos l.known × ToldOf l.nets l.first (drop l.j (four l.nets (8 * (l.net - l.first) + 1))) l.all
-
-abbrev pub decreases-loop-j : goal.decreases-loop-j
-decreases-loop-j l = l.j
+    (length l.met ≡ length l.initial.met) × Table l.nets l.first l.met × ToldOf l.nets l.first (drop l.j (four l.nets (8 * (l.net - l.first) + 1))) l.all

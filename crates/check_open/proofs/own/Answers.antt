@@ -1,5 +1,4 @@
 -- `check_open::own` meets its contract. Assumes nothing.
-use native.Mathlib.Omega.{arith}
 use Rattle.check_open.proofs.Itself.{ko_below, own_before, own_past, own_ko_holds, own_else}
 use Rattle.check_open.proofs.own.Goals as goal
 
@@ -8,12 +7,6 @@ returns-then-x-first c = let a = c.args in own_before a.nets.now a.first a.x c.i
 
 pub returns-then-nets-i : goal.returns-then-nets-i
 returns-then-nets-i c = own_past c.args.nets.now c.args.first c.args.x c.if-x-first.false c.requires.0 c.if-nets-i.true
-
-pub overflow_cast-result : goal.overflow_cast-result
-overflow_cast-result c = omega (arith, ko_below c.args.nets.now c.args.first c.args.x c.requires.1 c.if-nets-i-eq2.true)
-
-pub overflow_shl-result : goal.overflow_shl-result
-overflow_shl-result c = ko_below c.args.nets.now c.args.first c.args.x c.requires.1 c.if-nets-i-eq2.true
 
 pub returns-then-nets-i-eq2 : goal.returns-then-nets-i-eq2
 returns-then-nets-i-eq2 c =

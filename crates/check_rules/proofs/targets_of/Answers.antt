@@ -6,21 +6,15 @@ use Rattle.check_rules.proofs.Sets.{set_none, set_more}
 use Rattle.check_rules.proofs.targets_of.Goals as goal
 
 pub loop-t-init : goal.loop-t-init
-loop-t-init c = (omega arith, set_none _)
-
-pub is_source-add-requires : goal.is_source-add-requires
-is_source-add-requires c = omega arith
-
-pub overflow_shl-t : goal.overflow_shl-t
-overflow_shl-t c = omega arith
+loop-t-init c = set_none _
 
 pub loop-t-preserved : goal.loop-t-preserved
 loop-t-preserved c =
     let l = c.loop-t in
-    (omega arith, set_more _ _ _ _ _ (omega arith) l.invariant.1 c.is_source-add.ensures c.joined-all.ensures)
+    set_more _ _ _ _ _ (omega arith) l.invariant c.is_source-add.ensures c.joined-all.ensures
 
 pub returns : goal.returns
 returns c =
     let l = c.loop-t in
     let e : l.t ≡ length c.args.sources.now = omega arith in
-    rw e at l.invariant.1
+    rw e at l.invariant

@@ -1,10 +1,7 @@
 -- `check_wiring::check_registers` meets its contract. Assumes nothing.
 use mathlib.Core.Path.{refl, ◌∙◌}
-use Rattle.check_wiring.proofs.Placed.{few_numbers, placing_none, loaded_placed, ordered_placed, circular_at, circular_nowhere, others_follow}
+use Rattle.check_wiring.proofs.Placed.{loaded_placed, ordered_placed, circular_at, circular_nowhere, others_follow}
 use Rattle.check_wiring.proofs.check_registers.Goals as goal
-
-pub place_elements-requires : goal.place_elements-requires
-place_elements-requires c = let l = c.requires.0 in (few_numbers _ _ _ _ _ l, placing_none _ _ _ _ _ l c.requires.1)
 
 pub find_circular-requires : goal.find_circular-requires
 find_circular-requires c =
@@ -12,11 +9,11 @@ find_circular-requires c =
     let s = c.sources_of-sources.ensures in
     ((l.pipeline, ordered_placed _ _ _ _ _ l _ (_, c.place_elements.ensures), s.are l), s.long)
 
-pub returns-in-At : goal.returns-in-At
-returns-in-At c =
+pub returns-in-Some : goal.returns-in-Some
+returns-in-Some c =
     let w = c.place_elements.ensures in record {
       found = λ l.
-          c.fault.ensures ∙ circular_at l.pipeline _ (c.find_circular.ensures l.pipeline (ordered_placed _ _ _ _ _ l _ (_, w)) (c.sources_of-sources.ensures.are l)) _ c.in-At.is;
+          c.fault.ensures ∙ circular_at l.pipeline _ (c.find_circular.ensures l.pipeline (ordered_placed _ _ _ _ _ l _ (_, w)) (c.sources_of-sources.ensures.are l)) _ c.in-Some.is;
       kept = λ l. (loaded_placed _ _ _ _ _ l _ (_, w), refl);
     }
 

@@ -15,9 +15,6 @@ use Rattle.check_wiring.proofs.inputs_of.Goals as goal
 abbrev new : List ℕ
 new = times 64 0
 
-pub slice_bounds-gather_sources-end-3 : goal.slice_bounds-gather_sources-end-3
-slice_bounds-gather_sources-end-3 c = sym (length-take-le _ _ (few_registers _ _ _ _ _ c.requires.1))
-
 pub gather_sources-requires : goal.gather_sources-requires
 gather_sources-requires c = let l = c.requires.1 in (
   gatherable _ _ _ _ _ l _ _ no_rails (search rules),

@@ -1,15 +1,11 @@
 -- `check_wiring::is_circular` meets its contract. Assumes nothing.
 use native.Mathlib.Omega.{arith}
-use Prim.Native.Nat.{◌+◌, ◌*◌}
 use mathlib.Core.Path.{sym, ◌∙◌}
 use Rattle.check_wiring.proofs.Circular.{circular_itself, circular_ki}
 use Rattle.check_wiring.proofs.is_circular.Goals as goal
 
 pub returns-then-is_source : goal.returns-then-is_source
 returns-then-is_source c = λ p o from. circular_itself p _ _ _ o _ from _ (omega (arith, o.registers_are, c.requires.1)) (sym c.is_source.ensures ∙ c.if-is_source.true)
-
-pub overflow_cast-regs : goal.overflow_cast-regs
-overflow_cast-regs c = omega (arith, c.type_inv.regs (4 * c.args.k + 3))
 
 pub returns : goal.returns
 returns c = λ p o from.

@@ -4,21 +4,15 @@ use Prim.Native.Nat.{ℕ}
 use mathlib.Core.Path.{sym, ◌∙◌, subst}
 use mathlib.Core.List.{List}
 use lib.ListN.{length, get_or-replicate}
-use lib.Seq.{length-take-le, get_or-take}
+use lib.Seq.{get_or-take}
 use Rattle.check_rules.specs.Known.{LevelsOf}
-use Rattle.check_wiring.proofs.Lent.{part_few, whole_long, part_back}
+use Rattle.check_wiring.proofs.Lent.{whole_long, part_back}
 use Rattle.check_wiring.proofs.Tables.{times}
 use Rattle.check_wiring.proofs.levels_of.Goals as goal
 
 -- the table as it is made
 abbrev new : List ℕ
 new = times 64 1
-
-pub slice_bounds-level_registers-end : goal.slice_bounds-level_registers-end
-slice_bounds-level_registers-end c = sym (length-take-le _ _ c.requires)
-
-pub level_registers-requires : goal.level_registers-requires
-level_registers-requires c = (length-take-le _ _ c.requires, part_few _ _ _ c.requires)
 
 pub returns : goal.returns
 returns c =

@@ -14,9 +14,6 @@ use Rattle.check_wiring.proofs.sources_of.Goals as goal
 abbrev new : List ℕ
 new = times 64 0
 
-pub slice_bounds-gather_sources-end-2 : goal.slice_bounds-gather_sources-end-2
-slice_bounds-gather_sources-end-2 c = sym (length-take-le _ _ (few_registers _ _ _ _ _ c.requires))
-
 pub gather_sources-requires : goal.gather_sources-requires
 gather_sources-requires c = let l = c.requires in (
   gatherable _ _ _ _ _ l _ _ (rails _ _ _ _ _ l) (search rules),

@@ -1,14 +1,13 @@
 -- `check_words::find_idle` meets its contract. Assumes nothing.
-use mathlib.Core.Path.{sym, ap}
-use Rattle.netlist.specs.declared.Found.{Found}
-use Rattle.verdict.specs.declared.Finding.TheVariants.{Passed}
+use Rattle.std.specs.Prelude.{ℕ, Option, Ok, Err}
+use mathlib.Core.Path.{sym, ap, ◌∙◌}
 use Rattle.verdict.specs.Checks.{at_fault}
 use Rattle.check_words.proofs.find_idle.Goals as goal
 
-pub returns-in-At : goal.returns-in-At
+pub returns-in-Some : goal.returns-in-Some
 unfolding at_fault
-returns-in-At c = sym (ap (λ (x : Found). at_fault 32 1 0 x Passed) c.in-At.is)
+returns-in-Some c = ap Err c.fault.ensures ∙ sym (ap (λ (x : Option ℕ). at_fault 32 1 0 x (Ok tt)) c.in-Some.is)
 
-pub returns-in-Nothing : goal.returns-in-Nothing
+pub returns-in-None : goal.returns-in-None
 unfolding at_fault
-returns-in-Nothing c = sym (ap (λ (x : Found). at_fault 32 1 0 x Passed) c.in-Nothing.is)
+returns-in-None c = sym (ap (λ (x : Option ℕ). at_fault 32 1 0 x (Ok tt)) c.in-None.is)

@@ -1,20 +1,16 @@
 -- `check_words::find_suspect` meets its contract: in a word that the mask does not name nothing is found. Assumes nothing.
-use mathlib.Core.Path.{refl, sym}
+use mathlib.Core.Path.{sym}
 use Rattle.circuit.specs.Reference.{reference_in}
 use Rattle.check_words.proofs.find_suspect.Goals as goal
 
-pub returns-then-is_named-2 : goal.returns-then-is_named-2
-returns-then-is_named-2 c =
+pub returns-then-is_named : goal.returns-then-is_named
+returns-then-is_named c =
     let narrowed = c.narrow in
     let clean = narrowed.ensures.clean (reference_in c.args.sizes c.args.reference.now) c.requires.1 in
     record { long = narrowed.ensures.long; clean = clean; found = c.find.ensures }
 
-pub returns-else-is_named-2 : goal.returns-else-is_named-2
-returns-else-is_named-2 c =
+pub returns : goal.returns
+returns c =
     let narrowed = c.narrow in
     let clean = narrowed.ensures.clean (reference_in c.args.sizes c.args.reference.now) c.requires.1 in
-    record { long = narrowed.ensures.long; clean = clean; found = sym (clean c.args.w (c.is_named-then-is_named.ensures.0 c.if-is_named-2.false)) }
-
-pub returns-else-is_named : goal.returns-else-is_named
-returns-else-is_named c =
-    record { long = (refl, refl); clean = c.requires.1; found = sym (c.requires.1 c.args.w (c.is_named.ensures.0 c.if-is_named.false)) }
+    record { long = narrowed.ensures.long; clean = clean; found = sym (clean c.args.w (c.is_named.ensures.0 c.if-is_named.false)) }

@@ -4,6 +4,7 @@
 use native.Mathlib.Omega.{arith}
 use mathlib.Core.Path.{sym, ◌∙◌}
 use Rattle.words.proofs.Listing.{listed_start, listed_in, listed_count}
+use Rattle.verdict.proofs.HandedOn.{handed_on}
 use Rattle.check_words.proofs.Sweeping.{enough_signals, swept_fault, then_idle}
 use Rattle.check_words.proofs.sweep_all.Goals as goal
 
@@ -23,9 +24,9 @@ pub sweep_named-requires : goal.sweep_named-requires
 sweep_named-requires c =
     (c.requires, listed_start c.list_words-count.ensures, c.screen-screened.ensures.clean)
 
-pub returns-in-Fault : goal.returns-in-Fault
-returns-in-Fault c = swept_fault _ _ _ _ _ (sym c.in-Fault.is ∙ c.sweep_named.ensures)
+pub returns-in_err-sweep_named : goal.returns-in_err-sweep_named
+returns-in_err-sweep_named c = handed_on _ _ c.from_residual.ensures.1 ∙ swept_fault _ _ _ _ _ (sym c.in_err-sweep_named.was ∙ c.sweep_named.ensures)
 
 pub returns : goal.returns
 returns c =
-    then_idle _ _ _ _ (sym c.in_default.is ∙ c.sweep_named.ensures) _ c.screen-screened.ensures.low _ c.find_idle-last.ensures
+    then_idle _ _ _ _ (sym c.in_ok-sweep_named.was ∙ c.sweep_named.ensures) _ c.screen-screened.ensures.low _ c.find_idle-last.ensures

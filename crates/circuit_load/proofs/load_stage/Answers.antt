@@ -18,9 +18,6 @@ loop-j-init c =
     let put = c.load_gates.ensures in
     (refl, λ q h. put.written q (omega arith) ∙ stage_gate_holds c.args.most c.args.s.now c.args.places.now c.args.counts c.args.ground q (omega arith))
 
-pub output_number-requires : goal.output_number-requires
-output_number-requires c = (c.requires.0, c.requires.1, c.loop-j-test.true)
-
 pub loop-j-preserved : goal.loop-j-preserved
 loop-j-preserved c =
     let l = c.loop-j in (
@@ -28,9 +25,6 @@ loop-j-preserved c =
       write_next _ l.code (8 * c.args.counts.gates) l.j _ (omega (arith, l.invariant.0, c.load_gates.ensures.long, c.requires.2, c.loop-j-test.true)) l.invariant.1
           (c.output_number.ensures ∙ stage_later c.args.most c.args.s.now c.args.places.now c.args.counts c.args.ground l.j),
     )
-
-pub shape_of-code : goal.shape_of-code
-shape_of-code c = c.loop-j.invariant.0 ∙ c.load_gates.ensures.long
 
 pub returns : goal.returns
 returns c =

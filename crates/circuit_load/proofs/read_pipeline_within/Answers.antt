@@ -17,14 +17,14 @@ load_pipeline-requires c =
     let f = c.read_file-outcome in
     let is = c.stage_file.ensures in
     let w = read_as c.args.registers is (rw is (stage_room_holds c.args.most _ c.args.registers c.requires.0 (omega arith)))
-    (sym c.in-Readable.is ∙ f.ensures.answered) f.ensures.placed in
+    (sym c.in-Ok.is ∙ f.ensures.answered) f.ensures.placed in
     (stage_read c.args.registers w, c.requires.0, c.requires.1, c.requires.2, c.requires.3)
 
-pub returns-in-Readable : goal.returns-in-Readable
-returns-in-Readable c =
+pub returns-in-Ok : goal.returns-in-Ok
+returns-in-Ok c =
     let f = c.read_file-outcome in
     let is = c.stage_file.ensures in
-    let e = sym c.in-Readable.is ∙ f.ensures.answered in
+    let e = sym c.in-Ok.is ∙ f.ensures.answered in
     let w = read_as c.args.registers is (rw is (stage_room_holds c.args.most _ c.args.registers c.requires.0 (omega arith))) e f.ensures.placed in
     record { answered = e ∙ ap (λ (x : File). outcome_of (read_file x c.args.most c.args.s.now)) is; loaded = holds_pipeline c.args.registers w c.load_pipeline.ensures }
 

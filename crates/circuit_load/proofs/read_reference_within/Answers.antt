@@ -14,14 +14,14 @@ load_reference-requires c =
     let f = c.read_file-outcome in
     let less = c.requires.0 in
     let w = was_read file.Reference c.args.most c.args.s.now _ _ (reference_room_holds c.args.most _ less (omega arith)).space
-    (sym c.in-Readable.is ∙ f.ensures.answered) f.ensures.placed in
+    (sym c.in-Ok.is ∙ f.ensures.answered) f.ensures.placed in
     let n = w.file_read.within in
     (w.file_read, less, omega (arith, n.gates_in_holds, n.outputs_in_holds, less.gates_in_holds, less.outputs_in_holds))
 
-pub returns-in-Readable : goal.returns-in-Readable
-returns-in-Readable c =
+pub returns-in-Ok : goal.returns-in-Ok
+returns-in-Ok c =
     let f = c.read_file-outcome in
-    let e = sym c.in-Readable.is ∙ f.ensures.answered in
+    let e = sym c.in-Ok.is ∙ f.ensures.answered in
     let w = was_read file.Reference c.args.most c.args.s.now _ _ (reference_room_holds c.args.most _ c.requires.0 (omega arith)).space e f.ensures.placed in
     let l = c.load_reference.ensures in
     record { answered = e; loaded = holds_reference c.args.most c.args.s.now _ _ _ w l.same l.loaded }

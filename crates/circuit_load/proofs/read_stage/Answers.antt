@@ -19,21 +19,21 @@ pub ground_of-requires : goal.ground_of-requires
 ground_of-requires c =
     let f = c.read_file-outcome in
     let less = no_more _ stage_limits c.stage_limits-most.ensures in
-    within less (stage_read false (read_as false refl (stage_room_holds _ _ false less (omega arith)) (sym c.in-Readable.is ∙ f.ensures.answered) f.ensures.placed))
+    within less (stage_read false (read_as false refl (stage_room_holds _ _ false less (omega arith)) (sym c.in-Ok.is ∙ f.ensures.answered) f.ensures.placed))
 
 pub load_stage-requires : goal.load_stage-requires
 load_stage-requires c =
     let f = c.read_file-outcome in
     let less = no_more _ stage_limits c.stage_limits-most.ensures in
-    let w = read_as false refl (stage_room_holds _ _ false less (omega arith)) (sym c.in-Readable.is ∙ f.ensures.answered) f.ensures.placed in
+    let w = read_as false refl (stage_room_holds _ _ false less (omega arith)) (sym c.in-Ok.is ∙ f.ensures.answered) f.ensures.placed in
     (stage_read false w, less, code_room less (stage_read false w) c.requires)
 
-pub returns-in-Readable : goal.returns-in-Readable
-returns-in-Readable c =
+pub returns-in-Ok : goal.returns-in-Ok
+returns-in-Ok c =
     let f = c.read_file-outcome in
     let is = c.stage_limits-most.ensures in
     let less = no_more _ stage_limits is in
-    let e = sym c.in-Readable.is ∙ f.ensures.answered in
+    let e = sym c.in-Ok.is ∙ f.ensures.answered in
     let w = read_as false refl (stage_room_holds _ _ false less (omega arith)) e f.ensures.placed in
     let l = c.load_stage.ensures in
     let read = stage_read_by c.args.s.now _ is (e, holds_stage less w l.same c.ground_of.ensures l.raw) in

@@ -1,6 +1,5 @@
 -- The proof of the cycle of calls {place_after}. The loop's invariant: the nets at the first pins of gate k wait no more, and what had a place keeps it. The
 -- measure is the depth. Assumes nothing.
-use Prim.Native.Nat.{◌-◌, ◌≤◌}
 use Rattle.circuit_order.specs.Placing.{AfterPins}
 use Rattle.circuit_order.proofs.+place_after.Given as goal
 
@@ -9,7 +8,4 @@ decreases-place_after l = l.depth
 
 abbrev pub invariant-loop-pin : goal.invariant-loop-pin
 invariant-loop-pin l =
-    (l.pin ≤ 4) × AfterPins l.counts l.initial.code l.code l.initial.waiting l.waiting l.placed l.k l.pin
-
-abbrev pub decreases-loop-pin : goal.decreases-loop-pin
-decreases-loop-pin l = 4 - l.pin
+    AfterPins l.counts l.initial.code l.code l.initial.waiting l.waiting l.placed l.k l.pin

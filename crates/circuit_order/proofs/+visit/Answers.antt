@@ -8,26 +8,15 @@ use lib.ListN.{set}
 use Rattle.verdict.specs.Levels.{sum}
 use Rattle.circuit.specs.Stage.{pin_in}
 use Rattle.circuit_order.specs.Marks.{Visited, FirstPins}
-use Rattle.circuit_order.proofs.Visiting.{visit_start, visit_skip, visit_gate, visit_left, visit_sum, visit_more, visit_done}
+use Rattle.circuit_order.proofs.Visiting.{visit_skip, visit_gate, visit_left, visit_sum, visit_more, visit_done}
 use Rattle.circuit_order.proofs.+visit.Goals as goal
 use Rattle.circuit_order.proofs.+visit.Goals.{then-left-net-gt0, else-left-net-gt0}
-
-pub loop-i-init : goal.loop-i-init
-loop-i-init t c =
-    let z = c.requires in (omega arith, visit_start c.args.counts c.args.code.now z.0 c.args.k z.1 c.args.left.now z.2)
-
-pub overflow_sub-net : goal.overflow_sub-net
-overflow_sub-net t c =
-    let z = c.requires in
-    let is = c.pin_of-net.ensures.is in
-    rw is (visit_gate c.args.counts c.args.code.now z.0 c.args.k z.1 c.args.left.now
-    c.loop-i.left c.loop-i.i c.loop-i-test.true c.loop-i.invariant.1 (rw is at c.if-left-net-gt0.true)).0
 
 pub visit-requires : goal.visit-requires
 visit-requires t c =
     let z = c.requires in
-    let l = c.loop-i.invariant.1 in
-    let h = c.loop-i-test.true in
+    let l = c.loop-i.invariant in
+    let h : c.loop-i.i < 4 = omega arith in
     let is = c.pin_of-net.ensures.is in
     let e = rw is at c.if-left-net-gt0.true in
     rw is (
@@ -39,23 +28,21 @@ pub loop-i-preserved : goal.loop-i-preserved
 loop-i-preserved t c =
     let z = c.requires in
     let l = c.loop-i in
-    let h = c.loop-i-test.true in
+    let h : c.loop-i.i < 4 = omega arith in
     let is = c.pin_of-net.ensures.is in
-    let on : List ℕ → Type 0 = λ u. Visited c.args.counts c.args.code.now c.args.left.now u (FirstPins c.args.counts c.args.code.now c.args.k (l.i + 1)) in (
-      omega arith,
-      elim c.if-left-net-gt0.branch [
-        | then-left-net-gt0 w ↦ subst on (sym w.left-is)
-            (visit_more c.args.counts c.args.code.now z.0 c.args.k z.1 c.args.left.now
-            c.loop-i.left c.loop-i.i h l.invariant.1 (rw is at w.if-left-net-gt0.true) _
-            (rw is at w.visit.ensures))
-        | else-left-net-gt0 w ↦ subst on (sym w.left-is)
-            (visit_skip c.args.counts c.args.code.now z.0 c.args.k z.1 c.args.left.now
-            c.loop-i.left c.loop-i.i h l.invariant.1 (rw is at w.if-left-net-gt0.false))
-      ],
-    )
+    let on : List ℕ → Type 0 = λ u. Visited c.args.counts c.args.code.now c.args.left.now u (FirstPins c.args.counts c.args.code.now c.args.k (l.i + 1)) in
+    elim c.if-left-net-gt0.branch [
+      | then-left-net-gt0 w ↦ subst on (sym w.left-is)
+          (visit_more c.args.counts c.args.code.now z.0 c.args.k z.1 c.args.left.now
+          c.loop-i.left c.loop-i.i h l.invariant (rw is at w.if-left-net-gt0.true) _
+          (rw is at w.visit.ensures))
+      | else-left-net-gt0 w ↦ subst on (sym w.left-is)
+          (visit_skip c.args.counts c.args.code.now z.0 c.args.k z.1 c.args.left.now
+          c.loop-i.left c.loop-i.i h l.invariant (rw is at w.if-left-net-gt0.false))
+    ]
 
 pub returns : goal.returns
 returns t c =
-    let z = c.requires in let four : c.loop-i.i ≡ 4 = omega (arith, c.loop-i.invariant.0, c.loop-i-test.false) in
+    let z = c.requires in let four : c.loop-i.i ≡ 4 = omega (arith, c.loop-i-test.false) in
     visit_done c.args.counts c.args.code.now z.0 c.args.k z.1 c.args.left.now c.loop-i.left
-    (subst (λ (i : ℕ). Visited c.args.counts c.args.code.now c.args.left.now c.loop-i.left (FirstPins c.args.counts c.args.code.now c.args.k i)) four c.loop-i.invariant.1)
+    (subst (λ (i : ℕ). Visited c.args.counts c.args.code.now c.args.left.now c.loop-i.left (FirstPins c.args.counts c.args.code.now c.args.k i)) four c.loop-i.invariant)

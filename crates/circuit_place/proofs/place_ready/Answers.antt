@@ -29,12 +29,6 @@ offset_bounds-code-i c = let l = c.loop-i in omega (arith, l.invariant.1.placing
 pub bounds-code-i : goal.bounds-code-i
 bounds-code-i c = let l = c.loop-i in omega (arith, l.invariant.1.placing.long, c.loop-i-test.true)
 
-pub overflow_add-i : goal.overflow_add-i
-overflow_add-i c = omega (arith, c.requires.0)
-
-pub loop-i-smaller : goal.loop-i-smaller
-loop-i-smaller c = omega arith
-
 pub loop-i-preserved : goal.loop-i-preserved
 loop-i-preserved c =
     let l = c.loop-i in

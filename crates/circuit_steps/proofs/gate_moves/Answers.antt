@@ -1,9 +1,5 @@
 -- `circuit_steps::gate_moves` meets its contract. Assumes nothing.
 use Rattle.circuit_steps.proofs.Moves.{low_moves, high_moves}
-use Rattle.circuit_steps.proofs.gate_moves.Reads as reads
-use Rattle.circuit_steps.proofs.gate_moves.Lts as lts
-use Rattle.circuit.proofs.gate_level.Reads as gate-level-reads
-use Rattle.circuit.proofs.level_falling.Reads as level-falling-reads
 use Rattle.circuit_steps.proofs.gate_moves.Goals as goal
 
 pub returns-then-row-net-eq0 : goal.returns-then-row-net-eq0

@@ -2,9 +2,6 @@
 use native.Mathlib.Omega.{arith}
 use mathlib.Core.Path.{◌∙◌}
 use Rattle.circuit_steps.proofs.Moves.{rail_moves, gate_moves_holds}
-use Rattle.circuit_steps.proofs.may_switch.Reads as reads
-use Rattle.circuit_steps.proofs.may_switch.Lts as lts
-use Rattle.circuit_steps.proofs.gate_moves.Reads as gate-moves-reads
 use Rattle.circuit_steps.proofs.may_switch.Goals as goal
 
 pub returns-then-net-first : goal.returns-then-net-first

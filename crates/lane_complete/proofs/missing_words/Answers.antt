@@ -1,7 +1,7 @@
 -- `lane_complete::missing_words` meets its contract. The loop's invariant: in a word that is not named, with one of the first i inputs NULL not all
 -- outputs are DATA. Assumes nothing.
 use native.Mathlib.Omega.{arith}
-use mathlib.Core.Path.{refl, sym, ◌∙◌}
+use mathlib.Core.Path.{refl, ◌∙◌}
 use Rattle.runs.specs.Pair.{AllData}
 use Rattle.circuit.specs.Stage.{stage_in}
 use Rattle.circuit.specs.Rows.{row_size}
@@ -15,29 +15,19 @@ use Rattle.lane_complete.proofs.missing_words.Goals as goal
 pub loop-i-init : goal.loop-i-init
 loop-i-init c =
     let within = c.requires.0.within in
-    (omega arith, refl, (all_low_holds c.args.counts row_size (omega (arith, within.inputs_in, within.gates_in_holds))).ground, λ j d e k h. absurd (omega arith))
-
-pub slice_bounds-without_input-end : goal.slice_bounds-without_input-end
-slice_bounds-without_input-end c = sym c.loop-i.invariant.1
-
-pub without_input-words-requires : goal.without_input-words-requires
-without_input-words-requires c =
-    let l = c.loop-i in
-    let within = c.requires.0.within in
-    (c.requires.0, c.requires.1, omega arith, omega (arith, l.invariant.1, within.inputs_in, within.gates_in_holds), l.invariant.2)
+    (refl, (all_low_holds c.args.counts row_size (omega (arith, within.inputs_in, within.gates_in_holds))).ground, λ j d e k h. absurd (omega arith))
 
 pub loop-i-preserved : goal.loop-i-preserved
 loop-i-preserved c =
     let l = c.loop-i in
     let found = c.without_input-words in (
-      omega arith,
-      found.ensures.long ∙ l.invariant.1,
+      found.ensures.long ∙ l.invariant.0,
       found.ensures.ground,
-      gathered_more (λ j k. ¬ (AllData (net_in c.args.counts c.args.code.now) (missing_in c.args.counts c.args.code.now c.args.b k j))) _ l.i _ l.invariant.3
+      gathered_more (λ j k. ¬ (AllData (net_in c.args.counts c.args.code.now) (missing_in c.args.counts c.args.code.now c.args.b k j))) _ l.i _ l.invariant.2
           found.ensures.words,
     )
 
 pub returns : goal.returns
 returns c reference j d e =
     let l = c.loop-i in
-    finds_no_missing (stage_in c.args.counts c.args.code.now) reference _ (λ k h. l.invariant.3 j d e k (omega (arith, l.invariant.0)))
+    finds_no_missing (stage_in c.args.counts c.args.code.now) reference _ (λ k h. l.invariant.2 j d e k (omega arith))

@@ -1,6 +1,5 @@
 -- `lane_complete::missing_words` meets its contract. The loop's invariant: in a word that is not named, with one of the first i inputs NULL not all
 -- outputs are DATA. Assumes nothing.
-use Prim.Native.Nat.{◌-◌, ◌≤◌}
 use mathlib.Core.Path.{◌≡◌}
 use lib.ListN.{length, get_or}
 use Rattle.runs.specs.Pair.{AllData}
@@ -13,8 +12,5 @@ use Rattle.lane_complete.proofs.missing_words.Given as goal
 
 abbrev pub invariant-loop-i : goal.invariant-loop-i
 invariant-loop-i l =
-    (l.i ≤ l.counts.inputs) × (length l.row ≡ row_size) × (get_or l.row (net_count l.counts) 0 ≡ 0)
+    (length l.row ≡ row_size) × (get_or l.row (net_count l.counts) 0 ≡ 0)
     × GatheredTo (λ j k. ¬ (AllData (net_in l.counts l.code) (missing_in l.counts l.code l.b k j))) l.words l.i
-
-abbrev pub decreases-loop-i : goal.decreases-loop-i
-decreases-loop-i l = l.counts.inputs - l.i

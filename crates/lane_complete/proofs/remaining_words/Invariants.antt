@@ -1,6 +1,5 @@
 -- `lane_complete::remaining_words` meets its contract. The loop's invariant: in a word that is not named, with one of the first i inputs kept not all
 -- outputs are NULL. Assumes nothing.
-use Prim.Native.Nat.{◌-◌, ◌≤◌}
 use mathlib.Core.Path.{◌≡◌}
 use lib.ListN.{length}
 use Rattle.runs.specs.Pair.{AllNull}
@@ -12,8 +11,5 @@ use Rattle.lane_complete.proofs.remaining_words.Given as goal
 
 abbrev pub invariant-loop-i : goal.invariant-loop-i
 invariant-loop-i l =
-    (l.i ≤ l.counts.inputs) × (length l.rest ≡ row_size) × AtRest l.counts l.code l.b l.rest × (length l.row ≡ row_size) × RailsLow l.counts l.row
+    (length l.rest ≡ row_size) × AtRest l.counts l.code l.b l.rest × (length l.row ≡ row_size) × RailsLow l.counts l.row
     × GatheredTo (λ j k. ¬ (AllNull (net_in l.counts l.code) (remaining_in l.counts l.code l.b k j))) l.words l.i
-
-abbrev pub decreases-loop-i : goal.decreases-loop-i
-decreases-loop-i l = l.counts.inputs - l.i

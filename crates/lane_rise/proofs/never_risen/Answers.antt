@@ -8,9 +8,6 @@ use Rattle.lane_rise.proofs.Lanes.{some_lane}
 use Rattle.lane_rise.proofs.Never.{least_never, none_never}
 use Rattle.lane_rise.proofs.never_risen.Goals as goal
 
-pub loop-g-init : goal.loop-g-init
-loop-g-init c i h = absurd (omega arith)
-
 pub returns-then-rose-g-eq0 : goal.returns-then-rose-g-eq0
 returns-then-rose-g-eq0 c s e noted =
     let h : c.loop-g.g < c.args.count = omega arith in

@@ -1,19 +1,23 @@
--- `lane_screen::all_hold` meets its contract. The loop's invariant: the gates before i have hold. Assumes nothing.
-use native.Mathlib.Omega.{arith}
-use mathlib.Core.Path.{refl, sym, ◌∙◌}
-use borrow.Author.Count.{below_more}
+-- `lane_screen::all_hold` meets its contract. Assumes nothing.
+use Prim.Native.Nat.{ℕ}
+use Rattle.std.proofs.Common.{rules, tests, arith}
+use mathlib.Core.Path.{◌≡◌}
+use mathlib.Core.Bool.{true, false}
+use Rattle.std.proofs.lemmas.Iterator.{YieldsList-from_range, cases_from_all}
 use Rattle.runs.proofs.Test.{clash}
+use Rattle.circuit.specs.Stage.{gate_in}
 use Rattle.lane_screen.proofs.Hold.{hold_all, all_hold}
+use Rattle.lane_screen.proofs.Below.{Below, all_below, none_below}
 use Rattle.lane_screen.proofs.all_hold.Goals as goal
 
-pub loop-i-preserved : goal.loop-i-preserved
-loop-i-preserved c = below_more _ _ c.loop-i.invariant (sym c.has_hold.ensures ∙ c.if-has_hold.true)
-
-pub returns-else-has_hold : goal.returns-else-has_hold
-returns-else-has_hold c = (
-  λ e. absurd (clash e refl),
-  λ all. absurd (clash (all_hold c.args.counts c.args.code.now all c.loop-i.i (omega arith)) (sym c.has_hold.ensures ∙ c.if-has_hold.false)),
-)
-
 pub returns : goal.returns
-returns c = (λ e. hold_all c.args.counts c.args.code.now (λ k h. c.loop-i.invariant k (omega arith)), λ all. refl)
+returns c =
+    let code = c.args.code.now in
+    let n = c.args.counts.gates in
+    let Yes : ℕ → Type 0 = λ k. (gate_in code k).hold ≡ true in
+    let No : ℕ → Type 0 = λ k. (gate_in code k).hold ≡ false in
+    let told : Below Yes No n c.all.result =
+    cases_from_all _ _ _ Yes No c.all.ensures.ran (YieldsList-from_range 0 n n (cc) (omega arith)) (λ x q k. search (rules, tests)) (λ x q k. search (rules, tests)) in (
+      λ e. hold_all c.args.counts code (all_below Yes No n _ told e),
+      λ all. none_below Yes No n _ told (λ k h off. clash (all_hold c.args.counts code all k h) off),
+    )

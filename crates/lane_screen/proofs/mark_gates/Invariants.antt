@@ -1,12 +1,7 @@
 -- `lane_screen::mark_gates` meets its contract. The loop's invariant: the marks that the gates below k add are at nets that are acknowledged. Assumes
 -- nothing.
-use Prim.Native.Nat.{◌-◌}
-use mathlib.Core.Bool.{true}
 use Rattle.lane_screen.proofs.ByNet.{GatesTo}
 use Rattle.lane_screen.proofs.mark_gates.Given as goal
 
 abbrev pub invariant-loop-k : goal.invariant-loop-k
-invariant-loop-k l = GatesTo true l.counts l.code l.row l.initial.ack l.ack
-
-abbrev pub decreases-loop-k : goal.decreases-loop-k
-decreases-loop-k l = l.count - l.k
+invariant-loop-k l = GatesTo l.falls l.counts l.code l.row l.initial.ack l.ack

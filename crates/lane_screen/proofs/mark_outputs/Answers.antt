@@ -6,18 +6,8 @@ use mathlib.Core.Bool.{true, false}
 use Rattle.netlist.specs.Content.{Pair}
 use Rattle.circuit.specs.declared.form.Rails.{Rails}
 use Rattle.lane_settle.specs.Block.{net_in}
-use Rattle.lane_screen.proofs.Outputs.{output_at, length_outputs, outputs_start, outputs_more}
+use Rattle.lane_screen.proofs.Outputs.{output_at, length_outputs, outputs_more}
 use Rattle.lane_screen.proofs.mark_outputs.Goals as goal
-
-pub loop-j-init : goal.loop-j-init
-loop-j-init c = outputs_start _ _
-
-pub mark-requires : goal.mark-requires
-mark-requires c = omega (arith, c.rails_of-rails.ensures.rail0_in, c.loop-j.invariant.same_long)
-
-pub mark-requires-in-loop-j : goal.mark-requires-in-loop-j
-mark-requires-in-loop-j c =
-    omega (arith, c.rails_of-rails.ensures.rail1_in, c.loop-j.invariant.same_long, c.mark.ensures.0)
 
 pub loop-j-preserved : goal.loop-j-preserved
 loop-j-preserved c =
@@ -32,9 +22,3 @@ loop-j-preserved c =
     (outputs_more N c.args.ack.now l.ack l.invariant l.j false _ _ first.new.ack there
     (ap (λ (p : Pair). p.rail0) pair ∙ sym (ap (λ (r : Rails). r.rail0) rails)) first.ensures.0 first.ensures.1)
     l.j true _ _ second.new.ack there (ap (λ (p : Pair). p.rail1) pair ∙ sym (ap (λ (r : Rails). r.rail1) rails)) second.ensures.0 second.ensures.1
-
-pub shape_of-ack : goal.shape_of-ack
-shape_of-ack c = c.loop-j.invariant.same_long
-
-pub returns : goal.returns
-returns c = record { long = c.loop-j.invariant.same_long; marked = c.loop-j.invariant.marked }

@@ -1,17 +1,18 @@
--- `lane_screen::none_listed` meets its contract. The loop's invariant: the care words before word k are not named. Assumes nothing.
-use native.Mathlib.Omega.{arith}
-use mathlib.Core.Path.{subst}
-use borrow.Author.Count.{below_more}
+-- `lane_screen::none_listed` meets its contract. Assumes nothing.
+use Prim.Native.Nat.{ℕ}
+use Rattle.std.proofs.Common.{rules, tests, arith}
+use Rattle.std.specs.Bool.{⊤}
+use Rattle.std.proofs.lemmas.Iterator.{YieldsList-from_range, cases_from_all}
+use Rattle.circuit.specs.Stage.{care_in}
 use Rattle.lane_screen.specs.Suspects.{Unnamed}
+use Rattle.lane_screen.proofs.Below.{Below, all_below}
 use Rattle.lane_screen.proofs.none_listed.Goals as goal
 
-pub loop-k-init : goal.loop-k-init
-loop-k-init c i h = absurd (omega arith)
-
-pub loop-k-preserved : goal.loop-k-preserved
-loop-k-preserved c =
-    below_more _ _ c.loop-k.invariant
-    (subst (Unnamed c.args.mask.now) c.care_of.ensures.is (c.is_named.ensures.0 c.if-is_named.false))
-
 pub returns : goal.returns
-returns c e i h = c.loop-k.invariant i (omega arith)
+returns c =
+    let n = c.args.counts.care in
+    let Yes : ℕ → Type 0 = λ k. Unnamed c.args.mask.now (care_in c.args.counts c.args.code.now k) in
+    let No : ℕ → Type 0 = λ k. ⊤ in
+    let told : Below Yes No n c.all.result =
+    cases_from_all _ _ _ Yes No c.all.ensures.ran (YieldsList-from_range 0 n n (cc) (omega arith)) (λ x q k. search (rules, tests)) (λ x q k. tt) in
+    all_below Yes No n _ told

@@ -1,28 +1,7 @@
 -- `lane_screen::rise_block` meets its contract. Assumes nothing.
-use native.Mathlib.Omega.{arith}
 use mathlib.Core.Path.{◌∙◌}
 use Rattle.lane_screen.proofs.Blocks.{rise_clean}
 use Rattle.lane_screen.proofs.rise_block.Goals as goal
-
-pub rise_words-unacknowledged-requires : goal.rise_words-unacknowledged-requires
-rise_words-unacknowledged-requires c =
-    let s = c.requires.0.stage in
-    let space = c.requires.1 in (
-      s,
-      c.requires.0.ordered,
-      omega (arith, space.row_long, s.within.inputs_in, s.within.gates_in_holds),
-      omega (arith, space.ack_long, s.within.inputs_in, s.within.gates_in_holds),
-      space.ground,
-    )
-
-pub wrong_words-wrong-requires : goal.wrong_words-wrong-requires
-wrong_words-wrong-requires c =
-    let s = c.requires.0.stage in
-    let space = c.requires.1 in (
-      c.requires.0,
-      omega (arith, space.row_long, c.rise_words-unacknowledged.ensures.long.0, s.within.inputs_in, s.within.gates_in_holds),
-      omega (arith, space.values_long, c.signal_lanes.ensures.long, c.requires.0.answers.within.inputs_in, c.requires.0.answers.within.gates_in_holds),
-    )
 
 pub returns : goal.returns
 returns c =

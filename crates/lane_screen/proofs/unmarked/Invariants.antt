@@ -1,6 +1,5 @@
 -- `lane_screen::unmarked` meets its contract. The loop's invariant: in a word that is not gathered, the nets below p are marked where they are high.
 -- Assumes nothing.
-use Prim.Native.Nat.{◌-◌}
 use mathlib.Core.Path.{◌≡◌}
 use mathlib.Core.Bool.{true}
 use Rattle.lane_cells.specs.Lane.{row_in}
@@ -9,6 +8,3 @@ use Rattle.lane_screen.proofs.unmarked.Given as goal
 
 abbrev pub invariant-loop-p : goal.invariant-loop-p
 invariant-loop-p l = GatheredTo (λ j q. row_in j l.row q ≡ true → row_in j l.ack q ≡ true) l.words l.p
-
-abbrev pub decreases-loop-p : goal.decreases-loop-p
-decreases-loop-p l = l.count - l.p

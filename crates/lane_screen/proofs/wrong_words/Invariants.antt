@@ -1,6 +1,5 @@
 -- `lane_screen::wrong_words` meets its contract. The loop's invariant: in a word that is not gathered the outputs below j read as their signals.
 -- Assumes nothing.
-use Prim.Native.Nat.{◌-◌}
 use Rattle.runs.specs.Pair.{DataOf}
 use Rattle.verdict.specs.Nets.{rail_of}
 use Rattle.circuit.specs.Stage.{output_in}
@@ -12,6 +11,3 @@ use Rattle.lane_screen.proofs.wrong_words.Given as goal
 abbrev pub invariant-loop-j : goal.invariant-loop-j
 invariant-loop-j l =
     GatheredTo (λ n i. DataOf (row_in n l.row) (rail_of (output_in l.counts l.code i)) (row_in n l.values (signal_in l.sizes l.reference i))) l.words l.j
-
-abbrev pub decreases-loop-j : goal.decreases-loop-j
-decreases-loop-j l = l.counts.outputs - l.j

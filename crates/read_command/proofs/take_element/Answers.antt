@@ -7,22 +7,22 @@ pub returns-then-m-ge-PARTS : goal.returns-then-m-ge-PARTS
 unfolding take_element
 returns-then-m-ge-PARTS c = simp (le-leb _ _ c.if-m-ge-PARTS.true)
 
-pub returns-in-At : goal.returns-in-At
+pub returns-in-Some : goal.returns-in-Some
 unfolding take_element when_found
-returns-in-At c =
+returns-in-Some c =
     simp (
       lt-leb _ _ c.if-m-ge-PARTS.false,
       ← c.pins_used.ensures,
       ← c.first_misfit-found.ensures,
-      c.in-At.is,
+      c.in-Some.is,
     )
 
-pub returns-in-Nothing : goal.returns-in-Nothing
+pub returns-in-None : goal.returns-in-None
 unfolding take_element when_found
-returns-in-Nothing c =
+returns-in-None c =
     simp (
       lt-leb _ _ c.if-m-ge-PARTS.false,
       ← c.pins_used.ensures,
       ← c.first_misfit-found.ensures,
-      c.in-Nothing.is,
+      c.in-None.is,
     )

@@ -11,24 +11,24 @@ pub returns-then-k-eq0 : goal.returns-then-k-eq0
 unfolding take_gate
 returns-then-k-eq0 c = simp (lt-leb _ _ c.if-most-g.false, ← c.needed-k.ensures, eq-eqb _ _ c.if-k-eq0.true)
 
-pub returns-in-At : goal.returns-in-At
+pub returns-in-Some : goal.returns-in-Some
 unfolding take_gate when_found
-returns-in-At c =
+returns-in-Some c =
     simp (
       lt-leb _ _ c.if-most-g.false,
       ← c.needed-k.ensures,
       ne_eqb _ _ c.if-k-eq0.false,
       ← c.first_misfit-found.ensures,
-      c.in-At.is,
+      c.in-Some.is,
     )
 
-pub returns-in-Nothing : goal.returns-in-Nothing
+pub returns-in-None : goal.returns-in-None
 unfolding take_gate when_found
-returns-in-Nothing c =
+returns-in-None c =
     simp (
       lt-leb _ _ c.if-most-g.false,
       ← c.needed-k.ensures,
       ne_eqb _ _ c.if-k-eq0.false,
       ← c.first_misfit-found.ensures,
-      c.in-Nothing.is,
+      c.in-None.is,
     )

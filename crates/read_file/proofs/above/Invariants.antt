@@ -1,10 +1,7 @@
 -- `read_file::above` meets its contract. The loop's invariant: the operands before `i` are below the top. Assumes nothing.
-use Prim.Native.Nat.{◌-◌, ◌≤◌}
+use Prim.Native.Nat.{◌≤◌}
 use Rattle.read_file.specs.Files.{Below}
 use Rattle.read_file.proofs.above.Given as goal
 
 abbrev pub invariant-loop-i : goal.invariant-loop-i
-invariant-loop-i l = (l.i ≤ l.m) × (l.top ≤ l.high) × Below l.s l.place l.i l.spare l.high
-
-abbrev pub decreases-loop-i : goal.decreases-loop-i
-decreases-loop-i l = l.m - l.i
+invariant-loop-i l = (l.top ≤ l.high) × Below l.s l.place l.i l.spare l.high

@@ -16,9 +16,9 @@ nameless_at-requires c =
       g_bound = (omega arith, omega (arith, c.loop-at.invariant, c.well_formed));
     }
 
-pub returns-in-At : goal.returns-in-At
-returns-in-At c =
-    sym (search_found c.loop-at.invariant c.loop-at-test.true c.form_of-form.ensures c.nameless_at.ensures c.in-At.is)
+pub returns-in-Some : goal.returns-in-Some
+returns-in-Some c =
+    sym (search_found c.loop-at.invariant c.loop-at-test.true c.form_of-form.ensures c.nameless_at.ensures c.in-Some.is)
 
 pub width-requires : goal.width-requires
 width-requires c = omega (arith, few_bytes _ _ c.form_of-form.ensures)

@@ -3,7 +3,7 @@ use Prim.Native.Nat.{◌+◌}
 use native.Mathlib.Omega.{arith}
 use mathlib.Core.Path.{◌≡◌, sym, ap, ◌∙◌}
 use lib.ListN.{length}
-use Rattle.netlist.specs.declared.Outcome.TheVariants.{Readable}
+use Rattle.std.specs.Prelude.{Ok}
 use Rattle.netlist.specs.Read.{outcome_of}
 use Rattle.read_file.proofs.WholeFile.{finish_8, finish_7, finish_9, finish_readable}
 use Rattle.read_file.proofs.finish.Goals as goal
@@ -21,14 +21,14 @@ first_nameless-requires c =
     let last : c.args.at + 1 ≡ length c.args.s.now = omega (arith, c.requires.countable, c.if-after-s.false) in
     (c.requires.countable.0, rw last at c.requires.countable.2, c.requires.settled c.if-after-s.false)
 
-pub returns-in-At : goal.returns-in-At
+pub returns-in-Some : goal.returns-in-Some
 unfolding outcome_of
-returns-in-At c =
+returns-in-Some c =
     λ p e kept. sym (ap outcome_of (finish_9 _ _ _ p _ e c.args.notes.now kept c.if-counts-eq0.false c.if-after-s.false _
-    c.first_nameless.ensures _ c.in-At.is))
+    c.first_nameless.ensures _ c.in-Some.is))
 
 pub returns : goal.returns
 unfolding outcome_of
 returns c =
     λ p e kept. sym (ap outcome_of (finish_readable _ _ _ p _ e c.args.notes.now kept c.if-counts-eq0.false c.if-after-s.false _
-    c.first_nameless.ensures c.in_default.is) ∙ ap Readable e)
+    c.first_nameless.ensures c.in_default.is) ∙ ap Ok e)

@@ -9,8 +9,5 @@ use Rattle.read_file.proofs.nameless_at.Given as goal
 
 abbrev pub invariant-loop-j : goal.invariant-loop-j
 invariant-loop-j l =
-    (l.j ≤ l.m) × (l.first + 2 * l.m ≤ length l.s)
+    (l.first + 2 * l.m ≤ length l.s)
     × (nameless (asked l.file l.sort (nets_with l.n l.g l.notes) l.k) 0 l.s l.first l.m ≡ nameless (asked l.file l.sort (nets_with l.n l.g l.notes) l.k) l.j l.s (l.first + 2 * l.j) (l.m - l.j))
-
-abbrev pub decreases-loop-j : goal.decreases-loop-j
-decreases-loop-j l = l.m - l.j

@@ -7,11 +7,11 @@ use Rattle.read_file.proofs.part_net.Goals as goal
 
 pub returns-then-left-own : goal.returns-then-left-own
 returns-then-left-own c =
-    c.own_net.ensures ∙ sym (c.loop-p.invariant ∙ net_here _ _ _ c.loop-p-test.true (omega (arith, c.nets_of-own.ensures, c.if-left-own.true)))
+    c.own_net.ensures ∙ sym (c.loop-note.invariant ∙ net_here _ _ _ c.loop-note-test.true (omega (arith, c.nets_of-own.ensures, c.if-left-own.true)))
 
-pub loop-p-preserved : goal.loop-p-preserved
-loop-p-preserved c =
-    c.loop-p.invariant ∙ net_later _ _ _ c.loop-p-test.true c.nets_of-own.ensures c.if-left-own.false
+pub loop-note-preserved : goal.loop-note-preserved
+loop-note-preserved c =
+    c.loop-note.invariant ∙ net_later _ _ _ c.loop-note-test.true c.nets_of-own.ensures c.if-left-own.false
 
 pub returns : goal.returns
-returns c = sym (c.loop-p.invariant ∙ net_past _ _ _ c.loop-p-test.false)
+returns c = sym (c.loop-note.invariant ∙ net_past _ _ _ c.loop-note-test.false)

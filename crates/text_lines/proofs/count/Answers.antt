@@ -1,16 +1,15 @@
--- `text_lines::count` meets its contract. The loop's invariant: n separators stand before i. Assumes nothing.
-use native.Mathlib.Omega.{arith}
-use Rattle.text_lines.proofs.LineForms.{counted_start, counted_one, counted_other, counted_end}
+-- `text_lines::count` meets its contract. Assumes nothing.
+use mathlib.Core.Path.{◌∙◌}
+use lib.Dec.{eqb}
+use Rattle.std.proofs.Common.{rules, tests}
+use Rattle.std.proofs.lemmas.Iterator.{YieldsList-from_slice}
+use Rattle.std.proofs.lemmas.Iterator.Consumers.{YieldsList-at, YieldsList-from_filter, count_from_yields_List}
+use Rattle.text_lines.proofs.LineForms.{separators_filtered}
 use Rattle.text_lines.proofs.count.Goals as goal
-use Rattle.text_lines.proofs.count.Goals.{then-s-i, else-s-i}
-
-pub loop-i-init : goal.loop-i-init
-loop-i-init c = counted_start
-
-pub loop-i-preserved : goal.loop-i-preserved
-loop-i-preserved c =
-    let loop = c.loop-i in
-    elim c.if-s-i.branch [ then-s-i w ↦ counted_one loop.invariant (omega arith) w.if-s-i.true w.n-is | else-s-i w ↦ counted_other loop.invariant (omega arith) w.if-s-i.false w.n-is ]
 
 pub returns : goal.returns
-returns c = counted_end c.loop-i.invariant (omega arith)
+returns c =
+    count_from_yields_List c.filter.result _ c.count.ensures.ran
+    (YieldsList-from_filter _ (λ b. eqb b c.args.c) (YieldsList-at c.filter.ensures.source (YieldsList-from_slice c.args.s.now (cc))) c.filter.ensures.closure
+    (λ x r q k. search (rules, tests)))
+    ∙ separators_filtered c.args.c c.args.s.now

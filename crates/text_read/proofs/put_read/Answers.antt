@@ -2,6 +2,8 @@
 use native.Mathlib.Omega.{arith}
 use mathlib.Core.Bool.{false}
 use mathlib.Core.Path.{sym, ap, ◌∙◌}
+use Rattle.verdict.specs.declared.Verdict.{Verdict}
+use Rattle.verdict.specs.Written.{answer_of}
 use Rattle.netlist.specs.declared.File.TheVariants as file
 use Rattle.netlist.specs.declared.Limits.{Limits}
 use Rattle.netlist.specs.Reading.{read_file, stage_limits}
@@ -18,25 +20,25 @@ pub returns-then-buffer-count : goal.returns-then-buffer-count
 returns-then-buffer-count c =
     made_short c.args.made.now
     c.args.buffer.now _ _
-    (sym c.in-Readable.is ∙ c.read_file.ensures.answered
+    (sym c.in-Ok.is ∙ c.read_file.ensures.answered
     ∙ ap (λ (m : Limits). outcome_of (read_file file.Stage m
     c.args.made.now))
-    c.stage_limits.ensures) (omega arith) c.refuse-then-buffer-count.ensures
+    c.stage_limits.ensures) (omega arith) c.refuse.ensures
 
-pub returns-in-Refused : goal.returns-in-Refused
-returns-in-Refused c =
+pub returns-in-Err : goal.returns-in-Err
+returns-in-Err c =
     made_refused c.args.made.now
-    c.args.buffer.now _ _ _ (sym c.in-Refused.is
+    c.args.buffer.now _ _ _ (sym c.in-Err.is
     ∙ c.read_file.ensures.answered
     ∙ ap (λ (m : Limits). outcome_of (read_file file.Stage m
     c.args.made.now))
-    c.stage_limits.ensures) c.refuse.ensures
+    c.stage_limits.ensures) (c.refused.ensures ∙ ap (λ (v : Verdict). answer_of v 0) c.unreadable.ensures)
 
 pub returns-else-buffer-count : goal.returns-else-buffer-count
 returns-else-buffer-count c =
     made_put c.args.made.now
     c.args.buffer.now _ _ _
-    (sym c.in-Readable.is
+    (sym c.in-Ok.is
     ∙ c.read_file.ensures.answered
     ∙ ap (λ (m : Limits). outcome_of (read_file file.Stage m
     c.args.made.now))

@@ -1,29 +1,15 @@
--- `text_scan::are_names` meets its contract. The loop's invariant: the pieces before the place are names. Assumes nothing.
-use native.Mathlib.Omega.{arith}
-use mathlib.Core.Path.{sym, ◌∙◌}
-use borrow.Author.Tests.{not-true, not-false}
-use Rattle.text_scan.proofs.Pieces.{names_start, names_fail, names_last, names_on}
+-- `text_scan::are_names` meets its contract. Assumes nothing.
+use Rattle.std.proofs.Common.{rules, tests}
+use mathlib.Core.Path.{◌∙◌}
+use Rattle.std.proofs.lemmas.Iterator.Search.{all_from_yields_List}
+use Rattle.std.proofs.lemmas.Iterator.Splits.{YieldsList-from_slice_split}
+use Rattle.text_spec.specs.Characters.{is_name}
+use Rattle.text_scan.proofs.Pieces.{names_list}
 use Rattle.text_scan.proofs.are_names.Goals as goal
 
-pub loop-most-init : goal.loop-most-init
-loop-most-init c = names_start
-
-pub returns-then-not-is_name : goal.returns-then-not-is_name
-returns-then-not-is_name c =
-    let loop = c.loop-most in
-    let piece-len = c.piece_len in
-    names_fail loop.invariant piece-len.ensures.0 (sym c.is_name.ensures ∙ not-true _ c.if-not-is_name.true-raw)
-
-pub returns-then-s-end : goal.returns-then-s-end
-returns-then-s-end c =
-    let loop = c.loop-most in
-    let piece-len = c.piece_len in
-    let is_name = c.is_name in
-    names_last loop.invariant piece-len.ensures.0 (sym is_name.ensures ∙ not-false _ c.if-not-is_name.false-raw) (omega arith)
-
-pub loop-most-preserved : goal.loop-most-preserved
-loop-most-preserved c =
-    let loop = c.loop-most in
-    let piece-len = c.piece_len in
-    let is_name = c.is_name in
-    names_on loop.invariant piece-len.ensures.0 (sym is_name.ensures ∙ not-false _ c.if-not-is_name.false-raw) (omega arith)
+pub returns : goal.returns
+returns c =
+    all_from_yields_List (is_name c.args.most) _ _ _ c.all.ensures.ran
+    (YieldsList-from_slice_split _ _ c.args.s.now c.split.ensures.rest c.split.ensures.done c.split.ensures.closure (λ x r q k. search (rules, tests)))
+    (λ x b q k. search (rules, tests))
+    ∙ names_list c.args.most c.args.s.now

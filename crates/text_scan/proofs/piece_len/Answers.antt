@@ -1,16 +1,19 @@
--- `text_scan::piece_len` meets its contract. The loop's invariant: no c stands before i. Assumes nothing.
+-- `text_scan::piece_len` meets its contract: the place that `position` finds is how many bytes stand before c. Assumes nothing.
 use native.Mathlib.Omega.{arith}
-use Rattle.text_scan.proofs.Pieces.{searched_start, searched_on, searched_here, searched_end}
+use mathlib.Core.Logic.{◌≢◌}
+use mathlib.Core.Path.{◌≡◌, ◌∙◌}
+use Rattle.std.proofs.Common.{rules, tests}
+use Rattle.std.proofs.lemmas.Iterator.{YieldsList-from_slice, IsFirst-from_position}
+use Rattle.text_scan.specs.Pieces.{before}
+use Rattle.text_scan.proofs.Pieces.{before_first, before_length}
 use Rattle.text_scan.proofs.piece_len.Goals as goal
 
-pub loop-i-init : goal.loop-i-init
-loop-i-init c = searched_start
-
-pub returns-then-s-i : goal.returns-then-s-i
-returns-then-s-i c = searched_here c.loop-i.invariant (omega arith) c.if-s-i.true
-
-pub loop-i-preserved : goal.loop-i-preserved
-loop-i-preserved c = searched_on c.loop-i.invariant (omega arith) c.if-s-i.false
-
 pub returns : goal.returns
-returns c = searched_end c.loop-i.invariant (omega arith)
+returns c =
+    let s = c.args.s.now in let d = c.args.c in
+    let e : c.unwrap_or.result ≡ before d s =
+    c.unwrap_or.ensures
+    ∙ before_first d s c.position.result
+    (IsFirst-from_position _ _ c.position.result (λ b. b ≡ d) (λ b. b ≢ d) c.position.ensures.ran (YieldsList-from_slice s (cc)) (λ x q k. search (rules, tests))
+    (λ x q k. search (rules, tests))) in
+    (e, omega (arith, e, before_length d s))

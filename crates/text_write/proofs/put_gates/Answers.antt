@@ -47,11 +47,6 @@ put_char-at-requires c =
     let part : ℕ → List ℕ = λ k. gate_line counts code k ++ (10 ∷ []) in
     second_room part counts.gates loop.k loop.invariant.2 loop-test.true (gate_line counts code loop.k) (10 ∷ []) refl put-gate.ensures
 
-pub overflow_add-k : goal.overflow_add-k
-overflow_add-k c =
-    let loop-test = c.loop-k-test in
-    omega (arith, loop-test.true, c.requires.0.within.gates_in_holds)
-
 pub loop-k-preserved : goal.loop-k-preserved
 loop-k-preserved c =
     let loop = c.loop-k in

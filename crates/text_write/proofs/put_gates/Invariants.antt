@@ -1,5 +1,5 @@
 -- `text_write::put_gates` meets its contract. The loop's invariant: the lines from gate k on are left. Assumes nothing.
-use Prim.Native.Nat.{◌-◌, ◌≤◌}
+use Prim.Native.Nat.{◌≤◌}
 use Rattle.text_lines.specs.Names.{NameTable}
 use Rattle.text_write.proofs.Loops.{TextLeft}
 use Rattle.text_write.proofs.Names.{lines_from}
@@ -7,7 +7,4 @@ use Rattle.text_write.proofs.put_gates.Given as goal
 
 abbrev pub invariant-loop-k : goal.invariant-loop-k
 invariant-loop-k l =
-    NameTable l.names × (l.k ≤ l.count) × TextLeft l.initial.work l.start (lines_from l.counts l.code 0) l.work l.at (lines_from l.counts l.code l.k)
-
-abbrev pub decreases-loop-k : goal.decreases-loop-k
-decreases-loop-k l = l.count - l.k
+    NameTable l.names × (l.k ≤ l.counts.gates) × TextLeft l.initial.work l.start (lines_from l.counts l.code 0) l.work l.at (lines_from l.counts l.code l.k)

@@ -2,15 +2,10 @@
 use native.Mathlib.Omega.{arith}
 use Prim.Native.Nat.{ℕ}
 use mathlib.Core.List.{List}
-use Rattle.text_write.proofs.Loops.{list_room, list_begun, list_done, comma_room, item_room, item_put}
+use Rattle.text_write.proofs.Loops.{list_begun, list_done, comma_room, item_room, item_put}
 use Rattle.text_spec.specs.ToText.{x}
 use Rattle.text_write.proofs.Names.{input_parts}
 use Rattle.text_write.proofs.put_input_names.Goals as goal
-
-pub put_numbered-at-requires : goal.put_numbered-at-requires
-put_numbered-at-requires c =
-    let item : ℕ → List ℕ = x in
-    (omega arith, list_room item c.args.inputs c.args.work.now c.args.start (input_parts c.args.inputs c.requires.0) c.requires.2)
 
 pub loop-i-init : goal.loop-i-init
 loop-i-init c =
@@ -37,11 +32,6 @@ put_numbered-at-requires-in-loop-i c =
     let item : ℕ → List ℕ = x in
     (omega (arith, loop-test.true, c.requires.1), item_room item c.args.inputs loop.i loop.invariant.2 loop-test.true put-char.ensures)
 
-pub overflow_add-i : goal.overflow_add-i
-overflow_add-i c =
-    let loop-test = c.loop-i-test in
-    omega (arith, loop-test.true, c.requires.1)
-
 pub loop-i-preserved : goal.loop-i-preserved
 loop-i-preserved c =
     let loop-test = c.loop-i-test in
@@ -54,12 +44,6 @@ loop-i-preserved c =
       item_put item c.args.inputs loop.i loop.invariant.2 loop-test.true put-char.ensures
           put-numbered2.ensures,
     )
-
-pub shape_of-work : goal.shape_of-work
-shape_of-work c =
-    let loop = c.loop-i in
-    let put-numbered = c.put_numbered-at in
-    omega (arith, loop.invariant.2.left.long, put-numbered.ensures.put.long)
 
 pub returns : goal.returns
 returns c =

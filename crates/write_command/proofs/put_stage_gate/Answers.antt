@@ -7,7 +7,7 @@ use Rattle.write_command.proofs.put_stage_gate.Goals as goal
 pub returns : goal.returns
 unfolding command_table own_commands form_in
 returns c =
-    let lead = c.put_two.ensures in
+    let lead = c.put_bytes.ensures in
     let pin_a = c.put_operand.ensures in
     let pin_b = c.put_operand-2.ensures in
     let pin_c = c.put_operand-3.ensures in

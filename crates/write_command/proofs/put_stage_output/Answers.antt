@@ -7,7 +7,7 @@ use Rattle.write_command.proofs.put_stage_output.Goals as goal
 pub returns : goal.returns
 unfolding command_table own_commands form_in
 returns c =
-    let lead = c.put_byte.ensures in
+    let lead = c.put_bytes.ensures in
     let a = c.put_operand.ensures in
     let b = c.put_operand-2.ensures in
     put-++ (put-++ lead a (omega arith)) b (omega arith)

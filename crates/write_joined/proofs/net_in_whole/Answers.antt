@@ -10,12 +10,12 @@ use Rattle.write_joined.proofs.net_in_whole.Goals as goal
 pub returns-then-n-eq1 : goal.returns-then-n-eq1
 returns-then-n-eq1 c =
     ap (λ (r : Rails). r.rail1) c.rails_of-output.ensures.is
-    ∙ net_tied c.args.counts1 c.args.code1.now c.args.moved c.args.net (omega arith) c.requires.1 true (eq-eqb _ _ c.if-n-eq1.true)
+    ∙ net_tied c.args.place.counts c.args.place.first.now c.args.place.moved c.args.net (omega arith) c.requires.1 true (eq-eqb _ _ c.if-n-eq1.true)
 
 pub returns-then-n-rails : goal.returns-then-n-rails
 returns-then-n-rails c =
     ap (λ (r : Rails). r.rail0) c.rails_of-output.ensures.is
-    ∙ net_tied c.args.counts1 c.args.code1.now c.args.moved c.args.net (omega arith) c.requires.1 false (ne_eqb _ _ c.if-n-eq1.false)
+    ∙ net_tied c.args.place.counts c.args.place.first.now c.args.place.moved c.args.net (omega arith) c.requires.1 false (ne_eqb _ _ c.if-n-eq1.false)
 
 pub returns : goal.returns
-returns c = net_follows c.args.counts1 c.args.code1.now c.args.moved c.args.net (omega arith)
+returns c = net_follows c.args.place.counts c.args.place.first.now c.args.place.moved c.args.net (omega arith)

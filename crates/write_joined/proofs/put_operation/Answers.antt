@@ -21,7 +21,7 @@ signal_in_whole-b-requires c =
 pub returns-then-operation-eq1 : goal.returns-then-operation-eq1
 returns-then-operation-eq1 c =
     let reference = c.args.reference.now in
-    let move = signal_moved (reference_in c.args.sizes1 c.args.reference1.now) c.args.moved in
+    let move = signal_moved (reference_in c.args.place.counts c.args.place.first.now) c.args.place.moved in
     let e = c.operation_of-operation.ensures.is in
     put_same
     (one_operand move (operand_in reference c.args.k 0) (operand_in reference c.args.k 1) e (sym e ∙ c.if-operation-eq1.true)
@@ -31,7 +31,7 @@ returns-then-operation-eq1 c =
 pub returns-else-operation-eq1 : goal.returns-else-operation-eq1
 returns-else-operation-eq1 c =
     let reference = c.args.reference.now in
-    let move = signal_moved (reference_in c.args.sizes1 c.args.reference1.now) c.args.moved in
+    let move = signal_moved (reference_in c.args.place.counts c.args.place.first.now) c.args.place.moved in
     let e = c.operation_of-operation.ensures.is in
     put_same
     (two_operands move (operand_in reference c.args.k 0) (operand_in reference c.args.k 1) e (λ o. c.if-operation-eq1.false (e ∙ o))

@@ -1,5 +1,5 @@
 -- `write_joined::put_outputs` meets its contract. The loop's invariant: the outputs before output j are put. Assumes nothing.
-use Prim.Native.Nat.{ℕ, ◌-◌}
+use Prim.Native.Nat.{ℕ}
 use native.Mathlib.Omega.{arith}
 use mathlib.Core.Path.{ap₂}
 use Rattle.netlist.specs.declared.File.TheVariants as file
@@ -9,37 +9,11 @@ use Rattle.circuit.proofs.Tabulate.{map_tabulate}
 use Rattle.write_command.specs.Parts.{pair_item}
 use Rattle.write_command.proofs.Files.{stage_output_width}
 use Rattle.write_joined.specs.Moved.{pair_moved}
-use Rattle.write_command.proofs.Putting.{put_same, put-start, put_room, put_more, put-done}
+use Rattle.write_command.proofs.Putting.{put_same, put-start, put_more, put-done}
 use Rattle.write_joined.proofs.put_outputs.Goals as goal
 
 pub loop-j-init : goal.loop-j-init
 loop-j-init c = put-start file.Stage pair_item 5 (λ p. stage_output_width (pair_operands p)) _ _ _ _ c.requires.2
-
-pub net_in_whole-rail0-requires : goal.net_in_whole-rail0-requires
-net_in_whole-rail0-requires c =
-    (c.requires.1.loaded, c.requires.1.outputs, omega (arith, c.rails_of-rails.ensures.rail0_in, c.requires.1.fits))
-
-pub net_in_whole-rail1-requires : goal.net_in_whole-rail1-requires
-net_in_whole-rail1-requires c =
-    (c.requires.1.loaded, c.requires.1.outputs, omega (arith, c.rails_of-rails.ensures.rail1_in, c.requires.1.fits))
-
-pub overflow_mul-j : goal.overflow_mul-j
-overflow_mul-j c = omega (
-  arith,
-  put_room file.Stage pair_item 5 (λ p. stage_output_width (pair_operands p)) _ _ c.loop-j.invariant
-      c.loop-j-test.true,
-)
-
-pub overflow_add-at : goal.overflow_add-at
-overflow_add-at c = omega (
-  arith,
-  put_room file.Stage pair_item 5 (λ p. stage_output_width (pair_operands p)) _ _ c.loop-j.invariant
-      c.loop-j-test.true,
-)
-
-pub put_stage_output-requires : goal.put_stage_output-requires
-put_stage_output-requires c = put_room file.Stage pair_item 5 (λ p. stage_output_width (pair_operands p)) _ _ c.loop-j.invariant
-    c.loop-j-test.true
 
 pub loop-j-preserved : goal.loop-j-preserved
 loop-j-preserved c =
@@ -51,11 +25,8 @@ loop-j-preserved c =
     (rw is at c.net_in_whole-rail1.ensures))
     c.put_stage_output.ensures)
 
-pub shape_of-buffer : goal.shape_of-buffer
-shape_of-buffer c = c.loop-j.invariant.items.left.long
-
 pub returns : goal.returns
 unfolding stage_outputs
 returns c =
-    rw (map_tabulate (pair_moved (stage_in c.args.counts1 c.args.code1.now) c.args.moved) (output_in c.args.counts c.args.code.now) c.args.counts.outputs)
+    rw (map_tabulate (pair_moved (stage_in c.args.place.counts c.args.place.first.now) c.args.place.moved) (output_in c.args.counts c.args.code.now) c.args.counts.outputs)
     (put-done file.Stage pair_item 5 (λ p. stage_output_width (pair_operands p)) _ _ c.loop-j.invariant (omega arith))

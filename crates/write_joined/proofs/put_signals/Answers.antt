@@ -1,5 +1,5 @@
 -- `write_joined::put_signals` meets its contract. The loop's invariant: the outputs before output j are put. Assumes nothing.
-use Prim.Native.Nat.{ℕ, ◌-◌}
+use Prim.Native.Nat.{ℕ}
 use native.Mathlib.Omega.{arith}
 use mathlib.Core.Path.{ap, ◌∙◌}
 use mathlib.Core.List.{[], ◌∷◌}
@@ -10,33 +10,11 @@ use Rattle.circuit.proofs.Tabulate.{map_tabulate}
 use Rattle.write_command.specs.Parts.{signal_item}
 use Rattle.write_command.proofs.Files.{reference_output_width}
 use Rattle.write_joined.specs.Moved.{signal_moved}
-use Rattle.write_command.proofs.Putting.{put_same, put-start, put_room, put_more, put-done}
+use Rattle.write_command.proofs.Putting.{put_same, put-start, put_more, put-done}
 use Rattle.write_joined.proofs.put_signals.Goals as goal
 
 pub loop-j-init : goal.loop-j-init
 loop-j-init c = put-start file.Reference signal_item 3 (λ v. reference_output_width (v ∷ [])) _ _ _ _ c.requires.2
-
-pub signal_in_whole-signal-requires : goal.signal_in_whole-signal-requires
-signal_in_whole-signal-requires c =
-    (c.requires.1.loaded, c.requires.1.outputs, omega (arith, c.signal_of-own.ensures.there, c.requires.1.fits))
-
-pub overflow_mul-j : goal.overflow_mul-j
-overflow_mul-j c = omega (
-  arith,
-  put_room file.Reference signal_item 3 (λ v. reference_output_width (v ∷ [])) _ _ c.loop-j.invariant
-      c.loop-j-test.true,
-)
-
-pub overflow_add-at : goal.overflow_add-at
-overflow_add-at c = omega (
-  arith,
-  put_room file.Reference signal_item 3 (λ v. reference_output_width (v ∷ [])) _ _ c.loop-j.invariant
-      c.loop-j-test.true,
-)
-
-pub put_reference_output-requires : goal.put_reference_output-requires
-put_reference_output-requires c = put_room file.Reference signal_item 3 (λ v. reference_output_width (v ∷ [])) _ _ c.loop-j.invariant
-    c.loop-j-test.true
 
 pub loop-j-preserved : goal.loop-j-preserved
 loop-j-preserved c =
@@ -46,11 +24,8 @@ loop-j-preserved c =
     (c.signal_in_whole-signal.ensures ∙ ap (signal_moved _ _)
     c.signal_of-own.ensures.is)) c.put_reference_output.ensures)
 
-pub shape_of-buffer : goal.shape_of-buffer
-shape_of-buffer c = c.loop-j.invariant.items.left.long
-
 pub returns : goal.returns
 unfolding signals_in
 returns c =
-    rw (map_tabulate (signal_moved (reference_in c.args.sizes1 c.args.reference1.now) c.args.moved) (signal_in c.args.sizes c.args.reference.now) c.args.sizes.outputs)
+    rw (map_tabulate (signal_moved (reference_in c.args.place.counts c.args.place.first.now) c.args.place.moved) (signal_in c.args.sizes c.args.reference.now) c.args.sizes.outputs)
     (put-done file.Reference signal_item 3 (λ v. reference_output_width (v ∷ [])) _ _ c.loop-j.invariant (omega arith))

@@ -12,9 +12,6 @@ use Rattle.write_made.proofs.operation_count.Goals as goal
 pub loop-k-init : goal.loop-k-init
 loop-k-init c = counted_start _ _
 
-pub operation_of-requires : goal.operation_of-requires
-operation_of-requires c = (c.requires, omega (arith, c.loop-k.invariant.most))
-
 pub loop-k-preserved-then-operation_of-ne1 : goal.loop-k-preserved-then-operation_of-ne1
 loop-k-preserved-then-operation_of-ne1 c = counted_one _ _ (omega arith) c.loop-k.invariant (λ e. c.if-operation_of-ne1.true (c.operation_of.ensures.is ∙ e))
 

@@ -3,7 +3,4 @@ use Rattle.write_made.proofs.Marking.{CountedTo}
 use Rattle.write_made.proofs.operation_count.Given as goal
 
 abbrev pub invariant-loop-k : goal.invariant-loop-k
-invariant-loop-k l = CountedTo l.reference l.initial.k l.count l.k
-
-abbrev pub decreases-loop-k : goal.decreases-loop-k
-decreases-loop-k l = l.k
+invariant-loop-k l = CountedTo l.reference l.sizes.gates l.count l.k
