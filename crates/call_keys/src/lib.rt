@@ -30,8 +30,8 @@ fn earlier(keys: &[u32], none: usize, best: usize, net: usize) -> usize
     net
 }
 
-// Of the nets that may switch, that with the least key, or the number of nets where none may: no `Option`, since BestOf and Earlier, of which each
-// keeps its meaning, say that number (specs/Lists.antt).
+// Of the nets that may switch, that with the least key, or the number of nets where none may, as `BestOf` and `Earlier`
+// say it (specs/Lists.antt).
 fn next_by_key(
     entries: &[[u8; 16]; 27],
     code: &[u16],

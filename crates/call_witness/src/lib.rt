@@ -24,8 +24,8 @@ use write_run::Lengths;
 
 // ---- steps
 
-// The least net from a place on that may move towards a goal and is not held back, or the number of nets where there is none: no `Option`, since
-// FirstFrom, which keeps its meaning, says that number (specs/Lists.antt).
+// The least net from a place on that may move towards a goal and is not held back, or the number of nets where there is none, as
+// `FirstFrom` says it (specs/Lists.antt).
 fn least_from(
     entries: &[[u8; 16]; 27],
     code: &[u16],
@@ -132,7 +132,7 @@ fn rails_alone(counts: Counts, w: usize, i: usize) -> [u8; circuit::ROW]
 
 // ---- what a verdict names
 
-// Both answer a number for none, and no `Option`: the definitions input_under and gate_under, which keep their meaning, say it (specs/Lists.antt).
+// Both answer a number for none, as the definitions of these names say it (specs/Lists.antt).
 
 // The input that a verdict of this number names, or none.
 fn input_under(counts: Counts, verdict: Verdict, number: u64) -> usize
