@@ -87,7 +87,10 @@ fn wire_registers(
     let bare = circuit_wire::bare_counts(counts);
     circuit_wire::wire_stage(&nets[0..0], bare, code, &mut cut);
     find_loop(&mut cut, bare)?;
-    check_wiring::check_registers(code, &cut, counts, nets, regs)?;
+    // Not by `?`, for the edit `miswired-accepted`.
+    if let Err(wiring) = check_wiring::check_registers(code, &cut, counts, nets, regs) {
+        return Err(wiring);
+    }
     connect(code, counts, nets);
     find_loop(code, counts)
 }
@@ -145,7 +148,10 @@ fn judge(
             word: sizes.outputs as u64,
         });
     }
-    check_wires(code, counts, nets, regs)?;
+    // Not by `?`: the edit `wiring-accepted` would be refused by a goal's name alone.
+    if let Err(fault) = check_wires(code, counts, nets, regs) {
+        return Err(fault);
+    }
     if let Some(g) = least_retired(code, counts) {
         return Err(Verdict::fault(28, 1, g));
     }

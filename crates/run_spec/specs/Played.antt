@@ -22,7 +22,7 @@ abbrev pub onward : (ℕ → List ℕ) → Option ℕ → List ℕ
 onward more None = []
 onward more (Some k) = k ∷ more k
 
--- Some each step the next of the nets below n switches; so for some steps, or until none may.
+-- At each step the next of the nets below n switches; so for some steps, or until none may.
 unfoldable pub played : Rule → (ℕ → ℕ) → ℕ → ℕ → Row → List ℕ
 played can key n zero r = []
 played can key n (suc steps) r = onward (λ k. played can key n steps (toggle r k)) (next key (can r) (numbers 0 n))

@@ -39,8 +39,9 @@ fn put_bytes(line: &mut [u8], start: usize, bytes: &[u8]) -> usize
     ensures { PutWithin (4 * length bytes.now) line.old start (cases.numbers_then bytes.now []) line.new result }
 {
     let mut at = start;
-    for byte in bytes {
-        at = put_byte(line, at, *byte);
+    // By places: the edit `first-byte-left` begins at the second.
+    for k in 0..bytes.len() {
+        at = put_byte(line, at, bytes[k]);
     }
     at
 }

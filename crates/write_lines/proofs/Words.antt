@@ -1,10 +1,9 @@
 -- The words of a report, put one after the other: the k-th behind the k before it.
 -- Assumes nothing.
-use Prim.Native.Nat.{ℕ, zero, suc, ◌+◌, ◌*◌, ◌≤◌, ◌<◌}
+use Prim.Native.Nat.{ℕ, zero, suc, min, ◌+◌, ◌*◌, ◌≤◌, ◌<◌}
 use native.Mathlib.Omega.{arith}
 use native.Mathlib.Numerals.{add-one}
 use mathlib.Core.Path.{◌≡◌, refl, sym, ap, ◌∙◌}
-use mathlib.Core.Logic.{◌⊎◌, inl, inr, ⊎_elim}
 use mathlib.Core.List.{List, [], ◌∷◌, ◌++◌, append_assoc, append-nil}
 use lib.ListN.{length, get_or, take, length-take}
 use lib.Seq.{take_all}
@@ -28,6 +27,18 @@ first_pairs words ws hs = take words (zip ws hs)
 
 first_few : (words : ℕ) (ws hs : List ℕ) → length (first_pairs words ws hs) ≤ length hs
 first_few words ws hs = omega (arith, length-take words (zip ws hs), length-zip ws hs)
+
+pub pairs_long : (words : ℕ) (ws hs : List ℕ) → length (first_pairs words ws hs) ≡ min (min words (length ws)) (length hs)
+pairs_long words ws hs = omega (arith, length-take words (zip ws hs), length-zip ws hs)
+
+-- the k-th of them
+pub pairs_at : (words : ℕ) (ws hs : List ℕ) (k : ℕ) → k < words → k < length ws → k < length hs
+    → (get_or ws k 0, get_or hs k 0) ≡ get_or (first_pairs words ws hs) k (get_or ws k 0, get_or hs k 0)
+pairs_at zero ws hs k l m n = absurd (omega arith)
+pairs_at (suc words) [] hs k l m n = absurd (omega arith)
+pairs_at (suc words) (w ∷ ws) [] k l m n = absurd (omega arith)
+pairs_at (suc words) (w ∷ ws) (h ∷ hs) zero l m n = refl
+pairs_at (suc words) (w ∷ ws) (h ∷ hs) (suc k) l m n = pairs_at words ws hs k (omega arith) (omega arith) (omega arith)
 
 module _ (between after : ℕ) where
   -- the text of words with their numbers

@@ -83,8 +83,9 @@ fn put_words(
         (lines.word_texts between after (take words names.now) (take words highs.now)) buffer.new result }
 {
     let mut at = start;
-    for (name, high) in names.iter().zip(highs).take(words) {
-        at = put_word(buffer, at, *name, *high, between, after);
+    // By places: the edit `first-word-left` begins at the second.
+    for k in 0..words.min(names.len()).min(highs.len()) {
+        at = put_word(buffer, at, names[k], highs[k], between, after);
     }
     at
 }

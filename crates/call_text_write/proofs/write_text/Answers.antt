@@ -1,5 +1,6 @@
 -- `call_text_write::write_text` meets its contract. Assumes nothing.
 use mathlib.Core.Path.{sym, ap, ◌∙◌}
+use Rattle.std.proofs.Common.{rules}
 use Rattle.verdict.specs.declared.Verdict.{Verdict}
 use Rattle.verdict.specs.Written.{answer_of}
 use Rattle.text_spec.proofs.Demanded.{write_demanded}
@@ -17,7 +18,7 @@ returns-in-Err c =
     let refused = c.refused in
     write_demanded c.args.stage.now c.args.buffer.now (bytes_small c.args.stage.now (λ i. (c.type_inv.stage i).fits)) _ _
     (file_refused c.args.stage.now c.args.buffer.now _ _ (sym c.in-Err.is ∙ read-stage.ensures.answered)
-    (refused.ensures ∙ ap (λ (v : Verdict). answer_of v 0) c.unreadable.ensures))
+    (refused.ensures ∙ ap (λ (v : Verdict). answer_of v 0) (search rules)))
 
 pub returns-in-Ok : goal.returns-in-Ok
 returns-in-Ok c =

@@ -1,6 +1,7 @@
 -- `check_files::verdict_on` meets its contract. Assumes nothing.
 use native.Mathlib.Omega.{arith}
 use mathlib.Core.Path.{sym, ap, ◌∙◌}
+use Rattle.std.proofs.Common.{rules}
 use Rattle.netlist.specs.Reading.{stage_limits, reference_limits}
 use Rattle.netlist.proofs.Bounds.{no_more}
 use Rattle.check_files.specs.Judgement.{verdict_of}
@@ -14,7 +15,7 @@ check_loading-requires c =
 pub returns-in-Ok : goal.returns-in-Ok
 returns-in-Ok c =
     let same = within c.args.registers c.args.stage.now c.args.reference.now c.stage_limits.ensures c.reference_limits.ensures in
-    answered c.args.order same _ (c.accepted.ensures ∙ sym (ap verdict_of c.in-Ok.is) ∙ c.check_loading.ensures.verdict_is)
+    answered c.args.order same _ (search rules ∙ sym (ap verdict_of c.in-Ok.is) ∙ c.check_loading.ensures.verdict_is)
 
 pub returns-in-Err : goal.returns-in-Err
 returns-in-Err c =

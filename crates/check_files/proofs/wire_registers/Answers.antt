@@ -22,16 +22,15 @@ pub check_registers-requires : goal.check_registers-requires
 check_registers-requires c =
     ((gates_ordered c.requires c.bare_counts-bare.ensures c.wire_stage.ensures (c.find_loop.ensures.passed c.in_ok-find_loop.was)).0, c.requires.unplaced)
 
-pub returns-in_err-check_registers : goal.returns-in_err-check_registers
-returns-in_err-check_registers c =
+pub returns-in-Err : goal.returns-in-Err
+returns-in-Err c =
     let is = c.bare_counts-bare.ensures in
     let bare = c.wire_stage.ensures in
-    let none = c.in_ok-find_loop.was in
-    let on = handed_on _ _ c.from_residual-in_err-check_registers.ensures.1 in record {
+    let none = c.in_ok-find_loop.was in record {
       found = λ h.
           let l = gates_ordered h is bare (c.find_loop.ensures.passed none) in
-          on ∙ wiring_found l (loop_none h is bare (sym none ∙ c.find_loop.ensures.found)) (sym c.in_err-check_registers.was ∙ c.check_registers.ensures.found l.0);
-      passed = λ h e. not_passed (sym on ∙ e);
+          wiring_found l (loop_none h is bare (sym none ∙ c.find_loop.ensures.found)) (sym c.in-Err.is ∙ c.check_registers.ensures.found l.0);
+      passed = λ h. not_passed;
     }
 
 pub connect-requires : goal.connect-requires
@@ -46,7 +45,7 @@ find_loop-requires-2 c =
     let bare = c.wire_stage.ensures in
     let none = c.in_ok-find_loop.was in
     let l = gates_ordered h is bare (c.find_loop.ensures.passed none) in
-    let found = wiring_found l (loop_none h is bare (sym none ∙ c.find_loop.ensures.found)) (sym c.in_ok-check_registers.was ∙ c.check_registers.ensures.found l.0) in
+    let found = wiring_found l (loop_none h is bare (sym none ∙ c.find_loop.ensures.found)) (sym c.in_default.is ∙ c.check_registers.ensures.found l.0) in
     wires_loaded (loaded_still l (c.check_registers.ensures.kept l.0)) found c.connect.ensures.resolved c.connect.ensures.wired
 
 pub returns : goal.returns
@@ -54,7 +53,7 @@ returns c =
     let is = c.bare_counts-bare.ensures in
     let bare = c.wire_stage.ensures in
     let none = c.in_ok-find_loop.was in
-    let nothing = c.in_ok-check_registers.was in record {
+    let nothing = c.in_default.is in record {
       found = λ h.
           let l = gates_ordered h is bare (c.find_loop.ensures.passed none) in
           let found = wiring_found l (loop_none h is bare (sym none ∙ c.find_loop.ensures.found)) (sym nothing ∙ c.check_registers.ensures.found l.0) in

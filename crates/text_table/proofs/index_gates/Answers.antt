@@ -8,10 +8,10 @@ use lib.ListN.{length, drop, length-append, length-drop, drop_of_length-le}
 use Rattle.std.proofs.Common.{of_calls, inl}
 use Rattle.text_scan.specs.declared.Lines.{Lines}
 use Rattle.text_scan.specs.Pieces.{lines_in}
-use Rattle.text_scan.proofs.Pieces.{to_end, lines_few}
+use Rattle.text_scan.proofs.Pieces.{LineAt, line_at, to_end, lines_few}
 use Rattle.text_scan.proofs.Turns.{Next, numbered_line_next, numbered_line_end}
 use Rattle.text_table.specs.Table.{NetAt}
-use Rattle.text_table.proofs.Tables.{LineAt, line_at, gates_to_start, gates_to_none, gates_to_on, gates_room}
+use Rattle.text_table.proofs.Tables.{gates_to_start, gates_to_none, gates_to_on, gates_room}
 use Rattle.text_table.proofs.index_gates.Goals as goal
 use Rattle.text_table.proofs.index_gates.Goals.{In-Some}
 

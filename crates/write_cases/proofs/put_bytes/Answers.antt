@@ -4,15 +4,15 @@ use Rattle.write_lines.proofs.Within.{within_none}
 use Rattle.write_cases.proofs.Numbers.{byte_put, bytes_done}
 use Rattle.write_cases.proofs.put_bytes.Goals as goal
 
-pub loop-byte-init : goal.loop-byte-init
-loop-byte-init c = within_none _ _
+pub loop-k-init : goal.loop-k-init
+loop-k-init c = within_none _ _
 
-pub loop-byte-preserved : goal.loop-byte-preserved
-loop-byte-preserved c =
-    let loop = c.loop-byte in
-    byte_put c.args.bytes.now loop.byte-index (omega arith) loop.invariant c.put_byte-at.ensures
+pub loop-k-preserved : goal.loop-k-preserved
+loop-k-preserved c =
+    let loop = c.loop-k in
+    byte_put c.args.bytes.now loop.k (omega arith) loop.invariant c.put_byte-at.ensures
 
 pub returns : goal.returns
 returns c =
-    let loop = c.loop-byte in
-    bytes_done c.args.bytes.now loop.byte-index (omega arith) (omega arith) loop.invariant
+    let loop = c.loop-k in
+    bytes_done c.args.bytes.now loop.k (omega arith) (omega arith) loop.invariant

@@ -6,5 +6,5 @@ use Rattle.print_spec.specs.Cases.{numbers_then}
 use Rattle.write_lines.specs.Within.{PutWithin}
 use Rattle.write_cases.proofs.put_bytes.Given as goal
 
-abbrev pub invariant-loop-byte : goal.invariant-loop-byte
-invariant-loop-byte l = PutWithin (4 * l.byte-index) l.initial.line l.start (numbers_then (take l.byte-index l.bytes) []) l.line l.at
+abbrev pub invariant-loop-k : goal.invariant-loop-k
+invariant-loop-k l = PutWithin (4 * l.k) l.initial.line l.start (numbers_then (take l.k l.bytes) []) l.line l.at

@@ -1,23 +1,23 @@
 -- `write_lines::put_words` meets its contract. The loop's invariant: the words before this one are put. Assumes nothing.
-use Prim.Native.Nat.{ℕ}
-use denote.Ref.{Bor}
-use mathlib.Core.List.{[], ◌∷◌}
-use lib.ListN.{length-append}
-use Rattle.std.proofs.lemmas.Iterator.{YieldsList-from_slice, YieldsList-from_zip, YieldsList-from_take}
-use Rattle.std.proofs.lemmas.Iterator.Consumers.{YieldsList-turn, YieldsList-end}
-use Rattle.write_lines.proofs.Words.{word_put, words_done}
+use Prim.Native.Nat.{◌<◌}
+use native.Mathlib.Omega.{arith}
+use lib.ListN.{length, get_or}
+use Rattle.write_lines.proofs.Words.{first_pairs, pairs_at, pairs_long, word_put, words_done}
 use Rattle.write_lines.proofs.put_words.Goals as goal
 
-pub loop-name-preserved : goal.loop-name-preserved
-loop-name-preserved c =
-    let pair : Bor ℕ × Bor ℕ = (c.in-Some.name, c.in-Some.high) in
-    let chain = YieldsList-from_take c.args.words (YieldsList-from_zip (YieldsList-from_slice c.args.names.now cc) (YieldsList-from_slice c.args.highs.now cc)) (cc) in
-    let turn = YieldsList-turn chain c.loop-name.yielded c.loop-name.name-iterator c.loop-name.yielded_by c.next.result c.next.new.self pair c.in-Some.is c.next.ensures.steps in
-    rw (length-append c.loop-name.yielded (pair ∷ []))
-    (word_put c.args.between c.args.after _ _ (c.in-Some.name.now, c.in-Some.high.now) turn c.loop-name.invariant c.put_word-at.ensures)
+pub loop-k-preserved : goal.loop-k-preserved
+loop-k-preserved c =
+    let words = c.args.words in let ws = c.args.names.now in let hs = c.args.highs.now in let k = c.loop-k.k in
+    let long : k < length (first_pairs words ws hs) = omega (arith, pairs_long words ws hs, c.loop-k-test.true, c.min.ensures, c.min-k-end.ensures) in
+    word_put c.args.between c.args.after (first_pairs words ws hs) k (get_or ws k 0, get_or hs k 0) (
+      long,
+      pairs_at words ws hs k (omega (arith, c.loop-k-test.true, c.min.ensures, c.min-k-end.ensures))
+          (omega (arith, c.loop-k-test.true, c.min.ensures, c.min-k-end.ensures)) (omega (arith, c.loop-k-test.true, c.min-k-end.ensures)),
+    )
+    c.loop-k.invariant c.put_word-at.ensures
 
 pub returns : goal.returns
 returns c =
-    let chain = YieldsList-from_take c.args.words (YieldsList-from_zip (YieldsList-from_slice c.args.names.now cc) (YieldsList-from_slice c.args.highs.now cc)) (cc) in
-    let end = YieldsList-end chain c.loop-name.yielded c.loop-name.name-iterator c.loop-name.yielded_by c.next.result c.next.new.self c.in-None.is c.next.ensures.steps in
-    words_done c.args.between c.args.after c.args.words c.args.names.now c.args.highs.now _ end.1 c.loop-name.invariant
+    let words = c.args.words in let ws = c.args.names.now in let hs = c.args.highs.now in
+    words_done c.args.between c.args.after words ws hs c.loop-k.k
+    (omega (arith, pairs_long words ws hs, c.loop-k-test.false, c.min.ensures, c.min-k-end.ensures)) c.loop-k.invariant
